@@ -1,0 +1,6 @@
+pub mod Arity
+pub mod Depth
+pub mod Fault
+pub mod RefParts
+pub mod Same
+pub mod formers

@@ -1,0 +1,116 @@
+ghost use Rattle.std.specs.Prelude.{◌≡◌, ◌<◌, ◌≤◌, length, IfOk, string_bytes, nat_eq};
+ghost use Rattle.std.specs.Str.{chars};
+ghost use Rattle.std.specs.Ordering.{nat_cmp, as_partial_cmp};
+ghost use Rattle.std.specs.Str.{encode_utf8_all};
+ghost use Rattle.std.specs.Hash as fed;
+ghost use Rattle.std.specs.Cmp.{partial_equiv_from_equiv};
+ghost use Rattle.std.specs.Cmp.Lexicographic.{slice_cmp, pointwise, nat_list_eq_equiv, nat_list_cmp_total, texts_ties, texts_po};
+ghost use Rattle.std.specs.Cmp.Rules.{hashing};
+ghost use Rattle.std.proofs.Common.{rules, refl};
+ghost use Rattle.pg_term.specs.Fault.{Gives, atom_of};
+
+use crate::fault::TermFault;
+use std::alloc::{AllocError, Global};
+use std::cmp::Ordering;
+use std::hash::{Hash, Hasher};
+use std::marker::Model;
+
+/// A name of at most 255 characters, which contracts see as the list of its characters. Atoms are compared by their
+/// characters from the first ("Term order" in the Erlang Reference Manual).
+#[derive(Debug, Drop)]
+pub struct Atom {
+    text: String,
+}
+
+impl Model for Atom {
+    ghost use Rattle.std.specs.Prelude.{List, ℕ, ◌≤◌, length, string_bytes};
+    ghost use Rattle.std.specs.Str.{chars};
+
+    ghost Value = { List ℕ };
+
+    ghost view = { λ a. chars (string_bytes a.text) };
+
+    ghost invariant = { λ a. length (chars (string_bytes a.text)) ≤ 255 };
+}
+
+impl Atom {
+    /// The atom of this text.
+    ///
+    /// Refusals: `BadAtom` where the text has more than 255 characters; else `OutOfMemory`.
+    pub fn new(alloc: Global, text: &str) -> Result<Atom, TermFault>
+        ensures { Gives (λ a. a) result (atom_of (chars text.now)) }
+    {
+        if text.chars().count() > 255 {
+            return Err(TermFault::BadAtom);
+        }
+        Ok(Atom {
+            text: String::from_str(alloc, text)?,
+        })
+    }
+
+    /// The text, of at most 1,020 bytes.
+    pub fn as_str(&self) -> &str
+        ensures characters { chars result.now ≡ self.now }
+        ensures bytes { result.now ≡ encode_utf8_all self.now }
+        ensures few { length result.now ≤ 1020 }
+    {
+        self.text.as_str()
+    }
+
+    /// An equal atom, on the same allocator: one allocation.
+    pub fn copy(&self) -> Result<Atom, AllocError>
+        ensures { IfOk result (λ a. a ≡ self.now) }
+    {
+        Ok(Atom {
+            text: self.text.clone()?,
+        })
+    }
+}
+
+impl PartialEq for Atom {
+    ghost eq = { pointwise nat_eq };
+
+    ghost laws = { partial_equiv_from_equiv nat_list_eq_equiv };
+
+    fn eq(&self, other: &Atom) -> bool {
+        self.text == other.text
+    }
+}
+
+impl Eq for Atom {
+    ghost laws = { nat_list_eq_equiv };
+}
+
+impl PartialOrd for Atom {
+    ghost partial_cmp = { as_partial_cmp (slice_cmp nat_cmp) };
+
+    ghost laws = { texts_po };
+
+    fn partial_cmp(&self, other: &Atom) -> Option<Ordering> {
+        Some(self.cmp(other))
+    }
+}
+
+impl Ord for Atom {
+    ghost cmp = { slice_cmp nat_cmp };
+
+    ghost total = { nat_list_cmp_total };
+
+    ghost matches_partial_cmp = { λ a b. refl };
+
+    ghost matches_eq = { texts_ties };
+
+    fn cmp(&self, other: &Atom) -> Ordering {
+        self.text.as_str().cmp(other.text.as_str())
+    }
+}
+
+impl Hash for Atom {
+    ghost hash_input = { λ a. fed.str (encode_utf8_all a) };
+
+    ghost respects_eq = { Prim.search (hashing, rules) };
+
+    fn hash<H: Hasher>(&self, state: &mut H) {
+        self.text.as_str().hash(state);
+    }
+}

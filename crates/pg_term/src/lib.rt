@@ -1,0 +1,23 @@
+//! Terms of Erlang as plain data: integers, atoms, references, pids, tuples and lists, with their order, equality and hash.
+#![tactic(auto)]
+
+mod atom;
+mod fault;
+mod fields;
+mod items;
+mod laws;
+mod pid;
+mod reference;
+mod term;
+
+pub use atom::Atom;
+pub use fault::TermFault;
+pub use fields::Fields;
+pub use items::Items;
+pub use laws::{equality, order};
+pub use pid::Pid;
+pub use reference::Reference;
+pub use term::Term;
+
+#[cfg(test)]
+mod tests;
