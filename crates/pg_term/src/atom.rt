@@ -53,6 +53,7 @@ impl Atom {
         ensures characters { chars result.now ≡ self.now }
         ensures bytes { result.now ≡ encode_utf8_all self.now }
         ensures few { length result.now ≤ 1020 }
+        ensures limit { length self.now ≤ 255 }
     {
         self.text.as_str()
     }

@@ -72,6 +72,7 @@ impl Reference {
     /// Its one to three words.
     pub fn words(&self) -> &[u32]
         ensures value { result.now ≡ self.now.words }
+        ensures some { 1 ≤ length result.now }
         ensures few { length result.now ≤ 3 }
     {
         &self.words[..self.count as usize]

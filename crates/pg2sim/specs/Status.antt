@@ -1,0 +1,21 @@
+-- What the words of a command line ask for, and the status that the program ends with.
+use Rattle.std.specs.Prelude.{◌≡◌, ℕ, List, [], ◌∷◌, map, codes, Option, Result, Ok, Err, string_bytes}
+use Rattle.std.specs.declared.string.String.{String}
+use Rattle.std.specs.declared.alloc.Global.{Global}
+use Rattle.pg_node.specs.declared.fault.ServeFault.{ServeFault}
+use Rattle.pg_node.specs.Replica.{Serves}
+
+-- the one word `bytes`
+abbrev pub IsBytes : List (String Global) → Type 0
+IsBytes words = map string_bytes words ≡ codes "bytes" ∷ []
+
+-- 0: done, 1: refused
+abbrev pub status_of : Result (Unit {0}) ServeFault → ℕ
+status_of (Ok done) = 0
+status_of (Err fault) = 1
+
+-- an input was served, and this is the status
+pub record EndsWith (before after : Option (List ℕ)) (input : List ℕ) (status : ℕ) : Type 0 where
+  pub result : Result (Unit {0}) ServeFault
+  pub serves : Serves before after input result
+  pub is : status ≡ status_of result

@@ -1,0 +1,51 @@
+ghost use Rattle.std.specs.Prelude.{◌≡◌, IfSome};
+ghost use Rattle.std.specs.Io.KnownBytes.{Keeps};
+ghost use Rattle.pg_node.specs.Replica.{Serves};
+ghost use Rattle.pg2sim.specs.Status.{IsBytes, EndsWith};
+
+use pg_node::{ServeFault, serve};
+use pg_term::Atom;
+use std::alloc::Global;
+use std::io::{Read, Write};
+
+// What the program answers: done, refused, words that it doesn't know.
+const DONE: u8 = 0;
+
+const REFUSED: u8 = 1;
+
+const UNKNOWN_WORDS: u8 = 2;
+
+/// Does what the words of a command line ask for, and gives the status that the program ends with.
+///
+/// `bytes` reads framed packets from `reader` and writes the framed replies to `writer`, as `pg_node::serve` does:
+/// status 0, or 1 where the run was refused, and then `refused` and the number of the fault stand in a line of
+/// `faults`. Other words: status 2, and nothing is read or written.
+pub fn run_words<R: Read, W: Write, F: Write>(
+    alloc: Global,
+    words: &[String],
+    reader: &mut R,
+    writer: &mut W,
+    faults: &mut F,
+) -> u8 {
+    match words {
+        [word] if word.as_str() == "bytes" => match bytes(alloc, reader, writer) {
+            Ok(()) => DONE,
+            Err(fault) => {
+                let number = fault.number();
+                let _ = writeln!(faults, "refused {number}");
+                REFUSED
+            }
+        },
+        _ => UNKNOWN_WORDS,
+    }
+}
+
+/// Serves the input as node `b` with the peer `a`.
+fn bytes<R: Read, W: Write>(alloc: Global, reader: &mut R, writer: &mut W) -> Result<(), ServeFault>
+    ensures { IfSome (R.remaining reader.old) (λ input.
+        Serves (W.contents writer.old) (W.contents writer.new) input result) }
+{
+    let own = Atom::new(alloc, "b")?;
+    let peer = Atom::new(alloc, "a")?;
+    serve(alloc, &own, &peer, reader, writer)
+}

@@ -1,0 +1,245 @@
+// The worked examples as bytes, and what no clause says: texts, readers and writers that fail.
+use crate::run::run_words;
+use std::alloc::Global;
+use std::io;
+use std::io::{Read, Write};
+use std::test::*;
+
+// A call of `create g` by node a with stamp 0, framed, and the framed reply.
+const CREATE: [u8; 49] = [
+    0, 0, 0, 45, 131, 104, 2, 97, 0, 104, 3, 119, 4, 99, 97, 108, 108, 114, 0, 3, 119, 1, 97, 1, 0,
+    0, 0, 1, 0, 0, 0, 0, 0, 0, 0, 0, 104, 2, 119, 6, 99, 114, 101, 97, 116, 101, 119, 1, 103,
+];
+
+const CREATED: [u8; 41] = [
+    0, 0, 0, 37, 131, 104, 2, 97, 1, 104, 3, 119, 5, 114, 101, 112, 108, 121, 114, 0, 3, 119, 1,
+    97, 1, 0, 0, 0, 1, 0, 0, 0, 0, 0, 0, 0, 0, 119, 2, 111, 107,
+];
+
+// The same call with the stamp 1,073,741,823, and its reply; then with 1,073,741,824, which no clock passes.
+const LAST_STAMP: [u8; 52] = [
+    0, 0, 0, 48, 131, 104, 2, 98, 63, 255, 255, 255, 104, 3, 119, 4, 99, 97, 108, 108, 114, 0, 3,
+    119, 1, 97, 1, 0, 0, 0, 1, 0, 0, 0, 0, 0, 0, 0, 0, 104, 2, 119, 6, 99, 114, 101, 97, 116, 101,
+    119, 1, 103,
+];
+
+const LAST_REPLY: [u8; 44] = [
+    0, 0, 0, 40, 131, 104, 2, 98, 64, 0, 0, 0, 104, 3, 119, 5, 114, 101, 112, 108, 121, 114, 0, 3,
+    119, 1, 97, 1, 0, 0, 0, 1, 0, 0, 0, 0, 0, 0, 0, 0, 119, 2, 111, 107,
+];
+
+const FULL_STAMP: [u8; 52] = [
+    0, 0, 0, 48, 131, 104, 2, 98, 64, 0, 0, 0, 104, 3, 119, 4, 99, 97, 108, 108, 114, 0, 3, 119, 1,
+    97, 1, 0, 0, 0, 1, 0, 0, 0, 0, 0, 0, 0, 0, 104, 2, 119, 6, 99, 114, 101, 97, 116, 101, 119, 1,
+    103,
+];
+
+// A process that ended, with the stamp 1,073,741,825.
+const LARGE_STAMP: [u8; 33] = [
+    0, 0, 0, 29, 131, 104, 2, 98, 64, 0, 0, 1, 104, 2, 119, 4, 100, 111, 119, 110, 103, 119, 1, 97,
+    0, 0, 0, 1, 0, 0, 0, 0, 1,
+];
+
+// What a run printed, and its status.
+#[derive(Drop)]
+struct Printed {
+    output: Vec<u8>,
+    faults: Vec<u8>,
+    status: u8,
+}
+
+fn run<R: Read>(alloc: Global, word: &str, reader: &mut R) -> Result<Printed, Fail> {
+    let mut words = Vec::new(alloc);
+    words.push(String::from_str(alloc, word)?)?;
+    let mut output = Vec::new(alloc);
+    let mut faults = Vec::new(alloc);
+    let status = run_words(alloc, words.as_slice(), reader, &mut output, &mut faults);
+    Ok(Printed {
+        output,
+        faults,
+        status,
+    })
+}
+
+#[test]
+fn worked_examples(rt: HostRuntime) -> Result<(), Fail> {
+    let alloc = rt.alloc();
+    let mut bad_version = CREATE.to_vec(alloc)?;
+    bad_version.extend_from_slice(&[0, 0, 0, 1, 130])?;
+    let rows: [(&str, &[u8], &[u8], &str, u8); 10] = [
+        ("create_call", &CREATE, &CREATED, "", 0),
+        ("empty_input", &[], &[], "", 0),
+        ("cut_input", &CREATE[..30], &[], "refused 1\n", 1),
+        ("frame_too_long", &[1, 0, 0, 1], &[], "refused 11\n", 1),
+        ("stamp_edges: the last", &LAST_STAMP, &LAST_REPLY, "", 0),
+        ("stamp_edges: full", &FULL_STAMP, &[], "refused 30\n", 1),
+        ("broken_bodies: empty", &[0, 0, 0, 0], &[], "refused 1\n", 1),
+        (
+            "broken_bodies: 5",
+            &[0, 0, 0, 3, 131, 97, 5],
+            &[],
+            "refused 12\n",
+            1,
+        ),
+        (
+            "broken_bodies: behind",
+            bad_version.as_slice(),
+            &CREATED,
+            "refused 2\n",
+            1,
+        ),
+        ("no update call", &LARGE_STAMP, &[], "refused 12\n", 1),
+    ];
+    for (name, input, output, faults, status) in rows {
+        let mut reader = input;
+        let printed = run(alloc, "bytes", &mut reader)?;
+        assert!(rt; printed.output.as_slice() == output, "the output of {name}");
+        assert!(rt;
+            printed.faults.as_slice() == faults.as_bytes(),
+            "the faults of {name}"
+        );
+        assert_eq!(rt; printed.status, status, "the status of {name}");
+    }
+    Ok(())
+}
+
+#[test]
+fn other_words(rt: HostRuntime) -> Result<(), Fail> {
+    let mut reader: &[u8] = &CREATE;
+    let printed = run(rt.alloc(), "byte", &mut reader)?;
+    assert_eq!(rt; printed.status, 2);
+    assert!(rt; printed.output.is_empty() && printed.faults.is_empty());
+    assert_eq!(rt; reader.len(), 49, "nothing is read");
+    Ok(())
+}
+
+// Gives its text in a piece of `first` bytes and then the rest, and fails at the end where `fails` is set.
+#[derive(Drop)]
+struct Pieces<'a> {
+    text: &'a [u8],
+    first: usize,
+    fails: bool,
+}
+
+impl<'a> Read for Pieces<'a> {
+    fn read(&mut self, buf: &mut [u8]) -> io::Result<usize> {
+        if self.text.is_empty() && self.fails {
+            return Err(io::Error::from(io::ErrorKind::BrokenPipe));
+        }
+        let count = self.text.len().min(buf.len()).min(self.first);
+        let (piece, rest) = self.text.split_at(count);
+        buf[..count].copy_from_slice(piece);
+        self.text = rest;
+        self.first = usize::MAX;
+        Ok(count)
+    }
+}
+
+#[test]
+fn input_in_pieces(rt: HostRuntime) -> Result<(), Fail> {
+    for first in 1..49 {
+        let mut reader = Pieces {
+            text: &CREATE,
+            first,
+            fails: false,
+        };
+        let printed = run(rt.alloc(), "bytes", &mut reader)?;
+        assert!(rt;
+            printed.output.as_slice() == CREATED.as_slice(),
+            "cut after {first} bytes"
+        );
+        assert_eq!(rt; printed.status, 0);
+    }
+    Ok(())
+}
+
+#[test]
+fn read_fails(rt: HostRuntime) -> Result<(), Fail> {
+    for (length, output) in [(0, &[][..]), (48, &[][..]), (49, &CREATED[..])] {
+        let mut reader = Pieces {
+            text: &CREATE[..length],
+            first: usize::MAX,
+            fails: true,
+        };
+        let printed = run(rt.alloc(), "bytes", &mut reader)?;
+        assert!(rt; printed.output.as_slice() == output, "after {length} bytes");
+        assert!(rt; printed.faults.as_slice() == b"refused 31\n".as_slice());
+        assert_eq!(rt; printed.status, 1);
+    }
+    Ok(())
+}
+
+// Takes at most `piece` bytes a write, and fails once it holds `limit`.
+#[derive(Drop)]
+struct Narrow {
+    held: usize,
+    piece: usize,
+    limit: usize,
+}
+
+impl Write for Narrow {
+    fn write(&mut self, buf: &[u8]) -> io::Result<usize> {
+        if self.held >= self.limit {
+            return Err(io::Error::from(io::ErrorKind::BrokenPipe));
+        }
+        let count = buf.len().min(self.piece);
+        self.held = self.held.saturating_add(count);
+        Ok(count)
+    }
+
+    fn flush(&mut self) -> io::Result<()> {
+        Ok(())
+    }
+}
+
+#[test]
+fn write_fails(rt: HostRuntime) -> Result<(), Fail> {
+    for (limit, held, status) in [(0, 0, 1), (40, 40, 1), (41, 41, 0)] {
+        let mut reader: &[u8] = &CREATE;
+        let mut words = Vec::new(rt.alloc());
+        words.push(String::from_str(rt.alloc(), "bytes")?)?;
+        let mut writer = Narrow {
+            held: 0,
+            piece: 5,
+            limit,
+        };
+        let mut faults = Vec::new(rt.alloc());
+        let got = run_words(
+            rt.alloc(),
+            words.as_slice(),
+            &mut reader,
+            &mut writer,
+            &mut faults,
+        );
+        assert_eq!(rt; got, status, "a writer that takes {limit} bytes");
+        assert_eq!(rt; writer.held, held, "a writer that takes {limit} bytes");
+        assert_eq!(rt; faults.is_empty(), status == 0);
+    }
+    Ok(())
+}
+
+// Passes wherever an allocation is refused: nothing or all of a reply was written, and the same run succeeds.
+#[test]
+fn refused_growth(rt: HostRuntime) -> Result<(), Fail> {
+    let mut words = Vec::new(rt.alloc());
+    if words.push(String::from_str(rt.alloc(), "bytes")?).is_err() {
+        return Ok(());
+    }
+    for _ in 0..2 {
+        let mut reader: &[u8] = &CREATE;
+        let mut output = [0; 41];
+        let mut writer = &mut output[..];
+        let mut faults = [0; 11];
+        let mut line = &mut faults[..];
+        let status = run_words(
+            rt.alloc(),
+            words.as_slice(),
+            &mut reader,
+            &mut writer,
+            &mut line,
+        );
+        let left = writer.len();
+        assert!(rt; status == 0 && left == 0 || status == 1 && left == 41);
+    }
+    Ok(())
+}

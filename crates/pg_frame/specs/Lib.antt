@@ -1,0 +1,4 @@
+pub mod Buffered
+pub mod Fault
+pub mod Frames
+pub mod Laws

@@ -1,0 +1,20 @@
+//! Packets out of bytes: frames, each a length and that many bytes.
+#![tactic(auto)]
+
+mod deframer;
+mod fault;
+mod laws;
+#[cfg(test)]
+mod tests;
+mod write;
+
+pub use deframer::Deframer;
+pub use fault::{FrameFault, TooLong};
+pub use laws::{
+    front_is_first, front_is_frame, loop_keeps, one_reading, overlong_stays, pieces_continue,
+    rest_begins_no_frame, taking_leaves_others, written_is_read,
+};
+pub use write::{frame_into, write_frame};
+
+/// The greatest length of a frame's body, in bytes: 16 MiB. This project's own limit.
+pub const MAX_BODY: u32 = 16_777_216;

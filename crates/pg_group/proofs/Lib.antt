@@ -1,0 +1,4 @@
+pub mod Changes
+pub mod Growth
+pub mod Maps
+pub mod Thinned

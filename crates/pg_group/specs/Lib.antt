@@ -1,0 +1,6 @@
+pub mod Ended
+pub mod Functions
+pub mod Rows
+pub mod Table
+pub mod Value
+pub use Rattle.pg_term.specs.Same

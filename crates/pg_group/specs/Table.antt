@@ -1,0 +1,34 @@
+-- A table of groups, as a function from names to groups.
+use Rattle.std.specs.Prelude.{◌≡◌, ◌+◌, ◌<◌, ◌^◌, Bool, cond, List, is_some}
+use Rattle.std.specs.List.{IsDistinct, list_any}
+use Rattle.pg_term.specs.declared.pid.Pid.{Pid}
+use Rattle.pg_term.specs.declared.term.Term.{Term}
+use Rattle.pg_term.specs.Same.{same_term}
+use Rattle.pg_group.specs.declared.update.Update.{Update}
+use Rattle.pg_group.specs.declared.update.Update.TheVariants.{Create, Delete, Join, Leave}
+use Rattle.pg_group.specs.Functions.{upd}
+use Rattle.pg_group.specs.Value.{Value, apply, name_of, count_in}
+
+abbrev pub Table : Type 0
+Table = Term → Value
+
+-- what an update makes of its group, where the pids of a set have ended: a join of one of them adds nothing
+abbrev pub applied : Value → Update → (Pid → Bool) → Value
+applied v (Create name) ended = apply v (Create name)
+applied v (Delete name) ended = apply v (Delete name)
+applied v (Join name pid) ended = cond (ended pid) v (apply v (Join name pid))
+applied v (Leave name pid) ended = apply v (Leave name pid)
+
+-- the table after an update: its group changed, and no other
+abbrev pub changed : Table → Update → (Pid → Bool) → Table
+changed table update ended = upd same_term table (name_of update) (applied (table (name_of update)) update ended)
+
+-- a further count of the pid that joins can be told in 64 bits
+abbrev pub HasRoom : Table → Update → Type 0
+HasRoom table (Join name pid) = count_in (table name) pid + 1 < 2 ^ 64
+HasRoom table update = Unit {0}
+
+-- these are the names of the groups that are there, each once
+pub record AreNames (table : Table) (names : List Term) : Type 0 where
+  pub each : (name : Term) → list_any (same_term name) names ≡ is_some (table name)
+  pub once : IsDistinct same_term names

@@ -1,0 +1,71 @@
+ghost use Rattle.std.specs.Prelude.{◌≡◌, None};
+
+use crate::ended::Ended;
+use crate::rows::{Rows, create, delete, join, leave};
+use crate::table::GroupTable;
+use crate::update::Update;
+use pg_term::{Pid, Term};
+use std::alloc::{AllocError, Global};
+use std::collections::BTreeMap;
+
+/// The plain table: a row for each group, ordered by name, with a count for each member, ordered by pid.
+#[derive(Drop)]
+pub struct RowTable {
+    rows: Rows,
+    alloc: Global,
+}
+
+impl RowTable {
+    ghost use Rattle.pg_group.specs.Rows.{table_of};
+
+    /// No group. It takes no memory.
+    pub fn new(alloc: Global) -> RowTable
+        ensures { table_of result.rows ≡ (λ name. None) }
+    {
+        RowTable {
+            rows: BTreeMap::new(alloc),
+            alloc,
+        }
+    }
+}
+
+impl GroupTable for RowTable {
+    ghost use Rattle.pg_group.specs.Rows.{table_of};
+
+    ghost contents = { λ table. table_of table.rows };
+
+    fn has(&self, name: &Term) -> bool {
+        self.rows.contains_key(name)
+    }
+
+    fn apply(&mut self, update: &Update, ended: &Ended) -> Result<(), AllocError> {
+        match update {
+            Update::Create(name) => create(&mut self.rows, self.alloc, name),
+            Update::Delete(name) => {
+                delete(&mut self.rows, name);
+                Ok(())
+            }
+            Update::Join(_, pid) if ended.has(pid) => Ok(()),
+            Update::Join(name, pid) => join(&mut self.rows, name, pid),
+            Update::Leave(name, pid) => {
+                leave(&mut self.rows, name, pid);
+                Ok(())
+            }
+        }
+    }
+
+    fn groups(&self) -> Result<Vec<Term>, AllocError> {
+        let mut names = Vec::with_capacity(self.alloc, self.rows.len())?;
+        for name in self.rows.keys() {
+            names.push(name.copy(self.alloc)?)?;
+        }
+        Ok(names)
+    }
+
+    fn count(&self, name: &Term, pid: &Pid) -> u64 {
+        match self.rows.get(name) {
+            Some(members) => members.get(pid).copied().unwrap_or(0),
+            None => 0,
+        }
+    }
+}

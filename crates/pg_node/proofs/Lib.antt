@@ -1,0 +1,5 @@
+pub mod Bodies
+pub mod Outcomes
+pub mod Replies
+pub mod Served
+pub mod Streams

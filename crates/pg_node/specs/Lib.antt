@@ -1,0 +1,5 @@
+pub mod Call
+pub mod Fault
+pub mod Progress
+pub mod Replica
+pub mod Reply

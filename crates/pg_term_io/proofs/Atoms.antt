@@ -1,0 +1,186 @@
+-- What the reader of an atom answers.
+use Rattle.std.proofs.Common.{◌≡◌, ℕ, suc, ◌<◌, ◌≤◌, ◌^◌, Bool, true, false, cond, ltb, eqb, ◌⊎◌, inl, inr, List, [], ◌∷◌, ◌++◌, length, Result, Ok, Err, refl, sym, ap, subst, ◌∙◌, arith}
+use Rattle.std.specs.Int.{w16, to_be_bytes}
+use Rattle.std.specs.List.{AllByRecursion}
+use Rattle.std.specs.Str.{chars, is_utf8, IsUtf8}
+use Rattle.std.proofs.lemmas.Bool.{ltb-false, ltb-true, eqb-true}
+use Rattle.std.proofs.lemmas.List.{append-nil}
+use Rattle.std.proofs.lemmas.Str.{IsUtf8-from_is_utf8, is_utf8-from_IsUtf8}
+use Rattle.pg_term.specs.declared.fault.TermFault.{TermFault}
+use Rattle.pg_term.specs.declared.fault.TermFault.TheVariants.{Truncated, BadAtom}
+use Rattle.pg_term_io.specs.Tags.{is_atom_tag}
+use Rattle.pg_term_io.specs.Reading.{Read, ◌>>=◌, byte_at, number_at, bytes_at, named_at, utf8_atom, latin_atom, atom_behind, atom_at}
+use Rattle.pg_term_io.specs.Spelling.{IsAtom}
+use Rattle.pg_term_io.specs.Spelling as s
+use Rattle.pg_term_io.specs.Faults.{BreaksAtom, BreaksNode, IsSmallAtomTag, IsLargeAtomTag}
+use Rattle.pg_term_io.specs.Faults as f
+use Rattle.pg_term_io.proofs.Outcomes.{IsBytes, Right, Cut, IsByte, IsHalf, IsText, right_if, right_then, right_pure, byte_right, half_right, text_right}
+
+-- the text of an atom, which `name` reads
+abbrev IsName : (List ℕ → Result (List ℕ) TermFault) → ℕ → List ℕ → List ℕ → Type 0
+IsName name n a b = (length b ≡ n) × (name b ≡ Ok a) × IsBytes b
+
+record Refused (name : List ℕ → Result (List ℕ) TermFault) (n : ℕ) (e : TermFault) (b : List ℕ) : Type 0 where
+  text : List ℕ
+  rest : List ℕ
+  whole : b ≡ text ++ rest
+  size : length text ≡ n
+  is : name text ≡ Err e
+
+abbrev NoName : (List ℕ → Result (List ℕ) TermFault) → ℕ → TermFault → List ℕ → Type 0
+NoName name n e b = Cut n e b ⊎ Refused name n e b
+
+named_right : (name : List ℕ → Result (List ℕ) TermFault) (n : ℕ) (bytes : List ℕ) → IsBytes bytes → Right (IsName name n) (NoName name n) bytes (named_at name n bytes)
+unfolding named_at
+named_right name n bytes fits =
+    right_then (IsText n) (Cut n) (λ text a y. (y ≡ []) × (name text ≡ Ok a)) (λ text e y. name text ≡ Err e) (IsName name n) (NoName name n)
+    bytes (bytes_at n bytes) (λ text. name text.0 >>= λ atom. Ok (atom, text.1))
+    (text_right n bytes fits)
+    (λ text rest fit. right_pure (name text) rest fit)
+    (λ text a x y h k.
+    let same : x ++ y ≡ text = ap (λ (t : List ℕ). x ++ t) k.0 ∙ append-nil x ∙ h.1 in
+    (ap length same ∙ h.0, ap name same ∙ k.1, subst IsBytes (sym same) h.2))
+    (λ text e x y h k. inr (record { text = text; rest = y; whole = ap (λ (t : List ℕ). t ++ y) h.1; size = h.0; is = k }))
+    (λ e h. inl h)
+
+-- ---- the two encodings
+
+abbrev IsAtomText : List ℕ → List ℕ → Type 0
+IsAtomText text a = IsUtf8 text × (length (chars text) ≤ 255) × (chars text ≡ a)
+
+abbrev NoAtomText : TermFault → List ℕ → Type 0
+NoAtomText e text = (IsUtf8 text → 255 < length (chars text)) × (e ≡ BadAtom)
+
+-- an answer of a list of characters
+abbrev Told : (List ℕ → Type 0) → (TermFault → Type 0) → Result (List ℕ) TermFault → Type 0
+Told P Q (Ok a) = P a
+Told P Q (Err e) = Q e
+
+told_if : (P : List ℕ → Type 0) (Q : TermFault → Type 0) (b : Bool) (x y : Result (List ℕ) TermFault) → (b ≡ true → Told P Q x) → (b ≡ false → Told P Q y) → Told P Q (cond b x y)
+told_if P Q true x y h k = h refl
+told_if P Q false x y h k = k refl
+
+told_ok : (P : List ℕ → Type 0) (Q : TermFault → Type 0) (r : Result (List ℕ) TermFault) (a : List ℕ) → Told P Q r → r ≡ Ok a → P a
+told_ok P Q r a h e = subst (Told P Q) e h
+
+told_err : (P : List ℕ → Type 0) (Q : TermFault → Type 0) (r : Result (List ℕ) TermFault) (d : TermFault) → Told P Q r → r ≡ Err d → Q d
+told_err P Q r d h e = subst (Told P Q) e h
+
+utf8_told : (text : List ℕ) → Told (IsAtomText text) (λ e. NoAtomText e text) (utf8_atom text)
+utf8_told text =
+    told_if (IsAtomText text) (λ e. NoAtomText e text) (is_utf8 text) (cond (ltb 255 (length (chars text))) (Err BadAtom) (Ok (chars text))) (Err BadAtom)
+    (λ u. told_if (IsAtomText text) (λ e. NoAtomText e text) (ltb 255 (length (chars text))) (Err BadAtom) (Ok (chars text))
+    (λ long. ((λ v. ltb-true 255 (length (chars text)) long), refl))
+    (λ short. (IsUtf8-from_is_utf8 text u, ltb-false 255 (length (chars text)) short, refl)))
+    (λ no. ((λ v. let yes : is_utf8 text ≡ true = is_utf8-from_IsUtf8 text v in absurd cc), refl))
+
+abbrev IsLatinText : List ℕ → List ℕ → Type 0
+IsLatinText text a = (length text ≤ 255) × (text ≡ a)
+
+abbrev NoLatinText : TermFault → List ℕ → Type 0
+NoLatinText e text = (255 < length text) × (e ≡ BadAtom)
+
+latin_told : (text : List ℕ) → Told (IsLatinText text) (λ e. NoLatinText e text) (latin_atom text)
+latin_told text = told_if (IsLatinText text) (λ e. NoLatinText e text) (ltb 255 (length text)) (Err BadAtom) (Ok text) (λ long. (ltb-true 255 (length text) long, refl)) (λ short. (ltb-false 255 (length text) short, refl))
+
+pub all_fit : (text : List ℕ) → IsBytes text → AllByRecursion (λ b. b < 256) text
+all_fit [] h = tt
+all_fit (b ∷ text) h = (h 0, all_fit text (λ i. h (suc i)))
+
+-- ---- behind each tag
+
+-- behind an atom's tag, or behind another
+abbrev pub NoAtom : ℕ → TermFault → List ℕ → Type 0
+NoAtom tag e b = BreaksAtom e (tag ∷ b) ⊎ ((is_atom_tag tag ≡ false) × (e ≡ BadAtom))
+
+abbrev pub AtomBehind : ℕ → List ℕ → List ℕ → Type 0
+AtomBehind tag a b = IsAtom a (tag ∷ b)
+
+fault_is : (P : TermFault → Type 0) (e d : TermFault) → e ≡ d → P d → P e
+fault_is P e d h k = subst P (sym h) k
+
+-- the length in one byte
+small_right : (tag : ℕ) (name : List ℕ → Result (List ℕ) TermFault) → IsSmallAtomTag tag
+    → ((a text : List ℕ) → length text < 256 → IsBytes text → name text ≡ Ok a → IsAtom a (tag ∷ length text ∷ text))
+    → ((e : TermFault) (text rest : List ℕ) → length text < 256 → name text ≡ Err e → BreaksAtom e (tag ∷ length text ∷ (text ++ rest)))
+    → (bytes : List ℕ) → IsBytes bytes → Right (AtomBehind tag) (NoAtom tag) bytes (byte_at bytes >>= λ n. named_at name n.0 n.1)
+small_right tag name is spells refuses bytes fits =
+    right_then IsByte (Cut 1) (IsName name) (NoName name) (AtomBehind tag) (NoAtom tag) bytes (byte_at bytes) (λ n. named_at name n.0 n.1)
+    (byte_right bytes fits)
+    (λ n rest fit. named_right name n rest fit)
+    (λ n a x y h k. subst (λ (z : List ℕ). IsAtom a (tag ∷ (z ++ y))) (ap (λ (m : ℕ). m ∷ []) k.0 ∙ sym h.1) (spells a y (omega (arith, h.0, k.0)) k.2 k.1))
+    (λ n e x y h k. inl (elim k [
+      | inl c ↦ fault_is (λ (d : TermFault). BreaksAtom d (tag ∷ (x ++ y))) e Truncated c.0 (subst (λ (z : List ℕ). BreaksAtom Truncated (tag ∷ (z ++ y))) (sym h.1) (f.BreaksAtom.small_text_cut tag n y is c.1))
+      | inr r ↦ subst (λ (z : List ℕ × List ℕ). BreaksAtom e (tag ∷ (z.0 ++ z.1))) (λ i. ((ap (λ (m : ℕ). m ∷ []) r.size ∙ sym h.1) i, sym r.whole i)) (refuses e r.text r.rest (omega (arith, h.0, r.size)) r.is)
+    ]))
+    (λ e h. inl (fault_is (λ (d : TermFault). BreaksAtom d (tag ∷ bytes)) e Truncated h.0 (subst (λ (z : List ℕ). BreaksAtom Truncated (tag ∷ z)) (none bytes h.1) (f.BreaksAtom.small_length_cut tag is))))
+  where
+    none : (b : List ℕ) → length b < 1 → [] ≡ b
+    none [] h = refl
+    none (x ∷ b) h = absurd (omega arith)
+
+-- the length in two bytes
+large_right : (tag : ℕ) (name : List ℕ → Result (List ℕ) TermFault) → IsLargeAtomTag tag
+    → ((a text : List ℕ) → length text < 2 ^ 16 → IsBytes text → name text ≡ Ok a → IsAtom a (tag ∷ to_be_bytes w16 (length text) ++ text))
+    → ((e : TermFault) (text rest : List ℕ) → length text < 2 ^ 16 → name text ≡ Err e → BreaksAtom e (tag ∷ to_be_bytes w16 (length text) ++ (text ++ rest)))
+    → (bytes : List ℕ) → IsBytes bytes → Right (AtomBehind tag) (NoAtom tag) bytes (number_at w16 bytes >>= λ n. named_at name n.0 n.1)
+large_right tag name is spells refuses bytes fits =
+    right_then IsHalf (Cut 2) (IsName name) (NoName name) (AtomBehind tag) (NoAtom tag) bytes (number_at w16 bytes) (λ n. named_at name n.0 n.1)
+    (half_right bytes fits)
+    (λ n rest fit. named_right name n rest fit)
+    (λ n a x y h k. subst (λ (z : List ℕ). IsAtom a (tag ∷ (z ++ y))) (ap (to_be_bytes w16) k.0 ∙ sym h.1) (spells a y (omega (arith, h.0, k.0)) k.2 k.1))
+    (λ n e x y h k. inl (elim k [
+      | inl c ↦ fault_is (λ (d : TermFault). BreaksAtom d (tag ∷ (x ++ y))) e Truncated c.0 (subst (λ (z : List ℕ). BreaksAtom Truncated (tag ∷ (z ++ y))) (sym h.1) (f.BreaksAtom.text_cut tag n y is h.0 c.1))
+      | inr r ↦ subst (λ (z : List ℕ × List ℕ). BreaksAtom e (tag ∷ (z.0 ++ z.1))) (λ i. ((ap (to_be_bytes w16) r.size ∙ sym h.1) i, sym r.whole i)) (refuses e r.text r.rest (omega (arith, h.0, r.size)) r.is)
+    ]))
+    (λ e h. inl (fault_is (λ (d : TermFault). BreaksAtom d (tag ∷ bytes)) e Truncated h.0 (f.BreaksAtom.length_cut tag bytes is h.1)))
+
+utf8_small : (bytes : List ℕ) → IsBytes bytes → Right (AtomBehind 119) (NoAtom 119) bytes (byte_at bytes >>= λ n. named_at utf8_atom n.0 n.1)
+utf8_small = small_right 119 utf8_atom (inr refl)
+    (λ a text lt fit e. let k = told_ok (IsAtomText text) (λ d. NoAtomText d text) (utf8_atom text) a (utf8_told text) e in subst (λ (z : List ℕ). IsAtom z (119 ∷ length text ∷ text)) k.2 (s.IsAtom.small text lt k.0 k.1))
+    (λ e text rest lt h. let k = told_err (IsAtomText text) (λ d. NoAtomText d text) (utf8_atom text) e (utf8_told text) h in fault_is (λ (d : TermFault). BreaksAtom d (119 ∷ length text ∷ (text ++ rest))) e BadAtom k.1 (f.BreaksAtom.small_bad text rest lt k.0))
+
+utf8_large : (bytes : List ℕ) → IsBytes bytes → Right (AtomBehind 118) (NoAtom 118) bytes (number_at w16 bytes >>= λ n. named_at utf8_atom n.0 n.1)
+utf8_large = large_right 118 utf8_atom (inr refl)
+    (λ a text lt fit e. let k = told_ok (IsAtomText text) (λ d. NoAtomText d text) (utf8_atom text) a (utf8_told text) e in subst (λ (z : List ℕ). IsAtom z (118 ∷ to_be_bytes w16 (length text) ++ text)) k.2 (s.IsAtom.large text lt k.0 k.1))
+    (λ e text rest lt h. let k = told_err (IsAtomText text) (λ d. NoAtomText d text) (utf8_atom text) e (utf8_told text) h in fault_is (λ (d : TermFault). BreaksAtom d (118 ∷ to_be_bytes w16 (length text) ++ (text ++ rest))) e BadAtom k.1 (f.BreaksAtom.bad text rest lt k.0))
+
+latin_small : (bytes : List ℕ) → IsBytes bytes → Right (AtomBehind 115) (NoAtom 115) bytes (byte_at bytes >>= λ n. named_at latin_atom n.0 n.1)
+latin_small = small_right 115 latin_atom (inl refl)
+    (λ a text lt fit e. let k = told_ok (IsLatinText text) (λ d. NoLatinText d text) (latin_atom text) a (latin_told text) e in subst (λ (z : List ℕ). IsAtom z (115 ∷ length text ∷ text)) k.1 (s.IsAtom.small_latin text k.0 (all_fit text fit)))
+    (λ e text rest lt h. let k = told_err (IsLatinText text) (λ d. NoLatinText d text) (latin_atom text) e (latin_told text) h in absurd (omega (arith, k.0)))
+
+latin_large : (bytes : List ℕ) → IsBytes bytes → Right (AtomBehind 100) (NoAtom 100) bytes (number_at w16 bytes >>= λ n. named_at latin_atom n.0 n.1)
+latin_large = large_right 100 latin_atom (inl refl)
+    (λ a text lt fit e. let k = told_ok (IsLatinText text) (λ d. NoLatinText d text) (latin_atom text) a (latin_told text) e in subst (λ (z : List ℕ). IsAtom z (100 ∷ to_be_bytes w16 (length text) ++ text)) k.1 (s.IsAtom.latin text k.0 (all_fit text fit)))
+    (λ e text rest lt h. let k = told_err (IsLatinText text) (λ d. NoLatinText d text) (latin_atom text) e (latin_told text) h in fault_is (λ (d : TermFault). BreaksAtom d (100 ∷ to_be_bytes w16 (length text) ++ (text ++ rest))) e BadAtom k.1 (f.BreaksAtom.latin_bad text rest lt k.0))
+
+pub atom_behind_right : (tag : ℕ) (bytes : List ℕ) → IsBytes bytes → Right (AtomBehind tag) (NoAtom tag) bytes (atom_behind tag bytes)
+unfolding atom_behind
+atom_behind_right tag bytes fits =
+    let r100 : Read (List ℕ) = number_at w16 bytes >>= λ n. named_at latin_atom n.0 n.1 in
+    let r115 : Read (List ℕ) = byte_at bytes >>= λ n. named_at latin_atom n.0 n.1 in
+    let r118 : Read (List ℕ) = number_at w16 bytes >>= λ n. named_at utf8_atom n.0 n.1 in
+    let r119 : Read (List ℕ) = byte_at bytes >>= λ n. named_at utf8_atom n.0 n.1 in
+    let P = AtomBehind tag in
+    let Q = NoAtom tag in
+    right_if P Q bytes (eqb tag 119) r119 (cond (eqb tag 118) r118 (cond (eqb tag 115) r115 (cond (eqb tag 100) r100 (Err BadAtom))))
+    (λ h. subst (λ (k : ℕ). Right (AtomBehind k) (NoAtom k) bytes r119) (sym (eqb-true tag 119 h)) (utf8_small bytes fits))
+    (λ n119. right_if P Q bytes (eqb tag 118) r118 (cond (eqb tag 115) r115 (cond (eqb tag 100) r100 (Err BadAtom)))
+    (λ h. subst (λ (k : ℕ). Right (AtomBehind k) (NoAtom k) bytes r118) (sym (eqb-true tag 118 h)) (utf8_large bytes fits))
+    (λ n118. right_if P Q bytes (eqb tag 115) r115 (cond (eqb tag 100) r100 (Err BadAtom))
+    (λ h. subst (λ (k : ℕ). Right (AtomBehind k) (NoAtom k) bytes r115) (sym (eqb-true tag 115 h)) (latin_small bytes fits))
+    (λ n115. right_if P Q bytes (eqb tag 100) r100 (Err BadAtom)
+    (λ h. subst (λ (k : ℕ). Right (AtomBehind k) (NoAtom k) bytes r100) (sym (eqb-true tag 100 h)) (latin_large bytes fits))
+    (λ n100. let other : is_atom_tag tag ≡ false = rw (n100, n115, n118, n119) refl in inr (other, refl)))))
+
+-- an atom in its place
+pub atom_right : (bytes : List ℕ) → IsBytes bytes → Right IsAtom BreaksNode bytes (atom_at bytes)
+unfolding atom_at
+atom_right [] fits = f.BreaksNode.missing
+atom_right (tag ∷ bytes) fits = tagged (atom_behind tag bytes) (atom_behind_right tag bytes (λ i. fits (suc i)))
+  where
+    tagged : (read : Read (List ℕ)) → Right (AtomBehind tag) (NoAtom tag) bytes read → Right IsAtom BreaksNode (tag ∷ bytes) read
+    tagged (Ok x) t = record { text = tag ∷ t.text; parts = ap (λ (b : List ℕ). tag ∷ b) t.parts; is = t.is; fits = t.fits }
+    tagged (Err e) (inl h) = f.BreaksNode.atom e (tag ∷ bytes) h
+    tagged (Err e) (inr h) = fault_is (λ (d : TermFault). BreaksNode d (tag ∷ bytes)) e BadAtom h.1 (f.BreaksNode.no_atom tag bytes h.0)

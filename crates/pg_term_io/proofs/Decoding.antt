@@ -1,0 +1,147 @@
+-- What an answer of reading says of the bytes.
+use Rattle.std.proofs.Common.{◌≡◌, ◌≢◌, ℕ, zero, suc, ◌<◌, ◌⊎◌, inl, inr, List, [], ◌∷◌, Result, Ok, Err, refl, subst, arith}
+use Rattle.std.specs.Prelude.{IfOk, IfErr}
+use Rattle.std.specs.List.{AllByRecursion}
+use Rattle.pg_term.specs.declared.fault.TermFault.{TermFault}
+use Rattle.pg_term.specs.declared.fault.TermFault.TheVariants.{Truncated, BadVersion, UnknownTag, TooDeep, IntegerTooLarge, BadAtom, ImproperList, BadReference, TrailingBytes, OutOfMemory, TooLong}
+use Rattle.pg_term.specs.declared.term.Term.{Term}
+use Rattle.pg_term.specs.Fault.{Fails, Gives}
+use Rattle.pg_term_io.specs.Reading.{term_of}
+use Rattle.pg_term_io.specs.Spelling.{Spells}
+use Rattle.pg_term_io.specs.Faults.{BreaksAtom, BreaksNode, BreaksPid, BreaksOldRef, BreaksRef, BreaksItem, BreaksItems, BreaksElements, BreaksTail, Breaks}
+use Rattle.pg_term_io.specs.Faults as f
+use Rattle.pg_term_io.proofs.Outcomes.{IsBytes}
+use Rattle.pg_term_io.proofs.Items.{Answers, term_right}
+use Rattle.pg_term_io.proofs.Again.{term_again}
+use Rattle.pg_term_io.proofs.Broken.{term_fails}
+
+fault_is : {A : Type 0} (e : TermFault) (read : Result A TermFault) → Fails e read → e ≢ OutOfMemory → read ≡ Err e
+fault_is Truncated read h other = h
+fault_is BadVersion read h other = h
+fault_is UnknownTag read h other = h
+fault_is TooDeep read h other = h
+fault_is IntegerTooLarge read h other = h
+fault_is BadAtom read h other = h
+fault_is ImproperList read h other = h
+fault_is BadReference read h other = h
+fault_is TrailingBytes read h other = h
+fault_is OutOfMemory read h other = absurd (other refl)
+fault_is TooLong read h other = h
+
+pub is_found : (bytes : List ℕ) (r : Result Term TermFault) → IsBytes bytes → Gives (λ t. t) r (term_of bytes) → IfOk r (λ t. Spells t bytes)
+is_found bytes (Ok t) fits given = subst (Answers bytes) given (term_right bytes fits)
+is_found bytes (Err e) fits given = tt
+
+abbrev Told : List ℕ → Result Term TermFault → Type 0
+Told bytes r = IfErr r (λ e. e ≢ OutOfMemory → Breaks e bytes)
+
+pub is_told : (bytes : List ℕ) (r : Result Term TermFault) → IsBytes bytes → Gives (λ t. t) r (term_of bytes) → Told bytes r
+is_told bytes (Ok t) fits given = tt
+is_told bytes (Err e) fits given = λ other. subst (Answers bytes) (fault_is e (term_of bytes) given other) (term_right bytes fits)
+
+-- ---- the faults that reading tells
+
+-- TooLong and OutOfMemory are told of no bytes
+abbrev IsOfBytes : TermFault → Type 0
+IsOfBytes OutOfMemory = ⊥
+IsOfBytes TooLong = ⊥
+IsOfBytes e = Unit {0}
+
+atom_of_bytes : (e : TermFault) (b : List ℕ) → BreaksAtom e b → IsOfBytes e
+atom_of_bytes _ _ (f.BreaksAtom.small_length_cut tag is) = tt
+atom_of_bytes _ _ (f.BreaksAtom.length_cut tag b is short) = tt
+atom_of_bytes _ _ (f.BreaksAtom.small_text_cut tag n b is short) = tt
+atom_of_bytes _ _ (f.BreaksAtom.text_cut tag n b is lt short) = tt
+atom_of_bytes _ _ (f.BreaksAtom.small_bad text rest lt bad) = tt
+atom_of_bytes _ _ (f.BreaksAtom.bad text rest lt bad) = tt
+atom_of_bytes _ _ (f.BreaksAtom.latin_bad text rest lt long) = tt
+
+node_of_bytes : (e : TermFault) (b : List ℕ) → BreaksNode e b → IsOfBytes e
+node_of_bytes _ _ f.BreaksNode.missing = tt
+node_of_bytes _ _ (f.BreaksNode.no_atom tag b other) = tt
+node_of_bytes _ _ (f.BreaksNode.atom e b h) = atom_of_bytes e b h
+
+pid_of_bytes : (e : TermFault) (b : List ℕ) → BreaksPid e b → IsOfBytes e
+pid_of_bytes _ _ (f.BreaksPid.node e b h) = node_of_bytes e b h
+pid_of_bytes _ _ (f.BreaksPid.cut a text b h short) = tt
+
+old_ref_of_bytes : (e : TermFault) (b : List ℕ) → BreaksOldRef e b → IsOfBytes e
+old_ref_of_bytes _ _ (f.BreaksOldRef.node e b h) = node_of_bytes e b h
+old_ref_of_bytes _ _ (f.BreaksOldRef.cut a text b h short) = tt
+
+ref_of_bytes : (e : TermFault) (b : List ℕ) → BreaksRef e b → IsOfBytes e
+ref_of_bytes _ _ (f.BreaksRef.length_cut b short) = tt
+ref_of_bytes _ _ (f.BreaksRef.bad_length n b lt bad) = tt
+ref_of_bytes _ _ (f.BreaksRef.node n e b some less h) = node_of_bytes e b h
+ref_of_bytes _ _ (f.BreaksRef.cut n a text b some less h short) = tt
+
+mutual
+  item_of_bytes : (room : ℕ) (e : TermFault) (b : List ℕ) → BreaksItem room e b → IsOfBytes e
+  item_of_bytes _ _ _ (f.BreaksItem.missing_item room) = tt
+  item_of_bytes _ _ _ (f.BreaksItem.deep_item tag b) = tt
+  item_of_bytes _ _ _ (f.BreaksItem.unknown_tag room tag b other) = tt
+  item_of_bytes _ _ _ (f.BreaksItem.small_integer_cut room) = tt
+  item_of_bytes _ _ _ (f.BreaksItem.integer_cut room b short) = tt
+  item_of_bytes _ _ _ (f.BreaksItem.big_length_cut room) = tt
+  item_of_bytes _ _ _ (f.BreaksItem.big_cut room n b short) = tt
+  item_of_bytes _ _ _ (f.BreaksItem.too_large room sign digits rest large) = tt
+  item_of_bytes _ _ _ (f.BreaksItem.atom room e b h) = atom_of_bytes e b h
+  item_of_bytes _ _ _ (f.BreaksItem.pid room e b h) = pid_of_bytes e b h
+  item_of_bytes _ _ _ (f.BreaksItem.old_reference room e b h) = old_ref_of_bytes e b h
+  item_of_bytes _ _ _ (f.BreaksItem.reference room e b h) = ref_of_bytes e b h
+  item_of_bytes _ _ _ (f.BreaksItem.small_arity_cut room) = tt
+  item_of_bytes _ _ _ (f.BreaksItem.small_tuple room n e b h) = items_of_bytes room n e b h
+  item_of_bytes _ _ _ (f.BreaksItem.arity_cut room b short) = tt
+  item_of_bytes _ _ _ (f.BreaksItem.large_tuple room n e b lt h) = items_of_bytes room n e b h
+  item_of_bytes _ _ _ (f.BreaksItem.list room e b h) = elements_of_bytes room e b h
+
+  items_of_bytes : (room n : ℕ) (e : TermFault) (b : List ℕ) → BreaksItems room n e b → IsOfBytes e
+  items_of_bytes _ _ _ _ (f.BreaksItems.here room n e b h) = item_of_bytes room e b h
+  items_of_bytes _ _ _ _ (f.BreaksItems.later room n e t a b h k) = items_of_bytes room n e b k
+
+  elements_of_bytes : (room : ℕ) (e : TermFault) (b : List ℕ) → BreaksElements room e b → IsOfBytes e
+  elements_of_bytes _ _ _ (f.BreaksElements.string_length_cut room b short) = tt
+  elements_of_bytes _ _ _ (f.BreaksElements.string_cut room n b lt short) = tt
+  elements_of_bytes _ _ _ (f.BreaksElements.string_too_deep text rest lt some) = tt
+  elements_of_bytes _ _ _ (f.BreaksElements.length_cut room b short) = tt
+  elements_of_bytes _ _ _ (f.BreaksElements.element room n e b lt h) = items_of_bytes room n e b h
+  elements_of_bytes _ _ _ (f.BreaksElements.tail room e ts a b lt items h) = tail_of_bytes room e b h
+
+  tail_of_bytes : (room : ℕ) (e : TermFault) (b : List ℕ) → BreaksTail room e b → IsOfBytes e
+  tail_of_bytes _ _ _ (f.BreaksTail.missing_tail room) = tt
+  tail_of_bytes _ _ _ (f.BreaksTail.deep_tail tag b) = tt
+  tail_of_bytes _ _ _ (f.BreaksTail.improper room tag b other) = tt
+  tail_of_bytes _ _ _ (f.BreaksTail.list_tail room e b h) = elements_of_bytes room e b h
+
+of_bytes : (e : TermFault) (b : List ℕ) → Breaks e b → IsOfBytes e
+of_bytes _ _ f.Breaks.missing = tt
+of_bytes _ _ (f.Breaks.bad_version version b other) = tt
+of_bytes _ _ (f.Breaks.item e b h) = item_of_bytes 64 e b h
+of_bytes _ _ (f.Breaks.trailing t a next b h) = tt
+
+pub not_too_long : (bytes : List ℕ) (r : Result Term TermFault) → IsBytes bytes → Gives (λ t. t) r (term_of bytes) → r ≢ Err TooLong
+not_too_long bytes r fits given is =
+    of_bytes TooLong bytes (subst (Told bytes) is (is_told bytes r fits given) (λ h. absurd cc))
+
+-- ---- each list of bytes has one meaning
+
+bytes_of : (bytes : List ℕ) → AllByRecursion (λ b. b < 256) bytes → IsBytes bytes
+bytes_of [] h i = omega arith
+bytes_of (b ∷ bytes) h zero = h.0
+bytes_of (b ∷ bytes) h (suc i) = bytes_of bytes h.1 i
+
+answered : (bytes : List ℕ) (r : Result Term TermFault) → Answers bytes r → ((t : Term) × Spells t bytes) ⊎ ((e : TermFault) × Breaks e bytes)
+answered bytes (Ok t) h = inl (t, h)
+answered bytes (Err e) h = inr (e, h)
+
+pub some_meaning : (bytes : List ℕ) → AllByRecursion (λ b. b < 256) bytes → ((t : Term) × Spells t bytes) ⊎ ((e : TermFault) × Breaks e bytes)
+some_meaning bytes h = answered bytes (term_of bytes) (term_right bytes (bytes_of bytes h))
+
+pub one_term : (bytes : List ℕ) (t u : Term) → Spells t bytes → Spells u bytes → t ≡ u
+one_term bytes t u h k = let p = term_again t bytes h in let q = term_again u bytes k in cc
+
+pub one_fault : (bytes : List ℕ) (e d : TermFault) → Breaks e bytes → Breaks d bytes → e ≡ d
+one_fault bytes e d h k = let p = term_fails e bytes h in let q = term_fails d bytes k in cc
+
+pub never_both : (bytes : List ℕ) (t : Term) (e : TermFault) → Spells t bytes → Breaks e bytes → ⊥
+never_both bytes t e h k = let p = term_again t bytes h in let q = term_fails e bytes k in absurd cc

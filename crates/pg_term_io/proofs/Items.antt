@@ -1,0 +1,194 @@
+-- What the readers of items, of tails and of all the bytes answer.
+use Rattle.std.proofs.Common.{◌≡◌, ℕ, zero, suc, Bool, true, false, cond, eqb, inl, inr, List, [], ◌∷◌, ◌++◌, length, Result, Ok, Err, refl, sym, ap, subst, ◌∙◌, arith}
+use Rattle.std.specs.Int.{w32, cast_signed}
+use Rattle.std.proofs.lemmas.Bool.{eqb-true, eqb-false, ne_eqb}
+use Rattle.std.proofs.lemmas.List.{append-nil}
+use Rattle.pg_term.specs.declared.fault.TermFault.{TermFault}
+use Rattle.pg_term.specs.declared.fault.TermFault.TheVariants.{BadVersion, UnknownTag, TrailingBytes}
+use Rattle.pg_term.specs.declared.term.Term.{Term, Tuple, List as Listed}
+use Rattle.pg_term.specs.declared.term.Term.TheVariants.{Int, Atom as Name, Ref, Pid as Process}
+use Rattle.pg_term_io.specs.Numbers.{int_of}
+use Rattle.pg_term_io.specs.Tags.{is_atom_tag, is_list_tag, is_tag}
+use Rattle.pg_term_io.specs.Reading.{Read, ◌>>=◌, byte_at, number_at, big_at, atom_behind, items_at, elements_behind, pid_at, old_reference_at, new_reference_at, as_term, item_behind, item_at, readers, term_of}
+use Rattle.pg_term_io.specs.Spelling.{IsAtom, IsPid, IsOldRef, IsRef, Item, Items, Elements, Tail, Spells}
+use Rattle.pg_term_io.specs.Spelling as s
+use Rattle.pg_term_io.specs.Faults.{BreaksAtom, BreaksPid, BreaksOldRef, BreaksRef, BreaksItem, BreaksElements, BreaksTail, Breaks}
+use Rattle.pg_term_io.specs.Faults as f
+use Rattle.pg_term_io.proofs.Outcomes.{IsBytes, Right, Cut, IsByte, IsWord, right_if, right_map, byte_right, word_right}
+use Rattle.pg_term_io.proofs.Atoms.{AtomBehind, NoAtom, atom_behind_right}
+use Rattle.pg_term_io.proofs.Bigs.{BigBehind, NoBigBehind, big_right, no_byte}
+use Rattle.pg_term_io.proofs.Identifiers.{pid_right, old_reference_right, new_reference_right}
+use Rattle.pg_term_io.proofs.Elements.{ItemRight, TailRight, SmallTuple, NoSmallTuple, small_tuple_right, LargeTuple, NoLargeTuple, large_tuple_right, ListBehind, NoElements, elements_right}
+
+-- ---- behind a tag
+
+abbrev Behind : ℕ → ℕ → Term → List ℕ → Type 0
+Behind room tag t b = Item (suc room) t (tag ∷ b)
+
+abbrev BrokenBehind : ℕ → ℕ → TermFault → List ℕ → Type 0
+BrokenBehind room tag e b = BreaksItem (suc room) e (tag ∷ b)
+
+abbrev BehindRight : ℕ → ℕ → List ℕ → Read Term → Type 0
+BehindRight room tag bytes read = Right (Behind room tag) (BrokenBehind room tag) bytes read
+
+-- an item of one kind behind its own tag
+module _ (room : ℕ) (bytes : List ℕ) (fits : IsBytes bytes) where
+  byte_item : BehindRight room 97 bytes (as_term int_of (byte_at bytes))
+  byte_item =
+      right_map IsByte (Cut 1) (Behind room 97) (BrokenBehind room 97) bytes int_of (byte_at bytes) (byte_right bytes fits)
+      (λ n x h. subst (λ (z : List ℕ). Item (suc room) (int_of n) (97 ∷ z)) (sym h.1) (s.Item.small_integer room n h.0))
+      (λ e h. subst (λ (z : TermFault × List ℕ). BreaksItem (suc room) z.0 (97 ∷ z.1)) (λ i. (sym h.0 i, no_byte bytes h.1 i)) (f.BreaksItem.small_integer_cut room))
+
+  word_item : BehindRight room 98 bytes (as_term (λ n. Int (cast_signed w32 n)) (number_at w32 bytes))
+  word_item =
+      right_map IsWord (Cut 4) (Behind room 98) (BrokenBehind room 98) bytes (λ (n : ℕ). Int (cast_signed w32 n)) (number_at w32 bytes) (word_right bytes fits)
+      (λ n x h. subst (λ (z : List ℕ). Item (suc room) (Int (cast_signed w32 n)) (98 ∷ z)) (sym h.1) (s.Item.integer room n h.0))
+      (λ e h. subst (λ (d : TermFault). BreaksItem (suc room) d (98 ∷ bytes)) (sym h.0) (f.BreaksItem.integer_cut room bytes h.1))
+
+  big_item : BehindRight room 110 bytes (as_term Int (big_at bytes))
+  big_item = right_map (BigBehind room) (NoBigBehind room) (Behind room 110) (BrokenBehind room 110) bytes Int (big_at bytes) (big_right room bytes fits) (λ z x h. h) (λ e h. h)
+
+  atom_item : (tag : ℕ) → is_atom_tag tag ≡ true → BehindRight room tag bytes (as_term Name (atom_behind tag bytes))
+  atom_item tag known =
+      right_map (AtomBehind tag) (NoAtom tag) (Behind room tag) (BrokenBehind room tag) bytes Name (atom_behind tag bytes) (atom_behind_right tag bytes fits)
+      (λ a x h. s.Item.atom room a (tag ∷ x) h)
+      (λ e h. elim h [
+        | inl k ↦ f.BreaksItem.atom room e (tag ∷ bytes) k
+        | inr k ↦ let no = k.0 in absurd cc
+      ])
+
+  pid_item : BehindRight room 103 bytes (as_term Process (pid_at bytes))
+  pid_item = right_map IsPid BreaksPid (Behind room 103) (BrokenBehind room 103) bytes Process (pid_at bytes) (pid_right bytes fits) (λ p x h. s.Item.pid room p x h) (λ e h. f.BreaksItem.pid room e bytes h)
+
+  old_reference_item : BehindRight room 101 bytes (as_term Ref (old_reference_at bytes))
+  old_reference_item =
+      right_map IsOldRef BreaksOldRef (Behind room 101) (BrokenBehind room 101) bytes Ref (old_reference_at bytes) (old_reference_right bytes fits) (λ r x h. s.Item.old_reference room r x h) (λ e h. f.BreaksItem.old_reference room e bytes h)
+
+  reference_item : BehindRight room 114 bytes (as_term Ref (new_reference_at bytes))
+  reference_item = right_map IsRef BreaksRef (Behind room 114) (BrokenBehind room 114) bytes Ref (new_reference_at bytes) (new_reference_right bytes fits) (λ r x h. s.Item.reference room r x h) (λ e h. f.BreaksItem.reference room e bytes h)
+
+  module _ (each : ItemRight room) (ends : TailRight room) where
+    small_tuple_item : BehindRight room 104 bytes (as_term Tuple (byte_at bytes >>= λ n. items_at (item_at room) n.0 n.1))
+    small_tuple_item = right_map (SmallTuple room) (NoSmallTuple room) (Behind room 104) (BrokenBehind room 104) bytes Tuple (byte_at bytes >>= λ n. items_at (item_at room) n.0 n.1) (small_tuple_right room each bytes fits) (λ ts x h. h) (λ e h. h)
+
+    large_tuple_item : BehindRight room 105 bytes (as_term Tuple (number_at w32 bytes >>= λ n. items_at (item_at room) n.0 n.1))
+    large_tuple_item = right_map (LargeTuple room) (NoLargeTuple room) (Behind room 105) (BrokenBehind room 105) bytes Tuple (number_at w32 bytes >>= λ n. items_at (item_at room) n.0 n.1) (large_tuple_right room each bytes fits) (λ ts x h. h) (λ e h. h)
+
+    list_item : (tag : ℕ) → is_list_tag tag ≡ true → BehindRight room tag bytes (as_term Listed (elements_behind room (readers room) tag bytes))
+    list_item tag known =
+        right_map (ListBehind room tag) (NoElements room tag) (Behind room tag) (BrokenBehind room tag) bytes Listed (elements_behind room (readers room) tag bytes) (elements_right room each ends tag bytes fits)
+        (λ ts x h. s.Item.list room ts (tag ∷ x) h)
+        (λ e h. elim h [
+          | inl k ↦ f.BreaksItem.list room e (tag ∷ bytes) k
+          | inr k ↦ let no = k.0 in absurd cc
+        ])
+
+    behind_right : (tag : ℕ) → BehindRight room tag bytes (item_behind room (readers room) tag bytes)
+    unfolding item_behind
+    behind_right tag =
+        let v97 = as_term int_of (byte_at bytes) in
+        let v98 = as_term (λ (n : ℕ). Int (cast_signed w32 n)) (number_at w32 bytes) in
+        let v110 = as_term Int (big_at bytes) in
+        let vatom = as_term Name (atom_behind tag bytes) in
+        let v104 = as_term Tuple (byte_at bytes >>= λ n. items_at (item_at room) n.0 n.1) in
+        let v105 = as_term Tuple (number_at w32 bytes >>= λ n. items_at (item_at room) n.0 n.1) in
+        let vlist = as_term Listed (elements_behind room (readers room) tag bytes) in
+        let v103 = as_term Process (pid_at bytes) in
+        let v101 = as_term Ref (old_reference_at bytes) in
+        let v114 = as_term Ref (new_reference_at bytes) in
+        let r114 : Read Term = cond (eqb tag 114) v114 (Err UnknownTag) in
+        let r101 : Read Term = cond (eqb tag 101) v101 r114 in
+        let r103 : Read Term = cond (eqb tag 103) v103 r101 in
+        let rlist : Read Term = cond (is_list_tag tag) vlist r103 in
+        let r105 : Read Term = cond (eqb tag 105) v105 rlist in
+        let r104 : Read Term = cond (eqb tag 104) v104 r105 in
+        let ratom : Read Term = cond (is_atom_tag tag) vatom r104 in
+        let r110 : Read Term = cond (eqb tag 110) v110 ratom in
+        let r98 : Read Term = cond (eqb tag 98) v98 r110 in
+        let P = Behind room tag in
+        let Q = BrokenBehind room tag in
+        let at : (k : ℕ) (read : Read Term) → BehindRight room k bytes read → eqb tag k ≡ true → BehindRight room tag bytes read = λ k read h e. subst (λ (m : ℕ). BehindRight room m bytes read) (sym (eqb-true tag k e)) h in
+        right_if P Q bytes (eqb tag 97) v97 r98 (at 97 v97 byte_item)
+        (λ n97. right_if P Q bytes (eqb tag 98) v98 r110 (at 98 v98 word_item)
+        (λ n98. right_if P Q bytes (eqb tag 110) v110 ratom (at 110 v110 big_item)
+        (λ n110. right_if P Q bytes (is_atom_tag tag) vatom r104 (atom_item tag)
+        (λ natom. right_if P Q bytes (eqb tag 104) v104 r105 (at 104 v104 small_tuple_item)
+        (λ n104. right_if P Q bytes (eqb tag 105) v105 rlist (at 105 v105 large_tuple_item)
+        (λ n105. right_if P Q bytes (is_list_tag tag) vlist r103 (list_item tag)
+        (λ nlist. right_if P Q bytes (eqb tag 103) v103 r101 (at 103 v103 pid_item)
+        (λ n103. right_if P Q bytes (eqb tag 101) v101 r114 (at 101 v101 old_reference_item)
+        (λ n101. right_if P Q bytes (eqb tag 114) v114 (Err UnknownTag) (at 114 v114 reference_item)
+        (λ n114. f.BreaksItem.unknown_tag room tag bytes (unknown tag n97 n98 n110 natom n104 n105 nlist n103 n101 n114)))))))))))
+      where
+        unknown : (tag : ℕ) → eqb tag 97 ≡ false → eqb tag 98 ≡ false → eqb tag 110 ≡ false → is_atom_tag tag ≡ false → eqb tag 104 ≡ false → eqb tag 105 ≡ false → is_list_tag tag ≡ false → eqb tag 103 ≡ false → eqb tag 101 ≡ false → eqb tag 114 ≡ false
+            → is_tag tag ≡ false
+        unknown tag n97 n98 n110 natom n104 n105 nlist n103 n101 n114 = rw (n97, n98, n110, n104, n105, n103, n101, n114, natom, nlist) refl
+
+-- ---- levels
+
+-- with the tag in front again
+tagged : (room tag : ℕ) (bytes : List ℕ) (read : Read Term) → BehindRight room tag bytes read → Right (Item (suc room)) (BreaksItem (suc room)) (tag ∷ bytes) read
+tagged room tag bytes (Ok x) t = record { text = tag ∷ t.text; parts = ap (λ (b : List ℕ). tag ∷ b) t.parts; is = t.is; fits = t.fits }
+tagged room tag bytes (Err e) q = q
+
+tagged_tail : (room tag : ℕ) (bytes : List ℕ) (read : Read (List Term)) → Right (ListBehind room tag) (NoElements room tag) bytes read → Right (Tail (suc room)) (BreaksTail (suc room)) (tag ∷ bytes) read
+tagged_tail room tag bytes (Ok x) t = record { text = tag ∷ t.text; parts = ap (λ (b : List ℕ). tag ∷ b) t.parts; is = s.Tail.tail room x.0 (tag ∷ t.text) t.is; fits = t.fits }
+tagged_tail room tag bytes (Err e) (inl h) = f.BreaksTail.list_tail room e (tag ∷ bytes) h
+tagged_tail room tag bytes (Err e) (inr h) = subst (λ (d : TermFault). BreaksTail (suc room) d (tag ∷ bytes)) (sym h.1) (f.BreaksTail.improper room tag bytes h.0)
+
+deep_item : ItemRight zero
+unfolding readers
+deep_item [] fits = f.BreaksItem.missing_item zero
+deep_item (tag ∷ bytes) fits = f.BreaksItem.deep_item tag bytes
+
+deep_tail : TailRight zero
+unfolding readers
+deep_tail [] fits = f.BreaksTail.missing_tail zero
+deep_tail (tag ∷ bytes) fits = f.BreaksTail.deep_tail tag bytes
+
+next_item : (room : ℕ) → ItemRight room → TailRight room → ItemRight (suc room)
+unfolding readers
+next_item room each ends [] fits = f.BreaksItem.missing_item (suc room)
+next_item room each ends (tag ∷ bytes) fits = tagged room tag bytes (item_behind room (readers room) tag bytes) (behind_right room bytes (λ i. fits (suc i)) each ends tag)
+
+next_tail : (room : ℕ) → ItemRight room → TailRight room → TailRight (suc room)
+unfolding readers
+next_tail room each ends [] fits = f.BreaksTail.missing_tail (suc room)
+next_tail room each ends (tag ∷ bytes) fits = tagged_tail room tag bytes (elements_behind room (readers room) tag bytes) (elements_right room each ends tag bytes (λ i. fits (suc i)))
+
+levels : (room : ℕ) → ItemRight room × TailRight room
+levels zero = (deep_item, deep_tail)
+levels (suc room) = (next_item room (levels room).0 (levels room).1, next_tail room (levels room).0 (levels room).1)
+
+-- ---- all the bytes
+
+abbrev pub Answers : List ℕ → Result Term TermFault → Type 0
+Answers bytes (Ok t) = Spells t bytes
+Answers bytes (Err e) = Breaks e bytes
+
+abbrev whole : Term × List ℕ → Result Term TermFault
+whole x = cond (eqb (length x.1) 0) (Ok x.0) (Err TrailingBytes)
+
+ends_there : (t : Term) (bytes text rest : List ℕ) → bytes ≡ text ++ rest → Item 64 t text → Answers (131 ∷ bytes) (whole (t, rest))
+ends_there t bytes text [] parts is = subst (λ (b : List ℕ). Spells t (131 ∷ b)) (sym (parts ∙ append-nil text)) (s.Spells.version t text is)
+ends_there t bytes text (next ∷ rest) parts is =
+    let more : eqb (length (next ∷ rest)) 0 ≡ false = ne_eqb (length (next ∷ rest)) 0 (λ h. absurd (omega (arith, h))) in
+    rw more (subst (λ (b : List ℕ). Breaks TrailingBytes (131 ∷ b)) (sym parts) (f.Breaks.trailing t text next rest is))
+
+version_right : (bytes : List ℕ) (read : Read Term) → Right (Item 64) (BreaksItem 64) bytes read → Answers (131 ∷ bytes) (read >>= whole)
+version_right bytes (Ok x) t = ends_there x.0 bytes t.text x.1 t.parts t.is
+version_right bytes (Err e) q = f.Breaks.item e bytes q
+
+answers_if : (bytes : List ℕ) (b : Bool) (x y : Result Term TermFault) → (b ≡ true → Answers bytes x) → (b ≡ false → Answers bytes y) → Answers bytes (cond b x y)
+answers_if bytes true x y h k = h refl
+answers_if bytes false x y h k = k refl
+
+-- each list of bytes is answered by a term that it spells, or by a fault that it has
+pub term_right : (bytes : List ℕ) → IsBytes bytes → Answers bytes (term_of bytes)
+unfolding term_of
+term_right [] fits = f.Breaks.missing
+term_right (version ∷ bytes) fits =
+    let read = item_at 64 bytes >>= whole in
+    answers_if (version ∷ bytes) (eqb version 131) read (Err BadVersion)
+    (λ h. subst (λ (v : ℕ). Answers (v ∷ bytes) read) (sym (eqb-true version 131 h)) (version_right bytes (item_at 64 bytes) ((levels 64).0 bytes (λ i. fits (suc i)))))
+    (λ h. f.Breaks.bad_version version bytes (eqb-false version 131 h))

@@ -1,0 +1,39 @@
+-- One level of reading.
+use Rattle.std.proofs.Common.{◌≡◌, ℕ, zero, suc, ◌-◌, ◌<◌, ◌≤◌, List, [], ◌∷◌, length, get_or, take, drop, Err, refl, arith}
+use Rattle.std.proofs.Math.Seq.{take-length}
+use Rattle.pg_term.specs.declared.fault.TermFault.TheVariants.{Truncated, TooDeep}
+use Rattle.pg_term_io.specs.Reading.{readers, item_at, tail_at, item_behind, elements_behind}
+
+pub item_at-nothing : (room : ℕ) (bytes : List ℕ) → length bytes < 1 → item_at room bytes ≡ Err Truncated
+unfolding readers
+item_at-nothing zero [] h = refl
+item_at-nothing (suc room) [] h = refl
+item_at-nothing room (tag ∷ bytes) h = absurd (omega arith)
+
+pub tail_at-nothing : (room : ℕ) (bytes : List ℕ) → length bytes < 1 → tail_at room bytes ≡ Err Truncated
+unfolding readers
+tail_at-nothing zero [] h = refl
+tail_at-nothing (suc room) [] h = refl
+tail_at-nothing room (tag ∷ bytes) h = absurd (omega arith)
+
+pub item_at-deep : (room : ℕ) (bytes : List ℕ) → 1 ≤ length bytes → room ≡ 0 → item_at room bytes ≡ Err TooDeep
+unfolding readers
+item_at-deep room [] h e = absurd (omega arith)
+item_at-deep room (tag ∷ bytes) h e = rw e refl
+
+pub tail_at-deep : (room : ℕ) (bytes : List ℕ) → 1 ≤ length bytes → room ≡ 0 → tail_at room bytes ≡ Err TooDeep
+unfolding readers
+tail_at-deep room [] h e = absurd (omega arith)
+tail_at-deep room (tag ∷ bytes) h e = rw e refl
+
+pub item_at-more : (room : ℕ) (bytes : List ℕ) → 1 ≤ length bytes → (room ≡ 0 → ⊥) → item_at room bytes ≡ item_behind (room - 1) (readers (room - 1)) (get_or bytes 0 0) (take (length bytes - 1) (drop 1 bytes))
+unfolding readers
+item_at-more room [] h e = absurd (omega arith)
+item_at-more zero (tag ∷ bytes) h e = absurd (e refl)
+item_at-more (suc room) (tag ∷ bytes) h e = let k : suc room - 1 ≡ room = omega arith in let n : length (tag ∷ bytes) - 1 ≡ length bytes = omega arith in rw (k, n, take-length bytes) refl
+
+pub tail_at-more : (room : ℕ) (bytes : List ℕ) → 1 ≤ length bytes → (room ≡ 0 → ⊥) → tail_at room bytes ≡ elements_behind (room - 1) (readers (room - 1)) (get_or bytes 0 0) (take (length bytes - 1) (drop 1 bytes))
+unfolding readers
+tail_at-more room [] h e = absurd (omega arith)
+tail_at-more zero (tag ∷ bytes) h e = absurd (e refl)
+tail_at-more (suc room) (tag ∷ bytes) h e = let k : suc room - 1 ≡ room = omega arith in let n : length (tag ∷ bytes) - 1 ≡ length bytes = omega arith in rw (k, n, take-length bytes) refl

@@ -1,0 +1,6 @@
+pub mod Faults
+pub mod Numbers
+pub mod Reading
+pub mod Spelling
+pub mod Tags
+pub mod Writing

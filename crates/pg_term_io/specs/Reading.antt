@@ -1,0 +1,198 @@
+-- Reading a term from left to right, with the first fault that is met. A reader answers the value and the bytes after it.
+use Rattle.std.specs.Prelude.{ℕ, zero, suc, ◌^◌, ℤ, pos, negsuc, List, [], ◌∷◌, ◌++◌, length, take, drop, map, Bool, ◌||◌, ◌&&◌, Result, Ok, Err, nat_lt, ◌==◌, if◌then◌else◌}
+use Rattle.std.specs.Int.{Width, w16, w32, byte_len, from_be_bytes, cast_signed}
+use Rattle.std.specs.Str.{chars, is_utf8}
+use Rattle.pg_term.specs.declared.fault.TermFault.{TermFault}
+use Rattle.pg_term.specs.declared.fault.TermFault.TheVariants.{Truncated, BadVersion, UnknownTag, TooDeep, IntegerTooLarge, BadAtom, ImproperList, BadReference, TrailingBytes}
+use Rattle.pg_term.specs.declared.pid.Pid.{Pid}
+use Rattle.pg_term.specs.declared.term.Term.{Term}
+use Rattle.pg_term.specs.declared.term.Term as term
+use Rattle.pg_term.specs.RefParts.{RefParts}
+use Rattle.pg_term.specs.Fault.{atom_of}
+use Rattle.pg_term_io.specs.Numbers.{int_of, big_value}
+use Rattle.pg_term_io.specs.Tags.{is_atom_tag, is_list_tag}
+
+-- what is read at the front, and the bytes after it
+abbrev pub Read : Type 0 → Type 0
+Read A = Result (A × List ℕ) TermFault
+
+infixl 10 ◌>>=◌
+abbrev pub ◌>>=◌ : {A B : Type 0} → Result A TermFault → (A → Result B TermFault) → Result B TermFault
+(Ok x) >>= f = f x
+(Err e) >>= f = Err e
+
+abbrev pub byte_at : List ℕ → Read ℕ
+byte_at [] = Err Truncated
+byte_at (b ∷ bytes) = Ok (b, bytes)
+
+abbrev pub number_at : Width → List ℕ → Read ℕ
+number_at w bytes = if nat_lt (length bytes) (byte_len w) then Err Truncated else Ok (from_be_bytes w (take (byte_len w) bytes), drop (byte_len w) bytes)
+
+abbrev pub bytes_at : ℕ → List ℕ → Read (List ℕ)
+bytes_at n bytes = if nat_lt (length bytes) n then Err Truncated else Ok (take n bytes, drop n bytes)
+
+-- n items, one after the other
+unfoldable pub items_at : {A : Type 0} → (List ℕ → Read A) → ℕ → List ℕ → Read (List A)
+items_at read zero bytes = Ok ([], bytes)
+items_at read (suc n) bytes = do
+  first ← read bytes
+  others ← items_at read n first.1
+  Ok (first.0 ∷ others.0, others.1)
+
+-- these items in front of those that are read
+abbrev pub with_front : {A : Type 0} → List A → Read (List A) → Read (List A)
+with_front front read = read >>= λ x. Ok (front ++ x.0, x.1)
+
+-- ---- integers
+
+abbrev pub is_i64 : ℤ → Bool
+is_i64 (pos n) = nat_lt n (2 ^ 63)
+is_i64 (negsuc n) = nat_lt n (2 ^ 63)
+
+abbrev pub i64_of : ℤ → Result ℤ TermFault
+i64_of z = if is_i64 z then Ok z else Err IntegerTooLarge
+
+-- behind the tag of a big integer
+unfoldable pub big_at : List ℕ → Read ℤ
+big_at bytes = do
+  n ← byte_at bytes
+  sign ← byte_at n.1
+  digits ← bytes_at n.0 sign.1
+  value ← i64_of (big_value sign.0 digits.0)
+  Ok (value, digits.1)
+
+-- ---- atoms
+
+abbrev pub utf8_atom : List ℕ → Result (List ℕ) TermFault
+utf8_atom bytes = if is_utf8 bytes then atom_of (chars bytes) else Err BadAtom
+
+-- in Latin-1 each byte is the character of that number
+abbrev pub latin_atom : List ℕ → Result (List ℕ) TermFault
+latin_atom bytes = atom_of bytes
+
+unfoldable pub named_at : (List ℕ → Result (List ℕ) TermFault) → ℕ → List ℕ → Read (List ℕ)
+named_at name n bytes = do
+  text ← bytes_at n bytes
+  atom ← name text.0
+  Ok (atom, text.1)
+
+-- behind an atom's tag
+unfoldable pub atom_behind : ℕ → List ℕ → Read (List ℕ)
+atom_behind tag bytes =
+    if tag == 119 then (byte_at bytes >>= λ n. named_at utf8_atom n.0 n.1)
+    else if tag == 118 then (number_at w16 bytes >>= λ n. named_at utf8_atom n.0 n.1)
+    else if tag == 115 then (byte_at bytes >>= λ n. named_at latin_atom n.0 n.1)
+    else if tag == 100 then (number_at w16 bytes >>= λ n. named_at latin_atom n.0 n.1)
+    else Err BadAtom
+
+-- an atom as a part of a pid or a reference
+unfoldable pub atom_at : List ℕ → Read (List ℕ)
+atom_at [] = Err Truncated
+atom_at (tag ∷ bytes) = atom_behind tag bytes
+
+-- ---- behind the other tags
+
+unfoldable pub pid_at : List ℕ → Read Pid
+pid_at bytes = do
+  node ← atom_at bytes
+  id ← number_at w32 node.1
+  serial ← number_at w32 id.1
+  creation ← byte_at serial.1
+  Ok (record { node = node.0; serial = serial.0; id = id.0; creation = creation.0 }, creation.1)
+
+unfoldable pub old_reference_at : List ℕ → Read RefParts
+old_reference_at bytes = do
+  node ← atom_at bytes
+  word ← number_at w32 node.1
+  creation ← byte_at word.1
+  Ok (record { node = node.0; creation = creation.0; words = word.0 ∷ [] }, creation.1)
+
+unfoldable pub words_at : List ℕ → ℕ → ℕ → List ℕ → Read RefParts
+words_at node creation n bytes = do
+  words ← items_at (number_at w32) n bytes
+  Ok (record { node = node; creation = creation; words = words.0 }, words.1)
+
+unfoldable pub new_reference_at : List ℕ → Read RefParts
+new_reference_at bytes = do
+  n ← number_at w16 bytes
+  if (n.0 == 0) || nat_lt 3 n.0 then Err BadReference else do
+    node ← atom_at n.1
+    creation ← byte_at node.1
+    words_at node.0 creation.0 n.0 creation.1
+
+-- ---- items
+
+-- the items of one depth, and the lists that stand as a tail there
+pub record Readers : Type 0 where
+  pub item : List ℕ → Read Term
+  pub tail : List ℕ → Read (List Term)
+
+abbrev pub too_deep : {A : Type 0} → List ℕ → Read A
+too_deep [] = Err Truncated
+too_deep (b ∷ bytes) = Err TooDeep
+
+-- the bytes of a STRING, where room more levels may nest
+unfoldable pub string_at : ℕ → List ℕ → Read (List Term)
+string_at room bytes = do
+  n ← number_at w16 bytes
+  text ← bytes_at n.0 n.1
+  if (room == 0) && nat_lt 0 n.0 then Err TooDeep else Ok (map int_of text.0, text.1)
+
+unfoldable pub list_at : Readers → List ℕ → Read (List Term)
+list_at below bytes = do
+  n ← number_at w32 bytes
+  items ← items_at below.item n.0 n.1
+  tail ← below.tail items.1
+  Ok (items.0 ++ tail.0, tail.1)
+
+-- behind the tag of a list
+unfoldable pub elements_behind : ℕ → Readers → ℕ → List ℕ → Read (List Term)
+elements_behind room below tag bytes =
+    if tag == 106 then Ok ([], bytes)
+    else if tag == 107 then string_at room bytes
+    else if tag == 108 then list_at below bytes
+    else Err ImproperList
+
+abbrev pub as_term : {A : Type 0} → (A → Term) → Read A → Read Term
+as_term make read = read >>= λ x. Ok (make x.0, x.1)
+
+-- behind any tag
+unfoldable pub item_behind : ℕ → Readers → ℕ → List ℕ → Read Term
+item_behind room below tag bytes =
+    if tag == 97 then as_term int_of (byte_at bytes)
+    else if tag == 98 then as_term (λ n. term.TheVariants.Int (cast_signed w32 n)) (number_at w32 bytes)
+    else if tag == 110 then as_term term.TheVariants.Int (big_at bytes)
+    else if is_atom_tag tag then as_term term.TheVariants.Atom (atom_behind tag bytes)
+    else if tag == 104 then as_term term.Tuple (byte_at bytes >>= λ n. items_at below.item n.0 n.1)
+    else if tag == 105 then as_term term.Tuple (number_at w32 bytes >>= λ n. items_at below.item n.0 n.1)
+    else if is_list_tag tag then as_term term.List (elements_behind room below tag bytes)
+    else if tag == 103 then as_term term.TheVariants.Pid (pid_at bytes)
+    else if tag == 101 then as_term term.TheVariants.Ref (old_reference_at bytes)
+    else if tag == 114 then as_term term.TheVariants.Ref (new_reference_at bytes)
+    else Err UnknownTag
+
+abbrev pub item_by : ℕ → Readers → List ℕ → Read Term
+item_by room below [] = Err Truncated
+item_by room below (tag ∷ bytes) = item_behind room below tag bytes
+
+abbrev pub tail_by : ℕ → Readers → List ℕ → Read (List Term)
+tail_by room below [] = Err Truncated
+tail_by room below (tag ∷ bytes) = elements_behind room below tag bytes
+
+-- where room levels may nest
+unfoldable pub readers : ℕ → Readers
+readers zero = record { item = too_deep; tail = too_deep }
+readers (suc room) = record { item = item_by room (readers room); tail = tail_by room (readers room) }
+
+abbrev pub item_at : ℕ → List ℕ → Read Term
+item_at room = (readers room).item
+
+abbrev pub tail_at : ℕ → List ℕ → Read (List Term)
+tail_at room = (readers room).tail
+
+-- all of the bytes
+unfoldable pub term_of : List ℕ → Result Term TermFault
+term_of [] = Err Truncated
+term_of (version ∷ bytes) =
+    if version == 131 then (item_at 64 bytes >>= λ x. if length x.1 == 0 then Ok x.0 else Err TrailingBytes)
+    else Err BadVersion

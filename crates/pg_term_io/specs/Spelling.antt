@@ -1,0 +1,84 @@
+-- Which bytes spell a term: the External Term Format chapter of the Erlang documentation, one constructor a form.
+-- `room` is how many more levels of terms may nest: an item with room for 0 levels spells nothing.
+use Rattle.std.specs.Prelude.{◌≡◌, ℕ, suc, ◌<◌, ◌≤◌, ◌^◌, pos, List, [], ◌∷◌, ◌++◌, length, map, FitsSigned}
+use Rattle.std.specs.Int.{w16, w32, w64, to_be_bytes, cast_signed}
+use Rattle.std.specs.List.{flat_map, AllByRecursion}
+use Rattle.std.specs.Str.{chars, IsUtf8}
+use Rattle.pg_term.specs.declared.pid.Pid.{Pid}
+use Rattle.pg_term.specs.declared.term.Term.{Term, Tuple, List as Listed}
+use Rattle.pg_term.specs.declared.term.Term.TheVariants.{Int, Atom as Name, Ref, Pid as Process}
+use Rattle.pg_term.specs.RefParts.{RefParts}
+use Rattle.pg_term_io.specs.Numbers.{int_of, big_value}
+
+-- an atom of at most 255 characters, with its tag
+pub data IsAtom : List ℕ → List ℕ → Type 0 where
+  -- SMALL_ATOM_UTF8_EXT (119): the length of the text in one byte, and the text in UTF-8
+  small : (text : List ℕ) → length text < 256 → IsUtf8 text → length (chars text) ≤ 255 → IsAtom (chars text) (119 ∷ length text ∷ text)
+  -- ATOM_UTF8_EXT (118): the length of the text in two bytes, and the text in UTF-8
+  large : (text : List ℕ) → length text < 2 ^ 16 → IsUtf8 text → length (chars text) ≤ 255 → IsAtom (chars text) (118 ∷ to_be_bytes w16 (length text) ++ text)
+  -- SMALL_ATOM_EXT (115): the length in one byte, and the characters in Latin-1, each of them its own byte
+  small_latin : (text : List ℕ) → length text ≤ 255 → AllByRecursion (λ c. c < 256) text → IsAtom text (115 ∷ length text ∷ text)
+  -- ATOM_EXT (100): the length in two bytes, and the characters in Latin-1
+  latin : (text : List ℕ) → length text ≤ 255 → AllByRecursion (λ c. c < 256) text → IsAtom text (100 ∷ to_be_bytes w16 (length text) ++ text)
+
+-- PID_EXT, behind its tag: the node as an atom, the ID and the Serial in four bytes, and the Creation in one
+pub data IsPid : Pid → List ℕ → Type 0 where
+  parts : (p : Pid) (node : List ℕ) → IsAtom p.node node → p.id < 2 ^ 32 → p.serial < 2 ^ 32 → p.creation < 256
+      → IsPid p (node ++ (to_be_bytes w32 p.id ++ (to_be_bytes w32 p.serial ++ p.creation ∷ [])))
+
+-- REFERENCE_EXT, behind its tag: the node as an atom, the ID in four bytes, which is the one word, and the Creation in one
+pub data IsOldRef : RefParts → List ℕ → Type 0 where
+  parts : (node text : List ℕ) (word creation : ℕ) → IsAtom node text → word < 2 ^ 32 → creation < 256
+      → IsOldRef (record { node = node; creation = creation; words = word ∷ [] }) (text ++ (to_be_bytes w32 word ++ creation ∷ []))
+
+-- NEW_REFERENCE_EXT, behind its tag: how many words in two bytes, the node as an atom, the Creation in one byte,
+-- and one to three words of four bytes
+pub data IsRef : RefParts → List ℕ → Type 0 where
+  parts : (r : RefParts) (node : List ℕ) → 0 < length r.words → length r.words < 4 → AllByRecursion (λ w. w < 2 ^ 32) r.words → IsAtom r.node node → r.creation < 256
+      → IsRef r (to_be_bytes w16 (length r.words) ++ (node ++ (r.creation ∷ flat_map (to_be_bytes w32) r.words)))
+
+mutual
+  -- these bytes are one item, which is this term
+  pub data Item : ℕ → Term → List ℕ → Type 0 where
+    -- SMALL_INTEGER_EXT (97): an unsigned byte
+    small_integer : (room n : ℕ) → n < 256 → Item (suc room) (Int (pos n)) (97 ∷ n ∷ [])
+    -- INTEGER_EXT (98): a signed integer in four bytes, in two's complement
+    integer : (room n : ℕ) → n < 2 ^ 32 → Item (suc room) (Int (cast_signed w32 n)) (98 ∷ to_be_bytes w32 n)
+    -- SMALL_BIG_EXT (110): how many digits, the sign, and the digits in base 256, the least significant first.
+    -- The highest digits may be 0. The value has to be a signed integer of 64 bits
+    small_big : (room sign : ℕ) (digits : List ℕ) → sign < 256 → length digits < 256 → AllByRecursion (λ d. d < 256) digits → FitsSigned w64 (big_value sign digits)
+        → Item (suc room) (Int (big_value sign digits)) (110 ∷ length digits ∷ sign ∷ digits)
+    atom : (room : ℕ) (a b : List ℕ) → IsAtom a b → Item (suc room) (Name a) b
+    -- PID_EXT (103)
+    pid : (room : ℕ) (p : Pid) (b : List ℕ) → IsPid p b → Item (suc room) (Process p) (103 ∷ b)
+    -- REFERENCE_EXT (101)
+    old_reference : (room : ℕ) (r : RefParts) (b : List ℕ) → IsOldRef r b → Item (suc room) (Ref r) (101 ∷ b)
+    -- NEW_REFERENCE_EXT (114)
+    reference : (room : ℕ) (r : RefParts) (b : List ℕ) → IsRef r b → Item (suc room) (Ref r) (114 ∷ b)
+    -- SMALL_TUPLE_EXT (104): the arity in one byte, and the elements, each one level deeper
+    small_tuple : (room : ℕ) (ts : List Term) (b : List ℕ) → length ts < 256 → Items room ts b → Item (suc room) (Tuple ts) (104 ∷ length ts ∷ b)
+    -- LARGE_TUPLE_EXT (105): the arity in four bytes, and the elements
+    large_tuple : (room : ℕ) (ts : List Term) (b : List ℕ) → length ts < 2 ^ 32 → Items room ts b → Item (suc room) (Tuple ts) (105 ∷ to_be_bytes w32 (length ts) ++ b)
+    list : (room : ℕ) (ts : List Term) (b : List ℕ) → Elements room ts b → Item (suc room) (Listed ts) b
+
+  -- items, one after the other
+  pub data Items : ℕ → List Term → List ℕ → Type 0 where
+    none : (room : ℕ) → Items room [] []
+    more : (room : ℕ) (t : Term) (ts : List Term) (a b : List ℕ) → Item room t a → Items room ts b → Items room (t ∷ ts) (a ++ b)
+
+  -- a list with its tag, and room levels for its elements and its tail
+  pub data Elements : ℕ → List Term → List ℕ → Type 0 where
+    -- NIL_EXT (106)
+    nil : (room : ℕ) → Elements room [] (106 ∷ [])
+    -- STRING_EXT (107): the length in two bytes, and bytes, each of them an element that is an integer
+    string : (room : ℕ) (text : List ℕ) → AllByRecursion (λ b. b < 256) text → length text < 2 ^ 16 → (room ≡ 0 → text ≡ []) → Elements room (map int_of text) (107 ∷ to_be_bytes w16 (length text) ++ text)
+    -- LIST_EXT (108): how many elements in four bytes, the elements, and the tail, whose elements follow these
+    cons : (room : ℕ) (ts us : List Term) (b c : List ℕ) → length ts < 2 ^ 32 → Items room ts b → Tail room us c → Elements room (ts ++ us) (108 ∷ to_be_bytes w32 (length ts) ++ (b ++ c))
+
+  -- a tail is itself a list, one level deeper than the list that it ends
+  pub data Tail : ℕ → List Term → List ℕ → Type 0 where
+    tail : (room : ℕ) (ts : List Term) (b : List ℕ) → Elements room ts b → Tail (suc room) ts b
+
+-- the version number 131, and one item of depth 1, which with all that it holds is at most 64 levels deep
+pub data Spells : Term → List ℕ → Type 0 where
+  version : (t : Term) (b : List ℕ) → Item 64 t b → Spells t (131 ∷ b)

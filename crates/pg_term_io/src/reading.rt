@@ -1,0 +1,77 @@
+//! Bytes to terms.
+
+ghost use Rattle.std.specs.Prelude.{◌≡◌, ◌≢◌, IfOk, IfErr, Ok, Err};
+ghost use Rattle.pg_term.specs.declared.fault.TermFault.{TermFault};
+ghost use Rattle.pg_term.specs.declared.fault.TermFault.TheVariants.{OutOfMemory, TooLong};
+ghost use Rattle.pg_term.specs.declared.term.Term.{Term};
+ghost use Rattle.pg_term.specs.Fault.{Gives};
+ghost use Rattle.pg_term_io.specs.Spelling.{Spells};
+ghost use Rattle.pg_term_io.specs.Faults.{Breaks};
+ghost use Rattle.pg_term_io.specs.Reading.{term_of};
+
+mod atoms;
+mod identifiers;
+mod items;
+mod numbers;
+
+use crate::reading::items::item;
+use pg_term::{Term, TermFault};
+use std::alloc::Global;
+
+/// How many levels of terms may nest.
+const MAX_DEPTH: u8 = 64;
+
+/// The term that the bytes spell, all of the bytes, by the External Term Format chapter of the
+/// Erlang documentation: the byte 131 and one item. Tags that are read: 97, 98, 100, 101, 103 to
+/// 108, 110, 114, 115, 118 and 119. Terms may nest 64 levels deep.
+///
+/// Items are read from left to right, an item before its parts, and the first fault is told:
+///
+/// 1. `Truncated`: there is no byte; `BadVersion`: the first byte is not 131;
+/// 2. of an item, `Truncated`: there is no byte; `TooDeep`: its depth is above 64; `UnknownTag`,
+///    in the place of a tail `ImproperList`, and in the place of an atom of a pid or a reference
+///    `BadAtom`: its tag is none that may stand there; `Truncated`: a field or a text is cut;
+///    `IntegerTooLarge`: no signed integer of 64 bits; `BadAtom`: more than 255 characters, or not
+///    UTF-8; `BadReference`: not one to three words, told before the atom is read; `TooDeep`: a
+///    STRING at depth 64 with a byte, told once its bytes are there;
+/// 3. `TrailingBytes`: bytes follow the item.
+///
+/// `OutOfMemory` may be told in place of a later fault.
+///
+/// The time is linear in the number of bytes; no room is reserved that the bytes don't bear out,
+/// and an atom takes one allocation.
+pub fn decode(alloc: Global, bytes: &[u8]) -> Result<Term, TermFault>
+    // What is read is spelled so.
+    ensures found { IfOk result (λ t. Spells t bytes.now) }
+    // What is spelled so is read, unless memory runs out.
+    ensures only { (t : Term) → Spells t bytes.now → Gives (λ t. t) result (Ok t) }
+    // A fault is that of the bytes, unless memory ran out.
+    ensures told { IfErr result (λ f. f ≢ OutOfMemory → Breaks f bytes.now) }
+    // The fault of the bytes is told, unless memory runs out.
+    ensures first { (f : TermFault) → Breaks f bytes.now → Gives (λ t. t) result (Err f) }
+    ensures never { result ≢ Err TooLong }
+    // The same by a function that computes, for callers.
+    ensures exact { Gives (λ t. t) result (term_of bytes.now) }
+{
+    whole_term(alloc, bytes)
+}
+
+#[tactic(auto, unfolding(crate::specs::Reading::term_of))]
+fn whole_term(alloc: Global, bytes: &[u8]) -> Result<Term, TermFault>
+    ensures { Gives (λ t. t) result (term_of bytes.now) }
+{
+    match bytes {
+        [] => Err(TermFault::Truncated),
+        [131, rest @ ..] => {
+            let (term, rest) = item(alloc, MAX_DEPTH, rest)?;
+            if !rest.is_empty() {
+                return Err(TermFault::TrailingBytes);
+            }
+            Ok(term)
+        }
+        [_, ..] => Err(TermFault::BadVersion),
+    }
+}
+
+#[cfg(test)]
+mod tests;

@@ -1,0 +1,84 @@
+//! Pids and references, behind their tags.
+
+ghost use Rattle.std.specs.Prelude.{◌≡◌, ◌<◌};
+ghost use Rattle.pg_term.specs.Fault.{Gives};
+ghost use Rattle.pg_term_io.specs.Reading.{pid_at, old_reference_at, words_at, new_reference_at};
+
+use crate::reading::atoms::atom_at;
+use crate::reading::numbers::{u8_at, u16_at, u32_at};
+use pg_term::{Atom, Pid, Reference, TermFault};
+use std::alloc::Global;
+
+#[tactic(auto, unfolding(crate::specs::Reading::pid_at))]
+pub(crate) fn pid_at(alloc: Global, bytes: &[u8]) -> Result<(Pid, &[u8]), TermFault>
+    ensures { Gives (λ x. (x.0, x.1.now)) result (pid_at bytes.now) }
+{
+    let (node, rest) = atom_at(alloc, bytes)?;
+    let (id, rest) = u32_at(rest)?;
+    let (serial, rest) = u32_at(rest)?;
+    let (creation, rest) = u8_at(rest)?;
+    let pid = Pid {
+        node,
+        serial,
+        id,
+        creation,
+    };
+    Ok((pid, rest))
+}
+
+/// A reference of one word.
+#[tactic(auto, unfolding(crate::specs::Reading::old_reference_at))]
+pub(crate) fn old_reference_at(alloc: Global, bytes: &[u8]) -> Result<(Reference, &[u8]), TermFault>
+    ensures { Gives (λ x. (x.0, x.1.now)) result (old_reference_at bytes.now) }
+{
+    let (node, rest) = atom_at(alloc, bytes)?;
+    let (word, rest) = u32_at(rest)?;
+    let (creation, rest) = u8_at(rest)?;
+    Ok((Reference::new(node, creation, &[word])?, rest))
+}
+
+/// A reference of one to three words.
+#[tactic(auto, unfolding(crate::specs::Reading::new_reference_at))]
+pub(crate) fn new_reference_at(alloc: Global, bytes: &[u8]) -> Result<(Reference, &[u8]), TermFault>
+    ensures { Gives (λ x. (x.0, x.1.now)) result (new_reference_at bytes.now) }
+{
+    let (count, rest) = u16_at(bytes)?;
+    if count == 0 || count > 3 {
+        return Err(TermFault::BadReference);
+    }
+    let (node, rest) = atom_at(alloc, rest)?;
+    let (creation, rest) = u8_at(rest)?;
+    reference_words(node, creation, count, rest)
+}
+
+#[tactic(auto, unfolding(crate::specs::Reading::words_at, crate::specs::Reading::items_at))]
+fn reference_words(
+    node: Atom,
+    creation: u8,
+    count: u16,
+    bytes: &[u8],
+) -> Result<(Reference, &[u8]), TermFault>
+    requires some { 0 < count }
+    requires few { count < 4 }
+    ensures { Gives (λ x. (x.0, x.1.now)) result (words_at node creation count bytes.now) }
+{
+    match count {
+        1 => {
+            let (first, rest) = u32_at(bytes)?;
+            Ok((Reference::new(node, creation, &[first])?, rest))
+        }
+        2 => {
+            let (first, rest) = u32_at(bytes)?;
+            let (second, rest) = u32_at(rest)?;
+            Ok((Reference::new(node, creation, &[first, second])?, rest))
+        }
+        3 => {
+            let (first, rest) = u32_at(bytes)?;
+            let (second, rest) = u32_at(rest)?;
+            let (third, rest) = u32_at(rest)?;
+            let words = [first, second, third];
+            Ok((Reference::new(node, creation, &words)?, rest))
+        }
+        _ => unreachable!(),
+    }
+}

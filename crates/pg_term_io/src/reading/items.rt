@@ -1,0 +1,219 @@
+//! Items, and the lists that stand as tails. `room` is how many more levels of terms may nest.
+
+ghost use Rattle.std.specs.Prelude.{◌≡◌, ◌++◌, map, OnOk};
+ghost use Rattle.std.specs.Int.{w32, cast_signed};
+ghost use Rattle.pg_term.specs.declared.term.Term.TheVariants.{Int};
+ghost use Rattle.pg_term.specs.Fault.{Gives};
+ghost use Rattle.pg_term_io.specs.Numbers.{int_of};
+ghost use Rattle.pg_term_io.specs.Reading.{number_at, as_term, string_at, with_front, items_at, item_at, tail_at, readers, list_at, elements_behind, item_behind};
+
+use crate::reading::atoms::atom_behind;
+use crate::reading::identifiers::{new_reference_at, old_reference_at, pid_at};
+use crate::reading::numbers::{big_at, some_bytes, u8_at, u16_at, u32_at};
+use pg_term::{Fields, Items, Term, TermFault};
+use std::alloc::{AllocError, Global};
+
+fn int_at(bytes: &[u8]) -> Result<(Term, &[u8]), TermFault>
+    ensures { Gives (λ x. (x.0, x.1.now)) result
+        (as_term (λ n. Int (cast_signed w32 n)) (number_at w32 bytes.now)) }
+{
+    let (n, rest) = u32_at(bytes)?;
+    Ok((Term::Int(i64::from(n.cast_signed())), rest))
+}
+
+/// The bytes behind the tag of a STRING, at the end of the terms.
+#[tactic(auto, unfolding(crate::specs::Reading::string_at))]
+fn string_at<'a>(room: u8, terms: &mut Vec<Term>, bytes: &'a [u8]) -> Result<&'a [u8], TermFault>
+    ensures { Gives (λ rest. (terms.new.items, rest.now)) result
+        (with_front terms.old.items (string_at room bytes.now)) }
+{
+    let (count, rest) = u16_at(bytes)?;
+    let (text, rest) = some_bytes(usize::from(count), rest)?;
+    if room == 0 && count > 0 {
+        return Err(TermFault::TooDeep);
+    }
+    push_bytes(terms, text)?;
+    Ok(rest)
+}
+
+fn push_bytes(terms: &mut Vec<Term>, bytes: &[u8]) -> Result<(), AllocError>
+    ensures { OnOk result (terms.new.items ≡ terms.old.items ++ map int_of bytes.now) }
+{
+    terms.reserve(bytes.len())?;
+    for byte in bytes {
+        terms.push(Term::Int(i64::from(*byte)))?;
+    }
+    Ok(())
+}
+
+/// So many items, at the end of the terms.
+#[cycle(item)]
+fn items<'a>(
+    alloc: Global,
+    room: u8,
+    count: u32,
+    terms: &mut Vec<Term>,
+    bytes: &'a [u8],
+) -> Result<&'a [u8], TermFault>
+    ensures { Gives (λ rest. (terms.new.items, rest.now)) result
+        (with_front terms.old.items (items_at (item_at room) count bytes.now)) }
+{
+    let mut rest = bytes;
+    for _ in 0..count {
+        let (term, after) = item(alloc, room, rest)?;
+        terms.push(term)?;
+        rest = after;
+    }
+    Ok(rest)
+}
+
+/// Behind the tag of a LIST: its elements and those of its tail, at the end of the terms.
+#[cycle(item)]
+fn list_at<'a>(
+    alloc: Global,
+    room: u8,
+    terms: &mut Vec<Term>,
+    bytes: &'a [u8],
+) -> Result<&'a [u8], TermFault>
+    ensures { Gives (λ rest. (terms.new.items, rest.now)) result
+        (with_front terms.old.items (list_at (readers room) bytes.now)) }
+{
+    let (count, rest) = u32_at(bytes)?;
+    let rest = items(alloc, room, count, terms, rest)?;
+    tail(alloc, room, terms, rest)
+}
+
+/// Behind the tag of a list: its elements, at the end of the terms.
+#[cycle(item)]
+#[tactic(auto, unfolding(crate::specs::Reading::elements_behind))]
+fn elements<'a>(
+    alloc: Global,
+    room: u8,
+    tag: u8,
+    terms: &mut Vec<Term>,
+    bytes: &'a [u8],
+) -> Result<&'a [u8], TermFault>
+    ensures { Gives (λ rest. (terms.new.items, rest.now)) result
+        (with_front terms.old.items (elements_behind room (readers room) tag bytes.now)) }
+{
+    match tag {
+        106 => Ok(bytes),
+        107 => string_at(room, terms, bytes),
+        108 => list_at(alloc, room, terms, bytes),
+        _ => Err(TermFault::ImproperList),
+    }
+}
+
+/// A list in the place of a tail: its elements, at the end of the terms.
+#[cycle(item)]
+fn tail<'a>(
+    alloc: Global,
+    room: u8,
+    terms: &mut Vec<Term>,
+    bytes: &'a [u8],
+) -> Result<&'a [u8], TermFault>
+    ensures { Gives (λ rest. (terms.new.items, rest.now)) result
+        (with_front terms.old.items (tail_at room bytes.now)) }
+{
+    match bytes {
+        [] => Err(TermFault::Truncated),
+        [tag, rest @ ..] => {
+            if room == 0 {
+                return Err(TermFault::TooDeep);
+            }
+            elements(alloc, room - 1, *tag, terms, rest)
+        }
+    }
+}
+
+/// The elements of a tuple.
+#[cycle(item)]
+fn fields(
+    alloc: Global,
+    room: u8,
+    count: u32,
+    bytes: &[u8],
+) -> Result<(Vec<Term>, &[u8]), TermFault>
+    ensures { Gives (λ x. (x.0.items, x.1.now)) result (items_at (item_at room) count bytes.now) }
+{
+    let mut terms = Vec::new(alloc);
+    let rest = items(alloc, room, count, &mut terms, bytes)?;
+    Ok((terms, rest))
+}
+
+/// The elements of a list, behind its tag.
+#[cycle(item)]
+fn list(alloc: Global, room: u8, tag: u8, bytes: &[u8]) -> Result<(Vec<Term>, &[u8]), TermFault>
+    ensures { Gives (λ x. (x.0.items, x.1.now)) result
+        (elements_behind room (readers room) tag bytes.now) }
+{
+    let mut terms = Vec::new(alloc);
+    let rest = elements(alloc, room, tag, &mut terms, bytes)?;
+    Ok((terms, rest))
+}
+
+/// One item.
+#[cycle(item)]
+pub(crate) fn item(alloc: Global, room: u8, bytes: &[u8]) -> Result<(Term, &[u8]), TermFault>
+    ensures { Gives (λ x. (x.0, x.1.now)) result (item_at room bytes.now) }
+{
+    match bytes {
+        [] => Err(TermFault::Truncated),
+        [tag, rest @ ..] => {
+            if room == 0 {
+                return Err(TermFault::TooDeep);
+            }
+            item_behind(alloc, room - 1, *tag, rest)
+        }
+    }
+}
+
+/// One item, behind its tag.
+#[cycle(item)]
+#[tactic(auto, unfolding(crate::specs::Reading::item_behind))]
+fn item_behind(alloc: Global, room: u8, tag: u8, bytes: &[u8]) -> Result<(Term, &[u8]), TermFault>
+    ensures { Gives (λ x. (x.0, x.1.now)) result (item_behind room (readers room) tag bytes.now) }
+{
+    match tag {
+        97 => {
+            let (n, rest) = u8_at(bytes)?;
+            Ok((Term::Int(i64::from(n)), rest))
+        }
+        98 => int_at(bytes),
+        110 => {
+            let (n, rest) = big_at(bytes)?;
+            Ok((Term::Int(n), rest))
+        }
+        100 | 115 | 118 | 119 => {
+            let (atom, rest) = atom_behind(alloc, tag, bytes)?;
+            Ok((Term::Atom(atom), rest))
+        }
+        104 => {
+            let (count, rest) = u8_at(bytes)?;
+            let (terms, rest) = fields(alloc, room, u32::from(count), rest)?;
+            Ok((Term::Tuple(Fields::from_vec(terms)), rest))
+        }
+        105 => {
+            let (count, rest) = u32_at(bytes)?;
+            let (terms, rest) = fields(alloc, room, count, rest)?;
+            Ok((Term::Tuple(Fields::from_vec(terms)), rest))
+        }
+        106 | 107 | 108 => {
+            let (terms, rest) = list(alloc, room, tag, bytes)?;
+            Ok((Term::List(Items::from_vec(terms)), rest))
+        }
+        103 => {
+            let (pid, rest) = pid_at(alloc, bytes)?;
+            Ok((Term::Pid(pid), rest))
+        }
+        101 => {
+            let (reference, rest) = old_reference_at(alloc, bytes)?;
+            Ok((Term::Ref(reference), rest))
+        }
+        114 => {
+            let (reference, rest) = new_reference_at(alloc, bytes)?;
+            Ok((Term::Ref(reference), rest))
+        }
+        _ => Err(TermFault::UnknownTag),
+    }
+}

@@ -1,0 +1,90 @@
+//! Numbers of fixed width, and big integers.
+
+ghost use Rattle.std.specs.Prelude.{◌≡◌, ◌<◌, ◌^◌, SomeIff};
+ghost use Rattle.std.specs.Int.{w16, w32};
+ghost use Rattle.pg_term.specs.Fault.{Gives};
+ghost use Rattle.pg_term_io.specs.Numbers.{little_endian, big_value};
+ghost use Rattle.pg_term_io.specs.Reading.{byte_at, number_at, bytes_at, big_at, i64_of};
+
+use pg_term::TermFault;
+
+/// One byte.
+pub(crate) fn u8_at(bytes: &[u8]) -> Result<(u8, &[u8]), TermFault>
+    ensures { Gives (λ x. (x.0, x.1.now)) result (byte_at bytes.now) }
+{
+    match bytes {
+        [] => Err(TermFault::Truncated),
+        [byte, rest @ ..] => Ok((*byte, rest)),
+    }
+}
+
+/// Two bytes, the most significant first.
+pub(crate) fn u16_at(bytes: &[u8]) -> Result<(u16, &[u8]), TermFault>
+    ensures { Gives (λ x. (x.0, x.1.now)) result (number_at w16 bytes.now) }
+{
+    if bytes.len() < 2 {
+        return Err(TermFault::Truncated);
+    }
+    let (front, rest) = bytes.split_at(2);
+    Ok((u16::from_be_bytes([front[0], front[1]]), rest))
+}
+
+/// Four bytes, the most significant first.
+pub(crate) fn u32_at(bytes: &[u8]) -> Result<(u32, &[u8]), TermFault>
+    ensures { Gives (λ x. (x.0, x.1.now)) result (number_at w32 bytes.now) }
+{
+    if bytes.len() < 4 {
+        return Err(TermFault::Truncated);
+    }
+    let (front, rest) = bytes.split_at(4);
+    let number = u32::from_be_bytes([front[0], front[1], front[2], front[3]]);
+    Ok((number, rest))
+}
+
+/// So many bytes.
+pub(crate) fn some_bytes(count: usize, bytes: &[u8]) -> Result<(&[u8], &[u8]), TermFault>
+    ensures { Gives (λ x. (x.0.now, x.1.now)) result (bytes_at count bytes.now) }
+{
+    if bytes.len() < count {
+        return Err(TermFault::Truncated);
+    }
+    Ok(bytes.split_at(count))
+}
+
+/// A big integer, behind its tag.
+#[tactic(auto, unfolding(crate::specs::Reading::big_at))]
+pub(crate) fn big_at(bytes: &[u8]) -> Result<(i64, &[u8]), TermFault>
+    ensures { Gives (λ x. (x.0, x.1.now)) result (big_at bytes.now) }
+{
+    let (count, rest) = u8_at(bytes)?;
+    let (sign, rest) = u8_at(rest)?;
+    let (digits, rest) = some_bytes(usize::from(count), rest)?;
+    let value = big(sign, digits)?;
+    Ok((value, rest))
+}
+
+fn big(sign: u8, digits: &[u8]) -> Result<i64, TermFault>
+    ensures { Gives (λ z. z) result (i64_of (big_value sign digits.now)) }
+{
+    let Some(magnitude) = magnitude(digits) else {
+        return Err(TermFault::IntegerTooLarge);
+    };
+    let value = if sign == 0 {
+        0_i64.checked_add_unsigned(magnitude)
+    } else {
+        0_i64.checked_sub_unsigned(magnitude)
+    };
+    value.ok_or(TermFault::IntegerTooLarge)
+}
+
+/// The number of the digits, the least significant first; `None` from 2 ^ 64 on.
+fn magnitude(digits: &[u8]) -> Option<u64>
+    ensures { SomeIff result (little_endian digits.now < 2 ^ 64) (little_endian digits.now) }
+{
+    let mut number = 0_u64;
+    for place in (0..digits.len()).rev() {
+        let above = number.checked_mul(256)?;
+        number = above.checked_add(u64::from(digits[place]))?;
+    }
+    Some(number)
+}

@@ -1,0 +1,185 @@
+//! What no clause says: that the definitions mean the format, and what happens as memory runs out.
+
+use super::*;
+use pg_term::{Atom, Fields, Items, Reference};
+use std::alloc::AllocError;
+use std::test::*;
+
+/// The byte 131, so many tuples of one element, one in the other, and these bytes.
+fn nested(alloc: Global, levels: usize, end: &[u8]) -> Result<Vec<u8>, AllocError> {
+    let mut bytes = Vec::new(alloc);
+    bytes.push(131)?;
+    for _ in 0..levels {
+        bytes.extend_from_slice(&[104, 1])?;
+    }
+    bytes.extend_from_slice(end)?;
+    Ok(bytes)
+}
+
+fn ints(alloc: Global, numbers: &[i64]) -> Result<Vec<Term>, AllocError> {
+    let mut terms = Vec::new(alloc);
+    for number in numbers {
+        terms.push(Term::Int(*number))?;
+    }
+    Ok(terms)
+}
+
+#[test]
+fn integers_and_atoms(rt: HostRuntime) -> Result<(), Fail> {
+    let numbers: &[(&[u8], i64)] = &[
+        (&[131, 97, 255], 255),
+        (&[131, 98, 255, 255, 255, 255], -1),
+        (&[131, 98, 0, 1, 0, 2], 65_538),
+    ];
+    for (bytes, number) in numbers {
+        let term = decode(rt.alloc(), bytes).ok().ok_or("an integer")?;
+        assert!(rt; term == Term::Int(*number), "{number}");
+    }
+    let names: &[(&[u8], &str)] = &[
+        (&[131, 100, 0, 1, 233], "é"),
+        (&[131, 115, 2, 97, 223], "aß"),
+        (&[131, 118, 0, 2, 195, 169], "é"),
+        (&[131, 119, 3, 226, 130, 172], "€"),
+        (&[131, 119, 0], ""),
+    ];
+    for (bytes, name) in names {
+        let term = decode(rt.alloc(), bytes).ok().ok_or("an atom")?;
+        let atom = Atom::new(rt.alloc(), name).ok().ok_or("a name")?;
+        assert!(rt; term == Term::Atom(atom), "{name}");
+    }
+    Ok(())
+}
+
+#[test]
+fn lists_and_old_references(rt: HostRuntime) -> Result<(), Fail> {
+    let lists: &[(&[u8], &[i64])] = &[
+        (&[131, 107, 0, 2, 1, 2], &[1, 2]),
+        (&[131, 108, 0, 0, 0, 1, 97, 1, 107, 0, 1, 2], &[1, 2]),
+        (&[131, 108, 0, 0, 0, 2, 97, 1, 97, 2, 106], &[1, 2]),
+        (&[131, 106], &[]),
+    ];
+    for (bytes, numbers) in lists {
+        let term = decode(rt.alloc(), bytes).ok().ok_or("a list")?;
+        let wanted = Items::from_vec(ints(rt.alloc(), numbers)?);
+        assert!(rt; term == Term::List(wanted));
+    }
+    let bytes = [131, 101, 100, 0, 1, 97, 0, 0, 0, 7, 2];
+    let term = decode(rt.alloc(), &bytes).ok().ok_or("a reference")?;
+    let node = Atom::new(rt.alloc(), "a").ok().ok_or("a name")?;
+    let wanted = Reference::new(node, 2, &[7]).ok().ok_or("a reference")?;
+    assert!(rt; term == Term::Ref(wanted));
+    Ok(())
+}
+
+#[test]
+fn tuples_bigs_and_lists(rt: HostRuntime) -> Result<(), Fail> {
+    let term = decode(rt.alloc(), &[131, 105, 0, 0, 0, 1, 97, 7])
+        .ok()
+        .ok_or("a tuple")?;
+    let wanted = Fields::from_vec(ints(rt.alloc(), &[7])?);
+    assert!(rt; term == Term::Tuple(wanted));
+    let numbers: &[(&[u8], i64)] = &[
+        (&[131, 110, 1, 0, 5], 5),
+        (&[131, 110, 2, 7, 1, 2], -513),
+        (&[131, 110, 0, 1], 0),
+        (&[131, 110, 9, 0, 1, 0, 0, 0, 0, 0, 0, 0, 0], 1),
+        (
+            &[131, 110, 8, 0, 255, 255, 255, 255, 255, 255, 255, 127],
+            i64::MAX,
+        ),
+        (&[131, 110, 8, 1, 0, 0, 0, 0, 0, 0, 0, 128], i64::MIN),
+    ];
+    for (bytes, number) in numbers {
+        let term = decode(rt.alloc(), bytes).ok().ok_or("an integer")?;
+        assert!(rt; term == Term::Int(*number), "{number}");
+    }
+    let term = decode(rt.alloc(), &[131, 108, 0, 0, 0, 0, 106])
+        .ok()
+        .ok_or("a list")?;
+    assert!(rt; term == Term::List(Items::from_vec(Vec::new(rt.alloc()))));
+    Ok(())
+}
+
+#[test]
+fn long_atoms_and_depth(rt: HostRuntime) -> Result<(), Fail> {
+    for (tag, count, wanted) in [
+        (118, 255, None),
+        (118, 256, Some(TermFault::BadAtom)),
+        (100, 255, None),
+        (100, 256, Some(TermFault::BadAtom)),
+    ] {
+        let mut bytes = Vec::new(rt.alloc());
+        bytes.extend_from_slice(&[131, tag])?;
+        bytes.extend_from_slice(&u16::to_be_bytes(count))?;
+        for _ in 0..count {
+            bytes.push(97)?;
+        }
+        assert_eq!(rt; decode(rt.alloc(), &bytes).err(), wanted, "{tag} {count}");
+    }
+    let ends: &[(usize, &[u8], Option<TermFault>)] = &[
+        (63, &[107, 0, 0], None),
+        (63, &[107, 0, 1, 7], Some(TermFault::TooDeep)),
+        (63, &[107, 0, 1], Some(TermFault::Truncated)),
+        (62, &[107, 0, 1, 7], None),
+        (63, &[97, 0], None),
+        (64, &[97, 0], Some(TermFault::TooDeep)),
+        (64, &[], Some(TermFault::Truncated)),
+        (63, &[108, 0, 0, 0, 0, 106], Some(TermFault::TooDeep)),
+        (62, &[108, 0, 0, 0, 0, 106], None),
+    ];
+    for (levels, end, wanted) in ends {
+        let bytes = nested(rt.alloc(), *levels, end)?;
+        assert_eq!(rt; decode(rt.alloc(), &bytes).err(), *wanted, "{levels}");
+    }
+    Ok(())
+}
+
+#[test]
+fn decode_faults(rt: HostRuntime) -> Result<(), Fail> {
+    let faults: &[(&[u8], TermFault)] = &[
+        (&[], TermFault::Truncated),
+        (&[130, 97, 1], TermFault::BadVersion),
+        (&[131, 70], TermFault::UnknownTag),
+        (&[131, 97], TermFault::Truncated),
+        (&[131, 97, 1, 0], TermFault::TrailingBytes),
+        (
+            &[131, 110, 8, 0, 0, 0, 0, 0, 0, 0, 0, 128],
+            TermFault::IntegerTooLarge,
+        ),
+        (
+            &[131, 110, 9, 1, 0, 0, 0, 0, 0, 0, 0, 0, 1],
+            TermFault::IntegerTooLarge,
+        ),
+        (&[131, 110, 3, 0, 1, 2], TermFault::Truncated),
+        (
+            &[131, 108, 0, 0, 0, 1, 97, 1, 97, 2],
+            TermFault::ImproperList,
+        ),
+        (&[131, 108, 0, 0, 0, 0, 97, 1], TermFault::ImproperList),
+        (&[131, 108, 255, 255, 255, 255, 106], TermFault::Truncated),
+        (&[131, 105, 255, 255, 255, 255], TermFault::Truncated),
+        (&[131, 114, 0, 4], TermFault::BadReference),
+        (&[131, 114, 0, 0], TermFault::BadReference),
+        (&[131, 103, 97, 0], TermFault::BadAtom),
+        (&[131, 103, 119, 1, 255], TermFault::BadAtom),
+        (&[131, 119, 1, 255], TermFault::BadAtom),
+    ];
+    for (bytes, fault) in faults {
+        assert_eq!(rt; decode(rt.alloc(), bytes).err(), Some(*fault));
+    }
+    Ok(())
+}
+
+/// Passes also where an allocation fails: only memory is told, and the next call succeeds.
+#[test]
+fn once_more(rt: HostRuntime) {
+    let bytes = [
+        131, 104, 4, 119, 1, 97, 107, 0, 2, 1, 2, 103, 100, 0, 1, 98, 0, 0, 0, 1, 0, 0, 0, 2, 3,
+        108, 0, 0, 0, 1, 115, 1, 99, 106,
+    ];
+    let first = decode(rt.alloc(), &bytes);
+    assert!(rt; matches!(first, Ok(_) | Err(TermFault::OutOfMemory)));
+    if first.is_err() {
+        assert!(rt; decode(rt.alloc(), &bytes).is_ok());
+    }
+}
