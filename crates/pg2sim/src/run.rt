@@ -1,4 +1,4 @@
-ghost use Rattle.std.specs.Prelude.{◌≡◌, IfSome};
+ghost use Rattle.std.specs.Prelude.{◌≡◌, ◌↔◌, IsTrue, IfSome};
 ghost use Rattle.std.specs.Io.KnownBytes.{Keeps};
 ghost use Rattle.pg_node.specs.Replica.{Serves};
 ghost use Rattle.pg2sim.specs.Status.{IsBytes, EndsWith};
@@ -26,17 +26,33 @@ pub fn run_words<R: Read, W: Write, F: Write>(
     reader: &mut R,
     writer: &mut W,
     faults: &mut F,
-) -> u8 {
+) -> u8
+    ensures bytes { IsBytes words.now → IfSome (R.remaining reader.old) (λ input.
+        EndsWith (W.contents writer.old) (W.contents writer.new) input result) }
+    ensures other { (IsBytes words.now → ⊥) → result ≡ UNKNOWN_WORDS }
+    ensures silent { (IsBytes words.now → ⊥) → Keeps (W.contents writer.old) (W.contents writer.new)
+        × Keeps (F.contents faults.old) (F.contents faults.new) }
+{
+    if !is_bytes(words) {
+        return UNKNOWN_WORDS;
+    }
+    match bytes(alloc, reader, writer) {
+        Ok(()) => DONE,
+        Err(fault) => {
+            let number = fault.number();
+            let _ = writeln!(faults, "refused {number}");
+            REFUSED
+        }
+    }
+}
+
+/// Whether the words are the one word `bytes`.
+fn is_bytes(words: &[String]) -> bool
+    ensures { IsTrue result ↔ IsBytes words.now }
+{
     match words {
-        [word] if word.as_str() == "bytes" => match bytes(alloc, reader, writer) {
-            Ok(()) => DONE,
-            Err(fault) => {
-                let number = fault.number();
-                let _ = writeln!(faults, "refused {number}");
-                REFUSED
-            }
-        },
-        _ => UNKNOWN_WORDS,
+        [word] => word.as_str() == "bytes",
+        _ => false,
     }
 }
 

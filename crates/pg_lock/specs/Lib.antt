@@ -1,0 +1,2 @@
+pub mod Locks
+pub use Rattle.pg_term.specs.Same

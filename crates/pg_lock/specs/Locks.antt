@@ -1,0 +1,41 @@
+-- Who holds the lock of each name at one node (global:set_lock/2 and global:del_lock/1 of the global manual page, for
+-- locks of one node that are asked for once).
+use Rattle.std.specs.Prelude.{Bool, true, false, ◌&&◌, cond, Option, Some, None}
+use Rattle.std.specs.HashMap.{get}
+use Rattle.pg_term.specs.declared.term.Term.{Term}
+use Rattle.pg_term.specs.RefParts.{RefParts, ref_eq}
+use Rattle.pg_term.specs.Same.{same_term}
+use Rattle.pg_lock.specs.declared.table.LockTable.{LockTable}
+
+-- the holder of each name
+abbrev pub Locks : Type 0
+Locks = Term → Option RefParts
+
+-- the locks with this holder of a name
+unfoldable pub held : Locks → Term → Option RefParts → Locks
+held locks name holder other = cond (same_term name other) holder (locks other)
+
+abbrev pub is_free : Option RefParts → Bool
+is_free None = true
+is_free (Some holder) = false
+
+abbrev pub is_holder : Option RefParts → RefParts → Bool
+is_holder None reference = false
+is_holder (Some holder) reference = ref_eq holder reference
+
+-- a node grants exactly where it is formed and the name has no holder
+abbrev pub grants : Bool → Locks → Term → Bool
+grants formed locks name = formed && is_free (locks name)
+
+-- the locks after an answer: granted, the name is the reference's; denied, nothing changes
+abbrev pub answered : Bool → Locks → Term → RefParts → Locks
+answered true locks name reference = held locks name (Some reference)
+answered false locks name reference = locks
+
+-- the locks once a reference gives a name up: where it is the holder the name is free, else nothing changes
+abbrev pub given_up : Bool → Locks → Term → Locks
+given_up true locks name = held locks name None
+given_up false locks name = locks
+
+abbrev pub locks_of : LockTable → Locks
+locks_of table name = get same_term table.holders name

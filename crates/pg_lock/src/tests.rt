@@ -1,0 +1,68 @@
+use super::*;
+use pg_term::{Atom, Reference, Term, TermFault};
+use std::alloc::Global;
+use std::test::Fail;
+
+fn name(alloc: Global, text: &str) -> Result<Term, TermFault> {
+    Ok(Term::Atom(Atom::new(alloc, text)?))
+}
+
+fn reference(alloc: Global, word: u32) -> Result<Reference, TermFault> {
+    Reference::new(Atom::new(alloc, "a")?, 1, &[word])
+}
+
+/// The lock table after the first reference took "g", with that name and reference.
+#[derive(Drop)]
+struct Held {
+    g: Term,
+    first: Reference,
+    locks: LockTable,
+}
+
+fn first_holds(alloc: Global) -> Result<Held, Fail> {
+    let mut locks = LockTable::new(alloc);
+    let g = name(alloc, "g")?;
+    let first = reference(alloc, 1)?;
+    locks.ask(true, &g, &first)?;
+    Ok(Held { g, first, locks })
+}
+
+#[test]
+fn denied_while_not_formed(rt: HostRuntime) -> Result<(), Fail> {
+    let mut locks = LockTable::new(rt.alloc());
+    let g = name(rt.alloc(), "g")?;
+    let first = reference(rt.alloc(), 1)?;
+    assert!(rt; !locks.ask(false, &g, &first)?);
+    assert!(rt; locks.holder(&g).is_none());
+    Ok(())
+}
+
+#[test]
+fn one_holder(rt: HostRuntime) -> Result<(), Fail> {
+    let mut held = first_holds(rt.alloc())?;
+    let second = reference(rt.alloc(), 2)?;
+    assert!(rt; !held.locks.ask(true, &held.g, &second)?);
+    assert!(rt; held.locks.holder(&held.g) == Some(&held.first));
+    Ok(())
+}
+
+#[test]
+fn other_names_are_free(rt: HostRuntime) -> Result<(), Fail> {
+    let mut held = first_holds(rt.alloc())?;
+    let h = name(rt.alloc(), "h")?;
+    let second = reference(rt.alloc(), 2)?;
+    assert!(rt; held.locks.ask(true, &h, &second)?);
+    assert!(rt; held.locks.holder(&held.g) == Some(&held.first));
+    Ok(())
+}
+
+#[test]
+fn freed_by_its_holder_alone(rt: HostRuntime) -> Result<(), Fail> {
+    let mut held = first_holds(rt.alloc())?;
+    let second = reference(rt.alloc(), 2)?;
+    held.locks.give_up(&held.g, &second);
+    assert!(rt; held.locks.holder(&held.g) == Some(&held.first));
+    held.locks.give_up(&held.g, &held.first);
+    assert!(rt; held.locks.holder(&held.g).is_none());
+    Ok(())
+}

@@ -1,0 +1,13 @@
+//! Fresh references: the references that one node makes, all different.
+#![tactic(auto)]
+
+mod fault;
+mod laws;
+mod source;
+
+pub use fault::RefFault;
+pub use laws::fresh_references;
+pub use source::{MAX_REFERENCES, RefSource};
+
+#[cfg(test)]
+mod tests;

@@ -1,0 +1,67 @@
+ghost use Rattle.std.specs.Prelude.{◌≡◌, ◌≤◌, ◌+◌, ◌↔◌, Err, IfOk, OnOk, OnErr};
+ghost use Rattle.pg_refs.specs.Numbered.{numbered};
+
+use crate::fault::RefFault;
+use pg_term::{Atom, Reference};
+use std::marker::Model;
+
+/// How many references a node makes at most.
+pub const MAX_REFERENCES: u32 = 1 << 31;
+
+// How many references share a second word.
+const FIRST_WORDS: u32 = 1 << 18;
+
+/// The references that a node makes: seen as the node and how many it made.
+#[derive(Debug, Drop)]
+pub struct RefSource {
+    node: Atom,
+    made: u32,
+}
+
+impl Model for RefSource {
+    ghost use Rattle.std.specs.Prelude.{◌≤◌};
+    ghost use Rattle.pg_refs.specs.declared.source.TheConstants.{MAX_REFERENCES};
+    ghost use Rattle.pg_refs.specs.Numbered.{Made, made_code};
+
+    ghost Value = { Made };
+
+    ghost coded = { made_code };
+
+    ghost view = { λ s. record { node = s.node; made = s.made } };
+
+    ghost invariant = { λ s. s.made ≤ MAX_REFERENCES };
+}
+
+impl RefSource {
+    /// No reference was made yet. It takes no memory.
+    pub fn new(node: Atom) -> RefSource
+        ensures { result ≡ record { node = node; made = 0 } }
+    {
+        RefSource { node, made: 0 }
+    }
+
+    /// The next reference: number c, counted from 1, has creation 1 and the words `c mod 2^18`, `c div 2^18` and 0
+    /// (`make_ref/0` of the erlang module makes references that are unique). One allocation.
+    ///
+    /// Refusals, which change nothing: `ClockFull` once 2^31 were made; else `OutOfMemory`.
+    pub fn next(&mut self) -> Result<Reference, RefFault>
+        ensures value { IfOk result (λ reference. reference ≡ numbered self.old.node (self.old.made + 1)) }
+        ensures ok { OnOk result (self.new ≡ record self.old { made = self.old.made + 1 }) }
+        ensures full { (result ≡ Err RefFault.ClockFull) ↔ (self.old.made ≡ MAX_REFERENCES) }
+        ensures err { OnErr result (self.new ≡ self.old) }
+    {
+        if self.made == MAX_REFERENCES {
+            return Err(RefFault::ClockFull);
+        }
+        let number = self.made + 1;
+        let node = self.node.copy()?;
+        let words = [number % FIRST_WORDS, number / FIRST_WORDS, 0];
+        match Reference::new(node, 1, &words) {
+            Ok(reference) => {
+                self.made = number;
+                Ok(reference)
+            }
+            Err(_) => Err(RefFault::OutOfMemory),
+        }
+    }
+}
