@@ -1,0 +1,9 @@
+pub mod Capacity
+pub mod Ends
+pub mod EndsLaws
+pub mod Fault
+pub mod Laws
+pub mod MemRing
+pub mod MemRingLaws
+pub mod Slots
+pub mod SlotsLaws

@@ -1,0 +1,27 @@
+-- A ring in memory as a link and as an inlet.
+use Rattle.std.specs.Prelude.{ℕ, List, [], ◌++◌, refl}
+use Rattle.std.proofs.Common.{sym, append_assoc, ◌∙◌, ap}
+use Rattle.std.proofs.lemmas.List.{append-nil}
+use Rattle.pg_ring.specs.MemRing.{RingBytes, Grows, Loses}
+
+-- nothing was taken in
+pub Grows-rests : (a : RingBytes) → Grows a [] a
+Grows-rests a = record { grown = sym (append-nil _); kept = refl }
+
+-- one run of bytes was taken in, and then another
+pub Grows-composes : (a b c : RingBytes) (xs ys : List ℕ) → Grows a xs b → Grows b ys c → Grows a (xs ++ ys) c
+Grows-composes a b c xs ys p q = record {
+  grown = q.grown ∙ ap (λ w. w ++ ys) p.grown ∙ append_assoc a.unread xs ys;
+  kept = q.kept ∙ p.kept;
+}
+
+-- nothing was given
+pub Loses-rests : (a : RingBytes) → Loses a [] a
+Loses-rests a = record { lost = refl; kept = refl }
+
+-- one run of bytes was given, and then another
+pub Loses-composes : (a b c : RingBytes) (xs ys : List ℕ) → Loses a xs b → Loses b ys c → Loses a (xs ++ ys) c
+Loses-composes a b c xs ys p q = record {
+  lost = p.lost ∙ ap (λ w. xs ++ w) q.lost ∙ sym (append_assoc xs ys c.unread);
+  kept = q.kept ∙ p.kept;
+}

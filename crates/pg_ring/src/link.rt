@@ -1,0 +1,39 @@
+ghost use Rattle.std.specs.Prelude.{◌≡◌, ◌≤◌, List, ℕ, [], ◌++◌, length, take, drop};
+
+/// Where bytes can be put, to be taken in the same order elsewhere.
+pub trait Link {
+    /// `accepts a xs b`: the link `a` became `b` by taking in the bytes `xs`, in this order.
+    ghost accepts: { Self → List ℕ → Self → Type 0 };
+
+    /// Appends the first bytes of `bytes` to what was sent, as many as the link takes now, and returns
+    /// how many. None where the link is full. Never waits, and takes no memory. O(bytes moved).
+    fn put(&mut self, bytes: &[u8]) -> usize
+        ensures within { result ≤ length bytes.now }
+        ensures moved { accepts self.old (take result bytes.now) self.new };
+
+    // A link that took in nothing may be as it was.
+    ghost rests: { (a : Self) → accepts a [] a };
+
+    // What is taken in twice is taken in, one behind the other.
+    ghost composes: { (a b c : Self) (xs ys : List ℕ) → accepts a xs b → accepts b ys c → accepts a (xs ++ ys) c };
+}
+
+/// Where the bytes that were put can be taken.
+pub trait Inlet {
+    /// `gives a xs b`: the inlet `a` became `b` by giving the bytes `xs`, in this order.
+    ghost gives: { Self → List ℕ → Self → Type 0 };
+
+    /// Fills the first places of `into` with the next unread bytes, as many as there are now, and
+    /// returns how many; the other places stay. None where nothing is unread. Never waits, and takes
+    /// no memory. O(bytes moved).
+    fn take(&mut self, into: &mut [u8]) -> usize
+        ensures within { result ≤ length into.old }
+        ensures moved { gives self.old (take result into.new) self.new }
+        ensures others { drop result into.new ≡ drop result into.old };
+
+    // An inlet that gave nothing may be as it was.
+    ghost rests: { (a : Self) → gives a [] a };
+
+    // What is given twice is given, one behind the other.
+    ghost composes: { (a b c : Self) (xs ys : List ℕ) → gives a xs b → gives b ys c → gives a (xs ++ ys) c };
+}

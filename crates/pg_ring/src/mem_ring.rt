@@ -1,0 +1,80 @@
+ghost use Rattle.std.specs.Prelude.{◌≡◌, ◌≢◌, ◌≤◌, ◌↔◌, [], length, take, drop, min, IfOk};
+ghost use Rattle.pg_ring.specs.Capacity.{IsCapacity, IsBadCapacity};
+ghost use Rattle.pg_ring.specs.MemRing.{Grows, Loses, free_room};
+ghost use Rattle.pg_ring.specs.MemRingLaws.{Grows-rests, Grows-composes, Loses-rests, Loses-composes};
+
+use crate::capacity::is_capacity;
+use crate::{Inlet, Link, RingFault};
+use circular_buffer::HeapCircularBuffer;
+use std::alloc::Global;
+use std::marker::Model;
+
+/// A ring in memory, both ends in one value: the bytes that were put and not yet taken.
+#[derive(Drop)]
+pub struct MemRing {
+    bytes: HeapCircularBuffer<u8>,
+}
+
+impl Model for MemRing {
+    ghost use Rattle.pg_ring.specs.MemRing.{RingBytes, ring_bytes_code};
+
+    ghost Value = { RingBytes };
+
+    ghost coded = { ring_bytes_code };
+
+    ghost view = { λ r. record { unread = r.bytes.items; capacity = r.bytes.capacity } };
+}
+
+impl MemRing {
+    /// An empty ring with room for `cap` bytes.
+    ///
+    /// Errors, first one told: `BadCapacity` exactly where `cap` is 0 or above `MAX_CAPACITY`, and
+    /// `OutOfMemory`. O(`cap`).
+    pub fn new(alloc: Global, cap: usize) -> Result<MemRing, RingFault>
+        ensures unread { IfOk result (λ ring. ring.unread ≡ []) }
+        ensures capacity { IfOk result (λ ring. ring.capacity ≡ cap) }
+        ensures bad { (result ≡ Err RingFault.BadCapacity) ↔ IsBadCapacity cap }
+        ensures good { result ≢ Err RingFault.BadCapacity → IsCapacity cap }
+    {
+        if !is_capacity(cap) {
+            return Err(RingFault::BadCapacity);
+        }
+        let bytes = HeapCircularBuffer::with_capacity(alloc, cap)?;
+        Ok(MemRing { bytes })
+    }
+}
+
+/// The bytes are taken in behind those that are unread, as many as there is room for. Moves runs.
+impl Link for MemRing {
+    ghost accepts = { Grows };
+
+    fn put(&mut self, bytes: &[u8]) -> usize
+        ensures within { result ≤ length bytes.now }
+        ensures moved { Grows self.old (take result bytes.now) self.new }
+        ensures exact { result ≡ min (length bytes.now) (free_room self.old) }
+    {
+        self.bytes.fill_from_slice(bytes)
+    }
+
+    ghost rests = { Grows-rests };
+
+    ghost composes = { Grows-composes };
+}
+
+/// The first unread bytes are given, as many as there are places. Moves runs.
+impl Inlet for MemRing {
+    ghost gives = { Loses };
+
+    fn take(&mut self, into: &mut [u8]) -> usize
+        ensures within { result ≤ length into.old }
+        ensures moved { Loses self.old (take result into.new) self.new }
+        ensures others { drop result into.new ≡ drop result into.old }
+        ensures exact { result ≡ min (length into.old) (length self.old.unread) }
+    {
+        self.bytes.read_into(into)
+    }
+
+    ghost rests = { Loses-rests };
+
+    ghost composes = { Loses-composes };
+}
