@@ -1,5 +1,5 @@
 -- Two terms are equal exactly where they are one term.
-use Rattle.std.proofs.Common.{◌≡◌, ℕ, ℤ, Bool, true, false, ◌&&◌, ◌⊎◌, inl, inr, List, [], ◌∷◌, map, refl, sym, ap, subst, ◌∙◌, nat_eq, arith, rules}
+use Rattle.std.proofs.Common.{◌≡◌, ℕ, ℤ, Bool, true, false, ◌&&◌, inl, inr, List, [], ◌∷◌, map, refl, sym, ap, subst, ◌∙◌, nat_eq}
 use Rattle.std.specs.Cmp.{first_so, second_so, signed_Decides}
 use Rattle.std.specs.Cmp.Lexicographic.{pointwise, bytes_decides}
 use Rattle.std.specs.Ordering.{int_eq}

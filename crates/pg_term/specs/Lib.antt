@@ -1,6 +1,7 @@
 pub mod Arity
 pub mod Depth
 pub mod Fault
+pub mod Order
 pub mod RefParts
 pub mod Same
 pub mod formers

@@ -1,7 +1,7 @@
 -- What a reference is: a node, a creation and one to three words.
-use Rattle.std.specs.Prelude.{◌≡◌, ℕ, ◌≤◌, Bool, ◌&&◌, List, ◌++◌, length, take, nat_eq, nat_lt, ◌||◌, ◌==◌, Result, Ok, Err, if◌then◌else◌}
+use Rattle.std.specs.Prelude.{ℕ, Bool, List, ◌++◌, length, nat_eq, nat_lt, ◌||◌, ◌==◌, Result, Ok, Err, if◌then◌else◌}
 use Rattle.std.specs.declared.cmp.Ordering.{Ordering}
-use Rattle.std.specs.Ordering.{nat_cmp, ordering_then, then_cmp, on, eq_of_both}
+use Rattle.std.specs.Ordering.{nat_cmp, then_cmp, on, eq_of_both}
 use Rattle.std.specs.Cmp.Lexicographic.{slice_cmp, pointwise}
 use Rattle.std.specs.Hash as fed
 use Rattle.std.specs.Str.{encode_utf8_all}

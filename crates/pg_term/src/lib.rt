@@ -14,7 +14,7 @@ pub use atom::Atom;
 pub use fault::TermFault;
 pub use fields::Fields;
 pub use items::Items;
-pub use laws::{equality, order};
+pub use laws::{equality, order, order_by_kind};
 pub use pid::Pid;
 pub use reference::Reference;
 pub use term::Term;

@@ -14,7 +14,7 @@ use Rattle.pg_term.specs.declared.term.Term.{Term, Tuple, List as Listed}
 use Rattle.pg_term.specs.declared.term.Term.TheVariants.{Int, Atom as Name, Ref, Pid as Process}
 use Rattle.pg_term.specs.RefParts.{RefParts}
 use Rattle.pg_term_io.specs.Numbers.{int_of, big_value}
-use Rattle.pg_term_io.specs.Reading.{Read, ◌>>=◌, byte_at, number_at, bytes_at, big_at, named_at, utf8_atom, latin_atom, atom_behind, atom_at, pid_at, old_reference_at, words_at, new_reference_at, items_at, string_at, list_at, elements_behind, item_behind, readers, item_at, tail_at, term_of}
+use Rattle.pg_term_io.specs.Reading.{Read, ◌>>=◌, byte_at, number_at, bytes_at, big_at, named_at, utf8_atom, latin_atom, atom_behind, atom_at, pid_at, old_reference_at, words_at, new_reference_at, items_at, string_at, list_at, elements_behind, item_behind, leaf_behind, readers, item_at, tail_at, term_of}
 use Rattle.pg_term_io.specs.Spelling.{IsAtom, IsPid, IsOldRef, IsRef, Item, Items, Elements, Tail, Spells}
 use Rattle.pg_term_io.specs.Spelling as s
 use Rattle.pg_term_io.proofs.Bigs.{fits-is_i64}
@@ -103,7 +103,7 @@ abbrev wrap : {A : Type 0} → (A → Term) → A × List ℕ → Read Term
 wrap make x = Ok (make x.0, x.1)
 
 atom_tag : (room tag : ℕ) (a b rest : List ℕ) → IsAtom a b → item_at (suc room) (b ++ rest) ≡ Ok (Name a, rest)
-unfolding readers item_behind atom_at atom_behind
+unfolding readers item_behind leaf_behind atom_at atom_behind
 atom_tag room tag _ _ rest (s.IsAtom.small text lt u le) = ap (λ (r : Read (List ℕ)). r >>= wrap Name) (name_again text rest u le)
 atom_tag room tag _ _ rest (s.IsAtom.small_latin text le fit) = ap (λ (r : Read (List ℕ)). r >>= wrap Name) (latin_again text rest le)
 atom_tag room tag _ _ rest (s.IsAtom.latin text le fit) = ap (λ (r : Read (List ℕ)). r >>= wrap Name) (behind_half (length text) text rest (λ n. named_at latin_atom n.0 n.1) (omega arith) ∙ latin_again text rest le)
@@ -132,7 +132,7 @@ Lists : ℕ → List Term → List ℕ → Type 0
 Lists room ts bytes = (rest : List ℕ) → (tail_at (suc room) (bytes ++ rest) ≡ Ok (ts, rest)) × (item_at (suc room) (bytes ++ rest) ≡ Ok (Listed ts, rest))
 
 mutual
-  unfolding readers items_at item_behind elements_behind Lists
+  unfolding readers items_at item_behind leaf_behind elements_behind Lists
 
   pub item_again : (room : ℕ) (t : Term) (b rest : List ℕ) → Item room t b → item_at room (b ++ rest) ≡ Ok (t, rest)
   item_again _ _ _ rest (s.Item.small_integer room n lt) = refl

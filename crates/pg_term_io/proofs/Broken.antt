@@ -8,11 +8,11 @@ use Rattle.pg_term.specs.declared.term.Term.{Term, Tuple, List as Listed}
 use Rattle.pg_term.specs.declared.term.Term.TheVariants.{Int, Ref, Pid as Process}
 use Rattle.pg_term_io.specs.Numbers.{int_of, big_value}
 use Rattle.pg_term_io.specs.Tags.{is_one_of, is_atom_tag, is_list_tag, is_other_tag, is_tag}
-use Rattle.pg_term_io.specs.Reading.{Read, ◌>>=◌, number_at, bytes_at, is_i64, i64_of, big_at, items_at, as_term, string_at, list_at, elements_behind, item_behind, readers, item_at, tail_at, term_of}
+use Rattle.pg_term_io.specs.Reading.{Read, ◌>>=◌, number_at, bytes_at, is_i64, i64_of, big_at, items_at, as_term, string_at, list_at, elements_behind, item_behind, leaf_behind, readers, item_at, tail_at, term_of}
 use Rattle.pg_term_io.specs.Spelling.{Items}
 use Rattle.pg_term_io.specs.Faults.{BreaksItem, BreaksItems, BreaksElements, BreaksTail, Breaks}
 use Rattle.pg_term_io.specs.Faults as f
-use Rattle.pg_term_io.proofs.Again.{bytes_again, half_again, word_again, item_again, items_again}
+use Rattle.pg_term_io.proofs.Again.{bytes_again, word_again, item_again, items_again}
 use Rattle.pg_term_io.proofs.Bigs.{is_i64-fits}
 use Rattle.pg_term_io.proofs.Cuts.{number_cut, bytes_cut, behind_half, half_missing, none_of, atom_fails, pid_fails, old_ref_fails, ref_fails}
 
@@ -108,7 +108,7 @@ improper_fails room tag b other =
     rw (n106.0, n107.0, n108.0) refl
 
 unknown_fails : (room tag : ℕ) (b : List ℕ) → is_tag tag ≡ false → item_behind room (readers room) tag b ≡ Err UnknownTag
-unfolding item_behind
+unfolding item_behind leaf_behind
 unknown_fails room tag b other =
     let lists = none_of (is_other_tag tag || is_atom_tag tag) (is_list_tag tag) other in
     let kinds = none_of (is_other_tag tag) (is_atom_tag tag) lists.0 in
@@ -125,7 +125,7 @@ unknown_fails room tag b other =
 -- ---- items
 
 mutual
-  unfolding readers items_at item_behind
+  unfolding readers items_at item_behind leaf_behind
 
   item_fails : (room : ℕ) (e : TermFault) (b : List ℕ) → BreaksItem room e b → item_at room b ≡ Err e
   item_fails _ _ _ (f.BreaksItem.missing_item zero) = refl

@@ -9,7 +9,7 @@ use Rattle.pg_term.specs.declared.fault.TermFault.TheVariants.{Truncated, BadAto
 use Rattle.pg_term.specs.RefParts.{RefParts}
 use Rattle.pg_term.specs.declared.term.Term.TheVariants.{Atom as Name}
 use Rattle.pg_term_io.specs.Tags.{is_atom_tag}
-use Rattle.pg_term_io.specs.Reading.{Read, ◌>>=◌, byte_at, number_at, bytes_at, named_at, utf8_atom, latin_atom, atom_behind, atom_at, pid_at, old_reference_at, words_at, new_reference_at, items_at, as_term, item_behind, readers, item_at}
+use Rattle.pg_term_io.specs.Reading.{Read, ◌>>=◌, byte_at, number_at, bytes_at, named_at, utf8_atom, latin_atom, atom_behind, atom_at, pid_at, old_reference_at, words_at, new_reference_at, items_at, as_term, item_behind, leaf_behind, readers, item_at}
 use Rattle.pg_term_io.specs.Spelling.{IsAtom}
 use Rattle.pg_term_io.specs.Faults.{BreaksAtom, BreaksNode, BreaksPid, BreaksOldRef, BreaksRef, IsSmallAtomTag, IsLargeAtomTag}
 use Rattle.pg_term_io.specs.Faults as f
@@ -69,7 +69,7 @@ pub record AtomFails (e : TermFault) (b : List ℕ) : Type 0 where
 
 -- by what stands behind the tag
 fails_at : (tag : ℕ) (e : TermFault) (b : List ℕ) → (tag ≡ 100) ⊎ (tag ≡ 115) ⊎ (tag ≡ 118) ⊎ (tag ≡ 119) → atom_behind tag b ≡ Err e → AtomFails e (tag ∷ b)
-unfolding atom_at item_behind readers
+unfolding atom_at item_behind leaf_behind readers
 fails_at tag e b is h = record { placed = h; item = λ room. as_item room is }
   where
     wrapped : (r : Read (List ℕ)) → r ≡ Err e → as_term Name r ≡ Err e

@@ -9,7 +9,7 @@ use Rattle.pg_term.specs.declared.term.Term.{Term, Tuple, List as Listed}
 use Rattle.pg_term.specs.declared.term.Term.TheVariants.{Int, Atom as Name, Ref, Pid as Process}
 use Rattle.pg_term_io.specs.Numbers.{int_of}
 use Rattle.pg_term_io.specs.Tags.{is_atom_tag, is_list_tag, is_tag}
-use Rattle.pg_term_io.specs.Reading.{Read, ◌>>=◌, byte_at, number_at, big_at, atom_behind, items_at, elements_behind, pid_at, old_reference_at, new_reference_at, as_term, item_behind, item_at, readers, term_of}
+use Rattle.pg_term_io.specs.Reading.{Read, ◌>>=◌, byte_at, number_at, big_at, atom_behind, items_at, elements_behind, pid_at, old_reference_at, new_reference_at, as_term, item_behind, leaf_behind, item_at, readers, term_of}
 use Rattle.pg_term_io.specs.Spelling.{IsAtom, IsPid, IsOldRef, IsRef, Item, Items, Elements, Tail, Spells}
 use Rattle.pg_term_io.specs.Spelling as s
 use Rattle.pg_term_io.specs.Faults.{BreaksAtom, BreaksPid, BreaksOldRef, BreaksRef, BreaksItem, BreaksElements, BreaksTail, Breaks}
@@ -84,7 +84,7 @@ module _ (room : ℕ) (bytes : List ℕ) (fits : IsBytes bytes) where
         ])
 
     behind_right : (tag : ℕ) → BehindRight room tag bytes (item_behind room (readers room) tag bytes)
-    unfolding item_behind
+    unfolding item_behind leaf_behind
     behind_right tag =
         let v97 = as_term int_of (byte_at bytes) in
         let v98 = as_term (λ (n : ℕ). Int (cast_signed w32 n)) (number_at w32 bytes) in
@@ -99,23 +99,23 @@ module _ (room : ℕ) (bytes : List ℕ) (fits : IsBytes bytes) where
         let r114 : Read Term = cond (eqb tag 114) v114 (Err UnknownTag) in
         let r101 : Read Term = cond (eqb tag 101) v101 r114 in
         let r103 : Read Term = cond (eqb tag 103) v103 r101 in
-        let rlist : Read Term = cond (is_list_tag tag) vlist r103 in
-        let r105 : Read Term = cond (eqb tag 105) v105 rlist in
-        let r104 : Read Term = cond (eqb tag 104) v104 r105 in
-        let ratom : Read Term = cond (is_atom_tag tag) vatom r104 in
+        let ratom : Read Term = cond (is_atom_tag tag) vatom r103 in
         let r110 : Read Term = cond (eqb tag 110) v110 ratom in
         let r98 : Read Term = cond (eqb tag 98) v98 r110 in
+        let r97 : Read Term = cond (eqb tag 97) v97 r98 in
+        let rlist : Read Term = cond (is_list_tag tag) vlist r97 in
+        let r105 : Read Term = cond (eqb tag 105) v105 rlist in
         let P = Behind room tag in
         let Q = BrokenBehind room tag in
         let at : (k : ℕ) (read : Read Term) → BehindRight room k bytes read → eqb tag k ≡ true → BehindRight room tag bytes read = λ k read h e. subst (λ (m : ℕ). BehindRight room m bytes read) (sym (eqb-true tag k e)) h in
-        right_if P Q bytes (eqb tag 97) v97 r98 (at 97 v97 byte_item)
+        right_if P Q bytes (eqb tag 104) v104 r105 (at 104 v104 small_tuple_item)
+        (λ n104. right_if P Q bytes (eqb tag 105) v105 rlist (at 105 v105 large_tuple_item)
+        (λ n105. right_if P Q bytes (is_list_tag tag) vlist r97 (list_item tag)
+        (λ nlist. right_if P Q bytes (eqb tag 97) v97 r98 (at 97 v97 byte_item)
         (λ n97. right_if P Q bytes (eqb tag 98) v98 r110 (at 98 v98 word_item)
         (λ n98. right_if P Q bytes (eqb tag 110) v110 ratom (at 110 v110 big_item)
-        (λ n110. right_if P Q bytes (is_atom_tag tag) vatom r104 (atom_item tag)
-        (λ natom. right_if P Q bytes (eqb tag 104) v104 r105 (at 104 v104 small_tuple_item)
-        (λ n104. right_if P Q bytes (eqb tag 105) v105 rlist (at 105 v105 large_tuple_item)
-        (λ n105. right_if P Q bytes (is_list_tag tag) vlist r103 (list_item tag)
-        (λ nlist. right_if P Q bytes (eqb tag 103) v103 r101 (at 103 v103 pid_item)
+        (λ n110. right_if P Q bytes (is_atom_tag tag) vatom r103 (atom_item tag)
+        (λ natom. right_if P Q bytes (eqb tag 103) v103 r101 (at 103 v103 pid_item)
         (λ n103. right_if P Q bytes (eqb tag 101) v101 r114 (at 101 v101 old_reference_item)
         (λ n101. right_if P Q bytes (eqb tag 114) v114 (Err UnknownTag) (at 114 v114 reference_item)
         (λ n114. f.BreaksItem.unknown_tag room tag bytes (unknown tag n97 n98 n110 natom n104 n105 nlist n103 n101 n114)))))))))))

@@ -12,6 +12,7 @@ pub mod Items
 pub mod Latin
 pub mod Loop
 pub mod Outcomes
+pub mod Rewritten
 pub mod Spelled
 pub mod Steps
 pub mod Written

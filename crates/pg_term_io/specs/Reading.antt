@@ -156,20 +156,25 @@ elements_behind room below tag bytes =
 abbrev pub as_term : {A : Type 0} → (A → Term) → Read A → Read Term
 as_term make read = read >>= λ x. Ok (make x.0, x.1)
 
--- behind any tag
-unfoldable pub item_behind : ℕ → Readers → ℕ → List ℕ → Read Term
-item_behind room below tag bytes =
+-- behind the tag of a term that holds no terms
+unfoldable pub leaf_behind : ℕ → List ℕ → Read Term
+leaf_behind tag bytes =
     if tag == 97 then as_term int_of (byte_at bytes)
     else if tag == 98 then as_term (λ n. term.TheVariants.Int (cast_signed w32 n)) (number_at w32 bytes)
     else if tag == 110 then as_term term.TheVariants.Int (big_at bytes)
     else if is_atom_tag tag then as_term term.TheVariants.Atom (atom_behind tag bytes)
-    else if tag == 104 then as_term term.Tuple (byte_at bytes >>= λ n. items_at below.item n.0 n.1)
-    else if tag == 105 then as_term term.Tuple (number_at w32 bytes >>= λ n. items_at below.item n.0 n.1)
-    else if is_list_tag tag then as_term term.List (elements_behind room below tag bytes)
     else if tag == 103 then as_term term.TheVariants.Pid (pid_at bytes)
     else if tag == 101 then as_term term.TheVariants.Ref (old_reference_at bytes)
     else if tag == 114 then as_term term.TheVariants.Ref (new_reference_at bytes)
     else Err UnknownTag
+
+-- behind any tag
+unfoldable pub item_behind : ℕ → Readers → ℕ → List ℕ → Read Term
+item_behind room below tag bytes =
+    if tag == 104 then as_term term.Tuple (byte_at bytes >>= λ n. items_at below.item n.0 n.1)
+    else if tag == 105 then as_term term.Tuple (number_at w32 bytes >>= λ n. items_at below.item n.0 n.1)
+    else if is_list_tag tag then as_term term.List (elements_behind room below tag bytes)
+    else leaf_behind tag bytes
 
 abbrev pub item_by : ℕ → Readers → List ℕ → Read Term
 item_by room below [] = Err Truncated

@@ -1,8 +1,9 @@
 //! Pids and references, behind their tags.
 
 ghost use Rattle.std.specs.Prelude.{◌≡◌, ◌<◌};
+ghost use Rattle.std.specs.Int.{w32};
 ghost use Rattle.pg_term.specs.Fault.{Gives};
-ghost use Rattle.pg_term_io.specs.Reading.{pid_at, old_reference_at, words_at, new_reference_at};
+ghost use Rattle.pg_term_io.specs.Reading.{pid_at, old_reference_at, words_at, new_reference_at, items_at, number_at};
 
 use crate::reading::atoms::atom_at;
 use crate::reading::numbers::{u8_at, u16_at, u32_at};
@@ -51,6 +52,25 @@ pub(crate) fn new_reference_at(alloc: Global, bytes: &[u8]) -> Result<(Reference
     reference_words(node, creation, count, rest)
 }
 
+#[tactic(auto, unfolding(crate::specs::Reading::items_at))]
+fn two_words(bytes: &[u8]) -> Result<([u32; 2], &[u8]), TermFault>
+    ensures { Gives (λ x. (x.0, x.1.now)) result (items_at (number_at w32) 2 bytes.now) }
+{
+    let (first, rest) = u32_at(bytes)?;
+    let (second, rest) = u32_at(rest)?;
+    Ok(([first, second], rest))
+}
+
+#[tactic(auto, unfolding(crate::specs::Reading::items_at))]
+fn three_words(bytes: &[u8]) -> Result<([u32; 3], &[u8]), TermFault>
+    ensures { Gives (λ x. (x.0, x.1.now)) result (items_at (number_at w32) 3 bytes.now) }
+{
+    let (first, rest) = u32_at(bytes)?;
+    let (second, rest) = u32_at(rest)?;
+    let (third, rest) = u32_at(rest)?;
+    Ok(([first, second, third], rest))
+}
+
 #[tactic(auto, unfolding(crate::specs::Reading::words_at, crate::specs::Reading::items_at))]
 fn reference_words(
     node: Atom,
@@ -64,19 +84,15 @@ fn reference_words(
 {
     match count {
         1 => {
-            let (first, rest) = u32_at(bytes)?;
-            Ok((Reference::new(node, creation, &[first])?, rest))
+            let (word, rest) = u32_at(bytes)?;
+            Ok((Reference::new(node, creation, &[word])?, rest))
         }
         2 => {
-            let (first, rest) = u32_at(bytes)?;
-            let (second, rest) = u32_at(rest)?;
-            Ok((Reference::new(node, creation, &[first, second])?, rest))
+            let (words, rest) = two_words(bytes)?;
+            Ok((Reference::new(node, creation, &words)?, rest))
         }
         3 => {
-            let (first, rest) = u32_at(bytes)?;
-            let (second, rest) = u32_at(rest)?;
-            let (third, rest) = u32_at(rest)?;
-            let words = [first, second, third];
+            let (words, rest) = three_words(bytes)?;
             Ok((Reference::new(node, creation, &words)?, rest))
         }
         _ => unreachable!(),

@@ -5,7 +5,7 @@ ghost use Rattle.std.specs.Int.{w32, cast_signed};
 ghost use Rattle.pg_term.specs.declared.term.Term.TheVariants.{Int};
 ghost use Rattle.pg_term.specs.Fault.{Gives};
 ghost use Rattle.pg_term_io.specs.Numbers.{int_of};
-ghost use Rattle.pg_term_io.specs.Reading.{number_at, as_term, string_at, with_front, items_at, item_at, tail_at, readers, list_at, elements_behind, item_behind};
+ghost use Rattle.pg_term_io.specs.Reading.{number_at, as_term, string_at, with_front, items_at, item_at, tail_at, readers, list_at, elements_behind, item_behind, leaf_behind};
 
 use crate::reading::atoms::atom_behind;
 use crate::reading::identifiers::{new_reference_at, old_reference_at, pid_at};
@@ -175,19 +175,6 @@ fn item_behind(alloc: Global, room: u8, tag: u8, bytes: &[u8]) -> Result<(Term, 
     ensures { Gives (λ x. (x.0, x.1.now)) result (item_behind room (readers room) tag bytes.now) }
 {
     match tag {
-        97 => {
-            let (n, rest) = u8_at(bytes)?;
-            Ok((Term::Int(i64::from(n)), rest))
-        }
-        98 => int_at(bytes),
-        110 => {
-            let (n, rest) = big_at(bytes)?;
-            Ok((Term::Int(n), rest))
-        }
-        100 | 115 | 118 | 119 => {
-            let (atom, rest) = atom_behind(alloc, tag, bytes)?;
-            Ok((Term::Atom(atom), rest))
-        }
         104 => {
             let (count, rest) = u8_at(bytes)?;
             let (terms, rest) = fields(alloc, room, u32::from(count), rest)?;
@@ -201,6 +188,29 @@ fn item_behind(alloc: Global, room: u8, tag: u8, bytes: &[u8]) -> Result<(Term, 
         106 | 107 | 108 => {
             let (terms, rest) = list(alloc, room, tag, bytes)?;
             Ok((Term::List(Items::from_vec(terms)), rest))
+        }
+        _ => leaf(alloc, tag, bytes),
+    }
+}
+
+/// An item that holds no terms, behind its tag.
+#[tactic(auto, unfolding(crate::specs::Reading::leaf_behind))]
+fn leaf(alloc: Global, tag: u8, bytes: &[u8]) -> Result<(Term, &[u8]), TermFault>
+    ensures { Gives (λ x. (x.0, x.1.now)) result (leaf_behind tag bytes.now) }
+{
+    match tag {
+        97 => {
+            let (n, rest) = u8_at(bytes)?;
+            Ok((Term::Int(i64::from(n)), rest))
+        }
+        98 => int_at(bytes),
+        110 => {
+            let (n, rest) = big_at(bytes)?;
+            Ok((Term::Int(n), rest))
+        }
+        100 | 115 | 118 | 119 => {
+            let (atom, rest) = atom_behind(alloc, tag, bytes)?;
+            Ok((Term::Atom(atom), rest))
         }
         103 => {
             let (pid, rest) = pid_at(alloc, bytes)?;

@@ -24,6 +24,32 @@ fn ints(alloc: Global, numbers: &[i64]) -> Result<Vec<Term>, AllocError> {
     Ok(terms)
 }
 
+// Whether the bytes are read as the term, once it is made.
+fn is_read(
+    alloc: Global,
+    bytes: &[u8],
+    wanted: Result<Term, TermFault>,
+) -> Result<bool, TermFault> {
+    Ok(decode(alloc, bytes)? == wanted?)
+}
+
+fn atom(alloc: Global, name: &str) -> Result<Term, TermFault> {
+    Ok(Term::Atom(Atom::new(alloc, name)?))
+}
+
+fn list(alloc: Global, numbers: &[i64]) -> Result<Term, TermFault> {
+    Ok(Term::List(Items::from_vec(ints(alloc, numbers)?)))
+}
+
+fn tuple(alloc: Global, numbers: &[i64]) -> Result<Term, TermFault> {
+    Ok(Term::Tuple(Fields::from_vec(ints(alloc, numbers)?)))
+}
+
+fn reference(alloc: Global) -> Result<Term, TermFault> {
+    let node = Atom::new(alloc, "a")?;
+    Ok(Term::Ref(Reference::new(node, 2, &[7])?))
+}
+
 #[test]
 fn integers_and_atoms(rt: HostRuntime) -> Result<(), Fail> {
     let numbers: &[(&[u8], i64)] = &[
@@ -32,8 +58,10 @@ fn integers_and_atoms(rt: HostRuntime) -> Result<(), Fail> {
         (&[131, 98, 0, 1, 0, 2], 65_538),
     ];
     for (bytes, number) in numbers {
-        let term = decode(rt.alloc(), bytes).ok().ok_or("an integer")?;
-        assert!(rt; term == Term::Int(*number), "{number}");
+        assert!(rt;
+            is_read(rt.alloc(), bytes, Ok(Term::Int(*number)))?,
+            "{number}"
+        );
     }
     let names: &[(&[u8], &str)] = &[
         (&[131, 100, 0, 1, 233], "é"),
@@ -43,9 +71,10 @@ fn integers_and_atoms(rt: HostRuntime) -> Result<(), Fail> {
         (&[131, 119, 0], ""),
     ];
     for (bytes, name) in names {
-        let term = decode(rt.alloc(), bytes).ok().ok_or("an atom")?;
-        let atom = Atom::new(rt.alloc(), name).ok().ok_or("a name")?;
-        assert!(rt; term == Term::Atom(atom), "{name}");
+        assert!(rt;
+            is_read(rt.alloc(), bytes, atom(rt.alloc(), name))?,
+            "{name}"
+        );
     }
     Ok(())
 }
@@ -56,28 +85,21 @@ fn lists_and_old_references(rt: HostRuntime) -> Result<(), Fail> {
         (&[131, 107, 0, 2, 1, 2], &[1, 2]),
         (&[131, 108, 0, 0, 0, 1, 97, 1, 107, 0, 1, 2], &[1, 2]),
         (&[131, 108, 0, 0, 0, 2, 97, 1, 97, 2, 106], &[1, 2]),
+        (&[131, 108, 0, 0, 0, 0, 106], &[]),
         (&[131, 106], &[]),
     ];
     for (bytes, numbers) in lists {
-        let term = decode(rt.alloc(), bytes).ok().ok_or("a list")?;
-        let wanted = Items::from_vec(ints(rt.alloc(), numbers)?);
-        assert!(rt; term == Term::List(wanted));
+        assert!(rt; is_read(rt.alloc(), bytes, list(rt.alloc(), numbers))?);
     }
     let bytes = [131, 101, 100, 0, 1, 97, 0, 0, 0, 7, 2];
-    let term = decode(rt.alloc(), &bytes).ok().ok_or("a reference")?;
-    let node = Atom::new(rt.alloc(), "a").ok().ok_or("a name")?;
-    let wanted = Reference::new(node, 2, &[7]).ok().ok_or("a reference")?;
-    assert!(rt; term == Term::Ref(wanted));
+    assert!(rt; is_read(rt.alloc(), &bytes, reference(rt.alloc()))?);
     Ok(())
 }
 
 #[test]
 fn tuples_bigs_and_lists(rt: HostRuntime) -> Result<(), Fail> {
-    let term = decode(rt.alloc(), &[131, 105, 0, 0, 0, 1, 97, 7])
-        .ok()
-        .ok_or("a tuple")?;
-    let wanted = Fields::from_vec(ints(rt.alloc(), &[7])?);
-    assert!(rt; term == Term::Tuple(wanted));
+    let bytes = [131, 105, 0, 0, 0, 1, 97, 7];
+    assert!(rt; is_read(rt.alloc(), &bytes, tuple(rt.alloc(), &[7]))?);
     let numbers: &[(&[u8], i64)] = &[
         (&[131, 110, 1, 0, 5], 5),
         (&[131, 110, 2, 7, 1, 2], -513),
@@ -90,14 +112,23 @@ fn tuples_bigs_and_lists(rt: HostRuntime) -> Result<(), Fail> {
         (&[131, 110, 8, 1, 0, 0, 0, 0, 0, 0, 0, 128], i64::MIN),
     ];
     for (bytes, number) in numbers {
-        let term = decode(rt.alloc(), bytes).ok().ok_or("an integer")?;
-        assert!(rt; term == Term::Int(*number), "{number}");
+        assert!(rt;
+            is_read(rt.alloc(), bytes, Ok(Term::Int(*number)))?,
+            "{number}"
+        );
     }
-    let term = decode(rt.alloc(), &[131, 108, 0, 0, 0, 0, 106])
-        .ok()
-        .ok_or("a list")?;
-    assert!(rt; term == Term::List(Items::from_vec(Vec::new(rt.alloc()))));
     Ok(())
+}
+
+// The byte 131, and an atom of so many letters, its length in two bytes.
+fn long_atom(alloc: Global, tag: u8, count: u16) -> Result<Vec<u8>, AllocError> {
+    let mut bytes = Vec::new(alloc);
+    bytes.extend_from_slice(&[131, tag])?;
+    bytes.extend_from_slice(&u16::to_be_bytes(count))?;
+    for _ in 0..count {
+        bytes.push(97)?;
+    }
+    Ok(bytes)
 }
 
 #[test]
@@ -108,12 +139,7 @@ fn long_atoms_and_depth(rt: HostRuntime) -> Result<(), Fail> {
         (100, 255, None),
         (100, 256, Some(TermFault::BadAtom)),
     ] {
-        let mut bytes = Vec::new(rt.alloc());
-        bytes.extend_from_slice(&[131, tag])?;
-        bytes.extend_from_slice(&u16::to_be_bytes(count))?;
-        for _ in 0..count {
-            bytes.push(97)?;
-        }
+        let bytes = long_atom(rt.alloc(), tag, count)?;
         assert_eq!(rt; decode(rt.alloc(), &bytes).err(), wanted, "{tag} {count}");
     }
     let ends: &[(usize, &[u8], Option<TermFault>)] = &[

@@ -1,11 +1,35 @@
 use super::*;
+use crate::reading::decode;
 use pg_term::{Fields, Items};
 use std::test::*;
 
-// Whether the term is written as these bytes, and its length is known before.
-fn is_written(alloc: Global, term: &Term, bytes: &[u8]) -> Result<bool, TermFault> {
-    let written = encode(alloc, term)?;
-    Ok(written.as_slice() == bytes && encode_len(term)? == bytes.len())
+// Whether the term, once made, is written as these bytes, and its length is known before.
+fn is_written(
+    alloc: Global,
+    made: Result<Term, TermFault>,
+    bytes: &[u8],
+) -> Result<bool, TermFault> {
+    let term = made?;
+    let written = encode(alloc, &term)?;
+    Ok(written.as_slice() == bytes && encode_len(&term)? == bytes.len())
+}
+
+// Whether it is written as so many bytes, which begin with these.
+fn begins(
+    alloc: Global,
+    made: Result<Term, TermFault>,
+    len: usize,
+    front: &[u8],
+) -> Result<bool, TermFault> {
+    let written = encode(alloc, &made?)?;
+    Ok(written.len() == len && written.as_slice().starts_with(front))
+}
+
+// Whether what is written for it is read as the term.
+fn is_read_again(alloc: Global, made: Result<Term, TermFault>) -> Result<bool, TermFault> {
+    let term = made?;
+    let written = encode(alloc, &term)?;
+    Ok(decode(alloc, written.as_slice())? == term)
 }
 
 fn fault_of(alloc: Global, term: &Term) -> Option<TermFault> {
@@ -56,6 +80,36 @@ fn long_tuple(alloc: Global, last: &str) -> Result<Term, TermFault> {
     Ok(tuple(names))
 }
 
+fn list_of(alloc: Global, count: usize) -> Result<Term, TermFault> {
+    Ok(Term::List(Items::from_vec(sevens(alloc, count)?)))
+}
+
+fn tuple_of(alloc: Global, count: usize) -> Result<Term, TermFault> {
+    Ok(tuple(sevens(alloc, count)?))
+}
+
+fn atom(alloc: Global, name: &str) -> Result<Term, TermFault> {
+    Ok(Term::Atom(Atom::new(alloc, name)?))
+}
+
+fn long_atom(alloc: Global, character: char) -> Result<Term, TermFault> {
+    Ok(Term::Atom(long_name(alloc, character)?))
+}
+
+fn pid(alloc: Global) -> Result<Term, TermFault> {
+    Ok(Term::Pid(Pid {
+        node: Atom::new(alloc, "a")?,
+        serial: 258,
+        id: 1,
+        creation: 3,
+    }))
+}
+
+fn reference(alloc: Global, words: &[u32]) -> Result<Term, TermFault> {
+    let node = Atom::new(alloc, "a")?;
+    Ok(Term::Ref(Reference::new(node, 2, words)?))
+}
+
 #[test]
 fn integers(rt: HostRuntime) -> Result<(), Fail> {
     let rows: [(i64, &[u8]); 11] = [
@@ -76,71 +130,125 @@ fn integers(rt: HostRuntime) -> Result<(), Fail> {
     ];
     for (number, bytes) in rows {
         assert!(rt;
-            is_written(rt.alloc(), &Term::Int(number), bytes)?,
-            "at {number}"
+            is_written(rt.alloc(), Ok(Term::Int(number)), bytes)?,
+            "{number}"
+        );
+        assert!(rt;
+            is_read_again(rt.alloc(), Ok(Term::Int(number)))?,
+            "{number}"
         );
     }
     Ok(())
 }
 
 #[test]
-fn tuples_and_lists(rt: HostRuntime) -> Result<(), Fail> {
-    let alloc = rt.alloc();
-    let numbers = vec![in alloc; Term::Int(1), Term::Int(2)]?;
-    let list = Term::List(Items::from_vec(numbers));
-    assert!(rt; is_written(alloc, &list, &[131, 108, 0, 0, 0, 2, 97, 1, 97, 2, 106])?);
-    let nil = Term::List(Items::from_vec(Vec::new(alloc)));
-    assert!(rt; is_written(alloc, &nil, &[131, 106])?);
-    assert!(rt; is_written(alloc, &tuple(Vec::new(alloc)), &[131, 104, 0])?);
-    let short = encode(alloc, &tuple(sevens(alloc, 255)?))?;
-    assert!(rt; short.len() == 513 && short.as_slice().starts_with(&[131, 104, 255, 97, 7]));
-    let long = encode(alloc, &tuple(sevens(alloc, 256)?))?;
-    assert!(rt; long.len() == 518 && long.as_slice().starts_with(&[131, 105, 0, 0, 1, 0, 97, 7]));
+fn tuples(rt: HostRuntime) -> Result<(), Fail> {
+    let rows: [(usize, usize, &[u8]); 3] = [
+        (0, 3, &[131, 104, 0]),
+        (255, 513, &[131, 104, 255, 97, 7]),
+        (256, 518, &[131, 105, 0, 0, 1, 0, 97, 7]),
+    ];
+    for (count, len, front) in rows {
+        assert!(rt; begins(rt.alloc(), tuple_of(rt.alloc(), count), len, front)?);
+        assert!(rt; is_read_again(rt.alloc(), tuple_of(rt.alloc(), count))?);
+    }
+    assert!(rt; is_read_again(rt.alloc(), nested(rt.alloc(), 64))?);
     Ok(())
 }
 
 #[test]
-fn names(rt: HostRuntime) -> Result<(), Fail> {
-    let alloc = rt.alloc();
-    let short = Term::Atom(Atom::new(alloc, "\u{e9}")?);
-    assert!(rt; is_written(alloc, &short, &[131, 119, 2, 195, 169])?);
-    let long = encode(alloc, &Term::Atom(long_name(alloc, '\u{e9}')?))?;
-    assert!(rt; long.len() == 514 && long.as_slice().starts_with(&[131, 118, 1, 254, 195, 169]));
-    let pid = Term::Pid(Pid {
-        node: Atom::new(alloc, "a")?,
-        serial: 258,
-        id: 1,
-        creation: 3,
-    });
+fn lists(rt: HostRuntime) -> Result<(), Fail> {
+    let rows: [(usize, &[u8]); 3] = [
+        (0, &[131, 106]),
+        (1, &[131, 108, 0, 0, 0, 1, 97, 7, 106]),
+        (2, &[131, 108, 0, 0, 0, 2, 97, 7, 97, 7, 106]),
+    ];
+    for (count, bytes) in rows {
+        assert!(rt; is_written(rt.alloc(), list_of(rt.alloc(), count), bytes)?);
+        assert!(rt; is_read_again(rt.alloc(), list_of(rt.alloc(), count))?);
+    }
+    Ok(())
+}
+
+#[test]
+fn atoms(rt: HostRuntime) -> Result<(), Fail> {
+    let rows: [(&str, &[u8]); 2] = [("", &[131, 119, 0]), ("\u{e9}", &[131, 119, 2, 195, 169])];
+    for (name, bytes) in rows {
+        assert!(rt; is_written(rt.alloc(), atom(rt.alloc(), name), bytes)?);
+        assert!(rt; is_read_again(rt.alloc(), atom(rt.alloc(), name))?);
+    }
+    Ok(())
+}
+
+#[test]
+fn long_atoms(rt: HostRuntime) -> Result<(), Fail> {
+    let rows: [(char, usize, &[u8]); 3] = [
+        ('a', 258, &[131, 119, 255, 97]),
+        ('\u{e9}', 514, &[131, 118, 1, 254, 195, 169]),
+        ('\u{1f600}', 1024, &[131, 118, 3, 252, 240]),
+    ];
+    for (character, len, front) in rows {
+        assert!(rt; begins(rt.alloc(), long_atom(rt.alloc(), character), len, front)?);
+        assert!(rt; is_read_again(rt.alloc(), long_atom(rt.alloc(), character))?);
+    }
+    Ok(())
+}
+
+#[test]
+fn pids(rt: HostRuntime) -> Result<(), Fail> {
     let bytes = [131, 103, 119, 1, 97, 0, 0, 0, 1, 0, 0, 1, 2, 3];
-    assert!(rt; is_written(alloc, &pid, &bytes)?);
-    let reference = Term::Ref(Reference::new(Atom::new(alloc, "a")?, 2, &[7])?);
+    assert!(rt; is_written(rt.alloc(), pid(rt.alloc()), &bytes)?);
+    assert!(rt; is_read_again(rt.alloc(), pid(rt.alloc()))?);
+    Ok(())
+}
+
+#[test]
+fn references(rt: HostRuntime) -> Result<(), Fail> {
     let bytes = [131, 114, 0, 1, 119, 1, 97, 2, 0, 0, 0, 7];
-    assert!(rt; is_written(alloc, &reference, &bytes)?);
+    assert!(rt; is_written(rt.alloc(), reference(rt.alloc(), &[7]), &bytes)?);
+    let rows: [&[u32]; 3] = [&[0], &[1, u32::MAX], &[1, 2, 3]];
+    for words in rows {
+        assert!(rt; is_read_again(rt.alloc(), reference(rt.alloc(), words))?);
+    }
     Ok(())
 }
 
 #[test]
 fn too_deep(rt: HostRuntime) -> Result<(), Fail> {
-    let alloc = rt.alloc();
-    let fits = nested(alloc, 64)?;
-    assert!(rt; encode(alloc, &fits)?.len() == 129);
-    let deep = nested(alloc, 65)?;
+    assert!(rt; begins(rt.alloc(), nested(rt.alloc(), 64), 129, &[131, 104, 1])?);
+    let deep = nested(rt.alloc(), 65)?;
     assert!(rt; encode_len(&deep) == Err(TermFault::TooDeep));
-    assert!(rt; fault_of(alloc, &deep) == Some(TermFault::TooDeep));
+    assert!(rt; fault_of(rt.alloc(), &deep) == Some(TermFault::TooDeep));
     Ok(())
 }
 
 #[test]
 fn too_long(rt: HostRuntime) -> Result<(), Fail> {
-    let alloc = rt.alloc();
-    let fits = long_tuple(alloc, "8_bytes_")?;
-    assert!(rt; encode(alloc, &fits)?.len() == 16_777_216);
-    let long = long_tuple(alloc, "nine_here")?;
+    let front = [131, 105, 0, 0, 64, 17];
+    assert!(rt;
+        begins(
+            rt.alloc(),
+            long_tuple(rt.alloc(), "8_bytes_"),
+            16_777_216,
+            &front
+        )?
+    );
+    let long = long_tuple(rt.alloc(), "nine_here")?;
     assert!(rt; encode_len(&long) == Err(TermFault::TooLong));
-    assert!(rt; fault_of(alloc, &long) == Some(TermFault::TooLong));
-    let both = tuple(vec![in alloc; long, nested(alloc, 64)?]?);
-    assert!(rt; encode_len(&both) == Err(TermFault::TooDeep));
+    assert!(rt; fault_of(rt.alloc(), &long) == Some(TermFault::TooLong));
+    Ok(())
+}
+
+// A tuple of a term that is too long and one that makes it too deep.
+fn deep_and_long(alloc: Global) -> Result<Term, TermFault> {
+    let long = long_tuple(alloc, "nine_here")?;
+    let deep = nested(alloc, 64)?;
+    Ok(tuple(vec![in alloc; long, deep]?))
+}
+
+#[test]
+fn too_deep_comes_first(rt: HostRuntime) -> Result<(), Fail> {
+    assert!(rt; encode_len(&deep_and_long(rt.alloc())?) == Err(TermFault::TooDeep));
     Ok(())
 }
 
@@ -156,17 +264,23 @@ fn appends(rt: HostRuntime) -> Result<(), Fail> {
     Ok(())
 }
 
-// For `rt try --test --fail-alloc N`: each refused growth is told, and the next call succeeds.
+// For `rt try --test --fail-alloc N`: a refused growth is told, and the next call succeeds.
 #[test]
 fn refused_growth(rt: HostRuntime) -> Result<(), Fail> {
-    let alloc = rt.alloc();
     let term = Term::Int(-1);
-    let written = match encode(alloc, &term) {
-        Err(TermFault::OutOfMemory) => encode(alloc, &term)?,
+    let written = match encode(rt.alloc(), &term) {
+        Err(TermFault::OutOfMemory) => encode(rt.alloc(), &term)?,
         other => other?,
     };
     assert!(rt; written.as_slice() == [131, 98, 255, 255, 255, 255].as_slice());
-    let mut out = BytesMut::new(alloc);
+    Ok(())
+}
+
+// The same, at a buffer, which is left as it was.
+#[test]
+fn refused_room(rt: HostRuntime) -> Result<(), Fail> {
+    let term = Term::Int(-1);
+    let mut out = BytesMut::new(rt.alloc());
     match encode_into(&term, &mut out) {
         Err(TermFault::OutOfMemory) => {
             assert!(rt; out.is_empty());
@@ -174,6 +288,6 @@ fn refused_growth(rt: HostRuntime) -> Result<(), Fail> {
         }
         other => other?,
     }
-    assert!(rt; out.as_slice() == written.as_slice());
+    assert!(rt; out.as_slice() == [131, 98, 255, 255, 255, 255].as_slice());
     Ok(())
 }

@@ -1,14 +1,11 @@
-use Rattle.std.proofs.Common.{◌≡◌, ℕ, Bool, true, List, sym, ap, subst, ◌∙◌, refl, rules}
+use Rattle.std.proofs.Common.{◌≡◌, Bool, true, ap, subst, ◌∙◌, refl}
 use Rattle.std.specs.Ordering.{is_eq}
 use Rattle.std.proofs.lemmas.Cmp.{tied_itself}
 use Rattle.std.specs.Cmp.{IsTotalOrder}
-use Rattle.std.specs.Cmp.Rules.{comparing}
 use Rattle.std.specs.Cmp.Lexicographic.{nat_list_cmp_total, texts_ties, bytes_decides}
 use Rattle.std.specs.declared.cmp.Ordering.{Ordering}
 use Rattle.std.specs.declared.cmp.Ordering.TheVariants.{Less, Equal, Greater}
-use Rattle.pg_term.specs.declared.pid.Pid.{Pid}
-use Rattle.pg_term.specs.declared.term.Term.{Term}
-use Rattle.pg_term.specs.RefParts.{RefParts, ref_eq, ref_cmp}
+use Rattle.pg_term.specs.RefParts.{ref_eq, ref_cmp}
 use Rattle.pg_term.specs.Same.{same_term, term_cmp, same_pid, pid_cmp, same_atom, atom_cmp}
 use Rattle.pg_term.specs.contracts.term.TermOrd.TheImpl.Laws as term_laws
 use Rattle.pg_term.specs.contracts.pid.PidOrd.TheImpl.Laws as pid_laws

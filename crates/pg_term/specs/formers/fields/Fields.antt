@@ -19,12 +19,10 @@ use Rattle.pg_term.specs.declared.fields.Fields.TheInside.{Inside}
 use Rattle.pg_term.specs.declared.fields.Fields.TheView.{view, invariant}
 use Rattle.pg_term.specs.contracts.fields.Fields as contract
 use Rattle.pg_term.specs.contracts.fields.Fields.TheInside as inside
-use Rattle.std.specs.Prelude.{ℕ, Bool, ◌&&◌, Option, Some, length, map, nat_eq}
+use Rattle.std.specs.Prelude.{◌&&◌, Some, map, nat_eq}
 use Rattle.std.specs.declared.cmp.Ord as ord
 use Rattle.std.specs.declared.cmp.PartialEq as eq
 use Rattle.std.specs.declared.cmp.PartialOrd as partial
-use Rattle.std.specs.declared.cmp.Ordering.{Ordering}
-use Rattle.std.specs.Cmp.Lexicographic.{pointwise, slice_cmp, slice_partial_cmp}
 use Rattle.std.specs.Cmp.Derive.Mapped.{pointwise-map, lex_map, slice_partial_cmp-map}
 use Rattle.std.specs.Ordering.{nat_cmp, ordering_then, partial_ordering_then}
 use lib.ListN.{length-map}

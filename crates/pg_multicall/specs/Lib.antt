@@ -1,0 +1,2 @@
+pub mod Gathered
+pub use Rattle.pg_term.specs.Same

@@ -1,0 +1,9 @@
+//! The replies of several nodes to one call.
+#![tactic(auto)]
+
+mod gather;
+
+pub use gather::{Gather, Replies, Taken};
+
+#[cfg(test)]
+mod tests;

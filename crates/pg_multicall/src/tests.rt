@@ -1,0 +1,66 @@
+use super::*;
+use pg_term::{Atom, Reference, TermFault};
+use std::alloc::Global;
+use std::test::Fail;
+
+fn reference(alloc: Global, word: u32) -> Result<Reference, TermFault> {
+    Reference::new(Atom::new(alloc, "a")?, 1, &[word])
+}
+
+/// The gathered replies of b and c to call 1, with both names.
+#[derive(Drop)]
+struct Asked {
+    b: Atom,
+    c: Atom,
+    call: Reference,
+    gather: Gather<bool>,
+}
+
+fn asked_b_and_c(alloc: Global) -> Result<Asked, TermFault> {
+    let nodes = [Atom::new(alloc, "b")?, Atom::new(alloc, "c")?];
+    Ok(Asked {
+        b: Atom::new(alloc, "b")?,
+        c: Atom::new(alloc, "c")?,
+        call: reference(alloc, 1)?,
+        gather: Gather::new(alloc, reference(alloc, 1)?, &nodes)?,
+    })
+}
+
+#[test]
+fn gather_over_two(rt: HostRuntime) -> Result<(), Fail> {
+    let mut asked = asked_b_and_c(rt.alloc())?;
+    let other = reference(rt.alloc(), 2)?;
+    assert!(rt; asked.gather.take(&asked.b, &asked.call, true) == Taken::Counted);
+    assert!(rt; asked.gather.take(&asked.b, &asked.call, true) == Taken::Double);
+    assert!(rt; asked.gather.take(&asked.c, &other, true) == Taken::Stranger);
+    assert!(rt; !asked.gather.complete());
+    assert!(rt; asked.gather.take(&asked.c, &asked.call, false) == Taken::Counted);
+    assert!(rt; asked.gather.complete());
+    Ok(())
+}
+
+#[test]
+fn first_replies_stay(rt: HostRuntime) -> Result<(), Fail> {
+    let mut asked = asked_b_and_c(rt.alloc())?;
+    asked.gather.take(&asked.b, &asked.call, true);
+    asked.gather.take(&asked.b, &asked.call, false);
+    assert!(rt; asked.gather.replies().get(&asked.b) == Some(&Some(true)));
+    assert!(rt; asked.gather.replies().get(&asked.c) == Some(&None));
+    Ok(())
+}
+
+#[test]
+fn not_asked(rt: HostRuntime) -> Result<(), Fail> {
+    let mut asked = asked_b_and_c(rt.alloc())?;
+    let d = Atom::new(rt.alloc(), "d")?;
+    assert!(rt; asked.gather.take(&d, &asked.call, true) == Taken::Stranger);
+    assert!(rt; asked.gather.replies().len() == 2);
+    Ok(())
+}
+
+#[test]
+fn nobody_asked(rt: HostRuntime) -> Result<(), Fail> {
+    let gather: Gather<bool> = Gather::new(rt.alloc(), reference(rt.alloc(), 1)?, &[])?;
+    assert!(rt; gather.complete());
+    Ok(())
+}

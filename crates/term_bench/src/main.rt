@@ -1,0 +1,93 @@
+//! How fast terms are read and written. The arguments: which measure (`join`, `numbers`, `pids` or
+//! `deep`), and how many times. With none, each measure once. The figures go to standard error,
+//! since they differ from run to run.
+#![tactic(auto)]
+
+mod fault;
+mod measure;
+
+use bytes::BytesMut;
+use measure::Measure;
+use pg_term::{Term, TermFault};
+use pg_term_io::{decode, encode, encode_into};
+use std::alloc::Global;
+use std::time::{Duration, Instant};
+use std::env;
+
+// Reads the bytes so many times.
+fn read(alloc: Global, bytes: &[u8], rounds: u64) -> Result<(), TermFault> {
+    for _ in 0..rounds {
+        decode(alloc, bytes)?;
+    }
+    Ok(())
+}
+
+// Writes the term so many times, into one buffer.
+fn write(term: &Term, buffer: &mut BytesMut, rounds: u64) -> Result<(), TermFault> {
+    for _ in 0..rounds {
+        buffer.clear();
+        encode_into(term, buffer)?;
+    }
+    Ok(())
+}
+
+// Writes the term so many times, each time into new bytes.
+fn write_new(alloc: Global, term: &Term, rounds: u64) -> Result<(), TermFault> {
+    for _ in 0..rounds {
+        encode(alloc, term)?;
+    }
+    Ok(())
+}
+
+// How many a second.
+fn rate(count: u64, time: Duration) -> u64 {
+    let nanos = u64::try_from(time.as_nanos()).unwrap_or(u64::MAX).max(1);
+    let seconds = u128::from(count).saturating_mul(1_000_000_000) / u128::from(nanos);
+    u64::try_from(seconds).unwrap_or(u64::MAX)
+}
+
+fn report(
+    rt: &HostRuntime,
+    what: &str,
+    rounds: u64,
+    len: u64,
+    time: Duration,
+) -> anyhow::Result<()> {
+    let packets = rate(rounds, time);
+    let megabytes = packets.saturating_mul(len) / 1_000_000;
+    eprintln!(rt; "  {what}: {packets} packets a second, {megabytes} MB a second")?;
+    Ok(())
+}
+
+fn run(rt: &HostRuntime, measure: Measure, rounds: u64) -> anyhow::Result<()> {
+    let alloc = rt.alloc();
+    let term = measure.term(alloc)?;
+    let bytes = encode(alloc, &term)?;
+    let len = bytes.len() as u64;
+    eprintln!(rt; "{}: {len} bytes, {rounds} times", measure.name())?;
+    let start = Instant::now(rt)?;
+    read(alloc, bytes.as_slice(), rounds)?;
+    report(rt, "decode", rounds, len, start.elapsed(rt)?)?;
+    let mut buffer = BytesMut::with_capacity(alloc, bytes.len())?;
+    let start = Instant::now(rt)?;
+    write(&term, &mut buffer, rounds)?;
+    report(rt, "encode_into", rounds, len, start.elapsed(rt)?)?;
+    let start = Instant::now(rt)?;
+    write_new(alloc, &term, rounds)?;
+    report(rt, "encode", rounds, len, start.elapsed(rt)?)
+}
+
+fn main(rt: HostRuntime) -> anyhow::Result<()> {
+    let mut words = env::args(&rt)?.skip(1);
+    let Some(name) = words.next() else {
+        run(&rt, Measure::Join, 1)?;
+        run(&rt, Measure::Numbers, 1)?;
+        run(&rt, Measure::Pids, 1)?;
+        return run(&rt, Measure::Deep, 1);
+    };
+    let rounds = match words.next() {
+        Some(text) => text.as_str().parse::<u64>()?,
+        None => 1,
+    };
+    run(&rt, Measure::of(name.as_str())?, rounds)
+}
