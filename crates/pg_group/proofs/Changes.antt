@@ -36,3 +36,12 @@ module _ {K A : Type 0} (same : K → K → Bool) (f : K → A) (k : K) where
       go : (b : Bool) → (b ≡ true → P v) → (b ≡ false → P (f x)) → P (cond b v (f x))
       go true p q = p refl
       go false p q = q refl
+
+  -- a second change at the key takes the place of the first
+  pub upd_twice : (w v : A) → upd same (upd same f k w) k v ≡ upd same f k v
+  unfolding upd
+  upd_twice w v = fun_ext (λ x. go (same k x) (f x))
+    where
+      go : (b : Bool) (y : A) → cond b v (cond b w y) ≡ cond b v y
+      go true y = refl
+      go false y = refl

@@ -1,4 +1,10 @@
 pub mod Changes
+pub mod Copies
+pub mod Drops
+pub mod Exchanges
 pub mod Growth
+pub mod Lists
 pub mod Maps
+pub mod Merges
+pub mod Spread
 pub mod Thinned

@@ -1,5 +1,5 @@
 -- What ordered maps of groups and of counts say after a change at one key.
-use Rattle.std.proofs.Common.{◌≡◌, ℕ, ◌+◌, ◌-◌, Bool, true, false, cond, Option, Some, None, refl, sym, ap, ◌∙◌}
+use Rattle.std.proofs.Common.{◌≡◌, ℕ, ◌+◌, ◌-◌, max, Bool, true, false, cond, Option, Some, None, refl, sym, ap, ◌∙◌, arith}
 use Rattle.std.specs.Prelude.{Result, Ok, Err, OnErr, unwrap_or, is_some, []}
 use Rattle.std.specs.Option.{option_map}
 use Rattle.std.specs.BTreeMap.{BTreeMap, get, is_at, UpdatesBy}
@@ -135,3 +135,15 @@ keys_are_names m ordered has = record {
   each = λ name. ap (λ (test : Term → Term → Bool). list_any (test name) (keys m)) same_as_tied ∙ sym (has name) ∙ sym (there counts_of (get term_cmp m name));
   once = subst (λ (test : Term → Term → Bool). IsDistinct test (keys m)) (sym same_as_tied) (IsDistinct-from_sorted term_cmp (keys m) ordered);
 }
+
+-- a count that is written over another, and a first one
+pub counted_at_least : (m n : Members) (pid : Pid) (k least written : ℕ) → get pid_cmp m pid ≡ Some k → written ≡ max k least → UpdatesBy pid_cmp (pid_cmp pid) m n (Some written) → counts_of n ≡ upd same_pid (counts_of m) pid (max (counts_of m pid) least)
+counted_at_least m n pid k least written had is h = counts_updated m n pid (Some written) h ∙ ap (upd same_pid (counts_of m) pid) is ∙ ap (λ o. upd same_pid (counts_of m) pid (max (unwrap_or o 0) least)) (sym had)
+
+pub counted_least : (m n : Members) (pid : Pid) (least : ℕ) → get pid_cmp m pid ≡ None → UpdatesBy pid_cmp (pid_cmp pid) m n (Some least) → counts_of n ≡ upd same_pid (counts_of m) pid (max (counts_of m pid) least)
+counted_least m n pid least had h =
+    let e : least ≡ max 0 least = omega arith in
+    counts_updated m n pid (Some least) h ∙ ap (upd same_pid (counts_of m) pid) e ∙ ap (λ o. upd same_pid (counts_of m) pid (max (unwrap_or o 0) least)) (sym had)
+
+pub counted_out : (m n : Members) (pid : Pid) → UpdatesBy pid_cmp (pid_cmp pid) m n None → counts_of n ≡ upd same_pid (counts_of m) pid 0
+counted_out m n pid h = counts_updated m n pid None h

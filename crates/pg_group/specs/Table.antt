@@ -1,13 +1,13 @@
 -- A table of groups, as a function from names to groups.
-use Rattle.std.specs.Prelude.{◌≡◌, ◌+◌, ◌<◌, ◌^◌, Bool, cond, List, is_some}
+use Rattle.std.specs.Prelude.{◌≡◌, ◌+◌, ◌<◌, ◌^◌, Bool, true, false, cond, List, is_some}
 use Rattle.std.specs.List.{IsDistinct, list_any}
 use Rattle.pg_term.specs.declared.pid.Pid.{Pid}
 use Rattle.pg_term.specs.declared.term.Term.{Term}
-use Rattle.pg_term.specs.Same.{same_term}
+use Rattle.pg_term.specs.Same.{same_term, same_pid}
 use Rattle.pg_group.specs.declared.update.Update.{Update}
 use Rattle.pg_group.specs.declared.update.Update.TheVariants.{Create, Delete, Join, Leave}
 use Rattle.pg_group.specs.Functions.{upd}
-use Rattle.pg_group.specs.Value.{Value, apply, name_of, count_in}
+use Rattle.pg_group.specs.Value.{Value, apply, name_of, count_in, less, merge, listed, IsBetween}
 
 abbrev pub Table : Type 0
 Table = Term → Value
@@ -32,3 +32,22 @@ HasRoom table update = Unit {0}
 pub record AreNames (table : Table) (names : List Term) : Type 0 where
   pub each : (name : Term) → list_any (same_term name) names ≡ is_some (table name)
   pub once : IsDistinct same_term names
+
+-- what an exchange makes of a group: the greater count of each pid of the list that has not ended
+abbrev pub exchanged : Value → List Pid → (Pid → Bool) → Value
+exchanged v pids ended = merge v (less (listed pids) ended)
+
+-- the table after an exchange of one group: that group changed, and no other
+abbrev pub merged : Table → Term → List Pid → (Pid → Bool) → Table
+merged table name pids ended = upd same_term table name (exchanged (table name) pids ended)
+
+-- what an exchange that was cut short may leave: the group may have been made and counts been raised, none above what
+-- the whole exchange would have made it; no other group changed
+pub record PartlyMerged (old new : Table) (name : Term) (pids : List Pid) (ended : Pid → Bool) : Type 0 where
+  pub others : (other : Term) → same_term name other ≡ false → new other ≡ old other
+  pub stays : is_some (old name) ≡ true → is_some (new name) ≡ true
+  pub raised : IsBetween (count_in (old name)) (count_in (exchanged (old name) pids ended)) (count_in (new name))
+
+-- the table without a pid; each group stays
+abbrev pub without : Table → Pid → Table
+without table pid name = less (table name) (same_pid pid)

@@ -1,6 +1,6 @@
 -- What a process group is, and what an update makes of it (create/1, delete/1, join/2 and leave/2 of the pg2 manual
 -- page).
-use Rattle.std.specs.Prelude.{◌≡◌, ℕ, ◌+◌, ◌-◌, Bool, true, cond, max, Option, Some, None}
+use Rattle.std.specs.Prelude.{◌≡◌, ℕ, ◌+◌, ◌-◌, ◌≤◌, Bool, true, cond, max, List, count_by, Option, Some, None}
 use Rattle.pg_term.specs.declared.pid.Pid.{Pid}
 use Rattle.pg_term.specs.declared.term.Term.{Term}
 use Rattle.pg_term.specs.Same.{same_pid}
@@ -59,11 +59,27 @@ abbrev pub less : Value → (Pid → Bool) → Value
 less None ended = None
 less (Some counts) ended = Some (λ pid. cond (ended pid) 0 (counts pid))
 
+-- each count is the greater of the two
+abbrev pub greater : Counts → Counts → Counts
+greater f g pid = max (f pid) (g pid)
+
 -- present if one of them is; each count is the greater of the two
 abbrev pub merge : Value → Value → Value
 merge None w = w
 merge (Some f) None = Some f
-merge (Some f) (Some g) = Some (λ pid. max (f pid) (g pid))
+merge (Some f) (Some g) = Some (greater f g)
+
+-- how often each pid stands in a list, less the ended
+abbrev pub told : List Pid → (Pid → Bool) → Counts
+told pids ended pid = cond (ended pid) 0 (count_by (same_pid pid) pids)
+
+-- the group that a list of its members tells of, each pid as often as it stands there
+abbrev pub listed : List Pid → Value
+listed pids = Some (λ pid. count_by (same_pid pid) pids)
+
+-- no count is below the first or above the second
+abbrev pub IsBetween : Counts → Counts → Counts → Type 0
+IsBetween low high counts = (pid : Pid) → (low pid ≤ counts pid) × (counts pid ≤ high pid)
 
 -- no member of the group is in the set
 abbrev pub NoneEnded : Value → (Pid → Bool) → Type 0

@@ -1,8 +1,9 @@
-ghost use Rattle.std.specs.Prelude.{◌≡◌, ◌≤◌, ◌+◌, ℕ, Bool};
+ghost use Rattle.std.specs.Prelude.{◌≡◌, ◌≤◌, ◌+◌, ℕ, Bool, List};
 ghost use Rattle.pg_term.specs.declared.pid.Pid.{Pid};
 ghost use Rattle.pg_group.specs.declared.update.Update.{Update};
 ghost use Rattle.pg_term.specs.declared.term.Term.{Term};
-ghost use Rattle.pg_group.specs.Value.{Value, apply, less, count_in, NoneEnded};
+ghost use Rattle.pg_group.specs.Value.{Value, apply, less, merge, count_in, NoneEnded};
+ghost use Rattle.pg_group.specs.Members.{IsMemberList};
 ghost use Rattle.pg_group.specs.Table.{Table, applied, changed};
 
 /// A group without ended pids stays one: what a table makes of it is pg2's group after the update, less the ended.
@@ -15,4 +16,25 @@ pub fn ended_stay_out()
 pub fn one_more_at_most()
     ensures { (n : ℕ) (table : Table) (update : Update) (ended : Pid → Bool) → ((name : Term) (pid : Pid) → count_in (table name) pid ≤ n)
         → (name : Term) (pid : Pid) → count_in (changed table update ended name) pid ≤ n + 1 }
+{}
+
+/// Groups are merged in any order, and a group with itself stays as it is.
+pub fn merged_in_any_order()
+    ensures commutes { (v w : Value) → merge v w ≡ merge w v }
+    ensures associates { (u v w : Value) → merge (merge u v) w ≡ merge u (merge v w) }
+    ensures once { (v : Value) → merge v v ≡ v }
+{}
+
+/// Ended pids may be left out at once or at the end.
+pub fn left_out_at_once()
+    ensures update { (v : Value) (update : Update) (ended : Pid → Bool)
+        → less (apply (less v ended) update) ended ≡ less (apply v update) ended }
+    ensures merge { (v w : Value) (ended : Pid → Bool)
+        → less (merge v w) ended ≡ merge (less v ended) (less w ended) }
+{}
+
+/// A group has one list of its members that pass a test.
+pub fn one_member_list()
+    ensures { (v : Value) (among : Pid → Bool) (pids others : List Pid)
+        → IsMemberList v among pids → IsMemberList v among others → pids ≡ others }
 {}

@@ -6,11 +6,18 @@ mod laws;
 mod members;
 mod row_table;
 mod rows;
+mod scope;
 mod table;
 mod update;
 
 pub use ended::Ended;
-pub use laws::{ended_stay_out, one_more_at_most};
+pub use laws::{
+    ended_stay_out, left_out_at_once, merged_in_any_order, one_member_list, one_more_at_most,
+};
 pub use row_table::RowTable;
+pub use scope::Scope;
 pub use table::GroupTable;
 pub use update::Update;
+
+#[cfg(test)]
+mod tests;

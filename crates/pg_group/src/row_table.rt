@@ -1,7 +1,9 @@
 ghost use Rattle.std.specs.Prelude.{◌≡◌, None};
 
 use crate::ended::Ended;
-use crate::rows::{Rows, create, delete, join, leave};
+use crate::members::{count_of, pid_at, size_of};
+use crate::rows::{self, Rows, create, delete, join, leave};
+use crate::scope::Scope;
 use crate::table::GroupTable;
 use crate::update::Update;
 use pg_term::{Pid, Term};
@@ -54,6 +56,14 @@ impl GroupTable for RowTable {
         }
     }
 
+    fn merge(&mut self, name: &Term, members: &[Pid], ended: &Ended) -> Result<(), AllocError> {
+        rows::merge(&mut self.rows, self.alloc, name, members, ended)
+    }
+
+    fn drop_pid(&mut self, pid: &Pid) {
+        rows::drop_pid(&mut self.rows, pid);
+    }
+
     fn groups(&self) -> Result<Vec<Term>, AllocError> {
         let mut names = Vec::with_capacity(self.alloc, self.rows.len())?;
         for name in self.rows.keys() {
@@ -64,8 +74,29 @@ impl GroupTable for RowTable {
 
     fn count(&self, name: &Term, pid: &Pid) -> u64 {
         match self.rows.get(name) {
-            Some(members) => members.get(pid).copied().unwrap_or(0),
+            Some(members) => count_of(members, pid),
             None => 0,
         }
+    }
+
+    fn size(&self, name: &Term, scope: Scope<'_>) -> Option<u64> {
+        match self.rows.get(name) {
+            Some(members) => Some(size_of(members, scope)),
+            None => None,
+        }
+    }
+
+    fn pid_at(&self, name: &Term, scope: Scope<'_>, place: u64) -> Option<&Pid> {
+        match self.rows.get(name) {
+            Some(members) => pid_at(members, scope, place),
+            None => None,
+        }
+    }
+
+    fn copy(&self) -> Result<RowTable, AllocError> {
+        Ok(RowTable {
+            rows: rows::copy(&self.rows, self.alloc)?,
+            alloc: self.alloc,
+        })
     }
 }

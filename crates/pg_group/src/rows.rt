@@ -1,11 +1,14 @@
-ghost use Rattle.std.specs.Prelude.{◌≡◌, ◌+◌, ◌<◌, ◌^◌, OnOk, OnErr};
+ghost use Rattle.std.specs.Prelude.{◌≡◌, ◌+◌, ◌<◌, ◌^◌, OnOk, OnErr, IfOk};
 ghost use Rattle.pg_term.specs.Same.{same_term};
 ghost use Rattle.pg_group.specs.Functions.{upd};
 ghost use Rattle.pg_group.specs.Value.{apply, count_in};
+ghost use Rattle.pg_group.specs.Table.{merged, PartlyMerged, without};
+ghost use Rattle.pg_group.specs.Ended.{ended_of};
 ghost use Rattle.pg_group.specs.Rows.{table_of};
 ghost use Rattle.pg_group.specs.declared.update.Update.TheVariants.{Create, Delete, Join, Leave};
 
-use crate::members::{Members, add_one, take_one};
+use crate::ended::Ended;
+use crate::members::{self, Members, add_one, raise_all, take_all, take_one};
 use pg_term::{Pid, Term};
 use std::alloc::{AllocError, Global};
 use std::collections::BTreeMap;
@@ -60,4 +63,45 @@ pub fn leave(rows: &mut Rows, name: &Term, pid: &Pid)
         Some(members) => take_one(members, pid),
         None => (),
     }
+}
+
+/// Makes a group if it is missing, and raises its counts to those of a list, less the ended.
+pub fn merge(
+    rows: &mut Rows,
+    alloc: Global,
+    name: &Term,
+    pids: &[Pid],
+    ended: &Ended,
+) -> Result<(), AllocError>
+    ensures ok { OnOk result (table_of rows.new
+        ≡ merged (table_of rows.old) name.now pids.now (ended_of ended.now)) }
+    ensures err { OnErr result
+        (PartlyMerged (table_of rows.old) (table_of rows.new) name.now pids.now (ended_of ended.now)) }
+{
+    create(rows, alloc, name)?;
+    if let Some(members) = rows.get_mut(name) {
+        raise_all(members, alloc, pids, ended)?;
+    }
+    Ok(())
+}
+
+/// Takes a pid out of every group.
+pub fn drop_pid(rows: &mut Rows, pid: &Pid)
+    ensures { table_of rows.new ≡ without (table_of rows.old) pid.now }
+{
+    rows.retain(|_, members| {
+        take_all(members, pid);
+        true
+    });
+}
+
+/// The same groups.
+pub fn copy(rows: &Rows, alloc: Global) -> Result<Rows, AllocError>
+    ensures { IfOk result (λ copy. table_of copy ≡ table_of rows.now) }
+{
+    let mut copy = BTreeMap::new(alloc);
+    for (name, row) in rows {
+        copy.insert(name.copy(alloc)?, members::copy(row, alloc)?)?;
+    }
+    Ok(copy)
 }

@@ -1,11 +1,14 @@
-ghost use Rattle.std.specs.Prelude.{◌≡◌, ◌↔◌, IsTrue, IsSome, IfOk, OnOk, OnErr, Option};
+ghost use Rattle.std.specs.Prelude.{◌≡◌, ◌↔◌, IsTrue, IsSome, IfSome, IfOk, OnOk, OnErr, Option, List, length, slice_get, option_copied};
 ghost use Rattle.pg_term.specs.declared.pid.Pid.{Pid};
 ghost use Rattle.pg_term.specs.declared.term.Term.{Term};
 ghost use Rattle.pg_group.specs.Ended.{ended_of};
 ghost use Rattle.pg_group.specs.Value.{count_in};
-ghost use Rattle.pg_group.specs.Table.{Table, changed, HasRoom, AreNames};
+ghost use Rattle.pg_group.specs.Table.{Table, changed, HasRoom, AreNames, merged, PartlyMerged, without};
+ghost use Rattle.pg_group.specs.Scope.{in_scope};
+ghost use Rattle.pg_group.specs.Members.{IsMemberList, SizeFits};
 
 use crate::ended::Ended;
+use crate::scope::Scope;
 use crate::update::Update;
 use pg_term::{Pid, Term};
 use std::alloc::AllocError;
@@ -26,6 +29,22 @@ pub trait GroupTable {
         ensures ok { OnOk result (contents self.new ≡ changed (contents self.old) update.now (ended_of ended.now)) }
         ensures err { OnErr result (contents self.new ≡ contents self.old) };
 
+    /// Takes in what another node says of a group: makes it if it is missing, and raises the count of each pid that
+    /// has not ended to how often it stands in `members`, where that is more. Its cost grows with `members`.
+    ///
+    /// An error leaves all other groups as they were; the group may have been made and counts been raised, none above
+    /// what the whole call would have made it.
+    fn merge(&mut self, name: &Term, members: &[Pid], ended: &Ended) -> Result<(), AllocError>
+        ensures ok { OnOk result
+            (contents self.new ≡ merged (contents self.old) name.now members.now (ended_of ended.now)) }
+        ensures err { OnErr result
+            (PartlyMerged (contents self.old) (contents self.new) name.now members.now (ended_of ended.now)) };
+
+    /// Takes a pid out of every group, with all its counts; the groups stay. Its cost grows with the groups. It takes
+    /// no memory.
+    fn drop_pid(&mut self, pid: &Pid)
+        ensures { contents self.new ≡ without (contents self.old) pid.now };
+
     /// The names of the groups, each once. Its cost grows with the names.
     fn groups(&self) -> Result<Vec<Term>, AllocError>
         ensures { IfOk result (λ names. AreNames (contents self.now) names.items) };
@@ -33,4 +52,25 @@ pub trait GroupTable {
     /// How often a pid is a member of a group: 0 where it is none, or the group is absent. It takes no memory.
     fn count(&self, name: &Term, pid: &Pid) -> u64
         ensures { result ≡ count_in (contents self.now name.now) pid.now };
+
+    /// How many members a group has, each as often as its count; `None` where the group is absent. Its cost may grow
+    /// with the members. It takes no memory.
+    fn size(&self, name: &Term, scope: Scope<'_>) -> Option<u64>
+        requires { SizeFits (contents self.now name.now) }
+        ensures there { IsSome result ↔ IsSome (contents self.now name.now) }
+        ensures value { IfSome result (λ size. (pids : List Pid)
+            × (IsMemberList (contents self.now name.now) (in_scope scope.entry) pids × (length pids ≡ size))) };
+
+    /// The member at a place, counted from 0, in the list of the members of a group: pids in their order, each as often
+    /// as its count. `None` past the end, and where the group is absent. Its cost may grow with the members. It takes
+    /// no memory.
+    fn pid_at(&self, name: &Term, scope: Scope<'_>, place: u64) -> Option<&Pid>
+        ensures { (pids : List Pid) × (IsMemberList (contents self.now name.now) (in_scope scope.entry) pids
+            × (option_copied result ≡ slice_get pids place)) };
+
+    /// A table of the same meaning. Its cost grows with the table.
+    fn copy(&self) -> Result<Self, AllocError>
+    where
+        Self: Sized,
+        ensures { IfOk result (λ table. contents table ≡ contents self.now) };
 }

@@ -11,8 +11,8 @@ use measure::Measure;
 use pg_term::{Term, TermFault};
 use pg_term_io::{decode, encode, encode_into};
 use std::alloc::Global;
-use std::time::{Duration, Instant};
 use std::env;
+use std::time::{Duration, Instant};
 
 // Reads the bytes so many times.
 fn read(alloc: Global, bytes: &[u8], rounds: u64) -> Result<(), TermFault> {

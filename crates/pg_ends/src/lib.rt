@@ -1,0 +1,13 @@
+//! The processes of a node: which were made, and what their ends change.
+#![tactic(auto)]
+
+mod end;
+mod fault;
+mod processes;
+
+pub use end::take_end;
+pub use fault::EndFault;
+pub use processes::{LIMIT, Processes};
+
+#[cfg(test)]
+mod tests;

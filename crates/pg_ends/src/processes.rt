@@ -1,0 +1,86 @@
+ghost use Rattle.std.specs.Prelude.{◌≡◌, ◌≤◌};
+
+use crate::fault::EndFault;
+use pg_group::Ended;
+use pg_term::{Atom, Pid};
+
+/// How many processes a node can make.
+pub const LIMIT: u32 = 268_435_455;
+
+/// The processes of one node, numbered from 1 in the order in which they are made. The process with the number n has
+/// the id `n mod 32768`, the serial `n div 32768` and the creation 1.
+#[derive(Debug, Drop)]
+pub struct Processes {
+    node: Atom,
+    made: u32,
+    ghost in_range: { made ≤ 268435455 },
+}
+
+impl Processes {
+    ghost use Rattle.std.specs.Prelude.{◌≡◌, ◌≤◌, ◌+◌, ◌↔◌, Err, IfOk, OnOk, OnErr};
+    ghost use Rattle.pg_group.specs.Ended.{ended_of};
+    ghost use Rattle.pg_ends.specs.Numbers.{pid_of, is_among};
+    ghost use Rattle.pg_ends.specs.Processes.{node_of, made_of, finish_of};
+    ghost use Rattle.pg_ends.specs.declared.fault.EndFault.TheVariants.{ProcessLimit};
+
+    /// The processes of a node that has made so many, at most 268,435,455. It takes no memory.
+    pub fn new(node: Atom, made: u32) -> Processes
+        requires { made ≤ 268435455 }
+        ensures node { node_of result ≡ node }
+        ensures made { made_of result ≡ made }
+    {
+        Processes { node, made }
+    }
+
+    /// Makes a process: it has the next number.
+    ///
+    /// Faults, which change nothing: `ProcessLimit` where 268,435,455 were made; else `OutOfMemory`.
+    pub fn make(&mut self) -> Result<Pid, EndFault>
+        ensures pid { IfOk result (λ pid. pid ≡ pid_of (node_of self.old) (made_of self.old + 1)) }
+        ensures made { OnOk result (made_of self.new ≡ made_of self.old + 1) }
+        ensures err { OnErr result (made_of self.new ≡ made_of self.old) }
+        ensures kept { node_of self.new ≡ node_of self.old }
+        ensures limit { (result ≡ Err ProcessLimit) ↔ (made_of self.old ≡ 268435455) }
+    {
+        if self.made == LIMIT {
+            return Err(EndFault::ProcessLimit);
+        }
+        let node = self.node.copy()?;
+        self.made += 1;
+        Ok(Pid {
+            node,
+            serial: self.made / 32768,
+            id: self.made % 32768,
+            creation: 1,
+        })
+    }
+
+    /// Whether a process can end; it tests and changes nothing. It takes no memory.
+    ///
+    /// Faults, the first that holds: `ForeignPid` for a pid of another node, `NotMade` for one that was not made here,
+    /// `AlreadyEnded` for one of a process that has ended.
+    pub fn finish(&self, pid: &Pid, ended: &Ended) -> Result<(), EndFault>
+        ensures { result ≡ finish_of self.now pid.now (ended_of ended.now) }
+    {
+        if pid.node != self.node {
+            return Err(EndFault::ForeignPid);
+        }
+        if !self.has_made(pid) {
+            return Err(EndFault::NotMade);
+        }
+        if ended.has(pid) {
+            return Err(EndFault::AlreadyEnded);
+        }
+        Ok(())
+    }
+
+    /// Whether the number of a pid of this node is one of those that were made.
+    fn has_made(&self, pid: &Pid) -> bool
+        ensures { result ≡ is_among (made_of self.now) pid.now }
+    {
+        let serial = pid.serial;
+        let id = pid.id;
+        let number = u64::from(serial) * 32768 + u64::from(id);
+        pid.creation == 1 && id < 32768 && 1 <= number && number <= u64::from(self.made)
+    }
+}

@@ -1,0 +1,29 @@
+-- What nodes tell each other of their groups.
+use Rattle.std.specs.Prelude.{◌≡◌, Bool, List, [], ◌∷◌, map}
+use Rattle.std.specs.List.{AllByRecursion}
+use Rattle.std.specs.List.Sorted.{IsSorted}
+use Rattle.pg_term.specs.declared.pid.Pid.{Pid}
+use Rattle.pg_term.specs.declared.term.Term.{Term}
+use Rattle.pg_term.specs.Same.{term_cmp}
+use Rattle.pg_group.specs.Scope.{anywhere}
+use Rattle.pg_group.specs.Members.{IsMemberList}
+use Rattle.pg_group.specs.Table.{Table, AreNames, merged}
+
+-- groups with their members, each as often as its count
+abbrev pub Told : Type 0
+Told = List (Term × List Pid)
+
+-- the table after it took in groups, one after the other
+abbrev pub all_merged : Table → Told → (Pid → Bool) → Table
+all_merged table [] ended = table
+all_merged table (group ∷ groups) ended = all_merged (merged table group.0 group.1 ended) groups ended
+
+-- the names of the groups
+abbrev pub names_told : Told → List Term
+names_told groups = map (λ group. group.0) groups
+
+-- all that a table says: its groups in the order of terms, each with its members in the order of pids
+pub record IsSnapshot (table : Table) (groups : Told) : Type 0 where
+  pub names : AreNames table (names_told groups)
+  pub ordered : IsSorted term_cmp (names_told groups)
+  pub members : AllByRecursion (λ group. IsMemberList (table group.0) anywhere group.1) groups

@@ -1,0 +1,81 @@
+ghost use Rattle.std.specs.Prelude.{◌≡◌, ◌<◌, ◌↔◌, true, false, length, slice_set, slice_get, Some, Err, IfOk, OnOk, OnErr};
+ghost use Rattle.std.specs.List.{list_all};
+ghost use Rattle.std.proofs.Common.{replicate};
+ghost use Rattle.pg_group.specs.Ended.{ended_of};
+ghost use Rattle.pg_exchange.specs.Told.{all_merged};
+ghost use Rattle.pg_exchange.specs.declared.fault.ExchangeFault.TheVariants.{NotAMessage};
+
+use crate::fault::ExchangeFault;
+use crate::told::merge_all;
+use pg_group::{Ended, GroupTable};
+use pg_term::{Items, Pid, Term};
+use std::alloc::{AllocError, Global};
+use std::marker::Model;
+
+/// Which peers have told their groups; contracts see a mark for each peer, in the order of the peers.
+#[derive(Debug, Drop)]
+pub struct Formation {
+    marks: Vec<bool>,
+}
+
+impl Model for Formation {
+    ghost use Rattle.std.specs.Prelude.{List, Bool};
+
+    ghost Value = { List Bool };
+
+    ghost view = { λ formation. formation.marks.items };
+}
+
+impl Formation {
+    /// No peer of so many has told its groups.
+    pub fn new(alloc: Global, peers: usize) -> Result<Formation, AllocError>
+        ensures { IfOk result (λ formation. formation ≡ replicate peers false) }
+    {
+        let mut marks = Vec::new(alloc);
+        marks.resize(peers, false)?;
+        Ok(Formation { marks })
+    }
+
+    /// How many peers there are. It takes no memory.
+    pub fn peers(&self) -> usize
+        ensures { result ≡ length self.now }
+    {
+        self.marks.len()
+    }
+
+    /// Takes what a peer tells of its groups: merges each into a copy, which takes the table's place at the end, and
+    /// marks the peer. `peer` is a place among the peers. Its cost grows with the table and the groups.
+    ///
+    /// Faults, which change nothing: `NotAMessage` where the peer has told its groups already; else `OutOfMemory`.
+    pub fn take<T: GroupTable + Drop>(
+        &mut self,
+        peer: usize,
+        groups: &[(Term, Items<Pid>)],
+        table: &mut T,
+        ended: &Ended,
+    ) -> Result<(), ExchangeFault>
+        requires { peer < length self.old }
+        ensures marked { OnOk result (self.new ≡ slice_set self.old peer true) }
+        ensures merged { OnOk result
+            (T.contents table.new ≡ all_merged (T.contents table.old) groups.now (ended_of ended.now)) }
+        ensures err_marks { OnErr result (self.new ≡ self.old) }
+        ensures err_table { OnErr result (T.contents table.new ≡ T.contents table.old) }
+        ensures second { (result ≡ Err NotAMessage) ↔ (slice_get self.old peer ≡ Some true) }
+    {
+        if self.marks[peer] {
+            return Err(ExchangeFault::NotAMessage);
+        }
+        let mut copy = table.copy()?;
+        merge_all(groups, &mut copy, ended)?;
+        *table = copy;
+        self.marks[peer] = true;
+        Ok(())
+    }
+
+    /// Whether every peer has told its groups. It takes no memory.
+    pub fn formed(&self) -> bool
+        ensures { result ≡ list_all (λ marked. marked) self.now }
+    {
+        self.marks.iter().all(|marked| *marked)
+    }
+}

@@ -1,0 +1,66 @@
+// What no clause says: that calls succeed where there is memory, and values from outside. The test passes wherever an
+// allocation is refused: it looks at what the refusal left, and makes the call again.
+use super::*;
+use pg_group::{Ended, GroupTable, RowTable};
+use pg_term::{Atom, Items, Pid, Term, TermFault};
+use std::alloc::Global;
+use std::test::Fail;
+
+/// A group of one pid that is told twice.
+fn told(alloc: Global) -> Result<Vec<(Term, Items<Pid>)>, TermFault> {
+    let mut pids = Vec::new(alloc);
+    for _ in 0..2 {
+        pids.push(Pid {
+            node: Atom::new(alloc, "a")?,
+            serial: 0,
+            id: 1,
+            creation: 1,
+        })?;
+    }
+    let mut groups = Vec::new(alloc);
+    groups.push((Term::Int(7), Items::from_vec(pids)))?;
+    Ok(groups)
+}
+
+#[test]
+fn formation_of_two(rt: HostRuntime) -> Result<(), Fail> {
+    let alloc = rt.alloc();
+    let groups = match told(alloc) {
+        Ok(groups) => groups,
+        Err(_) => told(alloc)?,
+    };
+    let ended = Ended::new(alloc);
+    let mut table = RowTable::new(alloc);
+    let mut formation = match Formation::new(alloc, 2) {
+        Ok(formation) => formation,
+        Err(_) => Formation::new(alloc, 2)?,
+    };
+    for peer in 0..2 {
+        assert!(rt; !formation.formed());
+        assert!(rt; peer < formation.peers());
+        if formation
+            .take(peer, groups.as_slice(), &mut table, &ended)
+            .is_err()
+        {
+            assert!(rt;
+                peer == 1 || !table.has(&Term::Int(7)),
+                "a refused exchange changes nothing"
+            );
+            formation.take(peer, groups.as_slice(), &mut table, &ended)?;
+        }
+        let again = formation.take(peer, groups.as_slice(), &mut table, &ended);
+        assert_eq!(rt; again, Err(ExchangeFault::NotAMessage));
+    }
+    assert!(rt; formation.formed());
+    let all = match snapshot(alloc, &table) {
+        Ok(all) => all,
+        Err(_) => snapshot(alloc, &table)?,
+    };
+    assert_eq!(rt; all.len(), 1);
+    assert!(rt;
+        all.as_slice() == groups.as_slice(),
+        "an exchange takes the greater count"
+    );
+    assert_eq!(rt; ExchangeFault::NotAMessage.number(), 12);
+    Ok(())
+}
