@@ -142,6 +142,14 @@ fn late_joins_count_nothing(rt: HostRuntime) -> Result<(), Fail> {
     Ok(())
 }
 
+fn pids(alloc: Global, ids: &[u32]) -> Result<Vec<Pid>, TermFault> {
+    let mut pids = Vec::new(alloc);
+    for id in ids {
+        pids.push(pid(alloc, *id)?)?;
+    }
+    Ok(pids)
+}
+
 /// A merge takes the greater count, less the ended; a refused one raises no count above it.
 fn merge_takes_the_greater<T: GroupTable + Drop>(
     rt: &impl Abort,
@@ -150,12 +158,10 @@ fn merge_takes_the_greater<T: GroupTable + Drop>(
 ) -> Result<(), Fail> {
     let mut ended = Ended::new(alloc);
     let name = Term::Int(1);
-    let pids = again(|| Ok::<[Pid; 4], TermFault>([
-        pid(alloc, 2)?,
-        pid(alloc, 1)?,
-        pid(alloc, 2)?,
-        pid(alloc, 3)?,
-    ]))?;
+    let made = again(|| pids(alloc, &[2, 1, 2, 3]))?;
+    let pids = made.as_slice();
+    assert_eq!(rt; pids.len(), 4);
+    let own = again(|| pids[0].node.copy())?;
     again_add(&mut ended, again(|| pids[3].copy())?)?;
     for (list, counts) in [
         (&pids[..1], (0, 1)),
@@ -187,8 +193,7 @@ fn merge_takes_the_greater<T: GroupTable + Drop>(
     for (place, id) in [(0, Some(1)), (1, Some(2)), (2, Some(2)), (3, None)] {
         assert_eq!(rt; copy.pid_at(&name, Scope::All, place).map(|pid| pid.id), id);
         assert_eq!(rt;
-            copy.pid_at(&name, Scope::At(&pids[0].node), place)
-                .map(|pid| pid.id),
+            copy.pid_at(&name, Scope::At(&own), place).map(|pid| pid.id),
             id
         );
     }
