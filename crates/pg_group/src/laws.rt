@@ -12,7 +12,7 @@ pub fn ended_stay_out()
     ensures kept { (v : Value) (update : Update) (ended : Pid → Bool) → NoneEnded v ended → NoneEnded (applied v update ended) ended }
 {}
 
-/// An update raises no count by more than one.
+/// Where no count is above n, an update leaves none above n + 1.
 pub fn one_more_at_most()
     ensures { (n : ℕ) (table : Table) (update : Update) (ended : Pid → Bool) → ((name : Term) (pid : Pid) → count_in (table name) pid ≤ n)
         → (name : Term) (pid : Pid) → count_in (changed table update ended name) pid ≤ n + 1 }

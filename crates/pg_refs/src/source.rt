@@ -1,4 +1,4 @@
-ghost use Rattle.std.specs.Prelude.{◌≡◌, ◌≤◌, ◌+◌, ◌↔◌, Err, IfOk, OnOk, OnErr};
+ghost use Rattle.std.specs.Prelude.{◌≡◌, ◌≤◌, ◌+◌, ◌^◌, ◌↔◌, Err, IfOk, OnOk, OnErr};
 ghost use Rattle.pg_refs.specs.Numbered.{numbered};
 
 use crate::fault::RefFault;
@@ -47,7 +47,7 @@ impl RefSource {
     pub fn next(&mut self) -> Result<Reference, RefFault>
         ensures value { IfOk result (λ reference. reference ≡ numbered self.old.node (self.old.made + 1)) }
         ensures ok { OnOk result (self.new ≡ record self.old { made = self.old.made + 1 }) }
-        ensures full { (result ≡ Err RefFault.ClockFull) ↔ (self.old.made ≡ MAX_REFERENCES) }
+        ensures full { (result ≡ Err RefFault.ClockFull) ↔ (self.old.made ≡ 2 ^ 31) }
         ensures err { OnErr result (self.new ≡ self.old) }
     {
         if self.made == MAX_REFERENCES {

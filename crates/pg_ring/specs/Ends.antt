@@ -1,6 +1,6 @@
 -- What a clause sees of the two ends of a ring between threads.
 use Rattle.std.specs.Prelude.{◌≡◌, ℕ, List, ◌++◌, IsTrue}
-use Rattle.rtrb.specs.Ring.{sent, known_free, received, known_items, IsPair, SameProducer, SameConsumer}
+use Rattle.rtrb.specs.Ring.{sent, known_free, producer_capacity, received, known_items, IsPair, SameProducer, SameConsumer}
 use Rattle.pg_ring.specs.declared.ring_out.RingOut.{RingOut}
 use Rattle.pg_ring.specs.declared.ring_in.RingIn.{RingIn}
 
@@ -11,6 +11,10 @@ bytes_sent out = sent out.producer
 -- for how many bytes this end knows room
 abbrev pub bytes_free : RingOut → ℕ
 bytes_free out = known_free out.producer
+
+-- for how many bytes the ring has room in all
+abbrev pub bytes_room : RingOut → ℕ
+bytes_room out = producer_capacity out.producer
 
 -- every byte that was ever received
 abbrev pub bytes_received : RingIn → List ℕ

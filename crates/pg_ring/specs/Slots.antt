@@ -1,6 +1,6 @@
 -- What a clause sees of the two ends of a ring of values.
 use Rattle.std.specs.Prelude.{ℕ, List}
-use Rattle.rtrb.specs.Ring.{sent, known_free, received, known_items, IsPair, SameProducer, SameConsumer}
+use Rattle.rtrb.specs.Ring.{sent, known_free, producer_capacity, received, known_items, IsPair, SameProducer, SameConsumer}
 use Rattle.pg_ring.specs.declared.slot_out.SlotOut.{SlotOut}
 use Rattle.pg_ring.specs.declared.slot_in.SlotIn.{SlotIn}
 
@@ -12,6 +12,10 @@ module _ {T : Type 0} where
   -- for how many values this end knows room
   abbrev pub slots_free : SlotOut T → ℕ
   slots_free out = known_free out.producer
+
+  -- for how many values the ring has room in all
+  abbrev pub slots_room : SlotOut T → ℕ
+  slots_room out = producer_capacity out.producer
 
   -- every value that was ever taken
   abbrev pub taken : SlotIn T → List T

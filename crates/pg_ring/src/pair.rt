@@ -1,8 +1,8 @@
 // Both ends of a ring between threads in one hand.
-ghost use Rattle.std.specs.Prelude.{◌≡◌, ◌≢◌, ◌↔◌, ◌≤◌, [], ◌++◌, IfOk};
+ghost use Rattle.std.specs.Prelude.{◌≡◌, ◌≢◌, ◌↔◌, ◌≤◌, ◌+◌, [], ◌++◌, length, IfOk};
 ghost use mathlib.Core.List.{IsPrefix};
 ghost use Rattle.pg_ring.specs.Capacity.{IsCapacity, IsBadCapacity};
-ghost use Rattle.pg_ring.specs.Ends.{AreEnds, Sends, Receives, IsSettled, bytes_sent, bytes_free, bytes_received, bytes_left};
+ghost use Rattle.pg_ring.specs.Ends.{AreEnds, Sends, Receives, IsSettled, bytes_sent, bytes_free, bytes_room, bytes_received, bytes_left};
 
 use crate::capacity::is_capacity;
 use crate::{RingFault, RingIn, RingOut};
@@ -17,6 +17,7 @@ pub fn ring_pair(alloc: Global, cap: usize) -> Result<(RingOut, RingIn), RingFau
     ensures ends { IfOk result (λ pair. AreEnds pair.0 pair.1) }
     ensures unsent { IfOk result (λ pair. bytes_sent pair.0 ≡ []) }
     ensures free { IfOk result (λ pair. bytes_free pair.0 ≡ cap) }
+    ensures room { IfOk result (λ pair. bytes_room pair.0 ≡ cap) }
     ensures unreceived { IfOk result (λ pair. bytes_received pair.1 ≡ []) }
     ensures left { IfOk result (λ pair. bytes_left pair.1 ≡ []) }
     ensures unsettled { IfOk result (λ pair. ¬ IsSettled pair.1) }
@@ -35,8 +36,8 @@ pub fn ring_pair(alloc: Global, cap: usize) -> Result<(RingOut, RingIn), RingFau
 }
 
 /// Looks at both ends of one ring at once: what was received, and then what is left, is what was sent.
-/// A `take` right after it fills exactly the lesser of what is left and its room. Moves nothing, takes
-/// no memory. O(1).
+/// A `take` right after it fills exactly the lesser of what is left and its room, and a `put` right after
+/// it knows of all the room that what is left does not take. Moves nothing, takes no memory. O(1).
 pub fn together(out: &mut RingOut, inlet: &mut RingIn)
     requires { AreEnds out.old inlet.old }
     ensures sent { Sends out.old [] out.new }
@@ -46,7 +47,9 @@ pub fn together(out: &mut RingOut, inlet: &mut RingIn)
     ensures ends { AreEnds out.new inlet.new }
     ensures whole { bytes_received inlet.new ++ bytes_left inlet.new ≡ bytes_sent out.new }
     ensures settled { IsSettled inlet.new }
+    ensures room { bytes_room out.old ≤ bytes_free out.new + length (bytes_left inlet.new) }
 {
+    out.producer.slots_beside(&mut inlet.consumer);
     inlet.consumer.slots_beside(&mut out.producer);
     inlet.settled = true;
 }

@@ -1,8 +1,8 @@
 // Both ends of a ring of values in one hand.
-ghost use Rattle.std.specs.Prelude.{◌≡◌, ◌≢◌, ◌↔◌, ◌≤◌, [], ◌++◌, IfOk};
+ghost use Rattle.std.specs.Prelude.{◌≡◌, ◌≢◌, ◌↔◌, ◌≤◌, ◌+◌, [], ◌++◌, length, IfOk};
 ghost use mathlib.Core.List.{IsPrefix};
 ghost use Rattle.pg_ring.specs.Capacity.{IsCapacity, IsBadCapacity};
-ghost use Rattle.pg_ring.specs.Slots.{AreSlots, SameSlotOut, SameSlotIn, given, taken, slots_free, slots_left};
+ghost use Rattle.pg_ring.specs.Slots.{AreSlots, SameSlotOut, SameSlotIn, given, taken, slots_free, slots_room, slots_left};
 
 use crate::capacity::is_capacity;
 use crate::{RingFault, SlotIn, SlotOut};
@@ -17,6 +17,7 @@ pub fn slot_pair<T: Drop>(alloc: Global, cap: usize) -> Result<(SlotOut<T>, Slot
     ensures slots { IfOk result (λ pair. AreSlots pair.0 pair.1) }
     ensures ungiven { IfOk result (λ pair. given pair.0 ≡ []) }
     ensures free { IfOk result (λ pair. slots_free pair.0 ≡ cap) }
+    ensures room { IfOk result (λ pair. slots_room pair.0 ≡ cap) }
     ensures untaken { IfOk result (λ pair. taken pair.1 ≡ []) }
     ensures left { IfOk result (λ pair. slots_left pair.1 ≡ []) }
     ensures bad { (result ≡ Err RingFault.BadCapacity) ↔ IsBadCapacity cap }
@@ -30,7 +31,8 @@ pub fn slot_pair<T: Drop>(alloc: Global, cap: usize) -> Result<(SlotOut<T>, Slot
 }
 
 /// Looks at both ends of one ring at once: the values taken, and then those left, are the values
-/// given. Gives and takes nothing, takes no memory. O(1).
+/// given, and the first end knows of all the room that those left do not take. Gives and takes nothing,
+/// takes no memory. O(1).
 pub fn slots_together<T>(out: &mut SlotOut<T>, inlet: &mut SlotIn<T>)
     requires { AreSlots out.old inlet.old }
     ensures out { SameSlotOut out.old out.new }
@@ -41,6 +43,8 @@ pub fn slots_together<T>(out: &mut SlotOut<T>, inlet: &mut SlotIn<T>)
     ensures left { IsPrefix (slots_left inlet.old) (slots_left inlet.new) }
     ensures slots { AreSlots out.new inlet.new }
     ensures whole { taken inlet.new ++ slots_left inlet.new ≡ given out.new }
+    ensures room { slots_room out.old ≤ slots_free out.new + length (slots_left inlet.new) }
 {
+    out.producer.slots_beside(&mut inlet.consumer);
     inlet.consumer.slots_beside(&mut out.producer);
 }
