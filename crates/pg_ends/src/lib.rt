@@ -3,10 +3,12 @@
 
 mod end;
 mod fault;
+mod laws;
 mod processes;
 
 pub use end::take_end;
 pub use fault::EndFault;
+pub use laws::numbered_from_one;
 pub use processes::{LIMIT, Processes};
 
 #[cfg(test)]
