@@ -149,6 +149,9 @@ impl<T: GroupTable> Server<T> {
 /// or at `ReadFault`, `WriteFault` or `OutOfMemory`, and then the replies to the packets before it were written
 /// whole. The time is linear in the input, the memory in the longest frame and in the groups with their members.
 ///
+/// Update calls need neither of the two names, which the exchanges of initial groups will need; until then a body that
+/// swaps them keeps the contract.
+///
 /// The rules: a `gen_server` call and its reply (`gen_server:multi_call/4`), whose terms are in the External Term
 /// Format, and `create/1`, `delete/1`, `join/2` and `leave/2` of the pg2 manual page.
 pub fn serve<R: Read, W: Write>(
