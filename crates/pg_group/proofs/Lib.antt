@@ -4,6 +4,7 @@ pub mod Drops
 pub mod Exchanges
 pub mod Growth
 pub mod Lists
+pub mod Longer
 pub mod Maps
 pub mod Merges
 pub mod Spread

@@ -17,7 +17,7 @@ use Rattle.pg_group.specs.Members.{IsInOrder, IsMemberList}
 pub counted : (q x : Pid) (xs : List Pid) → count_by (same_pid q) (x ∷ xs) ≡ cond (same_pid q x) 1 0 + count_by (same_pid q) xs
 counted q x xs = sum_by-cons (λ y. cond (same_pid q y) 1 0) x xs
 
-counted_first : (x : Pid) (xs : List Pid) → count_by (same_pid x) (x ∷ xs) ≡ 1 + count_by (same_pid x) xs
+pub counted_first : (x : Pid) (xs : List Pid) → count_by (same_pid x) (x ∷ xs) ≡ 1 + count_by (same_pid x) xs
 counted_first x xs = counted x x xs ∙ ap (λ b. cond b 1 0 + count_by (same_pid x) xs) (equality_laws.laws-law.refl x)
 
 -- ---- there is one list

@@ -1,5 +1,6 @@
 -- Groups without ended pids stay so.
-use Rattle.std.proofs.Common.{◌≡◌, ℕ, ◌+◌, ◌-◌, Bool, true, false, cond, Some, None, refl, sym, ap, ◌∙◌, ◌⊎◌, inl, inr}
+use Rattle.std.proofs.Common.{◌≡◌, ℕ, ◌+◌, ◌-◌, max, Bool, true, false, cond, Some, None, List, refl, sym, ap, ◌∙◌, ◌⊎◌, inl, inr}
+use Rattle.std.specs.Prelude.{count_by}
 use Rattle.std.proofs.Math.Path.{fun_ext}
 use Rattle.pg_term.specs.declared.pid.Pid.{Pid}
 use Rattle.pg_term.specs.Same.{same_pid}
@@ -7,7 +8,7 @@ use Rattle.pg_term.proofs.Same.{pid_is}
 use Rattle.pg_group.specs.declared.update.Update.{Update}
 use Rattle.pg_group.specs.declared.update.Update.TheVariants.{Create, Delete, Join, Leave}
 use Rattle.pg_group.specs.Value.{Value, Counts, apply, less, NoneEnded, with_one_more, with_one_less}
-use Rattle.pg_group.specs.Table.{applied}
+use Rattle.pg_group.specs.Table.{applied, exchanged}
 use Rattle.pg_group.proofs.Changes.{upd_by}
 
 thin : (b : Bool) (n : ℕ) → (b ≡ true → n ≡ 0) → n ≡ cond b 0 n
@@ -57,6 +58,11 @@ module _ (ended : Pid → Bool) where
       go false e = more_living counts pid h e
   kept None (Leave name pid) h = λ q e. refl
   kept (Some counts) (Leave name pid) h = less_living counts pid h
+
+  -- what is told of ended pids counts nothing
+  pub kept_exchanged : (v : Value) (pids : List Pid) → NoneEnded v ended → NoneEnded (exchanged v pids ended) ended
+  kept_exchanged None pids h q e = ap (λ b. cond b 0 (count_by (same_pid q) pids)) e
+  kept_exchanged (Some counts) pids h q e = (λ i. max (h q e i) (cond (e i) 0 (count_by (same_pid q) pids)))
 
   pub value : (v : Value) (update : Update) → NoneEnded v ended → applied v update ended ≡ less (apply v update) ended
   value None (Create name) h = ap Some (fun_ext (λ pid. thin (ended pid) 0 (λ e. refl)))

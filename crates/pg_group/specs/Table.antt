@@ -1,5 +1,5 @@
 -- A table of groups, as a function from names to groups.
-use Rattle.std.specs.Prelude.{◌≡◌, ◌+◌, ◌<◌, ◌^◌, Bool, true, false, cond, List, is_some}
+use Rattle.std.specs.Prelude.{◌≡◌, ◌+◌, ◌<◌, ◌^◌, Bool, true, false, cond, List, None, is_some, IsSome}
 use Rattle.std.specs.List.{IsDistinct, list_any}
 use Rattle.pg_term.specs.declared.pid.Pid.{Pid}
 use Rattle.pg_term.specs.declared.term.Term.{Term}
@@ -27,6 +27,19 @@ changed table update ended = upd same_term table (name_of update) (applied (tabl
 abbrev pub HasRoom : Table → Update → Type 0
 HasRoom table (Join name pid) = count_in (table name) pid + 1 < 2 ^ 64
 HasRoom table update = Unit {0}
+
+-- the pid has not ended and becomes a member of a group that is there
+pub record IsNewMember (v : Value) (pid : Pid) (ended : Pid → Bool) : Type 0 where
+  pub living : ended pid ≡ false
+  pub there : IsSome v
+  pub new : count_in v pid ≡ 0
+
+-- the update puts a group or a member into the table that was not there
+abbrev pub Adds : Table → Update → (Pid → Bool) → Type 0
+Adds table (Create name) ended = table name ≡ None
+Adds table (Delete name) ended = ⊥
+Adds table (Join name pid) ended = IsNewMember (table name) pid ended
+Adds table (Leave name pid) ended = ⊥
 
 -- these are the names of the groups that are there, each once
 pub record AreNames (table : Table) (names : List Term) : Type 0 where

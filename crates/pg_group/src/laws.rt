@@ -1,21 +1,38 @@
-ghost use Rattle.std.specs.Prelude.{◌≡◌, ◌≤◌, ◌+◌, ℕ, Bool, List};
+ghost use Rattle.std.specs.Prelude.{◌≡◌, ◌≤◌, ◌+◌, ℕ, Bool, List, length};
 ghost use Rattle.pg_term.specs.declared.pid.Pid.{Pid};
 ghost use Rattle.pg_group.specs.declared.update.Update.{Update};
 ghost use Rattle.pg_term.specs.declared.term.Term.{Term};
 ghost use Rattle.pg_group.specs.Value.{Value, apply, less, merge, count_in, NoneEnded};
 ghost use Rattle.pg_group.specs.Members.{IsMemberList};
-ghost use Rattle.pg_group.specs.Table.{Table, applied, changed};
+ghost use Rattle.pg_group.specs.Table.{Table, applied, changed, exchanged};
 
-/// A group without ended pids stays one: what a table makes of it is pg2's group after the update, less the ended.
+/// A group without ended pids stays one, by updates and by exchanges: what a table makes of it is pg2's group after the
+/// update, less the ended.
 pub fn ended_stay_out()
     ensures value { (v : Value) (update : Update) (ended : Pid → Bool) → NoneEnded v ended → applied v update ended ≡ less (apply v update) ended }
     ensures kept { (v : Value) (update : Update) (ended : Pid → Bool) → NoneEnded v ended → NoneEnded (applied v update ended) ended }
+    ensures exchange { (v : Value) (pids : List Pid) (ended : Pid → Bool) → NoneEnded v ended → NoneEnded (exchanged v pids ended) ended }
 {}
 
-/// Where no count is above n, an update leaves none above n + 1.
+/// An update adds one at most to a count: where none is above n, it leaves none above n + 1.
 pub fn one_more_at_most()
-    ensures { (n : ℕ) (table : Table) (update : Update) (ended : Pid → Bool) → ((name : Term) (pid : Pid) → count_in (table name) pid ≤ n)
+    ensures each { (table : Table) (update : Update) (ended : Pid → Bool) (name : Term) (pid : Pid)
+        → count_in (changed table update ended name) pid ≤ count_in (table name) pid + 1 }
+    ensures all { (n : ℕ) (table : Table) (update : Update) (ended : Pid → Bool) → ((name : Term) (pid : Pid) → count_in (table name) pid ≤ n)
         → (name : Term) (pid : Pid) → count_in (changed table update ended name) pid ≤ n + 1 }
+{}
+
+/// The list of the members that pass a test grows by one at most with an update, and with an exchange by no more than the
+/// pids that are told.
+pub fn longer_by_what_came()
+    ensures update { (table : Table) (update : Update) (ended : Pid → Bool) (name : Term)
+        (among : Pid → Bool) (before after : List Pid)
+        → IsMemberList (table name) among before → IsMemberList (changed table update ended name) among after
+        → length after ≤ length before + 1 }
+    ensures exchange { (v : Value) (pids : List Pid) (ended : Pid → Bool)
+        (among : Pid → Bool) (before after : List Pid)
+        → IsMemberList v among before → IsMemberList (exchanged v pids ended) among after
+        → length after ≤ length before + length pids }
 {}
 
 /// Groups are merged in any order, and a group with itself stays as it is.

@@ -12,7 +12,8 @@ mod update;
 
 pub use ended::Ended;
 pub use laws::{
-    ended_stay_out, left_out_at_once, merged_in_any_order, one_member_list, one_more_at_most,
+    ended_stay_out, left_out_at_once, longer_by_what_came, merged_in_any_order, one_member_list,
+    one_more_at_most,
 };
 pub use row_table::RowTable;
 pub use scope::Scope;

@@ -24,11 +24,12 @@ pub fn count_of(members: &Members, pid: &Pid) -> u64
     members.get(pid).copied().unwrap_or(0)
 }
 
-/// Adds one to the count of a pid.
+/// Adds one to the count of a pid. Only a new member takes memory.
 pub fn add_one(members: &mut Members, pid: &Pid) -> Result<(), AllocError>
     requires { counts_of members.old pid.now + 1 < 2 ^ 64 }
     ensures ok { OnOk result (counts_of members.new ≡ with_one_more (counts_of members.old) pid.now) }
     ensures err { OnErr result (counts_of members.new ≡ counts_of members.old) }
+    ensures memory { OnErr result (counts_of members.old pid.now ≡ 0) }
 {
     match members.get_mut(pid) {
         Some(count) => {

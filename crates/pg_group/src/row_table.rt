@@ -1,4 +1,6 @@
-ghost use Rattle.std.specs.Prelude.{◌≡◌, None};
+ghost use Rattle.std.specs.Prelude.{◌≡◌, None, OnOk, OnErr};
+ghost use Rattle.pg_group.specs.Ended.{ended_of};
+ghost use Rattle.pg_group.specs.Table.{changed, Adds, HasRoom};
 
 use crate::ended::Ended;
 use crate::members::{count_of, pid_at, size_of};
@@ -40,7 +42,14 @@ impl GroupTable for RowTable {
         self.rows.contains_key(name)
     }
 
-    fn apply(&mut self, update: &Update, ended: &Ended) -> Result<(), AllocError> {
+    /// Only a group that is made and a new member take memory.
+    fn apply(&mut self, update: &Update, ended: &Ended) -> Result<(), AllocError>
+        requires { HasRoom (table_of self.old.rows) update.now }
+        ensures ok { OnOk result
+            (table_of self.new.rows ≡ changed (table_of self.old.rows) update.now (ended_of ended.now)) }
+        ensures err { OnErr result (table_of self.new.rows ≡ table_of self.old.rows) }
+        ensures memory { OnErr result (Adds (table_of self.old.rows) update.now (ended_of ended.now)) }
+    {
         match update {
             Update::Create(name) => create(&mut self.rows, self.alloc, name),
             Update::Delete(name) => {

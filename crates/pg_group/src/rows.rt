@@ -1,4 +1,4 @@
-ghost use Rattle.std.specs.Prelude.{◌≡◌, ◌+◌, ◌<◌, ◌^◌, OnOk, OnErr, IfOk};
+ghost use Rattle.std.specs.Prelude.{◌≡◌, ◌+◌, ◌<◌, ◌^◌, None, IsSome, OnOk, OnErr, IfOk};
 ghost use Rattle.pg_term.specs.Same.{same_term};
 ghost use Rattle.pg_group.specs.Functions.{upd};
 ghost use Rattle.pg_group.specs.Value.{apply, count_in};
@@ -16,11 +16,12 @@ use std::collections::BTreeMap;
 /// The members of each group that is there.
 pub type Rows = BTreeMap<Term, Members>;
 
-/// Makes an absent group empty.
+/// Makes an absent group empty. A group that is there takes no memory.
 pub fn create(rows: &mut Rows, alloc: Global, name: &Term) -> Result<(), AllocError>
     ensures ok { OnOk result (table_of rows.new
         ≡ upd same_term (table_of rows.old) name.now (apply (table_of rows.old name.now) (Create name.now))) }
     ensures err { OnErr result (table_of rows.new ≡ table_of rows.old) }
+    ensures memory { OnErr result (table_of rows.old name.now ≡ None) }
 {
     if rows.contains_key(name) {
         return Ok(());
@@ -38,12 +39,14 @@ pub fn delete(rows: &mut Rows, name: &Term)
     rows.remove(name);
 }
 
-/// Adds one to the count of a pid in a group that is there.
+/// Adds one to the count of a pid in a group that is there. Only a new member takes memory.
 pub fn join(rows: &mut Rows, name: &Term, pid: &Pid) -> Result<(), AllocError>
     requires { count_in (table_of rows.old name.now) pid.now + 1 < 2 ^ 64 }
     ensures ok { OnOk result (table_of rows.new
         ≡ upd same_term (table_of rows.old) name.now (apply (table_of rows.old name.now) (Join name.now pid.now))) }
     ensures err { OnErr result (table_of rows.new ≡ table_of rows.old) }
+    ensures there { OnErr result (IsSome (table_of rows.old name.now)) }
+    ensures memory { OnErr result (count_in (table_of rows.old name.now) pid.now ≡ 0) }
 {
     match rows.get_mut(name) {
         Some(members) => {

@@ -3,7 +3,7 @@ ghost use Rattle.pg_group.specs.Members.{IsMemberList};
 
 use crate::pair::{Cast, Side};
 use crate::reading::Reading;
-use pg_group::{GroupTable, Scope};
+use pg_group::{GroupTable, Scope, one_member_list};
 use pg_query::{QueryFault, members};
 use pg_term::{Items, Pid, Term};
 use std::alloc::{AllocError, Global};
@@ -80,6 +80,7 @@ pub fn size<T: GroupTable>(
 ) -> Option<u64>
     requires { IsMemberList (T.contents table.now name.now) anywhere listed.now }
 {
+    one_member_list();
     let _count = listed.len();
     table.size(name, scope)
 }
