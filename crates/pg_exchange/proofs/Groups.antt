@@ -1,10 +1,9 @@
 -- Lists of groups, as far as they were read.
-use Rattle.std.proofs.Common.{◌≡◌, ℕ, suc, zero, ◌+◌, ◌<◌, Bool, List, [], ◌∷◌, ◌++◌, length, take, get_or, refl, sym, ap, ◌∙◌, arith, add-one}
-use Rattle.std.specs.List.{AllByRecursion}
+use Rattle.std.proofs.Common.{◌≡◌, ℕ, suc, zero, ◌+◌, ◌<◌, Bool, List, [], ◌∷◌, length, take, get_or, sym, ap, ◌∙◌, arith, add-one}
 use Rattle.pg_term.specs.declared.pid.Pid.{Pid}
 use Rattle.pg_term.specs.declared.term.Term.{Term}
 use Rattle.pg_group.specs.Table.{Table, merged}
-use Rattle.pg_exchange.specs.Told.{Told, all_merged, names_told}
+use Rattle.pg_exchange.specs.Told.{Told, all_merged}
 
 module _ (ended : Pid → Bool) where
   merged_next : (table : Table) (groups : Told) (i : ℕ) (group : Term × List Pid) → i < length groups → group ≡ get_or groups i group → all_merged table (take (suc i) groups) ended ≡ merged (all_merged table (take i groups) ended) group.0 group.1 ended

@@ -1,10 +1,11 @@
 -- What nodes tell each other of their groups.
-use Rattle.std.specs.Prelude.{◌≡◌, Bool, List, [], ◌∷◌, map}
+use Rattle.std.specs.Prelude.{Bool, cond, List, [], ◌∷◌, map, None}
 use Rattle.std.specs.List.{AllByRecursion}
 use Rattle.std.specs.List.Sorted.{IsSorted}
 use Rattle.pg_term.specs.declared.pid.Pid.{Pid}
 use Rattle.pg_term.specs.declared.term.Term.{Term}
-use Rattle.pg_term.specs.Same.{term_cmp}
+use Rattle.pg_term.specs.Same.{same_term, term_cmp}
+use Rattle.pg_group.specs.Value.{merge, listed}
 use Rattle.pg_group.specs.Scope.{anywhere}
 use Rattle.pg_group.specs.Members.{IsMemberList}
 use Rattle.pg_group.specs.Table.{Table, AreNames, merged}
@@ -17,6 +18,11 @@ Told = List (Term × List Pid)
 abbrev pub all_merged : Table → Told → (Pid → Bool) → Table
 all_merged table [] ended = table
 all_merged table (group ∷ groups) ended = all_merged (merged table group.0 group.1 ended) groups ended
+
+-- the table that groups tell of: where a name is told more than once, the greatest count of each pid
+abbrev pub table_told : Told → Table
+table_told [] name = None
+table_told (group ∷ groups) name = merge (cond (same_term group.0 name) (listed group.1) None) (table_told groups name)
 
 -- the names of the groups
 abbrev pub names_told : Told → List Term

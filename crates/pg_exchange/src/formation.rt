@@ -44,7 +44,8 @@ impl Formation {
     }
 
     /// Takes what a peer tells of its groups: merges each into a copy, which takes the table's place at the end, and
-    /// marks the peer. `peer` is a place among the peers. Its cost grows with the table and the groups.
+    /// marks the peer. `peer` is a place among the peers. Each group becomes the merge of what it was and of what is told
+    /// of it, less the ended: the law `exchange_merges_tables`. Its cost grows with the table and the groups.
     ///
     /// Faults, which change nothing: `NotAMessage` where the peer has told its groups already; else `OutOfMemory`.
     pub fn take<T: GroupTable + Drop>(

@@ -3,10 +3,12 @@
 
 mod fault;
 mod formation;
+mod laws;
 mod told;
 
 pub use fault::ExchangeFault;
 pub use formation::Formation;
+pub use laws::exchange_merges_tables;
 pub use told::snapshot;
 
 #[cfg(test)]

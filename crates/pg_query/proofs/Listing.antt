@@ -12,7 +12,6 @@ use Rattle.pg_group.specs.Value.{Value, count_in}
 use Rattle.pg_group.specs.Scope.{anywhere}
 use Rattle.pg_group.specs.Members.{IsMemberList}
 use Rattle.pg_group.specs.Table.{Table, AreNames}
-use Rattle.pg_group.proofs.Lists.{member_list_one}
 use Rattle.pg_query.specs.Closest.{picked}
 
 take_more : (xs : List Pid) (i : ℕ) (x : Pid) → slice_get xs i ≡ Some x → take (suc i) xs ≡ take i xs ++ x ∷ []
@@ -40,12 +39,17 @@ module _ (v : Value) (among : Pid → Bool) where
   abbrev pub HasAt : ℕ → Option Pid → Type 0
   HasAt place found = (pids : List Pid) × (IsMemberList v among pids × (found ≡ slice_get pids place))
 
-  pub first_more : (items : List Pid) (place : ℕ) (pid : Pid) → AreFirst items place → HasAt place (Some pid) → AreFirst (items ++ pid ∷ []) (place + 1)
+-- a group has one list of its members that pass a test
+abbrev pub HasOneList : Value → (Pid → Bool) → Type 0
+HasOneList v among = (pids others : List Pid) → IsMemberList v among pids → IsMemberList v among others → pids ≡ others
+
+module _ (v : Value) (among : Pid → Bool) (unique : HasOneList v among) where
+  pub first_more : (items : List Pid) (place : ℕ) (pid : Pid) → AreFirst v among items place → HasAt v among place (Some pid) → AreFirst v among (items ++ pid ∷ []) (place + 1)
   first_more items place pid so_far (others, (one, found)) pids is =
-      let here : slice_get pids place ≡ Some pid = ap (λ (l : List Pid). slice_get l place) (member_list_one v among pids others is one) ∙ sym found in
+      let here : slice_get pids place ≡ Some pid = ap (λ (l : List Pid). slice_get l place) (unique pids others is one) ∙ sym found in
       ap (λ (l : List Pid). l ++ pid ∷ []) (so_far pids is) ∙ sym (take_more pids place pid here) ∙ ap (λ n. take n pids) (sym (add-one place))
 
-  pub first_all : (items : List Pid) (place : ℕ) → AreFirst items place → HasAt place None → IsMemberList v among items
+  pub first_all : (items : List Pid) (place : ℕ) → AreFirst v among items place → HasAt v among place None → IsMemberList v among items
   first_all items place so_far (others, (one, found)) = subst (IsMemberList v among) (sym (so_far others one ∙ take_end others place (sym found))) one
 
 -- nothing is picked from an empty list alone
@@ -53,18 +57,19 @@ pub picked_none : (pids : List Pid) (word : ℕ) → None ≡ picked pids word �
 picked_none [] word e = refl
 picked_none (pid ∷ pids) word e = absurd (get_within (pid ∷ pids) (word % length (pid ∷ pids)) (let n : 0 < length (pid ∷ pids) = omega arith in omega arith) (sym e))
 
--- a group without members has none that pass a test
-pub nobody_among : (v : Value) (among : Pid → Bool) (pids : List Pid) → IsMemberList v anywhere [] → IsMemberList v among pids → pids ≡ []
-nobody_among v among pids empty is = member_list_one v among pids [] is (record { ordered = tt; each = λ pid. go (among pid) (count_in v pid) (empty.each pid) })
-  where
-    go : (b : Bool) (n : ℕ) → 0 ≡ n → 0 ≡ cond b n 0
-    go true n e = e
-    go false n e = refl
+module _ (v : Value) (among : Pid → Bool) (unique : HasOneList v among) where
+  -- a group without members has none that pass a test
+  pub nobody_among : (pids : List Pid) → IsMemberList v anywhere [] → IsMemberList v among pids → pids ≡ []
+  nobody_among pids empty is = unique pids [] is (record { ordered = tt; each = λ pid. go (among pid) (count_in v pid) (empty.each pid) })
+    where
+      go : (b : Bool) (n : ℕ) → 0 ≡ n → 0 ≡ cond b n 0
+      go true n e = e
+      go false n e = refl
 
-pub picked_some : (v : Value) (among : Pid → Bool) (pids : List Pid) (word : ℕ) (pid : Pid) → IsMemberList v anywhere [] → IsMemberList v among pids → Some pid ≡ picked pids word → ⊥
-picked_some v among pids word pid empty is at =
-    let e : Some pid ≡ picked [] word = at ∙ ap (λ (l : List Pid). picked l word) (nobody_among v among pids empty is) in
-    cc
+  pub picked_some : (pids : List Pid) (word : ℕ) (pid : Pid) → IsMemberList v anywhere [] → IsMemberList v among pids → Some pid ≡ picked pids word → ⊥
+  picked_some pids word pid empty is at =
+      let e : Some pid ≡ picked [] word = at ∙ ap (λ (l : List Pid). picked l word) (nobody_among pids empty is) in
+      cc
 
 -- the names in another order
 pub names_sorted : (table : Table) (names sorted : List Term) → IsPermutation names sorted → AreNames table names → AreNames table sorted

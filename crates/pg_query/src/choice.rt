@@ -6,7 +6,7 @@ ghost use Rattle.pg_query.specs.Closest.{IsClosest, picked};
 ghost use Rattle.pg_query.specs.declared.fault.QueryFault.TheVariants.{NoSuchGroup, NoMember, OutOfMemory};
 
 use crate::fault::QueryFault;
-use pg_group::{GroupTable, Scope};
+use pg_group::{GroupTable, Scope, one_member_list};
 use pg_term::{Atom, Pid, Term};
 
 /// The member of a group that a word picks: a local one where there is one, else any (`get_closest_pid/1` of the pg2
@@ -27,6 +27,7 @@ pub fn closest<'a, T: GroupTable>(
         ↔ (IsSome (T.contents table.now name.now) × IsMemberList (T.contents table.now name.now) anywhere []) }
     ensures memory { result ≢ Err OutOfMemory }
 {
+    one_member_list();
     if !table.has(name) {
         return Err(QueryFault::NoSuchGroup);
     }
@@ -50,6 +51,7 @@ fn pick<'a, T: GroupTable>(
     ensures { (pids : List Pid) × (IsMemberList (T.contents table.now name.now) (in_scope scope.entry) pids
         × (option_copied result ≡ picked pids word)) }
 {
+    one_member_list();
     match table.size(name, scope) {
         None | Some(0) => None,
         Some(size) => table.pid_at(name, scope, u64::from(word) % size),

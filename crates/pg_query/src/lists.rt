@@ -7,7 +7,7 @@ ghost use Rattle.pg_group.specs.Table.{AreNames};
 ghost use Rattle.pg_query.specs.declared.fault.QueryFault.TheVariants.{NoSuchGroup, OutOfMemory};
 
 use crate::fault::QueryFault;
-use pg_group::{GroupTable, Scope};
+use pg_group::{GroupTable, Scope, one_member_list};
 use pg_term::{Atom, Items, Pid, Term};
 use std::alloc::{AllocError, Global};
 
@@ -68,6 +68,7 @@ fn listed<T: GroupTable>(
 ) -> Result<Items<Pid>, AllocError>
     ensures { IfOk result (λ pids. IsMemberList (T.contents table.now name.now) (in_scope scope.entry) pids) }
 {
+    one_member_list();
     let mut pids = Vec::new(alloc);
     for place in 0..u64::MAX {
         match table.pid_at(name, scope, place) {

@@ -1,10 +1,11 @@
 // What no clause says: that calls succeed where there is memory, and values from outside. The test passes wherever an
 // allocation is refused: the call that failed is made again.
+ghost use Rattle.std.specs.Prelude.{IfOk};
 ghost use Rattle.pg_group.specs.Scope.{anywhere};
 ghost use Rattle.pg_group.specs.Members.{IsMemberList};
 
 use super::*;
-use pg_group::{Ended, GroupTable, RowTable};
+use pg_group::{Ended, GroupTable, RowTable, one_member_list};
 use pg_term::{Atom, Items, Pid, Term, TermFault};
 use std::alloc::Global;
 use std::test::Fail;
@@ -33,6 +34,40 @@ fn filled(alloc: Global) -> Result<RowTable, TermFault> {
     Ok(table)
 }
 
+/// Makes a value, a second time where memory was refused.
+fn again<V: Drop, E: Drop, F: Fn() -> Result<V, E>>(make: F) -> Result<V, E>
+    requires { F.IsAlwaysCallable make }
+{
+    match make() {
+        Ok(value) => Ok(value),
+        Err(_) => make(),
+    }
+}
+
+/// The members of a group, asked for a second time where memory was refused.
+fn members_of<T: GroupTable>(
+    alloc: Global,
+    table: &T,
+    name: &Term,
+) -> Result<Items<Pid>, QueryFault>
+    ensures { IfOk result (λ pids. IsMemberList (T.contents table.now name.now) anywhere pids) }
+{
+    match members(alloc, table, name) {
+        Err(QueryFault::OutOfMemory) => members(alloc, table, name),
+        listed => listed,
+    }
+}
+
+/// Whether these are the ids, in this order.
+fn has_ids(pids: &Items<Pid>, ids: &[u32]) -> bool {
+    pids.len() == ids.len()
+        && pids
+            .as_slice()
+            .iter()
+            .zip(ids)
+            .all(|(pid, id)| pid.id == *id)
+}
+
 /// The closest member of a group whose members were listed.
 fn closest_of<'a, T: GroupTable>(
     table: &'a T,
@@ -43,41 +78,71 @@ fn closest_of<'a, T: GroupTable>(
 ) -> Result<&'a Pid, QueryFault>
     requires { IsMemberList (T.contents table.now name.now) anywhere listed.now }
 {
+    one_member_list();
     let _count = listed.len();
     closest(table, own, name, word)
+}
+
+/// Whether each word picks the pid of an id, where the members of the group were listed.
+fn picks<T: GroupTable>(
+    table: &T,
+    own: &Atom,
+    name: &Term,
+    listed: &Items<Pid>,
+    wanted: &[(u32, u32)],
+) -> Result<bool, QueryFault>
+    requires { IsMemberList (T.contents table.now name.now) anywhere listed.now }
+{
+    for (word, id) in wanted {
+        if closest_of(table, own, name, *word, listed)?.id != *id {
+            return Ok(false);
+        }
+    }
+    Ok(true)
 }
 
 #[test]
 fn closest_member(rt: HostRuntime) -> Result<(), Fail> {
     let alloc = rt.alloc();
-    let table = match filled(alloc) {
-        Ok(table) => table,
-        Err(_) => filled(alloc)?,
-    };
-    for (name, wanted) in [(7, Some(&[1, 2, 2, 9][..])), (3, Some(&[][..])), (5, None)] {
-        let listed = match members(alloc, &table, &Term::Int(name)) {
-            Err(QueryFault::OutOfMemory) => members(alloc, &table, &Term::Int(name)),
-            listed => listed,
-        };
-        match (listed, wanted) {
-            (Ok(listed), Some(ids)) => {
-                assert_eq!(rt; listed.len(), ids.len());
-                assert!(rt;
-                    listed
-                        .as_slice()
-                        .iter()
-                        .zip(ids)
-                        .all(|(pid, id)| pid.id == *id)
-                );
-            }
-            (Err(fault), None) => assert_eq!(rt; fault.number(), 20),
-            _ => assert!(rt; false, "the group {name}"),
-        }
+    let table = again(|| filled(alloc))?;
+    let name = Term::Int(7);
+    let listed = members_of(alloc, &table, &name)?;
+    let own = again(|| Atom::new(alloc, "a"))?;
+    assert!(rt; picks(&table, &own, &name, &listed, &[(0, 1), (2, 2), (3, 1)])?);
+    let other = again(|| Atom::new(alloc, "b"))?;
+    assert!(rt; picks(&table, &other, &name, &listed, &[(5, 9)])?);
+    let strange = again(|| Atom::new(alloc, "c"))?;
+    assert!(rt; picks(&table, &strange, &name, &listed, &[(3, 9), (4, 1)])?);
+    let empty = Term::Int(3);
+    let nobody = members_of(alloc, &table, &empty)?;
+    assert_eq!(rt;
+        closest_of(&table, &own, &empty, 0, &nobody).err(),
+        Some(QueryFault::NoMember)
+    );
+    Ok(())
+}
+
+#[test]
+fn members_in_order(rt: HostRuntime) -> Result<(), Fail> {
+    let alloc = rt.alloc();
+    let table = again(|| filled(alloc))?;
+    let own = again(|| Atom::new(alloc, "a"))?;
+    for (name, all, local) in [
+        (7, &[1, 2, 2, 9][..], &[1, 2, 2][..]),
+        (3, &[][..], &[][..]),
+    ] {
+        let listed = members_of(alloc, &table, &Term::Int(name))?;
+        assert!(rt; has_ids(&listed, all), "the group {name}");
+        let listed = again(|| local_members(alloc, &table, &own, &Term::Int(name)))?;
+        assert!(rt; has_ids(&listed, local), "the group {name} at a");
     }
-    let names = match which_groups(&table) {
-        Ok(names) => names,
-        Err(_) => which_groups(&table)?,
-    };
+    let absent = Term::Int(5);
+    assert_eq!(rt;
+        members(alloc, &table, &absent).err(),
+        Some(QueryFault::NoSuchGroup)
+    );
+    assert_eq!(rt; QueryFault::NoSuchGroup.number(), 20);
+    let names = again(|| which_groups(&table))?;
     assert!(rt; names.as_slice() == [Term::Int(3), Term::Int(7)].as_slice());
     Ok(())
 }

@@ -1,4 +1,4 @@
-use Rattle.std.proofs.Common.{◌≡◌, sym, ap, ◌∙◌}
+use Rattle.std.proofs.Common.{ap, ◌∙◌}
 use Rattle.pg_group.specs.Ended.{ended_of}
 use Rattle.pg_group.specs.Table.{merged}
 use Rattle.pg_exchange.proofs.Groups.{merged_more}

@@ -12,7 +12,7 @@ returns-in-Some-clause-ok g c =
 pub returns-in-Some-clause-nobody : goal.returns-in-Some-clause-nobody
 returns-in-Some-clause-nobody g c =
     let (local, (is, at)) = c.in-Some.ensures in
-    (λ e. absurd cc, λ empty. absurd (picked_some (g.T.GroupTable.contents c.args.table.now c.args.name.now) (at_node c.args.own.now) local c.args.word c.in-Some.pid.now empty.1 is at))
+    (λ e. absurd cc, λ empty. absurd (picked_some (g.T.GroupTable.contents c.args.table.now c.args.name.now) (at_node c.args.own.now) (c.one_member_list.ensures (g.T.GroupTable.contents c.args.table.now c.args.name.now) (at_node c.args.own.now)) local c.args.word c.in-Some.pid.now empty.1 is at))
 
 pub returns-in-Some-pick-clause-ok : goal.returns-in-Some-pick-clause-ok
 returns-in-Some-pick-clause-ok g c =
@@ -24,7 +24,7 @@ returns-in-Some-pick-clause-ok g c =
 pub returns-in-Some-pick-clause-nobody : goal.returns-in-Some-pick-clause-nobody
 returns-in-Some-pick-clause-nobody g c =
     let (all, (is, at)) = c.in-Some-pick.ensures in
-    (λ e. absurd cc, λ empty. absurd (picked_some (g.T.GroupTable.contents c.args.table.now c.args.name.now) anywhere all c.args.word c.in-Some-pick.pid.now empty.1 is at))
+    (λ e. absurd cc, λ empty. absurd (picked_some (g.T.GroupTable.contents c.args.table.now c.args.name.now) anywhere (c.one_member_list.ensures (g.T.GroupTable.contents c.args.table.now c.args.name.now) anywhere) all c.args.word c.in-Some-pick.pid.now empty.1 is at))
 
 pub returns-in-None-pick-clause-nobody : goal.returns-in-None-pick-clause-nobody
 returns-in-None-pick-clause-nobody g c =

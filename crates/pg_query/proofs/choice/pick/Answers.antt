@@ -1,7 +1,6 @@
 use Rattle.std.proofs.Common.{◌%◌, length, sym, ap, ◌∙◌}
 use Rattle.std.specs.Prelude.{slice_get}
 use Rattle.pg_group.specs.Scope.{in_scope}
-use Rattle.pg_group.proofs.Lists.{member_list_one}
 use Rattle.pg_query.proofs.choice.pick.Goals as goal
 
 pub returns-in-Some : goal.returns-in-Some
@@ -9,5 +8,5 @@ returns-in-Some g c =
     let v = g.T.GroupTable.contents c.args.table.now c.args.name.now in
     let (sized, (is, size)) = c.in-Some.ensures.value in
     let (pids, (one, found)) = c.pid_at.ensures in
-    let same = member_list_one v (in_scope c.args.scope) sized pids is one in
+    let same = c.one_member_list.ensures v (in_scope c.args.scope) sized pids is one in
     (pids, (one, found ∙ ap (λ n. slice_get pids (n % c.in-Some.size)) c.from.ensures ∙ ap (λ n. slice_get pids (c.args.word % n)) (sym size ∙ ap length same)))
