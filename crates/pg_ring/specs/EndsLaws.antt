@@ -1,7 +1,7 @@
 -- The two ends of a ring between threads as a link and as an inlet.
-use Rattle.std.specs.Prelude.{ℕ, List, [], ◌++◌, refl}
+use Rattle.std.specs.Prelude.{◌≡◌, ℕ, List, [], ◌++◌, refl}
 use Rattle.std.proofs.Common.{sym, append_assoc, ◌∙◌, ap}
-use Rattle.std.proofs.lemmas.List.{append-nil}
+use Rattle.std.proofs.lemmas.List.{append-nil, append_cancel_left}
 use Rattle.pg_ring.specs.declared.ring_out.RingOut.{RingOut}
 use Rattle.pg_ring.specs.declared.ring_in.RingIn.{RingIn}
 use Rattle.pg_ring.specs.Ends.{AreEnds, SameRingOut, SameRingIn, Sends, Receives, bytes_sent, bytes_received}
@@ -25,6 +25,10 @@ Sends-composes a b c xs ys p q = record {
   grown = q.grown ∙ ap (λ w. w ++ ys) p.grown ∙ append_assoc (bytes_sent a) xs ys;
 }
 
+-- two runs that lead to the same end are one
+pub Sends-agrees : (a b : RingOut) (xs ys : List ℕ) → Sends a xs b → Sends a ys b → xs ≡ ys
+Sends-agrees a b xs ys p q = append_cancel_left (bytes_sent a) xs ys (sym p.grown ∙ q.grown)
+
 -- nothing was received
 pub Receives-rests : (a : RingIn) → Receives a [] a
 Receives-rests a = record { same = ((refl, refl, refl, refl), refl); grown = sym (append-nil _) }
@@ -43,6 +47,10 @@ Receives-composes a b c xs ys p q = record {
   );
   grown = q.grown ∙ ap (λ w. w ++ ys) p.grown ∙ append_assoc (bytes_received a) xs ys;
 }
+
+-- two runs that lead to the same end are one
+pub Receives-agrees : (a b : RingIn) (xs ys : List ℕ) → Receives a xs b → Receives a ys b → xs ≡ ys
+Receives-agrees a b xs ys p q = append_cancel_left (bytes_received a) xs ys (sym p.grown ∙ q.grown)
 
 -- the ends of one ring are the ends of one ring later too
 pub AreEnds-later : (out later_out : RingOut) (inlet later_inlet : RingIn) → AreEnds out inlet → SameRingOut out later_out → SameRingIn inlet later_inlet → AreEnds later_out later_inlet

@@ -1,7 +1,7 @@
 -- A ring in memory as a link and as an inlet.
-use Rattle.std.specs.Prelude.{ℕ, List, [], ◌++◌, refl}
+use Rattle.std.specs.Prelude.{◌≡◌, ℕ, List, [], ◌++◌, refl}
 use Rattle.std.proofs.Common.{sym, append_assoc, ◌∙◌, ap}
-use Rattle.std.proofs.lemmas.List.{append-nil}
+use Rattle.std.proofs.lemmas.List.{append-nil, append_cancel_left, append_cancel_right}
 use Rattle.pg_ring.specs.MemRing.{RingBytes, Grows, Loses}
 
 -- nothing was taken in
@@ -15,6 +15,10 @@ Grows-composes a b c xs ys p q = record {
   kept = q.kept ∙ p.kept;
 }
 
+-- two runs that lead to the same ring are one
+pub Grows-agrees : (a b : RingBytes) (xs ys : List ℕ) → Grows a xs b → Grows a ys b → xs ≡ ys
+Grows-agrees a b xs ys p q = append_cancel_left a.unread xs ys (sym p.grown ∙ q.grown)
+
 -- nothing was given
 pub Loses-rests : (a : RingBytes) → Loses a [] a
 Loses-rests a = record { lost = refl; kept = refl }
@@ -25,3 +29,7 @@ Loses-composes a b c xs ys p q = record {
   lost = p.lost ∙ ap (λ w. xs ++ w) q.lost ∙ sym (append_assoc xs ys c.unread);
   kept = q.kept ∙ p.kept;
 }
+
+-- two runs that lead to the same ring are one
+pub Loses-agrees : (a b : RingBytes) (xs ys : List ℕ) → Loses a xs b → Loses a ys b → xs ≡ ys
+Loses-agrees a b xs ys p q = append_cancel_right xs ys b.unread (sym p.lost ∙ q.lost)

@@ -16,6 +16,9 @@ pub trait Link {
 
     // What is taken in twice is taken in, one behind the other.
     ghost composes: { (a b c : Self) (xs ys : List ℕ) → accepts a xs b → accepts b ys c → accepts a (xs ++ ys) c };
+
+    // One list of bytes leads from a link to what it became.
+    ghost agrees: { (a b : Self) (xs ys : List ℕ) → accepts a xs b → accepts a ys b → xs ≡ ys };
 }
 
 /// Where the bytes that were put can be taken.
@@ -36,4 +39,7 @@ pub trait Inlet {
 
     // What is given twice is given, one behind the other.
     ghost composes: { (a b c : Self) (xs ys : List ℕ) → gives a xs b → gives b ys c → gives a (xs ++ ys) c };
+
+    // One list of bytes leads from an inlet to what it became.
+    ghost agrees: { (a b : Self) (xs ys : List ℕ) → gives a xs b → gives a ys b → xs ≡ ys };
 }

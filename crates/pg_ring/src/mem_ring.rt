@@ -1,7 +1,7 @@
 ghost use Rattle.std.specs.Prelude.{◌≡◌, ◌≢◌, ◌≤◌, ◌↔◌, [], length, take, drop, min, IfOk};
 ghost use Rattle.pg_ring.specs.Capacity.{IsCapacity, IsBadCapacity};
 ghost use Rattle.pg_ring.specs.MemRing.{Grows, Loses, free_room};
-ghost use Rattle.pg_ring.specs.MemRingLaws.{Grows-rests, Grows-composes, Loses-rests, Loses-composes};
+ghost use Rattle.pg_ring.specs.MemRingLaws.{Grows-rests, Grows-composes, Grows-agrees, Loses-rests, Loses-composes, Loses-agrees};
 
 use crate::capacity::is_capacity;
 use crate::{Inlet, Link, RingFault};
@@ -59,6 +59,8 @@ impl Link for MemRing {
     ghost rests = { Grows-rests };
 
     ghost composes = { Grows-composes };
+
+    ghost agrees = { Grows-agrees };
 }
 
 /// The first unread bytes are given, as many as there are places. Moves runs.
@@ -77,4 +79,6 @@ impl Inlet for MemRing {
     ghost rests = { Loses-rests };
 
     ghost composes = { Loses-composes };
+
+    ghost agrees = { Loses-agrees };
 }

@@ -1,7 +1,7 @@
 ghost use Rattle.std.specs.Prelude.{◌≡◌, ◌<◌, ◌≤◌, [], ◌++◌, length, take, drop, min};
 ghost use mathlib.Core.List.{IsPrefix};
 ghost use Rattle.pg_ring.specs.Ends.{Receives, bytes_left, IsSettled};
-ghost use Rattle.pg_ring.specs.EndsLaws.{Receives-rests, Receives-composes};
+ghost use Rattle.pg_ring.specs.EndsLaws.{Receives-rests, Receives-composes, Receives-agrees};
 
 use crate::Inlet;
 use rtrb::Consumer;
@@ -43,4 +43,6 @@ impl Inlet for RingIn {
     ghost rests = { Receives-rests };
 
     ghost composes = { Receives-composes };
+
+    ghost agrees = { Receives-agrees };
 }

@@ -1,6 +1,6 @@
 ghost use Rattle.std.specs.Prelude.{◌≡◌, ◌+◌, ◌<◌, ◌≤◌, length, take};
 ghost use Rattle.pg_ring.specs.Ends.{Sends, bytes_free};
-ghost use Rattle.pg_ring.specs.EndsLaws.{Sends-rests, Sends-composes};
+ghost use Rattle.pg_ring.specs.EndsLaws.{Sends-rests, Sends-composes, Sends-agrees};
 
 use crate::Link;
 use rtrb::Producer;
@@ -30,4 +30,6 @@ impl Link for RingOut {
     ghost rests = { Sends-rests };
 
     ghost composes = { Sends-composes };
+
+    ghost agrees = { Sends-agrees };
 }
