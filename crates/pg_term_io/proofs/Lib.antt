@@ -15,6 +15,7 @@ pub mod Outcomes
 pub mod Rewritten
 pub mod Spelled
 pub mod Steps
+pub mod Weighed
 pub mod Written
 pub mod WrittenDigits
 pub mod WrittenValue

@@ -1,6 +1,6 @@
 //! Laws of the format.
 
-ghost use Rattle.std.specs.Prelude.{◌≡◌, ◌<◌, ◌⊎◌, ℕ, List, Ok};
+ghost use Rattle.std.specs.Prelude.{◌≡◌, ◌<◌, ◌≤◌, ◌⊎◌, ℕ, List, length, Ok};
 ghost use Rattle.std.specs.List.{AllByRecursion};
 ghost use Rattle.pg_term.specs.declared.fault.TermFault.{TermFault};
 ghost use Rattle.pg_term.specs.declared.term.Term.{Term};
@@ -8,6 +8,7 @@ ghost use Rattle.pg_term_io.specs.Spelling.{Spells};
 ghost use Rattle.pg_term_io.specs.Faults.{Breaks};
 ghost use Rattle.pg_term_io.specs.Reading.{term_of};
 ghost use Rattle.pg_term_io.specs.Writing.{written, IsWritable};
+ghost use Rattle.pg_term_io.specs.Weight.{weight};
 
 /// Each list of bytes spells exactly one term or has exactly one fault, and never both.
 pub fn one_meaning()
@@ -31,4 +32,10 @@ pub fn round_trip()
     // No two terms are written alike.
     ensures apart { (t u : Term) (a b : List ℕ) → Spells t a → Spells u b →
         IsWritable t → IsWritable u → written t ≡ written u → t ≡ u }
+{}
+
+/// A term is made of no more terms than it takes bytes: each list and each tuple in it has fewer elements
+/// than the bytes that spell the term.
+pub fn no_heavier_than_its_bytes()
+    ensures { (t : Term) (bytes : List ℕ) → Spells t bytes → weight t ≤ length bytes }
 {}

@@ -1,7 +1,20 @@
+// What no clause says: values from outside, and what happens as memory runs out. Each test passes wherever an allocation
+// is refused: `OutOfMemory` is told, a buffer is left as it was, and the same call made again succeeds.
 use super::*;
 use crate::reading::decode;
 use pg_term::{Fields, Items};
+use std::process::Abort;
 use std::test::*;
+
+// Makes a value, a second time where memory was refused.
+fn again<V: Drop, F: Fn() -> Result<V, TermFault>>(make: F) -> Result<V, TermFault>
+    requires { F.IsAlwaysCallable make }
+{
+    match make() {
+        Err(TermFault::OutOfMemory) => make(),
+        other => other,
+    }
+}
 
 // Whether the term, once made, is written as these bytes, and its length is known before.
 fn is_written(
@@ -10,7 +23,7 @@ fn is_written(
     bytes: &[u8],
 ) -> Result<bool, TermFault> {
     let term = made?;
-    let written = encode(alloc, &term)?;
+    let written = again(|| encode(alloc, &term))?;
     Ok(written.as_slice() == bytes && encode_len(&term)? == bytes.len())
 }
 
@@ -21,19 +34,20 @@ fn begins(
     len: usize,
     front: &[u8],
 ) -> Result<bool, TermFault> {
-    let written = encode(alloc, &made?)?;
+    let term = made?;
+    let written = again(|| encode(alloc, &term))?;
     Ok(written.len() == len && written.as_slice().starts_with(front))
 }
 
 // Whether what is written for it is read as the term.
 fn is_read_again(alloc: Global, made: Result<Term, TermFault>) -> Result<bool, TermFault> {
     let term = made?;
-    let written = encode(alloc, &term)?;
-    Ok(decode(alloc, written.as_slice())? == term)
+    let written = again(|| encode(alloc, &term))?;
+    Ok(again(|| decode(alloc, written.as_slice()))? == term)
 }
 
 fn fault_of(alloc: Global, term: &Term) -> Option<TermFault> {
-    encode(alloc, term).err()
+    again(|| encode(alloc, term)).err()
 }
 
 fn tuple(items: Vec<Term>) -> Term {
@@ -69,15 +83,14 @@ fn long_name(alloc: Global, character: char) -> Result<Atom, TermFault> {
     Atom::new(alloc, text.as_str())
 }
 
-// A tuple of 16,400 atoms of 1,023 bytes each, and one more atom.
+// A tuple of 1,525,200 integers of eleven bytes each, and an atom.
 fn long_tuple(alloc: Global, last: &str) -> Result<Term, TermFault> {
-    let name = long_name(alloc, '\u{1f600}')?;
-    let mut names = Vec::new(alloc);
-    for _ in 0..16_400 {
-        names.push(Term::Atom(name.copy()?))?;
+    let mut items = Vec::with_capacity(alloc, 1_525_201)?;
+    for _ in 0..1_525_200 {
+        items.push(Term::Int(i64::MAX))?;
     }
-    names.push(Term::Atom(Atom::new(alloc, last)?))?;
-    Ok(tuple(names))
+    items.push(Term::Atom(Atom::new(alloc, last)?))?;
+    Ok(tuple(items))
 }
 
 fn list_of(alloc: Global, count: usize) -> Result<Term, TermFault> {
@@ -112,6 +125,7 @@ fn reference(alloc: Global, words: &[u32]) -> Result<Term, TermFault> {
 
 #[test]
 fn integers(rt: HostRuntime) -> Result<(), Fail> {
+    let alloc = rt.alloc();
     let rows: [(i64, &[u8]); 11] = [
         (0, &[131, 97, 0]),
         (5, &[131, 97, 5]),
@@ -130,112 +144,117 @@ fn integers(rt: HostRuntime) -> Result<(), Fail> {
     ];
     for (number, bytes) in rows {
         assert!(rt;
-            is_written(rt.alloc(), Ok(Term::Int(number)), bytes)?,
+            is_written(alloc, Ok(Term::Int(number)), bytes)?,
             "{number}"
         );
-        assert!(rt;
-            is_read_again(rt.alloc(), Ok(Term::Int(number)))?,
-            "{number}"
-        );
+        assert!(rt; is_read_again(alloc, Ok(Term::Int(number)))?, "{number}");
     }
     Ok(())
 }
 
 #[test]
 fn tuples(rt: HostRuntime) -> Result<(), Fail> {
+    let alloc = rt.alloc();
     let rows: [(usize, usize, &[u8]); 3] = [
         (0, 3, &[131, 104, 0]),
         (255, 513, &[131, 104, 255, 97, 7]),
         (256, 518, &[131, 105, 0, 0, 1, 0, 97, 7]),
     ];
     for (count, len, front) in rows {
-        assert!(rt; begins(rt.alloc(), tuple_of(rt.alloc(), count), len, front)?);
-        assert!(rt; is_read_again(rt.alloc(), tuple_of(rt.alloc(), count))?);
+        assert!(rt; begins(alloc, again(|| tuple_of(alloc, count)), len, front)?);
+        assert!(rt; is_read_again(alloc, again(|| tuple_of(alloc, count)))?);
     }
-    assert!(rt; is_read_again(rt.alloc(), nested(rt.alloc(), 64))?);
+    assert!(rt; is_read_again(alloc, again(|| nested(alloc, 64)))?);
     Ok(())
 }
 
 #[test]
 fn lists(rt: HostRuntime) -> Result<(), Fail> {
+    let alloc = rt.alloc();
     let rows: [(usize, &[u8]); 3] = [
         (0, &[131, 106]),
         (1, &[131, 108, 0, 0, 0, 1, 97, 7, 106]),
         (2, &[131, 108, 0, 0, 0, 2, 97, 7, 97, 7, 106]),
     ];
     for (count, bytes) in rows {
-        assert!(rt; is_written(rt.alloc(), list_of(rt.alloc(), count), bytes)?);
-        assert!(rt; is_read_again(rt.alloc(), list_of(rt.alloc(), count))?);
+        assert!(rt; is_written(alloc, again(|| list_of(alloc, count)), bytes)?);
+        assert!(rt; is_read_again(alloc, again(|| list_of(alloc, count)))?);
     }
     Ok(())
 }
 
 #[test]
 fn atoms(rt: HostRuntime) -> Result<(), Fail> {
+    let alloc = rt.alloc();
     let rows: [(&str, &[u8]); 2] = [("", &[131, 119, 0]), ("\u{e9}", &[131, 119, 2, 195, 169])];
     for (name, bytes) in rows {
-        assert!(rt; is_written(rt.alloc(), atom(rt.alloc(), name), bytes)?);
-        assert!(rt; is_read_again(rt.alloc(), atom(rt.alloc(), name))?);
+        assert!(rt; is_written(alloc, again(|| atom(alloc, name)), bytes)?);
+        assert!(rt; is_read_again(alloc, again(|| atom(alloc, name)))?);
     }
     Ok(())
 }
 
 #[test]
 fn long_atoms(rt: HostRuntime) -> Result<(), Fail> {
+    let alloc = rt.alloc();
     let rows: [(char, usize, &[u8]); 3] = [
         ('a', 258, &[131, 119, 255, 97]),
         ('\u{e9}', 514, &[131, 118, 1, 254, 195, 169]),
         ('\u{1f600}', 1024, &[131, 118, 3, 252, 240]),
     ];
     for (character, len, front) in rows {
-        assert!(rt; begins(rt.alloc(), long_atom(rt.alloc(), character), len, front)?);
-        assert!(rt; is_read_again(rt.alloc(), long_atom(rt.alloc(), character))?);
+        assert!(rt; begins(alloc, again(|| long_atom(alloc, character)), len, front)?);
+        assert!(rt; is_read_again(alloc, again(|| long_atom(alloc, character)))?);
     }
     Ok(())
 }
 
 #[test]
 fn pids(rt: HostRuntime) -> Result<(), Fail> {
+    let alloc = rt.alloc();
     let bytes = [131, 103, 119, 1, 97, 0, 0, 0, 1, 0, 0, 1, 2, 3];
-    assert!(rt; is_written(rt.alloc(), pid(rt.alloc()), &bytes)?);
-    assert!(rt; is_read_again(rt.alloc(), pid(rt.alloc()))?);
+    assert!(rt; is_written(alloc, again(|| pid(alloc)), &bytes)?);
+    assert!(rt; is_read_again(alloc, again(|| pid(alloc)))?);
     Ok(())
 }
 
 #[test]
 fn references(rt: HostRuntime) -> Result<(), Fail> {
+    let alloc = rt.alloc();
     let bytes = [131, 114, 0, 1, 119, 1, 97, 2, 0, 0, 0, 7];
-    assert!(rt; is_written(rt.alloc(), reference(rt.alloc(), &[7]), &bytes)?);
+    assert!(rt; is_written(alloc, again(|| reference(alloc, &[7])), &bytes)?);
     let rows: [&[u32]; 3] = [&[0], &[1, u32::MAX], &[1, 2, 3]];
     for words in rows {
-        assert!(rt; is_read_again(rt.alloc(), reference(rt.alloc(), words))?);
+        assert!(rt; is_read_again(alloc, again(|| reference(alloc, words)))?);
     }
     Ok(())
 }
 
 #[test]
 fn too_deep(rt: HostRuntime) -> Result<(), Fail> {
-    assert!(rt; begins(rt.alloc(), nested(rt.alloc(), 64), 129, &[131, 104, 1])?);
-    let deep = nested(rt.alloc(), 65)?;
+    let alloc = rt.alloc();
+    assert!(rt; begins(alloc, again(|| nested(alloc, 64)), 129, &[131, 104, 1])?);
+    let deep = again(|| nested(alloc, 65))?;
     assert!(rt; encode_len(&deep) == Err(TermFault::TooDeep));
-    assert!(rt; fault_of(rt.alloc(), &deep) == Some(TermFault::TooDeep));
+    assert!(rt; fault_of(alloc, &deep) == Some(TermFault::TooDeep));
     Ok(())
 }
 
 #[test]
 fn too_long(rt: HostRuntime) -> Result<(), Fail> {
-    let front = [131, 105, 0, 0, 64, 17];
+    let alloc = rt.alloc();
+    let front = [131, 105, 0, 23, 69, 209, 110, 8, 0, 255];
     assert!(rt;
         begins(
-            rt.alloc(),
-            long_tuple(rt.alloc(), "8_bytes_"),
+            alloc,
+            again(|| long_tuple(alloc, "8_bytes_")),
             16_777_216,
             &front
         )?
     );
-    let long = long_tuple(rt.alloc(), "nine_here")?;
+    let long = again(|| long_tuple(alloc, "nine_here"))?;
     assert!(rt; encode_len(&long) == Err(TermFault::TooLong));
-    assert!(rt; fault_of(rt.alloc(), &long) == Some(TermFault::TooLong));
+    assert!(rt; fault_of(alloc, &long) == Some(TermFault::TooLong));
     Ok(())
 }
 
@@ -248,46 +267,33 @@ fn deep_and_long(alloc: Global) -> Result<Term, TermFault> {
 
 #[test]
 fn too_deep_comes_first(rt: HostRuntime) -> Result<(), Fail> {
-    assert!(rt; encode_len(&deep_and_long(rt.alloc())?) == Err(TermFault::TooDeep));
+    let alloc = rt.alloc();
+    assert!(rt; encode_len(&again(|| deep_and_long(alloc))?) == Err(TermFault::TooDeep));
     Ok(())
+}
+
+// Writes a term behind what the buffer has. A refused growth leaves the buffer as it was.
+fn put(rt: &impl Abort, term: &Term, out: &mut BytesMut) -> Result<(), TermFault> {
+    let len = out.len();
+    match encode_into(term, out) {
+        Err(TermFault::OutOfMemory) => {
+            assert_eq!(rt; out.len(), len);
+            encode_into(term, out)
+        }
+        other => other,
+    }
 }
 
 #[test]
 fn appends(rt: HostRuntime) -> Result<(), Fail> {
-    let mut out = BytesMut::new(rt.alloc());
-    out.extend_from_slice(&[1, 2])?;
-    encode_into(&Term::Int(5), &mut out)?;
-    assert!(rt; out.as_slice() == [1, 2, 131, 97, 5].as_slice());
-    let deep = nested(rt.alloc(), 65)?;
+    let alloc = rt.alloc();
+    let mut out = BytesMut::new(alloc);
+    put(&rt, &Term::Int(5), &mut out)?;
+    put(&rt, &Term::Int(-1), &mut out)?;
+    let bytes = [131, 97, 5, 131, 98, 255, 255, 255, 255];
+    assert!(rt; out.as_slice() == bytes.as_slice());
+    let deep = again(|| nested(alloc, 65))?;
     assert!(rt; encode_into(&deep, &mut out) == Err(TermFault::TooDeep));
-    assert!(rt; out.as_slice() == [1, 2, 131, 97, 5].as_slice());
-    Ok(())
-}
-
-// For `rt try --test --fail-alloc N`: a refused growth is told, and the next call succeeds.
-#[test]
-fn refused_growth(rt: HostRuntime) -> Result<(), Fail> {
-    let term = Term::Int(-1);
-    let written = match encode(rt.alloc(), &term) {
-        Err(TermFault::OutOfMemory) => encode(rt.alloc(), &term)?,
-        other => other?,
-    };
-    assert!(rt; written.as_slice() == [131, 98, 255, 255, 255, 255].as_slice());
-    Ok(())
-}
-
-// The same, at a buffer, which is left as it was.
-#[test]
-fn refused_room(rt: HostRuntime) -> Result<(), Fail> {
-    let term = Term::Int(-1);
-    let mut out = BytesMut::new(rt.alloc());
-    match encode_into(&term, &mut out) {
-        Err(TermFault::OutOfMemory) => {
-            assert!(rt; out.is_empty());
-            encode_into(&term, &mut out)?;
-        }
-        other => other?,
-    }
-    assert!(rt; out.as_slice() == [131, 98, 255, 255, 255, 255].as_slice());
+    assert!(rt; out.as_slice() == bytes.as_slice());
     Ok(())
 }
