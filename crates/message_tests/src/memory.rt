@@ -1,0 +1,66 @@
+//! Each growth of memory refused in turn: the call tells so, and succeeds when it is made again.
+
+use crate::samples::{CREATE, EXCHANGE};
+use bytes::BytesMut;
+use pg_message::{MessageFault, Packet, read_packet, write_packet, write_packet_into};
+use pg_term::TermFault;
+use std::alloc::Global;
+use std::test::*;
+
+const OUT_OF_MEMORY: MessageFault = MessageFault::Term(TermFault::OutOfMemory);
+
+// Reads the bytes, again where memory was wanting.
+fn read(alloc: Global, bytes: &[u8]) -> Result<Packet, MessageFault> {
+    match read_packet(alloc, bytes) {
+        Err(fault) if fault == OUT_OF_MEMORY => read_packet(alloc, bytes),
+        read => read,
+    }
+}
+
+// A copy of the packet, again where memory was wanting.
+fn copied(alloc: Global, packet: &Packet) -> Result<Packet, MessageFault> {
+    match packet.copy(alloc) {
+        Ok(copy) => Ok(copy),
+        Err(_) => Ok(packet.copy(alloc)?),
+    }
+}
+
+// Writes the packet into a buffer without room, again where memory was wanting.
+fn framed(alloc: Global, packet: &Packet) -> Result<BytesMut, MessageFault> {
+    let mut out = BytesMut::new(alloc);
+    match write_packet_into(packet, &mut out) {
+        Err(fault) if fault == OUT_OF_MEMORY && out.as_slice().is_empty() => {
+            write_packet_into(packet, &mut out)?;
+        }
+        written => written?,
+    }
+    Ok(out)
+}
+
+fn written(alloc: Global, packet: &Packet) -> Result<Vec<u8>, MessageFault> {
+    match write_packet(alloc, packet) {
+        Err(fault) if fault == OUT_OF_MEMORY => write_packet(alloc, packet),
+        written => written,
+    }
+}
+
+// Whether the bytes are read, copied and written as they are.
+fn are_kept(alloc: Global, bytes: &[u8]) -> Result<bool, MessageFault> {
+    let packet = read(alloc, bytes)?;
+    let copy = copied(alloc, &packet)?;
+    let body = written(alloc, &packet)?;
+    let frame = framed(alloc, &copy)?;
+    Ok(body.as_slice() == bytes && frame.as_slice().ends_with(bytes))
+}
+
+#[test]
+fn growths_refused_for_a_call(rt: HostRuntime) -> Result<(), Fail> {
+    assert!(rt; are_kept(rt.alloc(), CREATE)?);
+    Ok(())
+}
+
+#[test]
+fn growths_refused_for_an_exchange(rt: HostRuntime) -> Result<(), Fail> {
+    assert!(rt; are_kept(rt.alloc(), EXCHANGE)?);
+    Ok(())
+}

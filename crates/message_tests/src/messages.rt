@@ -1,0 +1,109 @@
+//! Each message of the table, read from its bytes and written as them.
+
+use crate::samples::{APPLIED, CREATE, EXCHANGE, kind_of};
+use bytes::BytesMut;
+use pg_message::{Message, MessageFault, packet_len, read_packet, write_packet, write_packet_into};
+use std::alloc::Global;
+use std::test::*;
+
+const DELETE: &[u8] = &[
+    131, 104, 2, 97, 0, 104, 3, 119, 4, 99, 97, 108, 108, 114, 0, 1, 119, 1, 97, 0, 0, 0, 0, 7,
+    104, 2, 119, 6, 100, 101, 108, 101, 116, 101, 106,
+];
+
+const SET_LOCK: &[u8] = &[
+    131, 104, 2, 98, 64, 0, 0, 0, 104, 3, 119, 4, 99, 97, 108, 108, 114, 0, 1, 119, 1, 97, 0, 0, 0,
+    0, 7, 104, 2, 119, 8, 115, 101, 116, 95, 108, 111, 99, 107, 97, 5,
+];
+
+const JOIN: &[u8] = &[
+    131, 104, 2, 97, 0, 104, 3, 119, 4, 99, 97, 108, 108, 114, 0, 1, 119, 1, 97, 0, 0, 0, 0, 7,
+    104, 3, 119, 4, 106, 111, 105, 110, 119, 1, 103, 103, 119, 1, 97, 0, 0, 0, 1, 0, 0, 0, 0, 1,
+];
+
+const LEAVE: &[u8] = &[
+    131, 104, 2, 97, 0, 104, 3, 119, 4, 99, 97, 108, 108, 114, 0, 1, 119, 1, 97, 0, 0, 0, 0, 7,
+    104, 3, 119, 5, 108, 101, 97, 118, 101, 119, 1, 103, 103, 119, 1, 97, 0, 0, 0, 1, 0, 0, 0, 0,
+    1,
+];
+
+const GRANTED: &[u8] = &[
+    131, 104, 2, 97, 255, 104, 3, 119, 5, 114, 101, 112, 108, 121, 114, 0, 1, 119, 1, 97, 0, 0, 0,
+    0, 7, 119, 4, 116, 114, 117, 101,
+];
+
+const DENIED: &[u8] = &[
+    131, 104, 2, 98, 0, 0, 1, 0, 104, 3, 119, 5, 114, 101, 112, 108, 121, 114, 0, 1, 119, 1, 97, 0,
+    0, 0, 0, 7, 119, 5, 102, 97, 108, 115, 101,
+];
+
+const DEL_LOCK: &[u8] = &[
+    131, 104, 2, 97, 9, 104, 2, 119, 4, 99, 97, 115, 116, 104, 3, 119, 8, 100, 101, 108, 95, 108,
+    111, 99, 107, 119, 1, 103, 114, 0, 1, 119, 1, 97, 0, 0, 0, 0, 7,
+];
+
+const NOTHING_TOLD: &[u8] = &[
+    131, 104, 2, 97, 0, 104, 2, 119, 4, 99, 97, 115, 116, 104, 3, 119, 8, 101, 120, 99, 104, 97,
+    110, 103, 101, 119, 1, 97, 106,
+];
+
+const DOWN: &[u8] = &[
+    131, 104, 2, 97, 3, 104, 2, 119, 4, 100, 111, 119, 110, 103, 119, 1, 97, 0, 0, 0, 1, 0, 0, 0,
+    0, 1,
+];
+
+// Whether the bytes are a packet of this kind, which is written as them, whole and in a frame, and so is its copy.
+fn is_both_ways(alloc: Global, bytes: &[u8], kind: &str) -> Result<bool, MessageFault> {
+    let packet = read_packet(alloc, bytes)?.copy(alloc)?;
+    let body = write_packet(alloc, &packet)?;
+    let mut frame = BytesMut::new(alloc);
+    write_packet_into(&packet, &mut frame)?;
+    let framed = frame.as_slice();
+    Ok(
+        kind_of(&packet) == kind
+            && body.as_slice() == bytes
+            && packet_len(&packet)? == bytes.len()
+            && framed.ends_with(bytes)
+            && framed.starts_with(&(bytes.len() as u32).to_be_bytes())
+            && framed.len() == bytes.len() + 4,
+    )
+}
+
+#[test]
+fn each_message_both_ways(rt: HostRuntime) -> Result<(), Fail> {
+    let table: &[(&[u8], &str)] = &[
+        (CREATE, "create"),
+        (DELETE, "delete"),
+        (SET_LOCK, "set_lock"),
+        (JOIN, "join"),
+        (LEAVE, "leave"),
+        (GRANTED, "true"),
+        (DENIED, "false"),
+        (APPLIED, "ok"),
+        (DEL_LOCK, "del_lock"),
+        (EXCHANGE, "exchange"),
+        (NOTHING_TOLD, "exchange"),
+        (DOWN, "down"),
+    ];
+    for (bytes, kind) in table {
+        assert!(rt; is_both_ways(rt.alloc(), bytes, kind)?, "{kind}");
+    }
+    Ok(())
+}
+
+// Members may come in any order, and as often as they joined.
+#[test]
+fn members_as_they_came(rt: HostRuntime) -> Result<(), Fail> {
+    let Message::Exchange(node, groups) = read_packet(rt.alloc(), EXCHANGE)?.message else {
+        return Ok(assert!(rt; false, "no exchange"));
+    };
+    assert_eq!(rt; node.as_str(), "a");
+    let mut ids = Vec::new(rt.alloc());
+    for (_, members) in groups.as_slice() {
+        for member in members.as_slice() {
+            ids.push(member.id)?;
+        }
+    }
+    assert!(rt; ids.as_slice() == [2, 1, 1].as_slice());
+    Ok(())
+}

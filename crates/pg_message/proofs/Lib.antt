@@ -1,0 +1,12 @@
+pub mod Ascents
+pub mod Bodies
+pub mod Collected
+pub mod Deep
+pub mod Listed
+pub mod Members
+pub mod Put
+pub mod ReadBack
+pub mod Sent
+pub mod Spelled
+pub mod Stamps
+pub mod Words

@@ -1,0 +1,16 @@
+-- Groups in the order of terms.
+use Rattle.std.specs.Prelude.{Bool, true, false, ◌&&◌, ◌∷◌}
+use Rattle.std.specs.declared.cmp.Ordering.{Ordering}
+use Rattle.std.specs.declared.cmp.Ordering.TheVariants.{Less, Equal, Greater}
+use Rattle.pg_term.specs.Same.{term_cmp}
+use Rattle.pg_message.specs.Reading.{Groups}
+
+abbrev pub is_less : Ordering → Bool
+is_less Less = true
+is_less Equal = false
+is_less Greater = false
+
+-- each name is less than the next, as a node tells its groups
+abbrev pub is_ascending : Groups → Bool
+is_ascending (group ∷ next ∷ groups) = is_less (term_cmp group.0 next.0) && is_ascending (next ∷ groups)
+is_ascending groups = true

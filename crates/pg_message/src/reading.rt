@@ -1,0 +1,251 @@
+//! Terms and bytes to packets.
+
+ghost use Rattle.std.specs.Prelude.{◌≡◌, ◌∷◌, [], length, Some, None, IfOk, Ok, if◌then◌else◌};
+ghost use Rattle.std.specs.Option.{option_and_then};
+ghost use Rattle.pg_term.specs.declared.term.Term.{Term};
+ghost use Rattle.pg_term_io.specs.Spelling.{Spells};
+ghost use Rattle.pg_message.specs.Fault.{Gives};
+ghost use Rattle.pg_message.specs.Members.{IsShort};
+ghost use Rattle.pg_message.specs.Name.{is_name};
+ghost use Rattle.pg_message.specs.Parts.{pid_of};
+ghost use Rattle.pg_message.specs.Reading.{stamp_of, message_of, unreferred, referred, cast_of, freed, exchanged, request_of, request_on, membership_of, said_of, packet_of, packet_spelled, SpellsPacket};
+ghost use Rattle.pg_message.specs.declared.packet.Packet.{Packet};
+
+mod exchange;
+
+use crate::fault::MessageFault;
+use crate::message::{Message, Request, Said};
+use crate::name::is_name;
+use crate::packet::{MAX_STAMP, Packet};
+use crate::parts::{atom, elements, is_word, pid, reference};
+use crate::reading::exchange::groups;
+use pg_group::Update;
+use pg_term::{Reference, Term};
+use pg_term_io::decode;
+use std::alloc::{AllocError, Global};
+
+/// The packet that a body spells, all of its bytes.
+///
+/// Faults, the first that holds: those of its term, as `pg_term_io::decode` tells them; `NotAMessage`, where the term
+/// has not the shape of a packet, a name in it is refused by `check_name`, an exchange names a group twice, or the
+/// stamp is negative; `StampTooLarge`. `OutOfMemory` may be told in place of a later fault.
+///
+/// The time is linear in the number of bytes, but for an exchange whose groups do not ascend in the order of terms.
+pub fn read_packet(alloc: Global, body: &[u8]) -> Result<Packet, MessageFault>
+    // What is read is spelled so.
+    ensures found { IfOk result (λ packet. SpellsPacket packet body.now) }
+    // What is spelled so is read, unless memory runs out.
+    ensures only { (packet : Packet) → SpellsPacket packet body.now
+        → Gives (λ packet. packet) result (Ok packet) }
+    // Which fault it is.
+    ensures exact { Gives (λ packet. packet) result (packet_spelled body.now) }
+    // No list of members in it is longer than the body.
+    ensures few { IfOk result (λ packet. IsShort (length body.now) packet.message) }
+{
+    whole_packet(alloc, body)
+}
+
+fn whole_packet(alloc: Global, body: &[u8]) -> Result<Packet, MessageFault>
+    ensures { Gives (λ packet. packet) result (packet_spelled body.now) }
+{
+    packet(alloc, decode(alloc, body)?)
+}
+
+/// The packet that a term is.
+fn packet(alloc: Global, term: Term) -> Result<Packet, MessageFault>
+    ensures { Gives (λ packet. packet) result (packet_of term) }
+{
+    let Some(mut parts) = elements(term) else {
+        return Err(MessageFault::NotAMessage);
+    };
+    if parts.len() != 2 {
+        return Err(MessageFault::NotAMessage);
+    }
+    let said = parts.pop().unwrap();
+    let first = parts.pop().unwrap();
+    let Some(message) = message(alloc, said)? else {
+        return Err(MessageFault::NotAMessage);
+    };
+    let stamp = stamp(&first)?;
+    Ok(Packet { stamp, message })
+}
+
+fn stamp(term: &Term) -> Result<u32, MessageFault>
+    ensures { result ≡ stamp_of term.now }
+{
+    match term {
+        Term::Int(stamp) => match u32::try_from(*stamp) {
+            Ok(stamp) if stamp <= MAX_STAMP => Ok(stamp),
+            _ if *stamp < 0 => Err(MessageFault::NotAMessage),
+            _ => Err(MessageFault::StampTooLarge),
+        },
+        _ => Err(MessageFault::NotAMessage),
+    }
+}
+
+fn message(alloc: Global, term: Term) -> Result<Option<Message>, AllocError>
+    ensures { IfOk result (λ message. message ≡ message_of term) }
+{
+    let Some(mut parts) = elements(term) else {
+        return Ok(None);
+    };
+    match parts.len() {
+        2 => {
+            let said = parts.pop().unwrap();
+            let word = parts.pop().unwrap();
+            unreferred(alloc, &word, said)
+        }
+        3 => {
+            let said = parts.pop().unwrap();
+            let second = parts.pop().unwrap();
+            let word = parts.pop().unwrap();
+            let Some(reference) = reference(second) else {
+                return Ok(None);
+            };
+            Ok(referred(&word, reference, said))
+        }
+        _ => Ok(None),
+    }
+}
+
+// {cast, Cast} or {down, Pid}
+fn unreferred(alloc: Global, word: &Term, said: Term) -> Result<Option<Message>, AllocError>
+    ensures { IfOk result (λ message. message ≡ unreferred word.now said) }
+{
+    if is_word(word, "cast") {
+        cast(alloc, said)
+    } else if is_word(word, "down") {
+        Ok(pid(said).map(Message::Down))
+    } else {
+        Ok(None)
+    }
+}
+
+// {call, Ref, Request} or {reply, Ref, Said}
+fn referred(word: &Term, reference: Reference, said: Term) -> Option<Message>
+    ensures { result ≡ referred word.now reference said }
+{
+    if is_word(word, "call") {
+        let request = request(said)?;
+        Some(Message::Call(reference, request))
+    } else if is_word(word, "reply") {
+        let said = answer(&said)?;
+        Some(Message::Reply(reference, said))
+    } else {
+        None
+    }
+}
+
+fn cast(alloc: Global, term: Term) -> Result<Option<Message>, AllocError>
+    ensures { IfOk result (λ message. message ≡ cast_of term) }
+{
+    let Some(mut parts) = elements(term) else {
+        return Ok(None);
+    };
+    if parts.len() != 3 {
+        return Ok(None);
+    }
+    let second = parts.pop().unwrap();
+    let first = parts.pop().unwrap();
+    let word = parts.pop().unwrap();
+    if is_word(&word, "del_lock") {
+        Ok(freed(first, second))
+    } else if is_word(&word, "exchange") {
+        exchanged(alloc, first, second)
+    } else {
+        Ok(None)
+    }
+}
+
+// {del_lock, Name, Ref}
+fn freed(name: Term, second: Term) -> Option<Message>
+    ensures { result ≡ freed name second }
+{
+    if !is_name(&name) {
+        return None;
+    }
+    let reference = reference(second)?;
+    Some(Message::DelLock(name, reference))
+}
+
+// {exchange, Node, Groups}
+fn exchanged(alloc: Global, first: Term, second: Term) -> Result<Option<Message>, AllocError>
+    ensures { IfOk result (λ message. message ≡ exchanged first second) }
+{
+    let Some(node) = atom(first) else {
+        return Ok(None);
+    };
+    let Some(groups) = groups(alloc, second)? else {
+        return Ok(None);
+    };
+    Ok(Some(Message::Exchange(node, groups)))
+}
+
+fn request(term: Term) -> Option<Request>
+    ensures { result ≡ request_of term }
+{
+    let mut parts = elements(term)?;
+    match parts.len() {
+        2 => {
+            let name = parts.pop().unwrap();
+            let word = parts.pop().unwrap();
+            request_on(&word, name)
+        }
+        3 => {
+            let member = parts.pop().unwrap();
+            let name = parts.pop().unwrap();
+            let word = parts.pop().unwrap();
+            membership(&word, name, member)
+        }
+        _ => None,
+    }
+}
+
+// {set_lock, Name}, {create, Name} or {delete, Name}
+fn request_on(word: &Term, name: Term) -> Option<Request>
+    ensures { result ≡ (if is_name name then request_on word.now name else None) }
+{
+    if !is_name(&name) {
+        None
+    } else if is_word(word, "set_lock") {
+        Some(Request::SetLock(name))
+    } else if is_word(word, "create") {
+        Some(Request::Change(Update::Create(name)))
+    } else if is_word(word, "delete") {
+        Some(Request::Change(Update::Delete(name)))
+    } else {
+        None
+    }
+}
+
+// {join, Name, Pid} or {leave, Name, Pid}
+fn membership(word: &Term, name: Term, member: Term) -> Option<Request>
+    ensures { result ≡ (if is_name name
+        then option_and_then (membership_of word.now name) (pid_of member) else None) }
+{
+    if !is_name(&name) {
+        return None;
+    }
+    let pid = pid(member)?;
+    if is_word(word, "join") {
+        Some(Request::Change(Update::Join(name, pid)))
+    } else if is_word(word, "leave") {
+        Some(Request::Change(Update::Leave(name, pid)))
+    } else {
+        None
+    }
+}
+
+fn answer(term: &Term) -> Option<Said>
+    ensures { result ≡ said_of term.now }
+{
+    if is_word(term, "true") {
+        Some(Said::Granted)
+    } else if is_word(term, "false") {
+        Some(Said::Denied)
+    } else if is_word(term, "ok") {
+        Some(Said::Applied)
+    } else {
+        None
+    }
+}
