@@ -1,8 +1,10 @@
-//! The lock of each name at one node.
+//! The lock of each name at one node, and the rounds in which a command asks for it at all nodes.
 #![tactic(auto)]
 
+mod attempt;
 mod table;
 
+pub use attempt::Attempt;
 pub use table::LockTable;
 
 #[cfg(test)]

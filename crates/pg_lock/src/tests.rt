@@ -66,3 +66,18 @@ fn freed_by_its_holder_alone(rt: HostRuntime) -> Result<(), Fail> {
     assert!(rt; held.locks.holder(&held.g).is_none());
     Ok(())
 }
+
+#[test]
+fn two_rounds(rt: HostRuntime) {
+    let first = Attempt::new();
+    assert_eq!(rt; first, Attempt::AskingFirst);
+    assert_eq!(rt; first.answered(false), Attempt::Waiting);
+    let rest = first.answered(true);
+    assert_eq!(rt; rest, Attempt::AskingRest);
+    assert_eq!(rt; rest.answered(false), Attempt::Waiting);
+    assert_eq!(rt; rest.answered(true), Attempt::Held);
+    assert_eq!(rt; Attempt::Held.answered(false), Attempt::Held);
+    assert_eq!(rt; Attempt::Waiting.answered(true), Attempt::Waiting);
+    assert_eq!(rt; Attempt::Waiting.retried(), Some(Attempt::AskingFirst));
+    assert_eq!(rt; Attempt::Held.retried(), None);
+}
