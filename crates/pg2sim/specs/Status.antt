@@ -3,7 +3,7 @@ use Rattle.std.specs.Prelude.{◌≡◌, ℕ, List, [], ◌∷◌, map, codes, O
 use Rattle.std.specs.declared.string.String.{String}
 use Rattle.std.specs.declared.alloc.Global.{Global}
 use Rattle.pg_node.specs.declared.fault.ServeFault.{ServeFault}
-use Rattle.pg_node.specs.Replica.{Serves}
+use Rattle.pg_node.specs.Replica.{Pair, Serves}
 
 -- the one word `bytes`
 abbrev pub IsBytes : List (String Global) → Type 0
@@ -14,8 +14,12 @@ abbrev pub status_of : Result (Unit {0}) ServeFault → ℕ
 status_of (Ok done) = 0
 status_of (Err fault) = 1
 
+-- the program is the node b, and a is its peer
+abbrev pub named_pair : Pair
+named_pair = record { own = codes "b"; peer = codes "a" }
+
 -- an input was served, and this is the status
 pub record EndsWith (before after : Option (List ℕ)) (input : List ℕ) (status : ℕ) : Type 0 where
   pub result : Result (Unit {0}) ServeFault
-  pub serves : Serves before after input result
+  pub serves : Serves named_pair before after input result
   pub is : status ≡ status_of result

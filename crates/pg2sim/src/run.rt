@@ -1,10 +1,11 @@
-ghost use Rattle.std.specs.Prelude.{◌≡◌, ◌↔◌, IsTrue, IfSome};
+ghost use Rattle.std.specs.Prelude.{◌≡◌, ◌↔◌, IsTrue, IfSome, IfOk, IfErr};
+ghost use Rattle.pg_term.specs.declared.fault.TermFault.TheVariants.{OutOfMemory};
 ghost use Rattle.std.specs.Io.KnownBytes.{Keeps};
 ghost use Rattle.pg_node.specs.Replica.{Serves};
-ghost use Rattle.pg2sim.specs.Status.{IsBytes, EndsWith};
+ghost use Rattle.pg2sim.specs.Status.{IsBytes, EndsWith, named_pair};
 
 use pg_node::{ServeFault, serve};
-use pg_term::Atom;
+use pg_term::{Atom, TermFault};
 use std::alloc::Global;
 use std::io::{Read, Write};
 
@@ -59,9 +60,25 @@ fn is_bytes(words: &[String]) -> bool
 /// Serves the input as node `b` with the peer `a`.
 fn bytes<R: Read, W: Write>(alloc: Global, reader: &mut R, writer: &mut W) -> Result<(), ServeFault>
     ensures { IfSome (R.remaining reader.old) (λ input.
-        Serves (W.contents writer.old) (W.contents writer.new) input result) }
+        Serves named_pair (W.contents writer.old) (W.contents writer.new) input result) }
 {
-    let own = Atom::new(alloc, "b")?;
-    let peer = Atom::new(alloc, "a")?;
+    let own = own_name(alloc)?;
+    let peer = peer_name(alloc)?;
     serve(alloc, &own, &peer, reader, writer)
+}
+
+/// The name of the node.
+fn own_name(alloc: Global) -> Result<Atom, TermFault>
+    ensures value { IfOk result (λ name. name ≡ named_pair.own) }
+    ensures fault { IfErr result (λ fault. fault ≡ OutOfMemory) }
+{
+    Atom::new(alloc, "b")
+}
+
+/// The name of its peer.
+fn peer_name(alloc: Global) -> Result<Atom, TermFault>
+    ensures value { IfOk result (λ name. name ≡ named_pair.peer) }
+    ensures fault { IfErr result (λ fault. fault ≡ OutOfMemory) }
+{
+    Atom::new(alloc, "a")
 }

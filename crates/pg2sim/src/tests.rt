@@ -40,6 +40,28 @@ const LARGE_STAMP: [u8; 33] = [
     0, 0, 0, 1, 0, 0, 0, 0, 1,
 ];
 
+// The exchange of node a, which has no group, and its request for the lock of g.
+const EXCHANGE: [u8; 33] = [
+    0, 0, 0, 29, 131, 104, 2, 97, 0, 104, 2, 119, 4, 99, 97, 115, 116, 104, 3, 119, 8, 101, 120,
+    99, 104, 97, 110, 103, 101, 119, 1, 97, 106,
+];
+
+const SET_LOCK: [u8; 51] = [
+    0, 0, 0, 47, 131, 104, 2, 97, 1, 104, 3, 119, 4, 99, 97, 108, 108, 114, 0, 3, 119, 1, 97, 1, 0,
+    0, 0, 1, 0, 0, 0, 0, 0, 0, 0, 0, 104, 2, 119, 8, 115, 101, 116, 95, 108, 111, 99, 107, 119, 1,
+    103,
+];
+
+const GRANTED: [u8; 43] = [
+    0, 0, 0, 39, 131, 104, 2, 97, 2, 104, 3, 119, 5, 114, 101, 112, 108, 121, 114, 0, 3, 119, 1,
+    97, 1, 0, 0, 0, 1, 0, 0, 0, 0, 0, 0, 0, 0, 119, 4, 116, 114, 117, 101,
+];
+
+const DENIED: [u8; 44] = [
+    0, 0, 0, 40, 131, 104, 2, 97, 2, 104, 3, 119, 5, 114, 101, 112, 108, 121, 114, 0, 3, 119, 1,
+    97, 1, 0, 0, 0, 1, 0, 0, 0, 0, 0, 0, 0, 0, 119, 5, 102, 97, 108, 115, 101,
+];
+
 // What a run printed, and its status.
 #[derive(Drop)]
 struct Printed {
@@ -66,7 +88,11 @@ fn worked_examples(rt: HostRuntime) -> Result<(), Fail> {
     let alloc = rt.alloc();
     let mut bad_version = CREATE.to_vec(alloc)?;
     bad_version.extend_from_slice(&[0, 0, 0, 1, 130])?;
-    let rows: [(&str, &[u8], &[u8], &str, u8); 10] = [
+    let mut exchange_then_lock = EXCHANGE.to_vec(alloc)?;
+    exchange_then_lock.extend_from_slice(&SET_LOCK)?;
+    let mut second_exchange = EXCHANGE.to_vec(alloc)?;
+    second_exchange.extend_from_slice(&EXCHANGE)?;
+    let rows: [(&str, &[u8], &[u8], &str, u8); 13] = [
         ("create_call", &CREATE, &CREATED, "", 0),
         ("empty_input", &[], &[], "", 0),
         ("cut_input", &CREATE[..30], &[], "refused 1\n", 1),
@@ -88,7 +114,22 @@ fn worked_examples(rt: HostRuntime) -> Result<(), Fail> {
             "refused 2\n",
             1,
         ),
-        ("no update call", &LARGE_STAMP, &[], "refused 12\n", 1),
+        ("stamp_too_large", &LARGE_STAMP, &[], "refused 13\n", 1),
+        (
+            "exchange_then_lock",
+            exchange_then_lock.as_slice(),
+            &GRANTED,
+            "",
+            0,
+        ),
+        ("the lock alone", &SET_LOCK, &DENIED, "", 0),
+        (
+            "a second exchange",
+            second_exchange.as_slice(),
+            &[],
+            "refused 12\n",
+            1,
+        ),
     ];
     for (name, input, output, faults, status) in rows {
         let mut reader = input;

@@ -1,53 +1,48 @@
 -- What a body leads to, from what reading and taking it lead to.
 use Rattle.std.proofs.Common.{◌≡◌, ℕ, List, Result, Ok, Err, refl, sym, ap, subst, ◌∙◌}
 use Rattle.pg_term.specs.declared.fault.TermFault.TheVariants.{Truncated, BadVersion, UnknownTag, TooDeep, IntegerTooLarge, BadAtom, ImproperList, BadReference, TrailingBytes, OutOfMemory, TooLong}
-use Rattle.pg_node.specs.declared.call.UpdateCall.{UpdateCall}
+use Rattle.pg_message.specs.declared.fault.MessageFault.{MessageFault}
+use Rattle.pg_message.specs.declared.fault.MessageFault.TheVariants.{Term, NotAMessage, StampTooLarge, NameTooLarge}
+use Rattle.pg_message.specs.declared.packet.Packet.{Packet}
+use Rattle.pg_message.specs.Fault.{Fails}
+use Rattle.pg_message.specs.Reading.{packet_spelled}
 use Rattle.pg_node.specs.declared.fault.ServeFault.{ServeFault}
-use Rattle.pg_node.specs.declared.fault.ServeFault.TheVariants.{Term, FrameTooLong, NotAMessage, StampTooLarge, ClockFull, ReadFault, WriteFault}
-use Rattle.pg_node.specs.Replica.{State, Answer, Answers, Takes, Refuses, answered, taken, taken_call, replied, call_in}
-use Rattle.pg_term_io.specs.Writing.{written}
-use Rattle.pg_node.specs.Reply.{applied_reply}
+use Rattle.pg_node.specs.declared.fault.ServeFault.TheVariants.{Message}
+use Rattle.pg_node.specs.Fault.{Refuses}
+use Rattle.pg_node.specs.Replica.{Pair, State, Answer, Answers, answered, taken_in, taken_packet}
 
--- a step that passes faults on passes on what is told
-pub refused_on : {A B : Type 0} (step : Result A ServeFault → Result B ServeFault) → ((fault : ServeFault) → step (Err fault) ≡ Err fault) → (r : Result A ServeFault) (fault : ServeFault) → Refuses r fault → Refuses (step r) fault
-refused_on step passes r (Term Truncated) h = ap step h ∙ passes (Term Truncated)
-refused_on step passes r (Term BadVersion) h = ap step h ∙ passes (Term BadVersion)
-refused_on step passes r (Term UnknownTag) h = ap step h ∙ passes (Term UnknownTag)
-refused_on step passes r (Term TooDeep) h = ap step h ∙ passes (Term TooDeep)
-refused_on step passes r (Term IntegerTooLarge) h = ap step h ∙ passes (Term IntegerTooLarge)
-refused_on step passes r (Term BadAtom) h = ap step h ∙ passes (Term BadAtom)
-refused_on step passes r (Term ImproperList) h = ap step h ∙ passes (Term ImproperList)
-refused_on step passes r (Term BadReference) h = ap step h ∙ passes (Term BadReference)
-refused_on step passes r (Term TrailingBytes) h = ap step h ∙ passes (Term TrailingBytes)
-refused_on step passes r (Term OutOfMemory) h = tt
-refused_on step passes r (Term TooLong) h = ap step h ∙ passes (Term TooLong)
-refused_on step passes r FrameTooLong h = ap step h ∙ passes FrameTooLong
-refused_on step passes r NotAMessage h = ap step h ∙ passes NotAMessage
-refused_on step passes r StampTooLarge h = ap step h ∙ passes StampTooLarge
-refused_on step passes r ClockFull h = ap step h ∙ passes ClockFull
-refused_on step passes r ReadFault h = ap step h ∙ passes ReadFault
-refused_on step passes r WriteFault h = ap step h ∙ passes WriteFault
-
-module _ (s : State) (body : List ℕ) where
-  pub answered_of : answered s body ≡ taken_call s (call_in body)
+module _ (pair : Pair) (s : State) (body : List ℕ) where
+  answered_of : answered pair s body ≡ taken_in pair s (packet_spelled body)
   unfolding answered
   answered_of = refl
 
-  -- a body that is no call
-  pub unread_refused : (fault : ServeFault) → Refuses (call_in body) fault → Refuses (answered s body) fault
-  unread_refused fault h = subst (λ (r : Result Answer ServeFault). Refuses r fault) (sym answered_of) (refused_on (taken_call s) (λ f. refl) (call_in body) fault h)
+  told : (fault : MessageFault) → packet_spelled body ≡ Err fault → answered pair s body ≡ Err (Message fault)
+  told fault e = answered_of ∙ ap (taken_in pair s) e
 
-  module _ (call : UpdateCall) (read : call_in body ≡ Ok call) where
-    read_answered : answered s body ≡ replied call.reference (taken s call)
-    read_answered = answered_of ∙ ap (taken_call s) read
+  -- a body that is no packet
+  pub unread_refused : (fault : MessageFault) → Fails fault (packet_spelled body) → Refuses (answered pair s body) (Message fault)
+  unread_refused (Term Truncated) h = told (Term Truncated) h
+  unread_refused (Term BadVersion) h = told (Term BadVersion) h
+  unread_refused (Term UnknownTag) h = told (Term UnknownTag) h
+  unread_refused (Term TooDeep) h = told (Term TooDeep) h
+  unread_refused (Term IntegerTooLarge) h = told (Term IntegerTooLarge) h
+  unread_refused (Term BadAtom) h = told (Term BadAtom) h
+  unread_refused (Term ImproperList) h = told (Term ImproperList) h
+  unread_refused (Term BadReference) h = told (Term BadReference) h
+  unread_refused (Term TrailingBytes) h = told (Term TrailingBytes) h
+  unread_refused (Term OutOfMemory) h = tt
+  unread_refused (Term TooLong) h = told (Term TooLong) h
+  unread_refused NotAMessage h = told NotAMessage h
+  unread_refused StampTooLarge h = told StampTooLarge h
+  unread_refused NameTooLarge h = told NameTooLarge h
 
-    pub answers : (new : State) (before after : List ℕ) → Takes s new call before after → Answers s new body before after
-    answers new before after t = record {
-      reply = written (applied_reply new.clock call.reference);
-      is = read_answered ∙ ap (replied call.reference) t.is;
-      output = t.output;
-    }
+  module _ (packet : Packet) (read : packet_spelled body ≡ Ok packet) where
+    read_answered : taken_packet pair s packet ≡ answered pair s body
+    read_answered = sym (answered_of ∙ ap (taken_in pair s) read)
 
-    -- a call that is refused
-    pub untaken_refused : (fault : ServeFault) → Refuses (taken s call) fault → Refuses (answered s body) fault
-    untaken_refused fault h = subst (λ (r : Result Answer ServeFault). Refuses r fault) (sym read_answered) (refused_on (replied call.reference) (λ f. refl) (taken s call) fault h)
+    pub answers : (new : State) (before after : List ℕ) → Answers (taken_packet pair s packet) new before after → Answers (answered pair s body) new before after
+    answers new before after = subst (λ (r : Result Answer ServeFault). Answers r new before after) read_answered
+
+    -- a packet that is refused
+    pub untaken_refused : (fault : ServeFault) → Refuses (taken_packet pair s packet) fault → Refuses (answered pair s body) fault
+    untaken_refused fault = subst (λ (r : Result Answer ServeFault). Refuses r fault) read_answered

@@ -1,5 +1,7 @@
 pub mod Bodies
+pub mod Counts
+pub mod Marks
 pub mod Outcomes
-pub mod Replies
 pub mod Served
 pub mod Streams
+pub mod Taken

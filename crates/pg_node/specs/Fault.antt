@@ -1,20 +1,41 @@
 -- The faults' place in the one list of faults, and what a call may refuse.
-use Rattle.std.specs.Prelude.{ℕ}
+use Rattle.std.specs.Prelude.{◌≡◌, ℕ, Result, Err}
 use Rattle.pg_term.specs.declared.fault.TermFault.TheVariants.{OutOfMemory}
-use Rattle.pg_term.specs.Fault as term
+use Rattle.pg_message.specs.Fault.{message_number_of}
+use Rattle.pg_message.specs.declared.fault.MessageFault.TheVariants.{Term, NotAMessage}
+use Rattle.pg_exchange.specs.declared.fault.ExchangeFault.{ExchangeFault}
+use Rattle.pg_exchange.specs.declared.fault.ExchangeFault.TheVariants as exchange
+use Rattle.pg_machine.specs.Refusal.{Refusal}
+use Rattle.pg_machine.specs.Refusal as refusal
 use Rattle.pg_node.specs.declared.fault.ServeFault.{ServeFault}
-use Rattle.pg_node.specs.declared.fault.ServeFault.TheVariants.{Term, FrameTooLong, NotAMessage, StampTooLarge, ClockFull, ReadFault, WriteFault}
+use Rattle.pg_node.specs.declared.fault.ServeFault.TheVariants.{Message, FrameTooLong, ClockFull, ReadFault, WriteFault}
 
 -- the number of a fault
 abbrev pub number_of : ServeFault → ℕ
-number_of (Term fault) = term.number_of fault
+number_of (Message fault) = message_number_of fault
 number_of FrameTooLong = 11
-number_of NotAMessage = 12
-number_of StampTooLarge = 13
 number_of ClockFull = 30
 number_of ReadFault = 31
 number_of WriteFault = 32
 
 -- memory ran out
 abbrev pub out_of_memory : ServeFault
-out_of_memory = Term OutOfMemory
+out_of_memory = Message (Term OutOfMemory)
+
+-- the fault of an exchange that is refused
+abbrev pub from_exchange : ExchangeFault → ServeFault
+from_exchange exchange.NotAMessage = Message NotAMessage
+from_exchange exchange.OutOfMemory = out_of_memory
+
+-- the fault of a packet that the node's step refuses: it is no message, or the clock is full. A step tells the two others
+-- of commands and retries alone
+abbrev pub refused_as : Refusal → ServeFault
+refused_as refusal.ClockFull = ClockFull
+refused_as refusal.NotAMessage = Message NotAMessage
+refused_as refusal.NoSuchPlace = Message NotAMessage
+refused_as refusal.NotWaiting = Message NotAMessage
+
+-- a fault is the one that is told, or memory ran out
+abbrev pub Refuses : {A : Type 0} → Result A ServeFault → ServeFault → Type 0
+Refuses told (Message (Term OutOfMemory)) = Unit {0}
+Refuses told fault = told ≡ Err fault

@@ -2,40 +2,41 @@
 use Rattle.std.specs.Prelude.{◌≡◌, ℕ, Bool, false, List, [], ◌++◌, Option, Some, None, Ok, Err, ◌⊎◌}
 use Rattle.std.specs.Io.KnownBytes.{Appends, Keeps, Consumes, IsAtEnd}
 use Rattle.pg_term.specs.declared.fault.TermFault.TheVariants.{OutOfMemory}
+use Rattle.pg_message.specs.declared.fault.MessageFault.TheVariants.{Term}
 use Rattle.pg_frame.specs.Frames.{front_of, too_long, Leaves}
 use Rattle.pg_node.specs.declared.fault.ServeFault.{ServeFault}
-use Rattle.pg_node.specs.declared.fault.ServeFault.TheVariants.{Term, FrameTooLong, ReadFault, WriteFault}
-use Rattle.pg_node.specs.Replica.{State, answered, run, start, frames_of}
+use Rattle.pg_node.specs.declared.fault.ServeFault.TheVariants.{Message, FrameTooLong, ReadFault, WriteFault}
+use Rattle.pg_node.specs.Replica.{Pair, State, answered, run, start, frames_of}
 
 -- some bodies were taken and answered, and their replies written
-pub record Progress (unread0 unread1 : List ℕ) (s0 s1 : State) (out0 out1 : Option (List ℕ)) : Type 0 where
+pub record Progress (pair : Pair) (unread0 unread1 : List ℕ) (s0 s1 : State) (out0 out1 : Option (List ℕ)) : Type 0 where
   pub bodies : List (List ℕ)
   pub replies : List (List ℕ)
   pub leaves : Leaves unread0 bodies unread1
-  pub ran : run s0 bodies ≡ record { replies = replies; state = s1; fault = None }
+  pub ran : run pair s0 bodies ≡ record { replies = replies; state = s1; fault = None }
   pub wrote : Appends out0 out1 (frames_of replies)
 
 -- the next body is refused
-pub record Refused (fault : ServeFault) (unread : List ℕ) (s : State) : Type 0 where
+pub record Refused (pair : Pair) (fault : ServeFault) (unread : List ℕ) (s : State) : Type 0 where
   pub body : List ℕ
   pub front : front_of unread ≡ Ok (Some body)
-  pub is : answered s body ≡ Err fault
+  pub is : answered pair s body ≡ Err fault
 
 -- a fault comes next
-abbrev pub StopsAt : ServeFault → List ℕ → State → Option (List ℕ) → Option (List ℕ) → Type 0
-StopsAt FrameTooLong unread s w out1 = ((front_of unread ≡ Err too_long) ⊎ Refused FrameTooLong unread s) × Keeps w out1
-StopsAt (Term OutOfMemory) unread s w out1 = Keeps w out1
-StopsAt ReadFault unread s w out1 = Keeps w out1
-StopsAt WriteFault unread s w out1 = (part : List ℕ) × Appends w out1 part
-StopsAt fault unread s w out1 = Refused fault unread s × Keeps w out1
+abbrev pub StopsAt : Pair → ServeFault → List ℕ → State → Option (List ℕ) → Option (List ℕ) → Type 0
+StopsAt pair FrameTooLong unread s w out1 = ((front_of unread ≡ Err too_long) ⊎ Refused pair FrameTooLong unread s) × Keeps w out1
+StopsAt pair (Message (Term OutOfMemory)) unread s w out1 = Keeps w out1
+StopsAt pair ReadFault unread s w out1 = Keeps w out1
+StopsAt pair WriteFault unread s w out1 = (part : List ℕ) × Appends w out1 part
+StopsAt pair fault unread s w out1 = Refused pair fault unread s × Keeps w out1
 
 -- after some progress
-pub record Stops (fault : ServeFault) (unread0 : List ℕ) (s0 : State) (out0 out1 : Option (List ℕ)) : Type 0 where
+pub record Stops (pair : Pair) (fault : ServeFault) (unread0 : List ℕ) (s0 : State) (out0 out1 : Option (List ℕ)) : Type 0 where
   pub unread : List ℕ
   pub state : State
   pub written : Option (List ℕ)
-  pub progress : Progress unread0 unread s0 state out0 written
-  pub stops : StopsAt fault unread state written out1
+  pub progress : Progress pair unread0 unread s0 state out0 written
+  pub stops : StopsAt pair fault unread state written out1
 
 -- the next piece came in, or the input was over
 pub record Reads (r0 r1 : Option (List ℕ)) (unread0 unread1 : List ℕ) (more : Bool) : Type 0 where
@@ -45,8 +46,8 @@ pub record Reads (r0 r1 : Option (List ℕ)) (unread0 unread1 : List ℕ) (more 
   pub over : more ≡ false → IsAtEnd r1 × (piece ≡ [])
 
 -- what came in since the start was answered as far as packets are whole
-pub record Serving (r0 r1 : Option (List ℕ)) (unread : List ℕ) (s : State) (out0 out1 : Option (List ℕ)) : Type 0 where
+pub record Serving (pair : Pair) (r0 r1 : Option (List ℕ)) (unread : List ℕ) (s : State) (out0 out1 : Option (List ℕ)) : Type 0 where
   pub input : List ℕ
   pub consumed : Consumes r0 r1 input
-  pub progress : Progress input unread start s out0 out1
+  pub progress : Progress pair input unread start s out0 out1
   pub front : front_of unread ≡ Ok None

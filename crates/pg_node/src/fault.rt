@@ -1,3 +1,5 @@
+use pg_exchange::ExchangeFault;
+use pg_message::MessageFault;
 use pg_term::TermFault;
 use std::alloc::{AllocError, AllocFailed};
 use thiserror::Error;
@@ -5,18 +7,13 @@ use thiserror::Error;
 /// Why a replica stopped.
 #[derive(Clone, Copy, Debug, PartialEq, Eq, Error)]
 pub enum ServeFault {
-    /// A packet's body is no term, the input ends within a frame (`Truncated`), or memory ran out (`OutOfMemory`).
+    /// A packet's body is no term or no message, an exchange is refused (`NotAMessage`), the input ends within a frame
+    /// (`Truncated`), or memory ran out (`OutOfMemory`).
     #[error(transparent)]
-    Term(TermFault),
+    Message(MessageFault),
     /// A frame is longer than 16,777,216 bytes.
     #[error("the frame is too long")]
     FrameTooLong,
-    /// A term is none of the messages that are served.
-    #[error("the term is no message")]
-    NotAMessage,
-    /// The sender's clock is above 1,073,741,824.
-    #[error("the stamp is too large")]
-    StampTooLarge,
     /// The node's clock would pass 1,073,741,824.
     #[error("the clock is full")]
     ClockFull,
@@ -37,10 +34,8 @@ impl ServeFault {
         ensures { result ≡ number_of self }
     {
         match self {
-            ServeFault::Term(fault) => fault.number(),
+            ServeFault::Message(fault) => fault.number(),
             ServeFault::FrameTooLong => 11,
-            ServeFault::NotAMessage => 12,
-            ServeFault::StampTooLarge => 13,
             ServeFault::ClockFull => 30,
             ServeFault::ReadFault => 31,
             ServeFault::WriteFault => 32,
@@ -48,37 +43,63 @@ impl ServeFault {
     }
 }
 
+impl From<MessageFault> for ServeFault {
+    ghost use Rattle.std.specs.Prelude.{◌≡◌};
+    ghost use Rattle.pg_node.specs.declared.fault.ServeFault.TheVariants.{Message};
+
+    ghost from_gives = { λ fault e. e ≡ Message fault };
+
+    fn from(fault: MessageFault) -> ServeFault {
+        ServeFault::Message(fault)
+    }
+}
+
 impl From<TermFault> for ServeFault {
     ghost use Rattle.std.specs.Prelude.{◌≡◌};
-    ghost use Rattle.pg_node.specs.declared.fault.ServeFault.TheVariants.{Term};
+    ghost use Rattle.pg_node.specs.declared.fault.ServeFault.TheVariants.{Message};
+    ghost use Rattle.pg_message.specs.declared.fault.MessageFault.TheVariants.{Term};
 
-    ghost from_gives = { λ fault e. e ≡ Term fault };
+    ghost from_gives = { λ fault e. e ≡ Message (Term fault) };
 
     fn from(fault: TermFault) -> ServeFault {
-        ServeFault::Term(fault)
+        ServeFault::Message(MessageFault::Term(fault))
+    }
+}
+
+impl From<ExchangeFault> for ServeFault {
+    ghost use Rattle.std.specs.Prelude.{◌≡◌};
+    ghost use Rattle.pg_node.specs.Fault.{from_exchange};
+
+    ghost from_gives = { λ fault e. e ≡ from_exchange fault };
+
+    fn from(fault: ExchangeFault) -> ServeFault {
+        match fault {
+            ExchangeFault::NotAMessage => ServeFault::Message(MessageFault::NotAMessage),
+            ExchangeFault::OutOfMemory => {
+                ServeFault::Message(MessageFault::Term(TermFault::OutOfMemory))
+            }
+        }
     }
 }
 
 impl From<AllocError> for ServeFault {
     ghost use Rattle.std.specs.Prelude.{◌≡◌};
-    ghost use Rattle.pg_node.specs.declared.fault.ServeFault.TheVariants.{Term};
-    ghost use Rattle.pg_term.specs.declared.fault.TermFault.TheVariants.{OutOfMemory};
+    ghost use Rattle.pg_node.specs.Fault.{out_of_memory};
 
-    ghost from_gives = { λ _ e. e ≡ Term OutOfMemory };
+    ghost from_gives = { λ _ e. e ≡ out_of_memory };
 
     fn from(_e: AllocError) -> ServeFault {
-        ServeFault::Term(TermFault::OutOfMemory)
+        ServeFault::Message(MessageFault::Term(TermFault::OutOfMemory))
     }
 }
 
 impl<T: Drop> From<AllocFailed<T>> for ServeFault {
     ghost use Rattle.std.specs.Prelude.{◌≡◌};
-    ghost use Rattle.pg_node.specs.declared.fault.ServeFault.TheVariants.{Term};
-    ghost use Rattle.pg_term.specs.declared.fault.TermFault.TheVariants.{OutOfMemory};
+    ghost use Rattle.pg_node.specs.Fault.{out_of_memory};
 
-    ghost from_gives = { λ _ e. e ≡ Term OutOfMemory };
+    ghost from_gives = { λ _ e. e ≡ out_of_memory };
 
     fn from(_e: AllocFailed<T>) -> ServeFault {
-        ServeFault::Term(TermFault::OutOfMemory)
+        ServeFault::Message(MessageFault::Term(TermFault::OutOfMemory))
     }
 }

@@ -1,14 +1,10 @@
-//! The replica of one node: update calls come in as framed packets, and each is answered.
+//! The replica of one node: packets come in as a stream of frames, and each is taken by the node's step.
 #![tactic(auto)]
 
-mod call;
 mod fault;
 mod replica;
-mod reply;
 mod server;
-mod words;
 
-pub use call::MAX_CLOCK;
 pub use fault::ServeFault;
+pub use replica::MAX_CLOCK;
 pub use server::serve;
-pub use words::{MAX_NAME_DEPTH, MAX_NAME_LEN};

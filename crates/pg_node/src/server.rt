@@ -1,11 +1,11 @@
 ghost use Rattle.std.specs.Prelude.{◌≡◌, ◌<◌, ◌++◌, true, false, List, ℕ, length, [], Some, None, Ok, Err, IfSome, IfOk, IfErr, OnOk, ◌⊎◌, ◌==◌, if◌then◌else◌};
 ghost use Rattle.std.specs.Io.KnownBytes.{Appends, Keeps, Consumes, IsAtEnd};
 ghost use Rattle.pg_frame.specs.Frames.{front_of};
-ghost use Rattle.pg_group.specs.Ended.{ended_of};
 ghost use Rattle.pg_node.specs.Fault.{out_of_memory};
-ghost use Rattle.pg_node.specs.Replica.{start, state_from, Serves};
+ghost use Rattle.pg_node.specs.Replica.{start, pair_of, state_of, Serves};
 ghost use Rattle.pg_node.specs.Progress.{Progress, Reads, StopsAt, Stops};
-ghost use Rattle.pg_node.specs.declared.fault.ServeFault.TheVariants.{Term, ReadFault, WriteFault};
+ghost use Rattle.pg_node.specs.declared.fault.ServeFault.TheVariants.{Message, ReadFault, WriteFault};
+ghost use Rattle.pg_message.specs.declared.fault.MessageFault.TheVariants.{Term};
 ghost use Rattle.pg_term.specs.declared.fault.TermFault.TheVariants.{Truncated};
 
 use crate::fault::ServeFault;
@@ -13,8 +13,9 @@ use crate::replica::Replica;
 use bytes::BytesMut;
 use pg_frame::Deframer;
 use pg_group::{GroupTable, RowTable};
+use pg_message::MessageFault;
 use pg_term::{Atom, TermFault};
-use std::alloc::Global;
+use std::alloc::{AllocError, Global};
 use std::io::{Read, Write};
 
 /// How many bytes one read asks for.
@@ -49,19 +50,19 @@ struct Server<T: GroupTable> {
     reply: BytesMut,
 }
 
-impl<T: GroupTable> Server<T> {
+impl<T: GroupTable + Drop> Server<T> {
     /// Answers the next packet, if it is there: its reply is written whole before the packet is taken away.
     fn answer_next<W: Write>(&mut self, writer: &mut W) -> Result<bool, ServeFault>
-        ensures progress { OnOk result (Progress self.old.deframer.unread self.new.deframer.unread
-            (state_from self.old.replica.clock (T.contents self.old.replica.table) (ended_of self.old.replica.ended))
-            (state_from self.new.replica.clock (T.contents self.new.replica.table) (ended_of self.new.replica.ended))
+        ensures progress { OnOk result (Progress (pair_of self.old.replica) self.old.deframer.unread
+            self.new.deframer.unread
+            (state_of self.old.replica) (state_of self.new.replica)
             (W.contents writer.old) (W.contents writer.new)) }
+        ensures pair { pair_of self.new.replica ≡ pair_of self.old.replica }
         ensures some { IfOk result (λ taken. taken ≡ true
             → length self.new.deframer.unread < length self.old.deframer.unread) }
         ensures none { IfOk result (λ taken. taken ≡ false → front_of self.new.deframer.unread ≡ Ok None) }
-        ensures fault { IfErr result (λ fault. StopsAt fault self.old.deframer.unread
-            (state_from self.old.replica.clock (T.contents self.old.replica.table) (ended_of self.old.replica.ended))
-            (W.contents writer.old) (W.contents writer.new)) }
+        ensures fault { IfErr result (λ fault. StopsAt (pair_of self.old.replica) fault self.old.deframer.unread
+            (state_of self.old.replica) (W.contents writer.old) (W.contents writer.new)) }
     {
         let body = match self.deframer.front() {
             Ok(Some(body)) => body,
@@ -77,14 +78,14 @@ impl<T: GroupTable> Server<T> {
 
     /// Answers all packets that are there.
     fn answer_all<W: Write>(&mut self, writer: &mut W) -> Result<(), ServeFault>
-        ensures progress { OnOk result (Progress self.old.deframer.unread self.new.deframer.unread
-            (state_from self.old.replica.clock (T.contents self.old.replica.table) (ended_of self.old.replica.ended))
-            (state_from self.new.replica.clock (T.contents self.new.replica.table) (ended_of self.new.replica.ended))
+        ensures progress { OnOk result (Progress (pair_of self.old.replica) self.old.deframer.unread
+            self.new.deframer.unread
+            (state_of self.old.replica) (state_of self.new.replica)
             (W.contents writer.old) (W.contents writer.new)) }
+        ensures pair { pair_of self.new.replica ≡ pair_of self.old.replica }
         ensures none { OnOk result (front_of self.new.deframer.unread ≡ Ok None) }
-        ensures fault { IfErr result (λ fault. Stops fault self.old.deframer.unread
-            (state_from self.old.replica.clock (T.contents self.old.replica.table) (ended_of self.old.replica.ended))
-            (W.contents writer.old) (W.contents writer.new)) }
+        ensures fault { IfErr result (λ fault. Stops (pair_of self.old.replica) fault self.old.deframer.unread
+            (state_of self.old.replica) (W.contents writer.old) (W.contents writer.new)) }
     {
         while self.answer_next(writer)? {}
         Ok(())
@@ -96,8 +97,8 @@ impl<T: GroupTable> Server<T> {
         ensures piece { IfOk result (Reads (R.remaining reader.old) (R.remaining reader.new)
             self.old.deframer.unread self.new.deframer.unread) }
         ensures fault { IfErr result (λ fault. (fault ≡ ReadFault) ⊎ (fault ≡ out_of_memory)) }
-        ensures state { state_from self.new.replica.clock (T.contents self.new.replica.table) (ended_of self.new.replica.ended)
-            ≡ state_from self.old.replica.clock (T.contents self.old.replica.table) (ended_of self.old.replica.ended) }
+        ensures pair { pair_of self.new.replica ≡ pair_of self.old.replica }
+        ensures state { state_of self.new.replica ≡ state_of self.old.replica }
     {
         let count = match reader.read(piece) {
             Ok(count) => count,
@@ -110,10 +111,9 @@ impl<T: GroupTable> Server<T> {
     /// Serves the whole input.
     fn run<R: Read, W: Write>(&mut self, reader: &mut R, writer: &mut W) -> Result<(), ServeFault>
         requires fresh { self.old.deframer.unread ≡ [] }
-        requires start { state_from self.old.replica.clock (T.contents self.old.replica.table)
-            (ended_of self.old.replica.ended) ≡ start }
+        requires start { state_of self.old.replica ≡ start }
         ensures { IfSome (R.remaining reader.old) (λ input.
-            Serves (W.contents writer.old) (W.contents writer.new) input result) }
+            Serves (pair_of self.old.replica) (W.contents writer.old) (W.contents writer.new) input result) }
     {
         let mut piece = [0; PIECE_LEN];
         for _ in 0..MAX_READS {
@@ -130,44 +130,55 @@ impl<T: GroupTable> Server<T> {
 
     /// What the end of the input leads to.
     fn finish(&self) -> Result<(), ServeFault>
-        ensures { result ≡ (if length self.now.deframer.unread == 0 then Ok tt else Err (Term Truncated)) }
+        ensures { result ≡ (if length self.now.deframer.unread == 0 then Ok tt else Err (Message (Term Truncated))) }
     {
         if self.deframer.rest_len() == 0 {
             Ok(())
         } else {
-            Err(ServeFault::Term(TermFault::Truncated))
+            Err(ServeFault::Message(MessageFault::Term(TermFault::Truncated)))
         }
     }
 }
 
-/// Answers the update calls of a stream of framed packets: the replica of the node `own`, which has one peer, no
-/// port, and is not formed. A packet with stamp s sets the clock to `max(clock, s) + 1`, and its reply carries that
-/// clock; each reply is written whole before the next packet is taken.
+/// Serves a stream of framed packets: the replica of the node `own`, which has the one peer `peer`, no port and no group,
+/// and sends no exchange. It answers requests for updates and for locks; a lock is granted once the exchange of the peer
+/// was taken. It takes in the peer's groups, freed locks and ends of processes. A reply to it is a stranger's, as it asks
+/// for nothing. A packet with stamp s sets the clock to `max(clock, s) + 1`, and what is sent for it carries that clock.
+/// Each reply is written whole before the next packet is taken.
 ///
 /// It ends at the end of the input: `Ok` where no bytes are left over, else `Truncated`. It ends at the first fault,
-/// in this order for one packet: `FrameTooLong`, the faults of terms, `NotAMessage`, `StampTooLarge`, `ClockFull`;
-/// or at `ReadFault`, `WriteFault` or `OutOfMemory`, and then the replies to the packets before it were written
-/// whole. The time is linear in the input, the memory in the longest frame and in the groups with their members.
+/// in this order for one packet: `FrameTooLong`, the faults of terms, `NotAMessage`, `StampTooLarge`, `ClockFull`, and
+/// `NotAMessage` for an exchange of another node than the peer or a second one; or at `ReadFault`, `WriteFault` or
+/// `OutOfMemory`, and then the replies to the packets before it were written whole. The time is linear in the input but
+/// for exchanges, which copy the table; the memory is that of the longest frame and of the groups with their members.
 ///
-/// Update calls need neither of the two names, which the exchanges of initial groups will need; until then a body that
-/// swaps them keeps the contract.
-///
-/// The rules: a `gen_server` call and its reply (`gen_server:multi_call/4`), whose terms are in the External Term
-/// Format, and `create/1`, `delete/1`, `join/2` and `leave/2` of the pg2 manual page.
+/// The rules: `global:set_lock/2` and `global:del_lock/1` of the global manual page, a `gen_server` call and its reply
+/// (`gen_server:multi_call/4`), whose terms are in the External Term Format, and `create/1`, `delete/1`, `join/2` and
+/// `leave/2` of the pg2 manual page.
 pub fn serve<R: Read, W: Write>(
     alloc: Global,
-    _own: &Atom,
-    _peer: &Atom,
+    own: &Atom,
+    peer: &Atom,
     reader: &mut R,
     writer: &mut W,
 ) -> Result<(), ServeFault>
-    ensures { IfSome (R.remaining reader.old) (λ input.
-        Serves (W.contents writer.old) (W.contents writer.new) input result) }
+    ensures { IfSome (R.remaining reader.old) (λ input. Serves (record { own = own.now; peer = peer.now })
+        (W.contents writer.old) (W.contents writer.new) input result) }
 {
-    let mut server = Server {
-        deframer: Deframer::new(alloc),
-        replica: Replica::new(alloc, RowTable::new(alloc)),
-        reply: BytesMut::new(alloc),
-    };
+    let mut server = idle_server(alloc, own, peer)?;
     server.run(reader, writer)
+}
+
+/// A server that has read nothing.
+fn idle_server(alloc: Global, own: &Atom, peer: &Atom) -> Result<Server<RowTable>, AllocError>
+    ensures pair { IfOk result (λ server. pair_of server.replica ≡ record { own = own.now; peer = peer.now }) }
+    ensures state { IfOk result (λ server. state_of server.replica ≡ start) }
+    ensures unread { IfOk result (λ server. server.deframer.unread ≡ []) }
+{
+    let replica = Replica::new(alloc, own.copy()?, peer.copy()?, RowTable::new(alloc))?;
+    Ok(Server {
+        deframer: Deframer::new(alloc),
+        replica,
+        reply: BytesMut::new(alloc),
+    })
 }

@@ -3,32 +3,35 @@ use Rattle.std.specs.Io.KnownBytes.{Appends}
 use Rattle.std.specs.Option.{option_copied}
 use Rattle.std.proofs.lemmas.Result.{err_from_is_err_and}
 use Rattle.pg_frame.specs.Frames.{front_of}
-use Rattle.pg_group.specs.Ended.{ended_of}
+use Rattle.pg_frame.proofs.Readings.{front_is_frame}
 use Rattle.pg_node.specs.Progress.{Progress}
-use Rattle.pg_node.specs.Replica.{state_from, Answers}
+use Rattle.pg_node.specs.Replica.{pair_of, state_of, Answers, answered}
 use Rattle.pg_node.proofs.Streams.{stay, one, refused}
 use Rattle.pg_node.proofs.server.Server.answer_next.Goals as goal
 
 pub returns-in-Ok-None-clause-progress : goal.returns-in-Ok-None-clause-progress
-returns-in-Ok-None-clause-progress g c =
-    stay c.args.self.now.deframer.unread (state_from c.args.self.now.replica.clock (g.T.GroupTable.contents c.args.self.now.replica.table) (ended_of c.args.self.now.replica.ended)) (g.W.Write.contents c.args.writer.now)
+returns-in-Ok-None-clause-progress g c = stay (pair_of c.args.self.now.replica) c.args.self.now.deframer.unread (state_of c.args.self.now.replica) (g.W.Write.contents c.args.writer.now)
+
+pub answer-requires : goal.answer-requires
+answer-requires g c =
+    front_is_frame.lawful c.args.self.now.deframer.unread c.in-Ok-Some.body.now (sym c.in-Ok-Some.ensures.body ∙ ap (λ o. Ok (option_copied o)) c.in-Ok-Some.field-0-is)
 
 pub returns-in_err-answer-clause-fault : goal.returns-in_err-answer-clause-fault
 returns-in_err-answer-clause-fault g c =
-    let s = state_from c.args.self.now.replica.clock (g.T.GroupTable.contents c.args.self.now.replica.table) (ended_of c.args.self.now.replica.ended) in
     let unread = c.args.self.now.deframer.unread in
     let front : front_of unread ≡ Ok (Some c.in-Ok-Some.body.now) = sym c.in-Ok-Some.ensures.body ∙ ap (λ o. Ok (option_copied o)) c.in-Ok-Some.field-0-is in
     let p = err_from_is_err_and c.from_residual.result c.from_residual.ensures.1 in
-    rw (p.1, p.2) (refused unread c.in-Ok-Some.body.now s (g.W.Write.contents c.args.writer.now) front c.in_err-answer.field-0.0 c.in_err-answer.ensures.fault)
+    rw (p.1, p.2) (refused (pair_of c.args.self.now.replica) unread c.in-Ok-Some.body.now (state_of c.args.self.now.replica) (g.W.Write.contents c.args.writer.now) front c.in_err-answer.field-0.0 c.in_err-answer.ensures.fault)
 
 pub returns-clause-progress : goal.returns-clause-progress
 returns-clause-progress g c =
-    let s = state_from c.args.self.now.replica.clock (g.T.GroupTable.contents c.args.self.now.replica.table) (ended_of c.args.self.now.replica.ended) in
-    let t = state_from c.answer.new.self.clock (g.T.GroupTable.contents c.answer.new.self.table) (ended_of c.answer.new.self.ended) in
+    let pair = pair_of c.args.self.now.replica in
+    let s = state_of c.args.self.now.replica in
+    let t = state_of c.answer.new.self in
     let unread = c.args.self.now.deframer.unread in
     let body = c.in-Ok-Some.body.now in
     let front : front_of unread ≡ Ok (Some body) = sym c.in-Ok-Some.ensures.body ∙ ap (λ o. Ok (option_copied o)) c.in-Ok-Some.field-0-is in
-    let answers : Answers s t body [] c.answer.new.out.items = subst (λ (b : List ℕ). Answers s t body b c.answer.new.out.items) c.clear.ensures.items c.in_ok-answer.ensures.ok in
+    let answers : Answers (answered pair s body) t [] c.answer.new.out.items = subst (λ (b : List ℕ). Answers (answered pair s body) t b c.answer.new.out.items) c.clear.ensures.items c.in_ok-answer.ensures.ok in
     let wrote = subst (Appends (g.W.Write.contents c.args.writer.now) (g.W.Write.contents c.put_whole.new.writer)) c.as_slice.ensures c.in_ok-put_whole.ensures.ok in
-    subst (λ (u : List ℕ). Progress unread u s t (g.W.Write.contents c.args.writer.now) (g.W.Write.contents c.put_whole.new.writer)) (sym c.next.ensures.unread)
-    (one unread body s t (g.W.Write.contents c.args.writer.now) (g.W.Write.contents c.put_whole.new.writer) c.answer.new.out.items front answers wrote)
+    subst (λ (u : List ℕ). Progress pair unread u s t (g.W.Write.contents c.args.writer.now) (g.W.Write.contents c.put_whole.new.writer)) (sym c.next.ensures.unread)
+    (one pair unread body s t (g.W.Write.contents c.args.writer.now) (g.W.Write.contents c.put_whole.new.writer) c.answer.new.out.items front answers wrote)

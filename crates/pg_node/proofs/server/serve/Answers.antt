@@ -1,0 +1,14 @@
+use Rattle.std.proofs.Common.{[], inr, refl}
+use Rattle.std.proofs.lemmas.Result.{err_from_is_err_and}
+use Rattle.pg_node.specs.Fault.{out_of_memory}
+use Rattle.pg_node.specs.Replica.{Pair, start}
+use Rattle.pg_node.proofs.Served.{at_start, unread_ends}
+use Rattle.pg_node.proofs.server.serve.Goals as goal
+
+pub returns-in_err-server : goal.returns-in_err-server
+returns-in_err-server g c =
+    let input = g.R.Read.remaining c.args.reader.now in
+    let output = g.W.Write.contents c.args.writer.now in
+    let pair : Pair = record { own = c.args.own.now; peer = c.args.peer.now } in
+    let p = err_from_is_err_and c.from_residual.result c.from_residual.ensures.1 in
+    rw (p.1, p.2) (unread_ends pair input input [] start output output (at_start pair input output [] start refl refl) out_of_memory (inr refl))
