@@ -1,0 +1,302 @@
+-- A command has every grant, and its update goes out.
+use Rattle.std.proofs.Common.{◌≡◌, ◌≢◌, ℕ, ◌+◌, ◌<◌, Bool, true, false, ◌&&◌, cond, List, [], ◌∷◌, ◌++◌, nat_eq, refl, ap, sym, ◌∙◌, subst, inl, inr, ◌⊎◌, arith, append-nil}
+use Rattle.pg_term.specs.declared.term.Term.{Term}
+use Rattle.pg_term.specs.RefParts.{RefParts}
+use Rattle.pg_term.specs.Same.{same_atom, same_term}
+use Rattle.pg_refs.specs.Numbered.{numbered}
+use Rattle.pg_group.specs.declared.update.Update.{Update}
+use Rattle.pg_group.specs.Functions.{upd}
+use Rattle.pg_group.specs.Value.{name_of}
+use Rattle.pg_group.specs.Table.{Table}
+use Rattle.pg_lock.specs.Locks.{Locks, is_holder}
+use Rattle.pg_message.specs.declared.message.Message.{Message}
+use Rattle.pg_message.specs.declared.message.Message.TheVariants.{Call}
+use Rattle.pg_message.specs.declared.message.Request.TheVariants.{Change}
+use Rattle.pg_machine.specs.declared.command.OpId.{OpId}
+use Rattle.pg_machine.specs.Nodes.{Node, Nodes, is_peer}
+use Rattle.pg_machine.specs.State.{State, Status, Use}
+use Rattle.pg_machine.specs.State.Status.{Yes}
+use Rattle.pg_machine.specs.State.Use.{Fresh, Locking, Owning, Updating}
+use Rattle.pg_machine.specs.State.Stage.{Closed, Asking, Changing}
+use Rattle.pg_machine.specs.Turns.{NodeTurn}
+use Rattle.pg_machine.specs.Attempts.{same_op, begin}
+use Rattle.pg_history.proofs.Keys.{atoms, terms, numbers, split, differ, same_is, upd_same, read_at, read_other, at_read, from_read}
+use Rattle.pg_history.proofs.References.{about, about-append, about_here, about_sent_other, numbered_other, numbered_same}
+use Rattle.pg_history.proofs.Lines.{Line, talk_same, shows, Fits, FitsStatus, FitsReply, sent_nil}
+use Rattle.pg_history.proofs.Lines.Line.{Quiet, Having, Telling}
+use Rattle.pg_history.proofs.Moves.{refit, told}
+use Rattle.pg_history.proofs.Named.{World, Entry, perform, on, of_name}
+use Rattle.pg_history.proofs.Kept.{talk, near, live, near_live, Sound, IsUpdateOf, IsOpOf, updating, weight, Counted, Inv, carried, Tale, opens}
+use Rattle.pg_history.proofs.Framed.{Acts, ours_sent, spoken, acts_lines, acts_tidy, acts_about, locks_here, locks_there, sound_perform, once_same}
+use Rattle.pg_history.proofs.Telling.{tell_same, tell_more, fewer_upd, more_upd, tale_same, use_read, on-append, of_name-append}
+use Rattle.pg_history.proofs.Seats.{Sits, seated, to_own, to_own_at, to_near}
+use Rattle.pg_history.proofs.Stages.{other_stage, commands}
+use Rattle.pg_history.proofs.Weights.{counts_moved, one_only, none_only}
+use Rattle.pg_history.proofs.Unique.{update_is, update_owner, update_holds, one_ref, yes_holds}
+
+-- the uses when an update begins
+abbrev begun : (ℕ → Use) → ℕ → ℕ → OpId → Update → (Node → Bool) → ℕ → Use
+begun f c n op u rep = upd nat_eq (upd nat_eq f c (Owning (name_of u) n)) n (Updating op u c rep)
+
+sound_begin : (s : State) (c : ℕ) (op : OpId) (u : Update) (st : Node → Status) (rep : Node → Bool) (table : Table) → s.uses c ≡ Locking op u st → Sound s
+    → Sound (record s { table = table; references = s.references + 1; uses = begun s.uses c (s.references + 1) op u rep; stages = upd same_op s.stages op (Changing (s.references + 1)) })
+sound_begin s c op u st rep table is h = record {
+  fresh = λ k lt.
+      let d : k ≢ s.references + 1 = omega arith in
+      let lt' : s.references < k = omega arith in
+      let z : s.uses k ≡ Fresh = h.fresh k lt' in
+      read_other nat_eq numbers own_uses n new k d ∙ (read_other nat_eq numbers s.uses c (Owning (name_of u) n) k (λ q. let y : s.uses k ≡ s.uses c = ap s.uses q in cc) ∙ z);
+  absent = λ o lt. other_stage s.stages op (Changing n) Closed o (h.absent o lt) (λ q. cc slot);
+  asking = λ k o v sv e. from_read nat_eq numbers (λ x. x ≡ Locking o v sv) (upd same_op s.stages op (Changing n) o ≡ Asking k) own_uses n new k e
+      (λ q f. absurd (cc))
+      (λ d f. from_read nat_eq numbers (λ x. x ≡ Locking o v sv) (upd same_op s.stages op (Changing n) o ≡ Asking k) s.uses c (Owning (name_of u) n) k f
+      (λ q g. absurd (cc))
+      (λ l g. other_stage s.stages op (Changing n) (Asking k) o (h.asking k o v sv g) (λ q. l (cc slot))));
+  changing = λ i o v k rp e. from_read nat_eq numbers (λ x. x ≡ Updating o v k rp) (upd same_op s.stages op (Changing n) o ≡ Changing i) own_uses n new i e
+      (λ q f. let z : o ≡ op = cc in read_at same_op commands s.stages op (Changing n) o z ∙ ap Changing (sym q))
+      (λ d f. from_read nat_eq numbers (λ x. x ≡ Updating o v k rp) (upd same_op s.stages op (Changing n) o ≡ Changing i) s.uses c (Owning (name_of u) n) i f
+      (λ q g. absurd (cc))
+      (λ l g. other_stage s.stages op (Changing n) (Changing i) o (h.changing i o v k rp g) (λ q. cc slot)));
+  owning = λ i o v k rp e. from_read nat_eq numbers (λ x. x ≡ Updating o v k rp) (begun s.uses c n op u rep k ≡ Owning (name_of v) i) own_uses n new i e
+      (λ q f.
+      let z : k ≡ c = cc in
+      let y : v ≡ u = cc in
+      subst (λ x. begun s.uses c n op u rep x ≡ Owning (name_of v) i) (sym z) (own ∙ (ap (λ x. Owning (name_of x) n) (sym y) ∙ ap (Owning (name_of v)) (sym q))))
+      (λ d f. from_read nat_eq numbers (λ x. x ≡ Updating o v k rp) (begun s.uses c n op u rep k ≡ Owning (name_of v) i) s.uses c (Owning (name_of u) n) i f
+      (λ q g. absurd (cc))
+      (λ l g.
+      let z : s.uses k ≡ Owning (name_of v) i = h.owning i o v k rp g in
+      read_other nat_eq numbers own_uses n new k (λ q. let y : s.uses k ≡ s.uses n = ap s.uses q in cc fresh)
+      ∙ (read_other nat_eq numbers s.uses c (Owning (name_of u) n) k (λ q. let y : s.uses k ≡ s.uses c = ap s.uses q in cc) ∙ z)));
+}
+  where
+    n : ℕ
+    n = s.references + 1
+
+    new : Use
+    new = Updating op u c rep
+
+    own_uses : ℕ → Use
+    own_uses = upd nat_eq s.uses c (Owning (name_of u) n)
+
+    slot : s.stages op ≡ Asking c
+    slot = h.asking c op u st is
+
+    fresh : s.uses n ≡ Fresh
+    fresh = h.fresh n (omega arith)
+
+    apart : c ≢ n
+    apart q = let y : s.uses c ≡ s.uses n = ap s.uses q in cc fresh
+
+    own : begun s.uses c n op u rep c ≡ Owning (name_of u) n
+    own = read_other nat_eq numbers own_uses n new c apart ∙ upd_same nat_eq numbers s.uses c (Owning (name_of u) n)
+
+module _ (w : World) (a : Node) (peers : List Node) (sits : Sits w.nodes a peers) (c : ℕ) (op : OpId) (u : Update) (st : Node → Status) where
+  abbrev m : Nodes
+  m = seated a peers
+
+  abbrev s : State
+  s = w.node a
+
+  abbrev N : Term
+  N = name_of u
+
+  abbrev n : ℕ
+  n = s.references + 1
+
+  abbrev r : RefParts
+  r = numbered a n
+
+  abbrev x : Message
+  x = Call r (Change u)
+
+  abbrev all_peers : Node → Bool
+  all_peers q = true
+
+  abbrev t : NodeTurn
+  t = begin m c op u s
+
+  abbrev new : Use
+  new = Updating op u c (same_atom a)
+
+  abbrev own_uses : ℕ → Use
+  own_uses = upd nat_eq s.uses c (Owning N n)
+
+  fresh : Inv w → s.uses n ≡ Fresh
+  fresh inv = (inv.sound a).fresh n (omega arith)
+
+  begin_acts : Acts w a n t
+  begin_acts = record {
+    silent = to_own w.nodes a peers sits all_peers x;
+    sends = λ h k q other. about_sent_other (numbered h k) (is_peer m q && true) x (numbered_other a h n k other);
+    ours = λ q. ours_sent a q (is_peer m q && true) x (n, refl);
+    locks = λ h k M other. refl;
+  }
+
+  quiet : Inv w → (p : Node) → near w a p → (l : talk w a n p) → l.line ≡ Quiet
+  quiet inv p d l = subst (λ y. Fits y p l.line) (fresh inv) l.fits
+
+  to_self : (p : Node) → p ≡ a → about r (t.sends p) ≡ []
+  to_self p q = ap (about r) (to_own_at w.nodes a peers sits all_peers x p q)
+
+  to_peer : (p : Node) → near w a p → p ≢ a → about r (t.sends p) ≡ x ∷ []
+  to_peer p d l = ap (about r) (to_near w.nodes a peers sits all_peers x p d l refl) ∙ about_here r x [] (numbered_same a n)
+
+  begin_line : Inv w → (p : Node) → near w a p → spoken w a t n p
+  begin_line inv p d = go (split same_atom atoms p a)
+    where
+      l : talk w a n p
+      l = inv.lines a n p d
+
+      how : t.state.uses n ≡ new
+      how = upd_same nat_eq numbers own_uses n new
+
+      eye : Term → Locks → Bool
+      eye M f = is_holder (f M) r
+
+      at : (b : Bool) (y : Line) → same_atom a p ≡ b → FitsReply u b y → FitsReply u (same_atom a p) y
+      at b y e f = subst (λ z. FitsReply u z y) (sym e) f
+
+      go : (p ≡ a) ⊎ (p ≢ a) → spoken w a t n p
+      go (inl q) = talk_same (refit {how' = new} l (at true l.line (same_is same_atom atoms a p (sym q)) (quiet inv p d l))) how
+          (ap (λ o. about r (w.wire a p) ++ o) (to_self p q) ∙ append-nil (about r (w.wire a p))) refl
+          (λ M. ap (eye M) (locks_here w a t.state p q ∙ ap (λ y. (w.node y).locks) (sym q)))
+      go (inr k) = talk_same (told {how' = new} u l (quiet inv p d l) (at false (Telling u) (differ same_atom atoms a p (λ y. k (sym y))) refl)) how
+          (ap (λ o. about r (w.wire a p) ++ o) (to_peer p d k)) refl (λ M. ap (eye M) (locks_there w a t.state p k))
+
+  begin_counts : s.uses c ≡ Locking op u st → Inv w → Counted (perform w a t)
+  begin_counts is inv = counts_moved w a t op (Changing n) 1 0 refl (λ i o. one_only (same_atom i a && same_op o op)) (λ i o. none_only (same_atom i a && same_op o op))
+      (ap (λ y. weight y + 1) ((inv.sound a).asking c op u st is)) inv.counts
+
+  begin_tale : live w a → s.uses c ≡ Locking op u st → ((p : Node) → near w a p → st p ≡ Yes) → Inv w → (M : Term) (p : Node) → live w p → Tale (perform w a t) M p
+  begin_tale la is all inv M p lp = go (split same_term terms M N)
+    where
+      v : World
+      v = perform w a t
+
+      e : Entry
+      e = record { node = a; op = op; update = u }
+
+      log_a : on M (w.log a ++ u ∷ []) ≡ on M (w.log a) ++ cond (same_term M N) (u ∷ []) []
+      log_a = on-append M (w.log a) (u ∷ [])
+
+      none : M ≢ N → on M (w.log a ++ u ∷ []) ≡ on M (w.log a)
+      none l = log_a ∙ (ap (λ b. on M (w.log a) ++ cond b (u ∷ []) []) (differ same_term terms M N l) ∙ append-nil (on M (w.log a)))
+
+      apart : c ≢ n
+      apart q = let y : s.uses c ≡ s.uses n = ap s.uses q in cc (is, fresh inv)
+
+      -- an update of the name is the new one, or was there
+      newer : (i : Node) (k : ℕ) → IsUpdateOf M ((v.node i).uses k) → (((i ≡ a) × (k ≡ n)) × (N ≡ M)) ⊎ IsUpdateOf M ((w.node i).uses k)
+      newer i k h = from_read same_atom atoms (λ (y : State). IsUpdateOf M (y.uses k)) ((((i ≡ a) × (k ≡ n)) × (N ≡ M)) ⊎ IsUpdateOf M ((w.node i).uses k)) w.node a t.state i h
+          (λ q g. from_read nat_eq numbers (IsUpdateOf M) ((((i ≡ a) × (k ≡ n)) × (N ≡ M)) ⊎ IsUpdateOf M ((w.node i).uses k)) own_uses n new k g
+          (λ d z. inl ((q, d), z))
+          (λ d z. inr (subst (λ y. IsUpdateOf M ((w.node y).uses k)) (sym q) (fewer_upd s.uses c (Owning N n) M (λ y. absurd y) k z))))
+          (λ q g. inr g)
+
+      fewer : N ≢ M → (i : Node) (k : ℕ) → IsUpdateOf M ((v.node i).uses k) → IsUpdateOf M ((w.node i).uses k)
+      fewer l i k h = elim (newer i k h) [ inl y ↦ absurd (l y.1) | inr y ↦ y ]
+
+      more : (i : Node) (k : ℕ) → IsUpdateOf M ((w.node i).uses k) → IsUpdateOf M ((v.node i).uses k)
+      more i k = use_read w a t.state (λ i y. IsUpdateOf M ((w.node i).uses k) → IsUpdateOf M y) k
+          (λ h. more_upd own_uses n new M (λ z. absurd (subst (IsUpdateOf M) (read_other nat_eq numbers s.uses c (Owning N n) n (λ y. apart (sym y)) ∙ fresh inv) z)) k
+          (more_upd s.uses c (Owning N n) M (λ z. subst (IsUpdateOf M) is z) k h))
+          (λ i d h. h) i
+
+      names : of_name M v.history ≡ of_name M w.history ++ cond (same_term M N) (e ∷ []) []
+      names = of_name-append M w.history (e ∷ [])
+
+      names_here : M ≡ N → of_name M v.history ≡ of_name M w.history ++ e ∷ []
+      names_here q = names ∙ ap (λ b. of_name M w.history ++ cond b (e ∷ []) []) (same_is same_term terms M N q)
+
+      ops : (i : Node) (k : ℕ) → IsUpdateOf M ((w.node i).uses k) → (o : OpId) → IsOpOf ((w.node i).uses k) o → IsOpOf ((v.node i).uses k) o
+      ops i k = use_read w a t.state (λ i y. IsUpdateOf M ((w.node i).uses k) → (o : OpId) → IsOpOf ((w.node i).uses k) o → IsOpOf y o) k
+          (λ h o. let y : k ≢ n = λ d. subst (IsUpdateOf M) (ap s.uses d ∙ fresh inv) h in
+          let z : k ≢ c = λ d. subst (IsUpdateOf M) (ap s.uses d ∙ is) h in
+          subst (λ y. IsOpOf y o) (sym (read_other nat_eq numbers own_uses n new k y ∙ read_other nat_eq numbers s.uses c (Owning N n) k z)))
+          (λ i d h o g. g) i
+
+      wires : (i : Node) (k : ℕ) → IsUpdateOf M ((w.node i).uses k) → carried (about (numbered i k) (v.wire i p)) ≡ carried (about (numbered i k) (w.wire i p))
+      wires i k h = place (split same_atom atoms a i) (split nat_eq numbers n k)
+        where
+          place : (a ≡ i) ⊎ (a ≢ i) → (n ≡ k) ⊎ (n ≢ k) → carried (about (numbered i k) (v.wire i p)) ≡ carried (about (numbered i k) (w.wire i p))
+          place (inl q) (inl d) = absurd (subst (IsUpdateOf M) (ap (λ y. (w.node y).uses k) (sym q) ∙ (ap s.uses (sym d) ∙ fresh inv)) h)
+          place (inl q) (inr l) = ap carried (acts_about w a n t begin_acts i k i p (inr l))
+          place (inr l) _ = ap carried (acts_about w a n t begin_acts i k i p (inl l))
+
+      meets : near w a p
+      meets = near_live w a p la lp
+
+      -- what is on the way of the new update
+      way : about r (v.wire a p) ≡ about r (t.sends p)
+      way =
+          let l : talk w a n p = inv.lines a n p meets in
+          ap (λ (f : Node → List Message). about r (f p)) (upd_same same_atom atoms w.wire a (λ y. w.wire a y ++ t.sends y))
+          ∙ (about-append r (w.wire a p) (t.sends p) ∙ ap (λ o. o ++ about r (t.sends p)) (sent_nil ((shows l Quiet (quiet inv p meets l)).out_is)))
+
+      used : v.node a ≡ t.state
+      used = upd_same same_atom atoms w.node a t.state
+
+      new_use : (v.node a).uses n ≡ new
+      new_use = ap (λ (y : State). y.uses n) used ∙ upd_same nat_eq numbers own_uses n new
+
+      same : M ≡ N → Tale w M p → Tale v M p
+      same q (inr d) =
+          let b = update_is N ((w.node d.i).uses d.n) (subst (λ y. IsUpdateOf y ((w.node d.i).uses d.n)) q d.update) in
+          let o = one_ref d.i a b.lock c ((w.node p).locks N) (update_holds w inv d.i d.n N p d.near_it b) (yes_holds w inv a c op u st p meets is (all p meets)) in
+          let y : (w.node d.i).uses b.lock ≡ Owning N d.n = update_owner w inv d.i d.n N b in
+          let z : (w.node d.i).uses b.lock ≡ s.uses c = ap (λ k. (w.node k).uses b.lock) o.0 ∙ ap s.uses o.1 in
+          absurd (cc)
+      same q (inl f) = place (split same_atom atoms p a)
+        where
+          clear : p ≡ a → (i : Node) (k : ℕ) → live w i → IsUpdateOf M ((v.node i).uses k) → carried (about (numbered i k) (v.wire i p)) ≡ []
+          clear d i k li h = elim (newer i k h) [
+            | inl y ↦ ap (λ z. carried (about (numbered z k) (v.wire z p))) y.0.0 ∙ (ap (λ z. carried (about (numbered a z) (v.wire a p))) y.0.1 ∙ ap carried (way ∙ to_self p d))
+            | inr y ↦ wires i k y ∙ f.clear i k li y
+          ]
+
+          place : (p ≡ a) ⊎ (p ≢ a) → Tale v M p
+          place (inl d) = inl (record {
+            thin = tell_more w v.node v.wire v.log v.history v.answered M p (of_name M w.history) e
+                (ap (on M) (read_at same_atom atoms w.log a (w.log a ++ u ∷ []) p d) ∙ (log_a ∙ (ap (λ b. on M (w.log a) ++ cond b (u ∷ []) []) (same_is same_term terms M N q) ∙ ap (λ y. on M (w.log y) ++ u ∷ []) (sym d))))
+                (names_here q) f.thin;
+            clear = clear d;
+          })
+          place (inr l) = inr (record {
+            i = a;
+            n = n;
+            near_it = meets;
+            update = subst (IsUpdateOf M) (sym new_use) (sym q);
+            before = of_name M w.history;
+            last = e;
+            is = names_here q;
+            node = refl;
+            command = subst (λ y. IsOpOf y op) (sym new_use) (updating op u c (same_atom a));
+            thin = tell_same w v.node v.wire v.log v.history v.answered M p (ap (on M) (read_other same_atom atoms w.log a (w.log a ++ u ∷ []) p l)) refl f.thin;
+            way = ap carried (way ∙ to_peer p meets l);
+          })
+
+      go : (M ≡ N) ⊎ (M ≢ N) → Tale v M p
+      go (inl q) = same q (inv.tales M p lp)
+      go (inr l) = tale_same w _ _ _ _ _ M p (inv.tales M p lp)
+          (at_read same_atom atoms (λ y. on M y ≡ on M (w.log p)) w.log a (w.log a ++ u ∷ []) p (λ q. none l ∙ ap (λ y. on M (w.log y)) (sym q)) (λ q. refl))
+          (names ∙ (ap (λ b. of_name M w.history ++ cond b (e ∷ []) []) (differ same_term terms M N l) ∙ append-nil (of_name M w.history))) ops (fewer (λ q. l (sym q))) more wires
+
+  pub begin_keeps : live w a → (w.node a).uses c ≡ Locking op u st → ((p : Node) → near w a p → st p ≡ Yes) → Inv w → Inv (perform w a (begin (seated a peers) c op u (w.node a)))
+  begin_keeps la is all inv = record {
+    seats = inv.seats;
+    lines = acts_lines w a n t inv begin_acts (begin_line inv) (λ k p d l y.
+        subst (λ z. Fits z p y.line) (sym (read_other nat_eq numbers own_uses n new k l))
+        (at_read nat_eq numbers (λ z. Fits z p y.line) s.uses c (Owning N n) k (λ q. has k p d q y) (λ j. y.fits)));
+    tidy = acts_tidy w a n t inv begin_acts;
+    sound = sound_perform w a t inv.sound (sound_begin s c op u st (same_atom a) t.state.table is (inv.sound a));
+    tales = begin_tale la is all inv;
+    counts = begin_counts is inv;
+    once = once_same w a t refl (λ o. at_read same_op commands (λ v. opens v ≡ opens (s.stages o)) s.stages op (Changing n) o
+        (λ e. sym (ap (λ y. opens (s.stages y)) e ∙ ap opens ((inv.sound a).asking c op u st is))) (λ d. refl)) (λ port. omega arith) inv.once;
+  }
+    where
+      has : (k : ℕ) (p : Node) → near w a p → k ≡ c → (l : talk w a k p) → l.line ≡ Having N
+      has k p d q l =
+          let f : FitsStatus N (st p) l.line = subst (λ y. Fits y p l.line) (ap s.uses q ∙ is) l.fits in
+          subst (λ v. FitsStatus N v l.line) (all p d) f

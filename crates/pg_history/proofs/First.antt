@@ -1,0 +1,67 @@
+-- What is held of a world holds of one where nothing has happened yet.
+use Rattle.std.proofs.Common.{◌≡◌, ℕ, ◌+◌, [], None, refl, ap, sym, ◌∙◌, subst, inl, arith}
+use Rattle.std.specs.List.{AllByRecursion}
+use Rattle.pg_term.specs.declared.term.Term.{Term}
+use Rattle.pg_term.specs.RefParts.{RefParts}
+use Rattle.pg_refs.specs.Numbered.{numbered}
+use Rattle.pg_lock.specs.Locks.{is_holder}
+use Rattle.pg_machine.specs.declared.command.OpId.{OpId}
+use Rattle.pg_machine.specs.Nodes.{Node}
+use Rattle.pg_machine.specs.State.Use.{Fresh}
+use Rattle.pg_machine.specs.State.Stage.{Closed}
+use Rattle.pg_history.proofs.References.{about}
+use Rattle.pg_history.proofs.Lines.{Fits}
+use Rattle.pg_history.proofs.Lines.Line.{Quiet}
+use Rattle.pg_history.proofs.Named.{World, Seated, on, of_name, updates, times}
+use Rattle.pg_history.proofs.Kept.{IsOurs, Sound, weight, answers_of, carried, talk, Inv, opens}
+
+-- no lock is held, no reference made, no command given, nothing about a reference is on the way, and nothing applied
+pub record IsFirst (w : World) : Type 0 where
+  pub seats : Seated w.nodes w.seat
+  pub locks : (i : Node) (N : Term) → (w.node i).locks N ≡ None
+  pub uses : (i : Node) (c : ℕ) → (w.node i).uses c ≡ Fresh
+  pub stages : (i : Node) (op : OpId) → (w.node i).stages op ≡ Closed
+  pub own : (x : Node) → w.wire x x ≡ []
+  pub plain : (x y : Node) (r : RefParts) → about r (w.wire x y) ≡ []
+  pub ours : (x y : Node) → AllByRecursion (IsOurs x y) (w.wire x y)
+  pub log : (p : Node) → w.log p ≡ []
+  pub history : w.history ≡ []
+  pub answered : w.answered ≡ []
+
+pub first_holds : (w : World) → IsFirst w → Inv w
+first_holds w first = record {
+  seats = first.seats;
+  lines = λ i c p m. line i c p;
+  tidy = record { own = first.own; stray = λ x y h c n m. first.plain x y (numbered h c); ours = first.ours };
+  sound = sound;
+  tales = λ N p lp. inl (record {
+    thin = ap (on N) (first.log p) ∙ sym (ap (λ es. updates (of_name N es)) first.history);
+    clear = λ i n li u. ap carried (first.plain i p (numbered i n));
+  });
+  counts = λ i op. ap (times i op) first.history ∙ (λ j. weight (sym (first.stages i op) j) + answers_of i op (sym first.answered j));
+  once = record {
+    known = λ i op.
+        let p : opens ((w.node i).stages op) ≡ 0 = ap opens (first.stages i op) in
+        let q : answers_of i op w.answered ≡ 0 = ap (answers_of i op) first.answered in
+        omega (arith, p, q);
+    unknown = λ i op lt. ap (answers_of i op) first.answered;
+  };
+}
+  where
+    line : (i : Node) (c : ℕ) (p : Node) → talk w i c p
+    line i c p = record {
+      line = Quiet;
+      fits = subst (λ x. Fits x p Quiet) (sym (first.uses i c)) refl;
+      out_is = first.plain i p (numbered i c);
+      back_is = first.plain p i (numbered i c);
+      hold_is = λ M. ap (λ o. is_holder o (numbered i c)) (first.locks p M);
+    }
+
+    sound : (i : Node) → Sound (w.node i)
+    sound i = record {
+      fresh = λ c lt. first.uses i c;
+      absent = λ op lt. first.stages i op;
+      asking = λ c op u st e. let fresh : (w.node i).uses c ≡ Fresh = first.uses i c in absurd (cc);
+      changing = λ n op u c rep e. let fresh : (w.node i).uses n ≡ Fresh = first.uses i n in absurd (cc);
+      owning = λ n op u c rep e. let fresh : (w.node i).uses n ≡ Fresh = first.uses i n in absurd (cc);
+    }

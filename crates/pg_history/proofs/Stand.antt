@@ -1,0 +1,161 @@
+-- What a turn makes of a command: whether it may begin its update still, and what was begun and answered of it.
+use Rattle.std.proofs.Common.{◌≡◌, ◌⊎◌, inl, inr, ℕ, ◌+◌, ◌<◌, ◌≤◌, Bool, true, false, ◌&&◌, ◌||◌, cond, nat_eq, List, [], ◌∷◌, ◌++◌, Option, Some, None, refl, ap, sym, ◌∙◌, subst, arith}
+use Rattle.std.specs.List.{list_any}
+use Rattle.std.proofs.lemmas.Bool.{cases_lt, eq-eqb, eqb-true}
+use Rattle.std.proofs.lemmas.List.Folds.{list_any-append}
+use Rattle.pg_group.specs.declared.update.Update.{Update}
+use Rattle.pg_group.proofs.Changes.{upd_at, upd_by}
+use Rattle.pg_machine.specs.declared.command.OpId.{OpId}
+use Rattle.pg_machine.specs.State.{State, Stage, Response}
+use Rattle.pg_machine.specs.State.Stage.{Closed, Waiting, Asking, Changing}
+use Rattle.pg_machine.specs.Turns.{Told}
+use Rattle.pg_machine.specs.Attempts.{same_op, with_answer}
+use Rattle.pg_machine.specs.History.{is_op as tells_op, has_answer}
+use Rattle.pg_history.specs.Sound.{Sound}
+use Rattle.pg_history.proofs.Soundly.{op_is}
+
+-- ---- counts
+
+-- 1 while the update of a command goes out
+abbrev pub under_way : Stage → ℕ
+under_way (Changing n) = 1
+under_way _ = 0
+
+-- 1 while a command may begin its update still, by whether it has an answer and by its stage
+abbrev pub may_begin : Bool → Stage → ℕ
+may_begin has (Changing n) = 0
+may_begin has Closed = cond has 0 1
+may_begin has _ = 1
+
+abbrev pub chance : OpId → State → ℕ
+chance op s = may_begin (has_answer op s) (s.stages op)
+
+abbrev pub begun_by : OpId → Option (OpId × Update) → ℕ
+begun_by op None = 0
+begun_by op (Some x) = cond (same_op op x.0) 1 0
+
+abbrev pub answered_by : OpId → Option OpId → ℕ
+answered_by op o = cond (tells_op op o) 1 0
+
+-- From the state s a turn that told this came to the state t.
+pub record Stands (op : OpId) (s t : State) (told : Told) : Type 0 where
+  -- who begins has no chance more, and no chance comes
+  pub spends : begun_by op told.began + chance op t ≤ chance op s
+  -- what was begun is under way until it is answered
+  pub balances : under_way (t.stages op) + answered_by op told.answered ≡ under_way (s.stages op) + begun_by op told.began
+
+pub chance_one : (has : Bool) (stage : Stage) → may_begin has stage ≤ 1
+chance_one true Closed = omega arith
+chance_one false Closed = omega arith
+chance_one has (Waiting u) = omega arith
+chance_one has (Asking c) = omega arith
+chance_one has (Changing n) = omega arith
+
+-- an answer leaves no greater chance
+less_chance : (before later : Bool) (stage : Stage) → (before ≡ true → later ≡ true) → may_begin later stage ≤ may_begin before stage
+less_chance true true stage has = omega arith
+less_chance true false stage has = absurd (no (has refl))
+  where
+    no : false ≡ true → ⊥
+    no e = absurd (cc)
+less_chance false true Closed has = omega arith
+less_chance false true (Waiting u) has = omega arith
+less_chance false true (Asking c) has = omega arith
+less_chance false true (Changing n) has = omega arith
+less_chance false false stage has = omega arith
+
+no_more : (n k : ℕ) → n ≤ k → 0 + n ≤ k
+no_more n k within = omega arith
+
+-- a command whose stage stays
+pub stands_still : (op : OpId) (s t : State) (told : Told) → t.stages op ≡ s.stages op → begun_by op told.began ≡ 0 → answered_by op told.answered ≡ 0
+    → (has_answer op s ≡ true → has_answer op t ≡ true) → Stands op s t told
+stands_still op s t told stage began answered has = record {
+  spends = subst (λ n. n + chance op t ≤ chance op s) (sym began)
+      (subst (λ x. 0 + may_begin (has_answer op t) x ≤ chance op s) (sym stage)
+      (no_more (may_begin (has_answer op t) (s.stages op)) (chance op s) (less_chance (has_answer op s) (has_answer op t) (s.stages op) has)));
+  balances = ap (λ x. under_way x + answered_by op told.answered) stage ∙ ap (λ n. under_way (s.stages op) + n) (answered ∙ sym began);
+}
+
+-- a command that comes from one stage to another
+pub stands_by : (op : OpId) (s t : State) (told : Told) (old new : Stage) (began answered : ℕ) → s.stages op ≡ old → t.stages op ≡ new
+    → begun_by op told.began ≡ began → answered_by op told.answered ≡ answered
+    → began + may_begin (has_answer op t) new ≤ may_begin (has_answer op s) old → under_way new + answered ≡ under_way old + began → Stands op s t told
+stands_by op s t told old new began answered was is begins answers chances counts = record {
+  spends = subst (λ n. n + chance op t ≤ chance op s) (sym begins)
+      (subst (λ x. began + may_begin (has_answer op t) x ≤ chance op s) (sym is)
+      (subst (λ x. began + may_begin (has_answer op t) new ≤ may_begin (has_answer op s) x) (sym was) chances));
+  balances = ap (λ x. under_way x + answered_by op told.answered) is ∙ ap (λ n. under_way new + n) answers ∙ counts
+      ∙ ap (λ x. under_way x + began) (sym was) ∙ ap (λ n. under_way (s.stages op) + n) (sym begins);
+}
+
+-- one command, and any other
+pub each_op : (Q : OpId → Type 0) (op : OpId) → Q op → ((other : OpId) → same_op op other ≡ false → same_op other op ≡ false → Q other) → (other : OpId) → Q other
+each_op Q op own others other = go (same_op op other) (same_op other op) refl refl
+  where
+    go : (b d : Bool) → same_op op other ≡ b → same_op other op ≡ d → Q other
+    go true d e f = subst Q (op_is op other e) own
+    go false true e f = subst Q (sym (op_is other op f)) own
+    go false false e f = others other e f
+
+-- ---- answers
+
+any_left : (x y : Bool) → x ≡ true → (x || y) ≡ true
+any_left true y e = refl
+any_left false y e = absurd (cc)
+
+any_right : (x y : Bool) → y ≡ true → (x || y) ≡ true
+any_right true y e = refl
+any_right false y e = e
+
+any_one : (x y : Bool) → (x || (y || false)) ≡ true → y ≡ false → x ≡ true
+any_one true y e f = refl
+any_one false true e f = absurd (cc)
+any_one false false e f = absurd (cc)
+
+module _ (op : OpId) (r : Response) (s t : State) (answers : t.answers ≡ with_answer s.answers op r) where
+  has_by : (other : OpId) → has_answer other t ≡ list_any (λ a. nat_eq a.0 other.number) (with_answer s.answers op r other.port)
+  has_by other = ap (λ (f : ℕ → List (ℕ × Response)). list_any (λ a. nat_eq a.0 other.number) (f other.port)) answers
+
+  pub has_it : has_answer op t ≡ true
+  has_it =
+      let more = s.answers op.port ++ (op.number, r) ∷ [] in
+      has_by op ∙ ap (list_any (λ a. nat_eq a.0 op.number)) (upd_at nat_eq s.answers op.port more (eq-eqb op.port op.port refl))
+      ∙ list_any-append (λ a. nat_eq a.0 op.number) (s.answers op.port) ((op.number, r) ∷ [])
+      ∙ any_right (has_answer op s) _ (any_left (nat_eq op.number op.number) false (eq-eqb op.number op.number refl))
+
+  pub has_still : (other : OpId) → has_answer other s ≡ true → has_answer other t ≡ true
+  has_still other has = has_by other ∙ upd_by nat_eq s.answers op.port (λ xs. list_any test xs ≡ true) (s.answers op.port ++ (op.number, r) ∷ []) other.port
+      (λ same. list_any-append test (s.answers op.port) ((op.number, r) ∷ [])
+      ∙ any_left (list_any test (s.answers op.port)) _ (ap (λ p. list_any test (s.answers p)) (eqb-true op.port other.port same) ∙ has)) (λ _. has)
+    where
+      test : ℕ × Response → Bool
+      test a = nat_eq a.0 other.number
+
+  -- an answer that another command has, it had
+  pub had : (other : OpId) → same_op op other ≡ false → has_answer other t ≡ true → has_answer other s ≡ true
+  had other apart has = upd_by nat_eq s.answers op.port (λ xs. list_any test xs ≡ true → list_any test (s.answers other.port) ≡ true) (s.answers op.port ++ (op.number, r) ∷ []) other.port
+      (λ same any. ap (λ p. list_any test (s.answers p)) (sym (eqb-true op.port other.port same))
+      ∙ any_one (list_any test (s.answers op.port)) (nat_eq op.number other.number)
+      (sym (list_any-append test (s.answers op.port) ((op.number, r) ∷ [])) ∙ any) (number same)) (λ _ any. any) (sym (has_by other) ∙ has)
+    where
+      test : ℕ × Response → Bool
+      test a = nat_eq a.0 other.number
+
+      number : nat_eq op.port other.port ≡ true → nat_eq op.number other.number ≡ false
+      number same = sym (ap (λ b. b && nat_eq op.number other.number) same) ∙ apart
+
+-- ---- what is kept
+
+pub record Kept (s : State) : Type 0 where
+  pub sound : Sound s
+  -- a command with an answer has come in, and is open no more
+  pub over : (op : OpId) → has_answer op s ≡ true → (s.stages op ≡ Closed) × (op.number ≤ s.counts op.port)
+
+-- a command that is open has come in
+pub open_is_in : (s : State) → Sound s → (op : OpId) → (s.stages op ≡ Closed → ⊥) → op.number ≤ s.counts op.port
+open_is_in s sound op open_ = go (cases_lt (s.counts op.port) op.number)
+  where
+    go : (s.counts op.port < op.number) ⊎ (op.number ≤ s.counts op.port) → op.number ≤ s.counts op.port
+    go (inl above) = absurd (open_ (sound.closed op above))
+    go (inr within) = within
