@@ -1,6 +1,6 @@
 //! Each growth of memory refused in turn: the call tells so, and succeeds when it is made again.
 
-use crate::samples::{CREATE, EXCHANGE};
+use crate::samples::{APPLIED, CREATE, DEL_LOCK, EXCHANGE, JOIN};
 use bytes::BytesMut;
 use pg_message::{MessageFault, Packet, read_packet, write_packet, write_packet_into};
 use pg_term::TermFault;
@@ -60,7 +60,39 @@ fn growths_refused_for_a_call(rt: HostRuntime) -> Result<(), Fail> {
 }
 
 #[test]
+fn growths_refused_for_a_join(rt: HostRuntime) -> Result<(), Fail> {
+    assert!(rt; are_kept(rt.alloc(), JOIN)?);
+    Ok(())
+}
+
+#[test]
+fn growths_refused_for_a_reply(rt: HostRuntime) -> Result<(), Fail> {
+    assert!(rt; are_kept(rt.alloc(), APPLIED)?);
+    Ok(())
+}
+
+#[test]
+fn growths_refused_for_a_freed_lock(rt: HostRuntime) -> Result<(), Fail> {
+    assert!(rt; are_kept(rt.alloc(), DEL_LOCK)?);
+    Ok(())
+}
+
+#[test]
 fn growths_refused_for_an_exchange(rt: HostRuntime) -> Result<(), Fail> {
     assert!(rt; are_kept(rt.alloc(), EXCHANGE)?);
+    Ok(())
+}
+
+// {0, {cast, {exchange, a, [[g, []], [g, []]]}}}
+const TWICE: &[u8] = &[
+    131, 104, 2, 97, 0, 104, 2, 119, 4, 99, 97, 115, 116, 104, 3, 119, 8, 101, 120, 99, 104, 97,
+    110, 103, 101, 119, 1, 97, 108, 0, 0, 0, 2, 108, 0, 0, 0, 2, 119, 1, 103, 106, 106, 108, 0, 0,
+    0, 2, 119, 1, 103, 106, 106, 106,
+];
+
+#[test]
+fn growths_refused_for_a_group_named_twice(rt: HostRuntime) -> Result<(), Fail> {
+    let fault = read(rt.alloc(), TWICE).err();
+    assert!(rt; fault == Some(MessageFault::NotAMessage));
     Ok(())
 }

@@ -1,6 +1,6 @@
 //! Each message of the table, read from its bytes and written as them.
 
-use crate::samples::{APPLIED, CREATE, EXCHANGE, kind_of};
+use crate::samples::{APPLIED, CREATE, DEL_LOCK, EXCHANGE, JOIN, kind_of};
 use bytes::BytesMut;
 use pg_message::{Message, MessageFault, packet_len, read_packet, write_packet, write_packet_into};
 use std::alloc::Global;
@@ -14,11 +14,6 @@ const DELETE: &[u8] = &[
 const SET_LOCK: &[u8] = &[
     131, 104, 2, 98, 64, 0, 0, 0, 104, 3, 119, 4, 99, 97, 108, 108, 114, 0, 1, 119, 1, 97, 0, 0, 0,
     0, 7, 104, 2, 119, 8, 115, 101, 116, 95, 108, 111, 99, 107, 97, 5,
-];
-
-const JOIN: &[u8] = &[
-    131, 104, 2, 97, 0, 104, 3, 119, 4, 99, 97, 108, 108, 114, 0, 1, 119, 1, 97, 0, 0, 0, 0, 7,
-    104, 3, 119, 4, 106, 111, 105, 110, 119, 1, 103, 103, 119, 1, 97, 0, 0, 0, 1, 0, 0, 0, 0, 1,
 ];
 
 const LEAVE: &[u8] = &[
@@ -35,11 +30,6 @@ const GRANTED: &[u8] = &[
 const DENIED: &[u8] = &[
     131, 104, 2, 98, 0, 0, 1, 0, 104, 3, 119, 5, 114, 101, 112, 108, 121, 114, 0, 1, 119, 1, 97, 0,
     0, 0, 0, 7, 119, 5, 102, 97, 108, 115, 101,
-];
-
-const DEL_LOCK: &[u8] = &[
-    131, 104, 2, 97, 9, 104, 2, 119, 4, 99, 97, 115, 116, 104, 3, 119, 8, 100, 101, 108, 95, 108,
-    111, 99, 107, 119, 1, 103, 114, 0, 1, 119, 1, 97, 0, 0, 0, 0, 7,
 ];
 
 const NOTHING_TOLD: &[u8] = &[

@@ -6,7 +6,9 @@ pub mod Listed
 pub mod Members
 pub mod Put
 pub mod ReadBack
+pub mod Rows
 pub mod Sent
 pub mod Spelled
 pub mod Stamps
+pub mod Standing
 pub mod Words

@@ -11,6 +11,7 @@ ghost use Rattle.pg_message.specs.Parts.{pid_of};
 ghost use Rattle.pg_message.specs.Reading.{stamp_of, message_of, unreferred, referred, cast_of, freed, exchanged, request_of, request_on, membership_of, said_of, packet_of, packet_spelled, SpellsPacket};
 ghost use Rattle.pg_message.specs.declared.packet.Packet.{Packet};
 
+mod direct;
 mod exchange;
 
 use crate::fault::MessageFault;
@@ -18,9 +19,10 @@ use crate::message::{Message, Request, Said};
 use crate::name::is_name;
 use crate::packet::{MAX_STAMP, Packet};
 use crate::parts::{atom, elements, is_word, pid, reference};
+use crate::reading::direct::{Detour, direct_packet};
 use crate::reading::exchange::groups;
 use pg_group::Update;
-use pg_term::{Reference, Term};
+use pg_term::{Reference, Term, TermFault};
 use pg_term_io::decode;
 use std::alloc::{AllocError, Global};
 
@@ -30,7 +32,8 @@ use std::alloc::{AllocError, Global};
 /// has not the shape of a packet, a name in it is refused by `check_name`, an exchange names a group twice, or the
 /// stamp is negative; `StampTooLarge`. `OutOfMemory` may be told in place of a later fault.
 ///
-/// The time is linear in the number of bytes, but for an exchange whose groups do not ascend in the order of terms.
+/// The time is linear in the number of bytes, but for an exchange whose groups do not ascend in the order of terms. Of
+/// a body that is spelled as it is written only the parts that stand in the message are built.
 pub fn read_packet(alloc: Global, body: &[u8]) -> Result<Packet, MessageFault>
     // What is read is spelled so.
     ensures found { IfOk result (λ packet. SpellsPacket packet body.now) }
@@ -48,7 +51,11 @@ pub fn read_packet(alloc: Global, body: &[u8]) -> Result<Packet, MessageFault>
 fn whole_packet(alloc: Global, body: &[u8]) -> Result<Packet, MessageFault>
     ensures { Gives (λ packet. packet) result (packet_spelled body.now) }
 {
-    packet(alloc, decode(alloc, body)?)
+    match direct_packet(alloc, body) {
+        Ok(packet) => Ok(packet),
+        Err(Detour::OutOfMemory) => Err(MessageFault::Term(TermFault::OutOfMemory)),
+        Err(Detour::OtherForm) => packet(alloc, decode(alloc, body)?),
+    }
 }
 
 /// The packet that a term is.

@@ -6,7 +6,7 @@ mod reading;
 mod size;
 mod writing;
 
-pub use reading::decode;
+pub use reading::{decode, decode_item, decode_pid, decode_reference};
 pub use size::{
     atom_len, encode_len, int_len, item_len, list_head_len, pid_len, reference_len, tuple_head_len,
 };

@@ -7,15 +7,16 @@ ghost use Rattle.pg_term.specs.declared.term.Term.{Term};
 ghost use Rattle.pg_term.specs.Fault.{Gives};
 ghost use Rattle.pg_term_io.specs.Spelling.{Spells};
 ghost use Rattle.pg_term_io.specs.Faults.{Breaks};
-ghost use Rattle.pg_term_io.specs.Reading.{term_of};
+ghost use Rattle.pg_term_io.specs.Reading.{pid_at, new_reference_at, item_at, term_of};
 
 mod atoms;
 mod identifiers;
 mod items;
 mod numbers;
 
+use crate::reading::identifiers::{new_reference_at, pid_at};
 use crate::reading::items::item;
-use pg_term::{Term, TermFault};
+use pg_term::{Pid, Reference, Term, TermFault};
 use std::alloc::Global;
 
 /// How many levels of terms may nest.
@@ -71,6 +72,34 @@ fn whole_term(alloc: Global, bytes: &[u8]) -> Result<Term, TermFault>
         }
         [_, ..] => Err(TermFault::BadVersion),
     }
+}
+
+/// The item at the front of the bytes, as a part of what `decode` reads, and the bytes behind it. So many levels of
+/// terms may nest in it, itself the first of them.
+///
+/// Faults, time and memory as `decode` says of an item.
+pub fn decode_item(alloc: Global, levels: u8, bytes: &[u8]) -> Result<(Term, &[u8]), TermFault>
+    ensures { Gives (λ x. (x.0, x.1.now)) result (item_at levels bytes.now) }
+{
+    item(alloc, levels, bytes)
+}
+
+/// The pid whose tag, 103, stands before the bytes, as a part of what `decode` reads, and the bytes behind it.
+///
+/// Faults as `decode` says of what stands behind the tag.
+pub fn decode_pid(alloc: Global, bytes: &[u8]) -> Result<(Pid, &[u8]), TermFault>
+    ensures { Gives (λ x. (x.0, x.1.now)) result (pid_at bytes.now) }
+{
+    pid_at(alloc, bytes)
+}
+
+/// The reference whose tag, 114, stands before the bytes, as a part of what `decode` reads, and the bytes behind it.
+///
+/// Faults as `decode` says of what stands behind the tag.
+pub fn decode_reference(alloc: Global, bytes: &[u8]) -> Result<(Reference, &[u8]), TermFault>
+    ensures { Gives (λ x. (x.0, x.1.now)) result (new_reference_at bytes.now) }
+{
+    new_reference_at(alloc, bytes)
 }
 
 #[cfg(test)]

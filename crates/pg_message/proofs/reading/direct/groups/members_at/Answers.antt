@@ -1,0 +1,17 @@
+use Rattle.std.proofs.Common.{◌≡◌, suc, List, [], map, sym, subst, ◌∙◌}
+use Rattle.pg_term.specs.declared.pid.Pid.{Pid}
+use Rattle.pg_term.specs.declared.term.Term.{List as Listed}
+use Rattle.pg_term.specs.declared.term.Term.TheVariants.{Pid as Process}
+use Rattle.pg_message.specs.Standing.{Stands}
+use Rattle.pg_message.proofs.Rows.{nil_stands, list_stands}
+use Rattle.pg_message.proofs.reading.direct.groups.members_at.Goals as goal
+
+pub returns-in-Ok : goal.returns-in-Ok
+returns-in-Ok c = λ room.
+    let none : c.from_vec.result ≡ [] = c.from_vec.ensures ∙ c.new.ensures.items in
+    subst (λ (pids : List Pid). Stands (suc room) (Listed (map Process pids)) c.args.bytes.now c.in-Ok.rest.now) (sym none) (nil_stands (suc room) c.args.bytes.now c.in-Ok.rest.now c.in-Ok.ensures)
+
+pub returns : goal.returns
+returns c = λ room.
+    subst (λ (pids : List Pid). Stands (suc room) (Listed (map Process pids)) c.args.bytes.now c.in_ok-rest.rest.now) (sym c.from_vec-2.ensures)
+    (list_stands room (map Process c.in_ok-pids.pids.items) c.in_ok-count.count c.args.bytes.now c.in_ok-count.rest.now c.in_ok-pids.end.now c.in_ok-rest.rest.now c.in_ok-count.ensures (c.in_ok-pids.ensures room) c.in_ok-rest.ensures)

@@ -1,0 +1,237 @@
+//! Packets that are spelled as they are written, read straight off their bytes: no tuple and no word is built.
+
+ghost use Rattle.std.specs.Prelude.{◌≡◌, ◌≤◌, ◌++◌, ℕ, pos, true, length, IfOk, Ok};
+ghost use Rattle.pg_term.specs.RefParts.{RefParts};
+ghost use Rattle.pg_term.specs.declared.term.Term.TheVariants as terms;
+ghost use Rattle.pg_term_io.specs.Reading.{item_at};
+ghost use Rattle.pg_message.specs.Name.{is_name};
+ghost use Rattle.pg_message.specs.Reading.{packet_spelled};
+ghost use Rattle.pg_message.specs.Standing.{Stands, Opens};
+ghost use Rattle.pg_message.specs.Writing.{message_term, request_term, said_term, is_plain, is_sayable};
+ghost use Rattle.pg_message.specs.declared.message.Message.TheVariants as messages;
+
+mod groups;
+
+use crate::message::{Message, Request, Said};
+use crate::name::is_name;
+use crate::packet::{MAX_STAMP, Packet};
+use crate::parts::atom;
+use crate::reading::direct::groups::groups_at;
+use pg_group::Update;
+use pg_term::{Atom, Pid, Reference, Term, TermFault};
+use pg_term_io::{decode_item, decode_pid, decode_reference};
+use std::alloc::{AllocError, AllocFailed, Global};
+
+/// How many levels a name may nest. The term of a packet may nest 64, and a name stands in three tuples, as does the
+/// node of an exchange.
+const NAME_LEVELS: u8 = 61;
+
+/// Why no packet is read straight off the bytes.
+#[derive(Clone, Copy, Debug, PartialEq, Eq)]
+pub(crate) enum Detour {
+    /// Memory ran out.
+    OutOfMemory,
+    /// The bytes spell no packet, or spell it in another form than it is written in.
+    OtherForm,
+}
+
+impl From<TermFault> for Detour {
+    fn from(fault: TermFault) -> Detour {
+        match fault {
+            TermFault::OutOfMemory => Detour::OutOfMemory,
+            _ => Detour::OtherForm,
+        }
+    }
+}
+
+impl From<AllocError> for Detour {
+    fn from(_e: AllocError) -> Detour {
+        Detour::OutOfMemory
+    }
+}
+
+impl<T: Drop> From<AllocFailed<T>> for Detour {
+    fn from(_e: AllocFailed<T>) -> Detour {
+        Detour::OutOfMemory
+    }
+}
+
+/// The packet that a body spells, where all that stands around its parts is spelled as it is written. It takes memory
+/// for these parts alone, and to see that an exchange whose groups do not ascend names none twice.
+pub(crate) fn direct_packet(alloc: Global, body: &[u8]) -> Result<Packet, Detour>
+    ensures { IfOk result (λ packet. packet_spelled body.now ≡ Ok packet) }
+{
+    let rest = behind(body, &[131, 104, 2])?;
+    let (stamp, rest) = stamp_at(rest)?;
+    let (message, rest) = message_at(alloc, rest)?;
+    if !rest.is_empty() {
+        return Err(Detour::OtherForm);
+    }
+    Ok(Packet { stamp, message })
+}
+
+/// What follows these bytes at the front.
+fn behind<'a>(bytes: &'a [u8], front: &[u8]) -> Result<&'a [u8], Detour>
+    ensures { IfOk result (λ rest. bytes.now ≡ front.now ++ rest.now) }
+{
+    let Some((first, rest)) = bytes.split_at_checked(front.len()) else {
+        return Err(Detour::OtherForm);
+    };
+    if first == front {
+        Ok(rest)
+    } else {
+        Err(Detour::OtherForm)
+    }
+}
+
+/// What follows a word.
+fn word_at<'a>(bytes: &'a [u8], word: &str) -> Result<&'a [u8], Detour>
+    requires plain { is_plain word.now ≡ true }
+    requires few { length word.now ≤ 255 }
+    ensures { (room : ℕ) → IfOk result (λ rest.
+        Stands room (terms.Atom word.now) bytes.now rest.now) }
+{
+    let rest = behind(bytes, &[119, word.len() as u8])?;
+    behind(rest, word.as_bytes())
+}
+
+/// What follows the word with which a tuple of so many elements begins.
+fn opened<'a>(bytes: &'a [u8], arity: u8, word: &str) -> Result<&'a [u8], Detour>
+    requires plain { is_plain word.now ≡ true }
+    requires few { length word.now ≤ 255 }
+    ensures { IfOk result (λ rest. Opens arity word.now bytes.now rest.now) }
+{
+    let rest = behind(bytes, &[104, arity])?;
+    word_at(rest, word)
+}
+
+fn stamp_at(bytes: &[u8]) -> Result<(u32, &[u8]), Detour>
+    ensures term { (room : ℕ) → IfOk result (λ x.
+        Stands room (terms.Int (pos x.0)) bytes.now x.1.now) }
+    ensures in_time { IfOk result (λ x. x.0 ≤ MAX_STAMP) }
+{
+    if let Ok(rest) = behind(bytes, &[97]) {
+        let Some((stamp, rest)) = rest.split_first() else {
+            return Err(Detour::OtherForm);
+        };
+        Ok((u32::from(*stamp), rest))
+    } else {
+        let rest = behind(bytes, &[98])?;
+        let Some((digits, rest)) = rest.split_first_chunk::<4>() else {
+            return Err(Detour::OtherForm);
+        };
+        let stamp = u32::from_be_bytes(*digits);
+        if stamp > MAX_STAMP {
+            return Err(Detour::OtherForm);
+        }
+        Ok((stamp, rest))
+    }
+}
+
+fn reference_at(alloc: Global, bytes: &[u8]) -> Result<(Reference, &[u8]), Detour>
+    ensures { (room : ℕ) → IfOk result (λ x. Stands room (terms.Ref x.0) bytes.now x.1.now) }
+{
+    let rest = behind(bytes, &[114])?;
+    Ok(decode_reference(alloc, rest)?)
+}
+
+fn pid_at(alloc: Global, bytes: &[u8]) -> Result<(Pid, &[u8]), Detour>
+    ensures { (room : ℕ) → IfOk result (λ x. Stands room (terms.Pid x.0) bytes.now x.1.now) }
+{
+    let rest = behind(bytes, &[103])?;
+    Ok(decode_pid(alloc, rest)?)
+}
+
+/// A name that may nest so many levels.
+fn name_at(alloc: Global, levels: u8, bytes: &[u8]) -> Result<(Term, &[u8]), Detour>
+    ensures term { IfOk result (λ x. item_at levels bytes.now ≡ Ok (x.0, x.1.now)) }
+    ensures name { IfOk result (λ x. is_name x.0 ≡ true) }
+{
+    let (name, rest) = decode_item(alloc, levels, bytes)?;
+    if !is_name(&name) {
+        return Err(Detour::OtherForm);
+    }
+    Ok((name, rest))
+}
+
+fn node_at(alloc: Global, bytes: &[u8]) -> Result<(Atom, &[u8]), Detour>
+    ensures { IfOk result (λ x. Stands 60 (terms.Atom x.0) bytes.now x.1.now) }
+{
+    let (term, rest) = decode_item(alloc, NAME_LEVELS, bytes)?;
+    let Some(node) = atom(term) else {
+        return Err(Detour::OtherForm);
+    };
+    Ok((node, rest))
+}
+
+fn message_at(alloc: Global, bytes: &[u8]) -> Result<(Message, &[u8]), Detour>
+    ensures term { IfOk result (λ x. Stands 62 (message_term x.0) bytes.now x.1.now) }
+    ensures sayable { IfOk result (λ x. is_sayable x.0 ≡ true) }
+{
+    if let Ok(rest) = opened(bytes, 3, "call") {
+        let (reference, rest) = reference_at(alloc, rest)?;
+        let (request, rest) = request_at(alloc, rest)?;
+        Ok((Message::Call(reference, request), rest))
+    } else if let Ok(rest) = opened(bytes, 3, "reply") {
+        let (reference, rest) = reference_at(alloc, rest)?;
+        let (said, rest) = said_at(rest)?;
+        Ok((Message::Reply(reference, said), rest))
+    } else if let Ok(rest) = opened(bytes, 2, "cast") {
+        if let Ok(rest) = opened(rest, 3, "del_lock") {
+            let (name, rest) = name_at(alloc, NAME_LEVELS, rest)?;
+            let (reference, rest) = reference_at(alloc, rest)?;
+            Ok((Message::DelLock(name, reference), rest))
+        } else {
+            let rest = opened(rest, 3, "exchange")?;
+            let (node, rest) = node_at(alloc, rest)?;
+            let (groups, rest) = groups_at(alloc, rest)?;
+            Ok((Message::Exchange(node, groups), rest))
+        }
+    } else if let Ok(rest) = opened(bytes, 2, "down") {
+        let (pid, rest) = pid_at(alloc, rest)?;
+        Ok((Message::Down(pid), rest))
+    } else {
+        Err(Detour::OtherForm)
+    }
+}
+
+fn request_at(alloc: Global, bytes: &[u8]) -> Result<(Request, &[u8]), Detour>
+    ensures term { IfOk result (λ x. Stands 61 (request_term x.0) bytes.now x.1.now) }
+    ensures sayable { (reference : RefParts) → IfOk result (λ x.
+        is_sayable (messages.Call reference x.0) ≡ true) }
+{
+    if let Ok(rest) = opened(bytes, 3, "join") {
+        let (name, rest) = name_at(alloc, NAME_LEVELS, rest)?;
+        let (pid, rest) = pid_at(alloc, rest)?;
+        Ok((Request::Change(Update::Join(name, pid)), rest))
+    } else if let Ok(rest) = opened(bytes, 3, "leave") {
+        let (name, rest) = name_at(alloc, NAME_LEVELS, rest)?;
+        let (pid, rest) = pid_at(alloc, rest)?;
+        Ok((Request::Change(Update::Leave(name, pid)), rest))
+    } else if let Ok(rest) = opened(bytes, 2, "create") {
+        let (name, rest) = name_at(alloc, NAME_LEVELS, rest)?;
+        Ok((Request::Change(Update::Create(name)), rest))
+    } else if let Ok(rest) = opened(bytes, 2, "delete") {
+        let (name, rest) = name_at(alloc, NAME_LEVELS, rest)?;
+        Ok((Request::Change(Update::Delete(name)), rest))
+    } else if let Ok(rest) = opened(bytes, 2, "set_lock") {
+        let (name, rest) = name_at(alloc, NAME_LEVELS, rest)?;
+        Ok((Request::SetLock(name), rest))
+    } else {
+        Err(Detour::OtherForm)
+    }
+}
+
+fn said_at(bytes: &[u8]) -> Result<(Said, &[u8]), Detour>
+    ensures { IfOk result (λ x. Stands 61 (said_term x.0) bytes.now x.1.now) }
+{
+    if let Ok(rest) = word_at(bytes, "ok") {
+        Ok((Said::Applied, rest))
+    } else if let Ok(rest) = word_at(bytes, "true") {
+        Ok((Said::Granted, rest))
+    } else if let Ok(rest) = word_at(bytes, "false") {
+        Ok((Said::Denied, rest))
+    } else {
+        Err(Detour::OtherForm)
+    }
+}
