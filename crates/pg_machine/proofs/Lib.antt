@@ -8,13 +8,15 @@ pub mod JoinTwice
 pub mod Listed
 pub mod Once
 pub mod Options
-pub mod PendingEnd
 pub mod Peers
+pub mod PendingEnd
 pub mod Places
 pub mod Plain
+pub mod Queries
 pub mod Refusals
 pub mod Sample
 pub mod Sequences
+pub mod Short
 pub mod Steps
 pub mod Timing
 pub mod Trace

@@ -137,11 +137,7 @@ done reference = Reply reference Applied
 abbrev pub two_nodes : Config
 two_nodes = node a 0 [] ∷ node b 0 [] ∷ []
 
--- a has made its first process
-abbrev pub two_and_process : Config
-two_and_process = node a 1 [] ∷ node b 0 [] ∷ []
-
--- and that process is in the group g
+-- a has made its first process, which is in the group g
 abbrev pub two_and_member : Term → Config
 two_and_member g = node a 1 ((g, a1 ∷ []) ∷ []) ∷ node b 0 [] ∷ []
 

@@ -13,7 +13,7 @@ use Rattle.pg_machine.specs.Places.{is_place, is_pair}
 use Rattle.pg_machine.specs.Turns.{Told}
 use Rattle.pg_machine.specs.Step.{Action}
 use Rattle.pg_machine.specs.Frames.{Config, name_at, node_step}
-use Rattle.pg_machine.specs.History.{Entry, Frames, entries, history, updates_of, applied_count, answered_count, times, replay, known, base, command_at, change_of, has_answer, is_formed, has_groups, LockFree, NonePending}
+use Rattle.pg_machine.specs.History.{Entry, Frames, entries, history, updates_of, applied_count, answered_count, times, replay, known, base, command_at, change_of, has_answer, answers_to, IsAnsweredOk, needs_lock, is_formed, has_groups, LockFree, NonePending}
 
 -- Each answered change stands, once, in one history.
 pub record HoldsAnswered (config : Config) (events : List (Event Action)) (w : Frames) : Type 0 where
@@ -30,6 +30,13 @@ pub record HoldsAnswered (config : Config) (events : List (Event Action)) (w : F
       → (c : Command) × (command_at e.node e.op events ≡ Some c) × (change_of c ≡ Some e.update)
   -- a command that was refused, or answered by the look, does not stand there
   pub not_looked : (i : ℕ) (op : OpId) → has_answer op (w.node i) ≡ true → answered_count i op w.told ≡ 0 → times i op (entries w.told) ≡ 0
+  -- no command has two answers
+  pub one_answer : (i : ℕ) (op : OpId) → answers_to op (w.node i) ≤ 1
+  -- a change that was answered behind its lock was answered ok
+  pub answered_ok : (i : ℕ) (op : OpId) → 0 < answered_count i op w.told → IsAnsweredOk op (w.node i)
+  -- a delete, a join or a leave that was answered ok was answered behind its lock
+  pub ok_behind_lock : (i : ℕ) (op : OpId) (c : Command) → command_at i op events ≡ Some c → needs_lock c ≡ true
+      → IsAnsweredOk op (w.node i) → 0 < answered_count i op w.told
 
 -- What each node has applied of the history of a group.
 pub record AppliesHistory (config : Config) (w : Frames) : Type 0 where

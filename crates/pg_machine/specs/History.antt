@@ -9,13 +9,15 @@ use Rattle.pg_machine.specs.declared.command.OpId.{OpId}
 use Rattle.pg_message.specs.declared.message.Message.{Message}
 use Rattle.pg_machine.specs.declared.command.Command.{Command}
 use Rattle.pg_machine.specs.declared.command.Command.TheVariants as command
+use Rattle.pg_machine.specs.declared.answer.Reply.TheVariants as reply
 use Rattle.pg_group.specs.declared.update.Update.TheVariants as update
-use Rattle.std.specs.List.{list_any}
+use Rattle.std.specs.List.{Contains, count_by, list_any}
 use Rattle.pg_machine.specs.Machine.{World, Event, Do}
 use Rattle.pg_machine.specs.Step.{Action, Issue}
 use Rattle.pg_machine.specs.Places.{is_place}
 use Rattle.pg_machine.specs.Nodes.{Node}
 use Rattle.pg_machine.specs.State.{State, formed}
+use Rattle.pg_machine.specs.State.Response.{Given}
 use Rattle.pg_machine.specs.Turns.{Told}
 use Rattle.pg_machine.specs.Attempts.{same_op}
 use Rattle.pg_machine.specs.Frames.{Config, name_at, nodes_at, first_table}
@@ -113,6 +115,22 @@ command_at i op es = cond (nat_eq op.number 0) None (slice_get (issued i op.port
 -- a command was answered, by whatever reply
 abbrev pub has_answer : OpId → State → Bool
 has_answer op s = list_any (λ a. nat_eq a.0 op.number) (s.answers op.port)
+
+-- how many answers a command has
+abbrev pub answers_to : OpId → State → ℕ
+answers_to op s = count_by (λ a. nat_eq a.0 op.number) (s.answers op.port)
+
+-- an answer of a command is ok
+abbrev pub IsAnsweredOk : OpId → State → Type 0
+IsAnsweredOk op s = Contains (s.answers op.port) (op.number, Given reply.Ok)
+
+-- What is answered ok behind a lock alone: a delete, a join, a leave. A create may be answered ok by the look, and all
+-- else takes no lock.
+abbrev pub needs_lock : Command → Bool
+needs_lock (command.Delete name) = true
+needs_lock (command.Join name pid) = true
+needs_lock (command.Leave name pid) = true
+needs_lock c = false
 
 -- ---- worlds
 

@@ -1,6 +1,7 @@
 -- Words for the laws of a node's step.
-use Rattle.std.specs.Prelude.{◌≡◌, ℕ, ◌≤◌, Bool, true, false, not, ◌&&◌, ◌||◌, cond, nat_le, length, List, [], ◌∷◌, Option, Some, None, Result, Ok, Err}
+use Rattle.std.specs.Prelude.{◌≡◌, ◌≢◌, ℕ, ◌+◌, ◌≤◌, Bool, true, false, not, ◌&&◌, ◌||◌, cond, nat_eq, nat_le, length, List, [], ◌∷◌, ◌++◌, Option, Some, None, Result, Ok, Err}
 use Rattle.pg_term.specs.Same.{same_atom}
+use Rattle.pg_group.specs.Functions.{upd}
 use Rattle.pg_message.specs.declared.message.Message.{Message}
 use Rattle.pg_message.specs.declared.message.Message.TheVariants.{Reply, Exchange}
 use Rattle.pg_message.specs.declared.message.Said.{Said}
@@ -9,12 +10,16 @@ use Rattle.pg_machine.specs.Places.{is_place, is_pair}
 use Rattle.pg_machine.specs.Machine.{Input, Turn, Taken, Own}
 use Rattle.pg_machine.specs.Clocked.{CLOCK_LIMIT, Timed, Stamped}
 use Rattle.pg_machine.specs.Nodes.{Node, Nodes, greatest}
-use Rattle.pg_machine.specs.State.{State, Use, Stage}
+use Rattle.pg_machine.specs.declared.command.Command.{Command}
+use Rattle.pg_machine.specs.declared.command.Command.TheVariants.{Members, LocalMembers, WhichGroups, Closest}
+use Rattle.pg_machine.specs.State.{State, Use, Stage, Response}
 use Rattle.pg_machine.specs.State.Use.{Locking, Updating}
 use Rattle.pg_machine.specs.State.Stage.{Waiting}
-use Rattle.pg_machine.specs.Turns.{Told}
+use Rattle.pg_machine.specs.Turns.{Told, nothing}
 use Rattle.pg_machine.specs.Peers.{is_bad_exchange}
-use Rattle.pg_machine.specs.Attempts.{is_asked, is_unasked, use_of}
+use Rattle.pg_machine.specs.Attempts.{is_asked, is_unasked, use_of, with_answer}
+use Rattle.pg_machine.specs.Commands.{next_op}
+use Rattle.pg_machine.specs.History.{Frames}
 use Rattle.pg_machine.specs.Step.{Action, Issue, Retry, TimedTurn}
 use Rattle.pg_machine.specs.Frames.{Config, name_at}
 use Rattle.pg_machine.specs.Refusal.{Refusal}
@@ -91,3 +96,22 @@ comes_from_there size i (Own c) = is_place size i
 pub record SendsOne {S P O : Type 0} (i : ℕ) (t : Turn S P O) : Type 0 where
   pub one : (q : ℕ) → length (t.sends q) ≤ 1
   pub none_to_itself : t.sends i ≡ []
+
+-- ---- commands that are answered at once
+
+abbrev pub is_query : Command → Bool
+is_query (Members name) = true
+is_query (LocalMembers name) = true
+is_query WhichGroups = true
+is_query (Closest name word) = true
+is_query _ = false
+
+-- A command that came in at a port of node i was answered so, and nothing else came of it.
+pub record OnlyAnswers (i port : ℕ) (response : Response) (w v : Frames) : Type 0 where
+  pub node : v.node i ≡ record (w.node i) {
+    counts = upd nat_eq (w.node i).counts port ((w.node i).counts port + 1);
+    answers = with_answer (w.node i).answers (next_op port (w.node i)) response;
+  }
+  pub others : (j : ℕ) → j ≢ i → v.node j ≡ w.node j
+  pub ways : (x y : ℕ) → v.wire x y ≡ w.wire x y
+  pub told : v.told ≡ w.told ++ (i, nothing) ∷ []

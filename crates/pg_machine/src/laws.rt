@@ -90,4 +90,9 @@ pub fn without_clocks<S, P, C, O>()
     ensures run { (limit : ℕ) (m : Machine S P C O) (es : List (Event C))
         → Leads m (start_of m) (ran (clocked limit m) (start_of (clocked limit m)) es)
         (plain (run (clocked limit m) (start_of (clocked limit m)) es)) }
+    // Events that are no more than the limit happen with clocks where they happen without.
+    ensures short { (limit : ℕ) (m : Machine S P C O) (v : World S P O) (es : List (Event C))
+        → length es ≤ limit → Leads m (start_of m) es v
+        → (w : TimedWorld S P O) × Leads (clocked limit m) (start_of (clocked limit m)) es w
+        × (plain w ≡ v) }
 {}

@@ -18,4 +18,6 @@ pub use examples::{
 };
 pub use laws::{any_events, clocks, locality, runs, what_happens, what_is_told, without_clocks};
 pub use start::Start;
-pub use step_laws::{nodes_keep_time, one_packet_each, refusals_in_order, step_is_clocked};
+pub use step_laws::{
+    nodes_keep_time, one_packet_each, queries_read_the_table, refusals_in_order, step_is_clocked,
+};

@@ -1,20 +1,24 @@
-ghost use Rattle.std.specs.Prelude.{◌≡◌, ◌+◌, ℕ, true, not, cond, max, nat_lt, List, [], ◌∷◌, Some, None, length};
+ghost use Rattle.std.specs.Prelude.{◌≡◌, ◌+◌, ℕ, true, false, not, cond, max, nat_lt, List, [], ◌∷◌, Some, None, length};
 ghost use Rattle.std.specs.List.{IsDistinct};
 ghost use Rattle.pg_term.specs.Same.{same_atom};
 ghost use Rattle.pg_message.specs.declared.message.Message.{Message};
-ghost use Rattle.pg_machine.specs.Machine.{Input, Turn, Event, Taken, Own, node_of, start_of};
+ghost use Rattle.pg_machine.specs.declared.command.Command.{Command};
+ghost use Rattle.pg_machine.specs.declared.answer.Reply.TheVariants.{Refused};
+ghost use Rattle.pg_machine.specs.Machine.{Input, Turn, Event, Taken, Own, Do, node_of, start_of, happens};
 ghost use Rattle.pg_machine.specs.Clocked.{CLOCK_LIMIT, Timed, Stamped, TimedWorld, plain};
 ghost use Rattle.pg_machine.specs.Runs.{Leads};
 ghost use Rattle.pg_machine.specs.Timely.{KeepsTime, IsTimely};
 ghost use Rattle.pg_machine.specs.Nodes.{Node, Nodes};
 ghost use Rattle.pg_machine.specs.State.{State};
+ghost use Rattle.pg_machine.specs.State.Response.{Given, Read};
+ghost use Rattle.pg_machine.specs.Commands.{has_large_name, fault_of};
 ghost use Rattle.pg_machine.specs.Turns.{Told};
-ghost use Rattle.pg_machine.specs.Step.{Action, taken, acted, step_take, step_act};
+ghost use Rattle.pg_machine.specs.Step.{Action, Issue, taken, acted, step_take, step_act};
 ghost use Rattle.pg_machine.specs.Frames.{Config, names_of, name_at, nodes_at, ports_at, node_step, machine_of, frames_of};
 ghost use Rattle.pg_machine.specs.Happened.{Happened};
 ghost use Rattle.pg_machine.specs.History.{Frames};
 ghost use Rattle.pg_machine.specs.Refusal.{NoSuchPlace, NotWaiting, ClockFull, NotAMessage};
-ghost use Rattle.pg_machine.specs.StepLaws.{timed_placed, refusal_of, first_refusal, port_of, retries_none, is_full, is_no_message, comes_from_there, SendsOne};
+ghost use Rattle.pg_machine.specs.StepLaws.{timed_placed, refusal_of, first_refusal, port_of, retries_none, is_full, is_no_message, comes_from_there, SendsOne, is_query, OnlyAnswers};
 
 /// The step of a node with its clock, which tells refusals, is the step of the machine with clocks.
 pub fn step_is_clocked()
@@ -60,4 +64,19 @@ pub fn nodes_keep_time()
     ensures plain { (config : Config) (v : TimedWorld State Message Told) (es : List (Event Action))
         → Leads (frames_of config) (start_of (frames_of config)) es v
         → Leads (machine_of config) (start_of (machine_of config)) es (plain v) }
+{}
+
+/// A query is answered from its node's table as it is, formed or not, by what it reads there (`Reads`); and a command that is
+/// refused by its fault. Nothing else comes of either: no table, lock or end changes, and nothing is sent.
+pub fn queries_read_the_table()
+    ensures query { (config : Config) (w v : Frames) (i port : ℕ) (c : Command)
+        → is_query c ≡ true → has_large_name c ≡ false
+        → happens (machine_of config) w (Do i (Issue port c)) ≡ Some v
+        → OnlyAnswers i port (Read c (w.node i).table) w v }
+    ensures refused { (config : Config) (w v : Frames) (i port : ℕ) (c : Command) (fault : ℕ)
+        → fault_of (nodes_at config i) (w.node i) c ≡ Some fault
+        → happens (machine_of config) w (Do i (Issue port c)) ≡ Some v
+        → OnlyAnswers i port (Given (Refused fault)) w v }
+    ensures large { (m : Nodes) (s : State) (c : Command)
+        → has_large_name c ≡ true → fault_of m s c ≡ Some 23 }
 {}

@@ -3,6 +3,7 @@ use Rattle.pg_machine.specs.Runs.{run, ran}
 use Rattle.pg_machine.specs.Clocked.{clocked}
 use Rattle.pg_machine.proofs.Plain.{plain_start, plain_happens, plain_leads, plain_from_start}
 use Rattle.pg_machine.proofs.Sequences.{leads_ran}
+use Rattle.pg_machine.proofs.Short.{short_runs}
 use Rattle.pg_machine.proofs.laws.without_clocks.Goals as goal
 
 pub returns-clause-start : goal.returns-clause-start
@@ -19,3 +20,6 @@ returns-clause-from_start g c = λ limit m v es. plain_from_start m limit es v
 
 pub returns-clause-run : goal.returns-clause-run
 returns-clause-run g c = λ limit m es. plain_from_start m limit (ran (clocked limit m) (start_of (clocked limit m)) es) (run (clocked limit m) (start_of (clocked limit m)) es) (leads_ran (clocked limit m) es (start_of (clocked limit m)))
+
+pub returns-clause-short : goal.returns-clause-short
+returns-clause-short g c = λ limit m v es room l. short_runs m limit es v room l

@@ -1,0 +1,85 @@
+-- What comes of a query, and of a command that is refused.
+use Rattle.std.proofs.Common.{◌≡◌, ◌⊎◌, inl, inr, ℕ, Bool, true, false, cond, nat_lt, length, List, [], ◌∷◌, ◌++◌, Some, None, Ok, Err, refl, ap, sym, ◌∙◌, subst}
+use Rattle.std.proofs.lemmas.Bool.{cases_eq}
+use Rattle.std.proofs.lemmas.List.{append-nil}
+use Rattle.pg_message.specs.declared.message.Message.{Message}
+use Rattle.pg_machine.specs.declared.command.Command.{Command}
+use Rattle.pg_machine.specs.declared.command.Command.TheVariants.{Create, Delete, Join, Leave, Make, Finish, Members, LocalMembers, WhichGroups, Closest}
+use Rattle.pg_machine.specs.declared.answer.Reply.TheVariants.{Refused}
+use Rattle.pg_machine.specs.Machine.{Turn, Do, happens}
+use Rattle.pg_machine.specs.Happened.{Happened}
+use Rattle.pg_machine.specs.Places.{is_place}
+use Rattle.pg_machine.specs.Nodes.{Nodes}
+use Rattle.pg_machine.specs.State.{State, Response}
+use Rattle.pg_machine.specs.State.Response.{Given, Read}
+use Rattle.pg_machine.specs.Turns.{NodeTurn, Told, and_then}
+use Rattle.pg_machine.specs.Commands.{has_large_name, has_foreign_pid, ends_unformed, ends_unmade, ends_again, passes_limit, fault_of, first_fault, answer, next_op, count_command, command_by, command}
+use Rattle.pg_machine.specs.Step.{Issue}
+use Rattle.pg_machine.specs.Refusal.{NoSuchPlace}
+use Rattle.pg_machine.specs.Frames.{Config, nodes_at, ports_at, place_turn, placed, node_step, machine_of}
+use Rattle.pg_machine.specs.History.{Frames}
+use Rattle.pg_machine.specs.StepLaws.{is_query, OnlyAnswers}
+use Rattle.pg_machine.proofs.Options.{some_is}
+use Rattle.pg_machine.proofs.Steps.{happened, changes}
+
+-- the turn of a command that is answered so, and no more
+abbrev answered : ℕ → Response → State → NodeTurn
+answered port response s = and_then (count_command port s) (answer (next_op port s) response)
+
+module _ (config : Config) (w v : Frames) (i port : ℕ) (c : Command) (response : Response)
+    (is : command (nodes_at config i) port c (w.node i) ≡ answered port response (w.node i)) (h : Happened (machine_of config) w (Do i (Issue port c)) v) where
+  turn_is : h.turn ≡ place_turn config (answered port response (w.node i))
+  turn_is = go (nat_lt port (ports_at config i)) (ap (node_step config i (w.node i)) (some_is h.given) ∙ h.made)
+    where
+      go : (b : Bool) → placed config (cond b (Ok (command (nodes_at config i) port c (w.node i))) (Err NoSuchPlace)) ≡ Some h.turn
+          → h.turn ≡ place_turn config (answered port response (w.node i))
+      go true e = sym (some_is e) ∙ ap (place_turn config) is
+      go false e = absurd (cc)
+
+  none_sent : (b : Bool) → cond {A = List Message} b [] [] ≡ []
+  none_sent true = refl
+  none_sent false = refl
+
+  only_answers : OnlyAnswers i port response w v
+  only_answers =
+      let all = changes (machine_of config) w v (Do i (Issue port c)) h in
+      record {
+        node = all.state ∙ ap (λ (t : Turn State Message Told). t.state) turn_is;
+        others = all.states;
+        ways = λ x y. go x y (cases_eq x i);
+        told = all.told ∙ ap (λ (t : Turn State Message Told). w.told ++ (i, t.told) ∷ []) turn_is;
+      }
+    where
+      go : (x y : ℕ) → (x ≡ i) ⊎ (x ≡ i → ⊥) → v.wire x y ≡ w.wire x y
+      go x y (inl own) = subst (λ z. v.wire z y ≡ w.wire z y) (sym own)
+          ((changes (machine_of config) w v (Do i (Issue port c)) h).sent y
+          ∙ ap (λ (t : Turn State Message Told). w.wire i y ++ t.sends y) turn_is
+          ∙ ap (λ xs. w.wire i y ++ xs) (none_sent (is_place (length config) y)) ∙ append-nil (w.wire i y))
+      go x y (inr other) = (changes (machine_of config) w v (Do i (Issue port c)) h).ways x y other (λ never. never)
+
+pub large_refused : (m : Nodes) (s : State) (c : Command) → has_large_name c ≡ true → fault_of m s c ≡ Some 23
+large_refused m s c large = ap (λ b. first_fault ((b, 23) ∷ (has_foreign_pid m c, 24) ∷ (ends_unformed m s c, 25) ∷ (ends_unmade s c, 26) ∷ (ends_again s c, 27) ∷ (passes_limit s c, 28) ∷ [])) large
+
+pub refused_answers : (config : Config) (w v : Frames) (i port : ℕ) (c : Command) (fault : ℕ) → fault_of (nodes_at config i) (w.node i) c ≡ Some fault
+    → happens (machine_of config) w (Do i (Issue port c)) ≡ Some v → OnlyAnswers i port (Given (Refused fault)) w v
+refused_answers config w v i port c fault is e =
+    only_answers config w v i port c (Given (Refused fault))
+    (ap (λ f. and_then (count_command port (w.node i)) (command_by f (nodes_at config i) (next_op port (w.node i)) c)) is)
+    (happened (machine_of config) w v (Do i (Issue port c)) e)
+
+query_turn : (m : Nodes) (port : ℕ) (c : Command) (s : State) → is_query c ≡ true → has_large_name c ≡ false → command m port c s ≡ answered port (Read c s.table) s
+query_turn m port (Members name) s q fits = ap (λ b. and_then (count_command port s) (command_by (cond b (Some 23) None) m (next_op port s) (Members name))) fits
+query_turn m port (LocalMembers name) s q fits = ap (λ b. and_then (count_command port s) (command_by (cond b (Some 23) None) m (next_op port s) (LocalMembers name))) fits
+query_turn m port WhichGroups s q fits = refl
+query_turn m port (Closest name word) s q fits = ap (λ b. and_then (count_command port s) (command_by (cond b (Some 23) None) m (next_op port s) (Closest name word))) fits
+query_turn m port (Create name) s q fits = absurd (cc)
+query_turn m port (Delete name) s q fits = absurd (cc)
+query_turn m port (Join name pid) s q fits = absurd (cc)
+query_turn m port (Leave name pid) s q fits = absurd (cc)
+query_turn m port Make s q fits = absurd (cc)
+query_turn m port (Finish pid) s q fits = absurd (cc)
+
+pub query_answers : (config : Config) (w v : Frames) (i port : ℕ) (c : Command) → is_query c ≡ true → has_large_name c ≡ false
+    → happens (machine_of config) w (Do i (Issue port c)) ≡ Some v → OnlyAnswers i port (Read c (w.node i).table) w v
+query_answers config w v i port c q fits e =
+    only_answers config w v i port c (Read c (w.node i).table) (query_turn (nodes_at config i) port c (w.node i) q fits) (happened (machine_of config) w v (Do i (Issue port c)) e)
