@@ -27,6 +27,8 @@ pub record Agrees (w : World) : Type 0 where
   pub free : (N : Term) (p q : Node) → live w p → live w q → (w.node p).locks N ≡ None → on N (w.log q) ≡ updates (of_name N w.history)
   -- where the command of an entry is answered, each node has applied more updates of the name than stand before it
   pub everywhere : (N : Term) (p : Node) (before after : List Entry) (e : Entry) → live w p → of_name N w.history ≡ before ++ e ∷ after → 0 < answers_of e.node e.op w.answered → length before < length (on N (w.log p))
+  -- an entry whose command is not answered is the last of its name
+  pub one_more : (N : Term) (before after : List Entry) (e : Entry) → of_name N w.history ≡ before ++ e ∷ after → answers_of e.node e.op w.answered ≡ 0 → after ≡ []
   -- a command that is answered behind its lock stands in the history once, and is answered once; no command stands there twice
   pub answered : (i : Node) (op : OpId) → 0 < answers_of i op w.answered → times i op w.history ≡ 1
   pub answered_once : (i : Node) (op : OpId) → answers_of i op w.answered ≤ 1
@@ -116,6 +118,7 @@ module _ (w : World) (inv : Inv w) where
     begins = λ N p lp. begins_of w N p (inv.tales N p lp);
     free = λ N p q lp lq e. free_of w inv N p q lp e (inv.tales N q lq);
     everywhere = λ N p before after e lp here some. everywhere N p before after e here some (inv.tales N p lp);
+    one_more = λ N before after e here none. (inv.latest N before after e here none).0;
     answered = answered;
     answered_once = answered_once;
     at_most_once = at_most_once;

@@ -13,10 +13,10 @@ use Rattle.pg_machine.specs.Nodes.{Node}
 use Rattle.pg_machine.specs.Frames.{Config, names_of, name_at}
 use Rattle.pg_machine.proofs.Once.{same_is, is_same, clash}
 
-abbrev name_of_place : List Node → ℕ → Node
+abbrev pub name_of_place : List Node → ℕ → Node
 name_of_place names i = unwrap_or (slice_get names i) []
 
-all_at : (P : Node → Type 0) (xs : List Node) (i : ℕ) → i < length xs → AllByRecursion P xs → P (name_of_place xs i)
+pub all_at : (P : Node → Type 0) (xs : List Node) (i : ℕ) → i < length xs → AllByRecursion P xs → P (name_of_place xs i)
 all_at P [] i lt h = absurd (omega arith)
 all_at P (x ∷ xs) zero lt h = h.0
 all_at P (x ∷ xs) (suc i) lt h = all_at P xs i (omega arith) h.1
@@ -32,7 +32,7 @@ one_place (x ∷ xs) (suc i) zero li lp apart same =
 one_place (x ∷ xs) (suc i) (suc p) li lp apart same = ap suc (one_place xs i p (omega arith) (omega arith) (IsDistinct-tail same_atom x xs apart) same)
 
 module _ (config : Config) where
-  place_below : (j : ℕ) → is_place (length config) j ≡ true → j < length (names_of config)
+  pub place_below : (j : ℕ) → is_place (length config) j ≡ true → j < length (names_of config)
   place_below j there = subst (λ n. j < n) (sym (length-map config (λ start. start.name))) ((Decides-ltb j (length config)).0 there)
 
   pub same_place : IsDistinct same_atom (names_of config) → (i p : ℕ) → is_place (length config) i ≡ true → is_place (length config) p ≡ true

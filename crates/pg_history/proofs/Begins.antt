@@ -26,9 +26,10 @@ use Rattle.pg_history.proofs.Lines.{Line, talk_same, shows, Fits, FitsStatus, Fi
 use Rattle.pg_history.proofs.Lines.Line.{Quiet, Having, Telling}
 use Rattle.pg_history.proofs.Moves.{refit, told}
 use Rattle.pg_history.proofs.Named.{World, Entry, perform, on, of_name}
-use Rattle.pg_history.proofs.Kept.{talk, near, live, near_live, Sound, IsUpdateOf, IsOpOf, updating, weight, Counted, Inv, carried, Tale, opens}
+use Rattle.pg_history.proofs.Kept.{talk, near, live, live_own, near_live, Sound, IsUpdateOf, IsOpOf, updating, IsUpdating, GoesOut, Latest, weight, Counted, Inv, carried, Tale, opens, answers_of}
 use Rattle.pg_history.proofs.Framed.{Acts, ours_sent, spoken, acts_lines, acts_tidy, acts_about, locks_here, locks_there, sound_perform, once_same}
 use Rattle.pg_history.proofs.Telling.{tell_same, tell_more, fewer_upd, more_upd, tale_same, use_read, on-append, of_name-append}
+use Rattle.pg_history.proofs.Latest.{GoesOn, parted, entry_name, updating_of, goes_upd, still_out, answered_same}
 use Rattle.pg_history.proofs.Seats.{Sits, seated, to_own, to_own_at, to_near}
 use Rattle.pg_history.proofs.Stages.{other_stage, commands}
 use Rattle.pg_history.proofs.Weights.{counts_moved, one_only, none_only}
@@ -164,6 +165,21 @@ module _ (w : World) (a : Node) (peers : List Node) (sits : Sits w.nodes a peers
       go (inr k) = talk_same (told {how' = new} u l (quiet inv p d l) (at false (Telling u) (differ same_atom atoms a p (λ y. k (sym y))) refl)) how
           (ap (λ o. about r (w.wire a p) ++ o) (to_peer p d k)) refl (λ M. ap (eye M) (locks_there w a t.state p k))
 
+  apart : s.uses c ≡ Locking op u st → Inv w → c ≢ n
+  apart is inv q = let y : s.uses c ≡ s.uses n = ap s.uses q in cc (is, fresh inv)
+
+  new_use : ((perform w a t).node a).uses n ≡ new
+  new_use = ap (λ (y : State). y.uses n) (upd_same same_atom atoms w.node a t.state) ∙ upd_same nat_eq numbers own_uses n new
+
+  -- no update of the name goes out before
+  alone : s.uses c ≡ Locking op u st → ((p : Node) → near w a p → st p ≡ Yes) → Inv w → (i : Node) (k : ℕ) (p : Node) → near w i p → near w a p → IsUpdateOf N ((w.node i).uses k) → ⊥
+  alone is all inv i k p near_it meets h =
+      let b = update_is N ((w.node i).uses k) h in
+      let o = one_ref i a b.lock c ((w.node p).locks N) (update_holds w inv i k N p near_it b) (yes_holds w inv a c op u st p meets is (all p meets)) in
+      let y : (w.node i).uses b.lock ≡ Owning N k = update_owner w inv i k N b in
+      let z : (w.node i).uses b.lock ≡ s.uses c = ap (λ j. (w.node j).uses b.lock) o.0 ∙ ap s.uses o.1 in
+      cc
+
   begin_counts : s.uses c ≡ Locking op u st → Inv w → Counted (perform w a t)
   begin_counts is inv = counts_moved w a t op (Changing n) 1 0 refl (λ i o. one_only (same_atom i a && same_op o op)) (λ i o. none_only (same_atom i a && same_op o op))
       (ap (λ y. weight y + 1) ((inv.sound a).asking c op u st is)) inv.counts
@@ -183,9 +199,6 @@ module _ (w : World) (a : Node) (peers : List Node) (sits : Sits w.nodes a peers
       none : M ≢ N → on M (w.log a ++ u ∷ []) ≡ on M (w.log a)
       none l = log_a ∙ (ap (λ b. on M (w.log a) ++ cond b (u ∷ []) []) (differ same_term terms M N l) ∙ append-nil (on M (w.log a)))
 
-      apart : c ≢ n
-      apart q = let y : s.uses c ≡ s.uses n = ap s.uses q in cc (is, fresh inv)
-
       -- an update of the name is the new one, or was there
       newer : (i : Node) (k : ℕ) → IsUpdateOf M ((v.node i).uses k) → (((i ≡ a) × (k ≡ n)) × (N ≡ M)) ⊎ IsUpdateOf M ((w.node i).uses k)
       newer i k h = from_read same_atom atoms (λ (y : State). IsUpdateOf M (y.uses k)) ((((i ≡ a) × (k ≡ n)) × (N ≡ M)) ⊎ IsUpdateOf M ((w.node i).uses k)) w.node a t.state i h
@@ -199,7 +212,7 @@ module _ (w : World) (a : Node) (peers : List Node) (sits : Sits w.nodes a peers
 
       more : (i : Node) (k : ℕ) → IsUpdateOf M ((w.node i).uses k) → IsUpdateOf M ((v.node i).uses k)
       more i k = use_read w a t.state (λ i y. IsUpdateOf M ((w.node i).uses k) → IsUpdateOf M y) k
-          (λ h. more_upd own_uses n new M (λ z. absurd (subst (IsUpdateOf M) (read_other nat_eq numbers s.uses c (Owning N n) n (λ y. apart (sym y)) ∙ fresh inv) z)) k
+          (λ h. more_upd own_uses n new M (λ z. absurd (subst (IsUpdateOf M) (read_other nat_eq numbers s.uses c (Owning N n) n (λ y. apart is inv (sym y)) ∙ fresh inv) z)) k
           (more_upd s.uses c (Owning N n) M (λ z. subst (IsUpdateOf M) is z) k h))
           (λ i d h. h) i
 
@@ -234,19 +247,8 @@ module _ (w : World) (a : Node) (peers : List Node) (sits : Sits w.nodes a peers
           ap (λ (f : Node → List Message). about r (f p)) (upd_same same_atom atoms w.wire a (λ y. w.wire a y ++ t.sends y))
           ∙ (about-append r (w.wire a p) (t.sends p) ∙ ap (λ o. o ++ about r (t.sends p)) (sent_nil ((shows l Quiet (quiet inv p meets l)).out_is)))
 
-      used : v.node a ≡ t.state
-      used = upd_same same_atom atoms w.node a t.state
-
-      new_use : (v.node a).uses n ≡ new
-      new_use = ap (λ (y : State). y.uses n) used ∙ upd_same nat_eq numbers own_uses n new
-
       same : M ≡ N → Tale w M p → Tale v M p
-      same q (inr d) =
-          let b = update_is N ((w.node d.i).uses d.n) (subst (λ y. IsUpdateOf y ((w.node d.i).uses d.n)) q d.update) in
-          let o = one_ref d.i a b.lock c ((w.node p).locks N) (update_holds w inv d.i d.n N p d.near_it b) (yes_holds w inv a c op u st p meets is (all p meets)) in
-          let y : (w.node d.i).uses b.lock ≡ Owning N d.n = update_owner w inv d.i d.n N b in
-          let z : (w.node d.i).uses b.lock ≡ s.uses c = ap (λ k. (w.node k).uses b.lock) o.0 ∙ ap s.uses o.1 in
-          absurd (cc)
+      same q (inr d) = absurd (alone is all inv d.i d.n p d.near_it meets (subst (λ y. IsUpdateOf y ((w.node d.i).uses d.n)) q d.update))
       same q (inl f) = place (split same_atom atoms p a)
         where
           clear : p ≡ a → (i : Node) (k : ℕ) → live w i → IsUpdateOf M ((v.node i).uses k) → carried (about (numbered i k) (v.wire i p)) ≡ []
@@ -282,6 +284,42 @@ module _ (w : World) (a : Node) (peers : List Node) (sits : Sits w.nodes a peers
           (at_read same_atom atoms (λ y. on M y ≡ on M (w.log p)) w.log a (w.log a ++ u ∷ []) p (λ q. none l ∙ ap (λ y. on M (w.log y)) (sym q)) (λ q. refl))
           (names ∙ (ap (λ b. of_name M w.history ++ cond b (e ∷ []) []) (differ same_term terms M N l) ∙ append-nil (of_name M w.history))) ops (fewer (λ q. l (sym q))) more wires
 
+  begin_latest : live w a → s.uses c ≡ Locking op u st → ((p : Node) → near w a p → st p ≡ Yes) → Inv w → Latest (perform w a t)
+  begin_latest la is all inv M before after e names none = go (split same_term terms M N)
+    where
+      v : World
+      v = perform w a t
+
+      d : Entry
+      d = record { node = a; op = op; update = u }
+
+      none_yet : answers_of e.node e.op w.answered ≡ 0
+      none_yet = sym (ap (answers_of e.node e.op) (answered_same w a t refl)) ∙ none
+
+      all_names : of_name M w.history ++ cond (same_term M N) (d ∷ []) [] ≡ before ++ e ∷ after
+      all_names = sym (of_name-append M w.history (d ∷ [])) ∙ names
+
+      goes_on : GoesOn w a t
+      goes_on o x k h = goes_upd o x own_uses n new (λ z. absurd (subst (IsUpdating o x) (read_other nat_eq numbers s.uses c (Owning N n) n (λ y. apart is inv (sym y)) ∙ fresh inv) z)) k
+          (goes_upd o x s.uses c (Owning N n) (λ z. subst (IsUpdating o x) is z) k h)
+
+      new_out : GoesOut w.nodes v.node d
+      new_out = record { there = la; number = n; update = subst (IsUpdating op u) (sym new_use) (refl, refl) }
+
+      here : M ≡ N → ((after ≡ []) × (e ≡ d)) ⊎ ((more : List Entry) × (of_name M w.history ≡ before ++ e ∷ more)) → (after ≡ []) × GoesOut v.nodes v.node e
+      here q (inl y) = (y.0, subst (GoesOut w.nodes v.node) (sym y.1) new_out)
+      here q (inr y) =
+          let old = inv.latest M before y.0 e y.1 none_yet in
+          absurd (alone is all inv e.node old.1.number a (near_live w e.node a old.1.there la) (live_own w a la)
+          (updating_of N e.op e.update ((w.node e.node).uses old.1.number) (entry_name M w.history before y.0 e y.1 ∙ q) old.1.update))
+
+      go : (M ≡ N) ⊎ (M ≢ N) → (after ≡ []) × GoesOut v.nodes v.node e
+      go (inl q) = here q (parted (of_name M w.history) d before after e (sym (ap (λ b. of_name M w.history ++ cond b (d ∷ []) []) (same_is same_term terms M N q)) ∙ all_names))
+      go (inr l) =
+          let old = inv.latest M before after e
+          (sym (ap (λ b. of_name M w.history ++ cond b (d ∷ []) []) (differ same_term terms M N l) ∙ append-nil (of_name M w.history)) ∙ all_names) none_yet in
+          (old.0, still_out w a t goes_on e old.1)
+
   pub begin_keeps : live w a → (w.node a).uses c ≡ Locking op u st → ((p : Node) → near w a p → st p ≡ Yes) → Inv w → Inv (perform w a (begin (seated a peers) c op u (w.node a)))
   begin_keeps la is all inv = record {
     seats = inv.seats;
@@ -294,6 +332,7 @@ module _ (w : World) (a : Node) (peers : List Node) (sits : Sits w.nodes a peers
     counts = begin_counts is inv;
     once = once_same w a t refl (λ o. at_read same_op commands (λ v. opens v ≡ opens (s.stages o)) s.stages op (Changing n) o
         (λ e. sym (ap (λ y. opens (s.stages y)) e ∙ ap opens ((inv.sound a).asking c op u st is))) (λ d. refl)) (λ port. omega arith) inv.once;
+    latest = begin_latest la is all inv;
   }
     where
       has : (k : ℕ) (p : Node) → near w a p → k ≡ c → (l : talk w a k p) → l.line ≡ Having N

@@ -115,7 +115,7 @@ not_asked No e = λ q. cc
 
 -- what follows the beginning of an update applies nothing and begins nothing
 module _ (m : Nodes) (n : ℕ) (s : State) where
-  replies_applied : (how : Use) → (replies_in m n how s).told.applied ≡ None
+  pub replies_applied : (how : Use) → (replies_in m n how s).told.applied ≡ None
   replies_applied Fresh = refl
   replies_applied Spent = refl
   replies_applied (Locking op u st) = refl
@@ -126,7 +126,7 @@ module _ (m : Nodes) (n : ℕ) (s : State) where
       go true = refl
       go false = refl
 
-  replies_began : (how : Use) → (replies_in m n how s).told.began ≡ None
+  pub replies_began : (how : Use) → (replies_in m n how s).told.began ≡ None
   replies_began Fresh = refl
   replies_began Spent = refl
   replies_began (Locking op u st) = refl
@@ -155,7 +155,7 @@ module _ (w : World) (a : Node) (peers : List Node) (sits : Sits w.nodes a peers
       go false q = still_keeps w a inv
       go true q = finish_keeps w a peers sits n op u c rep la e (every_near w.nodes a peers sits rep q) inv
 
-  fails : (c : ℕ) (op : OpId) (u : Update) (st : Node → Status) → s.uses c ≡ Locking op u st → (b : Bool) → none_missing m st ≡ b → Inv (perform w a (cond b (give_up m c op u st s) (becomes s)))
+  pub fails : (c : ℕ) (op : OpId) (u : Update) (st : Node → Status) → s.uses c ≡ Locking op u st → (b : Bool) → none_missing m st ≡ b → Inv (perform w a (cond b (give_up m c op u st s) (becomes s)))
   fails c op u st e false q = still_keeps w a inv
   fails c op u st e true q = fail_keeps w a peers sits c op u st la e (λ p d. not_asked (st p) (every_near w.nodes a peers sits (λ q. not (is_asked (st q))) q p d)) inv
 

@@ -24,6 +24,7 @@ use Rattle.pg_history.proofs.Named.{World, perform, popped, on, of_name}
 use Rattle.pg_history.proofs.Kept.{talk, near, live, near_live, IsUpdateOf, IsOpOf, carried, Tale, Inv}
 use Rattle.pg_history.proofs.Framed.{sound_perform, counts_same, read_same, once_same}
 use Rattle.pg_history.proofs.Telling.{tell_more, tale_same, mute_sent, carried_mute, history_same, on-append}
+use Rattle.pg_history.proofs.Latest.{latest_same}
 use Rattle.pg_history.proofs.Stages.{sound_same}
 use Rattle.pg_history.proofs.Pops.{Responds, respond_lines, respond_tidy, refers_other, about_else, wire_here, wire_to, pop_apart}
 use Rattle.pg_history.proofs.Takes.{to_it, not_to, ours_reply}
@@ -176,4 +177,5 @@ module _ (w : World) (a p : Node) (c : ℕ) (u : Update) (rest : List Message) (
     tales = tale;
     counts = counts_same w' a t refl refl (λ op. refl) inv.counts;
     once = once_same w' a t refl (λ o. refl) (λ port. omega arith) inv.once;
+    latest = latest_same w' a t refl refl (λ o v k h. h) inv.latest;
   }

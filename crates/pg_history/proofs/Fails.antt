@@ -25,9 +25,10 @@ use Rattle.pg_history.proofs.Lines.{Line, talk_same, shows, Fits, FitsStatus, Is
 use Rattle.pg_history.proofs.Lines.Line.{Having}
 use Rattle.pg_history.proofs.Moves.{refit, freed, freed_own}
 use Rattle.pg_history.proofs.Named.{World, perform}
-use Rattle.pg_history.proofs.Kept.{says, Sound, IsUpdateOf, weight, Inv, near, live, live_own, opens}
+use Rattle.pg_history.proofs.Kept.{says, Sound, IsUpdateOf, IsUpdating, weight, Inv, near, live, live_own, opens}
 use Rattle.pg_history.proofs.Framed.{Acts, ours_sent, spoken, acts_lines, acts_tidy, locks_here, locks_there, sound_perform, counts_same, once_same}
 use Rattle.pg_history.proofs.Telling.{mute_tales, fewer_upd, more_upd, ops_upd, mute_sent}
+use Rattle.pg_history.proofs.Latest.{latest_same, goes_upd}
 use Rattle.pg_history.proofs.Seats.{Sits, seated, true_both, to_own, to_own_at, to_near, to_untold}
 use Rattle.pg_history.proofs.Stages.{commands, other_stage}
 
@@ -165,4 +166,5 @@ module _ (w : World) (a : Node) (peers : List Node) (sits : Sits w.nodes a peers
         (λ e. sym (ap (λ y. weight (s.stages y)) e ∙ ap weight ((inv.sound a).asking c op u st is))) (λ n. refl)) inv.counts;
     once = once_same w a t refl (λ o. at_read same_op commands (λ v. opens v ≡ opens (s.stages o)) s.stages op (Waiting u) o
         (λ e. sym (ap (λ y. opens (s.stages y)) e ∙ ap opens ((inv.sound a).asking c op u st is))) (λ n. refl)) (λ port. omega arith) inv.once;
+    latest = latest_same w a t refl refl (λ o v. goes_upd o v s.uses c Spent (λ h. subst (IsUpdating o v) is h)) inv.latest;
   }

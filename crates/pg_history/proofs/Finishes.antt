@@ -1,5 +1,5 @@
 -- An update is applied everywhere, its lock is freed, and its command answered.
-use Rattle.std.proofs.Common.{◌≡◌, ◌≢◌, ℕ, ◌+◌, Bool, true, ◌&&◌, List, [], ◌∷◌, ◌++◌, nat_eq, refl, ap, sym, ◌∙◌, subst, inl, inr, ◌⊎◌, append-nil, arith, ◌≤◌}
+use Rattle.std.proofs.Common.{◌≡◌, ◌≢◌, ℕ, ◌+◌, Bool, true, cond, ◌&&◌, List, [], ◌∷◌, ◌++◌, nat_eq, refl, ap, sym, ◌∙◌, subst, inl, inr, ◌⊎◌, append-nil, arith, ◌≤◌}
 use Rattle.pg_term.specs.declared.term.Term.{Term}
 use Rattle.pg_term.specs.RefParts.{RefParts}
 use Rattle.pg_term.specs.Same.{same_atom, same_term}
@@ -17,16 +17,16 @@ use Rattle.pg_machine.specs.State.Use.{Fresh, Spent, Locking, Owning, Updating}
 use Rattle.pg_machine.specs.State.Stage.{Closed, Asking, Changing}
 use Rattle.pg_machine.specs.Turns.{NodeTurn}
 use Rattle.pg_machine.specs.Attempts.{same_op, finish}
-use Rattle.pg_history.proofs.Keys.{atoms, terms, numbers, split, upd_same, read_other, at_read, from_read}
+use Rattle.pg_history.proofs.Keys.{atoms, terms, numbers, split, upd_same, read_other, at_read, from_read, same_is}
 use Rattle.pg_history.proofs.References.{about, about_here, about_sent_other, held_by_one, numbered_other, numbered_same}
 use Rattle.pg_history.proofs.Lines.{Line, talk_same, shows, Fits, FitsReply, IsIdle, sent_nil}
 use Rattle.pg_history.proofs.Lines.Line.{Quiet}
 use Rattle.pg_history.proofs.Moves.{freed, freed_own}
 use Rattle.pg_history.proofs.Named.{World, perform, on, of_name}
-use Rattle.pg_history.proofs.Kept.{says, talk, near, live, live_own, near_live, Sound, IsUpdateOf, IsOpOf, weight, Inv, carried, Tale, opens, answers_of}
+use Rattle.pg_history.proofs.Kept.{says, talk, near, live, live_own, near_live, Sound, IsUpdateOf, IsOpOf, IsUpdating, GoesOut, Latest, weight, Inv, carried, Tale, opens, answers_of}
 use Rattle.pg_history.proofs.Framed.{Acts, ours_sent, spoken, acts_lines, acts_tidy, locks_here, locks_there, sound_perform}
-use Rattle.pg_history.proofs.Telling.{full_same, fewer_upd, more_upd, mute_sent, tale_same, use_read, log_same, history_same, carried_mute}
-use Rattle.pg_history.proofs.Seats.{Sits, seated, to_own, to_own_at, to_near}
+use Rattle.pg_history.proofs.Telling.{full_same, fewer_upd, more_upd, mute_sent, tale_same, use_read, log_same, history_same, carried_mute, answers-append}
+use Rattle.pg_history.proofs.Seats.{Sits, seated, to_own, to_own_at, to_near, true_both}
 use Rattle.pg_history.proofs.Stages.{other_stage, commands}
 use Rattle.pg_history.proofs.Weights.{counts_moved, one_only, none_only, once_moved}
 use Rattle.pg_history.proofs.Fails.{freed_eye}
@@ -188,6 +188,40 @@ module _ (w : World) (a : Node) (peers : List Node) (sits : Sits w.nodes a peers
       go (inl e) = same e (inv.tales M q lq)
       go (inr d) = tale_same w _ _ _ _ _ M q (inv.tales M q lq) logs names (ops d) fewer (more d) wires
 
+  finish_latest : s.uses n ≡ Updating op u c rep → Inv w → Latest (perform w a t)
+  finish_latest is inv M before after e names none = (old.0, out)
+    where
+      mine : Bool
+      mine = same_atom e.node a && same_op e.op op
+
+      even : answers_of e.node e.op w.answered + (cond {A = ℕ} mine 1 0 + 0) ≡ 0
+      even = sym (answers-append e.node e.op w.answered ((a, op) ∷ [])) ∙ none
+
+      old : (after ≡ []) × GoesOut w.nodes w.node e
+      old = inv.latest M before after e (sym (ap (of_name M) (history_same w a t refl)) ∙ names) (omega (arith, even))
+
+      -- it is not the command that is answered
+      apart : e.node ≡ a → e.op ≡ op → ⊥
+      apart q r =
+          let one : cond {A = ℕ} mine 1 0 ≡ 1 = ap (λ b. cond {A = ℕ} b 1 0) (true_both (same_is same_atom atoms e.node a q) (same_is same_op commands e.op op r)) in
+          omega (arith, one, even)
+
+      goes : Use → Type 0
+      goes = IsUpdating e.op e.update
+
+      k : ℕ
+      k = old.1.number
+
+      stays : e.node ≡ a → goes (s.uses k) → goes (t.state.uses k)
+      stays q h = subst goes (sym (keeps_use s.uses c n k (λ y. subst goes (ap s.uses y ∙ own is inv) h) (λ y. apart q (sym (subst goes (ap s.uses y ∙ is) h).0)))) h
+
+      out : GoesOut w.nodes (perform w a t).node e
+      out = record {
+        there = old.1.there;
+        number = k;
+        update = at_read same_atom atoms (λ (z : State). goes (z.uses k)) w.node a t.state e.node (λ q. stays q (subst (λ z. goes ((w.node z).uses k)) q old.1.update)) (λ l. old.1.update);
+      }
+
   pub finish_keeps : live w a → (w.node a).uses n ≡ Updating op u c rep → ((p : Node) → near w a p → rep p ≡ true) → Inv w → Inv (perform w a (finish (seated a peers) n op u c (w.node a)))
   finish_keeps la is all inv = record {
     seats = inv.seats;
@@ -203,6 +237,7 @@ module _ (w : World) (a : Node) (peers : List Node) (sits : Sits w.nodes a peers
     once = once_moved w a t op Closed 1 refl (λ i o. one_only (same_atom i a && same_op o op)) (λ port. omega arith)
         (λ lt. let closed : s.stages op ≡ Closed = (inv.sound a).absent op lt in cc changing)
         (let p : opens (s.stages op) ≡ 1 = ap opens changing in let q : opens (s.stages op) + answers_of a op w.answered ≤ 1 = inv.once.known a op in omega (arith, p, q)) inv.once;
+    latest = finish_latest is inv;
   }
     where
       changing : s.stages op ≡ Changing n

@@ -1,5 +1,5 @@
 -- What is held of a world holds of one where nothing has happened yet.
-use Rattle.std.proofs.Common.{◌≡◌, ℕ, ◌+◌, [], None, refl, ap, sym, ◌∙◌, subst, inl, arith}
+use Rattle.std.proofs.Common.{◌≡◌, ℕ, ◌+◌, List, [], ◌∷◌, ◌++◌, None, refl, ap, sym, ◌∙◌, subst, inl, arith}
 use Rattle.std.specs.List.{AllByRecursion}
 use Rattle.pg_term.specs.declared.term.Term.{Term}
 use Rattle.pg_term.specs.RefParts.{RefParts}
@@ -12,7 +12,7 @@ use Rattle.pg_machine.specs.State.Stage.{Closed}
 use Rattle.pg_history.proofs.References.{about}
 use Rattle.pg_history.proofs.Lines.{Fits}
 use Rattle.pg_history.proofs.Lines.Line.{Quiet}
-use Rattle.pg_history.proofs.Named.{World, Seated, on, of_name, updates, times}
+use Rattle.pg_history.proofs.Named.{World, Entry, Seated, on, of_name, updates, times}
 use Rattle.pg_history.proofs.Kept.{IsOurs, Sound, weight, answers_of, carried, talk, Inv, opens}
 
 -- no lock is held, no reference made, no command given, nothing about a reference is on the way, and nothing applied
@@ -27,6 +27,10 @@ pub record IsFirst (w : World) : Type 0 where
   pub log : (p : Node) → w.log p ≡ []
   pub history : w.history ≡ []
   pub answered : w.answered ≡ []
+
+no_entry : (before after : List Entry) (e : Entry) → [] ≡ before ++ e ∷ after → ⊥
+no_entry [] after e q = cc
+no_entry (x ∷ before) after e q = cc
 
 pub first_holds : (w : World) → IsFirst w → Inv w
 first_holds w first = record {
@@ -46,6 +50,7 @@ first_holds w first = record {
         omega (arith, p, q);
     unknown = λ i op lt. ap (answers_of i op) first.answered;
   };
+  latest = λ N before after e names none. absurd (no_entry before after e (sym (ap (of_name N) first.history) ∙ names));
 }
   where
     line : (i : Node) (c : ℕ) (p : Node) → talk w i c p

@@ -1,6 +1,5 @@
 -- A node is formed where each other place's exchange is merged.
 use Rattle.std.proofs.Common.{◌≡◌, ◌≢◌, ℕ, ◌<◌, zero, suc, Bool, true, false, ◌||◌, length, List, [], ◌∷◌, refl, ap, sym, ◌∙◌, subst, arith, inl, inr, ◌⊎◌}
-use Rattle.std.specs.Prelude.{unwrap_or, slice_get}
 use Rattle.std.specs.List.{AllByRecursion, list_all, remove}
 use Rattle.std.specs.Cmp.{first_so, second_so}
 use Rattle.std.proofs.lemmas.Bool.{cases_eq}
@@ -15,12 +14,9 @@ use Rattle.pg_machine.specs.Frames.{Config, names_of, name_at, nodes_at}
 use Rattle.pg_machine.specs.History.{known, base}
 use Rattle.pg_machine.proofs.Once.{is_same, clash}
 use Rattle.pg_machine.proofs.Steps.{pair_apart}
-use Rattle.pg_history.proofs.Apart.{pair_second}
+use Rattle.pg_history.proofs.Apart.{name_of_place, pair_second}
 use Rattle.pg_history.proofs.Values.{known_same}
 use Rattle.pg_history.proofs.Tabled.{has}
-
-abbrev name_of_place : List Node → ℕ → Node
-name_of_place names i = unwrap_or (slice_get names i) []
 
 all_there : (test : Node → Bool) (names : List Node) (p : ℕ) → p < length names → list_all test names ≡ true → test (name_of_place names p) ≡ true
 all_there test [] p below all = absurd (omega arith)

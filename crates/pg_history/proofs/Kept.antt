@@ -90,6 +90,11 @@ carried (Down pid ∷ xs) = carried xs
 pub data IsOpOf : Use → OpId → Type 0 where
   updating : (op : OpId) (u : Update) (c : ℕ) (rep : Node → Bool) → IsOpOf (Updating op u c rep) op
 
+-- the update u of the command op
+abbrev pub IsUpdating : OpId → Update → Use → Type 0
+IsUpdating op u (Updating o v c rep) = (o ≡ op) × (v ≡ u)
+IsUpdating op u _ = ⊥
+
 -- node p was told of these entries of a name, and of no others
 abbrev pub Tells : World → Term → Node → List Entry → Type 0
 Tells w N p all = on N (w.log p) ≡ updates all
@@ -185,6 +190,17 @@ pub record Once (node : Node → State) (answered : List (Node × OpId)) : Type 
   pub known : (i : Node) (op : OpId) → opens ((node i).stages op) + answers_of i op answered ≤ 1
   pub unknown : (i : Node) (op : OpId) → (node i).counts op.port < op.number → answers_of i op answered ≡ 0
 
+-- the update of an entry goes out
+pub record GoesOut (nodes : List Node) (node : Node → State) (e : Entry) : Type 0 where
+  pub there : Live nodes e.node
+  pub number : ℕ
+  pub update : IsUpdating e.op e.update ((node e.node).uses number)
+
+-- an entry that is not answered yet is the last of its name, and its update goes out
+abbrev pub Latest : World → Type 0
+Latest w = (N : Term) (before after : List Entry) (e : Entry) → of_name N w.history ≡ before ++ e ∷ after → answers_of e.node e.op w.answered ≡ 0
+    → (after ≡ []) × GoesOut w.nodes w.node e
+
 pub record Inv (w : World) : Type 0 where
   pub seats : Seated w.nodes w.seat
   pub lines : Lines w
@@ -193,6 +209,7 @@ pub record Inv (w : World) : Type 0 where
   pub tales : (N : Term) (p : Node) → live w p → Tale w N p
   pub counts : Counted w
   pub once : Once w.node w.answered
+  pub latest : Latest w
 
 -- Who is near whom
 

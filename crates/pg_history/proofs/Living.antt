@@ -34,7 +34,7 @@ use Rattle.pg_history.proofs.Ways.{state_after}
 abbrev pub Living : Table → (Pid → Bool) → Type 0
 Living table ended = (name : Term) → NoneEnded (table name) ended
 
-changed_living : (table : Table) (ended : Pid → Bool) (u : Update) → Living table ended → Living (changed table u ended) ended
+pub changed_living : (table : Table) (ended : Pid → Bool) (u : Update) → Living table ended → Living (changed table u ended) ended
 changed_living table ended u living name =
     upd_by same_term table (name_of u) (λ v. NoneEnded v ended) (applied (table (name_of u)) u ended) name
     (λ _. kept_applied ended (table (name_of u)) u (living (name_of u))) (λ _. living name)

@@ -9,7 +9,7 @@ use Rattle.pg_group.specs.Functions.{upd}
 use Rattle.pg_group.specs.Value.{name_of}
 use Rattle.pg_message.specs.declared.message.Message.{Message}
 use Rattle.pg_machine.specs.declared.command.OpId.{OpId}
-use Rattle.pg_machine.specs.Nodes.{Node, Nodes, is_peer, greatest}
+use Rattle.pg_machine.specs.Nodes.{Node, Nodes, is_peer}
 use Rattle.pg_machine.specs.State.{State}
 use Rattle.pg_machine.specs.Turns.{NodeTurn}
 use Rattle.pg_machine.specs.Attempts.{same_op}
@@ -34,11 +34,10 @@ pub record World : Type 0 where
   -- the commands that were answered behind their locks
   pub answered : List (Node × OpId)
 
--- every node knows itself and all others, and the same greatest
+-- every node knows itself and all others
 pub record Seated (nodes : List Node) (seat : Node → Nodes) : Type 0 where
   pub own : (a : Node) → list_any (same_atom a) nodes ≡ true → (seat a).own ≡ a
   pub peer : (a q : Node) → list_any (same_atom a) nodes ≡ true → is_peer (seat a) q ≡ (list_any (same_atom q) nodes && not (same_atom a q))
-  pub greatest : (a b : Node) → list_any (same_atom a) nodes ≡ true → list_any (same_atom b) nodes ≡ true → greatest (seat a) ≡ greatest (seat b)
 
 abbrev pub listed : {A : Type 0} → Option A → List A
 listed None = []

@@ -1,5 +1,5 @@
 -- What a node makes of a packet.
-use Rattle.std.proofs.Common.{◌≡◌, ℕ, ◌+◌, ◌*◌, ◌/◌, ◌%◌, Bool, true, false, cond, List, ◌∷◌, Ok, Err, refl, ap, sym, ◌∙◌, subst, arith, inl}
+use Rattle.std.proofs.Common.{◌≡◌, ℕ, ◌+◌, ◌*◌, ◌/◌, ◌%◌, Bool, true, false, cond, List, ◌∷◌, None, Ok, Err, refl, ap, sym, ◌∙◌, subst, arith, inl}
 use Rattle.std.specs.List.{AllByRecursion}
 use Rattle.std.proofs.lemmas.Nat.{div-add-mod'}
 use Rattle.pg_term.specs.RefParts.{RefParts, ref_eq}
@@ -32,6 +32,7 @@ use Rattle.pg_history.proofs.Kept.{says, live, near, near_swap, IsOurs, Inv}
 use Rattle.pg_history.proofs.Telling.{remade}
 use Rattle.pg_history.proofs.Seats.{Sits, seated}
 use Rattle.pg_history.proofs.Single.{ok_is}
+use Rattle.pg_history.proofs.Odd.{even_so, counted_even, confirmed_even}
 use Rattle.pg_history.proofs.Starts.{Idle, idle_keeps}
 use Rattle.pg_history.proofs.Pops.{pop_plain}
 use Rattle.pg_history.proofs.Takes.{set_keeps, del_keeps}
@@ -54,6 +55,7 @@ use_is a peers c s = ap (λ b. cond b (s.uses (number_in (numbered a c))) Spent)
 pub record Counts (w : World) (a : Node) (peers : List Node) (p : Node) (c : ℕ) (said : Said) (rest : List Message) (how : Use) : Type 0 where
   pub turn : NodeTurn
   pub makes : reply_by how (seated a peers) p c said (w.node a) ≡ Ok turn
+  pub even : turn.told.odd ≡ None
   pub kept : Inv (perform (popped w p a rest) a turn)
 
 module _ (w : World) (a : Node) (peers : List Node) (sits : Sits w.nodes a peers) (la : live w a) (inv : Inv w) (p : Node) (meets : near w p a) (c : ℕ) (rest : List Message) where
@@ -80,6 +82,7 @@ module _ (w : World) (a : Node) (peers : List Node) (sits : Sits w.nodes a peers
   granted_counts is (Locking op u st) e asked = record {
     turn = and_then (count_answer c op u st p Yes s) (λ t. go_on m c (t.uses c) t);
     makes = ap (λ v. lock_reply (lock_answer Granted) v m c op u st p s) asked;
+    even = counted_even m c op u st p Yes s;
     kept = answer_counts Granted Yes op u st (granted_keeps w a p c op u st rest inv meets is e);
   }
   granted_counts is Fresh e asked = absurd asked
@@ -91,6 +94,7 @@ module _ (w : World) (a : Node) (peers : List Node) (sits : Sits w.nodes a peers
   denied_counts is (Locking op u st) e asked = record {
     turn = and_then (count_answer c op u st p No s) (λ t. go_on m c (t.uses c) t);
     makes = ap (λ v. lock_reply (lock_answer Denied) v m c op u st p s) asked;
+    even = counted_even m c op u st p No s;
     kept = answer_counts Denied No op u st (denied_keeps w a p c op u st rest inv meets is e);
   }
   denied_counts is Fresh e asked = absurd asked
@@ -102,6 +106,7 @@ module _ (w : World) (a : Node) (peers : List Node) (sits : Sits w.nodes a peers
   applied_counts is (Updating op u d rep) e missing = record {
     turn = and_then (count_ok c op u d rep p s) (λ t. replies_in m c (t.uses c) t);
     makes = ap (λ b. cond b (Ok (strange Double s)) (Ok (and_then (count_ok c op u d rep p s) (λ t. replies_in m c (t.uses c) t)))) missing;
+    even = confirmed_even m c op u d rep p s;
     kept = chain (popped w p a rest) a (count_ok c op u d rep p s) (λ t. replies_in m c (t.uses c) t) (record { applied = inl refl; began = inl refl; answered = inl refl })
         (replied_keeps w a p c op u d rep rest inv meets is e)
         (λ x y l h z q k i. replies_in_keeps (remade (popped w p a rest) x y l h z) a peers sits la i c ((x a).uses c) refl);
@@ -120,8 +125,9 @@ module _ (w : World) (a : Node) (peers : List Node) (sits : Sits w.nodes a peers
   reply_is : (said : Said) → reply_taken m p r said s ≡ reply_by (s.uses c) m p c said s
   reply_is said = λ i. reply_by (use_is a peers c s i) m p (number_is a c i) said s
 
-  pub reply_made : (said : Said) → w.wire p a ≡ Reply r said ∷ rest → (t : NodeTurn) × (reply_taken m p r said s ≡ Ok t) × Inv (perform (popped w p a rest) a t)
-  reply_made said is = let all = reply_counts said is in (all.turn, reply_is said ∙ all.makes, all.kept)
+  pub reply_made : (said : Said) → w.wire p a ≡ Reply r said ∷ rest
+      → (t : NodeTurn) × (reply_taken m p r said s ≡ Ok t) × (t.told.odd ≡ None) × Inv (perform (popped w p a rest) a t)
+  reply_made said is = let all = reply_counts said is in (all.turn, reply_is said ∙ all.makes, all.even, all.kept)
 
 -- ---- all packets
 
@@ -180,9 +186,15 @@ module _ (w : World) (a : Node) (peers : List Node) (sits : Sits w.nodes a peers
   freed_kept N r of_p = subst (λ r. w.wire p a ≡ DelLock N r ∷ rest → Inv (perform after a (lock_freed N r own))) (sym of_p.1)
       (λ is. del_keeps w a p of_p.0 N rest inv meets is)
 
-  pub reply_kept : (r : RefParts) (said : Said) → IsOurs p a (Reply r said) → w.wire p a ≡ Reply r said ∷ rest → (t : NodeTurn) × (reply_taken known p r said own ≡ Ok t) × Inv (perform after a t)
-  reply_kept r said of_a = subst (λ r. w.wire p a ≡ Reply r said ∷ rest → (t : NodeTurn) × (reply_taken known p r said own ≡ Ok t) × Inv (perform after a t)) (sym of_a.1)
+  pub reply_kept : (r : RefParts) (said : Said) → IsOurs p a (Reply r said) → w.wire p a ≡ Reply r said ∷ rest
+      → (t : NodeTurn) × (reply_taken known p r said own ≡ Ok t) × (t.told.odd ≡ None) × Inv (perform after a t)
+  reply_kept r said of_a =
+      subst (λ r. w.wire p a ≡ Reply r said ∷ rest → (t : NodeTurn) × (reply_taken known p r said own ≡ Ok t) × (t.told.odd ≡ None) × Inv (perform after a t)) (sym of_a.1)
       (λ is. reply_made w a peers sits la inv p meets of_a.0 rest said is)
+
+  -- a reply that comes in is taken
+  pub reply_heard : (r : RefParts) (said : Said) → w.wire p a ≡ Reply r said ∷ rest → (t : NodeTurn) × (taken (seated a peers) p (Reply r said) (w.node a) ≡ Ok t)
+  reply_heard r said is = let made = reply_kept r said (ours (Reply r said) is) is in (made.0, made.1)
 
   pub taken_keeps : (x : Message) (t : NodeTurn) → w.wire p a ≡ x ∷ rest → taken (seated a peers) p x (w.node a) ≡ Ok t → Inv (perform (popped w p a rest) a t)
   taken_keeps (Call r (SetLock N)) t is e = subst (λ z. Inv (perform after a z)) (ok_is e) (locks_kept r N (ours (Call r (SetLock N)) is) is)
@@ -190,7 +202,7 @@ module _ (w : World) (a : Node) (peers : List Node) (sits : Sits w.nodes a peers
   taken_keeps (DelLock N r) t is e = subst (λ z. Inv (perform after a z)) (ok_is e) (freed_kept N r (ours (DelLock N r) is) is)
   taken_keeps (Reply r said) t is e =
       let made = reply_kept r said (ours (Reply r said) is) is in
-      subst (λ z. Inv (perform after a z)) (ok_is (sym made.1 ∙ e)) made.2
+      subst (λ z. Inv (perform after a z)) (ok_is (sym made.1 ∙ e)) made.3
   taken_keeps (Exchange node groups) t is e = go (is_bad_exchange p node own) e
     where
       go : (b : Bool) → cond b (Err NotAMessage) (Ok (exchange p groups own)) ≡ Ok t → Inv (perform after a t)
@@ -199,3 +211,18 @@ module _ (w : World) (a : Node) (peers : List Node) (sits : Sits w.nodes a peers
           (idle_keeps after a (exchange p groups own) (pop_plain w a p (Exchange node groups) rest inv is (λ r. refl) refl) (idle_exchange groups))
   taken_keeps (Down pid) t is e = subst (λ z. Inv (perform after a z)) (ok_is e)
       (idle_keeps after a (process_end pid own) (pop_plain w a p (Down pid) rest inv is (λ r. refl) refl) (idle_process_end pid))
+
+  -- and no turn tells of an odd reply
+  pub taken_even : (x : Message) (t : NodeTurn) → w.wire p a ≡ x ∷ rest → taken (seated a peers) p x (w.node a) ≡ Ok t → t.told.odd ≡ None
+  taken_even (Call r (SetLock N)) t is e = even_so {u = lock_request known p r N own} refl e
+  taken_even (Call r (Change u)) t is e = even_so {u = update_request p r u own} refl e
+  taken_even (DelLock N r) t is e = even_so {u = lock_freed N r own} refl e
+  taken_even (Reply r said) t is e =
+      let made = reply_kept r said (ours (Reply r said) is) is in
+      even_so made.2 (sym made.1 ∙ e)
+  taken_even (Exchange node groups) t is e = go (is_bad_exchange p node own) e
+    where
+      go : (b : Bool) → cond b (Err NotAMessage) (Ok (exchange p groups own)) ≡ Ok t → t.told.odd ≡ None
+      go true e = absurd (cc)
+      go false e = even_so {u = exchange p groups own} refl e
+  taken_even (Down pid) t is e = even_so {u = process_end pid own} refl e

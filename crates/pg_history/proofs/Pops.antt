@@ -112,6 +112,7 @@ module _ (w : World) (a p : Node) (x : Message) (rest : List Message) where
     tales = pop_told inv is none;
     counts = inv.counts;
     once = inv.once;
+    latest = inv.latest;
   }
 
 -- a turn that answers peer p about its reference number c

@@ -1,11 +1,12 @@
 -- The turns of an attempt keep together what belongs together of references, commands and counts.
-use Rattle.std.proofs.Common.{◌≡◌, ◌≢◌, ℕ, ◌+◌, ◌<◌, Bool, nat_eq, refl, ap, sym, ◌∙◌, subst, arith}
+use Rattle.std.proofs.Common.{◌≡◌, ◌≢◌, ℕ, ◌+◌, ◌<◌, ◌≤◌, Bool, nat_eq, refl, ap, sym, ◌∙◌, subst, arith}
 use Rattle.std.proofs.lemmas.Bool.{eqb-true, eqb-false}
 use Rattle.pg_term.specs.declared.term.Term.{Term}
 use Rattle.pg_term.specs.Same.{same_atom}
 use Rattle.pg_group.specs.declared.update.Update.{Update}
 use Rattle.pg_group.specs.Functions.{upd}
 use Rattle.pg_group.specs.Value.{name_of}
+use Rattle.pg_group.specs.Table.{Table, changed}
 use Rattle.pg_group.proofs.Changes.{upd_at, upd_by}
 use Rattle.pg_machine.specs.declared.command.OpId.{OpId}
 use Rattle.pg_machine.specs.Nodes.{Node, Nodes}
@@ -62,19 +63,18 @@ module _ (m : Nodes) (s : State) (sound : Sound s) where
   made_is : (c : ℕ) (d : ℕ) → (s.uses c ≡ Fresh → ⊥) → s.references < d → c ≢ d
   made_is c d used above same = used (sound.fresh c (subst (λ z. s.references < z) (sym same) above))
 
-  pub attempted_keeps : (op : OpId) (u : Update) → s.stages op ≡ Waiting u → Sound ((new_attempt op u s).state)
-  attempted_keeps op u waits = record {
-    fresh = λ c above. elsewhere s.uses r first c (λ same. let e : r ≡ c = same in absurd (omega arith)) ∙ sound.fresh c (omega arith);
+  -- an attempt under a reference that was not made yet
+  pub attempted_at : (r made : ℕ) → s.references < r → r ≤ made → (op : OpId) (u : Update) → s.stages op ≡ Waiting u
+      → Sound (record s { references = made; uses = upd nat_eq s.uses r (Locking op u (λ q. Unasked)); stages = upd same_op s.stages op (Asking r) })
+  attempted_at r made new within op u waits = record {
+    fresh = λ c above. elsewhere s.uses r first c (λ same. let e : r ≡ c = same in absurd (omega (arith, within, above))) ∙ sound.fresh c (omega (arith, new, within, above));
     fits = λ c. upd_by nat_eq s.uses r (λ x. Fits c x stages uses) first c
         (λ same. upd_at same_op s.stages op (Asking r) (is_op op) ∙ ap Asking (eqb-true r c same))
         (λ _. fits_still c (s.uses c) s.stages op (Asking r) s.uses uses (waits_asks waits) (waits_changes waits)
-        (λ d name owns. elsewhere s.uses r first d (λ same. fresh_owns (sound.fresh r (omega arith)) (ap s.uses same ∙ owns))) (sound.fits c));
+        (λ d name owns. elsewhere s.uses r first d (λ same. fresh_owns (sound.fresh r new) (ap s.uses same ∙ owns))) (sound.fits c));
     closed = closed_still op (Asking r) (waits_closed waits);
   }
     where
-      r : ℕ
-      r = s.references + 1
-
       first : Use
       first = Locking op u (λ q. Unasked)
 
@@ -83,6 +83,9 @@ module _ (m : Nodes) (s : State) (sound : Sound s) where
 
       stages : OpId → Stage
       stages = upd same_op s.stages op (Asking r)
+
+  pub attempted_keeps : (op : OpId) (u : Update) → s.stages op ≡ Waiting u → Sound ((new_attempt op u s).state)
+  attempted_keeps = attempted_at (s.references + 1) (s.references + 1) (omega arith) (omega arith)
 
   -- what is asked or answered changes
   pub relock : (t : State) (c : ℕ) (op : OpId) (u : Update) (st later : Node → Status) → s.uses c ≡ Locking op u st → t.references ≡ s.references → t.stages ≡ s.stages → t.counts ≡ s.counts
@@ -145,11 +148,18 @@ module _ (m : Nodes) (s : State) (sound : Sound s) where
       fit : (s.stages op ≡ Changing n) × (s.uses c ≡ Owning (name_of u) n)
       fit = fit_at s sound n (Updating op u c replied) is
 
-  pub begun_keeps : (c : ℕ) (op : OpId) (u : Update) (st : Node → Status) → s.uses c ≡ Locking op u st → Sound ((begin m c op u s).state)
-  begun_keeps c op u st is = record {
+  -- an update under a reference that was not made yet
+  pub begun_at : (r made : ℕ) (table : Table) → s.references < r → r ≤ made → (c : ℕ) (op : OpId) (u : Update) (st : Node → Status) → s.uses c ≡ Locking op u st
+      → Sound (record s {
+        table = table;
+        references = made;
+        uses = upd nat_eq (upd nat_eq s.uses c (Owning (name_of u) r)) r (Updating op u c (same_atom m.own));
+        stages = upd same_op s.stages op (Changing r);
+      })
+  begun_at r made table new within c op u st is = record {
     fresh = λ d above.
-        elsewhere owned r change d (λ same. let e : r ≡ d = same in absurd (omega arith))
-        ∙ elsewhere s.uses c own d (made_is c d (λ fresh. fresh_locks fresh is) (omega arith)) ∙ sound.fresh d (omega arith);
+        elsewhere owned r change d (λ same. let e : r ≡ d = same in absurd (omega (arith, within, above)))
+        ∙ elsewhere s.uses c own d (made_is c d (λ fresh. fresh_locks fresh is) (omega (arith, new, within, above))) ∙ sound.fresh d (omega (arith, new, within, above));
     fits = λ d. upd_by nat_eq owned r (λ x. Fits d x stages uses) change d
         (λ same. subst (λ k. (stages op ≡ Changing k) × (uses c ≡ Owning (name_of u) k)) (eqb-true r d same)
         (upd_at same_op s.stages op (Changing r) (is_op op), elsewhere owned r change c (λ one. lower (sym one)) ∙ here s.uses c own))
@@ -157,14 +167,11 @@ module _ (m : Nodes) (s : State) (sound : Sound s) where
         (λ other. fits_still d (s.uses d) s.stages op (Changing r) s.uses uses
         (λ asks. eqb-false c d other (asking_is (sym asking ∙ asks))) (asks_changes asking)
         (λ k name owns.
-        elsewhere owned r change k (λ same. fresh_owns (sound.fresh r (omega arith)) (ap s.uses same ∙ owns))
+        elsewhere owned r change k (λ same. fresh_owns (sound.fresh r new) (ap s.uses same ∙ owns))
         ∙ elsewhere s.uses c own k (λ same. other_use (sym (ap s.uses same) ∙ is) owns)) (sound.fits d)));
     closed = closed_still op (Changing r) (asks_closed asking);
   }
     where
-      r : ℕ
-      r = s.references + 1
-
       own : Use
       own = Owning (name_of u) r
 
@@ -184,4 +191,7 @@ module _ (m : Nodes) (s : State) (sound : Sound s) where
       asking = fit_at s sound c (Locking op u st) is
 
       lower : c ≢ r
-      lower = made_is c r (λ fresh. fresh_locks fresh is) (omega arith)
+      lower = made_is c r (λ fresh. fresh_locks fresh is) new
+
+  pub begun_keeps : (c : ℕ) (op : OpId) (u : Update) (st : Node → Status) → s.uses c ≡ Locking op u st → Sound ((begin m c op u s).state)
+  begun_keeps c op u = begun_at (s.references + 1) (s.references + 1) (changed s.table u s.ended) (omega arith) (omega arith) c op u

@@ -1,8 +1,9 @@
 -- What a turn makes of a command: whether it may begin its update still, and what was begun and answered of it.
 use Rattle.std.proofs.Common.{◌≡◌, ◌⊎◌, inl, inr, ℕ, ◌+◌, ◌<◌, ◌≤◌, Bool, true, false, ◌&&◌, ◌||◌, cond, nat_eq, List, [], ◌∷◌, ◌++◌, Option, Some, None, refl, ap, sym, ◌∙◌, subst, arith}
-use Rattle.std.specs.List.{list_any}
+use Rattle.std.specs.List.{list_any, count_by}
 use Rattle.std.proofs.lemmas.Bool.{cases_lt, eq-eqb, eqb-true}
 use Rattle.std.proofs.lemmas.List.Folds.{list_any-append}
+use Rattle.std.proofs.lemmas.List.Sums.{sum_by-append}
 use Rattle.pg_group.specs.declared.update.Update.{Update}
 use Rattle.pg_group.proofs.Changes.{upd_at, upd_by}
 use Rattle.pg_machine.specs.declared.command.OpId.{OpId}
@@ -10,7 +11,7 @@ use Rattle.pg_machine.specs.State.{State, Stage, Response}
 use Rattle.pg_machine.specs.State.Stage.{Closed, Waiting, Asking, Changing}
 use Rattle.pg_machine.specs.Turns.{Told}
 use Rattle.pg_machine.specs.Attempts.{same_op, with_answer}
-use Rattle.pg_machine.specs.History.{is_op as tells_op, has_answer}
+use Rattle.pg_machine.specs.History.{is_op as tells_op, has_answer, answers_to}
 use Rattle.pg_history.specs.Sound.{Sound}
 use Rattle.pg_history.proofs.Soundly.{op_is}
 
@@ -100,6 +101,28 @@ each_op Q op own others other = go (same_op op other) (same_op other op) refl re
 
 -- ---- answers
 
+-- a command has one answer, or none
+abbrev pub HasOne : OpId → State → Type 0
+HasOne op s = answers_to op s ≤ cond (has_answer op s) 1 0
+
+pub one_at_most : (op : OpId) (s : State) → HasOne op s → answers_to op s ≤ 1
+one_at_most op s one = go (has_answer op s) one
+  where
+    go : (b : Bool) → answers_to op s ≤ cond b 1 0 → answers_to op s ≤ 1
+    go true within = within
+    go false within = omega (arith, within)
+
+pub same_one : (s t : State) → t.answers ≡ s.answers → (op : OpId) → HasOne op s → HasOne op t
+same_one s t answers op one = subst (λ (f : ℕ → List (ℕ × Response)). count_by test (f op.port) ≤ cond (list_any test (f op.port)) 1 0) (sym answers) one
+  where
+    test : ℕ × Response → Bool
+    test a = nat_eq a.0 op.number
+
+count_push : (test : ℕ × Response → Bool) (xs : List (ℕ × Response)) (x : ℕ × Response) → count_by test (xs ++ x ∷ []) ≡ count_by test xs + cond (test x) 1 0
+count_push test xs x =
+    let none : 0 + cond {A = ℕ} (test x) 1 0 ≡ cond (test x) 1 0 = omega arith in
+    sum_by-append (λ a. cond (test a) 1 0) xs (x ∷ []) ∙ ap (λ n. count_by test xs + n) none
+
 any_left : (x y : Bool) → x ≡ true → (x || y) ≡ true
 any_left true y e = refl
 any_left false y e = absurd (cc)
@@ -145,12 +168,61 @@ module _ (op : OpId) (r : Response) (s t : State) (answers : t.answers ≡ with_
       number : nat_eq op.port other.port ≡ true → nat_eq op.number other.number ≡ false
       number same = sym (ap (λ b. b && nat_eq op.number other.number) same) ∙ apart
 
+  counts_by : (other : OpId) → answers_to other t ≡ count_by (λ a. nat_eq a.0 other.number) (with_answer s.answers op r other.port)
+  counts_by other = ap (λ (f : ℕ → List (ℕ × Response)). count_by (λ a. nat_eq a.0 other.number) (f other.port)) answers
+
+  counts_it : answers_to op t ≡ answers_to op s + 1
+  counts_it = counts_by op ∙ ap (count_by test) (upd_at nat_eq s.answers op.port (s.answers op.port ++ (op.number, r) ∷ []) (eq-eqb op.port op.port refl))
+      ∙ count_push test (s.answers op.port) (op.number, r) ∙ ap (λ b. answers_to op s + cond b 1 0) (eq-eqb op.number op.number refl)
+    where
+      test : ℕ × Response → Bool
+      test a = nat_eq a.0 op.number
+
+  counts_still : (other : OpId) → same_op op other ≡ false → answers_to other t ≡ answers_to other s
+  counts_still other apart = counts_by other ∙ upd_by nat_eq s.answers op.port (λ xs. count_by test xs ≡ answers_to other s) (s.answers op.port ++ (op.number, r) ∷ []) other.port
+      (λ same. count_push test (s.answers op.port) (op.number, r)
+      ∙ ap (λ b. count_by test (s.answers op.port) + cond b 1 0) (number same) ∙ no_zero (count_by test (s.answers op.port))
+      ∙ ap (λ p. count_by test (s.answers p)) (eqb-true op.port other.port same)) (λ _. refl)
+    where
+      test : ℕ × Response → Bool
+      test a = nat_eq a.0 other.number
+
+      number : nat_eq op.port other.port ≡ true → nat_eq op.number other.number ≡ false
+      number same = sym (ap (λ b. b && nat_eq op.number other.number) same) ∙ apart
+
+      no_zero : (n : ℕ) → n + 0 ≡ n
+      no_zero n = omega arith
+
+  -- each command has one answer, or none, where the one that is answered had none
+  pub one_each : (has_answer op s ≡ true → ⊥) → ((other : OpId) → HasOne other s) → (other : OpId) → HasOne other t
+  one_each none all = each_op (λ other. HasOne other t) op own others
+    where
+      unanswered : (b : Bool) → (b ≡ true → ⊥) → answers_to op s ≤ cond b 1 0 → answers_to op s ≤ 0
+      unanswered true never within = absurd (never refl)
+      unanswered false never within = within
+
+      own : HasOne op t
+      own =
+          let before : answers_to op s ≤ 0 = unanswered (has_answer op s) none (all op) in
+          let later : answers_to op t ≡ answers_to op s + 1 = counts_it in
+          subst (λ b. answers_to op t ≤ cond b 1 0) (sym has_it) (omega (arith, before, later))
+
+      wider : (before later : Bool) (n : ℕ) → (before ≡ true → later ≡ true) → n ≤ cond before 1 0 → n ≤ cond later 1 0
+      wider true later n has within = subst (λ b. n ≤ cond b 1 0) (sym (has refl)) within
+      wider false true n has within = omega (arith, within)
+      wider false false n has within = within
+
+      others : (other : OpId) → same_op op other ≡ false → same_op other op ≡ false → HasOne other t
+      others other apart _ = subst (λ n. n ≤ cond (has_answer other t) 1 0) (sym (counts_still other apart))
+          (wider (has_answer other s) (has_answer other t) (answers_to other s) (has_still other) (all other))
+
 -- ---- what is kept
 
 pub record Kept (s : State) : Type 0 where
   pub sound : Sound s
   -- a command with an answer has come in, and is open no more
   pub over : (op : OpId) → has_answer op s ≡ true → (s.stages op ≡ Closed) × (op.number ≤ s.counts op.port)
+  pub single : (op : OpId) → HasOne op s
 
 -- a command that is open has come in
 pub open_is_in : (s : State) → Sound s → (op : OpId) → (s.stages op ≡ Closed → ⊥) → op.number ≤ s.counts op.port

@@ -16,7 +16,7 @@ use Rattle.pg_machine.specs.Step.{Action, taken, acted}
 use Rattle.pg_machine.specs.Attempts.{same_op}
 use Rattle.pg_machine.specs.Commands.{next_op, count_command}
 use Rattle.pg_machine.specs.Frames.{Config, name_at, nodes_at, ports_at, node_step, machine_of}
-use Rattle.pg_machine.specs.History.{Entry, Frames, entry_of, entries, times, answered_count, has_answer, is_op as tells_op}
+use Rattle.pg_machine.specs.History.{Entry, Frames, entry_of, entries, times, answered_count, has_answer, answers_to, is_op as tells_op}
 use Rattle.pg_machine.proofs.Steps.{changes}
 use Rattle.pg_machine.proofs.Sequences.{kept}
 use Rattle.pg_machine.proofs.Plain.{plain_from_start}
@@ -26,7 +26,7 @@ use Rattle.pg_history.proofs.Made.{placed_so}
 use Rattle.pg_history.proofs.Ways.{state_after}
 use Rattle.pg_history.proofs.Grows.{entries_append}
 use Rattle.pg_history.proofs.SoundRuns.{new_op, same_sound}
-use Rattle.pg_history.proofs.Stand.{Stands, Kept, begun_by, answered_by, chance, under_way}
+use Rattle.pg_history.proofs.Stand.{Stands, Kept, begun_by, answered_by, chance, under_way, one_at_most}
 use Rattle.pg_history.proofs.StandTurns.{Unanswered, KeepsQuiet, KeepsAll, leaves_all, stands_singly}
 
 -- ---- a step
@@ -164,7 +164,7 @@ event_stands config w v e h all =
 
 start_stands : (config : Config) → Standing (start_of (machine_of config))
 start_stands config = record {
-  kept = λ i. record { sound = record { fresh = λ c above. refl; fits = λ c. tt; closed = λ op below. refl }; over = λ op has. absurd (cc) };
+  kept = λ i. record { sound = record { fresh = λ c above. refl; fits = λ c. tt; closed = λ op below. refl }; over = λ op has. absurd (cc); single = λ op. omega arith };
   stands = λ i op. record { once = omega arith; balanced = refl };
 }
 
@@ -201,3 +201,6 @@ module _ (config : Config) (es : List (Event Action)) (w : TimedFrames) (l : Rea
   stands_not has none =
       let over = ((standing config es w l).kept i).over op has in
       balance ∙ ap (λ x. under_way x + answered_count i op (plain w).told) over.0 ∙ ap (λ n. 0 + n) none
+
+  pub one_answer : answers_to op ((plain w).node i) ≤ 1
+  one_answer = one_at_most op ((plain w).node i) (((standing config es w l).kept i).single op)

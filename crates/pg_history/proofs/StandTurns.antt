@@ -21,7 +21,7 @@ use Rattle.pg_history.proofs.Single.{AnyUpdate, OfSingle}
 use Rattle.pg_history.proofs.Soundly.{Keeps, NewOp, op_is, is_op, fit_at}
 use Rattle.pg_history.proofs.SoundTurns.{waits_closed, asks_closed}
 use Rattle.pg_history.proofs.SoundRuns.{sound_singly}
-use Rattle.pg_history.proofs.Stand.{Stands, Kept, begun_by, answered_by, chance, under_way, may_begin, stands_still, stands_by, each_op, has_it, has_still, had, open_is_in}
+use Rattle.pg_history.proofs.Stand.{Stands, Kept, begun_by, answered_by, chance, under_way, may_begin, stands_still, stands_by, each_op, has_it, has_still, had, same_one, one_each, open_is_in}
 
 -- a new command has no answer
 abbrev pub Unanswered : OpId → State → Type 0
@@ -52,7 +52,7 @@ same_has s t answers op has = ap (λ (f : ℕ → List (ℕ × Response)). Rattl
 
 pub leaves_all : (s : State) (t : NodeTurn) → t.state.stages ≡ s.stages → t.state.counts ≡ s.counts → t.state.answers ≡ s.answers → t.told.began ≡ None → t.told.answered ≡ None → Keeps s t → KeepsAll s t
 leaves_all s t stages counts answers began answered sound kept = (
-  record { sound = sound kept.sound; over = still_over s t.state stages counts answers kept },
+  record { sound = sound kept.sound; over = still_over s t.state stages counts answers kept; single = λ op. same_one s t.state answers op (kept.single op) },
   λ op. stands_still op s t.state t.told (ap (λ (f : OpId → Stage). f op) stages) (ap (begun_by op) began) (ap (answered_by op) answered) (same_has s t.state answers op),
 )
 
@@ -114,6 +114,7 @@ answer_keeps op r s t stages counts answers began answered new sound = (
           (λ other apart _ has.
           let o = kept.over other (had op r s t.state answers other apart has) in
           (ap (λ (f : OpId → Stage). f other) stages ∙ o.0, subst (λ (f : ℕ → ℕ). other.number ≤ f other.port) (sym counts) o.1));
+      single = one_each op r s t.state answers (λ has. clash (sym has ∙ new.1)) kept.single;
     },
     λ other. stands_still other s t.state t.told (ap (λ (f : OpId → Stage). f other) stages) (ap (begun_by other) began) (ap (answered_by other) answered) (has_still op r s t.state answers other),
   ),
@@ -142,7 +143,7 @@ restaged : (s : State) (t : NodeTurn) (op : OpId) (old new : Stage) → s.stages
     → 0 + may_begin (has_answer op t.state) new ≤ may_begin (has_answer op s) old → under_way new + 0 ≡ under_way old + 0 → Kept s → Keeps s t
     → Kept t.state × ((other : OpId) → Stands other s t.state t.told)
 restaged s t op old new was stages counts answers began answered none chances weights kept sound = (
-  record { sound = sound kept.sound; over = over_still s t.state op new stages counts answers none kept },
+  record { sound = sound kept.sound; over = over_still s t.state op new stages counts answers none kept; single = λ other. same_one s t.state answers other (kept.single other) },
   each_op (λ other. Stands other s t.state t.told) op
       (stands_by op s t.state t.told old new 0 0 was (ap (λ (f : OpId → Stage). f op) stages ∙ upd_at same_op s.stages op new (is_op op)) (ap (begun_by op) began) (ap (answered_by op) answered) chances weights)
       (λ other apart _. stands_still other s t.state t.told (ap (λ (f : OpId → Stage). f other) stages ∙ upd_other same_op s.stages op new other apart)
@@ -186,7 +187,7 @@ begun_all m c op u st s is sound kept =
     let asks : s.stages op ≡ Asking c = fit_at s kept.sound c (Locking op u st) is in
     let t = begin m c op u s in
     let new = Changing (s.references + 1) in (
-      record { sound = sound kept.sound; over = over_still s t.state op new refl refl refl (none_of s kept op (asks_closed asks)) kept },
+      record { sound = sound kept.sound; over = over_still s t.state op new refl refl refl (none_of s kept op (asks_closed asks)) kept; single = kept.single },
       each_op (λ other. Stands other s t.state t.told) op
           (stands_by op s t.state t.told (Asking c) new 1 0 asks (upd_at same_op s.stages op new (is_op op)) (one_is op) refl (omega arith) refl)
           (λ other apart back. stands_still other s t.state t.told (upd_other same_op s.stages op new other apart) (none_is op other back) refl (λ has. has)),
@@ -206,6 +207,7 @@ finished_all m n op u c replied s is sound = (
               (λ other apart _ has.
               let o = kept.over other (had op r s t.state refl other apart has) in
               (upd_other same_op s.stages op Closed other apart ∙ o.0, o.1));
+          single = one_each op r s t.state refl (none_of s kept op (changes_closed changes)) kept.single;
         },
         each_op (λ other. Stands other s t.state t.told) op
             (stands_by op s t.state t.told (Changing n) Closed 0 1 changes closed refl (one_is op)
@@ -228,6 +230,7 @@ counted_all port s sound = (
             upd_by nat_eq s.counts port (λ n. op.number ≤ n) (s.counts port + 1) op.port
                 (λ same. let within : op.number ≤ s.counts port = subst (λ p. op.number ≤ s.counts p) (sym (eqb-true port op.port same)) o.1 in omega arith) (λ _. o.1),
           );
+      single = kept.single;
     },
     λ op. stands_still op s (count_command port s).state nothing refl refl refl (λ has. has),
   ),

@@ -19,11 +19,11 @@ use Rattle.pg_machine.specs.Turns.{NodeTurn, Told}
 use Rattle.pg_machine.specs.Peers.{exchange}
 use Rattle.pg_machine.specs.Step.{Action}
 use Rattle.pg_machine.specs.Frames.{Config, names_of, name_at, groups_at, nodes_at, machine_of}
-use Rattle.pg_machine.specs.History.{Frames, applied_count, is_update_of}
+use Rattle.pg_machine.specs.History.{Frames, is_formed, applied_count, is_update_of}
 use Rattle.pg_machine.proofs.Steps.{changes, happens_so}
 use Rattle.pg_machine.proofs.Sequences.{kept, whole}
 use Rattle.pg_history.specs.Sent.{exchanges_in}
-use Rattle.pg_history.specs.Applied.{update_of, update_by, applied_by, AppliesFormed}
+use Rattle.pg_history.specs.Applied.{update_of, update_by, applied_by}
 use Rattle.pg_history.proofs.Ways.{told_append, state_after, packet_there, pair_there}
 use Rattle.pg_history.proofs.Posts.{Posted, posted_start, posted_event, taken_post}
 use Rattle.pg_history.proofs.Applied.{StepTables, Tabling, Merges, step_tables}
@@ -115,6 +115,11 @@ module _ (config : Config) (apart : IsDistinct same_atom (names_of config)) (w v
             (subst (λ j. TableIs config j name h.turn.state (us ++ update_of name h.turn.told.applied)) (sym own) turned)
 
 -- ---- a run
+
+-- node i applies no update of a group before it is formed
+abbrev pub AppliesFormed : Config → ℕ → Term → Type 0
+AppliesFormed config i name = (events : List (Event Action)) (w : Frames) → Leads (machine_of config) (start_of (machine_of config)) events w
+    → is_formed config w i ≡ false → applied_count i name w.told ≡ 0
 
 module _ (config : Config) (apart : IsDistinct same_atom (names_of config)) (i : ℕ) (there : is_place (length config) i ≡ true) (name : Term) where
   -- a group of which the node has applied no update

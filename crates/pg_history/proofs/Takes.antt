@@ -22,6 +22,7 @@ use Rattle.pg_history.proofs.Named.{World, perform, popped}
 use Rattle.pg_history.proofs.Kept.{says, talk, near, IsOurs, Inv}
 use Rattle.pg_history.proofs.Framed.{sound_perform, counts_same, once_same}
 use Rattle.pg_history.proofs.Telling.{mute_told, mute_sent}
+use Rattle.pg_history.proofs.Latest.{latest_same}
 use Rattle.pg_history.proofs.Stages.{sound_same}
 use Rattle.pg_history.proofs.Asks.{free_none, lent_eye}
 use Rattle.pg_history.proofs.Fails.{freed_eye}
@@ -46,7 +47,7 @@ ours_reply a p c said q = go (same_atom p q) refl
 -- ---- a request for a lock
 
 -- the answer to it
-lend : Bool → State → Node → ℕ → Term → NodeTurn
+unfoldable pub lend : Bool → State → Node → ℕ → Term → NodeTurn
 lend b s p c N = becomes_and_sends (record s { locks = answered b s.locks N (numbered p c) }) (to_one p (Reply (numbered p c) (verdict b)))
 
 lend_responds : (b : Bool) (s : State) (a p : Node) (c : ℕ) (N : Term) → (b ≡ true → s.locks N ≡ None) → Responds s a p c (lend b s p c N)
@@ -66,10 +67,11 @@ unfolding lend
 lend_act true s a p c N how out back l = talk_same (set_yes N l) refl refl (ap (λ o. back ++ o) (to_it p c (Reply (numbered p c) (verdict true)) (numbered_same p c))) (λ M. refl)
 lend_act false s a p c N how out back l = talk_same (set_no N l) refl refl (ap (λ o. back ++ o) (to_it p c (Reply (numbered p c) (verdict false)) (numbered_same p c))) (λ M. refl)
 
-pub set_keeps : (w : World) (a p : Node) (m : Nodes) (c : ℕ) (N : Term) (rest : List Message) → Inv w → near w p a → w.wire p a ≡ Call (numbered p c) (SetLock N) ∷ rest
-    → Inv (perform (popped w p a rest) a (lock_request m p (numbered p c) N (w.node a)))
+-- where a free lock alone is granted
+pub lend_keeps : (w : World) (a p : Node) (b : Bool) (c : ℕ) (N : Term) (rest : List Message) → (b ≡ true → (w.node a).locks N ≡ None) → Inv w → near w p a → w.wire p a ≡ Call (numbered p c) (SetLock N) ∷ rest
+    → Inv (perform (popped w p a rest) a (lend b (w.node a) p c N))
 unfolding lend
-set_keeps w a p m c N rest inv meets is = record {
+lend_keeps w a p b c N rest free inv meets is = record {
   seats = inv.seats;
   lines = respond_lines w a p c x rest t inv meets is (numbered_same p c) responds (lend_act b s a p c N ((w.node p).uses c) (about (numbered p c) rest) (about (numbered p c) (w.wire a p)));
   tidy = respond_tidy w a p c x rest t inv meets is (numbered_same p c) responds;
@@ -84,6 +86,7 @@ set_keeps w a p m c N rest inv meets is = record {
   });
   counts = counts_same v a t refl refl (λ op. refl) inv.counts;
   once = once_same v a t refl (λ o. refl) (λ port. omega arith) inv.once;
+  latest = latest_same v a t refl refl (λ o u k h. h) inv.latest;
 }
   where
     x : Message
@@ -92,9 +95,6 @@ set_keeps w a p m c N rest inv meets is = record {
     s : State
     s = w.node a
 
-    b : Bool
-    b = would_grant m s N
-
     t : NodeTurn
     t = lend b s p c N
 
@@ -102,7 +102,14 @@ set_keeps w a p m c N rest inv meets is = record {
     v = popped w p a rest
 
     responds : Responds s a p c t
-    responds = lend_responds b s a p c N (λ e. free_none (s.locks N) (second_so (formed m s) (is_free (s.locks N)) e))
+    responds = lend_responds b s a p c N free
+
+pub set_keeps : (w : World) (a p : Node) (m : Nodes) (c : ℕ) (N : Term) (rest : List Message) → Inv w → near w p a → w.wire p a ≡ Call (numbered p c) (SetLock N) ∷ rest
+    → Inv (perform (popped w p a rest) a (lock_request m p (numbered p c) N (w.node a)))
+unfolding lend
+set_keeps w a p m c N rest =
+    let s : State = w.node a in
+    lend_keeps w a p (would_grant m s N) c N rest (λ e. free_none (s.locks N) (second_so (formed m s) (is_free (s.locks N)) e))
 
 -- ---- a lock is freed
 
@@ -117,6 +124,7 @@ del_keeps w a p c N rest inv meets is = record {
   tales = mute_told v a t (pop_told w a p x rest inv is refl) (record { applied = refl; began = refl; fewer = λ M n h. h; more = λ M n h. h; ops = λ M n h o g. g; sends = λ n q. refl });
   counts = counts_same v a t refl refl (λ op. refl) inv.counts;
   once = once_same v a t refl (λ o. refl) (λ port. omega arith) inv.once;
+  latest = latest_same v a t refl refl (λ o u k h. h) inv.latest;
 }
   where
     x : Message

@@ -81,14 +81,14 @@ unlocked_singly m = record {
 }
 
 -- who has merged all has merged all with one more
-all_more : (f : Node → Bool) (p : Node) (names : List Node) → list_all f names ≡ true → list_all (upd same_atom f p true) names ≡ true
+pub all_more : (f : Node → Bool) (p : Node) (names : List Node) → list_all f names ≡ true → list_all (upd same_atom f p true) names ≡ true
 all_more f p [] all = refl
 all_more f p (q ∷ names) all =
     and_from (upd same_atom f p true q) (list_all (upd same_atom f p true) names)
     (upd_by same_atom f p (λ b. b ≡ true) true q (λ _. refl) (λ _. first_so (f q) (list_all f names) all))
     (all_more f p names (second_so (f q) (list_all f names) all))
 
-before_too : (m : Nodes) (s t : State) (p : Node) → t.merged ≡ upd same_atom s.merged p true → formed m t ≡ false → formed m s ≡ false
+pub before_too : (m : Nodes) (s t : State) (p : Node) → t.merged ≡ upd same_atom s.merged p true → formed m t ≡ false → formed m s ≡ false
 before_too m s t p merged unformed = go (formed m s) refl
   where
     go : (b : Bool) → formed m s ≡ b → formed m s ≡ false
@@ -111,10 +111,10 @@ step_unlocked config i s (Own action) turn is free =
 
 -- ---- runs
 
-abbrev AllUnlocked : Config → Frames → Type 0
+abbrev pub AllUnlocked : Config → Frames → Type 0
 AllUnlocked config w = (i : ℕ) → Unlocked (nodes_at config i) (w.node i)
 
-event_unlocked : (config : Config) (w v : Frames) (e : Event Action) → Happened (machine_of config) w e v → AllUnlocked config w → AllUnlocked config v
+pub event_unlocked : (config : Config) (w v : Frames) (e : Event Action) → Happened (machine_of config) w e v → AllUnlocked config w → AllUnlocked config v
 event_unlocked config w v e h free j = state_after (machine_of config) w v e h (Unlocked (nodes_at config j)) j
     (λ own. subst (λ z. Unlocked (nodes_at config z) h.turn.state) (sym own) (step_unlocked config (node_of e) (w.node (node_of e)) h.input h.turn h.made (free (node_of e)))) (λ _. free j)
 

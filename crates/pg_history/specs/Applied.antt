@@ -1,15 +1,10 @@
 -- The updates of a group that a node has applied.
-use Rattle.std.specs.Prelude.{◌≡◌, ℕ, false, cond, nat_eq, List, [], ◌∷◌, Option, Some, None}
+use Rattle.std.specs.Prelude.{ℕ, cond, nat_eq, List, [], ◌∷◌, Option, Some, None}
 use Rattle.pg_term.specs.declared.term.Term.{Term}
 use Rattle.pg_term.specs.Same.{same_term}
 use Rattle.pg_group.specs.declared.update.Update.{Update}
 use Rattle.pg_group.specs.Value.{name_of}
-use Rattle.pg_machine.specs.Machine.{Event, start_of}
-use Rattle.pg_machine.specs.Runs.{Leads}
 use Rattle.pg_machine.specs.Turns.{Told}
-use Rattle.pg_machine.specs.Step.{Action}
-use Rattle.pg_machine.specs.Frames.{Config, machine_of}
-use Rattle.pg_machine.specs.History.{Frames, is_formed, applied_count}
 use Rattle.pg_history.specs.Sent.{all_told}
 
 -- the update, where it is one of this group
@@ -24,8 +19,3 @@ update_by i name t = cond (nat_eq t.0 i) (update_of name t.1.applied) []
 -- the updates of a group that node i has applied, the earliest first
 abbrev pub applied_by : ℕ → Term → List (ℕ × Told) → List Update
 applied_by i name told = all_told (update_by i name) told
-
--- node i applies no update of a group before it is formed
-abbrev pub AppliesFormed : Config → ℕ → Term → Type 0
-AppliesFormed config i name = (events : List (Event Action)) (w : Frames) → Leads (machine_of config) (start_of (machine_of config)) events w
-    → is_formed config w i ≡ false → applied_count i name w.told ≡ 0

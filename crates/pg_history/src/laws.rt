@@ -1,36 +1,97 @@
-ghost use Rattle.std.specs.Prelude.{◌≡◌, ◌≢◌, ℕ, ◌<◌, ◌≤◌, true, false, cond, length, List, [], ◌∷◌, ◌++◌, None, Some};
+ghost use Rattle.std.specs.Prelude.{◌≡◌, ◌≢◌, ℕ, ◌+◌, ◌*◌, ◌≤◌, true, false, cond, take, length, List, [], ◌∷◌};
 ghost use Rattle.std.specs.List.{AllByRecursion, IsDistinct};
 ghost use Rattle.pg_term.specs.declared.pid.Pid.{Pid};
 ghost use Rattle.pg_term.specs.Same.{same_atom};
 ghost use Rattle.pg_term.specs.declared.term.Term.{Term};
-ghost use Rattle.pg_group.specs.Value.{NoneEnded, less};
+ghost use Rattle.pg_group.specs.Value.{NoneEnded};
 ghost use Rattle.pg_exchange.specs.Told.{Told as Groups};
 ghost use Rattle.pg_message.specs.declared.message.Message.{Message};
 ghost use Rattle.pg_message.specs.declared.message.Message.TheVariants.{Exchange};
-ghost use Rattle.pg_machine.specs.declared.command.Command.{Command};
-ghost use Rattle.pg_machine.specs.declared.command.OpId.{OpId};
-ghost use Rattle.pg_machine.specs.Machine.{Event, Input, Turn, Taken};
+ghost use Rattle.pg_machine.specs.Machine.{Event, Input, Turn, Taken, start_of};
 ghost use Rattle.pg_machine.specs.Nodes.{Node};
 ghost use Rattle.pg_machine.specs.Peers.{is_bad_exchange};
 ghost use Rattle.pg_machine.specs.Clocked.{plain};
-ghost use Rattle.pg_machine.specs.Runs.{Leads};
+ghost use Rattle.pg_machine.specs.Runs.{Leads, run, ran};
 ghost use Rattle.pg_machine.specs.Places.{is_place, is_pair};
 ghost use Rattle.pg_machine.specs.State.{State};
 ghost use Rattle.pg_machine.specs.Turns.{Told};
 ghost use Rattle.pg_machine.specs.Step.{Action};
 ghost use Rattle.pg_machine.specs.Frames.{Config, names_of, name_at, groups_at, node_step, frames_of};
-ghost use Rattle.pg_machine.specs.History.{LockFree, replay, known, base, applied_count, has_groups, is_formed, Entry, change_of, entries, times, answered_count, has_answer};
-ghost use Rattle.pg_machine.specs.Headline.{GoesOn};
-ghost use Rattle.pg_history.specs.Applied.{applied_by, AppliesFormed};
-ghost use Rattle.pg_history.specs.CameIn.{CameIn};
+ghost use Rattle.pg_machine.specs.History.{LockFree, is_formed, history, updates_of, applied_count};
+ghost use Rattle.pg_machine.specs.Headline.{OneHistory, HoldsAnswered, AppliesHistory, HasTables, HarmsNobody, GoesOn};
+ghost use Rattle.pg_history.specs.Applied.{applied_by};
 ghost use Rattle.pg_history.specs.Reached.{TimedFrames, Reaches, HasEndedAt};
 ghost use Rattle.pg_history.specs.Sound.{Sound};
 ghost use Rattle.pg_history.specs.Sent.{ends_in, exchanges_in, is_reply};
+
+/// One history of each group. In every world that the nodes of a configuration with different names come to, whatever is
+/// done there and in whatever order packets are taken:
+///
+/// - the changes that were answered behind their locks stand, each once, in one history of their group, with at most one
+///   more, which is its last; each of them was answered ok, and no other delete, join or leave was;
+/// - each node has applied that history, or all but its last update, and all of it where one node sees the lock free;
+/// - a formed node's table is that of what it has applied, less the ends that it took, and formed nodes agree where one
+///   sees the lock free and no end is pending;
+/// - no reply is a stranger's or a double, and no packet will be refused.
+pub fn one_history()
+    ensures each_world { (config : Config) (w : TimedFrames) (events : List (Event Action))
+        → IsDistinct same_atom (names_of config) → Reaches config events w
+        → OneHistory config events (plain w) }
+    // Whatever events are tried: those that can happen do, the others change nothing.
+    ensures any_events { (config : Config) (events : List (Event Action))
+        → IsDistinct same_atom (names_of config)
+        → OneHistory config (ran (frames_of config) (start_of (frames_of config)) events)
+        (plain (run (frames_of config) (start_of (frames_of config)) events)) }
+{}
+
+/// A change that was answered behind its lock stands once among the entries, and was answered once. No command stands
+/// there twice. An entry that is not answered yet is the last of its group. Each is the change that its command asked for,
+/// which came in before. A command that was refused, or answered by the look, does not stand there.
+///
+/// What clients see of it: a change that was answered behind its lock was answered ok; a delete, a join or a leave that was
+/// answered ok was answered behind its lock; no command has two answers.
+pub fn changes_stand_once()
+    ensures { (config : Config) (w : TimedFrames) (events : List (Event Action))
+        → IsDistinct same_atom (names_of config) → Reaches config events w
+        → HoldsAnswered config events (plain w) }
+{}
 
 /// The history of each group only grows: a later world's is that of the earlier one, and more behind it.
 pub fn history_grows()
     ensures { (config : Config) (w v : TimedFrames) (events : List (Event Action))
         → Leads (frames_of config) w events v → GoesOn (plain w) (plain v) }
+{}
+
+/// What each node has applied of a group is its history from the beginning: all of it, or all but the last update; all of
+/// it where one node sees the lock free. Each node has applied what is answered.
+pub fn history_is_applied()
+    ensures counts { (config : Config) (w : TimedFrames) (events : List (Event Action))
+        → IsDistinct same_atom (names_of config) → Reaches config events w
+        → AppliesHistory config (plain w) }
+    // In that order, and nothing else.
+    ensures updates { (config : Config) (w : TimedFrames) (events : List (Event Action))
+        (i : ℕ) (name : Term)
+        → IsDistinct same_atom (names_of config) → Reaches config events w
+        → is_place (length config) i ≡ true
+        → applied_by i name (plain w).told
+        ≡ take (applied_count i name (plain w).told) (updates_of (history name (plain w).told)) }
+{}
+
+/// What the tables are. A formed node's: what all nodes began with, after the updates that the node has applied, less the
+/// ends that it took. An unformed node's: what it and those began with whose exchange it took, less the ends that it took;
+/// while there is one no update has every grant. Formed nodes agree on a group where one node sees its lock free and no end
+/// is pending.
+pub fn tables_are_replayed()
+    ensures { (config : Config) (w : TimedFrames) (events : List (Event Action))
+        → IsDistinct same_atom (names_of config) → Reaches config events w
+        → HasTables config (plain w) }
+{}
+
+/// Nobody is harmed: no reply is a stranger's or a double, and no packet on the way will be refused.
+pub fn nobody_is_harmed()
+    ensures { (config : Config) (w : TimedFrames) (events : List (Event Action))
+        → IsDistinct same_atom (names_of config) → Reaches config events w
+        → HarmsNobody config (plain w) }
 {}
 
 /// A process ends at its home first: an end that any node has taken, and one that is on the way, is at the home of its
@@ -76,35 +137,6 @@ pub fn ended_are_in_no_group()
         → NoneEnded (((plain w).node i).table name) ((plain w).node i).ended }
 {}
 
-/// What a node's groups are. One of which it has applied no update is what it and those nodes began with whose exchange
-/// it took, less the ends it took. Any, where it has applied no update before it was formed, is the same after the updates
-/// that it has applied; and once it is formed it knows all nodes.
-pub fn tables_by_what_came()
-    ensures untouched { (config : Config) (w : TimedFrames)
-        (events : List (Event Action)) (i : ℕ) (name : Term)
-        → IsDistinct same_atom (names_of config) → Reaches config events w
-        → is_place (length config) i ≡ true → applied_count i name (plain w).told ≡ 0
-        → ((plain w).node i).table name
-        ≡ less (known (has_groups config (plain w) i) name config) ((plain w).node i).ended }
-    ensures applied { (config : Config) (w : TimedFrames)
-        (events : List (Event Action)) (i : ℕ) (name : Term)
-        → IsDistinct same_atom (names_of config) → Reaches config events w
-        → is_place (length config) i ≡ true → AppliesFormed config i name
-        → ((plain w).node i).table name
-        ≡ less (replay (known (has_groups config (plain w) i) name config)
-        (applied_by i name (plain w).told)) ((plain w).node i).ended }
-    ensures formed { (config : Config) (w : TimedFrames)
-        (events : List (Event Action)) (i : ℕ) (name : Term)
-        → IsDistinct same_atom (names_of config) → Reaches config events w
-        → is_place (length config) i ≡ true → AppliesFormed config i name
-        → is_formed config (plain w) i ≡ true
-        → ((plain w).node i).table name
-        ≡ less (replay (base config name) (applied_by i name (plain w).told))
-        ((plain w).node i).ended }
-    ensures count { (w : TimedFrames) (i : ℕ) (name : Term)
-        → length (applied_by i name (plain w).told) ≡ applied_count i name (plain w).told }
-{}
-
 /// While a node is not formed it sees each lock free: it grants none.
 pub fn unformed_hold_no_lock()
     ensures { (config : Config) (w : TimedFrames)
@@ -132,29 +164,11 @@ pub fn references_have_one_use()
         → Reaches config events w → Sound ((plain w).node i) }
 {}
 
-/// A command stands among the entries once at most, and is answered behind its lock once at most. One that was answered so
-/// stands there once; one that was refused, or answered by the look, does not stand there.
-pub fn commands_stand_once()
-    ensures at_most_once { (config : Config) (w : TimedFrames)
-        (events : List (Event Action)) (i : ℕ) (op : OpId)
-        → Reaches config events w → times i op (entries (plain w).told) ≤ 1 }
-    ensures answered_once { (config : Config) (w : TimedFrames)
-        (events : List (Event Action)) (i : ℕ) (op : OpId)
-        → Reaches config events w → answered_count i op (plain w).told ≤ 1 }
-    ensures answered { (config : Config) (w : TimedFrames)
-        (events : List (Event Action)) (i : ℕ) (op : OpId)
-        → Reaches config events w → 0 < answered_count i op (plain w).told
-        → times i op (entries (plain w).told) ≡ 1 }
-    ensures not_looked { (config : Config) (w : TimedFrames)
-        (events : List (Event Action)) (i : ℕ) (op : OpId)
-        → Reaches config events w → has_answer op ((plain w).node i) ≡ true
-        → answered_count i op (plain w).told ≡ 0 → times i op (entries (plain w).told) ≡ 0 }
-{}
-
-/// Each entry is a change that a command asked for which came in at that port of that node.
-pub fn entries_were_asked_for()
-    ensures { (config : Config) (w : TimedFrames) (events : List (Event Action))
-        (before after : List Entry) (e : Entry)
-        → Reaches config events w → entries (plain w).told ≡ before ++ e ∷ after
-        → (c : Command) × CameIn e.node e.op.port c events × (change_of c ≡ Some e.update) }
+/// A node makes two references at an event at most, so that its clock is full before its 2^31 references are made.
+pub fn references_within_the_clock()
+    ensures step { (config : Config) (i : ℕ) (s : State) (input : Input Message Action)
+        (t : Turn State Message Told) → node_step config i s input ≡ Some t
+        → t.state.references ≤ s.references + 2 }
+    ensures reached { (config : Config) (w : TimedFrames) (events : List (Event Action)) (i : ℕ)
+        → Reaches config events w → (w.node i).state.references ≤ 2 * (w.node i).clock }
 {}
