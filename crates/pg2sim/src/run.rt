@@ -31,7 +31,8 @@ pub fn run_words<R: Read, W: Write, F: Write>(
     ensures bytes { IsBytes words.now → IfSome (R.remaining reader.old) (λ input.
         EndsWith (W.contents writer.old) (W.contents writer.new) input result) }
     ensures other { (IsBytes words.now → ⊥) → result ≡ UNKNOWN_WORDS }
-    ensures silent { (IsBytes words.now → ⊥) → Keeps (W.contents writer.old) (W.contents writer.new)
+    ensures silent { (IsBytes words.now → ⊥) → Keeps (R.remaining reader.old) (R.remaining reader.new)
+        × Keeps (W.contents writer.old) (W.contents writer.new)
         × Keeps (F.contents faults.old) (F.contents faults.new) }
 {
     if !is_bytes(words) {

@@ -1,5 +1,5 @@
 -- What was written for a whole stream, at each end of the server.
-use Rattle.std.proofs.Common.{◌≡◌, ℕ, List, [], ◌++◌, length, take, false, Option, Some, None, Result, Ok, Err, ◌⊎◌, inl, inr, sym, ap, ◌∙◌, append-nil}
+use Rattle.std.proofs.Common.{◌≡◌, ℕ, List, [], ◌++◌, length, take, false, Option, Some, None, Result, Ok, Err, ◌⊎◌, inl, inr, sym, ap, ◌∙◌, append_assoc, append-nil}
 use Rattle.std.specs.Prelude.{◌==◌, if◌then◌else◌}
 use Rattle.std.specs.Io.KnownBytes.{Appends, Keeps}
 use Rattle.std.proofs.Math.Seq.{take-append_seam}
@@ -11,7 +11,7 @@ use Rattle.pg_message.specs.declared.fault.MessageFault.TheVariants.{Term, NotAM
 use Rattle.pg_node.specs.declared.fault.ServeFault.TheVariants.{Message, FrameTooLong, ClockFull, ReadFault, WriteFault}
 use Rattle.pg_node.specs.Progress.{Progress, Refused, StopsAt}
 use Rattle.pg_node.specs.Replica.{Pair, State, Answer, Run, answered, start, run, goes_on, frames_of, served, rest_fault, first_fault, WroteFor}
-use Rattle.pg_node.proofs.Streams.{run_append, appends_then, appends_kept}
+use Rattle.pg_node.proofs.Streams.{run_append, frames_append, appends_then, appends_kept}
 
 -- the whole input is what came in so far, and a rest
 module _ (pair : Pair) (all rest unread : List ℕ) (s : State) (v w : Option (List ℕ)) (p : Progress pair all unread start s v w) where
@@ -33,6 +33,33 @@ module _ (pair : Pair) (all rest unread : List ℕ) (s : State) (v w : Option (L
   -- the first replies were written, each whole
   first_ones : (n : ℕ) × (frames_of p.replies ≡ frames_of (take n (served pair (all ++ rest)).replies))
   first_ones = (length p.replies, ap frames_of (sym (take-append_seam p.replies more.replies) ∙ ap (take (length p.replies)) (sym replies_so_far)))
+
+  -- and a front of all replies
+  with_more : frames_of p.replies ++ frames_of more.replies ≡ frames_of (served pair (all ++ rest)).replies
+  with_more = sym (frames_append p.replies more.replies) ∙ ap frames_of (sym replies_so_far)
+
+  -- the next body is answered, and a front of its replies is written
+  module _ (body : List ℕ) (answer : Answer) (front : front_of unread ≡ Ok (Some body)) (is : answered pair s body ≡ Ok answer) (part missing : List ℕ) (cut_here : part ++ missing ≡ frames_of answer.sent) where
+    abbrev others : List (List ℕ)
+    others = (run pair answer.state (bodies_of (behind body (unread ++ rest)))).replies
+
+    more_replies : more.replies ≡ answer.sent ++ others
+    more_replies =
+        ap (λ (bs : List (List ℕ)). (run pair s bs).replies) (front_is_first.first (unread ++ rest) body (pieces_continue.front unread rest body front))
+        ∙ ap (λ (r : Result Answer ServeFault). (goes_on s r (λ new. run pair new (bodies_of (behind body (unread ++ rest))))).replies) is
+
+    joined : part ++ (missing ++ frames_of others) ≡ frames_of more.replies
+    joined =
+        sym (append_assoc part missing (frames_of others))
+        ∙ ap (λ (b : List ℕ). b ++ frames_of others) cut_here
+        ∙ sym (frames_append answer.sent others)
+        ∙ ap frames_of (sym more_replies)
+
+    cut_told : WroteFor (served pair (all ++ rest)) (Err WriteFault) (frames_of p.replies ++ part)
+    cut_told = (
+      missing ++ frames_of others,
+      append_assoc (frames_of p.replies) part (missing ++ frames_of others) ∙ ap (λ (b : List ℕ). frames_of p.replies ++ b) joined ∙ with_more,
+    )
 
   -- the next body is refused
   module _ (body : List ℕ) (fault : ServeFault) (front : front_of unread ≡ Ok (Some body)) (refused : answered pair s body ≡ Err fault) where
@@ -96,7 +123,12 @@ module _ (pair : Pair) (all rest unread : List ℕ) (s : State) (v w : Option (L
   ended FrameTooLong x h = record { output = frames_of p.replies; wrote = written x h.1; is = at_length h.0 }
   ended (Message (Term OutOfMemory)) x h = record { output = frames_of p.replies; wrote = written x h; is = first_ones }
   ended ReadFault x h = record { output = frames_of p.replies; wrote = written x h; is = first_ones }
-  ended WriteFault x h = record { output = frames_of p.replies ++ h.0; wrote = appends_then v w x (frames_of p.replies) h.0 p.wrote h.1; is = (first_ones.0, h.0, ap (λ (b : List ℕ). b ++ h.0) first_ones.1) }
+  ended WriteFault x (inl h) = record {
+    output = frames_of p.replies ++ h.part;
+    wrote = appends_then v w x (frames_of p.replies) h.part p.wrote h.wrote;
+    is = cut_told h.body h.answer h.front h.is h.part h.missing h.cut;
+  }
+  ended WriteFault x (inr h) = record { output = frames_of p.replies; wrote = written x h; is = (frames_of more.replies, with_more) }
 
 -- the input is over
 module _ (pair : Pair) (all unread : List ℕ) (s : State) (v w : Option (List ℕ)) (p : Progress pair all unread start s v w) (front : front_of unread ≡ Ok None) where

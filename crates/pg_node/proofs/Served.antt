@@ -13,7 +13,7 @@ use Rattle.pg_node.specs.declared.fault.ServeFault.TheVariants.{Message, ReadFau
 use Rattle.pg_node.specs.Fault.{out_of_memory}
 use Rattle.pg_node.specs.Progress.{Progress, Reads, Serving, Stops, StopsAt}
 use Rattle.pg_node.specs.Replica.{Pair, State, start, Serves, served, frames_of, WroteFor}
-use Rattle.pg_node.proofs.Streams.{stay, onward, fed, kept, appends_none, known_kept}
+use Rattle.pg_node.proofs.Streams.{stay, onward, fed, kept, known_kept}
 use Rattle.pg_node.proofs.Outcomes.{ended, over, cut}
 
 consumes_none : (r : Option (List ℕ)) → Consumes r r []
@@ -108,4 +108,4 @@ module _ (pair : Pair) (r0 r1 : Option (List ℕ)) (unread : List ℕ) (s : Stat
 
   -- a write fails
   pub unwritten_ends : IfSome r0 (λ input. Serves pair out0 out1 input (Err WriteFault))
-  unwritten_ends = ends WriteFault ([], appends_none out1)
+  unwritten_ends = ends WriteFault (inr (known_kept out1))

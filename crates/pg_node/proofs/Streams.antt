@@ -1,7 +1,7 @@
 -- Frames that are taken one after another, and what a whole stream leads to.
 use Rattle.std.proofs.Common.{◌≡◌, ℕ, List, [], ◌∷◌, ◌++◌, Option, Some, None, Result, Ok, Err, inl, inr, refl, sym, ap, subst, ◌∙◌, append_assoc, append-nil}
 use Rattle.std.specs.Io.KnownBytes.{Appends, Keeps}
-use Rattle.pg_frame.specs.Frames.{frame, front_of, after_front, bodies_of, too_long}
+use Rattle.pg_frame.specs.Frames.{frame, front_of, after_front, bodies_of}
 use Rattle.pg_frame.proofs.Readings.{loop_keeps}
 use Rattle.pg_node.specs.declared.fault.ServeFault.{ServeFault}
 use Rattle.pg_message.specs.declared.fault.MessageFault.TheVariants.{Term, NotAMessage, StampTooLarge, NameTooLarge}
@@ -57,7 +57,7 @@ run_append pair s (x ∷ xs) ys replies t e = go (answered pair s x) e (λ (a : 
         let whole : q ≡ fine q.replies t = λ i. record { replies = q.replies; state = ap (λ (r : Run). r.state) e i; fault = ap (λ (r : Run). r.fault) e i } in
         ap (preceded a.sent) (ih a q.replies t whole) ∙ after_both a.sent q.replies (run pair t ys) ∙ ap (λ (rs : List (List ℕ)). after rs (run pair t ys)) (ap (λ (r : Run). r.replies) e)
 
-frames_append : (xs ys : List (List ℕ)) → frames_of (xs ++ ys) ≡ frames_of xs ++ frames_of ys
+pub frames_append : (xs ys : List (List ℕ)) → frames_of (xs ++ ys) ≡ frames_of xs ++ frames_of ys
 frames_append [] ys = refl
 frames_append (x ∷ xs) ys = ap (λ (b : List ℕ). frame x ++ b) (frames_append xs ys) ∙ sym (append_assoc (frame x) (frames_of xs) (frames_of ys))
 
@@ -122,8 +122,18 @@ module _ (pair : Pair) (unread body : List ℕ) (s : State) (w : Option (List �
   refused ReadFault h = known_kept w
   refused (Message (Term OutOfMemory)) h = known_kept w
   refused FrameTooLong h = (inr (record { body = body; front = front; is = h }), known_kept w)
-  refused WriteFault h = ([], appends_none w)
+  refused WriteFault h = inr (known_kept w)
 
--- a length that no frame has
-pub overlong_stops : (pair : Pair) (unread : List ℕ) (s : State) (w : Option (List ℕ)) → front_of unread ≡ Err too_long → StopsAt pair FrameTooLong unread s w w
-overlong_stops pair unread s w front = (inl front, known_kept w)
+-- the next body is answered, and a front of its replies is written
+pub cut_short : (pair : Pair) (unread body : List ℕ) (s t : State) (v w : Option (List ℕ)) (output part missing : List ℕ) → front_of unread ≡ Ok (Some body) → Answers (answered pair s body) t [] output
+    → part ++ missing ≡ output → Appends v w part → StopsAt pair WriteFault unread s v w
+cut_short pair unread body s t v w output part missing front a cut wrote = inl (record {
+  body = body;
+  front = front;
+  answer = record { state = t; sent = a.sent };
+  is = a.is;
+  part = part;
+  missing = missing;
+  cut = cut ∙ a.output;
+  wrote = wrote;
+})

@@ -6,7 +6,7 @@ use Rattle.pg_message.specs.declared.fault.MessageFault.TheVariants.{Term}
 use Rattle.pg_frame.specs.Frames.{front_of, too_long, Leaves}
 use Rattle.pg_node.specs.declared.fault.ServeFault.{ServeFault}
 use Rattle.pg_node.specs.declared.fault.ServeFault.TheVariants.{Message, FrameTooLong, ReadFault, WriteFault}
-use Rattle.pg_node.specs.Replica.{Pair, State, answered, run, start, frames_of}
+use Rattle.pg_node.specs.Replica.{Pair, State, Answer, answered, run, start, frames_of}
 
 -- some bodies were taken and answered, and their replies written
 pub record Progress (pair : Pair) (unread0 unread1 : List ℕ) (s0 s1 : State) (out0 out1 : Option (List ℕ)) : Type 0 where
@@ -22,12 +22,24 @@ pub record Refused (pair : Pair) (fault : ServeFault) (unread : List ℕ) (s : S
   pub front : front_of unread ≡ Ok (Some body)
   pub is : answered pair s body ≡ Err fault
 
+-- the next body is answered, and a front of its replies is written
+pub record CutShort (pair : Pair) (unread : List ℕ) (s : State) (out0 out1 : Option (List ℕ)) : Type 0 where
+  pub body : List ℕ
+  pub front : front_of unread ≡ Ok (Some body)
+  pub answer : Answer
+  pub is : answered pair s body ≡ Ok answer
+  pub part : List ℕ
+  pub missing : List ℕ
+  pub cut : part ++ missing ≡ frames_of answer.sent
+  pub wrote : Appends out0 out1 part
+
 -- a fault comes next
 abbrev pub StopsAt : Pair → ServeFault → List ℕ → State → Option (List ℕ) → Option (List ℕ) → Type 0
 StopsAt pair FrameTooLong unread s w out1 = ((front_of unread ≡ Err too_long) ⊎ Refused pair FrameTooLong unread s) × Keeps w out1
 StopsAt pair (Message (Term OutOfMemory)) unread s w out1 = Keeps w out1
 StopsAt pair ReadFault unread s w out1 = Keeps w out1
-StopsAt pair WriteFault unread s w out1 = (part : List ℕ) × Appends w out1 part
+-- a reply was cut short, or a flush failed
+StopsAt pair WriteFault unread s w out1 = CutShort pair unread s w out1 ⊎ Keeps w out1
 StopsAt pair fault unread s w out1 = Refused pair fault unread s × Keeps w out1
 
 -- after some progress

@@ -125,8 +125,8 @@ WroteFor r (Ok done) output = (r.fault ≡ None) × (output ≡ frames_of r.repl
 -- the first replies, each whole
 WroteFor r (Err faults.ReadFault) output = (n : ℕ) × (output ≡ frames_of (take n r.replies))
 WroteFor r (Err (faults.Message (Term OutOfMemory))) output = (n : ℕ) × (output ≡ frames_of (take n r.replies))
--- the first replies, and something of one more
-WroteFor r (Err faults.WriteFault) output = (n : ℕ) × (part : List ℕ) × (output ≡ frames_of (take n r.replies) ++ part)
+-- a front of all replies
+WroteFor r (Err faults.WriteFault) output = (behind : List ℕ) × (output ++ behind ≡ frames_of r.replies)
 -- all replies up to the first fault, which is told
 WroteFor r (Err fault) output = (r.fault ≡ Some fault) × (output ≡ frames_of r.replies)
 

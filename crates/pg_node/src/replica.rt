@@ -14,11 +14,12 @@ use pg_term::{Atom, Items, Pid, Reference, Term};
 use std::alloc::{AllocError, Global};
 
 /// The greatest clock of a node, and so the greatest stamp.
-pub const MAX_CLOCK: u32 = 1_073_741_824;
+pub const MAX_CLOCK: u32 = pg_message::MAX_STAMP;
 
 /// A node with one peer and no port.
 #[derive(Drop)]
 pub(crate) struct Replica<T: GroupTable> {
+    // Whose step the clauses speak of; no code reads it.
     own: Atom,
     peer: Atom,
     clock: u32,

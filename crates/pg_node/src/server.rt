@@ -26,11 +26,12 @@ const MAX_READS: u64 = 1 << 40;
 
 /// Writes all the bytes.
 ///
-/// Fault: `WriteFault`, where a write fails or takes nothing; a front of the bytes may have been written then.
+/// Fault: `WriteFault`, where a write fails or takes nothing; what was written is a front of the bytes then.
 fn put_whole<W: Write>(writer: &mut W, bytes: &[u8]) -> Result<(), ServeFault>
     ensures ok { OnOk result (Appends (W.contents writer.old) (W.contents writer.new) bytes.now) }
     ensures fault { IfErr result (λ fault. (fault ≡ WriteFault)
-        × ((part : List ℕ) × Appends (W.contents writer.old) (W.contents writer.new) part)) }
+        × ((part : List ℕ) × (behind : List ℕ) × (part ++ behind ≡ bytes.now)
+        × Appends (W.contents writer.old) (W.contents writer.new) part)) }
 {
     let mut rest = bytes;
     while !rest.is_empty() {
@@ -72,6 +73,7 @@ impl<T: GroupTable + Drop> Server<T> {
         self.reply.clear();
         self.replica.answer(body, &mut self.reply)?;
         put_whole(writer, self.reply.as_slice())?;
+        // `front` gave a whole frame, so there is one to take out.
         let _ = self.deframer.next();
         Ok(true)
     }
@@ -148,9 +150,13 @@ impl<T: GroupTable + Drop> Server<T> {
 ///
 /// It ends at the end of the input: `Ok` where no bytes are left over, else `Truncated`. It ends at the first fault,
 /// in this order for one packet: `FrameTooLong`, the faults of terms, `NotAMessage`, `StampTooLarge`, `ClockFull`, and
-/// `NotAMessage` for an exchange of another node than the peer or a second one; or at `ReadFault`, `WriteFault` or
-/// `OutOfMemory`, and then the replies to the packets before it were written whole. The time is linear in the input but
-/// for exchanges, which copy the table; the memory is that of the longest frame and of the groups with their members.
+/// `NotAMessage` for an exchange of another node than the peer or a second one; or at `ReadFault` or `OutOfMemory`, and
+/// then the replies to the packets before it were written whole; or at `WriteFault`, and then what was written is a front
+/// of the replies' frames.
+///
+/// The time is that of the input, each update with a search of its group; an exchange copies the table and an end walks
+/// all groups. The memory is that of the longest frame, and of the groups with their members, the ended pids and the
+/// locks that are held.
 ///
 /// The rules: `global:set_lock/2` and `global:del_lock/1` of the global manual page, a `gen_server` call and its reply
 /// (`gen_server:multi_call/4`), whose terms are in the External Term Format, and `create/1`, `delete/1`, `join/2` and

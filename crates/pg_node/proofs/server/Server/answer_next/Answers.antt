@@ -6,7 +6,7 @@ use Rattle.pg_frame.specs.Frames.{front_of}
 use Rattle.pg_frame.proofs.Readings.{front_is_frame}
 use Rattle.pg_node.specs.Progress.{Progress}
 use Rattle.pg_node.specs.Replica.{pair_of, state_of, Answers, answered}
-use Rattle.pg_node.proofs.Streams.{stay, one, refused}
+use Rattle.pg_node.proofs.Streams.{stay, one, refused, cut_short}
 use Rattle.pg_node.proofs.server.Server.answer_next.Goals as goal
 
 pub returns-in-Ok-None-clause-progress : goal.returns-in-Ok-None-clause-progress
@@ -22,6 +22,20 @@ returns-in_err-answer-clause-fault g c =
     let front : front_of unread ≡ Ok (Some c.in-Ok-Some.body.now) = sym c.in-Ok-Some.ensures.body ∙ ap (λ o. Ok (option_copied o)) c.in-Ok-Some.field-0-is in
     let p = err_from_is_err_and c.from_residual.result c.from_residual.ensures.1 in
     rw (p.1, p.2) (refused (pair_of c.args.self.now.replica) unread c.in-Ok-Some.body.now (state_of c.args.self.now.replica) (g.W.Write.contents c.args.writer.now) front c.in_err-answer.field-0.0 c.in_err-answer.ensures.fault)
+
+pub returns-in_err-put_whole-clause-fault : goal.returns-in_err-put_whole-clause-fault
+returns-in_err-put_whole-clause-fault g c =
+    let pair = pair_of c.args.self.now.replica in
+    let s = state_of c.args.self.now.replica in
+    let t = state_of c.answer.new.self in
+    let unread = c.args.self.now.deframer.unread in
+    let body = c.in-Ok-Some.body.now in
+    let contents = g.W.Write.contents in
+    let front : front_of unread ≡ Ok (Some body) = sym c.in-Ok-Some.ensures.body ∙ ap (λ o. Ok (option_copied o)) c.in-Ok-Some.field-0-is in
+    let answers : Answers (answered pair s body) t [] c.answer.new.out.items = subst (λ (b : List ℕ). Answers (answered pair s body) t b c.answer.new.out.items) c.clear.ensures.items c.in_ok-answer.ensures.ok in
+    let p = err_from_is_err_and c.from_residual-in_err-put_whole.result c.from_residual-in_err-put_whole.ensures.1 in
+    let f = c.in_err-put_whole.ensures.fault in
+    rw (p.1, p.2, f.0) (cut_short pair unread body s t (contents c.args.writer.now) (contents c.put_whole.new.writer) c.answer.new.out.items f.1.0 f.1.1 front answers (f.1.2 ∙ c.as_slice.ensures) f.1.3)
 
 pub returns-clause-progress : goal.returns-clause-progress
 returns-clause-progress g c =
