@@ -83,6 +83,21 @@ fn growths_refused_for_an_exchange(rt: HostRuntime) -> Result<(), Fail> {
     Ok(())
 }
 
+// The join call again, its outer tuple as a LARGE_TUPLE_EXT.
+const JOIN_IN_LARGE_TUPLE: &[u8] = &[
+    131, 105, 0, 0, 0, 2, 97, 0, 104, 3, 119, 4, 99, 97, 108, 108, 114, 0, 1, 119, 1, 97, 0, 0, 0,
+    0, 7, 104, 3, 119, 4, 106, 111, 105, 110, 119, 1, 103, 103, 119, 1, 97, 0, 0, 0, 1, 0, 0, 0, 0,
+    1,
+];
+
+#[test]
+fn growths_refused_for_another_form(rt: HostRuntime) -> Result<(), Fail> {
+    let packet = read(rt.alloc(), JOIN_IN_LARGE_TUPLE)?;
+    let body = written(rt.alloc(), &packet)?;
+    assert!(rt; body.as_slice() == JOIN);
+    Ok(())
+}
+
 // {0, {cast, {exchange, a, [[g, []], [g, []]]}}}
 const TWICE: &[u8] = &[
     131, 104, 2, 97, 0, 104, 2, 119, 4, 99, 97, 115, 116, 104, 3, 119, 8, 101, 120, 99, 104, 97,

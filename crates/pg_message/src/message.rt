@@ -16,12 +16,12 @@ pub enum Message {
     /// Tells the groups of a node, each with its members, as often as they joined:
     /// `{cast, {exchange, Node, [[Name, Members], ..]}}`.
     Exchange(Atom, Items<(Term, Items<Pid>)>),
-    /// Tells that a process has ended: `{down, Pid}`.
+    /// Tells that a process has ended, as a monitor would: `{down, Pid}`.
     Down(Pid),
 }
 
 impl Message {
-    /// An equal message. Its cost grows with the names and the groups.
+    /// An equal message. Its cost grows with the names and the groups. Error: `AllocError`.
     pub fn copy(&self, alloc: Global) -> Result<Message, AllocError>
         ensures { IfOk result (λ message. message ≡ self.now) }
     {
@@ -76,7 +76,7 @@ pub enum Request {
 }
 
 impl Request {
-    /// An equal request. Its cost grows with the name.
+    /// An equal request. Its cost grows with the name. Error: `AllocError`.
     pub fn copy(&self, alloc: Global) -> Result<Request, AllocError>
         ensures { IfOk result (λ request. request ≡ self.now) }
     {

@@ -6,10 +6,10 @@ use crate::fault::MessageFault;
 use pg_term::Term;
 use pg_term_io::item_len;
 
-/// How many bytes a name takes at most, as it is written with the byte 131.
+/// How many bytes a name takes at most, as it is written with the byte 131: this project's own limit.
 pub const MAX_NAME_LEN: usize = 1024;
 
-/// How deep a name nests at most.
+/// How deep a name nests at most: this project's own limit.
 pub const MAX_NAME_DEPTH: usize = 32;
 
 /// Whether a term may name a group. It takes no memory. One walk over the term, at most 32 levels down.

@@ -11,11 +11,12 @@ pub const MAX_STAMP: u32 = 1_073_741_824;
 pub struct Packet {
     /// The clock of the event that sent it, at most 1,073,741,824.
     pub stamp: u32,
+    /// What is said.
     pub message: Message,
 }
 
 impl Packet {
-    /// An equal packet. Its cost grows with the names and the groups.
+    /// An equal packet. Its cost grows with the names and the groups. Error: `AllocError`.
     pub fn copy(&self, alloc: Global) -> Result<Packet, AllocError>
         ensures { IfOk result (λ packet. packet ≡ self.now) }
     {

@@ -13,6 +13,8 @@ ghost use Rattle.pg_message.specs.declared.packet.Packet.{Packet};
 
 mod direct;
 mod exchange;
+#[cfg(test)]
+mod tests;
 
 use crate::fault::MessageFault;
 use crate::message::{Message, Request, Said};
@@ -26,14 +28,17 @@ use pg_term::{Reference, Term, TermFault};
 use pg_term_io::decode;
 use std::alloc::{AllocError, Global};
 
-/// The packet that a body spells, all of its bytes.
+/// The packet that a body spells, all of its bytes. The forms are those of the External Term Format chapter of the Erlang
+/// documentation; the messages are those of `gen_server`, `global` and `pg2` (their manual pages), `{down, Pid}` in the
+/// place of pg2's monitors.
 ///
 /// Faults, the first that holds: those of its term, as `pg_term_io::decode` tells them; `NotAMessage`, where the term
 /// has not the shape of a packet, a name in it is refused by `check_name`, an exchange names a group twice, or the
 /// stamp is negative; `StampTooLarge`. `OutOfMemory` may be told in place of a later fault.
 ///
-/// The time is linear in the number of bytes, but for an exchange whose groups do not ascend in the order of terms. Of
-/// a body that is spelled as it is written only the parts that stand in the message are built.
+/// The time is linear in the number of bytes, but for an exchange whose groups do not ascend in the order of terms: their
+/// names are looked up in a tree. Of a body that is spelled as it is written only the parts that stand in the message are
+/// built.
 pub fn read_packet(alloc: Global, body: &[u8]) -> Result<Packet, MessageFault>
     // What is read is spelled so.
     ensures found { IfOk result (λ packet. SpellsPacket packet body.now) }
@@ -48,6 +53,7 @@ pub fn read_packet(alloc: Global, body: &[u8]) -> Result<Packet, MessageFault>
     whole_packet(alloc, body)
 }
 
+// Its clauses are proved of one; those of the call above follow from it.
 fn whole_packet(alloc: Global, body: &[u8]) -> Result<Packet, MessageFault>
     ensures { Gives (λ packet. packet) result (packet_spelled body.now) }
 {

@@ -1,6 +1,6 @@
 //! The packet that answers a call, of parts that are only lent.
 
-ghost use Rattle.std.specs.Prelude.{◌≡◌, ◌≤◌, ◌++◌, length, OnOk, OnErr};
+ghost use Rattle.std.specs.Prelude.{◌≡◌, ◌≤◌, ◌++◌, length, IsOk, OnOk, OnErr};
 ghost use Rattle.pg_term_io.specs.Writing.{item_bytes, written};
 ghost use Rattle.pg_message.specs.declared.message.Message.TheVariants as messages;
 ghost use Rattle.pg_message.specs.Writing.{term_of_packet, framed, Puts};
@@ -13,8 +13,10 @@ use pg_term::Reference;
 use pg_term_io::put_tuple_head;
 use std::alloc::AllocError;
 
-/// Appends the packet `{Stamp, {reply, Ref, Said}}` as one whole frame, as `write_packet_into` does. The stamp is at most
-/// 1,073,741,824. An error leaves the bytes of the buffer as they were. No allocation where the room suffices.
+/// Appends the packet `{Stamp, {reply, Ref, Said}}` as one whole frame, as `write_packet_into` does: a `gen_server` call's
+/// reply, or the answer to `global:set_lock/2`. The stamp is at most 1,073,741,824. No allocation where the room suffices.
+///
+/// Error: `AllocError`, where it does not and the buffer can't grow; the bytes of the buffer are as they were.
 pub fn write_reply_into(
     stamp: u32,
     reference: &Reference,
@@ -25,6 +27,11 @@ pub fn write_reply_into(
     ensures ok { OnOk result (out.new.items ≡ out.old.items ++ framed (written
         (term_of_packet (record { stamp = stamp; message = messages.Reply reference.now said })))) }
     ensures err { OnErr result (out.new.items ≡ out.old.items) }
+
+    // Only room can be missing.
+    ensures succeeds { length (framed (written
+        (term_of_packet (record { stamp = stamp; message = messages.Reply reference.now said })))) ≤ out.old.spare
+        → IsOk result }
 {
     let len = reply_packet_len(stamp, reference, said);
     out.reserve(4 + len)?;

@@ -25,8 +25,9 @@ const MAX_LEN: usize = 16_777_216;
 /// How many bytes a body takes at most, if it is no exchange.
 pub const MAX_SMALL_LEN: usize = 3120;
 
-/// How many bytes the body of a packet takes, at most 3,120 if it is no exchange. It takes no memory. One walk over each
-/// name.
+/// How many bytes the body of a packet takes (External Term Format chapter of the Erlang documentation), at most 3,120 if
+/// it is no exchange. It takes no memory. One walk over each name and each list of members; in an exchange whose groups do
+/// not ascend in the order of terms each name is compared with all that follow.
 ///
 /// Faults, the first that holds: `NotAMessage`, where `check_name` refuses a name, or an exchange names a group twice;
 /// `StampTooLarge`; `TooLong`, where the body takes more than 16,777,216 bytes.

@@ -1,10 +1,11 @@
 //! Packets to bytes.
 
-ghost use Rattle.std.specs.Prelude.{◌≡◌, ◌+◌, ◌≤◌, ◌∷◌, ◌++◌, [], pos, codes, map, length, true, false, Ok, IfOk, IsOk, OnOk, OnErr, MatchResult};
+ghost use Rattle.std.specs.Prelude.{◌≡◌, ◌+◌, ◌≤◌, ◌∷◌, ◌++◌, [], pos, codes, map, length, true, false, Ok, Err, IfOk, IsOk, OnOk, OnErr, MatchResult};
 ghost use Rattle.pg_term.specs.declared.term.Term.{Tuple, List};
 ghost use Rattle.pg_term.specs.declared.term.Term.TheVariants as terms;
 ghost use Rattle.pg_term_io.specs.Writing.{item_bytes, all_bytes, written};
 ghost use Rattle.pg_message.specs.Fault.{Gives};
+ghost use Rattle.pg_message.specs.declared.fault.MessageFault.{MessageFault};
 ghost use Rattle.pg_message.specs.Reading.{packet_spelled};
 ghost use Rattle.pg_message.specs.declared.message.Message.TheVariants as messages;
 ghost use Rattle.pg_message.specs.Writing.{pair, triple, update_term, request_term, said_term, group_term, message_term, term_of_packet, is_exchange, is_plain, body_of, framed, Puts, PutsAll};
@@ -21,8 +22,9 @@ use pg_term_io::{
 };
 use std::alloc::Global;
 
-/// Appends a packet as one whole frame: four bytes of length, the highest first, and the body. No allocation where the
-/// room suffices.
+/// Appends a packet as one whole frame: four bytes of length, the highest first, and the body, in the forms of the External
+/// Term Format chapter of the Erlang documentation. No allocation where the room suffices. The cost is that of
+/// `packet_len` and of one walk over the packet.
 ///
 /// Faults, which leave the bytes of the buffer as they were, the first that holds: `NotAMessage`, where `check_name`
 /// refuses a name, or an exchange names a group twice; `StampTooLarge`; `TooLong`, where the body takes more than
@@ -32,6 +34,7 @@ pub fn write_packet_into(packet: &Packet, out: &mut BytesMut) -> Result<(), Mess
         ≡ out.old.items ++ framed (written (term_of_packet packet.now))) }
     ensures err { OnErr result (out.new.items ≡ out.old.items) }
     ensures told { Gives (λ done. written (term_of_packet packet.now)) result (body_of packet.now) }
+    ensures unsendable { (fault : MessageFault) → body_of packet.now ≡ Err fault → result ≡ Err fault }
 
     // What is written is read as the packet.
     ensures read { OnOk result
@@ -59,17 +62,18 @@ pub fn write_packet_into(packet: &Packet, out: &mut BytesMut) -> Result<(), Mess
 }
 
 /// The body of a packet: the byte 131 and `{Stamp, Message}` as one item, by the External Term Format chapter of the
-/// Erlang documentation. One allocation.
+/// Erlang documentation. One allocation. The cost is that of `packet_len` and of one walk over the packet.
 ///
 /// Faults, the first that holds: those of `packet_len`, before anything is allocated; `OutOfMemory`.
 pub fn write_packet(alloc: Global, packet: &Packet) -> Result<Vec<u8>, MessageFault>
     ensures told { Gives (λ body. body.items) result (body_of packet.now) }
+    ensures unsendable { (fault : MessageFault) → body_of packet.now ≡ Err fault → result ≡ Err fault }
 
     // What is written is read as the packet.
     ensures read { IfOk result (λ body. packet_spelled body.items ≡ Ok packet.now) }
 {
-    let len = packet_len(packet)?;
-    let mut out = BytesMut::with_capacity(alloc, len)?;
+    let body_len = packet_len(packet)?;
+    let mut out = BytesMut::with_capacity(alloc, body_len)?;
     put_body(&mut out, packet);
     Ok(out.into_vec()?)
 }
@@ -319,6 +323,7 @@ fn put_word(out: &mut BytesMut, word: &str)
     out.extend_reserved(word.as_bytes());
 }
 
+// The next five append a part by a call of pg_term_io, each with a clause of its own: what they put.
 pub(crate) fn put_stamp(out: &mut BytesMut, stamp: u32)
     requires { length (item_bytes (terms.Int (pos stamp))) ≤ out.old.spare }
     ensures { Puts out.old out.new (terms.Int (pos stamp)) }

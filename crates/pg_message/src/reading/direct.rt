@@ -74,13 +74,9 @@ pub(crate) fn direct_packet(alloc: Global, body: &[u8]) -> Result<Packet, Detour
 fn behind<'a>(bytes: &'a [u8], front: &[u8]) -> Result<&'a [u8], Detour>
     ensures { IfOk result (λ rest. bytes.now ≡ front.now ++ rest.now) }
 {
-    let Some((first, rest)) = bytes.split_at_checked(front.len()) else {
-        return Err(Detour::OtherForm);
-    };
-    if first == front {
-        Ok(rest)
-    } else {
-        Err(Detour::OtherForm)
+    match bytes.strip_prefix(front) {
+        Some(rest) => Ok(rest),
+        None => Err(Detour::OtherForm),
     }
 }
 

@@ -1,12 +1,12 @@
-use Rattle.std.proofs.Common.{◌++◌, List, ℕ, length, sym, ap, ◌∙◌}
+use Rattle.std.proofs.Common.{◌++◌, List, ℕ, length, take, drop, sym, ap, ◌∙◌}
+use Rattle.std.specs.Cmp.Lexicographic.{same_text}
 use Rattle.std.proofs.Math.ListN.{take-append-drop}
-use Rattle.std.proofs.lemmas.Bool.Decides.{Decides-eqb}
-use Rattle.std.proofs.lemmas.Slice.Eq.{slice_eq-Decides}
 use Rattle.pg_message.proofs.reading.direct.behind.Goals as goal
 
-pub returns-then-eq : goal.returns-then-eq
-returns-then-eq c =
-    let first = c.in-Some.first.now in
-    let parts = c.in-Some.ensures.cases in
-    let same = (slice_eq-Decides Decides-eqb first c.args.front.now c.eq.result c.eq.ensures).0 c.if-eq.true in
-    sym (take-append-drop (length c.args.front.now) c.args.bytes.now) ∙ sym (λ i. parts.1 i ++ parts.2 i) ∙ ap (λ (x : List ℕ). x ++ c.in-Some.rest.now) same
+pub returns-in-Some : goal.returns-in-Some
+returns-in-Some c =
+    let bytes = c.args.bytes.now in
+    let front = c.args.front.now in
+    let n = length front in
+    let cases = c.in-Some.ensures.cases in
+    sym (take-append-drop n bytes) ∙ ap (λ (b : List ℕ). b ++ drop n bytes) (same_text (take n bytes) front (sym cases.0)) ∙ ap (λ (b : List ℕ). front ++ b) (sym cases.1)
