@@ -1,4 +1,5 @@
 pub mod DeleteBetween
+pub mod DeniedByItself
 pub mod EndBeatsLateJoin
 pub mod FormationOfThree
 pub mod GatheredReplies

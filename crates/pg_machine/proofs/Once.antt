@@ -47,10 +47,6 @@ same_is x y e = (bytes_decides x y).0 e
 pub is_same : (x : Node) → same_atom x x ≡ true
 is_same x = (bytes_decides x x).1 refl
 
-true_or_not : (b : Bool) → (b ≡ true) ⊎ (b ≡ false)
-true_or_not true = inl refl
-true_or_not false = inr refl
-
 or_right : (a b : Bool) → b ≡ true → (a || b) ≡ true
 or_right true b e = refl
 or_right false b e = e

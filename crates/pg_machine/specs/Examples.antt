@@ -240,6 +240,16 @@ met_one g = Take 2 0 ∷ Take 2 1 ∷ at 1 (command.Delete g) ∷ Take 2 1 ∷ T
 abbrev pub met_both : List (Event Action)
 met_both = Take 0 2 ∷ []
 
+-- b and c are formed, and a, which is not, asks for the lock of a create: c grants. a takes c's exchange and its answer, and
+-- asks the rest, itself among them. b grants; a takes b's exchange and then its answer.
+abbrev pub asked_unformed : Term → List (Event Action)
+asked_unformed g = Take 1 0 ∷ Take 2 0 ∷ Take 2 1 ∷ Take 1 2 ∷ at 0 (command.Create g)
+    ∷ Take 2 0 ∷ Take 0 2 ∷ Take 0 2 ∷ Take 1 0 ∷ Take 0 1 ∷ Take 0 1 ∷ []
+
+-- Then b and c take what a sends them.
+abbrev pub given_back : List (Event Action)
+given_back = Take 1 0 ∷ Take 2 0 ∷ []
+
 -- ---- replies
 
 -- the references of a's lock and of its update, and one that a never made

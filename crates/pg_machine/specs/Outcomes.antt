@@ -10,7 +10,7 @@ use Rattle.pg_machine.specs.declared.answer.Reply.TheVariants as reply
 use Rattle.pg_machine.specs.declared.answer.Odd.TheVariants.{Stranger, Double}
 use Rattle.pg_machine.specs.Refusal.{NotAMessage}
 use Rattle.pg_machine.specs.State.Response.{Given}
-use Rattle.pg_machine.specs.State.Stage.{Changing}
+use Rattle.pg_machine.specs.State.Stage.{Waiting, Changing}
 use Rattle.pg_machine.specs.Attempts.{strange}
 use Rattle.pg_machine.specs.Commands.{Reads}
 use Rattle.pg_machine.specs.Step.{taken}
@@ -64,6 +64,21 @@ pub record FormationOfThree (g : Term) (one both : Frames) : Type 0 where
   -- then a has taken both
   pub formed_a : is_formed (three_tables g) both 0 ≡ true
   pub counts_kept : has_counts both 0 g a1 2 ≡ true
+
+-- A node denies itself the lock that both others grant.
+pub record DeniedByItself (g : Term) (denied freed : Frames) : Type 0 where
+  -- a was not formed when it was asked; now it is, and both others hold the lock for it
+  pub formed_a : is_formed three_nodes denied 0 ≡ true
+  pub held_b : holder_at denied 1 g ≡ Some lock_ref
+  pub held_c : holder_at denied 2 g ≡ Some lock_ref
+  pub free_a : holder_at denied 0 g ≡ None
+  -- no update begins: the command waits
+  pub waits : (denied.node 0).stages (op_at 1) ≡ Waiting (update.Create g)
+  pub unanswered : answers_of denied 0 ≡ []
+  pub history : history g denied.told ≡ []
+  -- then both are freed
+  pub freed_b : holder_at freed 1 g ≡ None
+  pub freed_c : holder_at freed 2 g ≡ None
 
 -- A group is deleted between the look of a join and its lock.
 pub record DeleteBetween (g : Term) (w : Frames) : Type 0 where

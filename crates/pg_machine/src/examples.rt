@@ -4,8 +4,8 @@ ghost use Rattle.pg_term.specs.Same.{same_term};
 ghost use Rattle.pg_message.specs.Name.{is_name};
 ghost use Rattle.pg_machine.specs.Examples.{behind, start, AllHappen, two_nodes, two_and_member, two_tables, three_nodes, three_tables, with_replies};
 ghost use Rattle.pg_machine.specs.Examples.{joined_twice, left_once, deleted_between, created_by_two, tables_met, created_later, ended_between, joined_late};
-ghost use Rattle.pg_machine.specs.Examples.{asked_greatest, gathered, completed, met_one, met_both, ended_at_home, joined_after, asked_first};
-ghost use Rattle.pg_machine.specs.Outcomes.{JoinTwiceLeaveOnce, DeleteBetween, TwoCreators, InitialTables, EndBeatsLateJoin, GatheredReplies, FormationOfThree, PendingEnd, GreatestFirst};
+ghost use Rattle.pg_machine.specs.Examples.{asked_greatest, gathered, completed, met_one, met_both, ended_at_home, joined_after, asked_first, asked_unformed, given_back};
+ghost use Rattle.pg_machine.specs.Outcomes.{JoinTwiceLeaveOnce, DeleteBetween, TwoCreators, InitialTables, EndBeatsLateJoin, GatheredReplies, FormationOfThree, PendingEnd, GreatestFirst, DeniedByItself};
 
 /// A process that joins a group twice is a member twice, at each node; and once where it then leaves once.
 pub fn join_twice_leave_once()
@@ -101,4 +101,15 @@ pub fn greatest_first()
     ensures outcome { (g : Term) → is_name g ≡ true →
         GreatestFirst g
         (behind three_nodes (start three_nodes) (asked_first g)) }
+{}
+
+/// A node of three that is not formed denies itself the lock which both others grant: no update begins, the others' locks
+/// are freed, and the command waits.
+pub fn denied_by_itself()
+    ensures happen { (g : Term) → is_name g ≡ true →
+        AllHappen three_nodes (start three_nodes) (asked_unformed g ++ given_back) }
+    ensures outcome { (g : Term) → is_name g ≡ true →
+        DeniedByItself g
+        (behind three_nodes (start three_nodes) (asked_unformed g))
+        (behind three_nodes (start three_nodes) (asked_unformed g ++ given_back)) }
 {}
