@@ -25,9 +25,9 @@ impl LockTable {
         }
     }
 
-    /// Asks for the lock of a name: granted exactly where the node is formed and the name has no holder, and then the
-    /// reference is its holder. No other name changes. Expected O(1) but for the copies of a granted name and its
-    /// reference.
+    /// Asks for the lock of a name (`global:set_lock/2`): granted exactly where the node is formed and the name has no
+    /// holder, and then the reference is its holder. No other name changes. Expected O(1), amortized over growths of the
+    /// map, but for the copies of a granted name and its reference.
     ///
     /// Refusal: `AllocError`, which changes nothing; only for a lock that would be granted.
     pub fn ask(
@@ -51,8 +51,8 @@ impl LockTable {
         Ok(true)
     }
 
-    /// Frees a name where the reference is its holder, and else changes nothing. No other name changes. It takes no
-    /// memory, and expected O(1).
+    /// Frees a name where the reference is its holder (`global:del_lock/1`), and else changes nothing. No other name
+    /// changes. It takes no memory, and expected O(1).
     pub fn give_up(&mut self, name: &Term, reference: &Reference)
         ensures { locks_of self.new
             ≡ given_up (is_holder (locks_of self.old name.now) reference.now) (locks_of self.old) name.now }

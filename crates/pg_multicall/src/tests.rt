@@ -39,6 +39,55 @@ fn gather_over_two(rt: HostRuntime) -> Result<(), Fail> {
     Ok(())
 }
 
+// The gathered replies of some nodes to the call of this number.
+fn gather_of(alloc: Global, call: u32, nodes: &[&str]) -> Result<Gather<bool>, TermFault> {
+    let mut names = Vec::new(alloc);
+    for node in nodes {
+        names.push(Atom::new(alloc, node)?)?;
+    }
+    Ok(Gather::new(alloc, reference(alloc, call)?, &names)?)
+}
+
+// What a reply of this node to the call of this number is taken as.
+fn taken(
+    alloc: Global,
+    gather: &mut Gather<bool>,
+    node: &str,
+    call: u32,
+) -> Result<Taken, TermFault> {
+    let node = Atom::new(alloc, node)?;
+    Ok(gather.take(&node, &reference(alloc, call)?, true))
+}
+
+// A lock is asked for in two rounds under one reference, c first and then b.
+#[test]
+fn gathered_replies_to_a_lock(rt: HostRuntime) -> Result<(), Fail> {
+    let alloc = rt.alloc();
+    let mut first = gather_of(alloc, 1, &["c"])?;
+    assert!(rt; taken(alloc, &mut first, "b", 1)? == Taken::Stranger);
+    assert!(rt; taken(alloc, &mut first, "c", 1)? == Taken::Counted);
+    assert!(rt; first.complete());
+    let mut rest = gather_of(alloc, 1, &["b"])?;
+    assert!(rt; taken(alloc, &mut rest, "c", 1)? == Taken::Stranger);
+    assert!(rt; taken(alloc, &mut rest, "b", 1)? == Taken::Counted);
+    assert!(rt; rest.complete());
+    Ok(())
+}
+
+// An update goes to both under another.
+#[test]
+fn gathered_replies(rt: HostRuntime) -> Result<(), Fail> {
+    let alloc = rt.alloc();
+    let mut update = gather_of(alloc, 2, &["b", "c"])?;
+    assert!(rt; taken(alloc, &mut update, "b", 2)? == Taken::Counted);
+    assert!(rt; taken(alloc, &mut update, "b", 2)? == Taken::Double);
+    assert!(rt; taken(alloc, &mut update, "c", 3)? == Taken::Stranger);
+    assert!(rt; !update.complete());
+    assert!(rt; taken(alloc, &mut update, "c", 2)? == Taken::Counted);
+    assert!(rt; update.complete());
+    Ok(())
+}
+
 #[test]
 fn first_replies_stay(rt: HostRuntime) -> Result<(), Fail> {
     let mut asked = asked_b_and_c(rt.alloc())?;

@@ -7,6 +7,7 @@ pub enum RefFault {
     /// It made 2^31 references.
     #[error("all references were made")]
     ClockFull,
+    /// Memory ran out.
     #[error("out of memory")]
     OutOfMemory,
 }

@@ -61,6 +61,7 @@ impl RefSource {
                 self.made = number;
                 Ok(reference)
             }
+            // Three words are as many as a reference may have, so that only memory can be missing.
             Err(_) => Err(RefFault::OutOfMemory),
         }
     }
