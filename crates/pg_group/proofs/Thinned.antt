@@ -1,5 +1,5 @@
 -- Groups without ended pids stay so.
-use Rattle.std.proofs.Common.{◌≡◌, ℕ, ◌+◌, ◌-◌, max, Bool, true, false, cond, Some, None, List, refl, sym, ap, ◌∙◌, ◌⊎◌, inl, inr}
+use Rattle.std.proofs.Common.{◌≡◌, ℕ, ◌+◌, ◌-◌, max, Bool, true, false, cond, Some, None, List, refl, sym, ap, ◌∙◌}
 use Rattle.std.specs.Prelude.{count_by}
 use Rattle.std.proofs.Math.Path.{fun_ext}
 use Rattle.pg_term.specs.declared.pid.Pid.{Pid}
@@ -14,10 +14,6 @@ use Rattle.pg_group.proofs.Changes.{upd_by}
 thin : (b : Bool) (n : ℕ) → (b ≡ true → n ≡ 0) → n ≡ cond b 0 n
 thin true n h = h refl
 thin false n h = refl
-
-cases_bool : (b : Bool) → (b ≡ true) ⊎ (b ≡ false)
-cases_bool true = inl refl
-cases_bool false = inr refl
 
 module _ (ended : Pid → Bool) where
   -- no ended pid is counted

@@ -49,10 +49,6 @@ waits_closed a b = absurd (cc (sym a ∙ b))
 pub asks_closed : {x : Stage} {c : ℕ} → x ≡ Asking c → x ≡ Closed → ⊥
 asks_closed a b = absurd (cc (sym a ∙ b))
 
--- two references of different use
-apart_by : (uses : ℕ → Use) (c d : ℕ) → (uses c ≡ uses d → ⊥) → c ≢ d
-apart_by uses c d differ same = differ (ap uses same)
-
 module _ (m : Nodes) (s : State) (sound : Sound s) where
   -- a command that is open has come in
   closed_still : (op : OpId) (new : Stage) → (s.stages op ≡ Closed → ⊥) → (other : OpId) → s.counts other.port < other.number → upd same_op s.stages op new other ≡ Closed

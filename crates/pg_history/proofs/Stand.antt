@@ -45,13 +45,6 @@ pub record Stands (op : OpId) (s t : State) (told : Told) : Type 0 where
   -- what was begun is under way until it is answered
   pub balances : under_way (t.stages op) + answered_by op told.answered ≡ under_way (s.stages op) + begun_by op told.began
 
-pub chance_one : (has : Bool) (stage : Stage) → may_begin has stage ≤ 1
-chance_one true Closed = omega arith
-chance_one false Closed = omega arith
-chance_one has (Waiting u) = omega arith
-chance_one has (Asking c) = omega arith
-chance_one has (Changing n) = omega arith
-
 -- an answer leaves no greater chance
 less_chance : (before later : Bool) (stage : Stage) → (before ≡ true → later ≡ true) → may_begin later stage ≤ may_begin before stage
 less_chance true true stage has = omega arith
