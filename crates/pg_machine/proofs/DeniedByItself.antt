@@ -1,5 +1,5 @@
 -- A node denies itself.
-use Rattle.std.proofs.Common.{◌≡◌, true, false, [], ◌∷◌, ◌++◌, Some, None, refl, ap, sym, subst}
+use Rattle.std.proofs.Common.{◌≡◌, true, false, ◌++◌, Some, None, refl, ap, sym, subst}
 use Rattle.pg_group.specs.Functions.{upd}
 use Rattle.pg_term.specs.declared.term.Term.{Term}
 use Rattle.pg_term.specs.Same.{same_term, same_atom}

@@ -1,3 +1,4 @@
+pub mod Accepted
 pub mod DeleteBetween
 pub mod DeniedByItself
 pub mod EndBeatsLateJoin

@@ -1,11 +1,16 @@
--- What comes of a query, and of a command that is refused.
+-- What comes of a query, of a command that is refused, and of one that the look answers.
 use Rattle.std.proofs.Common.{◌≡◌, ◌⊎◌, inl, inr, ℕ, Bool, true, false, cond, nat_lt, length, List, [], ◌∷◌, ◌++◌, Some, None, Ok, Err, refl, ap, sym, ◌∙◌, subst}
 use Rattle.std.proofs.lemmas.Bool.{cases_eq}
 use Rattle.std.proofs.lemmas.List.{append-nil}
+use Rattle.pg_term.specs.declared.pid.Pid.{Pid}
+use Rattle.pg_term.specs.declared.term.Term.{Term}
+use Rattle.pg_group.specs.declared.update.Update.TheVariants as update
+use Rattle.pg_group.specs.Value.{Counts}
 use Rattle.pg_message.specs.declared.message.Message.{Message}
 use Rattle.pg_machine.specs.declared.command.Command.{Command}
 use Rattle.pg_machine.specs.declared.command.Command.TheVariants.{Create, Delete, Join, Leave, Make, Finish, Members, LocalMembers, WhichGroups, Closest}
 use Rattle.pg_machine.specs.declared.answer.Reply.TheVariants.{Refused}
+use Rattle.pg_machine.specs.declared.answer.Reply.TheVariants as reply
 use Rattle.pg_machine.specs.Machine.{Turn, Do, happens}
 use Rattle.pg_machine.specs.Happened.{Happened}
 use Rattle.pg_machine.specs.Places.{is_place}
@@ -13,7 +18,7 @@ use Rattle.pg_machine.specs.Nodes.{Nodes}
 use Rattle.pg_machine.specs.State.{State, Response}
 use Rattle.pg_machine.specs.State.Response.{Given, Read}
 use Rattle.pg_machine.specs.Turns.{NodeTurn, Told, and_then}
-use Rattle.pg_machine.specs.Commands.{has_large_name, has_foreign_pid, ends_unformed, ends_unmade, ends_again, passes_limit, fault_of, first_fault, answer, next_op, count_command, command_by, command}
+use Rattle.pg_machine.specs.Commands.{has_large_name, has_foreign_pid, ends_unformed, ends_unmade, ends_again, passes_limit, fault_of, first_fault, answer, look, change_by, next_op, count_command, command_by, command}
 use Rattle.pg_machine.specs.Step.{Issue}
 use Rattle.pg_machine.specs.Refusal.{NoSuchPlace}
 use Rattle.pg_machine.specs.Frames.{Config, nodes_at, ports_at, place_turn, placed, node_step, machine_of}
@@ -83,3 +88,38 @@ pub query_answers : (config : Config) (w v : Frames) (i port : ℕ) (c : Command
     → happens (machine_of config) w (Do i (Issue port c)) ≡ Some v → OnlyAnswers i port (Read c (w.node i).table) w v
 query_answers config w v i port c q fits e =
     only_answers config w v i port c (Read c (w.node i).table) (query_turn (nodes_at config i) port c (w.node i) q fits) (happened (machine_of config) w v (Do i (Issue port c)) e)
+
+-- ---- the look
+
+created_turn : (m : Nodes) (port : ℕ) (name : Term) (counts : Counts) (s : State) → fault_of m s (Create name) ≡ None → s.table name ≡ Some counts
+    → command m port (Create name) s ≡ answered port (Given reply.Ok) s
+created_turn m port name counts s fine there =
+    ap (λ f. and_then (count_command port s) (command_by f m (next_op port s) (Create name))) fine
+    ∙ ap (λ v. and_then (count_command port s) (change_by (look v (update.Create name)) m (next_op port s) (update.Create name))) there
+
+joined_turn : (m : Nodes) (port : ℕ) (name : Term) (pid : Pid) (s : State) → fault_of m s (Join name pid) ≡ None → s.table name ≡ None
+    → command m port (Join name pid) s ≡ answered port (Given (reply.NoSuchGroup name)) s
+joined_turn m port name pid s fine absent =
+    ap (λ f. and_then (count_command port s) (command_by f m (next_op port s) (Join name pid))) fine
+    ∙ ap (λ v. and_then (count_command port s) (change_by (look v (update.Join name pid)) m (next_op port s) (update.Join name pid))) absent
+
+left_turn : (m : Nodes) (port : ℕ) (name : Term) (pid : Pid) (s : State) → fault_of m s (Leave name pid) ≡ None → s.table name ≡ None
+    → command m port (Leave name pid) s ≡ answered port (Given (reply.NoSuchGroup name)) s
+left_turn m port name pid s fine absent =
+    ap (λ f. and_then (count_command port s) (command_by f m (next_op port s) (Leave name pid))) fine
+    ∙ ap (λ v. and_then (count_command port s) (change_by (look v (update.Leave name pid)) m (next_op port s) (update.Leave name pid))) absent
+
+pub created : (config : Config) (w v : Frames) (i port : ℕ) (name : Term) (counts : Counts) → fault_of (nodes_at config i) (w.node i) (Create name) ≡ None
+    → (w.node i).table name ≡ Some counts → happens (machine_of config) w (Do i (Issue port (Create name))) ≡ Some v → OnlyAnswers i port (Given reply.Ok) w v
+created config w v i port name counts fine there e =
+    only_answers config w v i port (Create name) (Given reply.Ok) (created_turn (nodes_at config i) port name counts (w.node i) fine there) (happened (machine_of config) w v (Do i (Issue port (Create name))) e)
+
+pub joined : (config : Config) (w v : Frames) (i port : ℕ) (name : Term) (pid : Pid) → fault_of (nodes_at config i) (w.node i) (Join name pid) ≡ None
+    → (w.node i).table name ≡ None → happens (machine_of config) w (Do i (Issue port (Join name pid))) ≡ Some v → OnlyAnswers i port (Given (reply.NoSuchGroup name)) w v
+joined config w v i port name pid fine absent e =
+    only_answers config w v i port (Join name pid) (Given (reply.NoSuchGroup name)) (joined_turn (nodes_at config i) port name pid (w.node i) fine absent) (happened (machine_of config) w v (Do i (Issue port (Join name pid))) e)
+
+pub left : (config : Config) (w v : Frames) (i port : ℕ) (name : Term) (pid : Pid) → fault_of (nodes_at config i) (w.node i) (Leave name pid) ≡ None
+    → (w.node i).table name ≡ None → happens (machine_of config) w (Do i (Issue port (Leave name pid))) ≡ Some v → OnlyAnswers i port (Given (reply.NoSuchGroup name)) w v
+left config w v i port name pid fine absent e =
+    only_answers config w v i port (Leave name pid) (Given (reply.NoSuchGroup name)) (left_turn (nodes_at config i) port name pid (w.node i) fine absent) (happened (machine_of config) w v (Do i (Issue port (Leave name pid))) e)

@@ -98,10 +98,6 @@ holder_at w i name = (w.node i).locks name
 abbrev pub is_ok : ℕ → ℕ × Response
 is_ok number = (number, Given reply.Ok)
 
--- the command of this number is answered that there is no such group
-abbrev pub no_group : ℕ → Term → ℕ × Response
-no_group number name = (number, Given (reply.NoSuchGroup name))
-
 -- a query of this number is answered by a table
 abbrev pub reads : ℕ → Command → Table → ℕ × Response
 reads number query table = (number, Read query table)

@@ -5,6 +5,8 @@ use Rattle.std.specs.List.{AllByRecursion}
 use Rattle.pg_term.specs.declared.pid.Pid.{Pid}
 use Rattle.pg_term.specs.declared.term.Term.{Term}
 use Rattle.pg_group.specs.Value.{less}
+use Rattle.pg_refs.specs.Numbered.{numbered}
+use Rattle.pg_lock.specs.Locks.{is_holder}
 use Rattle.pg_message.specs.declared.message.Message.{Message}
 use Rattle.pg_machine.specs.declared.command.Command.{Command}
 use Rattle.pg_machine.specs.declared.command.OpId.{OpId}
@@ -13,7 +15,7 @@ use Rattle.pg_machine.specs.Places.{is_place, is_pair}
 use Rattle.pg_machine.specs.Turns.{Told}
 use Rattle.pg_machine.specs.Step.{Action}
 use Rattle.pg_machine.specs.Frames.{Config, name_at, node_step}
-use Rattle.pg_machine.specs.History.{Entry, Frames, entries, history, updates_of, applied_count, answered_count, times, replay, known, base, command_at, change_of, has_answer, answers_to, IsAnsweredOk, needs_lock, is_formed, has_groups, LockFree, NonePending}
+use Rattle.pg_machine.specs.History.{Entry, Frames, entries, history, updates_of, applied_by, applied_count, answered_count, times, replay, known, base, command_at, change_of, has_answer, answers_to, IsAnsweredOk, ok_means_lock, is_formed, has_groups, LockFree, NonePending}
 
 -- Each answered change stands, once, in one history.
 pub record HoldsAnswered (config : Config) (events : List (Event Action)) (w : Frames) : Type 0 where
@@ -25,6 +27,10 @@ pub record HoldsAnswered (config : Config) (events : List (Event Action)) (w : F
   -- an entry that is not answered yet is the last of its group
   pub one_more : (name : Term) (before after : List Entry) (e : Entry) → history name w.told ≡ before ++ e ∷ after
       → answered_count e.node e.op w.told ≡ 0 → after ≡ []
+  -- and it has every grant: one reference of its node holds the lock of the group at each node
+  pub granted : (name : Term) (before after : List Entry) (e : Entry) → history name w.told ≡ before ++ e ∷ after
+      → answered_count e.node e.op w.told ≡ 0
+      → (c : ℕ) × ((x : ℕ) → is_place (length config) x ≡ true → is_holder ((w.node x).locks name) (numbered (name_at config e.node) c) ≡ true)
   -- each entry is the change that was asked for by that command of that node, which was taken before
   pub given : (before after : List Entry) (e : Entry) → entries w.told ≡ before ++ e ∷ after
       → (c : Command) × (command_at e.node e.op events ≡ Some c) × (change_of c ≡ Some e.update)
@@ -35,11 +41,14 @@ pub record HoldsAnswered (config : Config) (events : List (Event Action)) (w : F
   -- a change that was answered behind its lock was answered ok
   pub answered_ok : (i : ℕ) (op : OpId) → 0 < answered_count i op w.told → IsAnsweredOk op (w.node i)
   -- a delete, a join or a leave that was answered ok was answered behind its lock
-  pub ok_behind_lock : (i : ℕ) (op : OpId) (c : Command) → command_at i op events ≡ Some c → needs_lock c ≡ true
+  pub ok_behind_lock : (i : ℕ) (op : OpId) (c : Command) → command_at i op events ≡ Some c → ok_means_lock c ≡ true
       → IsAnsweredOk op (w.node i) → 0 < answered_count i op w.told
 
 -- What each node has applied of the history of a group.
 pub record AppliesHistory (config : Config) (w : Frames) : Type 0 where
+  -- the updates of the history from its beginning, in their order, and nothing else
+  pub order : (i : ℕ) (name : Term) → is_place (length config) i ≡ true
+      → applied_by i name w.told ≡ take (applied_count i name w.told) (updates_of (history name w.told))
   -- the whole of it, or all but its last update
   pub applied : (i : ℕ) (name : Term) → is_place (length config) i ≡ true
       → (applied_count i name w.told ≡ length (history name w.told)) ⊎ (applied_count i name w.told + 1 ≡ length (history name w.told))
@@ -70,7 +79,7 @@ pub record HasTables (config : Config) (w : Frames) : Type 0 where
   pub home : (i : ℕ) (pid : Pid) → is_place (length config) i ≡ true → (w.node i).ended pid ≡ true
       → (h : ℕ) × (is_place (length config) h ≡ true) × (pid.node ≡ name_at config h) × ((w.node h).ended pid ≡ true)
 
--- Nobody is harmed: no reply is a stranger's or a double, and no packet on the way will be refused.
+-- Nobody is harmed: no reply is a stranger's or a double, and no packet on the way will be refused, but by a full clock.
 pub record HarmsNobody (config : Config) (w : Frames) : Type 0 where
   pub replies : AllByRecursion (λ (t : ℕ × Told). t.1.odd ≡ None) w.told
   pub packets : (i p : ℕ) (x : Message) (rest : List Message) → is_pair (length config) i p ≡ true

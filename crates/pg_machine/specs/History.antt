@@ -66,6 +66,24 @@ abbrev pub is_op : OpId → Option OpId → Bool
 is_op op None = false
 is_op op (Some other) = same_op op other
 
+-- what each of some things tells, the first one's first
+abbrev pub all_told : {P B : Type 0} → (P → List B) → List P → List B
+all_told tells [] = []
+all_told tells (x ∷ xs) = tells x ++ all_told tells xs
+
+-- the update, where it is one of this group
+abbrev pub update_of : Term → Option Update → List Update
+update_of name None = []
+update_of name (Some u) = cond (same_term name (name_of u)) (u ∷ []) []
+
+-- what node i applied by a turn, where it is its own
+abbrev pub update_by : ℕ → Term → ℕ × Told → List Update
+update_by i name t = cond (nat_eq t.0 i) (update_of name t.1.applied) []
+
+-- the updates of a group that node i has applied, the earliest first
+abbrev pub applied_by : ℕ → Term → List (ℕ × Told) → List Update
+applied_by i name told = all_told (update_by i name) told
+
 -- How often a command of node i was answered behind its lock.
 abbrev pub answered_count : ℕ → OpId → List (ℕ × Told) → ℕ
 answered_count i op [] = 0
@@ -126,11 +144,11 @@ IsAnsweredOk op s = Contains (s.answers op.port) (op.number, Given reply.Ok)
 
 -- What is answered ok behind a lock alone: a delete, a join, a leave. A create may be answered ok by the look, and all
 -- else takes no lock.
-abbrev pub needs_lock : Command → Bool
-needs_lock (command.Delete name) = true
-needs_lock (command.Join name pid) = true
-needs_lock (command.Leave name pid) = true
-needs_lock c = false
+abbrev pub ok_means_lock : Command → Bool
+ok_means_lock (command.Delete name) = true
+ok_means_lock (command.Join name pid) = true
+ok_means_lock (command.Leave name pid) = true
+ok_means_lock c = false
 
 -- ---- worlds
 

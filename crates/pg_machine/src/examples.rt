@@ -5,6 +5,7 @@ ghost use Rattle.pg_message.specs.Name.{is_name};
 ghost use Rattle.pg_machine.specs.Examples.{behind, start, AllHappen, two_nodes, two_and_member, two_tables, three_nodes, three_tables, with_replies};
 ghost use Rattle.pg_machine.specs.Examples.{joined_twice, left_once, deleted_between, created_by_two, tables_met, created_later, ended_between, joined_late};
 ghost use Rattle.pg_machine.specs.Examples.{asked_greatest, gathered, completed, met_one, met_both, ended_at_home, joined_after, asked_first, asked_unformed, given_back};
+ghost use Rattle.pg_machine.specs.Frames.{IsConfig};
 ghost use Rattle.pg_machine.specs.Outcomes.{JoinTwiceLeaveOnce, DeleteBetween, TwoCreators, InitialTables, EndBeatsLateJoin, GatheredReplies, FormationOfThree, PendingEnd, GreatestFirst, DeniedByItself};
 
 /// A process that joins a group twice is a member twice, at each node; and once where it then leaves once.
@@ -112,4 +113,12 @@ pub fn denied_by_itself()
         DeniedByItself g
         (behind three_nodes (start three_nodes) (asked_unformed g))
         (behind three_nodes (start three_nodes) (asked_unformed g ++ given_back)) }
+{}
+
+/// The configurations of these examples are such as a world accepts.
+pub fn configurations_are_accepted()
+    ensures plain { IsConfig two_nodes × IsConfig three_nodes }
+    ensures member { (g : Term) → is_name g ≡ true → IsConfig (two_and_member g) }
+    ensures two { (g : Term) → is_name g ≡ true → IsConfig (two_tables g) }
+    ensures three { (g : Term) → is_name g ≡ true → IsConfig (three_tables g) }
 {}

@@ -13,11 +13,13 @@ mod step_laws;
 pub use answer::{Answer, Odd, Reply};
 pub use command::{Command, OpId};
 pub use examples::{
-    delete_between_look_and_lock, end_beats_late_join, formation_of_three, gathered_replies,
-    greatest_first, initial_tables, join_twice_leave_once, pending_end, two_creators,
+    configurations_are_accepted, delete_between_look_and_lock, denied_by_itself,
+    end_beats_late_join, formation_of_three, gathered_replies, greatest_first, initial_tables,
+    join_twice_leave_once, pending_end, two_creators,
 };
 pub use laws::{any_events, clocks, locality, runs, what_happens, what_is_told, without_clocks};
 pub use start::Start;
 pub use step_laws::{
-    nodes_keep_time, one_packet_each, queries_read_the_table, refusals_in_order, step_is_clocked,
+    looks_answer_at_once, nodes_keep_time, one_packet_each, queries_read_the_table,
+    refusals_in_order, step_is_clocked,
 };

@@ -1,9 +1,13 @@
 ghost use Rattle.std.specs.Prelude.{◌≡◌, ◌+◌, ℕ, true, false, not, cond, max, nat_lt, List, [], ◌∷◌, Some, None, length};
 ghost use Rattle.std.specs.List.{IsDistinct};
 ghost use Rattle.pg_term.specs.Same.{same_atom};
+ghost use Rattle.pg_term.specs.declared.pid.Pid.{Pid};
+ghost use Rattle.pg_term.specs.declared.term.Term.{Term};
+ghost use Rattle.pg_group.specs.Value.{Counts};
 ghost use Rattle.pg_message.specs.declared.message.Message.{Message};
 ghost use Rattle.pg_machine.specs.declared.command.Command.{Command};
-ghost use Rattle.pg_machine.specs.declared.answer.Reply.TheVariants.{Refused};
+ghost use Rattle.pg_machine.specs.declared.command.Command.TheVariants.{Create, Join, Leave};
+ghost use Rattle.pg_machine.specs.declared.answer.Reply.TheVariants.{Refused, Ok, NoSuchGroup};
 ghost use Rattle.pg_machine.specs.Machine.{Input, Turn, Event, Taken, Own, Do, node_of, start_of, happens};
 ghost use Rattle.pg_machine.specs.Clocked.{CLOCK_LIMIT, Timed, Stamped, TimedWorld, plain};
 ghost use Rattle.pg_machine.specs.Runs.{Leads};
@@ -79,4 +83,21 @@ pub fn queries_read_the_table()
         → OnlyAnswers i port (Given (Refused fault)) w v }
     ensures large { (m : Nodes) (s : State) (c : Command)
         → has_large_name c ≡ true → fault_of m s c ≡ Some 23 }
+{}
+
+/// What the look answers, where the command has no fault: a create of a group that is in the node's table is ok, and a join
+/// or a leave of one that is not is told so. Nothing else comes of it.
+pub fn looks_answer_at_once()
+    ensures created { (config : Config) (w v : Frames) (i port : ℕ) (name : Term) (counts : Counts)
+        → fault_of (nodes_at config i) (w.node i) (Create name) ≡ None → (w.node i).table name ≡ Some counts
+        → happens (machine_of config) w (Do i (Issue port (Create name))) ≡ Some v
+        → OnlyAnswers i port (Given Ok) w v }
+    ensures joined { (config : Config) (w v : Frames) (i port : ℕ) (name : Term) (pid : Pid)
+        → fault_of (nodes_at config i) (w.node i) (Join name pid) ≡ None → (w.node i).table name ≡ None
+        → happens (machine_of config) w (Do i (Issue port (Join name pid))) ≡ Some v
+        → OnlyAnswers i port (Given (NoSuchGroup name)) w v }
+    ensures left { (config : Config) (w v : Frames) (i port : ℕ) (name : Term) (pid : Pid)
+        → fault_of (nodes_at config i) (w.node i) (Leave name pid) ≡ None → (w.node i).table name ≡ None
+        → happens (machine_of config) w (Do i (Issue port (Leave name pid))) ≡ Some v
+        → OnlyAnswers i port (Given (NoSuchGroup name)) w v }
 {}
