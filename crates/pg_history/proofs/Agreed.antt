@@ -7,13 +7,14 @@ use Rattle.pg_group.specs.declared.update.Update.{Update}
 use Rattle.pg_lock.specs.Locks.{is_holder}
 use Rattle.pg_machine.specs.Nodes.{Node}
 use Rattle.pg_machine.specs.declared.command.OpId.{OpId}
-use Rattle.pg_machine.specs.State.{Use, Stage}
+use Rattle.pg_machine.specs.State.{Use}
 use Rattle.pg_machine.specs.State.Use.{Updating}
-use Rattle.pg_machine.specs.State.Stage.{Closed, Waiting, Asking, Changing}
-use Rattle.pg_history.proofs.Named.{World, Entry, times, on, of_name, updates}
-use Rattle.pg_history.proofs.Kept.{IsOpOf, updating, weight, opens, answers_of, Tale, live, near, Inv}
+use Rattle.pg_machine.specs.State.Stage.{Changing}
+use Rattle.pg_history.proofs.Named.{World, Entry, on, of_name, updates}
+use Rattle.pg_history.proofs.Kept.{IsOpOf, updating, opens, answers_of, GoesOut, Tale, live, near, near_live, Inv}
 use Rattle.pg_history.proofs.Telling.{updates-append}
 use Rattle.pg_history.proofs.Unique.{IsUpdate, update_is, update_holds}
+use Rattle.pg_history.proofs.Latest.{entry_name, updating_of}
 
 -- all, or all but the last
 abbrev pub IsAllButOne : List Update → List Update → Type 0
@@ -29,10 +30,9 @@ pub record Agrees (w : World) : Type 0 where
   pub everywhere : (N : Term) (p : Node) (before after : List Entry) (e : Entry) → live w p → of_name N w.history ≡ before ++ e ∷ after → 0 < answers_of e.node e.op w.answered → length before < length (on N (w.log p))
   -- an entry whose command is not answered is the last of its name
   pub one_more : (N : Term) (before after : List Entry) (e : Entry) → of_name N w.history ≡ before ++ e ∷ after → answers_of e.node e.op w.answered ≡ 0 → after ≡ []
-  -- a command that is answered behind its lock stands in the history once, and is answered once; no command stands there twice
-  pub answered : (i : Node) (op : OpId) → 0 < answers_of i op w.answered → times i op w.history ≡ 1
-  pub answered_once : (i : Node) (op : OpId) → answers_of i op w.answered ≤ 1
-  pub at_most_once : (i : Node) (op : OpId) → times i op w.history ≤ 1
+  -- and one reference of its node holds the lock of the name at each node
+  pub granted : (N : Term) (before after : List Entry) (e : Entry) → of_name N w.history ≡ before ++ e ∷ after → answers_of e.node e.op w.answered ≡ 0
+      → (c : ℕ) × ((p : Node) → live w p → is_holder ((w.node p).locks N) (numbered e.node c) ≡ true)
 
 begins_of : (w : World) (N : Term) (p : Node) → Tale w N p → IsAllButOne (on N (w.log p)) (updates (of_name N w.history))
 begins_of w N p (inl f) = inl f.thin
@@ -45,6 +45,14 @@ free_of w inv N p q lp free (inr d) =
     let m : near w d.i p = record { home = d.near_it.home; peer = lp.there } in
     let y : false ≡ true = sym (ap (λ o. is_holder o (numbered d.i b.lock)) free) ∙ update_holds w inv d.i d.n N p m b in
     absurd (cc)
+
+-- the update of an entry that is not answered goes out under a lock that its node holds everywhere
+granted_of : (w : World) → Inv w → (N : Term) (before after : List Entry) (e : Entry) → of_name N w.history ≡ before ++ e ∷ after → GoesOut w.nodes w.node e
+    → (c : ℕ) × ((p : Node) → live w p → is_holder ((w.node p).locks N) (numbered e.node c) ≡ true)
+granted_of w inv N before after e here d =
+    let name = entry_name N w.history before after e here in
+    let b = update_is N ((w.node e.node).uses d.number) (updating_of N e.op e.update ((w.node e.node).uses d.number) name d.update) in
+    (b.lock, λ p lp. update_holds w inv e.node d.number N p (near_live w e.node p d.there lp) b)
 
 -- ---- lengths
 
@@ -61,35 +69,10 @@ behind n before (x ∷ after) es e d q apart len =
     let c : length (before ++ e ∷ x ∷ after) ≡ length (es ++ d ∷ []) = ap length q in
     omega (arith, a, b, c, len)
 
--- ---- answers
-
-light : (s : Stage) → weight s ≤ opens s
-light Closed = omega arith
-light (Waiting u) = omega arith
-light (Asking c) = omega arith
-light (Changing n) = omega arith
-
 op_is : (x : Use) (o : OpId) → IsOpOf x o → (op : OpId) (u : Update) (c : ℕ) (rep : Node → Bool) → x ≡ Updating op u c rep → op ≡ o
 op_is x o (updating p v d q) op u c rep e = cc
 
 module _ (w : World) (inv : Inv w) where
-  at_most_once : (i : Node) (op : OpId) → times i op w.history ≤ 1
-  at_most_once i op =
-      let p : times i op w.history ≡ weight ((w.node i).stages op) + answers_of i op w.answered = inv.counts i op in
-      let q : opens ((w.node i).stages op) + answers_of i op w.answered ≤ 1 = inv.once.known i op in
-      let r : weight ((w.node i).stages op) ≤ opens ((w.node i).stages op) = light ((w.node i).stages op) in
-      omega (arith, p, q, r)
-
-  answered_once : (i : Node) (op : OpId) → answers_of i op w.answered ≤ 1
-  answered_once i op = let q : opens ((w.node i).stages op) + answers_of i op w.answered ≤ 1 = inv.once.known i op in omega (arith, q)
-
-  answered : (i : Node) (op : OpId) → 0 < answers_of i op w.answered → times i op w.history ≡ 1
-  answered i op some =
-      let p : times i op w.history ≡ weight ((w.node i).stages op) + answers_of i op w.answered = inv.counts i op in
-      let q : opens ((w.node i).stages op) + answers_of i op w.answered ≤ 1 = inv.once.known i op in
-      let r : weight ((w.node i).stages op) ≤ opens ((w.node i).stages op) = light ((w.node i).stages op) in
-      omega (arith, p, q, r, some)
-
   everywhere : (N : Term) (p : Node) (before after : List Entry) (e : Entry) → of_name N w.history ≡ before ++ e ∷ after → 0 < answers_of e.node e.op w.answered → Tale w N p
       → length before < length (on N (w.log p))
   everywhere N p before after e here some (inl f) =
@@ -119,7 +102,5 @@ module _ (w : World) (inv : Inv w) where
     free = λ N p q lp lq e. free_of w inv N p q lp e (inv.tales N q lq);
     everywhere = λ N p before after e lp here some. everywhere N p before after e here some (inv.tales N p lp);
     one_more = λ N before after e here none. (inv.latest N before after e here none).0;
-    answered = answered;
-    answered_once = answered_once;
-    at_most_once = at_most_once;
+    granted = λ N before after e here none. granted_of w inv N before after e here (inv.latest N before after e here none).1;
   }

@@ -25,7 +25,7 @@ use Rattle.pg_machine.specs.Commands.{OPEN_LIMIT, look, answer, open_command, un
 use Rattle.pg_machine.specs.Step.{Action, Issue, Retry, taken, acted}
 use Rattle.pg_machine.specs.Refusal.{NoSuchPlace}
 use Rattle.pg_machine.specs.Frames.{Config, name_at, nodes_at, ports_at, node_step}
-use Rattle.pg_machine.specs.History.{needs_lock}
+use Rattle.pg_machine.specs.History.{ok_means_lock}
 use Rattle.pg_history.proofs.Single.{Makes, ok_is, AnyUpdate, OfSingle, attempt_so, taken_so}
 use Rattle.pg_history.proofs.Made.{placed_so}
 use Rattle.pg_history.proofs.Soundly.{is_op}
@@ -143,7 +143,7 @@ module _ (May : OpId → Response → Type 0) where
     no_leave None name pid r e ok = absurd (cc)
     no_leave (Some counts) name pid r e ok = absurd (cc)
 
-    carried_gives : (op : OpId) (c : Command) (s : State) → ((r : Response) → (r ≡ Given reply.Ok → needs_lock c ≡ false) → May op r) → Gives May s (carried_out m op c s)
+    carried_gives : (op : OpId) (c : Command) (s : State) → ((r : Response) → (r ≡ Given reply.Ok → ok_means_lock c ≡ false) → May op r) → Gives May s (carried_out m op c s)
     carried_gives op (command.Create name) s may = change_gives op (update.Create name) s (λ r _. may (Given r) (λ _. refl)) (may _ (λ _. refl))
     carried_gives op (command.Delete name) s may =
         change_gives op (update.Delete name) s (λ r finds. absurd (no_delete (s.table name) name r finds)) (may _ (λ ok. absurd (cc)))
@@ -160,7 +160,7 @@ module _ (May : OpId → Response → Type 0) where
     carried_gives op command.WhichGroups s may = AtOnce op _ (may _ (λ _. refl)) refl refl
     carried_gives op (command.Closest name word) s may = AtOnce op _ (may _ (λ _. refl)) refl refl
 
-    command_gives : (port : ℕ) (c : Command) (s : State) → ((r : Response) → (r ≡ Given reply.Ok → needs_lock c ≡ false) → May (next_op port s) r) → Gives May s (command_in m port c s)
+    command_gives : (port : ℕ) (c : Command) (s : State) → ((r : Response) → (r ≡ Given reply.Ok → ok_means_lock c ≡ false) → May (next_op port s) r) → Gives May s (command_in m port c s)
     command_gives port c s may = gives_then May s (count_command port s) (command_by (fault_of m s c) m (next_op port s) c) refl refl (go (fault_of m s c))
       where
         t : State
@@ -171,7 +171,7 @@ module _ (May : OpId → Response → Type 0) where
         go None = carried_gives (next_op port s) c t may
 
     acted_gives : (ports : ℕ) (action : Action) (s : State) (t : NodeTurn)
-        → ((port : ℕ) (c : Command) (r : Response) → action ≡ Issue port c → (r ≡ Given reply.Ok → needs_lock c ≡ false) → May (next_op port s) r)
+        → ((port : ℕ) (c : Command) (r : Response) → action ≡ Issue port c → (r ≡ Given reply.Ok → ok_means_lock c ≡ false) → May (next_op port s) r)
         → acted m ports action s ≡ Ok t → Gives May s t
     acted_gives ports (Issue port c) s t may is = go (nat_lt port ports) is
       where
@@ -187,7 +187,7 @@ module _ (May : OpId → Response → Type 0) where
   -- ---- a step
 
   pub step_gives : (config : Config) (i : ℕ) (s : State) (input : Input Message Action) (turn : Turn State Message Told) → node_step config i s input ≡ Some turn
-      → ((port : ℕ) (c : Command) (r : Response) → input ≡ Own (Issue port c) → (r ≡ Given reply.Ok → needs_lock c ≡ false) → May (next_op port s) r)
+      → ((port : ℕ) (c : Command) (r : Response) → input ≡ Own (Issue port c) → (r ≡ Given reply.Ok → ok_means_lock c ≡ false) → May (next_op port s) r)
       → Answering May s turn.state turn.told
   step_gives config i s (Taken p x) turn is may =
       let m = nodes_at config i in

@@ -18,7 +18,7 @@ use Rattle.pg_machine.specs.Turns.{Told}
 use Rattle.pg_machine.specs.Attempts.{same_op, with_answer}
 use Rattle.pg_machine.specs.Step.{Action}
 use Rattle.pg_machine.specs.Frames.{Config, machine_of}
-use Rattle.pg_machine.specs.History.{Frames, answered_count, command_at, IsAnsweredOk, needs_lock}
+use Rattle.pg_machine.specs.History.{Frames, answered_count, command_at, IsAnsweredOk, ok_means_lock}
 use Rattle.pg_machine.proofs.Steps.{changes, happened}
 use Rattle.pg_machine.proofs.Plain.{plain_from_start}
 use Rattle.pg_history.specs.Reached.{TimedFrames, Reaches}
@@ -68,7 +68,7 @@ module _ (op : OpId) (r : Response) (s t : State) (answers : t.answers ≡ with_
 
 -- the command came in, and needs no lock
 abbrev NeedsNone : ℕ → List (Event Action) → OpId → Type 0
-NeedsNone i es op = (c : Command) × (command_at i op es ≡ Some c) × (needs_lock c ≡ false)
+NeedsNone i es op = (c : Command) × (command_at i op es ≡ Some c) × (ok_means_lock c ≡ false)
 
 -- the answers of node i, by its state and by what all nodes told
 record OkIn (i : ℕ) (es : List (Event Action)) (s : State) (told : List (ℕ × Told)) : Type 0 where
@@ -193,7 +193,7 @@ module _ (config : Config) (es : List (Event Action)) (w : TimedFrames) (l : Rea
   pub behind_is_ok : (i : ℕ) (op : OpId) → 0 < answered_count i op (plain w).told → IsAnsweredOk op ((plain w).node i)
   behind_is_ok i op some = (ok_in i).behind op some
 
-  pub ok_is_behind : (i : ℕ) (op : OpId) (c : Command) → command_at i op es ≡ Some c → needs_lock c ≡ true → IsAnsweredOk op ((plain w).node i)
+  pub ok_is_behind : (i : ℕ) (op : OpId) (c : Command) → command_at i op es ≡ Some c → ok_means_lock c ≡ true → IsAnsweredOk op ((plain w).node i)
       → 0 < answered_count i op (plain w).told
   ok_is_behind i op c is needs ok = go ((ok_in i).only op ok)
     where
@@ -202,4 +202,4 @@ module _ (config : Config) (es : List (Event Action)) (w : TimedFrames) (l : Rea
       go (inr none) =
           let same : Some c ≡ Some none.0 = sym is ∙ none.1 in
           let one : c ≡ none.0 = cc in
-          absurd (cc (sym needs ∙ ap needs_lock one ∙ none.2))
+          absurd (cc (sym needs ∙ ap ok_means_lock one ∙ none.2))

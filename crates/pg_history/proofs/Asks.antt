@@ -28,7 +28,7 @@ use Rattle.pg_history.proofs.Lines.Line.{Quiet, Wanting, Having}
 use Rattle.pg_history.proofs.Moves.{refit, asked, asked_self}
 use Rattle.pg_history.proofs.Named.{World, perform}
 use Rattle.pg_history.proofs.Kept.{says, Sound, IsUpdateOf, IsUpdating, Inv, near}
-use Rattle.pg_history.proofs.Framed.{Acts, ours_sent, spoken, acts_lines, acts_tidy, locks_here, locks_there, sound_perform, counts_same, once_same}
+use Rattle.pg_history.proofs.Framed.{Acts, ours_sent, spoken, acts_lines, acts_tidy, locks_here, locks_there, sound_perform, once_same}
 use Rattle.pg_history.proofs.Telling.{mute_tales, fewer_upd, more_upd, ops_upd, mute_sent}
 use Rattle.pg_history.proofs.Latest.{latest_same, goes_upd}
 use Rattle.pg_history.proofs.Seats.{Sits, seated, false_right, true_both, node_near, to_own, to_own_at, to_near, to_untold}
@@ -171,7 +171,6 @@ module _ (w : World) (a : Node) (peers : List Node) (sits : Sits w.nodes a peers
       ops = λ M. ops_upd s.uses c (Locking op u st') M (λ h. absurd (subst (IsUpdateOf M) is h));
       sends = λ n p. mute_sent (is_peer m p && asks who st p) x (numbered a n) refl;
     });
-    counts = counts_same w a t refl refl (λ o. refl) inv.counts;
     once = once_same w a t refl (λ o. refl) (λ port. omega arith) inv.once;
     latest = latest_same w a t refl refl (λ o v. goes_upd o v s.uses c (Locking op u st') (λ h. subst (IsUpdating o v) is h)) inv.latest;
   }

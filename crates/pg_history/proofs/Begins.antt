@@ -26,13 +26,12 @@ use Rattle.pg_history.proofs.Lines.{Line, talk_same, shows, Fits, FitsStatus, Fi
 use Rattle.pg_history.proofs.Lines.Line.{Quiet, Having, Telling}
 use Rattle.pg_history.proofs.Moves.{refit, told}
 use Rattle.pg_history.proofs.Named.{World, Entry, perform, on, of_name}
-use Rattle.pg_history.proofs.Kept.{talk, near, live, live_own, near_live, Sound, IsUpdateOf, IsOpOf, updating, IsUpdating, GoesOut, Latest, weight, Counted, Inv, carried, Tale, opens, answers_of}
+use Rattle.pg_history.proofs.Kept.{talk, near, live, live_own, near_live, Sound, IsUpdateOf, IsOpOf, updating, IsUpdating, GoesOut, Latest, Inv, carried, Tale, opens, answers_of}
 use Rattle.pg_history.proofs.Framed.{Acts, ours_sent, spoken, acts_lines, acts_tidy, acts_about, locks_here, locks_there, sound_perform, once_same}
 use Rattle.pg_history.proofs.Telling.{tell_same, tell_more, fewer_upd, more_upd, tale_same, use_read, on-append, of_name-append}
 use Rattle.pg_history.proofs.Latest.{GoesOn, parted, entry_name, updating_of, goes_upd, still_out, answered_same}
 use Rattle.pg_history.proofs.Seats.{Sits, seated, to_own, to_own_at, to_near}
 use Rattle.pg_history.proofs.Stages.{other_stage, commands}
-use Rattle.pg_history.proofs.Weights.{counts_moved, one_only, none_only}
 use Rattle.pg_history.proofs.Unique.{update_is, update_owner, update_holds, one_ref, yes_holds}
 
 -- the uses when an update begins
@@ -180,10 +179,6 @@ module _ (w : World) (a : Node) (peers : List Node) (sits : Sits w.nodes a peers
       let z : (w.node i).uses b.lock ≡ s.uses c = ap (λ j. (w.node j).uses b.lock) o.0 ∙ ap s.uses o.1 in
       cc
 
-  begin_counts : s.uses c ≡ Locking op u st → Inv w → Counted (perform w a t)
-  begin_counts is inv = counts_moved w a t op (Changing n) 1 0 refl (λ i o. one_only (same_atom i a && same_op o op)) (λ i o. none_only (same_atom i a && same_op o op))
-      (ap (λ y. weight y + 1) ((inv.sound a).asking c op u st is)) inv.counts
-
   begin_tale : live w a → s.uses c ≡ Locking op u st → ((p : Node) → near w a p → st p ≡ Yes) → Inv w → (M : Term) (p : Node) → live w p → Tale (perform w a t) M p
   begin_tale la is all inv M p lp = go (split same_term terms M N)
     where
@@ -329,7 +324,6 @@ module _ (w : World) (a : Node) (peers : List Node) (sits : Sits w.nodes a peers
     tidy = acts_tidy w a n t inv begin_acts;
     sound = sound_perform w a t inv.sound (sound_begin s c op u st (same_atom a) t.state.table is (inv.sound a));
     tales = begin_tale la is all inv;
-    counts = begin_counts is inv;
     once = once_same w a t refl (λ o. at_read same_op commands (λ v. opens v ≡ opens (s.stages o)) s.stages op (Changing n) o
         (λ e. sym (ap (λ y. opens (s.stages y)) e ∙ ap opens ((inv.sound a).asking c op u st is))) (λ d. refl)) (λ port. omega arith) inv.once;
     latest = begin_latest la is all inv;

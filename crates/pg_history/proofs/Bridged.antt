@@ -24,7 +24,7 @@ use Rattle.pg_machine.proofs.Once.{clash}
 use Rattle.pg_machine.proofs.Options.{some_is}
 use Rattle.pg_machine.proofs.Steps.{took, happens_so, changes}
 use Rattle.pg_machine.proofs.Sequences.{kept}
-use Rattle.pg_history.specs.Applied.{update_of, applied_by}
+use Rattle.pg_machine.specs.History.{update_of, applied_by}
 use Rattle.pg_history.proofs.Ways.{all_both, state_after, own_place}
 use Rattle.pg_history.proofs.Grows.{entries_append}
 use Rattle.pg_history.proofs.Made.{placed_so}

@@ -22,7 +22,7 @@ use Rattle.pg_history.proofs.Lines.Line.{Telling}
 use Rattle.pg_history.proofs.Moves.{applied, change_line}
 use Rattle.pg_history.proofs.Named.{World, perform, popped, on, of_name}
 use Rattle.pg_history.proofs.Kept.{talk, near, live, near_live, IsUpdateOf, IsOpOf, carried, Tale, Inv}
-use Rattle.pg_history.proofs.Framed.{sound_perform, counts_same, read_same, once_same}
+use Rattle.pg_history.proofs.Framed.{sound_perform, read_same, once_same}
 use Rattle.pg_history.proofs.Telling.{tell_more, tale_same, mute_sent, carried_mute, history_same, on-append}
 use Rattle.pg_history.proofs.Latest.{latest_same}
 use Rattle.pg_history.proofs.Stages.{sound_same}
@@ -175,7 +175,6 @@ module _ (w : World) (a p : Node) (c : ℕ) (u : Update) (rest : List Message) (
     tidy = respond_tidy w a p c x rest t inv meets is (numbered_same p c) responds;
     sound = sound_perform w' a t inv.sound (sound_same s t.state refl refl refl refl (inv.sound a));
     tales = tale;
-    counts = counts_same w' a t refl refl (λ op. refl) inv.counts;
     once = once_same w' a t refl (λ o. refl) (λ port. omega arith) inv.once;
     latest = latest_same w' a t refl refl (λ o v k h. h) inv.latest;
   }

@@ -8,6 +8,8 @@ use Rattle.pg_term.specs.declared.term.Term.{Term}
 use Rattle.pg_term.specs.Same.{same_atom}
 use Rattle.pg_term.specs.RefParts.{RefParts}
 use Rattle.pg_group.specs.Value.{name_of, less}
+use Rattle.pg_refs.specs.Numbered.{numbered}
+use Rattle.pg_lock.specs.Locks.{is_holder}
 use Rattle.pg_message.specs.declared.message.Message.{Message}
 use Rattle.pg_message.specs.declared.message.Message.TheVariants.{Call, Reply, DelLock, Exchange, Down}
 use Rattle.pg_message.specs.declared.message.Said.{Said}
@@ -26,7 +28,7 @@ use Rattle.pg_machine.proofs.Once.{clash}
 use Rattle.pg_machine.proofs.Plain.{plain_from_start}
 use Rattle.pg_machine.proofs.Sequences.{leads_ran}
 use Rattle.pg_history.specs.Reached.{TimedFrames, Reaches}
-use Rattle.pg_history.specs.Applied.{applied_by}
+use Rattle.pg_machine.specs.History.{applied_by}
 use Rattle.pg_history.proofs.Homes.{homed_timed}
 use Rattle.pg_history.proofs.Posts.{posted_timed, none_refused}
 use Rattle.pg_history.proofs.Apart.{pair_first, pair_second}
@@ -99,7 +101,7 @@ module _ (config : Config) (apart : IsDistinct same_atom (names_of config)) wher
         many i N ∙ ap length (sym (s.log i N here) ∙ all ∙ updates_shown config apart v w s b.places N) ∙ as_many_updates config apart v w s b.places N
 
     pub applies : AppliesHistory config v
-    applies = record { applied = applied; everywhere = everywhere; free = free }
+    applies = record { order = is_prefix; applied = applied; everywhere = everywhere; free = free }
 
     -- ---- while a node is not formed
 
@@ -182,12 +184,26 @@ module _ (config : Config) (apart : IsDistinct same_atom (names_of config)) (es 
       (split_shown config apart v b.has.world b.has.shows b.places N before after e is)
       (answers_shown config apart v b.has.world b.has.shows b.places e.node e.op (node_here config apart v b.has.world b.has.shows b.places N before after e is) ∙ none))
 
+  granted : (N : Term) (before after : List Entry) (e : Entry) → history N v.told ≡ before ++ e ∷ after → answered_count e.node e.op v.told ≡ 0
+      → (c : ℕ) × ((x : ℕ) → IsHere config x → is_holder ((v.node x).locks N) (numbered (name_at config e.node) c) ≡ true)
+  granted N before after e is none =
+      let b = bridge in
+      let all = agrees_of b.has.world b.has.inv in
+      let held = all.granted N (map (by_name config) before) (map (by_name config) after) (by_name config e)
+      (split_shown config apart v b.has.world b.has.shows b.places N before after e is)
+      (answers_shown config apart v b.has.world b.has.shows b.places e.node e.op (node_here config apart v b.has.world b.has.shows b.places N before after e is) ∙ none) in (
+        held.0,
+        λ x here. sym (ap (λ (z : State). is_holder (z.locks N) (numbered (name_at config e.node) held.0)) (b.has.shows.node x here))
+            ∙ held.1 (name_at config x) (live_at config apart v b.has.world x b.has.shows here),
+      )
+
   pub changes_held : HoldsAnswered config es v
   changes_held = record {
     answered = stands_answered config es w l;
     answered_once = answered_at_most config es w l;
     at_most_once = stands_once config es w l;
     one_more = one_more;
+    granted = granted;
     given = λ before after e. entries_asked config es w l before after e;
     not_looked = stands_not config es w l;
     one_answer = one_answer config es w l;

@@ -25,8 +25,8 @@ use Rattle.pg_history.proofs.Lines.{Line, talk_same, shows, Fits, FitsStatus, Is
 use Rattle.pg_history.proofs.Lines.Line.{Having}
 use Rattle.pg_history.proofs.Moves.{refit, freed, freed_own}
 use Rattle.pg_history.proofs.Named.{World, perform}
-use Rattle.pg_history.proofs.Kept.{says, Sound, IsUpdateOf, IsUpdating, weight, Inv, near, live, live_own, opens}
-use Rattle.pg_history.proofs.Framed.{Acts, ours_sent, spoken, acts_lines, acts_tidy, locks_here, locks_there, sound_perform, counts_same, once_same}
+use Rattle.pg_history.proofs.Kept.{says, Sound, IsUpdateOf, IsUpdating, Inv, near, live, live_own, opens}
+use Rattle.pg_history.proofs.Framed.{Acts, ours_sent, spoken, acts_lines, acts_tidy, locks_here, locks_there, sound_perform, once_same}
 use Rattle.pg_history.proofs.Telling.{mute_tales, fewer_upd, more_upd, ops_upd, mute_sent}
 use Rattle.pg_history.proofs.Latest.{latest_same, goes_upd}
 use Rattle.pg_history.proofs.Seats.{Sits, seated, true_both, to_own, to_own_at, to_near, to_untold}
@@ -162,8 +162,6 @@ module _ (w : World) (a : Node) (peers : List Node) (sits : Sits w.nodes a peers
       ops = λ M. ops_upd s.uses c Spent M (λ h. absurd (subst (IsUpdateOf M) is h));
       sends = λ n p. mute_sent (is_peer m p && granted p) x (numbered a n) refl;
     });
-    counts = counts_same w a t refl refl (λ o. at_read same_op commands (λ v. weight v ≡ weight (s.stages o)) s.stages op (Waiting u) o
-        (λ e. sym (ap (λ y. weight (s.stages y)) e ∙ ap weight ((inv.sound a).asking c op u st is))) (λ n. refl)) inv.counts;
     once = once_same w a t refl (λ o. at_read same_op commands (λ v. opens v ≡ opens (s.stages o)) s.stages op (Waiting u) o
         (λ e. sym (ap (λ y. opens (s.stages y)) e ∙ ap opens ((inv.sound a).asking c op u st is))) (λ n. refl)) (λ port. omega arith) inv.once;
     latest = latest_same w a t refl refl (λ o v. goes_upd o v s.uses c Spent (λ h. subst (IsUpdating o v) is h)) inv.latest;

@@ -23,12 +23,12 @@ use Rattle.pg_history.proofs.Lines.{Line, talk_same, shows, Fits, FitsReply, IsI
 use Rattle.pg_history.proofs.Lines.Line.{Quiet}
 use Rattle.pg_history.proofs.Moves.{freed, freed_own}
 use Rattle.pg_history.proofs.Named.{World, perform, on, of_name}
-use Rattle.pg_history.proofs.Kept.{says, talk, near, live, live_own, near_live, Sound, IsUpdateOf, IsOpOf, IsUpdating, GoesOut, Latest, weight, Inv, carried, Tale, opens, answers_of}
+use Rattle.pg_history.proofs.Kept.{says, talk, near, live, live_own, near_live, Sound, IsUpdateOf, IsOpOf, IsUpdating, GoesOut, Latest, Inv, carried, Tale, opens, answers_of}
 use Rattle.pg_history.proofs.Framed.{Acts, ours_sent, spoken, acts_lines, acts_tidy, locks_here, locks_there, sound_perform}
 use Rattle.pg_history.proofs.Telling.{full_same, fewer_upd, more_upd, mute_sent, tale_same, use_read, log_same, history_same, carried_mute, answers-append}
 use Rattle.pg_history.proofs.Seats.{Sits, seated, to_own, to_own_at, to_near, true_both}
 use Rattle.pg_history.proofs.Stages.{other_stage, commands}
-use Rattle.pg_history.proofs.Weights.{counts_moved, one_only, none_only, once_moved}
+use Rattle.pg_history.proofs.Weights.{one_only, once_moved}
 use Rattle.pg_history.proofs.Fails.{freed_eye}
 use Rattle.pg_history.proofs.Unique.{owner_holds, one_update}
 
@@ -232,8 +232,6 @@ module _ (w : World) (a : Node) (peers : List Node) (sits : Sits w.nodes a peers
     tidy = acts_tidy w a c t inv finish_acts;
     sound = sound_perform w a t inv.sound (sound_finish s n op u c rep t.state.locks t.state.opened t.state.answers is (inv.sound a));
     tales = finish_tale la is all inv;
-    counts = counts_moved w a t op Closed 0 1 refl (λ i o. none_only (same_atom i a && same_op o op)) (λ i o. one_only (same_atom i a && same_op o op))
-        (ap (λ y. weight y + 0) ((inv.sound a).changing n op u c rep is)) inv.counts;
     once = once_moved w a t op Closed 1 refl (λ i o. one_only (same_atom i a && same_op o op)) (λ port. omega arith)
         (λ lt. let closed : s.stages op ≡ Closed = (inv.sound a).absent op lt in cc changing)
         (let p : opens (s.stages op) ≡ 1 = ap opens changing in let q : opens (s.stages op) + answers_of a op w.answered ≤ 1 = inv.once.known a op in omega (arith, p, q)) inv.once;

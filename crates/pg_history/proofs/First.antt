@@ -1,5 +1,5 @@
 -- What is held of a world holds of one where nothing has happened yet.
-use Rattle.std.proofs.Common.{◌≡◌, ℕ, ◌+◌, List, [], ◌∷◌, ◌++◌, None, refl, ap, sym, ◌∙◌, subst, inl, arith}
+use Rattle.std.proofs.Common.{◌≡◌, ℕ, List, [], ◌∷◌, ◌++◌, None, refl, ap, sym, ◌∙◌, subst, inl, arith}
 use Rattle.std.specs.List.{AllByRecursion}
 use Rattle.pg_term.specs.declared.term.Term.{Term}
 use Rattle.pg_term.specs.RefParts.{RefParts}
@@ -12,8 +12,8 @@ use Rattle.pg_machine.specs.State.Stage.{Closed}
 use Rattle.pg_history.proofs.References.{about}
 use Rattle.pg_history.proofs.Lines.{Fits}
 use Rattle.pg_history.proofs.Lines.Line.{Quiet}
-use Rattle.pg_history.proofs.Named.{World, Entry, Seated, on, of_name, updates, times}
-use Rattle.pg_history.proofs.Kept.{IsOurs, Sound, weight, answers_of, carried, talk, Inv, opens}
+use Rattle.pg_history.proofs.Named.{World, Entry, Seated, on, of_name, updates}
+use Rattle.pg_history.proofs.Kept.{IsOurs, Sound, answers_of, carried, talk, Inv, opens}
 
 -- no lock is held, no reference made, no command given, nothing about a reference is on the way, and nothing applied
 pub record IsFirst (w : World) : Type 0 where
@@ -42,7 +42,6 @@ first_holds w first = record {
     thin = ap (on N) (first.log p) ∙ sym (ap (λ es. updates (of_name N es)) first.history);
     clear = λ i n li u. ap carried (first.plain i p (numbered i n));
   });
-  counts = λ i op. ap (times i op) first.history ∙ (λ j. weight (sym (first.stages i op) j) + answers_of i op (sym first.answered j));
   once = record {
     known = λ i op.
         let p : opens ((w.node i).stages op) ≡ 0 = ap opens (first.stages i op) in

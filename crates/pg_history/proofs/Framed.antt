@@ -17,8 +17,8 @@ use Rattle.pg_history.proofs.References.{about, about-append, IsOther}
 use Rattle.pg_history.proofs.Ways.{all_both}
 use Rattle.pg_history.proofs.Lines.{talk_same, Fits}
 use Rattle.pg_history.proofs.Moves.{refit}
-use Rattle.pg_history.proofs.Named.{World, perform, times, entry_of, answer_of}
-use Rattle.pg_history.proofs.Kept.{says, talk, Lines, Tidy, Sound, IsOurs, weight, answers_of, Counted, Inv, Mine, Theirs, near, lines_perform, opens, Once}
+use Rattle.pg_history.proofs.Named.{World, perform, answer_of}
+use Rattle.pg_history.proofs.Kept.{says, talk, Lines, Tidy, Sound, IsOurs, answers_of, Inv, Mine, Theirs, near, lines_perform, opens, Once}
 
 -- a turn that is about one reference of the node's own
 pub record Acts (w : World) (a : Node) (c : ℕ) (t : NodeTurn) : Type 0 where
@@ -113,15 +113,6 @@ sound_perform w a t sound s i = at_read same_atom atoms Sound w.node a t.state i
 -- what is read of one node, where node a changes and the reading does not
 pub read_same : {A : Type 0} (w : World) (a : Node) (s : State) (f : State → A) → f s ≡ f (w.node a) → (i : Node) → f (upd same_atom w.node a s i) ≡ f (w.node i)
 read_same w a s f e i = at_read same_atom atoms (λ x. f x ≡ f (w.node i)) w.node a s i (λ q. e ∙ ap (λ x. f (w.node x)) (sym q)) (λ n. refl)
-
--- the counts, where no command gains or loses weight
-pub counts_same : (w : World) (a : Node) (t : NodeTurn) → t.told.began ≡ None → t.told.answered ≡ None → ((op : OpId) → weight (t.state.stages op) ≡ weight ((w.node a).stages op)) → Counted w → Counted (perform w a t)
-counts_same w a t began answered same counts i op =
-    ap (λ es. times i op (w.history ++ entry_of a es)) began ∙ (ap (times i op) (append-nil w.history) ∙ (counts i op
-    ∙ (λ j. sym (read_same w a t.state (λ (s : State). weight (s.stages op)) (same op) i) j + answers_of i op (told j))))
-  where
-    told : w.answered ≡ w.answered ++ answer_of a t.told.answered
-    told = sym (ap (λ o. w.answered ++ answer_of a o) answered ∙ append-nil w.answered)
 
 -- answers, where no command is opened or closed
 pub once_same : (w : World) (a : Node) (t : NodeTurn) → t.told.answered ≡ None → ((op : OpId) → opens (t.state.stages op) ≡ opens ((w.node a).stages op))

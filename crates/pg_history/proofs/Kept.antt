@@ -23,7 +23,7 @@ use Rattle.pg_history.proofs.References.{about, about-append}
 use Rattle.pg_history.proofs.Lines.{Talk, talk_same}
 use Rattle.std.specs.Prelude.{cond, ◌&&◌, ◌+◌}
 use Rattle.pg_machine.specs.Attempts.{same_op}
-use Rattle.pg_history.proofs.Named.{World, Entry, Seated, perform, on, of_name, updates, times}
+use Rattle.pg_history.proofs.Named.{World, Entry, Seated, perform, on, of_name, updates}
 
 -- a node that may take a step
 pub record Live (nodes : List Node) (a : Node) : Type 0 where
@@ -165,20 +165,12 @@ lines_perform w a t own none mine theirs rest i k p near_ = go (cases same_atom 
     go (inr n) (inr m) = talk_same (rest i k p near_ n m) (ap (λ (s : State). s.uses k) (upd_other same_atom atoms w.node a t.state i n)) (ap (about (numbered i k)) (from_other w a t i p n)) (ap (about (numbered i k)) (from_other w a t p i m))
         (λ M. ap (λ (s : State). is_holder (s.locks M) (numbered i k)) (upd_other same_atom atoms w.node a t.state p m))
 
--- Counts of commands
-
-abbrev pub weight : Stage → ℕ
-weight (Changing n) = 1
-weight _ = 0
+-- Answers of commands
 
 -- how often a command was answered
 abbrev pub answers_of : Node → OpId → List (Node × OpId) → ℕ
 answers_of a op [] = 0
 answers_of a op (x ∷ xs) = cond (same_atom a x.0 && same_op op x.1) 1 0 + answers_of a op xs
-
--- a command stands in the history as often as it changes or was answered
-abbrev pub Counted : World → Type 0
-Counted w = (i : Node) (op : OpId) → times i op w.history ≡ weight ((w.node i).stages op) + answers_of i op w.answered
 
 -- a command is open, or not
 abbrev pub opens : Stage → ℕ
@@ -207,7 +199,6 @@ pub record Inv (w : World) : Type 0 where
   pub tidy : Tidy w.wire
   pub sound : (i : Node) → Sound (w.node i)
   pub tales : (N : Term) (p : Node) → live w p → Tale w N p
-  pub counts : Counted w
   pub once : Once w.node w.answered
   pub latest : Latest w
 

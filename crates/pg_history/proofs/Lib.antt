@@ -61,6 +61,7 @@ pub mod Telling
 pub mod Tried
 pub mod Unique
 pub mod Unlocked
+pub mod UsedOnce
 pub mod Values
 pub mod Ways
 pub mod Weights

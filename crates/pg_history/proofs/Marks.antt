@@ -25,7 +25,7 @@ use Rattle.pg_history.proofs.Lines.{Talk, talk_same, Fits, FitsStatus, FitsReply
 use Rattle.pg_history.proofs.Moves.{refit, granted_back, denied_back, applied_back}
 use Rattle.pg_history.proofs.Named.{World, perform, popped}
 use Rattle.pg_history.proofs.Kept.{says, talk, near, near_swap, Lines, Sound, IsUpdateOf, IsOpOf, updating, IsUpdating, carried, Inv, Mine, Theirs, lines_perform}
-use Rattle.pg_history.proofs.Framed.{read_same, sound_perform, counts_same, tidy_perform, once_same}
+use Rattle.pg_history.proofs.Framed.{read_same, sound_perform, tidy_perform, once_same}
 use Rattle.pg_history.proofs.Telling.{mute_told, fewer_upd, more_upd, ops_upd}
 use Rattle.pg_history.proofs.Latest.{latest_same, goes_upd}
 use Rattle.pg_history.proofs.Asks.{sound_relock}
@@ -129,7 +129,6 @@ counted_keeps w a p c op u st v x rest of_a none move inv meets is use_is = reco
     ops = λ M. ops_upd s.uses c new M (λ h. absurd (subst (IsUpdateOf M) use_is h));
     sends = λ n q. refl;
   });
-  counts = counts_same w' a t refl refl (λ o. refl) inv.counts;
   once = once_same w' a t refl (λ o. refl) (λ port. omega arith) inv.once;
   latest = latest_same w' a t refl refl (λ o y. goes_upd o y s.uses c new (λ h. subst (IsUpdating o y) use_is h)) inv.latest;
 }
@@ -172,7 +171,6 @@ replied_keeps w a p n op u c rep rest inv meets is use_is = record {
     ops = λ M. ops_upd s.uses n new M (λ h o g. again o (subst (λ y. IsOpOf y o) use_is g));
     sends = λ k q. refl;
   });
-  counts = counts_same w' a t refl refl (λ o. refl) inv.counts;
   once = once_same w' a t refl (λ o. refl) (λ port. omega arith) inv.once;
   latest = latest_same w' a t refl refl (λ o y. goes_upd o y s.uses n new (λ h. subst (IsUpdating o y) use_is h)) inv.latest;
 }

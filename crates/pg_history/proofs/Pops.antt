@@ -110,7 +110,6 @@ module _ (w : World) (a p : Node) (x : Message) (rest : List Message) where
     tidy = pop_tidy inv.tidy is;
     sound = inv.sound;
     tales = pop_told inv is none;
-    counts = inv.counts;
     once = inv.once;
     latest = inv.latest;
   }

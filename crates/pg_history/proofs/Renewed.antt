@@ -1,4 +1,4 @@
--- How many references a node makes: two at an event at most, so that the clock is full before they are.
+-- How many references a node makes: two at an event at most, so that the clock is full by the time they are made.
 use Rattle.std.proofs.Common.{◌≡◌, ℕ, ◌+◌, ◌*◌, ◌<◌, ◌≤◌, Bool, true, false, ◌&&◌, cond, nat_le, nat_lt, Option, Some, None, Result, Ok, Err, refl, sym, subst, arith, List}
 use Rattle.pg_term.specs.Same.{same_atom}
 use Rattle.pg_refs.specs.Numbered.{number_in}

@@ -15,8 +15,8 @@ use Rattle.pg_machine.specs.Nodes.{Node}
 use Rattle.pg_machine.specs.Turns.{NodeTurn, Told}
 use Rattle.pg_machine.specs.Frames.{Config, names_of, name_at, nodes_at, place_turn}
 use Rattle.pg_machine.specs.History.{Frames, Entry as Begun, entries, entry_of as begun_by}
-use Rattle.pg_history.specs.Sent.{all_told}
-use Rattle.pg_history.specs.Applied.{update_of, update_by, applied_by}
+use Rattle.pg_machine.specs.History.{all_told}
+use Rattle.pg_machine.specs.History.{update_of, update_by, applied_by}
 use Rattle.pg_history.proofs.Ways.{told_append}
 use Rattle.pg_history.proofs.Grows.{entries_append}
 use Rattle.pg_history.proofs.Telling.{on-append}

@@ -22,8 +22,8 @@ use Rattle.pg_history.proofs.Keys.{numbers, read_at, read_other, at_read, from_r
 use Rattle.pg_history.proofs.References.{about}
 use Rattle.pg_history.proofs.Lines.{talk_same, Fits}
 use Rattle.pg_history.proofs.Named.{World, perform}
-use Rattle.pg_history.proofs.Kept.{IsOurs, Sound, IsUpdateOf, IsOpOf, IsUpdating, weight, carried, Inv, lines_perform, opens, answers_of}
-use Rattle.pg_history.proofs.Framed.{still_lines, still_tidy, sound_perform, tidy_perform, counts_same, read_same, once_same}
+use Rattle.pg_history.proofs.Kept.{IsOurs, Sound, IsUpdateOf, IsOpOf, IsUpdating, carried, Inv, lines_perform, opens, answers_of}
+use Rattle.pg_history.proofs.Framed.{still_lines, still_tidy, sound_perform, tidy_perform, read_same, once_same}
 use Rattle.pg_history.proofs.Telling.{mute_tales, fewer_upd, more_upd, ops_upd}
 use Rattle.pg_history.proofs.Stages.{commands, other_stage, sound_same}
 use Rattle.pg_history.proofs.Latest.{latest_same, goes_upd}
@@ -61,7 +61,6 @@ idle_keeps w a t inv idle = record {
     ops = λ N n u op. subst (λ x. IsOpOf x op) (ap (λ (f : ℕ → Use). f n) (sym idle.uses));
     sends = λ n p. ap carried (idle.sends (numbered a n) p);
   });
-  counts = counts_same w a t idle.began idle.answered (λ op. ap (λ (f : OpId → Stage). weight (f op)) idle.stages) inv.counts;
   once = once_same w a t idle.answered (λ op. ap (λ (f : OpId → Stage). opens (f op)) idle.stages) (λ port. let p : t.state.counts port ≡ (w.node a).counts port = ap (λ (f : ℕ → ℕ). f port) idle.counts in omega (arith, p)) inv.once;
   latest = latest_same w a t idle.began idle.answered (λ op u k. subst (IsUpdating op u) (ap (λ (f : ℕ → Use). f k) (sym idle.uses))) inv.latest;
 }
@@ -88,7 +87,6 @@ count_keeps w a port inv = record {
   tidy = still_tidy w a t.state inv;
   sound = sound_perform w a t inv.sound (sound_count port (w.node a) (inv.sound a));
   tales = mute_tales w a t inv (record { applied = refl; began = refl; fewer = λ M n h. h; more = λ M n h. h; ops = λ M n h op is. is; sends = λ n p. refl });
-  counts = counts_same w a t refl refl (λ op. refl) inv.counts;
   once = once_same w a t refl (λ op. refl) (λ p. at_read nat_eq numbers (λ n. (w.node a).counts p ≤ n) (w.node a).counts port ((w.node a).counts port + 1) p
       (λ e. let same : (w.node a).counts p ≡ (w.node a).counts port = ap (w.node a).counts e in omega (arith, same)) (λ n. omega arith)) inv.once;
   latest = latest_same w a t refl refl (λ op u k h. h) inv.latest;
@@ -114,8 +112,6 @@ open_keeps w a op u inv closed known none = record {
   tidy = still_tidy w a t.state inv;
   sound = sound_perform w a t inv.sound (sound_open op u s closed known (inv.sound a));
   tales = mute_tales w a t inv (record { applied = refl; began = refl; fewer = λ M n h. h; more = λ M n h. h; ops = λ M n h o is. is; sends = λ n p. refl });
-  counts = counts_same w a t refl refl (λ o. at_read same_op commands (λ v. weight v ≡ weight (s.stages o)) s.stages op (Waiting u) o
-      (λ e. sym (ap (λ x. weight (s.stages x)) e ∙ ap weight closed)) (λ n. refl)) inv.counts;
   once = once_moved w a t op (Waiting u) 0 refl (λ i o. none_only (same_atom i a && same_op o op)) (λ port. omega arith) (λ lt. omega arith) (omega (arith, none)) inv.once;
   latest = latest_same w a t refl refl (λ o v k h. h) inv.latest;
 }
@@ -165,8 +161,6 @@ start_keeps w a op u inv is = record {
     ops = λ M. ops_upd s.uses (s.references + 1) new M (λ h. absurd (subst (IsUpdateOf M) fresh h));
     sends = λ n p. refl;
   });
-  counts = counts_same w a t refl refl (λ o. at_read same_op commands (λ v. weight v ≡ weight (s.stages o)) s.stages op (Asking (s.references + 1)) o
-      (λ e. sym (ap (λ x. weight (s.stages x)) e ∙ ap weight is)) (λ n. refl)) inv.counts;
   once = once_same w a t refl (λ o. at_read same_op commands (λ v. opens v ≡ opens (s.stages o)) s.stages op (Asking (s.references + 1)) o
       (λ e. sym (ap (λ x. opens (s.stages x)) e ∙ ap opens is)) (λ n. refl)) (λ port. omega arith) inv.once;
   latest = latest_same w a t refl refl (λ o v. goes_upd o v s.uses (s.references + 1) new (λ h. subst (IsUpdating o v) fresh h)) inv.latest;

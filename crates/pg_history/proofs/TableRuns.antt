@@ -23,7 +23,7 @@ use Rattle.pg_machine.specs.History.{Frames, is_formed, applied_count, is_update
 use Rattle.pg_machine.proofs.Steps.{changes, happens_so}
 use Rattle.pg_machine.proofs.Sequences.{kept, whole}
 use Rattle.pg_history.specs.Sent.{exchanges_in}
-use Rattle.pg_history.specs.Applied.{update_of, update_by, applied_by}
+use Rattle.pg_machine.specs.History.{update_of, update_by, applied_by}
 use Rattle.pg_history.proofs.Ways.{told_append, state_after, packet_there, pair_there}
 use Rattle.pg_history.proofs.Posts.{Posted, posted_start, posted_event, taken_post}
 use Rattle.pg_history.proofs.Applied.{StepTables, Tabling, Merges, step_tables}

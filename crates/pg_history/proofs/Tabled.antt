@@ -23,7 +23,7 @@ use Rattle.pg_machine.specs.Peers.{exchange}
 use Rattle.pg_machine.specs.Frames.{Config, names_of, name_at, groups_at, first_table, machine_of}
 use Rattle.pg_machine.specs.History.{replay, known}
 use Rattle.pg_machine.proofs.Steps.{pair_apart}
-use Rattle.pg_history.specs.Applied.{update_of}
+use Rattle.pg_machine.specs.History.{update_of}
 use Rattle.pg_history.proofs.Apart.{same_place, pair_first, pair_second}
 use Rattle.pg_history.proofs.Applied.{Tables, Applying, EndingOne, with_applied}
 use Rattle.pg_history.proofs.Values.{applied_less, less_one, less_nobody, replay_append, merged_told, and_one, known_more, or_false}

@@ -20,7 +20,7 @@ use Rattle.pg_history.proofs.Lines.{Talk, talk_same}
 use Rattle.pg_history.proofs.Moves.{set_yes, set_no, del_holds, del_done}
 use Rattle.pg_history.proofs.Named.{World, perform, popped}
 use Rattle.pg_history.proofs.Kept.{says, talk, near, IsOurs, Inv}
-use Rattle.pg_history.proofs.Framed.{sound_perform, counts_same, once_same}
+use Rattle.pg_history.proofs.Framed.{sound_perform, once_same}
 use Rattle.pg_history.proofs.Telling.{mute_told, mute_sent}
 use Rattle.pg_history.proofs.Latest.{latest_same}
 use Rattle.pg_history.proofs.Stages.{sound_same}
@@ -84,7 +84,6 @@ lend_keeps w a p b c N rest free inv meets is = record {
     ops = λ M n h o g. g;
     sends = λ n q. mute_sent (same_atom p q) (Reply (numbered p c) (verdict b)) (numbered a n) refl;
   });
-  counts = counts_same v a t refl refl (λ op. refl) inv.counts;
   once = once_same v a t refl (λ o. refl) (λ port. omega arith) inv.once;
   latest = latest_same v a t refl refl (λ o u k h. h) inv.latest;
 }
@@ -122,7 +121,6 @@ del_keeps w a p c N rest inv meets is = record {
   tidy = respond_tidy w a p c x rest t inv meets is (numbered_same p c) responds;
   sound = sound_perform v a t inv.sound (sound_same s t.state refl refl refl refl (inv.sound a));
   tales = mute_told v a t (pop_told w a p x rest inv is refl) (record { applied = refl; began = refl; fewer = λ M n h. h; more = λ M n h. h; ops = λ M n h o g. g; sends = λ n q. refl });
-  counts = counts_same v a t refl refl (λ op. refl) inv.counts;
   once = once_same v a t refl (λ o. refl) (λ port. omega arith) inv.once;
   latest = latest_same v a t refl refl (λ o u k h. h) inv.latest;
 }

@@ -6,6 +6,7 @@ use Rattle.pg_message.specs.declared.message.Message.{Message}
 use Rattle.pg_machine.specs.Nodes.{Node, Nodes}
 use Rattle.pg_machine.specs.State.{State}
 use Rattle.pg_machine.specs.Turns.{NodeTurn, and_then}
+use Rattle.pg_machine.specs.History.{all_told}
 use Rattle.pg_history.specs.Sent.{exchange_of, exchanges_in, end_of, ends_in}
 use Rattle.pg_history.proofs.Ways.{all_both, all_since, told_append}
 use Rattle.pg_history.proofs.Single.{Any, AnyUpdate, OfSingle}
@@ -32,7 +33,7 @@ quiet m s t merged ended exchanges ends = record {
 }
 
 -- a message that tells nothing, to whom it may go
-pub sent_nothing : {B : Type 0} (tells : Message → List B) (x : Message) (b : Bool) → tells x ≡ [] → Rattle.pg_history.specs.Sent.all_told tells (cond b (x ∷ []) []) ≡ []
+pub sent_nothing : {B : Type 0} (tells : Message → List B) (x : Message) (b : Bool) → tells x ≡ [] → all_told tells (cond b (x ∷ []) []) ≡ []
 sent_nothing tells x true none = ap (λ xs. xs ++ []) none
 sent_nothing tells x false none = refl
 

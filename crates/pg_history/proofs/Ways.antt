@@ -10,7 +10,7 @@ use Rattle.pg_machine.specs.Places.{is_place, is_pair}
 use Rattle.pg_machine.specs.Happened.{Happened, Changes}
 use Rattle.pg_machine.proofs.Options.{some_is}
 use Rattle.pg_machine.proofs.Steps.{changes}
-use Rattle.pg_history.specs.Sent.{all_told}
+use Rattle.pg_machine.specs.History.{all_told}
 
 -- ---- lists
 

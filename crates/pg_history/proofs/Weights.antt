@@ -8,57 +8,15 @@ use Rattle.pg_machine.specs.State.{State, Stage}
 use Rattle.pg_machine.specs.Turns.{NodeTurn}
 use Rattle.pg_machine.specs.Attempts.{same_op}
 use Rattle.pg_history.proofs.Keys.{atoms, split, differ, same_is, read_at, read_other, at_read}
-use Rattle.pg_history.proofs.Named.{World, perform, times, entry_of, answer_of}
-use Rattle.pg_history.proofs.Kept.{weight, answers_of, Counted, opens, Once}
-use Rattle.pg_history.proofs.Telling.{times-append, answers-append}
+use Rattle.pg_history.proofs.Named.{World, perform, answer_of}
+use Rattle.pg_history.proofs.Kept.{answers_of, opens, Once}
+use Rattle.pg_history.proofs.Telling.{answers-append}
 use Rattle.pg_history.proofs.Seats.{true_both, false_right}
 use Rattle.pg_history.proofs.Stages.{commands}
 
 -- n for the command op of node a, and 0 for every other
 abbrev pub only : Node → OpId → ℕ → Node → OpId → ℕ
 only a op n i o = cond (same_atom i a && same_op o op) n 0
-
--- the command op of node a goes over to stage v, with so many entries and answers
-pub counts_moved : (w : World) (a : Node) (t : NodeTurn) (op : OpId) (v : Stage) (x y : ℕ) → t.state.stages ≡ upd same_op (w.node a).stages op v
-    → ((i : Node) (o : OpId) → times i o (entry_of a t.told.began) ≡ only a op x i o) → ((i : Node) (o : OpId) → answers_of i o (answer_of a t.told.answered) ≡ only a op y i o)
-    → weight ((w.node a).stages op) + x ≡ weight v + y → Counted w → Counted (perform w a t)
-counts_moved w a t op v x y stages began answered even counts i o = go (split same_atom atoms i a) (split same_op commands o op)
-  where
-    more : times i o (perform w a t).history ≡ times i o w.history + only a op x i o
-    more = times-append i o w.history (entry_of a t.told.began) ∙ ap (λ n. times i o w.history + n) (began i o)
-
-    said : answers_of i o (perform w a t).answered ≡ answers_of i o w.answered + only a op y i o
-    said = answers-append i o w.answered (answer_of a t.told.answered) ∙ ap (λ n. answers_of i o w.answered + n) (answered i o)
-
-    old : times i o w.history ≡ weight ((w.node i).stages o) + answers_of i o w.answered
-    old = counts i o
-
-    here : (b : Bool) → (same_atom i a && same_op o op) ≡ b → (n : ℕ) → only a op n i o ≡ cond b n 0
-    here b e n = ap (λ c. cond c n 0) e
-
-    -- another command
-    stays : (same_atom i a && same_op o op) ≡ false → weight (((perform w a t).node i).stages o) ≡ weight ((w.node i).stages o)
-        → times i o (perform w a t).history ≡ weight (((perform w a t).node i).stages o) + answers_of i o (perform w a t).answered
-    stays e same =
-        let p : times i o (perform w a t).history ≡ times i o w.history + 0 = more ∙ ap (λ n. times i o w.history + n) (here false e x) in
-        let q : answers_of i o (perform w a t).answered ≡ answers_of i o w.answered + 0 = said ∙ ap (λ n. answers_of i o w.answered + n) (here false e y) in
-        omega (arith, p, q, old, same)
-
-    staged : (i ≡ a) → (o ≢ op) → weight (((perform w a t).node i).stages o) ≡ weight ((w.node i).stages o)
-    staged q n = ap (λ (s : State). weight (s.stages o)) (read_at same_atom atoms w.node a t.state i q)
-        ∙ (ap (λ (f : OpId → Stage). weight (f o)) stages ∙ (ap weight (read_other same_op commands (w.node a).stages op v o n) ∙ ap (λ z. weight ((w.node z).stages o)) (sym q)))
-
-    go : (i ≡ a) ⊎ (i ≢ a) → (o ≡ op) ⊎ (o ≢ op) → times i o (perform w a t).history ≡ weight (((perform w a t).node i).stages o) + answers_of i o (perform w a t).answered
-    go (inl q) (inl r) =
-        let e : (same_atom i a && same_op o op) ≡ true = true_both (same_is same_atom atoms i a q) (same_is same_op commands o op r) in
-        let p : times i o (perform w a t).history ≡ times i o w.history + x = more ∙ ap (λ n. times i o w.history + n) (here true e x) in
-        let d : answers_of i o (perform w a t).answered ≡ answers_of i o w.answered + y = said ∙ ap (λ n. answers_of i o w.answered + n) (here true e y) in
-        let before : weight ((w.node i).stages o) ≡ weight ((w.node a).stages op) = ap (λ z. weight ((w.node z).stages o)) q ∙ ap (λ z. weight ((w.node a).stages z)) r in
-        let behind : weight (((perform w a t).node i).stages o) ≡ weight v = ap (λ (s : State). weight (s.stages o)) (read_at same_atom atoms w.node a t.state i q)
-        ∙ (ap (λ (f : OpId → Stage). weight (f o)) stages ∙ ap weight (read_at same_op commands (w.node a).stages op v o r)) in
-        omega (arith, p, d, old, before, behind, even)
-    go (inl q) (inr n) = stays (false_right (same_atom i a) (differ same_op commands o op n)) (staged q n)
-    go (inr n) _ = stays (ap (λ b. b && same_op o op) (differ same_atom atoms i a n)) (ap (λ (s : State). weight (s.stages o)) (read_other same_atom atoms w.node a t.state i n))
 
 -- answers, where one command goes over to stage v and gets so many answers
 pub once_moved : (w : World) (a : Node) (t : NodeTurn) (op : OpId) (v : Stage) (y : ℕ) → t.state.stages ≡ upd same_op (w.node a).stages op v

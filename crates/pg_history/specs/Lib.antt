@@ -1,4 +1,3 @@
-pub mod Applied
 pub mod Reached
 pub mod Sent
 pub mod Sound

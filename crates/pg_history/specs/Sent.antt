@@ -1,15 +1,11 @@
 -- What messages on a way tell, but for locks and updates.
-use Rattle.std.specs.Prelude.{Bool, true, false, List, [], ◌∷◌, ◌++◌}
+use Rattle.std.specs.Prelude.{Bool, true, false, List, [], ◌∷◌}
 use Rattle.pg_term.specs.declared.pid.Pid.{Pid}
 use Rattle.pg_exchange.specs.Told.{Told as Groups}
 use Rattle.pg_message.specs.declared.message.Message.{Message}
 use Rattle.pg_message.specs.declared.message.Message.TheVariants.{Reply, Exchange, Down}
 use Rattle.pg_machine.specs.Nodes.{Node}
-
--- what each packet tells, the first one's first
-abbrev pub all_told : {P B : Type 0} → (P → List B) → List P → List B
-all_told tells [] = []
-all_told tells (x ∷ xs) = tells x ++ all_told tells xs
+use Rattle.pg_machine.specs.History.{all_told}
 
 -- the node and the groups that a message tells of by an exchange
 abbrev pub exchange_of : Message → List (Node × Groups)

@@ -1,9 +1,9 @@
--- How the references of a node, its commands and their counts belong together.
+-- How the references of a node, its commands and their counts belong together, and what references are used for.
 use Rattle.std.specs.Prelude.{◌≡◌, ℕ, ◌<◌}
 use Rattle.pg_group.specs.Value.{name_of}
 use Rattle.pg_machine.specs.declared.command.OpId.{OpId}
 use Rattle.pg_machine.specs.State.{State, Use, Stage}
-use Rattle.pg_machine.specs.State.Use.{Fresh, Locking, Owning, Updating}
+use Rattle.pg_machine.specs.State.Use.{Fresh, Locking, Owning, Updating, Spent}
 use Rattle.pg_machine.specs.State.Stage.{Closed, Asking, Changing}
 
 -- A reference that asks for a lock is that of the attempt of its command. One under which an update goes out is that of
@@ -19,3 +19,14 @@ pub record Sound (s : State) : Type 0 where
   pub fits : (c : ℕ) → Fits c (s.uses c) s.stages s.uses
   -- a command that has not come in is not open
   pub closed : (op : OpId) → s.counts op.port < op.number → s.stages op ≡ Closed
+
+-- What a reference may be used for after it was used so. It asks for the lock of an update, then owns the lock, or has the
+-- update go out; in the end it is spent, and stays so.
+abbrev pub Follows : Use → Use → Type 0
+Follows Fresh later = Unit {0}
+Follows (Locking op u st) (Locking other v later) = (op ≡ other) × (u ≡ v)
+Follows (Locking op u st) (Owning name n) = name ≡ name_of u
+Follows (Owning name n) (Owning other k) = (name ≡ other) × (n ≡ k)
+Follows (Updating op u c replied) (Updating other v d later) = (op ≡ other) × (u ≡ v) × (c ≡ d)
+Follows used Spent = Unit {0}
+Follows used later = ⊥

@@ -19,9 +19,9 @@ ghost use Rattle.pg_machine.specs.Step.{Action};
 ghost use Rattle.pg_machine.specs.Frames.{Config, names_of, name_at, groups_at, node_step, frames_of};
 ghost use Rattle.pg_machine.specs.History.{LockFree, is_formed, history, updates_of, applied_count};
 ghost use Rattle.pg_machine.specs.Headline.{OneHistory, HoldsAnswered, AppliesHistory, HasTables, HarmsNobody, GoesOn};
-ghost use Rattle.pg_history.specs.Applied.{applied_by};
+ghost use Rattle.pg_machine.specs.History.{applied_by};
 ghost use Rattle.pg_history.specs.Reached.{TimedFrames, Reaches, HasEndedAt};
-ghost use Rattle.pg_history.specs.Sound.{Sound};
+ghost use Rattle.pg_history.specs.Sound.{Sound, Follows};
 ghost use Rattle.pg_history.specs.Sent.{ends_in, exchanges_in, is_reply};
 
 /// One history of each group. In every world that the nodes of a configuration with different names come to, whatever is
@@ -32,7 +32,7 @@ ghost use Rattle.pg_history.specs.Sent.{ends_in, exchanges_in, is_reply};
 /// - each node has applied that history, or all but its last update, and all of it where one node sees the lock free;
 /// - a formed node's table is that of what it has applied, less the ends that it took, and formed nodes agree where one
 ///   sees the lock free and no end is pending;
-/// - no reply is a stranger's or a double, and no packet will be refused.
+/// - no reply is a stranger's or a double, and no packet will be refused, but by a full clock.
 pub fn one_history()
     ensures each_world { (config : Config) (w : TimedFrames) (events : List (Event Action))
         → IsDistinct same_atom (names_of config) → Reaches config events w
@@ -45,7 +45,7 @@ pub fn one_history()
 {}
 
 /// A change that was answered behind its lock stands once among the entries, and was answered once. No command stands
-/// there twice. An entry that is not answered yet is the last of its group. Each is the change that its command asked for,
+/// there twice. An entry that is not answered yet is the last of its group, and has every grant. Each is the change that its command asked for,
 /// which came in before. A command that was refused, or answered by the look, does not stand there.
 ///
 /// What clients see of it: a change that was answered behind its lock was answered ok; a delete, a join or a leave that was
@@ -62,19 +62,12 @@ pub fn history_grows()
         → Leads (frames_of config) w events v → GoesOn (plain w) (plain v) }
 {}
 
-/// What each node has applied of a group is its history from the beginning: all of it, or all but the last update; all of
-/// it where one node sees the lock free. Each node has applied what is answered.
+/// What each node has applied of a group is its history from the beginning, in that order and nothing else: all of it, or
+/// all but the last update; all of it where one node sees the lock free. Each node has applied what is answered.
 pub fn history_is_applied()
-    ensures counts { (config : Config) (w : TimedFrames) (events : List (Event Action))
+    ensures { (config : Config) (w : TimedFrames) (events : List (Event Action))
         → IsDistinct same_atom (names_of config) → Reaches config events w
         → AppliesHistory config (plain w) }
-    // In that order, and nothing else.
-    ensures updates { (config : Config) (w : TimedFrames) (events : List (Event Action))
-        (i : ℕ) (name : Term)
-        → IsDistinct same_atom (names_of config) → Reaches config events w
-        → is_place (length config) i ≡ true
-        → applied_by i name (plain w).told
-        ≡ take (applied_count i name (plain w).told) (updates_of (history name (plain w).told)) }
 {}
 
 /// What the tables are. A formed node's: what all nodes began with, after the updates that the node has applied, less the
@@ -87,7 +80,7 @@ pub fn tables_are_replayed()
         → HasTables config (plain w) }
 {}
 
-/// Nobody is harmed: no reply is a stranger's or a double, and no packet on the way will be refused.
+/// Nobody is harmed: no reply is a stranger's or a double, and no packet on the way will be refused, but by a full clock.
 pub fn nobody_is_harmed()
     ensures { (config : Config) (w : TimedFrames) (events : List (Event Action))
         → IsDistinct same_atom (names_of config) → Reaches config events w
@@ -158,13 +151,17 @@ pub fn what_is_sent()
 {}
 
 /// Each reference of a node has one use: one that asks for a lock is that of the attempt of its command, and one under
-/// which an update goes out is that of the change of its command, for which the lock is held.
+/// which an update goes out is that of the change of its command, for which the lock is held. It has it for good: one that
+/// was used is never used for another command, and one that is spent is of no use any more.
 pub fn references_have_one_use()
-    ensures { (config : Config) (w : TimedFrames) (events : List (Event Action)) (i : ℕ)
+    ensures sound { (config : Config) (w : TimedFrames) (events : List (Event Action)) (i : ℕ)
         → Reaches config events w → Sound ((plain w).node i) }
+    ensures later { (config : Config) (w v : TimedFrames) (before events : List (Event Action)) (i c : ℕ)
+        → Reaches config before w → Leads (frames_of config) w events v
+        → Follows (((plain w).node i).uses c) (((plain v).node i).uses c) }
 {}
 
-/// A node makes two references at an event at most, so that its clock is full before its 2^31 references are made.
+/// A node makes two references at an event at most, so that its clock is full by the time its 2^31 references are made.
 pub fn references_within_the_clock()
     ensures step { (config : Config) (i : ℕ) (s : State) (input : Input Message Action)
         (t : Turn State Message Told) → node_step config i s input ≡ Some t
