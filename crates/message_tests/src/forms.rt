@@ -56,20 +56,22 @@ fn each_part_in_other_forms(rt: HostRuntime) -> Result<(), Fail> {
         (7, 2, &[118, 0, 4]),
         (7, 2, &[115, 4]),
         (7, 2, &[100, 0, 4]),
-        (13, 11, &[101, 119, 1, 97, 0, 0, 0, 7, 0]),
+        (13, 14, &[101, 119, 1, 97, 0, 0, 0, 7, 0]),
+        (13, 14, &[114, 0, 1, 119, 1, 97, 0, 0, 0, 0, 7]),
         (16, 2, &[118, 0, 1]),
         (16, 2, &[115, 1]),
         (16, 2, &[100, 0, 1]),
-        (24, 2, &[105, 0, 0, 0, 3]),
-        (26, 2, &[118, 0, 4]),
-        (26, 2, &[115, 4]),
-        (26, 2, &[100, 0, 4]),
-        (32, 2, &[118, 0, 1]),
-        (32, 2, &[115, 1]),
-        (32, 2, &[100, 0, 1]),
-        (36, 2, &[118, 0, 1]),
-        (36, 2, &[115, 1]),
-        (36, 2, &[100, 0, 1]),
+        (27, 2, &[105, 0, 0, 0, 3]),
+        (29, 2, &[118, 0, 4]),
+        (29, 2, &[115, 4]),
+        (29, 2, &[100, 0, 4]),
+        (35, 2, &[118, 0, 1]),
+        (35, 2, &[115, 1]),
+        (35, 2, &[100, 0, 1]),
+        (38, 16, &[103, 119, 1, 97, 0, 0, 0, 1, 0, 0, 0, 0, 1]),
+        (39, 2, &[118, 0, 1]),
+        (39, 2, &[115, 1]),
+        (39, 2, &[100, 0, 1]),
     ];
     for (at, len, with) in table {
         assert!(rt;
@@ -85,10 +87,10 @@ fn each_part_in_other_forms(rt: HostRuntime) -> Result<(), Fail> {
 fn names_that_are_strings(rt: HostRuntime) -> Result<(), Fail> {
     let alloc = rt.alloc();
     let listed = [108, 0, 0, 0, 2, 97, 1, 97, 2, 106];
-    let body = replaced(alloc, JOIN, 32, 3, &listed)?;
-    assert!(rt; is_read_the_same(alloc, &body, 32, 10, &[107, 0, 2, 1, 2])?);
+    let body = replaced(alloc, JOIN, 35, 3, &listed)?;
+    assert!(rt; is_read_the_same(alloc, &body, 35, 10, &[107, 0, 2, 1, 2])?);
     let nested = [108, 0, 0, 0, 1, 97, 1, 108, 0, 0, 0, 1, 97, 2, 106];
-    assert!(rt; is_read_the_same(alloc, &body, 32, 10, &nested)?);
+    assert!(rt; is_read_the_same(alloc, &body, 35, 10, &nested)?);
     Ok(())
 }
 
@@ -108,11 +110,11 @@ fn each_part_of_an_exchange_in_other_forms(rt: HostRuntime) -> Result<(), Fail> 
         (42, 1, &[107, 0, 0]),
         (42, 1, &[108, 0, 0, 0, 0, 106]),
         (57, 2, &[100, 0, 1]),
-        (95, 1, &[107, 0, 0]),
-        (95, 1, &[108, 0, 0, 0, 0, 106]),
-        (96, 1, &[107, 0, 0]),
-        (97, 1, &[107, 0, 0]),
-        (97, 1, &[108, 0, 0, 0, 0, 106]),
+        (104, 1, &[107, 0, 0]),
+        (104, 1, &[108, 0, 0, 0, 0, 106]),
+        (105, 1, &[107, 0, 0]),
+        (106, 1, &[107, 0, 0]),
+        (106, 1, &[108, 0, 0, 0, 0, 106]),
     ];
     for (at, len, with) in table {
         assert!(rt; is_read_the_same(rt.alloc(), EXCHANGE, *at, *len, with)?);
@@ -138,8 +140,8 @@ fn lists_in_two_parts(rt: HostRuntime) -> Result<(), Fail> {
     let table: &[(usize, u8, usize, u8)] = &[
         (28, 1, 43, 1),
         (33, 1, 41, 1),
-        (51, 1, 69, 2),
-        (51, 3, 95, 0),
+        (51, 1, 72, 2),
+        (51, 3, 104, 0),
     ];
     for (head, first, tail, second) in table {
         let body = in_two_parts(alloc, *head, *first, *tail, *second)?;
@@ -172,9 +174,9 @@ fn lists_that_are_none(rt: HostRuntime) -> Result<(), Fail> {
         (52, &[255, 255, 255, 255], cut),
         (52, &[0, 0, 1, 3], cut),
         (52, &[0, 0, 0, 2], tail),
-        (97, &[97, 0], tail),
-        (96, &[97], tail),
-        (95, &[97], tail),
+        (106, &[97, 0], tail),
+        (105, &[97], tail),
+        (104, &[97], tail),
         (40, &[103], MessageFault::NotAMessage),
     ];
     for (at, with, fault) in table {
@@ -296,7 +298,8 @@ fn is_read_with_each(
 #[test]
 fn bodies_with_a_byte_changed(rt: HostRuntime) -> Result<(), Fail> {
     let tags: &[u8] = &[
-        0, 1, 2, 3, 4, 97, 98, 99, 103, 104, 105, 106, 107, 108, 110, 114, 119, 128, 131, 255,
+        0, 1, 2, 3, 4, 88, 90, 97, 98, 99, 103, 104, 105, 106, 107, 108, 109, 110, 114, 119, 128,
+        131, 255,
     ];
     for body in [CREATE, JOIN, APPLIED, DEL_LOCK, EXCHANGE] {
         for at in 0..body.len() {

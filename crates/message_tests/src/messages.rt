@@ -2,34 +2,36 @@
 
 use crate::samples::{APPLIED, CREATE, DEL_LOCK, EXCHANGE, JOIN, kind_of};
 use bytes::BytesMut;
-use pg_message::{Message, MessageFault, packet_len, read_packet, write_packet, write_packet_into};
+use pg_message::{
+    Message, MessageFault, Packet, packet_len, read_packet, write_packet, write_packet_into,
+};
 use std::alloc::Global;
 use std::test::*;
 
 const DELETE: &[u8] = &[
-    131, 104, 2, 97, 0, 104, 3, 119, 4, 99, 97, 108, 108, 114, 0, 1, 119, 1, 97, 0, 0, 0, 0, 7,
-    104, 2, 119, 6, 100, 101, 108, 101, 116, 101, 106,
+    131, 104, 2, 97, 0, 104, 3, 119, 4, 99, 97, 108, 108, 90, 0, 1, 119, 1, 97, 0, 0, 0, 0, 0, 0,
+    0, 7, 104, 2, 119, 6, 100, 101, 108, 101, 116, 101, 106,
 ];
 
 const SET_LOCK: &[u8] = &[
-    131, 104, 2, 98, 64, 0, 0, 0, 104, 3, 119, 4, 99, 97, 108, 108, 114, 0, 1, 119, 1, 97, 0, 0, 0,
-    0, 7, 104, 2, 119, 8, 115, 101, 116, 95, 108, 111, 99, 107, 97, 5,
+    131, 104, 2, 98, 64, 0, 0, 0, 104, 3, 119, 4, 99, 97, 108, 108, 90, 0, 1, 119, 1, 97, 0, 0, 0,
+    0, 0, 0, 0, 7, 104, 2, 119, 8, 115, 101, 116, 95, 108, 111, 99, 107, 97, 5,
 ];
 
 const LEAVE: &[u8] = &[
-    131, 104, 2, 97, 0, 104, 3, 119, 4, 99, 97, 108, 108, 114, 0, 1, 119, 1, 97, 0, 0, 0, 0, 7,
-    104, 3, 119, 5, 108, 101, 97, 118, 101, 119, 1, 103, 103, 119, 1, 97, 0, 0, 0, 1, 0, 0, 0, 0,
-    1,
+    131, 104, 2, 97, 0, 104, 3, 119, 4, 99, 97, 108, 108, 90, 0, 1, 119, 1, 97, 0, 0, 0, 0, 0, 0,
+    0, 7, 104, 3, 119, 5, 108, 101, 97, 118, 101, 119, 1, 103, 88, 119, 1, 97, 0, 0, 0, 1, 0, 0, 0,
+    0, 0, 0, 0, 1,
 ];
 
 const GRANTED: &[u8] = &[
-    131, 104, 2, 97, 255, 104, 3, 119, 5, 114, 101, 112, 108, 121, 114, 0, 1, 119, 1, 97, 0, 0, 0,
-    0, 7, 119, 4, 116, 114, 117, 101,
+    131, 104, 2, 97, 255, 104, 3, 119, 5, 114, 101, 112, 108, 121, 90, 0, 1, 119, 1, 97, 0, 0, 0,
+    0, 0, 0, 0, 7, 119, 4, 116, 114, 117, 101,
 ];
 
 const DENIED: &[u8] = &[
-    131, 104, 2, 98, 0, 0, 1, 0, 104, 3, 119, 5, 114, 101, 112, 108, 121, 114, 0, 1, 119, 1, 97, 0,
-    0, 0, 0, 7, 119, 5, 102, 97, 108, 115, 101,
+    131, 104, 2, 98, 0, 0, 1, 0, 104, 3, 119, 5, 114, 101, 112, 108, 121, 90, 0, 1, 119, 1, 97, 0,
+    0, 0, 0, 0, 0, 0, 7, 119, 5, 102, 97, 108, 115, 101,
 ];
 
 const NOTHING_TOLD: &[u8] = &[
@@ -38,25 +40,41 @@ const NOTHING_TOLD: &[u8] = &[
 ];
 
 const DOWN: &[u8] = &[
-    131, 104, 2, 97, 3, 104, 2, 119, 4, 100, 111, 119, 110, 103, 119, 1, 97, 0, 0, 0, 1, 0, 0, 0,
-    0, 1,
+    131, 104, 2, 97, 3, 104, 2, 119, 4, 100, 111, 119, 110, 88, 119, 1, 97, 0, 0, 0, 1, 0, 0, 0, 0,
+    0, 0, 0, 1,
 ];
 
-// Whether the bytes are a packet of this kind, which is written as them, whole and in a frame, and so is its copy.
-fn is_both_ways(alloc: Global, bytes: &[u8], kind: &str) -> Result<bool, MessageFault> {
-    let packet = read_packet(alloc, bytes)?.copy(alloc)?;
-    let body = write_packet(alloc, &packet)?;
+// Whether a packet is written as these bytes in a frame.
+fn is_framed_as(alloc: Global, packet: &Packet, bytes: &[u8]) -> Result<bool, MessageFault> {
     let mut frame = BytesMut::new(alloc);
-    write_packet_into(&packet, &mut frame)?;
+    write_packet_into(packet, &mut frame)?;
     let framed = frame.as_slice();
     Ok(
-        kind_of(&packet) == kind
-            && body.as_slice() == bytes
-            && packet_len(&packet)? == bytes.len()
-            && framed.ends_with(bytes)
+        framed.ends_with(bytes)
             && framed.starts_with(&(bytes.len() as u32).to_be_bytes())
             && framed.len() == bytes.len() + 4,
     )
+}
+
+// Whether a packet is written as these bytes, whole and in a frame.
+fn is_written_as(alloc: Global, packet: &Packet, bytes: &[u8]) -> Result<bool, MessageFault> {
+    let body = write_packet(alloc, packet)?;
+    Ok(
+        body.as_slice() == bytes
+            && packet_len(packet)? == bytes.len()
+            && is_framed_as(alloc, packet, bytes)?,
+    )
+}
+
+// A copy of the packet that the bytes are.
+fn copy_of(alloc: Global, bytes: &[u8]) -> Result<Packet, MessageFault> {
+    Ok(read_packet(alloc, bytes)?.copy(alloc)?)
+}
+
+// Whether the bytes are a packet of this kind, which is written as them, and so is its copy.
+fn is_both_ways(alloc: Global, bytes: &[u8], kind: &str) -> Result<bool, MessageFault> {
+    let copy = copy_of(alloc, bytes)?;
+    Ok(kind_of(&copy) == kind && is_written_as(alloc, &copy, bytes)?)
 }
 
 #[test]

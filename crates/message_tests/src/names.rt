@@ -1,6 +1,6 @@
 //! What may name a group.
 
-use crate::samples::{create_packet, create_term, nested, zeros};
+use crate::samples::{create_packet, create_term, nested, pid_and_zeros, zeros};
 use pg_message::{
     MAX_NAME_DEPTH, MAX_NAME_LEN, MessageFault, check_name, read_packet, write_packet,
 };
@@ -27,7 +27,10 @@ fn name_limits(rt: HostRuntime) -> Result<(), Fail> {
     assert_eq!(rt; (MAX_NAME_LEN, MAX_NAME_DEPTH), (1024, 32));
     let longest = zeros(rt.alloc(), 508)?;
     assert_eq!(rt; encode_len(&longest)?, 1023);
-    for name in [longest, nested(rt.alloc(), 31)?] {
+    // A pid takes 16 bytes.
+    let with_pid = pid_and_zeros(rt.alloc(), 500)?;
+    assert_eq!(rt; encode_len(&with_pid)?, 1023);
+    for name in [longest, with_pid, nested(rt.alloc(), 31)?] {
         assert_eq!(rt; check_name(&name), Ok(()));
         assert!(rt; faults_of(rt.alloc(), &name)? == (None, None));
     }
@@ -37,7 +40,11 @@ fn name_limits(rt: HostRuntime) -> Result<(), Fail> {
 #[test]
 fn names_beyond_the_limits(rt: HostRuntime) -> Result<(), Fail> {
     let refused = Some(MessageFault::NotAMessage);
-    for name in [zeros(rt.alloc(), 509)?, nested(rt.alloc(), 32)?] {
+    for name in [
+        zeros(rt.alloc(), 509)?,
+        pid_and_zeros(rt.alloc(), 501)?,
+        nested(rt.alloc(), 32)?,
+    ] {
         assert_eq!(rt; check_name(&name), Err(MessageFault::NameTooLarge));
         assert!(rt; faults_of(rt.alloc(), &name)? == (refused, refused));
     }

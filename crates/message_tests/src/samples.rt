@@ -2,39 +2,41 @@
 
 use pg_group::Update;
 use pg_message::{Message, MessageFault, Packet, Request, Said};
-use pg_term::{Atom, Fields, Items, Pid, Reference, Term};
+use pg_term::{Atom, Boxed, Fields, Items, Pid, Reference, Term};
 use std::alloc::Global;
 
 /// {0, {call, Ref, {create, g}}}
 pub const CREATE: &[u8] = &[
-    131, 104, 2, 97, 0, 104, 3, 119, 4, 99, 97, 108, 108, 114, 0, 3, 119, 1, 97, 1, 0, 0, 0, 1, 0,
-    0, 0, 0, 0, 0, 0, 0, 104, 2, 119, 6, 99, 114, 101, 97, 116, 101, 119, 1, 103,
+    131, 104, 2, 97, 0, 104, 3, 119, 4, 99, 97, 108, 108, 90, 0, 3, 119, 1, 97, 0, 0, 0, 1, 0, 0,
+    0, 1, 0, 0, 0, 0, 0, 0, 0, 0, 104, 2, 119, 6, 99, 114, 101, 97, 116, 101, 119, 1, 103,
 ];
 
 /// {0, {call, Ref, {join, g, <a.1.0>}}}
 pub const JOIN: &[u8] = &[
-    131, 104, 2, 97, 0, 104, 3, 119, 4, 99, 97, 108, 108, 114, 0, 1, 119, 1, 97, 0, 0, 0, 0, 7,
-    104, 3, 119, 4, 106, 111, 105, 110, 119, 1, 103, 103, 119, 1, 97, 0, 0, 0, 1, 0, 0, 0, 0, 1,
+    131, 104, 2, 97, 0, 104, 3, 119, 4, 99, 97, 108, 108, 90, 0, 1, 119, 1, 97, 0, 0, 0, 0, 0, 0,
+    0, 7, 104, 3, 119, 4, 106, 111, 105, 110, 119, 1, 103, 88, 119, 1, 97, 0, 0, 0, 1, 0, 0, 0, 0,
+    0, 0, 0, 1,
 ];
 
 /// {1, {reply, Ref, ok}}
 pub const APPLIED: &[u8] = &[
-    131, 104, 2, 97, 1, 104, 3, 119, 5, 114, 101, 112, 108, 121, 114, 0, 3, 119, 1, 97, 1, 0, 0, 0,
-    1, 0, 0, 0, 0, 0, 0, 0, 0, 119, 2, 111, 107,
+    131, 104, 2, 97, 1, 104, 3, 119, 5, 114, 101, 112, 108, 121, 90, 0, 3, 119, 1, 97, 0, 0, 0, 1,
+    0, 0, 0, 1, 0, 0, 0, 0, 0, 0, 0, 0, 119, 2, 111, 107,
 ];
 
 /// {9, {cast, {del_lock, g, Ref}}}
 pub const DEL_LOCK: &[u8] = &[
     131, 104, 2, 97, 9, 104, 2, 119, 4, 99, 97, 115, 116, 104, 3, 119, 8, 100, 101, 108, 95, 108,
-    111, 99, 107, 119, 1, 103, 114, 0, 1, 119, 1, 97, 0, 0, 0, 0, 7,
+    111, 99, 107, 119, 1, 103, 90, 0, 1, 119, 1, 97, 0, 0, 0, 0, 0, 0, 0, 7,
 ];
 
 /// {0, {cast, {exchange, a, [[h, []], [g, [<a.2.0>, <a.1.0>, <a.1.0>]]]}}}
 pub const EXCHANGE: &[u8] = &[
     131, 104, 2, 97, 0, 104, 2, 119, 4, 99, 97, 115, 116, 104, 3, 119, 8, 101, 120, 99, 104, 97,
     110, 103, 101, 119, 1, 97, 108, 0, 0, 0, 2, 108, 0, 0, 0, 2, 119, 1, 104, 106, 106, 108, 0, 0,
-    0, 2, 119, 1, 103, 108, 0, 0, 0, 3, 103, 119, 1, 97, 0, 0, 0, 2, 0, 0, 0, 0, 1, 103, 119, 1,
-    97, 0, 0, 0, 1, 0, 0, 0, 0, 1, 103, 119, 1, 97, 0, 0, 0, 1, 0, 0, 0, 0, 1, 106, 106, 106,
+    0, 2, 119, 1, 103, 108, 0, 0, 0, 3, 88, 119, 1, 97, 0, 0, 0, 2, 0, 0, 0, 0, 0, 0, 0, 1, 88,
+    119, 1, 97, 0, 0, 0, 1, 0, 0, 0, 0, 0, 0, 0, 1, 88, 119, 1, 97, 0, 0, 0, 1, 0, 0, 0, 0, 0, 0,
+    0, 1, 106, 106, 106,
 ];
 
 /// What a packet says, in words.
@@ -78,6 +80,16 @@ pub fn atom(alloc: Global, name: &str) -> Result<Term, MessageFault> {
     Ok(Term::Atom(Atom::new(alloc, name)?))
 }
 
+/// A pid and so many zeros in a list.
+pub fn pid_and_zeros(alloc: Global, count: usize) -> Result<Term, MessageFault> {
+    let mut items = Vec::new(alloc);
+    items.push(Term::Pid(pid(alloc, 1)?))?;
+    for _ in 0..count {
+        items.push(Term::Int(0))?;
+    }
+    Ok(Term::List(Items::from_vec(items)))
+}
+
 /// So many zeros in a list.
 pub fn zeros(alloc: Global, count: usize) -> Result<Term, MessageFault> {
     let mut items = Vec::new(alloc);
@@ -102,7 +114,11 @@ pub fn nested(alloc: Global, levels: usize) -> Result<Term, MessageFault> {
 pub fn create_term(alloc: Global, stamp: i64, name: Term) -> Result<Term, MessageFault> {
     let create = vec![in alloc; atom(alloc, "create")?, name]?;
     let asked = Term::Tuple(Fields::from_vec(create));
-    let call = vec![in alloc; atom(alloc, "call")?, Term::Ref(reference(alloc)?), asked]?;
+    let call = vec![in alloc;
+        atom(alloc, "call")?,
+        Term::Ref(Boxed::new(alloc, reference(alloc)?)?),
+        asked,
+    ]?;
     let packet = vec![in alloc; Term::Int(stamp), Term::Tuple(Fields::from_vec(call))]?;
     Ok(Term::Tuple(Fields::from_vec(packet)))
 }

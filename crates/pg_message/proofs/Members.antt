@@ -42,6 +42,7 @@ tuple_parts (Term-F.Atom a) ts e = absurd cc
 tuple_parts (Term-F.Ref r) ts e = absurd cc
 tuple_parts (Term-F.Pid p) ts e = absurd cc
 tuple_parts (Term-F.List us) ts e = absurd cc
+tuple_parts (Term-F.Binary content) ts e = absurd cc
 
 list_parts : (l : Term-F Term) (ts : List Term) → list_in l ≡ Some ts → total_weight ts ≤ weight_step (map-Term Term ℕ weight l)
 list_parts (Term-F.List us) ts e = omega (arith, ap total_weight (same_Some us ts e))
@@ -50,6 +51,7 @@ list_parts (Term-F.Atom a) ts e = absurd cc
 list_parts (Term-F.Ref r) ts e = absurd cc
 list_parts (Term-F.Pid p) ts e = absurd cc
 list_parts (Term-F.Tuple us) ts e = absurd cc
+list_parts (Term-F.Binary content) ts e = absurd cc
 
 elements_light : (t : Term) (ts : List Term) → elements_of t ≡ Some ts → total_weight ts ≤ weight t
 elements_light t ts e = rw (weight_out t) (tuple_parts (out-Term t) ts e)

@@ -63,11 +63,11 @@ module _ (room : ℕ) where
 
   module _ (bytes mid : List ℕ) where
     -- what holds no terms
-    pub reference_stands : (r : RefParts) (rest : List ℕ) → bytes ≡ 114 ∷ mid → new_reference_at mid ≡ Ok (r, rest) → Stands room (Ref r) bytes rest
+    pub reference_stands : (r : RefParts) (rest : List ℕ) → bytes ≡ 90 ∷ mid → new_reference_at w32 mid ≡ Ok (r, rest) → Stands room (Ref r) bytes rest
     unfolding readers item_behind leaf_behind
     reference_stands r rest e h = ap (item_at (suc room)) e ∙ ap (λ (x : Read RefParts). x >>= λ x. Ok (Ref x.0, x.1)) h
 
-    pub pid_stands : (p : Pid) (rest : List ℕ) → bytes ≡ 103 ∷ mid → pid_at mid ≡ Ok (p, rest) → Stands room (Process p) bytes rest
+    pub pid_stands : (p : Pid) (rest : List ℕ) → bytes ≡ 88 ∷ mid → pid_at w32 mid ≡ Ok (p, rest) → Stands room (Process p) bytes rest
     unfolding readers item_behind leaf_behind
     pid_stands p rest e h = ap (item_at (suc room)) e ∙ ap (λ (x : Read Pid). x >>= λ x. Ok (Process x.0, x.1)) h
 

@@ -7,6 +7,7 @@ use Rattle.pg_term.specs.declared.fault.TermFault.TheVariants as terms
 use Rattle.pg_term.specs.declared.pid.Pid.{Pid}
 use Rattle.pg_term.specs.declared.term.Term.{Term, Tuple, List as Listed}
 use Rattle.pg_term.specs.declared.term.Term.TheVariants.{Int, Atom, Ref, Pid as Process}
+use Rattle.pg_term_io.specs.declared.limits.TheConstants.{MAX_LEN}
 use Rattle.pg_term_io.specs.Writing.{item_bytes, all_bytes, written, IsSpelled, AreSpelled}
 use Rattle.pg_group.specs.declared.update.Update.{Update}
 use Rattle.pg_group.specs.declared.update.Update.TheVariants.{Create, Delete, Join, Leave}
@@ -92,7 +93,7 @@ sendable p =
     else Err faults.NotAMessage
 
 abbrev pub sent : Result Packet MessageFault → List ℕ → Result (List ℕ) MessageFault
-sent (Ok p) body = if nat_lt 16777216 (length body) then Err (faults.Term terms.TooLong) else Ok body
+sent (Ok p) body = if nat_lt MAX_LEN (length body) then Err (faults.Term terms.TooLong) else Ok body
 sent (Err fault) body = Err fault
 
 -- the body of a packet: what is written for its term. There is none where that term is read as no packet, or where it

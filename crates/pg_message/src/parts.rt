@@ -51,7 +51,7 @@ pub(crate) fn reference(term: Term) -> Option<Reference>
     ensures { result ≡ reference_of term }
 {
     match term {
-        Term::Ref(reference) => Some(reference),
+        Term::Ref(reference) => Some(reference.into_inner()),
         _ => None,
     }
 }

@@ -25,7 +25,7 @@ use crate::reading::direct::{Detour, direct_packet};
 use crate::reading::exchange::groups;
 use pg_group::Update;
 use pg_term::{Reference, Term, TermFault};
-use pg_term_io::decode;
+use pg_term_io::{check_term, decode};
 use std::alloc::{AllocError, Global};
 
 /// The packet that a body spells, all of its bytes. The forms are those of the External Term Format chapter of the Erlang
@@ -38,7 +38,7 @@ use std::alloc::{AllocError, Global};
 ///
 /// The time is linear in the number of bytes, but for an exchange whose groups do not ascend in the order of terms: their
 /// names are looked up in a tree. Of a body that is spelled as it is written only the parts that stand in the message are
-/// built.
+/// built, and nothing of a body that is no term: it is walked over first, without memory.
 pub fn read_packet(alloc: Global, body: &[u8]) -> Result<Packet, MessageFault>
     // What is read is spelled so.
     ensures found { IfOk result (λ packet. SpellsPacket packet body.now) }
@@ -60,7 +60,11 @@ fn whole_packet(alloc: Global, body: &[u8]) -> Result<Packet, MessageFault>
     match direct_packet(alloc, body) {
         Ok(packet) => Ok(packet),
         Err(Detour::OutOfMemory) => Err(MessageFault::Term(TermFault::OutOfMemory)),
-        Err(Detour::OtherForm) => packet(alloc, decode(alloc, body)?),
+        Err(Detour::OtherForm) => {
+            // What is no term is refused before anything of it is built.
+            check_term(body)?;
+            packet(alloc, decode(alloc, body)?)
+        }
     }
 }
 

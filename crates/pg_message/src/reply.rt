@@ -6,11 +6,12 @@ ghost use Rattle.pg_message.specs.declared.message.Message.TheVariants as messag
 ghost use Rattle.pg_message.specs.Writing.{term_of_packet, framed, Puts};
 
 use crate::message::Said;
+use crate::packet::MAX_STAMP;
 use crate::size::{reply_len, stamp_len};
 use crate::writing::{put_reply, put_stamp};
 use bytes::BytesMut;
 use pg_term::Reference;
-use pg_term_io::put_tuple_head;
+use pg_term_io::{MAX_LEN, put_tuple_head};
 use std::alloc::AllocError;
 
 /// Appends the packet `{Stamp, {reply, Ref, Said}}` as one whole frame, as `write_packet_into` does: a `gen_server` call's
@@ -23,7 +24,7 @@ pub fn write_reply_into(
     said: Said,
     out: &mut BytesMut,
 ) -> Result<(), AllocError>
-    requires { stamp ≤ 1073741824 }
+    requires { stamp ≤ MAX_STAMP }
     ensures ok { OnOk result (out.new.items ≡ out.old.items ++ framed (written
         (term_of_packet (record { stamp = stamp; message = messages.Reply reference.now said })))) }
     ensures err { OnErr result (out.new.items ≡ out.old.items) }
@@ -54,7 +55,7 @@ fn reply_packet_len(stamp: u32, reference: &Reference, said: Said) -> usize
 #[tactic(auto, using(crate::proofs::Words::pair_len))]
 fn put_reply_packet(out: &mut BytesMut, stamp: u32, reference: &Reference, said: Said)
     requires short { length (item_bytes
-        (term_of_packet (record { stamp = stamp; message = messages.Reply reference.now said }))) ≤ 16777216 }
+        (term_of_packet (record { stamp = stamp; message = messages.Reply reference.now said }))) ≤ MAX_LEN }
     requires room { length (item_bytes
         (term_of_packet (record { stamp = stamp; message = messages.Reply reference.now said }))) ≤ out.old.spare }
     ensures { Puts out.old out.new

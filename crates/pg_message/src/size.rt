@@ -17,15 +17,14 @@ use crate::name::name_len;
 use crate::packet::{MAX_STAMP, Packet};
 use pg_group::Update;
 use pg_term::{Atom, Items, Pid, Reference, Term, TermFault};
-use pg_term_io::{atom_len, int_len, list_head_len, pid_len, reference_len, tuple_head_len};
-
-// How many bytes a body may take: those of a frame, and of a term.
-const MAX_LEN: usize = 16_777_216;
+use pg_term_io::{
+    MAX_LEN, atom_len, int_len, list_head_len, pid_len, reference_len, tuple_head_len,
+};
 
 /// How many bytes a body takes at most, if it is no exchange.
-pub const MAX_SMALL_LEN: usize = 3120;
+pub const MAX_SMALL_LEN: usize = 3126;
 
-/// How many bytes the body of a packet takes (External Term Format chapter of the Erlang documentation), at most 3,120 if
+/// How many bytes the body of a packet takes (External Term Format chapter of the Erlang documentation), at most 3,126 if
 /// it is no exchange. It takes no memory. One walk over each name and each list of members; in an exchange whose groups do
 /// not ascend in the order of terms each name is compared with all that follow.
 ///
@@ -61,7 +60,7 @@ pub(crate) fn stamp_len(stamp: u32) -> usize
 fn message_len(message: &Message) -> Option<usize>
     ensures len { IfSome result
         (λ len. len ≡ min (length (item_bytes (message_term message.now))) usize.MAX) }
-    ensures few { is_exchange message.now ≡ false → IfSome result (λ len. len ≤ 3112) }
+    ensures few { is_exchange message.now ≡ false → IfSome result (λ len. len ≤ 3118) }
     ensures some { IfSome result (λ len. is_sayable message.now ≡ true) }
     ensures none { IfNone result (is_sayable message.now ≡ false) }
 {
@@ -79,7 +78,7 @@ fn message_len(message: &Message) -> Option<usize>
 fn call_len(reference: &Reference, request: &Request) -> Option<usize>
     ensures len { IfSome result (λ len. len ≡ length (item_bytes
         (message_term (messages.Call reference.now request.now)))) }
-    ensures few { IfSome result (λ len. len ≤ 3112) }
+    ensures few { IfSome result (λ len. len ≤ 3118) }
     ensures some { IfSome result
         (λ len. is_sayable (messages.Call reference.now request.now) ≡ true) }
     ensures none { IfNone result (is_sayable (messages.Call reference.now request.now) ≡ false) }
@@ -93,7 +92,7 @@ fn call_len(reference: &Reference, request: &Request) -> Option<usize>
 
 fn update_len(update: &Update) -> Option<usize>
     ensures len { IfSome result (λ len. len ≡ length (item_bytes (update_term update.now))) }
-    ensures few { IfSome result (λ len. len ≤ 2065) }
+    ensures few { IfSome result (λ len. len ≤ 2068) }
     ensures some { IfSome result (λ len. is_name (name_of update.now) ≡ true) }
     ensures none { IfNone result (is_name (name_of update.now) ≡ false) }
 {
@@ -127,7 +126,7 @@ fn membership_len(word: &str, name: &Term, pid: &Pid) -> Option<usize>
     requires short { length word.now ≤ 255 }
     ensures len { IfSome result (λ len. len ≡ length (item_bytes
         (triple (terms.Atom word.now) name.now (terms.Pid pid.now)))) }
-    ensures few { IfSome result (λ len. len ≤ 2060 + length word.now) }
+    ensures few { IfSome result (λ len. len ≤ 2063 + length word.now) }
     ensures some { IfSome result (λ len. is_name name.now ≡ true) }
     ensures none { IfNone result (is_name name.now ≡ false) }
 {
@@ -140,7 +139,7 @@ fn membership_len(word: &str, name: &Term, pid: &Pid) -> Option<usize>
 pub(crate) fn reply_len(reference: &Reference, said: Said) -> usize
     ensures len { result ≡ length (item_bytes
         (triple (terms.Atom (codes "reply")) (terms.Ref reference.now) (said_term said))) }
-    ensures few { result ≤ 1055 }
+    ensures few { result ≤ 1058 }
 {
     2 + word_len("reply") + reference_len(reference) + said_len(said)
 }
@@ -161,7 +160,7 @@ fn said_len(said: Said) -> usize
 fn freed_len(name: &Term, reference: &Reference) -> Option<usize>
     ensures len { IfSome result (λ len. len ≡ length (item_bytes
         (message_term (messages.DelLock name.now reference.now)))) }
-    ensures few { IfSome result (λ len. len ≤ 2082) }
+    ensures few { IfSome result (λ len. len ≤ 2085) }
     ensures some { IfSome result (λ len. is_name name.now ≡ true) }
     ensures none { IfNone result (is_name name.now ≡ false) }
 {
@@ -173,7 +172,7 @@ fn freed_len(name: &Term, reference: &Reference) -> Option<usize>
 #[tactic(auto, using(crate::proofs::Words::pair_len))]
 fn down_len(pid: &Pid) -> usize
     ensures len { result ≡ length (item_bytes (message_term (messages.Down pid.now))) }
-    ensures few { result ≤ 1041 }
+    ensures few { result ≤ 1044 }
 {
     2 + word_len("down") + pid_len(pid)
 }

@@ -18,7 +18,7 @@ use bytes::BytesMut;
 use pg_group::Update;
 use pg_term::{Atom, Items, Pid, Reference, Term};
 use pg_term_io::{
-    put_atom, put_int, put_item, put_list_head, put_pid, put_reference, put_tuple_head,
+    MAX_LEN, put_atom, put_int, put_item, put_list_head, put_pid, put_reference, put_tuple_head,
 };
 use std::alloc::Global;
 
@@ -92,7 +92,7 @@ fn put_body(out: &mut BytesMut, packet: &Packet)
 // A packet as one item, without the version byte 131.
 #[tactic(auto, using(crate::proofs::Words::pair_len))]
 fn put_packet(out: &mut BytesMut, packet: &Packet)
-    requires short { length (item_bytes (term_of_packet packet.now)) ≤ 16777216 }
+    requires short { length (item_bytes (term_of_packet packet.now)) ≤ MAX_LEN }
     requires room { length (item_bytes (term_of_packet packet.now)) ≤ out.old.spare }
     ensures { Puts out.old out.new (term_of_packet packet.now) }
 {
@@ -102,7 +102,7 @@ fn put_packet(out: &mut BytesMut, packet: &Packet)
 }
 
 fn put_message(out: &mut BytesMut, message: &Message)
-    requires short { length (item_bytes (message_term message.now)) ≤ 16777216 }
+    requires short { length (item_bytes (message_term message.now)) ≤ MAX_LEN }
     requires room { length (item_bytes (message_term message.now)) ≤ out.old.spare }
     ensures { Puts out.old out.new (message_term message.now) }
 {
@@ -119,7 +119,7 @@ fn put_message(out: &mut BytesMut, message: &Message)
 #[tactic(auto, using(crate::proofs::Words::triple_len))]
 fn put_call(out: &mut BytesMut, reference: &Reference, request: &Request)
     requires short { length (item_bytes (message_term (messages.Call reference.now request.now)))
-        ≤ 16777216 }
+        ≤ MAX_LEN }
     requires room { length (item_bytes (message_term (messages.Call reference.now request.now)))
         ≤ out.old.spare }
     ensures { Puts out.old out.new (message_term (messages.Call reference.now request.now)) }
@@ -131,7 +131,7 @@ fn put_call(out: &mut BytesMut, reference: &Reference, request: &Request)
 }
 
 fn put_request(out: &mut BytesMut, request: &Request)
-    requires short { length (item_bytes (request_term request.now)) ≤ 16777216 }
+    requires short { length (item_bytes (request_term request.now)) ≤ MAX_LEN }
     requires room { length (item_bytes (request_term request.now)) ≤ out.old.spare }
     ensures { Puts out.old out.new (request_term request.now) }
 {
@@ -142,7 +142,7 @@ fn put_request(out: &mut BytesMut, request: &Request)
 }
 
 fn put_update(out: &mut BytesMut, update: &Update)
-    requires short { length (item_bytes (update_term update.now)) ≤ 16777216 }
+    requires short { length (item_bytes (update_term update.now)) ≤ MAX_LEN }
     requires room { length (item_bytes (update_term update.now)) ≤ out.old.spare }
     ensures { Puts out.old out.new (update_term update.now) }
 {
@@ -159,7 +159,7 @@ fn put_update(out: &mut BytesMut, update: &Update)
 fn put_named(out: &mut BytesMut, word: &str, name: &Term)
     requires plain { is_plain word.now ≡ true }
     requires few { length word.now ≤ 255 }
-    requires short { length (item_bytes (pair (terms.Atom word.now) name.now)) ≤ 16777216 }
+    requires short { length (item_bytes (pair (terms.Atom word.now) name.now)) ≤ MAX_LEN }
     requires room { length (item_bytes (pair (terms.Atom word.now) name.now)) ≤ out.old.spare }
     ensures { Puts out.old out.new (pair (terms.Atom word.now) name.now) }
 {
@@ -174,7 +174,7 @@ fn put_membership(out: &mut BytesMut, word: &str, name: &Term, pid: &Pid)
     requires plain { is_plain word.now ≡ true }
     requires few { length word.now ≤ 255 }
     requires short { length (item_bytes (triple (terms.Atom word.now) name.now (terms.Pid pid.now)))
-        ≤ 16777216 }
+        ≤ MAX_LEN }
     requires room { length (item_bytes (triple (terms.Atom word.now) name.now (terms.Pid pid.now)))
         ≤ out.old.spare }
     ensures { Puts out.old out.new (triple (terms.Atom word.now) name.now (terms.Pid pid.now)) }
@@ -189,7 +189,7 @@ fn put_membership(out: &mut BytesMut, word: &str, name: &Term, pid: &Pid)
 #[tactic(auto, using(crate::proofs::Words::triple_len))]
 pub(crate) fn put_reply(out: &mut BytesMut, reference: &Reference, said: Said)
     requires short { length (item_bytes (message_term (messages.Reply reference.now said)))
-        ≤ 16777216 }
+        ≤ MAX_LEN }
     requires room { length (item_bytes (message_term (messages.Reply reference.now said)))
         ≤ out.old.spare }
     ensures { Puts out.old out.new (message_term (messages.Reply reference.now said)) }
@@ -215,7 +215,7 @@ fn put_said(out: &mut BytesMut, said: Said)
 #[tactic(auto, using(crate::proofs::Words::pair_len, crate::proofs::Words::triple_len))]
 fn put_freed(out: &mut BytesMut, name: &Term, reference: &Reference)
     requires short { length (item_bytes (message_term (messages.DelLock name.now reference.now)))
-        ≤ 16777216 }
+        ≤ MAX_LEN }
     requires room { length (item_bytes (message_term (messages.DelLock name.now reference.now)))
         ≤ out.old.spare }
     ensures { Puts out.old out.new (message_term (messages.DelLock name.now reference.now)) }
@@ -232,7 +232,7 @@ fn put_freed(out: &mut BytesMut, name: &Term, reference: &Reference)
 #[tactic(auto, using(crate::proofs::Words::pair_len, crate::proofs::Words::triple_len))]
 fn put_exchange(out: &mut BytesMut, node: &Atom, groups: &[(Term, Items<Pid>)])
     requires short { length (item_bytes (message_term (messages.Exchange node.now groups.now)))
-        ≤ 16777216 }
+        ≤ MAX_LEN }
     requires room { length (item_bytes (message_term (messages.Exchange node.now groups.now)))
         ≤ out.old.spare }
     ensures { Puts out.old out.new (message_term (messages.Exchange node.now groups.now)) }
@@ -248,7 +248,7 @@ fn put_exchange(out: &mut BytesMut, node: &Atom, groups: &[(Term, Items<Pid>)])
 // {down, Pid}
 #[tactic(auto, using(crate::proofs::Words::pair_len))]
 fn put_down(out: &mut BytesMut, pid: &Pid)
-    requires short { length (item_bytes (message_term (messages.Down pid.now))) ≤ 16777216 }
+    requires short { length (item_bytes (message_term (messages.Down pid.now))) ≤ MAX_LEN }
     requires room { length (item_bytes (message_term (messages.Down pid.now))) ≤ out.old.spare }
     ensures { Puts out.old out.new (message_term (messages.Down pid.now)) }
 {
@@ -259,7 +259,7 @@ fn put_down(out: &mut BytesMut, pid: &Pid)
 
 // [[Name, Members], ..]
 fn put_groups(out: &mut BytesMut, groups: &[(Term, Items<Pid>)])
-    requires short { length (item_bytes (List (map group_term groups.now))) ≤ 16777216 }
+    requires short { length (item_bytes (List (map group_term groups.now))) ≤ MAX_LEN }
     requires room { length (item_bytes (List (map group_term groups.now))) ≤ out.old.spare }
     ensures { Puts out.old out.new (List (map group_term groups.now)) }
 {
@@ -269,7 +269,7 @@ fn put_groups(out: &mut BytesMut, groups: &[(Term, Items<Pid>)])
 }
 
 fn put_all_groups(out: &mut BytesMut, groups: &[(Term, Items<Pid>)])
-    requires short { length (all_bytes (map group_term groups.now)) ≤ 16777216 }
+    requires short { length (all_bytes (map group_term groups.now)) ≤ MAX_LEN }
     requires room { length (all_bytes (map group_term groups.now)) ≤ out.old.spare }
     ensures { PutsAll out.old out.new (map group_term groups.now) }
 {
@@ -281,7 +281,7 @@ fn put_all_groups(out: &mut BytesMut, groups: &[(Term, Items<Pid>)])
 // [Name, Members]
 #[tactic(auto, using(crate::proofs::Words::two_len))]
 fn put_group(out: &mut BytesMut, group: &(Term, Items<Pid>))
-    requires short { length (item_bytes (group_term group.now)) ≤ 16777216 }
+    requires short { length (item_bytes (group_term group.now)) ≤ MAX_LEN }
     requires room { length (item_bytes (group_term group.now)) ≤ out.old.spare }
     ensures { Puts out.old out.new (group_term group.now) }
 {
@@ -292,7 +292,7 @@ fn put_group(out: &mut BytesMut, group: &(Term, Items<Pid>))
 }
 
 fn put_pids(out: &mut BytesMut, pids: &[Pid])
-    requires short { length (item_bytes (List (map terms.Pid pids.now))) ≤ 16777216 }
+    requires short { length (item_bytes (List (map terms.Pid pids.now))) ≤ MAX_LEN }
     requires room { length (item_bytes (List (map terms.Pid pids.now))) ≤ out.old.spare }
     ensures { Puts out.old out.new (List (map terms.Pid pids.now)) }
 {
@@ -302,7 +302,7 @@ fn put_pids(out: &mut BytesMut, pids: &[Pid])
 }
 
 fn put_all_pids(out: &mut BytesMut, pids: &[Pid])
-    requires short { length (all_bytes (map terms.Pid pids.now)) ≤ 16777216 }
+    requires short { length (all_bytes (map terms.Pid pids.now)) ≤ MAX_LEN }
     requires room { length (all_bytes (map terms.Pid pids.now)) ≤ out.old.spare }
     ensures { PutsAll out.old out.new (map terms.Pid pids.now) }
 {
@@ -332,7 +332,7 @@ pub(crate) fn put_stamp(out: &mut BytesMut, stamp: u32)
 }
 
 fn put_name(out: &mut BytesMut, name: &Term)
-    requires short { length (item_bytes name.now) ≤ 16777216 }
+    requires short { length (item_bytes name.now) ≤ MAX_LEN }
     requires room { length (item_bytes name.now) ≤ out.old.spare }
     ensures { Puts out.old out.new name.now }
 {

@@ -56,13 +56,11 @@ impl RefSource {
         let number = self.made + 1;
         let node = self.node.copy()?;
         let words = [number % FIRST_WORDS, number / FIRST_WORDS, 0];
-        match Reference::new(node, 1, &words) {
-            Ok(reference) => {
-                self.made = number;
-                Ok(reference)
-            }
-            // Three words are as many as a reference may have, so that only memory can be missing.
-            Err(_) => Err(RefFault::OutOfMemory),
-        }
+        let Ok(reference) = Reference::new(node, 1, &words) else {
+            // Three words are as many as a reference may have.
+            unreachable!()
+        };
+        self.made = number;
+        Ok(reference)
     }
 }

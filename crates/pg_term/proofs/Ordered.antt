@@ -1,5 +1,6 @@
 -- How two terms of one kind are compared, and two of different kinds.
 use Rattle.std.proofs.Common.{◌≡◌, ℕ, suc, ℤ, ◌<◌, inl, inr, List, [], ◌∷◌, ◌++◌, refl, sym, ap, ◌∙◌, arith}
+use Rattle.std.specs.Cmp.{IsTotalOrder, nat_cmp_total}
 use Rattle.std.specs.Cmp.Lexicographic.{slice_cmp}
 use Rattle.std.specs.Ordering.{int_cmp}
 use Rattle.std.specs.declared.cmp.Ordering.{Ordering}
@@ -10,16 +11,16 @@ use denote.Enum.Compared.{Each, by}
 use denote.Enum.Declared.{Choice}
 use Rattle.pg_term.specs.Arity.{arity_cmp}
 use Rattle.pg_term.specs.RefParts.{RefParts, ref_cmp}
-use Rattle.pg_term.specs.Order.{kind_step, kind_of, references_order, pids_order, elements_order, tuples_order}
+use Rattle.pg_term.specs.Order.{kind_step, kind_of, numbers_order, references_order, pids_order, elements_order, tuples_order}
 use Rattle.pg_term.specs.Same.{term_cmp, pid_cmp, atom_cmp}
 use Rattle.pg_term.specs.declared.pid.Pid.{Pid}
 use Rattle.pg_term.specs.declared.term.Term.{Term, Tuple, List as Listed}
-use Rattle.pg_term.specs.declared.term.Term.TheVariants.{Int, Atom, Ref, Pid as Process, outs-Int, outs-Atom, outs-Ref, outs-Pid, outs-Tuple, outs-List}
+use Rattle.pg_term.specs.declared.term.Term.TheVariants.{Int, Atom, Ref, Pid as Process, Binary, outs-Int, outs-Atom, outs-Ref, outs-Pid, outs-Tuple, outs-List, outs-Binary}
 use Rattle.pg_term.specs.contracts.term.Term.{the_parts, as_values, the_make, the_eta, the_beta}
 use Rattle.pg_term.specs.contracts.term.TermOrd.TheImpl.Laws.{is, total-law}
 
 abbrev each : Each Ordering the_parts
-each = (λ a b. int_cmp a.0 b.0, (λ a b. atom_cmp a.0 b.0, (λ a b. ref_cmp a.0 b.0, (λ a b. pid_cmp a.0 b.0, (λ a b. arity_cmp term_cmp a.0 b.0, (λ a b. slice_cmp term_cmp a.0 b.0, tt))))))
+each = (λ a b. int_cmp a.0 b.0, (λ a b. atom_cmp a.0 b.0, (λ a b. ref_cmp a.0 b.0, (λ a b. pid_cmp a.0 b.0, (λ a b. arity_cmp term_cmp a.0 b.0, (λ a b. slice_cmp term_cmp a.0 b.0, (λ a b. numbers_order a.0 b.0, tt)))))))
 
 abbrev at : Choice the_parts → Choice the_parts → Ordering
 at = by Less Greater the_parts each
@@ -45,6 +46,9 @@ tuples xs ys = made (inr (inr (inr (inr (inl (xs, tt)))))) (inr (inr (inr (inr (
 pub lists : (xs ys : List Term) → term_cmp (Listed xs) (Listed ys) ≡ elements_order xs ys
 lists xs ys = made (inr (inr (inr (inr (inr (inl (xs, tt))))))) (inr (inr (inr (inr (inr (inl (ys, tt)))))))
 
+pub binaries : (a b : List ℕ) → term_cmp (Binary a) (Binary b) ≡ numbers_order a b
+binaries a b = made (inr (inr (inr (inr (inr (inr (inl (a, tt)))))))) (inr (inr (inr (inr (inr (inr (inl (b, tt))))))))
+
 -- which of the variants it is
 abbrev place : (Fss : List (List Field)) → Choice Fss → ℕ
 place [] c = absurd c
@@ -65,7 +69,8 @@ kind_made (inr (inr (inl a))) = ap kind_step (outs-Ref a.0)
 kind_made (inr (inr (inr (inl a)))) = ap kind_step (outs-Pid a.0)
 kind_made (inr (inr (inr (inr (inl a))))) = ap kind_step (outs-Tuple a.0)
 kind_made (inr (inr (inr (inr (inr (inl a)))))) = ap kind_step (outs-List a.0)
-kind_made (inr (inr (inr (inr (inr (inr d)))))) = absurd d
+kind_made (inr (inr (inr (inr (inr (inr (inl a))))))) = ap kind_step (outs-Binary a.0)
+kind_made (inr (inr (inr (inr (inr (inr (inr d))))))) = absurd d
 
 kind_place : (x : Term) → kind_of x ≡ place the_parts (as_values x)
 kind_place x = ap kind_of (sym (the_eta x)) ∙ kind_made (as_values x)
@@ -74,9 +79,12 @@ pub kinds : (x y : Term) → kind_of x < kind_of y → term_cmp x y ≡ Less
 kinds x y h = is x y ∙ earlier the_parts each (as_values x) (as_values y) (omega (arith, kind_place x, kind_place y))
 
 -- what a list begins with is less than the list
-front_less : (xs : List Term) (y : Term) (ys : List Term) → slice_cmp term_cmp xs (xs ++ y ∷ ys) ≡ Less
-front_less [] y ys = refl
-front_less (x ∷ xs) y ys = rw (tied_itself total-law x) (front_less xs y ys)
+front_less : {K : Type 0} {cmp : K → K → Ordering} → IsTotalOrder cmp → (xs : List K) (y : K) (ys : List K) → slice_cmp cmp xs (xs ++ y ∷ ys) ≡ Less
+front_less total [] y ys = refl
+front_less total (x ∷ xs) y ys = rw (tied_itself total x) (front_less total xs y ys)
 
 pub fronts : (xs : List Term) (y : Term) (ys : List Term) → term_cmp (Listed xs) (Listed (xs ++ y ∷ ys)) ≡ Less
-fronts xs y ys = lists xs (xs ++ y ∷ ys) ∙ front_less xs y ys
+fronts xs y ys = lists xs (xs ++ y ∷ ys) ∙ front_less total-law xs y ys
+
+pub cut : (a : List ℕ) (next : ℕ) (b : List ℕ) → term_cmp (Binary a) (Binary (a ++ next ∷ b)) ≡ Less
+cut a next b = binaries a (a ++ next ∷ b) ∙ front_less nat_cmp_total a next b

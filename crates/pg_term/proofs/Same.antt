@@ -11,7 +11,7 @@ use Rattle.pg_term.specs.RefParts.{RefParts, ref_eq}
 use Rattle.pg_term.specs.declared.pid.Pid.{Pid}
 use Rattle.pg_term.specs.declared.term.Term.{Term, Tuple, List as Listed, ind-Term, map-Term, roll-Term}
 use Rattle.pg_term.specs.declared.term.Term.TheOpen.{Term-F}
-use Rattle.pg_term.specs.declared.term.Term.TheVariants.{Int, Atom, Ref, Pid as Process, rolls-Int, rolls-Atom, rolls-Ref, rolls-Pid, rolls-Tuple, rolls-List}
+use Rattle.pg_term.specs.declared.term.Term.TheVariants.{Int, Atom, Ref, Pid as Process, Binary, rolls-Int, rolls-Atom, rolls-Ref, rolls-Pid, rolls-Tuple, rolls-List, rolls-Binary}
 use Rattle.pg_term.specs.contracts.term.Term.{the_parts, as_values, the_make, the_eta, the_beta}
 use Rattle.pg_term.specs.contracts.term.TermPartialEq.TheImpl.{ghosts}
 use Rattle.pg_term.specs.contracts.term.TermPartialEq.TheImpl.Laws.{is}
@@ -21,7 +21,7 @@ abbrev eq : Term → Term → Bool
 eq = ghosts.eq
 
 abbrev at : Choice the_parts → Choice the_parts → Bool
-at = by false false the_parts (λ a b. int_eq a.0 b.0, (λ a b. pointwise nat_eq a.0 b.0, (λ a b. ref_eq a.0 b.0, (λ a b. pid_ghosts.eq a.0 b.0, (λ a b. arity_eq eq a.0 b.0, (λ a b. pointwise eq a.0 b.0, tt))))))
+at = by false false the_parts (λ a b. int_eq a.0 b.0, (λ a b. pointwise nat_eq a.0 b.0, (λ a b. ref_eq a.0 b.0, (λ a b. pid_ghosts.eq a.0 b.0, (λ a b. arity_eq eq a.0 b.0, (λ a b. pointwise eq a.0 b.0, (λ a b. pointwise nat_eq a.0 b.0, tt)))))))
 
 abbrev Same : Term → Type 0
 Same x = (y : Term) → eq x y ≡ true → x ≡ y
@@ -57,7 +57,17 @@ list_same xs (inr (inr (inl a))) e = absurd cc
 list_same xs (inr (inr (inr (inl a)))) e = absurd cc
 list_same xs (inr (inr (inr (inr (inl a))))) e = absurd cc
 list_same xs (inr (inr (inr (inr (inr (inl ys)))))) e = ap Listed (all_same xs ys.0 e)
-list_same xs (inr (inr (inr (inr (inr (inr d)))))) e = absurd d
+list_same xs (inr (inr (inr (inr (inr (inr d)))))) e = absurd cc
+
+binary_same : (a : List ℕ) (d : Choice the_parts) → at (inr (inr (inr (inr (inr (inr (inl (a, tt)))))))) d ≡ true → Binary a ≡ the_make d
+binary_same a (inl b) e = absurd cc
+binary_same a (inr (inl b)) e = absurd cc
+binary_same a (inr (inr (inl b))) e = absurd cc
+binary_same a (inr (inr (inr (inl b)))) e = absurd cc
+binary_same a (inr (inr (inr (inr (inl b))))) e = absurd cc
+binary_same a (inr (inr (inr (inr (inr (inl b)))))) e = absurd cc
+binary_same a (inr (inr (inr (inr (inr (inr (inl b))))))) e = ap Binary ((bytes_decides a b.0).0 e)
+binary_same a (inr (inr (inr (inr (inr (inr (inr d))))))) e = absurd d
 
 atom_same : (a : List ℕ) (d : Choice the_parts) → at (inr (inl (a, tt))) d ≡ true → Atom a ≡ the_make d
 atom_same a (inl b) e = absurd cc
@@ -102,6 +112,7 @@ layer_same (Term-F.Ref r) = subst Same (sym (rolls-Ref r)) (by_variants (inr (in
 layer_same (Term-F.Pid p) = subst Same (sym (rolls-Pid p)) (by_variants (inr (inr (inr (inl (p, tt))))) (pid_same p))
 layer_same (Term-F.Tuple xs) = subst Same (sym (rolls-Tuple (map (λ e. e.0) xs))) (by_variants (inr (inr (inr (inr (inl (map (λ e. e.0) xs, tt)))))) (tuple_same xs))
 layer_same (Term-F.List xs) = subst Same (sym (rolls-List (map (λ e. e.0) xs))) (by_variants (inr (inr (inr (inr (inr (inl (map (λ e. e.0) xs, tt))))))) (list_same xs))
+layer_same (Term-F.Binary a) = subst Same (sym (rolls-Binary a)) (by_variants (inr (inr (inr (inr (inr (inr (inl (a, tt)))))))) (binary_same a))
 
 pub same_term : (x y : Term) → eq x y ≡ true → x ≡ y
 same_term = ind-Term Same (λ x y e. subst (λ (z : Term-F Term). Same (roll-Term z)) e (layer_same y))

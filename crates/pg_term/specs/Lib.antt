@@ -4,4 +4,5 @@ pub mod Fault
 pub mod Order
 pub mod RefParts
 pub mod Same
+pub mod Text
 pub mod formers

@@ -9,7 +9,7 @@ use Rattle.pg_term.specs.declared.term.Term.TheOpen.{Term-F}
 use Rattle.pg_term.specs.RefParts.{RefParts}
 use Rattle.pg_term.specs.Same.{term_cmp}
 
--- number < atom < reference < pid < tuple < list
+-- number < atom < reference < pid < tuple < list < binary
 abbrev pub kind_step : Term-F Term → ℕ
 kind_step (Term-F.Int n) = 0
 kind_step (Term-F.Atom a) = 1
@@ -17,12 +17,13 @@ kind_step (Term-F.Ref r) = 2
 kind_step (Term-F.Pid p) = 3
 kind_step (Term-F.Tuple ts) = 4
 kind_step (Term-F.List ts) = 5
+kind_step (Term-F.Binary bytes) = 6
 
--- the place of a term's kind among the six
+-- the place of a term's kind among the seven
 abbrev pub kind_of : Term → ℕ
 kind_of t = kind_step (out-Term t)
 
--- numbers, as characters and words, one by one from the first: the first two that differ decide, and what ends first is less
+-- numbers, as characters, words and bytes, one by one from the first: the first two that differ decide, and what ends first is less
 abbrev pub numbers_order : List ℕ → List ℕ → Ordering
 numbers_order = slice_cmp nat_cmp
 

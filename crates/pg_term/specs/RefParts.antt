@@ -20,7 +20,7 @@ abbrev pub ref_cmp : RefParts → RefParts → Ordering
 ref_cmp = then_cmp (on (λ r. r.node) (slice_cmp nat_cmp)) (then_cmp (on (λ r. r.creation) nat_cmp) (on (λ r. r.words) (slice_cmp nat_cmp)))
 
 abbrev pub ref_hash : RefParts → fed.HashWrites
-ref_hash r = fed.str (encode_utf8_all r.node) ++ (fed.u8 r.creation ++ fed.slice fed.u32 r.words)
+ref_hash r = fed.str (encode_utf8_all r.node) ++ (fed.u32 r.creation ++ fed.slice fed.u32 r.words)
 
 -- one to three words make a reference
 abbrev pub ref_of : List ℕ → ℕ → List ℕ → Result RefParts TermFault

@@ -10,6 +10,7 @@ ghost use Rattle.std.proofs.Common.{rules, refl};
 ghost use Rattle.pg_term.specs.Fault.{Gives, atom_of};
 
 use crate::fault::TermFault;
+use crate::text::Text;
 use std::alloc::{AllocError, Global};
 use std::cmp::Ordering;
 use std::hash::{Hash, Hasher};
@@ -19,18 +20,19 @@ use std::marker::Model;
 /// characters from the first ("Term order" in the Erlang Reference Manual).
 #[derive(Debug, Drop)]
 pub struct Atom {
-    text: String,
+    text: Box<Text>,
 }
 
 impl Model for Atom {
-    ghost use Rattle.std.specs.Prelude.{List, ℕ, ◌≤◌, length, string_bytes};
+    ghost use Rattle.std.specs.Prelude.{List, ℕ, ◌≤◌, length};
     ghost use Rattle.std.specs.Str.{chars};
+    ghost use Rattle.pg_term.specs.Text.{text_bytes};
 
     ghost Value = { List ℕ };
 
-    ghost view = { λ a. chars (string_bytes a.text) };
+    ghost view = { λ a. chars (text_bytes a.text.value) };
 
-    ghost invariant = { λ a. length (chars (string_bytes a.text)) ≤ 255 };
+    ghost invariant = { λ a. length (chars (text_bytes a.text.value)) ≤ 255 };
 }
 
 impl Atom {
@@ -44,7 +46,7 @@ impl Atom {
             return Err(TermFault::BadAtom);
         }
         Ok(Atom {
-            text: String::from_str(alloc, text)?,
+            text: Box::new(alloc, Text::new(alloc, text)?)?,
         })
     }
 
@@ -62,8 +64,9 @@ impl Atom {
     pub fn copy(&self) -> Result<Atom, AllocError>
         ensures { IfOk result (λ a. a ≡ self.now) }
     {
+        let alloc = *Box::allocator(&self.text);
         Ok(Atom {
-            text: self.text.clone()?,
+            text: Box::new(alloc, self.text.copy()?)?,
         })
     }
 }
@@ -74,7 +77,7 @@ impl PartialEq for Atom {
     ghost laws = { partial_equiv_from_equiv nat_list_eq_equiv };
 
     fn eq(&self, other: &Atom) -> bool {
-        self.text == other.text
+        self.as_str() == other.as_str()
     }
 }
 
@@ -102,7 +105,7 @@ impl Ord for Atom {
     ghost matches_eq = { texts_ties };
 
     fn cmp(&self, other: &Atom) -> Ordering {
-        self.text.as_str().cmp(other.text.as_str())
+        self.as_str().cmp(other.as_str())
     }
 }
 
@@ -112,6 +115,6 @@ impl Hash for Atom {
     ghost respects_eq = { Prim.search (hashing, rules) };
 
     fn hash<H: Hasher>(&self, state: &mut H) {
-        self.text.as_str().hash(state);
+        self.as_str().hash(state);
     }
 }

@@ -1,19 +1,17 @@
-ghost use Rattle.std.specs.Prelude.{◌≡◌, [], ◌∷◌, ◌++◌, ◌<◌, length, IfOk, OnOk, OnErr};
-ghost use Rattle.std.specs.Cmp.Lexicographic.{pointwise, slice_cmp, slice_partial_cmp, lists_per, lists_equiv, lists_po, lists_total, lists_agrees, lists_ties};
+ghost use Rattle.std.specs.Prelude.{◌≡◌, length};
 ghost use Rattle.std.specs.Hash as fed;
-ghost use Rattle.std.specs.Hash.{items_Alike};
-ghost use Rattle.pg_term.specs.Arity.{arity_eq, arity_cmp, arity_partial_cmp, arity_per, arity_equiv, arity_po, arity_total, arity_agrees, arity_ties, arity_alike};
+ghost use Rattle.pg_term.specs.Arity as by_arity;
 
-use std::alloc::{AllocError, Global};
+use crate::items::Items;
 use std::cmp::Ordering;
 use std::hash::{Hash, Hasher};
 use std::marker::Model;
 
-/// The elements of a tuple: a `Vec` that contracts see as the list of its elements. Tuples are compared by their
-/// number of elements, and then element by element from the first.
+/// The elements of a tuple, of which contracts see the list. Of two tuples that with fewer elements is less, and then
+/// the first two elements that differ decide.
 #[derive(Debug, Drop)]
 pub struct Fields<T> {
-    items: Vec<T>,
+    elements: Items<T>,
 }
 
 impl<T> Model for Fields<T> {
@@ -24,89 +22,91 @@ impl<T> Model for Fields<T> {
 
     ghost coded = { coded_list T.code };
 
-    ghost view = { λ it. it.items.items };
+    ghost view = { λ inside. inside.elements };
 }
 
 impl<T> Fields<T> {
     /// These elements. It takes no memory.
-    pub fn from_vec(items: Vec<T>) -> Fields<T>
-        ensures { result ≡ items.items }
+    pub fn from_vec(elements: Vec<T>) -> Fields<T>
+        ensures { result ≡ elements.items }
     {
-        Fields { items }
+        Fields {
+            elements: Items::from_vec(elements),
+        }
     }
 
     /// Gives the vector back. It takes no memory.
     pub fn into_vec(self) -> Vec<T>
         ensures { result.items ≡ self }
     {
-        let Fields { items } = self;
-        items
+        let Fields { elements } = self;
+        elements.into_vec()
     }
 
     /// The elements in order.
     pub fn as_slice(&self) -> &[T]
         ensures { result.now ≡ self.now }
     {
-        self.items.as_slice()
+        self.elements.as_slice()
     }
 
     /// How many elements there are.
     pub fn len(&self) -> usize
         ensures { result ≡ length self.now }
     {
-        self.items.len()
-    }
-}
-
-impl<T: PartialEq> PartialEq for Fields<T> {
-    ghost eq = { arity_eq T.eq };
-
-    ghost laws = { arity_per T.laws };
-
-    fn eq(&self, other: &Self) -> bool {
-        self.len() == other.len() && self.items == other.items
-    }
-}
-
-impl<T: Eq> Eq for Fields<T> {
-    ghost laws = { arity_equiv T.Eq.laws };
-}
-
-impl<T: PartialOrd> PartialOrd for Fields<T> {
-    ghost partial_cmp = { arity_partial_cmp T.partial_cmp };
-
-    ghost laws = { arity_po T.PartialOrd.laws };
-
-    fn partial_cmp(&self, other: &Self) -> Option<Ordering> {
-        match self.len().cmp(&other.len()) {
-            Ordering::Equal => self.items.partial_cmp(&other.items),
-            unequal => Some(unequal),
-        }
-    }
-}
-
-impl<T: Ord> Ord for Fields<T> {
-    ghost cmp = { arity_cmp T.cmp };
-
-    ghost total = { arity_total T.total };
-
-    ghost matches_partial_cmp = { arity_agrees T.matches_partial_cmp };
-
-    ghost matches_eq = { arity_ties T.cmp T.matches_eq };
-
-    fn cmp(&self, other: &Self) -> Ordering {
-        self.len()
-            .cmp(&other.len())
-            .then_with(|| self.items.cmp(&other.items))
+        self.elements.len()
     }
 }
 
 impl<T: Hash> Hash for Fields<T> {
     ghost hash_input = { fed.slice T.hash_input };
 
-    ghost respects_eq = { (arity_alike (record { fed = T.respects_eq })).fed };
+    ghost respects_eq = { (by_arity.arity_alike (record { fed = T.respects_eq })).fed };
 
     fn hash<H: Hasher>(&self, state: &mut H) {
-        self.items.hash(state);
+        self.as_slice().hash(state);
+    }
+}
+
+impl<T: Ord> Ord for Fields<T> {
+    ghost cmp = { by_arity.arity_cmp T.cmp };
+
+    ghost total = { by_arity.arity_total T.total };
+
+    ghost matches_partial_cmp = { by_arity.arity_agrees T.matches_partial_cmp };
+
+    ghost matches_eq = { by_arity.arity_ties T.cmp T.matches_eq };
+
+    fn cmp(&self, other: &Self) -> Ordering {
+        self.len()
+            .cmp(&other.len())
+            .then_with(|| self.as_slice().cmp(other.as_slice()))
+    }
+}
+
+impl<T: PartialOrd> PartialOrd for Fields<T> {
+    ghost partial_cmp = { by_arity.arity_partial_cmp T.partial_cmp };
+
+    ghost laws = { by_arity.arity_po T.PartialOrd.laws };
+
+    fn partial_cmp(&self, other: &Self) -> Option<Ordering> {
+        match self.len().cmp(&other.len()) {
+            Ordering::Equal => self.as_slice().partial_cmp(other.as_slice()),
+            unequal => Some(unequal),
+        }
+    }
+}
+
+impl<T: Eq> Eq for Fields<T> {
+    ghost laws = { by_arity.arity_equiv T.Eq.laws };
+}
+
+impl<T: PartialEq> PartialEq for Fields<T> {
+    ghost eq = { by_arity.arity_eq T.eq };
+
+    ghost laws = { by_arity.arity_per T.laws };
+
+    fn eq(&self, other: &Self) -> bool {
+        self.len() == other.len() && self.as_slice() == other.as_slice()
     }
 }

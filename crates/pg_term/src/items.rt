@@ -1,18 +1,16 @@
-ghost use Rattle.std.specs.Prelude.{◌≡◌, [], ◌∷◌, ◌++◌, ◌<◌, length, IfOk, OnOk, OnErr};
-ghost use Rattle.std.specs.Cmp.Lexicographic.{pointwise, slice_cmp, slice_partial_cmp, lists_per, lists_equiv, lists_po, lists_total, lists_agrees, lists_ties};
+ghost use Rattle.std.specs.Prelude.{◌≡◌, length};
+ghost use Rattle.std.specs.Cmp.Lexicographic as by_element;
 ghost use Rattle.std.specs.Hash as fed;
-ghost use Rattle.std.specs.Hash.{items_Alike};
 
-use std::alloc::{AllocError, Global};
 use std::cmp::Ordering;
 use std::hash::{Hash, Hasher};
 use std::marker::Model;
 
-/// A `Vec` that contracts see as the list of its elements. Lists are compared element by element, and a list is
-/// greater than each list that it begins with.
+/// The elements of a list, or the bytes of a binary, in a vector; contracts see the list of them. The first two that
+/// differ decide which of two is less, and what the other begins with is less than it.
 #[derive(Debug, Drop)]
 pub struct Items<T> {
-    items: Vec<T>,
+    elements: Vec<T>,
 }
 
 impl<T> Model for Items<T> {
@@ -23,84 +21,84 @@ impl<T> Model for Items<T> {
 
     ghost coded = { coded_list T.code };
 
-    ghost view = { λ it. it.items.items };
+    ghost view = { λ inside. inside.elements.items };
 }
 
 impl<T> Items<T> {
     /// These elements. It takes no memory.
-    pub fn from_vec(items: Vec<T>) -> Items<T>
-        ensures { result ≡ items.items }
+    pub fn from_vec(elements: Vec<T>) -> Items<T>
+        ensures { result ≡ elements.items }
     {
-        Items { items }
+        Items { elements }
     }
 
     /// Gives the vector back. It takes no memory.
     pub fn into_vec(self) -> Vec<T>
         ensures { result.items ≡ self }
     {
-        let Items { items } = self;
-        items
+        let Items { elements } = self;
+        elements
     }
 
     /// The elements in order.
     pub fn as_slice(&self) -> &[T]
         ensures { result.now ≡ self.now }
     {
-        self.items.as_slice()
+        self.elements.as_slice()
     }
 
     /// How many elements there are.
     pub fn len(&self) -> usize
         ensures { result ≡ length self.now }
     {
-        self.items.len()
-    }
-}
-
-impl<T: PartialEq> PartialEq for Items<T> {
-    ghost eq = { pointwise T.eq };
-
-    ghost laws = { lists_per T.laws };
-
-    fn eq(&self, other: &Self) -> bool {
-        self.items == other.items
-    }
-}
-
-impl<T: Eq> Eq for Items<T> {
-    ghost laws = { lists_equiv T.Eq.laws };
-}
-
-impl<T: PartialOrd> PartialOrd for Items<T> {
-    ghost partial_cmp = { slice_partial_cmp T.partial_cmp };
-
-    ghost laws = { lists_po T.PartialOrd.laws };
-
-    fn partial_cmp(&self, other: &Self) -> Option<Ordering> {
-        self.items.partial_cmp(&other.items)
-    }
-}
-
-impl<T: Ord> Ord for Items<T> {
-    ghost cmp = { slice_cmp T.cmp };
-
-    ghost total = { lists_total T.total };
-
-    ghost matches_partial_cmp = { lists_agrees T.matches_partial_cmp };
-
-    ghost matches_eq = { lists_ties T.cmp T.matches_eq };
-
-    fn cmp(&self, other: &Self) -> Ordering {
-        self.items.cmp(&other.items)
+        self.elements.len()
     }
 }
 
 impl<T: Hash> Hash for Items<T> {
     ghost hash_input = { fed.slice T.hash_input };
 
-    ghost respects_eq = { (items_Alike (record { fed = T.respects_eq })).fed };
+    ghost respects_eq = { (fed.items_Alike (record { fed = T.respects_eq })).fed };
 
     fn hash<H: Hasher>(&self, state: &mut H) {
-        self.items.hash(state);
+        self.as_slice().hash(state);
+    }
+}
+
+impl<T: Ord> Ord for Items<T> {
+    ghost cmp = { by_element.slice_cmp T.cmp };
+
+    ghost total = { by_element.lists_total T.total };
+
+    ghost matches_partial_cmp = { by_element.lists_agrees T.matches_partial_cmp };
+
+    ghost matches_eq = { by_element.lists_ties T.cmp T.matches_eq };
+
+    fn cmp(&self, other: &Self) -> Ordering {
+        self.as_slice().cmp(other.as_slice())
+    }
+}
+
+impl<T: PartialOrd> PartialOrd for Items<T> {
+    ghost partial_cmp = { by_element.slice_partial_cmp T.partial_cmp };
+
+    ghost laws = { by_element.lists_po T.PartialOrd.laws };
+
+    fn partial_cmp(&self, other: &Self) -> Option<Ordering> {
+        self.as_slice().partial_cmp(other.as_slice())
+    }
+}
+
+impl<T: Eq> Eq for Items<T> {
+    ghost laws = { by_element.lists_equiv T.Eq.laws };
+}
+
+impl<T: PartialEq> PartialEq for Items<T> {
+    ghost eq = { by_element.pointwise T.eq };
+
+    ghost laws = { by_element.lists_per T.laws };
+
+    fn eq(&self, other: &Self) -> bool {
+        self.as_slice() == other.as_slice()
     }
 }

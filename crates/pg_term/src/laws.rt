@@ -4,7 +4,7 @@ ghost use Rattle.std.specs.Ordering.{int_cmp};
 ghost use Rattle.std.specs.declared.cmp.Ordering.TheVariants.{Less, Equal};
 ghost use Rattle.pg_term.specs.declared.pid.Pid.{Pid};
 ghost use Rattle.pg_term.specs.declared.term.Term.{Term, Tuple, List as Listed};
-ghost use Rattle.pg_term.specs.declared.term.Term.TheVariants.{Int, Atom as Name, Ref, Pid as Process};
+ghost use Rattle.pg_term.specs.declared.term.Term.TheVariants.{Int, Atom as Name, Ref, Pid as Process, Binary};
 ghost use Rattle.pg_term.specs.Order.{kind_of, numbers_order, references_order, pids_order, tuples_order, elements_order};
 ghost use Rattle.pg_term.specs.RefParts.{RefParts, ref_eq, ref_cmp};
 ghost use Rattle.pg_term.specs.Same.{same_term, term_cmp, same_pid, pid_cmp, same_atom, atom_cmp};
@@ -30,7 +30,7 @@ pub fn order()
 {}
 
 /// `cmp` is Erlang's order of terms ("Term Comparisons" in the Erlang Reference Manual), as far as there
-/// are such terms here: number < atom < reference < pid < tuple < list.
+/// are such terms here: number < atom < reference < pid < tuple < list < bit string (a binary).
 pub fn order_by_kind()
     // A term of an earlier kind is less.
     ensures kinds { (x y : Term) → kind_of x < kind_of y → term_cmp x y ≡ Less }
@@ -49,4 +49,9 @@ pub fn order_by_kind()
     // so that a list is greater than each list that it begins with.
     ensures fronts { (xs ys : List Term) (y : Term) →
         term_cmp (Listed xs) (Listed (xs ++ (y ∷ ys))) ≡ Less }
+    // Binaries byte by byte,
+    ensures binaries { (a b : List ℕ) → term_cmp (Binary a) (Binary b) ≡ numbers_order a b }
+    // so that a binary is greater than each binary that it begins with.
+    ensures cut { (a b : List ℕ) (next : ℕ) →
+        term_cmp (Binary a) (Binary (a ++ (next ∷ b))) ≡ Less }
 {}

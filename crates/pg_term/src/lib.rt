@@ -1,16 +1,20 @@
-//! Terms of Erlang as plain data: integers, atoms, references, pids, tuples and lists, with their order, equality and hash.
+//! Terms of Erlang as plain data: integers, atoms, references, pids, tuples, lists and binaries, with their order, equality and hash.
 #![tactic(auto)]
 
 mod atom;
+mod boxed;
 mod fault;
 mod fields;
 mod items;
 mod laws;
 mod pid;
 mod reference;
+mod short;
 mod term;
+mod text;
 
 pub use atom::Atom;
+pub use boxed::Boxed;
 pub use fault::TermFault;
 pub use fields::Fields;
 pub use items::Items;

@@ -3,7 +3,6 @@ ghost use Rattle.std.specs.Cmp.{partial_order_from_own_ties, partial_equiv_from_
 ghost use Rattle.std.specs.Cmp.Rules.{comparing, hashing};
 ghost use Rattle.std.specs.Ordering.{as_partial_cmp};
 ghost use Rattle.std.proofs.Common.{rules};
-ghost use Rattle.pg_term.specs.Fault.{Gives};
 ghost use Rattle.pg_term.specs.RefParts.{ref_of, ref_eq, ref_cmp, ref_hash};
 
 use crate::atom::Atom;
@@ -13,14 +12,14 @@ use std::cmp::Ordering;
 use std::hash::{Hash, Hasher};
 use std::marker::Model;
 
-/// A reference: its node, a creation and one to three words (NEW_REFERENCE_EXT of the External Term Format). They
+/// A reference: its node, a creation and one to three words (NEWER_REFERENCE_EXT of the External Term Format). They
 /// are compared by node, creation and words from the first.
 #[derive(Debug, Drop)]
 pub struct Reference {
     node: Atom,
-    creation: u8,
-    count: u8,
+    creation: u32,
     words: [u32; 3],
+    count: u8,
 }
 
 impl Model for Reference {
@@ -38,8 +37,8 @@ impl Reference {
     /// The reference of these parts. It takes no memory.
     ///
     /// Refusal: `BadReference` unless there are one to three words.
-    pub fn new(node: Atom, creation: u8, words: &[u32]) -> Result<Reference, TermFault>
-        ensures { Gives (λ r. r) result (ref_of node creation words.now) }
+    pub fn new(node: Atom, creation: u32, words: &[u32]) -> Result<Reference, TermFault>
+        ensures { result ≡ ref_of node creation words.now }
     {
         let (count, words) = match words {
             [a] => (1, [*a, 0, 0]),
@@ -50,8 +49,8 @@ impl Reference {
         Ok(Reference {
             node,
             creation,
-            count,
             words,
+            count,
         })
     }
 
@@ -63,7 +62,7 @@ impl Reference {
     }
 
     /// The creation of that node.
-    pub fn creation(&self) -> u8
+    pub fn creation(&self) -> u32
         ensures { result ≡ self.now.creation }
     {
         self.creation
@@ -85,8 +84,8 @@ impl Reference {
         Ok(Reference {
             node: self.node.copy()?,
             creation: self.creation,
-            count: self.count,
             words: self.words,
+            count: self.count,
         })
     }
 }

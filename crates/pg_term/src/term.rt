@@ -2,6 +2,7 @@ ghost use Rattle.std.specs.Prelude.{◌≡◌, IfOk, min};
 ghost use Rattle.pg_term.specs.Depth.{depth, greatest_depth};
 
 use crate::atom::Atom;
+use crate::boxed::Boxed;
 use crate::fields::Fields;
 use crate::items::Items;
 use crate::pid::Pid;
@@ -9,19 +10,21 @@ use crate::reference::Reference;
 use std::alloc::{AllocError, Global};
 
 /// An Erlang term of this project's profile. The order of the variants is the order of terms: integers, atoms,
-/// references, pids, tuples, lists.
+/// references, pids, tuples, lists, binaries. It takes 32 bytes, and what it holds in blocks.
 #[derive(Debug, Drop, PartialEq, Eq, PartialOrd, Ord, Hash)]
 pub enum Term {
     Int(i64),
     Atom(Atom),
-    Ref(Reference),
+    Ref(Boxed<Reference>),
     Pid(Pid),
     Tuple(Fields<Term>),
     List(Items<Term>),
+    Binary(Items<u8>),
 }
 
 impl Term {
-    /// An equal term. Its cost grows with the term: one allocation for each atom, pid, reference, tuple and list.
+    /// An equal term. Its cost grows with the term: one allocation for each atom, pid, tuple, list
+    /// and binary, and two for each reference.
     pub fn copy(&self, alloc: Global) -> Result<Term, AllocError>
         ensures { IfOk result (λ t. t ≡ self.now) }
     {
@@ -44,10 +47,11 @@ fn copy(alloc: Global, term: &Term) -> Result<Term, AllocError>
     match term {
         Term::Int(n) => Ok(Term::Int(*n)),
         Term::Atom(a) => Ok(Term::Atom(a.copy()?)),
-        Term::Ref(r) => Ok(Term::Ref(r.copy()?)),
+        Term::Ref(r) => Ok(Term::Ref(Boxed::new(alloc, r.get().copy()?)?)),
         Term::Pid(p) => Ok(Term::Pid(p.copy()?)),
         Term::Tuple(items) => Ok(Term::Tuple(Fields::from_vec(copy_all(alloc, items.as_slice())?))),
         Term::List(items) => Ok(Term::List(Items::from_vec(copy_all(alloc, items.as_slice())?))),
+        Term::Binary(bytes) => Ok(Term::Binary(Items::from_vec(bytes.as_slice().to_vec(alloc)?))),
     }
 }
 
@@ -67,7 +71,7 @@ fn depth(term: &Term) -> u64
     ensures { result ≡ min (depth term.now) u64.MAX }
 {
     match term {
-        Term::Int(_) | Term::Atom(_) | Term::Ref(_) | Term::Pid(_) => 1,
+        Term::Int(_) | Term::Atom(_) | Term::Ref(_) | Term::Pid(_) | Term::Binary(_) => 1,
         Term::Tuple(items) => greatest_depth(items.as_slice()).saturating_add(1),
         Term::List(items) => greatest_depth(items.as_slice()).saturating_add(1),
     }

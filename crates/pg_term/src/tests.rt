@@ -7,12 +7,12 @@ fn atom(alloc: Global, text: &str) -> Result<Atom, TermFault> {
     Atom::new(alloc, text)
 }
 
-fn pid(alloc: Global) -> Result<Pid, TermFault> {
+fn pid(alloc: Global, creation: u32) -> Result<Pid, TermFault> {
     Ok(Pid {
         node: atom(alloc, "a")?,
         serial: 0,
         id: 1,
-        creation: 1,
+        creation,
     })
 }
 
@@ -29,12 +29,20 @@ fn rising(alloc: Global) -> Result<Vec<Term>, TermFault> {
     let mut terms = Vec::new(alloc);
     terms.push(Term::Int(1))?;
     terms.push(Term::Atom(atom(alloc, "a")?))?;
-    terms.push(Term::Ref(Reference::new(atom(alloc, "a")?, 1, &[0])?))?;
-    terms.push(Term::Pid(pid(alloc)?))?;
+    for creation in [1, 256, u32::MAX] {
+        let reference = Reference::new(atom(alloc, "a")?, creation, &[0])?;
+        terms.push(Term::Ref(Boxed::new(alloc, reference)?))?;
+    }
+    for creation in [1, 256, u32::MAX] {
+        terms.push(Term::Pid(pid(alloc, creation)?))?;
+    }
     terms.push(Term::Tuple(Fields::from_vec(Vec::new(alloc))))?;
     terms.push(list(alloc, &[])?)?;
     terms.push(list(alloc, &[1])?)?;
     terms.push(list(alloc, &[1, 0])?)?;
+    for bytes in [&[][..], &[0][..], &[0, 255][..], &[1][..]] {
+        terms.push(Term::Binary(Items::from_vec(bytes.to_vec(alloc)?)))?;
+    }
     Ok(terms)
 }
 

@@ -1,6 +1,6 @@
 -- What is spelled so is read so.
 use Rattle.std.proofs.Common.{◌≡◌, ℕ, zero, suc, ◌<◌, ◌≤◌, ◌^◌, false, cond, ltb, eqb, ◌||◌, ◌&&◌, ℤ, FitsSigned, List, [], ◌∷◌, ◌++◌, length, length-append, map, Ok, Err, refl, sym, ap, ◌∙◌, append_assoc, arith}
-use Rattle.std.specs.Int.{Width, w16, w32, w64, byte_len, to_be_bytes, from_be_bytes, cast_signed}
+use Rattle.std.specs.Int.{Width, w8, w16, w32, w64, byte_len, to_be_bytes, from_be_bytes, cast_signed}
 use Rattle.std.specs.List.{flat_map, AllByRecursion}
 use Rattle.std.specs.Str.{chars, IsUtf8}
 use Rattle.std.proofs.lemmas.Bool.{le-ltb}
@@ -11,10 +11,10 @@ use Rattle.std.proofs.lemmas.Nat.{from_be_bytes-to_be_bytes_2, from_be_bytes-to_
 use Rattle.std.proofs.lemmas.Str.{is_utf8-from_IsUtf8}
 use Rattle.pg_term.specs.declared.pid.Pid.{Pid}
 use Rattle.pg_term.specs.declared.term.Term.{Term, Tuple, List as Listed}
-use Rattle.pg_term.specs.declared.term.Term.TheVariants.{Int, Atom as Name, Ref, Pid as Process}
+use Rattle.pg_term.specs.declared.term.Term.TheVariants.{Int, Atom as Name, Ref, Pid as Process, Binary}
 use Rattle.pg_term.specs.RefParts.{RefParts}
 use Rattle.pg_term_io.specs.Numbers.{int_of, big_value}
-use Rattle.pg_term_io.specs.Reading.{Read, ◌>>=◌, byte_at, number_at, bytes_at, big_at, named_at, utf8_atom, latin_atom, atom_behind, atom_at, pid_at, old_reference_at, words_at, new_reference_at, items_at, string_at, list_at, elements_behind, item_behind, leaf_behind, readers, item_at, tail_at, term_of}
+use Rattle.pg_term_io.specs.Reading.{Read, ◌>>=◌, byte_at, number_at, bytes_at, big_at, named_at, utf8_atom, latin_atom, atom_behind, atom_at, pid_at, old_reference_at, words_at, new_reference_at, binary_at, items_at, string_at, list_at, elements_behind, item_behind, leaf_behind, readers, item_at, tail_at, term_of}
 use Rattle.pg_term_io.specs.Spelling.{IsAtom, IsPid, IsOldRef, IsRef, Item, Items, Elements, Tail, Spells}
 use Rattle.pg_term_io.specs.Spelling as s
 use Rattle.pg_term_io.proofs.Bigs.{fits-is_i64}
@@ -29,6 +29,13 @@ word_again n rest h = number_again w32 (to_be_bytes w32 n) rest n refl (from_be_
 
 pub half_again : (n : ℕ) (rest : List ℕ) → n < 2 ^ 16 → number_at w16 (to_be_bytes w16 n ++ rest) ≡ Ok (n, rest)
 half_again n rest h = number_again w16 (to_be_bytes w16 n) rest n refl (from_be_bytes-to_be_bytes_2 n h)
+
+-- a number of so many bits is read again
+abbrev NumberAgain : Width → Type 0
+NumberAgain w = (n : ℕ) (rest : List ℕ) → n < 256 ^ byte_len w → number_at w (to_be_bytes w n ++ rest) ≡ Ok (n, rest)
+
+small_again : NumberAgain w8
+small_again n rest h = number_again w8 (to_be_bytes w8 n) rest n refl (omega (arith, h))
 
 -- behind a number that is read again
 behind_word : {B : Type 0} (n : ℕ) (text rest : List ℕ) (f : ℕ × List ℕ → Read B) → n < 2 ^ 32 → (number_at w32 ((to_be_bytes w32 n ++ text) ++ rest) >>= f) ≡ f (n, text ++ rest)
@@ -60,15 +67,16 @@ atom_again _ _ rest (s.IsAtom.large text lt u le) = behind_half (length text) te
 atom_again _ _ rest (s.IsAtom.small_latin text le fit) = latin_again text rest le
 atom_again _ _ rest (s.IsAtom.latin text le fit) = behind_half (length text) text rest (λ n. named_at latin_atom n.0 n.1) (omega arith) ∙ latin_again text rest le
 
-pid_again : (p : Pid) (b rest : List ℕ) → IsPid p b → pid_at (b ++ rest) ≡ Ok (p, rest)
+pid_again : (w : Width) → NumberAgain w → (p : Pid) (b rest : List ℕ) → IsPid w p b → pid_at w (b ++ rest) ≡ Ok (p, rest)
 unfolding pid_at
-pid_again _ _ rest (s.IsPid.parts p node a i sr cr) =
-    let last = p.creation ∷ [] in
+pid_again _ again _ _ rest (s.IsPid.parts w p node a i sr cr) =
+    let last = to_be_bytes w p.creation in
     let two = to_be_bytes w32 p.serial ++ last in
     let three = to_be_bytes w32 p.id ++ two in
-    behind atom_at p.node node three rest (λ node. number_at w32 node.1 >>= λ id. number_at w32 id.1 >>= λ serial. byte_at serial.1 >>= λ creation. Ok (record { node = node.0; serial = serial.0; id = id.0; creation = creation.0 }, creation.1)) (atom_again p.node node (three ++ rest) a)
-    ∙ behind_word p.id two rest (λ id. number_at w32 id.1 >>= λ serial. byte_at serial.1 >>= λ creation. Ok (record { node = p.node; serial = serial.0; id = id.0; creation = creation.0 }, creation.1)) i
-    ∙ behind_word p.serial last rest (λ serial. byte_at serial.1 >>= λ creation. Ok (record { node = p.node; serial = serial.0; id = p.id; creation = creation.0 }, creation.1)) sr
+    behind atom_at p.node node three rest (λ node. number_at w32 node.1 >>= λ id. number_at w32 id.1 >>= λ serial. number_at w serial.1 >>= λ creation. Ok (record { node = node.0; serial = serial.0; id = id.0; creation = creation.0 }, creation.1)) (atom_again p.node node (three ++ rest) a)
+    ∙ behind_word p.id two rest (λ id. number_at w32 id.1 >>= λ serial. number_at w serial.1 >>= λ creation. Ok (record { node = p.node; serial = serial.0; id = id.0; creation = creation.0 }, creation.1)) i
+    ∙ behind_word p.serial last rest (λ serial. number_at w serial.1 >>= λ creation. Ok (record { node = p.node; serial = serial.0; id = p.id; creation = creation.0 }, creation.1)) sr
+    ∙ ap (λ (r : Read ℕ). r >>= λ creation. Ok (record { node = p.node; serial = p.serial; id = p.id; creation = creation.0 }, creation.1)) (again p.creation rest cr)
 
 old_ref_again : (r : RefParts) (b rest : List ℕ) → IsOldRef r b → old_reference_at (b ++ rest) ≡ Ok (r, rest)
 unfolding old_reference_at
@@ -89,15 +97,21 @@ words_again (w ∷ ws) rest h =
     behind_word w (flat_map (to_be_bytes w32) ws) rest (λ first. items_at (number_at w32) (length ws) first.1 >>= λ others. Ok (first.0 ∷ others.0, others.1)) h.0
     ∙ ap (λ (r : Read (List ℕ)). r >>= λ others. Ok (w ∷ others.0, others.1)) (words_again ws rest h.1)
 
-ref_again : (r : RefParts) (b rest : List ℕ) → IsRef r b → new_reference_at (b ++ rest) ≡ Ok (r, rest)
+ref_again : (w : Width) → NumberAgain w → (r : RefParts) (b rest : List ℕ) → IsRef w r b → new_reference_at w (b ++ rest) ≡ Ok (r, rest)
 unfolding new_reference_at words_at
-ref_again _ _ rest (s.IsRef.parts r node some few fits a cr) =
+ref_again _ again _ _ rest (s.IsRef.parts w r node some few fits a cr) =
     let n = length r.words in
     let words = flat_map (to_be_bytes w32) r.words in
+    let creation = to_be_bytes w r.creation in
     let one : (eqb n 0 || ltb 3 n) ≡ false = rw (ne_eqb n 0 (λ e. absurd (omega arith)), le-ltb 3 n (omega arith)) refl in
-    behind_half n (node ++ (r.creation ∷ words)) rest (λ n. cond (eqb n.0 0 || ltb 3 n.0) (Err BadReference) (atom_at n.1 >>= λ node. byte_at node.1 >>= λ creation. words_at node.0 creation.0 n.0 creation.1)) (omega arith)
-    ∙ rw one (behind atom_at r.node node (r.creation ∷ words) rest (λ node. byte_at node.1 >>= λ creation. words_at node.0 creation.0 n creation.1) (atom_again r.node node ((r.creation ∷ words) ++ rest) a)
+    behind_half n (node ++ (creation ++ words)) rest (λ n. cond (eqb n.0 0 || ltb 3 n.0) (Err BadReference) (atom_at n.1 >>= λ node. number_at w node.1 >>= λ creation. words_at node.0 creation.0 n.0 creation.1)) (omega arith)
+    ∙ rw one (behind atom_at r.node node (creation ++ words) rest (λ node. number_at w node.1 >>= λ creation. words_at node.0 creation.0 n creation.1) (atom_again r.node node ((creation ++ words) ++ rest) a)
+    ∙ behind (number_at w) r.creation creation words rest (λ creation. words_at r.node creation.0 n creation.1) (again r.creation (words ++ rest) cr)
     ∙ ap (λ (x : Read (List ℕ)). x >>= λ words. Ok (record { node = r.node; creation = r.creation; words = words.0 }, words.1)) (words_again r.words rest fits))
+
+binary_again : (bytes rest : List ℕ) → length bytes < 2 ^ 32 → binary_at ((to_be_bytes w32 (length bytes) ++ bytes) ++ rest) ≡ Ok (bytes, rest)
+unfolding binary_at
+binary_again bytes rest lt = behind_word (length bytes) bytes rest (λ n. bytes_at n.0 n.1) lt ∙ bytes_again bytes rest
 
 abbrev wrap : {A : Type 0} → (A → Term) → A × List ℕ → Read Term
 wrap make x = Ok (make x.0, x.1)
@@ -139,9 +153,12 @@ mutual
   item_again _ _ _ rest (s.Item.integer room n lt) = ap (λ (r : Read ℕ). r >>= wrap (λ n. Int (cast_signed w32 n))) (word_again n rest lt)
   item_again _ _ _ rest (s.Item.small_big room sign digits sg few fit fits) = ap (λ (r : Read ℤ). r >>= wrap Int) (big_again sign digits rest fits)
   item_again _ _ _ rest (s.Item.atom room a b h) = atom_tag room 0 a b rest h
-  item_again _ _ _ rest (s.Item.pid room p b h) = ap (λ (r : Read Pid). r >>= wrap Process) (pid_again p b rest h)
+  item_again _ _ _ rest (s.Item.pid room p b h) = ap (λ (r : Read Pid). r >>= wrap Process) (pid_again w8 small_again p b rest h)
+  item_again _ _ _ rest (s.Item.new_pid room p b h) = ap (λ (r : Read Pid). r >>= wrap Process) (pid_again w32 word_again p b rest h)
   item_again _ _ _ rest (s.Item.old_reference room r b h) = ap (λ (r : Read RefParts). r >>= wrap Ref) (old_ref_again r b rest h)
-  item_again _ _ _ rest (s.Item.reference room r b h) = ap (λ (r : Read RefParts). r >>= wrap Ref) (ref_again r b rest h)
+  item_again _ _ _ rest (s.Item.reference room r b h) = ap (λ (r : Read RefParts). r >>= wrap Ref) (ref_again w8 small_again r b rest h)
+  item_again _ _ _ rest (s.Item.newer_reference room r b h) = ap (λ (r : Read RefParts). r >>= wrap Ref) (ref_again w32 word_again r b rest h)
+  item_again _ _ _ rest (s.Item.binary room bytes lt fit) = ap (λ (r : Read (List ℕ)). r >>= wrap Binary) (binary_again bytes rest lt)
   item_again _ _ _ rest (s.Item.small_tuple room ts b lt h) = ap (λ (r : Read (List Term)). r >>= wrap Tuple) (items_again room ts b rest h)
   item_again _ _ _ rest (s.Item.large_tuple room ts b lt h) = ap (λ (r : Read (List Term)). r >>= wrap Tuple) (behind_word (length ts) b rest (λ n. items_at (item_at room) n.0 n.1) lt ∙ items_again room ts b rest h)
   item_again _ _ _ rest (s.Item.list room ts b h) = (lists_again room ts b h rest).1

@@ -1,14 +1,14 @@
 -- The fault that bytes have is the one that reading tells.
 use Rattle.std.proofs.Common.{◌≡◌, ℕ, zero, suc, ◌+◌, ◌<◌, ◌^◌, Bool, true, false, cond, ltb, eqb, ◌||◌, ◌&&◌, ℤ, FitsSigned, List, [], ◌∷◌, ◌++◌, length, map, Result, Ok, Err, refl, sym, ap, ◌∙◌, arith}
-use Rattle.std.specs.Int.{w16, w32, w64, to_be_bytes, cast_signed}
+use Rattle.std.specs.Int.{w8, w16, w32, w64, to_be_bytes, cast_signed}
 use Rattle.std.proofs.lemmas.Bool.{lt-ltb, ne_eqb}
 use Rattle.pg_term.specs.declared.fault.TermFault.{TermFault}
 use Rattle.pg_term.specs.declared.fault.TermFault.TheVariants.{Truncated, UnknownTag, TooDeep, IntegerTooLarge, ImproperList}
 use Rattle.pg_term.specs.declared.term.Term.{Term, Tuple, List as Listed}
-use Rattle.pg_term.specs.declared.term.Term.TheVariants.{Int, Ref, Pid as Process}
+use Rattle.pg_term.specs.declared.term.Term.TheVariants.{Int, Ref, Pid as Process, Binary}
 use Rattle.pg_term_io.specs.Numbers.{int_of, big_value}
 use Rattle.pg_term_io.specs.Tags.{is_one_of, is_atom_tag, is_list_tag, is_other_tag, is_tag}
-use Rattle.pg_term_io.specs.Reading.{Read, ◌>>=◌, number_at, bytes_at, is_i64, i64_of, big_at, items_at, as_term, string_at, list_at, elements_behind, item_behind, leaf_behind, readers, item_at, tail_at, term_of}
+use Rattle.pg_term_io.specs.Reading.{Read, ◌>>=◌, number_at, bytes_at, is_i64, i64_of, big_at, binary_at, items_at, as_term, string_at, list_at, elements_behind, item_behind, leaf_behind, readers, item_at, tail_at, term_of}
 use Rattle.pg_term_io.specs.Spelling.{Items}
 use Rattle.pg_term_io.specs.Faults.{BreaksItem, BreaksItems, BreaksElements, BreaksTail, Breaks}
 use Rattle.pg_term_io.specs.Faults as f
@@ -43,6 +43,16 @@ behind_word n b next h = ap (λ (r : Read ℕ). r >>= next) (word_again n b h)
 
 word_missing : {B : Type 0} (b : List ℕ) (next : ℕ × List ℕ → Read B) → length b < 4 → (number_at w32 b >>= next) ≡ Err Truncated
 word_missing b next h = ap (λ (r : Read ℕ). r >>= next) (number_cut w32 b h)
+
+-- ---- binaries
+
+binary_missing : (b : List ℕ) → length b < 4 → binary_at b ≡ Err Truncated
+unfolding binary_at
+binary_missing b h = word_missing b (λ n. bytes_at n.0 n.1) h
+
+binary_cut_fails : (n : ℕ) (b : List ℕ) → n < 2 ^ 32 → length b < n → binary_at (to_be_bytes w32 n ++ b) ≡ Err Truncated
+unfolding binary_at
+binary_cut_fails n b lt short = behind_word n b (λ n. bytes_at n.0 n.1) lt ∙ bytes_cut n b short
 
 -- ---- strings
 
@@ -112,15 +122,18 @@ unfolding item_behind leaf_behind
 unknown_fails room tag b other =
     let lists = none_of (is_other_tag tag || is_atom_tag tag) (is_list_tag tag) other in
     let kinds = none_of (is_other_tag tag) (is_atom_tag tag) lists.0 in
-    let n97 = none_of (eqb tag 97) (is_one_of (98 ∷ 110 ∷ 104 ∷ 105 ∷ 103 ∷ 101 ∷ 114 ∷ []) tag) kinds.0 in
-    let n98 = none_of (eqb tag 98) (is_one_of (110 ∷ 104 ∷ 105 ∷ 103 ∷ 101 ∷ 114 ∷ []) tag) n97.1 in
-    let n110 = none_of (eqb tag 110) (is_one_of (104 ∷ 105 ∷ 103 ∷ 101 ∷ 114 ∷ []) tag) n98.1 in
-    let n104 = none_of (eqb tag 104) (is_one_of (105 ∷ 103 ∷ 101 ∷ 114 ∷ []) tag) n110.1 in
-    let n105 = none_of (eqb tag 105) (is_one_of (103 ∷ 101 ∷ 114 ∷ []) tag) n104.1 in
-    let n103 = none_of (eqb tag 103) (is_one_of (101 ∷ 114 ∷ []) tag) n105.1 in
-    let n101 = none_of (eqb tag 101) (is_one_of (114 ∷ []) tag) n103.1 in
-    let n114 = none_of (eqb tag 114) false n101.1 in
-    rw (n97.0, n98.0, n110.0, kinds.1, n104.0, n105.0, lists.1, n103.0, n101.0, n114.0) refl
+    let n97 = none_of (eqb tag 97) (is_one_of (98 ∷ 110 ∷ 104 ∷ 105 ∷ 103 ∷ 88 ∷ 101 ∷ 114 ∷ 90 ∷ 109 ∷ []) tag) kinds.0 in
+    let n98 = none_of (eqb tag 98) (is_one_of (110 ∷ 104 ∷ 105 ∷ 103 ∷ 88 ∷ 101 ∷ 114 ∷ 90 ∷ 109 ∷ []) tag) n97.1 in
+    let n110 = none_of (eqb tag 110) (is_one_of (104 ∷ 105 ∷ 103 ∷ 88 ∷ 101 ∷ 114 ∷ 90 ∷ 109 ∷ []) tag) n98.1 in
+    let n104 = none_of (eqb tag 104) (is_one_of (105 ∷ 103 ∷ 88 ∷ 101 ∷ 114 ∷ 90 ∷ 109 ∷ []) tag) n110.1 in
+    let n105 = none_of (eqb tag 105) (is_one_of (103 ∷ 88 ∷ 101 ∷ 114 ∷ 90 ∷ 109 ∷ []) tag) n104.1 in
+    let n103 = none_of (eqb tag 103) (is_one_of (88 ∷ 101 ∷ 114 ∷ 90 ∷ 109 ∷ []) tag) n105.1 in
+    let n88 = none_of (eqb tag 88) (is_one_of (101 ∷ 114 ∷ 90 ∷ 109 ∷ []) tag) n103.1 in
+    let n101 = none_of (eqb tag 101) (is_one_of (114 ∷ 90 ∷ 109 ∷ []) tag) n88.1 in
+    let n114 = none_of (eqb tag 114) (is_one_of (90 ∷ 109 ∷ []) tag) n101.1 in
+    let n90 = none_of (eqb tag 90) (is_one_of (109 ∷ []) tag) n114.1 in
+    let n109 = none_of (eqb tag 109) false n90.1 in
+    rw (n97.0, n98.0, n110.0, kinds.1, n104.0, n105.0, lists.1, n103.0, n88.0, n101.0, n114.0, n90.0, n109.0) refl
 
 -- ---- items
 
@@ -138,9 +151,13 @@ mutual
   item_fails _ _ _ (f.BreaksItem.big_cut room n b short) = ap (as_term Int) (big_cut_fails n b short)
   item_fails _ _ _ (f.BreaksItem.too_large room sign digits rest large) = ap (as_term Int) (too_large_fails sign digits rest large)
   item_fails _ _ _ (f.BreaksItem.atom room e b h) = (atom_fails e b h).item room
-  item_fails _ _ _ (f.BreaksItem.pid room e b h) = ap (as_term Process) (pid_fails e b h)
+  item_fails _ _ _ (f.BreaksItem.pid room e b h) = ap (as_term Process) (pid_fails w8 e b h)
+  item_fails _ _ _ (f.BreaksItem.new_pid room e b h) = ap (as_term Process) (pid_fails w32 e b h)
   item_fails _ _ _ (f.BreaksItem.old_reference room e b h) = ap (as_term Ref) (old_ref_fails e b h)
-  item_fails _ _ _ (f.BreaksItem.reference room e b h) = ap (as_term Ref) (ref_fails e b h)
+  item_fails _ _ _ (f.BreaksItem.reference room e b h) = ap (as_term Ref) (ref_fails w8 e b h)
+  item_fails _ _ _ (f.BreaksItem.newer_reference room e b h) = ap (as_term Ref) (ref_fails w32 e b h)
+  item_fails _ _ _ (f.BreaksItem.binary_length_cut room b short) = ap (as_term Binary) (binary_missing b short)
+  item_fails _ _ _ (f.BreaksItem.binary_cut room n b lt short) = ap (as_term Binary) (binary_cut_fails n b lt short)
   item_fails _ _ _ (f.BreaksItem.small_arity_cut room) = refl
   item_fails _ _ _ (f.BreaksItem.small_tuple room n e b h) = ap (as_term Tuple) (items_fail room n e b h)
   item_fails _ _ _ (f.BreaksItem.arity_cut room b short) = ap (as_term Tuple) (word_missing b (λ n. items_at (item_at room) n.0 n.1) short)

@@ -26,14 +26,18 @@ byte_short : {B : Type 0} (next : ℕ × List ℕ → Read B) (n : ℕ) (b : Lis
 byte_short next n [] h short = refl
 byte_short next n (m ∷ rest) h short = short m rest (omega (arith, h))
 
-word_short_by : {B : Type 0} (next : ℕ × List ℕ → Read B) (n : ℕ) (b : List ℕ) (c : Bool) → ltb (length b) 4 ≡ c → length b < 4 + n → ((m : ℕ) (rest : List ℕ) → length rest < n → next (m, rest) ≡ Err Truncated) → (number_at w32 b >>= next) ≡ Err Truncated
-word_short_by next n b true is h short = rw is refl
-word_short_by next n b false is h short =
-    let le : 4 ≤ length b = ltb-false (length b) 4 is in
-    rw is (short (from_be_bytes w32 (take 4 b)) (drop 4 b) (omega (arith, h, length-drop 4 b)))
+number_short_by : {B : Type 0} (w : Width) (next : ℕ × List ℕ → Read B) (n : ℕ) (b : List ℕ) (c : Bool) → ltb (length b) (byte_len w) ≡ c → length b < byte_len w + n → ((m : ℕ) (rest : List ℕ) → length rest < n → next (m, rest) ≡ Err Truncated)
+    → (number_at w b >>= next) ≡ Err Truncated
+number_short_by w next n b true is h short = rw is refl
+number_short_by w next n b false is h short =
+    let le : byte_len w ≤ length b = ltb-false (length b) (byte_len w) is in
+    rw is (short (from_be_bytes w (take (byte_len w) b)) (drop (byte_len w) b) (omega (arith, h, length-drop (byte_len w) b)))
+
+number_short : {B : Type 0} (w : Width) (next : ℕ × List ℕ → Read B) (n : ℕ) (b : List ℕ) → length b < byte_len w + n → ((m : ℕ) (rest : List ℕ) → length rest < n → next (m, rest) ≡ Err Truncated) → (number_at w b >>= next) ≡ Err Truncated
+number_short w next n b h short = number_short_by w next n b (ltb (length b) (byte_len w)) refl h short
 
 word_short : {B : Type 0} (next : ℕ × List ℕ → Read B) (n : ℕ) (b : List ℕ) → length b < 4 + n → ((m : ℕ) (rest : List ℕ) → length rest < n → next (m, rest) ≡ Err Truncated) → (number_at w32 b >>= next) ≡ Err Truncated
-word_short next n b h short = word_short_by next n b (ltb (length b) 4) refl h short
+word_short = number_short w32
 
 words_short : (n : ℕ) (b : List ℕ) → length b < 4 * n → items_at (number_at w32) n b ≡ Err Truncated
 unfolding items_at
@@ -44,7 +48,7 @@ words_short (suc n) b h =
 
 -- ---- atoms
 
-utf8_refused : (text : List ℕ) (b : Bool) → is_utf8 text ≡ b → (IsUtf8 text → 255 < length (chars text)) → utf8_atom text ≡ Err BadAtom
+pub utf8_refused : (text : List ℕ) (b : Bool) → is_utf8 text ≡ b → (IsUtf8 text → 255 < length (chars text)) → utf8_atom text ≡ Err BadAtom
 utf8_refused text true is h = rw (is, lt-ltb 255 (length (chars text)) (h (IsUtf8-from_is_utf8 text is))) refl
 utf8_refused text false is h = rw is refl
 
@@ -129,14 +133,14 @@ behind_atom a text b next h = ap (λ (r : Read (List ℕ)). r >>= next) (atom_ag
 no_node : {B : Type 0} (e : TermFault) (b : List ℕ) (next : List ℕ × List ℕ → Read B) → BreaksNode e b → (atom_at b >>= next) ≡ Err e
 no_node e b next h = ap (λ (r : Read (List ℕ)). r >>= next) (node_fails e b h)
 
-pub pid_fails : (e : TermFault) (b : List ℕ) → BreaksPid e b → pid_at b ≡ Err e
+pub pid_fails : (w : Width) (e : TermFault) (b : List ℕ) → BreaksPid w e b → pid_at w b ≡ Err e
 unfolding pid_at
-pid_fails _ _ (f.BreaksPid.node e b h) = no_node e b (λ node. number_at w32 node.1 >>= λ id. number_at w32 id.1 >>= λ serial. byte_at serial.1 >>= λ creation. Ok (record { node = node.0; serial = serial.0; id = id.0; creation = creation.0 }, creation.1)) h
-pid_fails _ _ (f.BreaksPid.cut a text b h short) =
-    behind_atom a text b (λ node. number_at w32 node.1 >>= λ id. number_at w32 id.1 >>= λ serial. byte_at serial.1 >>= λ creation. Ok (record { node = node.0; serial = serial.0; id = id.0; creation = creation.0 }, creation.1)) h
-    ∙ word_short (λ id. number_at w32 id.1 >>= λ serial. byte_at serial.1 >>= λ creation. Ok (record { node = a; serial = serial.0; id = id.0; creation = creation.0 }, creation.1)) 5 b short
-    (λ id rest k. word_short (λ serial. byte_at serial.1 >>= λ creation. Ok (record { node = a; serial = serial.0; id = id; creation = creation.0 }, creation.1)) 1 rest k
-    (λ serial last l. byte_short (λ creation. Ok (record { node = a; serial = serial; id = id; creation = creation.0 }, creation.1)) 0 last l (λ m none n. absurd (omega (arith, n)))))
+pid_fails _ _ _ (f.BreaksPid.node w e b h) = no_node e b (λ node. number_at w32 node.1 >>= λ id. number_at w32 id.1 >>= λ serial. number_at w serial.1 >>= λ creation. Ok (record { node = node.0; serial = serial.0; id = id.0; creation = creation.0 }, creation.1)) h
+pid_fails _ _ _ (f.BreaksPid.cut w a text b h short) =
+    behind_atom a text b (λ node. number_at w32 node.1 >>= λ id. number_at w32 id.1 >>= λ serial. number_at w serial.1 >>= λ creation. Ok (record { node = node.0; serial = serial.0; id = id.0; creation = creation.0 }, creation.1)) h
+    ∙ word_short (λ id. number_at w32 id.1 >>= λ serial. number_at w serial.1 >>= λ creation. Ok (record { node = a; serial = serial.0; id = id.0; creation = creation.0 }, creation.1)) (4 + byte_len w) b (omega (arith, short))
+    (λ id rest k. word_short (λ serial. number_at w serial.1 >>= λ creation. Ok (record { node = a; serial = serial.0; id = id; creation = creation.0 }, creation.1)) (byte_len w) rest k
+    (λ serial last l. number_short w (λ creation. Ok (record { node = a; serial = serial; id = id; creation = creation.0 }, creation.1)) 0 last (omega (arith, l)) (λ m none n. absurd (omega (arith, n)))))
 
 pub old_ref_fails : (e : TermFault) (b : List ℕ) → BreaksOldRef e b → old_reference_at b ≡ Err e
 unfolding old_reference_at
@@ -153,23 +157,24 @@ not_few : (n : ℕ) → (n ≡ 0) ⊎ (3 < n) → (eqb n 0 || ltb 3 n) ≡ true
 not_few n (inl e) = rw e refl
 not_few n (inr long) = rw (ne_eqb n 0 (λ e. absurd (omega (arith, e, long))), lt-ltb 3 n long) refl
 
-abbrev words_after : ℕ → List ℕ → Read RefParts
-words_after n bytes = atom_at bytes >>= λ node. byte_at node.1 >>= λ creation. words_at node.0 creation.0 n creation.1
+module _ (w : Width) where
+  abbrev words_after : ℕ → List ℕ → Read RefParts
+  words_after n bytes = atom_at bytes >>= λ node. number_at w node.1 >>= λ creation. words_at node.0 creation.0 n creation.1
 
-abbrev counted : ℕ × List ℕ → Read RefParts
-counted n = cond (eqb n.0 0 || ltb 3 n.0) (Err BadReference) (words_after n.0 n.1)
+  abbrev counted : ℕ × List ℕ → Read RefParts
+  counted n = cond (eqb n.0 0 || ltb 3 n.0) (Err BadReference) (words_after n.0 n.1)
 
 words_of_short : (node : List ℕ) (creation n : ℕ) (b : List ℕ) → length b < 4 * n → words_at node creation n b ≡ Err Truncated
 unfolding words_at
 words_of_short node creation n b h = rw (words_short n b h) refl
 
-pub ref_fails : (e : TermFault) (b : List ℕ) → BreaksRef e b → new_reference_at b ≡ Err e
+pub ref_fails : (w : Width) (e : TermFault) (b : List ℕ) → BreaksRef w e b → new_reference_at w b ≡ Err e
 unfolding new_reference_at
-ref_fails _ _ (f.BreaksRef.length_cut b short) = half_missing b counted short
-ref_fails _ _ (f.BreaksRef.bad_length n b lt bad) = behind_half n b counted lt ∙ rw (not_few n bad) refl
-ref_fails _ _ (f.BreaksRef.node n e b some less h) =
-    behind_half n b counted (omega (arith, less)) ∙ rw (few n some less) (no_node e b (λ node. byte_at node.1 >>= λ creation. words_at node.0 creation.0 n creation.1) h)
-ref_fails _ _ (f.BreaksRef.cut n a text b some less h short) =
-    behind_half n (text ++ b) counted (omega (arith, less))
-    ∙ rw (few n some less) (behind_atom a text b (λ node. byte_at node.1 >>= λ creation. words_at node.0 creation.0 n creation.1) h
-    ∙ byte_short (λ creation. words_at a creation.0 n creation.1) (4 * n) b short (λ creation rest k. words_of_short a creation n rest k))
+ref_fails _ _ _ (f.BreaksRef.length_cut w b short) = half_missing b (counted w) short
+ref_fails _ _ _ (f.BreaksRef.bad_length w n b lt bad) = behind_half n b (counted w) lt ∙ rw (not_few n bad) refl
+ref_fails _ _ _ (f.BreaksRef.node w n e b some less h) =
+    behind_half n b (counted w) (omega (arith, less)) ∙ rw (few n some less) (no_node e b (λ node. number_at w node.1 >>= λ creation. words_at node.0 creation.0 n creation.1) h)
+ref_fails _ _ _ (f.BreaksRef.cut w n a text b some less h short) =
+    behind_half n (text ++ b) (counted w) (omega (arith, less))
+    ∙ rw (few n some less) (behind_atom a text b (λ node. number_at w node.1 >>= λ creation. words_at node.0 creation.0 n creation.1) h
+    ∙ number_short w (λ creation. words_at a creation.0 n creation.1) (4 * n) b short (λ creation rest k. words_of_short a creation n rest k))

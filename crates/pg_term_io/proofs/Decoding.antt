@@ -1,6 +1,7 @@
 -- What an answer of reading says of the bytes.
 use Rattle.std.proofs.Common.{◌≡◌, ◌≢◌, ℕ, zero, suc, ◌<◌, ◌⊎◌, inl, inr, List, [], ◌∷◌, Result, Ok, Err, refl, subst, arith}
 use Rattle.std.specs.Prelude.{IfOk, IfErr}
+use Rattle.std.specs.Int.{Width, w8, w32}
 use Rattle.std.specs.List.{AllByRecursion}
 use Rattle.pg_term.specs.declared.fault.TermFault.{TermFault}
 use Rattle.pg_term.specs.declared.fault.TermFault.TheVariants.{Truncated, BadVersion, UnknownTag, TooDeep, IntegerTooLarge, BadAtom, ImproperList, BadReference, TrailingBytes, OutOfMemory, TooLong}
@@ -61,19 +62,19 @@ node_of_bytes _ _ f.BreaksNode.missing = tt
 node_of_bytes _ _ (f.BreaksNode.no_atom tag b other) = tt
 node_of_bytes _ _ (f.BreaksNode.atom e b h) = atom_of_bytes e b h
 
-pid_of_bytes : (e : TermFault) (b : List ℕ) → BreaksPid e b → IsOfBytes e
-pid_of_bytes _ _ (f.BreaksPid.node e b h) = node_of_bytes e b h
-pid_of_bytes _ _ (f.BreaksPid.cut a text b h short) = tt
+pid_of_bytes : (w : Width) (e : TermFault) (b : List ℕ) → BreaksPid w e b → IsOfBytes e
+pid_of_bytes _ _ _ (f.BreaksPid.node w e b h) = node_of_bytes e b h
+pid_of_bytes _ _ _ (f.BreaksPid.cut w a text b h short) = tt
 
 old_ref_of_bytes : (e : TermFault) (b : List ℕ) → BreaksOldRef e b → IsOfBytes e
 old_ref_of_bytes _ _ (f.BreaksOldRef.node e b h) = node_of_bytes e b h
 old_ref_of_bytes _ _ (f.BreaksOldRef.cut a text b h short) = tt
 
-ref_of_bytes : (e : TermFault) (b : List ℕ) → BreaksRef e b → IsOfBytes e
-ref_of_bytes _ _ (f.BreaksRef.length_cut b short) = tt
-ref_of_bytes _ _ (f.BreaksRef.bad_length n b lt bad) = tt
-ref_of_bytes _ _ (f.BreaksRef.node n e b some less h) = node_of_bytes e b h
-ref_of_bytes _ _ (f.BreaksRef.cut n a text b some less h short) = tt
+ref_of_bytes : (w : Width) (e : TermFault) (b : List ℕ) → BreaksRef w e b → IsOfBytes e
+ref_of_bytes _ _ _ (f.BreaksRef.length_cut w b short) = tt
+ref_of_bytes _ _ _ (f.BreaksRef.bad_length w n b lt bad) = tt
+ref_of_bytes _ _ _ (f.BreaksRef.node w n e b some less h) = node_of_bytes e b h
+ref_of_bytes _ _ _ (f.BreaksRef.cut w n a text b some less h short) = tt
 
 mutual
   item_of_bytes : (room : ℕ) (e : TermFault) (b : List ℕ) → BreaksItem room e b → IsOfBytes e
@@ -86,9 +87,13 @@ mutual
   item_of_bytes _ _ _ (f.BreaksItem.big_cut room n b short) = tt
   item_of_bytes _ _ _ (f.BreaksItem.too_large room sign digits rest large) = tt
   item_of_bytes _ _ _ (f.BreaksItem.atom room e b h) = atom_of_bytes e b h
-  item_of_bytes _ _ _ (f.BreaksItem.pid room e b h) = pid_of_bytes e b h
+  item_of_bytes _ _ _ (f.BreaksItem.pid room e b h) = pid_of_bytes w8 e b h
+  item_of_bytes _ _ _ (f.BreaksItem.new_pid room e b h) = pid_of_bytes w32 e b h
   item_of_bytes _ _ _ (f.BreaksItem.old_reference room e b h) = old_ref_of_bytes e b h
-  item_of_bytes _ _ _ (f.BreaksItem.reference room e b h) = ref_of_bytes e b h
+  item_of_bytes _ _ _ (f.BreaksItem.reference room e b h) = ref_of_bytes w8 e b h
+  item_of_bytes _ _ _ (f.BreaksItem.newer_reference room e b h) = ref_of_bytes w32 e b h
+  item_of_bytes _ _ _ (f.BreaksItem.binary_length_cut room b short) = tt
+  item_of_bytes _ _ _ (f.BreaksItem.binary_cut room n b lt short) = tt
   item_of_bytes _ _ _ (f.BreaksItem.small_arity_cut room) = tt
   item_of_bytes _ _ _ (f.BreaksItem.small_tuple room n e b h) = items_of_bytes room n e b h
   item_of_bytes _ _ _ (f.BreaksItem.arity_cut room b short) = tt

@@ -1,21 +1,21 @@
 -- What the readers of items, of tails and of all the bytes answer.
 use Rattle.std.proofs.Common.{◌≡◌, ℕ, zero, suc, Bool, true, false, cond, eqb, inl, inr, List, [], ◌∷◌, ◌++◌, length, Result, Ok, Err, refl, sym, ap, subst, ◌∙◌, arith}
-use Rattle.std.specs.Int.{w32, cast_signed}
+use Rattle.std.specs.Int.{w8, w32, to_be_bytes, cast_signed}
 use Rattle.std.proofs.lemmas.Bool.{eqb-true, eqb-false, ne_eqb}
 use Rattle.std.proofs.lemmas.List.{append-nil}
 use Rattle.pg_term.specs.declared.fault.TermFault.{TermFault}
 use Rattle.pg_term.specs.declared.fault.TermFault.TheVariants.{BadVersion, UnknownTag, TrailingBytes}
 use Rattle.pg_term.specs.declared.term.Term.{Term, Tuple, List as Listed}
-use Rattle.pg_term.specs.declared.term.Term.TheVariants.{Int, Atom as Name, Ref, Pid as Process}
+use Rattle.pg_term.specs.declared.term.Term.TheVariants.{Int, Atom as Name, Ref, Pid as Process, Binary}
 use Rattle.pg_term_io.specs.Numbers.{int_of}
 use Rattle.pg_term_io.specs.Tags.{is_atom_tag, is_list_tag, is_tag}
-use Rattle.pg_term_io.specs.Reading.{Read, ◌>>=◌, byte_at, number_at, big_at, atom_behind, items_at, elements_behind, pid_at, old_reference_at, new_reference_at, as_term, item_behind, leaf_behind, item_at, readers, term_of}
-use Rattle.pg_term_io.specs.Spelling.{IsAtom, IsPid, IsOldRef, IsRef, Item, Items, Elements, Tail, Spells}
+use Rattle.pg_term_io.specs.Reading.{Read, ◌>>=◌, byte_at, number_at, big_at, atom_behind, items_at, elements_behind, pid_at, old_reference_at, new_reference_at, bytes_at, binary_at, as_term, item_behind, leaf_behind, item_at, readers, term_of}
+use Rattle.pg_term_io.specs.Spelling.{IsPid, IsOldRef, IsRef, Item, Elements, Tail, Spells}
 use Rattle.pg_term_io.specs.Spelling as s
-use Rattle.pg_term_io.specs.Faults.{BreaksAtom, BreaksPid, BreaksOldRef, BreaksRef, BreaksItem, BreaksElements, BreaksTail, Breaks}
+use Rattle.pg_term_io.specs.Faults.{BreaksPid, BreaksOldRef, BreaksRef, BreaksItem, BreaksTail, Breaks}
 use Rattle.pg_term_io.specs.Faults as f
-use Rattle.pg_term_io.proofs.Outcomes.{IsBytes, Right, Cut, IsByte, IsWord, right_if, right_map, byte_right, word_right}
-use Rattle.pg_term_io.proofs.Atoms.{AtomBehind, NoAtom, atom_behind_right}
+use Rattle.pg_term_io.proofs.Outcomes.{IsBytes, Right, Cut, IsByte, IsWord, IsText, right_if, right_map, right_then, byte_right, word_right, text_right, small_number_right, number_right}
+use Rattle.pg_term_io.proofs.Atoms.{AtomBehind, NoAtom, atom_behind_right, all_fit}
 use Rattle.pg_term_io.proofs.Bigs.{BigBehind, NoBigBehind, big_right, no_byte}
 use Rattle.pg_term_io.proofs.Identifiers.{pid_right, old_reference_right, new_reference_right}
 use Rattle.pg_term_io.proofs.Elements.{ItemRight, TailRight, SmallTuple, NoSmallTuple, small_tuple_right, LargeTuple, NoLargeTuple, large_tuple_right, ListBehind, NoElements, elements_right}
@@ -57,15 +57,39 @@ module _ (room : ℕ) (bytes : List ℕ) (fits : IsBytes bytes) where
         | inr k ↦ let no = k.0 in absurd cc
       ])
 
-  pid_item : BehindRight room 103 bytes (as_term Process (pid_at bytes))
-  pid_item = right_map IsPid BreaksPid (Behind room 103) (BrokenBehind room 103) bytes Process (pid_at bytes) (pid_right bytes fits) (λ p x h. s.Item.pid room p x h) (λ e h. f.BreaksItem.pid room e bytes h)
+  pid_item : BehindRight room 103 bytes (as_term Process (pid_at w8 bytes))
+  pid_item = right_map (IsPid w8) (BreaksPid w8) (Behind room 103) (BrokenBehind room 103) bytes Process (pid_at w8 bytes) (pid_right w8 small_number_right bytes fits) (λ p x h. s.Item.pid room p x h) (λ e h. f.BreaksItem.pid room e bytes h)
+
+  new_pid_item : BehindRight room 88 bytes (as_term Process (pid_at w32 bytes))
+  new_pid_item = right_map (IsPid w32) (BreaksPid w32) (Behind room 88) (BrokenBehind room 88) bytes Process (pid_at w32 bytes) (pid_right w32 number_right bytes fits) (λ p x h. s.Item.new_pid room p x h) (λ e h. f.BreaksItem.new_pid room e bytes h)
 
   old_reference_item : BehindRight room 101 bytes (as_term Ref (old_reference_at bytes))
   old_reference_item =
       right_map IsOldRef BreaksOldRef (Behind room 101) (BrokenBehind room 101) bytes Ref (old_reference_at bytes) (old_reference_right bytes fits) (λ r x h. s.Item.old_reference room r x h) (λ e h. f.BreaksItem.old_reference room e bytes h)
 
-  reference_item : BehindRight room 114 bytes (as_term Ref (new_reference_at bytes))
-  reference_item = right_map IsRef BreaksRef (Behind room 114) (BrokenBehind room 114) bytes Ref (new_reference_at bytes) (new_reference_right bytes fits) (λ r x h. s.Item.reference room r x h) (λ e h. f.BreaksItem.reference room e bytes h)
+  reference_item : BehindRight room 114 bytes (as_term Ref (new_reference_at w8 bytes))
+  reference_item =
+      right_map (IsRef w8) (BreaksRef w8) (Behind room 114) (BrokenBehind room 114) bytes Ref (new_reference_at w8 bytes) (new_reference_right w8 small_number_right bytes fits) (λ r x h. s.Item.reference room r x h) (λ e h. f.BreaksItem.reference room e bytes h)
+
+  newer_reference_item : BehindRight room 90 bytes (as_term Ref (new_reference_at w32 bytes))
+  newer_reference_item =
+      right_map (IsRef w32) (BreaksRef w32) (Behind room 90) (BrokenBehind room 90) bytes Ref (new_reference_at w32 bytes) (new_reference_right w32 number_right bytes fits) (λ r x h. s.Item.newer_reference room r x h) (λ e h. f.BreaksItem.newer_reference room e bytes h)
+
+  IsBinary : List ℕ → List ℕ → Type 0
+  IsBinary content b = Item (suc room) (Binary content) (109 ∷ b)
+
+  binary_right : Right IsBinary (BrokenBehind room 109) bytes (binary_at bytes)
+  unfolding binary_at IsBinary
+  binary_right =
+      right_then IsWord (Cut 4) IsText Cut IsBinary (BrokenBehind room 109) bytes (number_at w32 bytes) (λ n. bytes_at n.0 n.1)
+      (word_right bytes fits) (λ n rest fit. text_right n rest fit)
+      (λ n content x y h k. subst (λ (z : List ℕ). Item (suc room) (Binary content) (109 ∷ z)) (λ i. (ap (to_be_bytes w32) k.0 ∙ sym h.1) i ++ sym k.1 i) (s.Item.binary room content (omega (arith, h.0, k.0)) (all_fit content k.2)))
+      (λ n e x y h k. subst (λ (z : TermFault × List ℕ). BreaksItem (suc room) z.0 (109 ∷ (z.1 ++ y))) (λ i. (sym k.0 i, sym h.1 i)) (f.BreaksItem.binary_cut room n y h.0 k.1))
+      (λ e h. subst (λ (d : TermFault). BreaksItem (suc room) d (109 ∷ bytes)) (sym h.0) (f.BreaksItem.binary_length_cut room bytes h.1))
+
+  binary_item : BehindRight room 109 bytes (as_term Binary (binary_at bytes))
+  unfolding IsBinary
+  binary_item = right_map IsBinary (BrokenBehind room 109) (Behind room 109) (BrokenBehind room 109) bytes Binary (binary_at bytes) binary_right (λ content x h. h) (λ e h. h)
 
   module _ (each : ItemRight room) (ends : TailRight room) where
     small_tuple_item : BehindRight room 104 bytes (as_term Tuple (byte_at bytes >>= λ n. items_at (item_at room) n.0 n.1))
@@ -93,12 +117,18 @@ module _ (room : ℕ) (bytes : List ℕ) (fits : IsBytes bytes) where
         let v104 = as_term Tuple (byte_at bytes >>= λ n. items_at (item_at room) n.0 n.1) in
         let v105 = as_term Tuple (number_at w32 bytes >>= λ n. items_at (item_at room) n.0 n.1) in
         let vlist = as_term Listed (elements_behind room (readers room) tag bytes) in
-        let v103 = as_term Process (pid_at bytes) in
+        let v103 = as_term Process (pid_at w8 bytes) in
+        let v88 = as_term Process (pid_at w32 bytes) in
         let v101 = as_term Ref (old_reference_at bytes) in
-        let v114 = as_term Ref (new_reference_at bytes) in
-        let r114 : Read Term = cond (eqb tag 114) v114 (Err UnknownTag) in
+        let v114 = as_term Ref (new_reference_at w8 bytes) in
+        let v90 = as_term Ref (new_reference_at w32 bytes) in
+        let v109 = as_term Binary (binary_at bytes) in
+        let r109 : Read Term = cond (eqb tag 109) v109 (Err UnknownTag) in
+        let r90 : Read Term = cond (eqb tag 90) v90 r109 in
+        let r114 : Read Term = cond (eqb tag 114) v114 r90 in
         let r101 : Read Term = cond (eqb tag 101) v101 r114 in
-        let r103 : Read Term = cond (eqb tag 103) v103 r101 in
+        let r88 : Read Term = cond (eqb tag 88) v88 r101 in
+        let r103 : Read Term = cond (eqb tag 103) v103 r88 in
         let ratom : Read Term = cond (is_atom_tag tag) vatom r103 in
         let r110 : Read Term = cond (eqb tag 110) v110 ratom in
         let r98 : Read Term = cond (eqb tag 98) v98 r110 in
@@ -115,14 +145,17 @@ module _ (room : ℕ) (bytes : List ℕ) (fits : IsBytes bytes) where
         (λ n97. right_if P Q bytes (eqb tag 98) v98 r110 (at 98 v98 word_item)
         (λ n98. right_if P Q bytes (eqb tag 110) v110 ratom (at 110 v110 big_item)
         (λ n110. right_if P Q bytes (is_atom_tag tag) vatom r103 (atom_item tag)
-        (λ natom. right_if P Q bytes (eqb tag 103) v103 r101 (at 103 v103 pid_item)
-        (λ n103. right_if P Q bytes (eqb tag 101) v101 r114 (at 101 v101 old_reference_item)
-        (λ n101. right_if P Q bytes (eqb tag 114) v114 (Err UnknownTag) (at 114 v114 reference_item)
-        (λ n114. f.BreaksItem.unknown_tag room tag bytes (unknown tag n97 n98 n110 natom n104 n105 nlist n103 n101 n114)))))))))))
+        (λ natom. right_if P Q bytes (eqb tag 103) v103 r88 (at 103 v103 pid_item)
+        (λ n103. right_if P Q bytes (eqb tag 88) v88 r101 (at 88 v88 new_pid_item)
+        (λ n88. right_if P Q bytes (eqb tag 101) v101 r114 (at 101 v101 old_reference_item)
+        (λ n101. right_if P Q bytes (eqb tag 114) v114 r90 (at 114 v114 reference_item)
+        (λ n114. right_if P Q bytes (eqb tag 90) v90 r109 (at 90 v90 newer_reference_item)
+        (λ n90. right_if P Q bytes (eqb tag 109) v109 (Err UnknownTag) (at 109 v109 binary_item)
+        (λ n109. f.BreaksItem.unknown_tag room tag bytes (unknown tag n97 n98 n110 natom n104 n105 nlist n103 n88 n101 n114 n90 n109))))))))))))))
       where
-        unknown : (tag : ℕ) → eqb tag 97 ≡ false → eqb tag 98 ≡ false → eqb tag 110 ≡ false → is_atom_tag tag ≡ false → eqb tag 104 ≡ false → eqb tag 105 ≡ false → is_list_tag tag ≡ false → eqb tag 103 ≡ false → eqb tag 101 ≡ false → eqb tag 114 ≡ false
+        unknown : (tag : ℕ) → eqb tag 97 ≡ false → eqb tag 98 ≡ false → eqb tag 110 ≡ false → is_atom_tag tag ≡ false → eqb tag 104 ≡ false → eqb tag 105 ≡ false → is_list_tag tag ≡ false → eqb tag 103 ≡ false → eqb tag 88 ≡ false → eqb tag 101 ≡ false → eqb tag 114 ≡ false → eqb tag 90 ≡ false → eqb tag 109 ≡ false
             → is_tag tag ≡ false
-        unknown tag n97 n98 n110 natom n104 n105 nlist n103 n101 n114 = rw (n97, n98, n110, n104, n105, n103, n101, n114, natom, nlist) refl
+        unknown tag n97 n98 n110 natom n104 n105 nlist n103 n88 n101 n114 n90 n109 = rw (n97, n98, n110, n104, n105, n103, n88, n101, n114, n90, n109, natom, nlist) refl
 
 -- ---- levels
 

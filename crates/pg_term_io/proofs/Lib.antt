@@ -13,8 +13,10 @@ pub mod Latin
 pub mod Loop
 pub mod Outcomes
 pub mod Rewritten
+pub mod Scanned
 pub mod Spelled
 pub mod Steps
+pub mod Walked
 pub mod Weighed
 pub mod Written
 pub mod WrittenDigits

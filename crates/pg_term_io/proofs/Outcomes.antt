@@ -1,6 +1,6 @@
 -- What a reader answers: a value whose spelling it took from the front, or a fault that the bytes have.
-use Rattle.std.proofs.Common.{◌≡◌, ℕ, suc, ◌+◌, ◌<◌, ◌≤◌, ◌^◌, Bool, true, false, cond, ltb, inl, inr, List, [], ◌∷◌, ◌++◌, length, length-append, get_or, take, drop, Result, Ok, Err, refl, sym, ap, subst, ◌∙◌, append_assoc, arith}
-use Rattle.std.specs.Int.{w16, w32, to_be_bytes, from_be_bytes}
+use Rattle.std.proofs.Common.{◌≡◌, ℕ, zero, suc, ◌+◌, ◌%◌, ◌<◌, ◌≤◌, ◌^◌, Bool, true, false, cond, ltb, inl, inr, List, [], ◌∷◌, ◌++◌, length, length-append, get_or, take, drop, Result, Ok, Err, refl, sym, ap, subst, ◌∙◌, append_assoc, arith}
+use Rattle.std.specs.Int.{Width, byte_len, w8, w16, w32, to_be_bytes, from_be_bytes, bytes_high_first}
 use Rattle.std.proofs.lemmas.Bool.{cases_lt, ltb-false, ltb-true}
 use Rattle.std.proofs.lemmas.List.{take-append-drop, length-take, get_or-drop, get_or-take, get_or_past}
 use Rattle.std.proofs.lemmas.Nat.{be_bytes_2, be_bytes_4}
@@ -114,6 +114,32 @@ half_right bytes fits = front_right IsHalf 2 bytes (from_be_bytes w16) fits (λ 
 
 pub text_right : (n : ℕ) (bytes : List ℕ) → IsBytes bytes → Right (IsText n) (Cut n) bytes (bytes_at n bytes)
 text_right n bytes fits = front_right (IsText n) n bytes (λ text. text) fits (λ text len fit. (len, refl, fit))
+
+-- a number of so many bits, the highest byte first
+abbrev pub IsNumber : Width → ℕ → List ℕ → Type 0
+IsNumber w n b = (n < 256 ^ byte_len w) × (b ≡ to_be_bytes w n)
+
+-- what reading such a number answers
+abbrev pub NumberRight : Width → Type 0
+NumberRight w = (bytes : List ℕ) → IsBytes bytes → Right (IsNumber w) (Cut (byte_len w)) bytes (number_at w bytes)
+
+only_byte : (text : List ℕ) → length text ≡ 1 → IsBytes text → text ≡ to_be_bytes w8 (from_be_bytes w8 text)
+only_byte [] len fit = absurd (omega (arith, len))
+only_byte (a ∷ []) len fit = let e : a ≡ a % 256 = omega (arith, fit 0) in λ i. e i ∷ []
+only_byte (a ∷ b ∷ text) len fit = absurd (omega (arith, len))
+
+pub small_number_right : NumberRight w8
+small_number_right bytes fits = front_right (IsNumber w8) 1 bytes (from_be_bytes w8) fits (λ text len fit. (omega (arith, fit 0), only_byte text len fit))
+
+pub number_right : NumberRight w32
+number_right = word_right
+
+length_high : (k n : ℕ) → length (bytes_high_first k n) ≡ k
+length_high zero n = refl
+length_high (suc k) n = ap suc (length_high k n)
+
+pub length_number : (w : Width) (n : ℕ) (b : List ℕ) → IsNumber w n b → length b ≡ byte_len w
+length_number w n b h = ap length h.1 ∙ length_high (byte_len w) n
 
 pub length_word : (n : ℕ) (b : List ℕ) → IsWord n b → length b ≡ 4
 length_word n b h = ap length h.1

@@ -1,6 +1,6 @@
 -- A term that some bytes spell is spelled by what is written for it, too.
 use Rattle.std.proofs.Common.{◌≡◌, ℕ, pos, ◌*◌, ◌<◌, ◌≤◌, ◌^◌, true, List, [], ◌∷◌, ◌++◌, length, length-append, map, FitsSigned, Ok, refl, sym, ap, subst, arith}
-use Rattle.std.specs.Int.{w32, w64, cast_signed}
+use Rattle.std.specs.Int.{Width, byte_len, w8, w32, w64, cast_signed}
 use Rattle.std.specs.List.{AllByRecursion}
 use Rattle.std.specs.Str.{chars, IsUtf8, encode_utf8_all, all_scalars}
 use Rattle.std.specs.Char.{encode_utf8}
@@ -8,7 +8,7 @@ use Rattle.std.proofs.lemmas.Int.{ints}
 use Rattle.std.proofs.lemmas.Str.{chars-encodes, encodes-chars}
 use Rattle.std.proofs.Math.Utf8.{low_scalar}
 use Rattle.pg_term.specs.declared.term.Term.{Term, Tuple, List as Listed}
-use Rattle.pg_term.specs.declared.term.Term.TheVariants.{Ref, Pid as Process}
+use Rattle.pg_term.specs.declared.term.Term.TheVariants.{Ref, Pid as Process, Binary}
 use Rattle.pg_term_io.specs.Numbers.{int_of}
 use Rattle.pg_term_io.specs.Reading.{term_of}
 use Rattle.pg_term_io.specs.Spelling.{IsAtom, IsPid, IsOldRef, IsRef, Item, Items, Elements, Tail, Spells}
@@ -17,8 +17,8 @@ use Rattle.pg_term_io.specs.Writing.{text_bytes, atom_bytes, tuple_head, list_he
 use Rattle.pg_term_io.proofs.Again.{term_again}
 use Rattle.pg_term_io.proofs.Decoding.{one_term}
 use Rattle.pg_term_io.proofs.Latin.{latin_short}
-use Rattle.pg_term_io.proofs.Spelled.{text_spelled, number_spelled, name_spelled, pid_spelled, reference_spelled, tuple_spelled, list_spelled, none_spelled, written_spelled}
-use Rattle.pg_term_io.proofs.Written.{tuple_is, list_is}
+use Rattle.pg_term_io.proofs.Spelled.{text_spelled, number_spelled, name_spelled, pid_spelled, reference_spelled, binary_spelled, tuple_spelled, list_spelled, none_spelled, written_spelled}
+use Rattle.pg_term_io.proofs.Written.{tuple_is, list_is, binary_is}
 
 -- ---- atoms
 
@@ -96,15 +96,18 @@ append_right : (ts us : List Term) → AreRight ts → AreRight us → AreRight 
 append_right [] us h k = k
 append_right (t ∷ ts) us h k = (h.0, append_right ts us h.1 k)
 
-pid_right : (p : _) (b : List ℕ) → IsPid p b → IsSpelled (Process p)
-pid_right _ _ (s.IsPid.parts p node a i sr cr) = pid_spelled p (atom_again p.node node a) i sr cr
+pid_right : (w : Width) → 256 ^ byte_len w ≤ 2 ^ 32 → (p : _) (b : List ℕ) → IsPid w p b → IsSpelled (Process p)
+pid_right _ narrow _ _ (s.IsPid.parts w p node a i sr cr) = pid_spelled p (atom_again p.node node a) i sr (omega (arith, cr, narrow))
 
 old_reference_right : (r : _) (b : List ℕ) → IsOldRef r b → IsSpelled (Ref r)
 old_reference_right _ _ (s.IsOldRef.parts node text word creation a w c) =
-    reference_spelled (record { node = node; creation = creation; words = word ∷ [] }) (atom_again node text a) (omega arith) (omega arith) (w, tt) c
+    reference_spelled (record { node = node; creation = creation; words = word ∷ [] }) (atom_again node text a) (omega arith) (omega arith) (w, tt) (omega (arith, c))
 
-reference_right : (r : _) (b : List ℕ) → IsRef r b → IsSpelled (Ref r)
-reference_right _ _ (s.IsRef.parts r node some few words a c) = reference_spelled r (atom_again r.node node a) (omega arith) (omega arith) words c
+reference_right : (w : Width) → 256 ^ byte_len w ≤ 2 ^ 32 → (r : _) (b : List ℕ) → IsRef w r b → IsSpelled (Ref r)
+reference_right _ narrow _ _ (s.IsRef.parts w r node some few words a c) = reference_spelled r (atom_again r.node node a) (omega (arith, some)) (omega (arith, few)) words (omega (arith, c, narrow))
+
+binary_again : (content : List ℕ) → AllByRecursion (λ b. b < 256) content → IsRight (Binary content)
+binary_again content fit = record { spelled = λ short. binary_spelled content (omega (arith, short, ap length (binary_is content))) fit }
 
 mutual
   item_right : (room : ℕ) (t : Term) (b : List ℕ) → Item room t b → IsRight t
@@ -112,9 +115,12 @@ mutual
   item_right _ _ _ (s.Item.integer room n h) = record { spelled = λ _. number_spelled (cast_signed w32 n) (word_fits n h) }
   item_right _ _ _ (s.Item.small_big room sign digits one len fit fits) = record { spelled = λ _. number_spelled _ fits }
   item_right _ _ _ (s.Item.atom room a b h) = record { spelled = λ _. name_spelled a (atom_again a b h) }
-  item_right _ _ _ (s.Item.pid room p b h) = record { spelled = λ _. pid_right p b h }
+  item_right _ _ _ (s.Item.pid room p b h) = record { spelled = λ _. pid_right w8 (omega arith) p b h }
+  item_right _ _ _ (s.Item.new_pid room p b h) = record { spelled = λ _. pid_right w32 (omega arith) p b h }
   item_right _ _ _ (s.Item.old_reference room r b h) = record { spelled = λ _. old_reference_right r b h }
-  item_right _ _ _ (s.Item.reference room r b h) = record { spelled = λ _. reference_right r b h }
+  item_right _ _ _ (s.Item.reference room r b h) = record { spelled = λ _. reference_right w8 (omega arith) r b h }
+  item_right _ _ _ (s.Item.newer_reference room r b h) = record { spelled = λ _. reference_right w32 (omega arith) r b h }
+  item_right _ _ _ (s.Item.binary room content lt fit) = binary_again content fit
   item_right _ _ _ (s.Item.small_tuple room ts b lt h) = tuple_again ts (items_right room ts b h)
   item_right _ _ _ (s.Item.large_tuple room ts b lt h) = tuple_again ts (items_right room ts b h)
   item_right _ _ _ (s.Item.list room ts b h) = list_again ts (elements_right room ts b h)

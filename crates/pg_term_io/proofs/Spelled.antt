@@ -10,17 +10,17 @@ use Rattle.std.proofs.lemmas.List.{append-nil, take_more}
 use Rattle.pg_term.specs.declared.pid.Pid.{Pid}
 use Rattle.pg_term.specs.declared.term.Term.{Term, Tuple, List as Listed, fold-Term, map-Term, out-Term, fold_out-Term, the_lemmas}
 use Rattle.pg_term.specs.declared.term.Term.TheOpen.{Term-F}
-use Rattle.pg_term.specs.declared.term.Term.TheVariants.{Int, Atom as Name, Ref, Pid as Process}
+use Rattle.pg_term.specs.declared.term.Term.TheVariants.{Int, Atom as Name, Ref, Pid as Process, Binary}
 use Rattle.pg_term.specs.RefParts.{RefParts}
 use Rattle.pg_term.specs.Depth.{depth, greatest_depth, depth_step}
 use Rattle.pg_term_io.specs.Numbers.{big_value}
 use Rattle.pg_term_io.specs.Spelling.{IsAtom, IsPid, IsRef, Item, Items, Elements, Tail, Spells}
 use Rattle.pg_term_io.specs.Spelling as s
-use Rattle.pg_term_io.specs.Writing.{digits, big_bytes, int_bytes, text_bytes, atom_bytes, pid_bytes, reference_bytes, tuple_head, item_bytes, all_bytes, tuple_bytes, list_bytes, written, IsSpelled, AreSpelled}
+use Rattle.pg_term_io.specs.Writing.{digits, big_bytes, int_bytes, text_bytes, atom_bytes, pid_bytes, reference_bytes, binary_bytes, tuple_head, item_bytes, all_bytes, tuple_bytes, list_bytes, written, IsSpelled, AreSpelled}
 use Rattle.pg_term_io.proofs.Deep.{depth_more}
 use Rattle.pg_term_io.proofs.WrittenDigits.{few_digits}
 use Rattle.pg_term_io.proofs.WrittenValue.{little_endian-digits, digits_below}
-use Rattle.pg_term_io.proofs.Written.{tuple_is, list_is, count_le, bytes_more}
+use Rattle.pg_term_io.proofs.Written.{tuple_is, list_is, binary_is, count_le, bytes_more}
 
 tested_at : (P : List ℕ → Type 0) (b : Bool) (x y : List ℕ) → (b ≡ true → P x) → (b ≡ false → P y) → P (cond b x y)
 tested_at P true x y p q = p refl
@@ -94,26 +94,35 @@ reference_deep r = search (rules, the_lemmas)
 reference_is : (r : RefParts) → item_bytes (Ref r) ≡ reference_bytes r
 reference_is r = search (rules, the_lemmas)
 
-pub pid_spelled : (p : Pid) → IsAtom p.node (atom_bytes p.node) → p.id < 2 ^ 32 → p.serial < 2 ^ 32 → p.creation < 256 → IsSpelled (Process p)
+pub pid_spelled : (p : Pid) → IsAtom p.node (atom_bytes p.node) → p.id < 2 ^ 32 → p.serial < 2 ^ 32 → p.creation < 2 ^ 32 → IsSpelled (Process p)
 unfolding pid_bytes
 pid_spelled p node i sr cr =
     let a = atom_bytes p.node in
     let id = to_be_bytes w32 p.id in
     let serial = to_be_bytes w32 p.serial in
-    let last = p.creation ∷ [] in
+    let last = to_be_bytes w32 p.creation in
     let e : ((a ++ id) ++ serial) ++ last ≡ a ++ (id ++ (serial ++ last)) = simp append_assoc in
-    shallow (Process p) (103 ∷ a ++ id ++ serial ++ last) (pid_deep p) (pid_is p)
-    (λ room. s.Item.pid room p (((a ++ id) ++ serial) ++ last) (subst (IsPid p) (sym e) (s.IsPid.parts p a node i sr cr)))
+    shallow (Process p) (88 ∷ a ++ id ++ serial ++ last) (pid_deep p) (pid_is p)
+    (λ room. s.Item.new_pid room p (((a ++ id) ++ serial) ++ last) (subst (IsPid w32 p) (sym e) (s.IsPid.parts w32 p a node i sr cr)))
 
-pub reference_spelled : (r : RefParts) → IsAtom r.node (atom_bytes r.node) → 1 ≤ length r.words → length r.words ≤ 3 → AllByRecursion (λ w. w < 2 ^ 32) r.words → r.creation < 256 → IsSpelled (Ref r)
+pub reference_spelled : (r : RefParts) → IsAtom r.node (atom_bytes r.node) → 1 ≤ length r.words → length r.words ≤ 3 → AllByRecursion (λ w. w < 2 ^ 32) r.words → r.creation < 2 ^ 32 → IsSpelled (Ref r)
 unfolding reference_bytes
 reference_spelled r node some few words cr =
     let a = atom_bytes r.node in
     let count = to_be_bytes w16 (length r.words) in
-    let last = r.creation ∷ flat_map (to_be_bytes w32) r.words in
-    let e : (count ++ a) ++ last ≡ count ++ (a ++ last) = simp append_assoc in
-    shallow (Ref r) (114 ∷ count ++ a ++ last) (reference_deep r) (reference_is r)
-    (λ room. s.Item.reference room r ((count ++ a) ++ last) (subst (IsRef r) (sym e) (s.IsRef.parts r a (omega arith) (omega arith) words node cr)))
+    let creation = to_be_bytes w32 r.creation in
+    let last = flat_map (to_be_bytes w32) r.words in
+    let e : ((count ++ a) ++ creation) ++ last ≡ count ++ (a ++ (creation ++ last)) = simp append_assoc in
+    shallow (Ref r) (90 ∷ count ++ a ++ creation ++ last) (reference_deep r) (reference_is r)
+    (λ room. s.Item.newer_reference room r (((count ++ a) ++ creation) ++ last) (subst (IsRef w32 r) (sym e) (s.IsRef.parts w32 r a (omega arith) (omega arith) words node cr)))
+
+binary_deep : (content : List ℕ) → depth (Binary content) ≡ 1
+binary_deep content = search (rules, the_lemmas)
+
+pub binary_spelled : (content : List ℕ) → length (binary_bytes content) ≤ 16777216 → AllByRecursion (λ b. b < 256) content → IsSpelled (Binary content)
+binary_spelled content short fit =
+    let few : length content < 2 ^ 32 = omega (arith, length-append (to_be_bytes w32 (length content)) content) in
+    shallow (Binary content) (binary_bytes content) (binary_deep content) (binary_is content) (λ room. s.Item.binary room content few fit)
 
 step_depth : (l : Term-F ℕ) → 1 ≤ depth_step l
 step_depth (Term-F.Int z) = omega arith
@@ -122,6 +131,7 @@ step_depth (Term-F.Ref r) = omega arith
 step_depth (Term-F.Pid p) = omega arith
 step_depth (Term-F.Tuple ds) = omega arith
 step_depth (Term-F.List ds) = omega arith
+step_depth (Term-F.Binary content) = omega arith
 
 depth_some : (t : Term) → 1 ≤ depth t
 depth_some t = rw (fold_out-Term ℕ depth_step t) (step_depth (map-Term Term ℕ (fold-Term ℕ depth_step) (out-Term t)))

@@ -1,8 +1,11 @@
 -- One level of reading.
-use Rattle.std.proofs.Common.{◌≡◌, ℕ, zero, suc, ◌-◌, ◌<◌, ◌≤◌, List, [], ◌∷◌, length, get_or, take, drop, Err, refl, arith}
+use Rattle.std.proofs.Common.{◌≡◌, ℕ, zero, suc, ◌-◌, ◌<◌, ◌≤◌, List, [], ◌∷◌, length, get_or, take, drop, Ok, Err, refl, arith}
 use Rattle.std.proofs.Math.Seq.{take-length}
 use Rattle.pg_term.specs.declared.fault.TermFault.TheVariants.{Truncated, TooDeep}
-use Rattle.pg_term_io.specs.Reading.{readers, item_at, tail_at, item_behind, elements_behind}
+use Rattle.pg_term_io.specs.Numbers.{int_of}
+use Rattle.pg_term_io.specs.Reading.{readers, item_at, tail_at, item_behind, elements_behind, leaf_behind, items_at, as_term, atom_behind}
+use Rattle.pg_term.specs.declared.term.Term.{Tuple}
+use Rattle.pg_term.specs.declared.term.Term.TheVariants.{Atom}
 
 pub item_at-nothing : (room : ℕ) (bytes : List ℕ) → length bytes < 1 → item_at room bytes ≡ Err Truncated
 unfolding readers
@@ -37,3 +40,26 @@ unfolding readers
 tail_at-more room [] h e = absurd (omega arith)
 tail_at-more zero (tag ∷ bytes) h e = absurd (e refl)
 tail_at-more (suc room) (tag ∷ bytes) h e = let k : suc room - 1 ≡ room = omega arith in let n : length (tag ∷ bytes) - 1 ≡ length bytes = omega arith in rw (k, n, take-length bytes) refl
+
+pub item_at-small : (room : ℕ) (bytes : List ℕ) → 2 ≤ length bytes → 0 < room → get_or bytes 0 0 ≡ 97
+    → item_at room bytes ≡ Ok (int_of (get_or bytes 1 0), take (length bytes - 2) (drop 2 bytes))
+unfolding readers item_behind leaf_behind
+item_at-small room [] h e q = absurd (omega arith)
+item_at-small room (tag ∷ []) h e q = absurd (omega arith)
+item_at-small zero (tag ∷ n ∷ bytes) h e q = absurd (omega arith)
+item_at-small (suc room) (tag ∷ n ∷ bytes) h e q = let k : length (tag ∷ n ∷ bytes) - 2 ≡ length bytes = omega arith in rw (k, take-length bytes, q) refl
+
+pub item_at-tuple : (room : ℕ) (bytes : List ℕ) → 2 ≤ length bytes → 0 < room → get_or bytes 0 0 ≡ 104
+    → item_at room bytes ≡ as_term Tuple (items_at (item_at (room - 1)) (get_or bytes 1 0) (take (length bytes - 2) (drop 2 bytes)))
+unfolding readers item_behind
+item_at-tuple room [] h e q = absurd (omega arith)
+item_at-tuple room (tag ∷ []) h e q = absurd (omega arith)
+item_at-tuple zero (tag ∷ n ∷ bytes) h e q = absurd (omega arith)
+item_at-tuple (suc room) (tag ∷ n ∷ bytes) h e q = let r : suc room - 1 ≡ room = omega arith in let k : length (tag ∷ n ∷ bytes) - 2 ≡ length bytes = omega arith in rw (r, k, take-length bytes, q) refl
+
+pub item_at-name : (room : ℕ) (bytes : List ℕ) → 0 < room → get_or bytes 0 0 ≡ 119
+    → item_at room bytes ≡ as_term Atom (atom_behind 119 (take (length bytes - 1) (drop 1 bytes)))
+unfolding readers item_behind leaf_behind
+item_at-name room [] e q = absurd (omega (arith, q))
+item_at-name zero (tag ∷ bytes) e q = absurd (omega arith)
+item_at-name (suc room) (tag ∷ bytes) e q = let k : length (tag ∷ bytes) - 1 ≡ length bytes = omega arith in rw (k, take-length bytes, q) refl

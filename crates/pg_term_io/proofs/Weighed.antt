@@ -4,7 +4,7 @@ use Rattle.std.specs.Int.{w16, w32, to_be_bytes, cast_signed}
 use Rattle.pg_term.specs.declared.pid.Pid.{Pid}
 use Rattle.pg_term.specs.declared.term.Term.{Term, Tuple, List as Listed, map-Term, out-Term, fold_out-Term, the_lemmas}
 use Rattle.pg_term.specs.declared.term.Term.TheOpen.{Term-F}
-use Rattle.pg_term.specs.declared.term.Term.TheVariants.{Int, Atom as Name, Ref, Pid as Process}
+use Rattle.pg_term.specs.declared.term.Term.TheVariants.{Int, Atom as Name, Ref, Pid as Process, Binary}
 use Rattle.pg_term.specs.RefParts.{RefParts}
 use Rattle.pg_term_io.specs.Numbers.{int_of, big_value}
 use Rattle.pg_term_io.specs.Spelling.{IsAtom, Item, Items, Elements, Tail, Spells}
@@ -25,6 +25,9 @@ reference_weight r = search (rules, the_lemmas)
 pid_weight : (p : Pid) → weight (Process p) ≡ 1
 pid_weight p = search (rules, the_lemmas)
 
+binary_weight : (content : List ℕ) → weight (Binary content) ≡ 1
+binary_weight content = search (rules, the_lemmas)
+
 tuple_weight : (ts : List Term) → weight (Tuple ts) ≡ 1 + total_weight ts
 tuple_weight ts = search (rules, the_lemmas)
 
@@ -38,6 +41,7 @@ step_some (Term-F.Ref r) = omega arith
 step_some (Term-F.Pid p) = omega arith
 step_some (Term-F.Tuple ws) = omega arith
 step_some (Term-F.List ws) = omega arith
+step_some (Term-F.Binary content) = omega arith
 
 -- what a term weighs by its outermost form
 pub weight_out : (t : Term) → weight t ≡ weight_step (map-Term Term ℕ weight (out-Term t))
@@ -72,8 +76,11 @@ mutual
   item_light _ _ _ (s.Item.small_big room sign digits one few fit fits) = omega (arith, int_weight (big_value sign digits))
   item_light _ _ _ (s.Item.atom room a b h) = omega (arith, atom_weight a, atom_some a b h)
   item_light _ _ _ (s.Item.pid room p b h) = omega (arith, pid_weight p)
+  item_light _ _ _ (s.Item.new_pid room p b h) = omega (arith, pid_weight p)
   item_light _ _ _ (s.Item.old_reference room r b h) = omega (arith, reference_weight r)
   item_light _ _ _ (s.Item.reference room r b h) = omega (arith, reference_weight r)
+  item_light _ _ _ (s.Item.newer_reference room r b h) = omega (arith, reference_weight r)
+  item_light _ _ _ (s.Item.binary room content lt fit) = omega (arith, binary_weight content)
   item_light _ _ _ (s.Item.small_tuple room ts b lt h) = omega (arith, tuple_weight ts, items_light room ts b h)
   item_light _ _ _ (s.Item.large_tuple room ts b lt h) =
       omega (arith, tuple_weight ts, items_light room ts b h, length-append (to_be_bytes w32 (length ts)) b)

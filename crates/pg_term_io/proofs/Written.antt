@@ -7,7 +7,8 @@ use Rattle.std.specs.Str.{encode_utf8_all}
 use Rattle.std.proofs.Math.ListN.{length-map}
 use Rattle.pg_term.specs.declared.term.Term.{Term, Tuple, List as Listed, fold-Term, map-Term, out-Term, fold_out-Term, the_lemmas}
 use Rattle.pg_term.specs.declared.term.Term.TheOpen.{Term-F}
-use Rattle.pg_term_io.specs.Writing.{big_bytes, int_bytes, atom_bytes, pid_bytes, reference_bytes, text_bytes, tuple_head, list_head, tuple_bytes, list_bytes, joined, item_step, item_bytes, all_bytes}
+use Rattle.pg_term.specs.declared.term.Term.TheVariants.{Binary}
+use Rattle.pg_term_io.specs.Writing.{big_bytes, int_bytes, atom_bytes, pid_bytes, reference_bytes, binary_bytes, text_bytes, tuple_head, list_head, tuple_bytes, list_bytes, joined, item_step, item_bytes, all_bytes}
 
 pub tuple_is : (ts : List Term) → item_bytes (Tuple ts) ≡ tuple_bytes ts
 tuple_is ts = let n = length-map ts item_bytes in search (rules, the_lemmas)
@@ -15,12 +16,18 @@ tuple_is ts = let n = length-map ts item_bytes in search (rules, the_lemmas)
 pub list_is : (ts : List Term) → item_bytes (Listed ts) ≡ list_bytes ts
 list_is ts = let n = length-map ts item_bytes in search (rules, the_lemmas)
 
--- at a term that is a tuple, or a list
+pub binary_is : (content : List ℕ) → item_bytes (Binary content) ≡ binary_bytes content
+binary_is content = search (rules, the_lemmas)
+
+-- at a term that is a tuple, a list or a binary
 pub tuple_at : (t : Term) (fields ts : List Term) → t ≡ Tuple fields → ts ≡ fields → item_bytes t ≡ tuple_bytes ts
 tuple_at t fields ts e same = ap item_bytes e ∙ ap (λ (us : List Term). item_bytes (Tuple us)) (sym same) ∙ tuple_is ts
 
 pub list_at : (t : Term) (items ts : List Term) → t ≡ Listed items → ts ≡ items → item_bytes t ≡ list_bytes ts
 list_at t items ts e same = ap item_bytes e ∙ ap (λ (us : List Term). item_bytes (Listed us)) (sym same) ∙ list_is ts
+
+pub binary_at : (t : Term) (held content : List ℕ) → t ≡ Binary held → content ≡ held → item_bytes t ≡ binary_bytes content
+binary_at t held content e same = ap item_bytes e ∙ ap (λ (bytes : List ℕ). item_bytes (Binary bytes)) (sym same) ∙ binary_is content
 
 some : (b : Bool) (x y : List ℕ) → 1 ≤ length x → 1 ≤ length y → 1 ≤ length (cond b x y)
 some true x y p q = p
@@ -47,6 +54,7 @@ step_some (Term-F.Atom a) = text_some (encode_utf8_all a)
 step_some (Term-F.Ref r) = omega arith
 step_some (Term-F.Pid p) = omega arith
 step_some (Term-F.Tuple bs) = omega (arith, length-append (tuple_head (length bs)) (joined bs), head_some (length bs))
+step_some (Term-F.Binary content) = omega arith
 step_some (Term-F.List bs) = omega (arith, length-append (list_head (length bs) ++ joined bs) (106 ∷ []))
 
 pub item_some : (t : Term) → 1 ≤ length (item_bytes t)

@@ -9,14 +9,17 @@ pub words_len : (words : List ℕ) → length (flat_map (to_be_bytes w32) words)
 words_len [] = refl
 words_len (word ∷ words) = omega (arith, words_len words, length-append (to_be_bytes w32 word) (flat_map (to_be_bytes w32) words))
 
-pub reference_len : (r : RefParts) → length (reference_bytes r) ≡ 4 + length (atom_bytes r.node) + 4 * length r.words
+pub reference_len : (r : RefParts) → length (reference_bytes r) ≡ 7 + length (atom_bytes r.node) + 4 * length r.words
 unfolding reference_bytes
 reference_len r =
+    let count = to_be_bytes w16 (length r.words) in
+    let creation = to_be_bytes w32 r.creation in
     omega (
       arith,
       words_len r.words,
-      length-append (to_be_bytes w16 (length r.words) ++ atom_bytes r.node) (r.creation ∷ flat_map (to_be_bytes w32) r.words),
-      length-append (to_be_bytes w16 (length r.words)) (atom_bytes r.node),
+      length-append (count ++ atom_bytes r.node ++ creation) (flat_map (to_be_bytes w32) r.words),
+      length-append (count ++ atom_bytes r.node) creation,
+      length-append count (atom_bytes r.node),
     )
 
 all_below : (words : List ℕ) → ((k : ℕ) → get_or words k 0 < 2 ^ 32) → AllByRecursion (λ w. w < 2 ^ 32) words

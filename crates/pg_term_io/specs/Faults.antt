@@ -2,11 +2,12 @@
 -- first fault is told: what stands before it is well spelled, whatever follows it. The forms are those of the External
 -- Term Format chapter of the Erlang documentation. `room` is how many more levels of terms may nest.
 use Rattle.std.specs.Prelude.{◌≡◌, ◌≢◌, ℕ, zero, suc, ◌+◌, ◌*◌, ◌<◌, ◌^◌, false, ◌⊎◌, List, [], ◌∷◌, ◌++◌, length, FitsSigned}
-use Rattle.std.specs.Int.{w16, w32, w64, to_be_bytes}
+use Rattle.std.specs.Int.{Width, byte_len, w8, w16, w32, w64, to_be_bytes}
 use Rattle.std.specs.Str.{chars, IsUtf8}
 use Rattle.pg_term.specs.declared.fault.TermFault.{TermFault}
 use Rattle.pg_term.specs.declared.fault.TermFault.TheVariants.{Truncated, BadVersion, UnknownTag, TooDeep, IntegerTooLarge, BadAtom, ImproperList, BadReference, TrailingBytes}
 use Rattle.pg_term.specs.declared.term.Term.{Term}
+use Rattle.pg_term_io.specs.declared.limits.TheConstants.{MAX_DEPTH}
 use Rattle.pg_term_io.specs.Numbers.{big_value}
 use Rattle.pg_term_io.specs.Tags.{is_atom_tag, is_list_tag, is_tag}
 use Rattle.pg_term_io.specs.Spelling.{IsAtom, Item, Items}
@@ -45,11 +46,12 @@ pub data BreaksNode : TermFault → List ℕ → Type 0 where
 
 -- ---- pids and references, behind their tags
 
--- PID_EXT: behind the node stand the ID and the Serial, of four bytes, and the Creation, of one
-pub data BreaksPid : TermFault → List ℕ → Type 0 where
+-- PID_EXT, NEW_PID_EXT: behind the node stand the ID and the Serial, of four bytes, and the Creation, of one (w8) or four
+-- (w32)
+pub data BreaksPid : Width → TermFault → List ℕ → Type 0 where
   -- the fault of the node, or what stands behind it is cut
-  node : (f : TermFault) (b : List ℕ) → BreaksNode f b → BreaksPid f b
-  cut : (a text b : List ℕ) → IsAtom a text → length b < 9 → BreaksPid Truncated (text ++ b)
+  node : (w : Width) (f : TermFault) (b : List ℕ) → BreaksNode f b → BreaksPid w f b
+  cut : (w : Width) (a text b : List ℕ) → IsAtom a text → length b < 8 + byte_len w → BreaksPid w Truncated (text ++ b)
 
 -- REFERENCE_EXT: behind the node stand the word, of four bytes, and the Creation, of one
 pub data BreaksOldRef : TermFault → List ℕ → Type 0 where
@@ -57,15 +59,15 @@ pub data BreaksOldRef : TermFault → List ℕ → Type 0 where
   node : (f : TermFault) (b : List ℕ) → BreaksNode f b → BreaksOldRef f b
   cut : (a text b : List ℕ) → IsAtom a text → length b < 5 → BreaksOldRef Truncated (text ++ b)
 
--- NEW_REFERENCE_EXT: the number of words is tested before the node is read; behind the node stand the Creation, of one
--- byte, and the words, of four
-pub data BreaksRef : TermFault → List ℕ → Type 0 where
+-- NEW_REFERENCE_EXT, NEWER_REFERENCE_EXT: the number of words is tested before the node is read; behind the node stand the
+-- Creation, of one byte (w8) or four (w32), and the words, of four
+pub data BreaksRef : Width → TermFault → List ℕ → Type 0 where
   -- the number of words is cut, or it is none of 1 to 3
-  length_cut : (b : List ℕ) → length b < 2 → BreaksRef Truncated b
-  bad_length : (n : ℕ) (b : List ℕ) → n < 2 ^ 16 → (n ≡ 0) ⊎ (3 < n) → BreaksRef BadReference (to_be_bytes w16 n ++ b)
+  length_cut : (w : Width) (b : List ℕ) → length b < 2 → BreaksRef w Truncated b
+  bad_length : (w : Width) (n : ℕ) (b : List ℕ) → n < 2 ^ 16 → (n ≡ 0) ⊎ (3 < n) → BreaksRef w BadReference (to_be_bytes w16 n ++ b)
   -- the fault of the node, or what stands behind it is cut
-  node : (n : ℕ) (f : TermFault) (b : List ℕ) → 0 < n → n < 4 → BreaksNode f b → BreaksRef f (to_be_bytes w16 n ++ b)
-  cut : (n : ℕ) (a text b : List ℕ) → 0 < n → n < 4 → IsAtom a text → length b < 1 + 4 * n → BreaksRef Truncated (to_be_bytes w16 n ++ (text ++ b))
+  node : (w : Width) (n : ℕ) (f : TermFault) (b : List ℕ) → 0 < n → n < 4 → BreaksNode f b → BreaksRef w f (to_be_bytes w16 n ++ b)
+  cut : (w : Width) (n : ℕ) (a text b : List ℕ) → 0 < n → n < 4 → IsAtom a text → length b < byte_len w + 4 * n → BreaksRef w Truncated (to_be_bytes w16 n ++ (text ++ b))
 
 -- ---- items
 
@@ -88,10 +90,15 @@ mutual
     too_large : (room sign : ℕ) (digits rest : List ℕ) → (FitsSigned w64 (big_value sign digits) → ⊥) → BreaksItem (suc room) IntegerTooLarge (110 ∷ length digits ∷ sign ∷ (digits ++ rest))
     -- the fault of an atom
     atom : (room : ℕ) (f : TermFault) (b : List ℕ) → BreaksAtom f b → BreaksItem (suc room) f b
-    -- PID_EXT, REFERENCE_EXT, NEW_REFERENCE_EXT: the fault of what stands behind the tag
-    pid : (room : ℕ) (f : TermFault) (b : List ℕ) → BreaksPid f b → BreaksItem (suc room) f (103 ∷ b)
+    -- PID_EXT, NEW_PID_EXT, REFERENCE_EXT, NEW_REFERENCE_EXT, NEWER_REFERENCE_EXT: the fault of what stands behind the tag
+    pid : (room : ℕ) (f : TermFault) (b : List ℕ) → BreaksPid w8 f b → BreaksItem (suc room) f (103 ∷ b)
+    new_pid : (room : ℕ) (f : TermFault) (b : List ℕ) → BreaksPid w32 f b → BreaksItem (suc room) f (88 ∷ b)
     old_reference : (room : ℕ) (f : TermFault) (b : List ℕ) → BreaksOldRef f b → BreaksItem (suc room) f (101 ∷ b)
-    reference : (room : ℕ) (f : TermFault) (b : List ℕ) → BreaksRef f b → BreaksItem (suc room) f (114 ∷ b)
+    reference : (room : ℕ) (f : TermFault) (b : List ℕ) → BreaksRef w8 f b → BreaksItem (suc room) f (114 ∷ b)
+    newer_reference : (room : ℕ) (f : TermFault) (b : List ℕ) → BreaksRef w32 f b → BreaksItem (suc room) f (90 ∷ b)
+    -- BINARY_EXT: its length is cut, or its bytes are
+    binary_length_cut : (room : ℕ) (b : List ℕ) → length b < 4 → BreaksItem (suc room) Truncated (109 ∷ b)
+    binary_cut : (room n : ℕ) (b : List ℕ) → n < 2 ^ 32 → length b < n → BreaksItem (suc room) Truncated (109 ∷ to_be_bytes w32 n ++ b)
     -- SMALL_TUPLE_EXT, LARGE_TUPLE_EXT: the arity is cut, or an element has the fault
     small_arity_cut : (room : ℕ) → BreaksItem (suc room) Truncated (104 ∷ [])
     small_tuple : (room n : ℕ) (f : TermFault) (b : List ℕ) → BreaksItems room n f b → BreaksItem (suc room) f (104 ∷ n ∷ b)
@@ -137,6 +144,6 @@ pub data Breaks : TermFault → List ℕ → Type 0 where
   -- the version number is not 131
   bad_version : (version : ℕ) (b : List ℕ) → version ≢ 131 → Breaks BadVersion (version ∷ b)
   -- the fault of the item
-  item : (f : TermFault) (b : List ℕ) → BreaksItem 64 f b → Breaks f (131 ∷ b)
+  item : (f : TermFault) (b : List ℕ) → BreaksItem MAX_DEPTH f b → Breaks f (131 ∷ b)
   -- a byte stands behind the item
-  trailing : (t : Term) (a : List ℕ) (next : ℕ) (b : List ℕ) → Item 64 t a → Breaks TrailingBytes (131 ∷ (a ++ next ∷ b))
+  trailing : (t : Term) (a : List ℕ) (next : ℕ) (b : List ℕ) → Item MAX_DEPTH t a → Breaks TrailingBytes (131 ∷ (a ++ next ∷ b))

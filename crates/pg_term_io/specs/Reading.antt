@@ -1,6 +1,6 @@
 -- Reading a term from left to right, with the first fault that is met. A reader answers the value and the bytes after it.
 use Rattle.std.specs.Prelude.{ℕ, zero, suc, ◌^◌, ℤ, pos, negsuc, List, [], ◌∷◌, ◌++◌, length, take, drop, map, Bool, ◌||◌, ◌&&◌, Result, Ok, Err, nat_lt, ◌==◌, if◌then◌else◌}
-use Rattle.std.specs.Int.{Width, w16, w32, byte_len, from_be_bytes, cast_signed}
+use Rattle.std.specs.Int.{Width, w8, w16, w32, byte_len, from_be_bytes, cast_signed}
 use Rattle.std.specs.Str.{chars, is_utf8}
 use Rattle.pg_term.specs.declared.fault.TermFault.{TermFault}
 use Rattle.pg_term.specs.declared.fault.TermFault.TheVariants.{Truncated, BadVersion, UnknownTag, TooDeep, IntegerTooLarge, BadAtom, ImproperList, BadReference, TrailingBytes}
@@ -9,6 +9,7 @@ use Rattle.pg_term.specs.declared.term.Term.{Term}
 use Rattle.pg_term.specs.declared.term.Term as term
 use Rattle.pg_term.specs.RefParts.{RefParts}
 use Rattle.pg_term.specs.Fault.{atom_of}
+use Rattle.pg_term_io.specs.declared.limits.TheConstants.{MAX_DEPTH}
 use Rattle.pg_term_io.specs.Numbers.{int_of, big_value}
 use Rattle.pg_term_io.specs.Tags.{is_atom_tag, is_list_tag}
 
@@ -92,12 +93,13 @@ atom_at (tag ∷ bytes) = atom_behind tag bytes
 
 -- ---- behind the other tags
 
-unfoldable pub pid_at : List ℕ → Read Pid
-pid_at bytes = do
+-- a pid, with a creation of so many bits
+unfoldable pub pid_at : Width → List ℕ → Read Pid
+pid_at w bytes = do
   node ← atom_at bytes
   id ← number_at w32 node.1
   serial ← number_at w32 id.1
-  creation ← byte_at serial.1
+  creation ← number_at w serial.1
   Ok (record { node = node.0; serial = serial.0; id = id.0; creation = creation.0 }, creation.1)
 
 unfoldable pub old_reference_at : List ℕ → Read RefParts
@@ -112,13 +114,19 @@ words_at node creation n bytes = do
   words ← items_at (number_at w32) n bytes
   Ok (record { node = node; creation = creation; words = words.0 }, words.1)
 
-unfoldable pub new_reference_at : List ℕ → Read RefParts
-new_reference_at bytes = do
+-- a reference that says how many words it has, with a creation of so many bits
+unfoldable pub new_reference_at : Width → List ℕ → Read RefParts
+new_reference_at w bytes = do
   n ← number_at w16 bytes
   if (n.0 == 0) || nat_lt 3 n.0 then Err BadReference else do
     node ← atom_at n.1
-    creation ← byte_at node.1
+    creation ← number_at w node.1
     words_at node.0 creation.0 n.0 creation.1
+
+unfoldable pub binary_at : List ℕ → Read (List ℕ)
+binary_at bytes = do
+  n ← number_at w32 bytes
+  bytes_at n.0 n.1
 
 -- ---- items
 
@@ -163,9 +171,12 @@ leaf_behind tag bytes =
     else if tag == 98 then as_term (λ n. term.TheVariants.Int (cast_signed w32 n)) (number_at w32 bytes)
     else if tag == 110 then as_term term.TheVariants.Int (big_at bytes)
     else if is_atom_tag tag then as_term term.TheVariants.Atom (atom_behind tag bytes)
-    else if tag == 103 then as_term term.TheVariants.Pid (pid_at bytes)
+    else if tag == 103 then as_term term.TheVariants.Pid (pid_at w8 bytes)
+    else if tag == 88 then as_term term.TheVariants.Pid (pid_at w32 bytes)
     else if tag == 101 then as_term term.TheVariants.Ref (old_reference_at bytes)
-    else if tag == 114 then as_term term.TheVariants.Ref (new_reference_at bytes)
+    else if tag == 114 then as_term term.TheVariants.Ref (new_reference_at w8 bytes)
+    else if tag == 90 then as_term term.TheVariants.Ref (new_reference_at w32 bytes)
+    else if tag == 109 then as_term term.TheVariants.Binary (binary_at bytes)
     else Err UnknownTag
 
 -- behind any tag
@@ -199,5 +210,5 @@ tail_at room = (readers room).tail
 unfoldable pub term_of : List ℕ → Result Term TermFault
 term_of [] = Err Truncated
 term_of (version ∷ bytes) =
-    if version == 131 then (item_at 64 bytes >>= λ x. if length x.1 == 0 then Ok x.0 else Err TrailingBytes)
+    if version == 131 then (item_at MAX_DEPTH bytes >>= λ x. if length x.1 == 0 then Ok x.0 else Err TrailingBytes)
     else Err BadVersion

@@ -1,13 +1,14 @@
 -- Which bytes spell a term: the External Term Format chapter of the Erlang documentation, one constructor a form.
 -- `room` is how many more levels of terms may nest: an item with room for 0 levels spells nothing.
 use Rattle.std.specs.Prelude.{◌≡◌, ℕ, suc, ◌<◌, ◌≤◌, ◌^◌, pos, List, [], ◌∷◌, ◌++◌, length, map, FitsSigned}
-use Rattle.std.specs.Int.{w16, w32, w64, to_be_bytes, cast_signed}
+use Rattle.std.specs.Int.{Width, byte_len, w8, w16, w32, w64, to_be_bytes, cast_signed}
 use Rattle.std.specs.List.{flat_map, AllByRecursion}
 use Rattle.std.specs.Str.{chars, IsUtf8}
 use Rattle.pg_term.specs.declared.pid.Pid.{Pid}
 use Rattle.pg_term.specs.declared.term.Term.{Term, Tuple, List as Listed}
-use Rattle.pg_term.specs.declared.term.Term.TheVariants.{Int, Atom as Name, Ref, Pid as Process}
+use Rattle.pg_term.specs.declared.term.Term.TheVariants.{Int, Atom as Name, Ref, Pid as Process, Binary}
 use Rattle.pg_term.specs.RefParts.{RefParts}
+use Rattle.pg_term_io.specs.declared.limits.TheConstants.{MAX_DEPTH}
 use Rattle.pg_term_io.specs.Numbers.{int_of, big_value}
 
 -- an atom of at most 255 characters, with its tag
@@ -21,21 +22,22 @@ pub data IsAtom : List ℕ → List ℕ → Type 0 where
   -- ATOM_EXT (100): the length in two bytes, and the characters in Latin-1
   latin : (text : List ℕ) → length text ≤ 255 → AllByRecursion (λ c. c < 256) text → IsAtom text (100 ∷ to_be_bytes w16 (length text) ++ text)
 
--- PID_EXT, behind its tag: the node as an atom, the ID and the Serial in four bytes, and the Creation in one
-pub data IsPid : Pid → List ℕ → Type 0 where
-  parts : (p : Pid) (node : List ℕ) → IsAtom p.node node → p.id < 2 ^ 32 → p.serial < 2 ^ 32 → p.creation < 256
-      → IsPid p (node ++ (to_be_bytes w32 p.id ++ (to_be_bytes w32 p.serial ++ p.creation ∷ [])))
+-- a pid, behind its tag: the node as an atom, the ID and the Serial in four bytes, and the Creation, in one byte (w8) in
+-- PID_EXT and in four (w32) in NEW_PID_EXT
+pub data IsPid : Width → Pid → List ℕ → Type 0 where
+  parts : (w : Width) (p : Pid) (node : List ℕ) → IsAtom p.node node → p.id < 2 ^ 32 → p.serial < 2 ^ 32 → p.creation < 256 ^ byte_len w
+      → IsPid w p (node ++ (to_be_bytes w32 p.id ++ (to_be_bytes w32 p.serial ++ to_be_bytes w p.creation)))
 
 -- REFERENCE_EXT, behind its tag: the node as an atom, the ID in four bytes, which is the one word, and the Creation in one
 pub data IsOldRef : RefParts → List ℕ → Type 0 where
   parts : (node text : List ℕ) (word creation : ℕ) → IsAtom node text → word < 2 ^ 32 → creation < 256
       → IsOldRef (record { node = node; creation = creation; words = word ∷ [] }) (text ++ (to_be_bytes w32 word ++ creation ∷ []))
 
--- NEW_REFERENCE_EXT, behind its tag: how many words in two bytes, the node as an atom, the Creation in one byte,
--- and one to three words of four bytes
-pub data IsRef : RefParts → List ℕ → Type 0 where
-  parts : (r : RefParts) (node : List ℕ) → 0 < length r.words → length r.words < 4 → AllByRecursion (λ w. w < 2 ^ 32) r.words → IsAtom r.node node → r.creation < 256
-      → IsRef r (to_be_bytes w16 (length r.words) ++ (node ++ (r.creation ∷ flat_map (to_be_bytes w32) r.words)))
+-- a reference of some words, behind its tag: how many words in two bytes, the node as an atom, the Creation, in one byte
+-- (w8) in NEW_REFERENCE_EXT and in four (w32) in NEWER_REFERENCE_EXT, and one to three words of four bytes
+pub data IsRef : Width → RefParts → List ℕ → Type 0 where
+  parts : (w : Width) (r : RefParts) (node : List ℕ) → 0 < length r.words → length r.words < 4 → AllByRecursion (λ word. word < 2 ^ 32) r.words → IsAtom r.node node → r.creation < 256 ^ byte_len w
+      → IsRef w r (to_be_bytes w16 (length r.words) ++ (node ++ (to_be_bytes w r.creation ++ flat_map (to_be_bytes w32) r.words)))
 
 mutual
   -- these bytes are one item, which is this term
@@ -50,11 +52,17 @@ mutual
         → Item (suc room) (Int (big_value sign digits)) (110 ∷ length digits ∷ sign ∷ digits)
     atom : (room : ℕ) (a b : List ℕ) → IsAtom a b → Item (suc room) (Name a) b
     -- PID_EXT (103)
-    pid : (room : ℕ) (p : Pid) (b : List ℕ) → IsPid p b → Item (suc room) (Process p) (103 ∷ b)
+    pid : (room : ℕ) (p : Pid) (b : List ℕ) → IsPid w8 p b → Item (suc room) (Process p) (103 ∷ b)
+    -- NEW_PID_EXT (88)
+    new_pid : (room : ℕ) (p : Pid) (b : List ℕ) → IsPid w32 p b → Item (suc room) (Process p) (88 ∷ b)
     -- REFERENCE_EXT (101)
     old_reference : (room : ℕ) (r : RefParts) (b : List ℕ) → IsOldRef r b → Item (suc room) (Ref r) (101 ∷ b)
     -- NEW_REFERENCE_EXT (114)
-    reference : (room : ℕ) (r : RefParts) (b : List ℕ) → IsRef r b → Item (suc room) (Ref r) (114 ∷ b)
+    reference : (room : ℕ) (r : RefParts) (b : List ℕ) → IsRef w8 r b → Item (suc room) (Ref r) (114 ∷ b)
+    -- NEWER_REFERENCE_EXT (90)
+    newer_reference : (room : ℕ) (r : RefParts) (b : List ℕ) → IsRef w32 r b → Item (suc room) (Ref r) (90 ∷ b)
+    -- BINARY_EXT (109): how many bytes in four bytes, and the bytes
+    binary : (room : ℕ) (bytes : List ℕ) → length bytes < 2 ^ 32 → AllByRecursion (λ b. b < 256) bytes → Item (suc room) (Binary bytes) (109 ∷ to_be_bytes w32 (length bytes) ++ bytes)
     -- SMALL_TUPLE_EXT (104): the arity in one byte, and the elements, each one level deeper
     small_tuple : (room : ℕ) (ts : List Term) (b : List ℕ) → length ts < 256 → Items room ts b → Item (suc room) (Tuple ts) (104 ∷ length ts ∷ b)
     -- LARGE_TUPLE_EXT (105): the arity in four bytes, and the elements
@@ -81,4 +89,4 @@ mutual
 
 -- the version number 131, and one item of depth 1, which with all that it holds is at most 64 levels deep
 pub data Spells : Term → List ℕ → Type 0 where
-  version : (t : Term) (b : List ℕ) → Item 64 t b → Spells t (131 ∷ b)
+  version : (t : Term) (b : List ℕ) → Item MAX_DEPTH t b → Spells t (131 ∷ b)

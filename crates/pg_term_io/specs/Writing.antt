@@ -9,6 +9,7 @@ use Rattle.pg_term.specs.declared.term.Term.{Term, fold-Term}
 use Rattle.pg_term.specs.declared.term.Term.TheOpen.{Term-F}
 use Rattle.pg_term.specs.RefParts.{RefParts}
 use Rattle.pg_term.specs.Depth.{depth, greatest_depth}
+use Rattle.pg_term_io.specs.declared.limits.TheConstants.{MAX_DEPTH, MAX_LEN}
 use Rattle.pg_term_io.specs.Spelling.{Item, Items}
 
 -- a number in base 256, the least significant digit first: the fewest digits that do, and none for 0
@@ -32,13 +33,17 @@ text_bytes text = if nat_lt (length text) 256 then 119 ∷ length text ∷ text 
 unfoldable pub atom_bytes : List ℕ → List ℕ
 atom_bytes characters = text_bytes (encode_utf8_all characters)
 
--- PID_EXT: 103, Node as an atom, ID, Serial, Creation
+-- NEW_PID_EXT: 88, Node as an atom, ID, Serial, Creation
 unfoldable pub pid_bytes : Pid → List ℕ
-pid_bytes p = 103 ∷ atom_bytes p.node ++ to_be_bytes w32 p.id ++ to_be_bytes w32 p.serial ++ p.creation ∷ []
+pid_bytes p = 88 ∷ atom_bytes p.node ++ to_be_bytes w32 p.id ++ to_be_bytes w32 p.serial ++ to_be_bytes w32 p.creation
 
--- NEW_REFERENCE_EXT: 114, how many words, Node as an atom, Creation, the words
+-- NEWER_REFERENCE_EXT: 90, how many words, Node as an atom, Creation, the words
 unfoldable pub reference_bytes : RefParts → List ℕ
-reference_bytes r = 114 ∷ to_be_bytes w16 (length r.words) ++ atom_bytes r.node ++ r.creation ∷ flat_map (to_be_bytes w32) r.words
+reference_bytes r = 90 ∷ to_be_bytes w16 (length r.words) ++ atom_bytes r.node ++ to_be_bytes w32 r.creation ++ flat_map (to_be_bytes w32) r.words
+
+-- BINARY_EXT: 109, how many bytes, the bytes
+abbrev pub binary_bytes : List ℕ → List ℕ
+binary_bytes bytes = 109 ∷ to_be_bytes w32 (length bytes) ++ bytes
 
 -- SMALL_TUPLE_EXT (104), the arity in one byte, where that holds it, else LARGE_TUPLE_EXT (105), the arity in four
 abbrev pub tuple_head : ℕ → List ℕ
@@ -61,6 +66,7 @@ item_step (Term-F.Ref r) = reference_bytes r
 item_step (Term-F.Pid p) = pid_bytes p
 item_step (Term-F.Tuple parts) = tuple_head (length parts) ++ joined parts
 item_step (Term-F.List parts) = list_head (length parts) ++ joined parts ++ 106 ∷ []
+item_step (Term-F.Binary bytes) = binary_bytes bytes
 
 -- a term as one item
 abbrev pub item_bytes : Term → List ℕ
@@ -84,13 +90,13 @@ written t = 131 ∷ item_bytes t
 
 -- the term may be written: it nests at most 64 levels deep, and takes at most 16,777,216 bytes
 pub record IsWritable (t : Term) : Type 0 where
-  pub shallow : depth t ≤ 64
-  pub short : length (written t) ≤ 16777216
+  pub shallow : depth t ≤ MAX_DEPTH
+  pub short : length (written t) ≤ MAX_LEN
 
 -- it takes more bytes, and does not nest deeper
 pub record IsTooLong (t : Term) : Type 0 where
-  pub shallow : depth t ≤ 64
-  pub long : 16777216 < length (written t)
+  pub shallow : depth t ≤ MAX_DEPTH
+  pub long : MAX_LEN < length (written t)
 
 -- what is written for the term spells it, wherever it is not too deep
 pub record IsSpelled (t : Term) : Type 0 where

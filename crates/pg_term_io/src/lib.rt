@@ -2,11 +2,13 @@
 #![tactic(auto)]
 
 pub mod laws;
+mod limits;
 mod reading;
 mod size;
 mod writing;
 
-pub use reading::{decode, decode_item, decode_pid, decode_reference};
+pub use limits::{MAX_DEPTH, MAX_LEN};
+pub use reading::{check_term, decode, decode_item, decode_pid, decode_reference};
 pub use size::{
     atom_len, encode_len, int_len, item_len, list_head_len, pid_len, reference_len, tuple_head_len,
 };

@@ -1,30 +1,31 @@
 //! Bytes to terms.
 
 ghost use Rattle.std.specs.Prelude.{◌≡◌, ◌≢◌, IfOk, IfErr, Ok, Err};
+ghost use Rattle.std.specs.Int.{w32};
 ghost use Rattle.pg_term.specs.declared.fault.TermFault.{TermFault};
 ghost use Rattle.pg_term.specs.declared.fault.TermFault.TheVariants.{OutOfMemory, TooLong};
 ghost use Rattle.pg_term.specs.declared.term.Term.{Term};
 ghost use Rattle.pg_term.specs.Fault.{Gives};
 ghost use Rattle.pg_term_io.specs.Spelling.{Spells};
 ghost use Rattle.pg_term_io.specs.Faults.{Breaks};
+ghost use Rattle.pg_term_io.specs.Scanning.{Names as Judges};
 ghost use Rattle.pg_term_io.specs.Reading.{pid_at, new_reference_at, item_at, term_of};
 
 mod atoms;
 mod identifiers;
 mod items;
 mod numbers;
+mod scanning;
 
-use crate::reading::identifiers::{new_reference_at, pid_at};
+use crate::limits::MAX_DEPTH;
+use crate::reading::identifiers::{new_pid_at, newer_reference_at};
 use crate::reading::items::item;
 use pg_term::{Pid, Reference, Term, TermFault};
 use std::alloc::Global;
 
-/// How many levels of terms may nest.
-const MAX_DEPTH: u8 = 64;
-
 /// The term that the bytes spell, all of the bytes, by the External Term Format chapter of the
-/// Erlang documentation: the byte 131 and one item. Tags that are read: 97, 98, 100, 101, 103 to
-/// 108, 110, 114, 115, 118 and 119. Terms may nest 64 levels deep.
+/// Erlang documentation: the byte 131 and one item. Tags that are read: 88, 90, 97, 98, 100, 101,
+/// 103 to 110, 114, 115, 118 and 119. Terms may nest 64 levels deep.
 ///
 /// Items are read from left to right, an item before its parts, and the first fault is told:
 ///
@@ -39,8 +40,8 @@ const MAX_DEPTH: u8 = 64;
 ///
 /// `OutOfMemory` may be told in place of a later fault.
 ///
-/// The time is linear in the number of bytes; no room is reserved that the bytes don't bear out,
-/// and an atom takes one allocation.
+/// The time is linear in the number of bytes. Room for elements is taken once, for no more of them
+/// than there are bytes for, those of the lists around included; an atom takes one allocation.
 pub fn decode(alloc: Global, bytes: &[u8]) -> Result<Term, TermFault>
     // What is read is spelled so.
     ensures found { IfOk result (λ t. Spells t bytes.now) }
@@ -64,7 +65,7 @@ fn whole_term(alloc: Global, bytes: &[u8]) -> Result<Term, TermFault>
     match bytes {
         [] => Err(TermFault::Truncated),
         [131, rest @ ..] => {
-            let (term, rest) = item(alloc, MAX_DEPTH, rest)?;
+            let (term, rest) = item(alloc, MAX_DEPTH, 0, rest)?;
             if !rest.is_empty() {
                 return Err(TermFault::TrailingBytes);
             }
@@ -81,25 +82,37 @@ fn whole_term(alloc: Global, bytes: &[u8]) -> Result<Term, TermFault>
 pub fn decode_item(alloc: Global, levels: u8, bytes: &[u8]) -> Result<(Term, &[u8]), TermFault>
     ensures { Gives (λ x. (x.0, x.1.now)) result (item_at levels bytes.now) }
 {
-    item(alloc, levels, bytes)
+    item(alloc, levels, 0, bytes)
 }
 
-/// The pid whose tag, 103, stands before the bytes, as a part of what `decode` reads, and the bytes behind it.
+/// The pid whose tag, 88, stands before the bytes, as a part of what `decode` reads, and the bytes behind it.
 ///
 /// Faults as `decode` says of what stands behind the tag.
 pub fn decode_pid(alloc: Global, bytes: &[u8]) -> Result<(Pid, &[u8]), TermFault>
-    ensures { Gives (λ x. (x.0, x.1.now)) result (pid_at bytes.now) }
+    ensures { Gives (λ x. (x.0, x.1.now)) result (pid_at w32 bytes.now) }
 {
-    pid_at(alloc, bytes)
+    new_pid_at(alloc, bytes)
 }
 
-/// The reference whose tag, 114, stands before the bytes, as a part of what `decode` reads, and the bytes behind it.
+/// The reference whose tag, 90, stands before the bytes, as a part of what `decode` reads, and the bytes behind it.
 ///
 /// Faults as `decode` says of what stands behind the tag.
 pub fn decode_reference(alloc: Global, bytes: &[u8]) -> Result<(Reference, &[u8]), TermFault>
-    ensures { Gives (λ x. (x.0, x.1.now)) result (new_reference_at bytes.now) }
+    ensures { Gives (λ x. (x.0, x.1.now)) result (new_reference_at w32 bytes.now) }
 {
-    new_reference_at(alloc, bytes)
+    newer_reference_at(alloc, bytes)
+}
+
+/// Whether `decode` reads the bytes as a term, or else the fault that it tells. It takes no memory, so that what is no
+/// term costs none. The time is linear in the number of bytes.
+pub fn check_term(bytes: &[u8]) -> Result<(), TermFault>
+    ensures exact { Judges result (term_of bytes.now) }
+    // Some term is spelled so, or the fault is that of the bytes.
+    ensures ok { IfOk result (λ done. (t : Term) × Spells t bytes.now) }
+    ensures err { IfErr result (λ fault. Breaks fault bytes.now) }
+{
+    scanning::term(bytes)?;
+    Ok(())
 }
 
 #[cfg(test)]

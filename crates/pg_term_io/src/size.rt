@@ -1,14 +1,9 @@
 ghost use Rattle.std.specs.Prelude.{◌≡◌, ◌+◌, ◌<◌, ◌≤◌, ◌↔◌, ◌∷◌, ◌++◌, length, min, IfOk, IfErr, IsOk};
 ghost use Rattle.pg_term.specs.Depth.{depth, greatest_depth};
-ghost use Rattle.pg_term_io.specs.Writing.{digits, int_bytes, atom_bytes, pid_bytes, reference_bytes, tuple_head, list_head, item_bytes, all_bytes, tuple_bytes, list_bytes, written, IsWritable, IsTooLong};
+ghost use Rattle.pg_term_io.specs.Writing.{digits, int_bytes, atom_bytes, pid_bytes, reference_bytes, binary_bytes, tuple_head, list_head, item_bytes, all_bytes, tuple_bytes, list_bytes, written, IsWritable, IsTooLong};
 
+use crate::limits::{MAX_DEPTH, MAX_LEN};
 use pg_term::{Atom, Pid, Reference, Term, TermFault};
-
-// How deep a term may nest.
-const MAX_DEPTH: usize = 64;
-
-// How many bytes a term may take.
-const MAX_LEN: usize = 16_777_216;
 
 // How many digits a number has in base 256.
 #[tactic(auto, using(crate::proofs::WrittenDigits::counting))]
@@ -51,22 +46,29 @@ pub fn atom_len(atom: &Atom) -> usize
     if len <= 255 { 2 + len } else { 3 + len }
 }
 
-/// How many bytes a pid takes: PID_EXT.
+/// How many bytes a pid takes: NEW_PID_EXT.
 #[tactic(auto, unfolding(crate::specs::Writing::pid_bytes))]
 pub fn pid_len(pid: &Pid) -> usize
     ensures value { result ≡ length (pid_bytes pid.now) }
-    ensures few { result ≤ 1033 }
+    ensures few { result ≤ 1036 }
 {
-    10 + atom_len(&pid.node)
+    13 + atom_len(&pid.node)
 }
 
-/// How many bytes a reference takes: NEW_REFERENCE_EXT.
+/// How many bytes a reference takes: NEWER_REFERENCE_EXT.
 #[tactic(auto, using(crate::proofs::WrittenWords::reference_len))]
 pub fn reference_len(reference: &Reference) -> usize
     ensures value { result ≡ length (reference_bytes reference.now) }
-    ensures few { result ≤ 1039 }
+    ensures few { result ≤ 1042 }
 {
-    4 + atom_len(reference.node()) + 4 * reference.words().len()
+    7 + atom_len(reference.node()) + 4 * reference.words().len()
+}
+
+// How many bytes a binary takes, or `usize::MAX` where that is less: BINARY_EXT.
+fn binary_len(content: &[u8]) -> usize
+    ensures { result ≡ min (length (binary_bytes content.now)) usize.MAX }
+{
+    content.len().saturating_add(5)
 }
 
 /// How many bytes stand before the elements of a tuple: SMALL_TUPLE_EXT or LARGE_TUPLE_EXT.
@@ -100,10 +102,11 @@ pub fn item_len(term: &Term, room: usize) -> Result<usize, TermFault>
     match term {
         Term::Int(number) => Ok(int_len(*number)),
         Term::Atom(atom) => Ok(atom_len(atom)),
-        Term::Ref(reference) => Ok(reference_len(reference)),
+        Term::Ref(reference) => Ok(reference_len(reference.get())),
         Term::Pid(pid) => Ok(pid_len(pid)),
         Term::Tuple(items) => tuple_len(items.as_slice(), room - 1),
         Term::List(items) => list_len(items.as_slice(), room - 1),
+        Term::Binary(content) => Ok(binary_len(content.as_slice())),
     }
 }
 
@@ -150,11 +153,11 @@ fn all_len(terms: &[Term], room: usize) -> Result<usize, TermFault>
 /// down.
 pub fn encode_len(term: &Term) -> Result<usize, TermFault>
     ensures ok { IfOk result (λ n. n ≡ length (written term.now)) }
-    ensures too_deep { (result ≡ Err TermFault.TooDeep) ↔ (64 < depth term.now) }
+    ensures too_deep { (result ≡ Err TermFault.TooDeep) ↔ (MAX_DEPTH < depth term.now) }
     ensures too_long { (result ≡ Err TermFault.TooLong) ↔ IsTooLong term.now }
     ensures succeeds { IsOk result ↔ IsWritable term.now }
 {
-    let len = item_len(term, MAX_DEPTH)?.saturating_add(1);
+    let len = item_len(term, usize::from(MAX_DEPTH))?.saturating_add(1);
     if len > MAX_LEN {
         return Err(TermFault::TooLong);
     }

@@ -1,8 +1,9 @@
 ghost use Rattle.std.specs.Prelude.{◌≡◌, ◌+◌, ◌<◌, ◌≤◌, ◌↔◌, ◌∷◌, ◌++◌, length, OnOk, OnErr, IfOk, IsOk, IsOkUnless, MatchResult};
 ghost use Rattle.pg_term.specs.Depth.{depth};
-ghost use Rattle.pg_term_io.specs.Writing.{big_bytes, int_bytes, atom_bytes, pid_bytes, reference_bytes, tuple_head, list_head, item_bytes, all_bytes, tuple_bytes, list_bytes, written, IsWritable, IsTooLong, IsSpelled, AreSpelled};
+ghost use Rattle.pg_term_io.specs.Writing.{big_bytes, int_bytes, atom_bytes, pid_bytes, reference_bytes, binary_bytes, tuple_head, list_head, item_bytes, all_bytes, tuple_bytes, list_bytes, written, IsWritable, IsTooLong, IsSpelled, AreSpelled};
 ghost use Rattle.pg_term_io.specs.Spelling.{IsAtom, Spells};
 
+use crate::limits::{MAX_DEPTH, MAX_LEN};
 use crate::size::{digit_count, encode_len};
 use bytes::BytesMut;
 use pg_term::{Atom, Pid, Reference, Term, TermFault};
@@ -62,7 +63,7 @@ pub fn put_atom(out: &mut BytesMut, atom: &Atom)
     out.extend_reserved(text);
 }
 
-/// Writes a pid into room that was reserved: PID_EXT.
+/// Writes a pid into room that was reserved: NEW_PID_EXT.
 #[tactic(auto, unfolding(crate::specs::Writing::pid_bytes))]
 pub fn put_pid(out: &mut BytesMut, pid: &Pid)
     requires { length (pid_bytes pid.now) ≤ out.old.spare }
@@ -70,14 +71,14 @@ pub fn put_pid(out: &mut BytesMut, pid: &Pid)
     ensures spare { out.new.spare + length (pid_bytes pid.now) ≡ out.old.spare }
     ensures spelled { IsSpelled (Term.Pid pid.now) }
 {
-    out.extend_reserved(&[103]);
+    out.extend_reserved(&[88]);
     put_atom(out, &pid.node);
     out.extend_reserved(&pid.id.to_be_bytes());
     out.extend_reserved(&pid.serial.to_be_bytes());
     out.extend_reserved(&pid.creation.to_be_bytes());
 }
 
-/// Writes a reference into room that was reserved: NEW_REFERENCE_EXT.
+/// Writes a reference into room that was reserved: NEWER_REFERENCE_EXT.
 #[tactic(auto, using(crate::proofs::WrittenWords::reference_len), unfolding(crate::specs::Writing::reference_bytes))]
 pub fn put_reference(out: &mut BytesMut, reference: &Reference)
     requires { length (reference_bytes reference.now) ≤ out.old.spare }
@@ -85,13 +86,26 @@ pub fn put_reference(out: &mut BytesMut, reference: &Reference)
     ensures spare { out.new.spare + length (reference_bytes reference.now) ≡ out.old.spare }
     ensures spelled { IsSpelled (Term.Ref reference.now) }
 {
-    out.extend_reserved(&[114]);
+    out.extend_reserved(&[90]);
     out.extend_reserved(&(reference.words().len() as u16).to_be_bytes());
     put_atom(out, reference.node());
     out.extend_reserved(&reference.creation().to_be_bytes());
     for word in reference.words() {
         out.extend_reserved(&word.to_be_bytes());
     }
+}
+
+// Writes a binary into room that was reserved: BINARY_EXT.
+fn put_binary(out: &mut BytesMut, content: &[u8])
+    requires short { length (binary_bytes content.now) ≤ MAX_LEN }
+    requires room { length (binary_bytes content.now) ≤ out.old.spare }
+    ensures items { out.new.items ≡ out.old.items ++ binary_bytes content.now }
+    ensures spare { out.new.spare + length (binary_bytes content.now) ≡ out.old.spare }
+    ensures spelled { IsSpelled (Term.Binary content.now) }
+{
+    out.extend_reserved(&[109]);
+    out.extend_reserved(&(content.len() as u32).to_be_bytes());
+    out.extend_reserved(content);
 }
 
 /// Writes what stands before the elements of a tuple into room that was reserved: SMALL_TUPLE_EXT
@@ -126,7 +140,7 @@ pub fn put_list_head(out: &mut BytesMut, count: u32)
 /// over the term, as many levels down as it nests: `item_len` bounds them.
 #[cycle(put)]
 pub fn put_item(out: &mut BytesMut, term: &Term)
-    requires short { length (item_bytes term.now) ≤ 16777216 }
+    requires short { length (item_bytes term.now) ≤ MAX_LEN }
     requires room { length (item_bytes term.now) ≤ out.old.spare }
     ensures items { out.new.items ≡ out.old.items ++ item_bytes term.now }
     ensures spare { out.new.spare + length (item_bytes term.now) ≡ out.old.spare }
@@ -135,16 +149,17 @@ pub fn put_item(out: &mut BytesMut, term: &Term)
     match term {
         Term::Int(number) => put_int(out, *number),
         Term::Atom(atom) => put_atom(out, atom),
-        Term::Ref(reference) => put_reference(out, reference),
+        Term::Ref(reference) => put_reference(out, reference.get()),
         Term::Pid(pid) => put_pid(out, pid),
         Term::Tuple(items) => put_tuple(out, items.as_slice()),
         Term::List(items) => put_list(out, items.as_slice()),
+        Term::Binary(content) => put_binary(out, content.as_slice()),
     }
 }
 
 #[cycle(put)]
 fn put_tuple(out: &mut BytesMut, terms: &[Term])
-    requires short { length (tuple_bytes terms.now) ≤ 16777216 }
+    requires short { length (tuple_bytes terms.now) ≤ MAX_LEN }
     requires room { length (tuple_bytes terms.now) ≤ out.old.spare }
     ensures items { out.new.items ≡ out.old.items ++ tuple_bytes terms.now }
     ensures spare { out.new.spare + length (tuple_bytes terms.now) ≡ out.old.spare }
@@ -156,7 +171,7 @@ fn put_tuple(out: &mut BytesMut, terms: &[Term])
 
 #[cycle(put)]
 fn put_list(out: &mut BytesMut, terms: &[Term])
-    requires short { length (list_bytes terms.now) ≤ 16777216 }
+    requires short { length (list_bytes terms.now) ≤ MAX_LEN }
     requires room { length (list_bytes terms.now) ≤ out.old.spare }
     ensures items { out.new.items ≡ out.old.items ++ list_bytes terms.now }
     ensures spare { out.new.spare + length (list_bytes terms.now) ≡ out.old.spare }
@@ -169,7 +184,7 @@ fn put_list(out: &mut BytesMut, terms: &[Term])
 
 #[cycle(put)]
 fn put_all(out: &mut BytesMut, terms: &[Term])
-    requires short { length (all_bytes terms.now) ≤ 16777216 }
+    requires short { length (all_bytes terms.now) ≤ MAX_LEN }
     requires room { length (all_bytes terms.now) ≤ out.old.spare }
     ensures items { out.new.items ≡ out.old.items ++ all_bytes terms.now }
     ensures spare { out.new.spare + length (all_bytes terms.now) ≡ out.old.spare }
@@ -182,11 +197,11 @@ fn put_all(out: &mut BytesMut, terms: &[Term])
 
 #[tactic(auto, using(crate::proofs::Spelled::written_spelled))]
 fn put_written(out: &mut BytesMut, term: &Term)
-    requires short { length (written term.now) ≤ 16777216 }
+    requires short { length (written term.now) ≤ MAX_LEN }
     requires room { length (written term.now) ≤ out.old.spare }
     ensures items { out.new.items ≡ out.old.items ++ written term.now }
     ensures spare { out.new.spare + length (written term.now) ≡ out.old.spare }
-    ensures spelled { depth term.now ≤ 64 → Spells term.now (written term.now) }
+    ensures spelled { depth term.now ≤ MAX_DEPTH → Spells term.now (written term.now) }
 {
     out.extend_reserved(&[131]);
     put_item(out, term);
@@ -206,7 +221,7 @@ pub fn encode(alloc: Global, term: &Term) -> Result<Vec<u8>, TermFault>
     // Only a writable term is written, and for it only memory can be missing.
     ensures writable { IsOk result → IsWritable term.now }
     ensures out_of_memory { IsWritable term.now → IsOkUnless result TermFault.OutOfMemory }
-    ensures too_deep { (result ≡ Err TermFault.TooDeep) ↔ (64 < depth term.now) }
+    ensures too_deep { (result ≡ Err TermFault.TooDeep) ↔ (MAX_DEPTH < depth term.now) }
     ensures too_long { (result ≡ Err TermFault.TooLong) ↔ IsTooLong term.now }
 {
     let len = encode_len(term)?;
@@ -227,7 +242,7 @@ pub fn encode_into(term: &Term, out: &mut BytesMut) -> Result<(), TermFault>
     // Only a writable term is written, and for it only room can be missing.
     ensures writable { IsOk result → IsWritable term.now }
     ensures out_of_memory { IsWritable term.now → IsOkUnless result TermFault.OutOfMemory }
-    ensures too_deep { (result ≡ Err TermFault.TooDeep) ↔ (64 < depth term.now) }
+    ensures too_deep { (result ≡ Err TermFault.TooDeep) ↔ (MAX_DEPTH < depth term.now) }
     ensures too_long { (result ≡ Err TermFault.TooLong) ↔ IsTooLong term.now }
     ensures succeeds { IsWritable term.now
         → length (written term.now) ≤ out.old.spare → IsOk result }

@@ -39,6 +39,28 @@ fn write_new(alloc: Global, term: &Term, rounds: u64) -> Result<(), TermFault> {
     Ok(())
 }
 
+// Copies the term so many times.
+fn copy(alloc: Global, term: &Term, rounds: u64) -> Result<(), TermFault> {
+    for _ in 0..rounds {
+        term.copy(alloc)?;
+    }
+    Ok(())
+}
+
+// Compares two terms so many times.
+fn compare(terms: &[Term], rounds: u64) -> u64 {
+    let mut same = 0_u64;
+    for round in 0..rounds {
+        let first = (round % 2) as usize;
+        if let (Some(a), Some(b)) = (terms.get(first), terms.get(1 - first)) {
+            if a == b {
+                same = same.wrapping_add(1);
+            }
+        }
+    }
+    same
+}
+
 // How many a second.
 fn rate(count: u64, time: Duration) -> u64 {
     let nanos = u64::try_from(time.as_nanos()).unwrap_or(u64::MAX).max(1);
@@ -59,22 +81,60 @@ fn report(
     Ok(())
 }
 
+fn reading(rt: &HostRuntime, bytes: &[u8], rounds: u64) -> anyhow::Result<()> {
+    let start = Instant::now(rt)?;
+    read(rt.alloc(), bytes, rounds)?;
+    report(rt, "decode", rounds, bytes.len() as u64, start.elapsed(rt)?)
+}
+
+fn writing(rt: &HostRuntime, term: &Term, len: usize, rounds: u64) -> anyhow::Result<()> {
+    let mut buffer = BytesMut::with_capacity(rt.alloc(), len)?;
+    let start = Instant::now(rt)?;
+    write(term, &mut buffer, rounds)?;
+    report(rt, "encode_into", rounds, len as u64, start.elapsed(rt)?)?;
+    let start = Instant::now(rt)?;
+    write_new(rt.alloc(), term, rounds)?;
+    report(rt, "encode", rounds, len as u64, start.elapsed(rt)?)
+}
+
+fn encoded(alloc: Global, measure: Measure) -> Result<Vec<u8>, TermFault> {
+    encode(alloc, &measure.term(alloc)?)
+}
+
 fn run(rt: &HostRuntime, measure: Measure, rounds: u64) -> anyhow::Result<()> {
-    let alloc = rt.alloc();
-    let term = measure.term(alloc)?;
-    let bytes = encode(alloc, &term)?;
-    let len = bytes.len() as u64;
+    let bytes = encoded(rt.alloc(), measure)?;
+    let len = bytes.len();
     eprintln!(rt; "{}: {len} bytes, {rounds} times", measure.name())?;
+    reading(rt, bytes.as_slice(), rounds)?;
+    writing(rt, &measure.term(rt.alloc())?, len, rounds)
+}
+
+// The term and a copy of it.
+fn twice(alloc: Global, measure: Measure) -> Result<Vec<Term>, TermFault> {
+    let term = measure.term(alloc)?;
+    let other = term.copy(alloc)?;
+    Ok(vec![in alloc; term, other]?)
+}
+
+fn copying(rt: &HostRuntime, term: &Term, rounds: u64) -> anyhow::Result<()> {
     let start = Instant::now(rt)?;
-    read(alloc, bytes.as_slice(), rounds)?;
-    report(rt, "decode", rounds, len, start.elapsed(rt)?)?;
-    let mut buffer = BytesMut::with_capacity(alloc, bytes.len())?;
+    copy(rt.alloc(), term, rounds)?;
+    report(rt, "copy_and_drop", rounds, 1_000_000, start.elapsed(rt)?)
+}
+
+fn comparing(rt: &HostRuntime, pair: &[Term], rounds: u64) -> anyhow::Result<()> {
     let start = Instant::now(rt)?;
-    write(&term, &mut buffer, rounds)?;
-    report(rt, "encode_into", rounds, len, start.elapsed(rt)?)?;
-    let start = Instant::now(rt)?;
-    write_new(alloc, &term, rounds)?;
-    report(rt, "encode", rounds, len, start.elapsed(rt)?)
+    let same = compare(pair, rounds);
+    let time = start.elapsed(rt)?;
+    report(rt, "compare", same, 1_000_000, time)
+}
+
+fn values(rt: &HostRuntime, measure: Measure, rounds: u64) -> anyhow::Result<()> {
+    let pair = twice(rt.alloc(), measure)?;
+    if let Some(term) = pair.first() {
+        copying(rt, term, rounds)?;
+    }
+    comparing(rt, pair.as_slice(), rounds)
 }
 
 fn main(rt: HostRuntime) -> anyhow::Result<()> {
@@ -89,5 +149,7 @@ fn main(rt: HostRuntime) -> anyhow::Result<()> {
         Some(text) => text.as_str().parse::<u64>()?,
         None => 1,
     };
-    run(&rt, Measure::of(name.as_str())?, rounds)
+    let measure = Measure::of(name.as_str())?;
+    run(&rt, measure, rounds)?;
+    values(&rt, measure, rounds)
 }

@@ -1,7 +1,7 @@
 //! What is measured: which term, and its bytes.
 
 use crate::fault::BenchFault;
-use pg_term::{Atom, Fields, Items, Pid, Reference, Term, TermFault};
+use pg_term::{Atom, Boxed, Fields, Items, Pid, Reference, Term, TermFault};
 use std::alloc::Global;
 
 /// The term that is read and written.
@@ -72,7 +72,11 @@ fn join_call(alloc: Global) -> Result<Term, TermFault> {
     let reference = Reference::new(Atom::new(alloc, "a")?, 1, &[1, 0, 0])?;
     let member = Term::Pid(pid(alloc, 1)?);
     let join = vec![in alloc; atom(alloc, "join")?, atom(alloc, "g")?, member]?;
-    let call = vec![in alloc; atom(alloc, "call")?, Term::Ref(reference), tuple(join)]?;
+    let call = vec![in alloc;
+        atom(alloc, "call")?,
+        Term::Ref(Boxed::new(alloc, reference)?),
+        tuple(join),
+    ]?;
     let whole = vec![in alloc; Term::Int(0), tuple(call)]?;
     Ok(tuple(whole))
 }

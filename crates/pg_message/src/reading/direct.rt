@@ -127,14 +127,14 @@ fn stamp_at(bytes: &[u8]) -> Result<(u32, &[u8]), Detour>
 fn reference_at(alloc: Global, bytes: &[u8]) -> Result<(Reference, &[u8]), Detour>
     ensures { (room : ℕ) → IfOk result (λ x. Stands room (terms.Ref x.0) bytes.now x.1.now) }
 {
-    let rest = behind(bytes, &[114])?;
+    let rest = behind(bytes, &[90])?;
     Ok(decode_reference(alloc, rest)?)
 }
 
 fn pid_at(alloc: Global, bytes: &[u8]) -> Result<(Pid, &[u8]), Detour>
     ensures { (room : ℕ) → IfOk result (λ x. Stands room (terms.Pid x.0) bytes.now x.1.now) }
 {
-    let rest = behind(bytes, &[103])?;
+    let rest = behind(bytes, &[88])?;
     Ok(decode_pid(alloc, rest)?)
 }
 

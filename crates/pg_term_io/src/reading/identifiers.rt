@@ -1,23 +1,42 @@
 //! Pids and references, behind their tags.
 
 ghost use Rattle.std.specs.Prelude.{◌≡◌, ◌<◌};
-ghost use Rattle.std.specs.Int.{w32};
+ghost use Rattle.std.specs.Int.{w8, w16, w32};
 ghost use Rattle.pg_term.specs.Fault.{Gives};
 ghost use Rattle.pg_term_io.specs.Reading.{pid_at, old_reference_at, words_at, new_reference_at, items_at, number_at};
 
 use crate::reading::atoms::atom_at;
-use crate::reading::numbers::{u8_at, u16_at, u32_at};
+use crate::reading::numbers::{small_at, u8_at, u16_at, u32_at};
 use pg_term::{Atom, Pid, Reference, TermFault};
 use std::alloc::Global;
 
+/// A pid with a creation of one byte.
 #[tactic(auto, unfolding(crate::specs::Reading::pid_at))]
 pub(crate) fn pid_at(alloc: Global, bytes: &[u8]) -> Result<(Pid, &[u8]), TermFault>
-    ensures { Gives (λ x. (x.0, x.1.now)) result (pid_at bytes.now) }
+    ensures { Gives (λ x. (x.0, x.1.now)) result (pid_at w8 bytes.now) }
 {
     let (node, rest) = atom_at(alloc, bytes)?;
     let (id, rest) = u32_at(rest)?;
     let (serial, rest) = u32_at(rest)?;
-    let (creation, rest) = u8_at(rest)?;
+    let (creation, rest) = small_at(rest)?;
+    let pid = Pid {
+        node,
+        serial,
+        id,
+        creation,
+    };
+    Ok((pid, rest))
+}
+
+/// A pid with a creation of four bytes.
+#[tactic(auto, unfolding(crate::specs::Reading::pid_at))]
+pub(crate) fn new_pid_at(alloc: Global, bytes: &[u8]) -> Result<(Pid, &[u8]), TermFault>
+    ensures { Gives (λ x. (x.0, x.1.now)) result (pid_at w32 bytes.now) }
+{
+    let (node, rest) = atom_at(alloc, bytes)?;
+    let (id, rest) = u32_at(rest)?;
+    let (serial, rest) = u32_at(rest)?;
+    let (creation, rest) = u32_at(rest)?;
     let pid = Pid {
         node,
         serial,
@@ -35,20 +54,37 @@ pub(crate) fn old_reference_at(alloc: Global, bytes: &[u8]) -> Result<(Reference
     let (node, rest) = atom_at(alloc, bytes)?;
     let (word, rest) = u32_at(rest)?;
     let (creation, rest) = u8_at(rest)?;
-    Ok((Reference::new(node, creation, &[word])?, rest))
+    Ok((Reference::new(node, u32::from(creation), &[word])?, rest))
 }
 
-/// A reference of one to three words.
+/// A reference of one to three words, with a creation of one byte.
 #[tactic(auto, unfolding(crate::specs::Reading::new_reference_at))]
 pub(crate) fn new_reference_at(alloc: Global, bytes: &[u8]) -> Result<(Reference, &[u8]), TermFault>
-    ensures { Gives (λ x. (x.0, x.1.now)) result (new_reference_at bytes.now) }
+    ensures { Gives (λ x. (x.0, x.1.now)) result (new_reference_at w8 bytes.now) }
 {
     let (count, rest) = u16_at(bytes)?;
     if count == 0 || count > 3 {
         return Err(TermFault::BadReference);
     }
     let (node, rest) = atom_at(alloc, rest)?;
-    let (creation, rest) = u8_at(rest)?;
+    let (creation, rest) = small_at(rest)?;
+    reference_words(node, creation, count, rest)
+}
+
+/// A reference of one to three words, with a creation of four bytes.
+#[tactic(auto, unfolding(crate::specs::Reading::new_reference_at))]
+pub(crate) fn newer_reference_at(
+    alloc: Global,
+    bytes: &[u8],
+) -> Result<(Reference, &[u8]), TermFault>
+    ensures { Gives (λ x. (x.0, x.1.now)) result (new_reference_at w32 bytes.now) }
+{
+    let (count, rest) = u16_at(bytes)?;
+    if count == 0 || count > 3 {
+        return Err(TermFault::BadReference);
+    }
+    let (node, rest) = atom_at(alloc, rest)?;
+    let (creation, rest) = u32_at(rest)?;
     reference_words(node, creation, count, rest)
 }
 
@@ -74,7 +110,7 @@ fn three_words(bytes: &[u8]) -> Result<([u32; 3], &[u8]), TermFault>
 #[tactic(auto, unfolding(crate::specs::Reading::words_at, crate::specs::Reading::items_at))]
 fn reference_words(
     node: Atom,
-    creation: u8,
+    creation: u32,
     count: u16,
     bytes: &[u8],
 ) -> Result<(Reference, &[u8]), TermFault>

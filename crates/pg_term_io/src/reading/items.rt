@@ -1,16 +1,19 @@
-//! Items, and the lists that stand as tails. `room` is how many more levels of terms may nest.
+//! Items, and the lists that stand as tails. `room` is how many more levels of terms may nest, and `due` how many items are
+//! still to come behind what is read, each of which takes a byte at least.
 
-ghost use Rattle.std.specs.Prelude.{◌≡◌, ◌++◌, map, OnOk};
+ghost use Rattle.std.specs.Prelude.{◌≡◌, ◌++◌, map, IfOk, OnOk};
 ghost use Rattle.std.specs.Int.{w32, cast_signed};
 ghost use Rattle.pg_term.specs.declared.term.Term.TheVariants.{Int};
 ghost use Rattle.pg_term.specs.Fault.{Gives};
 ghost use Rattle.pg_term_io.specs.Numbers.{int_of};
-ghost use Rattle.pg_term_io.specs.Reading.{number_at, as_term, string_at, with_front, items_at, item_at, tail_at, readers, list_at, elements_behind, item_behind, leaf_behind};
+ghost use Rattle.pg_term_io.specs.Reading.{number_at, as_term, string_at, binary_at, with_front, items_at, item_at, tail_at, readers, list_at, elements_behind, item_behind, leaf_behind};
 
 use crate::reading::atoms::atom_behind;
-use crate::reading::identifiers::{new_reference_at, old_reference_at, pid_at};
+use crate::reading::identifiers::{
+    new_pid_at, new_reference_at, newer_reference_at, old_reference_at, pid_at,
+};
 use crate::reading::numbers::{big_at, some_bytes, u8_at, u16_at, u32_at};
-use pg_term::{Fields, Items, Term, TermFault};
+use pg_term::{Boxed, Fields, Items, Reference, Term, TermFault};
 use std::alloc::{AllocError, Global};
 
 fn int_at(bytes: &[u8]) -> Result<(Term, &[u8]), TermFault>
@@ -39,11 +42,36 @@ fn string_at<'a>(room: u8, terms: &mut Vec<Term>, bytes: &'a [u8]) -> Result<&'a
 fn push_bytes(terms: &mut Vec<Term>, bytes: &[u8]) -> Result<(), AllocError>
     ensures { OnOk result (terms.new.items ≡ terms.old.items ++ map int_of bytes.now) }
 {
-    terms.reserve(bytes.len())?;
+    terms.reserve_exact(bytes.len())?;
     for byte in bytes {
         terms.push(Term::Int(i64::from(*byte)))?;
     }
     Ok(())
+}
+
+/// A small integer.
+#[inline]
+fn small(number: u8) -> Term
+    ensures { result ≡ int_of number }
+{
+    Term::Int(i64::from(number))
+}
+
+/// The bytes of a binary, behind its tag.
+#[tactic(auto, unfolding(crate::specs::Reading::binary_at))]
+fn binary_at(alloc: Global, bytes: &[u8]) -> Result<(Items<u8>, &[u8]), TermFault>
+    ensures { Gives (λ x. (x.0, x.1.now)) result (binary_at bytes.now) }
+{
+    let (count, rest) = u32_at(bytes)?;
+    let (content, rest) = some_bytes(count as usize, rest)?;
+    Ok((Items::from_vec(content.to_vec(alloc)?), rest))
+}
+
+/// A reference as a term.
+fn boxed(alloc: Global, reference: Reference) -> Result<Term, AllocError>
+    ensures { IfOk result (λ term. term ≡ Term.Ref reference) }
+{
+    Ok(Term::Ref(Boxed::new(alloc, reference)?))
 }
 
 /// So many items, at the end of the terms.
@@ -51,6 +79,7 @@ fn push_bytes(terms: &mut Vec<Term>, bytes: &[u8]) -> Result<(), AllocError>
 fn items<'a>(
     alloc: Global,
     room: u8,
+    due: usize,
     count: u32,
     terms: &mut Vec<Term>,
     bytes: &'a [u8],
@@ -58,11 +87,34 @@ fn items<'a>(
     ensures { Gives (λ rest. (terms.new.items, rest.now)) result
         (with_front terms.old.items (items_at (item_at room) count bytes.now)) }
 {
+    // As many as there can be in these bytes.
+    terms.reserve_exact(bytes.len().saturating_sub(due).min(count as usize))?;
     let mut rest = bytes;
-    for _ in 0..count {
-        let (term, after) = item(alloc, room, rest)?;
-        terms.push(term)?;
-        rest = after;
+    for index in 0..count {
+        let behind = due.saturating_add((count - index - 1) as usize);
+        rest = match rest {
+            // A small integer at once, with no call.
+            [tag, number, after @ ..] if *tag == 97 && room > 0 => {
+                terms.push(small(*number))?;
+                after
+            }
+            // A tuple and an atom in their places, with no move of a whole result.
+            [tag, arity, after @ ..] if *tag == 104 && room > 0 => {
+                let (inner, after) = fields(alloc, room - 1, behind, u32::from(*arity), after)?;
+                terms.push(Term::Tuple(Fields::from_vec(inner)))?;
+                after
+            }
+            [tag, after @ ..] if *tag == 119 && room > 0 => {
+                let (atom, after) = atom_behind(alloc, 119, after)?;
+                terms.push(Term::Atom(atom))?;
+                after
+            }
+            _ => {
+                let (term, after) = item(alloc, room, behind, rest)?;
+                terms.push(term)?;
+                after
+            }
+        };
     }
     Ok(rest)
 }
@@ -72,6 +124,7 @@ fn items<'a>(
 fn list_at<'a>(
     alloc: Global,
     room: u8,
+    due: usize,
     terms: &mut Vec<Term>,
     bytes: &'a [u8],
 ) -> Result<&'a [u8], TermFault>
@@ -79,8 +132,8 @@ fn list_at<'a>(
         (with_front terms.old.items (list_at (readers room) bytes.now)) }
 {
     let (count, rest) = u32_at(bytes)?;
-    let rest = items(alloc, room, count, terms, rest)?;
-    tail(alloc, room, terms, rest)
+    let rest = items(alloc, room, due.saturating_add(1), count, terms, rest)?;
+    tail(alloc, room, due, terms, rest)
 }
 
 /// Behind the tag of a list: its elements, at the end of the terms.
@@ -89,6 +142,7 @@ fn list_at<'a>(
 fn elements<'a>(
     alloc: Global,
     room: u8,
+    due: usize,
     tag: u8,
     terms: &mut Vec<Term>,
     bytes: &'a [u8],
@@ -99,7 +153,7 @@ fn elements<'a>(
     match tag {
         106 => Ok(bytes),
         107 => string_at(room, terms, bytes),
-        108 => list_at(alloc, room, terms, bytes),
+        108 => list_at(alloc, room, due, terms, bytes),
         _ => Err(TermFault::ImproperList),
     }
 }
@@ -109,6 +163,7 @@ fn elements<'a>(
 fn tail<'a>(
     alloc: Global,
     room: u8,
+    due: usize,
     terms: &mut Vec<Term>,
     bytes: &'a [u8],
 ) -> Result<&'a [u8], TermFault>
@@ -121,7 +176,7 @@ fn tail<'a>(
             if room == 0 {
                 return Err(TermFault::TooDeep);
             }
-            elements(alloc, room - 1, *tag, terms, rest)
+            elements(alloc, room - 1, due, *tag, terms, rest)
         }
     }
 }
@@ -131,30 +186,42 @@ fn tail<'a>(
 fn fields(
     alloc: Global,
     room: u8,
+    due: usize,
     count: u32,
     bytes: &[u8],
 ) -> Result<(Vec<Term>, &[u8]), TermFault>
     ensures { Gives (λ x. (x.0.items, x.1.now)) result (items_at (item_at room) count bytes.now) }
 {
     let mut terms = Vec::new(alloc);
-    let rest = items(alloc, room, count, &mut terms, bytes)?;
+    let rest = items(alloc, room, due, count, &mut terms, bytes)?;
     Ok((terms, rest))
 }
 
 /// The elements of a list, behind its tag.
 #[cycle(item)]
-fn list(alloc: Global, room: u8, tag: u8, bytes: &[u8]) -> Result<(Vec<Term>, &[u8]), TermFault>
+fn list(
+    alloc: Global,
+    room: u8,
+    due: usize,
+    tag: u8,
+    bytes: &[u8],
+) -> Result<(Vec<Term>, &[u8]), TermFault>
     ensures { Gives (λ x. (x.0.items, x.1.now)) result
         (elements_behind room (readers room) tag bytes.now) }
 {
     let mut terms = Vec::new(alloc);
-    let rest = elements(alloc, room, tag, &mut terms, bytes)?;
+    let rest = elements(alloc, room, due, tag, &mut terms, bytes)?;
     Ok((terms, rest))
 }
 
 /// One item.
 #[cycle(item)]
-pub(crate) fn item(alloc: Global, room: u8, bytes: &[u8]) -> Result<(Term, &[u8]), TermFault>
+pub(crate) fn item(
+    alloc: Global,
+    room: u8,
+    due: usize,
+    bytes: &[u8],
+) -> Result<(Term, &[u8]), TermFault>
     ensures { Gives (λ x. (x.0, x.1.now)) result (item_at room bytes.now) }
 {
     match bytes {
@@ -163,7 +230,7 @@ pub(crate) fn item(alloc: Global, room: u8, bytes: &[u8]) -> Result<(Term, &[u8]
             if room == 0 {
                 return Err(TermFault::TooDeep);
             }
-            item_behind(alloc, room - 1, *tag, rest)
+            item_behind(alloc, room - 1, due, *tag, rest)
         }
     }
 }
@@ -171,22 +238,28 @@ pub(crate) fn item(alloc: Global, room: u8, bytes: &[u8]) -> Result<(Term, &[u8]
 /// One item, behind its tag.
 #[cycle(item)]
 #[tactic(auto, unfolding(crate::specs::Reading::item_behind))]
-fn item_behind(alloc: Global, room: u8, tag: u8, bytes: &[u8]) -> Result<(Term, &[u8]), TermFault>
+fn item_behind(
+    alloc: Global,
+    room: u8,
+    due: usize,
+    tag: u8,
+    bytes: &[u8],
+) -> Result<(Term, &[u8]), TermFault>
     ensures { Gives (λ x. (x.0, x.1.now)) result (item_behind room (readers room) tag bytes.now) }
 {
     match tag {
         104 => {
             let (count, rest) = u8_at(bytes)?;
-            let (terms, rest) = fields(alloc, room, u32::from(count), rest)?;
+            let (terms, rest) = fields(alloc, room, due, u32::from(count), rest)?;
             Ok((Term::Tuple(Fields::from_vec(terms)), rest))
         }
         105 => {
             let (count, rest) = u32_at(bytes)?;
-            let (terms, rest) = fields(alloc, room, count, rest)?;
+            let (terms, rest) = fields(alloc, room, due, count, rest)?;
             Ok((Term::Tuple(Fields::from_vec(terms)), rest))
         }
         106 | 107 | 108 => {
-            let (terms, rest) = list(alloc, room, tag, bytes)?;
+            let (terms, rest) = list(alloc, room, due, tag, bytes)?;
             Ok((Term::List(Items::from_vec(terms)), rest))
         }
         _ => leaf(alloc, tag, bytes),
@@ -216,13 +289,25 @@ fn leaf(alloc: Global, tag: u8, bytes: &[u8]) -> Result<(Term, &[u8]), TermFault
             let (pid, rest) = pid_at(alloc, bytes)?;
             Ok((Term::Pid(pid), rest))
         }
+        88 => {
+            let (pid, rest) = new_pid_at(alloc, bytes)?;
+            Ok((Term::Pid(pid), rest))
+        }
         101 => {
             let (reference, rest) = old_reference_at(alloc, bytes)?;
-            Ok((Term::Ref(reference), rest))
+            Ok((boxed(alloc, reference)?, rest))
         }
         114 => {
             let (reference, rest) = new_reference_at(alloc, bytes)?;
-            Ok((Term::Ref(reference), rest))
+            Ok((boxed(alloc, reference)?, rest))
+        }
+        90 => {
+            let (reference, rest) = newer_reference_at(alloc, bytes)?;
+            Ok((boxed(alloc, reference)?, rest))
+        }
+        109 => {
+            let (content, rest) = binary_at(alloc, bytes)?;
+            Ok((Term::Binary(content), rest))
         }
         _ => Err(TermFault::UnknownTag),
     }

@@ -1,7 +1,7 @@
 //! Numbers of fixed width, and big integers.
 
-ghost use Rattle.std.specs.Prelude.{◌≡◌, ◌<◌, ◌^◌, SomeIff};
-ghost use Rattle.std.specs.Int.{w16, w32};
+ghost use Rattle.std.specs.Prelude.{◌≡◌, ◌<◌, ◌^◌, Ok, Err, MatchOption, SomeIff};
+ghost use Rattle.std.specs.Int.{w8, w16, w32};
 ghost use Rattle.pg_term.specs.Fault.{Gives};
 ghost use Rattle.pg_term_io.specs.Numbers.{little_endian, big_value};
 ghost use Rattle.pg_term_io.specs.Reading.{byte_at, number_at, bytes_at, big_at, i64_of};
@@ -18,27 +18,34 @@ pub(crate) fn u8_at(bytes: &[u8]) -> Result<(u8, &[u8]), TermFault>
     }
 }
 
+/// One byte, as a creation of the older forms.
+pub(crate) fn small_at(bytes: &[u8]) -> Result<(u32, &[u8]), TermFault>
+    ensures { Gives (λ x. (x.0, x.1.now)) result (number_at w8 bytes.now) }
+{
+    match bytes {
+        [] => Err(TermFault::Truncated),
+        [byte, rest @ ..] => Ok((u32::from(*byte), rest)),
+    }
+}
+
 /// Two bytes, the most significant first.
 pub(crate) fn u16_at(bytes: &[u8]) -> Result<(u16, &[u8]), TermFault>
     ensures { Gives (λ x. (x.0, x.1.now)) result (number_at w16 bytes.now) }
 {
-    if bytes.len() < 2 {
+    let Some((digits, rest)) = bytes.split_first_chunk::<2>() else {
         return Err(TermFault::Truncated);
-    }
-    let (front, rest) = bytes.split_at(2);
-    Ok((u16::from_be_bytes([front[0], front[1]]), rest))
+    };
+    Ok((u16::from_be_bytes(*digits), rest))
 }
 
 /// Four bytes, the most significant first.
 pub(crate) fn u32_at(bytes: &[u8]) -> Result<(u32, &[u8]), TermFault>
     ensures { Gives (λ x. (x.0, x.1.now)) result (number_at w32 bytes.now) }
 {
-    if bytes.len() < 4 {
+    let Some((digits, rest)) = bytes.split_first_chunk::<4>() else {
         return Err(TermFault::Truncated);
-    }
-    let (front, rest) = bytes.split_at(4);
-    let number = u32::from_be_bytes([front[0], front[1], front[2], front[3]]);
-    Ok((number, rest))
+    };
+    Ok((u32::from_be_bytes(*digits), rest))
 }
 
 /// So many bytes.
@@ -66,15 +73,21 @@ pub(crate) fn big_at(bytes: &[u8]) -> Result<(i64, &[u8]), TermFault>
 fn big(sign: u8, digits: &[u8]) -> Result<i64, TermFault>
     ensures { Gives (λ z. z) result (i64_of (big_value sign digits.now)) }
 {
-    let Some(magnitude) = magnitude(digits) else {
-        return Err(TermFault::IntegerTooLarge);
-    };
-    let value = if sign == 0 {
+    value_of(sign, digits).ok_or(TermFault::IntegerTooLarge)
+}
+
+/// The integer of these digits, where it is one of 64 bits with a sign.
+pub(crate) fn value_of(sign: u8, digits: &[u8]) -> Option<i64>
+    ensures { MatchOption result
+        (i64_of (big_value sign digits.now) ≡ Err TermFault.IntegerTooLarge)
+        (λ z. i64_of (big_value sign digits.now) ≡ Ok z) }
+{
+    let magnitude = magnitude(digits)?;
+    if sign == 0 {
         0_i64.checked_add_unsigned(magnitude)
     } else {
         0_i64.checked_sub_unsigned(magnitude)
-    };
-    value.ok_or(TermFault::IntegerTooLarge)
+    }
 }
 
 /// The number of the digits, the least significant first; `None` from 2 ^ 64 on.

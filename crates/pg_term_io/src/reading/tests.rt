@@ -2,7 +2,7 @@
 //! wherever an allocation is refused: `OutOfMemory` is told, and the same call made again succeeds.
 
 use super::*;
-use pg_term::{Atom, Fields, Items, Reference};
+use pg_term::{Atom, Boxed, Fields, Items, Reference};
 use std::test::*;
 
 /// Makes a value, a second time where memory was refused.
@@ -34,13 +34,13 @@ fn ints(alloc: Global, numbers: &[i64]) -> Result<Vec<Term>, TermFault> {
     Ok(terms)
 }
 
-// Whether the bytes are read as the term, once it is made.
+// Whether the bytes are read as the term, once it is made, and found to be one before.
 fn is_read(
     alloc: Global,
     bytes: &[u8],
     wanted: Result<Term, TermFault>,
 ) -> Result<bool, TermFault> {
-    Ok(again(|| decode(alloc, bytes))? == wanted?)
+    Ok(check_term(bytes).is_ok() && again(|| decode(alloc, bytes))? == wanted?)
 }
 
 fn atom(alloc: Global, name: &str) -> Result<Term, TermFault> {
@@ -57,7 +57,7 @@ fn tuple(alloc: Global, numbers: &[i64]) -> Result<Term, TermFault> {
 
 fn reference(alloc: Global) -> Result<Term, TermFault> {
     let node = Atom::new(alloc, "a")?;
-    Ok(Term::Ref(Reference::new(node, 2, &[7])?))
+    Ok(Term::Ref(Boxed::new(alloc, Reference::new(node, 2, &[7])?)?))
 }
 
 #[test]
@@ -150,6 +150,7 @@ fn long_atoms_and_depth(rt: HostRuntime) -> Result<(), Fail> {
         let bytes = again(|| long_atom(alloc, tag, count))?;
         let read = again(|| decode(alloc, &bytes));
         assert_eq!(rt; read.err(), wanted, "{tag} {count}");
+        assert_eq!(rt; check_term(&bytes).err(), wanted, "{tag} {count}");
     }
     let ends: &[(usize, &[u8], Option<TermFault>)] = &[
         (63, &[107, 0, 0], None),
@@ -166,6 +167,7 @@ fn long_atoms_and_depth(rt: HostRuntime) -> Result<(), Fail> {
         let bytes = again(|| nested(alloc, *levels, end))?;
         let read = again(|| decode(alloc, &bytes));
         assert_eq!(rt; read.err(), *wanted, "{levels}");
+        assert_eq!(rt; check_term(&bytes).err(), *wanted, "{levels}");
     }
     Ok(())
 }
@@ -196,6 +198,23 @@ fn decode_faults(rt: HostRuntime) -> Result<(), Fail> {
         (&[131, 108, 255, 255, 255, 255, 106], TermFault::Truncated),
         (&[131, 105, 255, 255, 255, 255], TermFault::Truncated),
         (&[131, 114, 0, 4], TermFault::BadReference),
+        (&[131, 90, 0, 4], TermFault::BadReference),
+        (&[131, 90, 0, 0, 119], TermFault::BadReference),
+        (&[131, 90, 0], TermFault::Truncated),
+        (&[131, 90, 0, 1, 97], TermFault::BadAtom),
+        (
+            &[131, 90, 0, 1, 119, 1, 97, 0, 0, 0, 2, 0, 0, 0],
+            TermFault::Truncated,
+        ),
+        (&[131, 88, 97, 0], TermFault::BadAtom),
+        (
+            &[131, 88, 119, 1, 97, 0, 0, 0, 1, 0, 0, 0, 0, 255, 255, 255],
+            TermFault::Truncated,
+        ),
+        (&[131, 109, 0, 0, 0], TermFault::Truncated),
+        (&[131, 109, 0, 0, 0, 3, 1, 2], TermFault::Truncated),
+        (&[131, 109, 255, 255, 255, 255, 1, 2], TermFault::Truncated),
+        (&[131, 109, 0, 0, 0, 0, 1], TermFault::TrailingBytes),
         (&[131, 114, 0, 0], TermFault::BadReference),
         (&[131, 103, 97, 0], TermFault::BadAtom),
         (&[131, 103, 119, 1, 255], TermFault::BadAtom),
@@ -203,6 +222,7 @@ fn decode_faults(rt: HostRuntime) -> Result<(), Fail> {
     ];
     for (bytes, fault) in faults {
         assert_eq!(rt; again(|| decode(alloc, bytes)).err(), Some(*fault));
+        assert_eq!(rt; check_term(bytes), Err(*fault));
     }
     Ok(())
 }
@@ -212,9 +232,10 @@ fn decode_faults(rt: HostRuntime) -> Result<(), Fail> {
 fn once_more(rt: HostRuntime) {
     let alloc = rt.alloc();
     let bytes = [
-        131, 104, 6, 119, 1, 97, 107, 0, 2, 1, 2, 103, 100, 0, 1, 98, 0, 0, 0, 1, 0, 0, 0, 2, 3,
-        108, 0, 0, 0, 1, 115, 1, 99, 106, 114, 0, 2, 119, 1, 97, 2, 0, 0, 0, 7, 0, 0, 0, 8, 101,
-        100, 0, 1, 97, 0, 0, 0, 7, 2,
+        131, 104, 7, 109, 0, 0, 0, 2, 1, 2, 119, 1, 97, 107, 0, 2, 1, 2, 103, 100, 0, 1, 98, 0, 0,
+        0, 1, 0, 0, 0, 2, 3, 108, 0, 0, 0, 1, 115, 1, 99, 106, 114, 0, 2, 119, 1, 97, 2, 0, 0, 0,
+        7, 0, 0, 0, 8, 101, 100, 0, 1, 97, 0, 0, 0, 7, 2,
     ];
+    assert!(rt; check_term(&bytes).is_ok());
     assert!(rt; again(|| decode(alloc, &bytes)).is_ok());
 }

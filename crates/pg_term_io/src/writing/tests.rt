@@ -2,7 +2,7 @@
 // is refused: `OutOfMemory` is told, a buffer is left as it was, and the same call made again succeeds.
 use super::*;
 use crate::reading::decode;
-use pg_term::{Fields, Items};
+use pg_term::{Boxed, Fields, Items};
 use std::process::Abort;
 use std::test::*;
 
@@ -109,18 +109,18 @@ fn long_atom(alloc: Global, character: char) -> Result<Term, TermFault> {
     Ok(Term::Atom(long_name(alloc, character)?))
 }
 
-fn pid(alloc: Global) -> Result<Term, TermFault> {
+fn pid(alloc: Global, creation: u32) -> Result<Term, TermFault> {
     Ok(Term::Pid(Pid {
         node: Atom::new(alloc, "a")?,
         serial: 258,
         id: 1,
-        creation: 3,
+        creation,
     }))
 }
 
 fn reference(alloc: Global, words: &[u32]) -> Result<Term, TermFault> {
     let node = Atom::new(alloc, "a")?;
-    Ok(Term::Ref(Reference::new(node, 2, words)?))
+    Ok(Term::Ref(Boxed::new(alloc, Reference::new(node, 2, words)?)?))
 }
 
 #[test]
@@ -212,20 +212,72 @@ fn long_atoms(rt: HostRuntime) -> Result<(), Fail> {
 #[test]
 fn pids(rt: HostRuntime) -> Result<(), Fail> {
     let alloc = rt.alloc();
-    let bytes = [131, 103, 119, 1, 97, 0, 0, 0, 1, 0, 0, 1, 2, 3];
-    assert!(rt; is_written(alloc, again(|| pid(alloc)), &bytes)?);
-    assert!(rt; is_read_again(alloc, again(|| pid(alloc)))?);
+    let bytes = [131, 88, 119, 1, 97, 0, 0, 0, 1, 0, 0, 1, 2, 0, 0, 0, 3];
+    assert!(rt; is_written(alloc, again(|| pid(alloc, 3)), &bytes)?);
+    for creation in [0, 255, 256, u32::MAX] {
+        assert!(rt; is_read_again(alloc, again(|| pid(alloc, creation)))?);
+    }
     Ok(())
 }
 
 #[test]
 fn references(rt: HostRuntime) -> Result<(), Fail> {
     let alloc = rt.alloc();
-    let bytes = [131, 114, 0, 1, 119, 1, 97, 2, 0, 0, 0, 7];
+    let bytes = [131, 90, 0, 1, 119, 1, 97, 0, 0, 0, 2, 0, 0, 0, 7];
     assert!(rt; is_written(alloc, again(|| reference(alloc, &[7])), &bytes)?);
     let rows: [&[u32]; 3] = [&[0], &[1, u32::MAX], &[1, 2, 3]];
     for words in rows {
         assert!(rt; is_read_again(alloc, again(|| reference(alloc, words)))?);
+    }
+    Ok(())
+}
+
+fn binary(alloc: Global, bytes: &[u8]) -> Result<Term, TermFault> {
+    Ok(Term::Binary(Items::from_vec(bytes.to_vec(alloc)?)))
+}
+
+// Reads the bytes, and writes what they spell.
+fn rewritten(alloc: Global, bytes: &[u8]) -> Result<Vec<u8>, TermFault> {
+    let term = again(|| decode(alloc, bytes))?;
+    again(|| encode(alloc, &term))
+}
+
+#[test]
+fn wide_creations_and_binaries(rt: HostRuntime) -> Result<(), Fail> {
+    let alloc = rt.alloc();
+    let rows: [(&[u8], &[u8]); 3] = [
+        (&[], &[131, 109, 0, 0, 0, 0]),
+        (&[1, 2], &[131, 109, 0, 0, 0, 2, 1, 2]),
+        (&[131, 0, 255], &[131, 109, 0, 0, 0, 3, 131, 0, 255]),
+    ];
+    for (content, bytes) in rows {
+        assert!(rt; is_written(alloc, again(|| binary(alloc, content)), bytes)?);
+        assert!(rt; is_read_again(alloc, again(|| binary(alloc, content)))?);
+    }
+    let rows: [(&[u8], &[u8]); 4] = [
+        (
+            &[
+                131, 88, 119, 1, 97, 0, 0, 0, 1, 0, 0, 0, 0, 255, 255, 255, 255,
+            ],
+            &[
+                131, 88, 119, 1, 97, 0, 0, 0, 1, 0, 0, 0, 0, 255, 255, 255, 255,
+            ],
+        ),
+        (
+            &[131, 103, 119, 1, 97, 0, 0, 0, 1, 0, 0, 0, 0, 1],
+            &[131, 88, 119, 1, 97, 0, 0, 0, 1, 0, 0, 0, 0, 0, 0, 0, 1],
+        ),
+        (
+            &[131, 101, 100, 0, 1, 97, 0, 0, 0, 7, 2],
+            &[131, 90, 0, 1, 119, 1, 97, 0, 0, 0, 2, 0, 0, 0, 7],
+        ),
+        (
+            &[131, 114, 0, 1, 119, 1, 97, 2, 0, 0, 0, 7],
+            &[131, 90, 0, 1, 119, 1, 97, 0, 0, 0, 2, 0, 0, 0, 7],
+        ),
+    ];
+    for (read, written) in rows {
+        assert!(rt; rewritten(alloc, read)?.as_slice() == written);
     }
     Ok(())
 }

@@ -22,7 +22,7 @@ const GROUP_NAME_LEVELS: u8 = 59;
 const LEAST_GROUP: usize = 8;
 
 /// How many bytes a pid takes at least: its tag, an empty atom, two words and a creation.
-const LEAST_PID: usize = 12;
+const LEAST_PID: usize = 15;
 
 /// The groups that a list tells, none of them named twice, and what follows.
 pub(crate) fn groups_at(

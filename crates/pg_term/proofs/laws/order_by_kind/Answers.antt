@@ -24,3 +24,9 @@ returns-clause-lists c = ordered.lists
 
 pub returns-clause-fronts : goal.returns-clause-fronts
 returns-clause-fronts c = λ xs ys y. ordered.fronts xs y ys
+
+pub returns-clause-binaries : goal.returns-clause-binaries
+returns-clause-binaries c = ordered.binaries
+
+pub returns-clause-cut : goal.returns-clause-cut
+returns-clause-cut c = λ a b next. ordered.cut a next b

@@ -1,52 +1,57 @@
--- How `Items` stores its elements, so that a term may hold the list that holds it. A value is seen as the list of its
--- elements: the former splits it into them and nothing else, and the fields have the same elements in the same order.
-use mathlib.Core.Path.{◌≡◌, refl, sym}
-use mathlib.Core.List.{List, []}
-use mathlib.Core.Former.{Former, this, list, via, children}
+-- How a term may hold the `Items` that hold it: they are made of their elements and nothing else, and lie in memory as
+-- their one field does, a vector of the elements that they are seen as.
+use Rattle.std.specs.declared.alloc.Global.{Global}
+use Rattle.std.specs.contracts.alloc.Global as on_heap
+use Rattle.std.specs.contracts.impls.GlobalAllocator.TheImpl as allocator
+use Rattle.std.specs.formers.vec.Vec as vector
+use Rattle.pg_term.specs.contracts.items.Items as contract
+use Rattle.pg_term.specs.declared.items.Items.TheInside.{Inside}
+use Rattle.pg_term.specs.declared.items.Items.TheView as shown
 use base.Stored.{code_map}
-use denote.RattleType.{RattleType}
-use denote.HoleLaws.{Alike}
-use denote.HolePlaces.{Recodes, struct_places, laid}
 use denote.Hole.Carrier.{listed, list-listed}
 use denote.Hole.Fix.{over}
-use denote.Param.Weighed.{Weighed, w_list}
+use denote.HoleLaws.{Alike}
+use denote.HolePlaces.{Recodes, struct_places, laid}
 use denote.Model.Placed.{view_places}
-use Rattle.std.specs.formers.vec.Vec as vec
-use Rattle.std.specs.declared.alloc.Global.{Global}
-use Rattle.std.specs.contracts.alloc.Global as heap
-use Rattle.std.specs.contracts.impls.GlobalAllocator.TheImpl.{ghosts}
-use Rattle.pg_term.specs.declared.items.Items.TheInside.{Inside}
-use Rattle.pg_term.specs.declared.items.Items.TheView.{view, invariant}
-use Rattle.pg_term.specs.contracts.items.Items as contract
-use Rattle.pg_term.specs.contracts.items.Items.TheInside as inside
+use denote.Param.Weighed.{Weighed, w_list}
+use denote.RattleType.{RattleType}
+use mathlib.Core.Former.{Former, this, list, via, children}
+use mathlib.Core.List.{List, []}
+use mathlib.Core.Path.{◌≡◌, refl, sym}
+
+-- ---- what they are made of
 
 abbrev pub the_former : Former {0} → Former {0}
-the_former g = list g
+the_former element = list element
 
-abbrev pub the_weighed : {g : Former {0}} → Weighed g → Weighed (the_former g)
-the_weighed w = w_list w
+abbrev pub the_weighed : {element : Former {0}} → Weighed element → Weighed (the_former element)
+the_weighed = w_list
 
--- without elements
+abbrev pub the_items : (X : Type 0) → List X → List X
+the_items X held = held
+
+pub the_items_listed : (X : Type 0) (held : List X) → listed _ (children (the_former this) X held) ≡ the_items X held
+the_items_listed = list-listed
+
 pub the_empty : List ⊥
 the_empty = []
 
-abbrev pub the_items : (X : Type 0) → List X → List X
-the_items X elements = elements
+-- ---- where they lie
 
-pub the_items_listed : (X : Type 0) (elements : List X) → listed _ (children (the_former this) X elements) ≡ the_items X elements
-the_items_listed X elements = list-listed X elements
+abbrev inside : Former {0}
+inside = via (vector.the_former this Global) Inside (λ X held. held.elements) (λ X held. record { elements = held }) (λ X held. refl) (λ X held. refl)
 
--- the vector within
-abbrev fields : Former {0}
-fields = via (vec.the_former this Global) Inside (λ X a. a.items) (λ X v. record { items = v }) (λ X a. refl) (λ X v. refl)
+module _ (A B : RattleType) (h : A.Denot → B.Denot) where
+  abbrev along : List A.Denot → List B.Denot
+  along = (the_former this).map A.Denot B.Denot h
 
-module _ (R S : RattleType) (h : R.Denot → S.Denot) where
-  -- at two types that are stored alike it is stored alike
-  pub the_places : Alike R S h → Alike (contract.the_row R) (contract.the_row S) ((the_former this).map R.Denot S.Denot h)
-  the_places a = view_places fields (list this) view (λ X Y k u. refl) (λ X u. refl) R.Denot S.Denot h (contract.the_row R).coded (contract.the_row S).coded
-      (invariant R.Denot) (invariant S.Denot) (λ u p q. refl) (λ u p q. refl) (λ u e. tt) (λ u e. tt)
-      (over (inside.the_row R)) (over (inside.the_row S))
-      (struct_places (inside.the_type R) (inside.the_type S) (vec.mapped h, tt) _ (λ d. refl) refl (laid _ _ _ (vec.the_places heap.the_row ghosts R S h a), tt))
+  pub the_codes_placed : Recodes A B h → Recodes (contract.the_row A) (contract.the_row B) along
+  the_codes_placed codes held = sym (code_map A.coded.code B.coded.code h (λ x. sym (codes x)) held)
 
-  pub the_codes_placed : Recodes R S h → Recodes (contract.the_row R) (contract.the_row S) ((the_former this).map R.Denot S.Denot h)
-  the_codes_placed e elements = sym (code_map R.coded.code S.coded.code h (λ x. sym (e x)) elements)
+  pub the_places : Alike A B h → Alike (contract.the_row A) (contract.the_row B) along
+  the_places alike =
+      let field = vector.the_places on_heap.the_row allocator.ghosts A B h alike in
+      view_places inside (list this) shown.view (λ X Y k held. refl) (λ X held. refl) A.Denot B.Denot h (contract.the_row A).coded (contract.the_row B).coded
+      (shown.invariant A.Denot) (shown.invariant B.Denot) (λ held p q. refl) (λ held p q. refl) (λ held e. tt) (λ held e. tt)
+      (over (contract.TheInside.the_row A)) (over (contract.TheInside.the_row B))
+      (struct_places (contract.TheInside.the_type A) (contract.TheInside.the_type B) (vector.mapped h, tt) _ (λ d. refl) refl (laid _ _ _ field, tt))

@@ -6,5 +6,5 @@ use Rattle.pg_term_io.proofs.writing.put_reference.Given as goal
 
 abbrev pub invariant-loop-word : goal.invariant-loop-word
 invariant-loop-word l =
-    (l.out.items ≡ l.fn.out.items ++ (114 ∷ to_be_bytes w16 (length l.reference.words) ++ atom_bytes l.reference.node ++ l.reference.creation ∷ flat_map (to_be_bytes w32) (take l.word-index l.reference.words)))
-    × (l.out.spare + 4 + length (atom_bytes l.reference.node) + 4 * l.word-index ≡ l.fn.out.spare)
+    (l.out.items ≡ l.fn.out.items ++ (90 ∷ to_be_bytes w16 (length l.reference.words) ++ atom_bytes l.reference.node ++ to_be_bytes w32 l.reference.creation ++ flat_map (to_be_bytes w32) (take l.word-index l.reference.words)))
+    × (l.out.spare + 7 + length (atom_bytes l.reference.node) + 4 * l.word-index ≡ l.fn.out.spare)

@@ -26,5 +26,5 @@ decreases-list l = 8 * l.room + 5
 abbrev pub decreases-item_behind : goal.decreases-item_behind
 decreases-item_behind l = 8 * l.room + 6
 
-abbrev pub invariant-items-loop : goal.invariant-items-loop
-invariant-items-loop l = with_front l.terms.items (items_at (item_at l.room) (l.count - l.counter) l.rest) ≡ with_front l.fn.terms.items (items_at (item_at l.room) l.count l.bytes)
+abbrev pub invariant-items-loop-index : goal.invariant-items-loop-index
+invariant-items-loop-index l = with_front l.terms.items (items_at (item_at l.room) (l.count - l.index) l.rest) ≡ with_front l.fn.terms.items (items_at (item_at l.room) l.count l.bytes)

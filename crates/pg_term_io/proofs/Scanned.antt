@@ -1,0 +1,212 @@
+-- A walk over bytes ends where reading them ends, or at the same fault.
+use Rattle.std.proofs.Common.{◌≡◌, ℕ, zero, suc, Bool, true, false, cond, ltb, eqb, ◌||◌, ◌&&◌, List, [], ◌∷◌, ◌++◌, length, map, Result, Ok, Err, refl, ap, subst, ◌∙◌, arith}
+use Rattle.std.proofs.lemmas.Bool.{le-ltb}
+use Rattle.std.specs.Int.{Width, w8, w16, w32, cast_signed}
+use Rattle.pg_term.specs.declared.fault.TermFault.{TermFault}
+use Rattle.pg_term.specs.declared.fault.TermFault.TheVariants.{BadVersion, BadReference, TooDeep, TrailingBytes}
+use Rattle.pg_term.specs.declared.term.Term.{Term, Tuple, List as Listed}
+use Rattle.pg_term.specs.declared.term.Term.TheVariants.{Int, Atom as Name, Ref, Pid as Process, Binary}
+use Rattle.pg_term_io.specs.Numbers.{int_of}
+use Rattle.pg_term_io.specs.Tags.{is_atom_tag, is_list_tag}
+use Rattle.pg_term_io.specs.Reading.{Read, ◌>>=◌, byte_at, number_at, bytes_at, big_at, named_at, utf8_atom, latin_atom, atom_behind, atom_at, pid_at, old_reference_at, words_at, new_reference_at, binary_at, items_at, string_at, list_at, elements_behind, item_behind, leaf_behind, Readers, readers, item_at, tail_at, term_of}
+use Rattle.pg_term_io.specs.Scanning.{past, Walk, Walks, over_atom, over_node, over_byte, over_word, over_pid, over_old_reference, over_all, over_words, over_reference, over_binary, over_leaf, over_string, over_list, over_elements, over_behind, walks, over_item, over_tail, over_term}
+
+-- ---- steps
+
+-- one step, whose value the walk does not look at
+step : {A B : Type 0} (r : Read A) (f : A × List ℕ → Read B) (g : A × List ℕ → Result (List ℕ) TermFault) → ((x : A × List ℕ) → past (f x) ≡ g x) → past (r >>= f) ≡ (r >>= g)
+step (Ok x) f g h = h x
+step (Err e) f g h = refl
+
+-- one step, of which the walk knows only where it ends
+walked : {A B : Type 0} (r : Read A) (w : Result (List ℕ) TermFault) → past r ≡ w → (f : A × List ℕ → Read B) (g : Walk) → ((a : A) (rest : List ℕ) → past (f (a, rest)) ≡ g rest) → past (r >>= f) ≡ (w >>= g)
+walked (Ok x) w e f g h = h x.0 x.1 ∙ ap (λ (v : Result (List ℕ) TermFault). v >>= g) e
+walked (Err d) w e f g h = ap (λ (v : Result (List ℕ) TermFault). v >>= g) e
+
+-- the value in another form
+same_end : {A B : Type 0} (make : A → B) (r : Read A) → past (r >>= λ x. Ok (make x.0, x.1)) ≡ past r
+same_end make (Ok x) = refl
+same_end make (Err e) = refl
+
+-- whichever way a test goes
+tested : {A : Type 0} (b : Bool) (x y : Read A) (v w : Result (List ℕ) TermFault) → past x ≡ v → past y ≡ w → past (cond b x y) ≡ cond b v w
+tested true x y v w p q = p
+tested false x y v w p q = q
+
+-- ---- leaves
+
+pub atom_end : (tag : ℕ) (bytes : List ℕ) → past (atom_behind tag bytes) ≡ over_atom tag bytes
+unfolding atom_behind over_atom
+atom_end tag bytes =
+    tested (eqb tag 119) _ _ _ _ (step (byte_at bytes) (λ n. named_at utf8_atom n.0 n.1) (λ n. past (named_at utf8_atom n.0 n.1)) (λ n. refl))
+    (tested (eqb tag 118) _ _ _ _ (step (number_at w16 bytes) (λ n. named_at utf8_atom n.0 n.1) (λ n. past (named_at utf8_atom n.0 n.1)) (λ n. refl))
+    (tested (eqb tag 115) _ _ _ _ (step (byte_at bytes) (λ n. named_at latin_atom n.0 n.1) (λ n. past (named_at latin_atom n.0 n.1)) (λ n. refl))
+    (tested (eqb tag 100) _ _ _ _ (step (number_at w16 bytes) (λ n. named_at latin_atom n.0 n.1) (λ n. past (named_at latin_atom n.0 n.1)) (λ n. refl)) refl)))
+
+pub node_end : (bytes : List ℕ) → past (atom_at bytes) ≡ over_node bytes
+unfolding atom_at over_node
+node_end [] = refl
+node_end (tag ∷ bytes) = atom_end tag bytes
+
+-- a creation, and the walk over it
+abbrev CreationEnd : Width → Walk → Type 0
+CreationEnd w creation = (bytes : List ℕ) → past (number_at w bytes) ≡ creation bytes
+
+small_end : CreationEnd w8 over_byte
+small_end [] = refl
+small_end (b ∷ bytes) = let long : ltb (length (b ∷ bytes)) 1 ≡ false = le-ltb (length (b ∷ bytes)) 1 (omega arith) in rw long refl
+
+word_end : CreationEnd w32 over_word
+word_end bytes = refl
+
+pub pid_end : (w : Width) (creation : Walk) → CreationEnd w creation → (bytes : List ℕ) → past (pid_at w bytes) ≡ over_pid creation bytes
+unfolding pid_at over_pid
+pid_end w creation ends bytes =
+    walked (atom_at bytes) (over_node bytes) (node_end bytes) (λ node. number_at w32 node.1 >>= λ id. number_at w32 id.1 >>= λ serial. number_at w serial.1 >>= λ creation. Ok (record { node = node.0; serial = serial.0; id = id.0; creation = creation.0 }, creation.1))
+    (λ rest. over_word rest >>= λ rest. over_word rest >>= creation)
+    (λ node rest. walked (number_at w32 rest) (over_word rest) refl (λ id. number_at w32 id.1 >>= λ serial. number_at w serial.1 >>= λ creation. Ok (record { node = node; serial = serial.0; id = id.0; creation = creation.0 }, creation.1)) (λ rest. over_word rest >>= creation)
+    (λ id rest. walked (number_at w32 rest) (over_word rest) refl (λ serial. number_at w serial.1 >>= λ creation. Ok (record { node = node; serial = serial.0; id = id; creation = creation.0 }, creation.1)) creation
+    (λ serial rest. same_end (λ (creation : ℕ). record { node = node; serial = serial; id = id; creation = creation }) (number_at w rest) ∙ ends rest)))
+
+pub old_reference_end : (bytes : List ℕ) → past (old_reference_at bytes) ≡ over_old_reference bytes
+unfolding old_reference_at over_old_reference
+old_reference_end bytes =
+    walked (atom_at bytes) (over_node bytes) (node_end bytes) (λ node. number_at w32 node.1 >>= λ word. byte_at word.1 >>= λ creation. Ok (record { node = node.0; creation = creation.0; words = word.0 ∷ [] }, creation.1))
+    (λ rest. over_word rest >>= over_byte)
+    (λ node rest. walked (number_at w32 rest) (over_word rest) refl (λ word. byte_at word.1 >>= λ creation. Ok (record { node = node; creation = creation.0; words = word.0 ∷ [] }, creation.1)) over_byte
+    (λ word rest. same_end (λ (creation : ℕ). record { node = node; creation = creation; words = word ∷ [] }) (byte_at rest)))
+
+-- n of them, one after the other
+all_end : {A : Type 0} (read : List ℕ → Read A) (walk : Walk) → ((bytes : List ℕ) → past (read bytes) ≡ walk bytes) → (n : ℕ) (bytes : List ℕ) → past (items_at read n bytes) ≡ over_all walk n bytes
+unfolding items_at over_all
+all_end read walk h zero bytes = refl
+all_end {A} read walk h (suc n) bytes =
+    walked (read bytes) (walk bytes) (h bytes) (λ first. items_at read n first.1 >>= λ others. Ok (first.0 ∷ others.0, others.1)) (over_all walk n)
+    (λ a rest. same_end (λ (others : List A). a ∷ others) (items_at read n rest) ∙ all_end read walk h n rest)
+
+words_end : (node : List ℕ) (creation n : ℕ) (bytes : List ℕ) → past (words_at node creation n bytes) ≡ over_words n bytes
+unfolding words_at
+words_end node creation n bytes = same_end (λ (words : List ℕ). record { node = node; creation = creation; words = words }) (items_at (number_at w32) n bytes) ∙ all_end (number_at w32) over_word (λ b. refl) n bytes
+
+pub reference_end : (w : Width) (creation : Walk) → CreationEnd w creation → (bytes : List ℕ) → past (new_reference_at w bytes) ≡ over_reference creation bytes
+unfolding new_reference_at over_reference
+reference_end w creation ends bytes =
+    step (number_at w16 bytes) (λ n. cond (eqb n.0 0 || ltb 3 n.0) (Err BadReference) (atom_at n.1 >>= λ node. number_at w node.1 >>= λ creation. words_at node.0 creation.0 n.0 creation.1))
+    (λ n. cond (eqb n.0 0 || ltb 3 n.0) (Err BadReference) (over_node n.1 >>= λ rest. creation rest >>= over_words n.0))
+    (λ n. tested (eqb n.0 0 || ltb 3 n.0) (Err BadReference) (atom_at n.1 >>= λ node. number_at w node.1 >>= λ creation. words_at node.0 creation.0 n.0 creation.1) (Err BadReference) (over_node n.1 >>= λ rest. creation rest >>= over_words n.0) refl
+    (walked (atom_at n.1) (over_node n.1) (node_end n.1) (λ node. number_at w node.1 >>= λ creation. words_at node.0 creation.0 n.0 creation.1) (λ rest. creation rest >>= over_words n.0)
+    (λ node rest. walked (number_at w rest) (creation rest) (ends rest) (λ creation. words_at node creation.0 n.0 creation.1) (over_words n.0) (λ creation rest. words_end node creation n.0 rest))))
+
+pub binary_end : (bytes : List ℕ) → past (binary_at bytes) ≡ over_binary bytes
+unfolding binary_at over_binary
+binary_end bytes = step (number_at w32 bytes) (λ n. bytes_at n.0 n.1) (λ n. past (bytes_at n.0 n.1)) (λ n. refl)
+
+pub leaf_end : (tag : ℕ) (bytes : List ℕ) → past (leaf_behind tag bytes) ≡ over_leaf tag bytes
+unfolding leaf_behind over_leaf
+leaf_end tag bytes =
+    tested (eqb tag 97) _ _ _ _ (same_end int_of (byte_at bytes))
+    (tested (eqb tag 98) _ _ _ _ (same_end (λ (n : ℕ). Int (cast_signed w32 n)) (number_at w32 bytes))
+    (tested (eqb tag 110) _ _ _ _ (same_end Int (big_at bytes))
+    (tested (is_atom_tag tag) _ _ _ _ (same_end Name (atom_behind tag bytes) ∙ atom_end tag bytes)
+    (tested (eqb tag 103) _ _ _ _ (same_end Process (pid_at w8 bytes) ∙ pid_end w8 over_byte small_end bytes)
+    (tested (eqb tag 88) _ _ _ _ (same_end Process (pid_at w32 bytes) ∙ pid_end w32 over_word word_end bytes)
+    (tested (eqb tag 101) _ _ _ _ (same_end Ref (old_reference_at bytes) ∙ old_reference_end bytes)
+    (tested (eqb tag 114) _ _ _ _ (same_end Ref (new_reference_at w8 bytes) ∙ reference_end w8 over_byte small_end bytes)
+    (tested (eqb tag 90) _ _ _ _ (same_end Ref (new_reference_at w32 bytes) ∙ reference_end w32 over_word word_end bytes)
+    (tested (eqb tag 109) _ _ _ _ (same_end Binary (binary_at bytes) ∙ binary_end bytes) refl)))))))))
+
+-- ---- lists and tuples
+
+string_end : (room : ℕ) (bytes : List ℕ) → past (string_at room bytes) ≡ over_string room bytes
+unfolding string_at over_string
+string_end room bytes =
+    step (number_at w16 bytes) (λ n. bytes_at n.0 n.1 >>= λ text. cond (eqb room 0 && ltb 0 n.0) (Err TooDeep) (Ok (map int_of text.0, text.1)))
+    (λ n. bytes_at n.0 n.1 >>= λ text. cond (eqb room 0 && ltb 0 n.0) (Err TooDeep) (Ok text.1))
+    (λ n. step (bytes_at n.0 n.1) (λ text. cond (eqb room 0 && ltb 0 n.0) (Err TooDeep) (Ok (map int_of text.0, text.1))) (λ text. cond (eqb room 0 && ltb 0 n.0) (Err TooDeep) (Ok text.1))
+    (λ text. tested (eqb room 0 && ltb 0 n.0) (Err TooDeep) (Ok (map int_of text.0, text.1)) (Err TooDeep) (Ok text.1) refl refl))
+
+-- the walks of one depth end where its readers do
+record Together (below : Readers) (under : Walks) : Type 0 where
+  item : (bytes : List ℕ) → past (below.item bytes) ≡ under.item bytes
+  tail : (bytes : List ℕ) → past (below.tail bytes) ≡ under.tail bytes
+
+module _ (below : Readers) (under : Walks) (t : Together below under) where
+  all_items_end : (n : ℕ) (bytes : List ℕ) → past (items_at below.item n bytes) ≡ over_all under.item n bytes
+  all_items_end n bytes = all_end below.item under.item t.item n bytes
+
+  list_end : (bytes : List ℕ) → past (list_at below bytes) ≡ over_list under bytes
+  unfolding list_at over_list
+  list_end bytes =
+      step (number_at w32 bytes) (λ n. items_at below.item n.0 n.1 >>= λ items. below.tail items.1 >>= λ tail. Ok (items.0 ++ tail.0, tail.1)) (λ n. over_all under.item n.0 n.1 >>= under.tail)
+      (λ n. walked (items_at below.item n.0 n.1) (over_all under.item n.0 n.1) (all_items_end n.0 n.1) (λ items. below.tail items.1 >>= λ tail. Ok (items.0 ++ tail.0, tail.1)) under.tail
+      (λ items rest. same_end (λ (tail : List Term). items ++ tail) (below.tail rest) ∙ t.tail rest))
+
+  elements_end : (room tag : ℕ) (bytes : List ℕ) → past (elements_behind room below tag bytes) ≡ over_elements room under tag bytes
+  unfolding elements_behind over_elements
+  elements_end room tag bytes = tested (eqb tag 106) _ _ _ _ refl (tested (eqb tag 107) _ _ _ _ (string_end room bytes) (tested (eqb tag 108) _ _ _ _ (list_end bytes) refl))
+
+  behind_end : (room tag : ℕ) (bytes : List ℕ) → past (item_behind room below tag bytes) ≡ over_behind room under tag bytes
+  unfolding item_behind over_behind
+  behind_end room tag bytes =
+      tested (eqb tag 104) _ _ _ _ (same_end Tuple (byte_at bytes >>= λ n. items_at below.item n.0 n.1) ∙ step (byte_at bytes) (λ n. items_at below.item n.0 n.1) (λ n. over_all under.item n.0 n.1) (λ n. all_items_end n.0 n.1))
+      (tested (eqb tag 105) _ _ _ _ (same_end Tuple (number_at w32 bytes >>= λ n. items_at below.item n.0 n.1) ∙ step (number_at w32 bytes) (λ n. items_at below.item n.0 n.1) (λ n. over_all under.item n.0 n.1) (λ n. all_items_end n.0 n.1))
+      (tested (is_list_tag tag) _ _ _ _ (same_end Listed (elements_behind room below tag bytes) ∙ elements_end room tag bytes) (leaf_end tag bytes)))
+
+-- ---- levels
+
+next_level : (room : ℕ) → Together (readers room) (walks room) → Together (readers (suc room)) (walks (suc room))
+unfolding readers walks
+next_level room t = record { item = item; tail = tail }
+  where
+    item : (bytes : List ℕ) → past (item_at (suc room) bytes) ≡ over_item (suc room) bytes
+    item [] = refl
+    item (tag ∷ bytes) = behind_end (readers room) (walks room) t room tag bytes
+
+    tail : (bytes : List ℕ) → past (tail_at (suc room) bytes) ≡ over_tail (suc room) bytes
+    tail [] = refl
+    tail (tag ∷ bytes) = elements_end (readers room) (walks room) t room tag bytes
+
+no_level : Together (readers zero) (walks zero)
+unfolding readers walks
+no_level = record { item = item; tail = tail }
+  where
+    item : (bytes : List ℕ) → past (item_at zero bytes) ≡ over_item zero bytes
+    item [] = refl
+    item (b ∷ bytes) = refl
+
+    tail : (bytes : List ℕ) → past (tail_at zero bytes) ≡ over_tail zero bytes
+    tail [] = refl
+    tail (b ∷ bytes) = refl
+
+levels : (room : ℕ) → Together (readers room) (walks room)
+levels zero = no_level
+levels (suc room) = next_level room (levels room)
+
+pub item_end : (room : ℕ) (bytes : List ℕ) → past (item_at room bytes) ≡ over_item room bytes
+item_end room bytes = (levels room).item bytes
+
+-- the fault of a term, and no fault where there is one
+abbrev pub Judges : Result (List ℕ) TermFault → Result Term TermFault → Type 0
+Judges (Ok rest) read = (t : Term) × (read ≡ Ok t)
+Judges (Err e) read = read ≡ Err e
+
+whole_judged : (b : Bool) (t : Term) (rest : List ℕ) → Judges (cond b (Ok rest) (Err TrailingBytes)) (cond b (Ok t) (Err TrailingBytes))
+whole_judged true t rest = (t, refl)
+whole_judged false t rest = refl
+
+item_judged : (r : Read Term) → Judges (past r >>= λ rest. cond (eqb (length rest) 0) (Ok rest) (Err TrailingBytes)) (r >>= λ x. cond (eqb (length x.1) 0) (Ok x.0) (Err TrailingBytes))
+item_judged (Ok x) = whole_judged (eqb (length x.1) 0) x.0 x.1
+item_judged (Err e) = refl
+
+version_judged : (b : Bool) (v : Result (List ℕ) TermFault) (r : Result Term TermFault) → Judges v r → Judges (cond b v (Err BadVersion)) (cond b r (Err BadVersion))
+version_judged true v r h = h
+version_judged false v r h = refl
+
+-- a walk over all of the bytes tells whether they are read, or the fault
+pub term_judged : (bytes : List ℕ) → Judges (over_term bytes) (term_of bytes)
+unfolding over_term term_of
+term_judged [] = refl
+term_judged (version ∷ bytes) =
+    let read = item_at 64 bytes in
+    let P : Result (List ℕ) TermFault → Type 0 = λ v. Judges (v >>= λ rest. cond (eqb (length rest) 0) (Ok rest) (Err TrailingBytes)) (read >>= λ x. cond (eqb (length x.1) 0) (Ok x.0) (Err TrailingBytes)) in
+    version_judged (eqb version 131) _ _ (subst P (item_end 64 bytes) (item_judged read))
