@@ -6,6 +6,8 @@ use pg_term::{Atom, Pid, Term, TermFault};
 use std::alloc::Global;
 use std::test::Fail;
 
+mod many;
+
 fn atom(alloc: Global) -> Result<Atom, TermFault> {
     match Atom::new(alloc, "a") {
         Ok(atom) => Ok(atom),

@@ -1,5 +1,5 @@
 pub mod ExchangeFault
-pub mod Told
+pub mod GroupList
 pub use Rattle.pg_group.specs.Ended
 pub use Rattle.pg_group.specs.Members
 pub use Rattle.pg_group.specs.Scope

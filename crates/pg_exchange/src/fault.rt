@@ -6,7 +6,7 @@ use thiserror::Error;
 /// Why an exchange is not taken.
 #[derive(Clone, Copy, Debug, PartialEq, Eq, Error)]
 pub enum ExchangeFault {
-    #[error("the peer has told its groups already")]
+    #[error("the peer is merged already")]
     NotAMessage,
     #[error("out of memory")]
     OutOfMemory,

@@ -2,17 +2,17 @@ ghost use Rattle.std.specs.Prelude.{◌≡◌, ◌<◌, ◌↔◌, true, false, 
 ghost use Rattle.std.specs.List.{list_all};
 ghost use Rattle.std.proofs.Common.{replicate};
 ghost use Rattle.pg_group.specs.Ended.{ended_of};
-ghost use Rattle.pg_exchange.specs.Told.{all_merged};
+ghost use Rattle.pg_exchange.specs.GroupList.{all_merged};
 ghost use Rattle.pg_exchange.specs.declared.fault.ExchangeFault.TheVariants.{NotAMessage};
 
 use crate::fault::ExchangeFault;
-use crate::told::merge_all;
+use crate::group_list::merge_all;
 use pg_group::{Ended, GroupTable};
 use pg_term::{Items, Pid, Term};
 use std::alloc::{AllocError, Global};
 use std::marker::Model;
 
-/// Which peers have told their groups; contracts see a mark for each peer, in the order of the peers.
+/// Which peers are merged; contracts see a mark for each peer, in the order of the peers.
 #[derive(Debug, Drop)]
 pub struct Formation {
     marks: Vec<bool>,
@@ -27,7 +27,7 @@ impl Model for Formation {
 }
 
 impl Formation {
-    /// No peer of so many has told its groups.
+    /// No peer of so many is merged.
     pub fn new(alloc: Global, peers: usize) -> Result<Formation, AllocError>
         ensures { IfOk result (λ formation. formation ≡ replicate peers false) }
     {
@@ -43,11 +43,11 @@ impl Formation {
         self.marks.len()
     }
 
-    /// Takes what a peer tells of its groups: merges each into a copy, which takes the table's place at the end, and
-    /// marks the peer. `peer` is a place among the peers. Each group becomes the merge of what it was and of what is told
-    /// of it, less the ended: the law `exchange_merges_tables`. Its cost grows with the table and the groups.
+    /// Takes the groups that a peer announces: merges each into a copy, which takes the table's place at the end, and
+    /// counts the peer as merged. `peer` is a place among the peers. Each group becomes the merge of what it was and of what
+    /// is announced of it, less the ended: the law `exchange_merges_tables`. Its cost grows with the table and the groups.
     ///
-    /// Faults, which change nothing: `NotAMessage` where the peer has told its groups already; else `OutOfMemory`.
+    /// Faults, which change nothing: `NotAMessage` where the peer is merged already; else `OutOfMemory`.
     pub fn take<T: GroupTable + Drop>(
         &mut self,
         peer: usize,
@@ -73,7 +73,17 @@ impl Formation {
         Ok(())
     }
 
-    /// Whether every peer has told its groups. It takes no memory.
+    /// Counts a peer as merged, as where it is lost, whether it has announced its groups or not; all else stays as it was.
+    /// `peer` is a place among the peers. It takes no memory, and can be called again.
+    pub fn forget(&mut self, peer: usize)
+        requires { peer < length self.old }
+        ensures { self.new ≡ slice_set self.old peer true }
+    {
+        let mark = &mut self.marks[peer];
+        *mark = true;
+    }
+
+    /// Whether every peer is merged: it has announced its groups, or was forgotten. It takes no memory.
     pub fn formed(&self) -> bool
         ensures { result ≡ list_all (λ marked. marked) self.now }
     {

@@ -3,19 +3,19 @@ ghost use Rattle.pg_term.specs.declared.pid.Pid.{Pid};
 ghost use Rattle.pg_term.specs.declared.term.Term.{Term};
 ghost use Rattle.pg_group.specs.Value.{less, merge};
 ghost use Rattle.pg_group.specs.Table.{Table};
-ghost use Rattle.pg_exchange.specs.Told.{Told, all_merged, table_told, IsSnapshot};
+ghost use Rattle.pg_exchange.specs.GroupList.{GroupList, all_merged, announced_table, IsSnapshot};
 
 use pg_group::{left_out_at_once, merged_in_any_order};
 use pg_term::equality;
 
-/// An exchange merges each group of a table with what is told of it, less the ended; a snapshot tells of the table that
-/// it was taken of.
+/// An exchange merges each group of a table with what is announced of it, less the ended; a snapshot announces the table
+/// that it was taken of.
 pub fn exchange_merges_tables()
-    ensures taken { (table : Table) (groups : Told) (ended : Pid → Bool) (name : Term)
-        → all_merged table groups ended name ≡ merge (table name) (less (table_told groups name) ended) }
-    ensures told { (table : Table) (groups : Told) (name : Term)
-        → IsSnapshot table groups → table_told groups name ≡ table name }
-    ensures snapshot { (table other : Table) (groups : Told) (ended : Pid → Bool) (name : Term)
+    ensures taken { (table : Table) (groups : GroupList) (ended : Pid → Bool) (name : Term)
+        → all_merged table groups ended name ≡ merge (table name) (less (announced_table groups name) ended) }
+    ensures announced { (table : Table) (groups : GroupList) (name : Term)
+        → IsSnapshot table groups → announced_table groups name ≡ table name }
+    ensures snapshot { (table other : Table) (groups : GroupList) (ended : Pid → Bool) (name : Term)
         → IsSnapshot other groups
         → all_merged table groups ended name ≡ merge (table name) (less (other name) ended) }
 {

@@ -1,15 +1,15 @@
-//! How a node forms: it tells its groups to each peer, and takes in what each peer tells, once.
+//! How a node forms: it announces its groups to each peer, and merges what each peer announces, once.
 #![tactic(auto)]
 
 mod fault;
 mod formation;
+mod group_list;
 mod laws;
-mod told;
 
 pub use fault::ExchangeFault;
 pub use formation::Formation;
+pub use group_list::snapshot;
 pub use laws::exchange_merges_tables;
-pub use told::snapshot;
 
 #[cfg(test)]
 mod tests;

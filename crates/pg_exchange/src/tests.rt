@@ -6,6 +6,30 @@ use pg_term::{Atom, Items, Pid, Term, TermFault};
 use std::alloc::Global;
 use std::test::Fail;
 
+mod many;
+
+// A peer that is lost tells nothing more, and is not waited for.
+#[test]
+fn lost_peers_are_not_awaited(rt: HostRuntime) -> Result<(), Fail> {
+    let alloc = rt.alloc();
+    let ended = Ended::new(alloc);
+    let mut table = RowTable::new(alloc);
+    let mut formation = match Formation::new(alloc, 2) {
+        Ok(formation) => formation,
+        Err(_) => Formation::new(alloc, 2)?,
+    };
+    assert_eq!(rt; formation.peers(), 2);
+    for peer in [1, 1, 0] {
+        assert!(rt; !formation.formed());
+        assert!(rt; peer < formation.peers());
+        formation.forget(peer);
+        let late = formation.take(peer, &[], &mut table, &ended);
+        assert_eq!(rt; late, Err(ExchangeFault::NotAMessage));
+    }
+    assert!(rt; formation.formed());
+    Ok(())
+}
+
 /// A group of one pid that is told twice.
 fn told(alloc: Global) -> Result<Vec<(Term, Items<Pid>)>, TermFault> {
     let mut pids = Vec::new(alloc);

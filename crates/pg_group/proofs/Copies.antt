@@ -16,7 +16,9 @@ use Rattle.pg_term.specs.contracts.pid.PidEq.TheImpl.Laws as pid_equality
 use Rattle.pg_term.specs.contracts.term.TermOrd.TheImpl.Laws as term_order
 use Rattle.pg_term.specs.contracts.term.TermEq.TheImpl.Laws as term_equality
 use Rattle.pg_term.proofs.Same as decided
-use Rattle.pg_group.specs.Rows.{Members, counts_of, table_of}
+use Rattle.pg_group.specs.declared.members.Members.{Members}
+use Rattle.pg_group.specs.Counted.{CountMap, counts_in, NoneIsZero}
+use Rattle.pg_group.specs.Rows.{counts_of, table_of}
 
 all_first : {X : Type 0} (P : X → Type 0) (x : X) (xs : List X) → All P (x ∷ xs) → P x
 all_first P x xs h = h 0 x (omega arith)
@@ -63,18 +65,18 @@ names_flip : (x y : Term) → is_eq (term_cmp x y) ≡ is_eq (term_cmp y x)
 names_flip x y = sym (term_order.matches_eq-law x y) ∙ term_equality.laws-law.symm x y ∙ term_order.matches_eq-law y x
 
 -- members that were copied in part: what was copied, and the entries that are left
-pub record PidsCopied (whole done : Members) (left : List (Pid × ℕ)) : Type 0 where
+pub record PidsCopied (whole done : CountMap) (left : List (Pid × ℕ)) : Type 0 where
   pub overlaid : Overlaid pid_cmp (λ n. n) (get pid_cmp whole) (get pid_cmp done) left
   pub found : All (λ e. get pid_cmp whole e.0 ≡ Some e.1) left
 
-pub pids_begun : (whole done : Members) (left : List (Pid × ℕ)) → left ≡ whole.entries → All (λ e. get pid_cmp whole e.0 ≡ Some e.1) whole.entries → done.entries ≡ [] → PidsCopied whole done left
+pub pids_begun : (whole done : CountMap) (left : List (Pid × ℕ)) → left ≡ whole.entries → All (λ e. get pid_cmp whole e.0 ≡ Some e.1) whole.entries → done.entries ≡ [] → PidsCopied whole done left
 pids_begun whole done left is all empty = record {
   overlaid = λ q. ap (λ (es : List (Pid × ℕ)). option_or (get pid_cmp done q) (option_map (λ n. n) (lookup (is_at (pid_cmp q)) es))) is
       ∙ ap (λ (es : List (Pid × ℕ)). option_or (lookup (is_at (pid_cmp q)) es) (option_map (λ n. n) (get pid_cmp whole q))) empty ∙ map_same (get pid_cmp whole q);
   found = subst (All (λ e. get pid_cmp whole e.0 ≡ Some e.1)) (sym is) all;
 }
 
-pub pids_more : (whole old new : Members) (pid key : Pid) (n : ℕ) (before left : List (Pid × ℕ)) → before ≡ (pid, n) ∷ left → key ≡ pid → PidsCopied whole old before → UpdatesBy pid_cmp (pid_cmp key) old new (Some n) → PidsCopied whole new left
+pub pids_more : (whole old new : CountMap) (pid key : Pid) (n : ℕ) (before left : List (Pid × ℕ)) → before ≡ (pid, n) ∷ left → key ≡ pid → PidsCopied whole old before → UpdatesBy pid_cmp (pid_cmp key) old new (Some n) → PidsCopied whole new left
 pids_more whole old new pid key n before left is same copied h =
     let here = subst (λ (l : List (Pid × ℕ)). PidsCopied whole old l) is copied in
     record {
@@ -84,10 +86,15 @@ pids_more whole old new pid key n before left is same copied h =
       found = all_rest (λ e. get pid_cmp whole e.0 ≡ Some e.1) (pid, n) left here.found;
     }
 
-pub pids_all : (whole new : Members) (left : List (Pid × ℕ)) → left ≡ [] → PidsCopied whole new left → counts_of new ≡ counts_of whole
+pub pids_all : (whole new : CountMap) (left : List (Pid × ℕ)) → left ≡ [] → PidsCopied whole new left → counts_in new ≡ counts_in whole
 pids_all whole new left is copied =
     let here = subst (λ (l : List (Pid × ℕ)). PidsCopied whole new l) is copied in
     fun_ext (λ q. ap (λ o. unwrap_or o 0) (overlaid_all pid_cmp (λ n. n) (get pid_cmp whole) (get pid_cmp new) here.overlaid q))
+
+pub pids_living : (whole new : CountMap) (left : List (Pid × ℕ)) → left ≡ [] → PidsCopied whole new left → NoneIsZero whole → NoneIsZero new
+pids_living whole new left is copied living q zero =
+    let here = subst (λ (l : List (Pid × ℕ)). PidsCopied whole new l) is copied in
+    living q (sym (overlaid_all pid_cmp (λ n. n) (get pid_cmp whole) (get pid_cmp new) here.overlaid q) ∙ zero)
 
 abbrev pub Rows : Type 0
 Rows = BTreeMap Term Members

@@ -1,6 +1,7 @@
 pub mod Changes
 pub mod Copies
 pub mod Drops
+pub mod EndedSets
 pub mod Exchanges
 pub mod Growth
 pub mod Lists

@@ -1,5 +1,5 @@
 -- Groups that are merged, and counts that are raised to those of a list.
-use Rattle.std.proofs.Common.{◌≡◌, ℕ, ◌+◌, ◌-◌, ◌≤◌, ◌<◌, max, Bool, true, false, cond, Some, None, List, length, take, get_or, refl, sym, ap, ◌∙◌, arith}
+use Rattle.std.proofs.Common.{◌≡◌, ℕ, ◌+◌, ◌-◌, ◌≤◌, ◌<◌, max, Bool, true, false, cond, Some, None, List, [], length, take, get_or, refl, sym, ap, ◌∙◌, arith}
 use Rattle.std.specs.Prelude.{count_by}
 use Rattle.std.proofs.Math.Path.{fun_ext}
 use Rattle.std.proofs.lemmas.List.Sums.{count_by_more_yes, count_by_more_no, sum_by-take-le, count_by-le-length}
@@ -11,8 +11,8 @@ use Rattle.pg_term.proofs.Same.{pid_is}
 use Rattle.pg_group.specs.declared.update.Update.{Update}
 use Rattle.pg_group.specs.declared.update.Update.TheVariants.{Create, Delete, Join, Leave}
 use Rattle.pg_group.specs.Functions.{upd}
-use Rattle.pg_group.specs.Value.{Value, Counts, apply, less, merge, greater, told, with_one_more, IsBetween}
-use Rattle.pg_group.proofs.Changes.{upd_from}
+use Rattle.pg_group.specs.Value.{Value, Counts, nobody, apply, less, merge, greater, told, with_one_more, IsBetween}
+use Rattle.pg_group.proofs.Changes.{upd_at, upd_from}
 
 -- ---- merge
 
@@ -95,6 +95,27 @@ module _ (pids : List Pid) (ended : Pid → Bool) (i : ℕ) (pid : Pid) (within 
           let e : ended q ≡ true = sym (ap ended (pid_is pid q t)) ∙ gone in
           ap (λ b. cond b 0 (count_by (same_pid q) (take (i + 1) pids))) e ∙ ap (λ b. cond b 0 (count_by (same_pid q) (take i pids))) (sym e)
       go q false t = ap (cond (ended q) 0) (counted_as_before q t)
+
+-- nothing is told by an empty list
+pub told_nothing : (ended : Pid → Bool) → nobody ≡ told [] ended
+told_nothing ended = fun_ext (λ q. go (ended q))
+  where
+    go : (b : Bool) → ◌≡◌ {A = ℕ} 0 (cond b 0 0)
+    go true = refl
+    go false = refl
+
+pub nothing_raised : (f : Counts) (ended : Pid → Bool) → f ≡ greater f (told [] ended)
+nothing_raised f ended = fun_ext (λ q. go (f q) (ended q))
+  where
+    go : (n : ℕ) (b : Bool) → n ≡ max n (cond b 0 0)
+    go n true = omega arith
+    go n false = omega arith
+
+-- what was counted once more is counted
+pub counted_now : (f g : Counts) (pid : Pid) (n : ℕ) → g ≡ with_one_more f pid → n ≡ g pid → 0 < n
+counted_now f g pid n more is =
+    let one : g pid ≡ f pid + 1 = ap (λ (h : Counts). h pid) more ∙ upd_at same_pid f pid (f pid + 1) (pid_laws.laws-law.refl pid) in
+    omega arith
 
 pub told_within : (pids : List Pid) (ended : Pid → Bool) (i : ℕ) (q : Pid) → told (take i pids) ended q ≤ told pids ended q
 told_within pids ended i q = go (ended q)

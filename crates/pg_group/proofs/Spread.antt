@@ -15,7 +15,7 @@ use Rattle.pg_term.specs.contracts.pid.PidOrd.TheImpl.Laws as order_laws
 use Rattle.pg_term.proofs.Same.{pid_is}
 use Rattle.pg_group.specs.Scope.{anywhere}
 use Rattle.pg_group.specs.Members.{IsInOrder, IsMemberList}
-use Rattle.pg_group.specs.Rows.{Members, counts_of}
+use Rattle.pg_group.specs.Counted.{CountMap, counts_in}
 use Rattle.pg_group.proofs.Lists.{counted}
 
 -- a pid n times before others
@@ -122,7 +122,7 @@ module _ (among : Pid → Bool) where
       go false t = omega arith
 
   -- the entries of an ordered map are a group's members
-  pub members-spread : (m : Members) → IsOrdered pid_cmp m → IsMemberList (Some (counts_of m)) among (spread among m.entries)
+  pub members-spread : (m : CountMap) → IsOrdered pid_cmp m → IsMemberList (Some (counts_in m)) among (spread among m.entries)
   members-spread m ordered = record { ordered = ordered-spread m.entries ordered; each = λ q. count-spread q m.entries ordered }
 
   -- ---- the entries, one after the other

@@ -1,5 +1,5 @@
 -- Groups without ended pids stay so.
-use Rattle.std.proofs.Common.{◌≡◌, ℕ, ◌+◌, ◌-◌, max, Bool, true, false, cond, Some, None, List, refl, sym, ap, ◌∙◌}
+use Rattle.std.proofs.Common.{◌≡◌, ℕ, ◌+◌, ◌-◌, max, Bool, true, false, cond, ◌||◌, Some, None, List, refl, sym, ap, ◌∙◌}
 use Rattle.std.specs.Prelude.{count_by}
 use Rattle.std.proofs.Math.Path.{fun_ext}
 use Rattle.pg_term.specs.declared.pid.Pid.{Pid}
@@ -7,6 +7,9 @@ use Rattle.pg_term.specs.Same.{same_pid}
 use Rattle.pg_term.proofs.Same.{pid_is}
 use Rattle.pg_group.specs.declared.update.Update.{Update}
 use Rattle.pg_group.specs.declared.update.Update.TheVariants.{Create, Delete, Join, Leave}
+use Rattle.pg_group.specs.Ended.{ended_with}
+use Rattle.pg_group.specs.Functions.{upd}
+use Rattle.pg_group.specs.Scope.{at_node}
 use Rattle.pg_group.specs.Value.{Value, Counts, apply, less, NoneEnded, with_one_more, with_one_less}
 use Rattle.pg_group.specs.Table.{applied, exchanged}
 use Rattle.pg_group.proofs.Changes.{upd_by}
@@ -59,6 +62,25 @@ module _ (ended : Pid → Bool) where
   pub kept_exchanged : (v : Value) (pids : List Pid) → NoneEnded v ended → NoneEnded (exchanged v pids ended) ended
   kept_exchanged None pids h q e = ap (λ b. cond b 0 (count_by (same_pid q) pids)) e
   kept_exchanged (Some counts) pids h q e = (λ i. max (h q e i) (cond (e i) 0 (count_by (same_pid q) pids)))
+
+  -- a pid that ends is taken out
+  pub kept_without : (v : Value) (pid : Pid) → NoneEnded v ended → NoneEnded (less v (same_pid pid)) (upd same_pid ended pid true)
+  unfolding upd
+  kept_without None pid h = λ q e. refl
+  kept_without (Some counts) pid h = λ q e. go (same_pid pid q) q e
+    where
+      go : (b : Bool) (q : Pid) → cond b true (ended q) ≡ true → cond b 0 (counts q) ≡ 0
+      go true q e = refl
+      go false q e = h q e
+
+  -- the pids of a node that is lost are taken out
+  pub kept_without_node : (v : Value) (node : List ℕ) → NoneEnded v ended → NoneEnded (less v (at_node node)) (ended_with ended node)
+  kept_without_node None node h = λ q e. refl
+  kept_without_node (Some counts) node h = λ q e. go (at_node node q) q e
+    where
+      go : (b : Bool) (q : Pid) → (b || ended q) ≡ true → cond b 0 (counts q) ≡ 0
+      go true q e = refl
+      go false q e = h q e
 
   pub value : (v : Value) (update : Update) → NoneEnded v ended → applied v update ended ≡ less (apply v update) ended
   value None (Create name) h = ap Some (fun_ext (λ pid. thin (ended pid) 0 (λ e. refl)))

@@ -1,10 +1,15 @@
 -- Which pids have ended.
-use Rattle.std.specs.Prelude.{Bool}
-use Rattle.std.specs.HashSet.{contains}
+use Rattle.std.specs.Prelude.{ℕ, Bool, ◌||◌, List}
+use Rattle.std.specs.BTreeSet.{contains}
 use Rattle.pg_term.specs.declared.pid.Pid.{Pid}
-use Rattle.pg_term.specs.Same.{same_pid}
+use Rattle.pg_term.specs.Same.{atom_cmp, pid_cmp}
 use Rattle.pg_group.specs.declared.ended.Ended.{Ended}
+use Rattle.pg_group.specs.Scope.{at_node}
+
+-- all pids of a node besides
+abbrev pub ended_with : (Pid → Bool) → List ℕ → Pid → Bool
+ended_with ended node pid = at_node node pid || ended pid
 
 -- the set as a test of pids
 abbrev pub ended_of : Ended → Pid → Bool
-ended_of ended pid = contains same_pid ended.pids pid
+ended_of ended pid = contains atom_cmp ended.nodes pid.node || contains pid_cmp ended.pids pid

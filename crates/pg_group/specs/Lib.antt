@@ -1,3 +1,4 @@
+pub mod Counted
 pub mod Ended
 pub mod Functions
 pub mod Members

@@ -11,7 +11,7 @@ anywhere pid = true
 
 -- a pid of this node
 abbrev pub at_node : List ℕ → Pid → Bool
-at_node node pid = same_atom pid.node node
+at_node node pid = same_atom node pid.node
 
 abbrev pub in_scope : Scope → Pid → Bool
 in_scope All = anywhere

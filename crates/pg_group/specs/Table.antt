@@ -1,5 +1,5 @@
 -- A table of groups, as a function from names to groups.
-use Rattle.std.specs.Prelude.{◌≡◌, ◌+◌, ◌<◌, ◌^◌, Bool, true, false, cond, List, None, is_some, IsSome}
+use Rattle.std.specs.Prelude.{◌≡◌, ℕ, ◌+◌, ◌<◌, ◌^◌, Bool, true, false, cond, List, None, is_some, IsSome}
 use Rattle.std.specs.List.{IsDistinct, list_any}
 use Rattle.pg_term.specs.declared.pid.Pid.{Pid}
 use Rattle.pg_term.specs.declared.term.Term.{Term}
@@ -7,6 +7,7 @@ use Rattle.pg_term.specs.Same.{same_term, same_pid}
 use Rattle.pg_group.specs.declared.update.Update.{Update}
 use Rattle.pg_group.specs.declared.update.Update.TheVariants.{Create, Delete, Join, Leave}
 use Rattle.pg_group.specs.Functions.{upd}
+use Rattle.pg_group.specs.Scope.{at_node}
 use Rattle.pg_group.specs.Value.{Value, apply, name_of, count_in, less, merge, listed, IsBetween}
 
 abbrev pub Table : Type 0
@@ -64,3 +65,7 @@ pub record PartlyMerged (old new : Table) (name : Term) (pids : List Pid) (ended
 -- the table without a pid; each group stays
 abbrev pub without : Table → Pid → Table
 without table pid name = less (table name) (same_pid pid)
+
+-- the table without the pids of a node; each group stays
+abbrev pub without_node : Table → List ℕ → Table
+without_node table node name = less (table name) (at_node node)

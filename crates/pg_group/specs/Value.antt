@@ -54,10 +54,14 @@ abbrev pub count_in : Value → Pid → ℕ
 count_in None pid = 0
 count_in (Some counts) pid = counts pid
 
+-- no count of the pids of a set
+abbrev pub none_of : (Pid → Bool) → Counts → Counts
+none_of ended counts pid = cond (ended pid) 0 (counts pid)
+
 -- a group without the pids of a set; a present group stays present
 abbrev pub less : Value → (Pid → Bool) → Value
 less None ended = None
-less (Some counts) ended = Some (λ pid. cond (ended pid) 0 (counts pid))
+less (Some counts) ended = Some (none_of ended counts)
 
 -- each count is the greater of the two
 abbrev pub greater : Counts → Counts → Counts

@@ -1,42 +1,55 @@
 ghost use Rattle.std.specs.Prelude.{◌≡◌, true, false, IsTrue, ◌↔◌, OnOk, OnErr};
 
-use pg_term::Pid;
+use pg_term::{Atom, Pid};
 use std::alloc::{AllocError, Global};
-use std::collections::HashSet;
+use std::collections::BTreeSet;
 
 /// The pids of processes that have ended: a set that only grows.
 #[derive(Drop)]
 pub struct Ended {
-    pids: HashSet<Pid>,
+    /// All pids of these nodes have ended.
+    nodes: BTreeSet<Atom>,
+    pids: BTreeSet<Pid>,
 }
 
 impl Ended {
     ghost use Rattle.pg_term.specs.Same.{same_pid};
     ghost use Rattle.pg_group.specs.Functions.{upd};
-    ghost use Rattle.pg_group.specs.Ended.{ended_of};
+    ghost use Rattle.pg_group.specs.Ended.{ended_of, ended_with};
 
     /// No pid has ended. It takes no memory.
     pub fn new(alloc: Global) -> Ended
         ensures { ended_of result ≡ (λ pid. false) }
     {
         Ended {
-            pids: HashSet::new(alloc),
+            nodes: BTreeSet::new(alloc),
+            pids: BTreeSet::new(alloc),
         }
     }
 
-    /// Whether the pid has ended. It takes no memory.
+    /// Whether the pid has ended. It takes no memory: O(log n) in the pids and the nodes that were put in.
     pub fn has(&self, pid: &Pid) -> bool
         ensures { result ≡ ended_of self.now pid.now }
     {
-        self.pids.contains(pid)
+        self.nodes.contains(&pid.node) || self.pids.contains(pid)
     }
 
-    /// Puts the pid in. An error changes nothing.
+    /// Puts the pid in. An error changes nothing. O(log n).
     pub fn add(&mut self, pid: Pid) -> Result<(), AllocError>
         ensures ok { OnOk result (ended_of self.new ≡ upd same_pid (ended_of self.old) pid true) }
         ensures err { OnErr result (ended_of self.new ≡ ended_of self.old) }
     {
         self.pids.insert(pid)?;
+        Ok(())
+    }
+
+    /// Puts all pids of the node in, as where the node is lost. An error changes nothing. O(log n) in the nodes that were
+    /// put in.
+    pub fn add_node(&mut self, node: &Atom) -> Result<(), AllocError>
+        ensures ok { OnOk result (ended_of self.new ≡ ended_with (ended_of self.old) node.now) }
+        ensures err { OnErr result (ended_of self.new ≡ ended_of self.old) }
+    {
+        self.nodes.insert(node.copy()?)?;
         Ok(())
     }
 }

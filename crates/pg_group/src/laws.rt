@@ -1,17 +1,25 @@
-ghost use Rattle.std.specs.Prelude.{◌≡◌, ◌≤◌, ◌+◌, ℕ, Bool, List, length};
+ghost use Rattle.std.specs.Prelude.{◌≡◌, ◌≤◌, ◌+◌, ℕ, Bool, true, List, length};
 ghost use Rattle.pg_term.specs.declared.pid.Pid.{Pid};
+ghost use Rattle.pg_term.specs.Same.{same_pid};
 ghost use Rattle.pg_group.specs.declared.update.Update.{Update};
+ghost use Rattle.pg_group.specs.Functions.{upd};
+ghost use Rattle.pg_group.specs.Scope.{at_node};
+ghost use Rattle.pg_group.specs.Ended.{ended_with};
 ghost use Rattle.pg_term.specs.declared.term.Term.{Term};
 ghost use Rattle.pg_group.specs.Value.{Value, apply, less, merge, count_in, NoneEnded};
 ghost use Rattle.pg_group.specs.Members.{IsMemberList};
 ghost use Rattle.pg_group.specs.Table.{Table, applied, changed, exchanged};
 
-/// A group without ended pids stays one, by updates and by exchanges: what a table makes of it is pg2's group after the
-/// update, less the ended.
+/// A group without ended pids stays one, by updates and by exchanges, and where a pid, or each pid of a node, ends and is
+/// taken out: what a table makes of it by an update is pg2's group after the update, less the ended.
 pub fn ended_stay_out()
     ensures value { (v : Value) (update : Update) (ended : Pid → Bool) → NoneEnded v ended → applied v update ended ≡ less (apply v update) ended }
     ensures kept { (v : Value) (update : Update) (ended : Pid → Bool) → NoneEnded v ended → NoneEnded (applied v update ended) ended }
     ensures exchange { (v : Value) (pids : List Pid) (ended : Pid → Bool) → NoneEnded v ended → NoneEnded (exchanged v pids ended) ended }
+    ensures end { (v : Value) (pid : Pid) (ended : Pid → Bool)
+        → NoneEnded v ended → NoneEnded (less v (same_pid pid)) (upd same_pid ended pid true) }
+    ensures loss { (v : Value) (node : List ℕ) (ended : Pid → Bool)
+        → NoneEnded v ended → NoneEnded (less v (at_node node)) (ended_with ended node) }
 {}
 
 /// An update adds one at most to a count: where none is above n, it leaves none above n + 1.

@@ -3,16 +3,16 @@ ghost use Rattle.pg_group.specs.Ended.{ended_of};
 ghost use Rattle.pg_group.specs.Table.{changed, Adds, HasRoom};
 
 use crate::ended::Ended;
-use crate::members::{count_of, pid_at, size_of};
 use crate::rows::{self, Rows, create, delete, join, leave};
 use crate::scope::Scope;
 use crate::table::GroupTable;
 use crate::update::Update;
-use pg_term::{Pid, Term};
+use pg_term::{Atom, Pid, Term};
 use std::alloc::{AllocError, Global};
 use std::collections::BTreeMap;
 
-/// The plain table: a row for each group, ordered by name, with a count for each member, ordered by pid.
+/// The plain table: a row for each group, ordered by name, with a count for each member, ordered by pid. A pid that is no
+/// member any more leaves nothing behind.
 #[derive(Drop)]
 pub struct RowTable {
     rows: Rows,
@@ -73,6 +73,10 @@ impl GroupTable for RowTable {
         rows::drop_pid(&mut self.rows, pid);
     }
 
+    fn drop_node(&mut self, node: &Atom) {
+        rows::drop_node(&mut self.rows, node);
+    }
+
     fn groups(&self) -> Result<Vec<Term>, AllocError> {
         let mut names = Vec::with_capacity(self.alloc, self.rows.len())?;
         for name in self.rows.keys() {
@@ -83,21 +87,21 @@ impl GroupTable for RowTable {
 
     fn count(&self, name: &Term, pid: &Pid) -> u64 {
         match self.rows.get(name) {
-            Some(members) => count_of(members, pid),
+            Some(members) => members.count(pid),
             None => 0,
         }
     }
 
     fn size(&self, name: &Term, scope: Scope<'_>) -> Option<u64> {
         match self.rows.get(name) {
-            Some(members) => Some(size_of(members, scope)),
+            Some(members) => Some(members.size(scope)),
             None => None,
         }
     }
 
     fn pid_at(&self, name: &Term, scope: Scope<'_>, place: u64) -> Option<&Pid> {
         match self.rows.get(name) {
-            Some(members) => pid_at(members, scope, place),
+            Some(members) => members.pid_at(scope, place),
             None => None,
         }
     }

@@ -2,14 +2,14 @@ ghost use Rattle.std.specs.Prelude.{◌≡◌, ◌+◌, ◌<◌, ◌^◌, None, 
 ghost use Rattle.pg_term.specs.Same.{same_term};
 ghost use Rattle.pg_group.specs.Functions.{upd};
 ghost use Rattle.pg_group.specs.Value.{apply, count_in};
-ghost use Rattle.pg_group.specs.Table.{merged, PartlyMerged, without};
+ghost use Rattle.pg_group.specs.Table.{merged, PartlyMerged, without, without_node};
 ghost use Rattle.pg_group.specs.Ended.{ended_of};
 ghost use Rattle.pg_group.specs.Rows.{table_of};
 ghost use Rattle.pg_group.specs.declared.update.Update.TheVariants.{Create, Delete, Join, Leave};
 
 use crate::ended::Ended;
-use crate::members::{self, Members, add_one, raise_all, take_all, take_one};
-use pg_term::{Pid, Term};
+use crate::members::Members;
+use pg_term::{Atom, Pid, Term};
 use std::alloc::{AllocError, Global};
 use std::collections::BTreeMap;
 
@@ -27,7 +27,7 @@ pub fn create(rows: &mut Rows, alloc: Global, name: &Term) -> Result<(), AllocEr
         return Ok(());
     }
     let row = name.copy(alloc)?;
-    rows.insert(row, BTreeMap::new(alloc))?;
+    rows.insert(row, Members::new(alloc))?;
     Ok(())
 }
 
@@ -50,7 +50,7 @@ pub fn join(rows: &mut Rows, name: &Term, pid: &Pid) -> Result<(), AllocError>
 {
     match rows.get_mut(name) {
         Some(members) => {
-            add_one(members, pid)?;
+            members.add_one(pid)?;
             Ok(())
         }
         None => Ok(()),
@@ -63,7 +63,7 @@ pub fn leave(rows: &mut Rows, name: &Term, pid: &Pid)
         ≡ upd same_term (table_of rows.old) name.now (apply (table_of rows.old name.now) (Leave name.now pid.now)) }
 {
     match rows.get_mut(name) {
-        Some(members) => take_one(members, pid),
+        Some(members) => members.take_one(pid),
         None => (),
     }
 }
@@ -82,9 +82,10 @@ pub fn merge(
         (PartlyMerged (table_of rows.old) (table_of rows.new) name.now pids.now (ended_of ended.now)) }
 {
     create(rows, alloc, name)?;
-    if let Some(members) = rows.get_mut(name) {
-        raise_all(members, alloc, pids, ended)?;
-    }
+    let Some(members) = rows.get_mut(name) else {
+        unreachable!()
+    };
+    members.raise_all(alloc, pids, ended)?;
     Ok(())
 }
 
@@ -93,7 +94,17 @@ pub fn drop_pid(rows: &mut Rows, pid: &Pid)
     ensures { table_of rows.new ≡ without (table_of rows.old) pid.now }
 {
     rows.retain(|_, members| {
-        take_all(members, pid);
+        members.take_all(pid);
+        true
+    });
+}
+
+/// Takes every pid of a node out of every group.
+pub fn drop_node(rows: &mut Rows, node: &Atom)
+    ensures { table_of rows.new ≡ without_node (table_of rows.old) node.now }
+{
+    rows.retain(|_, members| {
+        members.take_all_of(node);
         true
     });
 }
@@ -104,7 +115,7 @@ pub fn copy(rows: &Rows, alloc: Global) -> Result<Rows, AllocError>
 {
     let mut copy = BTreeMap::new(alloc);
     for (name, row) in rows {
-        copy.insert(name.copy(alloc)?, members::copy(row, alloc)?)?;
+        copy.insert(name.copy(alloc)?, row.copy(alloc)?)?;
     }
     Ok(copy)
 }

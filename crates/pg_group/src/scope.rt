@@ -20,7 +20,7 @@ impl Scope<'_> {
     {
         match self {
             Scope::All => true,
-            Scope::At(node) => pid.node == **node,
+            Scope::At(node) => **node == pid.node,
         }
     }
 }

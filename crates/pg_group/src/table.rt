@@ -3,14 +3,14 @@ ghost use Rattle.pg_term.specs.declared.pid.Pid.{Pid};
 ghost use Rattle.pg_term.specs.declared.term.Term.{Term};
 ghost use Rattle.pg_group.specs.Ended.{ended_of};
 ghost use Rattle.pg_group.specs.Value.{count_in};
-ghost use Rattle.pg_group.specs.Table.{Table, changed, HasRoom, AreNames, merged, PartlyMerged, without};
+ghost use Rattle.pg_group.specs.Table.{Table, changed, HasRoom, AreNames, merged, PartlyMerged, without, without_node};
 ghost use Rattle.pg_group.specs.Scope.{in_scope};
 ghost use Rattle.pg_group.specs.Members.{IsMemberList, SizeFits};
 
 use crate::ended::Ended;
 use crate::scope::Scope;
 use crate::update::Update;
-use pg_term::{Pid, Term};
+use pg_term::{Atom, Pid, Term};
 use std::alloc::AllocError;
 
 /// A table of process groups, however it is kept.
@@ -44,6 +44,11 @@ pub trait GroupTable {
     /// no memory.
     fn drop_pid(&mut self, pid: &Pid)
         ensures { contents self.new ≡ without (contents self.old) pid.now };
+
+    /// Takes every pid of a node out of every group, as where the node is lost; the groups stay. Its cost grows with the
+    /// groups and their members. It takes no memory.
+    fn drop_node(&mut self, node: &Atom)
+        ensures { contents self.new ≡ without_node (contents self.old) node.now };
 
     /// The names of the groups, each once. Its cost grows with the names.
     fn groups(&self) -> Result<Vec<Term>, AllocError>

@@ -9,6 +9,8 @@ use std::alloc::{AllocError, Global};
 use std::process::Abort;
 use std::test::Fail;
 
+mod many;
+
 fn pid(alloc: Global, id: u32) -> Result<Pid, TermFault> {
     Ok(Pid {
         node: Atom::new(alloc, "a")?,
@@ -142,6 +144,62 @@ fn late_joins_count_nothing(rt: HostRuntime) -> Result<(), Fail> {
     Ok(())
 }
 
+#[test]
+fn lost_nodes_have_ended(rt: HostRuntime) -> Result<(), Fail> {
+    let alloc = rt.alloc();
+    let mut ended = Ended::new(alloc);
+    let one = again(|| pid(alloc, 1))?;
+    let mut other = again(|| pid(alloc, 1))?;
+    other.node = again(|| Atom::new(alloc, "b"))?;
+    if ended.add_node(&one.node).is_err() {
+        assert!(rt; !ended.has(&one), "a refused loss is none");
+        ended.add_node(&one.node)?;
+    }
+    assert!(rt; ended.has(&one));
+    assert!(rt; !ended.has(&other));
+    Ok(())
+}
+
+/// The pids of a lost node are in no group, and the groups are there; all else is as it was.
+fn drops_all_of_a_node<T: GroupTable>(
+    rt: &impl Abort,
+    table: &mut T,
+    alloc: Global,
+) -> Result<(), Fail> {
+    let ended = Ended::new(alloc);
+    let mut members = again(|| pids(alloc, &[1, 2, 1, 3]))?;
+    let node = again(|| Atom::new(alloc, "b"))?;
+    assert_eq!(rt; members.len(), 4);
+    members[3].node = again(|| node.copy())?;
+    let members = members.as_slice();
+    for name in [1, 2] {
+        if table.merge(&Term::Int(name), members, &ended).is_err() {
+            table.merge(&Term::Int(name), members, &ended)?;
+        }
+    }
+    for (lost, counts) in [(&node, [2, 1, 0]), (&members[0].node, [0, 0, 0])] {
+        table.drop_node(lost);
+        for name in [1, 2] {
+            assert!(rt; table.has(&Term::Int(name)));
+            assert_eq!(rt;
+                [
+                    table.count(&Term::Int(name), &members[0]),
+                    table.count(&Term::Int(name), &members[1]),
+                    table.count(&Term::Int(name), &members[3]),
+                ],
+                counts
+            );
+        }
+    }
+    Ok(())
+}
+
+#[test]
+fn rows_drop_all_of_a_node(rt: HostRuntime) -> Result<(), Fail> {
+    let mut table = RowTable::new(rt.alloc());
+    drops_all_of_a_node(&rt, &mut table, rt.alloc())
+}
+
 fn pids(alloc: Global, ids: &[u32]) -> Result<Vec<Pid>, TermFault> {
     let mut pids = Vec::new(alloc);
     for id in ids {
@@ -161,7 +219,6 @@ fn merge_takes_the_greater<T: GroupTable + Drop>(
     let made = again(|| pids(alloc, &[2, 1, 2, 3]))?;
     let pids = made.as_slice();
     assert_eq!(rt; pids.len(), 4);
-    let own = again(|| pids[0].node.copy())?;
     again_add(&mut ended, again(|| pids[3].copy())?)?;
     for (list, counts) in [
         (&pids[..1], (0, 1)),
@@ -184,18 +241,23 @@ fn merge_takes_the_greater<T: GroupTable + Drop>(
             "an exchange brings no ended pid back"
         );
     }
+    has_places(rt, table, &name, &pids[0])
+}
+
+/// The member 1 once and the member 2 twice, of one node, each at its places; a copy keeps them where the table drops one.
+fn has_places<T: GroupTable + Drop>(
+    rt: &impl Abort,
+    table: &mut T,
+    name: &Term,
+    two: &Pid,
+) -> Result<(), Fail> {
     let copy = again(|| table.copy())?;
-    table.drop_pid(&pids[0]);
-    assert_eq!(rt;
-        (table.count(&name, &pids[0]), copy.count(&name, &pids[0])),
-        (0, 2)
-    );
+    table.drop_pid(two);
+    assert_eq!(rt; (table.count(name, two), copy.count(name, two)), (0, 2));
     for (place, id) in [(0, Some(1)), (1, Some(2)), (2, Some(2)), (3, None)] {
-        assert_eq!(rt; copy.pid_at(&name, Scope::All, place).map(|pid| pid.id), id);
-        assert_eq!(rt;
-            copy.pid_at(&name, Scope::At(&own), place).map(|pid| pid.id),
-            id
-        );
+        for scope in [Scope::All, Scope::At(&two.node)] {
+            assert_eq!(rt; copy.pid_at(name, scope, place).map(|pid| pid.id), id);
+        }
     }
     Ok(())
 }

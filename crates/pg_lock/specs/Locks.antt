@@ -1,10 +1,10 @@
 -- Who holds the lock of each name at one node (global:set_lock/2 and global:del_lock/1 of the global manual page, for
 -- locks of one node that are asked for once).
-use Rattle.std.specs.Prelude.{Bool, true, false, ◌&&◌, cond, Option, Some, None}
-use Rattle.std.specs.HashMap.{get}
+use Rattle.std.specs.Prelude.{ℕ, Bool, true, false, ◌&&◌, cond, List, Option, Some, None}
+use Rattle.std.specs.BTreeMap.{get}
 use Rattle.pg_term.specs.declared.term.Term.{Term}
 use Rattle.pg_term.specs.RefParts.{RefParts, ref_eq}
-use Rattle.pg_term.specs.Same.{same_term}
+use Rattle.pg_term.specs.Same.{same_atom, same_term, term_cmp}
 use Rattle.pg_lock.specs.declared.table.LockTable.{LockTable}
 
 -- the holder of each name
@@ -28,14 +28,23 @@ abbrev pub grants : Bool → Locks → Term → Bool
 grants formed locks name = formed && is_free (locks name)
 
 -- the locks after an answer: granted, the name is the reference's; denied, nothing changes
-abbrev pub answered : Bool → Locks → Term → RefParts → Locks
-answered true locks name reference = held locks name (Some reference)
-answered false locks name reference = locks
+abbrev pub after_ask : Bool → Locks → Term → RefParts → Locks
+after_ask true locks name reference = held locks name (Some reference)
+after_ask false locks name reference = locks
 
 -- the locks once a reference gives a name up: where it is the holder the name is free, else nothing changes
 abbrev pub given_up : Bool → Locks → Term → Locks
 given_up true locks name = held locks name None
 given_up false locks name = locks
 
+-- the holder that is left of one, where the references of a node hold nothing any more
+abbrev pub freed_of : List ℕ → Option RefParts → Option RefParts
+freed_of node None = None
+freed_of node (Some holder) = cond (same_atom node holder.node) None (Some holder)
+
+-- the locks without a node: a name that one of its references held is free, and all else is as it was
+abbrev pub without_node : Locks → List ℕ → Locks
+without_node locks node name = freed_of node (locks name)
+
 abbrev pub locks_of : LockTable → Locks
-locks_of table name = get same_term table.holders name
+locks_of table name = get term_cmp table.holders name

@@ -26,7 +26,7 @@ impl Attempt {
 
     /// What follows once all nodes that were asked in the round have answered. `granted`: each of them has granted.
     /// Where nobody is asked, nothing follows. It takes no memory.
-    pub fn answered(self, granted: bool) -> Attempt
+    pub fn after_round(self, granted: bool) -> Attempt
         ensures { result ≡ after_round self granted }
     {
         match self {

@@ -1,33 +1,41 @@
 ghost use Rattle.std.specs.Prelude.{◌≡◌, false, Ok, None, IfOk, OnErr};
 ghost use Rattle.std.specs.Option.{option_copied};
 
-use pg_term::{Reference, Term};
+use pg_term::{Atom, Reference, Term};
 use std::alloc::{AllocError, Global};
-use std::collections::HashMap;
+use std::collections::BTreeMap;
 
 /// Who holds the lock of each name at one node.
 #[derive(Drop)]
 pub struct LockTable {
-    holders: HashMap<Term, Reference>,
+    holders: BTreeMap<Term, Reference>,
     alloc: Global,
 }
 
 impl LockTable {
-    ghost use Rattle.pg_lock.specs.Locks.{locks_of, grants, answered, given_up, is_holder};
+    ghost use Rattle.pg_lock.specs.Locks.{locks_of, grants, after_ask, given_up, is_holder, without_node};
 
     /// No name has a holder. It takes no memory.
     pub fn new(alloc: Global) -> LockTable
         ensures { locks_of result ≡ (λ name. None) }
     {
         LockTable {
-            holders: HashMap::new(alloc),
+            holders: BTreeMap::new(alloc),
             alloc,
         }
     }
 
+    /// Whether a request for the lock of a name would be granted: the node is formed and the name has no holder. It takes no
+    /// memory: O(log n) in the names that have a holder.
+    pub fn grants(&self, formed: bool, name: &Term) -> bool
+        ensures { result ≡ grants formed (locks_of self.now) name.now }
+    {
+        formed && self.holder(name).is_none()
+    }
+
     /// Asks for the lock of a name (`global:set_lock/2`): granted exactly where the node is formed and the name has no
-    /// holder, and then the reference is its holder. No other name changes. Expected O(1), amortized over growths of the
-    /// map, but for the copies of a granted name and its reference.
+    /// holder, and then the reference is its holder. No other name changes. O(log n) in the names that have a
+    /// holder, and the copies of a granted name and its reference.
     ///
     /// Refusal: `AllocError`, which changes nothing; only for a lock that would be granted.
     pub fn ask(
@@ -38,11 +46,11 @@ impl LockTable {
     ) -> Result<bool, AllocError>
         ensures granted { IfOk result (λ granted. granted ≡ grants formed (locks_of self.old) name.now) }
         ensures after { IfOk result (λ granted. locks_of self.new
-            ≡ answered granted (locks_of self.old) name.now reference.now) }
+            ≡ after_ask granted (locks_of self.old) name.now reference.now) }
         ensures err { OnErr result (locks_of self.new ≡ locks_of self.old) }
         ensures denied { grants formed (locks_of self.old) name.now ≡ false → result ≡ Ok false }
     {
-        if !formed || self.holders.contains_key(name) {
+        if !self.grants(formed, name) {
             return Ok(false);
         }
         let name = name.copy(self.alloc)?;
@@ -52,7 +60,7 @@ impl LockTable {
     }
 
     /// Frees a name where the reference is its holder (`global:del_lock/1`), and else changes nothing. No other name
-    /// changes. It takes no memory, and expected O(1).
+    /// changes. It takes no memory: O(log n).
     pub fn give_up(&mut self, name: &Term, reference: &Reference)
         ensures { locks_of self.new
             ≡ given_up (is_holder (locks_of self.old name.now) reference.now) (locks_of self.old) name.now }
@@ -72,7 +80,15 @@ impl LockTable {
         }
     }
 
-    /// The holder of a name. It takes no memory, and expected O(1).
+    /// Frees each name that a reference of the node holds, as where the node is lost; all else stays as it was. It takes
+    /// no memory: O(n).
+    pub fn free_node(&mut self, node: &Atom)
+        ensures { locks_of self.new ≡ without_node (locks_of self.old) node.now }
+    {
+        self.holders.retain(|_, holder| node != holder.node());
+    }
+
+    /// The holder of a name. It takes no memory: O(log n).
     pub fn holder(&self, name: &Term) -> Option<&Reference>
         ensures { option_copied result ≡ locks_of self.now name.now }
     {

@@ -3,6 +3,8 @@ use pg_term::{Atom, Reference, Term, TermFault};
 use std::alloc::Global;
 use std::test::Fail;
 
+mod many;
+
 fn name(alloc: Global, text: &str) -> Result<Term, TermFault> {
     Ok(Term::Atom(Atom::new(alloc, text)?))
 }
@@ -68,16 +70,30 @@ fn freed_by_its_holder_alone(rt: HostRuntime) -> Result<(), Fail> {
 }
 
 #[test]
+fn freed_where_its_node_is_lost(rt: HostRuntime) -> Result<(), Fail> {
+    let mut held = first_holds(rt.alloc())?;
+    let h = name(rt.alloc(), "h")?;
+    let other = Reference::new(Atom::new(rt.alloc(), "b")?, 1, &[1])?;
+    assert!(rt; held.locks.ask(true, &h, &other)?);
+    held.locks.free_node(other.node());
+    assert!(rt; held.locks.holder(&h).is_none());
+    assert!(rt; held.locks.holder(&held.g) == Some(&held.first));
+    held.locks.free_node(held.first.node());
+    assert!(rt; held.locks.holder(&held.g).is_none());
+    Ok(())
+}
+
+#[test]
 fn two_rounds(rt: HostRuntime) {
     let first = Attempt::new();
     assert_eq!(rt; first, Attempt::AskingFirst);
-    assert_eq!(rt; first.answered(false), Attempt::Waiting);
-    let rest = first.answered(true);
+    assert_eq!(rt; first.after_round(false), Attempt::Waiting);
+    let rest = first.after_round(true);
     assert_eq!(rt; rest, Attempt::AskingRest);
-    assert_eq!(rt; rest.answered(false), Attempt::Waiting);
-    assert_eq!(rt; rest.answered(true), Attempt::Held);
-    assert_eq!(rt; Attempt::Held.answered(false), Attempt::Held);
-    assert_eq!(rt; Attempt::Waiting.answered(true), Attempt::Waiting);
+    assert_eq!(rt; rest.after_round(false), Attempt::Waiting);
+    assert_eq!(rt; rest.after_round(true), Attempt::Held);
+    assert_eq!(rt; Attempt::Held.after_round(false), Attempt::Held);
+    assert_eq!(rt; Attempt::Waiting.after_round(true), Attempt::Waiting);
     assert_eq!(rt; Attempt::Waiting.retried(), Some(Attempt::AskingFirst));
     assert_eq!(rt; Attempt::Held.retried(), None);
 }

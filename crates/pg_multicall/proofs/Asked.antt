@@ -11,7 +11,7 @@ use Rattle.std.proofs.lemmas.Map.Views.{IfSome-lookup_from_All, All-values_from_
 use Rattle.std.proofs.lemmas.List.{take_more}
 use Rattle.pg_term.specs.Same.{same_atom, atom_cmp}
 use Rattle.pg_term.specs.contracts.atom.AtomOrd.TheImpl.Laws as atom_laws
-use Rattle.pg_multicall.specs.Gathered.{Gathered, asked_of, with_reply, replies_at}
+use Rattle.pg_multicall.specs.Gathered.{Gathered, asked_of, with_reply, forgotten, replies_at}
 
 module _ {R : Type 0} where
   -- the entry of a node that has replied
@@ -42,6 +42,11 @@ module _ {R : Type 0} where
   pub counted : (before after : BTreeMap (List ℕ) (Option R)) (node : List ℕ) (reply : R) → UpdatesBy atom_cmp (atom_cmp node) before after (Some (Some reply)) → replies_at after ≡ with_reply (replies_at before) node reply
   unfolding with_reply
   counted before after node reply updates = fun_ext (λ other. changed before after node (Some (Some reply)) updates other)
+
+  -- a node is forgotten
+  pub taken_out : (before after : BTreeMap (List ℕ) (Option R)) (node : List ℕ) → UpdatesBy atom_cmp (atom_cmp node) before after None → replies_at after ≡ forgotten (replies_at before) node
+  unfolding forgotten
+  taken_out before after node updates = fun_ext (λ other. changed before after node None updates other)
 
   -- each asked node has replied: by the nodes, and by the entries
   none_left : (entry : Option R) → entry ≡ None → HasReply entry → ⊥

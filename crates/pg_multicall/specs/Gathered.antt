@@ -31,6 +31,10 @@ after Counted gathered node reply = with_reply gathered node reply
 after Stranger gathered node reply = gathered
 after Double gathered node reply = gathered
 
+-- what is gathered without a node: it was not asked, and its reply is gone
+unfoldable pub forgotten : {R : Type 0} → Gathered R → List ℕ → Gathered R
+forgotten gathered node other = cond (same_atom node other) None (gathered other)
+
 abbrev pub replies_at : {R : Type 0} → BTreeMap (List ℕ) (Option R) → Gathered R
 replies_at replies node = get atom_cmp replies node
 

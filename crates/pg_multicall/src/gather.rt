@@ -29,7 +29,7 @@ pub struct Gather<R> {
 impl<R: Drop> Gather<R> {
     ghost use Rattle.std.specs.Prelude.{List, ℕ};
     ghost use Rattle.pg_term.specs.RefParts.{ref_eq};
-    ghost use Rattle.pg_multicall.specs.Gathered.{reply_of, what_of, after};
+    ghost use Rattle.pg_multicall.specs.Gathered.{reply_of, what_of, after, forgotten};
 
     /// Nothing has replied to the call of this reference. A node that is named twice is asked once. It makes the room
     /// for all replies: O(nodes log nodes).
@@ -61,6 +61,15 @@ impl<R: Drop> Gather<R> {
         }
         *slot = Some(reply);
         Taken::Counted
+    }
+
+    /// Forgets a node, as where it is lost: it is asked no longer, and its reply stands no longer. All else stays as it was.
+    /// It takes no memory: O(log nodes).
+    pub fn forget(&mut self, node: &Atom)
+        ensures after { reply_of self.new ≡ forgotten (reply_of self.old) node.now }
+        ensures reference { self.new.reference ≡ self.old.reference }
+    {
+        self.replies.remove(node);
     }
 
     /// Whether each asked node has replied. It takes no memory: O(nodes).

@@ -3,6 +3,8 @@ use pg_term::{Atom, Reference, TermFault};
 use std::alloc::Global;
 use std::test::Fail;
 
+mod many;
+
 fn reference(alloc: Global, word: u32) -> Result<Reference, TermFault> {
     Reference::new(Atom::new(alloc, "a")?, 1, &[word])
 }
@@ -111,5 +113,19 @@ fn not_asked(rt: HostRuntime) -> Result<(), Fail> {
 fn nobody_asked(rt: HostRuntime) -> Result<(), Fail> {
     let gather: Gather<bool> = Gather::new(rt.alloc(), reference(rt.alloc(), 1)?, &[])?;
     assert!(rt; gather.complete());
+    Ok(())
+}
+
+// A node that is lost is waited for no longer, and its reply does not stand.
+#[test]
+fn lost_node_is_forgotten(rt: HostRuntime) -> Result<(), Fail> {
+    let mut asked = asked_b_and_c(rt.alloc())?;
+    asked.gather.take(&asked.b, &asked.call, true);
+    asked.gather.forget(&asked.c);
+    assert!(rt; asked.gather.complete());
+    assert!(rt; asked.gather.take(&asked.c, &asked.call, true) == Taken::Stranger);
+    asked.gather.forget(&asked.b);
+    asked.gather.forget(&asked.b);
+    assert!(rt; asked.gather.replies().len() == 0);
     Ok(())
 }

@@ -70,12 +70,8 @@ fn listed<T: GroupTable>(
 {
     one_member_list();
     let mut pids = Vec::new(alloc);
-    for place in 0..u64::MAX {
-        match table.pid_at(name, scope, place) {
-            Some(pid) => pids.push(pid.copy()?)?,
-            None => return Ok(Items::from_vec(pids)),
-        }
+    while let Some(pid) = table.pid_at(name, scope, pids.len() as u64) {
+        pids.push(pid.copy()?)?;
     }
-    // No memory holds so many.
-    Err(AllocError)
+    Ok(Items::from_vec(pids))
 }

@@ -10,6 +10,8 @@ use pg_term::{Atom, Items, Pid, Term, TermFault};
 use std::alloc::Global;
 use std::test::Fail;
 
+mod many;
+
 fn pid(alloc: Global, node: &str, id: u32) -> Result<Pid, TermFault> {
     Ok(Pid {
         node: Atom::new(alloc, node)?,

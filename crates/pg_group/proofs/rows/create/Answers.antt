@@ -11,5 +11,5 @@ returns-then-contains_key-clause-ok c = created_before c.args.rows.now c.args.na
 pub returns-clause-ok : goal.returns-clause-ok
 returns-clause-ok c =
     let new = c.insert.new.self in
-    created_now c.args.rows.now new c.args.name.now c.new.result (sym c.contains_key.ensures ∙ c.if-contains_key.false) c.new.ensures.empty
+    created_now c.args.rows.now new c.args.name.now c.new.result (sym c.contains_key.ensures ∙ c.if-contains_key.false) c.new.ensures
     (subst (λ (key : Term). UpdatesBy term_cmp (term_cmp key) c.args.rows.now new (Some c.new.result)) c.in_ok-row.ensures c.in_ok-insert.ensures.updates)

@@ -12,19 +12,19 @@ returns-in_err-create-clause-err c =
 
 pub returns-in_err-raise_all-clause-err : goal.returns-in_err-raise_all-clause-err
 returns-in_err-raise_all-clause-err c =
-    let new = c.raise_all.new.members in
+    let new = c.raise_all.new.self in
     on_err c.from_residual-in_err-raise_all.result
     (partly_merged c.args.pids.now (ended_of c.args.ended.now) (table_of c.args.rows.now) (table_of c.create.new.rows) (table_of (c.get_mut.follows.lender new)) c.args.name.now (counts_of c.in-Some.members.now) (counts_of new)
     c.in_ok-create.ensures.ok (ap (option_map counts_of) (sym c.in-Some.ensures.value)) (table_updated c.create.new.rows (c.get_mut.follows.lender new) c.args.name.now (Some new) ((c.get_mut.follows.holds new).3 (search rules)))
     c.in_err-raise_all.ensures.err)
 
-pub returns-in_ok-raise_all-clause-ok : goal.returns-in_ok-raise_all-clause-ok
-returns-in_ok-raise_all-clause-ok c =
-    let new = c.raise_all.new.members in
+pub returns-clause-ok : goal.returns-clause-ok
+returns-clause-ok c =
+    let new = c.raise_all.new.self in
     all_merged c.args.pids.now (ended_of c.args.ended.now) (table_of c.args.rows.now) (table_of c.create.new.rows) (table_of (c.get_mut.follows.lender new)) c.args.name.now (counts_of c.in-Some.members.now) (counts_of new)
     c.in_ok-create.ensures.ok (ap (option_map counts_of) (sym c.in-Some.ensures.value)) (table_updated c.create.new.rows (c.get_mut.follows.lender new) c.args.name.now (Some new) ((c.get_mut.follows.holds new).3 (search rules)))
     c.in_ok-raise_all.ensures.ok
 
-pub returns-in_default-clause-ok : goal.returns-in_default-clause-ok
-returns-in_default-clause-ok c =
+pub unreachable-requires : goal.unreachable-requires
+unreachable-requires c =
     absurd (never_missing c.args.pids.now (ended_of c.args.ended.now) (table_of c.args.rows.now) (table_of c.create.new.rows) c.args.name.now c.in_ok-create.ensures.ok (ap (option_map counts_of) (sym c.get_mut.ensures.value ∙ ap option_copied_mut c.in_default.is)))

@@ -1,4 +1,4 @@
-use Rattle.std.proofs.Common.{◌≡◌, ◌<◌, ◌^◌, length, ap, arith}
+use Rattle.std.proofs.Common.{◌≡◌, length, ap, arith}
 use Rattle.pg_group.specs.Scope.{anywhere}
 use Rattle.pg_query.proofs.tests.closest_of.Goals as goal
 

@@ -1,0 +1,45 @@
+// Groups and peers that are many.
+use super::*;
+
+/// The groups 0 to 1000, each with one member.
+fn many_groups(alloc: Global) -> Result<Vec<(Term, Items<Pid>)>, TermFault> {
+    let mut groups = Vec::new(alloc);
+    for number in 0..1001u32 {
+        let mut pids = Vec::new(alloc);
+        pids.push(Pid {
+            node: Atom::new(alloc, "a")?,
+            serial: 0,
+            id: number,
+            creation: 1,
+        })?;
+        groups.push((Term::Int(i64::from(number)), Items::from_vec(pids)))?;
+    }
+    Ok(groups)
+}
+
+#[test]
+fn many_groups_are_taken(rt: HostRuntime) -> Result<(), Fail> {
+    let alloc = rt.alloc();
+    let groups = many_groups(alloc)?;
+    let mut table = RowTable::new(alloc);
+    let mut formation = Formation::new(alloc, 1)?;
+    assert!(rt; formation.peers() == 1);
+    formation.take(0, groups.as_slice(), &mut table, &Ended::new(alloc))?;
+    assert!(rt; formation.formed());
+    let all = snapshot(alloc, &table)?;
+    assert!(rt; all.as_slice() == groups.as_slice());
+    Ok(())
+}
+
+#[test]
+fn many_peers(rt: HostRuntime) -> Result<(), Fail> {
+    let alloc = rt.alloc();
+    let mut formation = Formation::new(alloc, 1001)?;
+    for peer in 0..1001 {
+        assert!(rt; !formation.formed());
+        assert!(rt; peer < formation.peers());
+        formation.forget(peer);
+    }
+    assert!(rt; formation.formed());
+    Ok(())
+}

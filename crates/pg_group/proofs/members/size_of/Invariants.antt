@@ -1,8 +1,0 @@
-use Rattle.std.proofs.Common.{◌≡◌, ◌+◌, length}
-use Rattle.pg_group.specs.Scope.{in_scope}
-use Rattle.pg_group.proofs.Spread.{spread}
-use Rattle.pg_group.proofs.members.size_of.Given as goal
-
--- the members so far and those to come
-abbrev pub invariant-loop-pid : goal.invariant-loop-pid
-invariant-loop-pid l = l.size + length (spread (in_scope l.scope) l.pid-iterator) ≡ length (spread (in_scope l.scope) l.members.entries)
