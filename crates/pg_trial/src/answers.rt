@@ -42,7 +42,8 @@ fn answers_of_group<T: GroupTable>(
         Err(QueryFault::NoSuchGroup) => return Ok(
             reading.group(side).is_none() && answers_nothing(table, cast, name),
         ),
-        Err(_) => return Err(AllocError),
+        Err(QueryFault::OutOfMemory) => return Err(AllocError),
+        Err(QueryFault::NoMember) => unreachable!(),
     };
     let Some((a, b)) = reading.group(side) else {
         return Ok(false);

@@ -1,7 +1,7 @@
 use crate::answers::size;
 use crate::pair::{Cast, Side};
 use pg_group::{Ended, GroupTable, Scope, Update};
-use pg_query::members;
+use pg_query::{QueryFault, members};
 use pg_term::{Term, TermFault};
 use std::alloc::Global;
 
@@ -29,8 +29,10 @@ pub fn keeps_groups_of_dropped_pid<T: GroupTable>(
     table.drop_pid(pid);
     for number in 0..300 {
         let name = Term::Int(number);
-        let Ok(listed) = members(alloc, table, &name) else {
-            return Ok(false);
+        let listed = match members(alloc, table, &name) {
+            Ok(listed) => listed,
+            Err(QueryFault::OutOfMemory) => return Err(TermFault::OutOfMemory),
+            Err(QueryFault::NoSuchGroup | QueryFault::NoMember) => return Ok(false),
         };
         if size(table, &name, &listed, Scope::All) != Some(0) {
             return Ok(false);

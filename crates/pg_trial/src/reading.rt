@@ -41,7 +41,8 @@ impl Reading {
     pub fn after(self, step: Step) -> Reading {
         let (first, second) = self.groups;
         let groups = match step {
-            Step::Drop(pid) => (dropped(first, pid), dropped(second, pid)),
+            // Each of the two pids is the only one of its node.
+            Step::Drop(pid) | Step::DropNode(pid) => (dropped(first, pid), dropped(second, pid)),
             Step::Create(side)
             | Step::Delete(side)
             | Step::Join(side, _)
@@ -75,7 +76,7 @@ impl Reading {
                 Some((a.max(told), b.max(u64::from(second))))
             }
             (Step::Join(..) | Step::Leave(..), None) => None,
-            (Step::Drop(pid), there) => dropped(there, pid),
+            (Step::Drop(pid) | Step::DropNode(pid), there) => dropped(there, pid),
         }
     }
 }

@@ -16,6 +16,8 @@ pub enum Step {
     Merge(Side, u8, u8),
     /// Drops a pid.
     Drop(Side),
+    /// Drops all pids of the node of a pid.
+    DropNode(Side),
 }
 
 /// All updates of two groups by two pids.
@@ -35,7 +37,7 @@ pub const UPDATES: [Step; 12] = [
 ];
 
 /// Updates of one group, merges and drops.
-pub const MIXED: [Step; 12] = [
+pub const MIXED: [Step; 13] = [
     Step::Create(Side::First),
     Step::Delete(Side::First),
     Step::Join(Side::First, Side::First),
@@ -48,10 +50,11 @@ pub const MIXED: [Step; 12] = [
     Step::Merge(Side::Second, 0, 3),
     Step::Drop(Side::First),
     Step::Drop(Side::Second),
+    Step::DropNode(Side::First),
 ];
 
 /// Whether the count that an update raises is below the greatest that is told.
-fn has_room<T: GroupTable>(table: &T, update: &Update) -> bool
+pub fn has_room<T: GroupTable>(table: &T, update: &Update) -> bool
     ensures { IsTrue result → HasRoom (T.contents table.now) update.now }
 {
     match update {
@@ -90,6 +93,10 @@ impl Step {
             ),
             Step::Drop(pid) => {
                 table.drop_pid(cast.pid(pid));
+                return Ok(());
+            }
+            Step::DropNode(pid) => {
+                table.drop_node(cast.node(pid));
                 return Ok(());
             }
         };

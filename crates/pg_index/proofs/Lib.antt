@@ -1,0 +1,6 @@
+pub mod Changed
+pub mod Copies
+pub mod Dropped
+pub mod Listed
+pub mod Numbers
+pub mod Tables

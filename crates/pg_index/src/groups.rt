@@ -1,0 +1,73 @@
+ghost use Rattle.std.specs.Prelude.{◌≡◌, ◌+◌, ◌<◌, true, OnOk, OnErr, nat_eq};
+ghost use Rattle.pg_term.specs.Same.{same_pid};
+ghost use Rattle.pg_group.specs.Functions.{upd};
+ghost use Rattle.pg_group.specs.Value.{with_one_less};
+ghost use Rattle.pg_index.specs.Groups.{counts_in, is_used, counts_changed, without_node};
+
+use pg_members::Members;
+use pg_term::{Atom, Pid};
+use slab::Slab;
+use std::alloc::AllocError;
+
+/// The members of each group, by the group's number.
+pub type Groups = Slab<Members>;
+
+/// The count of a pid in a group.
+pub fn count(groups: &Groups, group: u32, pid: &Pid) -> u64
+    ensures { result ≡ counts_in groups.now group pid.now }
+{
+    match groups.get(group as usize) {
+        Some(members) => members.count(pid),
+        None => 0,
+    }
+}
+
+/// Adds to the count of a pid. Only a new member takes memory. An error changes nothing.
+pub fn add(groups: &mut Groups, group: u32, pid: &Pid, more: u64) -> Result<(), AllocError>
+    requires used { is_used groups.old group ≡ true }
+    requires some { 0 < more }
+    ensures ok { OnOk result (counts_in groups.new ≡ counts_changed (counts_in groups.old) group pid.now
+        (counts_in groups.old group pid.now + more)) }
+    ensures err { OnErr result (counts_in groups.new ≡ counts_in groups.old) }
+    ensures used { is_used groups.new ≡ is_used groups.old }
+{
+    match groups.get_mut(group as usize) {
+        Some(members) => members.add(pid, more),
+        None => unreachable!(),
+    }
+}
+
+/// Takes one from the count of a pid, if it is a member. It takes no memory.
+pub fn take_one(groups: &mut Groups, group: u32, pid: &Pid)
+    ensures counts { counts_in groups.new
+        ≡ upd nat_eq (counts_in groups.old) group (with_one_less (counts_in groups.old group) pid.now) }
+    ensures used { is_used groups.new ≡ is_used groups.old }
+{
+    match groups.get_mut(group as usize) {
+        Some(members) => members.take_one(pid),
+        None => (),
+    }
+}
+
+/// Takes a pid out of a group, whatever its count. It takes no memory.
+pub fn remove(groups: &mut Groups, group: u32, pid: &Pid)
+    ensures counts { counts_in groups.new ≡ counts_changed (counts_in groups.old) group pid.now 0 }
+    ensures used { is_used groups.new ≡ is_used groups.old }
+{
+    match groups.get_mut(group as usize) {
+        Some(members) => members.remove(pid),
+        None => (),
+    }
+}
+
+/// Takes the pids of a node out of a group. It takes no memory.
+pub fn drop_node(groups: &mut Groups, group: u32, node: &Atom)
+    ensures counts { counts_in groups.new
+        ≡ upd nat_eq (counts_in groups.old) group (without_node (counts_in groups.old group) node.now) }
+    ensures used { is_used groups.new ≡ is_used groups.old }
+{
+    match groups.get_mut(group as usize) {
+        Some(members) => members.drop_node(node),
+        None => (),
+    }
+}

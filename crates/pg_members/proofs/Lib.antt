@@ -1,0 +1,9 @@
+pub mod Order
+pub mod Flat
+pub mod Cut
+pub mod Places
+pub mod Parts
+pub mod Counts
+pub mod Nodes
+pub mod Kept
+pub mod Last

@@ -1,0 +1,60 @@
+use Rattle.std.proofs.Common.{◌≡◌, ◌+◌, List, drop, true, false, sym, ap, subst, ◌∙◌, arith}
+use Rattle.pg_members.specs.declared.row.Row.{Row}
+use Rattle.pg_members.specs.Rows.{AreRows, IsCut, is_here, total_of, added}
+use Rattle.pg_members.proofs.Flat.{below, count_le, total-added, rows_added}
+use Rattle.pg_members.proofs.Cut.{found_count, found_added, missing_added}
+use Rattle.std.specs.List.{insert}
+use Rattle.pg_members.proofs.block.BlockPart.add.Goals as goal
+
+pub overflow_add-index_mut : goal.overflow_add-index_mut
+overflow_add-index_mut c =
+    let items = c.self.inside.rows.items in
+    let at = c.find-at.result in
+    let pid = c.args.pid.now in
+    let cut : IsCut (below pid) items at = subst (λ (l : List Row). IsCut (below pid) l at) c.deref.ensures.value c.find-at.ensures in
+    let here : is_here pid (drop at items) ≡ true = ap (λ l. is_here pid (drop at l)) (sym c.deref-2.ensures.value) ∙ sym c.is_at.ensures.value ∙ c.if-is_at.true in
+    let count = found_count pid items at c.self.invariant.1 cut c.index_mut.result.now c.index_mut.ensures.value here in
+    let few = count_le pid items in
+    let is : total_of items ≡ total_of c.args.self.now = ap total_of c.self.view_is in
+    let fits = c.requires.fits in
+    omega arith
+
+pub invariant_of-self : goal.invariant_of-self
+invariant_of-self c =
+    let items = c.self.inside.rows.items in
+    let at = c.find-at.result in
+    let pid = c.args.pid.now in
+    let cut : IsCut (below pid) items at = subst (λ (l : List Row). IsCut (below pid) l at) c.deref.ensures.value c.find-at.ensures in
+    let here : is_here pid (drop at items) ≡ true = ap (λ l. is_here pid (drop at l)) (sym c.deref-2.ensures.value) ∙ sym c.is_at.ensures.value ∙ c.if-is_at.true in
+    let now = found_added pid items at c.self.invariant.1 cut c.index_mut.result.now c.index_mut.ensures.value here c.args.more in
+    (ap (λ t. t + c.args.more) c.self.invariant.0 ∙ sym (ap total_of now ∙ total-added pid c.args.more items), subst AreRows (sym now) (rows_added pid c.args.more items c.requires.some c.self.invariant.1))
+
+pub returns-then-is_at-clause-ok : goal.returns-then-is_at-clause-ok
+returns-then-is_at-clause-ok c =
+    let items = c.self.inside.rows.items in
+    let at = c.find-at.result in
+    let pid = c.args.pid.now in
+    let cut : IsCut (below pid) items at = subst (λ (l : List Row). IsCut (below pid) l at) c.deref.ensures.value c.find-at.ensures in
+    let here : is_here pid (drop at items) ≡ true = ap (λ l. is_here pid (drop at l)) (sym c.deref-2.ensures.value) ∙ sym c.is_at.ensures.value ∙ c.if-is_at.true in
+    found_added pid items at c.self.invariant.1 cut c.index_mut.result.now c.index_mut.ensures.value here c.args.more ∙ ap (λ l. added l pid c.args.more) c.self.view_is
+
+pub invariant_of-self-2 : goal.invariant_of-self-2
+invariant_of-self-2 c =
+    let items = c.self.inside.rows.items in
+    let at = c.find-at.result in
+    let pid = c.args.pid.now in
+    let cut : IsCut (below pid) items at = subst (λ (l : List Row). IsCut (below pid) l at) c.deref.ensures.value c.find-at.ensures in
+    let here : is_here pid (drop at items) ≡ false = ap (λ l. is_here pid (drop at l)) (sym c.deref-2.ensures.value) ∙ sym c.is_at.ensures.value ∙ c.if-is_at.false in
+    let more = c.args.more in
+    let now : c.insert.new.self.items ≡ added items pid more = c.in_ok-insert.ensures.items ∙ (λ i. insert items at (record { pid = c.in_ok-copy.ensures i; count = more })) ∙ missing_added pid items at c.self.invariant.1 cut more here in
+    (ap (λ t. t + more) c.self.invariant.0 ∙ sym (ap total_of now ∙ total-added pid more items), subst AreRows (sym now) (rows_added pid more items c.requires.some c.self.invariant.1))
+
+pub returns-clause-ok : goal.returns-clause-ok
+returns-clause-ok c =
+    let items = c.self.inside.rows.items in
+    let at = c.find-at.result in
+    let pid = c.args.pid.now in
+    let cut : IsCut (below pid) items at = subst (λ (l : List Row). IsCut (below pid) l at) c.deref.ensures.value c.find-at.ensures in
+    let here : is_here pid (drop at items) ≡ false = ap (λ l. is_here pid (drop at l)) (sym c.deref-2.ensures.value) ∙ sym c.is_at.ensures.value ∙ c.if-is_at.false in
+    let more = c.args.more in
+    c.in_ok-insert.ensures.items ∙ (λ i. insert items at (record { pid = c.in_ok-copy.ensures i; count = more })) ∙ missing_added pid items at c.self.invariant.1 cut more here ∙ ap (λ l. added l pid more) c.self.view_is

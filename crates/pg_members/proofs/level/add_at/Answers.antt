@@ -1,0 +1,47 @@
+use Rattle.std.proofs.Common.{◌<◌, List, length, sym, subst, ◌∙◌, arith, rules}
+use Rattle.pg_members.specs.declared.row.Row.{Row}
+use Rattle.pg_members.proofs.Parts.{some_added, none_empty_set, total_home, set_same, set_added}
+use Rattle.pg_members.proofs.level.add_at.Goals as goal
+
+pub add-requires-clause-fits : goal.add-requires-clause-fits
+add-requires-clause-fits g c =
+    let rows = g.P.Part.rows in
+    let parts = c.args.parts.now.items in
+    let pid = c.args.pid.now in
+    let part = c.index_mut.result.now in
+    let is = c.index_mut.ensures.value in
+    let home = c.requires.home in
+    let few = total_home rows pid parts c.args.at home part is in
+    let fits = c.requires.fits in
+    omega arith
+
+pub returns-in_err-add-clause-err : goal.returns-in_err-add-clause-err
+returns-in_err-add-clause-err g c =
+    let rows = g.P.Part.rows in
+    let parts = c.args.parts.now.items in
+    let pid = c.args.pid.now in
+    let part = c.index_mut.result.now in
+    let is = c.index_mut.ensures.value in
+    let home = c.requires.home in
+    let e = set_same rows pid parts c.args.at home part is c.add.new.self c.in_err-add.ensures.err in
+    search rules
+
+pub divide-requires-clause-some : goal.divide-requires-clause-some
+divide-requires-clause-some g c =
+    let rows = g.P.Part.rows in
+    let parts = c.args.parts.now.items in
+    let pid = c.args.pid.now in
+    let part = c.index_mut.result.now in
+    let is = c.index_mut.ensures.value in
+    let home = c.requires.home in
+    none_empty_set rows parts c.args.at c.add.new.self c.requires.parts (subst (λ (l : List Row). 0 < length l) (sym c.in_ok-add.ensures.ok) (some_added pid c.args.more (rows part)))
+
+pub returns-clause-ok : goal.returns-clause-ok
+returns-clause-ok g c =
+    let rows = g.P.Part.rows in
+    let parts = c.args.parts.now.items in
+    let pid = c.args.pid.now in
+    let part = c.index_mut.result.now in
+    let is = c.index_mut.ensures.value in
+    let home = c.requires.home in
+    c.divide.ensures.rows ∙ set_added rows pid parts c.args.at home part is c.args.more c.add.new.self c.in_ok-add.ensures.ok

@@ -1,0 +1,4 @@
+pub mod Edges
+pub mod Levels
+pub mod Rows
+pub use Rattle.pg_term.specs.Same

@@ -1,0 +1,28 @@
+ghost use Rattle.std.specs.Prelude.{◌≡◌};
+ghost use Rattle.pg_members.specs.Edges.{before};
+
+use pg_term::{Atom, Pid};
+
+/// Where a search in rows stops.
+#[derive(Clone, Copy)]
+pub enum Edge<'a> {
+    /// Before a pid.
+    AtPid(&'a Pid),
+    /// Before the first pid of a node.
+    AtNode(&'a Atom),
+    /// After the last pid of a node.
+    PastNode(&'a Atom),
+}
+
+impl Edge<'_> {
+    /// Whether a pid stands before the edge. It takes no memory.
+    pub fn is_after(&self, pid: &Pid) -> bool
+        ensures { result ≡ before self.now pid.now }
+    {
+        match self {
+            Edge::AtPid(edge) => pid.cmp(*edge).is_lt(),
+            Edge::AtNode(node) => pid.node.cmp(*node).is_lt(),
+            Edge::PastNode(node) => pid.node.cmp(*node).is_le(),
+        }
+    }
+}

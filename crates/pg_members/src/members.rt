@@ -1,0 +1,165 @@
+ghost use Rattle.std.specs.Prelude.{◌≡◌, ◌+◌, ◌-◌, ◌<◌, ◌≤◌, ◌^◌, List, Some, [], min, length, slice_get, option_copied, OnOk, OnErr, IfOk, IfSome, IfNone};
+ghost use Rattle.pg_term.specs.declared.pid.Pid.{Pid};
+ghost use Rattle.pg_term.specs.Same.{same_pid};
+ghost use Rattle.pg_group.specs.Functions.{upd};
+ghost use Rattle.pg_group.specs.Value.{with_one_less, less};
+ghost use Rattle.pg_group.specs.Scope.{in_scope, anywhere, at_node};
+ghost use Rattle.pg_group.specs.Members.{IsMemberList};
+ghost use Rattle.pg_members.specs.Edges.{before};
+ghost use Rattle.pg_members.specs.Rows.{AreRows, counts_of, total_of, spread};
+
+use crate::block::Block;
+use crate::edge::Edge;
+use crate::level::Level;
+use crate::part::Part;
+use crate::row::Row;
+use pg_group::Scope;
+use pg_term::{Atom, Pid};
+use std::alloc::{AllocError, Global};
+use std::marker::Model;
+
+/// The members of one group, in the order of pids, each with its count.
+#[derive(Drop)]
+pub struct Members {
+    rows: Level<Level<Block>>,
+}
+
+impl Model for Members {
+    ghost use Rattle.std.specs.Prelude.{List};
+    ghost use Rattle.pg_members.specs.declared.row.Row.{Row};
+
+    ghost Value = { List Row };
+
+    ghost view = { λ members. members.rows };
+}
+
+impl Members {
+    /// Nobody. It takes no memory.
+    pub fn new(alloc: Global) -> Members
+        ensures { result ≡ [] }
+    {
+        Members {
+            rows: Level::new(alloc),
+        }
+    }
+
+    /// The count of a pid. It takes no memory.
+    pub fn count(&self, pid: &Pid) -> u64
+        ensures { result ≡ counts_of self.now pid.now }
+    {
+        self.rows.count(pid)
+    }
+
+    /// Adds to the count of a pid. Only a new member takes memory.
+    ///
+    /// Refusal: `AllocError`, which changes nothing; also where the counts of all members would pass 64 bits.
+    pub fn add(&mut self, pid: &Pid, more: u64) -> Result<(), AllocError>
+        requires { 0 < more }
+        ensures ok { OnOk result (counts_of self.new
+            ≡ upd same_pid (counts_of self.old) pid.now (counts_of self.old pid.now + more)) }
+        ensures err { OnErr result (self.new ≡ self.old) }
+    {
+        if self.rows.total().checked_add(more).is_none() {
+            return Err(AllocError);
+        }
+        self.rows.add(pid, more)?;
+        Ok(())
+    }
+
+    /// Takes one from the count of a pid, if it is a member. It takes no memory.
+    pub fn take_one(&mut self, pid: &Pid)
+        ensures { counts_of self.new ≡ with_one_less (counts_of self.old) pid.now }
+    {
+        self.rows.total();
+        self.rows.take(pid, 1);
+    }
+
+    /// Takes a pid out, whatever its count. It takes no memory.
+    pub fn remove(&mut self, pid: &Pid)
+        ensures { counts_of self.new ≡ upd same_pid (counts_of self.old) pid.now 0 }
+    {
+        self.rows.total();
+        self.rows.take(pid, u64::MAX);
+    }
+
+    /// Takes the last pid out, with its count. It takes no memory.
+    pub fn take_last(&mut self) -> Option<Row>
+        ensures rest { IfSome result (λ row. counts_of self.new ≡ upd same_pid (counts_of self.old) row.pid 0) }
+        ensures fewer { IfSome result (λ row. length self.new < length self.old) }
+        ensures nobody { IfNone result ((pid : Pid) → counts_of self.old pid ≡ 0) }
+    {
+        self.rows.total();
+        self.rows.take_last()
+    }
+
+    /// How many members there are, each as often as its count. It takes no memory.
+    pub fn size(&self, scope: Scope<'_>) -> u64
+        ensures exact { result ≡ length (spread (in_scope scope.entry) self.now) }
+        ensures list { IsMemberList (Some (counts_of self.now)) (in_scope scope.entry) (spread (in_scope scope.entry) self.now) }
+    {
+        match scope {
+            Scope::All => self.rows.total(),
+            Scope::At(node) => self.size_at(node),
+        }
+    }
+
+    /// The member at a place. It takes no memory.
+    pub fn pid_at(&self, scope: Scope<'_>, place: u64) -> Option<&Pid>
+        ensures exact { option_copied result ≡ slice_get (spread (in_scope scope.entry) self.now) place }
+        ensures list { IsMemberList (Some (counts_of self.now)) (in_scope scope.entry) (spread (in_scope scope.entry) self.now) }
+    {
+        self.rows.total();
+        match scope {
+            Scope::All => self.rows.at(place),
+            Scope::At(node) => self.pid_of_node(node, place),
+        }
+    }
+
+    /// An equal group: memory for each member, and for its name.
+    pub fn copy(&self) -> Result<Members, AllocError>
+        ensures { IfOk result (λ copy. copy ≡ self.now) }
+    {
+        Ok(Members {
+            rows: self.rows.copy()?,
+        })
+    }
+
+    /// The members, each as often as its count, by one walk. It takes memory for each, and for its name.
+    pub fn list(&self, alloc: Global) -> Result<Vec<Pid>, AllocError>
+        ensures exact { IfOk result (λ pids. pids.items ≡ spread anywhere self.now) }
+        ensures list { IfOk result (λ pids. IsMemberList (Some (counts_of self.now)) anywhere pids.items) }
+    {
+        let mut pids = Vec::new(alloc);
+        self.rows.total();
+        self.rows.list(&mut pids)?;
+        Ok(pids)
+    }
+
+    /// Takes out all members of a node. It takes no memory.
+    pub fn drop_node(&mut self, node: &Atom)
+        ensures { Some (counts_of self.new) ≡ less (Some (counts_of self.old)) (at_node node.now) }
+    {
+        self.rows.drop_node(node);
+    }
+
+    fn size_at(&self, node: &Atom) -> u64
+        ensures value { result ≡ length (spread (at_node node.now) self.now) }
+        ensures in_order { AreRows self.now }
+    {
+        self.rows.total();
+        self.rows.rank(Edge::PastNode(node)) - self.rows.rank(Edge::AtNode(node))
+    }
+
+    fn pid_of_node(&self, node: &Atom, place: u64) -> Option<&Pid>
+        ensures { option_copied result ≡ slice_get (spread (at_node node.now) self.now) place }
+    {
+        self.rows.total();
+        let from = self.rows.rank(Edge::AtNode(node));
+        let to = self.rows.rank(Edge::PastNode(node));
+        if place < to - from {
+            self.rows.at(from + place)
+        } else {
+            None
+        }
+    }
+}
