@@ -11,9 +11,9 @@ const CREATE: [u8; 49] = [
     0, 0, 1, 0, 0, 0, 0, 0, 0, 0, 0, 104, 2, 119, 6, 99, 114, 101, 97, 116, 101, 119, 1, 103,
 ];
 
-const CREATED: [u8; 41] = [
-    0, 0, 0, 37, 131, 104, 2, 97, 1, 104, 3, 119, 5, 114, 101, 112, 108, 121, 114, 0, 3, 119, 1,
-    97, 1, 0, 0, 0, 1, 0, 0, 0, 0, 0, 0, 0, 0, 119, 2, 111, 107,
+const CREATED: [u8; 44] = [
+    0, 0, 0, 40, 131, 104, 2, 97, 1, 104, 3, 119, 5, 114, 101, 112, 108, 121, 90, 0, 3, 119, 1, 97,
+    0, 0, 0, 1, 0, 0, 0, 1, 0, 0, 0, 0, 0, 0, 0, 0, 119, 2, 111, 107,
 ];
 
 // The same call with the stamp 1,073,741,823, and its reply; then with 1,073,741,824, which no clock passes.
@@ -23,9 +23,9 @@ const LAST_STAMP: [u8; 52] = [
     119, 1, 103,
 ];
 
-const LAST_REPLY: [u8; 44] = [
-    0, 0, 0, 40, 131, 104, 2, 98, 64, 0, 0, 0, 104, 3, 119, 5, 114, 101, 112, 108, 121, 114, 0, 3,
-    119, 1, 97, 1, 0, 0, 0, 1, 0, 0, 0, 0, 0, 0, 0, 0, 119, 2, 111, 107,
+const LAST_REPLY: [u8; 47] = [
+    0, 0, 0, 43, 131, 104, 2, 98, 64, 0, 0, 0, 104, 3, 119, 5, 114, 101, 112, 108, 121, 90, 0, 3,
+    119, 1, 97, 0, 0, 0, 1, 0, 0, 0, 1, 0, 0, 0, 0, 0, 0, 0, 0, 119, 2, 111, 107,
 ];
 
 const FULL_STAMP: [u8; 52] = [
@@ -52,14 +52,26 @@ const SET_LOCK: [u8; 51] = [
     103,
 ];
 
-const GRANTED: [u8; 43] = [
-    0, 0, 0, 39, 131, 104, 2, 97, 2, 104, 3, 119, 5, 114, 101, 112, 108, 121, 114, 0, 3, 119, 1,
-    97, 1, 0, 0, 0, 1, 0, 0, 0, 0, 0, 0, 0, 0, 119, 4, 116, 114, 117, 101,
+const GRANTED: [u8; 46] = [
+    0, 0, 0, 42, 131, 104, 2, 97, 2, 104, 3, 119, 5, 114, 101, 112, 108, 121, 90, 0, 3, 119, 1, 97,
+    0, 0, 0, 1, 0, 0, 0, 1, 0, 0, 0, 0, 0, 0, 0, 0, 119, 4, 116, 114, 117, 101,
 ];
 
-const DENIED: [u8; 44] = [
-    0, 0, 0, 40, 131, 104, 2, 97, 2, 104, 3, 119, 5, 114, 101, 112, 108, 121, 114, 0, 3, 119, 1,
-    97, 1, 0, 0, 0, 1, 0, 0, 0, 0, 0, 0, 0, 0, 119, 5, 102, 97, 108, 115, 101,
+const DENIED: [u8; 47] = [
+    0, 0, 0, 43, 131, 104, 2, 97, 2, 104, 3, 119, 5, 114, 101, 112, 108, 121, 90, 0, 3, 119, 1, 97,
+    0, 0, 0, 1, 0, 0, 0, 1, 0, 0, 0, 0, 0, 0, 0, 0, 119, 5, 102, 97, 108, 115, 101,
+];
+
+// The call with a reference as it is written, of the greatest creation, and its reply.
+const WIDE_CALL: [u8; 52] = [
+    0, 0, 0, 48, 131, 104, 2, 97, 0, 104, 3, 119, 4, 99, 97, 108, 108, 90, 0, 3, 119, 1, 97, 255,
+    255, 255, 255, 0, 0, 0, 1, 0, 0, 0, 0, 0, 0, 0, 0, 104, 2, 119, 6, 99, 114, 101, 97, 116, 101,
+    119, 1, 103,
+];
+
+const WIDE_REPLY: [u8; 44] = [
+    0, 0, 0, 40, 131, 104, 2, 97, 1, 104, 3, 119, 5, 114, 101, 112, 108, 121, 90, 0, 3, 119, 1, 97,
+    255, 255, 255, 255, 0, 0, 0, 1, 0, 0, 0, 0, 0, 0, 0, 0, 119, 2, 111, 107,
 ];
 
 // What a run printed, and its status.
@@ -92,8 +104,9 @@ fn worked_examples(rt: HostRuntime) -> Result<(), Fail> {
     exchange_then_lock.extend_from_slice(&SET_LOCK)?;
     let mut second_exchange = EXCHANGE.to_vec(alloc)?;
     second_exchange.extend_from_slice(&EXCHANGE)?;
-    let rows: [(&str, &[u8], &[u8], &str, u8); 13] = [
+    let rows: [(&str, &[u8], &[u8], &str, u8); 14] = [
         ("create_call", &CREATE, &CREATED, "", 0),
+        ("wide_creations", &WIDE_CALL, &WIDE_REPLY, "", 0),
         ("empty_input", &[], &[], "", 0),
         ("cut_input", &CREATE[..30], &[], "refused 1\n", 1),
         ("frame_too_long", &[1, 0, 0, 1], &[], "refused 11\n", 1),
@@ -235,7 +248,7 @@ impl Write for Narrow {
 
 #[test]
 fn write_fails(rt: HostRuntime) -> Result<(), Fail> {
-    for (limit, held, status) in [(0, 0, 1), (40, 40, 1), (41, 41, 0)] {
+    for (limit, held, status) in [(0, 0, 1), (40, 40, 1), (44, 44, 0)] {
         let mut reader: &[u8] = &CREATE;
         let mut words = Vec::new(rt.alloc());
         words.push(String::from_str(rt.alloc(), "bytes")?)?;
@@ -268,7 +281,7 @@ fn refused_growth(rt: HostRuntime) -> Result<(), Fail> {
     }
     for _ in 0..2 {
         let mut reader: &[u8] = &CREATE;
-        let mut output = [0; 41];
+        let mut output = [0; 44];
         let mut writer = &mut output[..];
         let mut faults = [0; 11];
         let mut line = &mut faults[..];
@@ -280,7 +293,7 @@ fn refused_growth(rt: HostRuntime) -> Result<(), Fail> {
             &mut line,
         );
         let left = writer.len();
-        assert!(rt; status == 0 && left == 0 || status == 1 && left == 41);
+        assert!(rt; status == 0 && left == 0 || status == 1 && left == 44);
     }
     Ok(())
 }

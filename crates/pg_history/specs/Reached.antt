@@ -6,20 +6,20 @@ use Rattle.pg_machine.specs.Places.{is_place}
 use Rattle.pg_machine.specs.Machine.{Event, start_of}
 use Rattle.pg_machine.specs.Clocked.{TimedWorld}
 use Rattle.pg_machine.specs.Runs.{Leads}
-use Rattle.pg_machine.specs.State.{State}
-use Rattle.pg_machine.specs.Turns.{Told}
-use Rattle.pg_machine.specs.Step.{Action}
-use Rattle.pg_machine.specs.Frames.{Config, name_at, frames_of}
-use Rattle.pg_machine.specs.History.{Frames}
+use Rattle.pg_step.specs.State.{State}
+use Rattle.pg_step.specs.Turns.{Report}
+use Rattle.pg_step.specs.Step.{Action}
+use Rattle.pg_step.specs.Config.{Config, name_at}
+use Rattle.pg_step.specs.FrameMachine.{frame_machine, FrameWorld}
 
 -- a world with clocks
-abbrev pub TimedFrames : Type 0
-TimedFrames = TimedWorld State Message Told
+abbrev pub TimedFrameWorld : Type 0
+TimedFrameWorld = TimedWorld State Message Report
 
 -- these events lead the nodes of the configuration from their start to the world
-abbrev pub Reaches : Config → List (Event Action) → TimedFrames → Type 0
-Reaches config events w = Leads (frames_of config) (start_of (frames_of config)) events w
+abbrev pub Reaches : Config → List (Event Action) → TimedFrameWorld → Type 0
+Reaches config events w = Leads (frame_machine config) (start_of (frame_machine config)) events w
 
 -- the process is of the node at this place, and has ended there
-abbrev pub HasEndedAt : Config → Frames → Pid → ℕ → Type 0
+abbrev pub HasEndedAt : Config → FrameWorld → Pid → ℕ → Type 0
 HasEndedAt config w pid h = (is_place (length config) h ≡ true) × (pid.node ≡ name_at config h) × ((w.node h).ended pid ≡ true)

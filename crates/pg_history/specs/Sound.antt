@@ -1,15 +1,15 @@
 -- How the references of a node, its commands and their counts belong together, and what references are used for.
 use Rattle.std.specs.Prelude.{◌≡◌, ℕ, ◌<◌}
 use Rattle.pg_group.specs.Value.{name_of}
-use Rattle.pg_machine.specs.declared.command.OpId.{OpId}
-use Rattle.pg_machine.specs.State.{State, Use, Stage}
-use Rattle.pg_machine.specs.State.Use.{Fresh, Locking, Owning, Updating, Spent}
-use Rattle.pg_machine.specs.State.Stage.{Closed, Asking, Changing}
+use Rattle.pg_step.specs.declared.command.OpId.{OpId}
+use Rattle.pg_step.specs.State.{State, Use, Stage}
+use Rattle.pg_step.specs.State.Use.{Fresh, Locking, Owning, Updating, Spent}
+use Rattle.pg_step.specs.State.Stage.{Closed, Asking, Changing}
 
 -- A reference that asks for a lock is that of the attempt of its command. One under which an update goes out is that of
 -- the change of its command, and the lock is held for it.
 abbrev pub Fits : ℕ → Use → (OpId → Stage) → (ℕ → Use) → Type 0
-Fits c (Locking op u st) stages uses = stages op ≡ Asking c
+Fits c (Locking op u lead st) stages uses = stages op ≡ Asking c
 Fits n (Updating op u c replied) stages uses = (stages op ≡ Changing n) × (uses c ≡ Owning (name_of u) n)
 Fits c _ stages uses = Unit {0}
 
@@ -24,8 +24,8 @@ pub record Sound (s : State) : Type 0 where
 -- update go out; in the end it is spent, and stays so.
 abbrev pub Follows : Use → Use → Type 0
 Follows Fresh later = Unit {0}
-Follows (Locking op u st) (Locking other v later) = (op ≡ other) × (u ≡ v)
-Follows (Locking op u st) (Owning name n) = name ≡ name_of u
+Follows (Locking op u lead st) (Locking other v next later) = (op ≡ other) × (u ≡ v)
+Follows (Locking op u lead st) (Owning name n) = name ≡ name_of u
 Follows (Owning name n) (Owning other k) = (name ≡ other) × (n ≡ k)
 Follows (Updating op u c replied) (Updating other v d later) = (op ≡ other) × (u ≡ v) × (c ≡ d)
 Follows used Spent = Unit {0}

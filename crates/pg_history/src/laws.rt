@@ -4,23 +4,24 @@ ghost use Rattle.pg_term.specs.declared.pid.Pid.{Pid};
 ghost use Rattle.pg_term.specs.Same.{same_atom};
 ghost use Rattle.pg_term.specs.declared.term.Term.{Term};
 ghost use Rattle.pg_group.specs.Value.{NoneEnded};
-ghost use Rattle.pg_exchange.specs.Told.{Told as Groups};
+ghost use Rattle.pg_exchange.specs.GroupList.{GroupList};
 ghost use Rattle.pg_message.specs.declared.message.Message.{Message};
 ghost use Rattle.pg_message.specs.declared.message.Message.TheVariants.{Exchange};
 ghost use Rattle.pg_machine.specs.Machine.{Event, Input, Turn, Taken, start_of};
-ghost use Rattle.pg_machine.specs.Nodes.{Node};
-ghost use Rattle.pg_machine.specs.Peers.{is_bad_exchange};
-ghost use Rattle.pg_machine.specs.Clocked.{plain};
+ghost use Rattle.pg_step.specs.Nodes.{Node};
+ghost use Rattle.pg_step.specs.Peers.{is_bad_exchange};
+ghost use Rattle.pg_machine.specs.Clocked.{Timed, Stamped, plain};
+ghost use Rattle.pg_machine.specs.Losing.{Noticed, LosingWorld, LosingLeads, nobody_gone, all_steps, mapped};
 ghost use Rattle.pg_machine.specs.Runs.{Leads, run, ran};
 ghost use Rattle.pg_machine.specs.Places.{is_place, is_pair};
-ghost use Rattle.pg_machine.specs.State.{State};
-ghost use Rattle.pg_machine.specs.Turns.{Told};
-ghost use Rattle.pg_machine.specs.Step.{Action};
-ghost use Rattle.pg_machine.specs.Frames.{Config, names_of, name_at, groups_at, node_step, frames_of};
-ghost use Rattle.pg_machine.specs.History.{LockFree, is_formed, history, updates_of, applied_count};
-ghost use Rattle.pg_machine.specs.Headline.{OneHistory, HoldsAnswered, AppliesHistory, HasTables, HarmsNobody, GoesOn};
-ghost use Rattle.pg_machine.specs.History.{applied_by};
-ghost use Rattle.pg_history.specs.Reached.{TimedFrames, Reaches, HasEndedAt};
+ghost use Rattle.pg_step.specs.State.{State};
+ghost use Rattle.pg_step.specs.Turns.{Report};
+ghost use Rattle.pg_step.specs.Step.{Action};
+ghost use Rattle.pg_step.specs.Config.{Config, names_of, name_at, groups_at};
+ghost use Rattle.pg_step.specs.FrameMachine.{node_step, frame_machine, losing_frame_machine, last_notice, sent_packet};
+ghost use Rattle.pg_history.specs.History.{LockFree, is_formed, history, updates_of, applied_count, applied_by};
+ghost use Rattle.pg_history.specs.Headline.{OneHistory, HoldsAnswered, AppliesHistory, HasTables, HarmsNobody, GoesOn};
+ghost use Rattle.pg_history.specs.Reached.{TimedFrameWorld, Reaches, HasEndedAt};
 ghost use Rattle.pg_history.specs.Sound.{Sound, Follows};
 ghost use Rattle.pg_history.specs.Sent.{ends_in, exchanges_in, is_reply};
 
@@ -34,14 +35,24 @@ ghost use Rattle.pg_history.specs.Sent.{ends_in, exchanges_in, is_reply};
 ///   sees the lock free and no end is pending;
 /// - no reply is a stranger's or a double, and no packet will be refused, but by a full clock.
 pub fn one_history()
-    ensures each_world { (config : Config) (w : TimedFrames) (events : List (Event Action))
+    ensures each_world { (config : Config) (w : TimedFrameWorld) (events : List (Event Action))
         → IsDistinct same_atom (names_of config) → Reaches config events w
         → OneHistory config events (plain w) }
     // Whatever events are tried: those that can happen do, the others change nothing.
     ensures any_events { (config : Config) (events : List (Event Action))
         → IsDistinct same_atom (names_of config)
-        → OneHistory config (ran (frames_of config) (start_of (frames_of config)) events)
-        (plain (run (frames_of config) (start_of (frames_of config)) events)) }
+        → OneHistory config (ran (frame_machine config) (start_of (frame_machine config)) events)
+        (plain (run (frame_machine config) (start_of (frame_machine config)) events)) }
+{}
+
+/// The same of nodes that can see losses, as long as none is lost.
+pub fn one_history_without_losses()
+    ensures { (config : Config) (events : List (Event Action))
+        (v : LosingWorld (Timed State) (Stamped (Noticed Message)) Report)
+        → IsDistinct same_atom (names_of config)
+        → LosingLeads (losing_frame_machine config) last_notice
+        (nobody_gone (start_of (losing_frame_machine config))) (all_steps events) v
+        → (w : TimedFrameWorld) × (v ≡ nobody_gone (mapped sent_packet w)) × OneHistory config events (plain w) }
 {}
 
 /// A change that was answered behind its lock stands once among the entries, and was answered once. No command stands
@@ -51,21 +62,21 @@ pub fn one_history()
 /// What clients see of it: a change that was answered behind its lock was answered ok; a delete, a join or a leave that was
 /// answered ok was answered behind its lock; no command has two answers.
 pub fn changes_stand_once()
-    ensures { (config : Config) (w : TimedFrames) (events : List (Event Action))
+    ensures { (config : Config) (w : TimedFrameWorld) (events : List (Event Action))
         → IsDistinct same_atom (names_of config) → Reaches config events w
         → HoldsAnswered config events (plain w) }
 {}
 
 /// The history of each group only grows: a later world's is that of the earlier one, and more behind it.
 pub fn history_grows()
-    ensures { (config : Config) (w v : TimedFrames) (events : List (Event Action))
-        → Leads (frames_of config) w events v → GoesOn (plain w) (plain v) }
+    ensures { (config : Config) (w v : TimedFrameWorld) (events : List (Event Action))
+        → Leads (frame_machine config) w events v → GoesOn (plain w) (plain v) }
 {}
 
 /// What each node has applied of a group is its history from the beginning, in that order and nothing else: all of it, or
 /// all but the last update; all of it where one node sees the lock free. Each node has applied what is answered.
 pub fn history_is_applied()
-    ensures { (config : Config) (w : TimedFrames) (events : List (Event Action))
+    ensures { (config : Config) (w : TimedFrameWorld) (events : List (Event Action))
         → IsDistinct same_atom (names_of config) → Reaches config events w
         → AppliesHistory config (plain w) }
 {}
@@ -75,14 +86,14 @@ pub fn history_is_applied()
 /// while there is one no update has every grant. Formed nodes agree on a group where one node sees its lock free and no end
 /// is pending.
 pub fn tables_are_replayed()
-    ensures { (config : Config) (w : TimedFrames) (events : List (Event Action))
+    ensures { (config : Config) (w : TimedFrameWorld) (events : List (Event Action))
         → IsDistinct same_atom (names_of config) → Reaches config events w
         → HasTables config (plain w) }
 {}
 
 /// Nobody is harmed: no reply is a stranger's or a double, and no packet on the way will be refused, but by a full clock.
 pub fn nobody_is_harmed()
-    ensures { (config : Config) (w : TimedFrames) (events : List (Event Action))
+    ensures { (config : Config) (w : TimedFrameWorld) (events : List (Event Action))
         → IsDistinct same_atom (names_of config) → Reaches config events w
         → HarmsNobody config (plain w) }
 {}
@@ -90,12 +101,12 @@ pub fn nobody_is_harmed()
 /// A process ends at its home first: an end that any node has taken, and one that is on the way, is at the home of its
 /// process, and it is on the way from there alone.
 pub fn ends_at_home()
-    ensures taken { (config : Config) (w : TimedFrames)
+    ensures taken { (config : Config) (w : TimedFrameWorld)
         (events : List (Event Action)) (i : ℕ) (pid : Pid)
         → Reaches config events w → ((plain w).node i).ended pid ≡ true
         → (h : ℕ) × (is_place (length config) h ≡ true) × (pid.node ≡ name_at config h)
         × (((plain w).node h).ended pid ≡ true) }
-    ensures on_the_way { (config : Config) (w : TimedFrames)
+    ensures on_the_way { (config : Config) (w : TimedFrameWorld)
         (events : List (Event Action)) (p i : ℕ)
         → Reaches config events w
         → AllByRecursion (λ pid. HasEndedAt config (plain w) pid p) (ends_in ((plain w).wire p i)) }
@@ -104,18 +115,18 @@ pub fn ends_at_home()
 /// The exchange of each node is on the way to each other node once, with the groups that it started with, until it is
 /// taken there; then none is. So no exchange is refused, and no other packet but a reply could be.
 pub fn exchanges_once()
-    ensures on_the_way { (config : Config) (w : TimedFrames)
+    ensures on_the_way { (config : Config) (w : TimedFrameWorld)
         (events : List (Event Action)) (i p : ℕ)
         → IsDistinct same_atom (names_of config) → Reaches config events w
         → is_pair (length config) i p ≡ true
         → exchanges_in ((plain w).wire p i) ≡ cond (((plain w).node i).merged (name_at config p)) []
         ((name_at config p, groups_at config p) ∷ []) }
-    ensures accepted { (config : Config) (w : TimedFrames) (events : List (Event Action)) (i p : ℕ)
-        (node : Node) (groups : Groups) (rest : List Message)
+    ensures accepted { (config : Config) (w : TimedFrameWorld) (events : List (Event Action)) (i p : ℕ)
+        (node : Node) (groups : GroupList) (rest : List Message)
         → IsDistinct same_atom (names_of config) → Reaches config events w
         → is_pair (length config) i p ≡ true → (plain w).wire p i ≡ Exchange node groups ∷ rest
         → is_bad_exchange (name_at config p) node ((plain w).node i) ≡ false }
-    ensures packets { (config : Config) (w : TimedFrames) (events : List (Event Action)) (i p : ℕ)
+    ensures packets { (config : Config) (w : TimedFrameWorld) (events : List (Event Action)) (i p : ℕ)
         (x : Message) (rest : List Message)
         → IsDistinct same_atom (names_of config) → Reaches config events w
         → is_pair (length config) i p ≡ true → (plain w).wire p i ≡ x ∷ rest → is_reply x ≡ false
@@ -124,7 +135,7 @@ pub fn exchanges_once()
 
 /// A process that has ended at a node is a member of no group there.
 pub fn ended_are_in_no_group()
-    ensures { (config : Config) (w : TimedFrames)
+    ensures { (config : Config) (w : TimedFrameWorld)
         (events : List (Event Action)) (i : ℕ) (name : Term)
         → Reaches config events w
         → NoneEnded (((plain w).node i).table name) ((plain w).node i).ended }
@@ -132,7 +143,7 @@ pub fn ended_are_in_no_group()
 
 /// While a node is not formed it sees each lock free: it grants none.
 pub fn unformed_hold_no_lock()
-    ensures { (config : Config) (w : TimedFrames)
+    ensures { (config : Config) (w : TimedFrameWorld)
         (events : List (Event Action)) (i : ℕ) (name : Term)
         → Reaches config events w → is_formed config (plain w) i ≡ false
         → LockFree (plain w) i name }
@@ -142,10 +153,10 @@ pub fn unformed_hold_no_lock()
 /// have ended there.
 pub fn what_is_sent()
     ensures exchanges { (config : Config) (i : ℕ) (s : State) (input : Input Message Action)
-        (t : Turn State Message Told) (q : ℕ) → node_step config i s input ≡ Some t
+        (t : Turn State Message Report) (q : ℕ) → node_step config i s input ≡ Some t
         → exchanges_in (t.sends q) ≡ [] }
     ensures ends { (config : Config) (i : ℕ) (s : State) (input : Input Message Action)
-        (t : Turn State Message Told) (q : ℕ) → node_step config i s input ≡ Some t
+        (t : Turn State Message Report) (q : ℕ) → node_step config i s input ≡ Some t
         → AllByRecursion (λ pid. (pid.node ≡ name_at config i) × (t.state.ended pid ≡ true))
         (ends_in (t.sends q)) }
 {}
@@ -154,18 +165,18 @@ pub fn what_is_sent()
 /// which an update goes out is that of the change of its command, for which the lock is held. It has it for good: one that
 /// was used is never used for another command, and one that is spent is of no use any more.
 pub fn references_have_one_use()
-    ensures sound { (config : Config) (w : TimedFrames) (events : List (Event Action)) (i : ℕ)
+    ensures sound { (config : Config) (w : TimedFrameWorld) (events : List (Event Action)) (i : ℕ)
         → Reaches config events w → Sound ((plain w).node i) }
-    ensures later { (config : Config) (w v : TimedFrames) (before events : List (Event Action)) (i c : ℕ)
-        → Reaches config before w → Leads (frames_of config) w events v
+    ensures later { (config : Config) (w v : TimedFrameWorld) (before events : List (Event Action)) (i c : ℕ)
+        → Reaches config before w → Leads (frame_machine config) w events v
         → Follows (((plain w).node i).uses c) (((plain v).node i).uses c) }
 {}
 
 /// A node makes two references at an event at most, so that its clock is full by the time its 2^31 references are made.
 pub fn references_within_the_clock()
     ensures step { (config : Config) (i : ℕ) (s : State) (input : Input Message Action)
-        (t : Turn State Message Told) → node_step config i s input ≡ Some t
+        (t : Turn State Message Report) → node_step config i s input ≡ Some t
         → t.state.references ≤ s.references + 2 }
-    ensures reached { (config : Config) (w : TimedFrames) (events : List (Event Action)) (i : ℕ)
+    ensures reached { (config : Config) (w : TimedFrameWorld) (events : List (Event Action)) (i : ℕ)
         → Reaches config events w → (w.node i).state.references ≤ 2 * (w.node i).clock }
 {}

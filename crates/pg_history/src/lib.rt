@@ -3,10 +3,17 @@
 //! ends, locks and references that stand behind that.
 #![tactic(auto)]
 
+mod events;
+mod lasting;
 mod laws;
 
+pub use events::{
+    changes_are_answered_at_once_exactly, commands_are_refused_exactly, updates_are_applied_once,
+};
+pub use lasting::{answers_stay, commands_are_counted, ends_stay_taken, formed_nodes_stay_formed};
 pub use laws::{
     changes_stand_once, ended_are_in_no_group, ends_at_home, exchanges_once, history_grows,
-    history_is_applied, nobody_is_harmed, one_history, references_have_one_use,
-    references_within_the_clock, tables_are_replayed, unformed_hold_no_lock, what_is_sent,
+    history_is_applied, nobody_is_harmed, one_history, one_history_without_losses,
+    references_have_one_use, references_within_the_clock, tables_are_replayed,
+    unformed_hold_no_lock, what_is_sent,
 };

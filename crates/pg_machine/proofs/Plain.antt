@@ -20,10 +20,10 @@ packets_of_rest [] = refl
 packets_of_rest (x ∷ xs) = refl
 
 pub plain_start : {S P C O : Type 0} (m : Machine S P C O) (limit : ℕ) → plain (start_of (clocked limit m)) ≡ start_of m
-plain_start m limit = λ i. record { node = m.first; wire = (fun_ext (λ x. fun_ext (λ y. packets_of_stamped 0 (m.opening x y)))) i; told = [] }
+plain_start m limit = λ i. record { node = m.first; wire = (fun_ext (λ x. fun_ext (λ y. packets_of_stamped 0 (m.opening x y)))) i; reported = [] }
 
 plain_perform : {S P O : Type 0} (w : TimedWorld S P O) (i clock : ℕ) (t : Turn S P O) → plain (perform w i (timed_turn clock t)) ≡ perform (plain w) i t
-plain_perform {S} {P} {O} w i clock t = λ j. record { node = nodes j; wire = wires j; told = w.told ++ (i, t.told) ∷ [] }
+plain_perform {S} {P} {O} w i clock t = λ j. record { node = nodes j; wire = wires j; reported = w.reported ++ (i, t.reported) ∷ [] }
   where
     nodes : (λ (x : ℕ). (set_at w.node i (record { clock = clock; state = t.state }) x).state) ≡ set_at (λ x. (w.node x).state) i t.state
     nodes = set_at_map w.node i (record { clock = clock; state = t.state }) (λ (s : Timed S). s.state)
@@ -42,7 +42,7 @@ plain_perform {S} {P} {O} w i clock t = λ j. record { node = nodes j; wire = wi
 
 plain_without : {S P C O : Type 0} (w : TimedWorld S P O) (e : Event C) → plain (without_input w e) ≡ without_input (plain w) e
 plain_without w (Do i c) = refl
-plain_without {S} {P} {C} {O} w (Take i p) = λ j. record { node = λ x. (w.node x).state; wire = wires j; told = w.told }
+plain_without {S} {P} {C} {O} w (Take i p) = λ j. record { node = λ x. (w.node x).state; wire = wires j; reported = w.reported }
   where
     wires : (λ (x y : ℕ). packets_of (set_way w.wire p i (drop 1 (w.wire p i)) x y)) ≡ set_way (λ x y. packets_of (w.wire x y)) p i (drop 1 (packets_of (w.wire p i)))
     wires = set_way_map w.wire p i (drop 1 (w.wire p i)) packets_of ∙ ap (set_way (λ x y. packets_of (w.wire x y)) p i) (packets_of_rest (w.wire p i))

@@ -2,13 +2,13 @@
 use Rattle.std.proofs.Common.{◌≡◌, ℕ, ◌+◌, cond, nat_eq, List, [], ◌∷◌, Option, Some, None, refl}
 use Rattle.pg_group.specs.Functions.{upd}
 use Rattle.pg_machine.specs.Machine.{Input, Turn, Machine, Event, World, Taken, Own, Take, Do, start_of, happens}
-use Rattle.pg_machine.specs.Runs.{run, ran, told_by}
+use Rattle.pg_machine.specs.Runs.{run, ran, reported_by}
 use Rattle.pg_machine.specs.Clocked.{Timed, Stamped, clocked}
 
 -- a packet or a command is a number that is added; a command is sent on, and 0 is refused
 abbrev add : ℕ → ℕ → Input ℕ ℕ → Option (Turn ℕ ℕ ℕ)
-add i s (Taken p x) = Some (record { state = s + x; sends = λ _. []; told = s + x })
-add i s (Own c) = cond (nat_eq c 0) None (Some (record { state = s + c; sends = λ y. cond (nat_eq y i) [] (c ∷ []); told = s + c }))
+add i s (Taken p x) = Some (record { state = s + x; sends = λ _. []; reported = s + x })
+add i s (Own c) = cond (nat_eq c 0) None (Some (record { state = s + c; sends = λ y. cond (nat_eq y i) [] (c ∷ []); reported = s + c }))
 
 abbrev adders : Machine ℕ ℕ ℕ ℕ
 adders = record { size = 2; first = λ i. i; opening = λ x y. cond (nat_eq x y) [] (10 ∷ []); step = add }
@@ -24,11 +24,11 @@ happened : ran adders (start_of adders) events ≡ Do 0 5 ∷ Take 1 0 ∷ Take 
 unfolding happens upd
 happened = refl
 
-told : world.told ≡ (0, 5) ∷ (1, 11) ∷ (1, 16) ∷ []
+reported : world.reported ≡ (0, 5) ∷ (1, 11) ∷ (1, 16) ∷ []
 unfolding happens upd
-told = refl
+reported = refl
 
-told_by_one : told_by 1 world.told ≡ 11 ∷ 16 ∷ []
+told_by_one : reported_by 1 world.reported ≡ 11 ∷ 16 ∷ []
 unfolding happens upd
 told_by_one = refl
 

@@ -5,7 +5,7 @@ use Rattle.std.proofs.lemmas.Bool.{eqb-false}
 use Rattle.std.proofs.lemmas.List.{append-nil, append_assoc}
 use Rattle.pg_machine.specs.Machine.{Machine, Event, World, node_of, happens}
 use Rattle.pg_machine.specs.Happened.{Happened}
-use Rattle.pg_machine.specs.Runs.{Leads, after, put_if_some, run, ran, events_of, told_by}
+use Rattle.pg_machine.specs.Runs.{Leads, after, put_if_some, run, ran, events_of, reported_by}
 use Rattle.pg_machine.proofs.Options.{some_is}
 use Rattle.pg_machine.proofs.Steps.{happened, changes}
 
@@ -27,13 +27,13 @@ module _ {S P C O : Type 0} (m : Machine S P C O) where
   kept Q each [] w v l q = subst Q l q
   kept Q each (e ∷ es) w v l q = kept Q each es l.0 v l.2 (each w l.0 e (happened m w l.0 e l.1) q)
 
-  pub tells : (es : List (Event C)) (w v : World S P O) → Leads m w es v → (more : List (ℕ × O)) × (v.told ≡ w.told ++ more) × (map (λ t. t.0) more ≡ map node_of es)
-  tells [] w v l = ([], ap (λ (x : World S P O). x.told) (sym l) ∙ sym (append-nil w.told), refl)
+  pub tells : (es : List (Event C)) (w v : World S P O) → Leads m w es v → (more : List (ℕ × O)) × (v.reported ≡ w.reported ++ more) × (map (λ t. t.0) more ≡ map node_of es)
+  tells [] w v l = ([], ap (λ (x : World S P O). x.reported) (sym l) ∙ sym (append-nil w.reported), refl)
   tells (e ∷ es) w v l =
       let h = happened m w l.0 e l.1 in
       let rest = tells es l.0 v l.2 in (
-        (node_of e, h.turn.told) ∷ rest.0,
-        rest.1 ∙ ap (λ xs. xs ++ rest.0) ((changes m w l.0 e h).told) ∙ append_assoc w.told ((node_of e, h.turn.told) ∷ []) rest.0,
+        (node_of e, h.turn.reported) ∷ rest.0,
+        rest.1 ∙ ap (λ xs. xs ++ rest.0) ((changes m w l.0 e h).reported) ∙ append_assoc w.reported ((node_of e, h.turn.reported) ∷ []) rest.0,
         ap (λ xs. node_of e ∷ xs) rest.2,
       )
 
@@ -80,16 +80,16 @@ module _ {S P C O : Type 0} (m : Machine S P C O) where
           again none ∙ (changes m w l.0 e h).states j (λ same. eqb-false (node_of e) j is (sym same))
 
 -- what is told by one node, and the events of one node, of two lists in turn
-pub told_by_append : {O : Type 0} (i : ℕ) (ts us : List (ℕ × O)) → told_by i (ts ++ us) ≡ told_by i ts ++ told_by i us
+pub told_by_append : {O : Type 0} (i : ℕ) (ts us : List (ℕ × O)) → reported_by i (ts ++ us) ≡ reported_by i ts ++ reported_by i us
 told_by_append i [] us = refl
-told_by_append {O} i (t ∷ ts) us = go (nat_eq t.0 i) (told_by i (ts ++ us)) (told_by i ts) (told_by_append i ts us)
+told_by_append {O} i (t ∷ ts) us = go (nat_eq t.0 i) (reported_by i (ts ++ us)) (reported_by i ts) (told_by_append i ts us)
   where
-    go : (b : Bool) (xs ys : List O) → xs ≡ ys ++ told_by i us → cond b (t.1 ∷ xs) xs ≡ cond b (t.1 ∷ ys) ys ++ told_by i us
+    go : (b : Bool) (xs ys : List O) → xs ≡ ys ++ reported_by i us → cond b (t.1 ∷ xs) xs ≡ cond b (t.1 ∷ ys) ys ++ reported_by i us
     go true xs ys same = ap (λ all. t.1 ∷ all) same
     go false xs ys same = same
 
 -- as many things are told by a node as there are events of it
-told_each : {C O : Type 0} (i : ℕ) (ts : List (ℕ × O)) (es : List (Event C)) → map (λ t. t.0) ts ≡ map node_of es → length (told_by i ts) ≡ length (events_of i es)
+told_each : {C O : Type 0} (i : ℕ) (ts : List (ℕ × O)) (es : List (Event C)) → map (λ t. t.0) ts ≡ map node_of es → length (reported_by i ts) ≡ length (events_of i es)
 told_each i [] [] same = refl
 told_each i [] (e ∷ es) same = absurd (cc)
 told_each i (t ∷ ts) [] same = absurd (cc)
@@ -98,15 +98,15 @@ told_each {C} {O} i (t ∷ ts) (e ∷ es) same =
     let rest : map (λ t. t.0) ts ≡ map node_of es = cc in
     go (nat_eq t.0 i) (nat_eq (node_of e) i) (ap (λ j. nat_eq j i) whose) (told_each i ts es rest)
   where
-    go : (a b : Bool) → a ≡ b → length (told_by i ts) ≡ length (events_of i es)
-        → length (cond a (t.1 ∷ told_by i ts) (told_by i ts)) ≡ length (cond b (e ∷ events_of i es) (events_of i es))
+    go : (a b : Bool) → a ≡ b → length (reported_by i ts) ≡ length (events_of i es)
+        → length (cond a (t.1 ∷ reported_by i ts) (reported_by i ts)) ≡ length (cond b (e ∷ events_of i es) (events_of i es))
     go true true same n = ap suc n
     go false false same n = n
     go true false same n = absurd (cc)
     go false true same n = absurd (cc)
 
 pub tells_by : {S P C O : Type 0} (m : Machine S P C O) (i : ℕ) (es : List (Event C)) (w v : World S P O) → Leads m w es v
-    → (more : List O) × (told_by i v.told ≡ told_by i w.told ++ more) × (length more ≡ length (events_of i es))
+    → (more : List O) × (reported_by i v.reported ≡ reported_by i w.reported ++ more) × (length more ≡ length (events_of i es))
 tells_by m i es w v l =
     let all = tells m es w v l in
-    (told_by i all.0, ap (told_by i) all.1 ∙ told_by_append i w.told all.0, told_each i all.0 es all.2)
+    (reported_by i all.0, ap (reported_by i) all.1 ∙ told_by_append i w.reported all.0, told_each i all.0 es all.2)

@@ -91,7 +91,7 @@ turn_changes {S} {P} size w (Do i c) input t there given = record {
   taken = λ x y never. absurd never;
   sent = λ y. ap (λ (row : ℕ → List P). row y) (set_at_here w.wire i (λ z. w.wire i z ++ t.sends z) i refl);
   ways = λ x y n _. ap (λ (row : ℕ → List P). row y) (set_at_other w.wire i (λ z. w.wire i z ++ t.sends z) x n);
-  told = refl;
+  reported = refl;
 }
 turn_changes {S} {P} size w (Take i p) input t there given =
     let apart : i ≢ p = pair_apart size i p there in
@@ -110,7 +110,7 @@ turn_changes {S} {P} size w (Take i p) input t there given =
           ∙ ap (λ xs. xs ++ t.sends y) (set_way_other w.wire p i (drop 1 (w.wire p i)) i y (λ both. apart (sym both.0)));
       ways = λ x y n untaken. ap (λ (g : ℕ → List P). g y) (set_at_other ways i row x n)
           ∙ set_way_other w.wire p i (drop 1 (w.wire p i)) x y untaken;
-      told = refl;
+      reported = refl;
     }
 
 pub changes : {S P C O : Type 0} (m : Machine S P C O) (w v : World S P O) (e : Event C) (h : Happened m w e v) → Changes e h.turn w v

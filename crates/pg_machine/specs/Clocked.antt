@@ -17,8 +17,8 @@ pub record Stamped (Packet : Type 0) : Type 0 where
   pub stamp : ℕ
   pub packet : Packet
 
-abbrev pub TimedWorld : (State Packet Told : Type 0) → Type 0
-TimedWorld State Packet Told = World (Timed State) (Stamped Packet) Told
+abbrev pub TimedWorld : (State Packet Report : Type 0) → Type 0
+TimedWorld State Packet Report = World (Timed State) (Stamped Packet) Report
 
 -- the input without its stamp
 abbrev pub unstamped : {P C : Type 0} → Input (Stamped P) C → Input P C
@@ -43,7 +43,7 @@ abbrev pub timed_turn : {S P O : Type 0} → ℕ → Turn S P O → Turn (Timed 
 timed_turn clock t = record {
   state = record { clock = clock; state = t.state };
   sends = λ q. stamped clock (t.sends q);
-  told = t.told;
+  reported = t.reported;
 }
 
 -- a turn is refused where its clock would pass the limit
@@ -62,7 +62,7 @@ clocked limit m = record {
 
 -- a world without its clocks and stamps
 abbrev pub plain : {S P O : Type 0} → TimedWorld S P O → World S P O
-plain w = record { node = λ i. (w.node i).state; wire = λ x y. packets_of (w.wire x y); told = w.told }
+plain w = record { node = λ i. (w.node i).state; wire = λ x y. packets_of (w.wire x y); reported = w.reported }
 
 -- whether the clock that an event would set stays within the limit
 abbrev pub clock_allows : {S P C O : Type 0} → ℕ → TimedWorld S P O → Event C → Bool

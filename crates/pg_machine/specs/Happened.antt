@@ -46,4 +46,4 @@ pub record Changes {S P C O : Type 0} (e : Event C) (turn : Turn S P O) (w v : W
   -- what is sent stands last on the ways from its node, and all other ways are as they were
   pub sent : (y : ℕ) → v.wire (node_of e) y ≡ w.wire (node_of e) y ++ turn.sends y
   pub ways : (x y : ℕ) → x ≢ node_of e → (Takes e x y → ⊥) → v.wire x y ≡ w.wire x y
-  pub told : v.told ≡ w.told ++ (node_of e, turn.told) ∷ []
+  pub reported : v.reported ≡ w.reported ++ (node_of e, turn.reported) ∷ []

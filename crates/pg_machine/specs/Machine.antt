@@ -8,12 +8,12 @@ pub data Input (Packet Command : Type 0) : Type 0 where
   Own : Command → Input Packet Command
 
 -- what a node makes of an input, at once: its new state, what it sends to each peer, and what it tells beside
-pub record Turn (State Packet Told : Type 0) : Type 0 where
+pub record Turn (State Packet Report : Type 0) : Type 0 where
   pub state : State
   pub sends : ℕ → List Packet
-  pub told : Told
+  pub reported : Report
 
-pub record Machine (State Packet Command Told : Type 0) : Type 0 where
+pub record Machine (State Packet Command Report : Type 0) : Type 0 where
   -- how many nodes there are
   pub size : ℕ
   -- the first state of each
@@ -21,7 +21,7 @@ pub record Machine (State Packet Command Told : Type 0) : Type 0 where
   -- what each has sent to each at the start: `opening x y` from x to y
   pub opening : ℕ → ℕ → List Packet
   -- what a node makes of an input in a state; None where it refuses it
-  pub step : ℕ → State → Input Packet Command → Option (Turn State Packet Told)
+  pub step : ℕ → State → Input Packet Command → Option (Turn State Packet Report)
 
 -- a step of one node: it takes the next packet of a peer, or does something of its own
 pub data Event (Command : Type 0) : Type 0 where
@@ -33,16 +33,16 @@ abbrev pub node_of : {C : Type 0} → Event C → ℕ
 node_of (Take i p) = i
 node_of (Do i c) = i
 
-pub record World (State Packet Told : Type 0) : Type 0 where
+pub record World (State Packet Report : Type 0) : Type 0 where
   pub node : ℕ → State
   -- the packets on the way, the first to be taken first: `wire x y` from x to y
   pub wire : ℕ → ℕ → List Packet
   -- what each turn told, and whose turn it was, the earliest first
-  pub told : List (ℕ × Told)
+  pub reported : List (ℕ × Report)
 
 -- each node in its first state, its opening packets on the way
 abbrev pub start_of : {S P C O : Type 0} → Machine S P C O → World S P O
-start_of m = record { node = m.first; wire = m.opening; told = [] }
+start_of m = record { node = m.first; wire = m.opening; reported = [] }
 
 -- whether the places that an event names are there
 abbrev pub is_there : {C : Type 0} → ℕ → Event C → Bool
@@ -73,7 +73,7 @@ abbrev pub perform : {S P O : Type 0} → World S P O → ℕ → Turn S P O →
 perform {S} {P} w i t = record w {
   node = set_at w.node i t.state;
   wire = set_at {A = ℕ → List P} w.wire i (λ y. w.wire i y ++ t.sends y);
-  told = w.told ++ (i, t.told) ∷ [];
+  reported = w.reported ++ (i, t.reported) ∷ [];
 }
 
 -- The world after an event, or None where it does not happen: a place is not there, a node would take from itself,

@@ -32,6 +32,6 @@ events_of i [] = []
 events_of i (e ∷ es) = cond (nat_eq (node_of e) i) (e ∷ events_of i es) (events_of i es)
 
 -- what one node told
-abbrev pub told_by : {O : Type 0} → ℕ → List (ℕ × O) → List O
-told_by i [] = []
-told_by i (t ∷ ts) = cond (nat_eq t.0 i) (t.1 ∷ told_by i ts) (told_by i ts)
+abbrev pub reported_by : {O : Type 0} → ℕ → List (ℕ × O) → List O
+reported_by i [] = []
+reported_by i (t ∷ ts) = cond (nat_eq t.0 i) (t.1 ∷ reported_by i ts) (reported_by i ts)

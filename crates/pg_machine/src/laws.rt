@@ -1,7 +1,7 @@
 ghost use Rattle.std.specs.Prelude.{◌≡◌, ◌↔◌, ◌≤◌, ◌++◌, ℕ, List, [], Option, Some, None, cond, is_some, map, option_map, length};
 ghost use Rattle.pg_machine.specs.Machine.{Machine, Event, World, Take, Do, node_of, start_of, input_of, turn_of, happens};
 ghost use Rattle.pg_machine.specs.Happened.{Happened, Took, Did, Changes};
-ghost use Rattle.pg_machine.specs.Runs.{Leads, run, ran, events_of, told_by};
+ghost use Rattle.pg_machine.specs.Runs.{Leads, run, ran, events_of, reported_by};
 ghost use Rattle.pg_machine.specs.Clocked.{Timed, Stamped, TimedWorld, clocked, plain, clock_allows};
 ghost use Rattle.pg_machine.specs.Timely.{KeepsTime, Ticks, IsTimely};
 
@@ -41,11 +41,11 @@ pub fn runs<S, P, C, O>()
 {}
 
 /// Each event of a run tells once, in their order, and so does each of one node's.
-pub fn what_is_told<S, P, C, O>()
-    ensures told { (m : Machine S P C O) (w v : World S P O) (es : List (Event C)) → Leads m w es v
-        → (more : List (ℕ × O)) × (v.told ≡ w.told ++ more) × (map (λ t. t.0) more ≡ map node_of es) }
-    ensures told_by { (m : Machine S P C O) (w v : World S P O) (es : List (Event C)) (i : ℕ) → Leads m w es v
-        → (more : List O) × (told_by i v.told ≡ told_by i w.told ++ more)
+pub fn what_is_reported<S, P, C, O>()
+    ensures reported { (m : Machine S P C O) (w v : World S P O) (es : List (Event C)) → Leads m w es v
+        → (more : List (ℕ × O)) × (v.reported ≡ w.reported ++ more) × (map (λ t. t.0) more ≡ map node_of es) }
+    ensures reported_by { (m : Machine S P C O) (w v : World S P O) (es : List (Event C)) (i : ℕ) → Leads m w es v
+        → (more : List O) × (reported_by i v.reported ≡ reported_by i w.reported ++ more)
         × (length more ≡ length (events_of i es)) }
 {}
 

@@ -10,7 +10,7 @@ use Rattle.pg_group.specs.Value.{Value, count_in, less, merge, listed}
 use Rattle.pg_group.specs.Table.{Table, changed, without, merged, exchanged}
 use Rattle.pg_group.proofs.Growth.{changed_grown}
 use Rattle.pg_group.proofs.Changes.{upd_by}
-use Rattle.pg_exchange.specs.Told.{Told as Groups, all_merged}
+use Rattle.pg_exchange.specs.GroupList.{GroupList, all_merged}
 use Rattle.pg_message.specs.Members.{HasFewMembers, IsShort}
 use Rattle.pg_message.specs.declared.message.Message.{Message}
 use Rattle.pg_message.specs.declared.message.Message.TheVariants.{Call, Reply, DelLock, Exchange, Down}
@@ -45,14 +45,14 @@ group_counts n table name pids ended short few other q =
     upd_by same_term table name (λ v. count_in v q ≤ n + 16777216) (exchanged (table name) pids ended) other
     (λ e. greater_counts (n + 16777216) (table name) (less (listed pids) ended) q (few name q) (omega arith)) (λ e. few other q)
 
-all_counts : (n : ℕ) (table : Table) (groups : Groups) (ended : Pid → Bool) → HasFewMembers 16777216 groups → Few (n + 16777216) table → Few (n + 16777216) (all_merged table groups ended)
+all_counts : (n : ℕ) (table : Table) (groups : GroupList) (ended : Pid → Bool) → HasFewMembers 16777216 groups → Few (n + 16777216) table → Few (n + 16777216) (all_merged table groups ended)
 all_counts n table [] ended short few = few
 all_counts n table (group ∷ groups) ended short few = all_counts n (merged table group.0 group.1 ended) groups ended short.1 (group_counts n table group.0 group.1 ended short.0 few)
 
-pub few_merged : (n m : ℕ) (old new : Table) (groups : Groups) (ended : Pid → Bool) → n < m → HasFewMembers 16777216 groups → Few (n + 16777216) old → new ≡ all_merged old groups ended → Few (m + 16777216) new
+pub few_merged : (n m : ℕ) (old new : Table) (groups : GroupList) (ended : Pid → Bool) → n < m → HasFewMembers 16777216 groups → Few (n + 16777216) old → new ≡ all_merged old groups ended → Few (m + 16777216) new
 few_merged n m old new groups ended later short few e = subst (Few (m + 16777216)) (sym e) (λ name q. omega (arith, all_counts n old groups ended short few name q))
 
-few_members : (n m : ℕ) (groups : Groups) → n ≤ m → HasFewMembers n groups → HasFewMembers m groups
+few_members : (n m : ℕ) (groups : GroupList) → n ≤ m → HasFewMembers n groups → HasFewMembers m groups
 few_members n m [] fits few = tt
 few_members n m (group ∷ groups) fits few = (omega (arith, few.0, fits), few_members n m groups fits few.1)
 

@@ -4,7 +4,7 @@ use Rattle.std.specs.Prelude.{slice_set}
 use Rattle.std.proofs.Math.Path.{fun_ext}
 use Rattle.pg_term.specs.Same.{same_atom}
 use Rattle.pg_group.specs.Functions.{upd}
-use Rattle.pg_machine.specs.Nodes.{Node}
+use Rattle.pg_step.specs.Nodes.{Node}
 use Rattle.pg_node.specs.Replica.{marked}
 
 twice : (b : Bool) (x y : Bool) → cond b true y ≡ cond b true (cond b x y)

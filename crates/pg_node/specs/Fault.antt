@@ -5,8 +5,8 @@ use Rattle.pg_message.specs.Fault.{message_number_of}
 use Rattle.pg_message.specs.declared.fault.MessageFault.TheVariants.{Term, NotAMessage}
 use Rattle.pg_exchange.specs.declared.fault.ExchangeFault.{ExchangeFault}
 use Rattle.pg_exchange.specs.declared.fault.ExchangeFault.TheVariants as exchange
-use Rattle.pg_machine.specs.Refusal.{Refusal}
-use Rattle.pg_machine.specs.Refusal as refusal
+use Rattle.pg_step.specs.declared.refusal.Refusal.{Refusal}
+use Rattle.pg_step.specs.declared.refusal.Refusal.TheVariants as refusal
 use Rattle.pg_node.specs.declared.fault.ServeFault.{ServeFault}
 use Rattle.pg_node.specs.declared.fault.ServeFault.TheVariants.{Message, FrameTooLong, ClockFull, ReadFault, WriteFault}
 
@@ -27,13 +27,16 @@ abbrev pub from_exchange : ExchangeFault → ServeFault
 from_exchange exchange.NotAMessage = Message NotAMessage
 from_exchange exchange.OutOfMemory = out_of_memory
 
--- the fault of a packet that the node's step refuses: it is no message, or the clock is full. A step tells the two others
--- of commands and retries alone
+-- The fault of a packet that the node's step refuses: the clock is full, or it is no message. The other refusals are none of
+-- a packet of a peer whose loss was not seen; they stand here so that each has a fault.
 abbrev pub refused_as : Refusal → ServeFault
 refused_as refusal.ClockFull = ClockFull
 refused_as refusal.NotAMessage = Message NotAMessage
 refused_as refusal.NoSuchPlace = Message NotAMessage
 refused_as refusal.NotWaiting = Message NotAMessage
+refused_as refusal.NodeLost = Message NotAMessage
+refused_as refusal.NotLost = Message NotAMessage
+refused_as refusal.NotDrained = Message NotAMessage
 
 -- a fault is the one that is told, or memory ran out
 abbrev pub Refuses : {A : Type 0} → Result A ServeFault → ServeFault → Type 0

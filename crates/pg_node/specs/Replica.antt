@@ -18,12 +18,12 @@ use Rattle.pg_message.specs.declared.packet.Packet.{Packet}
 use Rattle.pg_message.specs.Reading.{packet_spelled}
 use Rattle.pg_message.specs.Writing.{term_of_packet}
 use Rattle.pg_machine.specs.Clocked.{Timed, Stamped}
-use Rattle.pg_machine.specs.Nodes.{Node, Nodes}
-use Rattle.pg_machine.specs.State as machine
-use Rattle.pg_machine.specs.State.{new_state}
-use Rattle.pg_machine.specs.Turns.{NodeTurn}
-use Rattle.pg_machine.specs.Step.{TimedTurn, at_clock, step_take}
-use Rattle.pg_machine.specs.Refusal.{Refusal}
+use Rattle.pg_step.specs.Nodes.{Node, Nodes}
+use Rattle.pg_step.specs.State as machine
+use Rattle.pg_step.specs.State.{new_state}
+use Rattle.pg_step.specs.Turns.{NodeTurn}
+use Rattle.pg_step.specs.Step.{TimedTurn, at_clock, step_take}
+use Rattle.pg_step.specs.declared.refusal.Refusal.{Refusal}
 use Rattle.pg_node.specs.declared.fault.ServeFault.{ServeFault}
 use Rattle.pg_node.specs.declared.fault.ServeFault.TheVariants as faults
 use Rattle.pg_node.specs.declared.replica.Replica.{Replica}

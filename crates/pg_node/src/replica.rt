@@ -39,8 +39,8 @@ impl<T: GroupTable + Drop> Replica<T> {
     ghost use Rattle.pg_message.specs.Reading.{packet_spelled};
     ghost use Rattle.std.specs.Prelude.{◌⊎◌, true};
     ghost use Rattle.pg_message.specs.declared.fault.MessageFault.TheVariants.{NotAMessage};
-    ghost use Rattle.pg_machine.specs.Peers.{lock_request, update_request, exchange, process_end, is_bad_exchange};
-    ghost use Rattle.pg_machine.specs.Step.{at_clock};
+    ghost use Rattle.pg_step.specs.Peers.{lock_request, update_request, exchange, process_end, is_bad_exchange};
+    ghost use Rattle.pg_step.specs.Step.{at_clock};
     ghost use Rattle.pg_node.specs.declared.fault.ServeFault.TheVariants as faults;
     ghost use Rattle.pg_node.specs.Fault.{out_of_memory, Refuses};
     ghost use Rattle.pg_node.specs.Replica.{start, pair_of, state_of, nodes_of, taken_packet, answered, Turned, Answers};
@@ -139,7 +139,7 @@ impl<T: GroupTable + Drop> Replica<T> {
     {
         let before = out.len();
         let formed = self.formation.formed();
-        let granted = would_grant(&self.locks, formed, name);
+        let granted = self.locks.grants(formed, name);
         write_reply_into(clock, reference, verdict(granted), out)?;
         match self.locks.ask(formed, name, reference) {
             Ok(_) => {
@@ -228,15 +228,7 @@ impl<T: GroupTable + Drop> Replica<T> {
     }
 }
 
-ghost use Rattle.pg_lock.specs.Locks.{locks_of, grants};
-ghost use Rattle.pg_machine.specs.Peers.{verdict};
-
-/// Whether the lock of a name is granted.
-fn would_grant(locks: &LockTable, formed: bool, name: &Term) -> bool
-    ensures { result ≡ grants formed (locks_of locks.now) name.now }
-{
-    formed && locks.holder(name).is_none()
-}
+ghost use Rattle.pg_step.specs.Peers.{verdict};
 
 /// What is said to a request for a lock.
 fn verdict(granted: bool) -> Said

@@ -1,4 +1,4 @@
-use Rattle.pg_history.proofs.Clauses.{changes_held}
+use Rattle.pg_history.proofs.places.Clauses.{changes_held}
 use Rattle.pg_history.proofs.laws.changes_stand_once.Goals as goal
 
 pub returns : goal.returns

@@ -1,4 +1,4 @@
-use Rattle.pg_history.proofs.Living.{living_timed}
+use Rattle.pg_history.proofs.tables.Living.{living_timed}
 use Rattle.pg_history.proofs.laws.ended_are_in_no_group.Goals as goal
 
 pub returns : goal.returns

@@ -1,4 +1,4 @@
-use Rattle.pg_history.proofs.Grows.{timed_goes_on}
+use Rattle.pg_history.proofs.steps.Grows.{timed_goes_on}
 use Rattle.pg_history.proofs.laws.history_grows.Goals as goal
 
 pub returns : goal.returns

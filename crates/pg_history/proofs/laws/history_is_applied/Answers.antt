@@ -1,5 +1,5 @@
 use Rattle.pg_machine.specs.Clocked.{plain}
-use Rattle.pg_history.proofs.Clauses.{bridge, applies}
+use Rattle.pg_history.proofs.places.Clauses.{bridge, applies}
 use Rattle.pg_history.proofs.laws.history_is_applied.Goals as goal
 
 pub returns : goal.returns

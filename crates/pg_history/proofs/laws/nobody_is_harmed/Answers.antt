@@ -1,4 +1,4 @@
-use Rattle.pg_history.proofs.Clauses.{harmless}
+use Rattle.pg_history.proofs.places.Clauses.{harmless}
 use Rattle.pg_history.proofs.laws.nobody_is_harmed.Goals as goal
 
 pub returns : goal.returns

@@ -1,4 +1,4 @@
-use Rattle.pg_history.proofs.Clauses.{one_history, any_events}
+use Rattle.pg_history.proofs.places.Clauses.{one_history, any_events}
 use Rattle.pg_history.proofs.laws.one_history.Goals as goal
 
 pub returns-clause-each_world : goal.returns-clause-each_world

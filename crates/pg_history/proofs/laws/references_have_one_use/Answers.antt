@@ -1,5 +1,5 @@
-use Rattle.pg_history.proofs.SoundRuns.{sound_timed}
-use Rattle.pg_history.proofs.UsedOnce.{follows_timed}
+use Rattle.pg_history.proofs.references.SoundRuns.{sound_timed}
+use Rattle.pg_history.proofs.references.UsedOnce.{follows_timed}
 use Rattle.pg_history.proofs.laws.references_have_one_use.Goals as goal
 
 pub returns-clause-sound : goal.returns-clause-sound

@@ -1,4 +1,4 @@
-use Rattle.pg_history.proofs.Renewed.{step_makes_two, few_references}
+use Rattle.pg_history.proofs.references.Renewed.{step_makes_two, few_references}
 use Rattle.pg_history.proofs.laws.references_within_the_clock.Goals as goal
 
 pub returns-clause-step : goal.returns-clause-step

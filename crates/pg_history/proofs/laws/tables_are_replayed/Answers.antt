@@ -1,4 +1,4 @@
-use Rattle.pg_history.proofs.Clauses.{tables}
+use Rattle.pg_history.proofs.places.Clauses.{tables}
 use Rattle.pg_history.proofs.laws.tables_are_replayed.Goals as goal
 
 pub returns : goal.returns

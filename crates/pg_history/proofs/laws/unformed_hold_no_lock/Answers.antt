@@ -1,4 +1,4 @@
-use Rattle.pg_history.proofs.Unlocked.{unlocked_timed}
+use Rattle.pg_history.proofs.places.Unlocked.{unlocked_timed}
 use Rattle.pg_history.proofs.laws.unformed_hold_no_lock.Goals as goal
 
 pub returns : goal.returns

@@ -1,4 +1,4 @@
-use Rattle.pg_history.proofs.Made.{sends_no_exchange, sends_own_ends}
+use Rattle.pg_history.proofs.steps.Made.{sends_no_exchange, sends_own_ends}
 use Rattle.pg_history.proofs.laws.what_is_sent.Goals as goal
 
 pub returns-clause-exchanges : goal.returns-clause-exchanges

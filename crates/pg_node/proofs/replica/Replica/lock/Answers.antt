@@ -1,10 +1,10 @@
 use Rattle.std.proofs.Common.{ap, ◌∙◌, sym, ◌++◌, Bool}
-use Rattle.pg_lock.specs.Locks.{Locks, locks_of, grants, answered}
+use Rattle.pg_lock.specs.Locks.{Locks, locks_of, grants, after_ask}
 use Rattle.pg_term_io.specs.Writing.{written}
 use Rattle.pg_message.specs.Writing.{term_of_packet, framed}
 use Rattle.pg_message.specs.declared.message.Said.{Said}
 use Rattle.pg_message.specs.declared.message.Message.TheVariants.{Reply}
-use Rattle.pg_machine.specs.Peers.{verdict, would_grant}
+use Rattle.pg_step.specs.Peers.{verdict, would_grant}
 use Rattle.pg_node.specs.Replica.{pair_of, nodes_of, state_of}
 use Rattle.pg_node.proofs.Taken.{one_sent, formed_is}
 use Rattle.pg_node.proofs.replica.Replica.lock.Goals as goal
@@ -15,8 +15,8 @@ returns-in-Ok-clause-ok g c =
     let locks = locks_of old.locks in
     let formed = c.formed-formed.ensures ∙ formed_is old.peer old.formation old.one_peer in
     let here = ap (λ (b : Bool). grants b locks c.args.name.now) formed in
-    let after = c.in-Ok.ensures.after ∙ ap (λ (b : Bool). answered b locks c.args.name.now c.args.reference.now) (c.in-Ok.ensures.granted ∙ here) in
-    let said = c.verdict.ensures ∙ ap verdict (c.would_grant-granted.ensures ∙ here) in
+    let after = c.in-Ok.ensures.after ∙ ap (λ (b : Bool). after_ask b locks c.args.name.now c.args.reference.now) (c.in-Ok.ensures.granted ∙ here) in
+    let said = c.verdict.ensures ∙ ap verdict (c.grants-granted.ensures ∙ here) in
     record {
       state = ap (λ (held : Locks). record (state_of old) { clock = c.args.clock; state = record (state_of old).state { locks = held } }) after;
       output = c.in_ok-write_reply_into.ensures.ok

@@ -1,0 +1,5 @@
+use Rattle.pg_examples.proofs.Refused.{busy_node as shown}
+use Rattle.pg_examples.proofs.commands.busy_node.Goals as goal
+
+pub returns : goal.returns
+returns c = shown

@@ -1,0 +1,5 @@
+pub mod Examples
+pub mod LossExamples
+pub mod Outcomes
+pub mod QueriesRead
+pub mod RefusedCommands

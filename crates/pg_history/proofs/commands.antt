@@ -1,0 +1,12 @@
+pub mod Answered
+pub mod AnsweredRuns
+pub mod Asked
+pub mod AskedRuns
+pub mod AtOnce
+pub mod CountRuns
+pub mod Counting
+pub mod Ports
+pub mod Stand
+pub mod StandRuns
+pub mod StandTurns
+pub mod Steady

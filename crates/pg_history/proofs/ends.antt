@@ -1,0 +1,4 @@
+pub mod Apart
+pub mod Homes
+pub mod Posts
+pub mod Talk

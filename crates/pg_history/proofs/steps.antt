@@ -1,0 +1,6 @@
+pub mod Grows
+pub mod Lasting
+pub mod Lossless
+pub mod Made
+pub mod Single
+pub mod Ways

@@ -1,0 +1,160 @@
+-- What the laws need of single turns, of the turns of Copies.antt.
+use Rattle.std.proofs.Common.{◌≡◌, ℕ, Bool, true, false, cond, length, List, [], ◌∷◌, Option, Some, None, refl, ap, ◌∙◌, inl, inr, arith}
+use Rattle.std.specs.Prelude.{max}
+use Rattle.std.specs.List.{IsDistinct}
+use Rattle.std.proofs.Math.Path.{fun_ext}
+use Rattle.pg_term.specs.declared.pid.Pid.{Pid}
+use Rattle.pg_term.specs.declared.term.Term.{Term}
+use Rattle.pg_term.specs.RefParts.{RefParts}
+use Rattle.pg_term.specs.Same.{same_atom, same_term}
+use Rattle.pg_refs.specs.Numbered.{numbered}
+use Rattle.pg_group.specs.declared.update.Update.{Update}
+use Rattle.pg_group.specs.Functions.{upd}
+use Rattle.pg_group.specs.Value.{Counts, Value, less, listed, merge}
+use Rattle.pg_group.specs.Table.{Table, merged}
+use Rattle.pg_lock.specs.Locks.{Locks, after_ask}
+use Rattle.pg_exchange.specs.GroupList.{GroupList, all_merged}
+use Rattle.pg_message.specs.declared.message.Message.{Message}
+use Rattle.pg_message.specs.declared.message.Message.TheVariants.{Call}
+use Rattle.pg_message.specs.declared.message.Request.TheVariants.{SetLock}
+use Rattle.pg_step.specs.declared.command.OpId.{OpId}
+use Rattle.pg_machine.specs.Places.{is_pair}
+use Rattle.pg_step.specs.Nodes.{Node, Nodes}
+use Rattle.pg_step.specs.State.{State, Status, formed}
+use Rattle.pg_step.specs.State.Status.{Yes}
+use Rattle.pg_step.specs.State.Use.{Locking, Updating}
+use Rattle.pg_step.specs.State.Stage.{Waiting}
+use Rattle.pg_step.specs.Turns.{NodeTurn, becomes, and_then}
+use Rattle.pg_step.specs.Attempts.{is_yes, none_missing, begin, finish, give_up, replies_in}
+use Rattle.pg_step.specs.Config.{Config, names_of, name_at, groups_at}
+use Rattle.pg_history.specs.Sound.{Sound}
+use Rattle.pg_history.proofs.locks.Named.{World, perform, popped}
+use Rattle.pg_history.proofs.locks.Kept.{Inv, live, near}
+use Rattle.pg_history.proofs.locks.Telling.{remade}
+use Rattle.pg_history.proofs.locks.Seats.{Sits, seated, every_near}
+use Rattle.pg_history.proofs.locks.Fails.{yes_is}
+use Rattle.pg_history.proofs.locks.Begins.{begin_keeps}
+use Rattle.pg_history.proofs.locks.Finishes.{finish_keeps}
+use Rattle.pg_history.proofs.locks.Chains.{chain, still_keeps, fails, replies_applied, replies_began, replies_in_keeps}
+use Rattle.pg_history.proofs.locks.Takes.{lend, lend_keeps}
+use Rattle.pg_history.proofs.places.Unlocked.{NoneHeld, Unlocked}
+use Rattle.pg_history.proofs.tables.Living.{Lives, changed_living}
+use Rattle.pg_history.proofs.tables.Applied.{Tables, Applying}
+use Rattle.pg_history.proofs.tables.Tabled.{TableIs, exchange_step}
+use Rattle.pg_history.proofs.references.SoundTurns.{attempted_at, begun_at}
+use Rattle.pg_history.proofs.tried.Copies.{copied_grants, copied_would_grant, copied_lock_request, copied_update_request, copied_greater, copied_merge, copied_all_merged, copied_exchange, copied_new_attempt, copied_begin, copied_all_replied, copied_replies_in, copied_all_granted, copied_locks_in}
+
+-- ---- a lock is asked for
+
+-- what is granted was free
+granted_free : (full : Bool) (holder : Option RefParts) (name : Term) → copied_grants full (λ n. holder) name ≡ true → holder ≡ None
+granted_free full None name e = refl
+granted_free true (Some r) name e = absurd (cc)
+granted_free false (Some r) name e = absurd (cc)
+
+-- and an unformed node grants nothing
+unformed_denies : (holder : Option RefParts) (name : Term) → copied_grants false (λ n. holder) name ≡ false
+unformed_denies None name = refl
+unformed_denies (Some r) name = refl
+
+-- so the lock protocol goes on
+pub request_keeps : (w : World) (a p : Node) (m : Nodes) (c : ℕ) (N : Term) (rest : List Message) → Inv w → near w p a → w.wire p a ≡ Call (numbered p c) (SetLock N) ∷ rest
+    → Inv (perform (popped w p a rest) a (copied_lock_request m p (numbered p c) N (w.node a)))
+unfolding lend
+request_keeps w a p m c N rest = lend_keeps w a p (copied_would_grant m (w.node a) N) c N rest (granted_free (formed m (w.node a)) ((w.node a).locks N) N)
+
+denied_none : (b : Bool) (locks : Locks) (name : Term) (r : RefParts) → b ≡ false → NoneHeld locks → NoneHeld (after_ask b locks name r)
+denied_none false locks name r e none = none
+denied_none true locks name r e none = absurd (cc)
+
+-- and an unformed node holds no lock
+pub request_unlocked : (m : Nodes) (p : Node) (r : RefParts) (name : Term) (s : State) → Unlocked m s → Unlocked m ((copied_lock_request m p r name s).state)
+request_unlocked m p r name s free unformed = denied_none (copied_would_grant m s name) s.locks name r
+    (ap (λ b. copied_grants b s.locks name) unformed ∙ unformed_denies (s.locks name) name) (free unformed)
+
+-- ---- an update is told
+
+-- what is answered was applied, and the table is changed by it
+pub update_applied : (p : Node) (r : RefParts) (u : Update) (s : State) → (copied_update_request p r u s).reported.applied ≡ Some u
+update_applied p r u s = refl
+
+pub update_tabled : (p : Node) (r : RefParts) (u : Update) (s : State) → Tables s (copied_update_request p r u s)
+update_tabled p r u s = Applying refl refl refl
+
+-- who has ended is in no group
+pub update_lives : (p : Node) (r : RefParts) (u : Update) (s : State) → Lives s → Lives ((copied_update_request p r u s).state)
+update_lives p r u s = changed_living s.table s.ended u
+
+pub begin_lives : (m : Nodes) (c : ℕ) (op : OpId) (u : Update) (s : State) → Lives s → Lives ((copied_begin m c op u s).state)
+begin_lives m c op u s = changed_living s.table s.ended u
+
+-- ---- an exchange
+
+greatest_count : (f g : Counts) (pid : Pid) → copied_greater f g pid ≡ max (f pid) (g pid)
+greatest_count f g pid = omega arith
+
+merges : (v x : Value) → copied_merge v x ≡ merge v x
+merges None x = refl
+merges (Some f) None = refl
+merges (Some f) (Some g) = ap Some (fun_ext (greatest_count f g))
+
+merges_all : (table : Table) (groups : GroupList) (ended : Pid → Bool) → copied_all_merged table groups ended ≡ all_merged table groups ended
+merges_all table [] ended = refl
+merges_all table (group ∷ groups) ended =
+    ap (λ v. copied_all_merged (upd same_term table group.0 v) groups ended) (merges (table group.0) (less (listed group.1) ended))
+    ∙ merges_all (merged table group.0 group.1 ended) groups ended
+
+-- a group is what the node knows, less the ends it took
+pub exchange_tabled : (config : Config) → IsDistinct same_atom (names_of config) → (i p : ℕ) → is_pair (length config) i p ≡ true → (s : State) → s.merged (name_at config p) ≡ false → (name : Term)
+    → TableIs config i name s [] → TableIs config i name ((copied_exchange (name_at config p) (groups_at config p) s).state) []
+exchange_tabled config apart i p pair s new name is =
+    ap (λ (f : Table). f name) (merges_all s.table (groups_at config p) s.ended) ∙ exchange_step config apart i p pair s new name is
+
+-- ---- an attempt
+
+-- a reference is new
+pub attempt_sound : (m : Nodes) (s : State) → Sound s → (lead : Node) (op : OpId) (u : Update) → s.stages op ≡ Waiting u → Sound ((copied_new_attempt lead op u s).state)
+attempt_sound m s sound = attempted_at s sound _ _ (omega arith) (omega arith)
+
+pub begin_sound : (m : Nodes) (s : State) → Sound s → (c : ℕ) (op : OpId) (u : Update) (lead : Node) (st : Node → Status) → s.uses c ≡ Locking op u lead st → Sound ((copied_begin m c op u s).state)
+begin_sound m s sound c op u = begun_at s sound m _ _ _ (omega arith) (omega arith) c op u
+
+module _ (w : World) (a : Node) (peers : List Node) (sits : Sits w.nodes a peers) (la : live w a) (inv : Inv w) where
+  abbrev m : Nodes
+  m = seated a peers
+
+  abbrev s : State
+  s = w.node a
+
+  -- where all have replied, each has that is near
+  all_replied : (replied : Node → Bool) → copied_all_replied m replied ≡ true → (p : Node) → near w a p → replied p ≡ true
+  all_replied replied e = every_near w.nodes a peers sits replied e
+
+  -- so a command ends where all have replied
+  pub replies_keep : (n : ℕ) (op : OpId) (u : Update) (c : ℕ) (replied : Node → Bool) → s.uses n ≡ Updating op u c replied
+      → Inv (perform w a (copied_replies_in (seated a peers) n (Updating op u c replied) (w.node a)))
+  replies_keep n op u c replied is = go (copied_all_replied m replied) (all_replied replied)
+    where
+      go : (b : Bool) → (b ≡ true → (p : Node) → near w a p → replied p ≡ true) → Inv (perform w a (cond b (finish m n op u c s) (becomes s)))
+      go false all = still_keeps w a inv
+      go true all = finish_keeps w a peers sits n op u c replied la is (all refl) inv
+
+  all_yes : (st : Node → Status) → copied_all_granted m st ≡ true → (p : Node) → near w a p → st p ≡ Yes
+  all_yes st e p d = yes_is (st p) (every_near w.nodes a peers sits (λ q. is_yes (st q)) e p d)
+
+  -- and an update begins where all have granted
+  pub locks_keep : (c : ℕ) (op : OpId) (u : Update) (lead : Node) (st : Node → Status) → s.uses c ≡ Locking op u lead st
+      → Inv (perform w a (copied_locks_in (seated a peers) c (Locking op u lead st) (w.node a)))
+  locks_keep c op u lead st is = go (copied_all_granted m st) (all_yes st)
+    where
+      more : State → NodeTurn
+      more = λ t. replies_in m t.references (t.uses t.references) t
+
+      go : (b : Bool) → (b ≡ true → (p : Node) → near w a p → st p ≡ Yes)
+          → Inv (perform w a (cond b (and_then (begin m c op u s) more) (cond (none_missing m st) (give_up m c op u st s) (becomes s))))
+      go true all = chain w a (begin m c op u s) more
+          (let t = (begin m c op u s).state in
+          record { applied = inr (replies_applied m t.references t (t.uses t.references)); began = inr (replies_began m t.references t (t.uses t.references)); answered = inl refl })
+          (begin_keeps w a peers sits c op u lead st la is (all refl) inv)
+          (λ x y l h z d k i. replies_in_keeps (remade w x y l h z) a peers sits la i (x a).references ((x a).uses (x a).references) refl)
+      go false all = fails w a peers sits la inv c op u lead st is (none_missing m st) refl

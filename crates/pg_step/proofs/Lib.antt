@@ -1,0 +1,9 @@
+pub mod Judging
+pub mod Lost
+pub mod Once
+pub mod Peering
+pub mod Peers
+pub mod Queries
+pub mod Refusals
+pub mod Rounds
+pub mod Unnoticed

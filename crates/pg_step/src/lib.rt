@@ -1,0 +1,26 @@
+//! The step of a node, as definitions: what it keeps, and what it makes of a packet, a command, a retry and a loss; the
+//! machine of a configuration of such nodes; and laws of one step.
+#![tactic(auto)]
+
+mod answer;
+mod command;
+mod command_fault;
+mod losses;
+mod refusal;
+mod served;
+mod start;
+mod step_laws;
+
+pub use answer::{Answer, Odd, Reply};
+pub use command::{Command, OpId};
+pub use command_fault::CommandFault;
+pub use losses::{
+    losing_nodes_keep_time, losses_are_seen, losses_refused_in_order, without_losses,
+};
+pub use refusal::Refusal;
+pub use served::peers_are_served;
+pub use start::Start;
+pub use step_laws::{
+    looks_answer_at_once, nodes_keep_time, one_packet_each, queries_read_the_table,
+    refusals_in_order, replies_are_gathered, rounds_are_followed, step_is_clocked,
+};
