@@ -24,7 +24,7 @@ use Rattle.pg_examples.specs.Examples.{start, behind, AllHappen, a, b, a1, op_at
 use Rattle.pg_step.specs.Attempts.{count_answer, give_up}
 use Rattle.pg_step.specs.Commands.{answer, look}
 use Rattle.pg_machine.proofs.Sequences.{run_there}
-use Rattle.pg_examples.proofs.Trace.{Move, AllMake, walked, walk, part, both, held_at, changed_at, look_delete, all_of_group, answers_lock, asked, frees, freed, asks_peer, attempt_as, asks_own, attempt_own, asks_rest, asks_rest_as, round_one, round_two, named_as, looked, begins, finishes, comes_in, opens}
+use Rattle.pg_examples.proofs.Trace.{Move, AllMake, walked, walk, and_more, held_at, changed_at, look_delete, all_of_group, answers_lock, asked, frees, freed, asks_peer, attempt_as, asks_own, attempt_own, asks_rest, asks_rest_as, round_one, round_two, named_as, looked, begins, finishes, comes_in, opens}
 use Rattle.pg_examples.proofs.Listed.{read_none}
 use Rattle.pg_examples.specs.Outcomes.{DeleteBetween}
 
@@ -204,7 +204,7 @@ module _ (g : Term) (named : is_name g ≡ true) (same : same_term g g ≡ true)
   ))
 
   made : AllMake two_nodes (start two_nodes) moves
-  made = both two_nodes 13 moves (start two_nodes) made_1 made_2
+  made = and_more two_nodes (take 13 moves) (drop 13 moves) (start two_nodes) made_1 made_2
 
   leads0 : Leads (machine_of two_nodes) (at 0) (deleted_between g) (at 25)
   leads0 = walk two_nodes moves (start two_nodes) refl made

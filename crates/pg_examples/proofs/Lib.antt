@@ -19,5 +19,6 @@ pub mod QueriesShown
 pub mod ReadyByLoss
 pub mod Refused
 pub mod SingleNode
+pub mod ThreeMeet
 pub mod Trace
 pub mod TwoCreators

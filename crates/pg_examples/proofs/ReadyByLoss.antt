@@ -1,243 +1,112 @@
 -- A retry goes on once the greatest, which was asked alone, is lost.
-use Rattle.std.proofs.Common.{◌≡◌, true, false, Some, None, Ok, refl, ap}
+use Rattle.std.proofs.Common.{◌≡◌, ℕ, take, true, false, List, [], ◌∷◌, ◌++◌, Some, None, Ok, refl, ap}
 use Rattle.std.specs.Prelude.{is_some}
 use Rattle.pg_group.specs.Functions.{upd}
-use Rattle.pg_group.specs.Table.{applied}
 use Rattle.pg_lock.specs.Locks.{is_holder, is_free}
 use Rattle.pg_term.specs.declared.term.Term.{Term}
 use Rattle.pg_term.specs.Same.{same_term, same_atom}
 use Rattle.pg_message.specs.Name.{is_name}
-use Rattle.pg_group.specs.declared.update.Update.{Update}
-use Rattle.pg_group.specs.declared.update.Update.TheVariants as update
 use Rattle.pg_refs.specs.Numbered.{numbered}
 use Rattle.pg_machine.specs.Machine.{Take, Do}
-use Rattle.pg_step.specs.declared.command.Command.TheVariants as command
-use Rattle.pg_step.specs.Config.{nodes_at, groups_at}
-use Rattle.pg_step.specs.FrameMachine.{losing_machine_of}
 use Rattle.pg_step.specs.Nodes.{Node, Nodes}
 use Rattle.pg_step.specs.State.{Status, left}
 use Rattle.pg_step.specs.State.Status.{Unasked, Yes}
-use Rattle.pg_step.specs.Step.{Issue, Retry}
-use Rattle.pg_step.specs.Turns.{NodeTurn, becomes, and_then}
+use Rattle.pg_step.specs.Step.{Retry}
+use Rattle.pg_step.specs.Turns.{becomes, and_then}
 use Rattle.pg_step.specs.Attempts.{count_answer, locks_in}
-use Rattle.pg_step.specs.Peers.{exchange, update_request}
-use Rattle.pg_step.specs.Losses.{see_loss}
-use Rattle.pg_machine.specs.Losing.{Step, Lose, losing_happens}
+use Rattle.pg_step.specs.Peers.{update_request}
 use Rattle.pg_examples.specs.Examples.{a, b, c, op_at, three_nodes, lock_ref}
-use Rattle.pg_examples.specs.LossExamples.{LosingFrameWorld, the_last, losing_start, ReadyByLoss}
-use Rattle.pg_examples.proofs.Trace.{held_at, changed_at, answers_lock, asked, ask_as, frees, freed, asks_peer, round_one, round_two, named_as, begins, finishes, opens, all}
-use Rattle.pg_examples.proofs.LossTrace.{stepped, without, takes, sees_it, acts, loses}
+use Rattle.pg_examples.specs.LossExamples.{LosingFrameWorld, losing_start, ReadyByLoss}
+use Rattle.pg_examples.proofs.Trace.{held_at, changed_at, answers_lock, asked, ask_as, frees, freed, round_one, round_two, begins, finishes, all}
+use Rattle.pg_examples.proofs.LossTrace.{Move, Makes, Sees, Loses, AllMade, walked, and_more, walk}
+use Rattle.pg_examples.proofs.ThreeMeet.{at_a, at_b, creates, beginning, begun, they_begin}
 
 module _ (g : Term) (named : is_name g ≡ true) (same : same_term g g ≡ true) where
-  abbrev creates : Update
-  creates = update.Create g
+  -- c is lost, and a sees it
+  abbrev lost : List Move
+  lost = Loses 2 (λ y. 0) ∷ Sees 0 2 ∷ []
 
-  abbrev at_a : Nodes
-  at_a = nodes_at three_nodes 0
-
-  abbrev at_b : Nodes
-  at_b = nodes_at three_nodes 1
-
-  abbrev at_c : Nodes
-  at_c = nodes_at three_nodes 2
-
-  abbrev world_0 : LosingFrameWorld
-  world_0 = losing_start three_nodes
-
-  -- b takes the exchange of a
-  abbrev turn_1 : NodeTurn
-  turn_1 = exchange a (groups_at three_nodes 0) (world_0.world.node 1)
-
-  abbrev world_1 : LosingFrameWorld
-  world_1 = stepped three_nodes world_0 (Take 1 0) turn_1
-
-  step_1 : losing_happens (losing_machine_of three_nodes) the_last world_0 (Step (Take 1 0)) ≡ Some world_1
-  unfolding upd
-  step_1 = takes three_nodes world_0 1 0 turn_1 _ _ refl refl refl (refl)
-
-  -- c takes the exchange of a
-  abbrev turn_2 : NodeTurn
-  turn_2 = exchange a (groups_at three_nodes 0) (world_1.world.node 2)
-
-  abbrev world_2 : LosingFrameWorld
-  world_2 = stepped three_nodes world_1 (Take 2 0) turn_2
-
-  step_2 : losing_happens (losing_machine_of three_nodes) the_last world_1 (Step (Take 2 0)) ≡ Some world_2
-  unfolding upd
-  step_2 = takes three_nodes world_1 2 0 turn_2 _ _ refl refl refl (refl)
-
-  -- a takes the exchange of b
-  abbrev turn_3 : NodeTurn
-  turn_3 = exchange b (groups_at three_nodes 1) (world_2.world.node 0)
-
-  abbrev world_3 : LosingFrameWorld
-  world_3 = stepped three_nodes world_2 (Take 0 1) turn_3
-
-  step_3 : losing_happens (losing_machine_of three_nodes) the_last world_2 (Step (Take 0 1)) ≡ Some world_3
-  unfolding upd
-  step_3 = takes three_nodes world_2 0 1 turn_3 _ _ refl refl refl (refl)
-
-  -- c takes the exchange of b
-  abbrev turn_4 : NodeTurn
-  turn_4 = exchange b (groups_at three_nodes 1) (world_3.world.node 2)
-
-  abbrev world_4 : LosingFrameWorld
-  world_4 = stepped three_nodes world_3 (Take 2 1) turn_4
-
-  step_4 : losing_happens (losing_machine_of three_nodes) the_last world_3 (Step (Take 2 1)) ≡ Some world_4
-  unfolding upd
-  step_4 = takes three_nodes world_3 2 1 turn_4 _ _ refl refl refl (refl)
-
-  -- a takes the exchange of c
-  abbrev turn_5 : NodeTurn
-  turn_5 = exchange c (groups_at three_nodes 2) (world_4.world.node 0)
-
-  abbrev world_5 : LosingFrameWorld
-  world_5 = stepped three_nodes world_4 (Take 0 2) turn_5
-
-  step_5 : losing_happens (losing_machine_of three_nodes) the_last world_4 (Step (Take 0 2)) ≡ Some world_5
-  unfolding upd
-  step_5 = takes three_nodes world_4 0 2 turn_5 _ _ refl refl refl (refl)
-
-  -- b takes the exchange of c
-  abbrev turn_6 : NodeTurn
-  turn_6 = exchange c (groups_at three_nodes 2) (world_5.world.node 1)
-
-  abbrev world_6 : LosingFrameWorld
-  world_6 = stepped three_nodes world_5 (Take 1 2) turn_6
-
-  step_6 : losing_happens (losing_machine_of three_nodes) the_last world_5 (Step (Take 1 2)) ≡ Some world_6
-  unfolding upd
-  step_6 = takes three_nodes world_5 1 2 turn_6 _ _ refl refl refl (refl)
-
-  -- a create comes in at a, and asks the greatest
-  abbrev turn_7 : NodeTurn
-  turn_7 = opens (op_at 1) creates (asks_peer true at_a (op_at 1) creates 1) (world_6.world.node 0)
-
-  abbrev world_7 : LosingFrameWorld
-  world_7 = stepped three_nodes world_6 (Do 0 (Issue 0 (command.Create g))) turn_7
-
-  step_7 : losing_happens (losing_machine_of three_nodes) the_last world_6 (Step (Do 0 (Issue 0 (command.Create g)))) ≡ Some world_7
-  unfolding upd
-  step_7 = acts three_nodes world_6 0 (Issue 0 (command.Create g)) turn_7 refl refl (ap (λ yes. named_as yes at_a (op_at 1) (command.Create g) (world_6.world.node 0)) named)
-
-  -- c is lost
-  abbrev world_8 : LosingFrameWorld
-  world_8 = without three_nodes world_7 2 (λ y. 0)
-
-  step_8 : losing_happens (losing_machine_of three_nodes) the_last world_7 (Lose 2 (λ y. 0)) ≡ Some world_8
-  unfolding upd
-  step_8 = loses three_nodes world_7 2 (λ y. 0) refl
-
-  -- a sees the loss of c
-  abbrev world_9 : LosingFrameWorld
-  world_9 = stepped three_nodes world_8 (Take 0 2) (see_loss c (world_8.world.node 0))
-
-  step_9 : losing_happens (losing_machine_of three_nodes) the_last world_8 (Step (Take 0 2)) ≡ Some world_9
-  unfolding upd
-  step_9 = sees_it three_nodes world_8 0 2 _ refl refl refl refl
+  abbrev seen : LosingFrameWorld
+  seen = walked three_nodes (losing_start three_nodes) (beginning g ++ lost)
 
   abbrev left_a : Nodes
-  left_a = left at_a (world_9.world.node 0)
+  left_a = left at_a (seen.world.node 0)
 
   abbrev forgotten : Node → Status
   forgotten = upd same_atom (round_one true at_a) c Unasked
 
-  -- the retry goes on: a asks the rest, itself among them
-  abbrev turn_10 : NodeTurn
-  turn_10 = and_then (ask_as true left_a all 1 (op_at 1) creates c forgotten (world_9.world.node 0)) becomes
-
-  abbrev world_10 : LosingFrameWorld
-  world_10 = stepped three_nodes world_9 (Do 0 (Retry (op_at 1))) turn_10
-
-  step_10 : losing_happens (losing_machine_of three_nodes) the_last world_9 (Step (Do 0 (Retry (op_at 1)))) ≡ Some world_10
-  unfolding upd
-  step_10 = acts three_nodes world_9 0 (Retry (op_at 1)) turn_10 refl refl (refl)
-
-  -- b sees the loss of c
-  abbrev world_11 : LosingFrameWorld
-  world_11 = stepped three_nodes world_10 (Take 1 2) (see_loss c (world_10.world.node 1))
-
-  step_11 : losing_happens (losing_machine_of three_nodes) the_last world_10 (Step (Take 1 2)) ≡ Some world_11
-  unfolding upd
-  step_11 = sees_it three_nodes world_10 1 2 _ refl refl refl refl
-
-  abbrev left_b : Nodes
-  left_b = left at_b (world_11.world.node 1)
-
   abbrev waits_for_b : Node → Status
   waits_for_b = round_two true left_a forgotten
 
-  -- b grants a
-  abbrev turn_12 : NodeTurn
-  turn_12 = answers_lock true a lock_ref g (world_11.world.node 1)
+  -- the retry goes on: a asks the rest, itself among them
+  abbrev retried : List Move
+  retried = Makes (Do 0 (Retry (op_at 1))) (λ s. and_then (ask_as true left_a all 1 (op_at 1) (creates g) c forgotten s) becomes) ∷ []
 
-  abbrev world_12 : LosingFrameWorld
-  world_12 = stepped three_nodes world_11 (Take 1 0) turn_12
+  abbrev tried : LosingFrameWorld
+  tried = walked three_nodes seen retried
 
-  step_12 : losing_happens (losing_machine_of three_nodes) the_last world_11 (Step (Take 1 0)) ≡ Some world_12
+  abbrev left_b : Nodes
+  left_b = left at_b ((walked three_nodes tried (Sees 1 2 ∷ [])).world.node 1)
+
+  abbrev rest : List Move
+  rest =
+      -- b sees the loss of c
+      Sees 1 2
+      -- b grants a
+      ∷ Makes (Take 1 0) (answers_lock true a lock_ref g)
+      -- b grants: a begins its update
+      ∷ Makes (Take 0 1) (λ s. and_then (count_answer 1 (op_at 1) (creates g) c waits_for_b b Yes s) (λ t.
+          and_then (ask_as false left_a all 1 (op_at 1) (creates g) c (upd same_atom waits_for_b b Yes) t) (begins left_a (op_at 1) (creates g) 1)))
+      -- b applies the update
+      ∷ Makes (Take 1 0) (update_request a (numbered a 2) (creates g))
+      -- b has applied it: the create ends
+      ∷ Makes (Take 0 1) (finishes true left_a (op_at 1) (creates g) 1 2 (same_atom a) b)
+      -- b frees the lock
+      ∷ Makes (Take 1 0) (frees true g)
+      ∷ []
+
+  -- the world after so many of them
+  abbrev at : ℕ → LosingFrameWorld
+  at n = walked three_nodes tried (take n rest)
+
+  first_made : AllMade three_nodes (losing_start three_nodes) (beginning g ++ lost)
+  first_made = and_more three_nodes (beginning g) lost (losing_start three_nodes) (they_begin g named) (tt, (tt, tt))
+
+  retry_made : AllMade three_nodes seen retried
   unfolding upd
-  step_12 = takes three_nodes world_11 1 0 turn_12 _ _ refl refl refl (asked left_b a lock_ref g (world_11.world.node 1) true refl)
+  retry_made = (refl, tt)
 
-  -- b grants: a begins its update
-  abbrev turn_13 : NodeTurn
-  turn_13 = and_then (count_answer 1 (op_at 1) creates c waits_for_b b Yes (world_12.world.node 0)) (λ t. and_then (ask_as false left_a all 1 (op_at 1) creates c (upd same_atom waits_for_b b Yes) t) (begins left_a (op_at 1) creates 1))
-
-  abbrev world_13 : LosingFrameWorld
-  world_13 = stepped three_nodes world_12 (Take 0 1) turn_13
-
-  step_13 : losing_happens (losing_machine_of three_nodes) the_last world_12 (Step (Take 0 1)) ≡ Some world_13
+  rest_made : AllMade three_nodes tried rest
   unfolding upd
-  step_13 = takes three_nodes world_12 0 1 turn_13 _ _ refl refl refl (ap (λ yes. Ok (and_then (count_answer 1 (op_at 1) creates c waits_for_b b Yes (world_12.world.node 0)) (λ t. and_then (ask_as yes left_a all 1 (op_at 1) creates c (upd same_atom waits_for_b b Yes) t) (λ v. locks_in left_a 1 (v.uses 1) v)))) (ap is_free (held_at _ g (Some lock_ref) same)))
-
-  -- b applies the update
-  abbrev turn_14 : NodeTurn
-  turn_14 = update_request a (numbered a 2) creates (world_13.world.node 1)
-
-  abbrev world_14 : LosingFrameWorld
-  world_14 = stepped three_nodes world_13 (Take 1 0) turn_14
-
-  step_14 : losing_happens (losing_machine_of three_nodes) the_last world_13 (Step (Take 1 0)) ≡ Some world_14
-  unfolding upd
-  step_14 = takes three_nodes world_13 1 0 turn_14 _ _ refl refl refl (refl)
-
-  at_b_g : (world_14.world.node 1).table g ≡ applied None creates (world_13.world.node 1).ended
-  unfolding upd
-  at_b_g = changed_at (world_13.world.node 1).table creates (world_13.world.node 1).ended None same refl
-
-  -- b has applied it: the create ends
-  abbrev turn_15 : NodeTurn
-  turn_15 = finishes true left_a (op_at 1) creates 1 2 (same_atom a) b (world_14.world.node 0)
-
-  abbrev world_15 : LosingFrameWorld
-  world_15 = stepped three_nodes world_14 (Take 0 1) turn_15
-
-  step_15 : losing_happens (losing_machine_of three_nodes) the_last world_14 (Step (Take 0 1)) ≡ Some world_15
-  unfolding upd
-  step_15 = takes three_nodes world_14 0 1 turn_15 _ _ refl refl refl (ap (λ yes. Ok (finishes yes left_a (op_at 1) creates 1 2 (same_atom a) b (world_14.world.node 0))) (ap (λ x. is_holder x lock_ref) (held_at _ g (Some lock_ref) same)))
-
-  -- b frees the lock
-  abbrev turn_16 : NodeTurn
-  turn_16 = frees true g (world_15.world.node 1)
-
-  abbrev world_16 : LosingFrameWorld
-  world_16 = stepped three_nodes world_15 (Take 1 0) turn_16
-
-  step_16 : losing_happens (losing_machine_of three_nodes) the_last world_15 (Step (Take 1 0)) ≡ Some world_16
-  unfolding upd
-  step_16 = takes three_nodes world_15 1 0 turn_16 _ _ refl refl refl (freed left_b a lock_ref g (world_15.world.node 1) true (ap (λ x. is_holder x lock_ref) (held_at _ g (Some lock_ref) same)))
+  rest_made = (
+    tt,
+    (
+      asked left_b a lock_ref g ((at 1).world.node 1) true refl,
+      (
+        ap (λ yes. Ok (and_then (count_answer 1 (op_at 1) (creates g) c waits_for_b b Yes ((at 2).world.node 0)) (λ t. and_then (ask_as yes left_a all 1 (op_at 1) (creates g) c (upd same_atom waits_for_b b Yes) t) (λ v. locks_in left_a 1 (v.uses 1) v))))
+            (ap is_free (held_at _ g (Some lock_ref) same)),
+        (
+          refl,
+          (
+            ap (λ yes. Ok (finishes yes left_a (op_at 1) (creates g) 1 2 (same_atom a) b ((at 4).world.node 0))) (ap (λ x. is_holder x lock_ref) (held_at _ g (Some lock_ref) same)),
+            (freed left_b a lock_ref g ((at 5).world.node 1) true (ap (λ x. is_holder x lock_ref) (held_at _ g (Some lock_ref) same)), tt),
+          ),
+        ),
+      ),
+    ),
+  )
 
   pub outcome : ReadyByLoss g
   unfolding upd
   outcome = record {
-    seen = world_9;
-    tried = world_10;
-    done = world_16;
-    first = (world_1, step_1, (world_2, step_2, (world_3, step_3, (world_4, step_4, (world_5, step_5, (world_6, step_6, (world_7, step_7, (world_8, step_8, (world_9, step_9, refl)))))))));
-    second = (world_10, step_10, refl);
+    seen = seen;
+    tried = tried;
+    done = at 6;
+    first = walk three_nodes (beginning g ++ lost) (losing_start three_nodes) refl first_made;
+    second = walk three_nodes retried seen refl retry_made;
     none_sent = refl;
     one_sent = refl;
-    third = (world_11, step_11, (world_12, step_12, (world_13, step_13, (world_14, step_14, (world_15, step_15, (world_16, step_16, refl))))));
+    third = walk three_nodes rest tried refl rest_made;
     answers_a = refl;
-    group_b = ap is_some at_b_g;
+    group_b = ap is_some (changed_at ((at 3).world.node 1).table (creates g) ((at 3).world.node 1).ended None same refl);
   }

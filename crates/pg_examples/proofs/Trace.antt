@@ -1,7 +1,7 @@
 -- Events one at a time, each with the turn that it makes. Where a turn looks at a lock, what it finds is given.
 use Rattle.std.specs.Cmp.{first_so, second_so}
 use Rattle.pg_machine.specs.Runs.{Leads}
-use Rattle.std.proofs.Common.{zero, suc, take, drop, map, ◌≡◌, ℕ, Bool, true, false, not, ◌&&◌, cond, List, [], ◌∷◌, Option, Some, None, Result, Ok, Err, refl, ap, sym, subst, ◌∙◌, nat_eq}
+use Rattle.std.proofs.Common.{zero, suc, take, drop, map, ◌≡◌, ℕ, Bool, true, false, not, ◌&&◌, cond, List, [], ◌∷◌, ◌++◌, Option, Some, None, Result, Ok, Err, refl, ap, sym, subst, ◌∙◌, nat_eq}
 use Rattle.std.specs.List.{AllByRecursion}
 use Rattle.std.specs.Prelude.{option_map, option_and_then, ◌-◌}
 use Rattle.pg_term.specs.declared.pid.Pid.{Pid}
@@ -304,8 +304,7 @@ part config zero (suc n) (m ∷ ms) w made = (made.0, part config zero n ms (tur
 part config (suc i) n [] w made = none_left config n w
 part config (suc i) n (m ∷ ms) w made = part config i n ms (turned config w m.0 (turn_in w m)) made.1
 
--- the first of them, and the others behind them
-pub both : (config : Config) (n : ℕ) (ms : List Move) (w : FrameWorld) → AllMake config w (take n ms) → AllMake config (walked config w (take n ms)) (drop n ms) → AllMake config w ms
-both config zero ms w first rest = rest
-both config (suc n) [] w first rest = tt
-both config (suc n) (m ∷ ms) w first rest = (first.0, both config n ms (turned config w m.0 (turn_in w m)) first.1 rest)
+-- moves, and others behind them
+pub and_more : (config : Config) (ms ns : List Move) (w : FrameWorld) → AllMake config w ms → AllMake config (walked config w ms) ns → AllMake config w (ms ++ ns)
+and_more config [] ns w made more = more
+and_more config (m ∷ ms) ns w made more = (made.0, and_more config ms ns (turned config w m.0 (turn_in w m)) made.1 more)

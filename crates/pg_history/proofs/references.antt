@@ -1,7 +1,7 @@
+pub mod Fitting
+pub mod FittingRuns
+pub mod FittingTurns
 pub mod Keys
 pub mod References
 pub mod Renewed
-pub mod SoundRuns
-pub mod SoundTurns
-pub mod Soundly
 pub mod UsedOnce

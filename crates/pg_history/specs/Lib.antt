@@ -3,6 +3,6 @@ pub mod Headline
 pub mod History
 pub mod Lasting
 pub mod Reached
+pub mod ReferencesFit
 pub mod Sent
-pub mod Sound
 pub mod WithLosses

@@ -22,7 +22,7 @@ ghost use Rattle.pg_step.specs.FrameMachine.{node_step, frame_machine, losing_fr
 ghost use Rattle.pg_history.specs.History.{LockFree, is_formed, history, updates_of, applied_count, applied_by};
 ghost use Rattle.pg_history.specs.Headline.{OneHistory, HoldsAnswered, AppliesHistory, HasTables, HarmsNobody, GoesOn};
 ghost use Rattle.pg_history.specs.Reached.{TimedFrameWorld, Reaches, HasEndedAt};
-ghost use Rattle.pg_history.specs.Sound.{Sound, Follows};
+ghost use Rattle.pg_history.specs.ReferencesFit.{ReferencesFit, Follows};
 ghost use Rattle.pg_history.specs.Sent.{ends_in, exchanges_in, is_reply};
 
 /// One history of each group. In every world that the nodes of a configuration with different names come to, whatever is
@@ -165,8 +165,8 @@ pub fn what_is_sent()
 /// which an update goes out is that of the change of its command, for which the lock is held. It has it for good: one that
 /// was used is never used for another command, and one that is spent is of no use any more.
 pub fn references_have_one_use()
-    ensures sound { (config : Config) (w : TimedFrameWorld) (events : List (Event Action)) (i : ℕ)
-        → Reaches config events w → Sound ((plain w).node i) }
+    ensures fitting { (config : Config) (w : TimedFrameWorld) (events : List (Event Action)) (i : ℕ)
+        → Reaches config events w → ReferencesFit ((plain w).node i) }
     ensures later { (config : Config) (w v : TimedFrameWorld) (before events : List (Event Action)) (i c : ℕ)
         → Reaches config before w → Leads (frame_machine config) w events v
         → Follows (((plain w).node i).uses c) (((plain v).node i).uses c) }

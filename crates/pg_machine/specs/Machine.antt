@@ -7,7 +7,7 @@ pub data Input (Packet Command : Type 0) : Type 0 where
   Taken : (peer : ℕ) → Packet → Input Packet Command
   Own : Command → Input Packet Command
 
--- what a node makes of an input, at once: its new state, what it sends to each peer, and what it tells beside
+-- what a node makes of an input, at once: its new state, what it sends to each peer, and what it reports beside
 pub record Turn (State Packet Report : Type 0) : Type 0 where
   pub state : State
   pub sends : ℕ → List Packet
@@ -37,7 +37,7 @@ pub record World (State Packet Report : Type 0) : Type 0 where
   pub node : ℕ → State
   -- the packets on the way, the first to be taken first: `wire x y` from x to y
   pub wire : ℕ → ℕ → List Packet
-  -- what each turn told, and whose turn it was, the earliest first
+  -- what each turn reported, and whose turn it was, the earliest first
   pub reported : List (ℕ × Report)
 
 -- each node in its first state, its opening packets on the way

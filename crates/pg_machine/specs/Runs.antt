@@ -1,4 +1,4 @@
--- Events one after another, and what a world was told by them.
+-- Events one after another, and what was reported of them.
 use Rattle.std.specs.Prelude.{◌≡◌, ℕ, nat_eq, cond, List, [], ◌∷◌, Option, Some, None, unwrap_or}
 use Rattle.pg_machine.specs.Machine.{Machine, Event, World, node_of, happens}
 
@@ -31,7 +31,7 @@ abbrev pub events_of : {C : Type 0} → ℕ → List (Event C) → List (Event C
 events_of i [] = []
 events_of i (e ∷ es) = cond (nat_eq (node_of e) i) (e ∷ events_of i es) (events_of i es)
 
--- what one node told
+-- what one node reported
 abbrev pub reported_by : {O : Type 0} → ℕ → List (ℕ × O) → List O
 reported_by i [] = []
 reported_by i (t ∷ ts) = cond (nat_eq t.0 i) (t.1 ∷ reported_by i ts) (reported_by i ts)

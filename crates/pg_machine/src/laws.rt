@@ -40,7 +40,7 @@ pub fn runs<S, P, C, O>()
         → Leads m w es v → events_of i es ≡ [] → v.node i ≡ w.node i }
 {}
 
-/// Each event of a run tells once, in their order, and so does each of one node's.
+/// Each event of a run reports once, in their order, and so does each of one node's.
 pub fn what_is_reported<S, P, C, O>()
     ensures reported { (m : Machine S P C O) (w v : World S P O) (es : List (Event C)) → Leads m w es v
         → (more : List (ℕ × O)) × (v.reported ≡ w.reported ++ more) × (map (λ t. t.0) more ≡ map node_of es) }

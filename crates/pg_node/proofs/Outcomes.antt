@@ -34,11 +34,11 @@ module _ (pair : Pair) (all rest unread : List ℕ) (s : State) (v w : Option (L
   first_ones : (n : ℕ) × (frames_of p.replies ≡ frames_of (take n (served pair (all ++ rest)).replies))
   first_ones = (length p.replies, ap frames_of (sym (take-append_seam p.replies more.replies) ∙ ap (take (length p.replies)) (sym replies_so_far)))
 
-  -- and a front of all replies
+  -- and a prefix of all replies
   with_more : frames_of p.replies ++ frames_of more.replies ≡ frames_of (served pair (all ++ rest)).replies
   with_more = sym (frames_append p.replies more.replies) ∙ ap frames_of (sym replies_so_far)
 
-  -- the next body is answered, and a front of its replies is written
+  -- the next body is answered, and a prefix of its replies is written
   module _ (body : List ℕ) (answer : Answer) (front : front_of unread ≡ Ok (Some body)) (is : answered pair s body ≡ Ok answer) (part missing : List ℕ) (cut_here : part ++ missing ≡ frames_of answer.sent) where
     abbrev others : List (List ℕ)
     others = (run pair answer.state (bodies_of (behind body (unread ++ rest)))).replies

@@ -124,7 +124,7 @@ module _ (pair : Pair) (unread body : List ℕ) (s : State) (w : Option (List �
   refused FrameTooLong h = (inr (record { body = body; front = front; is = h }), known_kept w)
   refused WriteFault h = inr (known_kept w)
 
--- the next body is answered, and a front of its replies is written
+-- the next body is answered, and a prefix of its replies is written
 pub cut_short : (pair : Pair) (unread body : List ℕ) (s t : State) (v w : Option (List ℕ)) (output part missing : List ℕ) → front_of unread ≡ Ok (Some body) → Answers (answered pair s body) t [] output
     → part ++ missing ≡ output → Appends v w part → StopsAt pair WriteFault unread s v w
 cut_short pair unread body s t v w output part missing front a cut wrote = inl (record {

@@ -22,7 +22,7 @@ pub record Refused (pair : Pair) (fault : ServeFault) (unread : List ℕ) (s : S
   pub front : front_of unread ≡ Ok (Some body)
   pub is : answered pair s body ≡ Err fault
 
--- the next body is answered, and a front of its replies is written
+-- the next body is answered, and a prefix of its replies is written
 pub record CutShort (pair : Pair) (unread : List ℕ) (s : State) (out0 out1 : Option (List ℕ)) : Type 0 where
   pub body : List ℕ
   pub front : front_of unread ≡ Ok (Some body)

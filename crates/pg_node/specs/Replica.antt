@@ -125,7 +125,7 @@ WroteFor r (Ok done) output = (r.fault ≡ None) × (output ≡ frames_of r.repl
 -- the first replies, each whole
 WroteFor r (Err faults.ReadFault) output = (n : ℕ) × (output ≡ frames_of (take n r.replies))
 WroteFor r (Err (faults.Message (Term OutOfMemory))) output = (n : ℕ) × (output ≡ frames_of (take n r.replies))
--- a front of all replies
+-- a prefix of all replies
 WroteFor r (Err faults.WriteFault) output = (behind : List ℕ) × (output ++ behind ≡ frames_of r.replies)
 -- all replies up to the first fault, which is told
 WroteFor r (Err fault) output = (r.fault ≡ Some fault) × (output ≡ frames_of r.replies)

@@ -26,7 +26,7 @@ const MAX_READS: u64 = 1 << 40;
 
 /// Writes all the bytes.
 ///
-/// Fault: `WriteFault`, where a write fails or takes nothing; what was written is a front of the bytes then.
+/// Fault: `WriteFault`, where a write fails or takes nothing; what was written is a prefix of the bytes then.
 fn put_whole<W: Write>(writer: &mut W, bytes: &[u8]) -> Result<(), ServeFault>
     ensures ok { OnOk result (Appends (W.contents writer.old) (W.contents writer.new) bytes.now) }
     ensures fault { IfErr result (λ fault. (fault ≡ WriteFault)
@@ -151,7 +151,7 @@ impl<T: GroupTable + Drop> Server<T> {
 /// It ends at the end of the input: `Ok` where no bytes are left over, else `Truncated`. It ends at the first fault,
 /// in this order for one packet: `FrameTooLong`, the faults of terms, `NotAMessage`, `StampTooLarge`, `ClockFull`, and
 /// `NotAMessage` for an exchange of another node than the peer or a second one; or at `ReadFault` or `OutOfMemory`, and
-/// then the replies to the packets before it were written whole; or at `WriteFault`, and then what was written is a front
+/// then the replies to the packets before it were written whole; or at `WriteFault`, and then what was written is a prefix
 /// of the replies' frames.
 ///
 /// The time is that of the input, each update with a search of its group; an exchange copies the table and an end walks

@@ -15,14 +15,18 @@ use Rattle.pg_machine.specs.Clocked.{CLOCK_LIMIT, Timed, Stamped, timed, timed_t
 use Rattle.pg_machine.specs.Losing.{Noticed, Sent, Last, LosingWorld, LosingEvent, Step, Lose, losing_happens, can_keep, stopped, mapped_turn, noticed_step}
 use Rattle.pg_step.specs.Config.{Config, name_at}
 use Rattle.pg_step.specs.FrameMachine.{machine_of, see_step, losing_frame_machine, last_notice, place_turn}
-use Rattle.pg_step.specs.Losses.{see_loss}
+use Rattle.pg_step.specs.Losses.{forgets, see_loss}
 use Rattle.pg_step.specs.declared.refusal.Refusal.{Refusal}
 use Rattle.pg_step.specs.declared.refusal.Refusal.TheVariants.{NoSuchPlace, NodeLost, NotLost, NotDrained, ClockFull}
 use Rattle.pg_step.specs.Faults.{first_that_holds}
-use Rattle.pg_step.specs.LossLaws.{LosingFrameWorld, is_notice, is_drained, clock_after, see_refusal, lose_refusal, SeesLoss}
+use Rattle.pg_step.specs.LossLaws.{LosingFrameWorld, is_notice, is_drained, clock_after, see_refusal, lose_refusal, Forgotten, SeesLoss}
 use Rattle.pg_step.specs.StepLaws.{is_full}
 use Rattle.pg_step.specs.Nodes.{Node}
-use Rattle.pg_step.specs.State.{State}
+use Rattle.pg_step.specs.State.{State, Use}
+use Rattle.pg_step.specs.State.Status.{Unasked}
+use Rattle.pg_step.specs.State.Use.{Fresh, Locking, Owning, Updating, Spent}
+use Rattle.pg_step.specs.Attempts.{lock_entry, gathered}
+use Rattle.pg_message.specs.declared.message.Said.TheVariants.{Applied}
 use Rattle.pg_step.specs.Step.{Action}
 use Rattle.pg_step.specs.Turns.{Report}
 use Rattle.pg_step.proofs.Once.{is_same}
@@ -56,6 +60,22 @@ at_itself : (f : Node → Bool) (peer : Node) → upd same_atom f peer true peer
 unfolding upd
 at_itself f peer = ap (λ b. cond b true (f peer)) (is_same peer)
 
+forgotten_by : (peer : Node) (used : Use) → Forgotten peer (forgets peer used)
+unfolding upd
+forgotten_by peer Fresh = tt
+forgotten_by peer (Locking op update first st) = ap (λ b. cond b Unasked (st peer)) (is_same peer)
+forgotten_by peer (Owning name c) = tt
+forgotten_by peer (Updating op update c replied) = ap (λ b. cond b false (replied peer)) (is_same peer)
+forgotten_by peer Spent = tt
+
+others_stay : (peer : Node) (used : Use) (q : Node) → same_atom peer q ≡ false → gathered (forgets peer used) q ≡ gathered used q
+unfolding upd
+others_stay peer Fresh q other = refl
+others_stay peer (Locking op update first st) q other = ap (λ b. lock_entry (cond b Unasked (st q)) (same_atom first q)) other
+others_stay peer (Owning name c) q other = refl
+others_stay peer (Updating op update c replied) q other = ap (λ b. Some (cond (cond b false (replied q)) (Some Applied) None)) other
+others_stay peer Spent q other = refl
+
 pub sees : (peer : Node) (s : State) → SeesLoss peer s (see_loss peer s)
 sees peer s = record {
   freed = λ name holder e. freed_none peer (s.locks name) holder e;
@@ -67,6 +87,8 @@ sees peer s = record {
   groups = λ name. still_there (s.table name) (λ q. same_atom peer q.node);
   merged = at_itself s.merged peer;
   lost = at_itself s.lost peer;
+  forgotten = λ c. forgotten_by peer (s.uses c);
+  gathered = λ c q other. others_stay peer (s.uses c) q other;
   silent = λ q. refl;
   none = refl;
   stages = λ op. refl;

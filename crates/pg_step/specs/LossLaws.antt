@@ -15,7 +15,10 @@ use Rattle.pg_step.specs.declared.refusal.Refusal.TheVariants.{NoSuchPlace, Node
 use Rattle.pg_step.specs.Config.{Config, name_at}
 use Rattle.pg_step.specs.Faults.{first_that_holds}
 use Rattle.pg_step.specs.Nodes.{Node}
-use Rattle.pg_step.specs.State.{State}
+use Rattle.pg_step.specs.State.{State, Use}
+use Rattle.pg_step.specs.State.Status.{Unasked}
+use Rattle.pg_step.specs.State.Use.{Locking, Updating}
+use Rattle.pg_step.specs.Attempts.{gathered}
 use Rattle.pg_step.specs.StepLaws.{is_full}
 use Rattle.pg_step.specs.Turns.{Report, NodeTurn, nothing}
 
@@ -52,6 +55,12 @@ lose_refusal config w i keep = first_that_holds (
     (not (is_place (length config) i && can_keep (length config) w.world i keep), NoSuchPlace)
     ∷ (w.gone i, NodeLost) ∷ [])
 
+-- nothing that this node has said is gathered under a reference that is used so, and it is asked no more
+abbrev pub Forgotten : Node → Use → Type 0
+Forgotten peer (Locking op update first st) = st peer ≡ Unasked
+Forgotten peer (Updating op update c replied) = replied peer ≡ false
+Forgotten peer used = Unit {0}
+
 -- What a node in the state s has made of the loss of a peer by this turn.
 pub record SeesLoss (peer : Node) (s : State) (t : NodeTurn) : Type 0 where
   -- no lock is held by the lost node, and those that others hold stay
@@ -67,6 +76,9 @@ pub record SeesLoss (peer : Node) (s : State) (t : NodeTurn) : Type 0 where
   -- it counts as merged, and counts no more
   pub merged : t.state.merged peer ≡ true
   pub lost : t.state.lost peer ≡ true
+  -- what is gathered forgets it, and keeps what the others have said
+  pub forgotten : (c : ℕ) → Forgotten peer (t.state.uses c)
+  pub gathered : (c : ℕ) (q : Node) → same_atom peer q ≡ false → gathered (t.state.uses c) q ≡ gathered (s.uses c) q
   -- nothing is sent or reported, and the commands stay as they are
   pub silent : (q : Node) → t.sends q ≡ []
   pub none : t.reported ≡ nothing

@@ -7,7 +7,7 @@ use Rattle.pg_step.specs.declared.answer.Odd.{Odd}
 use Rattle.pg_step.specs.Nodes.{Node, to_nobody}
 use Rattle.pg_step.specs.State.{State, Response}
 
--- what a turn tells beside what it sends
+-- what a turn reports beside what it sends
 pub record Report : Type 0 where
   -- the update that the node applied to its table
   pub applied : Option Update

@@ -31,7 +31,7 @@ pub fn without_losses()
 {}
 
 /// What a node makes of the loss of a peer: the locks of the lost are free, its processes have ended and are in no group, it
-/// counts as merged and counts no more; all else stays, and nothing is sent or reported.
+/// counts as merged and counts no more, and what is gathered forgets it; all else stays, and nothing is sent or reported.
 pub fn losses_are_seen()
     ensures { (peer : Node) (s : State) → SeesLoss peer s (see_loss peer s) }
 {}

@@ -29,7 +29,7 @@ use Rattle.pg_step.specs.FrameMachine.{node_step}
 use Rattle.pg_history.specs.History.{ok_means_lock}
 use Rattle.pg_history.proofs.steps.Single.{Makes, ok_is, AnyUpdate, OfSingle, attempt_so, tried_so, taken_so}
 use Rattle.pg_history.proofs.steps.Made.{took_so, did_so}
-use Rattle.pg_history.proofs.references.Soundly.{is_op}
+use Rattle.pg_history.proofs.references.Fitting.{is_op}
 use Rattle.pg_step.specs.declared.command_fault.CommandFault.TheVariants.{Busy}
 use Rattle.pg_step.specs.declared.command_fault.CommandFault.{CommandFault}
 

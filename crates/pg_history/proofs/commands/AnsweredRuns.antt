@@ -23,7 +23,7 @@ use Rattle.pg_history.specs.History.{Answers, answers_by, answered_count, comman
 use Rattle.pg_machine.proofs.Steps.{changes, happened}
 use Rattle.pg_machine.proofs.Plain.{plain_from_start}
 use Rattle.pg_history.specs.Reached.{TimedFrameWorld, Reaches}
-use Rattle.pg_history.proofs.references.Soundly.{op_is, is_op}
+use Rattle.pg_history.proofs.references.Fitting.{op_is, is_op}
 use Rattle.pg_history.proofs.commands.Stand.{with_answer, and_gave, answered_by}
 use Rattle.pg_history.proofs.commands.StandRuns.{more_answered, own_answers, other_answers}
 use Rattle.pg_history.proofs.commands.Ports.{command_more, AllCounted, event_counted, command_came}

@@ -25,7 +25,7 @@ use Rattle.pg_step.specs.FrameMachine.{node_step}
 use Rattle.pg_machine.proofs.Options.{some_is}
 use Rattle.pg_history.proofs.steps.Single.{Any, OfSingle, acted_so, taken_so}
 use Rattle.pg_history.proofs.steps.Made.{took_so, did_so}
-use Rattle.pg_history.proofs.references.Soundly.{op_is}
+use Rattle.pg_history.proofs.references.Fitting.{op_is}
 
 module _ (Asks : OpId → Update → Type 0) where
   -- the updates of the commands that are open

@@ -22,7 +22,7 @@ use Rattle.pg_step.specs.State.Stage.{Waiting}
 use Rattle.pg_step.specs.Turns.{NodeTurn, and_then, first_of}
 use Rattle.pg_history.specs.Lasting.{at_once, busy_if, busy_of, refused_by, reply_or_busy}
 use Rattle.pg_history.proofs.commands.Answered.{Answering, Silent, Behind, AtOnce, attempt_answers}
-use Rattle.pg_history.proofs.references.Soundly.{is_op}
+use Rattle.pg_history.proofs.references.Fitting.{is_op}
 
 -- ---- faults are told apart by their numbers
 

@@ -27,14 +27,14 @@ use Rattle.pg_step.specs.Turns.{NodeTurn, Report}
 use Rattle.pg_history.specs.Counted.{CountsCommands, open_at, open_in}
 use Rattle.pg_history.specs.History.{Answers, answers_by}
 use Rattle.pg_history.specs.Reached.{Reaches, TimedFrameWorld}
-use Rattle.pg_history.specs.Sound.{Sound}
+use Rattle.pg_history.specs.ReferencesFit.{ReferencesFit}
 use Rattle.pg_history.proofs.commands.Answered.{NoCommand}
 use Rattle.pg_history.proofs.commands.Counting.{Counts, Keeps, Pays, gave_at, counted_keeps_all, counts_singly, command_done, same_keeps}
 use Rattle.pg_history.proofs.commands.Ports.{counts_by, step_counts}
 use Rattle.pg_history.proofs.commands.Stand.{and_gave}
 use Rattle.pg_history.proofs.commands.StandRuns.{own_answers, other_answers}
-use Rattle.pg_history.proofs.references.Soundly.{same_sound}
-use Rattle.pg_history.proofs.references.SoundRuns.{new_op}
+use Rattle.pg_history.proofs.references.Fitting.{same_fitting}
+use Rattle.pg_history.proofs.references.FittingRuns.{new_op}
 use Rattle.pg_history.proofs.steps.Made.{took_so, did_so}
 use Rattle.pg_history.proofs.steps.Single.{AnyUpdate, Makes, ok_is, tried_so, taken_so}
 use Rattle.pg_history.proofs.steps.Ways.{state_after}
@@ -68,7 +68,7 @@ module _ (config : Config) (i : ℕ) (s : State) where
   unfolding came
   commanded port c there counts =
       let first = counted_keeps_all ports port s counts in
-      let new = new_op s counts.sound port in
+      let new = new_op s counts.fitting port in
       let later = command_done ports m (fault_of (nodes_at config i) s c) (next_op port s) c (count_command port s).state new.0 (omega arith) new.1 ((Decides-ltb port ports).0 there) first.0 in
       (later.0, λ p. later.1 p ∙ ap (λ n. n + cond (nat_eq port p) 1 0) (zero (open_at p (count_command port s).state) ∙ first.1 p))
     where
@@ -96,8 +96,8 @@ module _ (config : Config) (i : ℕ) (s : State) where
       let t = took_so config i s p x turn is in
       subst (λ (u : Turn State Message Report). Balances ports s (Taken p x) u.state u.reported.gave) (sym t.2)
       (none_came ports s t.0 (taken_so m NoCommand AnyUpdate (Keeps ports) (Keeps ports) (counts_singly ports m) (name_at config p) x s t.0
-      (λ node groups _ _. same_keeps ports s (exchange (name_at config p) groups s) refl refl refl refl (same_sound s _ refl refl refl refl))
-      (λ pid _. same_keeps ports s (process_end pid s) refl refl refl refl (same_sound s _ refl refl refl refl)) t.1))
+      (λ node groups _ _. same_keeps ports s (exchange (name_at config p) groups s) refl refl refl refl (same_fitting s _ refl refl refl refl))
+      (λ pid _. same_keeps ports s (process_end pid s) refl refl refl refl (same_fitting s _ refl refl refl refl)) t.1))
   step_balance (Own action) turn is =
       let t = did_so config i s action turn is in
       subst (λ (u : Turn State Message Report). Balances ports s (Own action) u.state u.reported.gave) (sym t.2) (acts_balance action t.0 t.1)
@@ -175,7 +175,7 @@ none_open (suc n) s none = ap (λ m. m + open_in n s) (none n) ∙ ap (λ m. 0 +
 start_counts : (config : Config) (i : ℕ) → AllCounts config (start_of (machine_of config)) i
 start_counts config i = record {
   counts = record {
-    sound = record { fresh = λ c above. refl; fits = λ c. tt; closed = λ op below. refl };
+    fitting = record { fresh = λ c above. refl; fits = λ c. tt; closed = λ op below. refl };
     within = λ op never. absurd (cc);
     all = sym (none_open (ports_at config i) ((start_of (machine_of config)).node i) (λ port. refl));
   };

@@ -22,10 +22,10 @@ use Rattle.pg_step.specs.State.{State, Stage, Response}
 use Rattle.pg_step.specs.State.Stage.{Closed, Waiting, Asking, Changing}
 use Rattle.pg_step.specs.Turns.{NodeTurn, Report, and_then, becomes, first_of}
 use Rattle.pg_history.specs.Counted.{is_open, how_many, open_number, open_at, open_in}
-use Rattle.pg_history.specs.Sound.{Sound}
+use Rattle.pg_history.specs.ReferencesFit.{ReferencesFit}
 use Rattle.pg_history.proofs.commands.Stand.{open_is_in}
-use Rattle.pg_history.proofs.references.Soundly.{op_is, is_op, is_asking, is_changing, same_sound, counted_keeps, opened_keeps}
-use Rattle.pg_history.proofs.references.SoundTurns.{attempted_keeps, relock, given_up_keeps, confirmed_keeps, finished_keeps, begun_keeps}
+use Rattle.pg_history.proofs.references.Fitting.{op_is, is_op, is_asking, is_changing, same_fitting, counted_keeps, opened_keeps}
+use Rattle.pg_history.proofs.references.FittingTurns.{attempted_keeps, relock, given_up_keeps, confirmed_keeps, finished_keeps, begun_keeps}
 use Rattle.pg_history.proofs.steps.Single.{AnyUpdate, OfSingle, attempt_so, tried_so, taken_so}
 use Rattle.pg_history.proofs.commands.Answered.{NoCommand}
 
@@ -74,7 +74,7 @@ Closes s t gave = (port : ℕ) → open_at port t + gave_at port gave ≡ open_a
 
 -- what a node keeps of its commands: a command that is open has come in at one of its ports; and so many are open as it counts
 pub record Counts (ports : ℕ) (s : State) : Type 0 where
-  pub sound : Sound s
+  pub fitting : ReferencesFit s
   pub within : (op : OpId) → is_open (s.stages op) ≡ true → (1 ≤ op.number) × (op.port < ports)
   pub all : s.opened ≡ open_in ports s
 
@@ -173,10 +173,10 @@ module _ (ports : ℕ) where
 
   -- the commands stay as they are
   pub same_keeps : (s : State) (t : NodeTurn) → t.state.stages ≡ s.stages → t.state.counts ≡ s.counts → t.state.opened ≡ s.opened → t.reported.gave ≡ None
-      → (Sound s → Sound t.state) → Keeps s t
+      → (ReferencesFit s → ReferencesFit t.state) → Keeps s t
   same_keeps s t stages counted opened none keeps counts = (
     record {
-      sound = keeps counts.sound;
+      fitting = keeps counts.fitting;
       within = λ op open_. counts.within op (ap (λ (f : OpId → Stage). is_open (f op)) (sym stages) ∙ open_);
       all = opened ∙ counts.all ∙ sym (same_in s t.state ports each);
     },
@@ -191,10 +191,10 @@ module _ (ports : ℕ) where
   -- an open command is open otherwise
   moved_keeps : (s : State) (t : NodeTurn) (op : OpId) (new : Stage) → is_open (s.stages op) ≡ true → is_open new ≡ true
       → t.state.stages ≡ upd same_op s.stages op new → t.state.counts ≡ s.counts → t.state.opened ≡ s.opened → t.reported.gave ≡ None
-      → (Sound s → Sound t.state) → Keeps s t
+      → (ReferencesFit s → ReferencesFit t.state) → Keeps s t
   moved_keeps s t op new was is stages counted opened none keeps counts = (
     record {
-      sound = keeps counts.sound;
+      fitting = keeps counts.fitting;
       within = λ other open_. upd_by same_op s.stages op (λ x. is_open x ≡ true → (1 ≤ other.number) × (other.port < ports)) new other
           (λ same _. subst (λ (o : OpId). (1 ≤ o.number) × (o.port < ports)) (op_is op other same) (counts.within op was))
           (λ _ still. counts.within other still) (ap (λ (f : OpId → Stage). is_open (f other)) (sym stages) ∙ open_);
@@ -205,7 +205,7 @@ module _ (ports : ℕ) where
     where
       one : open_at op.port t.state + 1 ≡ open_at op.port s + 1
       one = ap (λ b. open_at op.port t.state + cond b 1 0) (sym was)
-          ∙ own_port s t.state op new counted stages ((counts.within op was).0) (open_is_in s counts.sound op (is_open_not (s.stages op) was))
+          ∙ own_port s t.state op new counted stages ((counts.within op was).0) (open_is_in s counts.fitting op (is_open_not (s.stages op) was))
           ∙ ap (λ b. open_at op.port s + cond b 1 0) is
 
       each : (port : ℕ) → open_at port t.state ≡ open_at port s
@@ -218,10 +218,10 @@ module _ (ports : ℕ) where
   -- an open command is answered and closed
   closed_keeps : (s : State) (t : NodeTurn) (op : OpId) (r : Response) → is_open (s.stages op) ≡ true
       → t.state.stages ≡ upd same_op s.stages op Closed → t.state.counts ≡ s.counts → t.state.opened ≡ s.opened - 1 → t.reported.gave ≡ Some (op, r)
-      → (Sound s → Sound t.state) → Keeps s t
+      → (ReferencesFit s → ReferencesFit t.state) → Keeps s t
   closed_keeps s t op r was stages counted opened gave keeps counts = (
     record {
-      sound = keeps counts.sound;
+      fitting = keeps counts.fitting;
       within = λ other open_. upd_by same_op s.stages op (λ x. is_open x ≡ true → (1 ≤ other.number) × (other.port < ports)) Closed other
           (λ _ never. absurd (no_open never))
           (λ _ still. counts.within other still) (ap (λ (f : OpId → Stage). is_open (f other)) (sym stages) ∙ open_);
@@ -239,7 +239,7 @@ module _ (ports : ℕ) where
 
       one : open_at op.port t.state + 1 ≡ open_at op.port s + 0
       one = ap (λ b. open_at op.port t.state + cond b 1 0) (sym was)
-          ∙ own_port s t.state op Closed counted stages ((counts.within op was).0) (open_is_in s counts.sound op (is_open_not (s.stages op) was))
+          ∙ own_port s t.state op Closed counted stages ((counts.within op was).0) (open_is_in s counts.fitting op (is_open_not (s.stages op) was))
 
       each : (port : ℕ) → open_at port t.state + cond (nat_eq op.port port) 1 0 ≡ open_at port s
       each port = go (cases_eq op.port port)
@@ -251,10 +251,10 @@ module _ (ports : ℕ) where
   -- a closed command that came in is opened
   opens : (s : State) (t : NodeTurn) (op : OpId) (new : Stage) → s.stages op ≡ Closed → is_open new ≡ true → 1 ≤ op.number → op.number ≤ s.counts op.port → op.port < ports
       → t.state.stages ≡ upd same_op s.stages op new → t.state.counts ≡ s.counts → t.state.opened ≡ s.opened + 1
-      → (Sound s → Sound t.state) → Counts ports s → Counts ports t.state × ((port : ℕ) → open_at port t.state ≡ open_at port s + cond (nat_eq op.port port) 1 0)
+      → (ReferencesFit s → ReferencesFit t.state) → Counts ports s → Counts ports t.state × ((port : ℕ) → open_at port t.state ≡ open_at port s + cond (nat_eq op.port port) 1 0)
   opens s t op new was is low high there stages counted opened keeps counts = (
     record {
-      sound = keeps counts.sound;
+      fitting = keeps counts.fitting;
       within = λ other open_. upd_by same_op s.stages op (λ x. is_open x ≡ true → (1 ≤ other.number) × (other.port < ports)) new other
           (λ same _. subst (λ (o : OpId). (1 ≤ o.number) × (o.port < ports)) (op_is op other same) (low, there))
           (λ _ still. counts.within other still) (ap (λ (f : OpId → Stage). is_open (f other)) (sym stages) ∙ open_);
@@ -285,7 +285,7 @@ module _ (ports : ℕ) where
   pub counted_keeps_all : (port : ℕ) (s : State) → Keeps s (count_command port s)
   counted_keeps_all port s counts = (
     record {
-      sound = counted_keeps port s counts.sound;
+      fitting = counted_keeps port s counts.fitting;
       within = counts.within;
       all = counts.all ∙ sym (same_in s t ports each);
     },
@@ -296,7 +296,7 @@ module _ (ports : ℕ) where
       t = (count_command port s).state
 
       unopened : cond {A = ℕ} (open_number port s (suc (s.counts port))) 1 0 ≡ 0
-      unopened = ap (λ x. cond {A = ℕ} (is_open x) 1 0) (counts.sound.closed (record { port = port; number = suc (s.counts port) }) (omega arith))
+      unopened = ap (λ x. cond {A = ℕ} (is_open x) 1 0) (counts.fitting.closed (record { port = port; number = suc (s.counts port) }) (omega arith))
 
       each : (p : ℕ) → open_at p t ≡ open_at p s
       each p = upd_by nat_eq s.counts port (λ n. how_many (open_number p s) n ≡ open_at p s) (s.counts port + 1) p
@@ -309,23 +309,23 @@ module _ (ports : ℕ) where
     alone = λ s t keeps. keeps;
     before = λ s t next nothing_told. keeps_then s t next (ap (λ (x : Report). x.gave) nothing_told);
     behind = λ s t next none. keeps_then s t next none.1;
-    stays = λ s. same_keeps s (becomes s) refl refl refl refl (λ sound. sound);
+    stays = λ s. same_keeps s (becomes s) refl refl refl refl (λ fitting. fitting);
     counted = λ port s. counted_keeps_all port s;
     lasts = λ op pid s never. never;
     answered = λ op r s never. absurd never;
     opened = λ op u s never _. absurd never;
     made = λ op s never. absurd never;
-    attempted = λ lead op u s waits. moved_keeps s (new_attempt lead op u s) op (Asking (s.references + 1)) (ap is_open waits) refl refl refl refl refl (λ sound. attempted_keeps s sound lead op u waits);
-    asked = λ who c op u lead st s is. same_keeps s (ask m who c op u lead st s) refl refl refl refl (λ sound. relock s sound _ c op u lead st _ is refl refl refl refl);
-    given_up = λ c op u lead st s is _ counts. moved_keeps s (give_up m c op u st s) op (Waiting u) (ap is_open (is_asking counts.sound c op u lead st is)) refl refl refl refl refl (λ sound. given_up_keeps s sound m c op u lead st is) counts;
-    begun = λ c op u lead st s is _ counts. moved_keeps s (begin m c op u s) op (Changing (s.references + 1)) (ap is_open (is_asking counts.sound c op u lead st is)) refl refl refl refl refl (λ sound. begun_keeps s sound m c op u lead st is) counts;
-    finished = λ n op u c replied s is _ counts. closed_keeps s (finish m n op u c s) op (Given reply.Ok) (ap is_open (is_changing counts.sound n op u c replied is)) refl refl refl refl (λ sound. finished_keeps s sound m n op u c replied is) counts;
-    heard = λ c op u lead st p status s is _. same_keeps s (count_answer c op u lead st p status s) refl refl refl refl (λ sound. relock s sound _ c op u lead st _ is refl refl refl refl);
-    confirmed = λ n op u c replied p s is _. same_keeps s (count_ok n op u c replied p s) refl refl refl refl (λ sound. confirmed_keeps s sound _ n op u c replied _ is refl refl refl refl);
-    odd = λ what s. same_keeps s (strange what s) refl refl refl refl (λ sound. sound);
-    requested = λ p reference name s. same_keeps s (lock_request m p reference name s) refl refl refl refl (same_sound s _ refl refl refl refl);
-    updated = λ p reference u s. same_keeps s (update_request p reference u s) refl refl refl refl (same_sound s _ refl refl refl refl);
-    freed = λ name reference s. same_keeps s (lock_freed name reference s) refl refl refl refl (same_sound s _ refl refl refl refl);
+    attempted = λ lead op u s waits. moved_keeps s (new_attempt lead op u s) op (Asking (s.references + 1)) (ap is_open waits) refl refl refl refl refl (λ fitting. attempted_keeps s fitting lead op u waits);
+    asked = λ who c op u lead st s is. same_keeps s (ask m who c op u lead st s) refl refl refl refl (λ fitting. relock s fitting _ c op u lead st _ is refl refl refl refl);
+    given_up = λ c op u lead st s is _ counts. moved_keeps s (give_up m c op u st s) op (Waiting u) (ap is_open (is_asking counts.fitting c op u lead st is)) refl refl refl refl refl (λ fitting. given_up_keeps s fitting m c op u lead st is) counts;
+    begun = λ c op u lead st s is _ counts. moved_keeps s (begin m c op u s) op (Changing (s.references + 1)) (ap is_open (is_asking counts.fitting c op u lead st is)) refl refl refl refl refl (λ fitting. begun_keeps s fitting m c op u lead st is) counts;
+    finished = λ n op u c replied s is _ counts. closed_keeps s (finish m n op u c s) op (Given reply.Ok) (ap is_open (is_changing counts.fitting n op u c replied is)) refl refl refl refl (λ fitting. finished_keeps s fitting m n op u c replied is) counts;
+    heard = λ c op u lead st p status s is _. same_keeps s (count_answer c op u lead st p status s) refl refl refl refl (λ fitting. relock s fitting _ c op u lead st _ is refl refl refl refl);
+    confirmed = λ n op u c replied p s is _. same_keeps s (count_ok n op u c replied p s) refl refl refl refl (λ fitting. confirmed_keeps s fitting _ n op u c replied _ is refl refl refl refl);
+    odd = λ what s. same_keeps s (strange what s) refl refl refl refl (λ fitting. fitting);
+    requested = λ p reference name s. same_keeps s (lock_request m p reference name s) refl refl refl refl (same_fitting s _ refl refl refl refl);
+    updated = λ p reference u s. same_keeps s (update_request p reference u s) refl refl refl refl (same_fitting s _ refl refl refl refl);
+    freed = λ name reference s. same_keeps s (lock_freed name reference s) refl refl refl refl (same_fitting s _ refl refl refl refl);
   }
 
   -- ---- a command
@@ -338,7 +338,7 @@ module _ (ports : ℕ) where
   Done op s t = Counts ports s → Counts ports t.state × Pays op s t.state t.reported.gave
 
   answered_done : (op : OpId) (r : Response) (s : State) (t : NodeTurn) → t.state.stages ≡ s.stages → t.state.counts ≡ s.counts → t.state.opened ≡ s.opened
-      → (Sound s → Sound t.state) → t.reported.gave ≡ Some (op, r) → Done op s t
+      → (ReferencesFit s → ReferencesFit t.state) → t.reported.gave ≡ Some (op, r) → Done op s t
   answered_done op r s t stages counted opened keeps gave counts =
       let same = same_keeps s (becomes t.state) stages counted opened refl keeps counts in
       (same.0, λ port. ap (λ o. open_at port t.state + gave_at port o) gave ∙ ap (λ n. n + cond (nat_eq op.port port) 1 0) (sym (none_more (open_at port t.state)) ∙ same.1 port))
@@ -350,7 +350,7 @@ module _ (ports : ℕ) where
       t = open_command op u s
 
       go : (b : Bool) → Done op s (cond b (answer op (refused Busy) s) (and_then t (attempt m op u)))
-      go true counts = answered_done op (refused Busy) s (answer op (refused Busy) s) refl refl refl (λ sound. sound) refl counts
+      go true counts = answered_done op (refused Busy) s (answer op (refused Busy) s) refl refl refl (λ fitting. fitting) refl counts
       go false counts =
           let first = opens s t op (Waiting u) was refl low high there refl refl refl (opened_keeps op u s (was, high)) counts in
           let later = attempt_so m NoCommand AnyUpdate Keeps Keeps (counts_singly m) op u t.state (upd_at same_op s.stages op (Waiting u) (is_op op)) first.0 in
@@ -360,19 +360,19 @@ module _ (ports : ℕ) where
   change_done m op u s was low high there = go (look (s.table (name_of u)) u)
     where
       go : (r : Option Reply) → Done op s (change_by r m op u s)
-      go (Some r) = answered_done op (Given r) s (answer op (Given r) s) refl refl refl (λ sound. sound) refl
+      go (Some r) = answered_done op (Given r) s (answer op (Given r) s) refl refl refl (λ fitting. fitting) refl
       go None = undertaken_done m op u s was low high there
 
   pub command_done : (m : Nodes) (fault : Option CommandFault) (op : OpId) (c : Command) (s : State) → s.stages op ≡ Closed → 1 ≤ op.number → op.number ≤ s.counts op.port → op.port < ports
       → Done op s (command_by fault m op c s)
-  command_done m (Some f) op c s was low high there = answered_done op (refused f) s (answer op (refused f) s) refl refl refl (λ sound. sound) refl
+  command_done m (Some f) op c s was low high there = answered_done op (refused f) s (answer op (refused f) s) refl refl refl (λ fitting. fitting) refl
   command_done m None op (command.Create name) s was low high there = change_done m op (update.Create name) s was low high there
   command_done m None op (command.Delete name) s was low high there = change_done m op (update.Delete name) s was low high there
   command_done m None op (command.Join name pid) s was low high there = change_done m op (update.Join name pid) s was low high there
   command_done m None op (command.Leave name pid) s was low high there = change_done m op (update.Leave name pid) s was low high there
-  command_done m None op command.Make s was low high there = answered_done op _ s (make m op s) refl refl refl (same_sound s _ refl refl refl refl) refl
-  command_done m None op (command.Finish pid) s was low high there = answered_done op (Given reply.Ok) s (end_process m op pid s) refl refl refl (same_sound s _ refl refl refl refl) refl
-  command_done m None op (command.Members name) s was low high there = answered_done op _ s (answer op (Read (command.Members name) s.table) s) refl refl refl (λ sound. sound) refl
-  command_done m None op (command.LocalMembers name) s was low high there = answered_done op _ s (answer op (Read (command.LocalMembers name) s.table) s) refl refl refl (λ sound. sound) refl
-  command_done m None op command.WhichGroups s was low high there = answered_done op _ s (answer op (Read command.WhichGroups s.table) s) refl refl refl (λ sound. sound) refl
-  command_done m None op (command.Closest name word) s was low high there = answered_done op _ s (answer op (Read (command.Closest name word) s.table) s) refl refl refl (λ sound. sound) refl
+  command_done m None op command.Make s was low high there = answered_done op _ s (make m op s) refl refl refl (same_fitting s _ refl refl refl refl) refl
+  command_done m None op (command.Finish pid) s was low high there = answered_done op (Given reply.Ok) s (end_process m op pid s) refl refl refl (same_fitting s _ refl refl refl refl) refl
+  command_done m None op (command.Members name) s was low high there = answered_done op _ s (answer op (Read (command.Members name) s.table) s) refl refl refl (λ fitting. fitting) refl
+  command_done m None op (command.LocalMembers name) s was low high there = answered_done op _ s (answer op (Read (command.LocalMembers name) s.table) s) refl refl refl (λ fitting. fitting) refl
+  command_done m None op command.WhichGroups s was low high there = answered_done op _ s (answer op (Read command.WhichGroups s.table) s) refl refl refl (λ fitting. fitting) refl
+  command_done m None op (command.Closest name word) s was low high there = answered_done op _ s (answer op (Read (command.Closest name word) s.table) s) refl refl refl (λ fitting. fitting) refl

@@ -13,8 +13,8 @@ use Rattle.pg_step.specs.State.Stage.{Closed, Waiting, Asking, Changing}
 use Rattle.pg_step.specs.Turns.{Report}
 use Rattle.pg_step.specs.Attempts.{same_op}
 use Rattle.pg_history.specs.History.{Answers, is_op as tells_op, has_answer, answers_to}
-use Rattle.pg_history.specs.Sound.{Sound}
-use Rattle.pg_history.proofs.references.Soundly.{op_is}
+use Rattle.pg_history.specs.ReferencesFit.{ReferencesFit}
+use Rattle.pg_history.proofs.references.Fitting.{op_is}
 
 -- ---- answers, with one more
 
@@ -221,15 +221,15 @@ module _ (op : OpId) (r : Response) (s t : Answers) (answers : t ≡ with_answer
 -- ---- what is kept
 
 pub record Kept (x : Answers) (s : State) : Type 0 where
-  pub sound : Sound s
+  pub fitting : ReferencesFit s
   -- a command with an answer has come in, and is open no more
   pub over : (op : OpId) → has_answer op x ≡ true → (s.stages op ≡ Closed) × (op.number ≤ s.counts op.port)
   pub single : (op : OpId) → HasOne op x
 
 -- a command that is open has come in
-pub open_is_in : (s : State) → Sound s → (op : OpId) → (s.stages op ≡ Closed → ⊥) → op.number ≤ s.counts op.port
-open_is_in s sound op open_ = go (cases_lt (s.counts op.port) op.number)
+pub open_is_in : (s : State) → ReferencesFit s → (op : OpId) → (s.stages op ≡ Closed → ⊥) → op.number ≤ s.counts op.port
+open_is_in s fitting op open_ = go (cases_lt (s.counts op.port) op.number)
   where
     go : (s.counts op.port < op.number) ⊎ (op.number ≤ s.counts op.port) → op.number ≤ s.counts op.port
-    go (inl above) = absurd (open_ (sound.closed op above))
+    go (inl above) = absurd (open_ (fitting.closed op above))
     go (inr within) = within

@@ -28,8 +28,8 @@ use Rattle.pg_history.proofs.steps.Single.{AnyUpdate, acted_so, taken_so}
 use Rattle.pg_history.proofs.steps.Made.{took_so, did_so}
 use Rattle.pg_history.proofs.steps.Ways.{told_append, state_after}
 use Rattle.pg_history.proofs.steps.Grows.{entries_append}
-use Rattle.pg_history.proofs.references.SoundRuns.{new_op}
-use Rattle.pg_history.proofs.references.Soundly.{same_sound}
+use Rattle.pg_history.proofs.references.FittingRuns.{new_op}
+use Rattle.pg_history.proofs.references.Fitting.{same_fitting}
 use Rattle.pg_history.proofs.commands.Stand.{Stands, Kept, with_answer, and_gave, begun_by, answered_by, chance, under_way, one_at_most}
 use Rattle.pg_history.proofs.commands.StandTurns.{Unanswered, KeepsQuiet, KeepsAll, leaves_all, stands_singly}
 
@@ -37,7 +37,7 @@ use Rattle.pg_history.proofs.commands.StandTurns.{Unanswered, KeepsQuiet, KeepsA
 
 -- a command that comes in has no answer
 new_unanswered : (x : Answers) (s : State) → Kept x s → (port : ℕ) → Unanswered x (next_op port s) ((count_command port s).state)
-new_unanswered x s all port = (new_op s all.sound port, go (has_answer (next_op port s) x) refl)
+new_unanswered x s all port = (new_op s all.fitting port, go (has_answer (next_op port s) x) refl)
   where
     late : s.counts port + 1 ≤ s.counts port → ⊥
     late within = absurd (omega arith)
@@ -53,14 +53,14 @@ step_stands x config i s (Taken p message) turn is all =
     let t = took_so config i s p message turn is in
     subst (λ u. Kept (and_gave x u.reported.gave) u.state × ((op : OpId) → Stands op x s u.state u.reported)) (sym t.2)
     (taken_so m (Unanswered x) AnyUpdate (KeepsQuiet x) (KeepsAll x) (stands_singly x m) (name_at config p) message s t.0
-    (λ node groups _ _. leaves_all x s (exchange (name_at config p) groups s) refl refl refl refl refl (same_sound s _ refl refl refl refl))
-    (λ pid _. leaves_all x s (process_end pid s) refl refl refl refl refl (same_sound s _ refl refl refl refl)) t.1 all)
+    (λ node groups _ _. leaves_all x s (exchange (name_at config p) groups s) refl refl refl refl refl (same_fitting s _ refl refl refl refl))
+    (λ pid _. leaves_all x s (process_end pid s) refl refl refl refl refl (same_fitting s _ refl refl refl refl)) t.1 all)
 step_stands x config i s (Own action) turn is all =
     let m = left (nodes_at config i) s in
     let t = did_so config i s action turn is in
     subst (λ u. Kept (and_gave x u.reported.gave) u.state × ((op : OpId) → Stands op x s u.state u.reported)) (sym t.2)
     (acted_so m (Unanswered x) AnyUpdate (KeepsQuiet x) (KeepsAll x) (stands_singly x m) (nodes_at config i)
-    (λ pid u _ _ _. leaves_all x u (becomes_and_sends (ended_in pid u) (to_peers m (λ _. true) (Down pid))) refl refl refl refl refl (same_sound u _ refl refl refl refl))
+    (λ pid u _ _ _. leaves_all x u (becomes_and_sends (ended_in pid u) (to_peers m (λ _. true) (Down pid))) refl refl refl refl refl (same_fitting u _ refl refl refl refl))
     (ports_at config i) action s t.0 (new_unanswered x s all) (λ port c u _ _. tt) t.1 all)
 
 -- ---- counts
@@ -203,7 +203,7 @@ event_stands config w v e h all =
 
 start_stands : (config : Config) → Standing (start_of (machine_of config))
 start_stands config = record {
-  kept = λ i. record { sound = record { fresh = λ c above. refl; fits = λ c. tt; closed = λ op below. refl }; over = λ op has. absurd (cc); single = λ op. omega arith };
+  kept = λ i. record { fitting = record { fresh = λ c above. refl; fits = λ c. tt; closed = λ op below. refl }; over = λ op has. absurd (cc); single = λ op. omega arith };
   stands = λ i op. record { once = omega arith; balanced = refl };
 }
 

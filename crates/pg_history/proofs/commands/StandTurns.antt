@@ -18,9 +18,9 @@ use Rattle.pg_step.specs.Peers.{lock_request, update_request, lock_freed}
 use Rattle.pg_step.specs.Commands.{answer, open_command, make, count_command}
 use Rattle.pg_history.specs.History.{Answers, has_answer}
 use Rattle.pg_history.proofs.steps.Single.{AnyUpdate, OfSingle}
-use Rattle.pg_history.proofs.references.Soundly.{Keeps, NewOp, op_is, is_op, fit_at}
-use Rattle.pg_history.proofs.references.SoundTurns.{waits_closed, asks_closed}
-use Rattle.pg_history.proofs.references.SoundRuns.{sound_singly}
+use Rattle.pg_history.proofs.references.Fitting.{Keeps, NewOp, op_is, is_op, fit_at}
+use Rattle.pg_history.proofs.references.FittingTurns.{waits_closed, asks_closed}
+use Rattle.pg_history.proofs.references.FittingRuns.{fitting_singly}
 use Rattle.pg_history.proofs.commands.Stand.{Stands, Kept, begun_by, answered_by, chance, under_way, may_begin, stands_still, stands_by, each_op, with_answer, and_gave, has_it, has_still, had, one_each, open_is_in}
 
 module _ (x : Answers) where
@@ -56,13 +56,13 @@ module _ (x : Answers) where
   same_kept o gave t kept = subst (λ z. Kept (and_gave x z) t) (sym gave) kept
 
   pub leaves_all : (s : State) (t : NodeTurn) → t.state.stages ≡ s.stages → t.state.counts ≡ s.counts → t.reported.gave ≡ None → t.reported.began ≡ None → t.reported.answered ≡ None → Keeps s t → KeepsAll s t
-  leaves_all s t stages counts gave began answered sound kept = (
-    same_kept t.reported.gave gave t.state (record { sound = sound kept.sound; over = still_over s t.state stages counts kept; single = kept.single }),
+  leaves_all s t stages counts gave began answered fitting kept = (
+    same_kept t.reported.gave gave t.state (record { fitting = fitting kept.fitting; over = still_over s t.state stages counts kept; single = kept.single }),
     λ op. stands_still op x s t.state t.reported (ap (λ (f : OpId → Stage). f op) stages) (ap (begun_by op) began) (ap (answered_by op) answered) (same_has t.reported.gave gave op),
   )
 
   quiet : (s : State) (t : NodeTurn) → t.state.stages ≡ s.stages → t.state.counts ≡ s.counts → t.reported.gave ≡ None → t.reported.began ≡ None → t.reported.answered ≡ None → Keeps s t → KeepsQuiet s t
-  quiet s t stages counts gave began answered sound = (leaves_all s t stages counts gave began answered sound, began)
+  quiet s t stages counts gave began answered fitting = (leaves_all s t stages counts gave began answered fitting, began)
 
   -- ---- one turn after another
 
@@ -113,12 +113,12 @@ module _ (x : Answers) where
 
   answer_keeps : (op : OpId) (r : Response) (s : State) (t : NodeTurn) → t.state.stages ≡ s.stages → t.state.counts ≡ s.counts → t.reported.gave ≡ Some (op, r)
       → t.reported.began ≡ None → t.reported.answered ≡ None → Unanswered op s → Keeps s t → KeepsQuiet s t
-  answer_keeps op r s t stages counts gave began answered new sound =
+  answer_keeps op r s t stages counts gave began answered new fitting =
       let y = and_gave x t.reported.gave in
       let answers : y ≡ with_answer x op r = ap (and_gave x) gave in (
         λ kept. (
           record {
-            sound = sound kept.sound;
+            fitting = fitting kept.fitting;
             over = each_op (λ other. has_answer other y ≡ true → (t.state.stages other ≡ Closed) × (other.number ≤ t.state.counts other.port)) op
                 (λ _. (ap (λ (f : OpId → Stage). f op) stages ∙ new.0.0, subst (λ (f : ℕ → ℕ). op.number ≤ f op.port) (sym counts) new.0.1))
                 (λ other apart _ has.
@@ -151,8 +151,8 @@ module _ (x : Answers) where
       → t.reported.began ≡ None → t.reported.answered ≡ None → (has_answer op x ≡ true → ⊥)
       → 0 + may_begin (has_answer op x) new ≤ may_begin (has_answer op x) old → under_way new + 0 ≡ under_way old + 0 → Kept x s → Keeps s t
       → Kept (and_gave x t.reported.gave) t.state × ((other : OpId) → Stands other x s t.state t.reported)
-  restaged s t op old new was stages counts gave began answered none chances weights kept sound = (
-    same_kept t.reported.gave gave t.state (record { sound = sound kept.sound; over = over_still s t.state op new stages counts none kept; single = kept.single }),
+  restaged s t op old new was stages counts gave began answered none chances weights kept fitting = (
+    same_kept t.reported.gave gave t.state (record { fitting = fitting kept.fitting; over = over_still s t.state op new stages counts none kept; single = kept.single }),
     each_op (λ other. Stands other x s t.state t.reported) op
         (stands_by op x s t.state t.reported old new 0 0 was (ap (λ (f : OpId → Stage). f op) stages ∙ upd_at same_op s.stages op new (is_op op)) (ap (begun_by op) began) (ap (answered_by op) answered)
         (subst (λ o. 0 + may_begin (has_answer op (and_gave x o)) new ≤ may_begin (has_answer op x) old) (sym gave) chances) weights)
@@ -161,24 +161,24 @@ module _ (x : Answers) where
   )
 
   opened_all : (op : OpId) (u : Update) (s : State) → Unanswered op s → Keeps s (open_command op u s) → KeepsQuiet s (open_command op u s)
-  opened_all op u s new sound = (
+  opened_all op u s new fitting = (
     λ kept. restaged s (open_command op u s) op Closed (Waiting u) new.0.0 refl refl refl refl refl (λ has. clash (sym has ∙ new.1))
-        (subst (λ b. 0 + 1 ≤ cond b 0 1) (sym new.1) (omega arith)) refl kept sound,
+        (subst (λ b. 0 + 1 ≤ cond b 0 1) (sym new.1) (omega arith)) refl kept fitting,
     refl,
   )
 
   attempted_all : (lead : Node) (op : OpId) (u : Update) (s : State) → s.stages op ≡ Waiting u → Keeps s (new_attempt lead op u s) → KeepsQuiet s (new_attempt lead op u s)
-  attempted_all lead op u s waits sound = (
+  attempted_all lead op u s waits fitting = (
     λ kept. restaged s (new_attempt lead op u s) op (Waiting u) (Asking (s.references + 1)) waits refl refl refl refl refl
-        (none_of s kept op (waits_closed waits)) (omega arith) refl kept sound,
+        (none_of s kept op (waits_closed waits)) (omega arith) refl kept fitting,
     refl,
   )
 
   given_up_all : (m : Nodes) (c : ℕ) (op : OpId) (u : Update) (lead : Node) (st : Node → Status) (s : State) → s.uses c ≡ Locking op u lead st → Keeps s (give_up m c op u st s) → KeepsQuiet s (give_up m c op u st s)
-  given_up_all m c op u lead st s is sound = (
+  given_up_all m c op u lead st s is fitting = (
     λ kept.
-        let asks : s.stages op ≡ Asking c = fit_at s kept.sound c (Locking op u lead st) is in
-        restaged s (give_up m c op u st s) op (Asking c) (Waiting u) asks refl refl refl refl refl (none_of s kept op (asks_closed asks)) (omega arith) refl kept sound,
+        let asks : s.stages op ≡ Asking c = fit_at s kept.fitting c (Locking op u lead st) is in
+        restaged s (give_up m c op u st s) op (Asking c) (Waiting u) asks refl refl refl refl refl (none_of s kept op (asks_closed asks)) (omega arith) refl kept fitting,
     refl,
   )
 
@@ -193,28 +193,28 @@ module _ (x : Answers) where
   none_is op other apart = ap cond_one apart
 
   begun_all : (m : Nodes) (c : ℕ) (op : OpId) (u : Update) (lead : Node) (st : Node → Status) (s : State) → s.uses c ≡ Locking op u lead st → Keeps s (begin m c op u s) → KeepsAll s (begin m c op u s)
-  begun_all m c op u lead st s is sound kept =
-      let asks : s.stages op ≡ Asking c = fit_at s kept.sound c (Locking op u lead st) is in
+  begun_all m c op u lead st s is fitting kept =
+      let asks : s.stages op ≡ Asking c = fit_at s kept.fitting c (Locking op u lead st) is in
       let t = begin m c op u s in
       let new = Changing (s.references + 1) in (
-        record { sound = sound kept.sound; over = over_still s t.state op new refl refl (none_of s kept op (asks_closed asks)) kept; single = kept.single },
+        record { fitting = fitting kept.fitting; over = over_still s t.state op new refl refl (none_of s kept op (asks_closed asks)) kept; single = kept.single },
         each_op (λ other. Stands other x s t.state t.reported) op
             (stands_by op x s t.state t.reported (Asking c) new 1 0 asks (upd_at same_op s.stages op new (is_op op)) (one_is op) refl (omega arith) refl)
             (λ other apart back. stands_still other x s t.state t.reported (upd_other same_op s.stages op new other apart) (none_is op other back) refl (λ has. has)),
       )
 
   finished_all : (m : Nodes) (n : ℕ) (op : OpId) (u : Update) (c : ℕ) (replied : Node → Bool) (s : State) → s.uses n ≡ Updating op u c replied → Keeps s (finish m n op u c s) → KeepsQuiet s (finish m n op u c s)
-  finished_all m n op u c replied s is sound = (
+  finished_all m n op u c replied s is fitting = (
     λ kept.
-        let changes : s.stages op ≡ Changing n = (fit_at s kept.sound n (Updating op u c replied) is).0 in
+        let changes : s.stages op ≡ Changing n = (fit_at s kept.fitting n (Updating op u c replied) is).0 in
         let t = finish m n op u c s in
         let r = Given reply.Ok in
         let y = and_gave x t.reported.gave in
         let closed : t.state.stages op ≡ Closed = upd_at same_op s.stages op Closed (is_op op) in (
           record {
-            sound = sound kept.sound;
+            fitting = fitting kept.fitting;
             over = each_op (λ other. has_answer other y ≡ true → (t.state.stages other ≡ Closed) × (other.number ≤ s.counts other.port)) op
-                (λ _. (closed, open_is_in s kept.sound op (changes_closed changes)))
+                (λ _. (closed, open_is_in s kept.fitting op (changes_closed changes)))
                 (λ other apart _ has.
                 let o = kept.over other (had op r x y refl other apart has) in
                 (upd_other same_op s.stages op Closed other apart ∙ o.0, o.1));
@@ -231,10 +231,10 @@ module _ (x : Answers) where
   -- ---- all single turns
 
   counted_all : (port : ℕ) (s : State) → Keeps s (count_command port s) → KeepsQuiet s (count_command port s)
-  counted_all port s sound = (
+  counted_all port s fitting = (
     λ kept. (
       record {
-        sound = sound kept.sound;
+        fitting = fitting kept.fitting;
         over = λ op has.
             let o = kept.over op has in (
               o.0,
@@ -253,21 +253,21 @@ module _ (x : Answers) where
     alone = λ s t first. first.0;
     before = before_all;
     behind = behind_all;
-    stays = λ s. quiet s (becomes s) refl refl refl refl refl (λ sound. sound);
-    counted = λ port s. counted_all port s ((sound_singly m).counted port s);
+    stays = λ s. quiet s (becomes s) refl refl refl refl refl (λ fitting. fitting);
+    counted = λ port s. counted_all port s ((fitting_singly m).counted port s);
     lasts = λ op pid s new. new;
-    answered = λ op r s new. answer_keeps op r s (answer op r s) refl refl refl refl refl new ((sound_singly m).answered op r s new.0);
-    opened = λ op u s new _. opened_all op u s new ((sound_singly m).opened op u s new.0 tt);
-    made = λ op s new. answer_keeps op (Given (reply.Made (pid_of m.own (s.processes + 1)))) s (make m op s) refl refl refl refl refl new ((sound_singly m).made op s new.0);
-    attempted = λ lead op u s waits. attempted_all lead op u s waits ((sound_singly m).attempted lead op u s waits);
-    asked = λ who c op u lead st s is. quiet s (ask m who c op u lead st s) refl refl refl refl refl ((sound_singly m).asked who c op u lead st s is);
-    given_up = λ c op u lead st s is none. given_up_all m c op u lead st s is ((sound_singly m).given_up c op u lead st s is none);
-    begun = λ c op u lead st s is all. begun_all m c op u lead st s is ((sound_singly m).begun c op u lead st s is all);
-    finished = λ n op u c replied s is all. finished_all m n op u c replied s is ((sound_singly m).finished n op u c replied s is all);
-    heard = λ c op u lead st p status s is waits. quiet s (count_answer c op u lead st p status s) refl refl refl refl refl ((sound_singly m).heard c op u lead st p status s is waits);
-    confirmed = λ n op u c replied p s is new. quiet s (count_ok n op u c replied p s) refl refl refl refl refl ((sound_singly m).confirmed n op u c replied p s is new);
-    odd = λ what s. quiet s (strange what s) refl refl refl refl refl (λ sound. sound);
-    requested = λ p reference name s. quiet s (lock_request m p reference name s) refl refl refl refl refl ((sound_singly m).requested p reference name s);
-    updated = λ p reference u s. leaves_all s (update_request p reference u s) refl refl refl refl refl ((sound_singly m).updated p reference u s);
-    freed = λ name reference s. quiet s (lock_freed name reference s) refl refl refl refl refl ((sound_singly m).freed name reference s);
+    answered = λ op r s new. answer_keeps op r s (answer op r s) refl refl refl refl refl new ((fitting_singly m).answered op r s new.0);
+    opened = λ op u s new _. opened_all op u s new ((fitting_singly m).opened op u s new.0 tt);
+    made = λ op s new. answer_keeps op (Given (reply.Made (pid_of m.own (s.processes + 1)))) s (make m op s) refl refl refl refl refl new ((fitting_singly m).made op s new.0);
+    attempted = λ lead op u s waits. attempted_all lead op u s waits ((fitting_singly m).attempted lead op u s waits);
+    asked = λ who c op u lead st s is. quiet s (ask m who c op u lead st s) refl refl refl refl refl ((fitting_singly m).asked who c op u lead st s is);
+    given_up = λ c op u lead st s is none. given_up_all m c op u lead st s is ((fitting_singly m).given_up c op u lead st s is none);
+    begun = λ c op u lead st s is all. begun_all m c op u lead st s is ((fitting_singly m).begun c op u lead st s is all);
+    finished = λ n op u c replied s is all. finished_all m n op u c replied s is ((fitting_singly m).finished n op u c replied s is all);
+    heard = λ c op u lead st p status s is waits. quiet s (count_answer c op u lead st p status s) refl refl refl refl refl ((fitting_singly m).heard c op u lead st p status s is waits);
+    confirmed = λ n op u c replied p s is new. quiet s (count_ok n op u c replied p s) refl refl refl refl refl ((fitting_singly m).confirmed n op u c replied p s is new);
+    odd = λ what s. quiet s (strange what s) refl refl refl refl refl (λ fitting. fitting);
+    requested = λ p reference name s. quiet s (lock_request m p reference name s) refl refl refl refl refl ((fitting_singly m).requested p reference name s);
+    updated = λ p reference u s. leaves_all s (update_request p reference u s) refl refl refl refl refl ((fitting_singly m).updated p reference u s);
+    freed = λ name reference s. quiet s (lock_freed name reference s) refl refl refl refl refl ((fitting_singly m).freed name reference s);
   }

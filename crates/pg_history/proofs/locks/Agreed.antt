@@ -10,7 +10,7 @@ use Rattle.pg_step.specs.declared.command.OpId.{OpId}
 use Rattle.pg_step.specs.State.{Use}
 use Rattle.pg_step.specs.State.Use.{Updating}
 use Rattle.pg_step.specs.State.Stage.{Changing}
-use Rattle.pg_history.proofs.references.Soundly.{is_changing}
+use Rattle.pg_history.proofs.references.Fitting.{is_changing}
 use Rattle.pg_history.proofs.locks.Named.{World, Entry, on, of_name, updates}
 use Rattle.pg_history.proofs.locks.Kept.{IsOpOf, updating, opens, answers_of, GoesOut, Tale, live, near, near_live, Inv}
 use Rattle.pg_history.proofs.locks.Telling.{updates-append}
@@ -88,7 +88,7 @@ module _ (w : World) (inv : Inv w) where
 
       changing : (w.node d.last.node).stages d.last.op ≡ Changing d.n
       changing = ap (λ z. (w.node z).stages d.last.op) d.node ∙ (ap (w.node d.i).stages (sym (op_is ((w.node d.i).uses d.n) d.last.op d.command u.op u.update u.lock u.rep u.is))
-          ∙ is_changing (inv.sound d.i) d.n u.op u.update u.lock u.rep u.is)
+          ∙ is_changing (inv.fitting d.i) d.n u.op u.update u.lock u.rep u.is)
 
       apart : e ≡ d.last → ⊥
       apart q =

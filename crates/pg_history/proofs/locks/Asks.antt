@@ -21,7 +21,7 @@ use Rattle.pg_step.specs.State.Stage.{Asking, Changing}
 use Rattle.pg_step.specs.Turns.{NodeTurn}
 use Rattle.pg_step.specs.Peers.{would_grant}
 use Rattle.pg_step.specs.Attempts.{ask, asks, with_asked, own_verdict, is_unasked}
-use Rattle.pg_history.proofs.references.SoundTurns.{relock}
+use Rattle.pg_history.proofs.references.FittingTurns.{relock}
 use Rattle.pg_history.proofs.references.Keys.{atoms, numbers, split, differ, same_is, upd_same, read_other, from_read}
 use Rattle.pg_history.proofs.references.References.{about, about_here, about_sent_other, lent_other, numbered_other, numbered_same}
 use Rattle.pg_history.proofs.locks.Lines.{Line, talk_same, Fits, FitsStatus}
@@ -29,7 +29,7 @@ use Rattle.pg_history.proofs.locks.Lines.Line.{Quiet, Wanting, Having}
 use Rattle.pg_history.proofs.locks.Moves.{refit, asked, asked_self}
 use Rattle.pg_history.proofs.locks.Named.{World, perform}
 use Rattle.pg_history.proofs.locks.Kept.{says, IsUpdateOf, IsUpdating, Inv, near}
-use Rattle.pg_history.proofs.locks.Framed.{Acts, ours_sent, spoken, acts_lines, acts_tidy, locks_here, locks_there, sound_perform, once_same}
+use Rattle.pg_history.proofs.locks.Framed.{Acts, ours_sent, spoken, acts_lines, acts_tidy, locks_here, locks_there, fitting_perform, once_same}
 use Rattle.pg_history.proofs.locks.Telling.{mute_tales, fewer_upd, more_upd, ops_upd, mute_sent}
 use Rattle.pg_history.proofs.locks.Latest.{latest_same, goes_upd}
 use Rattle.pg_history.proofs.locks.Seats.{Sits, seated, false_right, true_both, node_near, to_own, to_own_at, to_near, to_untold}
@@ -144,7 +144,7 @@ module _ (w : World) (a : Node) (peers : List Node) (sits : Sits w.nodes a peers
     seats = inv.seats;
     lines = acts_lines w a c t inv ask_acts (ask_line is inv) (λ k p d n l. subst (λ y. Fits y p l.line) (sym (read_other nat_eq numbers s.uses c (Locking op u lead st') k n)) l.fits);
     tidy = acts_tidy w a c t inv ask_acts;
-    sound = sound_perform w a t inv.sound (relock s (inv.sound a) t.state c op u lead st st' is refl refl refl refl);
+    fitting = fitting_perform w a t inv.fitting (relock s (inv.fitting a) t.state c op u lead st st' is refl refl refl refl);
     tales = mute_tales w a t inv (record {
       applied = refl;
       began = refl;

@@ -27,13 +27,13 @@ use Rattle.pg_history.proofs.locks.Lines.Line.{Quiet, Having, Telling}
 use Rattle.pg_history.proofs.locks.Moves.{refit, reported}
 use Rattle.pg_history.proofs.locks.Named.{World, Entry, perform, on, of_name}
 use Rattle.pg_history.proofs.locks.Kept.{talk, near, live, live_own, near_live, IsUpdateOf, IsOpOf, updating, IsUpdating, GoesOut, Latest, Inv, carried, Tale, opens, answers_of}
-use Rattle.pg_history.proofs.locks.Framed.{Acts, ours_sent, spoken, acts_lines, acts_tidy, acts_about, locks_here, locks_there, sound_perform, once_same}
+use Rattle.pg_history.proofs.locks.Framed.{Acts, ours_sent, spoken, acts_lines, acts_tidy, acts_about, locks_here, locks_there, fitting_perform, once_same}
 use Rattle.pg_history.proofs.locks.Telling.{tell_same, tell_more, fewer_upd, more_upd, tale_same, use_read, on-append, of_name-append}
 use Rattle.pg_history.proofs.locks.Latest.{GoesOn, parted, entry_name, updating_of, goes_upd, still_out, answered_same}
 use Rattle.pg_history.proofs.locks.Seats.{Sits, seated, to_own, to_own_at, to_near}
 use Rattle.pg_history.proofs.locks.Stages.{commands}
-use Rattle.pg_history.proofs.references.Soundly.{is_asking}
-use Rattle.pg_history.proofs.references.SoundTurns.{begun_keeps}
+use Rattle.pg_history.proofs.references.Fitting.{is_asking}
+use Rattle.pg_history.proofs.references.FittingTurns.{begun_keeps}
 use Rattle.pg_history.proofs.locks.Unique.{update_is, update_owner, update_holds, one_ref, yes_holds}
 
 -- the uses when an update begins
@@ -72,7 +72,7 @@ module _ (w : World) (a : Node) (peers : List Node) (sits : Sits w.nodes a peers
   own_uses = upd nat_eq s.uses c (Owning N n)
 
   fresh : Inv w → s.uses n ≡ Fresh
-  fresh inv = (inv.sound a).fresh n (omega arith)
+  fresh inv = (inv.fitting a).fresh n (omega arith)
 
   begin_acts : Acts w a n t
   begin_acts = record {
@@ -271,10 +271,10 @@ module _ (w : World) (a : Node) (peers : List Node) (sits : Sits w.nodes a peers
         subst (λ z. Fits z p y.line) (sym (read_other nat_eq numbers own_uses n new k l))
         (at_read nat_eq numbers (λ z. Fits z p y.line) s.uses c (Owning N n) k (λ q. has k p d q y) (λ j. y.fits)));
     tidy = acts_tidy w a n t inv begin_acts;
-    sound = sound_perform w a t inv.sound (begun_keeps s (inv.sound a) m c op u lead st is);
+    fitting = fitting_perform w a t inv.fitting (begun_keeps s (inv.fitting a) m c op u lead st is);
     tales = begin_tale la is all inv;
     once = once_same w a t refl (λ o. at_read same_op commands (λ v. opens v ≡ opens (s.stages o)) s.stages op (Changing n) o
-        (λ e. sym (ap (λ y. opens (s.stages y)) e ∙ ap opens (is_asking (inv.sound a) c op u lead st is))) (λ d. refl)) (λ port. omega arith) inv.once;
+        (λ e. sym (ap (λ y. opens (s.stages y)) e ∙ ap opens (is_asking (inv.fitting a) c op u lead st is))) (λ d. refl)) (λ port. omega arith) inv.once;
     latest = begin_latest la is all inv;
   }
     where

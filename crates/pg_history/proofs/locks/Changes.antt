@@ -22,10 +22,10 @@ use Rattle.pg_history.proofs.locks.Lines.Line.{Telling}
 use Rattle.pg_history.proofs.locks.Moves.{applied, change_line}
 use Rattle.pg_history.proofs.locks.Named.{World, perform, popped, on, of_name}
 use Rattle.pg_history.proofs.locks.Kept.{talk, near, live, near_live, IsUpdateOf, IsOpOf, carried, Tale, Inv}
-use Rattle.pg_history.proofs.locks.Framed.{sound_perform, read_same, once_same}
+use Rattle.pg_history.proofs.locks.Framed.{fitting_perform, read_same, once_same}
 use Rattle.pg_history.proofs.locks.Telling.{tell_more, tale_same, mute_sent, carried_mute, history_same, on-append}
 use Rattle.pg_history.proofs.locks.Latest.{latest_same}
-use Rattle.pg_history.proofs.references.Soundly.{same_sound}
+use Rattle.pg_history.proofs.references.Fitting.{same_fitting}
 use Rattle.pg_history.proofs.locks.Pops.{Responds, respond_lines, respond_tidy, refers_other, about_else, wire_here, wire_to, pop_apart}
 use Rattle.pg_history.proofs.locks.Takes.{to_it, not_to, ours_reply}
 use Rattle.pg_history.proofs.locks.Unique.{one_update}
@@ -173,7 +173,7 @@ module _ (w : World) (a p : Node) (c : ℕ) (u : Update) (rest : List Message) (
     lines = respond_lines w a p c x rest t inv meets is (numbered_same p c) responds
         (λ l. talk_same (applied u l) refl refl (ap (λ o. about (numbered p c) (w.wire a p) ++ o) (to_it p c said (numbered_same p c))) (λ M. refl));
     tidy = respond_tidy w a p c x rest t inv meets is (numbered_same p c) responds;
-    sound = sound_perform w' a t inv.sound (same_sound s t.state refl refl refl refl (inv.sound a));
+    fitting = fitting_perform w' a t inv.fitting (same_fitting s t.state refl refl refl refl (inv.fitting a));
     tales = tale;
     once = once_same w' a t refl (λ o. refl) (λ port. omega arith) inv.once;
     latest = latest_same w' a t refl refl (λ o v k h. h) inv.latest;

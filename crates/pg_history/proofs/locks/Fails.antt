@@ -26,13 +26,13 @@ use Rattle.pg_history.proofs.locks.Lines.Line.{Having}
 use Rattle.pg_history.proofs.locks.Moves.{refit, freed, freed_own}
 use Rattle.pg_history.proofs.locks.Named.{World, perform}
 use Rattle.pg_history.proofs.locks.Kept.{says, IsUpdateOf, IsUpdating, Inv, near, live, live_own, opens}
-use Rattle.pg_history.proofs.locks.Framed.{Acts, ours_sent, spoken, acts_lines, acts_tidy, locks_here, locks_there, sound_perform, once_same}
+use Rattle.pg_history.proofs.locks.Framed.{Acts, ours_sent, spoken, acts_lines, acts_tidy, locks_here, locks_there, fitting_perform, once_same}
 use Rattle.pg_history.proofs.locks.Telling.{mute_tales, fewer_upd, more_upd, ops_upd, mute_sent}
 use Rattle.pg_history.proofs.locks.Latest.{latest_same, goes_upd}
 use Rattle.pg_history.proofs.locks.Seats.{Sits, seated, true_both, to_own, to_own_at, to_near, to_untold}
 use Rattle.pg_history.proofs.locks.Stages.{commands}
-use Rattle.pg_history.proofs.references.Soundly.{is_asking}
-use Rattle.pg_history.proofs.references.SoundTurns.{given_up_keeps}
+use Rattle.pg_history.proofs.references.Fitting.{is_asking}
+use Rattle.pg_history.proofs.references.FittingTurns.{given_up_keeps}
 
 pub freed_eye : (b : Bool) (locks : Locks) (N : Term) (r : RefParts) → (b ≡ true → is_holder (locks N) r ≡ false) → (M : Term) → is_holder (given_up b locks N M) r ≡ is_holder (locks M) r
 freed_eye true locks N r none M = freed_other locks N r (none refl) M
@@ -134,7 +134,7 @@ module _ (w : World) (a : Node) (peers : List Node) (sits : Sits w.nodes a peers
     seats = inv.seats;
     lines = acts_lines w a c t inv fail_acts (fail_line la is none inv) (λ k p d n l. subst (λ y. Fits y p l.line) (sym (read_other nat_eq numbers s.uses c Spent k n)) l.fits);
     tidy = acts_tidy w a c t inv fail_acts;
-    sound = sound_perform w a t inv.sound (given_up_keeps s (inv.sound a) m c op u lead st is);
+    fitting = fitting_perform w a t inv.fitting (given_up_keeps s (inv.fitting a) m c op u lead st is);
     tales = mute_tales w a t inv (record {
       applied = refl;
       began = refl;
@@ -144,6 +144,6 @@ module _ (w : World) (a : Node) (peers : List Node) (sits : Sits w.nodes a peers
       sends = λ n p. mute_sent (is_peer m p && granted p) x (numbered a n) refl;
     });
     once = once_same w a t refl (λ o. at_read same_op commands (λ v. opens v ≡ opens (s.stages o)) s.stages op (Waiting u) o
-        (λ e. sym (ap (λ y. opens (s.stages y)) e ∙ ap opens (is_asking (inv.sound a) c op u lead st is))) (λ n. refl)) (λ port. omega arith) inv.once;
+        (λ e. sym (ap (λ y. opens (s.stages y)) e ∙ ap opens (is_asking (inv.fitting a) c op u lead st is))) (λ n. refl)) (λ port. omega arith) inv.once;
     latest = latest_same w a t refl refl (λ o v. goes_upd o v s.uses c Spent (λ h. subst (IsUpdating o v) is h)) inv.latest;
   }

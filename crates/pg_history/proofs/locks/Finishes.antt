@@ -24,12 +24,12 @@ use Rattle.pg_history.proofs.locks.Lines.Line.{Quiet}
 use Rattle.pg_history.proofs.locks.Moves.{freed, freed_own}
 use Rattle.pg_history.proofs.locks.Named.{World, perform, on, of_name}
 use Rattle.pg_history.proofs.locks.Kept.{says, talk, near, live, live_own, near_live, IsUpdateOf, IsOpOf, IsUpdating, GoesOut, Latest, Inv, carried, Tale, opens, answers_of}
-use Rattle.pg_history.proofs.locks.Framed.{Acts, ours_sent, spoken, acts_lines, acts_tidy, locks_here, locks_there, sound_perform}
+use Rattle.pg_history.proofs.locks.Framed.{Acts, ours_sent, spoken, acts_lines, acts_tidy, locks_here, locks_there, fitting_perform}
 use Rattle.pg_history.proofs.locks.Telling.{full_same, fewer_upd, more_upd, mute_sent, tale_same, use_read, log_same, history_same, carried_mute, answers-append}
 use Rattle.pg_history.proofs.locks.Seats.{Sits, seated, to_own, to_own_at, to_near, true_both}
 use Rattle.pg_history.proofs.locks.Stages.{commands}
-use Rattle.pg_history.proofs.references.Soundly.{is_changing, is_owning}
-use Rattle.pg_history.proofs.references.SoundTurns.{finished_keeps}
+use Rattle.pg_history.proofs.references.Fitting.{is_changing, is_owning}
+use Rattle.pg_history.proofs.references.FittingTurns.{finished_keeps}
 use Rattle.pg_history.proofs.locks.Weights.{one_only, once_moved}
 use Rattle.pg_history.proofs.locks.Fails.{freed_eye}
 use Rattle.pg_history.proofs.locks.Unique.{owner_holds, one_update}
@@ -73,7 +73,7 @@ module _ (w : World) (a : Node) (peers : List Node) (sits : Sits w.nodes a peers
   t = finish m n op u c s
 
   own : s.uses n ≡ Updating op u c rep → Inv w → s.uses c ≡ Owning N n
-  own is inv = is_owning (inv.sound a) n op u c rep is
+  own is inv = is_owning (inv.fitting a) n op u c rep is
 
   own_has : live w a → s.uses n ≡ Updating op u c rep → Inv w → is_holder (s.locks N) r ≡ true
   own_has la is inv = owner_holds w inv a c N n a (live_own w a la) (own is inv)
@@ -207,16 +207,16 @@ module _ (w : World) (a : Node) (peers : List Node) (sits : Sits w.nodes a peers
         (λ q. quiet_idle y.line (reported k p d q y))
         (λ j. subst (λ z. Fits z p y.line) (sym (read_other nat_eq numbers s.uses c Spent k l)) y.fits));
     tidy = acts_tidy w a c t inv finish_acts;
-    sound = sound_perform w a t inv.sound (finished_keeps s (inv.sound a) m n op u c rep is);
+    fitting = fitting_perform w a t inv.fitting (finished_keeps s (inv.fitting a) m n op u c rep is);
     tales = finish_tale la is all inv;
     once = once_moved w a t op Closed 1 refl (λ i o. one_only (same_atom i a && same_op o op)) (λ port. omega arith)
-        (λ lt. let closed : s.stages op ≡ Closed = (inv.sound a).closed op lt in cc changing)
+        (λ lt. let closed : s.stages op ≡ Closed = (inv.fitting a).closed op lt in cc changing)
         (let p : opens (s.stages op) ≡ 1 = ap opens changing in let q : opens (s.stages op) + answers_of a op w.answered ≤ 1 = inv.once.known a op in omega (arith, p, q)) inv.once;
     latest = finish_latest is inv;
   }
     where
       changing : s.stages op ≡ Changing n
-      changing = is_changing (inv.sound a) n op u c rep is
+      changing = is_changing (inv.fitting a) n op u c rep is
 
       quiet_idle : (l : Line) → l ≡ Quiet → IsIdle l
       quiet_idle l e = subst IsIdle (sym e) tt

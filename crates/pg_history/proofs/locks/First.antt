@@ -13,7 +13,7 @@ use Rattle.pg_history.proofs.references.References.{about}
 use Rattle.pg_history.proofs.locks.Lines.{Fits}
 use Rattle.pg_history.proofs.locks.Lines.Line.{Quiet}
 use Rattle.pg_history.proofs.locks.Named.{World, Entry, Seated, on, of_name, updates}
-use Rattle.pg_history.specs.Sound.{Sound, Fits as SoundFits}
+use Rattle.pg_history.specs.ReferencesFit.{ReferencesFit, Fits as SoundFits}
 use Rattle.pg_history.proofs.locks.Kept.{IsOurs, answers_of, carried, talk, Inv, opens}
 
 -- no lock is held, no reference made, no command given, nothing about a reference is on the way, and nothing applied
@@ -38,7 +38,7 @@ first_holds w first = record {
   seats = first.seats;
   lines = λ i c p m. line i c p;
   tidy = record { own = first.own; stray = λ x y h c n m. first.plain x y (numbered h c); ours = first.ours };
-  sound = sound;
+  fitting = fitting;
   tales = λ N p lp. inl (record {
     thin = ap (on N) (first.log p) ∙ sym (ap (λ es. updates (of_name N es)) first.history);
     clear = λ i n li u. ap carried (first.plain i p (numbered i n));
@@ -62,8 +62,8 @@ first_holds w first = record {
       hold_is = λ M. ap (λ o. is_holder o (numbered i c)) (first.locks p M);
     }
 
-    sound : (i : Node) → Sound (w.node i)
-    sound i = record {
+    fitting : (i : Node) → ReferencesFit (w.node i)
+    fitting i = record {
       fresh = λ c lt. first.uses i c;
       fits = λ c. subst (λ x. SoundFits c x (w.node i).stages (w.node i).uses) (sym (first.uses i c)) tt;
       closed = λ op lt. first.stages i op;

@@ -18,7 +18,7 @@ use Rattle.pg_history.proofs.steps.Ways.{all_both}
 use Rattle.pg_history.proofs.locks.Lines.{talk_same, Fits}
 use Rattle.pg_history.proofs.locks.Moves.{refit}
 use Rattle.pg_history.proofs.locks.Named.{World, perform, answer_of}
-use Rattle.pg_history.specs.Sound.{Sound}
+use Rattle.pg_history.specs.ReferencesFit.{ReferencesFit}
 use Rattle.pg_history.proofs.locks.Kept.{says, talk, Lines, Tidy, IsOurs, answers_of, Inv, Mine, Theirs, near, lines_perform, opens, Once}
 
 -- a turn that is about one reference of the node's own
@@ -108,8 +108,8 @@ ours_sent a q false x is = tt
 pub acts_tidy : (w : World) (a : Node) (c : ℕ) (t : NodeTurn) → Inv w → Acts w a c t → Tidy (perform w a t).wire
 acts_tidy w a c t inv acts = tidy_perform w a t inv.tidy acts.silent (λ h k y na ny. acts.sends h k y (inl (λ e. na (sym e)))) acts.ours
 
-pub sound_perform : (w : World) (a : Node) (t : NodeTurn) → ((i : Node) → Sound (w.node i)) → Sound t.state → (i : Node) → Sound ((perform w a t).node i)
-sound_perform w a t sound s i = at_read same_atom atoms Sound w.node a t.state i (λ e. s) (λ n. sound i)
+pub fitting_perform : (w : World) (a : Node) (t : NodeTurn) → ((i : Node) → ReferencesFit (w.node i)) → ReferencesFit t.state → (i : Node) → ReferencesFit ((perform w a t).node i)
+fitting_perform w a t fitting s i = at_read same_atom atoms ReferencesFit w.node a t.state i (λ e. s) (λ n. fitting i)
 
 -- what is read of one node, where node a changes and the reading does not
 pub read_same : {A : Type 0} (w : World) (a : Node) (s : State) (f : State → A) → f s ≡ f (w.node a) → (i : Node) → f (upd same_atom w.node a s i) ≡ f (w.node i)

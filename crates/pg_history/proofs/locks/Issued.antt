@@ -170,7 +170,7 @@ module _ (w : World) (a : Node) (peers : List Node) (sits : Sits w.nodes a peers
 
       unopened : (n : State) → n ≡ (count_command port s).state → Unopened n op
       unopened n e = record {
-        closed = ap (λ (n : State). n.stages op) e ∙ (inv.sound a).closed op (omega arith);
+        closed = ap (λ (n : State). n.stages op) e ∙ (inv.fitting a).closed op (omega arith);
         counted =
             let is : n.counts port ≡ s.counts port + 1 = ap (λ (n : State). n.counts port) e ∙ upd_same nat_eq numbers s.counts port (s.counts port + 1) in
             omega arith;

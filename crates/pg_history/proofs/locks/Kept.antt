@@ -18,7 +18,7 @@ use Rattle.pg_step.specs.State.{State, Status, Use, Stage}
 use Rattle.pg_step.specs.State.Use.{Fresh, Locking, Owning, Updating}
 use Rattle.pg_step.specs.State.Stage.{Closed, Asking, Changing}
 use Rattle.pg_step.specs.Turns.{NodeTurn}
-use Rattle.pg_history.specs.Sound.{Sound}
+use Rattle.pg_history.specs.ReferencesFit.{ReferencesFit}
 use Rattle.pg_history.proofs.references.Keys.{atoms, cases, upd_at, upd_same, upd_other}
 use Rattle.pg_history.proofs.references.References.{about, about-append}
 use Rattle.pg_history.proofs.locks.Lines.{Talk, talk_same}
@@ -190,7 +190,7 @@ pub record Inv (w : World) : Type 0 where
   pub seats : Seated w.nodes w.seat
   pub lines : Lines w
   pub tidy : Tidy w.wire
-  pub sound : (i : Node) → Sound (w.node i)
+  pub fitting : (i : Node) → ReferencesFit (w.node i)
   pub tales : (N : Term) (p : Node) → live w p → Tale w N p
   pub once : Once w.node w.answered
   pub latest : Latest w

@@ -25,10 +25,10 @@ use Rattle.pg_history.proofs.locks.Lines.{Talk, talk_same, Fits, FitsStatus, Fit
 use Rattle.pg_history.proofs.locks.Moves.{refit, granted_back, denied_back, applied_back}
 use Rattle.pg_history.proofs.locks.Named.{World, perform, popped}
 use Rattle.pg_history.proofs.locks.Kept.{says, talk, near, near_swap, Lines, IsUpdateOf, IsOpOf, updating, IsUpdating, carried, Inv, Mine, Theirs, lines_perform}
-use Rattle.pg_history.proofs.locks.Framed.{read_same, sound_perform, tidy_perform, once_same}
+use Rattle.pg_history.proofs.locks.Framed.{read_same, fitting_perform, tidy_perform, once_same}
 use Rattle.pg_history.proofs.locks.Telling.{mute_told, fewer_upd, more_upd, ops_upd}
 use Rattle.pg_history.proofs.locks.Latest.{latest_same, goes_upd}
-use Rattle.pg_history.proofs.references.SoundTurns.{relock, confirmed_keeps}
+use Rattle.pg_history.proofs.references.FittingTurns.{relock, confirmed_keeps}
 use Rattle.pg_history.proofs.locks.Pops.{refers_other, wire_here, wire_to, wire_from, about_else, pop_apart, pop_tidy, pop_told}
 
 -- a reply is taken: the use of one reference changes
@@ -102,7 +102,7 @@ counted_keeps w a p c op u lead st v x rest of_a none move inv meets is use_is =
       (λ l. move (upd same_atom st p v) (about (numbered a c) (w.wire a p)) (about (numbered a c) rest) (w.node p).locks (upd_same same_atom atoms st p v) (talk_same l (sym use_is) refl refl (λ M. refl)))
       (λ q n m l. subst (λ y. FitsStatus (name_of u) y l.line) (sym (read_other same_atom atoms st p v q n)) (subst (λ y. Fits y q l.line) use_is l.fits));
   tidy = tidy_perform w' a t (pop_tidy w a p x rest inv.tidy is) refl (λ h k y n m. refl) (λ y. tt);
-  sound = sound_perform w' a t inv.sound (relock s (inv.sound a) t.state c op u lead st (upd same_atom st p v) use_is refl refl refl refl);
+  fitting = fitting_perform w' a t inv.fitting (relock s (inv.fitting a) t.state c op u lead st (upd same_atom st p v) use_is refl refl refl refl);
   tales = mute_told w' a t (pop_told w a p x rest inv is none) (record {
     applied = refl;
     began = refl;
@@ -144,7 +144,7 @@ replied_keeps w a p n op u c rep rest inv meets is use_is = record {
       (λ l. applied_back (talk_same l (sym use_is) refl refl (λ M. refl)) (upd_same same_atom atoms rep p true))
       (λ q d m l. subst (λ y. FitsReply u y l.line) (sym (read_other same_atom atoms rep p true q d)) (subst (λ y. Fits y q l.line) use_is l.fits));
   tidy = tidy_perform w' a t (pop_tidy w a p x rest inv.tidy is) refl (λ h k y d m. refl) (λ y. tt);
-  sound = sound_perform w' a t inv.sound (confirmed_keeps s (inv.sound a) t.state n op u c rep (upd same_atom rep p true) use_is refl refl refl refl);
+  fitting = fitting_perform w' a t inv.fitting (confirmed_keeps s (inv.fitting a) t.state n op u c rep (upd same_atom rep p true) use_is refl refl refl refl);
   tales = mute_told w' a t (pop_told w a p x rest inv is refl) (record {
     applied = refl;
     began = refl;

@@ -108,7 +108,7 @@ module _ (w : World) (a p : Node) (x : Message) (rest : List Message) where
     seats = inv.seats;
     lines = λ i c q m. talk_same (inv.lines i c q m) refl (about_else is (numbered i c) (plain (numbered i c)) i q) (about_else is (numbered i c) (plain (numbered i c)) q i) (λ M. refl);
     tidy = pop_tidy inv.tidy is;
-    sound = inv.sound;
+    fitting = inv.fitting;
     tales = pop_told inv is none;
     once = inv.once;
     latest = inv.latest;

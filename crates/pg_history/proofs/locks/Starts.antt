@@ -23,11 +23,11 @@ use Rattle.pg_history.proofs.references.References.{about}
 use Rattle.pg_history.proofs.locks.Lines.{talk_same, Fits}
 use Rattle.pg_history.proofs.locks.Named.{World, perform}
 use Rattle.pg_history.proofs.locks.Kept.{IsOurs, IsUpdateOf, IsOpOf, IsUpdating, carried, Inv, lines_perform, opens, answers_of}
-use Rattle.pg_history.proofs.locks.Framed.{still_lines, still_tidy, sound_perform, tidy_perform, read_same, once_same}
+use Rattle.pg_history.proofs.locks.Framed.{still_lines, still_tidy, fitting_perform, tidy_perform, read_same, once_same}
 use Rattle.pg_history.proofs.locks.Telling.{mute_tales, fewer_upd, more_upd, ops_upd}
 use Rattle.pg_history.proofs.locks.Stages.{commands}
-use Rattle.pg_history.proofs.references.Soundly.{same_sound, counted_keeps, opened_keeps}
-use Rattle.pg_history.proofs.references.SoundTurns.{attempted_keeps}
+use Rattle.pg_history.proofs.references.Fitting.{same_fitting, counted_keeps, opened_keeps}
+use Rattle.pg_history.proofs.references.FittingTurns.{attempted_keeps}
 use Rattle.pg_history.proofs.locks.Latest.{latest_same, goes_upd}
 
 -- ---- a turn that is about no reference and no command
@@ -54,7 +54,7 @@ idle_keeps w a t inv idle = record {
       (λ i k m n. talk_same (inv.lines i k a m) refl refl (quiet i k i) (λ M. ap (λ (f : Locks). is_holder (f M) (numbered i k)) idle.locks))
       (λ i k p m n d. inv.lines i k p m);
   tidy = tidy_perform w a t inv.tidy idle.silent (λ h k y na ny. idle.sends (numbered h k) y) idle.ours;
-  sound = sound_perform w a t inv.sound (same_sound (w.node a) t.state idle.references idle.uses idle.stages idle.counts (inv.sound a));
+  fitting = fitting_perform w a t inv.fitting (same_fitting (w.node a) t.state idle.references idle.uses idle.stages idle.counts (inv.fitting a));
   tales = mute_tales w a t inv (record {
     applied = idle.applied;
     began = idle.began;
@@ -77,7 +77,7 @@ count_keeps w a port inv = record {
   seats = inv.seats;
   lines = still_lines w a t.state inv (λ M. refl) (λ k p m l. l.fits);
   tidy = still_tidy w a t.state inv;
-  sound = sound_perform w a t inv.sound (counted_keeps port (w.node a) (inv.sound a));
+  fitting = fitting_perform w a t inv.fitting (counted_keeps port (w.node a) (inv.fitting a));
   tales = mute_tales w a t inv (record { applied = refl; began = refl; fewer = λ M n h. h; more = λ M n h. h; ops = λ M n h op is. is; sends = λ n p. refl });
   once = once_same w a t refl (λ op. refl) (λ p. at_read nat_eq numbers (λ n. (w.node a).counts p ≤ n) (w.node a).counts port ((w.node a).counts port + 1) p
       (λ e. let same : (w.node a).counts p ≡ (w.node a).counts port = ap (w.node a).counts e in omega (arith, same)) (λ n. omega arith)) inv.once;
@@ -92,7 +92,7 @@ open_keeps w a op u inv closed known none = record {
   seats = inv.seats;
   lines = still_lines w a t.state inv (λ M. refl) (λ k p m l. l.fits);
   tidy = still_tidy w a t.state inv;
-  sound = sound_perform w a t inv.sound (opened_keeps op u s (closed, known) (inv.sound a));
+  fitting = fitting_perform w a t inv.fitting (opened_keeps op u s (closed, known) (inv.fitting a));
   tales = mute_tales w a t inv (record { applied = refl; began = refl; fewer = λ M n h. h; more = λ M n h. h; ops = λ M n h o is. is; sends = λ n p. refl });
   once = once_moved w a t op (Waiting u) 0 refl (λ i o. none_only (same_atom i a && same_op o op)) (λ port. omega arith) (λ lt. omega arith) (omega (arith, none)) inv.once;
   latest = latest_same w a t refl refl (λ o v k h. h) inv.latest;
@@ -112,7 +112,7 @@ start_keeps w a lead op u inv is = record {
   lines = still_lines w a t.state inv (λ M. refl) (λ k p m l. at_read nat_eq numbers (λ x. Fits x p l.line) s.uses (s.references + 1) new k
       (λ e. subst (λ x. Fits x p l.line) (ap s.uses e ∙ fresh) l.fits) (λ n. l.fits));
   tidy = still_tidy w a t.state inv;
-  sound = sound_perform w a t inv.sound (attempted_keeps s (inv.sound a) lead op u is);
+  fitting = fitting_perform w a t inv.fitting (attempted_keeps s (inv.fitting a) lead op u is);
   tales = mute_tales w a t inv (record {
     applied = refl;
     began = refl;
@@ -136,4 +136,4 @@ start_keeps w a lead op u inv is = record {
     new = Locking op u lead (λ q. Unasked)
 
     fresh : s.uses (s.references + 1) ≡ Fresh
-    fresh = (inv.sound a).fresh (s.references + 1) (omega arith)
+    fresh = (inv.fitting a).fresh (s.references + 1) (omega arith)

@@ -20,10 +20,10 @@ use Rattle.pg_history.proofs.locks.Lines.{Talk, talk_same}
 use Rattle.pg_history.proofs.locks.Moves.{set_yes, set_no, del_holds, del_done}
 use Rattle.pg_history.proofs.locks.Named.{World, perform, popped}
 use Rattle.pg_history.proofs.locks.Kept.{says, talk, near, IsOurs, Inv}
-use Rattle.pg_history.proofs.locks.Framed.{sound_perform, once_same}
+use Rattle.pg_history.proofs.locks.Framed.{fitting_perform, once_same}
 use Rattle.pg_history.proofs.locks.Telling.{mute_told, mute_sent}
 use Rattle.pg_history.proofs.locks.Latest.{latest_same}
-use Rattle.pg_history.proofs.references.Soundly.{same_sound}
+use Rattle.pg_history.proofs.references.Fitting.{same_fitting}
 use Rattle.pg_history.proofs.locks.Asks.{free_none, lent_eye}
 use Rattle.pg_history.proofs.locks.Fails.{freed_eye}
 use Rattle.pg_history.proofs.locks.Pops.{Responds, respond_lines, respond_tidy, pop_told}
@@ -75,7 +75,7 @@ lend_keeps w a p b c N rest free inv meets is = record {
   seats = inv.seats;
   lines = respond_lines w a p c x rest t inv meets is (numbered_same p c) responds (lend_act b s a p c N ((w.node p).uses c) (about (numbered p c) rest) (about (numbered p c) (w.wire a p)));
   tidy = respond_tidy w a p c x rest t inv meets is (numbered_same p c) responds;
-  sound = sound_perform v a t inv.sound (same_sound s t.state refl refl refl refl (inv.sound a));
+  fitting = fitting_perform v a t inv.fitting (same_fitting s t.state refl refl refl refl (inv.fitting a));
   tales = mute_told v a t (pop_told w a p x rest inv is refl) (record {
     applied = refl;
     began = refl;
@@ -119,7 +119,7 @@ del_keeps w a p c N rest inv meets is = record {
   lines = respond_lines w a p c x rest t inv meets is (numbered_same p c) responds
       (λ l. talk_same (del_done N l) refl refl (append-nil (about (numbered p c) (w.wire a p))) (λ M. ap (λ (f : Locks). is_holder (f M) (numbered p c)) unlocked));
   tidy = respond_tidy w a p c x rest t inv meets is (numbered_same p c) responds;
-  sound = sound_perform v a t inv.sound (same_sound s t.state refl refl refl refl (inv.sound a));
+  fitting = fitting_perform v a t inv.fitting (same_fitting s t.state refl refl refl refl (inv.fitting a));
   tales = mute_told v a t (pop_told w a p x rest inv is refl) (record { applied = refl; began = refl; fewer = λ M n h. h; more = λ M n h. h; ops = λ M n h o g. g; sends = λ n q. refl });
   once = once_same v a t refl (λ o. refl) (λ port. omega arith) inv.once;
   latest = latest_same v a t refl refl (λ o u k h. h) inv.latest;

@@ -11,7 +11,7 @@ use Rattle.pg_step.specs.Nodes.{Node}
 use Rattle.pg_step.specs.State.{Status, Use}
 use Rattle.pg_step.specs.State.Status.{Yes}
 use Rattle.pg_step.specs.State.Use.{Fresh, Spent, Locking, Owning, Updating}
-use Rattle.pg_history.proofs.references.Soundly.{is_owning}
+use Rattle.pg_history.proofs.references.Fitting.{is_owning}
 use Rattle.pg_history.proofs.references.Keys.{terms}
 use Rattle.pg_history.proofs.references.References.{references, numbered_apart}
 use Rattle.pg_history.proofs.locks.Lines.{shows, Fits, FitsStatus}
@@ -54,7 +54,7 @@ module _ (w : World) (inv : Inv w) where
       (shows l (Having (name_of u)) (subst (λ v. FitsStatus (name_of u) v l.line) y f)).hold_is (name_of u) ∙ terms.refl (name_of u)
 
   pub update_owner : (i : Node) (n : ℕ) (N : Term) → (d : IsUpdate N ((w.node i).uses n)) → (w.node i).uses d.lock ≡ Owning N n
-  update_owner i n N d = is_owning (inv.sound i) n d.op d.update d.lock d.rep d.is ∙ ap (λ M. Owning M n) d.name
+  update_owner i n N d = is_owning (inv.fitting i) n d.op d.update d.lock d.rep d.is ∙ ap (λ M. Owning M n) d.name
 
   pub update_holds : (i : Node) (n : ℕ) (N : Term) (p : Node) → near w i p → (d : IsUpdate N ((w.node i).uses n)) → is_holder ((w.node p).locks N) (numbered i d.lock) ≡ true
   update_holds i n N p m d = owner_holds i d.lock N n p m (update_owner i n N d)

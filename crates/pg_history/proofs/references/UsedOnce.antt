@@ -23,13 +23,13 @@ use Rattle.pg_step.specs.FrameMachine.{node_step, machine_of, frame_machine, Fra
 use Rattle.pg_machine.proofs.Sequences.{kept}
 use Rattle.pg_machine.proofs.Plain.{plain_leads}
 use Rattle.pg_history.specs.Reached.{TimedFrameWorld, Reaches}
-use Rattle.pg_history.specs.Sound.{Sound, Follows}
+use Rattle.pg_history.specs.ReferencesFit.{ReferencesFit, Follows}
 use Rattle.pg_history.proofs.steps.Single.{AnyUpdate, OfSingle, acted_so, taken_so}
 use Rattle.pg_history.proofs.steps.Made.{took_so, did_so}
 use Rattle.pg_history.proofs.steps.Ways.{state_after}
-use Rattle.pg_history.proofs.references.Soundly.{NewOp, elsewhere}
-use Rattle.pg_history.proofs.references.SoundRuns.{sound_singly, new_op, sound_timed}
-use Rattle.pg_history.proofs.references.Soundly.{same_sound}
+use Rattle.pg_history.proofs.references.Fitting.{NewOp, elsewhere}
+use Rattle.pg_history.proofs.references.FittingRuns.{fitting_singly, new_op, fitting_timed}
+use Rattle.pg_history.proofs.references.Fitting.{same_fitting}
 
 -- ---- uses
 
@@ -100,7 +100,7 @@ abbrev AllFollow : State → State → Type 0
 AllFollow s t = (c : ℕ) → Follows (s.uses c) (t.uses c)
 
 abbrev Goes : State → NodeTurn → Type 0
-Goes s t = Sound s → Sound t.state × AllFollow s t.state
+Goes s t = ReferencesFit s → ReferencesFit t.state × AllFollow s t.state
 
 -- one use changes
 put : (uses : ℕ → Use) (k : ℕ) (new : Use) → Follows (uses k) new → (c : ℕ) → Follows (uses c) (upd nat_eq uses k new c)
@@ -110,19 +110,19 @@ put uses k new f c = upd_by nat_eq uses k (λ x. Follows (uses c) x) new c (λ s
 relocks : (uses : ℕ → Use) (c : ℕ) (op : OpId) (u : Update) (lead : Node) (st later : Node → Status) → uses c ≡ Locking op u lead st → (d : ℕ) → Follows (uses d) (upd nat_eq uses c (Locking op u lead later) d)
 relocks uses c op u lead st later is = put uses c (Locking op u lead later) (subst (λ x. Follows x (Locking op u lead later)) (sym is) (refl, refl))
 
-both : (s t v : State) → (Sound s → Sound t × AllFollow s t) → (Sound t → Sound v × AllFollow t v) → Sound s → Sound v × AllFollow s v
-both s t v a b sound =
-    let x = a sound in
+both : (s t v : State) → (ReferencesFit s → ReferencesFit t × AllFollow s t) → (ReferencesFit t → ReferencesFit v × AllFollow t v) → ReferencesFit s → ReferencesFit v × AllFollow s v
+both s t v a b fitting =
+    let x = a fitting in
     let y = b x.0 in
     (y.0, λ c. follows_then (s.uses c) (t.uses c) (v.uses c) (x.1 c) (y.1 c))
 
 none : (s : State) → AllFollow s s
 none s c = follows_same (s.uses c)
 
-module _ (m : Nodes) (s : State) (sound : Sound s) where
+module _ (m : Nodes) (s : State) (fitting : ReferencesFit s) where
   attempts : (lead : Node) (op : OpId) (u : Update) (c : ℕ) → Follows (s.uses c) (upd nat_eq s.uses (s.references + 1) (Locking op u lead (λ q. Unasked)) c)
   attempts lead op u = put s.uses (s.references + 1) (Locking op u lead (λ q. Unasked))
-      (from_fresh (s.uses (s.references + 1)) (Locking op u lead (λ q. Unasked)) (sound.fresh (s.references + 1) (omega arith)))
+      (from_fresh (s.uses (s.references + 1)) (Locking op u lead (λ q. Unasked)) (fitting.fresh (s.references + 1) (omega arith)))
 
   begins : (c : ℕ) (op : OpId) (u : Update) (lead : Node) (st : Node → Status) → s.uses c ≡ Locking op u lead st
       → (d : ℕ) → Follows (s.uses d) (upd nat_eq (upd nat_eq s.uses c (Owning (name_of u) (s.references + 1))) (s.references + 1) (Updating op u c (same_atom m.own)) d)
@@ -144,7 +144,7 @@ module _ (m : Nodes) (s : State) (sound : Sound s) where
       owned = upd nat_eq s.uses c own
 
       fresh : s.uses r ≡ Fresh
-      fresh = sound.fresh r (omega arith)
+      fresh = fitting.fresh r (omega arith)
 
       locks_not : {x : Use} → x ≡ Fresh → x ≡ Locking op u lead st → ⊥
       locks_not e f = absurd (cc)
@@ -157,61 +157,61 @@ follows_singly m = record {
   alone = λ s t goes. goes;
   before = λ s t next _ a b. both s t.state (next t.state).state a b;
   behind = λ s t next _ a b. both s t.state (next t.state).state a b;
-  stays = λ s sound. (sound, none s);
-  counted = λ port s sound. (k.counted port s sound, none s);
+  stays = λ s fitting. (fitting, none s);
+  counted = λ port s fitting. (k.counted port s fitting, none s);
   lasts = λ op pid s new. new;
-  answered = λ op response s new sound. (k.answered op response s new sound, none s);
-  opened = λ op u s new asks sound. (k.opened op u s new asks sound, none s);
-  made = λ op s new sound. (k.made op s new sound, none s);
-  attempted = λ lead op u s waits sound. (k.attempted lead op u s waits sound, attempts m s sound lead op u);
-  asked = λ who c op u lead st s is sound. (k.asked who c op u lead st s is sound, relocks s.uses c op u lead st _ is);
-  given_up = λ c op u lead st s is missing sound. (k.given_up c op u lead st s is missing sound, put s.uses c Spent (may_end (s.uses c)));
-  begun = λ c op u lead st s is all sound. (k.begun c op u lead st s is all sound, begins m s sound c op u lead st is);
-  finished = λ n op u c replied s is all sound. (
-    k.finished n op u c replied s is all sound,
+  answered = λ op response s new fitting. (k.answered op response s new fitting, none s);
+  opened = λ op u s new asks fitting. (k.opened op u s new asks fitting, none s);
+  made = λ op s new fitting. (k.made op s new fitting, none s);
+  attempted = λ lead op u s waits fitting. (k.attempted lead op u s waits fitting, attempts m s fitting lead op u);
+  asked = λ who c op u lead st s is fitting. (k.asked who c op u lead st s is fitting, relocks s.uses c op u lead st _ is);
+  given_up = λ c op u lead st s is missing fitting. (k.given_up c op u lead st s is missing fitting, put s.uses c Spent (may_end (s.uses c)));
+  begun = λ c op u lead st s is all fitting. (k.begun c op u lead st s is all fitting, begins m s fitting c op u lead st is);
+  finished = λ n op u c replied s is all fitting. (
+    k.finished n op u c replied s is all fitting,
     λ d. follows_then (s.uses d) (upd nat_eq s.uses c Spent d) (upd nat_eq (upd nat_eq s.uses c Spent) n Spent d)
         (put s.uses c Spent (may_end (s.uses c)) d) (put (upd nat_eq s.uses c Spent) n Spent (may_end (upd nat_eq s.uses c Spent n)) d),
   );
-  heard = λ c op u lead st p status s is was sound. (k.heard c op u lead st p status s is was sound, relocks s.uses c op u lead st _ is);
-  confirmed = λ n op u c replied p s is was sound. (
-    k.confirmed n op u c replied p s is was sound,
+  heard = λ c op u lead st p status s is was fitting. (k.heard c op u lead st p status s is was fitting, relocks s.uses c op u lead st _ is);
+  confirmed = λ n op u c replied p s is was fitting. (
+    k.confirmed n op u c replied p s is was fitting,
     put s.uses n (Updating op u c (upd same_atom replied p true)) (subst (λ x. Follows x (Updating op u c (upd same_atom replied p true))) (sym is) (refl, refl, refl)),
   );
-  odd = λ what s sound. (sound, none s);
-  requested = λ p reference name s sound. (k.requested p reference name s sound, none s);
-  updated = λ p reference u s sound. (k.updated p reference u s sound, none s);
-  freed = λ name reference s sound. (k.freed name reference s sound, none s);
+  odd = λ what s fitting. (fitting, none s);
+  requested = λ p reference name s fitting. (k.requested p reference name s fitting, none s);
+  updated = λ p reference u s fitting. (k.updated p reference u s fitting, none s);
+  freed = λ name reference s fitting. (k.freed name reference s fitting, none s);
 }
   where
-    k : OfSingle m NewOp AnyUpdate (λ s t. Sound s → Sound t.state) (λ s t. Sound s → Sound t.state)
-    k = sound_singly m
+    k : OfSingle m NewOp AnyUpdate (λ s t. ReferencesFit s → ReferencesFit t.state) (λ s t. ReferencesFit s → ReferencesFit t.state)
+    k = fitting_singly m
 
 -- ---- runs
 
-same_state : (s t : State) → t.references ≡ s.references → t.uses ≡ s.uses → t.stages ≡ s.stages → t.counts ≡ s.counts → Sound s → Sound t × AllFollow s t
-same_state s t references uses stages counts sound = (same_sound s t references uses stages counts sound, λ c. subst (λ f. Follows (s.uses c) (f c)) (sym uses) (follows_same (s.uses c)))
+same_state : (s t : State) → t.references ≡ s.references → t.uses ≡ s.uses → t.stages ≡ s.stages → t.counts ≡ s.counts → ReferencesFit s → ReferencesFit t × AllFollow s t
+same_state s t references uses stages counts fitting = (same_fitting s t references uses stages counts fitting, λ c. subst (λ f. Follows (s.uses c) (f c)) (sym uses) (follows_same (s.uses c)))
 
-step_follows : (config : Config) (i : ℕ) (s : State) (input : Input Message Action) (turn : Turn State Message Report) → node_step config i s input ≡ Some turn → Sound s → Sound turn.state × AllFollow s turn.state
-step_follows config i s (Taken p x) turn is sound =
+step_follows : (config : Config) (i : ℕ) (s : State) (input : Input Message Action) (turn : Turn State Message Report) → node_step config i s input ≡ Some turn → ReferencesFit s → ReferencesFit turn.state × AllFollow s turn.state
+step_follows config i s (Taken p x) turn is fitting =
     let m = left (nodes_at config i) s in
     let t = took_so config i s p x turn is in
-    subst (λ u. Sound u.state × AllFollow s u.state) (sym t.2)
+    subst (λ u. ReferencesFit u.state × AllFollow s u.state) (sym t.2)
     (taken_so m NewOp AnyUpdate Goes Goes (follows_singly m) (name_at config p) x s t.0
-    (λ node groups _ _. same_state s _ refl refl refl refl) (λ pid _. same_state s _ refl refl refl refl) t.1 sound)
-step_follows config i s (Own action) turn is sound =
+    (λ node groups _ _. same_state s _ refl refl refl refl) (λ pid _. same_state s _ refl refl refl refl) t.1 fitting)
+step_follows config i s (Own action) turn is fitting =
     let m = left (nodes_at config i) s in
     let t = did_so config i s action turn is in
-    subst (λ u. Sound u.state × AllFollow s u.state) (sym t.2)
-    (acted_so m NewOp AnyUpdate Goes Goes (follows_singly m) (nodes_at config i) (λ pid u _ _ _. same_state u _ refl refl refl refl) (ports_at config i) action s t.0 (new_op s sound) (λ port c u _ _. tt) t.1 sound)
+    subst (λ u. ReferencesFit u.state × AllFollow s u.state) (sym t.2)
+    (acted_so m NewOp AnyUpdate Goes Goes (follows_singly m) (nodes_at config i) (λ pid u _ _ _. same_state u _ refl refl refl refl) (ports_at config i) action s t.0 (new_op s fitting) (λ port c u _ _. tt) t.1 fitting)
 
 module _ (config : Config) (first : FrameWorld) where
   abbrev HasGone : FrameWorld → Type 0
-  HasGone w = (i : ℕ) → Sound (w.node i) × AllFollow (first.node i) (w.node i)
+  HasGone w = (i : ℕ) → ReferencesFit (w.node i) × AllFollow (first.node i) (w.node i)
 
   event_follows : (w v : FrameWorld) (e : Event Action) → Happened (machine_of config) w e v → HasGone w → HasGone v
   event_follows w v e h gone j =
-      state_after (machine_of config) w v e h (λ s. Sound s × AllFollow (first.node j) s) j
-      (λ same. subst (λ x. Sound h.turn.state × AllFollow (first.node x) h.turn.state) (sym same)
+      state_after (machine_of config) w v e h (λ s. ReferencesFit s × AllFollow (first.node j) s) j
+      (λ same. subst (λ x. ReferencesFit h.turn.state × AllFollow (first.node x) h.turn.state) (sym same)
       (let before = gone (node_of e) in
       let next = step_follows config (node_of e) (w.node (node_of e)) h.input h.turn h.made before.0 in
       (next.0, λ c. follows_then ((first.node (node_of e)).uses c) ((w.node (node_of e)).uses c) (h.turn.state.uses c) (before.1 c) (next.1 c))))
@@ -221,4 +221,4 @@ pub follows_timed : (config : Config) (w v : TimedFrameWorld) (before events : L
     → Follows (((plain w).node i).uses c) (((plain v).node i).uses c)
 follows_timed config w v before events i c reached l =
     (kept (machine_of config) (HasGone config (plain w)) (event_follows config (plain w)) events (plain w) (plain v)
-    (plain_leads (machine_of config) CLOCK_LIMIT events w v l) (λ j. (sound_timed config before w reached j, none ((plain w).node j))) i).1 c
+    (plain_leads (machine_of config) CLOCK_LIMIT events w v l) (λ j. (fitting_timed config before w reached j, none ((plain w).node j))) i).1 c

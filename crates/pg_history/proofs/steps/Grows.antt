@@ -1,4 +1,4 @@
--- What is told behind the rest stands behind the rest of the history.
+-- What is reported after the rest stands after the rest of the history.
 use Rattle.std.proofs.Common.{◌≡◌, Bool, true, false, cond, List, [], ◌∷◌, ◌++◌, refl, ap, sym, ◌∙◌, ℕ}
 use Rattle.std.proofs.lemmas.List.{append_assoc}
 use Rattle.pg_term.specs.declared.term.Term.{Term}

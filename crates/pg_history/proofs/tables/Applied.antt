@@ -1,4 +1,4 @@
--- What a turn makes of the table: it applies the update that it tells, ends a process, or merges the groups of a peer.
+-- What a turn makes of the table: it applies the update that it reports, ends a process, or merges the groups of a peer.
 use Rattle.std.proofs.Common.{◌≡◌, ℕ, Bool, true, false, cond, Option, Some, None, Ok, Err, refl, ap, sym, ◌∙◌}
 use Rattle.pg_term.specs.declared.pid.Pid.{Pid}
 use Rattle.pg_term.specs.Same.{same_pid}

@@ -21,7 +21,7 @@ use Rattle.pg_step.specs.Nodes.{Node}
 use Rattle.pg_step.specs.State.{State, Status}
 use Rattle.pg_step.specs.State.Use.{Fresh, Spent, Locking, Owning, Updating}
 use Rattle.pg_step.proofs.Once.{clash}
-use Rattle.pg_history.specs.Sound.{Sound}
+use Rattle.pg_history.specs.ReferencesFit.{ReferencesFit}
 use Rattle.pg_history.proofs.references.Keys.{terms}
 use Rattle.pg_history.proofs.references.References.{about}
 use Rattle.pg_history.proofs.locks.Lines.{Talk, shows, sent_has, IsIdle}
@@ -30,7 +30,7 @@ use Rattle.pg_history.proofs.locks.Moves.{change_line, applied_line}
 use Rattle.pg_history.proofs.locks.Named.{World, Entry, on, of_name, updates}
 use Rattle.pg_history.proofs.locks.Kept.{Tale, carried}
 use Rattle.pg_history.proofs.places.Unlocked.{NoneHeld}
-use Rattle.pg_history.proofs.references.Soundly.{fit_at}
+use Rattle.pg_history.proofs.references.Fitting.{fit_at}
 
 -- ---- locks
 
@@ -105,9 +105,9 @@ ended_member counts name pid ended gone itself none =
 -- ---- references
 
 -- an attempt that does not count its reference: the next one would have it again, and it is in use
-pub uncounted : (s : State) (op : OpId) (u : Update) (lead : Node) (st : Node → Status) → s.uses (s.references + 1) ≡ Locking op u lead st → Sound s → ⊥
-uncounted s op u lead st used sound = let fresh : s.uses (s.references + 1) ≡ Fresh = sound.fresh (s.references + 1) (omega arith) in absurd (cc)
+pub uncounted : (s : State) (op : OpId) (u : Update) (lead : Node) (st : Node → Status) → s.uses (s.references + 1) ≡ Locking op u lead st → ReferencesFit s → ⊥
+uncounted s op u lead st used fitting = let fresh : s.uses (s.references + 1) ≡ Fresh = fitting.fresh (s.references + 1) (omega arith) in absurd (cc)
 
 -- an update that goes out under the reference of its lock: none owns the lock any more
-pub owned_by_none : (s : State) (op : OpId) (u : Update) (c : ℕ) (replied : Node → Bool) → s.uses c ≡ Updating op u c replied → Sound s → ⊥
-owned_by_none s op u c replied used sound = let owns : s.uses c ≡ Owning (name_of u) c = (fit_at s sound c (Updating op u c replied) used).1 in absurd (cc)
+pub owned_by_none : (s : State) (op : OpId) (u : Update) (c : ℕ) (replied : Node → Bool) → s.uses c ≡ Updating op u c replied → ReferencesFit s → ⊥
+owned_by_none s op u c replied used fitting = let owns : s.uses c ≡ Owning (name_of u) c = (fit_at s fitting c (Updating op u c replied) used).1 in absurd (cc)

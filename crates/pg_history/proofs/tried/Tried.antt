@@ -27,7 +27,7 @@ use Rattle.pg_step.specs.State.Stage.{Waiting}
 use Rattle.pg_step.specs.Turns.{NodeTurn, becomes, and_then}
 use Rattle.pg_step.specs.Attempts.{is_yes, none_missing, begin, finish, give_up, replies_in}
 use Rattle.pg_step.specs.Config.{Config, names_of, name_at, groups_at}
-use Rattle.pg_history.specs.Sound.{Sound}
+use Rattle.pg_history.specs.ReferencesFit.{ReferencesFit}
 use Rattle.pg_history.proofs.locks.Named.{World, perform, popped}
 use Rattle.pg_history.proofs.locks.Kept.{Inv, live, near}
 use Rattle.pg_history.proofs.locks.Telling.{remade}
@@ -41,7 +41,7 @@ use Rattle.pg_history.proofs.places.Unlocked.{NoneHeld, Unlocked}
 use Rattle.pg_history.proofs.tables.Living.{Lives, changed_living}
 use Rattle.pg_history.proofs.tables.Applied.{Tables, Applying}
 use Rattle.pg_history.proofs.tables.Tabled.{TableIs, exchange_step}
-use Rattle.pg_history.proofs.references.SoundTurns.{attempted_at, begun_at}
+use Rattle.pg_history.proofs.references.FittingTurns.{attempted_at, begun_at}
 use Rattle.pg_history.proofs.tried.Copies.{copied_grants, copied_would_grant, copied_lock_request, copied_update_request, copied_greater, copied_merge, copied_all_merged, copied_exchange, copied_new_attempt, copied_begin, copied_all_replied, copied_replies_in, copied_all_granted, copied_locks_in}
 
 -- ---- a lock is asked for
@@ -113,11 +113,11 @@ exchange_tabled config apart i p pair s new name is =
 -- ---- an attempt
 
 -- a reference is new
-pub attempt_sound : (m : Nodes) (s : State) → Sound s → (lead : Node) (op : OpId) (u : Update) → s.stages op ≡ Waiting u → Sound ((copied_new_attempt lead op u s).state)
-attempt_sound m s sound = attempted_at s sound _ _ (omega arith) (omega arith)
+pub attempt_fitting : (m : Nodes) (s : State) → ReferencesFit s → (lead : Node) (op : OpId) (u : Update) → s.stages op ≡ Waiting u → ReferencesFit ((copied_new_attempt lead op u s).state)
+attempt_fitting m s fitting = attempted_at s fitting _ _ (omega arith) (omega arith)
 
-pub begin_sound : (m : Nodes) (s : State) → Sound s → (c : ℕ) (op : OpId) (u : Update) (lead : Node) (st : Node → Status) → s.uses c ≡ Locking op u lead st → Sound ((copied_begin m c op u s).state)
-begin_sound m s sound c op u = begun_at s sound m _ _ _ (omega arith) (omega arith) c op u
+pub begin_fitting : (m : Nodes) (s : State) → ReferencesFit s → (c : ℕ) (op : OpId) (u : Update) (lead : Node) (st : Node → Status) → s.uses c ≡ Locking op u lead st → ReferencesFit ((copied_begin m c op u s).state)
+begin_fitting m s fitting c op u = begun_at s fitting m _ _ _ (omega arith) (omega arith) c op u
 
 module _ (w : World) (a : Node) (peers : List Node) (sits : Sits w.nodes a peers) (la : live w a) (inv : Inv w) where
   abbrev m : Nodes

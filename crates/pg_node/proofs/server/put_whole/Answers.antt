@@ -8,7 +8,7 @@ use Rattle.pg_node.proofs.server.put_whole.Goals as goal
 whole : (n : ℕ) (rest : List ℕ) → take (length rest - n) (drop n rest) ≡ drop n rest
 whole n rest = rw (← length-drop n rest) (take-length (drop n rest))
 
--- a front of the rest goes to what is done
+-- a prefix of the rest goes to what is done
 onward : (done rest bytes : List ℕ) (n : ℕ) → done ++ rest ≡ bytes → (done ++ take n rest) ++ take (length rest - n) (drop n rest) ≡ bytes
 onward done rest bytes n e = append_assoc done (take n rest) (take (length rest - n) (drop n rest)) ∙ ap (λ (b : List ℕ). done ++ (take n rest ++ b)) (whole n rest) ∙ ap (λ (b : List ℕ). done ++ b) (take-append-drop n rest) ∙ e
 

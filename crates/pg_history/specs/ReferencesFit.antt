@@ -13,7 +13,7 @@ Fits c (Locking op u lead st) stages uses = stages op ≡ Asking c
 Fits n (Updating op u c replied) stages uses = (stages op ≡ Changing n) × (uses c ≡ Owning (name_of u) n)
 Fits c _ stages uses = Unit {0}
 
-pub record Sound (s : State) : Type 0 where
+pub record ReferencesFit (s : State) : Type 0 where
   -- a reference that is not made yet is of no use
   pub fresh : (c : ℕ) → s.references < c → s.uses c ≡ Fresh
   pub fits : (c : ℕ) → Fits c (s.uses c) s.stages s.uses

@@ -14,7 +14,7 @@ use Rattle.pg_step.specs.State.Stage.{Closed, Waiting, Asking, Changing}
 use Rattle.pg_step.specs.Turns.{NodeTurn}
 use Rattle.pg_step.specs.Attempts.{same_op, ask}
 use Rattle.pg_step.specs.Commands.{open_command, count_command}
-use Rattle.pg_history.specs.Sound.{Fits, Sound}
+use Rattle.pg_history.specs.ReferencesFit.{Fits, ReferencesFit}
 use Rattle.pg_step.specs.Nodes.{Node}
 
 pub op_is : (op other : OpId) → same_op op other ≡ true → op ≡ other
@@ -57,26 +57,26 @@ fits_later c (Owning name u) stages uses later keeps fit = tt
 fits_later c Fresh stages uses later keeps fit = tt
 fits_later c Spent stages uses later keeps fit = tt
 
-pub fit_at : (s : State) → Sound s → (c : ℕ) (use_ : Use) → s.uses c ≡ use_ → Fits c use_ s.stages s.uses
-fit_at s sound c use_ is = subst (λ x. Fits c x s.stages s.uses) is (sound.fits c)
+pub fit_at : (s : State) → ReferencesFit s → (c : ℕ) (use_ : Use) → s.uses c ≡ use_ → Fits c use_ s.stages s.uses
+fit_at s fitting c use_ is = subst (λ x. Fits c x s.stages s.uses) is (fitting.fits c)
 
 -- what fits, by the use
 
-pub is_asking : {s : State} (sound : Sound s) (c : ℕ) (op : OpId) (u : Update) (lead : Node) (st : Node → Status) → s.uses c ≡ Locking op u lead st → s.stages op ≡ Asking c
-is_asking {s} sound c op u lead st is = fit_at s sound c (Locking op u lead st) is
+pub is_asking : {s : State} (fitting : ReferencesFit s) (c : ℕ) (op : OpId) (u : Update) (lead : Node) (st : Node → Status) → s.uses c ≡ Locking op u lead st → s.stages op ≡ Asking c
+is_asking {s} fitting c op u lead st is = fit_at s fitting c (Locking op u lead st) is
 
-pub is_changing : {s : State} (sound : Sound s) (n : ℕ) (op : OpId) (u : Update) (c : ℕ) (replied : Node → Bool) → s.uses n ≡ Updating op u c replied → s.stages op ≡ Changing n
-is_changing {s} sound n op u c replied is = (fit_at s sound n (Updating op u c replied) is).0
+pub is_changing : {s : State} (fitting : ReferencesFit s) (n : ℕ) (op : OpId) (u : Update) (c : ℕ) (replied : Node → Bool) → s.uses n ≡ Updating op u c replied → s.stages op ≡ Changing n
+is_changing {s} fitting n op u c replied is = (fit_at s fitting n (Updating op u c replied) is).0
 
-pub is_owning : {s : State} (sound : Sound s) (n : ℕ) (op : OpId) (u : Update) (c : ℕ) (replied : Node → Bool) → s.uses n ≡ Updating op u c replied → s.uses c ≡ Owning (name_of u) n
-is_owning {s} sound n op u c replied is = (fit_at s sound n (Updating op u c replied) is).1
+pub is_owning : {s : State} (fitting : ReferencesFit s) (n : ℕ) (op : OpId) (u : Update) (c : ℕ) (replied : Node → Bool) → s.uses n ≡ Updating op u c replied → s.uses c ≡ Owning (name_of u) n
+is_owning {s} fitting n op u c replied is = (fit_at s fitting n (Updating op u c replied) is).1
 
 -- a state with the same references, commands and counts
-pub same_sound : (s t : State) → t.references ≡ s.references → t.uses ≡ s.uses → t.stages ≡ s.stages → t.counts ≡ s.counts → Sound s → Sound t
-same_sound s t references uses stages counts sound = record {
-  fresh = λ c above. ap (λ f. f c) uses ∙ sound.fresh c (subst (λ n. n < c) references above);
-  fits = λ c. subst (λ f. Fits c (f c) t.stages f) (sym uses) (subst (λ g. Fits c (s.uses c) g s.uses) (sym stages) (sound.fits c));
-  closed = λ op below. ap (λ g. g op) stages ∙ sound.closed op (subst (λ f. f op.port < op.number) counts below);
+pub same_fitting : (s t : State) → t.references ≡ s.references → t.uses ≡ s.uses → t.stages ≡ s.stages → t.counts ≡ s.counts → ReferencesFit s → ReferencesFit t
+same_fitting s t references uses stages counts fitting = record {
+  fresh = λ c above. ap (λ f. f c) uses ∙ fitting.fresh c (subst (λ n. n < c) references above);
+  fits = λ c. subst (λ f. Fits c (f c) t.stages f) (sym uses) (subst (λ g. Fits c (s.uses c) g s.uses) (sym stages) (fitting.fits c));
+  closed = λ op below. ap (λ g. g op) stages ∙ fitting.closed op (subst (λ f. f op.port < op.number) counts below);
 }
 
 -- ---- words that differ
@@ -91,26 +91,26 @@ pub owning_is : {name other : Term} {n k : ℕ} → Owning name n ≡ Owning oth
 owning_is e = cc
 
 abbrev pub Keeps : State → NodeTurn → Type 0
-Keeps s t = Sound s → Sound t.state
+Keeps s t = ReferencesFit s → ReferencesFit t.state
 
 -- a new command has not been open, and is counted
 abbrev pub NewOp : OpId → State → Type 0
 NewOp op s = (s.stages op ≡ Closed) × (op.number ≤ s.counts op.port)
 
 pub counted_keeps : (port : ℕ) (s : State) → Keeps s (count_command port s)
-counted_keeps port s sound = record {
-  fresh = sound.fresh;
-  fits = sound.fits;
-  closed = λ op below. sound.closed op (upd_by nat_eq s.counts port (λ n. n < op.number → s.counts op.port < op.number) (s.counts port + 1) op.port
+counted_keeps port s fitting = record {
+  fresh = fitting.fresh;
+  fits = fitting.fits;
+  closed = λ op below. fitting.closed op (upd_by nat_eq s.counts port (λ n. n < op.number → s.counts op.port < op.number) (s.counts port + 1) op.port
       (λ same more. subst (λ p. s.counts p < op.number) (eqb-true port op.port same) (omega arith)) (λ _ more. more) below);
 }
 
 pub opened_keeps : (op : OpId) (u : Update) (s : State) → NewOp op s → Keeps s (open_command op u s)
-opened_keeps op u s new sound = record {
-  fresh = sound.fresh;
-  fits = λ c. fits_still c (s.uses c) s.stages op (Waiting u) s.uses s.uses (λ e. no_ask (sym new.0 ∙ e)) (λ e. no_change (sym new.0 ∙ e)) (λ d name _. refl) (sound.fits c);
+opened_keeps op u s new fitting = record {
+  fresh = fitting.fresh;
+  fits = λ c. fits_still c (s.uses c) s.stages op (Waiting u) s.uses s.uses (λ e. no_ask (sym new.0 ∙ e)) (λ e. no_change (sym new.0 ∙ e)) (λ d name _. refl) (fitting.fits c);
   closed = λ other below. upd_by same_op s.stages op (λ x. x ≡ Closed) (Waiting u) other
-      (λ same. absurd (late (subst (λ o. s.counts o.port < o.number) (sym (op_is op other same)) below))) (λ _. sound.closed other below);
+      (λ same. absurd (late (subst (λ o. s.counts o.port < o.number) (sym (op_is op other same)) below))) (λ _. fitting.closed other below);
 }
   where
     no_ask : {c : ℕ} → Closed ≡ Asking c → ⊥
