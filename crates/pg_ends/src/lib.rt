@@ -9,7 +9,7 @@ mod processes;
 pub use end::take_end;
 pub use fault::EndFault;
 pub use laws::numbered_from_one;
-pub use processes::{LIMIT, Processes};
+pub use processes::{MAX_PROCESSES, Processes};
 
 #[cfg(test)]
 mod tests;

@@ -1,11 +1,12 @@
 ghost use Rattle.std.specs.Prelude.{◌≡◌, ◌≤◌};
+ghost use Rattle.pg_ends.specs.declared.processes.TheConstants.{MAX_PROCESSES};
 
 use crate::fault::EndFault;
 use pg_group::Ended;
 use pg_term::{Atom, Pid};
 
 /// How many processes a node can make.
-pub const LIMIT: u32 = 268_435_455;
+pub const MAX_PROCESSES: u32 = 268_435_455;
 
 /// The processes of one node, numbered from 1 in the order in which they are made. The process with the number n has
 /// the id `n mod 32768`, the serial `n div 32768` and the creation 1.
@@ -13,7 +14,7 @@ pub const LIMIT: u32 = 268_435_455;
 pub struct Processes {
     node: Atom,
     made: u32,
-    ghost in_range: { made ≤ 268435455 },
+    ghost in_range: { made ≤ MAX_PROCESSES },
 }
 
 impl Processes {
@@ -25,7 +26,7 @@ impl Processes {
 
     /// The processes of a node that has made so many, at most 268,435,455. It takes no memory.
     pub fn new(node: Atom, made: u32) -> Processes
-        requires { made ≤ 268435455 }
+        requires { made ≤ MAX_PROCESSES }
         ensures node { node_of result ≡ node }
         ensures made { made_of result ≡ made }
     {
@@ -40,9 +41,9 @@ impl Processes {
         ensures made { OnOk result (made_of self.new ≡ made_of self.old + 1) }
         ensures err { OnErr result (made_of self.new ≡ made_of self.old) }
         ensures kept { node_of self.new ≡ node_of self.old }
-        ensures limit { (result ≡ Err ProcessLimit) ↔ (made_of self.old ≡ 268435455) }
+        ensures limit { (result ≡ Err ProcessLimit) ↔ (made_of self.old ≡ MAX_PROCESSES) }
     {
-        if self.made == LIMIT {
+        if self.made == MAX_PROCESSES {
             return Err(EndFault::ProcessLimit);
         }
         let node = self.node.copy()?;

@@ -29,7 +29,7 @@ fn process_limit(rt: HostRuntime) -> Result<(), Fail> {
         let pid = made(&mut processes)?;
         assert_eq!(rt; (pid.serial, pid.id, pid.creation), (serial, id, 1));
     }
-    let mut last = Processes::new(atom(rt.alloc())?, LIMIT - 1);
+    let mut last = Processes::new(atom(rt.alloc())?, MAX_PROCESSES - 1);
     let pid = made(&mut last)?;
     assert_eq!(rt; (pid.serial, pid.id), (8191, 32767));
     assert!(rt; matches!(last.make(), Err(EndFault::ProcessLimit)));

@@ -1,6 +1,7 @@
 pub mod Accepted
 pub mod ChangeOfThree
 pub mod DeleteBetween
+pub mod DeniedByAnother
 pub mod DeniedByItself
 pub mod DrainedFirst
 pub mod EndBeatsLateJoin

@@ -1,39 +1,45 @@
--- Commands that are refused: what a name is told, and the rest computes.
-use Rattle.std.proofs.Common.{◌≡◌, Bool, true, false, not, cond, Some, None, Option, refl, ap}
+-- Commands that are refused: what a name is found to be, and the rest computes.
+use Rattle.std.proofs.Common.{◌≡◌, Bool, true, false, not, cond, Some, None, Option, Ok, refl, ap}
 use Rattle.pg_term.specs.declared.term.Term.{Term}
+use Rattle.pg_group.specs.Functions.{upd}
 use Rattle.pg_message.specs.Name.{is_name}
+use Rattle.pg_step.specs.declared.command.Command.{Command}
+use Rattle.pg_step.specs.declared.command.Command.TheVariants as command
 use Rattle.pg_step.specs.declared.command_fault.CommandFault.{CommandFault}
-use Rattle.pg_step.specs.declared.command_fault.CommandFault.TheVariants.{NameTooLarge, ForeignPid, Busy}
-use Rattle.pg_step.specs.Turns.{first_of}
-use Rattle.pg_examples.specs.RefusedCommands.{LargeNames, ForeignMembers, RefusedEnds, ProcessesMade, OpenCommands}
+use Rattle.pg_step.specs.declared.command_fault.CommandFault.TheVariants.{NameTooLarge, ForeignPid}
+use Rattle.pg_step.specs.Commands.{command_by, count_command, next_op}
+use Rattle.pg_step.specs.State.{State, Response, left}
+use Rattle.pg_step.specs.Turns.{and_then}
+use Rattle.pg_examples.specs.Examples.{a1, b1, c1, busy_node}
+use Rattle.pg_examples.specs.RefusedCommands.{at_a, answer_in, answer_to, LargeNames, ForeignMembers, RefusedEnds, ProcessesMade, OpenCommands}
 
--- what a command is refused by, whose name is told first
-abbrev named_first : Bool → Option CommandFault → Option CommandFault → Option CommandFault
-named_first fine fault busy = first_of (cond (not fine) (Some NameTooLarge) fault) busy
+-- the answer to a command whose name is found to be too large or not, and which has this fault else
+abbrev named_as : Bool → Option CommandFault → State → Command → Option Response
+named_as fine fault s c = answer_in (Ok (and_then (count_command 0 s) (command_by (cond (not fine) (Some NameTooLarge) fault) (left at_a s) (next_op 0 s) c)))
 
-fine : (name : Term) → is_name name ≡ true → (fault busy : Option CommandFault) → named_first (is_name name) fault busy ≡ first_of fault busy
-fine name named fault busy = ap (λ b. named_first b fault busy) named
+fine : (name : Term) → is_name name ≡ true → (fault : Option CommandFault) (s : State) (c : Command) → named_as (is_name name) fault s c ≡ named_as true fault s c
+fine name named fault s c = ap (λ b. named_as b fault s c) named
 
-large : (name : Term) → is_name name ≡ false → (fault busy : Option CommandFault) → named_first (is_name name) fault busy ≡ Some NameTooLarge
-large name named fault busy = ap (λ b. named_first b fault busy) named
+large : (name : Term) → is_name name ≡ false → (fault : Option CommandFault) (s : State) (c : Command) → named_as (is_name name) fault s c ≡ named_as false fault s c
+large name named fault s c = ap (λ b. named_as b fault s c) named
 
 pub large_names : (name : Term) → is_name name ≡ false → LargeNames name
 large_names name named = record {
-  create = large name named None None;
-  delete = large name named None None;
-  join = large name named None None;
-  join_foreign = large name named (Some ForeignPid) None;
-  leave = large name named None None;
-  members = large name named None None;
-  local_members = large name named None None;
-  closest = large name named None None;
+  create = large name named None (busy_node true 0 0) (command.Create name);
+  delete = large name named None (busy_node true 0 0) (command.Delete name);
+  join = large name named None (busy_node true 0 0) (command.Join name a1);
+  join_foreign = large name named (Some ForeignPid) (busy_node true 0 0) (command.Join name c1);
+  leave = large name named None (busy_node true 0 0) (command.Leave name a1);
+  members = large name named None (busy_node true 0 0) (command.Members name);
+  local_members = large name named None (busy_node true 0 0) (command.LocalMembers name);
+  closest = large name named None (busy_node true 0 0) (command.Closest name 0);
 }
 
 pub foreign_members : (g : Term) → is_name g ≡ true → ForeignMembers g
 foreign_members g named = record {
-  join = fine g named (Some ForeignPid) None;
-  leave = fine g named (Some ForeignPid) None;
-  join_peer = fine g named None None;
+  join = fine g named (Some ForeignPid) (busy_node true 0 0) (command.Join g c1);
+  leave = fine g named (Some ForeignPid) (busy_node true 0 0) (command.Leave g c1);
+  join_peer = fine g named None (busy_node true 0 0) (command.Join g b1);
 }
 
 pub refused_ends : RefusedEnds
@@ -44,6 +50,7 @@ refused_ends = record {
   unmade = refl;
   number_zero = refl;
   number_two = refl;
+  ended_unmade = refl;
   again = refl;
   once = refl;
 }
@@ -51,13 +58,12 @@ refused_ends = record {
 pub process_limit : ProcessesMade
 process_limit = record { last = refl; none_left = refl }
 
-pub busy_node : (g : Term) → is_name g ≡ true → OpenCommands g
-busy_node g named = record {
-  taken = fine g named None None;
-  waits = refl;
-  refused = fine g named None (Some Busy);
-  refused_delete = fine g named None (Some Busy);
-  foreign_first = fine g named (Some ForeignPid) None;
-  looked = refl;
-  looked_fine = fine g named None None;
+pub busy_node_refuses : (g : Term) → is_name g ≡ true → OpenCommands g
+unfolding upd
+busy_node_refuses g named = record {
+  taken = fine g named None (busy_node true 0 255) (command.Create g);
+  full = fine g named None (busy_node true 0 256) (command.Create g);
+  full_delete = fine g named None (busy_node true 0 256) (command.Delete g);
+  foreign_first = fine g named (Some ForeignPid) (busy_node true 0 256) (command.Join g c1);
+  looked = fine g named None (busy_node true 0 256) (command.Join g a1);
 }

@@ -30,11 +30,11 @@ use Rattle.pg_step.specs.Nodes.{Node, Nodes, greatest, to_one, to_peers}
 use Rattle.pg_step.specs.State.{State, Status}
 use Rattle.pg_step.specs.State.Status.{Unasked, Yes}
 use Rattle.pg_step.specs.State.Use.{Locking, Spent}
-use Rattle.pg_step.specs.State.Stage.{Closed}
+use Rattle.pg_step.specs.State.Stage.{Closed, Waiting}
 use Rattle.pg_step.specs.State.Response.{Given}
 use Rattle.pg_step.specs.Turns.{NodeTurn, nothing, becomes, becomes_and_sends, and_then}
 use Rattle.pg_step.specs.Peers.{would_grant, verdict}
-use Rattle.pg_step.specs.Attempts.{own_reference, same_op, asks, with_asked, new_attempt, count_answer, count_ok, give_up, begin, go_on, locks_in}
+use Rattle.pg_step.specs.Attempts.{own_reference, same_op, is_yes, asks, with_asked, new_attempt, count_answer, count_ok, give_up, begin, go_on, locks_in}
 use Rattle.pg_step.specs.Commands.{look, open_command, change_by, count_command, command_by}
 use Rattle.pg_step.specs.Step.{Action, taken, node_takes, node_acts}
 use Rattle.pg_step.specs.FrameMachine.{FrameWorld, placed, node_step, place_turn, machine_of}
@@ -142,6 +142,15 @@ finish_as holds m u op update c s = record {
   sends = to_peers m (λ q. true) (DelLock (name_of update) (own_reference m c));
   reported = record nothing { answered = Some op; gave = Some (op, Given reply.Ok) };
 }
+
+abbrev pub give_up_as : Bool → Nodes → ℕ → OpId → Update → (Node → Status) → State → NodeTurn
+give_up_as holds m c op update st s = becomes_and_sends
+    (record s {
+      locks = given_up (is_yes (st m.own) && holds) s.locks (name_of update);
+      uses = upd nat_eq s.uses c Spent;
+      stages = upd same_op s.stages op (Waiting update);
+    })
+    (to_peers m (λ q. is_yes (st q)) (DelLock (name_of update) (own_reference m c)))
 
 -- ---- larger turns
 

@@ -248,6 +248,14 @@ asked_unformed g = Take 1 0 ∷ Take 2 0 ∷ Take 2 1 ∷ Take 1 2 ∷ at 0 (com
 abbrev pub given_back : List (Event Action)
 given_back = Take 1 0 ∷ Take 2 0 ∷ []
 
+-- a and c are formed, and b is not. a asks c, which grants, and then itself, which grants, and b
+abbrev pub granted_at_home : Term → List (Event Action)
+granted_at_home g = Take 0 1 ∷ Take 0 2 ∷ Take 2 0 ∷ Take 2 1 ∷ at 0 (command.Create g) ∷ Take 2 0 ∷ Take 0 2 ∷ []
+
+-- b takes a's exchange and its request, and denies; a takes that, and c what a sends it then
+abbrev pub denied_by_b : List (Event Action)
+denied_by_b = Take 1 0 ∷ Take 1 0 ∷ Take 0 1 ∷ Take 2 0 ∷ []
+
 -- ---- replies
 
 -- the references of a's lock and of its update, and one that a never made
@@ -301,9 +309,9 @@ created_by_three g = three_meet
 abbrev pub busy_node : Bool → ℕ → ℕ → State
 busy_node met made opened = record (new_state (λ name. None) made) { merged = λ q. met; opened = opened }
 
--- a formed node at which its first process has ended
-abbrev pub mourning_node : State
-mourning_node = record (busy_node true 1 0) { ended = same_pid a1 }
+-- a formed node that has made so many processes, and at which the process with the number 1 has ended
+abbrev pub mourning_node : ℕ → State
+mourning_node made = record (busy_node true made 0) { ended = same_pid a1 }
 
 abbrev pub c1 : Pid
 c1 = pid_of c 1

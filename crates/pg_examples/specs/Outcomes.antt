@@ -81,6 +81,20 @@ pub record DeniedByItself (g : Term) (denied freed : FrameWorld) : Type 0 where
   pub freed_b : holder_at freed 1 g ≡ None
   pub freed_c : holder_at freed 2 g ≡ None
 
+-- Another node denies the lock that the caller has granted itself.
+pub record DeniedByAnother (g : Term) (granted denied : FrameWorld) : Type 0 where
+  -- a and c hold the lock for it
+  pub held_a : holder_at granted 0 g ≡ Some lock_ref
+  pub held_c : holder_at granted 2 g ≡ Some lock_ref
+  pub unformed_b : is_formed three_nodes denied 1 ≡ false
+  -- no update begins: the command waits, and both are freed
+  pub waits : (denied.node 0).stages (op_at 1) ≡ Waiting (update.Create g)
+  pub unanswered : answers_of denied 0 ≡ []
+  pub history : history g denied.reported ≡ []
+  pub free_a : holder_at denied 0 g ≡ None
+  pub free_b : holder_at denied 1 g ≡ None
+  pub free_c : holder_at denied 2 g ≡ None
+
 -- A group is deleted between the look of a join and its lock.
 pub record DeleteBetween (g : Term) (w : FrameWorld) : Type 0 where
   -- the join is answered ok all the same

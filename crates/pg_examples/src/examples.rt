@@ -2,9 +2,9 @@ ghost use Rattle.std.specs.Prelude.{◌≡◌, ◌++◌, true, false};
 ghost use Rattle.pg_term.specs.declared.term.Term.{Term};
 ghost use Rattle.pg_term.specs.Same.{same_term};
 ghost use Rattle.pg_message.specs.Name.{is_name};
-ghost use Rattle.pg_examples.specs.Examples.{behind, start, AllHappen, one_node, two_nodes, two_and_member, two_tables, three_nodes, three_tables, with_replies, joined_twice, left_once, deleted_between, created_by_two, tables_met, created_later, ended_between, joined_late, asked_greatest, gathered, completed, met_one, met_both, ended_at_home, joined_after, asked_first, asked_unformed, given_back, created_alone, created_by_three};
+ghost use Rattle.pg_examples.specs.Examples.{behind, start, AllHappen, one_node, two_nodes, two_and_member, two_tables, three_nodes, three_tables, with_replies, joined_twice, left_once, deleted_between, created_by_two, tables_met, created_later, ended_between, joined_late, asked_greatest, gathered, completed, met_one, met_both, ended_at_home, joined_after, asked_first, asked_unformed, given_back, granted_at_home, denied_by_b, created_alone, created_by_three};
 ghost use Rattle.pg_step.specs.Config.{IsConfig};
-ghost use Rattle.pg_examples.specs.Outcomes.{JoinTwiceLeaveOnce, DeleteBetween, TwoCreators, InitialTables, EndBeatsLateJoin, GatheredReplies, FormationOfThree, PendingEnd, GreatestFirst, DeniedByItself, SingleNode, ChangeOfThree};
+ghost use Rattle.pg_examples.specs.Outcomes.{JoinTwiceLeaveOnce, DeleteBetween, TwoCreators, InitialTables, EndBeatsLateJoin, GatheredReplies, FormationOfThree, PendingEnd, GreatestFirst, DeniedByItself, DeniedByAnother, SingleNode, ChangeOfThree};
 ghost use Rattle.pg_examples.specs.QueriesRead.{QueriesRead};
 
 /// A process that joins a group twice is a member twice, at each node; and once where it then leaves once.
@@ -112,6 +112,17 @@ pub fn denied_by_itself()
         DeniedByItself g
         (behind three_nodes (start three_nodes) (asked_unformed g))
         (behind three_nodes (start three_nodes) (asked_unformed g ++ given_back)) }
+{}
+
+/// A node of three grants itself the lock that another denies: no update begins, its own lock and the third node's are freed,
+/// and the command waits.
+pub fn denied_by_another()
+    ensures happen { (g : Term) → is_name g ≡ true →
+        AllHappen three_nodes (start three_nodes) (granted_at_home g ++ denied_by_b) }
+    ensures outcome { (g : Term) → is_name g ≡ true →
+        DeniedByAnother g
+        (behind three_nodes (start three_nodes) (granted_at_home g))
+        (behind three_nodes (start three_nodes) (granted_at_home g ++ denied_by_b)) }
 {}
 
 /// A single node creates a group: it asks itself for the lock, applies its update and frees the lock, in one event.

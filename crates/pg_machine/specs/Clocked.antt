@@ -3,10 +3,6 @@ use Rattle.std.specs.Prelude.{ℕ, ◌+◌, Bool, true, cond, nat_le, max, map, 
 use Rattle.std.specs.Option.{option_map_or}
 use Rattle.pg_machine.specs.Machine.{Input, Turn, Machine, Event, World, Taken, Own, node_of, input_of}
 
--- the greatest clock of a node: 2 ^ 30
-abbrev pub CLOCK_LIMIT : ℕ
-CLOCK_LIMIT = 1073741824
-
 -- a state, and the clock of its node
 pub record Timed (State : Type 0) : Type 0 where
   pub clock : ℕ

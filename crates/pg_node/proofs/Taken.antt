@@ -9,11 +9,11 @@ use Rattle.pg_frame.specs.Frames.{frame}
 use Rattle.pg_message.specs.declared.message.Message.{Message}
 use Rattle.pg_message.specs.declared.packet.Packet.{Packet}
 use Rattle.pg_message.specs.Writing.{term_of_packet, framed}
-use Rattle.pg_machine.specs.Clocked.{CLOCK_LIMIT, stamped}
+use Rattle.pg_machine.specs.Clocked.{stamped}
 use Rattle.pg_step.specs.Nodes.{Node, to_one}
 use Rattle.pg_step.specs.Turns.{NodeTurn}
 use Rattle.pg_step.specs.State.{State as Kept}
-use Rattle.pg_step.specs.Step.{taken, node_takes, at_clock, timed}
+use Rattle.pg_step.specs.Step.{CLOCK_LIMIT, taken, node_takes, at_clock, timed}
 use Rattle.pg_step.specs.declared.refusal.Refusal.{Refusal}
 use Rattle.pg_step.specs.declared.refusal.Refusal.TheVariants as Refused
 use Rattle.pg_node.specs.Replica.{Pair, State, Turned, Answers, nodes_of, marked, frames_of, body_sent, bodies_to, taken_packet, turned}

@@ -11,7 +11,7 @@ use Rattle.pg_lock.specs.Locks.{freed_of}
 use Rattle.pg_message.specs.declared.message.Message.{Message}
 use Rattle.pg_machine.specs.Places.{is_place, is_pair, set_at}
 use Rattle.pg_machine.specs.Machine.{Turn, Input, Taken, Take, first_from, without_input, perform, happens}
-use Rattle.pg_machine.specs.Clocked.{CLOCK_LIMIT, Timed, Stamped, timed, timed_turn}
+use Rattle.pg_machine.specs.Clocked.{Timed, Stamped, timed, timed_turn}
 use Rattle.pg_machine.specs.Losing.{Noticed, Sent, Last, LosingWorld, LosingEvent, Step, Lose, losing_happens, can_keep, stopped, mapped_turn, noticed_step}
 use Rattle.pg_step.specs.Config.{Config, name_at}
 use Rattle.pg_step.specs.FrameMachine.{machine_of, see_step, losing_frame_machine, last_notice, place_turn}
@@ -27,7 +27,7 @@ use Rattle.pg_step.specs.State.Status.{Unasked}
 use Rattle.pg_step.specs.State.Use.{Fresh, Locking, Owning, Updating, Spent}
 use Rattle.pg_step.specs.Attempts.{lock_entry, gathered}
 use Rattle.pg_message.specs.declared.message.Said.TheVariants.{Applied}
-use Rattle.pg_step.specs.Step.{Action}
+use Rattle.pg_step.specs.Step.{CLOCK_LIMIT, Action}
 use Rattle.pg_step.specs.Turns.{Report}
 use Rattle.pg_step.proofs.Once.{is_same}
 

@@ -7,7 +7,7 @@ use Rattle.pg_message.specs.declared.message.Message.TheVariants.{Call, Reply, D
 use Rattle.pg_message.specs.declared.message.Request.TheVariants.{SetLock, Change}
 use Rattle.pg_message.specs.declared.message.Said.{Said}
 use Rattle.pg_machine.specs.Places.{is_place}
-use Rattle.pg_machine.specs.Clocked.{CLOCK_LIMIT, Timed, Stamped, stamped, timed_turn, timed as machine_timed}
+use Rattle.pg_machine.specs.Clocked.{Timed, Stamped, stamped, timed_turn, timed as machine_timed}
 use Rattle.pg_multicall.specs.Gathered.{what_of}
 use Rattle.pg_multicall.specs.declared.gather.Taken.{Taken as Heard}
 use Rattle.pg_multicall.specs.declared.gather.Taken.TheVariants as what
@@ -18,7 +18,7 @@ use Rattle.pg_step.specs.Peers.{is_bad_exchange, exchange}
 use Rattle.pg_refs.specs.Numbered.{number_in}
 use Rattle.pg_step.specs.Commands.{command}
 use Rattle.pg_step.specs.Attempts.{reply_by, waits, tried_again, use_of, gathered, is_kind, reply_under, reply_by}
-use Rattle.pg_step.specs.Step.{Action, Issue, Retry, TimedTurn, at_clock, timed, taken, step_take, step_act}
+use Rattle.pg_step.specs.Step.{CLOCK_LIMIT, Action, Issue, Retry, TimedTurn, at_clock, timed, taken, step_take, step_act}
 use Rattle.pg_step.specs.Config.{Config, name_at}
 use Rattle.pg_step.specs.FrameMachine.{placed, place_turn}
 use Rattle.pg_step.specs.declared.refusal.Refusal.{Refusal}

@@ -7,10 +7,10 @@ use Rattle.pg_message.specs.declared.message.Message.{Message}
 use Rattle.pg_machine.specs.Machine.{Turn, Machine, Event, World, Taken, Own, Take, Do, node_of, is_there, start_of, first_from, input_of, without_input, perform, happens}
 use Rattle.pg_machine.specs.Places.{set_at, set_way}
 use Rattle.pg_machine.specs.Runs.{Leads}
-use Rattle.pg_machine.specs.Clocked.{CLOCK_LIMIT, Timed, Stamped, TimedWorld, next_clock, stamped, timed_turn, timed}
+use Rattle.pg_machine.specs.Clocked.{Timed, Stamped, TimedWorld, next_clock, stamped, timed_turn, timed}
 use Rattle.pg_step.specs.State.{State}
 use Rattle.pg_step.specs.Turns.{Report}
-use Rattle.pg_step.specs.Step.{Action}
+use Rattle.pg_step.specs.Step.{CLOCK_LIMIT, Action}
 use Rattle.pg_step.specs.Config.{Config}
 use Rattle.pg_step.specs.FrameMachine.{machine_of, frame_machine, losing_frame_machine, last_notice, sent_packet}
 use Rattle.pg_machine.specs.Losing.{Noticed, Sent, LosingWorld, Step, mapped, mapped_turn, losing_happens, LosingLeads, nobody_gone, all_steps}

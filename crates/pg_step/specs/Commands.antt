@@ -13,6 +13,7 @@ use Rattle.pg_group.specs.Scope.{anywhere, at_node}
 use Rattle.pg_group.specs.Members.{IsMemberList}
 use Rattle.pg_group.specs.Table.{Table, AreNames}
 use Rattle.pg_query.specs.Closest.{IsClosest}
+use Rattle.pg_ends.specs.declared.processes.TheConstants.{MAX_PROCESSES}
 use Rattle.pg_ends.specs.Numbers.{pid_of, is_among}
 use Rattle.pg_message.specs.Name.{is_name}
 use Rattle.pg_message.specs.declared.message.Message.TheVariants.{Down}
@@ -45,10 +46,6 @@ change_of c = None
 -- so many commands are open at most at one node
 abbrev pub OPEN_LIMIT : ℕ
 OPEN_LIMIT = 256
-
--- so many processes are made at most at one node
-abbrev pub PROCESS_LIMIT : ℕ
-PROCESS_LIMIT = 268435455
 
 -- the name in a command is none that can be sent
 abbrev pub has_large_name : Command → Bool
@@ -85,7 +82,7 @@ ends_again s _ = false
 
 -- no number is left for a further process
 abbrev pub passes_limit : State → Command → Bool
-passes_limit s Make = nat_le PROCESS_LIMIT s.processes
+passes_limit s Make = nat_le MAX_PROCESSES s.processes
 passes_limit s _ = false
 
 -- Which fault a command is refused by, the first that holds: NameTooLarge, ForeignPid, NotFormed, NotMade, AlreadyEnded,

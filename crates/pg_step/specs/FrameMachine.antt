@@ -4,10 +4,10 @@ use Rattle.pg_message.specs.declared.message.Message.{Message}
 use Rattle.pg_message.specs.declared.message.Message.TheVariants.{Exchange}
 use Rattle.pg_machine.specs.Places.{is_place, is_pair}
 use Rattle.pg_machine.specs.Machine.{Machine, Turn, Input, Taken, Own}
-use Rattle.pg_machine.specs.Clocked.{CLOCK_LIMIT, Timed, Stamped, clocked}
+use Rattle.pg_machine.specs.Clocked.{Timed, Stamped, clocked}
 use Rattle.pg_step.specs.State.{State, new_state}
 use Rattle.pg_step.specs.Turns.{NodeTurn, Report}
-use Rattle.pg_step.specs.Step.{Action, node_takes, node_acts}
+use Rattle.pg_step.specs.Step.{CLOCK_LIMIT, Action, node_takes, node_acts}
 use Rattle.pg_step.specs.Losses.{see_loss}
 use Rattle.pg_machine.specs.Losing.{Noticed, Sent, Last, with_notices}
 use Rattle.pg_step.specs.declared.refusal.Refusal.{Refusal}

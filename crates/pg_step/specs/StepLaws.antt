@@ -9,7 +9,7 @@ use Rattle.pg_multicall.specs.declared.gather.Taken.{Taken as Heard}
 use Rattle.pg_multicall.specs.declared.gather.Taken.TheVariants as what
 use Rattle.pg_machine.specs.Places.{is_place, is_pair}
 use Rattle.pg_machine.specs.Machine.{Input, Turn, Taken, Own}
-use Rattle.pg_machine.specs.Clocked.{CLOCK_LIMIT, Timed, Stamped}
+use Rattle.pg_machine.specs.Clocked.{Timed, Stamped}
 use Rattle.pg_step.specs.Nodes.{Node, Nodes}
 use Rattle.pg_step.specs.declared.command.Command.{Command}
 use Rattle.pg_step.specs.declared.command.Command.TheVariants.{Members, LocalMembers, WhichGroups, Closest}
@@ -19,7 +19,7 @@ use Rattle.pg_step.specs.Peers.{is_bad_exchange}
 use Rattle.pg_step.specs.Attempts.{gathered, is_kind, use_of, waits}
 use Rattle.pg_step.specs.Commands.{next_op}
 use Rattle.pg_step.specs.FrameMachine.{FrameWorld}
-use Rattle.pg_step.specs.Step.{Action, Issue, Retry, TimedTurn}
+use Rattle.pg_step.specs.Step.{CLOCK_LIMIT, Action, Issue, Retry, TimedTurn}
 use Rattle.pg_step.specs.Config.{Config, name_at}
 use Rattle.pg_step.specs.declared.refusal.Refusal.{Refusal}
 

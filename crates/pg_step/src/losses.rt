@@ -2,7 +2,7 @@ ghost use Rattle.std.specs.Prelude.{◌≡◌, ◌↔◌, ℕ, List, None, true,
 ghost use Rattle.pg_message.specs.declared.message.Message.{Message};
 ghost use Rattle.pg_machine.specs.Machine.{Event, start_of};
 ghost use Rattle.pg_machine.specs.Timely.{KeepsTime};
-ghost use Rattle.pg_machine.specs.Clocked.{CLOCK_LIMIT, Timed, Stamped, TimedWorld};
+ghost use Rattle.pg_machine.specs.Clocked.{Timed, Stamped, TimedWorld};
 ghost use Rattle.pg_machine.specs.Runs.{Leads};
 ghost use Rattle.pg_machine.specs.Losing.{Noticed, LosingWorld, LosingLeads, Step, Lose, nobody_gone, all_steps, mapped, losing_happens};
 ghost use Rattle.pg_machine.specs.Machine.{Take};
@@ -11,7 +11,7 @@ ghost use Rattle.pg_step.specs.Losses.{see_loss};
 ghost use Rattle.pg_step.specs.LossLaws.{LosingFrameWorld, is_drained, see_refusal, lose_refusal, SeesLoss};
 ghost use Rattle.pg_step.specs.State.{State};
 ghost use Rattle.pg_step.specs.Turns.{Report};
-ghost use Rattle.pg_step.specs.Step.{Action};
+ghost use Rattle.pg_step.specs.Step.{CLOCK_LIMIT, Action};
 ghost use Rattle.pg_step.specs.Config.{Config};
 ghost use Rattle.pg_step.specs.FrameMachine.{frame_machine, losing_frame_machine, last_notice, sent_packet};
 

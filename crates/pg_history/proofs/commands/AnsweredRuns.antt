@@ -11,12 +11,12 @@ use Rattle.pg_step.specs.declared.answer.Reply.TheVariants as reply
 use Rattle.pg_machine.specs.Machine.{Event, node_of, start_of}
 use Rattle.pg_machine.specs.Happened.{Happened}
 use Rattle.pg_machine.specs.Runs.{Leads}
-use Rattle.pg_machine.specs.Clocked.{CLOCK_LIMIT, plain}
+use Rattle.pg_machine.specs.Clocked.{plain}
 use Rattle.pg_step.specs.State.{Response}
 use Rattle.pg_step.specs.State.Response.{Given}
 use Rattle.pg_step.specs.Turns.{Report}
 use Rattle.pg_step.specs.Attempts.{same_op}
-use Rattle.pg_step.specs.Step.{Action}
+use Rattle.pg_step.specs.Step.{CLOCK_LIMIT, Action}
 use Rattle.pg_step.specs.Config.{Config}
 use Rattle.pg_step.specs.FrameMachine.{machine_of, FrameWorld}
 use Rattle.pg_history.specs.History.{Answers, answers_by, answered_count, command_at, IsAnsweredOk, ok_means_lock}

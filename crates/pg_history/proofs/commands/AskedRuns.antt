@@ -8,8 +8,8 @@ use Rattle.pg_step.specs.declared.command.OpId.{OpId}
 use Rattle.pg_machine.specs.Machine.{Event, node_of, start_of}
 use Rattle.pg_machine.specs.Happened.{Happened}
 use Rattle.pg_machine.specs.Runs.{Leads}
-use Rattle.pg_machine.specs.Clocked.{CLOCK_LIMIT, plain}
-use Rattle.pg_step.specs.Step.{Action}
+use Rattle.pg_machine.specs.Clocked.{plain}
+use Rattle.pg_step.specs.Step.{CLOCK_LIMIT, Action}
 use Rattle.pg_step.specs.Config.{Config}
 use Rattle.pg_step.specs.FrameMachine.{machine_of, FrameWorld}
 use Rattle.pg_history.specs.History.{Entry, entry_of, entries, command_at}

@@ -6,7 +6,7 @@ use Rattle.std.proofs.lemmas.List.{length-append}
 use Rattle.pg_group.specs.Functions.{upd}
 use Rattle.pg_group.proofs.Changes.{upd_at, upd_other}
 use Rattle.pg_message.specs.declared.message.Message.{Message}
-use Rattle.pg_machine.specs.Clocked.{CLOCK_LIMIT, plain}
+use Rattle.pg_machine.specs.Clocked.{plain}
 use Rattle.pg_machine.specs.Happened.{Happened}
 use Rattle.pg_machine.specs.Machine.{Event, Input, Turn, Taken, Own, node_of, start_of}
 use Rattle.pg_machine.proofs.Plain.{plain_from_start}
@@ -22,7 +22,7 @@ use Rattle.pg_step.specs.FrameMachine.{FrameWorld, machine_of, node_step}
 use Rattle.pg_step.specs.Nodes.{Nodes}
 use Rattle.pg_step.specs.Peers.{exchange, process_end}
 use Rattle.pg_step.specs.State.{State, Response, left}
-use Rattle.pg_step.specs.Step.{Action, Issue, Retry, acted}
+use Rattle.pg_step.specs.Step.{CLOCK_LIMIT, Action, Issue, Retry, acted}
 use Rattle.pg_step.specs.Turns.{NodeTurn, Report}
 use Rattle.pg_history.specs.Counted.{CountsCommands, open_at, open_in}
 use Rattle.pg_history.specs.History.{Answers, answers_by}

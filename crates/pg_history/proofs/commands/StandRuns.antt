@@ -9,12 +9,12 @@ use Rattle.pg_message.specs.declared.message.Message.TheVariants.{Down}
 use Rattle.pg_step.specs.declared.command.OpId.{OpId}
 use Rattle.pg_machine.specs.Machine.{Input, Turn, Event, Taken, Own, node_of, start_of}
 use Rattle.pg_machine.specs.Happened.{Happened}
-use Rattle.pg_machine.specs.Clocked.{CLOCK_LIMIT, plain}
+use Rattle.pg_machine.specs.Clocked.{plain}
 use Rattle.pg_step.specs.State.{State, Response, left}
 use Rattle.pg_step.specs.Nodes.{to_peers}
 use Rattle.pg_step.specs.Peers.{exchange, process_end, ended_in}
 use Rattle.pg_step.specs.Turns.{Report, becomes_and_sends}
-use Rattle.pg_step.specs.Step.{Action}
+use Rattle.pg_step.specs.Step.{CLOCK_LIMIT, Action}
 use Rattle.pg_step.specs.Attempts.{same_op}
 use Rattle.pg_step.specs.Commands.{next_op, count_command}
 use Rattle.pg_step.specs.Config.{Config, name_at, nodes_at, ports_at}

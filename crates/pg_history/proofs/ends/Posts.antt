@@ -11,13 +11,13 @@ use Rattle.pg_message.specs.declared.message.Request.TheVariants.{SetLock, Chang
 use Rattle.pg_machine.specs.Places.{is_place, is_pair}
 use Rattle.pg_machine.specs.Machine.{Event, Input, Taken, node_of, start_of}
 use Rattle.pg_machine.specs.Happened.{Happened}
-use Rattle.pg_machine.specs.Clocked.{CLOCK_LIMIT, plain}
+use Rattle.pg_machine.specs.Clocked.{plain}
 use Rattle.pg_step.specs.Nodes.{Node}
 use Rattle.pg_step.specs.State.{State}
 use Rattle.pg_step.specs.Turns.{NodeTurn}
 use Rattle.pg_step.specs.Peers.{is_bad_exchange, exchange}
 use Rattle.pg_step.specs.declared.refusal.Refusal.TheVariants.{NotAMessage}
-use Rattle.pg_step.specs.Step.{Action, taken}
+use Rattle.pg_step.specs.Step.{CLOCK_LIMIT, Action, taken}
 use Rattle.pg_step.specs.Config.{Config, names_of, name_at, nodes_at, groups_at}
 use Rattle.pg_step.specs.FrameMachine.{placed, node_step, machine_of, FrameWorld}
 use Rattle.pg_step.proofs.Once.{is_same}

@@ -15,6 +15,8 @@ use Rattle.pg_step.specs.declared.answer.Reply.{Reply}
 use Rattle.pg_step.specs.declared.answer.Reply.TheVariants.{Refused}
 use Rattle.pg_step.specs.Nodes.{Node, Nodes, is_peer}
 use Rattle.pg_step.specs.State.{State, Stage, Response}
+use Rattle.pg_ends.specs.Numbers.{pid_of}
+use Rattle.pg_step.specs.declared.answer.Reply.TheVariants as reply
 use Rattle.pg_step.specs.State.Response.{Given, Read}
 use Rattle.pg_step.specs.declared.refusal.Refusal.TheVariants.{NoSuchPlace, NotWaiting}
 use Rattle.pg_step.specs.State.Stage.{Closed, Waiting, Asking, Changing}
@@ -29,7 +31,7 @@ use Rattle.pg_history.proofs.locks.Kept.{Inv, live, IsOurs, answers_of}
 use Rattle.pg_history.proofs.locks.Telling.{remade}
 use Rattle.pg_history.proofs.locks.Seats.{Sits, seated, to_own}
 use Rattle.pg_history.proofs.steps.Single.{ok_is}
-use Rattle.pg_history.proofs.locks.Starts.{Idle, idle_keeps, count_keeps, open_keeps}
+use Rattle.pg_history.proofs.locks.Starts.{Idle, idle_but, idle_keeps, count_keeps, open_keeps}
 use Rattle.pg_history.proofs.locks.Stages.{commands}
 use Rattle.pg_history.proofs.locks.Chains.{chain, still_keeps, replies_in_keeps, go_on_keeps, attempt_keeps}
 use Rattle.pg_step.specs.declared.command_fault.CommandFault.TheVariants.{Busy}
@@ -38,34 +40,10 @@ use Rattle.pg_step.specs.declared.command_fault.CommandFault.{CommandFault}
 -- ---- answers at once
 
 idle_answer : (a : Node) (op : OpId) (response : Response) (s : State) → Idle s a (answer op response s)
-idle_answer a op response s = record {
-  locks = refl;
-  references = refl;
-  uses = refl;
-  stages = refl;
-  counts = refl;
-  applied = refl;
-  began = refl;
-  answered = refl;
-  silent = refl;
-  sends = λ r q. refl;
-  ours = λ q. tt;
-}
+idle_answer a op response s = idle_but s a s.table s.ended s.merged s.processes (Some (op, response))
 
 idle_make : (m : Nodes) (a : Node) (op : OpId) (s : State) → Idle s a (make m op s)
-idle_make m a op s = record {
-  locks = refl;
-  references = refl;
-  uses = refl;
-  stages = refl;
-  counts = refl;
-  applied = refl;
-  began = refl;
-  answered = refl;
-  silent = refl;
-  sends = λ r q. refl;
-  ours = λ q. tt;
-}
+idle_make m a op s = idle_but s a s.table s.ended s.merged (s.processes + 1) (Some (op, Given (reply.Made (pid_of m.own (s.processes + 1)))))
 
 -- what a node tells of the end of a process is about no reference
 end_about : (b : Bool) (pid : Pid) (r : RefParts) → about r (cond b (Down pid ∷ []) [] ++ []) ≡ []

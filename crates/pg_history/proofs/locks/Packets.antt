@@ -15,7 +15,10 @@ use Rattle.pg_message.specs.declared.message.Said.{Said}
 use Rattle.pg_message.specs.declared.message.Said.TheVariants.{Granted, Denied, Applied}
 use Rattle.pg_step.specs.declared.command.OpId.{OpId}
 use Rattle.pg_multicall.specs.Gathered.{what_of}
-use Rattle.pg_term.specs.Same.{same_atom}
+use Rattle.pg_term.specs.Same.{same_atom, same_pid}
+use Rattle.pg_group.specs.Functions.{upd}
+use Rattle.pg_group.specs.Table.{without}
+use Rattle.pg_exchange.specs.GroupList.{all_merged}
 use Rattle.pg_step.specs.Nodes.{Node, Nodes}
 use Rattle.pg_step.specs.State.{State, Status, Use}
 use Rattle.pg_step.specs.State.Status.{Yes, No}
@@ -34,7 +37,7 @@ use Rattle.pg_history.proofs.locks.Telling.{remade}
 use Rattle.pg_history.proofs.locks.Seats.{Sits, seated}
 use Rattle.pg_history.proofs.steps.Single.{ok_is}
 use Rattle.pg_history.proofs.locks.Odd.{even_so, counted_even, confirmed_even}
-use Rattle.pg_history.proofs.locks.Starts.{Idle, idle_keeps}
+use Rattle.pg_history.proofs.locks.Starts.{Idle, idle_but, idle_keeps}
 use Rattle.pg_history.proofs.locks.Pops.{pop_plain}
 use Rattle.pg_history.proofs.locks.Takes.{set_keeps, del_keeps}
 use Rattle.pg_history.proofs.locks.Changes.{change_keeps}
@@ -143,34 +146,10 @@ module _ (w : World) (a : Node) (peers : List Node) (sits : Sits w.nodes a peers
   after = popped w p a rest
 
   idle_exchange : (groups : GroupList) → Idle own a (exchange p groups own)
-  idle_exchange groups = record {
-    locks = refl;
-    references = refl;
-    uses = refl;
-    stages = refl;
-    counts = refl;
-    applied = refl;
-    began = refl;
-    answered = refl;
-    silent = refl;
-    sends = λ r q. refl;
-    ours = λ q. tt;
-  }
+  idle_exchange groups = idle_but own a (all_merged own.table groups own.ended) own.ended (upd same_atom own.merged p true) own.processes None
 
   idle_process_end : (pid : Pid) → Idle own a (process_end pid own)
-  idle_process_end pid = record {
-    locks = refl;
-    references = refl;
-    uses = refl;
-    stages = refl;
-    counts = refl;
-    applied = refl;
-    began = refl;
-    answered = refl;
-    silent = refl;
-    sends = λ r q. refl;
-    ours = λ q. tt;
-  }
+  idle_process_end pid = idle_but own a (without own.table pid) (upd same_pid own.ended pid true) own.merged own.processes None
 
   ours : (x : Message) → w.wire p a ≡ x ∷ rest → IsOurs p a x
   ours x is = (subst (AllByRecursion (IsOurs p a)) is (inv.tidy.ours p a)).0

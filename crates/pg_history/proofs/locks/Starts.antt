@@ -1,21 +1,23 @@
 -- A command comes in, is opened, and begins an attempt; and turns that leave references and commands as they are.
 use Rattle.pg_term.specs.Same.{same_atom}
+use Rattle.pg_term.specs.declared.pid.Pid.{Pid}
 use Rattle.pg_history.proofs.locks.Weights.{once_moved, none_only}
-use Rattle.std.proofs.Common.{◌≡◌, ℕ, ◌+◌, ◌<◌, ◌≤◌, ◌≢◌, [], ◌++◌, None, nat_eq, refl, ap, sym, ◌∙◌, subst, arith, append-nil, ◌&&◌}
+use Rattle.std.proofs.Common.{◌≡◌, ℕ, ◌+◌, ◌<◌, ◌≤◌, ◌≢◌, [], ◌++◌, Bool, Option, None, nat_eq, refl, ap, sym, ◌∙◌, subst, arith, append-nil, ◌&&◌}
 use Rattle.std.specs.List.{AllByRecursion}
 use Rattle.pg_term.specs.RefParts.{RefParts}
 use Rattle.pg_refs.specs.Numbered.{numbered}
 use Rattle.pg_lock.specs.Locks.{Locks, is_holder}
 use Rattle.pg_group.specs.declared.update.Update.{Update}
 use Rattle.pg_group.specs.Functions.{upd}
+use Rattle.pg_group.specs.Table.{Table}
 use Rattle.pg_group.specs.Value.{name_of}
 use Rattle.pg_step.specs.declared.command.OpId.{OpId}
-use Rattle.pg_step.specs.Nodes.{Node}
-use Rattle.pg_step.specs.State.{State, Use, Stage}
+use Rattle.pg_step.specs.Nodes.{Node, to_nobody}
+use Rattle.pg_step.specs.State.{State, Use, Stage, Response}
 use Rattle.pg_step.specs.State.Status.{Unasked}
 use Rattle.pg_step.specs.State.Use.{Fresh, Locking, Owning, Updating}
 use Rattle.pg_step.specs.State.Stage.{Closed, Waiting, Asking, Changing}
-use Rattle.pg_step.specs.Turns.{NodeTurn}
+use Rattle.pg_step.specs.Turns.{NodeTurn, nothing}
 use Rattle.pg_step.specs.Attempts.{same_op, new_attempt}
 use Rattle.pg_step.specs.Commands.{open_command, count_command}
 use Rattle.pg_history.proofs.references.Keys.{numbers, read_at, read_other, at_read, from_read}
@@ -44,6 +46,23 @@ pub record Idle (s : State) (a : Node) (t : NodeTurn) : Type 0 where
   pub silent : t.sends a ≡ []
   pub sends : (r : RefParts) (q : Node) → about r (t.sends q) ≡ []
   pub ours : (q : Node) → AllByRecursion (IsOurs a q) (t.sends q)
+
+-- one that sends nothing, and changes groups, ends, peers and the number of processes alone
+pub idle_but : (s : State) (a : Node) (table : Table) (ended : Pid → Bool) (merged : Node → Bool) (processes : ℕ) (gave : Option (OpId × Response))
+    → Idle s a (record { state = record s { table = table; ended = ended; merged = merged; processes = processes }; sends = to_nobody; reported = record nothing { gave = gave } })
+idle_but s a table ended merged processes gave = record {
+  locks = refl;
+  references = refl;
+  uses = refl;
+  stages = refl;
+  counts = refl;
+  applied = refl;
+  began = refl;
+  answered = refl;
+  silent = refl;
+  sends = λ r q. refl;
+  ours = λ q. tt;
+}
 
 pub idle_keeps : (w : World) (a : Node) (t : NodeTurn) → Inv w → Idle (w.node a) a t → Inv (perform w a t)
 idle_keeps w a t inv idle = record {

@@ -16,10 +16,10 @@ use Rattle.pg_message.specs.declared.message.Said.{Said}
 use Rattle.pg_machine.specs.Places.{is_pair}
 use Rattle.pg_machine.specs.Machine.{Event, Taken, start_of}
 use Rattle.pg_machine.specs.Runs.{Leads, run, ran}
-use Rattle.pg_machine.specs.Clocked.{CLOCK_LIMIT, plain}
+use Rattle.pg_machine.specs.Clocked.{plain}
 use Rattle.pg_step.specs.State.{State}
 use Rattle.pg_step.specs.Turns.{NodeTurn}
-use Rattle.pg_step.specs.Step.{Action, taken, node_takes}
+use Rattle.pg_step.specs.Step.{CLOCK_LIMIT, Action, taken, node_takes}
 use Rattle.pg_step.specs.declared.refusal.Refusal.{Refusal}
 use Rattle.pg_step.specs.Config.{Config, names_of, name_at, nodes_at}
 use Rattle.pg_step.specs.FrameMachine.{placed, node_step, machine_of, frame_machine, FrameWorld}

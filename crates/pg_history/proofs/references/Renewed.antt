@@ -16,7 +16,7 @@ use Rattle.pg_step.specs.declared.answer.Reply.{Reply as Answer}
 use Rattle.pg_step.specs.declared.answer.Reply.TheVariants as reply
 use Rattle.pg_machine.specs.Machine.{Input, Turn, Event, Taken, Own, node_of, start_of}
 use Rattle.pg_machine.specs.Happened.{Happened}
-use Rattle.pg_machine.specs.Clocked.{CLOCK_LIMIT, Timed, Stamped, unstamped, next_clock, timed, timed_turn}
+use Rattle.pg_machine.specs.Clocked.{Timed, Stamped, unstamped, next_clock, timed, timed_turn}
 use Rattle.pg_lock.specs.Attempts.{after_round, does_wait}
 use Rattle.pg_step.specs.Nodes.{Node, Nodes, every, greatest}
 use Rattle.pg_step.specs.State.{State, Use, Stage, left}
@@ -28,7 +28,7 @@ use Rattle.pg_step.specs.Turns.{NodeTurn, Report, becomes, and_then}
 use Rattle.pg_step.specs.Peers.{is_bad_exchange, exchange}
 use Rattle.pg_step.specs.Attempts.{round_of, all_granted, none_missing, none_denied, new_attempt, ask, begin, give_up, finish, count_answer, count_ok, replies_in, locks_in, go_on, attempt, use_of, retry, waits, tried_again, lock_status, counted, reply_under}
 use Rattle.pg_step.specs.Commands.{OPEN_LIMIT, fault_of, look, answer, open_command, undertake, change_by, change, carried_out, command_by, next_op, count_command, command as command_in, refused}
-use Rattle.pg_step.specs.Step.{Action, Issue, Retry, taken, acted}
+use Rattle.pg_step.specs.Step.{CLOCK_LIMIT, Action, Issue, Retry, taken, acted}
 use Rattle.pg_step.specs.declared.refusal.Refusal.TheVariants.{NotAMessage, NoSuchPlace, NotWaiting}
 use Rattle.pg_step.specs.Config.{Config, name_at, nodes_at, ports_at}
 use Rattle.pg_step.specs.FrameMachine.{node_step, frame_machine}

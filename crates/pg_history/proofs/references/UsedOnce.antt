@@ -11,13 +11,13 @@ use Rattle.pg_step.specs.declared.command.OpId.{OpId}
 use Rattle.pg_machine.specs.Machine.{Input, Turn, Event, Taken, Own, node_of}
 use Rattle.pg_machine.specs.Happened.{Happened}
 use Rattle.pg_machine.specs.Runs.{Leads}
-use Rattle.pg_machine.specs.Clocked.{CLOCK_LIMIT, plain}
+use Rattle.pg_machine.specs.Clocked.{plain}
 use Rattle.pg_step.specs.Nodes.{Node, Nodes}
 use Rattle.pg_step.specs.State.{State, Status, Use, left}
 use Rattle.pg_step.specs.State.Status.{Unasked}
 use Rattle.pg_step.specs.State.Use.{Fresh, Locking, Owning, Updating, Spent}
 use Rattle.pg_step.specs.Turns.{NodeTurn, Report}
-use Rattle.pg_step.specs.Step.{Action}
+use Rattle.pg_step.specs.Step.{CLOCK_LIMIT, Action}
 use Rattle.pg_step.specs.Config.{Config, name_at, nodes_at, ports_at}
 use Rattle.pg_step.specs.FrameMachine.{node_step, machine_of, frame_machine, FrameWorld}
 use Rattle.pg_machine.proofs.Sequences.{kept}

@@ -6,11 +6,11 @@ use Rattle.pg_term.specs.Same.{same_term}
 use Rattle.pg_group.specs.Value.{name_of}
 use Rattle.pg_message.specs.declared.message.Message.{Message}
 use Rattle.pg_machine.specs.Machine.{Event}
-use Rattle.pg_machine.specs.Clocked.{CLOCK_LIMIT, TimedWorld, plain}
+use Rattle.pg_machine.specs.Clocked.{TimedWorld, plain}
 use Rattle.pg_machine.specs.Runs.{Leads}
 use Rattle.pg_step.specs.State.{State}
 use Rattle.pg_step.specs.Turns.{Report}
-use Rattle.pg_step.specs.Step.{Action}
+use Rattle.pg_step.specs.Step.{CLOCK_LIMIT, Action}
 use Rattle.pg_step.specs.Config.{Config}
 use Rattle.pg_step.specs.FrameMachine.{machine_of, frame_machine, FrameWorld}
 use Rattle.pg_history.specs.History.{Entry, entry_of, entries, of_group, history}

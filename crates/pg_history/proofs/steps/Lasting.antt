@@ -7,7 +7,7 @@ use Rattle.pg_term.specs.Same.{same_atom, same_pid}
 use Rattle.pg_group.specs.Functions.{upd}
 use Rattle.pg_group.proofs.Changes.{upd_by}
 use Rattle.pg_message.specs.declared.message.Message.{Message}
-use Rattle.pg_machine.specs.Clocked.{CLOCK_LIMIT, plain}
+use Rattle.pg_machine.specs.Clocked.{plain}
 use Rattle.pg_machine.specs.Happened.{Happened}
 use Rattle.pg_machine.specs.Machine.{Event, Input, Turn, node_of}
 use Rattle.pg_machine.specs.Runs.{Leads}
@@ -17,7 +17,7 @@ use Rattle.pg_step.specs.Config.{Config, nodes_at}
 use Rattle.pg_step.specs.FrameMachine.{FrameWorld, frame_machine, machine_of, node_step, place_turn}
 use Rattle.pg_step.specs.Nodes.{Node}
 use Rattle.pg_step.specs.State.{State, Response, formed}
-use Rattle.pg_step.specs.Step.{Action}
+use Rattle.pg_step.specs.Step.{CLOCK_LIMIT, Action}
 use Rattle.pg_step.specs.Turns.{NodeTurn, Report}
 use Rattle.pg_history.specs.History.{answer_by, answers_by, is_formed}
 use Rattle.pg_history.specs.Lasting.{Tabling, Applying, Ending, Merging}

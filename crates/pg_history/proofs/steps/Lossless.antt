@@ -7,11 +7,11 @@ use Rattle.pg_machine.specs.Happened.{Happened}
 use Rattle.pg_step.specs.Nodes.{Node, Nodes}
 use Rattle.pg_step.specs.State.{State, left}
 use Rattle.pg_step.specs.Turns.{NodeTurn, Report}
-use Rattle.pg_step.specs.Step.{Action, taken, acted, node_takes}
+use Rattle.pg_step.specs.Step.{CLOCK_LIMIT, Action, taken, acted, node_takes}
 use Rattle.pg_step.specs.declared.refusal.Refusal.TheVariants.{NodeLost}
 use Rattle.pg_step.specs.Config.{Config, name_at, nodes_at, ports_at}
 use Rattle.pg_step.specs.FrameMachine.{place_turn, node_step, machine_of, FrameWorld}
-use Rattle.pg_machine.specs.Clocked.{CLOCK_LIMIT, plain}
+use Rattle.pg_machine.specs.Clocked.{plain}
 use Rattle.pg_machine.proofs.Sequences.{kept}
 use Rattle.pg_machine.proofs.Plain.{plain_from_start}
 use Rattle.pg_history.specs.Reached.{TimedFrameWorld, Reaches}

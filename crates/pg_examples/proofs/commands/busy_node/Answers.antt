@@ -1,5 +1,5 @@
-use Rattle.pg_examples.proofs.Refused.{busy_node as shown}
+use Rattle.pg_examples.proofs.Refused.{busy_node_refuses}
 use Rattle.pg_examples.proofs.commands.busy_node.Goals as goal
 
 pub returns : goal.returns
-returns c = shown
+returns c = busy_node_refuses

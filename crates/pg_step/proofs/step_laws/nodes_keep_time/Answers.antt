@@ -1,4 +1,4 @@
-use Rattle.pg_machine.specs.Clocked.{CLOCK_LIMIT}
+use Rattle.pg_step.specs.Step.{CLOCK_LIMIT}
 use Rattle.pg_step.specs.FrameMachine.{machine_of}
 use Rattle.pg_machine.proofs.Timing.{keeps_time, timely_start, timely_run}
 use Rattle.pg_machine.proofs.Plain.{plain_from_start}
