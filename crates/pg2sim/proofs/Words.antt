@@ -4,7 +4,7 @@ use Rattle.std.specs.Prelude.{slice_index_or, codes, string_bytes}
 use Rattle.std.specs.Cmp.Lexicographic.{pointwise, bytes_decides}
 use Rattle.std.specs.declared.string.String.{String}
 use Rattle.std.specs.declared.alloc.Global.{Global}
-use Rattle.pg2sim.specs.Status.{IsBytes}
+use Rattle.pg2sim.specs.Status.{AsksForBytes}
 
 one_item : {X : Type 0} (xs : List X) (x : X) → 1 ≤ length xs → length xs < 2 → x ≡ slice_index_or xs 0 x → xs ≡ x ∷ []
 one_item [] x some few e = absurd (omega arith)
@@ -13,7 +13,7 @@ one_item (y ∷ z ∷ zs) x some few e = absurd (omega arith)
 
 -- whether the one word is `bytes`
 pub tested : (words : List (String Global)) (word : String Global) (b : Bool) → 1 ≤ length words → length words < 2 → word ≡ slice_index_or words 0 word
-    → b ≡ pointwise nat_eq (string_bytes word) (codes "bytes") → (b ≡ true → IsBytes words) × (IsBytes words → b ≡ true)
+    → b ≡ pointwise nat_eq (string_bytes word) (codes "bytes") → (b ≡ true → AsksForBytes words) × (AsksForBytes words → b ≡ true)
 tested words word b some few e is =
     let one : words ≡ word ∷ [] = one_item words word some few e in
     let text = string_bytes word in (

@@ -6,8 +6,8 @@ use Rattle.pg_node.specs.declared.fault.ServeFault.{ServeFault}
 use Rattle.pg_node.specs.Replica.{Pair, Serves}
 
 -- the one word `bytes`
-abbrev pub IsBytes : List (String Global) → Type 0
-IsBytes words = map string_bytes words ≡ codes "bytes" ∷ []
+abbrev pub AsksForBytes : List (String Global) → Type 0
+AsksForBytes words = map string_bytes words ≡ codes "bytes" ∷ []
 
 -- 0: done, 1: refused
 abbrev pub status_of : Result (Unit {0}) ServeFault → ℕ

@@ -2,7 +2,7 @@ ghost use Rattle.std.specs.Prelude.{◌≡◌, ◌↔◌, IsTrue, IfSome, IfOk, 
 ghost use Rattle.pg_term.specs.declared.fault.TermFault.TheVariants.{OutOfMemory};
 ghost use Rattle.std.specs.Io.KnownBytes.{Keeps};
 ghost use Rattle.pg_node.specs.Replica.{Serves};
-ghost use Rattle.pg2sim.specs.Status.{IsBytes, EndsWith, named_pair};
+ghost use Rattle.pg2sim.specs.Status.{AsksForBytes, EndsWith, named_pair};
 
 use pg_node::{ServeFault, serve};
 use pg_term::{Atom, TermFault};
@@ -28,10 +28,10 @@ pub fn run_words<R: Read, W: Write, F: Write>(
     writer: &mut W,
     faults: &mut F,
 ) -> u8
-    ensures bytes { IsBytes words.now → IfSome (R.remaining reader.old) (λ input.
+    ensures bytes { AsksForBytes words.now → IfSome (R.remaining reader.old) (λ input.
         EndsWith (W.contents writer.old) (W.contents writer.new) input result) }
-    ensures other { (IsBytes words.now → ⊥) → result ≡ UNKNOWN_WORDS }
-    ensures silent { (IsBytes words.now → ⊥) → Keeps (R.remaining reader.old) (R.remaining reader.new)
+    ensures other { (AsksForBytes words.now → ⊥) → result ≡ UNKNOWN_WORDS }
+    ensures silent { (AsksForBytes words.now → ⊥) → Keeps (R.remaining reader.old) (R.remaining reader.new)
         × Keeps (W.contents writer.old) (W.contents writer.new)
         × Keeps (F.contents faults.old) (F.contents faults.new) }
 {
@@ -50,7 +50,7 @@ pub fn run_words<R: Read, W: Write, F: Write>(
 
 /// Whether the words are the one word `bytes`.
 fn is_bytes(words: &[String]) -> bool
-    ensures { IsTrue result ↔ IsBytes words.now }
+    ensures { IsTrue result ↔ AsksForBytes words.now }
 {
     match words {
         [word] => word.as_str() == "bytes",
