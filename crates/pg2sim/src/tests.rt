@@ -95,64 +95,84 @@ fn run<R: Read>(alloc: Global, word: &str, reader: &mut R) -> Result<Printed, Fa
     })
 }
 
+// An input, and what a run on it prints: the output, the line on standard error, the status.
+type Row<'a> = (&'a [u8], &'a [u8], &'a str, u8);
+
+fn prints(alloc: Global, row: Row<'_>) -> Result<bool, Fail> {
+    let (mut reader, output, faults, status) = row;
+    let printed = run(alloc, "bytes", &mut reader)?;
+    Ok(
+        printed.output.as_slice() == output
+            && printed.faults.as_slice() == faults.as_bytes()
+            && printed.status == status,
+    )
+}
+
 #[test]
-fn worked_examples(rt: HostRuntime) -> Result<(), Fail> {
-    let alloc = rt.alloc();
-    let mut bad_version = CREATE.to_vec(alloc)?;
+fn calls_and_frames(rt: HostRuntime) -> Result<(), Fail> {
+    let rows: [(&str, Row<'_>); 5] = [
+        ("create_call", (&CREATE, &CREATED, "", 0)),
+        ("wide_creations", (&WIDE_CALL, &WIDE_REPLY, "", 0)),
+        ("empty_input", (&[], &[], "", 0)),
+        ("cut_input", (&CREATE[..30], &[], "refused 1\n", 1)),
+        ("frame_too_long", (&[1, 0, 0, 1], &[], "refused 11\n", 1)),
+    ];
+    for (name, row) in rows {
+        assert!(rt; prints(rt.alloc(), row)?, "{name}");
+    }
+    Ok(())
+}
+
+#[test]
+fn stamps(rt: HostRuntime) -> Result<(), Fail> {
+    let rows: [(&str, Row<'_>); 3] = [
+        ("the last", (&LAST_STAMP, &LAST_REPLY, "", 0)),
+        ("full", (&FULL_STAMP, &[], "refused 30\n", 1)),
+        ("stamp_too_large", (&LARGE_STAMP, &[], "refused 13\n", 1)),
+    ];
+    for (name, row) in rows {
+        assert!(rt; prints(rt.alloc(), row)?, "{name}");
+    }
+    Ok(())
+}
+
+#[test]
+fn broken_bodies(rt: HostRuntime) -> Result<(), Fail> {
+    let mut bad_version = CREATE.to_vec(rt.alloc())?;
     bad_version.extend_from_slice(&[0, 0, 0, 1, 130])?;
-    let mut exchange_then_lock = EXCHANGE.to_vec(alloc)?;
-    exchange_then_lock.extend_from_slice(&SET_LOCK)?;
-    let mut second_exchange = EXCHANGE.to_vec(alloc)?;
-    second_exchange.extend_from_slice(&EXCHANGE)?;
-    let rows: [(&str, &[u8], &[u8], &str, u8); 14] = [
-        ("create_call", &CREATE, &CREATED, "", 0),
-        ("wide_creations", &WIDE_CALL, &WIDE_REPLY, "", 0),
-        ("empty_input", &[], &[], "", 0),
-        ("cut_input", &CREATE[..30], &[], "refused 1\n", 1),
-        ("frame_too_long", &[1, 0, 0, 1], &[], "refused 11\n", 1),
-        ("stamp_edges: the last", &LAST_STAMP, &LAST_REPLY, "", 0),
-        ("stamp_edges: full", &FULL_STAMP, &[], "refused 30\n", 1),
-        ("broken_bodies: empty", &[0, 0, 0, 0], &[], "refused 1\n", 1),
+    let rows: [(&str, Row<'_>); 3] = [
+        ("empty", (&[0, 0, 0, 0], &[], "refused 1\n", 1)),
+        ("5", (&[0, 0, 0, 3, 131, 97, 5], &[], "refused 12\n", 1)),
         (
-            "broken_bodies: 5",
-            &[0, 0, 0, 3, 131, 97, 5],
-            &[],
-            "refused 12\n",
-            1,
-        ),
-        (
-            "broken_bodies: behind",
-            bad_version.as_slice(),
-            &CREATED,
-            "refused 2\n",
-            1,
-        ),
-        ("stamp_too_large", &LARGE_STAMP, &[], "refused 13\n", 1),
-        (
-            "exchange_then_lock",
-            exchange_then_lock.as_slice(),
-            &GRANTED,
-            "",
-            0,
-        ),
-        ("the lock alone", &SET_LOCK, &DENIED, "", 0),
-        (
-            "a second exchange",
-            second_exchange.as_slice(),
-            &[],
-            "refused 12\n",
-            1,
+            "behind a call",
+            (bad_version.as_slice(), &CREATED, "refused 2\n", 1),
         ),
     ];
-    for (name, input, output, faults, status) in rows {
-        let mut reader = input;
-        let printed = run(alloc, "bytes", &mut reader)?;
-        assert!(rt; printed.output.as_slice() == output, "the output of {name}");
-        assert!(rt;
-            printed.faults.as_slice() == faults.as_bytes(),
-            "the faults of {name}"
-        );
-        assert_eq!(rt; printed.status, status, "the status of {name}");
+    for (name, row) in rows {
+        assert!(rt; prints(rt.alloc(), row)?, "{name}");
+    }
+    Ok(())
+}
+
+#[test]
+fn exchange_then_lock(rt: HostRuntime) -> Result<(), Fail> {
+    let mut formed = EXCHANGE.to_vec(rt.alloc())?;
+    formed.extend_from_slice(&SET_LOCK)?;
+    let mut again = EXCHANGE.to_vec(rt.alloc())?;
+    again.extend_from_slice(&EXCHANGE)?;
+    let rows: [(&str, Row<'_>); 3] = [
+        (
+            "the lock behind the exchange",
+            (formed.as_slice(), &GRANTED, "", 0),
+        ),
+        ("the lock alone", (&SET_LOCK, &DENIED, "", 0)),
+        (
+            "a second exchange",
+            (again.as_slice(), &[], "refused 12\n", 1),
+        ),
+    ];
+    for (name, row) in rows {
+        assert!(rt; prints(rt.alloc(), row)?, "{name}");
     }
     Ok(())
 }

@@ -1,5 +1,5 @@
 -- Commands that are refused: what a name is found to be, and the rest computes.
-use Rattle.std.proofs.Common.{◌≡◌, Bool, true, false, not, cond, Some, None, Option, Ok, refl, ap}
+use Rattle.std.proofs.Common.{◌≡◌, ℕ, Bool, true, false, not, cond, Some, None, Option, Ok, refl, ap}
 use Rattle.pg_term.specs.declared.term.Term.{Term}
 use Rattle.pg_group.specs.Functions.{upd}
 use Rattle.pg_message.specs.Name.{is_name}
@@ -10,8 +10,8 @@ use Rattle.pg_step.specs.declared.command_fault.CommandFault.TheVariants.{NameTo
 use Rattle.pg_step.specs.Commands.{command_by, count_command, next_op}
 use Rattle.pg_step.specs.State.{State, Response, left}
 use Rattle.pg_step.specs.Turns.{and_then}
-use Rattle.pg_examples.specs.Examples.{a1, b1, c1, busy_node}
-use Rattle.pg_examples.specs.RefusedCommands.{at_a, answer_in, answer_to, LargeNames, ForeignMembers, RefusedEnds, ProcessesMade, OpenCommands}
+use Rattle.pg_examples.specs.Examples.{a1, b1, c1, busy_node, keeping_node}
+use Rattle.pg_examples.specs.RefusedCommands.{at_a, answer_in, answer_to, opened_in, LargeNames, ForeignMembers, RefusedEnds, ProcessesMade, LookedFor, OpenCommands}
 
 -- the answer to a command whose name is found to be too large or not, and which has this fault else
 abbrev named_as : Bool → Option CommandFault → State → Command → Option Response
@@ -58,12 +58,30 @@ refused_ends = record {
 pub process_limit : ProcessesMade
 process_limit = record { last = refl; none_left = refl }
 
+pub looked_for : (g : Term) → is_name g ≡ true → LookedFor g
+unfolding upd
+looked_for g named = record {
+  create = fine g named None keeping_node (command.Create g);
+  join = fine g named None keeping_node (command.Join g a1);
+  leave = fine g named None keeping_node (command.Leave g a1);
+  create_absent = fine g named None (busy_node true 0 0) (command.Create g);
+  delete_absent = fine g named None (busy_node true 0 0) (command.Delete g);
+  join_absent = fine g named None (busy_node true 0 0) (command.Join g a1);
+  leave_absent = fine g named None (busy_node true 0 0) (command.Leave g a1);
+}
+
+-- what a command that is taken leaves open
+abbrev opened_as : Bool → (g : Term) → ℕ
+opened_as fine g = opened_in (Ok (and_then (count_command 0 (busy_node true 0 255)) (command_by (cond (not fine) (Some NameTooLarge) None) (left at_a (busy_node true 0 255)) (next_op 0 (busy_node true 0 255)) (command.Create g))))
+
 pub busy_node_refuses : (g : Term) → is_name g ≡ true → OpenCommands g
 unfolding upd
 busy_node_refuses g named = record {
   taken = fine g named None (busy_node true 0 255) (command.Create g);
+  opened = ap (λ b. opened_as b g) named;
   full = fine g named None (busy_node true 0 256) (command.Create g);
   full_delete = fine g named None (busy_node true 0 256) (command.Delete g);
   foreign_first = fine g named (Some ForeignPid) (busy_node true 0 256) (command.Join g c1);
   looked = fine g named None (busy_node true 0 256) (command.Join g a1);
+  closed = refl;
 }

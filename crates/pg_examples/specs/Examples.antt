@@ -1,13 +1,13 @@
 -- Worked examples: configurations, lists of events, and what is read of a world. Where nothing else is said packets are
 -- taken in rounds: in each, every ordered pair of nodes moves one packet, if one is on the way.
-use Rattle.std.specs.Prelude.{ℕ, Bool, true, None, ◌&&◌, nat_eq, map, List, [], ◌∷◌, ◌++◌, Option, codes, is_some}
+use Rattle.std.specs.Prelude.{ℕ, Bool, true, None, ◌&&◌, nat_eq, map, List, [], ◌∷◌, ◌++◌, Option, codes, is_some, Some}
 use Rattle.pg_term.specs.declared.pid.Pid.{Pid}
 use Rattle.pg_term.specs.declared.term.Term.{Term}
 use Rattle.pg_term.specs.RefParts.{RefParts}
 use Rattle.pg_term.specs.Same.{same_pid}
 use Rattle.pg_group.specs.declared.update.Update.{Update}
 use Rattle.pg_group.specs.Table.{Table}
-use Rattle.pg_group.specs.Value.{count_in}
+use Rattle.pg_group.specs.Value.{count_in, nobody}
 use Rattle.pg_message.specs.declared.message.Message.{Message}
 use Rattle.pg_message.specs.declared.message.Message.TheVariants.{Reply}
 use Rattle.pg_message.specs.declared.message.Said.TheVariants.{Granted, Denied, Applied}
@@ -312,6 +312,10 @@ busy_node met made opened = record (new_state (λ name. None) made) { merged = �
 -- a formed node that has made so many processes, and at which the process with the number 1 has ended
 abbrev pub mourning_node : ℕ → State
 mourning_node made = record (busy_node true made 0) { ended = same_pid a1 }
+
+-- a formed node at which each group is there, without members
+abbrev pub keeping_node : State
+keeping_node = record (busy_node true 0 0) { table = λ name. Some nobody }
 
 abbrev pub c1 : Pid
 c1 = pid_of c 1

@@ -6,13 +6,14 @@ use Rattle.pg_step.specs.declared.answer.Reply.TheVariants as reply
 use Rattle.pg_step.specs.declared.command.Command.{Command}
 use Rattle.pg_step.specs.declared.command.Command.TheVariants as command
 use Rattle.pg_step.specs.declared.refusal.Refusal.{Refusal}
+use Rattle.pg_step.specs.declared.refusal.Refusal.TheVariants.{NotWaiting}
 use Rattle.pg_step.specs.Config.{nodes_at}
 use Rattle.pg_step.specs.Nodes.{Nodes}
 use Rattle.pg_step.specs.State.{State, Response}
 use Rattle.pg_step.specs.State.Response.{Given}
-use Rattle.pg_step.specs.Step.{Issue, node_acts}
+use Rattle.pg_step.specs.Step.{Issue, Retry, node_acts}
 use Rattle.pg_step.specs.Turns.{NodeTurn}
-use Rattle.pg_examples.specs.Examples.{a, a1, b1, c1, two_nodes, busy_node, mourning_node}
+use Rattle.pg_examples.specs.Examples.{a, a1, b1, c1, op_at, two_nodes, busy_node, mourning_node, keeping_node}
 
 -- the node a of a and b
 abbrev pub at_a : Nodes
@@ -25,6 +26,10 @@ answer_in (Err refusal) = None
 -- what the node answers at once to a command at its port
 abbrev pub answer_to : State → Command → Option Response
 answer_to s c = answer_in (node_acts at_a 1 (Issue 0 c) s)
+
+abbrev pub opened_in : Result NodeTurn Refusal → ℕ
+opened_in (Ok t) = t.state.opened
+opened_in (Err refusal) = 0
 
 abbrev pub refused : ℕ → Option Response
 refused number = Some (Given (reply.Refused number))
@@ -65,11 +70,23 @@ pub record ProcessesMade : Type 0 where
   pub last : answer_to (busy_node false 268435454 0) command.Make ≡ Some (Given (reply.Made (pid_of a 268435455)))
   pub none_left : answer_to (busy_node false 268435455 0) command.Make ≡ refused 28
 
+-- What the look answers, of a group that is there and of one that is not. What it does not answer waits for its locks.
+pub record LookedFor (g : Term) : Type 0 where
+  pub create : answer_to keeping_node (command.Create g) ≡ Some (Given reply.Ok)
+  pub join : answer_to keeping_node (command.Join g a1) ≡ None
+  pub leave : answer_to keeping_node (command.Leave g a1) ≡ None
+  pub create_absent : answer_to (busy_node true 0 0) (command.Create g) ≡ None
+  pub delete_absent : answer_to (busy_node true 0 0) (command.Delete g) ≡ None
+  pub join_absent : answer_to (busy_node true 0 0) (command.Join g a1) ≡ Some (Given (reply.NoSuchGroup g))
+  pub leave_absent : answer_to (busy_node true 0 0) (command.Leave g a1) ≡ Some (Given (reply.NoSuchGroup g))
+
 -- With 255 open commands one more is taken, and waits for its locks; with 256 it is refused, behind its faults and behind
--- the look.
+-- the look. A command that is not open is not tried again.
 pub record OpenCommands (g : Term) : Type 0 where
   pub taken : answer_to (busy_node true 0 255) (command.Create g) ≡ None
+  pub opened : opened_in (node_acts at_a 1 (Issue 0 (command.Create g)) (busy_node true 0 255)) ≡ 256
   pub full : answer_to (busy_node true 0 256) (command.Create g) ≡ refused 22
   pub full_delete : answer_to (busy_node true 0 256) (command.Delete g) ≡ refused 22
   pub foreign_first : answer_to (busy_node true 0 256) (command.Join g c1) ≡ refused 24
   pub looked : answer_to (busy_node true 0 256) (command.Join g a1) ≡ Some (Given (reply.NoSuchGroup g))
+  pub closed : node_acts at_a 1 (Retry (op_at 1)) (busy_node true 0 255) ≡ Err NotWaiting

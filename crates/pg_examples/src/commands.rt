@@ -1,7 +1,7 @@
 ghost use Rattle.std.specs.Prelude.{◌≡◌, true, false};
 ghost use Rattle.pg_term.specs.declared.term.Term.{Term};
 ghost use Rattle.pg_message.specs.Name.{is_name};
-ghost use Rattle.pg_examples.specs.RefusedCommands.{LargeNames, ForeignMembers, RefusedEnds, ProcessesMade, OpenCommands};
+ghost use Rattle.pg_examples.specs.RefusedCommands.{LargeNames, ForeignMembers, RefusedEnds, ProcessesMade, LookedFor, OpenCommands};
 
 /// Each command whose name is too large is refused so, whatever else is wrong with it.
 pub fn large_names()
@@ -24,7 +24,13 @@ pub fn process_limit()
     ensures { ProcessesMade }
 {}
 
-/// A node has 256 open commands at most. A further change is refused, but for what the look answers.
+/// A create of a group that is there is answered at once, and so is a join or a leave of one that is not; a delete never looks.
+pub fn looked_for()
+    ensures { (g : Term) → is_name g ≡ true → LookedFor g }
+{}
+
+/// A node has 256 open commands at most. A further change is refused, but for what the look answers. A
+/// command that is not open is not tried again.
 pub fn busy_node()
     ensures { (g : Term) → is_name g ≡ true → OpenCommands g }
 {}

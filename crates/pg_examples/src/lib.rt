@@ -5,7 +5,9 @@ mod commands;
 mod examples;
 mod losses;
 
-pub use commands::{busy_node, foreign_members, large_names, process_limit, refused_ends};
+pub use commands::{
+    busy_node, foreign_members, large_names, looked_for, process_limit, refused_ends,
+};
 pub use examples::{
     change_of_three, configurations_are_accepted, delete_between_look_and_lock, denied_by_another,
     denied_by_itself, end_beats_late_join, formation_of_three, gathered_replies, greatest_first, initial_tables,
