@@ -8,5 +8,6 @@ pub mod Lists
 pub mod Longer
 pub mod Maps
 pub mod Merges
+pub mod Put
 pub mod Spread
 pub mod Thinned

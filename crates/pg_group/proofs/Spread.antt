@@ -1,5 +1,5 @@
 -- The entries of a group's members, read as a list of pids.
-use Rattle.std.proofs.Common.{◌≡◌, ℕ, suc, zero, ◌+◌, ◌-◌, ◌<◌, ◌≤◌, Bool, true, false, cond, Option, Some, None, List, [], ◌∷◌, length, refl, sym, ap, subst, ◌∙◌, arith}
+use Rattle.std.proofs.Common.{◌≡◌, ℕ, suc, zero, ◌+◌, ◌-◌, ◌<◌, ◌≤◌, Bool, true, false, cond, Option, Some, None, List, [], ◌∷◌, ◌++◌, length, refl, sym, ap, subst, ◌∙◌, arith, append_assoc, append-nil}
 use Rattle.std.specs.Prelude.{count_by, slice_get, unwrap_or}
 use Rattle.std.specs.List.{AllByRecursion}
 use Rattle.std.specs.Map.{lookup, keys_of}
@@ -14,48 +14,9 @@ use Rattle.pg_term.specs.Same.{same_pid, pid_cmp}
 use Rattle.pg_term.specs.contracts.pid.PidOrd.TheImpl.Laws as order_laws
 use Rattle.pg_term.proofs.Same.{pid_is}
 use Rattle.pg_group.specs.Scope.{anywhere}
-use Rattle.pg_group.specs.Members.{IsInOrder, IsMemberList}
+use Rattle.pg_group.specs.Members.{IsInOrder, IsMemberList, put}
 use Rattle.pg_group.specs.Counted.{CountMap, counts_in}
-use Rattle.pg_group.proofs.Lists.{counted}
-
--- a pid n times before others
-abbrev pub put : ℕ → Pid → List Pid → List Pid
-put zero pid pids = pids
-put (suc n) pid pids = pid ∷ put n pid pids
-
-length-put : (n : ℕ) (pid : Pid) (pids : List Pid) → length (put n pid pids) ≡ n + length pids
-length-put zero pid pids = omega arith
-length-put (suc n) pid pids = let e = length-put n pid pids in omega arith
-
-get-put_low : (n : ℕ) (pid : Pid) (pids : List Pid) (i : ℕ) → i < n → slice_get (put n pid pids) i ≡ Some pid
-get-put_low zero pid pids i h = absurd (omega arith)
-get-put_low (suc n) pid pids zero h = refl
-get-put_low (suc n) pid pids (suc i) h = get-put_low n pid pids i (omega arith)
-
-get-put_high : (n : ℕ) (pid : Pid) (pids : List Pid) (i : ℕ) → n ≤ i → slice_get (put n pid pids) i ≡ slice_get pids (i - n)
-get-put_high zero pid pids i h = let e : i ≡ i - 0 = omega arith in ap (slice_get pids) e
-get-put_high (suc n) pid pids zero h = absurd (omega arith)
-get-put_high (suc n) pid pids (suc i) h = let e : i - n ≡ suc i - suc n = omega arith in get-put_high n pid pids i (omega arith) ∙ ap (slice_get pids) e
-
-all-put : (P : Pid → Type 0) (n : ℕ) (pid : Pid) (pids : List Pid) → P pid → AllByRecursion P pids → AllByRecursion P (put n pid pids)
-all-put P zero pid pids p h = h
-all-put P (suc n) pid pids p h = (p, all-put P n pid pids p h)
-
-ordered-put : (n : ℕ) (pid : Pid) (pids : List Pid) → AllByRecursion (λ later. is_gt (pid_cmp pid later) ≡ false) pids → IsInOrder pids → IsInOrder (put n pid pids)
-ordered-put zero pid pids h o = o
-ordered-put (suc n) pid pids h o = (all-put (λ later. is_gt (pid_cmp pid later) ≡ false) n pid pids (ap is_gt (tied_itself order_laws.total-law pid)) h, ordered-put n pid pids h o)
-
-count-put : (q : Pid) (n : ℕ) (pid : Pid) (pids : List Pid) → count_by (same_pid q) (put n pid pids) ≡ cond (same_pid q pid) n 0 + count_by (same_pid q) pids
-count-put q zero pid pids = go (same_pid q pid)
-  where
-    go : (b : Bool) → count_by (same_pid q) pids ≡ cond b 0 0 + count_by (same_pid q) pids
-    go true = omega arith
-    go false = omega arith
-count-put q (suc n) pid pids = counted q pid (put n pid pids) ∙ ap (λ c. cond (same_pid q pid) 1 0 + c) (count-put q n pid pids) ∙ go (same_pid q pid)
-  where
-    go : (b : Bool) → cond b 1 0 + (cond b n 0 + count_by (same_pid q) pids) ≡ cond b (suc n) 0 + count_by (same_pid q) pids
-    go true = omega arith
-    go false = omega arith
+use Rattle.pg_group.proofs.Put.{length-put, get-put_low, get-put_high, all-put, ordered-put, count-put, put-append}
 
 -- the pids that pass a test, each as often as its count
 abbrev pub spread : (Pid → Bool) → List (Pid × ℕ) → List Pid
@@ -143,6 +104,17 @@ module _ (among : Pid → Bool) where
 
   pub place_past : (i : ℕ) (found : Option Pid) (left : List (Pid × ℕ)) → left ≡ [] → slice_get (spread among left) i ≡ found → None ≡ found
   place_past i found left is f = sym (ap (λ l. slice_get (spread among l) i) is) ∙ f
+
+  -- a list of the members so far, and one entry more
+  pub listed_more : (told now all : List Pid) (pid : Pid) (k : ℕ) (left es : List (Pid × ℕ)) → left ≡ (pid, k) ∷ es → among pid ≡ true → now ≡ told ++ put k pid [] → told ++ spread among left ≡ all → now ++ spread among es ≡ all
+  listed_more told now all pid k left es is e n h =
+      ap (λ l. l ++ spread among es) n
+      ∙ append_assoc told (put k pid []) (spread among es)
+      ∙ ap (λ l. told ++ l) (put-append k pid [] (spread among es) ∙ sym (ap (spread among) is ∙ ap (λ b. put (cond b k 0) pid (spread among es)) e))
+      ∙ h
+
+  pub listed_all : (told all : List Pid) (left : List (Pid × ℕ)) → left ≡ [] → told ++ spread among left ≡ all → told ≡ all
+  listed_all told all left is h = sym (append-nil told) ∙ ap (λ l. told ++ spread among l) (sym is) ∙ h
 
   -- those that pass a test are no more than all
   pub length-spread_le : (es : List (Pid × ℕ)) → length (spread among es) ≤ length (spread anywhere es)

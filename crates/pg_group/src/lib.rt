@@ -1,6 +1,7 @@
 //! Process groups: what updates make of them, and the tables that keep them.
 #![tactic(auto)]
 
+mod append;
 mod ended;
 mod laws;
 mod members;
@@ -10,6 +11,7 @@ mod scope;
 mod table;
 mod update;
 
+pub use append::append_member;
 pub use ended::Ended;
 pub use laws::{
     ended_stay_out, left_out_at_once, longer_by_what_came, merged_in_any_order, one_member_list,

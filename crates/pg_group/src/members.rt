@@ -1,5 +1,6 @@
 ghost use Rattle.pg_group.specs.Counted.{NoneIsZero};
 
+use crate::append::append_member;
 use crate::ended::Ended;
 use crate::scope::Scope;
 use pg_term::{Atom, Pid};
@@ -157,6 +158,19 @@ impl Members {
             }
         }
         None
+    }
+
+    /// The members, each as often as its count, by one walk.
+    pub fn list(&self, alloc: Global, scope: Scope<'_>) -> Result<Vec<Pid>, AllocError>
+        ensures { IfOk result (λ pids. IsMemberList (Some (counts_of self.now)) (in_scope scope.entry) pids.items) }
+    {
+        let mut pids = Vec::new(alloc);
+        for (pid, count) in &self.counts {
+            if scope.has(pid) {
+                append_member(&mut pids, pid, *count)?;
+            }
+        }
+        Ok(pids)
     }
 
     /// The same counts.

@@ -11,7 +11,7 @@ use crate::ended::Ended;
 use crate::scope::Scope;
 use crate::update::Update;
 use pg_term::{Atom, Pid, Term};
-use std::alloc::AllocError;
+use std::alloc::{AllocError, Global};
 
 /// A table of process groups, however it is kept.
 pub trait GroupTable {
@@ -72,6 +72,16 @@ pub trait GroupTable {
     fn pid_at(&self, name: &Term, scope: Scope<'_>, place: u64) -> Option<&Pid>
         ensures { (pids : List Pid) × (IsMemberList (contents self.now name.now) (in_scope scope.entry) pids
             × (option_copied result ≡ slice_get pids place)) };
+
+    /// The members of a group: pids in their order, each as often as its count; none where the group is absent. Its cost
+    /// may grow with all members of the group.
+    fn list(
+        &self,
+        alloc: Global,
+        name: &Term,
+        scope: Scope<'_>,
+    ) -> Result<Vec<Pid>, AllocError>
+        ensures { IfOk result (λ pids. IsMemberList (contents self.now name.now) (in_scope scope.entry) pids.items) };
 
     /// A table of the same meaning. Its cost grows with the table.
     fn copy(&self) -> Result<Self, AllocError>

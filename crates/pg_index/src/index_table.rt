@@ -190,6 +190,19 @@ impl GroupTable for IndexTable {
         }
     }
 
+    /// Its cost is that of what it lists.
+    fn list(
+        &self,
+        alloc: Global,
+        name: &Term,
+        scope: Scope<'_>,
+    ) -> Result<Vec<Pid>, AllocError> {
+        match self.members(name) {
+            Some(members) => members.list(alloc, scope),
+            None => Ok(Vec::new(alloc)),
+        }
+    }
+
     fn copy(&self) -> Result<IndexTable, AllocError> {
         let mut copy = IndexTable::new(self.alloc);
         let ended = Ended::new(self.alloc);
@@ -197,7 +210,7 @@ impl GroupTable for IndexTable {
             let Some(members) = self.memberships.members(*number) else {
                 unreachable!()
             };
-            let pids = members.list(self.alloc)?;
+            let pids = members.list(self.alloc, Scope::All)?;
             copy.merge(name, &pids, &ended)?;
         }
         Ok(copy)

@@ -11,9 +11,9 @@ use Rattle.pg_term.specs.declared.pid.Pid.{Pid}
 use Rattle.pg_term.specs.Same.{same_pid, pid_cmp}
 use Rattle.pg_group.specs.Functions.{upd}
 use Rattle.pg_group.specs.Members.{IsInOrder, IsMemberList}
-use Rattle.pg_group.proofs.Lists.{counted}
+use Rattle.pg_group.proofs.Put.{all-put, ordered-put, count-put}
 use Rattle.pg_members.specs.declared.row.Row.{Row}
-use Rattle.pg_members.specs.Rows.{counts_of, put, spread, AreRows, added, added_by, taken, taken_by}
+use Rattle.pg_members.specs.Rows.{counts_of, spread, AreRows, added, added_by, taken, taken_by}
 use Rattle.pg_members.proofs.Order.{same_is, same_if, same_self, symm, turned, not_greater, other_turned, other_if_less}
 use Rattle.pg_members.proofs.Flat.{none_greater, later_greater}
 
@@ -93,26 +93,6 @@ counts-taken pid n rows h = fun_ext (λ q. go q (same_pid pid q) refl)
     go q false e = taken_other pid q n rows e
 
 -- ---- the list of members
-
-all-put : (Q : Pid → Type 0) (n : ℕ) (pid : Pid) (pids : List Pid) → Q pid → AllByRecursion Q pids → AllByRecursion Q (put n pid pids)
-all-put Q zero pid pids p h = h
-all-put Q (suc n) pid pids p h = (p, all-put Q n pid pids p h)
-
-ordered-put : (n : ℕ) (pid : Pid) (pids : List Pid) → AllByRecursion (λ later. is_gt (pid_cmp pid later) ≡ false) pids → IsInOrder pids → IsInOrder (put n pid pids)
-ordered-put zero pid pids h o = o
-ordered-put (suc n) pid pids h o = (all-put (λ later. is_gt (pid_cmp pid later) ≡ false) n pid pids (not_greater pid) h, ordered-put n pid pids h o)
-
-count-put : (q : Pid) (n : ℕ) (pid : Pid) (pids : List Pid) → count_by (same_pid q) (put n pid pids) ≡ cond (same_pid q pid) n 0 + count_by (same_pid q) pids
-count-put q zero pid pids = go (same_pid q pid)
-  where
-    go : (b : Bool) → count_by (same_pid q) pids ≡ cond b 0 0 + count_by (same_pid q) pids
-    go true = omega arith
-    go false = omega arith
-count-put q (suc n) pid pids = counted q pid (put n pid pids) ∙ ap (λ c. cond (same_pid q pid) 1 0 + c) (count-put q n pid pids) ∙ go (same_pid q pid)
-  where
-    go : (b : Bool) → cond b 1 0 + (cond b n 0 + count_by (same_pid q) pids) ≡ cond b (suc n) 0 + count_by (same_pid q) pids
-    go true = omega arith
-    go false = omega arith
 
 all-spread : (among : Pid → Bool) (Q : Pid → Type 0) (P : Row → Type 0) → ((r : Row) → P r → Q r.pid) → (rows : List Row) → AllByRecursion P rows → AllByRecursion Q (spread among rows)
 all-spread among Q P f [] h = tt

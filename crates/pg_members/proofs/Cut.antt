@@ -96,6 +96,11 @@ last_of p down rows r h e =
     let ends : take (length rows - 1) rows ++ r ∷ [] ≡ rows = ends_at rows (length rows - 1) r (omega arith) e in
     ap (all_before p) (sym ends) ∙ last_decides p down (take (length rows - 1) rows) r (subst AreRows (sym ends) h)
 
+positive : (rows : List Row) (i : ℕ) (row : Row) → AreRows rows → i < length rows → row ≡ get_or rows i row → 0 < row.count
+positive [] i row h k is = absurd (omega arith)
+positive (r ∷ rs) zero row h k is = subst (λ (x : Row). 0 < x.count) (sym is) h.0
+positive (r ∷ rs) (suc i) row h k is = positive rs i row h.2 (omega arith) is
+
 module _ (pid : Pid) (rows : List Row) (at : ℕ) (h : AreRows rows) (cut : IsCut (below pid) rows at) where
   whole : take at rows ++ drop at rows ≡ rows
   whole = take-append-drop at rows
@@ -152,6 +157,9 @@ module _ (pid : Pid) (rows : List Row) (at : ℕ) (h : AreRows rows) (cut : IsCu
         set_split rows at (record { pid = row.pid; count = row.count + n }) within
         ∙ ap (λ l. take at rows ++ l) (sym (ap (λ o. added_by o row (drop (suc at) rows) (added (drop (suc at) rows) pid n) pid n) (equal_if row.pid pid same)) ∙ ap (λ l. added l pid n) (sym starts))
         ∙ sym (added_whole n)
+
+    pub found_counts : counts_of rows pid ≡ 0 → ⊥
+    found_counts none = let some = positive rows at row h within is in let e = found_count in omega arith
 
     found_taken : (n : ℕ) → taken rows pid n ≡ take at rows ++ cond (nat_le row.count n) (drop (suc at) rows) (record { pid = row.pid; count = row.count - n } ∷ drop (suc at) rows)
     found_taken n = taken_whole n ∙ ap (λ l. take at rows ++ l) (ap (λ l. taken l pid n) starts ∙ ap (λ o. taken_by o row (drop (suc at) rows) (taken (drop (suc at) rows) pid n) n) (equal_if row.pid pid same))

@@ -5,5 +5,6 @@ pub mod Places
 pub mod Parts
 pub mod Counts
 pub mod Nodes
+pub mod Asked
 pub mod Kept
 pub mod Last

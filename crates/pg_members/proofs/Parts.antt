@@ -13,12 +13,14 @@ use Rattle.pg_term.specs.declared.pid.Pid.{Pid}
 use Rattle.pg_term.specs.Same.{pid_cmp}
 use Rattle.pg_group.specs.Scope.{anywhere}
 use Rattle.pg_members.specs.declared.row.Row.{Row}
-use Rattle.pg_members.specs.Rows.{counts_of, total_of, put, spread, AreRows, all_before, added, added_by, taken}
+use Rattle.pg_members.specs.Rows.{counts_of, total_of, spread, AreRows, all_before, added, added_by, taken}
 use Rattle.pg_members.specs.Levels.{NoneEmpty, IsChoice, IsHome}
 use Rattle.pg_members.specs.Edges.{IsDownward}
 use Rattle.pg_members.proofs.Order.{less_if}
 use Rattle.pg_members.proofs.Flat.{below, all_append, all_left, all_right, all_map, total-append, counts-append, rows_left, rows_right, rows_across, later_greater, none_less, none_greater, added_after, added_before, taken_after, taken_before}
-use Rattle.pg_members.proofs.Places.{length-put, get-put_low, get-put_high, spread-append}
+use Rattle.pg_group.specs.Members.{put}
+use Rattle.pg_group.proofs.Put.{length-put, get-put_low, get-put_high}
+use Rattle.pg_members.proofs.Places.{spread-append}
 
 -- ---- two lists of rows
 
@@ -183,7 +185,7 @@ module _ {P : Type 0} (rows : P → List Row) where
 
   -- ---- the search for a part
 
-  all_part : (Q : Row → Type 0) (parts : List P) (i : ℕ) (d : P) → i < length parts → AllByRecursion Q (flat parts) → AllByRecursion Q (rows (get_or parts i d))
+  pub all_part : (Q : Row → Type 0) (parts : List P) (i : ℕ) (d : P) → i < length parts → AllByRecursion Q (flat parts) → AllByRecursion Q (rows (get_or parts i d))
   all_part Q [] i d k h = absurd (omega arith)
   all_part Q (x ∷ xs) zero d k h = all_left Q (rows x) (flat xs) h
   all_part Q (x ∷ xs) (suc i) d k h = all_part Q xs i d (omega arith) (all_right Q (rows x) (flat xs) h)
@@ -270,11 +272,11 @@ module _ {P : Type 0} (rows : P → List Row) where
     found_later h = ap (λ n. slice_get (spread anywhere (flat (drop n items))) (left - total_of (rows part))) (add-one i) ∙ sym (ap (λ l. slice_get (spread anywhere l) left) next ∙ place_right (rows part) (flat (drop (suc i) items)) left h)
 
   -- a walk that lists one part more
-  pub listed_more : (items : List P) (i : ℕ) (part : P) → i < length items → part ≡ get_or items i part → (told now all : List Pid) → now ≡ told ++ spread anywhere (rows part) → told ++ spread anywhere (flat (drop i items)) ≡ all → now ++ spread anywhere (flat (drop (i + 1) items)) ≡ all
-  listed_more items i part within is told now all e h =
-      (λ j. e j ++ spread anywhere (flat (drop (add-one i j) items)))
-      ∙ append_assoc told (spread anywhere (rows part)) (spread anywhere (flat (drop (suc i) items)))
-      ∙ ap (λ l. told ++ l) (sym (spread-append anywhere (rows part) (flat (drop (suc i) items))) ∙ ap (λ l. spread anywhere (flat l)) (sym (drop-cons items i part within ∙ ap (λ x. x ∷ drop (suc i) items) (sym is))))
+  pub listed_more : (among : Pid → Bool) (items : List P) (i : ℕ) (part : P) → i < length items → part ≡ get_or items i part → (told now all : List Pid) → now ≡ told ++ spread among (rows part) → told ++ spread among (flat (drop i items)) ≡ all → now ++ spread among (flat (drop (i + 1) items)) ≡ all
+  listed_more among items i part within is told now all e h =
+      (λ j. e j ++ spread among (flat (drop (add-one i j) items)))
+      ∙ append_assoc told (spread among (rows part)) (spread among (flat (drop (suc i) items)))
+      ∙ ap (λ l. told ++ l) (sym (spread-append among (rows part) (flat (drop (suc i) items))) ∙ ap (λ l. spread among (flat l)) (sym (drop-cons items i part within ∙ ap (λ x. x ∷ drop (suc i) items) (sym is))))
       ∙ h
 
   pub set_kept : (parts : List P) (i : ℕ) (part next : P) → i < length parts → part ≡ get_or parts i part → rows next ≡ rows part → flat (set parts i next) ≡ flat parts
@@ -299,64 +301,55 @@ module _ {P : Type 0} (rows : P → List Row) where
 
   -- ---- how many stand before an edge
 
-  pub rank_at : (p : Pid → Bool) → IsDownward p → (parts : List P) (i : ℕ) (part : P) → AreRows (flat parts) → IsChoice rows p parts i → i < length parts → part ≡ get_or parts i part → total_of (flat (take i parts)) + length (spread p (rows part)) ≡ length (spread p (flat parts))
-  rank_at p down parts i part h choice k is =
-      let whole = around parts i part k is in
-      let rest : AreRows (rows part ++ flat (drop (suc i) parts)) = rows_right (flat (take i parts)) (rows part ++ flat (drop (suc i) parts)) (subst AreRows whole h) in
-      let high = length_after p (flat (drop (suc i) parts)) (after_right p down (rows part) (flat (drop (suc i) parts)) rest (ap (λ x. all_before p (rows x)) is ∙ choice.next part k)) in
-      let low = length_before p (flat (take i parts)) choice.front in
-      let one = length-spread-append p (flat (take i parts)) (rows part ++ flat (drop (suc i) parts)) in
-      let two = length-spread-append p (rows part) (flat (drop (suc i) parts)) in
-      let all = ap (λ l. length (spread p l)) whole in
-      omega arith
-
-  take_all : (parts : List P) (i : ℕ) → length parts ≤ i → take i parts ≡ parts
-  take_all [] zero h = refl
-  take_all [] (suc i) h = refl
-  take_all (x ∷ xs) zero h = absurd (omega arith)
-  take_all (x ∷ xs) (suc i) h = ap (λ l. x ∷ l) (take_all xs i (omega arith))
-
-  pub rank_all : (p : Pid → Bool) (parts : List P) (i : ℕ) → IsChoice rows p parts i → length parts ≤ i → total_of (flat (take i parts)) ≡ length (spread p (flat parts))
-  rank_all p parts i choice k = sym (length_before p (flat (take i parts)) choice.front) ∙ ap (λ l. length (spread p (flat l))) (take_all parts i k)
-
-  -- ---- where a pid is at home
-
-  pub home_of : (pid : Pid) (parts : List P) (i : ℕ) → AreRows (flat parts) → IsChoice rows (below pid) parts i → (part : P) → i < length parts → part ≡ get_or parts i part → IsHome rows pid parts i
-  home_of pid parts i h choice part k is =
-      let whole = around parts i part k is in
-      let rest : AreRows (rows part ++ flat (drop (suc i) parts)) = rows_right (flat (take i parts)) (rows part ++ flat (drop (suc i) parts)) (subst AreRows whole h) in
-      record {
-        within = k;
-        front = less_of pid (flat (take i parts)) choice.front;
-        later = subst (λ (m : ℕ). AllByRecursion (λ r. pid_cmp pid r.pid ≡ Less) (flat (drop m parts))) (sym (add-one i)) (greater_right pid (rows part) (flat (drop (suc i) parts)) rest (ap (λ x. all_before (below pid) (rows x)) is ∙ choice.next part k));
-      }
-
-  first_or : (parts : List P) (i : ℕ) → i < length parts → (part : P) × (part ≡ get_or parts i part)
-  first_or [] i k = absurd (omega arith)
-  first_or (x ∷ xs) zero k = (x, refl)
-  first_or (x ∷ xs) (suc i) k = let next = first_or xs i (omega arith) in (next.0, next.1)
-
-  pub home_at : (pid : Pid) (parts : List P) (i : ℕ) → AreRows (flat parts) → IsChoice rows (below pid) parts i → i < length parts → IsHome rows pid parts i
-  home_at pid parts i h choice k = let first = first_or parts i k in home_of pid parts i h choice first.0 k first.1
-
   pub drop_all : (parts : List P) (i : ℕ) → length parts ≤ i → drop i parts ≡ []
   drop_all [] zero h = refl
   drop_all [] (suc i) h = refl
   drop_all (x ∷ xs) zero h = absurd (omega arith)
   drop_all (x ∷ xs) (suc i) h = drop_all xs i (omega arith)
 
-  all_front : (Q : Row → Type 0) (parts : List P) (i j : ℕ) → i ≤ j → AllByRecursion Q (flat (take j parts)) → AllByRecursion Q (flat (take i parts))
-  all_front Q parts zero j k h = tt
-  all_front Q [] (suc i) j k h = tt
-  all_front Q (x ∷ xs) (suc i) zero k h = absurd (omega arith)
-  all_front Q (x ∷ xs) (suc i) (suc j) k h = all_append Q (rows x) (flat (take i xs)) (all_left Q (rows x) (flat (take j xs)) h) (all_front Q xs i j (omega arith) (all_right Q (rows x) (flat (take j xs)) h))
+  -- a place is the last, or there is one after it
+  or_last : (Q : List P → Type 0) (parts : List P) (i : ℕ) → Q [] → (i + 1 < length parts → Q (drop (suc i) parts)) → Q (drop (suc i) parts)
+  or_last Q parts i none more = go (nat_le (length parts) (suc i)) refl
+    where
+      go : (b : Bool) → nat_le (length parts) (suc i) ≡ b → Q (drop (suc i) parts)
+      go true e = let k : length parts ≤ suc i = grind (arith, nat_tests) in subst Q (sym (drop_all parts (suc i) k)) none
+      go false e = let k : suc i < length parts = grind (arith, nat_tests) in more (omega arith)
 
-  pub home_last : (pid : Pid) (parts : List P) (i : ℕ) → IsChoice rows (below pid) parts i → length parts ≤ i → 0 < length parts → IsHome rows pid parts (length parts - 1)
-  home_last pid parts i choice k some = record {
-    within = omega arith;
-    front = less_of pid (flat (take (length parts - 1) parts)) (all_front (λ r. below pid r.pid ≡ true) parts (length parts - 1) i (omega arith) choice.front);
-    later = subst (λ (l : List P). AllByRecursion (λ r. pid_cmp pid r.pid ≡ Less) (flat l)) (sym (drop_all parts (length parts - 1 + 1) (omega arith))) tt;
-  }
+  -- the parts after the chosen one do not stand before the edge
+  pub after_choice : (p : Pid → Bool) → IsDownward p → (parts : List P) (i : ℕ) (part : P) → AreRows (rows part ++ flat (drop (suc i) parts)) → IsChoice rows p parts i → part ≡ get_or parts i part → AllByRecursion (λ r. p r.pid ≡ false) (flat (drop (suc i) parts))
+  after_choice p down parts i part rest choice is = or_last (λ l. AllByRecursion (λ r. p r.pid ≡ false) (flat l)) parts i tt (λ k. after_right p down (rows part) (flat (drop (suc i) parts)) rest (ap (λ x. all_before p (rows x)) is ∙ choice.next part k))
+
+  pub rank_at : (p : Pid → Bool) → IsDownward p → (parts : List P) (i : ℕ) (part : P) → AreRows (flat parts) → IsChoice rows p parts i → part ≡ get_or parts i part → total_of (flat (take i parts)) + length (spread p (rows part)) ≡ length (spread p (flat parts))
+  rank_at p down parts i part h choice is =
+      let whole = around parts i part choice.within is in
+      let rest : AreRows (rows part ++ flat (drop (suc i) parts)) = rows_right (flat (take i parts)) (rows part ++ flat (drop (suc i) parts)) (subst AreRows whole h) in
+      let high = length_after p (flat (drop (suc i) parts)) (after_choice p down parts i part rest choice is) in
+      let low = length_before p (flat (take i parts)) choice.front in
+      let one = length-spread-append p (flat (take i parts)) (rows part ++ flat (drop (suc i) parts)) in
+      let two = length-spread-append p (rows part) (flat (drop (suc i) parts)) in
+      let all = ap (λ l. length (spread p l)) whole in
+      omega arith
+
+  -- ---- where a pid is at home
+
+  home_of : (pid : Pid) (parts : List P) (i : ℕ) → AreRows (flat parts) → IsChoice rows (below pid) parts i → (part : P) → part ≡ get_or parts i part → IsHome rows pid parts i
+  home_of pid parts i h choice part is =
+      let whole = around parts i part choice.within is in
+      let rest : AreRows (rows part ++ flat (drop (suc i) parts)) = rows_right (flat (take i parts)) (rows part ++ flat (drop (suc i) parts)) (subst AreRows whole h) in
+      record {
+        within = choice.within;
+        front = less_of pid (flat (take i parts)) choice.front;
+        later = subst (λ (m : ℕ). AllByRecursion (λ r. pid_cmp pid r.pid ≡ Less) (flat (drop m parts))) (sym (add-one i))
+            (or_last (λ l. AllByRecursion (λ r. pid_cmp pid r.pid ≡ Less) (flat l)) parts i tt (λ k. greater_right pid (rows part) (flat (drop (suc i) parts)) rest (ap (λ x. all_before (below pid) (rows x)) is ∙ choice.next part k)));
+      }
+
+  pub first_or : (parts : List P) (i : ℕ) → i < length parts → (part : P) × (part ≡ get_or parts i part)
+  first_or [] i k = absurd (omega arith)
+  first_or (x ∷ xs) zero k = (x, refl)
+  first_or (x ∷ xs) (suc i) k = let next = first_or xs i (omega arith) in (next.0, next.1)
+
+  pub home_at : (pid : Pid) (parts : List P) (i : ℕ) → AreRows (flat parts) → IsChoice rows (below pid) parts i → IsHome rows pid parts i
+  home_at pid parts i h choice = let first = first_or parts i choice.within in home_of pid parts i h choice first.0 first.1
 
   module _ (pid : Pid) (parts : List P) (i : ℕ) (home : IsHome rows pid parts i) (part : P) (is : part ≡ get_or parts i part) where
     later : AllByRecursion (λ r. pid_cmp pid r.pid ≡ Less) (flat (drop (suc i) parts))

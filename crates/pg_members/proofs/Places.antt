@@ -7,21 +7,9 @@ use Rattle.std.specs.List.{AllByRecursion}
 use Rattle.pg_term.specs.declared.pid.Pid.{Pid}
 use Rattle.pg_group.specs.Scope.{anywhere}
 use Rattle.pg_members.specs.declared.row.Row.{Row}
-use Rattle.pg_members.specs.Rows.{total_of, put, spread, IsCut}
-
-pub length-put : (n : ℕ) (pid : Pid) (pids : List Pid) → length (put n pid pids) ≡ n + length pids
-length-put zero pid pids = omega arith
-length-put (suc n) pid pids = let e = length-put n pid pids in omega arith
-
-pub get-put_low : (n : ℕ) (pid : Pid) (pids : List Pid) (i : ℕ) → i < n → slice_get (put n pid pids) i ≡ Some pid
-get-put_low zero pid pids i h = absurd (omega arith)
-get-put_low (suc n) pid pids zero h = refl
-get-put_low (suc n) pid pids (suc i) h = get-put_low n pid pids i (omega arith)
-
-pub get-put_high : (n : ℕ) (pid : Pid) (pids : List Pid) (i : ℕ) → n ≤ i → slice_get (put n pid pids) i ≡ slice_get pids (i - n)
-get-put_high zero pid pids i h = let e : i ≡ i - 0 = omega arith in ap (slice_get pids) e
-get-put_high (suc n) pid pids zero h = absurd (omega arith)
-get-put_high (suc n) pid pids (suc i) h = let e : i - n ≡ suc i - suc n = omega arith in get-put_high n pid pids i (omega arith) ∙ ap (slice_get pids) e
+use Rattle.pg_group.specs.Members.{put}
+use Rattle.pg_group.proofs.Put.{length-put, get-put_low, get-put_high, put-append}
+use Rattle.pg_members.specs.Rows.{total_of, spread, IsCut}
 
 -- all members of some rows
 pub length-all : (rows : List Row) → length (spread anywhere rows) ≡ total_of rows
@@ -58,24 +46,29 @@ length-cut p rows at cut = ap (λ l. length (spread p l)) (sym (take-append-drop
 
 -- ---- lists, one after the other
 
-pub put_next : (n m : ℕ) (pid : Pid) (pids : List Pid) → n ≡ m + 1 → put n pid pids ≡ pid ∷ put m pid pids
-put_next n m pid pids e = ap (λ k. put k pid pids) (e ∙ add-one m)
-
-pub put_none : (n : ℕ) (pid : Pid) (pids : List Pid) → n ≡ 0 → put n pid pids ≡ pids
-put_none n pid pids e = ap (λ k. put k pid pids) e
-
-pub put-append : (n : ℕ) (pid : Pid) (xs ys : List Pid) → put n pid xs ++ ys ≡ put n pid (xs ++ ys)
-put-append zero pid xs ys = refl
-put-append (suc n) pid xs ys = ap (λ l. pid ∷ l) (put-append n pid xs ys)
-
 pub spread-append : (p : Pid → Bool) (a b : List Row) → spread p (a ++ b) ≡ spread p a ++ spread p b
 spread-append p [] b = refl
 spread-append p (r ∷ a) b = ap (put (cond (p r.pid) r.count 0) r.pid) (spread-append p a b) ∙ sym (put-append (cond (p r.pid) r.count 0) r.pid (spread p a) (spread p b))
 
--- a walk that lists one row more
-pub listed_more : (rows items : List Row) (same : items ≡ rows) (i : ℕ) (row : Row) → i < length items → row ≡ get_or items i row → (told now all : List Pid) → now ≡ told ++ put row.count row.pid [] → told ++ spread anywhere (drop i rows) ≡ all → now ++ spread anywhere (drop (i + 1) rows) ≡ all
-listed_more rows items same i row within is told now all e h =
-    (λ j. e j ++ spread anywhere (drop (add-one i j) rows))
-    ∙ append_assoc told (put row.count row.pid []) (spread anywhere (drop (suc i) rows))
-    ∙ ap (λ l. told ++ l) (put-append row.count row.pid [] (spread anywhere (drop (suc i) rows)) ∙ ap (spread anywhere) (sym (ap (drop i) (sym same) ∙ drop-cons items i row within ∙ (let back = sym is in λ j. back j ∷ drop (suc i) (same j)))))
-    ∙ h
+-- a walk over rows that lists those of a scope
+module _ (among : Pid → Bool) (rows items : List Row) (same : items ≡ rows) (i : ℕ) (row : Row) (within : i < length items) (is : row ≡ get_or items i row) where
+  scope_next : spread among (drop i rows) ≡ put (cond (among row.pid) row.count 0) row.pid (spread among (drop (suc i) rows))
+  scope_next = ap (spread among) (ap (drop i) (sym same) ∙ drop-cons items i row within ∙ (let back = sym is in λ j. back j ∷ drop (suc i) (same j)))
+
+  pub listed_more : among row.pid ≡ true → (told now all : List Pid) → now ≡ told ++ put row.count row.pid [] → told ++ spread among (drop i rows) ≡ all → now ++ spread among (drop (i + 1) rows) ≡ all
+  listed_more t told now all e h =
+      (λ j. e j ++ spread among (drop (add-one i j) rows))
+      ∙ append_assoc told (put row.count row.pid []) (spread among (drop (suc i) rows))
+      ∙ ap (λ l. told ++ l) (put-append row.count row.pid [] (spread among (drop (suc i) rows)) ∙ sym (scope_next ∙ ap (λ b. put (cond b row.count 0) row.pid (spread among (drop (suc i) rows))) t))
+      ∙ h
+
+  pub listed_same : among row.pid ≡ false → (told all : List Pid) → told ++ spread among (drop i rows) ≡ all → told ++ spread among (drop (i + 1) rows) ≡ all
+  listed_same t told all h =
+      ap (λ n. told ++ spread among (drop n rows)) (add-one i)
+      ∙ ap (λ l. told ++ l) (sym (scope_next ∙ ap (λ b. put (cond b row.count 0) row.pid (spread among (drop (suc i) rows))) t))
+      ∙ h
+
+-- none of the rows is of the scope
+pub spread_none : (among : Pid → Bool) (rows : List Row) → AllByRecursion (λ r. among r.pid ≡ false) rows → spread among rows ≡ []
+spread_none among [] h = refl
+spread_none among (r ∷ rs) h = ap (λ t. put (cond t r.count 0) r.pid (spread among rs)) h.0 ∙ spread_none among rs h.1

@@ -18,11 +18,11 @@ pub record IsLevel {P : Type 0} (rows : P → List Row) (parts : List P) (total 
   pub in_order : AreRows (flat_map rows parts)
   pub some : NoneEmpty rows parts
 
--- the parts before this place stand before the edge, and the part at this place does not
+-- the parts before this place stand before the edge, and the part at this place does not, unless it is the last
 pub record IsChoice {P : Type 0} (rows : P → List Row) (p : Pid → Bool) (parts : List P) (at : ℕ) : Type 0 where
-  pub within : at ≤ length parts
+  pub within : at < length parts
   pub front : AllByRecursion (λ row. p row.pid ≡ true) (flat_map rows (take at parts))
-  pub next : (d : P) → at < length parts → all_before p (rows (get_or parts at d)) ≡ false
+  pub next : (d : P) → at + 1 < length parts → all_before p (rows (get_or parts at d)) ≡ false
 
 -- a pid has its row, if any, in the part at this place
 pub record IsHome {P : Type 0} (rows : P → List Row) (pid : Pid) (parts : List P) (at : ℕ) : Type 0 where

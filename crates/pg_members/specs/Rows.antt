@@ -1,5 +1,5 @@
 -- The rows of a group: each member once, in the order of pids, with its count.
-use Rattle.std.specs.Prelude.{◌≡◌, ℕ, zero, suc, ◌+◌, ◌-◌, ◌<◌, ◌≤◌, Bool, true, false, ◌&&◌, cond, not, nat_le, List, [], ◌∷◌, ◌++◌, length, take, drop}
+use Rattle.std.specs.Prelude.{◌≡◌, ℕ, ◌+◌, ◌-◌, ◌<◌, ◌≤◌, Bool, true, false, ◌&&◌, cond, not, nat_le, List, [], ◌∷◌, ◌++◌, length, take, drop}
 use Rattle.std.specs.List.{AllByRecursion}
 use Rattle.std.specs.declared.cmp.Ordering.{Ordering}
 use Rattle.std.specs.declared.cmp.Ordering.TheVariants.{Less, Equal, Greater}
@@ -7,6 +7,7 @@ use Rattle.pg_term.specs.declared.pid.Pid.{Pid}
 use Rattle.pg_term.specs.Same.{same_pid, pid_cmp}
 use Rattle.pg_group.specs.Value.{Counts}
 use Rattle.pg_group.specs.Scope.{at_node}
+use Rattle.pg_group.specs.Members.{put}
 use Rattle.pg_members.specs.declared.row.Row.{Row}
 
 -- how often each pid is a member
@@ -18,11 +19,6 @@ counts_of (row ∷ rows) pid = cond (same_pid pid row.pid) row.count 0 + counts_
 abbrev pub total_of : List Row → ℕ
 total_of [] = 0
 total_of (row ∷ rows) = row.count + total_of rows
-
--- a pid n times before others
-abbrev pub put : ℕ → Pid → List Pid → List Pid
-put zero pid pids = pids
-put (suc n) pid pids = pid ∷ put n pid pids
 
 -- the members that pass a test, each as often as its count
 abbrev pub spread : (Pid → Bool) → List Row → List Pid

@@ -1,16 +1,17 @@
-ghost use Rattle.std.specs.Prelude.{◌≡◌, ◌+◌, ◌<◌, ◌≤◌, ◌^◌, length, take, drop, slice_get, IsTrue, OnOk, [], ◌++◌};
+ghost use Rattle.std.specs.Prelude.{◌≡◌, ◌+◌, ◌<◌, ◌≤◌, ◌^◌, length, take, drop, slice_get, IsTrue};
 ghost use Rattle.pg_members.specs.Edges.{before};
-ghost use Rattle.pg_members.specs.Rows.{AreRows, IsCut, is_here, is_off, put, total_of};
+ghost use Rattle.pg_members.specs.Rows.{AreRows, IsCut, is_here, is_off, total_of};
 
 use crate::edge::Edge;
 use crate::part::Part;
 use crate::row::Row;
+use pg_group::{Scope, append_member};
 use pg_term::{Atom, Pid};
 use std::alloc::{AllocError, Global};
 use std::marker::Model;
 
-/// A block of more rows is split.
-const MOST_ROWS: usize = 128;
+/// A block of so many rows is split.
+const FULL_ROWS: usize = 64;
 
 /// Some rows in one piece of memory.
 #[derive(Drop)]
@@ -107,12 +108,12 @@ impl Part for Block {
         }
     }
 
-    fn add(&mut self, pid: &Pid, more: u64) -> Result<(), AllocError> {
+    fn add(&mut self, pid: &Pid, more: u64) -> Result<bool, AllocError> {
         let at = find(&self.rows, Edge::AtPid(pid));
         if is_at(&self.rows, at, pid) {
             self.rows[at].count += more;
             self.total += more;
-            return Ok(());
+            return Ok(false);
         }
         let row = Row {
             pid: pid.copy()?,
@@ -120,7 +121,7 @@ impl Part for Block {
         };
         self.rows.insert(at, row)?;
         self.total += more;
-        Ok(())
+        Ok(true)
     }
 
     fn take(&mut self, pid: &Pid, most: u64) -> u64 {
@@ -167,7 +168,7 @@ impl Part for Block {
 
     fn split(&mut self) -> Result<Option<Block>, AllocError> {
         let len = self.rows.len();
-        if len <= MOST_ROWS {
+        if len < FULL_ROWS {
             return Ok(None);
         }
         let half = len / 2;
@@ -202,9 +203,11 @@ impl Part for Block {
         self.total = sum(&self.rows);
     }
 
-    fn list(&self, pids: &mut Vec<Pid>) -> Result<(), AllocError> {
+    fn list(&self, scope: Scope<'_>, pids: &mut Vec<Pid>) -> Result<(), AllocError> {
         for row in &self.rows {
-            list_row(row, pids)?;
+            if scope.has(&row.pid) {
+                append_member(pids, &row.pid, row.count)?;
+            }
         }
         Ok(())
     }
@@ -215,14 +218,4 @@ fn is_elsewhere(row: &Row, node: &Atom) -> bool
     ensures { result ≡ is_off node.now row.now }
 {
     !(*node == row.pid.node)
-}
-
-/// Appends a pid as often as its count.
-fn list_row(row: &Row, pids: &mut Vec<Pid>) -> Result<(), AllocError>
-    ensures { OnOk result (pids.new.items ≡ pids.old.items ++ put row.now.count row.now.pid []) }
-{
-    for _ in 0..row.count {
-        pids.push(row.pid.copy()?)?;
-    }
-    Ok(())
 }

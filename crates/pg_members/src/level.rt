@@ -1,18 +1,20 @@
-ghost use Rattle.std.specs.Prelude.{◌≡◌, ◌+◌, ◌<◌, ◌≤◌, ◌^◌, min, length, OnOk, OnErr, IfSome, IfNone, [], ◌∷◌, ◌++◌};
+ghost use Rattle.std.specs.Prelude.{◌≡◌, ◌+◌, ◌-◌, ◌<◌, ◌≤◌, ◌^◌, min, length, take, drop, ◌↔◌, IsTrue, OnOk, OnErr, IfOk, IfSome, IfNone, [], ◌∷◌, ◌++◌};
 ghost use Rattle.std.specs.List.{filter, flat_map};
+ghost use Rattle.pg_group.specs.Scope.{in_scope, at_node};
 ghost use Rattle.pg_members.specs.Edges.{before};
-ghost use Rattle.pg_members.specs.Rows.{AreRows, counts_of, total_of, added, taken, is_off, has_rows};
+ghost use Rattle.pg_members.specs.Rows.{AreRows, counts_of, total_of, spread, added, taken, is_off, has_rows};
 ghost use Rattle.pg_members.specs.Levels.{IsChoice, IsHome, NoneEmpty};
 
 use crate::edge::Edge;
 use crate::part::Part;
 use crate::row::Row;
+use pg_group::Scope;
 use pg_term::{Atom, Pid};
 use std::alloc::{AllocError, Global};
 use std::marker::Model;
 
-/// A level of more parts is split.
-const MOST_PARTS: usize = 128;
+/// A level of so many parts is split.
+const FULL_PARTS: usize = 64;
 
 /// Parts one after the other.
 #[derive(Drop)]
@@ -37,14 +39,15 @@ impl<P: Part> Model for Level<P> {
     ghost invariant = { λ l. IsLevel P.rows l.parts.items l.total };
 }
 
-/// The first part that is not all before an edge.
+/// The first part that is not all before an edge; the last part, where each other is. The last part is not looked at.
 fn choose<P: Part>(parts: &[P], edge: Edge<'_>) -> usize
     requires in_order { AreRows (flat_map P.rows parts.now) }
     requires some { NoneEmpty P.rows parts.now }
+    requires there { 0 < length parts.now }
     ensures { IsChoice P.rows (before edge.entry) parts.now result }
 {
     let mut low = 0;
-    let mut high = parts.len();
+    let mut high = parts.len() - 1;
     while low < high {
         let middle = low + (high - low) / 2;
         if parts[middle].is_before(edge) {
@@ -63,12 +66,7 @@ fn home<P: Part>(parts: &[P], pid: &Pid) -> usize
     requires there { 0 < length parts.now }
     ensures { IsHome P.rows pid.now parts.now result }
 {
-    let at = choose(parts, Edge::AtPid(pid));
-    if at < parts.len() {
-        at
-    } else {
-        parts.len() - 1
-    }
+    choose(parts, Edge::AtPid(pid))
 }
 
 /// The sum of the counts of some parts.
@@ -81,6 +79,38 @@ fn sum<P: Part>(parts: &[P]) -> u64
         total += part.total();
     }
     total
+}
+
+/// From which part on, and up to which, the members of a node stand.
+fn span<P: Part>(parts: &[P], node: &Atom) -> (usize, usize)
+    requires in_order { AreRows (flat_map P.rows parts.now) }
+    requires some { NoneEmpty P.rows parts.now }
+    requires there { 0 < length parts.now }
+    ensures in_order { result.0 ≤ result.1 }
+    ensures within { result.1 ≤ length parts.now }
+    ensures members { spread (at_node node.now) (flat_map P.rows (take (result.1 - result.0) (drop result.0 parts.now)))
+        ≡ spread (at_node node.now) (flat_map P.rows parts.now) }
+{
+    let from = choose(parts, Edge::AtNode(node));
+    let last = choose(parts, Edge::PastNode(node));
+    (from, last + 1)
+}
+
+/// The parts in which the members of a scope stand.
+fn asked<'a, P: Part>(parts: &'a [P], scope: Scope<'_>) -> &'a [P]
+    requires in_order { AreRows (flat_map P.rows parts.now) }
+    requires some { NoneEmpty P.rows parts.now }
+    requires there { 0 < length parts.now }
+    ensures { spread (in_scope scope.entry) (flat_map P.rows result.now)
+        ≡ spread (in_scope scope.entry) (flat_map P.rows parts.now) }
+{
+    match scope {
+        Scope::All => parts,
+        Scope::At(node) => {
+            let (from, end) = span(parts, node);
+            &parts[from..end]
+        }
+    }
 }
 
 /// Splits a part in two, if it has too many rows and there is memory for it.
@@ -102,18 +132,22 @@ fn divide<P: Part>(parts: &mut Vec<P>, at: usize)
 }
 
 /// Adds to the count of a pid in the part where it is at home.
-fn add_at<P: Part>(parts: &mut Vec<P>, at: usize, pid: &Pid, more: u64) -> Result<(), AllocError>
+fn add_at<P: Part>(parts: &mut Vec<P>, at: usize, pid: &Pid, more: u64) -> Result<bool, AllocError>
     requires home { IsHome P.rows pid.now parts.old.items at }
     requires parts { NoneEmpty P.rows parts.old.items }
     requires some { 0 < more }
     requires fits { total_of (flat_map P.rows parts.old.items) + more < 2 ^ 64 }
     ensures ok { OnOk result (flat_map P.rows parts.new.items ≡ added (flat_map P.rows parts.old.items) pid.now more) }
     ensures err { OnErr result (flat_map P.rows parts.new.items ≡ flat_map P.rows parts.old.items) }
+    ensures new { IfOk result (λ is_new. IsTrue is_new ↔ (counts_of (flat_map P.rows parts.old.items) pid.now ≡ 0)) }
+    ensures memory { OnErr result (counts_of (flat_map P.rows parts.old.items) pid.now ≡ 0) }
     ensures parts { NoneEmpty P.rows parts.new.items }
 {
-    parts[at].add(pid, more)?;
-    divide(parts, at);
-    Ok(())
+    let is_new = parts[at].add(pid, more)?;
+    if is_new {
+        divide(parts, at);
+    }
+    Ok(is_new)
 }
 
 /// Takes from the count of a pid in the part where it is at home.
@@ -203,18 +237,18 @@ impl<P: Part> Part for Level<P> {
         self.parts[at].count(pid)
     }
 
-    fn add(&mut self, pid: &Pid, more: u64) -> Result<(), AllocError> {
+    fn add(&mut self, pid: &Pid, more: u64) -> Result<bool, AllocError> {
         if self.parts.is_empty() {
             let mut part = P::new(self.alloc);
             part.add(pid, more)?;
             self.parts.push(part)?;
             self.total = more;
-            return Ok(());
+            return Ok(true);
         }
         let at = home(&self.parts, pid);
-        add_at(&mut self.parts, at, pid, more)?;
+        let is_new = add_at(&mut self.parts, at, pid, more)?;
         self.total += more;
-        Ok(())
+        Ok(is_new)
     }
 
     fn take(&mut self, pid: &Pid, most: u64) -> u64 {
@@ -246,18 +280,16 @@ impl<P: Part> Part for Level<P> {
     }
 
     fn rank(&self, edge: Edge<'_>) -> u64 {
-        let at = choose(&self.parts, edge);
-        let whole = sum(&self.parts[..at]);
-        if at < self.parts.len() {
-            whole + self.parts[at].rank(edge)
-        } else {
-            whole
+        if self.parts.is_empty() {
+            return 0;
         }
+        let at = choose(&self.parts, edge);
+        sum(&self.parts[..at]) + self.parts[at].rank(edge)
     }
 
     fn split(&mut self) -> Result<Option<Level<P>>, AllocError> {
         let len = self.parts.len();
-        if len <= MOST_PARTS {
+        if len < FULL_PARTS {
             return Ok(None);
         }
         let half = len / 2;
@@ -294,9 +326,12 @@ impl<P: Part> Part for Level<P> {
         self.total = sum(&self.parts);
     }
 
-    fn list(&self, pids: &mut Vec<Pid>) -> Result<(), AllocError> {
-        for part in &self.parts {
-            part.list(pids)?;
+    fn list(&self, scope: Scope<'_>, pids: &mut Vec<Pid>) -> Result<(), AllocError> {
+        if self.parts.is_empty() {
+            return Ok(());
+        }
+        for part in asked(&self.parts, scope) {
+            part.list(scope, pids)?;
         }
         Ok(())
     }

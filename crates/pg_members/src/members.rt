@@ -1,4 +1,4 @@
-ghost use Rattle.std.specs.Prelude.{◌≡◌, ◌+◌, ◌-◌, ◌<◌, ◌≤◌, ◌^◌, List, Some, [], min, length, slice_get, option_copied, OnOk, OnErr, IfOk, IfSome, IfNone};
+ghost use Rattle.std.specs.Prelude.{◌≡◌, ◌+◌, ◌-◌, ◌<◌, ◌≤◌, ◌^◌, List, Some, [], ◌∷◌, ◌++◌, ◌⊎◌, min, length, slice_get, option_copied, IsErr, OnOk, OnErr, IfOk, IfSome, IfNone};
 ghost use Rattle.pg_term.specs.declared.pid.Pid.{Pid};
 ghost use Rattle.pg_term.specs.Same.{same_pid};
 ghost use Rattle.pg_group.specs.Functions.{upd};
@@ -21,7 +21,7 @@ use std::marker::Model;
 /// The members of one group, in the order of pids, each with its count.
 #[derive(Drop)]
 pub struct Members {
-    rows: Level<Level<Block>>,
+    rows: Level<Level<Level<Block>>>,
 }
 
 impl Model for Members {
@@ -52,12 +52,15 @@ impl Members {
 
     /// Adds to the count of a pid. Only a new member takes memory.
     ///
-    /// Refusal: `AllocError`, which changes nothing; also where the counts of all members would pass 64 bits.
+    /// Refusal: `AllocError`, which changes nothing, where there is no memory for a new member, and always where the counts
+    /// of all members would pass 64 bits.
     pub fn add(&mut self, pid: &Pid, more: u64) -> Result<(), AllocError>
         requires { 0 < more }
         ensures ok { OnOk result (counts_of self.new
             ≡ upd same_pid (counts_of self.old) pid.now (counts_of self.old pid.now + more)) }
         ensures err { OnErr result (self.new ≡ self.old) }
+        ensures full { 2 ^ 64 ≤ total_of self.old + more → IsErr result }
+        ensures memory { OnErr result ((counts_of self.old pid.now ≡ 0) ⊎ (2 ^ 64 ≤ total_of self.old + more)) }
     {
         if self.rows.total().checked_add(more).is_none() {
             return Err(AllocError);
@@ -84,6 +87,7 @@ impl Members {
 
     /// Takes the last pid out, with its count. It takes no memory.
     pub fn take_last(&mut self) -> Option<Row>
+        ensures last { IfSome result (λ row. self.old ≡ self.new ++ row ∷ []) }
         ensures rest { IfSome result (λ row. counts_of self.new ≡ upd same_pid (counts_of self.old) row.pid 0) }
         ensures fewer { IfSome result (λ row. length self.new < length self.old) }
         ensures nobody { IfNone result ((pid : Pid) → counts_of self.old pid ≡ 0) }
@@ -125,13 +129,13 @@ impl Members {
     }
 
     /// The members, each as often as its count, by one walk. It takes memory for each, and for its name.
-    pub fn list(&self, alloc: Global) -> Result<Vec<Pid>, AllocError>
-        ensures exact { IfOk result (λ pids. pids.items ≡ spread anywhere self.now) }
-        ensures list { IfOk result (λ pids. IsMemberList (Some (counts_of self.now)) anywhere pids.items) }
+    pub fn list(&self, alloc: Global, scope: Scope<'_>) -> Result<Vec<Pid>, AllocError>
+        ensures exact { IfOk result (λ pids. pids.items ≡ spread (in_scope scope.entry) self.now) }
+        ensures list { IfOk result (λ pids. IsMemberList (Some (counts_of self.now)) (in_scope scope.entry) pids.items) }
     {
         let mut pids = Vec::new(alloc);
         self.rows.total();
-        self.rows.list(&mut pids)?;
+        self.rows.list(scope, &mut pids)?;
         Ok(pids)
     }
 
@@ -154,12 +158,8 @@ impl Members {
         ensures { option_copied result ≡ slice_get (spread (at_node node.now) self.now) place }
     {
         self.rows.total();
-        let from = self.rows.rank(Edge::AtNode(node));
-        let to = self.rows.rank(Edge::PastNode(node));
-        if place < to - from {
-            self.rows.at(from + place)
-        } else {
-            None
-        }
+        let first = self.rows.rank(Edge::AtNode(node));
+        let pid = self.rows.at(first.checked_add(place)?)?;
+        if *node == pid.node { Some(pid) } else { None }
     }
 }

@@ -3,10 +3,11 @@ ghost use Rattle.std.specs.List.{filter};
 ghost use Rattle.pg_members.specs.declared.row.Row.{Row};
 ghost use Rattle.pg_members.specs.Edges.{before};
 ghost use Rattle.pg_members.specs.Rows.{counts_of, total_of, spread, AreRows, is_off, all_before, added, taken, IsSplit};
-ghost use Rattle.pg_group.specs.Scope.{anywhere};
+ghost use Rattle.pg_group.specs.Scope.{anywhere, in_scope};
 
 use crate::edge::Edge;
 use crate::row::Row;
+use pg_group::Scope;
 use pg_term::{Atom, Pid};
 use std::alloc::{AllocError, Global};
 
@@ -38,12 +39,14 @@ pub trait Part: Drop {
     fn count(&self, pid: &Pid) -> u64
         ensures { result ≡ counts_of (rows self.now) pid.now };
 
-    /// Adds to the count of a pid. Only a new member takes memory.
-    fn add(&mut self, pid: &Pid, more: u64) -> Result<(), AllocError>
+    /// Adds to the count of a pid, and tells whether it is a new member. Only a new member takes memory.
+    fn add(&mut self, pid: &Pid, more: u64) -> Result<bool, AllocError>
         requires some { 0 < more }
         requires fits { total_of (rows self.old) + more < 2 ^ 64 }
         ensures ok { OnOk result (rows self.new ≡ added (rows self.old) pid.now more) }
-        ensures err { OnErr result (rows self.new ≡ rows self.old) };
+        ensures err { OnErr result (rows self.new ≡ rows self.old) }
+        ensures new { IfOk result (λ is_new. IsTrue is_new ↔ (counts_of (rows self.old) pid.now ≡ 0)) }
+        ensures memory { OnErr result (counts_of (rows self.old) pid.now ≡ 0) };
 
     /// Takes at most so many from the count of a pid, and tells how many.
     fn take(&mut self, pid: &Pid, most: u64) -> u64
@@ -79,9 +82,9 @@ pub trait Part: Drop {
         Self: Sized,
         ensures { IfOk result (λ copy. rows copy ≡ rows self.now) };
 
-    /// Appends its members to a list, each as often as its count.
-    fn list(&self, pids: &mut Vec<Pid>) -> Result<(), AllocError>
-        ensures { OnOk result (pids.new.items ≡ pids.old.items ++ spread anywhere (rows self.now)) };
+    /// Appends the members of a scope to a list, each as often as its count.
+    fn list(&self, scope: Scope<'_>, pids: &mut Vec<Pid>) -> Result<(), AllocError>
+        ensures { OnOk result (pids.new.items ≡ pids.old.items ++ spread (in_scope scope.entry) (rows self.now)) };
 
     /// Takes out all members of a node. It takes no memory.
     fn drop_node(&mut self, node: &Atom)

@@ -1,20 +1,19 @@
 ghost use Rattle.std.specs.Prelude.{◌≡◌, ◌↔◌, ◌⊎◌, None, Err, IfOk, IfErr};
 ghost use Rattle.std.specs.List.Sorted.{IsSorted};
 ghost use Rattle.pg_term.specs.Same.{term_cmp};
-ghost use Rattle.pg_group.specs.Scope.{in_scope, anywhere, at_node};
+ghost use Rattle.pg_group.specs.Scope.{anywhere, at_node};
 ghost use Rattle.pg_group.specs.Members.{IsMemberList};
 ghost use Rattle.pg_group.specs.Table.{AreNames};
 ghost use Rattle.pg_query.specs.declared.fault.QueryFault.TheVariants.{NoSuchGroup, OutOfMemory};
 
 use crate::fault::QueryFault;
-use pg_group::{GroupTable, Scope, one_member_list};
+use pg_group::{GroupTable, Scope};
 use pg_term::{Atom, Items, Pid, Term};
 use std::alloc::{AllocError, Global};
 
 /// All members of a group, in the order of pids, each as often as its count (`get_members/1` of the pg2 manual page).
 ///
-/// Faults: `NoSuchGroup` where the group is absent; else `OutOfMemory`. Its cost is that of as many calls of the
-/// table's `pid_at`.
+/// Faults: `NoSuchGroup` where the group is absent; else `OutOfMemory`. Its cost is that of the table's `list`.
 pub fn members<T: GroupTable>(
     alloc: Global,
     table: &T,
@@ -27,7 +26,7 @@ pub fn members<T: GroupTable>(
     if !table.has(name) {
         return Err(QueryFault::NoSuchGroup);
     }
-    Ok(listed(alloc, table, name, Scope::All)?)
+    Ok(Items::from_vec(table.list(alloc, name, Scope::All)?))
 }
 
 /// The members of a group on one node, in the same form (`get_local_members/1` of the pg2 manual page).
@@ -46,7 +45,7 @@ pub fn local_members<T: GroupTable>(
     if !table.has(name) {
         return Err(QueryFault::NoSuchGroup);
     }
-    Ok(listed(alloc, table, name, Scope::At(own))?)
+    Ok(Items::from_vec(table.list(alloc, name, Scope::At(own))?))
 }
 
 /// The names of all groups, in the order of terms (`which_groups/0` of the pg2 manual page).
@@ -57,21 +56,4 @@ pub fn which_groups<T: GroupTable>(table: &T) -> Result<Items<Term>, AllocError>
     let mut names = table.groups()?;
     names.sort()?;
     Ok(Items::from_vec(names))
-}
-
-/// The members that are asked for; none of an absent group.
-fn listed<T: GroupTable>(
-    alloc: Global,
-    table: &T,
-    name: &Term,
-    scope: Scope<'_>,
-) -> Result<Items<Pid>, AllocError>
-    ensures { IfOk result (λ pids. IsMemberList (T.contents table.now name.now) (in_scope scope.entry) pids) }
-{
-    one_member_list();
-    let mut pids = Vec::new(alloc);
-    while let Some(pid) = table.pid_at(name, scope, pids.len() as u64) {
-        pids.push(pid.copy()?)?;
-    }
-    Ok(Items::from_vec(pids))
 }

@@ -1,8 +1,7 @@
-use Rattle.std.proofs.Common.{◌≡◌, [], suc, length, sym, ap, subst, ◌∙◌, arith}
-use Rattle.std.proofs.Common.{◌-◌, List, ◌∷◌, ◌++◌, set, get_or}
+use Rattle.std.proofs.Common.{◌≡◌, [], sym, ap, subst, ◌∙◌, arith}
+use Rattle.std.proofs.Common.{◌-◌, List, ◌∷◌, ◌++◌}
 use Rattle.std.specs.Prelude.{IfSome}
 use Rattle.std.specs.List.{flat_map}
-use Rattle.pg_members.specs.declared.row.Row.{Row}
 use Rattle.pg_members.proofs.Parts.{written_at}
 use Rattle.pg_members.proofs.Last.{last_left, last_removed}
 use Rattle.pg_members.proofs.level.take_last_of.Goals as goal

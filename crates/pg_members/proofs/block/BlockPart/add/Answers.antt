@@ -1,8 +1,8 @@
-use Rattle.std.proofs.Common.{◌≡◌, ◌+◌, List, drop, true, false, sym, ap, subst, ◌∙◌, arith}
+use Rattle.std.proofs.Common.{◌≡◌, ◌+◌, List, drop, true, false, refl, sym, ap, subst, ◌∙◌, arith, rules}
 use Rattle.pg_members.specs.declared.row.Row.{Row}
-use Rattle.pg_members.specs.Rows.{AreRows, IsCut, is_here, total_of, added}
+use Rattle.pg_members.specs.Rows.{AreRows, IsCut, is_here, counts_of, total_of, added}
 use Rattle.pg_members.proofs.Flat.{below, count_le, total-added, rows_added}
-use Rattle.pg_members.proofs.Cut.{found_count, found_added, missing_added}
+use Rattle.pg_members.proofs.Cut.{found_count, found_added, found_counts, missing_count, missing_added}
 use Rattle.std.specs.List.{insert}
 use Rattle.pg_members.proofs.block.BlockPart.add.Goals as goal
 
@@ -58,3 +58,41 @@ returns-clause-ok c =
     let here : is_here pid (drop at items) ≡ false = ap (λ l. is_here pid (drop at l)) (sym c.deref-2.ensures.value) ∙ sym c.is_at.ensures.value ∙ c.if-is_at.false in
     let more = c.args.more in
     c.in_ok-insert.ensures.items ∙ (λ i. insert items at (record { pid = c.in_ok-copy.ensures i; count = more })) ∙ missing_added pid items at c.self.invariant.1 cut more here ∙ ap (λ l. added l pid more) c.self.view_is
+
+pub returns-then-is_at-clause-new : goal.returns-then-is_at-clause-new
+returns-then-is_at-clause-new c =
+    let items = c.self.inside.rows.items in
+    let at = c.find-at.result in
+    let pid = c.args.pid.now in
+    let cut : IsCut (below pid) items at = subst (λ (l : List Row). IsCut (below pid) l at) c.deref.ensures.value c.find-at.ensures in
+    let here : is_here pid (drop at items) ≡ true = ap (λ l. is_here pid (drop at l)) (sym c.deref-2.ensures.value) ∙ sym c.is_at.ensures.value ∙ c.if-is_at.true in
+    (λ e. absurd cc, λ none. absurd (found_counts pid items at c.self.invariant.1 cut c.index_mut.result.now c.index_mut.ensures.value here (ap (λ l. counts_of l pid) c.self.view_is ∙ none)))
+
+pub returns-in_err-copy-clause-memory : goal.returns-in_err-copy-clause-memory
+returns-in_err-copy-clause-memory c =
+    let items = c.self.inside.rows.items in
+    let at = c.find-at.result in
+    let pid = c.args.pid.now in
+    let cut : IsCut (below pid) items at = subst (λ (l : List Row). IsCut (below pid) l at) c.deref.ensures.value c.find-at.ensures in
+    let here : is_here pid (drop at items) ≡ false = ap (λ l. is_here pid (drop at l)) (sym c.deref-2.ensures.value) ∙ sym c.is_at.ensures.value ∙ c.if-is_at.false in
+    let none = ap (λ l. counts_of l pid) (sym c.self.view_is) ∙ missing_count pid items at c.self.invariant.1 cut here in
+    search rules
+
+pub returns-in_err-insert-clause-memory : goal.returns-in_err-insert-clause-memory
+returns-in_err-insert-clause-memory c =
+    let items = c.self.inside.rows.items in
+    let at = c.find-at.result in
+    let pid = c.args.pid.now in
+    let cut : IsCut (below pid) items at = subst (λ (l : List Row). IsCut (below pid) l at) c.deref.ensures.value c.find-at.ensures in
+    let here : is_here pid (drop at items) ≡ false = ap (λ l. is_here pid (drop at l)) (sym c.deref-2.ensures.value) ∙ sym c.is_at.ensures.value ∙ c.if-is_at.false in
+    let none = ap (λ l. counts_of l pid) (sym c.self.view_is) ∙ missing_count pid items at c.self.invariant.1 cut here in
+    search rules
+
+pub returns-clause-new : goal.returns-clause-new
+returns-clause-new c =
+    let items = c.self.inside.rows.items in
+    let at = c.find-at.result in
+    let pid = c.args.pid.now in
+    let cut : IsCut (below pid) items at = subst (λ (l : List Row). IsCut (below pid) l at) c.deref.ensures.value c.find-at.ensures in
+    let here : is_here pid (drop at items) ≡ false = ap (λ l. is_here pid (drop at l)) (sym c.deref-2.ensures.value) ∙ sym c.is_at.ensures.value ∙ c.if-is_at.false in
+    (λ _. ap (λ l. counts_of l pid) (sym c.self.view_is) ∙ missing_count pid items at c.self.invariant.1 cut here, λ _. refl)

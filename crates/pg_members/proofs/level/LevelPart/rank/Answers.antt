@@ -4,16 +4,14 @@ use Rattle.pg_members.specs.Edges.{before}
 use Rattle.pg_members.specs.Rows.{total_of, spread}
 use Rattle.pg_members.specs.Levels.{IsChoice}
 use Rattle.pg_members.proofs.Order.{downward}
-use Rattle.pg_members.proofs.Parts.{length-spread_le, total_split, rank_at, rank_all}
+use Rattle.pg_members.proofs.Parts.{length-spread_le, total_split, rank_at}
 use Rattle.pg_members.proofs.level.LevelPart.rank.Goals as goal
 
-pub sum-whole-requires : goal.sum-whole-requires
-sum-whole-requires g c =
+pub sum-requires : goal.sum-requires
+sum-requires g c =
     let rows = g.P.Part.rows in
     let parts = c.self.inside.parts.items in
     let at = c.choose-at.result in
-    let p = before c.args.edge in
-    let choice : IsChoice rows p parts at = subst (λ (l : List g.row.P.Denot). IsChoice rows p l at) c.deref.ensures.value c.choose-at.ensures in
     let all = total_split rows parts at in
     let is : total_of (flat_map rows (take at c.deref-2.result.now)) ≡ total_of (flat_map rows (take at parts)) = ap (λ l. total_of (flat_map rows (take at l))) c.deref-2.ensures.value in
     let fits = c.self.invariant.fits in
@@ -26,32 +24,19 @@ overflow_add-result g c =
     let at = c.choose-at.result in
     let p = before c.args.edge in
     let choice : IsChoice rows p parts at = subst (λ (l : List g.row.P.Denot). IsChoice rows p l at) c.deref.ensures.value c.choose-at.ensures in
-    let len : length c.deref.result.now ≡ length parts = ap length c.deref.ensures.value in
-    let whole : c.sum-whole.result ≡ total_of (flat_map rows (take at parts)) = c.sum-whole.ensures ∙ ap (λ l. total_of (flat_map rows (take at l))) c.deref-2.ensures.value in
-    let all = rank_at rows p (downward c.args.edge) parts at c.index.result.now c.self.invariant.in_order choice (omega arith) c.index.ensures in
+    let whole : c.sum.result ≡ total_of (flat_map rows (take at parts)) = c.sum.ensures ∙ ap (λ l. total_of (flat_map rows (take at l))) c.deref-2.ensures.value in
+    let all = rank_at rows p (downward c.args.edge) parts at c.index.result.now c.self.invariant.in_order choice c.index.ensures in
     let few = length-spread_le p (flat_map rows parts) in
     let fits = c.self.invariant.fits in
     omega arith
 
-pub returns-then-at-len : goal.returns-then-at-len
-returns-then-at-len g c =
+pub returns : goal.returns
+returns g c =
     let rows = g.P.Part.rows in
     let parts = c.self.inside.parts.items in
     let at = c.choose-at.result in
     let p = before c.args.edge in
     let choice : IsChoice rows p parts at = subst (λ (l : List g.row.P.Denot). IsChoice rows p l at) c.deref.ensures.value c.choose-at.ensures in
-    let len : length c.deref.result.now ≡ length parts = ap length c.deref.ensures.value in
-    let whole : c.sum-whole.result ≡ total_of (flat_map rows (take at parts)) = c.sum-whole.ensures ∙ ap (λ l. total_of (flat_map rows (take at l))) c.deref-2.ensures.value in
-    let all = rank_at rows p (downward c.args.edge) parts at c.index.result.now c.self.invariant.in_order choice (omega arith) c.index.ensures in
-    (let sum : c.sum-whole.result + c.rank.result ≡ length (spread p (flat_map rows parts)) = omega arith in sum) ∙ ap (λ l. length (spread p l)) c.self.view_is
-
-pub returns-else-at-len : goal.returns-else-at-len
-returns-else-at-len g c =
-    let rows = g.P.Part.rows in
-    let parts = c.self.inside.parts.items in
-    let at = c.choose-at.result in
-    let p = before c.args.edge in
-    let choice : IsChoice rows p parts at = subst (λ (l : List g.row.P.Denot). IsChoice rows p l at) c.deref.ensures.value c.choose-at.ensures in
-    let len : length c.deref.result.now ≡ length parts = ap length c.deref.ensures.value in
-    let whole : c.sum-whole.result ≡ total_of (flat_map rows (take at parts)) = c.sum-whole.ensures ∙ ap (λ l. total_of (flat_map rows (take at l))) c.deref-2.ensures.value in
-    whole ∙ rank_all rows p parts at choice (omega arith) ∙ ap (λ l. length (spread p l)) c.self.view_is
+    let whole : c.sum.result ≡ total_of (flat_map rows (take at parts)) = c.sum.ensures ∙ ap (λ l. total_of (flat_map rows (take at l))) c.deref-2.ensures.value in
+    let all = rank_at rows p (downward c.args.edge) parts at c.index.result.now c.self.invariant.in_order choice c.index.ensures in
+    (let sum : c.sum.result + c.rank.result ≡ length (spread p (flat_map rows parts)) = omega arith in sum) ∙ ap (λ l. length (spread p l)) c.self.view_is
