@@ -1,11 +1,12 @@
 -- Groups by their numbers.
-use Rattle.std.specs.Prelude.{◌≡◌, ℕ, Bool, false, cond, Option, None, Some, is_some, nat_eq, List}
+use Rattle.std.specs.Prelude.{◌≡◌, ℕ, Bool, false, cond, Option, None, Some, is_some, nat_eq, List, length, ◌+◌, ◌≤◌, ◌^◌}
 use Rattle.slab.specs.Slab.{Slab, get}
 use Rattle.pg_term.specs.declared.pid.Pid.{Pid}
 use Rattle.pg_term.specs.Same.{same_pid}
 use Rattle.pg_group.specs.Functions.{upd}
-use Rattle.pg_group.specs.Value.{Counts, nobody, greater, told, IsBetween}
-use Rattle.pg_group.specs.Scope.{at_node}
+use Rattle.pg_group.specs.Value.{Value, Counts, nobody, greater, told, IsBetween}
+use Rattle.pg_group.specs.Scope.{anywhere, at_node}
+use Rattle.pg_group.specs.Members.{IsMemberList}
 use Rattle.pg_members.specs.declared.row.Row.{Row}
 use Rattle.pg_members.specs.Rows.{counts_of}
 
@@ -39,6 +40,10 @@ without_nodes counts node group = without_node (counts group) node
 -- the pid in no group
 abbrev pub without_pid : Numbered → Pid → Numbered
 without_pid counts pid group = upd same_pid (counts group) pid 0
+
+-- so many members more of a group could not be told in 64 bits
+abbrev pub LacksRoom : Value → ℕ → Type 0
+LacksRoom v more = (pids : List Pid) × (IsMemberList v anywhere pids × (2 ^ 64 ≤ length pids + more))
 
 -- one group with the counts of a list, where they are more
 abbrev pub counts_raised : Numbered → ℕ → List Pid → (Pid → Bool) → Numbered

@@ -6,10 +6,12 @@ use Rattle.std.specs.declared.hash.FoldHasher.{FoldHasher}
 use Rattle.std.specs.declared.hash.BuildHasherDefault.{BuildHasherDefault}
 use Rattle.pg_term.specs.declared.term.Term.{Term}
 use Rattle.pg_term.specs.Same.{same_term}
+use Rattle.pg_group.specs.declared.update.Update.{Update}
+use Rattle.pg_group.specs.declared.update.Update.TheVariants.{Join}
 use Rattle.pg_group.specs.Table.{Table}
 use Rattle.pg_members.specs.declared.row.Row.{Row}
 use Rattle.pg_members.specs.Rows.{counts_of}
-use Rattle.pg_index.specs.Groups.{Numbered}
+use Rattle.pg_index.specs.Groups.{Numbered, LacksRoom}
 
 abbrev pub Numbers : Type 0
 Numbers = HashMap Term ℕ (BuildHasherDefault FoldHasher)
@@ -33,3 +35,8 @@ AreApart number_of = (one other : Term) (group : ℕ) → number_of one ≡ Some
 -- these are the rows of the group
 abbrev pub MembersOf : Table → Term → Option (List Row) → Type 0
 MembersOf table name rows = option_map counts_of rows ≡ table name
+
+-- the update joins a group whose members, with one more, could not be told in 64 bits
+abbrev pub Overfills : Table → Update → Type 0
+Overfills table (Join name pid) = LacksRoom (table name) 1
+Overfills table update = ⊥

@@ -1,8 +1,8 @@
-ghost use Rattle.std.specs.Prelude.{◌≡◌, ◌+◌, ◌<◌, true, OnOk, OnErr, nat_eq};
+ghost use Rattle.std.specs.Prelude.{◌≡◌, ◌+◌, ◌<◌, ◌⊎◌, true, Some, OnOk, OnErr, nat_eq};
 ghost use Rattle.pg_term.specs.Same.{same_pid};
 ghost use Rattle.pg_group.specs.Functions.{upd};
 ghost use Rattle.pg_group.specs.Value.{with_one_less};
-ghost use Rattle.pg_index.specs.Groups.{counts_in, is_used, counts_changed, without_node};
+ghost use Rattle.pg_index.specs.Groups.{counts_in, is_used, counts_changed, without_node, LacksRoom};
 
 use pg_members::Members;
 use pg_term::{Atom, Pid};
@@ -29,6 +29,8 @@ pub fn add(groups: &mut Groups, group: u32, pid: &Pid, more: u64) -> Result<(), 
     ensures ok { OnOk result (counts_in groups.new ≡ counts_changed (counts_in groups.old) group pid.now
         (counts_in groups.old group pid.now + more)) }
     ensures err { OnErr result (counts_in groups.new ≡ counts_in groups.old) }
+    ensures memory { OnErr result ((counts_in groups.old group pid.now ≡ 0)
+        ⊎ LacksRoom (Some (counts_in groups.old group)) more) }
     ensures used { is_used groups.new ≡ is_used groups.old }
 {
     match groups.get_mut(group as usize) {

@@ -1,12 +1,12 @@
-ghost use Rattle.std.specs.Prelude.{◌≡◌, ◌+◌, ◌<◌, ◌^◌, true, false, None, Some, OnOk, OnErr, IfOk, IsSome, option_copied};
+ghost use Rattle.std.specs.Prelude.{◌≡◌, ◌+◌, ◌<◌, ◌^◌, ◌⊎◌, true, false, None, Some, OnOk, OnErr, IfOk, IsSome, option_copied};
 ghost use Rattle.pg_term.specs.Same.{same_term, same_pid};
 ghost use Rattle.pg_group.specs.Ended.{ended_of};
 ghost use Rattle.pg_group.specs.Functions.{upd};
 ghost use Rattle.pg_group.specs.Value.{apply, count_in};
 ghost use Rattle.pg_group.specs.Table.{changed, Adds, HasRoom};
 ghost use Rattle.pg_group.specs.declared.update.Update.TheVariants.{Create, Delete, Join, Leave};
-ghost use Rattle.pg_index.specs.Groups.{counts_in, is_used};
-ghost use Rattle.pg_index.specs.Index.{number_of, contents_of, HasGroups, AreApart, MembersOf};
+ghost use Rattle.pg_index.specs.Groups.{counts_in, is_used, LacksRoom};
+ghost use Rattle.pg_index.specs.Index.{number_of, contents_of, HasGroups, AreApart, MembersOf, Overfills};
 
 use crate::memberships::Memberships;
 use pg_group::{Ended, GroupTable, Scope, Update};
@@ -62,6 +62,8 @@ impl IndexTable {
             (apply (contents_of (number_of self.old.numbers) (counts_in self.old.memberships.groups) name.now) (Create name.now))) }
         ensures err { OnErr result (contents_of (number_of self.new.numbers) (counts_in self.new.memberships.groups)
             ≡ contents_of (number_of self.old.numbers) (counts_in self.old.memberships.groups)) }
+        ensures memory { OnErr result
+            (contents_of (number_of self.old.numbers) (counts_in self.old.memberships.groups) name.now ≡ None) }
     {
         if self.numbers.contains_key(name) {
             return Ok(());
@@ -87,13 +89,18 @@ impl IndexTable {
         self.memberships.close(number);
     }
 
-    /// Adds one to the count of a pid in a group that is there. An error changes nothing.
+    /// Adds one to the count of a pid in a group that is there. Only a new member takes memory. An error changes nothing.
     fn join(&mut self, name: &Term, pid: &Pid) -> Result<(), AllocError>
         ensures ok { OnOk result (contents_of (number_of self.new.numbers) (counts_in self.new.memberships.groups)
             ≡ upd same_term (contents_of (number_of self.old.numbers) (counts_in self.old.memberships.groups)) name.now
             (apply (contents_of (number_of self.old.numbers) (counts_in self.old.memberships.groups) name.now) (Join name.now pid.now))) }
         ensures err { OnErr result (contents_of (number_of self.new.numbers) (counts_in self.new.memberships.groups)
             ≡ contents_of (number_of self.old.numbers) (counts_in self.old.memberships.groups)) }
+        ensures there { OnErr result
+            (IsSome (contents_of (number_of self.old.numbers) (counts_in self.old.memberships.groups) name.now)) }
+        ensures memory { OnErr result
+            ((count_in (contents_of (number_of self.old.numbers) (counts_in self.old.memberships.groups) name.now) pid.now ≡ 0)
+            ⊎ LacksRoom (contents_of (number_of self.old.numbers) (counts_in self.old.memberships.groups) name.now) 1) }
     {
         match self.number(name) {
             Some(number) => self.memberships.add(number, pid, 1),
@@ -123,8 +130,18 @@ impl GroupTable for IndexTable {
     }
 
     /// A join or a leave costs a hash and searches in order; a deletion costs the members of the group. Only a group
-    /// that is made and a new member take memory.
-    fn apply(&mut self, update: &Update, ended: &Ended) -> Result<(), AllocError> {
+    /// that is made and a new member take memory. It also answers `AllocError` to a join where the members, with one more,
+    /// could not be told in 64 bits, and to a creation where all numbers of 32 bits are in use.
+    fn apply(&mut self, update: &Update, ended: &Ended) -> Result<(), AllocError>
+        requires { HasRoom (contents_of (number_of self.old.numbers) (counts_in self.old.memberships.groups)) update.now }
+        ensures ok { OnOk result (contents_of (number_of self.new.numbers) (counts_in self.new.memberships.groups)
+            ≡ changed (contents_of (number_of self.old.numbers) (counts_in self.old.memberships.groups)) update.now (ended_of ended.now)) }
+        ensures err { OnErr result (contents_of (number_of self.new.numbers) (counts_in self.new.memberships.groups)
+            ≡ contents_of (number_of self.old.numbers) (counts_in self.old.memberships.groups)) }
+        ensures memory { OnErr result
+            (Adds (contents_of (number_of self.old.numbers) (counts_in self.old.memberships.groups)) update.now (ended_of ended.now)
+            ⊎ Overfills (contents_of (number_of self.old.numbers) (counts_in self.old.memberships.groups)) update.now) }
+    {
         match update {
             Update::Create(name) => self.create(name),
             Update::Delete(name) => {

@@ -38,10 +38,11 @@ pub fn listing(pid: &Pid, group: u32) -> Listing
     }
 }
 
-/// Lists a pid in a group. An error changes nothing.
+/// Lists a pid in a group. Only a new listing takes memory. An error changes nothing.
 pub fn add(listings: &mut Listings, alloc: Global, pid: &Pid, group: u32) -> Result<(), AllocError>
     ensures ok { OnOk result (listed_in listings.new ≡ marked (listed_in listings.old) pid.now group true) }
     ensures err { OnErr result (listed_in listings.new ≡ listed_in listings.old) }
+    ensures memory { OnErr result (listed_in listings.old pid.now group ≡ false) }
 {
     match listings.get_mut(&pid.node) {
         Some(set) => {

@@ -1,9 +1,9 @@
-ghost use Rattle.std.specs.Prelude.{◌≡◌, ◌+◌, ◌<◌, ◌^◌, true, false, max, OnOk, OnErr, IfOk, nat_eq, option_copied};
+ghost use Rattle.std.specs.Prelude.{◌≡◌, ◌+◌, ◌<◌, ◌^◌, ◌⊎◌, true, false, Some, max, OnOk, OnErr, IfOk, nat_eq, option_copied};
 ghost use Rattle.slab.specs.Slab.{get};
 ghost use Rattle.pg_group.specs.Ended.{ended_of};
 ghost use Rattle.pg_group.specs.Functions.{upd};
 ghost use Rattle.pg_group.specs.Value.{with_one_less, nobody};
-ghost use Rattle.pg_index.specs.Groups.{counts_in, is_used, counts_changed, counts_raised, without_pid, without_nodes, IsPartlyRaised};
+ghost use Rattle.pg_index.specs.Groups.{counts_in, is_used, counts_changed, counts_raised, without_pid, without_nodes, IsPartlyRaised, LacksRoom};
 ghost use Rattle.pg_index.specs.Listings.{listed_in, AreListed};
 
 use crate::groups::{self, Groups};
@@ -73,6 +73,8 @@ impl Memberships {
         ensures ok { OnOk result (counts_in self.new.groups ≡ counts_changed (counts_in self.old.groups) group pid.now
             (counts_in self.old.groups group pid.now + more)) }
         ensures err { OnErr result (counts_in self.new.groups ≡ counts_in self.old.groups) }
+        ensures memory { OnErr result ((counts_in self.old.groups group pid.now ≡ 0)
+            ⊎ LacksRoom (Some (counts_in self.old.groups group)) more) }
         ensures used { is_used self.new.groups ≡ is_used self.old.groups }
     {
         listings::add(&mut self.listings, self.alloc, pid, group)?;

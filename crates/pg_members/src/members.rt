@@ -59,10 +59,13 @@ impl Members {
         ensures ok { OnOk result (counts_of self.new
             ≡ upd same_pid (counts_of self.old) pid.now (counts_of self.old pid.now + more)) }
         ensures err { OnErr result (self.new ≡ self.old) }
-        ensures full { 2 ^ 64 ≤ total_of self.old + more → IsErr result }
-        ensures memory { OnErr result ((counts_of self.old pid.now ≡ 0) ⊎ (2 ^ 64 ≤ total_of self.old + more)) }
+        ensures full { 2 ^ 64 ≤ length (spread anywhere self.old) + more → IsErr result }
+        ensures memory { OnErr result
+            ((counts_of self.old pid.now ≡ 0) ⊎ (2 ^ 64 ≤ length (spread anywhere self.old) + more)) }
+        ensures list { IsMemberList (Some (counts_of self.old)) anywhere (spread anywhere self.old) }
     {
-        if self.rows.total().checked_add(more).is_none() {
+        let room = u64::MAX - self.rows.total();
+        if room < more {
             return Err(AllocError);
         }
         self.rows.add(pid, more)?;

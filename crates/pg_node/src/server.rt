@@ -12,7 +12,8 @@ use crate::fault::ServeFault;
 use crate::replica::Replica;
 use bytes::BytesMut;
 use pg_frame::Deframer;
-use pg_group::{GroupTable, RowTable};
+use pg_group::GroupTable;
+use pg_index::IndexTable;
 use pg_message::MessageFault;
 use pg_term::{Atom, TermFault};
 use std::alloc::{AllocError, Global};
@@ -176,12 +177,12 @@ pub fn serve<R: Read, W: Write>(
 }
 
 /// A server that has read nothing.
-fn idle_server(alloc: Global, own: &Atom, peer: &Atom) -> Result<Server<RowTable>, AllocError>
+fn idle_server(alloc: Global, own: &Atom, peer: &Atom) -> Result<Server<IndexTable>, AllocError>
     ensures pair { IfOk result (λ server. pair_of server.replica ≡ record { own = own.now; peer = peer.now }) }
     ensures state { IfOk result (λ server. state_of server.replica ≡ start) }
     ensures unread { IfOk result (λ server. server.deframer.unread ≡ []) }
 {
-    let replica = Replica::new(alloc, own.copy()?, peer.copy()?, RowTable::new(alloc))?;
+    let replica = Replica::new(alloc, own.copy()?, peer.copy()?, IndexTable::new(alloc))?;
     Ok(Server {
         deframer: Deframer::new(alloc),
         replica,
