@@ -8,6 +8,7 @@ pub mod Put
 pub mod ReadBack
 pub mod Rows
 pub mod Sent
+pub mod Shapes
 pub mod Spelled
 pub mod Stamps
 pub mod Standing

@@ -23,7 +23,7 @@ list_in _ = None
 abbrev pub items_of : Term → Option (List Term)
 items_of t = list_in (out-Term t)
 
-abbrev text_in : Term-F Term → List ℕ → Bool
+abbrev pub text_in : Term-F Term → List ℕ → Bool
 text_in (Term-F.Atom characters) text = pointwise nat_eq (encode_utf8_all characters) text
 text_in _ text = false
 
@@ -31,7 +31,7 @@ text_in _ text = false
 abbrev pub is_word : Term → List ℕ → Bool
 is_word t text = text_in (out-Term t) text
 
-abbrev atom_in : Term-F Term → Option (List ℕ)
+abbrev pub atom_in : Term-F Term → Option (List ℕ)
 atom_in (Term-F.Atom characters) = Some characters
 atom_in _ = None
 
@@ -39,7 +39,7 @@ atom_in _ = None
 abbrev pub atom_of : Term → Option (List ℕ)
 atom_of t = atom_in (out-Term t)
 
-abbrev reference_in : Term-F Term → Option RefParts
+abbrev pub reference_in : Term-F Term → Option RefParts
 reference_in (Term-F.Ref reference) = Some reference
 reference_in _ = None
 
@@ -47,7 +47,7 @@ reference_in _ = None
 abbrev pub reference_of : Term → Option RefParts
 reference_of t = reference_in (out-Term t)
 
-abbrev pid_in : Term-F Term → Option Pid
+abbrev pub pid_in : Term-F Term → Option Pid
 pid_in (Term-F.Pid pid) = Some pid
 pid_in _ = None
 

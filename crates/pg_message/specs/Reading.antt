@@ -137,7 +137,7 @@ message_of t = option_and_then message_in (elements_of t)
 -- ---- packets
 
 -- an integer from 0 to the greatest clock
-abbrev stamp_in : Term-F Term → Result ℕ MessageFault
+abbrev pub stamp_in : Term-F Term → Result ℕ MessageFault
 stamp_in (Term-F.Int (pos n)) = if nat_le n MAX_STAMP then Ok n else Err faults.StampTooLarge
 stamp_in _ = Err faults.NotAMessage
 

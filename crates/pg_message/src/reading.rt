@@ -13,6 +13,7 @@ ghost use Rattle.pg_message.specs.declared.packet.Packet.{Packet};
 
 mod direct;
 mod exchange;
+mod shape;
 #[cfg(test)]
 mod tests;
 
@@ -23,6 +24,7 @@ use crate::packet::{MAX_STAMP, Packet};
 use crate::parts::{atom, elements, is_word, pid, reference};
 use crate::reading::direct::{Detour, direct_packet};
 use crate::reading::exchange::groups;
+use crate::reading::shape::may_be_packet;
 use pg_group::Update;
 use pg_term::{Reference, Term, TermFault};
 use pg_term_io::{check_term, decode};
@@ -63,6 +65,9 @@ fn whole_packet(alloc: Global, body: &[u8]) -> Result<Packet, MessageFault>
         Err(Detour::OtherForm) => {
             // What is no term is refused before anything of it is built.
             check_term(body)?;
+            if !may_be_packet(body) {
+                return Err(MessageFault::NotAMessage);
+            }
             packet(alloc, decode(alloc, body)?)
         }
     }

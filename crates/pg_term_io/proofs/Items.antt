@@ -189,7 +189,7 @@ unfolding readers
 next_tail room each ends [] fits = f.BreaksTail.missing_tail (suc room)
 next_tail room each ends (tag ∷ bytes) fits = tagged_tail room tag bytes (elements_behind room (readers room) tag bytes) (elements_right room each ends tag bytes (λ i. fits (suc i)))
 
-levels : (room : ℕ) → ItemRight room × TailRight room
+pub levels : (room : ℕ) → ItemRight room × TailRight room
 levels zero = (deep_item, deep_tail)
 levels (suc room) = (next_item room (levels room).0 (levels room).1, next_tail room (levels room).0 (levels room).1)
 

@@ -12,9 +12,11 @@ pub mod Items
 pub mod Latin
 pub mod Loop
 pub mod Outcomes
+pub mod Placed
 pub mod Rewritten
 pub mod Scanned
 pub mod Spelled
+pub mod Spread
 pub mod Steps
 pub mod Walked
 pub mod Weighed

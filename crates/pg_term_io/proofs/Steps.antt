@@ -1,11 +1,12 @@
 -- One level of reading.
 use Rattle.std.proofs.Common.{◌≡◌, ℕ, zero, suc, ◌-◌, ◌<◌, ◌≤◌, List, [], ◌∷◌, length, get_or, take, drop, Ok, Err, refl, arith}
+use Rattle.std.specs.Int.{w32}
 use Rattle.std.proofs.Math.Seq.{take-length}
 use Rattle.pg_term.specs.declared.fault.TermFault.TheVariants.{Truncated, TooDeep}
 use Rattle.pg_term_io.specs.Numbers.{int_of}
-use Rattle.pg_term_io.specs.Reading.{readers, item_at, tail_at, item_behind, elements_behind, leaf_behind, items_at, as_term, atom_behind}
+use Rattle.pg_term_io.specs.Reading.{readers, item_at, tail_at, item_behind, elements_behind, leaf_behind, items_at, as_term, atom_behind, pid_at}
 use Rattle.pg_term.specs.declared.term.Term.{Tuple}
-use Rattle.pg_term.specs.declared.term.Term.TheVariants.{Atom}
+use Rattle.pg_term.specs.declared.term.Term.TheVariants.{Atom, Pid}
 
 pub item_at-nothing : (room : ℕ) (bytes : List ℕ) → length bytes < 1 → item_at room bytes ≡ Err Truncated
 unfolding readers
@@ -63,3 +64,10 @@ unfolding readers item_behind leaf_behind
 item_at-name room [] e q = absurd (omega (arith, q))
 item_at-name zero (tag ∷ bytes) e q = absurd (omega arith)
 item_at-name (suc room) (tag ∷ bytes) e q = let k : length (tag ∷ bytes) - 1 ≡ length bytes = omega arith in rw (k, take-length bytes, q) refl
+
+pub item_at-pid : (room : ℕ) (bytes : List ℕ) → 0 < room → get_or bytes 0 0 ≡ 88
+    → item_at room bytes ≡ as_term Pid (pid_at w32 (take (length bytes - 1) (drop 1 bytes)))
+unfolding readers item_behind leaf_behind
+item_at-pid room [] e q = absurd (omega (arith, q))
+item_at-pid zero (tag ∷ bytes) e q = absurd (omega arith)
+item_at-pid (suc room) (tag ∷ bytes) e q = let k : length (tag ∷ bytes) - 1 ≡ length bytes = omega arith in rw (k, take-length bytes, q) refl

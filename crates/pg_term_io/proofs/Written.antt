@@ -36,7 +36,7 @@ some false x y p q = q
 text_some : (text : List ℕ) → 1 ≤ length (text_bytes text)
 text_some text = some (nat_lt (length text) 256) (119 ∷ length text ∷ text) (118 ∷ to_be_bytes w16 (length text) ++ text) (omega arith) (omega arith)
 
-head_some : (n : ℕ) → 1 ≤ length (tuple_head n)
+pub head_some : (n : ℕ) → 1 ≤ length (tuple_head n)
 head_some n = some (nat_lt n 256) (104 ∷ n ∷ []) (105 ∷ to_be_bytes w32 n) (omega arith) (omega arith)
 
 big_some : (sign n : ℕ) → 1 ≤ length (big_bytes sign n)

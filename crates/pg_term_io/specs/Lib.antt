@@ -1,4 +1,5 @@
 pub mod Faults
+pub mod Kinds
 pub mod Numbers
 pub mod Reading
 pub mod Scanning

@@ -15,7 +15,10 @@ mod atoms;
 mod identifiers;
 mod items;
 mod numbers;
+mod outline;
 mod scanning;
+
+pub use crate::reading::outline::{kind_at, skip_item, tuple_at};
 
 use crate::limits::MAX_DEPTH;
 use crate::reading::identifiers::{new_pid_at, newer_reference_at};
@@ -114,6 +117,3 @@ pub fn check_term(bytes: &[u8]) -> Result<(), TermFault>
     scanning::term(bytes)?;
     Ok(())
 }
-
-#[cfg(test)]
-mod tests;

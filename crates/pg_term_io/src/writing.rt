@@ -255,6 +255,3 @@ pub fn encode_into(term: &Term, out: &mut BytesMut) -> Result<(), TermFault>
     put_written(out, term);
     Ok(())
 }
-
-#[cfg(test)]
-mod tests;

@@ -98,7 +98,7 @@ fn items<'a>(
                 terms.push(small(*number))?;
                 after
             }
-            // A tuple and an atom in their places, with no move of a whole result.
+            // A tuple, an atom and a pid in their places, with no move of a whole result.
             [tag, arity, after @ ..] if *tag == 104 && room > 0 => {
                 let (inner, after) = fields(alloc, room - 1, behind, u32::from(*arity), after)?;
                 terms.push(Term::Tuple(Fields::from_vec(inner)))?;
@@ -107,6 +107,11 @@ fn items<'a>(
             [tag, after @ ..] if *tag == 119 && room > 0 => {
                 let (atom, after) = atom_behind(alloc, 119, after)?;
                 terms.push(Term::Atom(atom))?;
+                after
+            }
+            [tag, after @ ..] if *tag == 88 && room > 0 => {
+                let (pid, after) = new_pid_at(alloc, after)?;
+                terms.push(Term::Pid(pid))?;
                 after
             }
             _ => {

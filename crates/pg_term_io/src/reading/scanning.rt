@@ -11,7 +11,7 @@ use crate::reading::numbers::value_of;
 use pg_term::TermFault;
 use std::str;
 
-fn byte(bytes: &[u8]) -> Result<(u8, &[u8]), TermFault>
+pub(crate) fn byte(bytes: &[u8]) -> Result<(u8, &[u8]), TermFault>
     ensures { Tells (λ x. (x.0, x.1.now)) result (byte_at bytes.now) }
 {
     match bytes {
@@ -29,7 +29,7 @@ fn half(bytes: &[u8]) -> Result<(u16, &[u8]), TermFault>
     Ok((u16::from_be_bytes(*digits), rest))
 }
 
-fn word(bytes: &[u8]) -> Result<(u32, &[u8]), TermFault>
+pub(crate) fn word(bytes: &[u8]) -> Result<(u32, &[u8]), TermFault>
     ensures { Tells (λ x. (x.0, x.1.now)) result (number_at w32 bytes.now) }
 {
     let Some((digits, rest)) = bytes.split_first_chunk::<4>() else {
@@ -327,7 +327,7 @@ fn tail(room: u8, bytes: &[u8]) -> Result<&[u8], TermFault>
 
 /// What follows an item.
 #[cycle(scan)]
-fn item(room: u8, bytes: &[u8]) -> Result<&[u8], TermFault>
+pub(crate) fn item(room: u8, bytes: &[u8]) -> Result<&[u8], TermFault>
     ensures { Tells (λ rest. rest.now) result (over_item room bytes.now) }
 {
     match bytes {

@@ -1,14 +1,15 @@
 use Rattle.std.proofs.Common.{ap, Ok, ◌≡◌, ◌∙◌, ◌-◌, length, take, drop, get_or}
+use Rattle.std.specs.Int.{w32}
 use Rattle.pg_term_io.specs.Numbers.{int_of}
 use Rattle.std.proofs.lemmas.Result.{err_from_is_err_and}
-use Rattle.pg_term_io.specs.Reading.{item_at, items_at, with_front, as_term, atom_behind}
+use Rattle.pg_term_io.specs.Reading.{item_at, items_at, with_front, as_term, atom_behind, pid_at}
 use Rattle.pg_term.specs.Fault.{Fails}
 use Rattle.pg_term_io.proofs.Loop.{fails_as, goes_on, ends, is_done, list_count_fails, list_items_fail, list_goes_on}
-use Rattle.pg_term_io.proofs.Steps.{item_at-nothing, tail_at-nothing, item_at-deep, tail_at-deep, item_at-more, tail_at-more, item_at-small, item_at-tuple, item_at-name}
+use Rattle.pg_term_io.proofs.Steps.{item_at-nothing, tail_at-nothing, item_at-deep, tail_at-deep, item_at-more, tail_at-more, item_at-small, item_at-tuple, item_at-name, item_at-pid}
 use Rattle.pg_term_io.proofs.reading.items.+item.Goals as goal
-use Rattle.pg_term_io.proofs.reading.items.+item.Goals.{items-in-len2-up+in_ok-push-in-len2-up, items-in-len2-up-2+in_ok-inner-in-len2-up-2+in_ok-push-in-len2-up-2, items-else-rest-lt1+in-len1-up+in_ok-atom-in-len1-up+in_ok-push-in-len1-up, items-in_default+in_ok-term-in_default+in_ok-push-in_default}
+use Rattle.pg_term_io.proofs.reading.items.+item.Goals.{items-in-len2-up+in_ok-push-in-len2-up, items-in-len2-up-2+in_ok-inner-in-len2-up-2+in_ok-push-in-len2-up-2, items-else-rest-lt1+in-len1-up+in_ok-atom-in-len1-up+in_ok-push-in-len1-up, items-else-rest-lt1+in-len1-up-2+in_ok-pid-in-len1-up-2+in_ok-push-in-len1-up-2, items-in_default+in_ok-term-in_default+in_ok-push-in_default}
 use Rattle.pg_term.specs.declared.term.Term.{Tuple}
-use Rattle.pg_term.specs.declared.term.Term.TheVariants.{Atom}
+use Rattle.pg_term.specs.declared.term.Term.TheVariants.{Atom, Pid}
 
 pub item-returns-in-empty : goal.item-returns-in-empty
 item-returns-in-empty t c = item_at-nothing c.args.room c.args.bytes.now c.in-empty.len_below
@@ -46,6 +47,9 @@ items-loop-index-preserved t c =
       | items-else-rest-lt1+in-len1-up+in_ok-atom-in-len1-up+in_ok-push-in-len1-up w ↦
           let name = w.in_ok-atom-in-len1-up in
           rw (w.terms-is, w.rest-is, w.in_ok-push-in-len1-up.ensures.items) (goes_on (item_at c.args.room) c.loop-index.terms.items c.args.count c.loop-index.index c.loop-index.rest.now (Atom name.atom) name.after.now total c.loop-index-test.true (item_at-name c.args.room bytes w.if-room-gt0-3.true w.if-tag-eq119.true ∙ ap (as_term Atom) name.ensures) c.loop-index.invariant)
+      | items-else-rest-lt1+in-len1-up-2+in_ok-pid-in-len1-up-2+in_ok-push-in-len1-up-2 w ↦
+          let pid = w.in_ok-pid-in-len1-up-2 in
+          rw (w.terms-is, w.rest-is, w.in_ok-push-in-len1-up-2.ensures.items) (goes_on (item_at c.args.room) c.loop-index.terms.items c.args.count c.loop-index.index c.loop-index.rest.now (Pid pid.pid) pid.after.now total c.loop-index-test.true (item_at-pid c.args.room bytes w.if-room-gt0-4.true w.if-tag-eq88.true ∙ ap (as_term Pid) pid.ensures) c.loop-index.invariant)
       | items-in_default+in_ok-term-in_default+in_ok-push-in_default w ↦ rw (w.terms-is, w.rest-is, w.in_ok-push-in_default.ensures.items) (goes_on (item_at c.args.room) c.loop-index.terms.items c.args.count c.loop-index.index c.loop-index.rest.now w.in_ok-term-in_default.term w.in_ok-term-in_default.after.now total c.loop-index-test.true w.in_ok-term-in_default.ensures c.loop-index.invariant)
     ]
 
@@ -83,4 +87,13 @@ items-returns-in_err-atom-in-len1-up t c =
     let bytes = c.loop-index.rest.now in
     let read = atom_behind 119 (take (length bytes - 1) (drop 1 bytes)) in
     let there : Fails e (item_at c.args.room bytes) = rw (item_at-name c.args.room bytes c.if-room-gt0-3.true c.if-tag-eq119.true) (fails_as e read (as_term Atom read) c.in_err-atom-in-len1-up.ensures (λ k. ap (as_term Atom) k)) in
+    rw (p.1, p.2) (ends (item_at c.args.room) c.loop-index.terms.items c.args.count c.loop-index.index bytes (with_front c.args.terms.now.items (items_at (item_at c.args.room) c.args.count c.args.bytes.now)) e c.loop-index-test.true there c.loop-index.invariant)
+
+pub items-returns-in_err-pid-in-len1-up-2 : goal.items-returns-in_err-pid-in-len1-up-2
+items-returns-in_err-pid-in-len1-up-2 t c =
+    let p = err_from_is_err_and c.from_residual-in_err-pid-in-len1-up-2.result c.from_residual-in_err-pid-in-len1-up-2.ensures.1 in
+    let e = c.in_err-pid-in-len1-up-2.field-0.0 in
+    let bytes = c.loop-index.rest.now in
+    let read = pid_at w32 (take (length bytes - 1) (drop 1 bytes)) in
+    let there : Fails e (item_at c.args.room bytes) = rw (item_at-pid c.args.room bytes c.if-room-gt0-4.true c.if-tag-eq88.true) (fails_as e read (as_term Pid read) c.in_err-pid-in-len1-up-2.ensures (λ k. ap (as_term Pid) k)) in
     rw (p.1, p.2) (ends (item_at c.args.room) c.loop-index.terms.items c.args.count c.loop-index.index bytes (with_front c.args.terms.now.items (items_at (item_at c.args.room) c.args.count c.args.bytes.now)) e c.loop-index-test.true there c.loop-index.invariant)

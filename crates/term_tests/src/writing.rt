@@ -1,8 +1,9 @@
 // What no clause says: values from outside, and what happens as memory runs out. Each test passes wherever an allocation
 // is refused: `OutOfMemory` is told, a buffer is left as it was, and the same call made again succeeds.
-use super::*;
-use crate::reading::decode;
-use pg_term::{Boxed, Fields, Items};
+use bytes::BytesMut;
+use pg_term::{Atom, Boxed, Fields, Items, Pid, Reference, Term, TermFault};
+use pg_term_io::{decode, encode, encode_into, encode_len};
+use std::alloc::Global;
 use std::process::Abort;
 use std::test::*;
 

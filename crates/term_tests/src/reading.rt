@@ -1,8 +1,9 @@
 //! What no clause says: that the definitions mean the format, and what happens as memory runs out. Each test passes
 //! wherever an allocation is refused: `OutOfMemory` is told, and the same call made again succeeds.
 
-use super::*;
-use pg_term::{Atom, Boxed, Fields, Items, Reference};
+use pg_term::{Atom, Boxed, Fields, Items, Reference, Term, TermFault};
+use pg_term_io::{check_term, decode};
+use std::alloc::Global;
 use std::test::*;
 
 /// Makes a value, a second time where memory was refused.

@@ -1,0 +1,170 @@
+//! Whether bytes may spell a packet, told without memory: what has not the shape of one is refused before anything of it
+//! is built. A part that holds others is a tuple, a list or a binary; all others are small.
+
+ghost use Rattle.std.specs.Prelude.{◌≡◌, ◌≤◌, ℕ, List, [], ◌∷◌, false, IfSome, IfNone, Ok, Err, None};
+ghost use Rattle.pg_term.specs.declared.term.Term.{Term};
+ghost use Rattle.pg_term.specs.Order.{kind_of};
+ghost use Rattle.pg_term_io.specs.Reading.{item_at, term_of};
+ghost use Rattle.pg_term_io.specs.Scanning.{past};
+ghost use Rattle.pg_message.specs.Name.{is_name};
+ghost use Rattle.pg_message.specs.Reading.{unreferred, message_in, cast_of, request_in, request_of, message_of, packet_of};
+
+use crate::fault::MessageFault;
+use crate::name::MAX_NAME_LEN;
+use pg_term_io::{Kind, kind_at, skip_item, tuple_at};
+
+/// How many bytes a name takes at most, however it is spelled: 400 times as many as it is written in.
+const MAX_SPELLED_NAME: usize = 400 * (MAX_NAME_LEN - 1);
+
+/// Whether a part holds no others.
+fn is_small(bytes: &[u8]) -> bool
+    ensures { (room : ℕ) (t : Term) (rest : List ℕ) → result ≡ false
+        → item_at room bytes.now ≡ Ok (t, rest) → 4 ≤ kind_of t }
+{
+    match kind_at(bytes) {
+        Some(Kind::Tuple | Kind::List | Kind::Binary) | None => false,
+        Some(_) => true,
+    }
+}
+
+/// What follows a part that holds no others; `None` for one that does.
+fn past_small(levels: u8, bytes: &[u8]) -> Option<&[u8]>
+    requires { levels ≤ 64 }
+    ensures some { IfSome result (λ rest. past (item_at levels bytes.now) ≡ Ok rest.now) }
+    ensures none { (t : Term) (rest : List ℕ) → IfNone result
+        (item_at levels bytes.now ≡ Ok (t, rest) → 4 ≤ kind_of t) }
+{
+    if !is_small(bytes) {
+        return None;
+    }
+    match skip_item(levels, bytes) {
+        Ok(rest) => Some(rest),
+        Err(_) => None,
+    }
+}
+
+/// What follows a part that may be a name by its length; `None` for what is none.
+fn past_name(levels: u8, bytes: &[u8]) -> Option<&[u8]>
+    requires { levels ≤ 64 }
+    ensures some { IfSome result (λ rest. past (item_at levels bytes.now) ≡ Ok rest.now) }
+    ensures none { (t : Term) (rest : List ℕ) → IfNone result
+        (item_at levels bytes.now ≡ Ok (t, rest) → is_name t ≡ false) }
+{
+    match skip_item(levels, bytes) {
+        Ok(rest) if bytes.len() - rest.len() <= MAX_SPELLED_NAME => Some(rest),
+        _ => None,
+    }
+}
+
+/// What follows a part that holds no others, or may be a name by its length.
+fn past_first(bytes: &[u8]) -> Option<&[u8]>
+    ensures some { IfSome result (λ rest. past (item_at 61 bytes.now) ≡ Ok rest.now) }
+    ensures many { (t : Term) (rest : List ℕ) → IfNone result
+        (item_at 61 bytes.now ≡ Ok (t, rest) → 4 ≤ kind_of t) }
+    ensures name { (t : Term) (rest : List ℕ) → IfNone result
+        (item_at 61 bytes.now ≡ Ok (t, rest) → is_name t ≡ false) }
+{
+    match past_small(61, bytes) {
+        Some(rest) => Some(rest),
+        None => past_name(61, bytes),
+    }
+}
+
+/// Whether a body may spell a packet: {Stamp, Message}.
+pub(crate) fn may_be_packet(body: &[u8]) -> bool
+    ensures { (t : Term) → result ≡ false → term_of body.now ≡ Ok t
+        → packet_of t ≡ Err MessageFault.NotAMessage }
+{
+    let Some((_, item)) = body.split_first() else {
+        return false;
+    };
+    match tuple_at(item) {
+        Some((2, rest)) => match past_small(63, rest) {
+            Some(rest) => may_be_message(rest),
+            None => false,
+        },
+        _ => false,
+    }
+}
+
+// {Word, Said} or {Word, Ref, Said}
+fn may_be_message(bytes: &[u8]) -> bool
+    ensures { (t : Term) (rest : List ℕ) → result ≡ false
+        → item_at 63 bytes.now ≡ Ok (t, rest) → message_of t ≡ None }
+{
+    match tuple_at(bytes) {
+        Some((2, rest)) => may_be_unreferred(rest),
+        Some((3, rest)) => may_be_referred(rest),
+        _ => false,
+    }
+}
+
+// {cast, Cast} or {down, Pid}
+fn may_be_unreferred(bytes: &[u8]) -> bool
+    ensures { (a b : Term) (mid rest : List ℕ) → result ≡ false → item_at 62 bytes.now ≡ Ok (a, mid)
+        → item_at 62 mid ≡ Ok (b, rest) → unreferred a b ≡ None }
+{
+    match past_small(62, bytes) {
+        Some(rest) => is_small(rest) || may_be_cast(rest),
+        None => false,
+    }
+}
+
+// {call, Ref, Request} or {reply, Ref, Said}
+fn may_be_referred(bytes: &[u8]) -> bool
+    ensures { (a b c : Term) (mid then rest : List ℕ) → result ≡ false → item_at 62 bytes.now ≡ Ok (a, mid)
+        → item_at 62 mid ≡ Ok (b, then) → item_at 62 then ≡ Ok (c, rest) → message_in (a ∷ b ∷ c ∷ []) ≡ None }
+{
+    let Some(rest) = past_small(62, bytes) else {
+        return false;
+    };
+    let Some(rest) = past_small(62, rest) else {
+        return false;
+    };
+    is_small(rest) || may_be_request(rest)
+}
+
+// {del_lock, Name, Ref} or {exchange, Node, Groups}
+fn may_be_cast(bytes: &[u8]) -> bool
+    ensures { (t : Term) (rest : List ℕ) → result ≡ false
+        → item_at 62 bytes.now ≡ Ok (t, rest) → cast_of t ≡ None }
+{
+    let Some((3, rest)) = tuple_at(bytes) else {
+        return false;
+    };
+    let Some(rest) = past_small(61, rest) else {
+        return false;
+    };
+    let Some(rest) = past_first(rest) else {
+        return false;
+    };
+    is_small(rest) || kind_at(rest) == Some(Kind::List)
+}
+
+// {Word, Name} or {Word, Name, Pid}
+fn may_be_request(bytes: &[u8]) -> bool
+    ensures { (t : Term) (rest : List ℕ) → result ≡ false
+        → item_at 62 bytes.now ≡ Ok (t, rest) → request_of t ≡ None }
+{
+    match tuple_at(bytes) {
+        Some((2, rest)) => past_named(rest).is_some(),
+        Some((3, rest)) => match past_named(rest) {
+            Some(rest) => is_small(rest),
+            None => false,
+        },
+        _ => false,
+    }
+}
+
+/// What follows the word and the name of a request.
+fn past_named(bytes: &[u8]) -> Option<&[u8]>
+    ensures some { (a b : Term) (mid rest : List ℕ) → IfSome result (λ after.
+        item_at 61 bytes.now ≡ Ok (a, mid) → item_at 61 mid ≡ Ok (b, rest) → after.now ≡ rest) }
+    ensures pair { (a b : Term) (mid rest : List ℕ) → IfNone result (item_at 61 bytes.now ≡ Ok (a, mid)
+        → item_at 61 mid ≡ Ok (b, rest) → request_in (a ∷ b ∷ []) ≡ None) }
+    ensures triple { (a b c : Term) (mid rest : List ℕ) → IfNone result (item_at 61 bytes.now ≡ Ok (a, mid)
+        → item_at 61 mid ≡ Ok (b, rest) → request_in (a ∷ b ∷ c ∷ []) ≡ None) }
+{
+    let rest = past_small(61, bytes)?;
+    past_name(61, rest)
+}

@@ -1,0 +1,7 @@
+//! Tests of terms and their bytes.
+#![tactic(auto)]
+
+#[cfg(test)]
+mod reading;
+#[cfg(test)]
+mod writing;
