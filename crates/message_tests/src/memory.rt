@@ -111,3 +111,35 @@ fn growths_refused_for_a_group_named_twice(rt: HostRuntime) -> Result<(), Fail> 
     assert!(rt; fault == Some(MessageFault::NotAMessage));
     Ok(())
 }
+
+// Terms that are no packets.
+const NO_PACKETS: [&[u8]; 7] = [
+    // [1, 2]
+    &[131, 107, 0, 2, 1, 2],
+    // <<1, 2>>
+    &[131, 109, 0, 0, 0, 2, 1, 2],
+    // {a}
+    &[131, 104, 1, 119, 1, 97],
+    // {[], {a, b}}
+    &[131, 104, 2, 106, 104, 2, 119, 1, 97, 119, 1, 98],
+    // {0, [a]}
+    &[131, 104, 2, 97, 0, 108, 0, 0, 0, 1, 119, 1, 97, 106],
+    // {0, {down, [a]}}
+    &[
+        131, 104, 2, 97, 0, 104, 2, 119, 4, 100, 111, 119, 110, 108, 0, 0, 0, 1, 119, 1, 97, 106,
+    ],
+    // {0, {reply, {a}, ok}}
+    &[
+        131, 104, 2, 97, 0, 104, 3, 119, 5, 114, 101, 112, 108, 121, 104, 1, 119, 1, 97, 119, 2,
+        111, 107,
+    ],
+];
+
+// Nothing is built of them: no refused growth is ever told.
+#[test]
+fn what_is_no_packet_takes_no_memory(rt: HostRuntime) {
+    for body in NO_PACKETS {
+        let read = read_packet(rt.alloc(), body);
+        assert!(rt; read.err() == Some(MessageFault::NotAMessage));
+    }
+}

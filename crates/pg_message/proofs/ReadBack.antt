@@ -28,7 +28,7 @@ use Rattle.pg_message.specs.Writing.{pair, triple, request_term, said_term, grou
 
 -- ---- parts
 
-elements_is : (ts : List Term) → elements_of (Tuple ts) ≡ Some ts
+pub elements_is : (ts : List Term) → elements_of (Tuple ts) ≡ Some ts
 elements_is ts = search (rules, the_lemmas)
 
 items_is : (ts : List Term) → items_of (Listed ts) ≡ Some ts

@@ -13,13 +13,13 @@ ghost use Rattle.pg_message.specs.declared.message.Message.TheVariants as messag
 mod groups;
 
 use crate::message::{Message, Request, Said};
-use crate::name::is_name;
+use crate::name::{MAX_NAME_LEN, is_name};
 use crate::packet::{MAX_STAMP, Packet};
 use crate::parts::atom;
 use crate::reading::direct::groups::groups_at;
 use pg_group::Update;
 use pg_term::{Atom, Pid, Reference, Term, TermFault};
-use pg_term_io::{decode_item, decode_pid, decode_reference};
+use pg_term_io::{Kind, decode_item, decode_pid, decode_reference, kind_at, skip_item};
 use std::alloc::{AllocError, AllocFailed, Global};
 
 /// How many levels a name may nest. The term of a packet may nest 64, and a name stands in three tuples, as does the
@@ -143,6 +143,11 @@ fn name_at(alloc: Global, levels: u8, bytes: &[u8]) -> Result<(Term, &[u8]), Det
     ensures term { IfOk result (λ x. item_at levels bytes.now ≡ Ok (x.0, x.1.now)) }
     ensures name { IfOk result (λ x. is_name x.0 ≡ true) }
 {
+    // What takes more bytes than a name as it is written is left unbuilt.
+    let behind = skip_item(levels, bytes)?;
+    if bytes.len().saturating_sub(behind.len()) >= MAX_NAME_LEN {
+        return Err(Detour::OtherForm);
+    }
     let (name, rest) = decode_item(alloc, levels, bytes)?;
     if !is_name(&name) {
         return Err(Detour::OtherForm);
@@ -153,6 +158,9 @@ fn name_at(alloc: Global, levels: u8, bytes: &[u8]) -> Result<(Term, &[u8]), Det
 fn node_at(alloc: Global, bytes: &[u8]) -> Result<(Atom, &[u8]), Detour>
     ensures { IfOk result (λ x. Stands 60 (terms.Atom x.0) bytes.now x.1.now) }
 {
+    if kind_at(bytes) != Some(Kind::Atom) {
+        return Err(Detour::OtherForm);
+    }
     let (term, rest) = decode_item(alloc, NAME_LEVELS, bytes)?;
     let Some(node) = atom(term) else {
         return Err(Detour::OtherForm);

@@ -1,13 +1,13 @@
 //! Whether bytes may spell a packet, told without memory: what has not the shape of one is refused before anything of it
 //! is built. A part that holds others is a tuple, a list or a binary; all others are small.
 
-ghost use Rattle.std.specs.Prelude.{◌≡◌, ◌≤◌, ℕ, List, [], ◌∷◌, false, IfSome, IfNone, Ok, Err, None};
+ghost use Rattle.std.specs.Prelude.{◌≡◌, ◌≢◌, ◌≤◌, ℕ, List, [], ◌∷◌, false, IfSome, IfNone, Ok, Err, None};
 ghost use Rattle.pg_term.specs.declared.term.Term.{Term};
 ghost use Rattle.pg_term.specs.Order.{kind_of};
 ghost use Rattle.pg_term_io.specs.Reading.{item_at, term_of};
 ghost use Rattle.pg_term_io.specs.Scanning.{past};
 ghost use Rattle.pg_message.specs.Name.{is_name};
-ghost use Rattle.pg_message.specs.Reading.{unreferred, message_in, cast_of, request_in, request_of, message_of, packet_of};
+ghost use Rattle.pg_message.specs.Reading.{message_in, cast_in, cast_of, request_in, request_of, message_of, packet_of};
 
 use crate::fault::MessageFault;
 use crate::name::MAX_NAME_LEN;
@@ -51,7 +51,7 @@ fn past_name(levels: u8, bytes: &[u8]) -> Option<&[u8]>
         (item_at levels bytes.now ≡ Ok (t, rest) → is_name t ≡ false) }
 {
     match skip_item(levels, bytes) {
-        Ok(rest) if bytes.len() - rest.len() <= MAX_SPELLED_NAME => Some(rest),
+        Ok(rest) if bytes.len().saturating_sub(rest.len()) <= MAX_SPELLED_NAME => Some(rest),
         _ => None,
     }
 }
@@ -70,20 +70,31 @@ fn past_first(bytes: &[u8]) -> Option<&[u8]>
     }
 }
 
-/// Whether a body may spell a packet: {Stamp, Message}.
+/// Whether a body may spell a packet.
 pub(crate) fn may_be_packet(body: &[u8]) -> bool
     ensures { (t : Term) → result ≡ false → term_of body.now ≡ Ok t
         → packet_of t ≡ Err MessageFault.NotAMessage }
 {
-    let Some((_, item)) = body.split_first() else {
+    match body {
+        [] => false,
+        [_, item @ ..] => may_be_stamped(item),
+    }
+}
+
+// {Stamp, Message}
+fn may_be_stamped(bytes: &[u8]) -> bool
+    ensures { (t : Term) (rest : List ℕ) → result ≡ false → item_at 64 bytes.now ≡ Ok (t, rest)
+        → packet_of t ≡ Err MessageFault.NotAMessage }
+{
+    let Some((arity, parts)) = tuple_at(bytes) else {
         return false;
     };
-    match tuple_at(item) {
-        Some((2, rest)) => match past_small(63, rest) {
-            Some(rest) => may_be_message(rest),
-            None => false,
-        },
-        _ => false,
+    if arity != 2 {
+        return false;
+    }
+    match past_small(63, parts) {
+        Some(rest) => may_be_message(rest),
+        None => false,
     }
 }
 
@@ -92,17 +103,22 @@ fn may_be_message(bytes: &[u8]) -> bool
     ensures { (t : Term) (rest : List ℕ) → result ≡ false
         → item_at 63 bytes.now ≡ Ok (t, rest) → message_of t ≡ None }
 {
-    match tuple_at(bytes) {
-        Some((2, rest)) => may_be_unreferred(rest),
-        Some((3, rest)) => may_be_referred(rest),
-        _ => false,
+    let Some((arity, parts)) = tuple_at(bytes) else {
+        return false;
+    };
+    if arity == 2 {
+        may_be_unreferred(parts)
+    } else if arity == 3 {
+        may_be_referred(parts)
+    } else {
+        false
     }
 }
 
 // {cast, Cast} or {down, Pid}
 fn may_be_unreferred(bytes: &[u8]) -> bool
     ensures { (a b : Term) (mid rest : List ℕ) → result ≡ false → item_at 62 bytes.now ≡ Ok (a, mid)
-        → item_at 62 mid ≡ Ok (b, rest) → unreferred a b ≡ None }
+        → item_at 62 mid ≡ Ok (b, rest) → message_in (a ∷ b ∷ []) ≡ None }
 {
     match past_small(62, bytes) {
         Some(rest) => is_small(rest) || may_be_cast(rest),
@@ -113,7 +129,8 @@ fn may_be_unreferred(bytes: &[u8]) -> bool
 // {call, Ref, Request} or {reply, Ref, Said}
 fn may_be_referred(bytes: &[u8]) -> bool
     ensures { (a b c : Term) (mid then rest : List ℕ) → result ≡ false → item_at 62 bytes.now ≡ Ok (a, mid)
-        → item_at 62 mid ≡ Ok (b, then) → item_at 62 then ≡ Ok (c, rest) → message_in (a ∷ b ∷ c ∷ []) ≡ None }
+        → item_at 62 mid ≡ Ok (b, then) → item_at 62 then ≡ Ok (c, rest)
+        → message_in (a ∷ b ∷ c ∷ []) ≡ None }
 {
     let Some(rest) = past_small(62, bytes) else {
         return false;
@@ -129,16 +146,39 @@ fn may_be_cast(bytes: &[u8]) -> bool
     ensures { (t : Term) (rest : List ℕ) → result ≡ false
         → item_at 62 bytes.now ≡ Ok (t, rest) → cast_of t ≡ None }
 {
-    let Some((3, rest)) = tuple_at(bytes) else {
+    let Some((arity, parts)) = tuple_at(bytes) else {
         return false;
     };
-    let Some(rest) = past_small(61, rest) else {
+    if arity != 3 {
+        return false;
+    }
+    may_be_casting(parts)
+}
+
+fn may_be_casting(bytes: &[u8]) -> bool
+    ensures { (a b c : Term) (mid then rest : List ℕ) → result ≡ false → item_at 61 bytes.now ≡ Ok (a, mid)
+        → item_at 61 mid ≡ Ok (b, then) → item_at 61 then ≡ Ok (c, rest)
+        → cast_in (a ∷ b ∷ c ∷ []) ≡ None }
+{
+    let Some(rest) = past_small(61, bytes) else {
         return false;
     };
     let Some(rest) = past_first(rest) else {
         return false;
     };
-    is_small(rest) || kind_at(rest) == Some(Kind::List)
+    may_end_cast(rest)
+}
+
+fn may_end_cast(bytes: &[u8]) -> bool
+    ensures many { (room : ℕ) (t : Term) (rest : List ℕ) → result ≡ false
+        → item_at room bytes.now ≡ Ok (t, rest) → 4 ≤ kind_of t }
+    ensures other { (room : ℕ) (t : Term) (rest : List ℕ) → result ≡ false
+        → item_at room bytes.now ≡ Ok (t, rest) → kind_of t ≢ 5 }
+{
+    match kind_at(bytes) {
+        Some(Kind::Tuple | Kind::Binary) | None => false,
+        Some(_) => true,
+    }
 }
 
 // {Word, Name} or {Word, Name, Pid}
@@ -146,25 +186,35 @@ fn may_be_request(bytes: &[u8]) -> bool
     ensures { (t : Term) (rest : List ℕ) → result ≡ false
         → item_at 62 bytes.now ≡ Ok (t, rest) → request_of t ≡ None }
 {
-    match tuple_at(bytes) {
-        Some((2, rest)) => past_named(rest).is_some(),
-        Some((3, rest)) => match past_named(rest) {
+    let Some((arity, parts)) = tuple_at(bytes) else {
+        return false;
+    };
+    if arity == 2 {
+        past_named(parts).is_some()
+    } else if arity == 3 {
+        match past_named(parts) {
             Some(rest) => is_small(rest),
             None => false,
-        },
-        _ => false,
+        }
+    } else {
+        false
     }
 }
 
 /// What follows the word and the name of a request.
 fn past_named(bytes: &[u8]) -> Option<&[u8]>
-    ensures some { (a b : Term) (mid rest : List ℕ) → IfSome result (λ after.
-        item_at 61 bytes.now ≡ Ok (a, mid) → item_at 61 mid ≡ Ok (b, rest) → after.now ≡ rest) }
-    ensures pair { (a b : Term) (mid rest : List ℕ) → IfNone result (item_at 61 bytes.now ≡ Ok (a, mid)
-        → item_at 61 mid ≡ Ok (b, rest) → request_in (a ∷ b ∷ []) ≡ None) }
-    ensures triple { (a b c : Term) (mid rest : List ℕ) → IfNone result (item_at 61 bytes.now ≡ Ok (a, mid)
-        → item_at 61 mid ≡ Ok (b, rest) → request_in (a ∷ b ∷ c ∷ []) ≡ None) }
+    ensures some { (a b : Term) (mid then : List ℕ) → IfSome result (λ rest.
+        item_at 61 bytes.now ≡ Ok (a, mid) → item_at 61 mid ≡ Ok (b, then) → then ≡ rest.now) }
+    ensures pair { (a b : Term) (mid then : List ℕ) → IfNone result (item_at 61 bytes.now ≡ Ok (a, mid)
+        → item_at 61 mid ≡ Ok (b, then) → request_in (a ∷ b ∷ []) ≡ None) }
+    ensures triple { (a b c : Term) (mid then : List ℕ) → IfNone result (item_at 61 bytes.now ≡ Ok (a, mid)
+        → item_at 61 mid ≡ Ok (b, then) → request_in (a ∷ b ∷ c ∷ []) ≡ None) }
 {
-    let rest = past_small(61, bytes)?;
-    past_name(61, rest)
+    let Some(rest) = past_small(61, bytes) else {
+        return None;
+    };
+    match past_name(61, rest) {
+        Some(rest) => Some(rest),
+        None => None,
+    }
 }
