@@ -143,10 +143,12 @@ fn name_at(alloc: Global, levels: u8, bytes: &[u8]) -> Result<(Term, &[u8]), Det
     ensures term { IfOk result (λ x. item_at levels bytes.now ≡ Ok (x.0, x.1.now)) }
     ensures name { IfOk result (λ x. is_name x.0 ≡ true) }
 {
-    // What takes more bytes than a name as it is written is left unbuilt.
-    let behind = skip_item(levels, bytes)?;
-    if bytes.len().saturating_sub(behind.len()) >= MAX_NAME_LEN {
-        return Err(Detour::OtherForm);
+    // What takes more bytes than a name as it is written is left unbuilt. An atom never does.
+    if kind_at(bytes) != Some(Kind::Atom) {
+        let behind = skip_item(levels, bytes)?;
+        if bytes.len().saturating_sub(behind.len()) >= MAX_NAME_LEN {
+            return Err(Detour::OtherForm);
+        }
     }
     let (name, rest) = decode_item(alloc, levels, bytes)?;
     if !is_name(&name) {
