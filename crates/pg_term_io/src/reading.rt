@@ -1,7 +1,6 @@
 //! Bytes to terms.
 
 ghost use Rattle.std.specs.Prelude.{◌≡◌, ◌≢◌, IfOk, IfErr, Ok, Err};
-ghost use Rattle.std.specs.Int.{w32};
 ghost use Rattle.pg_term.specs.declared.fault.TermFault.{TermFault};
 ghost use Rattle.pg_term.specs.declared.fault.TermFault.TheVariants.{OutOfMemory, TooLong};
 ghost use Rattle.pg_term.specs.declared.term.Term.{Term};
@@ -9,7 +8,7 @@ ghost use Rattle.pg_term.specs.Fault.{Gives};
 ghost use Rattle.pg_term_io.specs.Spelling.{Spells};
 ghost use Rattle.pg_term_io.specs.Faults.{Breaks};
 ghost use Rattle.pg_term_io.specs.Scanning.{Names as Judges};
-ghost use Rattle.pg_term_io.specs.Reading.{pid_at, new_reference_at, item_at, term_of};
+ghost use Rattle.pg_term_io.specs.Reading.{item_at, term_of};
 
 mod atoms;
 mod identifiers;
@@ -18,12 +17,11 @@ mod numbers;
 mod outline;
 mod scanning;
 
-pub use crate::reading::outline::{kind_at, skip_item, tuple_at};
-
 use crate::limits::MAX_DEPTH;
-use crate::reading::identifiers::{new_pid_at, newer_reference_at};
+pub use crate::reading::identifiers::{decode_pid, decode_reference};
 use crate::reading::items::item;
-use pg_term::{Pid, Reference, Term, TermFault};
+pub use crate::reading::outline::{kind_at, skip_item, tuple_at};
+use pg_term::{Term, TermFault};
 use std::alloc::Global;
 
 /// The term that the bytes spell, all of the bytes, by the External Term Format chapter of the
@@ -86,24 +84,6 @@ pub fn decode_item(alloc: Global, levels: u8, bytes: &[u8]) -> Result<(Term, &[u
     ensures { Gives (λ x. (x.0, x.1.now)) result (item_at levels bytes.now) }
 {
     item(alloc, levels, 0, bytes)
-}
-
-/// The pid whose tag, 88, stands before the bytes, as a part of what `decode` reads, and the bytes behind it.
-///
-/// Faults as `decode` says of what stands behind the tag.
-pub fn decode_pid(alloc: Global, bytes: &[u8]) -> Result<(Pid, &[u8]), TermFault>
-    ensures { Gives (λ x. (x.0, x.1.now)) result (pid_at w32 bytes.now) }
-{
-    new_pid_at(alloc, bytes)
-}
-
-/// The reference whose tag, 90, stands before the bytes, as a part of what `decode` reads, and the bytes behind it.
-///
-/// Faults as `decode` says of what stands behind the tag.
-pub fn decode_reference(alloc: Global, bytes: &[u8]) -> Result<(Reference, &[u8]), TermFault>
-    ensures { Gives (λ x. (x.0, x.1.now)) result (new_reference_at w32 bytes.now) }
-{
-    newer_reference_at(alloc, bytes)
 }
 
 /// Whether `decode` reads the bytes as a term, or else the fault that it tells. It takes no memory, so that what is no

@@ -28,9 +28,12 @@ pub(crate) fn pid_at(alloc: Global, bytes: &[u8]) -> Result<(Pid, &[u8]), TermFa
     Ok((pid, rest))
 }
 
-/// A pid with a creation of four bytes.
+/// The pid whose tag, 88, stands before the bytes, as a part of what `decode` reads, and the bytes behind it. It has a
+/// creation of four bytes.
+///
+/// Faults as `decode` says of what stands behind the tag.
 #[tactic(auto, unfolding(crate::specs::Reading::pid_at))]
-pub(crate) fn new_pid_at(alloc: Global, bytes: &[u8]) -> Result<(Pid, &[u8]), TermFault>
+pub fn decode_pid(alloc: Global, bytes: &[u8]) -> Result<(Pid, &[u8]), TermFault>
     ensures { Gives (λ x. (x.0, x.1.now)) result (pid_at w32 bytes.now) }
 {
     let (node, rest) = atom_at(alloc, bytes)?;
@@ -71,12 +74,12 @@ pub(crate) fn new_reference_at(alloc: Global, bytes: &[u8]) -> Result<(Reference
     reference_words(node, creation, count, rest)
 }
 
-/// A reference of one to three words, with a creation of four bytes.
+/// The reference whose tag, 90, stands before the bytes, as a part of what `decode` reads, and the bytes behind it. It has
+/// one to three words and a creation of four bytes.
+///
+/// Faults as `decode` says of what stands behind the tag.
 #[tactic(auto, unfolding(crate::specs::Reading::new_reference_at))]
-pub(crate) fn newer_reference_at(
-    alloc: Global,
-    bytes: &[u8],
-) -> Result<(Reference, &[u8]), TermFault>
+pub fn decode_reference(alloc: Global, bytes: &[u8]) -> Result<(Reference, &[u8]), TermFault>
     ensures { Gives (λ x. (x.0, x.1.now)) result (new_reference_at w32 bytes.now) }
 {
     let (count, rest) = u16_at(bytes)?;

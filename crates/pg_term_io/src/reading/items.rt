@@ -10,7 +10,7 @@ ghost use Rattle.pg_term_io.specs.Reading.{number_at, as_term, string_at, binary
 
 use crate::reading::atoms::atom_behind;
 use crate::reading::identifiers::{
-    new_pid_at, new_reference_at, newer_reference_at, old_reference_at, pid_at,
+    decode_pid, decode_reference, new_reference_at, old_reference_at, pid_at,
 };
 use crate::reading::numbers::{big_at, some_bytes, u8_at, u16_at, u32_at};
 use pg_term::{Boxed, Fields, Items, Reference, Term, TermFault};
@@ -110,7 +110,7 @@ fn items<'a>(
                 after
             }
             [tag, after @ ..] if *tag == 88 && room > 0 => {
-                let (pid, after) = new_pid_at(alloc, after)?;
+                let (pid, after) = decode_pid(alloc, after)?;
                 terms.push(Term::Pid(pid))?;
                 after
             }
@@ -295,7 +295,7 @@ fn leaf(alloc: Global, tag: u8, bytes: &[u8]) -> Result<(Term, &[u8]), TermFault
             Ok((Term::Pid(pid), rest))
         }
         88 => {
-            let (pid, rest) = new_pid_at(alloc, bytes)?;
+            let (pid, rest) = decode_pid(alloc, bytes)?;
             Ok((Term::Pid(pid), rest))
         }
         101 => {
@@ -307,7 +307,7 @@ fn leaf(alloc: Global, tag: u8, bytes: &[u8]) -> Result<(Term, &[u8]), TermFault
             Ok((boxed(alloc, reference)?, rest))
         }
         90 => {
-            let (reference, rest) = newer_reference_at(alloc, bytes)?;
+            let (reference, rest) = decode_reference(alloc, bytes)?;
             Ok((boxed(alloc, reference)?, rest))
         }
         109 => {

@@ -1,16 +1,19 @@
-//! Numbers of fixed width, and big integers.
+//! Numbers of fixed width, texts, and big integers. What takes no memory tells the one answer that there is (`told`), and
+//! so one that its callers may give, which take some (`given`).
 
 ghost use Rattle.std.specs.Prelude.{◌≡◌, ◌<◌, ◌^◌, Ok, Err, MatchOption, SomeIff};
 ghost use Rattle.std.specs.Int.{w8, w16, w32};
 ghost use Rattle.pg_term.specs.Fault.{Gives};
 ghost use Rattle.pg_term_io.specs.Numbers.{little_endian, big_value};
+ghost use Rattle.pg_term_io.specs.Scanning.{Tells};
 ghost use Rattle.pg_term_io.specs.Reading.{byte_at, number_at, bytes_at, big_at, i64_of};
 
 use pg_term::TermFault;
 
 /// One byte.
 pub(crate) fn u8_at(bytes: &[u8]) -> Result<(u8, &[u8]), TermFault>
-    ensures { Gives (λ x. (x.0, x.1.now)) result (byte_at bytes.now) }
+    ensures told { Tells (λ x. (x.0, x.1.now)) result (byte_at bytes.now) }
+    ensures given { Gives (λ x. (x.0, x.1.now)) result (byte_at bytes.now) }
 {
     match bytes {
         [] => Err(TermFault::Truncated),
@@ -30,7 +33,8 @@ pub(crate) fn small_at(bytes: &[u8]) -> Result<(u32, &[u8]), TermFault>
 
 /// Two bytes, the most significant first.
 pub(crate) fn u16_at(bytes: &[u8]) -> Result<(u16, &[u8]), TermFault>
-    ensures { Gives (λ x. (x.0, x.1.now)) result (number_at w16 bytes.now) }
+    ensures told { Tells (λ x. (x.0, x.1.now)) result (number_at w16 bytes.now) }
+    ensures given { Gives (λ x. (x.0, x.1.now)) result (number_at w16 bytes.now) }
 {
     let Some((digits, rest)) = bytes.split_first_chunk::<2>() else {
         return Err(TermFault::Truncated);
@@ -40,7 +44,8 @@ pub(crate) fn u16_at(bytes: &[u8]) -> Result<(u16, &[u8]), TermFault>
 
 /// Four bytes, the most significant first.
 pub(crate) fn u32_at(bytes: &[u8]) -> Result<(u32, &[u8]), TermFault>
-    ensures { Gives (λ x. (x.0, x.1.now)) result (number_at w32 bytes.now) }
+    ensures told { Tells (λ x. (x.0, x.1.now)) result (number_at w32 bytes.now) }
+    ensures given { Gives (λ x. (x.0, x.1.now)) result (number_at w32 bytes.now) }
 {
     let Some((digits, rest)) = bytes.split_first_chunk::<4>() else {
         return Err(TermFault::Truncated);
@@ -50,7 +55,8 @@ pub(crate) fn u32_at(bytes: &[u8]) -> Result<(u32, &[u8]), TermFault>
 
 /// So many bytes.
 pub(crate) fn some_bytes(count: usize, bytes: &[u8]) -> Result<(&[u8], &[u8]), TermFault>
-    ensures { Gives (λ x. (x.0.now, x.1.now)) result (bytes_at count bytes.now) }
+    ensures told { Tells (λ x. (x.0.now, x.1.now)) result (bytes_at count bytes.now) }
+    ensures given { Gives (λ x. (x.0.now, x.1.now)) result (bytes_at count bytes.now) }
 {
     if bytes.len() < count {
         return Err(TermFault::Truncated);

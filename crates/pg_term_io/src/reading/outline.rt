@@ -10,7 +10,8 @@ ghost use Rattle.pg_term_io.specs.Scanning.{past, Tells, over_item};
 ghost use Rattle.pg_term_io.specs.Writing.{item_bytes};
 
 use crate::kind::Kind;
-use crate::reading::scanning::{byte, item, word};
+use crate::reading::numbers::{u8_at, u32_at};
+use crate::reading::scanning::item;
 use pg_term::TermFault;
 
 /// Which kind of term stands at the front of the bytes, if one does. `None`: none does. It looks at one byte.
@@ -63,10 +64,10 @@ fn arity_behind(tag: u8, bytes: &[u8]) -> Result<(u32, &[u8]), TermFault>
 {
     match tag {
         104 => {
-            let (arity, rest) = byte(bytes)?;
+            let (arity, rest) = u8_at(bytes)?;
             Ok((u32::from(arity), rest))
         }
-        105 => word(bytes),
+        105 => u32_at(bytes),
         _ => Err(TermFault::UnknownTag),
     }
 }

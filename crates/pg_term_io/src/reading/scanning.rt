@@ -7,51 +7,15 @@ ghost use Rattle.pg_term_io.specs.Numbers.{big_value};
 ghost use Rattle.pg_term_io.specs.Scanning.{past, Tells, Names, over_atom, over_node, over_byte, over_word, over_pid, over_old_reference, over_all, over_words, over_reference, over_binary, over_leaf, over_string, over_list, over_elements, over_behind, over_item, over_tail, over_term, walks};
 
 use crate::limits::MAX_DEPTH;
-use crate::reading::numbers::value_of;
+use crate::reading::numbers::{some_bytes, u8_at, u16_at, u32_at, value_of};
 use pg_term::TermFault;
 use std::str;
-
-pub(crate) fn byte(bytes: &[u8]) -> Result<(u8, &[u8]), TermFault>
-    ensures { Tells (λ x. (x.0, x.1.now)) result (byte_at bytes.now) }
-{
-    match bytes {
-        [] => Err(TermFault::Truncated),
-        [byte, rest @ ..] => Ok((*byte, rest)),
-    }
-}
-
-fn half(bytes: &[u8]) -> Result<(u16, &[u8]), TermFault>
-    ensures { Tells (λ x. (x.0, x.1.now)) result (number_at w16 bytes.now) }
-{
-    let Some((digits, rest)) = bytes.split_first_chunk::<2>() else {
-        return Err(TermFault::Truncated);
-    };
-    Ok((u16::from_be_bytes(*digits), rest))
-}
-
-pub(crate) fn word(bytes: &[u8]) -> Result<(u32, &[u8]), TermFault>
-    ensures { Tells (λ x. (x.0, x.1.now)) result (number_at w32 bytes.now) }
-{
-    let Some((digits, rest)) = bytes.split_first_chunk::<4>() else {
-        return Err(TermFault::Truncated);
-    };
-    Ok((u32::from_be_bytes(*digits), rest))
-}
-
-fn text(count: usize, bytes: &[u8]) -> Result<(&[u8], &[u8]), TermFault>
-    ensures { Tells (λ x. (x.0.now, x.1.now)) result (bytes_at count bytes.now) }
-{
-    if bytes.len() < count {
-        return Err(TermFault::Truncated);
-    }
-    Ok(bytes.split_at(count))
-}
 
 /// What follows a byte.
 fn past_byte(bytes: &[u8]) -> Result<&[u8], TermFault>
     ensures { Tells (λ rest. rest.now) result (past (byte_at bytes.now)) }
 {
-    let (_, rest) = byte(bytes)?;
+    let (_, rest) = u8_at(bytes)?;
     Ok(rest)
 }
 
@@ -59,7 +23,7 @@ fn past_byte(bytes: &[u8]) -> Result<&[u8], TermFault>
 fn past_word(bytes: &[u8]) -> Result<&[u8], TermFault>
     ensures { Tells (λ rest. rest.now) result (past (number_at w32 bytes.now)) }
 {
-    let (_, rest) = word(bytes)?;
+    let (_, rest) = u32_at(bytes)?;
     Ok(rest)
 }
 
@@ -67,7 +31,7 @@ fn past_word(bytes: &[u8]) -> Result<&[u8], TermFault>
 fn past_text(count: usize, bytes: &[u8]) -> Result<&[u8], TermFault>
     ensures { Tells (λ rest. rest.now) result (past (bytes_at count bytes.now)) }
 {
-    let (_, rest) = text(count, bytes)?;
+    let (_, rest) = some_bytes(count, bytes)?;
     Ok(rest)
 }
 
@@ -91,7 +55,7 @@ fn check_utf8(text: &[u8]) -> Result<(), TermFault>
 fn past_utf8(count: usize, bytes: &[u8]) -> Result<&[u8], TermFault>
     ensures { Tells (λ rest. rest.now) result (past (named_at utf8_atom count bytes.now)) }
 {
-    let (text, rest) = text(count, bytes)?;
+    let (text, rest) = some_bytes(count, bytes)?;
     check_utf8(text)?;
     Ok(rest)
 }
@@ -101,7 +65,7 @@ fn past_utf8(count: usize, bytes: &[u8]) -> Result<&[u8], TermFault>
 fn past_latin(count: usize, bytes: &[u8]) -> Result<&[u8], TermFault>
     ensures { Tells (λ rest. rest.now) result (past (named_at latin_atom count bytes.now)) }
 {
-    let (text, rest) = text(count, bytes)?;
+    let (text, rest) = some_bytes(count, bytes)?;
     if text.len() > 255 {
         return Err(TermFault::BadAtom);
     }
@@ -114,19 +78,19 @@ fn atom(tag: u8, bytes: &[u8]) -> Result<&[u8], TermFault>
 {
     match tag {
         119 => {
-            let (count, rest) = byte(bytes)?;
+            let (count, rest) = u8_at(bytes)?;
             past_utf8(usize::from(count), rest)
         }
         118 => {
-            let (count, rest) = half(bytes)?;
+            let (count, rest) = u16_at(bytes)?;
             past_utf8(usize::from(count), rest)
         }
         115 => {
-            let (count, rest) = byte(bytes)?;
+            let (count, rest) = u8_at(bytes)?;
             past_latin(usize::from(count), rest)
         }
         100 => {
-            let (count, rest) = half(bytes)?;
+            let (count, rest) = u16_at(bytes)?;
             past_latin(usize::from(count), rest)
         }
         _ => Err(TermFault::BadAtom),
@@ -190,7 +154,7 @@ fn words(count: u16, bytes: &[u8]) -> Result<&[u8], TermFault>
 fn new_reference(bytes: &[u8]) -> Result<&[u8], TermFault>
     ensures { Tells (λ rest. rest.now) result (over_reference over_byte bytes.now) }
 {
-    let (count, rest) = half(bytes)?;
+    let (count, rest) = u16_at(bytes)?;
     if count == 0 || count > 3 {
         return Err(TermFault::BadReference);
     }
@@ -204,7 +168,7 @@ fn new_reference(bytes: &[u8]) -> Result<&[u8], TermFault>
 fn newer_reference(bytes: &[u8]) -> Result<&[u8], TermFault>
     ensures { Tells (λ rest. rest.now) result (over_reference over_word bytes.now) }
 {
-    let (count, rest) = half(bytes)?;
+    let (count, rest) = u16_at(bytes)?;
     if count == 0 || count > 3 {
         return Err(TermFault::BadReference);
     }
@@ -217,7 +181,7 @@ fn newer_reference(bytes: &[u8]) -> Result<&[u8], TermFault>
 fn binary(bytes: &[u8]) -> Result<&[u8], TermFault>
     ensures { Tells (λ rest. rest.now) result (over_binary bytes.now) }
 {
-    let (count, rest) = word(bytes)?;
+    let (count, rest) = u32_at(bytes)?;
     past_text(count as usize, rest)
 }
 
@@ -236,9 +200,9 @@ fn check_big(sign: u8, digits: &[u8]) -> Result<(), TermFault>
 fn past_big(bytes: &[u8]) -> Result<&[u8], TermFault>
     ensures { Tells (λ rest. rest.now) result (past (big_at bytes.now)) }
 {
-    let (count, rest) = byte(bytes)?;
-    let (sign, rest) = byte(rest)?;
-    let (digits, rest) = text(usize::from(count), rest)?;
+    let (count, rest) = u8_at(bytes)?;
+    let (sign, rest) = u8_at(rest)?;
+    let (digits, rest) = some_bytes(usize::from(count), rest)?;
     check_big(sign, digits)?;
     Ok(rest)
 }
@@ -267,8 +231,8 @@ fn leaf(tag: u8, bytes: &[u8]) -> Result<&[u8], TermFault>
 fn string(room: u8, bytes: &[u8]) -> Result<&[u8], TermFault>
     ensures { Tells (λ rest. rest.now) result (over_string room bytes.now) }
 {
-    let (count, rest) = half(bytes)?;
-    let (_, rest) = text(usize::from(count), rest)?;
+    let (count, rest) = u16_at(bytes)?;
+    let (_, rest) = some_bytes(usize::from(count), rest)?;
     if room == 0 && count > 0 {
         return Err(TermFault::TooDeep);
     }
@@ -292,7 +256,7 @@ fn items(room: u8, count: u32, bytes: &[u8]) -> Result<&[u8], TermFault>
 fn list(room: u8, bytes: &[u8]) -> Result<&[u8], TermFault>
     ensures { Tells (λ rest. rest.now) result (over_list (walks room) bytes.now) }
 {
-    let (count, rest) = word(bytes)?;
+    let (count, rest) = u32_at(bytes)?;
     let rest = items(room, count, rest)?;
     tail(room, rest)
 }
@@ -348,11 +312,11 @@ fn behind(room: u8, tag: u8, bytes: &[u8]) -> Result<&[u8], TermFault>
 {
     match tag {
         104 => {
-            let (count, rest) = byte(bytes)?;
+            let (count, rest) = u8_at(bytes)?;
             items(room, u32::from(count), rest)
         }
         105 => {
-            let (count, rest) = word(bytes)?;
+            let (count, rest) = u32_at(bytes)?;
             items(room, count, rest)
         }
         106 | 107 | 108 => elements(room, tag, bytes),

@@ -59,16 +59,16 @@ items-returns t c = is_done (item_at c.args.room) c.loop-index.terms.items c.arg
 pub list_at-returns-in_err-count : goal.list_at-returns-in_err-count
 list_at-returns-in_err-count t c =
     let p = err_from_is_err_and c.from_residual.result c.from_residual.ensures.1 in
-    rw (p.1, p.2) (list_count_fails c.in_err-count.field-0.0 c.args.terms.now.items c.args.room c.args.bytes.now c.in_err-count.ensures)
+    rw (p.1, p.2) (list_count_fails c.in_err-count.field-0.0 c.args.terms.now.items c.args.room c.args.bytes.now c.in_err-count.ensures.given)
 
 pub list_at-returns-in_err-rest : goal.list_at-returns-in_err-rest
 list_at-returns-in_err-rest t c =
     let p = err_from_is_err_and c.from_residual-in_err-rest.result c.from_residual-in_err-rest.ensures.1 in
-    rw (p.1, p.2) (list_items_fail c.in_err-rest.field-0.0 c.args.terms.now.items c.args.room c.args.bytes.now c.in_ok-count.count c.in_ok-count.rest.now c.in_ok-count.ensures c.in_err-rest.ensures)
+    rw (p.1, p.2) (list_items_fail c.in_err-rest.field-0.0 c.args.terms.now.items c.args.room c.args.bytes.now c.in_ok-count.count c.in_ok-count.rest.now c.in_ok-count.ensures.given c.in_err-rest.ensures)
 
 pub list_at-returns : goal.list_at-returns
 list_at-returns t c =
-    rw (list_goes_on c.args.terms.now.items c.items.new.terms.items c.args.room c.args.bytes.now c.in_ok-count.count c.in_ok-count.rest.now c.in_ok-rest.rest.now c.in_ok-count.ensures c.in_ok-rest.ensures) c.tail.ensures
+    rw (list_goes_on c.args.terms.now.items c.items.new.terms.items c.args.room c.args.bytes.now c.in_ok-count.count c.in_ok-count.rest.now c.in_ok-rest.rest.now c.in_ok-count.ensures.given c.in_ok-rest.ensures) c.tail.ensures
 
 pub items-returns-in_err-inner-in-len2-up-2 : goal.items-returns-in_err-inner-in-len2-up-2
 items-returns-in_err-inner-in-len2-up-2 t c =
