@@ -80,7 +80,7 @@ two read bytes ts rest e =
       mid = p.mid;
       are = p.are ∙ ap (λ (us : List Term). p.first ∷ us) (q.are ∙ ap (λ (us : List Term). q.first ∷ us) end.0);
       first = p.here;
-      second = q.here ∙ ap (λ (r : List ℕ). Ok (q.first, r)) end.1
+      second = q.here ∙ ap (λ (r : List ℕ). Ok (q.first, r)) end.1;
     }
 
 pub record Three (read : List ℕ → Read Term) (bytes : List ℕ) (ts : List Term) (rest : List ℕ) : Type 0 where
@@ -107,7 +107,7 @@ three read bytes ts rest e =
       are = p.are ∙ ap (λ (us : List Term). p.first ∷ us) q.are;
       first = p.here;
       second = q.first;
-      third = q.second
+      third = q.second;
     }
 
 -- ---- parts that hold others
