@@ -1,0 +1,211 @@
+-- What is read of a command that was found, or of none.
+use Rattle.std.proofs.Common.{◌≡◌, ℕ, ◌<◌, zero, suc, Bool, true, false, not, ◌&&◌, ◌||◌, ◌==◌, cond, nat_eq, get_or, length, List, [], ◌∷◌, Option, Some, None, IfSome, refl, ap, sym, ◌∙◌, subst, inl, inr, ◌⊎◌}
+use Rattle.std.specs.Prelude.{slice_get}
+use Rattle.std.specs.List.{IsDistinct, list_any}
+use Rattle.std.proofs.lemmas.Option.{slice_get_read}
+use Rattle.std.proofs.lemmas.Bool.{eqb-true}
+use Rattle.pg_term.specs.Same.{same_atom}
+use Rattle.pg_group.specs.declared.update.Update.{Update}
+use Rattle.pg_group.specs.Value.{name_of}
+use Rattle.pg_lock.specs.Attempts.{after_round, does_wait}
+use Rattle.pg_lock.specs.declared.attempt.Attempt.TheVariants.{AskingFirst, AskingRest}
+use Rattle.pg_multicall.specs.Gathered.{what_of}
+use Rattle.pg_multicall.specs.declared.gather.Taken.{Taken}
+use Rattle.pg_multicall.specs.declared.gather.Taken.TheVariants.{Counted, Stranger, Double}
+use Rattle.pg_message.specs.declared.message.Said.TheVariants.{Applied}
+use Rattle.pg_step.specs.declared.command.OpId.{OpId}
+use Rattle.pg_step.specs.Nodes.{Node, every}
+use Rattle.pg_step.specs.State.{Use, Stage}
+use Rattle.pg_step.specs.State.Use.{Fresh, Locking, Owning, Updating, Spent}
+use Rattle.pg_step.specs.State.Stage.{Closed}
+use Rattle.pg_step.specs.Attempts.{same_op, gathered, is_complete, lock_entry, is_yes, round_of, none_denied, none_missing, all_granted, with_asked}
+use Rattle.pg_opens.specs.declared.mark.Mark.{Mark}
+use Rattle.pg_opens.specs.declared.mark.Mark.TheVariants as mark
+use Rattle.pg_opens.specs.declared.mark.Asked.TheVariants.{Nobody, All}
+use Rattle.pg_opens.specs.declared.mark.Wanted.TheVariants.{Answered, NotDenied, Granted}
+use Rattle.pg_opens.specs.declared.command.Phase.{Phase}
+use Rattle.pg_opens.specs.declared.command.Phase.TheVariants as phase
+use Rattle.pg_opens.specs.declared.command.OpenCommand.{OpenCommand}
+use Rattle.pg_opens.specs.declared.command.Gathering.TheVariants.{Nothing}
+use Rattle.pg_opens.specs.Layers.{over, or_as, seek, answers, others}
+use Rattle.pg_opens.specs.Places.{name_at, left_in, ArePlaces}
+use Rattle.pg_opens.specs.Marks.{status_of, statuses, has_yes, replies, all_marks}
+use Rattle.pg_opens.specs.Commands.{use_in, use_at, has_in, stage_in, stage_at, is_made, unused, uses_in, stages_in, first_in, AreKnown}
+use Rattle.pg_opens.specs.Readings.{gathering_of, gathering_in, standing_of, standing_in, lock_heard, heard_in, complete_in, is_locking}
+use Rattle.pg_opens.specs.Outlooks.{outlook_of, outlook_by, outlook_in}
+use Rattle.pg_opens.proofs.Layered.{quiet_is, quiet_both}
+use Rattle.pg_opens.proofs.Named.{clash, split}
+use Rattle.pg_opens.proofs.Uses.{has_is, was, stage_was}
+use Rattle.pg_opens.proofs.Asking.{status_at, reply_at, same_at, every_nobody, every_all, every_reply}
+
+-- ---- nobody has it
+
+none_sought : (names : List Node) (os : List OpenCommand) (x : ℕ) → list_any (λ o. has_in o.phase x) os ≡ false → answers (seek (use_at names) os x) ≡ false
+none_sought names [] x e = refl
+none_sought names (o ∷ os) x e = quiet_both (use_at names o x) (seek (use_at names) os x)
+    (has_is names o.op o.update o.phase o.marks.items x ∙ first (has_in o.phase x) (list_any (λ o. has_in o.phase x) os) e)
+    (none_sought names os x (second (has_in o.phase x) (list_any (λ o. has_in o.phase x) os) e))
+  where
+    first : (b c : Bool) → (b || c) ≡ false → b ≡ false
+    first true c e = e
+    first false c e = refl
+
+    second : (b c : Bool) → (b || c) ≡ false → c ≡ false
+    second true c e = absurd (clash e)
+    second false c e = e
+
+pub nobody_uses : (names : List Node) (made : ℕ) (os s : List OpenCommand) (x : ℕ) → s ≡ os → list_any (λ o. has_in o.phase x) s ≡ false → uses_in names made os x ≡ unused made x
+nobody_uses names made os s x same e = ap (λ z. or_as z (unused made x)) (quiet_is (seek (use_at names) os x) (none_sought names os x (ap (list_any (λ o. has_in o.phase x)) (sym same) ∙ e)))
+
+unused_no : {A : Type 0} (f : Use → A) (a : A) (made x : ℕ) → f Spent ≡ a → f Fresh ≡ a → f (unused made x) ≡ a
+unused_no f a made x e g = go (is_made made x)
+  where
+    go : (b : Bool) → f (cond b Spent Fresh) ≡ a
+    go true = e
+    go false = g
+
+pub nothing_of : {A : Type 0} (f : Use → A) (a : A) (names : List Node) (made : ℕ) (os s : List OpenCommand) (x : ℕ) → s ≡ os → list_any (λ o. has_in o.phase x) s ≡ false → f Spent ≡ a → f Fresh ≡ a → f (uses_in names made os x) ≡ a
+nothing_of f a names made os s x same e g h = ap f (nobody_uses names made os s x same e) ∙ unused_no f a made x g h
+
+pub closed_of : (os s : List OpenCommand) (op : OpId) → s ≡ os → list_any (λ o. same_op o.op op) s ≡ false → stages_in os op ≡ Closed
+closed_of os s op same e = go os (ap (list_any (λ o. same_op o.op op)) (sym same) ∙ e)
+  where
+    one : (b : Bool) (o : OpenCommand) (os : List OpenCommand) → (b || list_any (λ o. same_op o.op op) os) ≡ false → (list_any (λ o. same_op o.op op) os ≡ false → stages_in os op ≡ Closed)
+        → or_as (over (cond b (Some (stage_in o.update o.phase)) None) (seek stage_at os op)) Closed ≡ Closed
+    one true o os e h = absurd (clash e)
+    one false o os e h = h e
+
+    go : (os : List OpenCommand) → list_any (λ o. same_op o.op op) os ≡ false → stages_in os op ≡ Closed
+    go [] e = refl
+    go (o ∷ os) e = one (same_op o.op op) o os e (go os)
+
+-- ---- a command has it
+
+pub record Stands (os : List OpenCommand) (k : ℕ) (o : OpenCommand) (x : ℕ) : Type 0 where
+  pub here : slice_get os k ≡ Some o
+  pub has : has_in o.phase x ≡ true
+
+pub stands : (os s : List OpenCommand) (k : ℕ) (o : OpenCommand) (x : ℕ) → s ≡ os → k < length s → IfSome (slice_get s k) (λ o. has_in o.phase x ≡ true) → o ≡ get_or os k o → Stands os k o x
+stands os s k o x same within h e =
+    let here : slice_get os k ≡ Some o = slice_get_read os (length os) k o refl (subst {A = List OpenCommand} (λ z. k < length z) same within) e in
+    record { here = here; has = subst {A = Option OpenCommand} (λ o. IfSome o (λ o. has_in o.phase x ≡ true)) (ap (λ z. slice_get z k) same ∙ here) h }
+
+pub record StandsFor (os : List OpenCommand) (k : ℕ) (o : OpenCommand) (op : OpId) : Type 0 where
+  pub here : slice_get os k ≡ Some o
+  pub is : same_op o.op op ≡ true
+
+pub stands_for : (os s : List OpenCommand) (k : ℕ) (o : OpenCommand) (op : OpId) → s ≡ os → k < length s → IfSome (slice_get s k) (λ o. same_op o.op op ≡ true) → o ≡ get_or os k o → StandsFor os k o op
+stands_for os s k o op same within h e =
+    let here : slice_get os k ≡ Some o = slice_get_read os (length os) k o refl (subst {A = List OpenCommand} (λ z. k < length z) same within) e in
+    record { here = here; is = subst {A = Option OpenCommand} (λ o. IfSome o (λ o. same_op o.op op ≡ true)) (ap (λ z. slice_get z k) same ∙ here) h }
+
+gathers : (names : List Node) (op : OpId) (u : Update) (ph : Phase) (marks : List Mark) (x : ℕ) (r : Option Use) (d : Use) → has_in ph x ≡ true → gathering_of (or_as (over (use_in names op u ph marks x) r) d) ≡ gathering_in op ph x
+gathers names op u phase.Waiting marks x r d h = absurd (clash (sym h))
+gathers names op u (phase.Asking lock first) marks x r d h = one (nat_eq lock x) h
+  where
+    one : (b : Bool) → b ≡ true → gathering_of (or_as (over (cond b (Some (Locking op u (name_at names first) (statuses names marks))) None) r) d) ≡ cond b (gathering_of (Locking op u (name_at names first) (statuses names marks))) Nothing
+    one true h = refl
+    one false h = absurd (clash (sym h))
+gathers names op u (phase.Changing lock number) marks x r d h = two (nat_eq number x) (nat_eq lock x) h
+  where
+    two : (b c : Bool) → (b || c) ≡ true → gathering_of (or_as (over (cond b (Some (Updating op u lock (replies names marks))) (cond c (Some (Owning (name_of u) number)) None)) r) d) ≡ cond b (gathering_of (Updating op u lock (replies names marks))) Nothing
+    two true c h = refl
+    two false true h = refl
+    two false false h = absurd (clash (sym h))
+
+pub gathering_here : (names : List Node) (made : ℕ) (os : List OpenCommand) (k : ℕ) (o : OpenCommand) (x : ℕ) → AreKnown names made os → Stands os k o x → gathering_in o.op o.phase x ≡ gathering_of (uses_in names made os x)
+gathering_here names made os k o x known at = sym (ap gathering_of (was names made os k o known at.here x) ∙ gathers names o.op o.update o.phase o.marks.items x _ _ at.has)
+
+pub standing_here : (names : List Node) (made : ℕ) (os : List OpenCommand) (k : ℕ) (o : OpenCommand) (op : OpId) → AreKnown names made os → StandsFor os k o op → standing_in o.phase ≡ standing_of (stages_in os op)
+standing_here names made os k o op known at = sym (ap standing_of (stage_was names made os k o known at.here op) ∙ (one (same_op o.op op) (seek stage_at (others os k) op) at.is ∙ which o.phase))
+  where
+    one : (b : Bool) (r : Option Stage) → b ≡ true → standing_of (or_as (over (cond b (Some (stage_in o.update o.phase)) None) r) Closed) ≡ standing_of (stage_in o.update o.phase)
+    one true r e = refl
+    one false r e = absurd (clash (sym e))
+
+    which : (ph : Phase) → standing_of (stage_in o.update ph) ≡ standing_in ph
+    which phase.Waiting = refl
+    which (phase.Asking lock first) = refl
+    which (phase.Changing lock number) = refl
+
+hears : (names : List Node) (op : OpId) (u : Update) (ph : Phase) (marks : List Mark) (x place : ℕ) (m : Mark) (r : Option Use) (d : Use) → has_in ph x ≡ true
+    → statuses names marks (name_at names place) ≡ status_of m → replies names marks (name_at names place) ≡ has_yes m → same_atom (name_at names (first_in ph)) (name_at names place) ≡ (first_in ph == place)
+    → what_of true (gathered (or_as (over (use_in names op u ph marks x) r) d) (name_at names place)) ≡ heard_in ph m place x
+hears names op u phase.Waiting marks x place m r d h e f g = absurd (clash (sym h))
+hears names op u (phase.Asking lock first) marks x place m r d h e f g = one (nat_eq lock x) h
+  where
+    one : (b : Bool) → b ≡ true → what_of true (gathered (or_as (over (cond b (Some (Locking op u (name_at names first) (statuses names marks))) None) r) d) (name_at names place)) ≡ cond b (lock_heard m (first == place)) Stranger
+    one true h = ap (λ z. what_of true (lock_entry z (same_atom (name_at names first) (name_at names place)))) e ∙ ap (lock_heard m) g
+    one false h = absurd (clash (sym h))
+hears names op u (phase.Changing lock number) marks x place m r d h e f g = two (nat_eq number x) (nat_eq lock x) h
+  where
+    yes : (b : Bool) → what_of true (Some (cond b (Some Applied) None)) ≡ cond b Double Counted
+    yes true = refl
+    yes false = refl
+
+    two : (b c : Bool) → (b || c) ≡ true → what_of true (gathered (or_as (over (cond b (Some (Updating op u lock (replies names marks))) (cond c (Some (Owning (name_of u) number)) None)) r) d) (name_at names place)) ≡ cond b (cond (has_yes m) Double Counted) Stranger
+    two true c h = ap (λ b. what_of true (Some (cond b (Some Applied) None))) f ∙ yes (has_yes m)
+    two false true h = refl
+    two false false h = absurd (clash (sym h))
+
+pub heard_here : (names : List Node) (lost : List Bool) (made : ℕ) (os : List OpenCommand) (k : ℕ) (o : OpenCommand) (x place : ℕ) → IsDistinct same_atom names → ArePlaces names lost → AreKnown names made os → Stands os k o x → place < length names
+    → heard_in o.phase (get_or o.marks.items place mark.Unasked) place x ≡ what_of true (gathered (uses_in names made os x) (name_at names place))
+heard_here names lost made os k o x place apart places known at l =
+    sym (ap (λ z. what_of true (gathered z (name_at names place))) (was names made os k o known at.here x)
+    ∙ hears names o.op o.update o.phase o.marks.items x place (get_or o.marks.items place mark.Unasked) _ _ at.has
+        (status_at names lost apart places o.marks.items (known.marked k o at.here) place l)
+        (reply_at names lost apart places o.marks.items (known.marked k o at.here) place l)
+        (same_at names lost apart places (first_in o.phase) place (known.first k o at.here) l))
+
+module _ (names : List Node) (lost : List Bool) (made : ℕ) (os : List OpenCommand) (k : ℕ) (o : OpenCommand) (apart : IsDistinct same_atom names) (places : ArePlaces names lost) (known : AreKnown names made os) (x : ℕ) (at : Stands os k o x) where
+  completes : (op : OpId) (u : Update) (ph : Phase) (marks : List Mark) (r : Option Use) (d : Use) → has_in ph x ≡ true → length marks ≡ length names
+      → is_complete (left_in names lost) (or_as (over (use_in names op u ph marks x) r) d) ≡ complete_in ph marks lost x
+  completes op u phase.Waiting marks r d h same = absurd (clash (sym h))
+  completes op u (phase.Asking lock first) marks r d h same = one (nat_eq lock x) h
+    where
+      one : (b : Bool) → b ≡ true → is_complete (left_in names lost) (or_as (over (cond b (Some (Locking op u (name_at names first) (statuses names marks))) None) r) d) ≡ (b && all_marks marks lost Answered Nobody false)
+      one true h = every_nobody names lost apart places marks same Answered false
+      one false h = absurd (clash (sym h))
+  completes op u (phase.Changing lock number) marks r d h same = two (nat_eq number x) (nat_eq lock x) h
+    where
+      two : (b c : Bool) → (b || c) ≡ true → is_complete (left_in names lost) (or_as (over (cond b (Some (Updating op u lock (replies names marks))) (cond c (Some (Owning (name_of u) number)) None)) r) d) ≡ (b && all_marks marks lost Granted Nobody false)
+      two true c h = every_reply names lost apart places marks same
+      two false true h = refl
+      two false false h = absurd (clash (sym h))
+
+  pub complete_here : complete_in o.phase o.marks.items lost x ≡ is_complete (left_in names lost) (uses_in names made os x)
+  complete_here = sym (ap (is_complete (left_in names lost)) (was names made os k o known at.here x) ∙ completes o.op o.update o.phase o.marks.items _ _ at.has (known.marked k o at.here))
+
+  waits_not : (b c : Bool) → not (does_wait (after_round (cond b AskingRest AskingFirst) c)) ≡ c
+  waits_not true true = refl
+  waits_not true false = refl
+  waits_not false true = refl
+  waits_not false false = refl
+
+  looks : (op : OpId) (u : Update) (ph : Phase) (marks : List Mark) (r : Option Use) (d : Use) (granted : Bool) → has_in ph x ≡ true → is_locking (or_as (over (use_in names op u ph marks x) r) d) ≡ true → length marks ≡ length names
+      → outlook_of (left_in names lost) granted (or_as (over (use_in names op u ph marks x) r) d) ≡ outlook_in marks lost granted
+  looks op u phase.Waiting marks r d granted h i same = absurd (clash (sym h))
+  looks op u (phase.Asking lock first) marks r d granted h i same = one (nat_eq lock x) h
+    where
+      one : (b : Bool) → b ≡ true → outlook_of (left_in names lost) granted (or_as (over (cond b (Some (Locking op u (name_at names first) (statuses names marks))) None) r) d) ≡ outlook_in marks lost granted
+      one true h = ap (λ z. outlook_by z (not (does_wait (after_round (round_of (name_at names first) (statuses names marks)) (none_denied (left_in names lost) (statuses names marks)))))
+              (all_granted (left_in names lost) (with_asked (left_in names lost) (λ q. true) (statuses names marks) granted)) (none_missing (left_in names lost) (with_asked (left_in names lost) (λ q. true) (statuses names marks) granted)))
+              (every_nobody names lost apart places marks same Answered granted)
+          ∙ (ap (λ z. outlook_by (all_marks marks lost Answered Nobody granted) z
+              (all_granted (left_in names lost) (with_asked (left_in names lost) (λ q. true) (statuses names marks) granted)) (none_missing (left_in names lost) (with_asked (left_in names lost) (λ q. true) (statuses names marks) granted)))
+              (waits_not (is_yes (statuses names marks (name_at names first))) (none_denied (left_in names lost) (statuses names marks)) ∙ every_nobody names lost apart places marks same NotDenied granted)
+          ∙ (ap (λ z. outlook_by (all_marks marks lost Answered Nobody granted) (all_marks marks lost NotDenied Nobody granted) z (none_missing (left_in names lost) (with_asked (left_in names lost) (λ q. true) (statuses names marks) granted)))
+              (every_all names lost apart places marks same Granted granted)
+          ∙ ap (outlook_by (all_marks marks lost Answered Nobody granted) (all_marks marks lost NotDenied Nobody granted) (all_marks marks lost Granted All granted))
+              (every_all names lost apart places marks same Answered granted)))
+      one false h = absurd (clash (sym h))
+  looks op u (phase.Changing lock number) marks r d granted h i same = absurd (two (nat_eq number x) (nat_eq lock x) h i)
+    where
+      two : (b c : Bool) → (b || c) ≡ true → is_locking (or_as (over (cond b (Some (Updating op u lock (replies names marks))) (cond c (Some (Owning (name_of u) number)) None)) r) d) ≡ true → ⊥
+      two true c h i = clash (sym i)
+      two false true h i = clash (sym i)
+      two false false h i = clash (sym h)
+
+  pub outlook_here : (granted : Bool) → is_locking (uses_in names made os x) ≡ true → outlook_in o.marks.items lost granted ≡ outlook_of (left_in names lost) granted (uses_in names made os x)
+  outlook_here granted i = sym (ap (outlook_of (left_in names lost) granted) (was names made os k o known at.here x)
+      ∙ looks o.op o.update o.phase o.marks.items _ _ granted at.has (ap is_locking (sym (was names made os k o known at.here x)) ∙ i) (known.marked k o at.here))

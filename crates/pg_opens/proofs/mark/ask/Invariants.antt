@@ -1,0 +1,10 @@
+use Rattle.std.proofs.Common.{◌≡◌, ◌<◌, ◌≤◌, ℕ, length, get_or, false}
+use Rattle.pg_opens.specs.declared.mark.Mark.TheVariants.{Unasked}
+use Rattle.pg_opens.specs.Marks.{mark_at}
+use Rattle.pg_opens.proofs.mark.ask.Given as goal
+
+abbrev pub invariant-loop-place : goal.invariant-loop-place
+invariant-loop-place l = record {
+  done : (k : ℕ) → k < l.place → get_or l.marks k Unasked ≡ mark_at (get_or l.initial.marks k Unasked) (get_or l.lost k false) l.who k l.granted;
+  left : (k : ℕ) → l.place ≤ k → get_or l.marks k Unasked ≡ get_or l.initial.marks k Unasked;
+}

@@ -1,0 +1,75 @@
+-- What is read of the open commands.
+use Rattle.std.specs.Prelude.{ℕ, Bool, true, false, not, ◌&&◌, ◌==◌, cond, nat_eq, List, Option, Some, None}
+use Rattle.pg_group.specs.declared.update.Update.{Update}
+use Rattle.pg_lock.specs.Attempts.{after_round, does_wait}
+use Rattle.pg_multicall.specs.Gathered.{what_of}
+use Rattle.pg_multicall.specs.declared.gather.Taken.{Taken}
+use Rattle.pg_multicall.specs.declared.gather.Taken.TheVariants.{Counted, Stranger, Double}
+use Rattle.pg_step.specs.declared.command.OpId.{OpId}
+use Rattle.pg_step.specs.Nodes.{Node, Nodes}
+use Rattle.pg_step.specs.State.{Status, Use, Stage}
+use Rattle.pg_step.specs.State.Use.{Locking, Updating}
+use Rattle.pg_step.specs.State.Stage.{Closed, Waiting, Asking, Changing}
+use Rattle.pg_step.specs.Attempts.{none_missing, none_denied, all_granted, round_of, with_asked, lock_entry}
+use Rattle.pg_opens.specs.declared.mark.Mark.{Mark}
+use Rattle.pg_opens.specs.declared.command.Phase.{Phase}
+use Rattle.pg_opens.specs.declared.command.Phase.TheVariants as phase
+use Rattle.pg_opens.specs.declared.command.Gathering.{Gathering}
+use Rattle.pg_opens.specs.declared.command.Gathering.TheVariants as gathering
+use Rattle.pg_opens.specs.declared.command.Standing.{Standing}
+use Rattle.pg_opens.specs.declared.command.Standing.TheVariants as standing
+use Rattle.pg_opens.specs.Marks.{status_of, has_yes, all_marks}
+use Rattle.pg_opens.specs.declared.mark.Asked.TheVariants.{Nobody}
+use Rattle.pg_opens.specs.declared.mark.Wanted.TheVariants.{Answered, Granted}
+
+-- what is gathered under a reference that is used so
+abbrev pub gathering_of : Use → Gathering
+gathering_of (Locking op update first st) = gathering.Lock op
+gathering_of (Updating op update lock replied) = gathering.Update op lock
+gathering_of used = gathering.Nothing
+
+-- the update of the command that gathers
+abbrev pub update_of : Use → Option Update
+update_of (Locking op update first st) = Some update
+update_of (Updating op update lock replied) = Some update
+update_of used = None
+
+abbrev pub is_locking : Use → Bool
+is_locking (Locking op update first st) = true
+is_locking used = false
+
+abbrev pub is_updating : Use → Bool
+is_updating (Updating op update lock replied) = true
+is_updating used = false
+
+-- how a command in this stage stands
+abbrev pub standing_of : Stage → Standing
+standing_of Closed = standing.Closed
+standing_of (Waiting update) = standing.Waiting
+standing_of (Asking lock) = standing.Asking lock
+standing_of (Changing number) = standing.Changing number
+
+-- ---- the same of one command
+
+abbrev pub gathering_in : OpId → Phase → ℕ → Gathering
+gathering_in op phase.Waiting x = gathering.Nothing
+gathering_in op (phase.Asking lock first) x = cond (nat_eq lock x) (gathering.Lock op) gathering.Nothing
+gathering_in op (phase.Changing lock number) x = cond (nat_eq number x) (gathering.Update op lock) gathering.Nothing
+
+abbrev pub standing_in : Phase → Standing
+standing_in phase.Waiting = standing.Waiting
+standing_in (phase.Asking lock first) = standing.Asking lock
+standing_in (phase.Changing lock number) = standing.Changing number
+
+abbrev pub lock_heard : Mark → Bool → Taken
+lock_heard mark is_first = what_of true (lock_entry (status_of mark) is_first)
+
+abbrev pub heard_in : Phase → Mark → (place : ℕ) → ℕ → Taken
+heard_in phase.Waiting mark place x = Stranger
+heard_in (phase.Asking lock first) mark place x = cond (nat_eq lock x) (lock_heard mark (first == place)) Stranger
+heard_in (phase.Changing lock number) mark place x = cond (nat_eq number x) (cond (has_yes mark) Double Counted) Stranger
+
+abbrev pub complete_in : Phase → List Mark → List Bool → ℕ → Bool
+complete_in phase.Waiting marks lost x = false
+complete_in (phase.Asking lock first) marks lost x = nat_eq lock x && all_marks marks lost Answered Nobody false
+complete_in (phase.Changing lock number) marks lost x = nat_eq number x && all_marks marks lost Granted Nobody false

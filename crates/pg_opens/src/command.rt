@@ -1,0 +1,262 @@
+ghost use Rattle.std.specs.Prelude.{◌≡◌, ◌<◌, false, true, length, get_or, IfSome, IfNone, slice_get};
+ghost use Rattle.std.specs.List.{list_any};
+ghost use Rattle.pg_step.specs.Attempts.{same_op};
+ghost use Rattle.pg_opens.specs.declared.mark.Mark.TheVariants.{Unasked};
+ghost use Rattle.pg_opens.specs.Commands.{has_in};
+
+use crate::mark::{Asked, Mark, Wanted, all_pass, ask_all, reset_all};
+use crate::outlook::Outlook;
+use pg_group::Update;
+use pg_multicall::Taken;
+use pg_step::OpId;
+
+/// How a command stands that is open, with the numbers of its references.
+#[derive(Clone, Copy, Debug, PartialEq, Eq)]
+pub enum Phase {
+    /// It waits for its retry.
+    Waiting,
+    /// It asks for the lock under the first, and asked the node at that place first and alone.
+    Asking(u32, usize),
+    /// It holds the lock of the first, while its update goes out under the second.
+    Changing(u32, u32),
+}
+
+/// An open command.
+#[derive(Debug, Drop)]
+pub struct OpenCommand {
+    pub op: OpId,
+    pub update: Update,
+    pub phase: Phase,
+    // What has come of each node, by the places of the nodes: of the lock or of the update, whichever it asks for.
+    pub marks: Vec<Mark>,
+}
+
+/// What an open command gathers under a reference.
+#[derive(Clone, Copy, Debug, PartialEq, Eq)]
+pub enum Gathering {
+    /// Nothing: no open command gathers for it.
+    Nothing,
+    /// The answers to the request of this command for the lock.
+    Lock(OpId),
+    /// The replies to the update of this command, under the lock of the reference of that number.
+    Update(OpId, u32),
+}
+
+/// How a command stands.
+#[derive(Clone, Copy, Debug, PartialEq, Eq)]
+pub enum Standing {
+    /// It is not open.
+    Closed,
+    /// It waits for its retry.
+    Waiting,
+    /// It asks for the lock, under the reference of this number.
+    Asking(u32),
+    /// Its update goes out, under the reference of this number.
+    Changing(u32),
+}
+
+impl OpenCommand {
+    ghost use Rattle.std.specs.Prelude.{ℕ, slice_set};
+    ghost use Rattle.pg_opens.specs.declared.mark.Mark.TheVariants.{Yes};
+    ghost use Rattle.pg_opens.specs.declared.command.Phase.TheVariants.{Waiting, Asking, Changing};
+    ghost use Rattle.pg_opens.specs.Marks.{first_mark, mark_at};
+    ghost use Rattle.pg_opens.specs.Commands.{Turns};
+    ghost use Rattle.pg_opens.specs.Readings.{gathering_in, standing_in, heard_in, complete_in};
+    ghost use Rattle.pg_opens.specs.Outlooks.{outlook_in};
+
+    /// Whether it has a reference.
+    fn has(&self, number: u32) -> bool
+        ensures { result ≡ has_in self.now.phase number }
+    {
+        match self.phase {
+            Phase::Waiting => false,
+            Phase::Asking(lock, _) => lock == number,
+            Phase::Changing(lock, update) => update == number || lock == number,
+        }
+    }
+
+    fn is(&self, op: OpId) -> bool
+        ensures { result ≡ same_op self.now.op op }
+    {
+        self.op.port == op.port && self.op.number == op.number
+    }
+
+    pub fn gathering(&self, number: u32) -> Gathering
+        ensures { result ≡ gathering_in self.now.op self.now.phase number }
+    {
+        match self.phase {
+            Phase::Waiting => Gathering::Nothing,
+            Phase::Asking(lock, _) => {
+                if lock == number {
+                    Gathering::Lock(self.op)
+                } else {
+                    Gathering::Nothing
+                }
+            }
+            Phase::Changing(lock, update) => {
+                if update == number {
+                    Gathering::Update(self.op, lock)
+                } else {
+                    Gathering::Nothing
+                }
+            }
+        }
+    }
+
+    pub fn standing(&self) -> Standing
+        ensures { result ≡ standing_in self.now.phase }
+    {
+        match self.phase {
+            Phase::Waiting => Standing::Waiting,
+            Phase::Asking(lock, _) => Standing::Asking(lock),
+            Phase::Changing(_, update) => Standing::Changing(update),
+        }
+    }
+
+    /// A new attempt: nobody was asked.
+    pub fn start(&mut self, lock: u32, first: usize)
+        ensures turns { Turns self.old self.new (Asking lock first) }
+        ensures marks { (place : ℕ) → place < length self.old.marks.items → get_or self.new.marks.items place Unasked ≡ first_mark Unasked place }
+    {
+        self.phase = Phase::Asking(lock, first);
+        reset_all(&mut self.marks, Mark::Unasked);
+    }
+
+    /// Asks these nodes for the lock.
+    pub fn ask(&mut self, lost: &[bool], who: Asked, granted: bool)
+        requires { length lost.now ≡ length self.old.marks.items }
+        ensures turns { Turns self.old self.new self.old.phase }
+        ensures marks { (place : ℕ) → place < length self.old.marks.items
+            → get_or self.new.marks.items place Unasked
+            ≡ mark_at (get_or self.old.marks.items place Unasked) (get_or lost.now place false) who place granted }
+    {
+        ask_all(&mut self.marks, lost, who, granted);
+    }
+
+    /// What has come of the node at a place.
+    pub fn mark(&mut self, place: usize, mark: Mark)
+        requires { place < length self.old.marks.items }
+        ensures turns { Turns self.old self.new self.old.phase }
+        ensures marks { self.new.marks.items ≡ slice_set self.old.marks.items place mark }
+    {
+        self.marks[place] = mark;
+    }
+
+    /// Its update goes out: the own node has applied it.
+    pub fn begin(&mut self, lock: u32, update: u32)
+        ensures turns { Turns self.old self.new (Changing lock update) }
+        ensures marks { (place : ℕ) → place < length self.old.marks.items → get_or self.new.marks.items place Unasked ≡ first_mark Yes place }
+    {
+        self.phase = Phase::Changing(lock, update);
+        reset_all(&mut self.marks, Mark::Yes);
+    }
+
+    /// It waits for its retry.
+    pub fn wait(&mut self)
+        ensures { Turns self.old self.new Waiting }
+    {
+        self.phase = Phase::Waiting;
+    }
+
+    /// Whether all has come that it gathers under a reference.
+    pub fn is_complete(&self, lost: &[bool], number: u32) -> bool
+        requires { length lost.now ≡ length self.now.marks.items }
+        ensures { result ≡ complete_in self.now.phase self.now.marks.items lost.now number }
+    {
+        match self.phase {
+            Phase::Waiting => false,
+            Phase::Asking(lock, _) => {
+                lock == number && all_pass(&self.marks, lost, Wanted::Answered, Asked::Nobody, false)
+            }
+            Phase::Changing(_, update) => {
+                update == number && all_pass(&self.marks, lost, Wanted::Granted, Asked::Nobody, false)
+            }
+        }
+    }
+
+    /// What follows for its request for the lock. `granted`: what the own node would answer.
+    pub fn outlook(&self, lost: &[bool], granted: bool) -> Outlook
+        requires { length lost.now ≡ length self.now.marks.items }
+        ensures { result ≡ outlook_in self.now.marks.items lost.now granted }
+    {
+        let answered = all_pass(&self.marks, lost, Wanted::Answered, Asked::Nobody, granted);
+        let none_denied = all_pass(&self.marks, lost, Wanted::NotDenied, Asked::Nobody, granted);
+        let all_granted = all_pass(&self.marks, lost, Wanted::Granted, Asked::All, granted);
+        let none_missing = all_pass(&self.marks, lost, Wanted::Answered, Asked::All, granted);
+        Outlook::of(answered, none_denied, all_granted, none_missing)
+    }
+
+    /// What a reply under a reference is to it, by the place of the node.
+    pub fn heard(&self, number: u32, place: usize) -> Taken
+        requires { place < length self.now.marks.items }
+        ensures { result ≡ heard_in self.now.phase (get_or self.now.marks.items place Unasked) place number }
+    {
+        let mark = self.marks[place];
+        match self.phase {
+            Phase::Waiting => Taken::Stranger,
+            Phase::Asking(lock, first) => {
+                if lock == number {
+                    heard_lock(mark, first == place)
+                } else {
+                    Taken::Stranger
+                }
+            }
+            Phase::Changing(_, update) => {
+                if update != number {
+                    Taken::Stranger
+                } else if mark.is_yes() {
+                    Taken::Double
+                } else {
+                    Taken::Counted
+                }
+            }
+        }
+    }
+}
+
+ghost use Rattle.pg_opens.specs.Readings.{lock_heard};
+
+/// An answer to a request for the lock: in the second round the one that was asked first is not asked.
+fn heard_lock(mark: Mark, is_first: bool) -> Taken
+    ensures { result ≡ lock_heard mark is_first }
+{
+    match mark {
+        Mark::Unasked => Taken::Stranger,
+        Mark::Asked => Taken::Counted,
+        Mark::Yes | Mark::No => {
+            if is_first {
+                Taken::Stranger
+            } else {
+                Taken::Double
+            }
+        }
+    }
+}
+
+/// Where the command stands that has a reference.
+pub fn place_of(commands: &[OpenCommand], number: u32) -> Option<usize>
+    ensures none { IfNone result (list_any (λ command. has_in command.phase number) commands.now ≡ false) }
+    ensures within { IfSome result (λ place. place < length commands.now) }
+    ensures some { IfSome result (λ place. IfSome (slice_get commands.now place) (λ command. has_in command.phase number ≡ true)) }
+{
+    for (place, command) in commands.iter().enumerate() {
+        if command.has(number) {
+            return Some(place);
+        }
+    }
+    None
+}
+
+/// Where a command stands.
+pub fn place_of_op(commands: &[OpenCommand], op: OpId) -> Option<usize>
+    ensures none { IfNone result (list_any (λ command. same_op command.op op) commands.now ≡ false) }
+    ensures within { IfSome result (λ place. place < length commands.now) }
+    ensures some { IfSome result (λ place. IfSome (slice_get commands.now place) (λ command. same_op command.op op ≡ true)) }
+{
+    for (place, command) in commands.iter().enumerate() {
+        if command.is(op) {
+            return Some(place);
+        }
+    }
+    None
+}

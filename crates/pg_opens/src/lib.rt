@@ -1,0 +1,12 @@
+//! The commands that are open at a node, and what is gathered for each of them.
+#![tactic(auto)]
+
+mod command;
+mod mark;
+mod opens;
+mod outlook;
+
+pub use command::{Gathering, Standing};
+pub use mark::Asked;
+pub use opens::{Opens, Room};
+pub use outlook::Outlook;

@@ -1,0 +1,37 @@
+ghost use Rattle.std.specs.Prelude.{◌≡◌};
+ghost use Rattle.pg_opens.specs.Outlooks.{outlook_by};
+
+/// What follows for a command that asks for the lock, by the answers that are in.
+#[derive(Clone, Copy, Debug, PartialEq, Eq)]
+pub enum Outlook {
+    /// An answer is missing.
+    Wait,
+    /// One has denied: the attempt is given up.
+    GiveUp,
+    /// The rest is asked, and the command waits for the answers.
+    Ask,
+    /// The rest is asked, which is at most the own node, and all have granted: the update begins.
+    Begin,
+    /// The rest is asked, which is the own node, and it denies: the attempt is given up.
+    AskThenGiveUp,
+}
+
+impl Outlook {
+    /// By whether all asked have answered, and none has denied; and whether, once the rest is asked, all have granted, and no
+    /// answer is missing.
+    pub fn of(answered: bool, none_denied: bool, granted: bool, none_missing: bool) -> Outlook
+        ensures { result ≡ outlook_by answered none_denied granted none_missing }
+    {
+        if !answered {
+            Outlook::Wait
+        } else if !none_denied {
+            Outlook::GiveUp
+        } else if granted {
+            Outlook::Begin
+        } else if none_missing {
+            Outlook::AskThenGiveUp
+        } else {
+            Outlook::Ask
+        }
+    }
+}
