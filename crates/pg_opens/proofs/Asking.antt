@@ -97,7 +97,7 @@ module _ (names : List Node) (lost : List Bool) (apart : IsDistinct same_atom na
   pub every_at : (t : Node → Bool) → every (left_in names lost) t ≡ all_below (length names) (λ k. get_or lost k false || t (name_at names k))
   every_at t = all_left names t places.some own_here ∙ (all_names names (λ q. lost_in names lost q || t q)
       ∙ all_below_same (length names) (λ k. lost_in names lost (name_at names k) || t (name_at names k)) (λ k. get_or lost k false || t (name_at names k))
-          (λ k l. ap (λ b. b || t (name_at names k)) (lost_at k l)))
+      (λ k l. ap (λ b. b || t (name_at names k)) (lost_at k l)))
 
   any_left : (names' : List Node) (q : Node) → 0 < length names' → lost_in names lost (name_at names' 0) ≡ false
       → list_any (same_atom q) (name_at names' 0 ∷ filter (λ x. not (lost_in names lost x)) (drop 1 names')) ≡ list_any (λ x. not (lost_in names lost x) && same_atom q x) names'
@@ -175,7 +175,7 @@ module _ (names : List Node) (lost : List Bool) (apart : IsDistinct same_atom na
     asked_statuses marks' who granted same' h each = by_places names (statuses names marks') (with_asked (left_in names lost) (whom names who) (statuses names marks) granted)
         (λ k l. reads_at status_of Unasked names marks' k mark.Unasked apart same' l ∙ (ap status_of (each k (subst (λ z. k < z) (sym same) l)) ∙ sym (with_at who granted k h l)))
         (λ q e. reads_nobody status_of Unasked names marks' q e ∙ sym (ap (λ b. cond (b && asks (whom names who) (statuses names marks) q) (cond (same_atom (name_at names 0) q) (own_verdict granted) Asked) (statuses names marks q)) (node_nobody q e)
-            ∙ reads_nobody status_of Unasked names marks q e))
+        ∙ reads_nobody status_of Unasked names marks q e))
 
     nobody_mark : (l o g : Bool) (m : Mark) → asked_mark m (not l && false) o g ≡ m
     nobody_mark true o g mark.Unasked = refl
@@ -188,7 +188,7 @@ module _ (names : List Node) (lost : List Bool) (apart : IsDistinct same_atom na
     pub every_nobody : (wanted : Wanted) (granted : Bool) → every (left_in names lost) (λ q. passes wanted (statuses names marks q)) ≡ all_marks marks lost wanted Nobody granted
     every_nobody wanted granted = every_at (λ q. passes wanted (statuses names marks q))
         ∙ (all_below_same (length names) _ _ (λ k l. ap (λ z. get_or lost k false || passes wanted z)
-            (status_at k l ∙ ap status_of (sym (nobody_mark (get_or lost k false) (k == 0) granted (get_or marks k mark.Unasked)))))
+        (status_at k l ∙ ap status_of (sym (nobody_mark (get_or lost k false) (k == 0) granted (get_or marks k mark.Unasked)))))
         ∙ ap (λ n. all_below n (λ place. get_or lost place false || passes wanted (status_of (mark_at (get_or marks place mark.Unasked) (get_or lost place false) Nobody place granted)))) (sym same))
 
     pub every_all : (wanted : Wanted) (granted : Bool) → every (left_in names lost) (λ q. passes wanted (with_asked (left_in names lost) (λ q. true) (statuses names marks) granted q)) ≡ all_marks marks lost wanted All granted
@@ -199,5 +199,5 @@ module _ (names : List Node) (lost : List Bool) (apart : IsDistinct same_atom na
     pub every_reply : every (left_in names lost) (replies names marks) ≡ all_marks marks lost Granted Nobody false
     every_reply = every_at (replies names marks)
         ∙ (all_below_same (length names) _ _ (λ k l. ap (λ b. get_or lost k false || b)
-            (reply_at k l ∙ ap has_yes (sym (nobody_mark (get_or lost k false) (k == 0) false (get_or marks k mark.Unasked)))))
+        (reply_at k l ∙ ap has_yes (sym (nobody_mark (get_or lost k false) (k == 0) false (get_or marks k mark.Unasked)))))
         ∙ ap (λ n. all_below n (λ place. get_or lost place false || passes Granted (status_of (mark_at (get_or marks place mark.Unasked) (get_or lost place false) Nobody place false)))) (sym same))

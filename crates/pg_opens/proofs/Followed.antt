@@ -30,12 +30,14 @@ use Rattle.pg_opens.specs.Layers.{over, or_as, seek, answers, others}
 use Rattle.pg_opens.specs.Places.{name_at, lost_in, left_in, ArePlaces}
 use Rattle.pg_opens.specs.Marks.{status_of, statuses, has_yes, replies, verdict_mark, whom, has_place, mark_at, first_mark}
 use Rattle.pg_opens.specs.Commands.{use_in, use_at, has_in, stage_in, stage_at, unused, uses_in, stages_in, first_in, AreKnown, Turns}
+use Rattle.pg_opens.specs.declared.command.Standing.TheVariants as standing
+use Rattle.pg_opens.specs.Readings.{standing_of, is_locking}
 use Rattle.pg_opens.specs.Opens.{Says}
 use Rattle.pg_opens.proofs.Layered.{quiet_is, set_length, others_length}
 use Rattle.pg_opens.proofs.Named.{clash, split, reads_set, reads_all, by_places, reads_at, reads_nobody, names_differ, atom_self, atom_other}
-use Rattle.pg_opens.proofs.Uses.{was, stage_was, stage_new, stage_same, stage_ended, marked_lock, marked_update, started, begun, given, ended}
+use Rattle.pg_opens.proofs.Uses.{known_after, fits_started, fits_same, fits_given, fits_begun, was, stage_was, stage_new, stage_same, stage_ended, marked_lock, marked_update, started, begun, given, ended}
 use Rattle.pg_opens.proofs.Asking.{asked_statuses, own_at}
-use Rattle.pg_opens.proofs.Found.{Stands, StandsFor}
+use Rattle.pg_opens.proofs.Found.{Stands, StandsFor, waiting_phase, locking_phase}
 
 -- ---- words
 
@@ -159,35 +161,35 @@ module _ (names : List Node) (lost : List Bool) (made : ℕ) (os : List OpenComm
       → ((place : ℕ) → place < length o.marks.items → get_or o'.marks.items place mark.Unasked ≡ first_mark mark.Unasked place)
       → (s : State) → Says names lost made os s → Says names lost (made + 1) (slice_set os k o') (new_attempt (name_at names first) op update s).state
   start_follows op first update at waits t l each s h =
-    let w = waits_as names made os k o known op update at waits in
-    let is_op : op ≡ o.op = sym (op_is o.op op at.is) in
-    let none : (λ (q : Node). Unasked) ≡ statuses names o'.marks.items = fun_ext (λ q. sym (reads_all status_of Unasked names o'.marks.items mark.Unasked q
-        (λ j lj. ap status_of (each j (subst (λ z. j < z) t.marks lj) ∙ both_same (j == 0) mark.Unasked)))) in
-    record {
-      references = ap (λ n. n + 1) h.references;
-      uses = (λ i. upd nat_eq (h.uses i) (h.references i + 1) (Locking (is_op i) (sym w.1 i) (name_at names first) (none i))) ∙ sym (started names made os k o known at.here o' first w.0 t l);
-      opened = h.opened ∙ sym (set_length stage_at os k o');
-      stages = (λ i. upd same_op (h.stages i) (is_op i) (stage_in o'.update (phase.Asking (h.references i + 1) first)))
-          ∙ (ap (λ ph. upd same_op (stages_in os) o.op (stage_in o'.update ph)) (sym t.phase) ∙ sym (stage_new names made os k o known at.here o' t.op));
-      lost_peers = h.lost_peers;
-    }
+      let w = waits_as names made os k o known op update at waits in
+      let is_op : op ≡ o.op = sym (op_is o.op op at.is) in
+      let none : (λ (q : Node). Unasked) ≡ statuses names o'.marks.items = fun_ext (λ q. sym (reads_all status_of Unasked names o'.marks.items mark.Unasked q
+      (λ j lj. ap status_of (each j (subst (λ z. j < z) t.marks lj) ∙ both_same (j == 0) mark.Unasked)))) in
+      record {
+        references = ap (λ n. n + 1) h.references;
+        uses = (λ i. upd nat_eq (h.uses i) (h.references i + 1) (Locking (is_op i) (sym w.1 i) (name_at names first) (none i))) ∙ sym (started names made os k o known at.here o' first w.0 t l);
+        opened = h.opened ∙ sym (set_length stage_at os k o');
+        stages = (λ i. upd same_op (h.stages i) (is_op i) (stage_in o'.update (phase.Asking (h.references i + 1) first)))
+            ∙ (ap (λ ph. upd same_op (stages_in os) o.op (stage_in o'.update ph)) (sym t.phase) ∙ sym (stage_new names made os k o known at.here o' t.op));
+        lost_peers = h.lost_peers;
+      }
 
   pub ask_follows : (x : ℕ) (who : Whom) (granted : Bool) (op : OpId) (update : Update) (f : Node) (st : Node → Status) → Stands os k o x → uses_in names made os x ≡ Locking op update f st → Turns o o' o.phase → has_place who (length names) ≡ true
       → ((place : ℕ) → place < length o.marks.items → get_or o'.marks.items place mark.Unasked ≡ mark_at (get_or o.marks.items place mark.Unasked) (get_or lost place false) who place granted)
       → (s : State) → Says names lost made os s → would_grant (left_in names lost) s (name_of update) ≡ granted
       → Says names lost made (slice_set os k o') (ask (left_in names lost) (whom names who) x op update f st s).state
   ask_follows x who granted op update f st at e t p each s h grants =
-    let w = locks_as names made os k o known x op update f st at e in
-    let same = known.marked k o at.here in
-    let now = asked_statuses names lost apart places o.marks.items same o'.marks.items who granted (t.marks ∙ same) p each in
-    record {
-      references = h.references;
-      uses = (λ i. upd nat_eq (h.uses i) x (Locking (sym w.1.is_op i) (sym w.1.is_update i) (sym w.1.is_first i) (with_asked (left_in names lost) (whom names who) (sym w.1.marks i) (grants i))))
-          ∙ (ap (λ z. upd nat_eq (uses_in names made os) x (Locking o.op o.update (name_at names w.0) z)) (sym now) ∙ sym (marked_lock names made os k o known at.here o' x w.0 w.1.phase t));
-      opened = h.opened ∙ sym (set_length stage_at os k o');
-      stages = h.stages ∙ sym (stage_same names made os k o known at.here o' t.op (λ i. stage_in (t.update i) (t.phase i)));
-      lost_peers = h.lost_peers;
-    }
+      let w = locks_as names made os k o known x op update f st at e in
+      let same = known.marked k o at.here in
+      let now = asked_statuses names lost apart places o.marks.items same o'.marks.items who granted (t.marks ∙ same) p each in
+      record {
+        references = h.references;
+        uses = (λ i. upd nat_eq (h.uses i) x (Locking (sym w.1.is_op i) (sym w.1.is_update i) (sym w.1.is_first i) (with_asked (left_in names lost) (whom names who) (sym w.1.marks i) (grants i))))
+            ∙ (ap (λ z. upd nat_eq (uses_in names made os) x (Locking o.op o.update (name_at names w.0) z)) (sym now) ∙ sym (marked_lock names made os k o known at.here o' x w.0 w.1.phase t));
+        opened = h.opened ∙ sym (set_length stage_at os k o');
+        stages = h.stages ∙ sym (stage_same names made os k o known at.here o' t.op (λ i. stage_in (t.update i) (t.phase i)));
+        lost_peers = h.lost_peers;
+      }
 
   verdict_same : (granted : Bool) → status_of (verdict_mark granted) ≡ own_verdict granted
   verdict_same true = refl
@@ -198,68 +200,68 @@ module _ (names : List Node) (lost : List Bool) (made : ℕ) (os : List OpenComm
       → (s : State) → Says names lost made os s → Says names lost made (slice_set os k o') (count_answer x op update f st (name_at names place) (own_verdict granted) s).state
   unfolding upd
   count_answer_follows x place granted op update f st at e t l is s h =
-    let w = locks_as names made os k o known x op update f st at e in
-    let now : statuses names o'.marks.items ≡ upd same_atom (statuses names o.marks.items) (name_at names place) (own_verdict granted) = fun_ext (λ q. ap (λ z. statuses names z q) is
-        ∙ (reads_set status_of Unasked names o.marks.items place (verdict_mark granted) q apart (known.marked k o at.here) l
-        ∙ ap (λ z. cond (same_atom (name_at names place) q) z (statuses names o.marks.items q)) (verdict_same granted))) in
-    record {
-      references = h.references;
-      uses = (λ i. upd nat_eq (h.uses i) x (Locking (sym w.1.is_op i) (sym w.1.is_update i) (sym w.1.is_first i) (upd same_atom (sym w.1.marks i) (name_at names place) (own_verdict granted))))
-          ∙ (ap (λ z. upd nat_eq (uses_in names made os) x (Locking o.op o.update (name_at names w.0) z)) (sym now) ∙ sym (marked_lock names made os k o known at.here o' x w.0 w.1.phase t));
-      opened = h.opened ∙ sym (set_length stage_at os k o');
-      stages = h.stages ∙ sym (stage_same names made os k o known at.here o' t.op (λ i. stage_in (t.update i) (t.phase i)));
-      lost_peers = h.lost_peers;
-    }
+      let w = locks_as names made os k o known x op update f st at e in
+      let now : statuses names o'.marks.items ≡ upd same_atom (statuses names o.marks.items) (name_at names place) (own_verdict granted) = fun_ext (λ q. ap (λ z. statuses names z q) is
+      ∙ (reads_set status_of Unasked names o.marks.items place (verdict_mark granted) q apart (known.marked k o at.here) l
+      ∙ ap (λ z. cond (same_atom (name_at names place) q) z (statuses names o.marks.items q)) (verdict_same granted))) in
+      record {
+        references = h.references;
+        uses = (λ i. upd nat_eq (h.uses i) x (Locking (sym w.1.is_op i) (sym w.1.is_update i) (sym w.1.is_first i) (upd same_atom (sym w.1.marks i) (name_at names place) (own_verdict granted))))
+            ∙ (ap (λ z. upd nat_eq (uses_in names made os) x (Locking o.op o.update (name_at names w.0) z)) (sym now) ∙ sym (marked_lock names made os k o known at.here o' x w.0 w.1.phase t));
+        opened = h.opened ∙ sym (set_length stage_at os k o');
+        stages = h.stages ∙ sym (stage_same names made os k o known at.here o' t.op (λ i. stage_in (t.update i) (t.phase i)));
+        lost_peers = h.lost_peers;
+      }
 
   pub count_ok_follows : (x place : ℕ) (op : OpId) (update : Update) (lock : ℕ) (replied : Node → Bool) → Stands os k o x → uses_in names made os x ≡ Updating op update lock replied → Turns o o' o.phase → place < length names
       → o'.marks.items ≡ slice_set o.marks.items place mark.Yes
       → (s : State) → Says names lost made os s → Says names lost made (slice_set os k o') (count_ok x op update lock replied (name_at names place) s).state
   unfolding upd
   count_ok_follows x place op update lock replied at e t l is s h =
-    let w = updates_as names made os k o known x op update lock replied at e in
-    let now : replies names o'.marks.items ≡ upd same_atom (replies names o.marks.items) (name_at names place) true = fun_ext (λ q. ap (λ z. replies names z q) is
-        ∙ reads_set has_yes false names o.marks.items place mark.Yes q apart (known.marked k o at.here) l) in
-    record {
-      references = h.references;
-      uses = (λ i. upd nat_eq (h.uses i) x (Updating (sym w.is_op i) (sym w.is_update i) lock (upd same_atom (sym w.marks i) (name_at names place) true)))
-          ∙ (ap (λ z. upd nat_eq (uses_in names made os) x (Updating o.op o.update lock z)) (sym now) ∙ sym (marked_update names made os k o known at.here o' lock x w.phase t));
-      opened = h.opened ∙ sym (set_length stage_at os k o');
-      stages = h.stages ∙ sym (stage_same names made os k o known at.here o' t.op (λ i. stage_in (t.update i) (t.phase i)));
-      lost_peers = h.lost_peers;
-    }
+      let w = updates_as names made os k o known x op update lock replied at e in
+      let now : replies names o'.marks.items ≡ upd same_atom (replies names o.marks.items) (name_at names place) true = fun_ext (λ q. ap (λ z. replies names z q) is
+      ∙ reads_set has_yes false names o.marks.items place mark.Yes q apart (known.marked k o at.here) l) in
+      record {
+        references = h.references;
+        uses = (λ i. upd nat_eq (h.uses i) x (Updating (sym w.is_op i) (sym w.is_update i) lock (upd same_atom (sym w.marks i) (name_at names place) true)))
+            ∙ (ap (λ z. upd nat_eq (uses_in names made os) x (Updating o.op o.update lock z)) (sym now) ∙ sym (marked_update names made os k o known at.here o' lock x w.phase t));
+        opened = h.opened ∙ sym (set_length stage_at os k o');
+        stages = h.stages ∙ sym (stage_same names made os k o known at.here o' t.op (λ i. stage_in (t.update i) (t.phase i)));
+        lost_peers = h.lost_peers;
+      }
 
   pub give_up_follows : (m : Nodes) (x : ℕ) (op : OpId) (update : Update) (f : Node) (st : Node → Status) → Stands os k o x → uses_in names made os x ≡ Locking op update f st → Turns o o' phase.Waiting
       → (s : State) → Says names lost made os s → Says names lost made (slice_set os k o') (give_up m x op update st s).state
   give_up_follows m x op update f st at e t s h =
-    let w = locks_as names made os k o known x op update f st at e in
-    record {
-      references = h.references;
-      uses = (λ i. upd nat_eq (h.uses i) x Spent) ∙ sym (given names made os k o known at.here o' x w.0 w.1.phase t places.some);
-      opened = h.opened ∙ sym (set_length stage_at os k o');
-      stages = (λ i. upd same_op (h.stages i) (sym w.1.is_op i) (Waiting ((sym w.1.is_update ∙ sym t.update) i)))
-          ∙ (ap (λ ph. upd same_op (stages_in os) o.op (stage_in o'.update ph)) (sym t.phase) ∙ sym (stage_new names made os k o known at.here o' t.op));
-      lost_peers = h.lost_peers;
-    }
+      let w = locks_as names made os k o known x op update f st at e in
+      record {
+        references = h.references;
+        uses = (λ i. upd nat_eq (h.uses i) x Spent) ∙ sym (given names made os k o known at.here o' x w.0 w.1.phase t places.some);
+        opened = h.opened ∙ sym (set_length stage_at os k o');
+        stages = (λ i. upd same_op (h.stages i) (sym w.1.is_op i) (Waiting ((sym w.1.is_update ∙ sym t.update) i)))
+            ∙ (ap (λ ph. upd same_op (stages_in os) o.op (stage_in o'.update ph)) (sym t.phase) ∙ sym (stage_new names made os k o known at.here o' t.op));
+        lost_peers = h.lost_peers;
+      }
 
   pub begin_follows : (m : Nodes) (x : ℕ) (op : OpId) (update : Update) (f : Node) (st : Node → Status) → Stands os k o x → uses_in names made os x ≡ Locking op update f st → Turns o o' (phase.Changing x (made + 1))
       → ((place : ℕ) → place < length o.marks.items → get_or o'.marks.items place mark.Unasked ≡ first_mark mark.Yes place) → m.own ≡ name_at names 0
       → (s : State) → Says names lost made os s → Says names lost (made + 1) (slice_set os k o') (begin m x op update s).state
   begin_follows m x op update f st at e t each own s h =
-    let w = locks_as names made os k o known x op update f st at e in
-    let same = known.marked k o at.here in
-    let same' : length o'.marks.items ≡ length names = t.marks ∙ same in
-    let now : same_atom (name_at names 0) ≡ replies names o'.marks.items = by_places names (same_atom (name_at names 0)) (replies names o'.marks.items)
-        (λ j l. own_at names lost apart places j l ∙ sym (reads_at has_yes false names o'.marks.items j mark.Unasked apart same' l ∙ (ap has_yes (each j (subst (λ z. j < z) (sym same) l)) ∙ yes (j == 0))))
-        (λ q n. not_own q n ∙ sym (reads_nobody has_yes false names o'.marks.items q n)) in
-    record {
-      references = ap (λ n. n + 1) h.references;
-      uses = (λ i. upd nat_eq (upd nat_eq (h.uses i) x (Owning (name_of (sym w.1.is_update i)) (h.references i + 1))) (h.references i + 1) (Updating (sym w.1.is_op i) (sym w.1.is_update i) x (same_atom (own i))))
-          ∙ (ap (λ z. upd nat_eq (upd nat_eq (uses_in names made os) x (Owning (name_of o.update) (made + 1))) (made + 1) (Updating o.op o.update x z)) now ∙ sym (begun names made os k o known at.here o' x w.0 w.1.phase t places.some));
-      opened = h.opened ∙ sym (set_length stage_at os k o');
-      stages = (λ i. upd same_op (h.stages i) (sym w.1.is_op i) (Changing (h.references i + 1)))
-          ∙ (ap (λ ph. upd same_op (stages_in os) o.op (stage_in o'.update ph)) (sym t.phase) ∙ sym (stage_new names made os k o known at.here o' t.op));
-      lost_peers = h.lost_peers;
-    }
+      let w = locks_as names made os k o known x op update f st at e in
+      let same = known.marked k o at.here in
+      let same' : length o'.marks.items ≡ length names = t.marks ∙ same in
+      let now : same_atom (name_at names 0) ≡ replies names o'.marks.items = by_places names (same_atom (name_at names 0)) (replies names o'.marks.items)
+      (λ j l. own_at names lost apart places j l ∙ sym (reads_at has_yes false names o'.marks.items j mark.Unasked apart same' l ∙ (ap has_yes (each j (subst (λ z. j < z) (sym same) l)) ∙ yes (j == 0))))
+      (λ q n. not_own q n ∙ sym (reads_nobody has_yes false names o'.marks.items q n)) in
+      record {
+        references = ap (λ n. n + 1) h.references;
+        uses = (λ i. upd nat_eq (upd nat_eq (h.uses i) x (Owning (name_of (sym w.1.is_update i)) (h.references i + 1))) (h.references i + 1) (Updating (sym w.1.is_op i) (sym w.1.is_update i) x (same_atom (own i))))
+            ∙ (ap (λ z. upd nat_eq (upd nat_eq (uses_in names made os) x (Owning (name_of o.update) (made + 1))) (made + 1) (Updating o.op o.update x z)) now ∙ sym (begun names made os k o known at.here o' x w.0 w.1.phase t places.some));
+        opened = h.opened ∙ sym (set_length stage_at os k o');
+        stages = (λ i. upd same_op (h.stages i) (sym w.1.is_op i) (Changing (h.references i + 1)))
+            ∙ (ap (λ ph. upd same_op (stages_in os) o.op (stage_in o'.update ph)) (sym t.phase) ∙ sym (stage_new names made os k o known at.here o' t.op));
+        lost_peers = h.lost_peers;
+      }
     where
       yes : (b : Bool) → has_yes (cond b mark.Yes mark.Unasked) ≡ b
       yes true = refl
@@ -278,6 +280,22 @@ module _ (names : List Node) (lost : List Bool) (made : ℕ) (os : List OpenComm
           go : (ns : List Node) → 0 < length ns → list_any (same_atom q) ns ≡ false → same_atom (name_at ns 0) q ≡ false
           go [] l n = absurd (none_less l)
           go (n ∷ ns) l e = atom_other q n (first (same_atom q n) (list_any (same_atom q) ns) e)
+
+-- ---- what is known stays so
+
+module _ (names : List Node) (made : ℕ) (os : List OpenCommand) (k : ℕ) (o o' : OpenCommand) (known : AreKnown names made os) where
+  pub start_known : (op : OpId) (first : ℕ) → StandsFor os k o op → standing_of (stages_in os op) ≡ standing.Waiting → Turns o o' (phase.Asking (made + 1) first) → first < length names → AreKnown names (made + 1) (slice_set os k o')
+  start_known op first at e t l = known_after names made os k o known at.here (made + 1) o' (fits_started names made os k o known at.here o' first (waiting_phase names made os k o known op at e) t l)
+
+  pub same_known : (x : ℕ) → Stands os k o x → Turns o o' o.phase → AreKnown names made (slice_set os k o')
+  same_known x at t = known_after names made os k o known at.here made o' (fits_same names made os k o known at.here o' t)
+
+  pub give_up_known : (x : ℕ) → Stands os k o x → Turns o o' phase.Waiting → 0 < length names → AreKnown names made (slice_set os k o')
+  give_up_known x at t l = known_after names made os k o known at.here made o' (fits_given names made os k o known at.here o' t l)
+
+  pub begin_known : (x : ℕ) → Stands os k o x → is_locking (uses_in names made os x) ≡ true → Turns o o' (phase.Changing x (made + 1)) → 0 < length names → AreKnown names (made + 1) (slice_set os k o')
+  begin_known x at i t l = let p = locking_phase names made os k o known x at i in
+      known_after names made os k o known at.here (made + 1) o' (fits_begun names made os k o known at.here o' x p.0 p.1 t l)
 
 -- ---- a command ends
 

@@ -31,7 +31,8 @@ use Rattle.pg_opens.specs.Layers.{over, or_as, seek, answers, others}
 use Rattle.pg_opens.specs.Places.{name_at, left_in, ArePlaces}
 use Rattle.pg_opens.specs.Marks.{status_of, statuses, has_yes, replies, all_marks}
 use Rattle.pg_opens.specs.Commands.{use_in, use_at, has_in, stage_in, stage_at, is_made, unused, uses_in, stages_in, first_in, AreKnown}
-use Rattle.pg_opens.specs.Readings.{gathering_of, gathering_in, standing_of, standing_in, lock_heard, heard_in, complete_in, is_locking}
+use Rattle.pg_opens.specs.declared.command.Standing.TheVariants as standing
+use Rattle.pg_opens.specs.Readings.{is_updating, gathering_of, gathering_in, standing_of, standing_in, lock_heard, heard_in, complete_in, is_locking}
 use Rattle.pg_opens.specs.Outlooks.{outlook_of, outlook_by, outlook_in}
 use Rattle.pg_opens.proofs.Layered.{quiet_is, quiet_both}
 use Rattle.pg_opens.proofs.Named.{clash, split}
@@ -153,9 +154,9 @@ pub heard_here : (names : List Node) (lost : List Bool) (made : ℕ) (os : List 
 heard_here names lost made os k o x place apart places known at l =
     sym (ap (λ z. what_of true (gathered z (name_at names place))) (was names made os k o known at.here x)
     ∙ hears names o.op o.update o.phase o.marks.items x place (get_or o.marks.items place mark.Unasked) _ _ at.has
-        (status_at names lost apart places o.marks.items (known.marked k o at.here) place l)
-        (reply_at names lost apart places o.marks.items (known.marked k o at.here) place l)
-        (same_at names lost apart places (first_in o.phase) place (known.first k o at.here) l))
+    (status_at names lost apart places o.marks.items (known.marked k o at.here) place l)
+    (reply_at names lost apart places o.marks.items (known.marked k o at.here) place l)
+    (same_at names lost apart places (first_in o.phase) place (known.first k o at.here) l))
 
 module _ (names : List Node) (lost : List Bool) (made : ℕ) (os : List OpenCommand) (k : ℕ) (o : OpenCommand) (apart : IsDistinct same_atom names) (places : ArePlaces names lost) (known : AreKnown names made os) (x : ℕ) (at : Stands os k o x) where
   completes : (op : OpId) (u : Update) (ph : Phase) (marks : List Mark) (r : Option Use) (d : Use) → has_in ph x ≡ true → length marks ≡ length names
@@ -189,15 +190,15 @@ module _ (names : List Node) (lost : List Bool) (made : ℕ) (os : List OpenComm
     where
       one : (b : Bool) → b ≡ true → outlook_of (left_in names lost) granted (or_as (over (cond b (Some (Locking op u (name_at names first) (statuses names marks))) None) r) d) ≡ outlook_in marks lost granted
       one true h = ap (λ z. outlook_by z (not (does_wait (after_round (round_of (name_at names first) (statuses names marks)) (none_denied (left_in names lost) (statuses names marks)))))
-              (all_granted (left_in names lost) (with_asked (left_in names lost) (λ q. true) (statuses names marks) granted)) (none_missing (left_in names lost) (with_asked (left_in names lost) (λ q. true) (statuses names marks) granted)))
-              (every_nobody names lost apart places marks same Answered granted)
+          (all_granted (left_in names lost) (with_asked (left_in names lost) (λ q. true) (statuses names marks) granted)) (none_missing (left_in names lost) (with_asked (left_in names lost) (λ q. true) (statuses names marks) granted)))
+          (every_nobody names lost apart places marks same Answered granted)
           ∙ (ap (λ z. outlook_by (all_marks marks lost Answered Nobody granted) z
-              (all_granted (left_in names lost) (with_asked (left_in names lost) (λ q. true) (statuses names marks) granted)) (none_missing (left_in names lost) (with_asked (left_in names lost) (λ q. true) (statuses names marks) granted)))
-              (waits_not (is_yes (statuses names marks (name_at names first))) (none_denied (left_in names lost) (statuses names marks)) ∙ every_nobody names lost apart places marks same NotDenied granted)
+          (all_granted (left_in names lost) (with_asked (left_in names lost) (λ q. true) (statuses names marks) granted)) (none_missing (left_in names lost) (with_asked (left_in names lost) (λ q. true) (statuses names marks) granted)))
+          (waits_not (is_yes (statuses names marks (name_at names first))) (none_denied (left_in names lost) (statuses names marks)) ∙ every_nobody names lost apart places marks same NotDenied granted)
           ∙ (ap (λ z. outlook_by (all_marks marks lost Answered Nobody granted) (all_marks marks lost NotDenied Nobody granted) z (none_missing (left_in names lost) (with_asked (left_in names lost) (λ q. true) (statuses names marks) granted)))
-              (every_all names lost apart places marks same Granted granted)
+          (every_all names lost apart places marks same Granted granted)
           ∙ ap (outlook_by (all_marks marks lost Answered Nobody granted) (all_marks marks lost NotDenied Nobody granted) (all_marks marks lost Granted All granted))
-              (every_all names lost apart places marks same Answered granted)))
+          (every_all names lost apart places marks same Answered granted)))
       one false h = absurd (clash (sym h))
   looks op u (phase.Changing lock number) marks r d granted h i same = absurd (two (nat_eq number x) (nat_eq lock x) h i)
     where
@@ -209,3 +210,38 @@ module _ (names : List Node) (lost : List Bool) (made : ℕ) (os : List OpenComm
   pub outlook_here : (granted : Bool) → is_locking (uses_in names made os x) ≡ true → outlook_in o.marks.items lost granted ≡ outlook_of (left_in names lost) granted (uses_in names made os x)
   outlook_here granted i = sym (ap (outlook_of (left_in names lost) granted) (was names made os k o known at.here x)
       ∙ looks o.op o.update o.phase o.marks.items _ _ granted at.has (ap is_locking (sym (was names made os k o known at.here x)) ∙ i) (known.marked k o at.here))
+
+-- ---- what is asked of a command that is not there
+
+pub no_locking : (names : List Node) (made : ℕ) (os s : List OpenCommand) (x : ℕ) → s ≡ os → list_any (λ o. has_in o.phase x) s ≡ false → is_locking (uses_in names made os x) ≡ true → ⊥
+no_locking names made os s x same e h = clash (sym h ∙ nothing_of is_locking false names made os s x same e refl refl)
+
+pub no_updating : (names : List Node) (made : ℕ) (os s : List OpenCommand) (x : ℕ) → s ≡ os → list_any (λ o. has_in o.phase x) s ≡ false → is_updating (uses_in names made os x) ≡ true → ⊥
+no_updating names made os s x same e h = clash (sym h ∙ nothing_of is_updating false names made os s x same e refl refl)
+
+pub no_waiting : (os s : List OpenCommand) (op : OpId) → s ≡ os → list_any (λ o. same_op o.op op) s ≡ false → standing_of (stages_in os op) ≡ standing.Waiting → ⊥
+no_waiting os s op same e h = let c : standing_of Closed ≡ standing.Waiting = ap standing_of (sym (closed_of os s op same e)) ∙ h in cc
+
+-- ---- the phase of a command, by what is asked of it
+
+module _ (names : List Node) (made : ℕ) (os : List OpenCommand) (k : ℕ) (o : OpenCommand) (known : AreKnown names made os) where
+  pub waiting_phase : (op : OpId) → StandsFor os k o op → standing_of (stages_in os op) ≡ standing.Waiting → o.phase ≡ phase.Waiting
+  waiting_phase op at e = go o.phase refl (standing_here names made os k o op known at ∙ e)
+    where
+      go : (ph : Phase) → o.phase ≡ ph → standing_in o.phase ≡ standing.Waiting → o.phase ≡ phase.Waiting
+      go phase.Waiting p h = p
+      go (phase.Asking lock first) p h = absurd (let c : standing.Asking lock ≡ standing.Waiting = ap standing_in (sym p) ∙ h in cc)
+      go (phase.Changing lock number) p h = absurd (let c : standing.Changing number ≡ standing.Waiting = ap standing_in (sym p) ∙ h in cc)
+
+  pub locking_phase : (x : ℕ) → Stands os k o x → is_locking (uses_in names made os x) ≡ true → (first : ℕ) × (o.phase ≡ phase.Asking x first)
+  locking_phase x at i = go o.phase refl at.has (ap is_locking (sym (was names made os k o known at.here x)) ∙ i)
+    where
+      go : (ph : Phase) → o.phase ≡ ph → has_in ph x ≡ true → is_locking (or_as (over (use_in names o.op o.update ph o.marks.items x) (seek (use_at names) (others os k) x)) (unused made x)) ≡ true → (first : ℕ) × (o.phase ≡ phase.Asking x first)
+      go phase.Waiting p h i = absurd (clash (sym h))
+      go (phase.Asking lock first) p h i = (first, p ∙ ap (λ z. phase.Asking z first) (eqb-true lock x h))
+      go (phase.Changing lock number) p h i = absurd (two (nat_eq number x) (nat_eq lock x) h i)
+        where
+          two : (b c : Bool) → (b || c) ≡ true → is_locking (or_as (over (cond b (Some (Updating o.op o.update lock (replies names o.marks.items))) (cond c (Some (Owning (name_of o.update) number)) None)) (seek (use_at names) (others os k) x)) (unused made x)) ≡ true → ⊥
+          two true c h i = clash (sym i)
+          two false true h i = clash (sym i)
+          two false false h i = clash (sym h)

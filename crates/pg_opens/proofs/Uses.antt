@@ -158,7 +158,7 @@ module _ (names : List Node) (made : ℕ) (os : List OpenCommand) (k : ℕ) (o :
       ∙ (ap (λ z. or_as (over z (rest x)) (unused made x)) (use_as names o o' o.phase x t ∙ ap (λ ph. use_in names o.op o.update ph o'.marks.items x) e)
       ∙ (one (nat_eq lock x) (rest x) (unused made x)
       ∙ ap (cond (nat_eq lock x) (Locking o.op o.update (name_at names first) (statuses names o'.marks.items)))
-          (sym (was x ∙ ap (λ z. or_as (over z (rest x)) (unused made x)) (use_was names o (phase.Asking lock first) x e))))))
+      (sym (was x ∙ ap (λ z. or_as (over z (rest x)) (unused made x)) (use_was names o (phase.Asking lock first) x e))))))
     where
       one : (b : Bool) (r : Option Use) (d : Use) → or_as (over (cond b (Some (Locking o.op o.update (name_at names first) (statuses names o'.marks.items))) None) r) d
           ≡ cond b (Locking o.op o.update (name_at names first) (statuses names o'.marks.items)) (or_as (over (cond b (Some (Locking o.op o.update (name_at names first) (statuses names o.marks.items))) None) r) d)
@@ -172,7 +172,7 @@ module _ (names : List Node) (made : ℕ) (os : List OpenCommand) (k : ℕ) (o :
       ∙ (ap (λ z. or_as (over z (rest x)) (unused made x)) (use_as names o o' o.phase x t ∙ ap (λ ph. use_in names o.op o.update ph o'.marks.items x) e)
       ∙ (one (nat_eq number x) (cond (nat_eq lock x) (Some (Owning (name_of o.update) number)) None) (rest x) (unused made x)
       ∙ ap (cond (nat_eq number x) (Updating o.op o.update lock (replies names o'.marks.items)))
-          (sym (was x ∙ ap (λ z. or_as (over z (rest x)) (unused made x)) (use_was names o (phase.Changing lock number) x e))))))
+      (sym (was x ∙ ap (λ z. or_as (over z (rest x)) (unused made x)) (use_was names o (phase.Changing lock number) x e))))))
     where
       one : (b : Bool) (own r : Option Use) (d : Use) → or_as (over (cond b (Some (Updating o.op o.update lock (replies names o'.marks.items))) own) r) d
           ≡ cond b (Updating o.op o.update lock (replies names o'.marks.items)) (or_as (over (cond b (Some (Updating o.op o.update lock (replies names o.marks.items))) own) r) d)
@@ -226,7 +226,7 @@ module _ (names : List Node) (made : ℕ) (os : List OpenCommand) (k : ℕ) (o :
       ∙ (ap (λ z. or_as (over z (rest x)) (unused (made + 1) x)) (use_as names o o' (phase.Asking (made + 1) first) x t)
       ∙ (one (nat_eq (made + 1) x) (rest x) (unused (made + 1) x) (unused made x) (unused_more x)
       ∙ ap (cond (nat_eq (made + 1) x) (Locking o.op o.update (name_at names first) (statuses names o'.marks.items)))
-          (sym (was x ∙ ap (λ z. or_as (over z (rest x)) (unused made x)) (use_was names o phase.Waiting x e))))))
+      (sym (was x ∙ ap (λ z. or_as (over z (rest x)) (unused made x)) (use_was names o phase.Waiting x e))))))
     where
       one : (b : Bool) (r : Option Use) (d d' : Use) → (b ≡ false → d ≡ d') → or_as (over (cond b (Some (Locking o.op o.update (name_at names first) (statuses names o'.marks.items))) None) r) d
           ≡ cond b (Locking o.op o.update (name_at names first) (statuses names o'.marks.items)) (or_as (over None r) d')
@@ -263,12 +263,12 @@ module _ (names : List Node) (made : ℕ) (os : List OpenCommand) (k : ℕ) (o :
       ∙ (ap (λ z. or_as (over z (rest x)) (unused (made + 1) x)) (use_as names o o' (phase.Changing lock (made + 1)) x t)
       ∙ (one (nat_eq (made + 1) x) (nat_eq lock x) (rest x) (unused (made + 1) x) (unused made x) (unused_more x)
       ∙ ap (λ z. cond (nat_eq (made + 1) x) (Updating o.op o.update lock (replies names o'.marks.items)) (cond (nat_eq lock x) (Owning (name_of o.update) (made + 1)) z))
-          (sym (was x ∙ ap (λ z. or_as (over z (rest x)) (unused made x)) (use_was names o (phase.Asking lock first) x e))))))
+      (sym (was x ∙ ap (λ z. or_as (over z (rest x)) (unused made x)) (use_was names o (phase.Asking lock first) x e))))))
     where
       one : (b c : Bool) (r : Option Use) (d d' : Use) → (b ≡ false → d ≡ d')
           → or_as (over (cond b (Some (Updating o.op o.update lock (replies names o'.marks.items))) (cond c (Some (Owning (name_of o.update) (made + 1))) None)) r) d
           ≡ cond b (Updating o.op o.update lock (replies names o'.marks.items)) (cond c (Owning (name_of o.update) (made + 1))
-              (or_as (over (cond c (Some (Locking o.op o.update (name_at names first) (statuses names o.marks.items))) None) r) d'))
+          (or_as (over (cond c (Some (Locking o.op o.update (name_at names first) (statuses names o.marks.items))) None) r) d'))
       one true c r d d' h = refl
       one false true r d d' h = refl
       one false false r d d' h = ap (or_as r) (h refl)

@@ -1,5 +1,5 @@
 -- What a list of open commands says.
-use Rattle.std.specs.Prelude.{◌≡◌, ℕ, ◌<◌, Bool, true, false, ◌&&◌, ◌||◌, cond, nat_eq, nat_lt, nat_le, length, List, Option, Some, None, slice_get}
+use Rattle.std.specs.Prelude.{◌≡◌, ℕ, ◌<◌, Bool, true, false, ◌&&◌, ◌||◌, cond, nat_eq, nat_lt, nat_le, length, List, Option, Some, None, slice_get, slice_set}
 use Rattle.pg_term.specs.declared.term.Term.{Term}
 use Rattle.pg_group.specs.declared.update.Update.{Update}
 use Rattle.pg_group.specs.Value.{name_of}
@@ -10,6 +10,7 @@ use Rattle.pg_step.specs.State.Use.{Fresh, Locking, Owning, Updating, Spent}
 use Rattle.pg_step.specs.State.Stage.{Closed, Waiting, Asking, Changing}
 use Rattle.pg_step.specs.Attempts.{same_op}
 use Rattle.pg_opens.specs.declared.mark.Mark.{Mark}
+use Rattle.pg_opens.specs.declared.mark.Mark.TheVariants as mark
 use Rattle.pg_opens.specs.declared.command.Phase.{Phase}
 use Rattle.pg_opens.specs.declared.command.Phase.TheVariants as phase
 use Rattle.pg_opens.specs.declared.command.OpenCommand.{OpenCommand}
@@ -74,3 +75,8 @@ pub record Turns (old new : OpenCommand) (ph : Phase) : Type 0 where
   pub update : new.update ≡ old.update
   pub phase : new.phase ≡ ph
   pub marks : length new.marks.items ≡ length old.marks.items
+
+-- a command forgets the node at a place
+pub record Forgets (place : ℕ) (old new : OpenCommand) : Type 0 where
+  pub turns : Turns old new old.phase
+  pub items : new.marks.items ≡ slice_set old.marks.items place mark.Unasked

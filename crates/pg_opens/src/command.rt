@@ -166,10 +166,12 @@ impl OpenCommand {
         match self.phase {
             Phase::Waiting => false,
             Phase::Asking(lock, _) => {
-                lock == number && all_pass(&self.marks, lost, Wanted::Answered, Asked::Nobody, false)
+                lock == number
+                    && all_pass(&self.marks, lost, Wanted::Answered, Asked::Nobody, false)
             }
             Phase::Changing(_, update) => {
-                update == number && all_pass(&self.marks, lost, Wanted::Granted, Asked::Nobody, false)
+                update == number
+                    && all_pass(&self.marks, lost, Wanted::Granted, Asked::Nobody, false)
             }
         }
     }

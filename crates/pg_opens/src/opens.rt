@@ -3,6 +3,7 @@ ghost use Rattle.std.specs.List.{IsDistinct, IsDistinct-prop};
 ghost use Rattle.std.specs.Option.{option_copied};
 ghost use Rattle.pg_term.specs.Same.{same_atom};
 ghost use Rattle.pg_opens.specs.Places.{ArePlaces, name_at};
+ghost use Rattle.pg_opens.specs.declared.command.OpenCommand.{OpenCommand};
 ghost use Rattle.pg_opens.specs.Commands.{AreKnown};
 
 use crate::command::{Gathering, OpenCommand, Phase, Standing, place_of, place_of_op};
@@ -38,10 +39,20 @@ pub struct Room {
 impl Opens {
     ghost use Rattle.pg_multicall.specs.Gathered.{what_of};
     ghost use Rattle.pg_group.specs.Table.{Table};
-    ghost use Rattle.pg_step.specs.State.{new_state};
-    ghost use Rattle.pg_step.specs.Attempts.{gathered, is_complete};
-    ghost use Rattle.pg_opens.specs.Opens.{names_of, left_of, lost_of, references_of, uses_of, opened_of, stages_of, Shows};
-    ghost use Rattle.pg_opens.specs.Readings.{gathering_of, standing_of, is_locking};
+    ghost use Rattle.std.specs.Prelude.{Bool};
+    ghost use Rattle.pg_group.specs.Value.{name_of};
+    ghost use Rattle.pg_step.specs.Nodes.{Node};
+    ghost use Rattle.pg_step.specs.State.{State, Status, new_state};
+    ghost use Rattle.pg_step.specs.State.Use.{Locking, Updating};
+    ghost use Rattle.pg_step.specs.State.Stage.{Closed, Waiting};
+    ghost use Rattle.pg_step.specs.Peers.{would_grant};
+    ghost use Rattle.pg_step.specs.Attempts.{gathered, is_complete, new_attempt, ask, own_verdict, count_answer, count_ok, give_up, begin, finish};
+    ghost use Rattle.pg_step.specs.Turns.{becomes};
+    ghost use Rattle.pg_step.specs.Commands.{open_command};
+    ghost use Rattle.pg_step.specs.Losses.{see_loss};
+    ghost use Rattle.pg_opens.specs.Opens.{names_of, left_of, lost_of, references_of, uses_of, opened_of, stages_of, Shows, Follows, has_room, places_of};
+    ghost use Rattle.pg_opens.specs.Marks.{whom, has_place};
+    ghost use Rattle.pg_opens.specs.Readings.{gathering_of, standing_of, is_locking, is_updating};
     ghost use Rattle.pg_opens.specs.Outlooks.{outlook_of};
 
     /// No command is open, no reference was made and no loss was seen. Two allocations.
@@ -144,5 +155,180 @@ impl Opens {
                 command.outlook(&self.lost, granted)
             }
         }
+    }
+
+    /// A command that waits begins an attempt, under the next reference. `first`: the node that is asked first, by the names.
+    /// It takes no memory: O(open commands + nodes).
+    pub fn start(&mut self, op: OpId, first: usize)
+        requires waits { standing_of (stages_of self.old op) ≡ Standing.Waiting }
+        requires first { first < length (names_of self.old) }
+        requires number { references_of self.old + 1 < 2 ^ 32 }
+        ensures turned { (update : Update) → stages_of self.old op ≡ Waiting update
+            → Follows self.old self.new (new_attempt (name_at (names_of self.old) first) op update) }
+        ensures nodes { names_of self.new ≡ names_of self.old }
+    {
+        if let Some(place) = place_of_op(&self.commands, op) {
+            let number = self.references + 1;
+            self.references = number;
+            let command = &mut self.commands[place];
+            command.start(number, first);
+        }
+    }
+
+    /// These nodes are asked for the lock, those of them that were not and that count. `granted`: what the own node answers,
+    /// by its rule for a peer's request. It takes no memory: O(open commands + nodes).
+    pub fn ask(&mut self, number: u32, who: Asked, granted: bool)
+        requires locking { is_locking (uses_of self.old number) ≡ true }
+        requires who { has_place who (length (names_of self.old)) ≡ true }
+        ensures turned { (op : OpId) (update : Update) (first : Node) (st : Node → Status)
+            → uses_of self.old number ≡ Locking op update first st
+            → (s : State) → Shows self.old s → would_grant (left_of self.old) s (name_of update) ≡ granted
+            → Shows self.new (ask (left_of self.old) (whom (names_of self.old) who) number op update first st s).state }
+        ensures nodes { names_of self.new ≡ names_of self.old }
+    {
+        if let Some(place) = place_of(&self.commands, number) {
+            let command = &mut self.commands[place];
+            command.ask(&self.lost, who, granted);
+        }
+    }
+
+    /// The answer of a node to the request for the lock is counted. `place`: the node's, by the names. It takes no memory:
+    /// O(open commands).
+    pub fn count_answer(&mut self, number: u32, place: usize, granted: bool)
+        requires locking { is_locking (uses_of self.old number) ≡ true }
+        requires place { place < length (names_of self.old) }
+        ensures turned { (op : OpId) (update : Update) (first : Node) (st : Node → Status)
+            → uses_of self.old number ≡ Locking op update first st
+            → Follows self.old self.new (count_answer number op update first st (name_at (names_of self.old) place) (own_verdict granted)) }
+        ensures nodes { names_of self.new ≡ names_of self.old }
+    {
+        if let Some(found) = place_of(&self.commands, number) {
+            let command = &mut self.commands[found];
+            command.mark(place, Mark::of_answer(granted));
+        }
+    }
+
+    /// The ok of a node is counted. `place`: the node's, by the names. It takes no memory: O(open commands).
+    pub fn count_ok(&mut self, number: u32, place: usize)
+        requires updating { is_updating (uses_of self.old number) ≡ true }
+        requires place { place < length (names_of self.old) }
+        ensures turned { (op : OpId) (update : Update) (lock : ℕ) (replied : Node → Bool)
+            → uses_of self.old number ≡ Updating op update lock replied
+            → Follows self.old self.new (count_ok number op update lock replied (name_at (names_of self.old) place)) }
+        ensures nodes { names_of self.new ≡ names_of self.old }
+    {
+        if let Some(found) = place_of(&self.commands, number) {
+            let command = &mut self.commands[found];
+            command.mark(place, Mark::Yes);
+        }
+    }
+
+    /// The attempt is given up, and its command waits for the retry. It takes no memory: O(open commands).
+    pub fn give_up(&mut self, number: u32)
+        requires locking { is_locking (uses_of self.old number) ≡ true }
+        ensures turned { (op : OpId) (update : Update) (first : Node) (st : Node → Status)
+            → uses_of self.old number ≡ Locking op update first st
+            → Follows self.old self.new (give_up (left_of self.old) number op update st) }
+        ensures nodes { names_of self.new ≡ names_of self.old }
+    {
+        if let Some(place) = place_of(&self.commands, number) {
+            let command = &mut self.commands[place];
+            command.wait();
+        }
+    }
+
+    /// The update begins, under the next reference, and the own node has applied it. It takes no memory:
+    /// O(open commands + nodes).
+    pub fn begin(&mut self, number: u32)
+        requires locking { is_locking (uses_of self.old number) ≡ true }
+        requires next { references_of self.old + 1 < 2 ^ 32 }
+        ensures turned { (op : OpId) (update : Update) (first : Node) (st : Node → Status)
+            → uses_of self.old number ≡ Locking op update first st
+            → Follows self.old self.new (begin (left_of self.old) number op update) }
+        ensures nodes { names_of self.new ≡ names_of self.old }
+    {
+        if let Some(place) = place_of(&self.commands, number) {
+            let update = self.references + 1;
+            self.references = update;
+            let command = &mut self.commands[place];
+            command.begin(number, update);
+        }
+    }
+
+    /// The command ends, whose update every node has applied, and is open no more. It takes no memory: O(open commands).
+    pub fn finish(&mut self, number: u32)
+        requires updating { is_updating (uses_of self.old number) ≡ true }
+        ensures turned { (op : OpId) (update : Update) (lock : ℕ) (replied : Node → Bool)
+            → uses_of self.old number ≡ Updating op update lock replied
+            → Follows self.old self.new (finish (left_of self.old) number op update lock) }
+        ensures nodes { names_of self.new ≡ names_of self.old }
+    {
+        if let Some(place) = place_of(&self.commands, number) {
+            self.commands.remove(place);
+        }
+    }
+
+    /// Makes room for one more command. Nothing else changes. Two allocations at most.
+    ///
+    /// Error: `AllocError`, by which nothing changes either.
+    pub fn reserve(&mut self, alloc: Global) -> Result<Room, AllocError>
+        ensures same { Follows self.old self.new becomes }
+        ensures nodes { names_of self.new ≡ names_of self.old }
+        ensures ok { OnOk result (has_room self.new) }
+        ensures room { IfOk result (λ room. places_of room ≡ length (names_of self.old)) }
+    {
+        self.commands.reserve(1)?;
+        let marks = Vec::from_elem(alloc, Mark::Unasked, self.names.len())?;
+        Ok(Room { marks })
+    }
+
+    /// Opens a command, for which room was made. It takes no memory.
+    pub fn add(&mut self, op: OpId, update: Update, room: Room)
+        requires room { has_room self.old }
+        requires places { places_of room ≡ length (names_of self.old) }
+        requires closed { stages_of self.old op ≡ Closed }
+        ensures turned { Follows self.old self.new (open_command op update) }
+        ensures nodes { names_of self.new ≡ names_of self.old }
+    {
+        self.commands.push_reserved(OpenCommand {
+            op,
+            update,
+            phase: Phase::Waiting,
+            marks: room.marks,
+        });
+    }
+
+    /// Sees the loss of a peer: it counts no more, and what is gathered forgets it. `place`: the peer's, by the names. It
+    /// takes no memory: O(open commands).
+    pub fn lose(&mut self, place: usize)
+        requires place { place < length (names_of self.old) }
+        requires peer { 0 < place }
+        ensures turned { Follows self.old self.new (see_loss (name_at (names_of self.old) place)) }
+        ensures nodes { names_of self.new ≡ names_of self.old }
+    {
+        forget(&mut self.commands, place);
+        set_lost(&mut self.lost, place);
+    }
+}
+
+fn set_lost(lost: &mut Vec<bool>, place: usize)
+    requires { place < length lost.old.items }
+    ensures { lost.new.items ≡ slice_set lost.old.items place true }
+{
+    lost[place] = true;
+}
+
+ghost use Rattle.std.specs.Prelude.{Some, slice_get, slice_set};
+ghost use Rattle.pg_opens.specs.Commands.{Forgets};
+
+/// What each command gathers forgets the node at a place.
+fn forget(commands: &mut Vec<OpenCommand>, place: usize)
+    requires { (k : ℕ) (command : OpenCommand) → slice_get commands.old.items k ≡ Some command → place < length command.marks.items }
+    ensures len { length commands.new.items ≡ length commands.old.items }
+    ensures each { (k : ℕ) (old new : OpenCommand) → slice_get commands.old.items k ≡ Some old
+        → slice_get commands.new.items k ≡ Some new → Forgets place old new }
+{
+    for k in 0..commands.len() {
+        commands[k].mark(place, Mark::Unasked);
     }
 }
