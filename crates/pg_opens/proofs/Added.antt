@@ -1,22 +1,21 @@
 -- A command is opened.
-use Rattle.std.proofs.Common.{◌≡◌, ℕ, ◌<◌, ◌+◌, zero, suc, Bool, true, false, cond, nat_eq, length, List, [], ◌∷◌, ◌++◌, Option, Some, None, refl, ap, sym, ◌∙◌, subst, arith}
-use Rattle.std.specs.Prelude.{slice_get}
+use Rattle.std.proofs.Common.{◌≡◌, ℕ, ◌<◌, ◌+◌, suc, Bool, true, false, cond, length, List, [], ◌∷◌, ◌++◌, Option, Some, None, refl, ap, sym, ◌∙◌, subst, arith}
 use Rattle.std.proofs.Math.Path.{fun_ext}
 use Rattle.pg_group.specs.declared.update.Update.{Update}
 use Rattle.pg_group.specs.Functions.{upd}
 use Rattle.pg_step.specs.declared.command.OpId.{OpId}
 use Rattle.pg_step.specs.Nodes.{Node}
-use Rattle.pg_step.specs.State.{State, Use, Stage}
+use Rattle.pg_step.specs.State.{State, Stage}
 use Rattle.pg_step.specs.State.Stage.{Closed, Waiting}
 use Rattle.pg_step.specs.Attempts.{same_op}
 use Rattle.pg_step.specs.Commands.{open_command}
 use Rattle.pg_opens.specs.declared.command.Phase.{Phase}
 use Rattle.pg_opens.specs.declared.command.Phase.TheVariants as phase
 use Rattle.pg_opens.specs.declared.command.OpenCommand.{OpenCommand}
-use Rattle.pg_opens.specs.Layers.{over, or_as, seek, answers, others}
-use Rattle.pg_opens.specs.Commands.{use_in, use_at, stage_in, stage_at, unused, uses_in, stages_in, first_in, AreKnown}
+use Rattle.pg_opens.specs.Layers.{over, or_as, seek, answers}
+use Rattle.pg_opens.specs.Commands.{use_in, use_at, stage_in, stage_at, unused, stages_in, first_in, AreKnown}
 use Rattle.pg_opens.specs.Opens.{Says}
-use Rattle.pg_opens.proofs.Layered.{quiet_is, quiet_both, apart_of, alone_of, push_seek, push_apart, push_each}
+use Rattle.pg_opens.proofs.Layered.{quiet_is, apart_of, alone_of, push_seek, push_apart, push_each}
 use Rattle.pg_opens.proofs.Named.{clash}
 use Rattle.pg_opens.proofs.Followed.{op_is}
 

@@ -1,25 +1,22 @@
 -- The marks of the nodes, and what they say of those that count.
 use Rattle.std.proofs.Common.{◌≡◌, ℕ, ◌<◌, zero, suc, Bool, true, false, not, ◌&&◌, ◌||◌, ◌==◌, cond, nat_lt, get_or, drop, length, List, [], ◌∷◌, refl, ap, sym, ◌∙◌, subst, inl, inr, ◌⊎◌, arith}
-use Rattle.std.specs.Prelude.{slice_set}
 use Rattle.std.specs.List.{AllByRecursion, IsDistinct, list_any, list_all, filter}
 use Rattle.std.proofs.Math.Path.{fun_ext}
 use Rattle.std.proofs.lemmas.Bool.{eq-eqb, ne_eqb, cases_eq}
 use Rattle.std.proofs.lemmas.Bool.Decides.{nat_tests}
 use Rattle.pg_term.specs.Same.{same_atom}
-use Rattle.pg_group.specs.Functions.{upd}
-use Rattle.pg_step.specs.Nodes.{Node, Nodes, every, is_node}
-use Rattle.pg_step.specs.State.{Status}
+use Rattle.pg_step.specs.Nodes.{Node, every, is_node}
 use Rattle.pg_step.specs.State.Status.{Unasked, Asked}
 use Rattle.pg_step.specs.Attempts.{is_unasked, asks, own_verdict, with_asked}
 use Rattle.pg_opens.specs.declared.mark.Mark.{Mark}
 use Rattle.pg_opens.specs.declared.mark.Mark.TheVariants as mark
 use Rattle.pg_opens.specs.declared.mark.Asked.{Asked as Whom}
 use Rattle.pg_opens.specs.declared.mark.Asked.TheVariants.{Nobody, One, All}
-use Rattle.pg_opens.specs.Places.{name_at, reads, all_below, lost_in, left_in, ArePlaces}
+use Rattle.pg_opens.specs.Places.{name_at, all_below, lost_in, left_in, ArePlaces}
 use Rattle.pg_opens.specs.declared.mark.Wanted.{Wanted}
-use Rattle.pg_opens.specs.declared.mark.Wanted.TheVariants.{Answered, NotDenied, Granted}
-use Rattle.pg_opens.specs.Marks.{status_of, statuses, has_yes, replies, verdict_mark, asked_mark, is_wanted, whom, has_place, mark_at, first_mark, passes, all_marks}
-use Rattle.pg_opens.proofs.Named.{clash, split, atom_self, atom_other, names_differ, reads_at, reads_nobody, reads_set, reads_all, by_places, all_below_same, all_names, all_filtered, any_filtered}
+use Rattle.pg_opens.specs.declared.mark.Wanted.TheVariants.{Granted}
+use Rattle.pg_opens.specs.Marks.{status_of, statuses, has_yes, replies, asked_mark, is_wanted, whom, has_place, mark_at, passes, all_marks}
+use Rattle.pg_opens.proofs.Named.{clash, atom_self, atom_other, names_differ, reads_at, reads_nobody, by_places, all_below_same, all_names, all_filtered, any_filtered}
 
 -- ---- tests of some of the nodes
 

@@ -1,11 +1,10 @@
 -- Open commands go as the turns of a node do.
-use Rattle.std.proofs.Common.{◌≡◌, ℕ, ◌<◌, ◌≤◌, ◌+◌, ◌-◌, zero, suc, Bool, true, false, not, ◌&&◌, ◌||◌, ◌==◌, cond, nat_eq, nat_lt, nat_le, get_or, length, replicate, List, [], ◌∷◌, ◌++◌, Option, Some, None, refl, ap, sym, ◌∙◌, subst, inl, inr, ◌⊎◌, arith}
-use Rattle.std.specs.Prelude.{slice_get, slice_set}
+use Rattle.std.proofs.Common.{◌≡◌, ℕ, ◌<◌, ◌+◌, ◌-◌, zero, suc, Bool, true, false, ◌&&◌, ◌||◌, ◌==◌, cond, nat_eq, nat_lt, nat_le, get_or, length, replicate, List, [], ◌∷◌, Some, None, refl, ap, sym, ◌∙◌, subst, arith}
+use Rattle.std.specs.Prelude.{slice_set}
 use Rattle.std.specs.List.{IsDistinct, list_any}
 use Rattle.std.proofs.Math.Path.{fun_ext}
 use Rattle.std.proofs.lemmas.Bool.{eqb-true, eq-eqb}
 use Rattle.std.proofs.lemmas.Bool.Decides.{nat_tests}
-use Rattle.std.proofs.lemmas.List.{get_or-replicate}
 use Rattle.pg_term.specs.Same.{same_atom}
 use Rattle.pg_group.specs.declared.update.Update.{Update}
 use Rattle.pg_group.specs.Value.{name_of}
@@ -13,28 +12,27 @@ use Rattle.pg_group.specs.Functions.{upd}
 use Rattle.pg_group.specs.Table.{Table}
 use Rattle.pg_step.specs.declared.command.OpId.{OpId}
 use Rattle.pg_step.specs.Nodes.{Node, Nodes}
-use Rattle.pg_step.specs.State.{State, Status, Use, Stage, new_state}
+use Rattle.pg_step.specs.State.{State, Status, new_state}
 use Rattle.pg_step.specs.State.Status.{Unasked}
 use Rattle.pg_step.specs.State.Use.{Fresh, Locking, Owning, Updating, Spent}
 use Rattle.pg_step.specs.State.Stage.{Closed, Waiting, Changing}
 use Rattle.pg_step.specs.Peers.{would_grant}
 use Rattle.pg_step.specs.Attempts.{same_op, new_attempt, ask, with_asked, count_answer, count_ok, give_up, begin, finish, own_verdict}
-use Rattle.pg_step.specs.Commands.{open_command}
 use Rattle.pg_opens.specs.declared.mark.Mark.{Mark}
 use Rattle.pg_opens.specs.declared.mark.Mark.TheVariants as mark
 use Rattle.pg_opens.specs.declared.mark.Asked.{Asked as Whom}
 use Rattle.pg_opens.specs.declared.command.Phase.{Phase}
 use Rattle.pg_opens.specs.declared.command.Phase.TheVariants as phase
 use Rattle.pg_opens.specs.declared.command.OpenCommand.{OpenCommand}
-use Rattle.pg_opens.specs.Layers.{over, or_as, seek, answers, others}
+use Rattle.pg_opens.specs.Layers.{over, or_as, seek, others}
 use Rattle.pg_opens.specs.Places.{name_at, lost_in, left_in, ArePlaces}
 use Rattle.pg_opens.specs.Marks.{status_of, statuses, has_yes, replies, verdict_mark, whom, has_place, mark_at, first_mark}
-use Rattle.pg_opens.specs.Commands.{use_in, use_at, has_in, stage_in, stage_at, unused, uses_in, stages_in, first_in, AreKnown, Turns}
+use Rattle.pg_opens.specs.Commands.{use_in, use_at, has_in, stage_in, stage_at, unused, uses_in, stages_in, AreKnown, Turns}
 use Rattle.pg_opens.specs.declared.command.Standing.TheVariants as standing
 use Rattle.pg_opens.specs.Readings.{standing_of, is_locking}
 use Rattle.pg_opens.specs.Opens.{Says}
-use Rattle.pg_opens.proofs.Layered.{quiet_is, set_length, others_length}
-use Rattle.pg_opens.proofs.Named.{clash, split, reads_set, reads_all, by_places, reads_at, reads_nobody, names_differ, atom_self, atom_other}
+use Rattle.pg_opens.proofs.Layered.{set_length, others_length}
+use Rattle.pg_opens.proofs.Named.{clash, reads_set, reads_all, by_places, reads_at, reads_nobody, atom_other}
 use Rattle.pg_opens.proofs.Uses.{known_after, fits_started, fits_same, fits_given, fits_begun, was, stage_was, stage_new, stage_same, stage_ended, marked_lock, marked_update, started, begun, given, ended}
 use Rattle.pg_opens.proofs.Asking.{asked_statuses, own_at}
 use Rattle.pg_opens.proofs.Found.{Stands, StandsFor, waiting_phase, locking_phase}

@@ -1,15 +1,14 @@
 -- A loss is seen.
-use Rattle.std.proofs.Common.{◌≡◌, ◌≢◌, ℕ, ◌<◌, ◌≤◌, ◌+◌, zero, suc, Bool, true, false, ◌||◌, cond, nat_eq, get_or, length, List, [], ◌∷◌, Option, Some, None, refl, ap, sym, ◌∙◌, subst, arith, get_or-set_other, length-set}
+use Rattle.std.proofs.Common.{◌≡◌, ◌≢◌, ℕ, ◌<◌, zero, suc, Bool, true, false, cond, nat_eq, length, List, [], ◌∷◌, Option, Some, None, refl, ap, sym, ◌∙◌, subst, arith, get_or-set_other, length-set}
 use Rattle.std.specs.Prelude.{slice_get, slice_set}
 use Rattle.std.specs.List.{IsDistinct}
 use Rattle.std.proofs.Math.Path.{fun_ext}
 use Rattle.pg_term.specs.Same.{same_atom}
 use Rattle.pg_group.specs.Functions.{upd}
 use Rattle.pg_group.specs.Value.{name_of}
-use Rattle.pg_group.specs.declared.update.Update.{Update}
 use Rattle.pg_step.specs.declared.command.OpId.{OpId}
 use Rattle.pg_step.specs.Nodes.{Node}
-use Rattle.pg_step.specs.State.{State, Use, Stage}
+use Rattle.pg_step.specs.State.{State, Use}
 use Rattle.pg_step.specs.State.Status.{Unasked}
 use Rattle.pg_step.specs.State.Use.{Fresh, Spent, Locking, Owning, Updating}
 use Rattle.pg_step.specs.State.Stage.{Closed}
@@ -20,10 +19,10 @@ use Rattle.pg_opens.specs.declared.mark.Mark.TheVariants as mark
 use Rattle.pg_opens.specs.declared.command.Phase.{Phase}
 use Rattle.pg_opens.specs.declared.command.Phase.TheVariants as phase
 use Rattle.pg_opens.specs.declared.command.OpenCommand.{OpenCommand}
-use Rattle.pg_opens.specs.Layers.{over, or_as, seek, answers, others}
+use Rattle.pg_opens.specs.Layers.{over, or_as, seek, answers}
 use Rattle.pg_opens.specs.Places.{name_at, lost_in, ArePlaces}
 use Rattle.pg_opens.specs.Marks.{status_of, statuses, has_yes, replies}
-use Rattle.pg_opens.specs.Commands.{use_in, use_at, stage_in, stage_at, is_made, unused, uses_in, stages_in, first_in, AreKnown, Turns, Forgets}
+use Rattle.pg_opens.specs.Commands.{use_in, use_at, stage_in, stage_at, is_made, unused, first_in, AreKnown, Turns, Forgets}
 use Rattle.pg_opens.specs.Opens.{Says}
 use Rattle.pg_opens.proofs.Layered.{Apart, apart_of, alone_of, one_item}
 use Rattle.pg_opens.proofs.Named.{clash, reads_set}

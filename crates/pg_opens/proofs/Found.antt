@@ -1,5 +1,5 @@
 -- What is read of a command that was found, or of none.
-use Rattle.std.proofs.Common.{◌≡◌, ℕ, ◌<◌, zero, suc, Bool, true, false, not, ◌&&◌, ◌||◌, ◌==◌, cond, nat_eq, get_or, length, List, [], ◌∷◌, Option, Some, None, IfSome, refl, ap, sym, ◌∙◌, subst, inl, inr, ◌⊎◌}
+use Rattle.std.proofs.Common.{◌≡◌, ℕ, ◌<◌, Bool, true, false, not, ◌&&◌, ◌||◌, ◌==◌, cond, nat_eq, get_or, length, List, [], ◌∷◌, Option, Some, None, IfSome, refl, ap, sym, ◌∙◌, subst}
 use Rattle.std.specs.Prelude.{slice_get}
 use Rattle.std.specs.List.{IsDistinct, list_any}
 use Rattle.std.proofs.lemmas.Option.{slice_get_read}
@@ -10,15 +10,14 @@ use Rattle.pg_group.specs.Value.{name_of}
 use Rattle.pg_lock.specs.Attempts.{after_round, does_wait}
 use Rattle.pg_lock.specs.declared.attempt.Attempt.TheVariants.{AskingFirst, AskingRest}
 use Rattle.pg_multicall.specs.Gathered.{what_of}
-use Rattle.pg_multicall.specs.declared.gather.Taken.{Taken}
 use Rattle.pg_multicall.specs.declared.gather.Taken.TheVariants.{Counted, Stranger, Double}
 use Rattle.pg_message.specs.declared.message.Said.TheVariants.{Applied}
 use Rattle.pg_step.specs.declared.command.OpId.{OpId}
-use Rattle.pg_step.specs.Nodes.{Node, every}
-use Rattle.pg_step.specs.State.{Use, Stage}
+use Rattle.pg_step.specs.Nodes.{Node, Nodes}
+use Rattle.pg_step.specs.State.{State, Use, Stage}
 use Rattle.pg_step.specs.State.Use.{Fresh, Locking, Owning, Updating, Spent}
-use Rattle.pg_step.specs.State.Stage.{Closed}
-use Rattle.pg_step.specs.Attempts.{same_op, gathered, is_complete, lock_entry, is_yes, round_of, none_denied, none_missing, all_granted, with_asked}
+use Rattle.pg_step.specs.State.Stage.{Closed, Waiting, Asking, Changing}
+use Rattle.pg_step.specs.Attempts.{same_op, gathered, is_complete, waits, lock_entry, is_yes, round_of, none_denied, none_missing, all_granted, with_asked}
 use Rattle.pg_opens.specs.declared.mark.Mark.{Mark}
 use Rattle.pg_opens.specs.declared.mark.Mark.TheVariants as mark
 use Rattle.pg_opens.specs.declared.mark.Asked.TheVariants.{Nobody, All}
@@ -32,10 +31,10 @@ use Rattle.pg_opens.specs.Places.{name_at, left_in, ArePlaces}
 use Rattle.pg_opens.specs.Marks.{status_of, statuses, has_yes, replies, all_marks}
 use Rattle.pg_opens.specs.Commands.{use_in, use_at, has_in, stage_in, stage_at, is_made, unused, uses_in, stages_in, first_in, AreKnown}
 use Rattle.pg_opens.specs.declared.command.Standing.TheVariants as standing
-use Rattle.pg_opens.specs.Readings.{is_updating, gathering_of, gathering_in, standing_of, standing_in, lock_heard, heard_in, complete_in, is_locking}
+use Rattle.pg_opens.specs.Readings.{is_updating, update_of, update_in, waiting_of, waiting_in, waits_by, gathering_of, gathering_in, standing_of, standing_in, lock_heard, heard_in, complete_in, is_locking}
 use Rattle.pg_opens.specs.Outlooks.{outlook_of, outlook_by, outlook_in}
 use Rattle.pg_opens.proofs.Layered.{quiet_is, quiet_both}
-use Rattle.pg_opens.proofs.Named.{clash, split}
+use Rattle.pg_opens.proofs.Named.{clash}
 use Rattle.pg_opens.proofs.Uses.{has_is, was, stage_was}
 use Rattle.pg_opens.proofs.Asking.{status_at, reply_at, same_at, every_nobody, every_all, every_reply}
 
@@ -245,3 +244,41 @@ module _ (names : List Node) (made : ℕ) (os : List OpenCommand) (k : ℕ) (o :
           two true c h i = clash (sym i)
           two false true h i = clash (sym i)
           two false false h i = clash (sym h)
+
+-- ---- the update of a command
+
+update_looks : (names : List Node) (op : OpId) (u : Update) (ph : Phase) (marks : List Mark) (x : ℕ) (r : Option Use) (d : Use) → has_in ph x ≡ true → update_of (or_as (over (use_in names op u ph marks x) r) d) ≡ update_in u ph x
+update_looks names op u phase.Waiting marks x r d h = absurd (clash (sym h))
+update_looks names op u (phase.Asking lock first) marks x r d h = one (nat_eq lock x) h
+  where
+    one : (b : Bool) → b ≡ true → update_of (or_as (over (cond b (Some (Locking op u (name_at names first) (statuses names marks))) None) r) d) ≡ cond b (Some u) None
+    one true h = refl
+    one false h = absurd (clash (sym h))
+update_looks names op u (phase.Changing lock number) marks x r d h = two (nat_eq number x) (nat_eq lock x) h
+  where
+    two : (b c : Bool) → (b || c) ≡ true → update_of (or_as (over (cond b (Some (Updating op u lock (replies names marks))) (cond c (Some (Owning (name_of u) number)) None)) r) d) ≡ cond b (Some u) None
+    two true c h = refl
+    two false true h = refl
+    two false false h = absurd (clash (sym h))
+
+pub update_here : (names : List Node) (made : ℕ) (os : List OpenCommand) (k : ℕ) (o : OpenCommand) (x : ℕ) → AreKnown names made os → Stands os k o x → update_in o.update o.phase x ≡ update_of (uses_in names made os x)
+update_here names made os k o x known at = sym (ap update_of (was names made os k o known at.here x) ∙ update_looks names o.op o.update o.phase o.marks.items x _ _ at.has)
+
+pub waiting_here : (names : List Node) (made : ℕ) (os : List OpenCommand) (k : ℕ) (o : OpenCommand) (op : OpId) → AreKnown names made os → StandsFor os k o op → waiting_in o.update o.phase ≡ waiting_of (stages_in os op)
+waiting_here names made os k o op known at = sym (ap waiting_of (stage_was names made os k o known at.here op) ∙ (one (same_op o.op op) (seek stage_at (others os k) op) at.is ∙ which o.phase))
+  where
+    one : (b : Bool) (r : Option Stage) → b ≡ true → waiting_of (or_as (over (cond b (Some (stage_in o.update o.phase)) None) r) Closed) ≡ waiting_of (stage_in o.update o.phase)
+    one true r e = refl
+    one false r e = absurd (clash (sym e))
+
+    which : (ph : Phase) → waiting_of (stage_in o.update ph) ≡ waiting_in o.update ph
+    which phase.Waiting = refl
+    which (phase.Asking lock first) = refl
+    which (phase.Changing lock number) = refl
+
+-- whether a command waits, by how it stands
+pub waits_so : (m : Nodes) (stage : Stage) (uses : ℕ → Use) (s : State) → s.uses ≡ uses → waits_by (standing_of stage) (λ number. is_complete m (uses number)) ≡ waits m stage s
+waits_so m Closed uses s e = refl
+waits_so m (Waiting update) uses s e = refl
+waits_so m (Asking lock) uses s e = λ i. is_complete m (sym e i lock)
+waits_so m (Changing number) uses s e = λ i. is_complete m (sym e i number)

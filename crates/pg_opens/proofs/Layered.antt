@@ -1,8 +1,8 @@
 -- Lists that say functions: what a push, a removal and a change of one item make of the function.
-use Rattle.std.proofs.Common.{◌≡◌, ℕ, zero, suc, Bool, true, false, List, [], ◌∷◌, ◌++◌, Option, Some, None, refl, ap, sym, ◌∙◌, subst, length, inl, inr, ◌⊎◌}
+use Rattle.std.proofs.Common.{◌≡◌, ℕ, zero, suc, true, false, List, [], ◌∷◌, ◌++◌, Option, Some, None, refl, ap, sym, ◌∙◌, subst, length}
 use Rattle.std.specs.Prelude.{slice_set, slice_get}
 use Rattle.std.specs.List.{remove}
-use Rattle.pg_opens.specs.Layers.{over, or_as, seek, answers, others, AllAlone}
+use Rattle.pg_opens.specs.Layers.{over, seek, answers, others, AllAlone}
 
 no_item : {A : Type 0} (a : A) → None ≡ Some a → ⊥
 no_item a e = cc

@@ -1,6 +1,5 @@
 -- What the open commands of a node are seen as.
-use Rattle.std.specs.Prelude.{◌≡◌, ℕ, ◌<◌, Bool, length, List, Option, vec_len, vec_capacity}
-use Rattle.pg_group.specs.declared.update.Update.{Update}
+use Rattle.std.specs.Prelude.{◌≡◌, ℕ, ◌<◌, Bool, length, List, vec_len, vec_capacity}
 use Rattle.pg_step.specs.declared.command.OpId.{OpId}
 use Rattle.pg_step.specs.Nodes.{Node, Nodes}
 use Rattle.pg_step.specs.State.{State, Use, Stage}

@@ -1,8 +1,8 @@
 -- What follows once answers to a request for the lock are in (`go_on` and `locks_in` of the step).
 use Rattle.std.specs.Prelude.{Bool, true, false, not, List}
 use Rattle.pg_lock.specs.Attempts.{after_round, does_wait}
-use Rattle.pg_step.specs.Nodes.{Node, Nodes}
-use Rattle.pg_step.specs.State.{Status, Use}
+use Rattle.pg_step.specs.Nodes.{Nodes}
+use Rattle.pg_step.specs.State.{Use}
 use Rattle.pg_step.specs.State.Use.{Locking}
 use Rattle.pg_step.specs.Attempts.{none_missing, none_denied, all_granted, round_of, with_asked}
 use Rattle.pg_opens.specs.declared.mark.Mark.{Mark}

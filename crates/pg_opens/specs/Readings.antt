@@ -1,16 +1,14 @@
 -- What is read of the open commands.
-use Rattle.std.specs.Prelude.{ℕ, Bool, true, false, not, ◌&&◌, ◌==◌, cond, nat_eq, List, Option, Some, None}
+use Rattle.std.specs.Prelude.{ℕ, Bool, true, false, ◌&&◌, ◌==◌, cond, nat_eq, List, Option, Some, None}
 use Rattle.pg_group.specs.declared.update.Update.{Update}
-use Rattle.pg_lock.specs.Attempts.{after_round, does_wait}
 use Rattle.pg_multicall.specs.Gathered.{what_of}
 use Rattle.pg_multicall.specs.declared.gather.Taken.{Taken}
 use Rattle.pg_multicall.specs.declared.gather.Taken.TheVariants.{Counted, Stranger, Double}
 use Rattle.pg_step.specs.declared.command.OpId.{OpId}
-use Rattle.pg_step.specs.Nodes.{Node, Nodes}
-use Rattle.pg_step.specs.State.{Status, Use, Stage}
+use Rattle.pg_step.specs.State.{Use, Stage}
 use Rattle.pg_step.specs.State.Use.{Locking, Updating}
 use Rattle.pg_step.specs.State.Stage.{Closed, Waiting, Asking, Changing}
-use Rattle.pg_step.specs.Attempts.{none_missing, none_denied, all_granted, round_of, with_asked, lock_entry}
+use Rattle.pg_step.specs.Attempts.{lock_entry}
 use Rattle.pg_opens.specs.declared.mark.Mark.{Mark}
 use Rattle.pg_opens.specs.declared.command.Phase.{Phase}
 use Rattle.pg_opens.specs.declared.command.Phase.TheVariants as phase
@@ -73,3 +71,29 @@ abbrev pub complete_in : Phase → List Mark → List Bool → ℕ → Bool
 complete_in phase.Waiting marks lost x = false
 complete_in (phase.Asking lock first) marks lost x = nat_eq lock x && all_marks marks lost Answered Nobody false
 complete_in (phase.Changing lock number) marks lost x = nat_eq number x && all_marks marks lost Granted Nobody false
+
+-- whether a command in this phase gathers under a reference
+abbrev pub gathers_in : Phase → ℕ → Bool
+gathers_in phase.Waiting x = false
+gathers_in (phase.Asking lock first) x = nat_eq lock x
+gathers_in (phase.Changing lock number) x = nat_eq number x
+
+abbrev pub update_in : Update → Phase → ℕ → Option Update
+update_in update ph x = cond (gathers_in ph x) (Some update) None
+
+-- the update of a command that waits for its retry
+abbrev pub waiting_of : Stage → Option Update
+waiting_of (Waiting update) = Some update
+waiting_of stage = None
+
+abbrev pub waiting_in : Update → Phase → Option Update
+waiting_in update phase.Waiting = Some update
+waiting_in update (phase.Asking lock first) = None
+waiting_in update (phase.Changing lock number) = None
+
+-- whether a command that stands so waits for its retry, where all that is gathered under a reference has come
+abbrev pub waits_by : Standing → (ℕ → Bool) → Bool
+waits_by standing.Closed complete = false
+waits_by standing.Waiting complete = true
+waits_by (standing.Asking lock) complete = complete lock
+waits_by (standing.Changing number) complete = complete number

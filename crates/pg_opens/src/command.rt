@@ -59,9 +59,10 @@ impl OpenCommand {
     ghost use Rattle.std.specs.Prelude.{ℕ, slice_set};
     ghost use Rattle.pg_opens.specs.declared.mark.Mark.TheVariants.{Yes};
     ghost use Rattle.pg_opens.specs.declared.command.Phase.TheVariants.{Waiting, Asking, Changing};
-    ghost use Rattle.pg_opens.specs.Marks.{first_mark, mark_at};
+    ghost use Rattle.pg_opens.specs.Marks.{first_mark, mark_at, has_yes};
     ghost use Rattle.pg_opens.specs.Commands.{Turns};
-    ghost use Rattle.pg_opens.specs.Readings.{gathering_in, standing_in, heard_in, complete_in};
+    ghost use Rattle.pg_opens.specs.Readings.{gathering_in, standing_in, heard_in, complete_in, update_in, waiting_in, gathers_in};
+    ghost use Rattle.std.specs.Option.{option_copied};
     ghost use Rattle.pg_opens.specs.Outlooks.{outlook_in};
 
     /// Whether it has a reference.
@@ -111,6 +112,46 @@ impl OpenCommand {
             Phase::Asking(lock, _) => Standing::Asking(lock),
             Phase::Changing(_, update) => Standing::Changing(update),
         }
+    }
+
+    /// Its update, where it gathers under a reference.
+    pub fn update_under(&self, number: u32) -> Option<&Update>
+        ensures { option_copied result ≡ update_in self.now.update self.now.phase number }
+    {
+        if self.gathers(number) {
+            Some(&self.update)
+        } else {
+            None
+        }
+    }
+
+    fn gathers(&self, number: u32) -> bool
+        ensures { result ≡ gathers_in self.now.phase number }
+    {
+        match self.phase {
+            Phase::Waiting => false,
+            Phase::Asking(lock, _) => lock == number,
+            Phase::Changing(_, update) => update == number,
+        }
+    }
+
+    /// Its update, where it waits for its retry.
+    pub fn waiting_update(&self) -> Option<&Update>
+        ensures { option_copied result ≡ waiting_in self.now.update self.now.phase }
+    {
+        if self.phase == Phase::Waiting {
+            Some(&self.update)
+        } else {
+            None
+        }
+    }
+
+    /// Whether the node at a place has granted the lock, or applied the update.
+    pub fn has_yes(&self, place: usize) -> bool
+        requires { place < length self.now.marks.items }
+        ensures { result ≡ has_yes (get_or self.now.marks.items place Unasked) }
+    {
+        self.marks[place].is_yes()
     }
 
     /// A new attempt: nobody was asked.

@@ -46,13 +46,13 @@ impl Opens {
     ghost use Rattle.pg_step.specs.State.Use.{Locking, Updating};
     ghost use Rattle.pg_step.specs.State.Stage.{Closed, Waiting};
     ghost use Rattle.pg_step.specs.Peers.{would_grant};
-    ghost use Rattle.pg_step.specs.Attempts.{gathered, is_complete, new_attempt, ask, own_verdict, count_answer, count_ok, give_up, begin, finish};
+    ghost use Rattle.pg_step.specs.Attempts.{gathered, is_complete, is_yes, waits, new_attempt, ask, own_verdict, count_answer, count_ok, give_up, begin, finish};
     ghost use Rattle.pg_step.specs.Turns.{becomes};
     ghost use Rattle.pg_step.specs.Commands.{open_command};
     ghost use Rattle.pg_step.specs.Losses.{see_loss};
     ghost use Rattle.pg_opens.specs.Opens.{names_of, left_of, lost_of, references_of, uses_of, opened_of, stages_of, Shows, Follows, has_room, places_of};
     ghost use Rattle.pg_opens.specs.Marks.{whom, has_place};
-    ghost use Rattle.pg_opens.specs.Readings.{gathering_of, standing_of, is_locking, is_updating};
+    ghost use Rattle.pg_opens.specs.Readings.{gathering_of, standing_of, is_locking, is_updating, update_of, waiting_of, waits_by};
     ghost use Rattle.pg_opens.specs.Outlooks.{outlook_of};
 
     /// No command is open, no reference was made and no loss was seen. Two allocations.
@@ -125,6 +125,68 @@ impl Opens {
                 let command = &self.commands[found];
                 command.heard(number, place)
             }
+        }
+    }
+
+    /// The update of the command that gathers under the reference of this number. It takes no memory: O(open commands).
+    pub fn update(&self, number: u32) -> Option<&Update>
+        ensures { option_copied result ≡ update_of (uses_of self.now number) }
+    {
+        match place_of(&self.commands, number) {
+            None => None,
+            Some(place) => {
+                let command = &self.commands[place];
+                command.update_under(number)
+            }
+        }
+    }
+
+    /// The update of a command that waits for its retry, with no attempt under way. It takes no memory: O(open commands).
+    pub fn waiting_update(&self, op: OpId) -> Option<&Update>
+        ensures { option_copied result ≡ waiting_of (stages_of self.now op) }
+    {
+        match place_of_op(&self.commands, op) {
+            None => None,
+            Some(place) => {
+                let command = &self.commands[place];
+                command.waiting_update()
+            }
+        }
+    }
+
+    /// Whether a node has granted the lock that is asked for under the reference of this number. `place`: the node's, by the
+    /// names. It takes no memory: O(open commands).
+    pub fn has_granted(&self, number: u32, place: usize) -> bool
+        requires locking { is_locking (uses_of self.now number) ≡ true }
+        requires place { place < length (names_of self.now) }
+        ensures { (op : OpId) (update : Update) (first : Node) (st : Node → Status)
+            → uses_of self.now number ≡ Locking op update first st
+            → result ≡ is_yes (st (name_at (names_of self.now) place)) }
+    {
+        match place_of(&self.commands, number) {
+            None => false,
+            Some(found) => {
+                let command = &self.commands[found];
+                command.has_yes(place)
+            }
+        }
+    }
+
+    /// Whether a command waits for its retry: it has no attempt under way, or all has come that it gathers. It takes no
+    /// memory: O(open commands + nodes).
+    pub fn waits(&self, op: OpId) -> bool
+        ensures { (s : State) → Shows self.now s → result ≡ waits (left_of self.now) (stages_of self.now op) s }
+    {
+        self.waits_in(self.standing(op))
+    }
+
+    fn waits_in(&self, standing: Standing) -> bool
+        ensures { result ≡ waits_by standing (λ number. is_complete (left_of self.now) (uses_of self.now number)) }
+    {
+        match standing {
+            Standing::Closed => false,
+            Standing::Waiting => true,
+            Standing::Asking(number) | Standing::Changing(number) => self.is_complete(number),
         }
     }
 

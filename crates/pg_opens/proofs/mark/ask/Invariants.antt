@@ -1,4 +1,4 @@
-use Rattle.std.proofs.Common.{◌≡◌, ◌<◌, ◌≤◌, ℕ, length, get_or, false}
+use Rattle.std.proofs.Common.{◌≡◌, ◌<◌, ◌≤◌, ℕ, get_or, false}
 use Rattle.pg_opens.specs.declared.mark.Mark.TheVariants.{Unasked}
 use Rattle.pg_opens.specs.Marks.{mark_at}
 use Rattle.pg_opens.proofs.mark.ask.Given as goal

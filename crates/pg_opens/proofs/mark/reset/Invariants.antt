@@ -1,4 +1,4 @@
-use Rattle.std.proofs.Common.{◌≡◌, ◌<◌, ℕ, length, get_or}
+use Rattle.std.proofs.Common.{◌≡◌, ◌<◌, ℕ, get_or}
 use Rattle.pg_opens.specs.declared.mark.Mark.TheVariants.{Unasked}
 use Rattle.pg_opens.specs.Marks.{first_mark}
 use Rattle.pg_opens.proofs.mark.reset.Given as goal

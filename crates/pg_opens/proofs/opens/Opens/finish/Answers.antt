@@ -5,7 +5,7 @@ use Rattle.pg_opens.specs.Commands.{AreKnown, stage_at}
 use Rattle.pg_opens.specs.Opens.{Says, left_of}
 use Rattle.pg_opens.proofs.Layered.{others_remove}
 use Rattle.pg_opens.proofs.Uses.{known_ended}
-use Rattle.pg_opens.proofs.Found.{Stands, stands, no_updating}
+use Rattle.pg_opens.proofs.Found.{stands, no_updating}
 use Rattle.pg_opens.proofs.Followed.{finish_follows}
 use Rattle.pg_opens.proofs.opens.Opens.finish.Goals as goal
 

@@ -1,4 +1,4 @@
-use Rattle.std.proofs.Common.{refl, sym, ap, true, ◌∙◌}
+use Rattle.std.proofs.Common.{refl, sym, true, ◌∙◌}
 use Rattle.pg_multicall.specs.Gathered.{what_of}
 use Rattle.pg_multicall.specs.declared.gather.Taken.TheVariants.{Stranger}
 use Rattle.pg_step.specs.Attempts.{gathered}

@@ -1,4 +1,4 @@
-use Rattle.std.proofs.Common.{◌≡◌, refl, sym, ap, true, false, ◌∙◌}
+use Rattle.std.proofs.Common.{refl, sym, ap, false, ◌∙◌}
 use Rattle.pg_opens.specs.Outlooks.{outlook_in}
 use Rattle.pg_opens.specs.Readings.{is_locking}
 use Rattle.pg_opens.proofs.Named.{clash}

@@ -1,4 +1,4 @@
-use Rattle.std.proofs.Common.{refl, sym, ap, ◌∙◌}
+use Rattle.std.proofs.Common.{sym, ap, ◌∙◌}
 use Rattle.pg_opens.specs.Readings.{standing_of}
 use Rattle.pg_opens.proofs.Found.{closed_of, stands_for, standing_here}
 use Rattle.pg_opens.proofs.opens.Opens.standing.Goals as goal
