@@ -107,12 +107,7 @@ impl GroupTable for RowTable {
     }
 
     /// By one walk over the group.
-    fn list(
-        &self,
-        alloc: Global,
-        name: &Term,
-        scope: Scope<'_>,
-    ) -> Result<Vec<Pid>, AllocError> {
+    fn list(&self, alloc: Global, name: &Term, scope: Scope<'_>) -> Result<Vec<Pid>, AllocError> {
         match self.rows.get(name) {
             Some(members) => members.list(alloc, scope),
             None => Ok(Vec::new(alloc)),

@@ -75,12 +75,7 @@ pub trait GroupTable {
 
     /// The members of a group: pids in their order, each as often as its count; none where the group is absent. Its cost
     /// may grow with all members of the group.
-    fn list(
-        &self,
-        alloc: Global,
-        name: &Term,
-        scope: Scope<'_>,
-    ) -> Result<Vec<Pid>, AllocError>
+    fn list(&self, alloc: Global, name: &Term, scope: Scope<'_>) -> Result<Vec<Pid>, AllocError>
         ensures { IfOk result (λ pids. IsMemberList (contents self.now name.now) (in_scope scope.entry) pids.items) };
 
     /// A table of the same meaning. Its cost grows with the table.

@@ -1,24 +1,24 @@
 -- One count changed, and the listing of its pid with it.
 use Rattle.std.proofs.Math.Path.{fun_ext}
-use Rattle.std.proofs.Common.{◌≡◌, ℕ, ◌+◌, ◌-◌, ◌<◌, max, Bool, true, false, cond, Option, Some, None, List, [], take, refl, sym, ap, subst, ◌∙◌, nat_eq, nat_lt, arith}
+use Rattle.std.proofs.Common.{◌≡◌, ℕ, ◌+◌, ◌-◌, ◌<◌, max, Bool, true, false, cond, Option, List, [], take, refl, sym, ap, subst, ◌∙◌, nat_eq, nat_lt, arith}
 use Rattle.std.specs.Prelude.{is_some}
 use Rattle.std.proofs.lemmas.Bool.Decides.{nat_tests}
-use Rattle.slab.specs.Slab.{Slab, get, Updates}
+use Rattle.slab.specs.Slab.{Slab, Updates}
 use Rattle.pg_term.specs.declared.pid.Pid.{Pid}
 use Rattle.pg_term.specs.Same.{same_pid}
 use Rattle.pg_term.specs.contracts.pid.PidEq.TheImpl.Laws as pid_laws
 use Rattle.pg_term.proofs.Same.{pid_is}
 use Rattle.pg_group.specs.Functions.{upd}
-use Rattle.pg_group.specs.Value.{Counts, greater, told, with_one_more, IsBetween}
+use Rattle.pg_group.specs.Value.{Counts, greater, told, with_one_more}
 use Rattle.pg_group.proofs.Changes.{upd_from, upd_same, upd_at, upd_other, upd_twice}
 use Rattle.pg_group.proofs.Merges.{raised, between_so_far}
 use Rattle.pg_members.specs.declared.row.Row.{Row}
 use Rattle.pg_members.specs.Rows.{counts_of}
-use Rattle.pg_index.specs.Groups.{Numbered, counts_in, is_used, counts_changed, IsPartlyRaised}
+use Rattle.pg_index.specs.Groups.{Numbered, is_used, counts_changed, IsPartlyRaised}
 use Rattle.pg_index.specs.Listings.{marked, AreListed}
 use Rattle.pg_index.proofs.Numbers.{number_is, number_itself}
 use Rattle.pg_index.proofs.Listed.{marked_same}
-use Rattle.pg_index.proofs.Dropped.{changed_here, changed_elsewhere, changed_of_others}
+use Rattle.pg_index.proofs.Dropped.{changed_elsewhere, changed_of_others}
 
 module _ (listed : Pid → ℕ → Bool) (pid : Pid) (group : ℕ) (b : Bool) where
   pub marked_here : marked listed pid group b pid group ≡ b

@@ -1,7 +1,7 @@
 -- Tables that are copied group by group, and the names of a table.
 use Rattle.std.proofs.Math.Path.{fun_ext}
-use Rattle.std.proofs.Common.{◌≡◌, ℕ, suc, max, Bool, true, false, cond, Option, Some, None, List, [], ◌∷◌, refl, sym, ap, subst, ◌∙◌, arith}
-use Rattle.std.specs.Prelude.{is_some, count_by, unwrap_or}
+use Rattle.std.proofs.Common.{◌≡◌, ℕ, suc, Bool, true, false, cond, Option, Some, None, List, [], ◌∷◌, refl, sym, ap, subst, ◌∙◌, arith}
+use Rattle.std.specs.Prelude.{is_some, unwrap_or}
 use Rattle.std.specs.Option.{option_or, option_map}
 use Rattle.std.specs.List.{All, IsDistinct, list_any}
 use Rattle.std.specs.Map.{lookup}
@@ -9,18 +9,17 @@ use Rattle.std.specs.HashMap.{keys}
 use Rattle.slab.specs.Slab.{Slab, get}
 use Rattle.pg_term.specs.declared.pid.Pid.{Pid}
 use Rattle.pg_term.specs.declared.term.Term.{Term}
-use Rattle.pg_term.specs.Same.{same_pid, same_term}
+use Rattle.pg_term.specs.Same.{same_term}
 use Rattle.pg_term.specs.contracts.term.TermEq.TheImpl.Laws as term_laws
 use Rattle.pg_term.proofs.Same as decided
-use Rattle.pg_group.specs.Functions.{upd}
-use Rattle.pg_group.specs.Value.{Value, Counts, nobody, greater, merge, less, listed}
+use Rattle.pg_group.specs.Value.{Value, Counts, nobody, merge, less, listed}
 use Rattle.pg_group.specs.Scope.{anywhere}
 use Rattle.pg_group.specs.Members.{IsMemberList}
 use Rattle.pg_group.specs.Table.{Table, AreNames, exchanged, merged}
 use Rattle.pg_group.proofs.Changes.{upd_at, upd_other}
 use Rattle.pg_members.specs.declared.row.Row.{Row}
 use Rattle.pg_members.specs.Rows.{counts_of}
-use Rattle.pg_index.specs.Groups.{Numbered, counts_at, counts_in, is_used}
+use Rattle.pg_index.specs.Groups.{Numbered, counts_at, counts_in}
 use Rattle.pg_index.specs.Index.{Numbers, number_of, contents_of, HasGroups}
 use Rattle.pg_index.proofs.Tables.{is_there}
 

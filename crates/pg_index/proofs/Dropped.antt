@@ -1,13 +1,12 @@
 -- Pids that are taken out of all groups.
 use Rattle.std.proofs.Math.Path.{fun_ext}
-use Rattle.std.proofs.Common.{◌≡◌, ℕ, Bool, true, false, cond, ◌||◌, Option, Some, None, List, [], ◌∷◌, refl, sym, ap, subst, ◌∙◌, nat_eq, nat_lt, arith}
+use Rattle.std.proofs.Common.{◌≡◌, ℕ, Bool, true, false, cond, ◌||◌, Some, None, List, [], ◌∷◌, refl, sym, ap, subst, ◌∙◌, nat_eq, nat_lt, arith}
 use Rattle.std.specs.List.{list_any}
-use Rattle.std.specs.Ordering.{is_eq}
-use Rattle.std.specs.BTreeMap.{BTreeMap, get, is_at}
+use Rattle.std.specs.BTreeMap.{get, is_at}
 use Rattle.std.specs.BTreeSet.{BTreeSet, contains}
 use Rattle.std.proofs.lemmas.Bool.Decides.{nat_tests}
 use Rattle.pg_term.specs.declared.pid.Pid.{Pid}
-use Rattle.pg_term.specs.Same.{same_pid, same_atom, atom_cmp}
+use Rattle.pg_term.specs.Same.{same_pid, atom_cmp}
 use Rattle.pg_term.specs.contracts.pid.PidEq.TheImpl.Laws as pid_laws
 use Rattle.pg_term.proofs.Same.{pid_is}
 use Rattle.pg_group.specs.Functions.{upd}

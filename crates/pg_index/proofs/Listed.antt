@@ -1,19 +1,16 @@
 -- Listings that are put in and taken out.
 use Rattle.std.proofs.Math.Path.{fun_ext}
-use Rattle.std.proofs.Common.{◌≡◌, ℕ, Bool, true, false, cond, ◌&&◌, Option, Some, None, List, [], refl, sym, ap, subst, ◌∙◌, nat_eq}
+use Rattle.std.proofs.Common.{◌≡◌, ℕ, Bool, true, false, cond, ◌&&◌, Option, Some, List, refl, sym, ap, ◌∙◌, nat_eq}
 use Rattle.std.specs.Option.{option_map_or}
-use Rattle.std.specs.Ordering.{is_eq, is_gt, is_le, ordering_then, ordering_reverse, nat_cmp}
+use Rattle.std.specs.Ordering.{is_eq}
 use Rattle.std.specs.Cmp.{first_so, second_so}
 use Rattle.std.specs.BTreeMap.{BTreeMap, get, is_at}
 use Rattle.std.specs.BTreeSet.{BTreeSet, contains}
 use Rattle.std.specs.List.{list_any}
 use Rattle.std.specs.BTreeMap.{is_at as set_at}
 use Rattle.std.specs.Map.{lookup}
-use Rattle.std.specs.Cmp.Lexicographic.{bytes_decides, texts_ties, pointwise}
+use Rattle.std.specs.Cmp.Lexicographic.{bytes_decides, texts_ties}
 use Rattle.std.proofs.lemmas.Bool.{eqb-true}
-use Rattle.std.proofs.lemmas.Cmp.{tied_itself}
-use Rattle.std.specs.declared.cmp.Ordering.{Ordering}
-use Rattle.std.specs.declared.cmp.Ordering.TheVariants.{Less, Equal, Greater}
 use Rattle.pg_term.specs.declared.pid.Pid.{Pid}
 use Rattle.pg_term.specs.Same.{same_pid, same_atom, atom_cmp}
 use Rattle.pg_term.specs.contracts.pid.PidEq.TheImpl.Laws as pid_laws
@@ -23,7 +20,6 @@ use Rattle.pg_group.proofs.Changes.{upd_from, upd_same}
 use Rattle.pg_index.specs.declared.listing.Process.{Process}
 use Rattle.pg_index.specs.declared.listing.Listing.{Listing}
 use Rattle.pg_index.specs.contracts.listing.ListingOrd.TheImpl.Laws as listing_order
-use Rattle.pg_index.specs.contracts.listing.ListingPartialEq.TheImpl.{ghosts as equal_listings}
 use Rattle.pg_index.specs.contracts.listing.ProcessPartialEq.TheImpl.{ghosts as equal_processes}
 use Rattle.pg_index.specs.contracts.listing.ProcessEq.TheImpl.Laws as process_laws
 use Rattle.pg_index.specs.Listings.{process_of, listing_of, listing_cmp, listed_in, marked}

@@ -1,6 +1,6 @@
 -- Groups that are written at their numbers.
 use Rattle.std.proofs.Math.Path.{fun_ext}
-use Rattle.std.proofs.Common.{◌≡◌, ℕ, ◌+◌, ◌-◌, Bool, true, false, cond, Option, Some, None, List, refl, sym, ap, subst, ◌∙◌, nat_eq}
+use Rattle.std.proofs.Common.{◌≡◌, ℕ, ◌+◌, Bool, true, false, cond, Option, Some, None, List, refl, sym, ap, subst, ◌∙◌, nat_eq}
 use Rattle.std.specs.Prelude.{unwrap_or, IsSome, Result, Ok, Err, OnOk}
 use Rattle.std.proofs.Common.{rules}
 use Rattle.std.proofs.lemmas.Bool.{eqb-true}
@@ -10,7 +10,7 @@ use Rattle.pg_term.specs.declared.pid.Pid.{Pid}
 use Rattle.pg_term.specs.Same.{same_pid}
 use Rattle.pg_term.proofs.Same.{pid_is}
 use Rattle.pg_group.specs.Functions.{upd}
-use Rattle.pg_group.specs.Value.{Value, Counts, nobody, less, with_one_less}
+use Rattle.pg_group.specs.Value.{Value, Counts, nobody}
 use Rattle.pg_group.specs.Scope.{at_node}
 use Rattle.pg_group.proofs.Changes.{upd_from, upd_same}
 use Rattle.pg_members.specs.declared.row.Row.{Row}

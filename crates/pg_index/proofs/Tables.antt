@@ -9,11 +9,10 @@ use Rattle.pg_term.specs.Same.{same_pid, same_term}
 use Rattle.pg_term.specs.contracts.pid.PidEq.TheImpl.Laws as pid_laws
 use Rattle.pg_term.proofs.Same as decided
 use Rattle.pg_group.specs.Functions.{upd}
-use Rattle.pg_group.specs.Value.{Value, Counts, nobody, less, apply, with_one_more, with_one_less, count_in, greater, told, IsBetween}
-use Rattle.pg_group.specs.declared.update.Update.TheVariants.{Create, Delete, Join, Leave}
+use Rattle.pg_group.specs.Value.{Value, Counts, nobody, less, apply, with_one_more, with_one_less, greater, told}
+use Rattle.pg_group.specs.declared.update.Update.TheVariants.{Create, Join, Leave}
 use Rattle.pg_group.proofs.Maps.{table_kept}
 use Rattle.pg_group.proofs.Exchanges.{all_merged, partly_merged}
-use Rattle.pg_term.specs.contracts.term.TermEq.TheImpl.Laws as term_laws
 use Rattle.pg_group.specs.Scope.{at_node}
 use Rattle.pg_group.specs.Table.{Table, without, merged, PartlyMerged}
 use Rattle.pg_group.specs.Table as tables

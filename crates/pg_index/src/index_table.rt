@@ -170,7 +170,8 @@ impl GroupTable for IndexTable {
         self.memberships.drop_pid(pid);
     }
 
-    /// Its cost is that of the memberships that it removes.
+    /// Its cost is that of the memberships that it removes, each with searches in order, and of a walk over the blocks
+    /// beside theirs.
     fn drop_node(&mut self, node: &Atom) {
         self.memberships.drop_node(node);
     }
@@ -191,7 +192,8 @@ impl GroupTable for IndexTable {
         }
     }
 
-    /// It walks over no member.
+    /// Its cost is that of a hash, and for a node of two searches in order, each of which adds up sums of parts and the
+    /// counts within one block of members.
     fn size(&self, name: &Term, scope: Scope<'_>) -> Option<u64> {
         match self.members(name) {
             Some(members) => Some(members.size(scope)),
@@ -199,7 +201,8 @@ impl GroupTable for IndexTable {
         }
     }
 
-    /// It walks over no member.
+    /// Its cost is that of a hash, of sums of parts and of a walk within one block of members; for a node of a search in
+    /// order besides.
     fn pid_at(&self, name: &Term, scope: Scope<'_>, place: u64) -> Option<&Pid> {
         match self.members(name) {
             Some(members) => members.pid_at(scope, place),
@@ -208,18 +211,14 @@ impl GroupTable for IndexTable {
     }
 
     /// Its cost is that of what it lists.
-    fn list(
-        &self,
-        alloc: Global,
-        name: &Term,
-        scope: Scope<'_>,
-    ) -> Result<Vec<Pid>, AllocError> {
+    fn list(&self, alloc: Global, name: &Term, scope: Scope<'_>) -> Result<Vec<Pid>, AllocError> {
         match self.members(name) {
             Some(members) => members.list(alloc, scope),
             None => Ok(Vec::new(alloc)),
         }
     }
 
+    /// Its cost grows with the sum of all counts.
     fn copy(&self) -> Result<IndexTable, AllocError> {
         let mut copy = IndexTable::new(self.alloc);
         let ended = Ended::new(self.alloc);

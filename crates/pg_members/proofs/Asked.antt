@@ -68,10 +68,10 @@ module _ (node : List ℕ) where
         let past : spread (at_node node) (flat_map rows (drop (last + 1) parts)) ≡ [] = ap (λ n. spread (at_node node) (flat_map rows (drop n parts))) (add-one last) ∙ past_node (flat_map rows (drop (suc last) parts)) (after_choice rows (through node) (downward_past node) parts last some.0 rest end some.1) in
         let low : spread (at_node node) (flat_map rows (take from (take (last + 1) parts))) ≡ [] = ap (λ l. spread (at_node node) (flat_map rows l)) front_part ∙ before_node (flat_map rows (take from parts)) first.front in
         sym (
-          ap (spread (at_node node)) (halves rows parts (last + 1)) ∙ spread-append (at_node node) (flat_map rows (take (last + 1) parts)) (flat_map rows (drop (last + 1) parts))
-          ∙ ap (λ l. spread (at_node node) (flat_map rows (take (last + 1) parts)) ++ l) past ∙ append-nil (spread (at_node node) (flat_map rows (take (last + 1) parts)))
-          ∙ ap (spread (at_node node)) (halves rows (take (last + 1) parts) from) ∙ spread-append (at_node node) (flat_map rows (take from (take (last + 1) parts))) (flat_map rows (drop from (take (last + 1) parts)))
-          ∙ ap (λ l. l ++ spread (at_node node) (flat_map rows (drop from (take (last + 1) parts)))) low)
+        ap (spread (at_node node)) (halves rows parts (last + 1)) ∙ spread-append (at_node node) (flat_map rows (take (last + 1) parts)) (flat_map rows (drop (last + 1) parts))
+        ∙ ap (λ l. spread (at_node node) (flat_map rows (take (last + 1) parts)) ++ l) past ∙ append-nil (spread (at_node node) (flat_map rows (take (last + 1) parts)))
+        ∙ ap (spread (at_node node)) (halves rows (take (last + 1) parts) from) ∙ spread-append (at_node node) (flat_map rows (take from (take (last + 1) parts))) (flat_map rows (drop from (take (last + 1) parts)))
+        ∙ ap (λ l. l ++ spread (at_node node) (flat_map rows (drop from (take (last + 1) parts)))) low)
       where
         front_part : take from (take (last + 1) parts) ≡ take from parts
         front_part = take-take from (last + 1) parts (let k = chosen_le in omega arith)

@@ -1,5 +1,5 @@
 -- What is added and taken, as counts; and the rows as a list of members.
-use Rattle.std.proofs.Common.{◌≡◌, ℕ, suc, zero, ◌+◌, ◌-◌, ◌≤◌, Bool, true, false, cond, Some, List, [], ◌∷◌, refl, sym, ap, subst, ◌∙◌, arith}
+use Rattle.std.proofs.Common.{◌≡◌, ℕ, ◌+◌, ◌-◌, ◌≤◌, Bool, true, false, cond, Some, List, [], ◌∷◌, refl, sym, ap, subst, ◌∙◌, arith}
 use Rattle.std.specs.Prelude.{count_by, nat_le}
 use Rattle.std.specs.List.{AllByRecursion}
 use Rattle.std.specs.Ordering.{is_lt, is_gt}
@@ -14,7 +14,7 @@ use Rattle.pg_group.specs.Members.{IsInOrder, IsMemberList}
 use Rattle.pg_group.proofs.Put.{all-put, ordered-put, count-put}
 use Rattle.pg_members.specs.declared.row.Row.{Row}
 use Rattle.pg_members.specs.Rows.{counts_of, spread, AreRows, added, added_by, taken, taken_by}
-use Rattle.pg_members.proofs.Order.{same_is, same_if, same_self, symm, turned, not_greater, other_turned, other_if_less}
+use Rattle.pg_members.proofs.Order.{same_is, same_if, same_self, symm, turned, other_turned, other_if_less}
 use Rattle.pg_members.proofs.Flat.{none_greater, later_greater}
 
 -- ---- one pid's count, and the others'

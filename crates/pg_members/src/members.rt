@@ -99,7 +99,8 @@ impl Members {
         self.rows.take_last()
     }
 
-    /// How many members there are, each as often as its count. It takes no memory.
+    /// How many members there are, each as often as its count. It takes no memory. All are told at once; for those of a
+    /// node two searches add up the sums of parts and the counts within one block.
     pub fn size(&self, scope: Scope<'_>) -> u64
         ensures exact { result ≡ length (spread (in_scope scope.entry) self.now) }
         ensures list { IsMemberList (Some (counts_of self.now)) (in_scope scope.entry) (spread (in_scope scope.entry) self.now) }
@@ -110,7 +111,8 @@ impl Members {
         }
     }
 
-    /// The member at a place. It takes no memory.
+    /// The member at a place. It takes no memory. It adds up the sums of parts and the counts within one block, and does
+    /// so once more for a place among the members of a node.
     pub fn pid_at(&self, scope: Scope<'_>, place: u64) -> Option<&Pid>
         ensures exact { option_copied result ≡ slice_get (spread (in_scope scope.entry) self.now) place }
         ensures list { IsMemberList (Some (counts_of self.now)) (in_scope scope.entry) (spread (in_scope scope.entry) self.now) }
@@ -131,7 +133,8 @@ impl Members {
         })
     }
 
-    /// The members, each as often as its count, by one walk. It takes memory for each, and for its name.
+    /// The members of a scope, each as often as its count, by one walk over their blocks. It takes memory for each, and for
+    /// its name.
     pub fn list(&self, alloc: Global, scope: Scope<'_>) -> Result<Vec<Pid>, AllocError>
         ensures exact { IfOk result (λ pids. pids.items ≡ spread (in_scope scope.entry) self.now) }
         ensures list { IfOk result (λ pids. IsMemberList (Some (counts_of self.now)) (in_scope scope.entry) pids.items) }
@@ -142,7 +145,8 @@ impl Members {
         Ok(pids)
     }
 
-    /// Takes out all members of a node. It takes no memory.
+    /// Takes out all members of a node. It takes no memory. It walks the rows of the blocks that stand in one part with
+    /// theirs.
     pub fn drop_node(&mut self, node: &Atom)
         ensures { Some (counts_of self.new) ≡ less (Some (counts_of self.old)) (at_node node.now) }
     {

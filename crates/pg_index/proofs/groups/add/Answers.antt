@@ -1,8 +1,3 @@
-use Rattle.std.proofs.Common.{◌+◌}
-use Rattle.pg_term.specs.Same.{same_pid}
-use Rattle.pg_group.specs.Functions.{upd}
-use Rattle.pg_index.specs.Groups.{counts_in, counts_at}
-use Rattle.pg_members.specs.Rows.{counts_of}
 use Rattle.pg_index.proofs.Numbers.{added_at}
 use Rattle.pg_index.proofs.groups.add.Goals as goal
 

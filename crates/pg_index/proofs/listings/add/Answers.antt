@@ -1,11 +1,10 @@
 use Rattle.std.specs.List.{list_any}
 use Rattle.pg_index.specs.declared.listing.Listing.{Listing}
-use Rattle.std.proofs.Common.{List, ◌≡◌, true, cond, ap, sym, refl, ◌∙◌, rules}
-use Rattle.std.specs.BTreeMap.{get, is_at}
+use Rattle.std.proofs.Common.{List, true, ap, sym, ◌∙◌, rules}
+use Rattle.std.specs.BTreeMap.{is_at}
 use Rattle.pg_group.proofs.Maps.{on_err}
-use Rattle.pg_term.specs.Same.{atom_cmp}
-use Rattle.pg_index.specs.Listings.{listed_in, listing_cmp, listing_of, marked}
-use Rattle.pg_index.proofs.Listed.{set_marked, set_kept, map_kept, set_put, has, Nodes}
+use Rattle.pg_index.specs.Listings.{listing_cmp}
+use Rattle.pg_index.proofs.Listed.{set_marked, set_kept, map_kept, set_put, has}
 use Rattle.pg_index.proofs.listings.add.Goals as goal
 
 pub returns-in_err-insert-in-Some-clause-err : goal.returns-in_err-insert-in-Some-clause-err

@@ -1,7 +1,6 @@
 use Rattle.std.proofs.Common.{◌≡◌}
 use Rattle.std.specs.BTreeSet.{btree_set_len}
 use Rattle.pg_index.specs.Groups.{counts_in, is_used}
-use Rattle.pg_index.specs.Listings.{process_of}
 use Rattle.pg_index.proofs.Dropped.{PartlyDropped}
 use Rattle.pg_index.proofs.listings.drop_listed.Given as goal
 

@@ -1,6 +1,5 @@
-use Rattle.std.proofs.Common.{sym, ap, ◌∙◌}
 use Rattle.pg_index.specs.Groups.{counts_in}
-use Rattle.pg_index.proofs.Dropped.{listed_without_node, no_set, set_of_node}
+use Rattle.pg_index.proofs.Dropped.{listed_without_node}
 use Rattle.pg_index.proofs.listings.drop_node.Goals as goal
 
 pub returns-in-Some-clause-listed : goal.returns-in-Some-clause-listed

@@ -1,5 +1,5 @@
-use Rattle.std.proofs.Common.{false, ap, sym, refl, ◌∙◌, rules}
-use Rattle.pg_index.specs.Listings.{listed_in, listing_of, marked}
+use Rattle.std.proofs.Common.{false, ap, sym, ◌∙◌, rules}
+use Rattle.pg_index.specs.Listings.{listed_in, listing_of}
 use Rattle.pg_index.proofs.Listed.{set_marked, marked_same, has, Nodes}
 use Rattle.pg_index.proofs.listings.remove.Goals as goal
 

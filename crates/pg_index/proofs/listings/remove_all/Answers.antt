@@ -1,5 +1,4 @@
-use Rattle.std.proofs.Common.{◌≡◌, Bool, true, false, nat_lt, refl, sym, ap, subst, ◌∙◌}
-use Rattle.pg_term.specs.declared.pid.Pid.{Pid}
+use Rattle.std.proofs.Common.{◌∙◌}
 use Rattle.pg_members.specs.Rows.{counts_of}
 use Rattle.pg_index.specs.Listings.{listed_in}
 use Rattle.pg_index.proofs.Tables.{row_removed}

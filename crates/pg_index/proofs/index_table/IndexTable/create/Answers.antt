@@ -1,7 +1,7 @@
 use Rattle.std.specs.Map.{lookup}
 use Rattle.pg_term.specs.declared.term.Term.{Term}
 use Rattle.pg_term.specs.Same.{same_term}
-use Rattle.std.proofs.Common.{◌≡◌, ℕ, Option, List, Some, true, false, refl, sym, ap, ◌∙◌}
+use Rattle.std.proofs.Common.{◌≡◌, ℕ, Option, false, sym, ap, ◌∙◌}
 use Rattle.std.specs.Prelude.{is_some}
 use Rattle.pg_index.specs.Groups.{counts_in, is_used}
 use Rattle.pg_index.specs.Index.{number_of, contents_of}

@@ -1,4 +1,4 @@
-use Rattle.std.proofs.Common.{sym, ap, ◌∙◌}
+use Rattle.std.proofs.Common.{sym}
 use Rattle.pg_index.specs.Groups.{counts_in, is_used}
 use Rattle.pg_index.specs.Index.{number_of}
 use Rattle.pg_index.proofs.Tables.{gone, gone_there, gone_apart, absent_gone}

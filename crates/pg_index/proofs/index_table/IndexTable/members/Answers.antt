@@ -3,7 +3,6 @@ use Rattle.std.specs.Option.{option_map}
 use Rattle.slab.specs.Slab.{get}
 use Rattle.pg_members.specs.Rows.{counts_of}
 use Rattle.pg_index.specs.Groups.{counts_in}
-use Rattle.pg_index.specs.Index.{number_of}
 use Rattle.pg_index.proofs.Tables.{members_at}
 use Rattle.pg_index.proofs.index_table.IndexTable.members.Goals as goal
 

@@ -1,11 +1,8 @@
-use Rattle.std.proofs.Common.{◌≡◌, true, false, List, sym, ap, subst, ◌∙◌}
-use Rattle.std.specs.Prelude.{is_some, Some}
+use Rattle.std.proofs.Common.{◌≡◌, true, false, List, ap, ◌∙◌}
+use Rattle.std.specs.Prelude.{is_some}
 use Rattle.pg_term.specs.declared.pid.Pid.{Pid}
 use Rattle.pg_group.specs.Ended.{ended_of}
-use Rattle.pg_group.specs.Scope.{anywhere}
-use Rattle.pg_group.specs.Members.{IsMemberList}
 use Rattle.pg_group.specs.Table.{merged}
-use Rattle.pg_members.specs.Rows.{counts_of}
 use Rattle.pg_index.specs.Groups.{counts_in, is_used}
 use Rattle.pg_index.specs.Index.{number_of, contents_of}
 use Rattle.pg_index.proofs.Copies.{copy_begun, copy_more, copy_all, left_is_there, rows_at}

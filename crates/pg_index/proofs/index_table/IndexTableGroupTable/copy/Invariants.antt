@@ -1,5 +1,3 @@
-use Rattle.std.proofs.Common.{◌≡◌, false}
-use Rattle.pg_group.specs.Ended.{ended_of}
 use Rattle.pg_index.specs.Groups.{counts_in}
 use Rattle.pg_index.specs.Index.{number_of, contents_of}
 use Rattle.pg_index.proofs.Copies.{TableCopied}

@@ -1,6 +1,6 @@
-use Rattle.std.proofs.Common.{◌≡◌, false, List, None, refl, sym, ap, ◌∙◌, nat_eq}
+use Rattle.std.proofs.Common.{false, List, None, refl, sym, ap, ◌∙◌, nat_eq}
 use Rattle.std.specs.Prelude.{is_some}
-use Rattle.slab.specs.Slab.{Slab, get}
+use Rattle.slab.specs.Slab.{Slab}
 use Rattle.pg_group.specs.Value.{nobody}
 use Rattle.pg_group.proofs.Changes.{upd_same}
 use Rattle.pg_members.specs.declared.row.Row.{Row}

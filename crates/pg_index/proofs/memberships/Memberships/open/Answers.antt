@@ -1,4 +1,4 @@
-use Rattle.std.proofs.Common.{◌≡◌, ℕ, true, Some, [], sym, ap, ◌∙◌, nat_eq}
+use Rattle.std.proofs.Common.{◌≡◌, ℕ, true, Some, sym, ap, ◌∙◌, nat_eq}
 use Rattle.pg_group.specs.Functions.{upd}
 use Rattle.pg_index.specs.Groups.{is_used}
 use Rattle.pg_index.proofs.Changed.{used_changed}

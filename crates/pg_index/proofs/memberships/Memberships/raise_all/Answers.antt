@@ -1,11 +1,11 @@
-use Rattle.std.proofs.Common.{◌≡◌, max, take, refl, sym, ap, ◌∙◌, arith}
+use Rattle.std.proofs.Common.{max, take, refl, sym, ap, ◌∙◌}
 use Rattle.pg_group.specs.Ended.{ended_of}
 use Rattle.pg_group.specs.Value.{Counts, told, with_one_more}
 use Rattle.pg_group.proofs.Maps.{on_err}
 use Rattle.pg_group.proofs.Merges.{told_more, told_kept}
 use Rattle.pg_members.specs.Rows.{counts_of}
 use Rattle.pg_index.specs.declared.memberships.Memberships.{Memberships}
-use Rattle.pg_index.specs.Groups.{counts_in, counts_changed, counts_raised, is_used}
+use Rattle.pg_index.specs.Groups.{counts_in, counts_changed, is_used}
 use Rattle.pg_index.proofs.Changed.{raised_none, told_none, raised_more, raised_so_far, raised_to}
 use Rattle.pg_index.proofs.memberships.Memberships.raise_all.Goals.{then-not-has+in_ok-add+in_ok-raise, else-not-has}
 use Rattle.pg_index.proofs.memberships.Memberships.raise_all.Goals as goal

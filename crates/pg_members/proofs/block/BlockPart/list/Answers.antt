@@ -12,7 +12,7 @@ loop-row-preserved c =
     let rows = c.args.self.now in
     let all = c.args.pids.now.items ++ spread among rows in
     elim c.if-has.branch [
-      then-has+in_ok-append_member w ↦ listed_more among rows c.deref-row-items.result.now (c.deref-row-items.ensures.value ∙ c.self.view_is) c.loop-row.row-index c.row-item.result c.loop-row-test.true c.row-item.is (sym c.has.ensures ∙ w.if-has.true) c.loop-row.pids.items c.if-has.pids.items all (ap (λ (v : Vec Pid Global). v.items) w.pids-is ∙ w.in_ok-append_member.ensures) c.loop-row.invariant
-    | else-has w ↦ subst (λ (v : Vec Pid Global). v.items ++ spread among (drop (c.loop-row.row-index + 1) rows) ≡ all) (sym w.pids-is)
-        (listed_same among rows c.deref-row-items.result.now (c.deref-row-items.ensures.value ∙ c.self.view_is) c.loop-row.row-index c.row-item.result c.loop-row-test.true c.row-item.is (sym c.has.ensures ∙ w.if-has.false) c.loop-row.pids.items all c.loop-row.invariant)
+      | then-has+in_ok-append_member w ↦ listed_more among rows c.deref-row-items.result.now (c.deref-row-items.ensures.value ∙ c.self.view_is) c.loop-row.row-index c.row-item.result c.loop-row-test.true c.row-item.is (sym c.has.ensures ∙ w.if-has.true) c.loop-row.pids.items c.if-has.pids.items all (ap (λ (v : Vec Pid Global). v.items) w.pids-is ∙ w.in_ok-append_member.ensures) c.loop-row.invariant
+      | else-has w ↦ subst (λ (v : Vec Pid Global). v.items ++ spread among (drop (c.loop-row.row-index + 1) rows) ≡ all) (sym w.pids-is)
+          (listed_same among rows c.deref-row-items.result.now (c.deref-row-items.ensures.value ∙ c.self.view_is) c.loop-row.row-index c.row-item.result c.loop-row-test.true c.row-item.is (sym c.has.ensures ∙ w.if-has.false) c.loop-row.pids.items all c.loop-row.invariant)
     ]

@@ -1,4 +1,4 @@
-use Rattle.std.proofs.Common.{◌≡◌, ◌+◌, ◌≤◌, None, Some, length, sym, ap, ◌∙◌, arith}
+use Rattle.std.proofs.Common.{◌≡◌, ◌+◌, ◌≤◌, None, length, sym, ap, ◌∙◌, arith}
 use Rattle.std.specs.Prelude.{slice_get, option_copied}
 use Rattle.pg_group.specs.Scope.{anywhere, at_node}
 use Rattle.pg_members.specs.Rows.{spread}
