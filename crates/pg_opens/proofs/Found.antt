@@ -31,7 +31,7 @@ use Rattle.pg_opens.specs.Places.{name_at, left_in, ArePlaces}
 use Rattle.pg_opens.specs.Marks.{status_of, statuses, has_yes, replies, all_marks}
 use Rattle.pg_opens.specs.Commands.{use_in, use_at, has_in, stage_in, stage_at, is_made, unused, uses_in, stages_in, first_in, AreKnown}
 use Rattle.pg_opens.specs.declared.command.Standing.TheVariants as standing
-use Rattle.pg_opens.specs.Readings.{is_updating, update_of, update_in, waiting_of, waiting_in, waits_by, gathering_of, gathering_in, standing_of, standing_in, lock_heard, heard_in, complete_in, is_locking}
+use Rattle.pg_opens.specs.Readings.{is_closed, is_lock, is_update, is_updating, update_of, update_in, waiting_of, waiting_in, waits_by, gathering_of, gathering_in, standing_of, standing_in, lock_heard, heard_in, complete_in, is_locking}
 use Rattle.pg_opens.specs.Outlooks.{outlook_of, outlook_by, outlook_in}
 use Rattle.pg_opens.proofs.Layered.{quiet_is, quiet_both}
 use Rattle.pg_opens.proofs.Named.{clash}
@@ -282,3 +282,28 @@ waits_so m Closed uses s e = refl
 waits_so m (Waiting update) uses s e = refl
 waits_so m (Asking lock) uses s e = λ i. is_complete m (sym e i lock)
 waits_so m (Changing number) uses s e = λ i. is_complete m (sym e i number)
+
+-- ---- what is gathered, by a test
+
+pub lock_gathered : (used : Use) → is_lock (gathering_of used) ≡ is_locking used
+lock_gathered Fresh = refl
+lock_gathered (Locking op update first st) = refl
+lock_gathered (Owning name number) = refl
+lock_gathered (Updating op update lock replied) = refl
+lock_gathered Spent = refl
+
+pub update_gathered : (used : Use) → is_update (gathering_of used) ≡ is_updating used
+update_gathered Fresh = refl
+update_gathered (Locking op update first st) = refl
+update_gathered (Owning name number) = refl
+update_gathered (Updating op update lock replied) = refl
+update_gathered Spent = refl
+
+closed_stage : (stage : Stage) → is_closed (standing_of stage) ≡ true → stage ≡ Closed
+closed_stage Closed e = refl
+closed_stage (Waiting update) e = absurd (clash (sym e))
+closed_stage (Asking lock) e = absurd (clash (sym e))
+closed_stage (Changing number) e = absurd (clash (sym e))
+
+pub closed_by : (b : Bool) (stage : Stage) → b ≡ is_closed (standing_of stage) → (b ≡ true → stage ≡ Closed) × (stage ≡ Closed → b ≡ true)
+closed_by b stage e = (λ h. closed_stage stage (sym e ∙ h), λ h. e ∙ ap (λ z. is_closed (standing_of z)) h)

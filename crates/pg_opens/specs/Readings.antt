@@ -47,6 +47,22 @@ standing_of (Waiting update) = standing.Waiting
 standing_of (Asking lock) = standing.Asking lock
 standing_of (Changing number) = standing.Changing number
 
+abbrev pub is_closed : Standing → Bool
+is_closed standing.Closed = true
+is_closed standing.Waiting = false
+is_closed (standing.Asking lock) = false
+is_closed (standing.Changing number) = false
+
+abbrev pub is_lock : Gathering → Bool
+is_lock (gathering.Lock op) = true
+is_lock (gathering.Update op lock) = false
+is_lock gathering.Nothing = false
+
+abbrev pub is_update : Gathering → Bool
+is_update (gathering.Lock op) = false
+is_update (gathering.Update op lock) = true
+is_update gathering.Nothing = false
+
 -- ---- the same of one command
 
 abbrev pub gathering_in : OpId → Phase → ℕ → Gathering

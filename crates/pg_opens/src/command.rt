@@ -55,6 +55,44 @@ pub enum Standing {
     Changing(u32),
 }
 
+impl Standing {
+    ghost use Rattle.pg_opens.specs.Readings.{is_closed};
+
+    /// Whether the command is not open.
+    pub fn is_closed(self) -> bool
+        ensures { result ≡ is_closed self }
+    {
+        match self {
+            Standing::Closed => true,
+            Standing::Waiting | Standing::Asking(_) | Standing::Changing(_) => false,
+        }
+    }
+}
+
+impl Gathering {
+    ghost use Rattle.pg_opens.specs.Readings.{is_lock, is_update};
+
+    /// Whether answers to a request for the lock are gathered.
+    pub fn is_lock(self) -> bool
+        ensures { result ≡ is_lock self }
+    {
+        match self {
+            Gathering::Lock(_) => true,
+            Gathering::Nothing | Gathering::Update(_, _) => false,
+        }
+    }
+
+    /// Whether replies to an update are gathered.
+    pub fn is_update(self) -> bool
+        ensures { result ≡ is_update self }
+    {
+        match self {
+            Gathering::Update(_, _) => true,
+            Gathering::Nothing | Gathering::Lock(_) => false,
+        }
+    }
+}
+
 impl OpenCommand {
     ghost use Rattle.std.specs.Prelude.{ℕ, slice_set};
     ghost use Rattle.pg_opens.specs.declared.mark.Mark.TheVariants.{Yes};

@@ -10,3 +10,6 @@ pub use command::{Gathering, Standing};
 pub use mark::Asked;
 pub use opens::{Opens, Room};
 pub use outlook::Outlook;
+
+#[cfg(test)]
+mod tests;

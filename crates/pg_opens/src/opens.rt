@@ -1,4 +1,4 @@
-ghost use Rattle.std.specs.Prelude.{◌≡◌, ℕ, ◌<◌, ◌+◌, ◌^◌, true, length, IfOk, OnOk, OnErr, vec_len};
+ghost use Rattle.std.specs.Prelude.{◌≡◌, ◌↔◌, ℕ, ◌<◌, ◌+◌, ◌^◌, true, length, IfOk, OnOk, OnErr, vec_len};
 ghost use Rattle.std.specs.List.{IsDistinct, IsDistinct-prop};
 ghost use Rattle.std.specs.Option.{option_copied};
 ghost use Rattle.pg_term.specs.Same.{same_atom};
@@ -100,6 +100,27 @@ impl Opens {
         }
     }
 
+    /// Whether a command asks for the lock under the reference of this number. It takes no memory: O(open commands).
+    pub fn is_locking(&self, number: u32) -> bool
+        ensures { result ≡ is_locking (uses_of self.now number) }
+    {
+        self.gathering(number).is_lock()
+    }
+
+    /// Whether an update goes out under the reference of this number. It takes no memory: O(open commands).
+    pub fn is_updating(&self, number: u32) -> bool
+        ensures { result ≡ is_updating (uses_of self.now number) }
+    {
+        self.gathering(number).is_update()
+    }
+
+    /// How many nodes have a name, the lost ones too. It takes no memory.
+    pub fn node_count(&self) -> usize
+        ensures { result ≡ length (names_of self.now) }
+    {
+        self.names.len()
+    }
+
     /// How a command stands. It takes no memory: O(open commands).
     pub fn standing(&self, op: OpId) -> Standing
         ensures { result ≡ standing_of (stages_of self.now op) }
@@ -111,6 +132,13 @@ impl Opens {
                 command.standing()
             }
         }
+    }
+
+    /// Whether a command is not open. It takes no memory: O(open commands).
+    pub fn is_closed(&self, op: OpId) -> bool
+        ensures { (result ≡ true) ↔ (stages_of self.now op ≡ Closed) }
+    {
+        self.standing(op).is_closed()
     }
 
     /// What a reply of a node under the reference of this number is to what is gathered there. `place`: the node's, by the

@@ -1,0 +1,226 @@
+ghost use Rattle.std.specs.Prelude.{◌≡◌, false};
+ghost use Rattle.pg_term.specs.Same.{same_atom};
+
+use super::*;
+use pg_group::Update;
+use pg_multicall::Taken;
+use pg_step::OpId;
+use pg_term::{Atom, Term, TermFault};
+use std::alloc::Global;
+use std::test::Fail;
+
+fn opens_of(alloc: Global, a: Atom, b: Atom, c: Atom) -> Result<Opens, TermFault>
+    requires ab { same_atom a b ≡ false }
+    requires ac { same_atom a c ≡ false }
+    requires bc { same_atom b c ≡ false }
+{
+    let names = Vec::from_array(alloc, [a, b, c])?;
+    Ok(Opens::new(alloc, names)?)
+}
+
+// The open commands of node a, whose peers are b and c.
+fn opens_of_a(alloc: Global) -> Result<Opens, TermFault> {
+    let a = Atom::new(alloc, "a")?;
+    let b = Atom::new(alloc, "b")?;
+    let c = Atom::new(alloc, "c")?;
+    if a == b {
+        return Err(TermFault::BadAtom);
+    }
+    if a == c {
+        return Err(TermFault::BadAtom);
+    }
+    if b == c {
+        return Err(TermFault::BadAtom);
+    }
+    opens_of(alloc, a, b, c)
+}
+
+fn op(number: u32) -> OpId {
+    OpId { port: 0, number }
+}
+
+// Opens the command of this number, which creates a group, and tells whether it did.
+fn opened(alloc: Global, opens: &mut Opens, number: u32) -> Result<bool, TermFault> {
+    let room = opens.reserve(alloc)?;
+    let id = op(number);
+    if opens.is_closed(id) {
+        opens.add(id, Update::Create(Term::Int(1)), room);
+        return Ok(true);
+    }
+    Ok(false)
+}
+
+// Begins an attempt, which asks the node at this place first.
+fn started(opens: &mut Opens, number: u32, first: usize) -> bool {
+    let id = op(number);
+    match opens.standing(id) {
+        Standing::Waiting => {
+            if first < opens.node_count() {
+                if opens.references() < 1000 {
+                    opens.start(id, first);
+                    return true;
+                }
+            }
+            false
+        }
+        Standing::Closed | Standing::Asking(_) | Standing::Changing(_) => false,
+    }
+}
+
+fn asked_one(opens: &mut Opens, number: u32, place: usize, granted: bool) -> bool {
+    if opens.is_locking(number) {
+        if place < opens.node_count() {
+            opens.ask(number, Asked::One(place), granted);
+            return true;
+        }
+    }
+    false
+}
+
+fn asked_all(opens: &mut Opens, number: u32, granted: bool) -> bool {
+    if opens.is_locking(number) {
+        opens.ask(number, Asked::All, granted);
+        return true;
+    }
+    false
+}
+
+fn answered(opens: &mut Opens, number: u32, place: usize, granted: bool) -> bool {
+    if opens.is_locking(number) {
+        if place < opens.node_count() {
+            opens.count_answer(number, place, granted);
+            return true;
+        }
+    }
+    false
+}
+
+fn replied(opens: &mut Opens, number: u32, place: usize) -> bool {
+    if opens.is_updating(number) {
+        if place < opens.node_count() {
+            opens.count_ok(number, place);
+            return true;
+        }
+    }
+    false
+}
+
+fn given_up(opens: &mut Opens, number: u32) -> bool {
+    if opens.is_locking(number) {
+        opens.give_up(number);
+        return true;
+    }
+    false
+}
+
+fn began(opens: &mut Opens, number: u32) -> bool {
+    if opens.is_locking(number) {
+        if opens.references() < 1000 {
+            opens.begin(number);
+            return true;
+        }
+    }
+    false
+}
+
+fn finished(opens: &mut Opens, number: u32) -> bool {
+    if opens.is_updating(number) {
+        opens.finish(number);
+        return true;
+    }
+    false
+}
+
+fn lost(opens: &mut Opens, place: usize) -> bool {
+    if place < opens.node_count() {
+        if 0 < place {
+            opens.lose(place);
+            return true;
+        }
+    }
+    false
+}
+
+fn outlook(opens: &Opens, number: u32, granted: bool) -> Option<Outlook> {
+    if opens.is_locking(number) {
+        Some(opens.outlook(number, granted))
+    } else {
+        None
+    }
+}
+
+fn heard(opens: &Opens, number: u32, place: usize) -> Option<Taken> {
+    if place < opens.node_count() {
+        Some(opens.heard(number, place))
+    } else {
+        None
+    }
+}
+
+// c is asked first, then a and b; the update goes out, and the command ends.
+#[test]
+fn gathered_replies(rt: HostRuntime) -> Result<(), Fail> {
+    let alloc = rt.alloc();
+    let mut opens = opens_of_a(alloc)?;
+    assert!(rt; opened(alloc, &mut opens, 1)?);
+    assert!(rt; opens.open_count() == 1);
+    assert!(rt; opens.waiting_update(op(1)).is_some());
+    assert!(rt; started(&mut opens, 1, 2));
+    assert!(rt; opens.standing(op(1)) == Standing::Asking(1));
+    assert!(rt; asked_one(&mut opens, 1, 2, true));
+    assert!(rt; outlook(&opens, 1, true) == Some(Outlook::Wait));
+    assert!(rt; heard(&opens, 1, 1) == Some(Taken::Stranger));
+    assert!(rt; answered(&mut opens, 1, 2, true));
+    assert!(rt; outlook(&opens, 1, true) == Some(Outlook::Ask));
+    assert!(rt; asked_all(&mut opens, 1, true));
+    assert!(rt; heard(&opens, 1, 2) == Some(Taken::Stranger));
+    assert!(rt; heard(&opens, 1, 1) == Some(Taken::Counted));
+    assert!(rt; answered(&mut opens, 1, 1, true));
+    assert!(rt; heard(&opens, 1, 1) == Some(Taken::Double));
+    assert!(rt; outlook(&opens, 1, true) == Some(Outlook::Begin));
+    assert!(rt; began(&mut opens, 1));
+    assert!(rt; opens.gathering(2) == Gathering::Update(op(1), 1));
+    assert!(rt; opens.update(2).is_some());
+    assert!(rt; replied(&mut opens, 2, 1));
+    assert!(rt; !opens.is_complete(2));
+    assert!(rt; replied(&mut opens, 2, 2));
+    assert!(rt; opens.is_complete(2));
+    assert!(rt; finished(&mut opens, 2));
+    assert!(rt; opens.standing(op(1)) == Standing::Closed);
+    assert!(rt; opens.open_count() == 0);
+    Ok(())
+}
+
+// One denies, and the command waits for its retry.
+#[test]
+fn denied(rt: HostRuntime) -> Result<(), Fail> {
+    let alloc = rt.alloc();
+    let mut opens = opens_of_a(alloc)?;
+    assert!(rt; opened(alloc, &mut opens, 1)?);
+    assert!(rt; started(&mut opens, 1, 2));
+    assert!(rt; asked_one(&mut opens, 1, 2, true));
+    assert!(rt; answered(&mut opens, 1, 2, false));
+    assert!(rt; outlook(&opens, 1, true) == Some(Outlook::GiveUp));
+    assert!(rt; given_up(&mut opens, 1));
+    assert!(rt; opens.waits(op(1)));
+    assert!(rt; opens.gathering(1) == Gathering::Nothing);
+    assert!(rt; started(&mut opens, 1, 2));
+    assert!(rt; opens.standing(op(1)) == Standing::Asking(2));
+    Ok(())
+}
+
+// Who waits for a lost node alone waits for its retry.
+#[test]
+fn ready_by_loss(rt: HostRuntime) -> Result<(), Fail> {
+    let alloc = rt.alloc();
+    let mut opens = opens_of_a(alloc)?;
+    assert!(rt; opened(alloc, &mut opens, 1)?);
+    assert!(rt; started(&mut opens, 1, 2));
+    assert!(rt; asked_one(&mut opens, 1, 2, true));
+    assert!(rt; !opens.waits(op(1)));
+    assert!(rt; lost(&mut opens, 2));
+    assert!(rt; opens.waits(op(1)));
+    assert!(rt; heard(&opens, 1, 2) == Some(Taken::Stranger));
+    assert!(rt; outlook(&opens, 1, false) == Some(Outlook::Ask));
+    Ok(())
+}
