@@ -3,6 +3,8 @@ use pg_group::RowTable;
 use pg_index::IndexTable;
 use std::test::Fail;
 
+mod memory;
+
 #[test]
 fn rows_agree_in_all_histories(rt: HostRuntime) -> Result<(), Fail> {
     let table = RowTable::new(rt.alloc());
