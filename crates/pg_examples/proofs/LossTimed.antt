@@ -54,6 +54,7 @@ outcome = record {
   not_drained = refl;
   not_drained_first = refl;
   clock_full = refl;
+  last_clock = refl;
   none = refl;
   seen_already = refl;
   no_place = refl;

@@ -13,7 +13,7 @@ use Rattle.pg_machine.specs.Places.{is_pair, set_at}
 use Rattle.pg_machine.specs.Machine.{Event, Take, start_of}
 use Rattle.pg_step.specs.State.{State}
 use Rattle.pg_step.specs.Turns.{Report}
-use Rattle.pg_step.specs.Step.{CLOCK_LIMIT, Action}
+use Rattle.pg_step.specs.Step.{Action}
 use Rattle.pg_step.specs.declared.refusal.Refusal.{Refusal}
 use Rattle.pg_step.specs.declared.refusal.Refusal.TheVariants.{NoSuchPlace, NodeLost, NotLost, NotDrained, ClockFull}
 use Rattle.pg_machine.specs.Losing.{Noticed, Sent, Last, LosingWorld, LosingEvent, Step, Lose, LosingLeads, nobody_gone}
@@ -143,9 +143,9 @@ timed_start = nobody_gone (start_of (losing_frame_machine two_nodes))
 abbrev pub ComeTimed : TimedLosing → List (LosingEvent Action) → TimedLosing → Type 0
 ComeTimed w events v = LosingLeads (losing_frame_machine two_nodes) last_notice w events v
 
--- the world, where the clock of b is at its limit
-abbrev pub at_limit : TimedLosing → TimedLosing
-at_limit w = record w { world = record w.world { node = set_at w.world.node 1 (record (w.world.node 1) { clock = CLOCK_LIMIT }) } }
+-- the world, where the clock of b is this
+abbrev pub with_clock : ℕ → TimedLosing → TimedLosing
+with_clock clock w = record w { world = record w.world { node = set_at w.world.node 1 (record (w.world.node 1) { clock = clock }) } }
 
 -- Who sees a loss is later than the last event of the lost; and what stands in the way of a loss, each refusal in its place.
 pub record LossWithClocks : Type 0 where
@@ -165,8 +165,9 @@ pub record LossWithClocks : Type 0 where
   pub not_lost : timed_see_refusal two_nodes timed_start 1 0 ≡ Some NotLost
   pub lost_itself : timed_see_refusal two_nodes lost 0 1 ≡ Some NodeLost
   pub not_drained : timed_see_refusal two_nodes lost 1 0 ≡ Some NotDrained
-  pub not_drained_first : timed_see_refusal two_nodes (at_limit lost) 1 0 ≡ Some NotDrained
-  pub clock_full : timed_see_refusal two_nodes (at_limit drained) 1 0 ≡ Some ClockFull
+  pub not_drained_first : timed_see_refusal two_nodes (with_clock 1073741824 lost) 1 0 ≡ Some NotDrained
+  pub clock_full : timed_see_refusal two_nodes (with_clock 1073741824 drained) 1 0 ≡ Some ClockFull
+  pub last_clock : timed_see_refusal two_nodes (with_clock 1073741823 drained) 1 0 ≡ None
   pub none : timed_see_refusal two_nodes drained 1 0 ≡ None
   pub seen_already : timed_see_refusal two_nodes seen 1 0 ≡ Some NodeLost
   -- why a node is not lost
