@@ -76,25 +76,37 @@ module _ (g : Term) (named : is_name g ≡ true) (same : same_term g g ≡ true)
 
   made : AllMake three_nodes (start three_nodes) moves
   unfolding upd
-  made = (refl, (refl, (refl, (refl, (
-    ap (λ yes. named_as yes at_a (op_at 1) (command.Create g) ((at 4).node 0)) named,
+  made = (
+    refl,
     (
-      asked at_c a (numbered a 1) g ((at 5).node 2) true refl,
+      refl,
       (
         refl,
         (
           refl,
           (
-            asked at_b a (numbered a 1) g ((at 8).node 1) false refl,
+            ap (λ yes. named_as yes at_a (op_at 1) (command.Create g) ((at 4).node 0)) named,
             (
-              ap (λ holds. Ok (gives_up holds ((at 9).node 0))) (ap (λ x. is_holder x (numbered a 1)) (held_at _ g (Some (numbered a 1)) same)),
-              (freed at_c a (numbered a 1) g ((at 10).node 2) true (ap (λ x. is_holder x (numbered a 1)) (held_at _ g (Some (numbered a 1)) same)), tt),
+              asked at_c a (numbered a 1) g ((at 5).node 2) true refl,
+              (
+                refl,
+                (
+                  refl,
+                  (
+                    asked at_b a (numbered a 1) g ((at 8).node 1) false refl,
+                    (
+                      ap (λ holds. Ok (gives_up holds ((at 9).node 0))) (ap (λ x. is_holder x (numbered a 1)) (held_at _ g (Some (numbered a 1)) same)),
+                      (freed at_c a (numbered a 1) g ((at 10).node 2) true (ap (λ x. is_holder x (numbered a 1)) (held_at _ g (Some (numbered a 1)) same)), tt),
+                    ),
+                  ),
+                ),
+              ),
             ),
           ),
         ),
       ),
     ),
-  )))))
+  )
 
   leads0 : Leads (machine_of three_nodes) (at 0) (granted_at_home g) (at 7)
   leads0 = walk three_nodes (take 7 (drop 0 moves)) (at 0) refl (part three_nodes 0 7 moves (start three_nodes) made)

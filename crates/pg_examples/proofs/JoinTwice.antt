@@ -143,7 +143,7 @@ module _ (g : Term) (named : is_name g ≡ true) (same : same_term g g ≡ true)
     (
       refl,
       (
-        ( ap (λ yes. named_as yes at_a (op_at 1) (command.Create g) ((at 2).node 0)) named),
+        (ap (λ yes. named_as yes at_a (op_at 1) (command.Create g) ((at 2).node 0)) named),
         (
           (asked at_b a (numbered a 1) g ((at 3).node 1) true refl),
           (
@@ -170,7 +170,7 @@ module _ (g : Term) (named : is_name g ≡ true) (same : same_term g g ≡ true)
   once_made : AllMake two_nodes (at 9) once
   unfolding upd
   once_made = (
-    ( ap (λ yes. named_as yes at_b (op_at 1) (command.Join g a1) ((at 9).node 1)) named ∙ ap (λ r. looked r at_b (op_at 1) joins ((at 9).node 1)) (ap (λ v. look v joins) (at6_1_g)) ∙ ap (λ yes. Ok (opens (op_at 1) joins (attempt_as yes at_b (op_at 1) joins 1) ((at 9).node 1))) (ap is_free (held_at _ g None same)) ∙ ap (λ yes. Ok (opens (op_at 1) joins (attempt_own yes at_b (op_at 1) joins 1) ((at 9).node 1))) (ap is_free (held_at _ g (Some (numbered b 1)) same))),
+    (ap (λ yes. named_as yes at_b (op_at 1) (command.Join g a1) ((at 9).node 1)) named ∙ ap (λ r. looked r at_b (op_at 1) joins ((at 9).node 1)) (ap (λ v. look v joins) (at6_1_g)) ∙ ap (λ yes. Ok (opens (op_at 1) joins (attempt_as yes at_b (op_at 1) joins 1) ((at 9).node 1))) (ap is_free (held_at _ g None same)) ∙ ap (λ yes. Ok (opens (op_at 1) joins (attempt_own yes at_b (op_at 1) joins 1) ((at 9).node 1))) (ap is_free (held_at _ g (Some (numbered b 1)) same))),
     (
       (asked at_a b (numbered b 1) g ((at 10).node 0) true (ap is_free (held_at _ g None same))),
       (

@@ -128,10 +128,13 @@ module _ (config : Config) (w : LosingFrameWorld) where
     where
       there : Bool
       there = is_there {C = Action} (losing_machine_of config).size (Take i p)
+
       stays : Bool
       stays = not (w.gone i)
+
       last : Bool
       last = is_last (w.world.wire p i)
+
       unseen : Bool
       unseen = not ((w.world.node i).lost (name_at config p))
   happens_so (Loses i keep) ready made = ap (λ b. cond b (Some (moved config w (Loses i keep))) None) ready

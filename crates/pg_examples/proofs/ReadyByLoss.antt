@@ -56,7 +56,7 @@ module _ (g : Term) (named : is_name g ≡ true) (same : same_term g g ≡ true)
       ∷ Makes (Take 1 0) (answers_lock true a lock_ref g)
       -- b grants: a begins its update
       ∷ Makes (Take 0 1) (λ s. and_then (count_answer 1 (op_at 1) (creates g) c waits_for_b b Yes s) (λ t.
-          and_then (ask_as false left_a all 1 (op_at 1) (creates g) c (upd same_atom waits_for_b b Yes) t) (begins left_a (op_at 1) (creates g) 1)))
+      and_then (ask_as false left_a all 1 (op_at 1) (creates g) c (upd same_atom waits_for_b b Yes) t) (begins left_a (op_at 1) (creates g) 1)))
       -- b applies the update
       ∷ Makes (Take 1 0) (update_request a (numbered a 2) (creates g))
       -- b has applied it: the create ends
