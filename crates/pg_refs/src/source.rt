@@ -2,6 +2,7 @@ ghost use Rattle.std.specs.Prelude.{◌≡◌, ◌≤◌, ◌+◌, ◌^◌, ◌�
 ghost use Rattle.pg_refs.specs.Numbered.{numbered};
 
 use crate::fault::RefFault;
+use crate::numbers::reference_of;
 use pg_term::{Atom, Reference};
 use std::marker::Model;
 
@@ -9,7 +10,7 @@ use std::marker::Model;
 pub const MAX_REFERENCES: u32 = 1 << 31;
 
 // How many references share a second word.
-const FIRST_WORDS: u32 = 1 << 18;
+pub(crate) const FIRST_WORDS: u32 = 1 << 18;
 
 /// The references that a node makes: seen as the node and how many it made.
 #[derive(Debug, Drop)]
@@ -54,12 +55,7 @@ impl RefSource {
             return Err(RefFault::ClockFull);
         }
         let number = self.made + 1;
-        let node = self.node.copy()?;
-        let words = [number % FIRST_WORDS, number / FIRST_WORDS, 0];
-        let Ok(reference) = Reference::new(node, 1, &words) else {
-            // Three words are as many as a reference may have.
-            unreachable!()
-        };
+        let reference = reference_of(&self.node, number)?;
         self.made = number;
         Ok(reference)
     }

@@ -1,5 +1,5 @@
 use super::*;
-use pg_term::Atom;
+use pg_term::{Atom, Reference};
 use std::test::Fail;
 
 #[test]
@@ -14,6 +14,38 @@ fn reference_words(rt: HostRuntime) -> Result<(), Fail> {
     assert!(rt; later.words() == [0, 1, 0].as_slice());
     assert!(rt; later != first);
     Ok(())
+}
+
+#[test]
+fn numbers_of_references(rt: HostRuntime) -> Result<(), Fail> {
+    let node = Atom::new(rt.alloc(), "a")?;
+    for number in [1, 262_143, 262_144, u32::MAX] {
+        let reference = reference_of(&node, number)?;
+        assert_eq!(rt; number_of(&node, &reference), Some(number));
+    }
+    assert_eq!(rt; foreign_number(&node, 1, &[1, 0])?, None, "two words");
+    assert_eq!(rt;
+        foreign_number(&node, 2, &[1, 0, 0])?,
+        None,
+        "another creation"
+    );
+    assert_eq!(rt;
+        foreign_number(&node, 1, &[262_144, 0, 0])?,
+        None,
+        "a large first word"
+    );
+    assert_eq!(rt;
+        foreign_number(&node, 1, &[0, 16_384, 0])?,
+        None,
+        "a large number"
+    );
+    Ok(())
+}
+
+/// The number of a reference of these parts, as its node reads it.
+fn foreign_number(node: &Atom, creation: u32, words: &[u32]) -> Result<Option<u32>, Fail> {
+    let reference = Reference::new(node.copy()?, creation, words)?;
+    Ok(number_of(node, &reference))
 }
 
 // Passes wherever an allocation is refused: nothing changes, and the same call succeeds.

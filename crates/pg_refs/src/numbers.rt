@@ -1,0 +1,38 @@
+ghost use Rattle.std.specs.Prelude.{◌≡◌, ◌&&◌, ◌^◌, cond, nat_lt, Some, None, IfOk};
+ghost use Rattle.pg_term.specs.RefParts.{ref_eq};
+ghost use Rattle.pg_refs.specs.Numbered.{numbered, number_in, number_of_words};
+
+use crate::source::FIRST_WORDS;
+use pg_term::{Atom, Reference};
+use std::alloc::AllocError;
+
+/// The reference of this number that the node makes. One allocation.
+///
+/// Error: `AllocError`.
+pub fn reference_of(node: &Atom, number: u32) -> Result<Reference, AllocError>
+    ensures { IfOk result (λ reference. reference ≡ numbered node.now number) }
+{
+    let node = node.copy()?;
+    let words = [number % FIRST_WORDS, number / FIRST_WORDS, 0];
+    let Ok(reference) = Reference::new(node, 1, &words) else {
+        // Three words are as many as a reference may have.
+        unreachable!()
+    };
+    Ok(reference)
+}
+
+/// The number of a reference that the node could make; `None` for any other. It takes no memory.
+pub fn number_of(node: &Atom, reference: &Reference) -> Option<u32>
+    ensures { result ≡ cond (ref_eq (numbered node.now (number_in reference.now)) reference.now
+        && nat_lt (number_in reference.now) (2 ^ 32)) (Some (number_in reference.now)) None }
+{
+    if reference.node() != node || reference.creation() != 1 {
+        return None;
+    }
+    match reference.words() {
+        [low, high, 0] if *low < FIRST_WORDS => {
+            u32::try_from(u64::from(*low) + u64::from(FIRST_WORDS) * u64::from(*high)).ok()
+        }
+        _ => None,
+    }
+}
