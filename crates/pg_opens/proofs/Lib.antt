@@ -3,6 +3,7 @@ pub mod Asking
 pub mod Followed
 pub mod Forgotten
 pub mod Found
+pub mod Going
 pub mod Layered
 pub mod Named
 pub mod Uses

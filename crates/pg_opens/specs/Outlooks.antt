@@ -1,10 +1,15 @@
 -- What follows once answers to a request for the lock are in (`go_on` and `locks_in` of the step).
-use Rattle.std.specs.Prelude.{Bool, true, false, not, List}
+use Rattle.std.specs.Prelude.{ℕ, Bool, true, false, not, List}
+use Rattle.pg_group.specs.declared.update.Update.{Update}
+use Rattle.pg_group.specs.Value.{name_of}
 use Rattle.pg_lock.specs.Attempts.{after_round, does_wait}
-use Rattle.pg_step.specs.Nodes.{Nodes}
-use Rattle.pg_step.specs.State.{Use}
+use Rattle.pg_step.specs.declared.command.OpId.{OpId}
+use Rattle.pg_step.specs.Nodes.{Node, Nodes}
+use Rattle.pg_step.specs.State.{State, Status, Use}
 use Rattle.pg_step.specs.State.Use.{Locking}
-use Rattle.pg_step.specs.Attempts.{none_missing, none_denied, all_granted, round_of, with_asked}
+use Rattle.pg_step.specs.Turns.{NodeTurn, becomes, and_then}
+use Rattle.pg_step.specs.Peers.{would_grant}
+use Rattle.pg_step.specs.Attempts.{none_missing, none_denied, all_granted, round_of, with_asked, ask, give_up, begin, replies_in}
 use Rattle.pg_opens.specs.declared.mark.Mark.{Mark}
 use Rattle.pg_opens.specs.declared.mark.Asked.TheVariants.{Nobody, All}
 use Rattle.pg_opens.specs.declared.mark.Wanted.TheVariants.{Answered, NotDenied, Granted}
@@ -29,3 +34,14 @@ outlook_of m granted used = Wait
 abbrev pub outlook_in : List Mark → List Bool → Bool → Outlook
 outlook_in marks lost granted = outlook_by (all_marks marks lost Answered Nobody granted) (all_marks marks lost NotDenied Nobody granted)
     (all_marks marks lost Granted All granted) (all_marks marks lost Answered All granted)
+
+-- The turn that follows, by the outlook. Where the rest is asked, the own node answers as it would; where the update begins
+-- and there is no peer, all replies are in at once.
+abbrev pub turn_by : Outlook → Nodes → ℕ → OpId → Update → Node → (Node → Status) → State → NodeTurn
+turn_by Wait m c op update first st s = becomes s
+turn_by GiveUp m c op update first st s = give_up m c op update st s
+turn_by Ask m c op update first st s = ask m (λ q. true) c op update first st s
+turn_by AskThenGiveUp m c op update first st s = and_then (ask m (λ q. true) c op update first st s)
+    (give_up m c op update (with_asked m (λ q. true) st (would_grant m s (name_of update))))
+turn_by Begin m c op update first st s = and_then (ask m (λ q. true) c op update first st s)
+    (λ t. and_then (begin m c op update t) (λ r. replies_in m r.references (r.uses r.references) r))

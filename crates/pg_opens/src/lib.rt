@@ -2,11 +2,13 @@
 #![tactic(auto)]
 
 mod command;
+mod laws;
 mod mark;
 mod opens;
 mod outlook;
 
 pub use command::{Gathering, Standing};
+pub use laws::steps_go_by_outlook;
 pub use mark::Asked;
 pub use opens::{Opens, Room};
 pub use outlook::Outlook;
