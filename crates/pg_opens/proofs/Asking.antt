@@ -5,7 +5,7 @@ use Rattle.std.proofs.Math.Path.{fun_ext}
 use Rattle.std.proofs.lemmas.Bool.{eq-eqb, ne_eqb, cases_eq}
 use Rattle.std.proofs.lemmas.Bool.Decides.{nat_tests}
 use Rattle.pg_term.specs.Same.{same_atom}
-use Rattle.pg_step.specs.Nodes.{Node, every, is_node}
+use Rattle.pg_step.specs.Nodes.{Node, every, is_node, is_peer}
 use Rattle.pg_step.specs.State.Status.{Unasked, Asked}
 use Rattle.pg_step.specs.Attempts.{is_unasked, asks, own_verdict, with_asked}
 use Rattle.pg_opens.specs.declared.mark.Mark.{Mark}
@@ -124,7 +124,30 @@ module _ (names : List Node) (lost : List Bool) (apart : IsDistinct same_atom na
       swap : (a b : ℕ) → (a == b) ≡ (b == a)
       swap a b = grind (arith, nat_tests)
 
-  whom_at : (who : Whom) (k : ℕ) → has_place who (length names) ≡ true → k < length names → whom names who (name_at names k) ≡ is_wanted who k
+  -- the own name is no peer's
+  pub own_no_peer : (f : Node → Bool) (names' : List Node) → IsDistinct same_atom names' → list_any (same_atom (name_at names' 0)) (filter f (drop 1 names')) ≡ false
+  unfolding IsDistinct
+  own_no_peer f [] h = refl
+  own_no_peer f (n ∷ ns) h = any_filtered f (same_atom n) ns ∙ any_other f n ns h.0
+
+  -- the peers that count, place by place
+  pub peer_at : (k : ℕ) → k < length names → is_peer (left_in names lost) (name_at names k) ≡ (not (k == 0) && not (get_or lost k false))
+  peer_at k l = go (cases_eq k 0)
+    where
+      go : (k ≡ 0) ⊎ (k ≡ 0 → ⊥) → is_peer (left_in names lost) (name_at names k) ≡ (not (k == 0) && not (get_or lost k false))
+      go (inl e) = ap (λ z. is_peer (left_in names lost) (name_at names z)) e
+          ∙ (own_no_peer (λ q. not (lost_in names lost q)) names apart ∙ sym (ap (λ b. not b && not (get_or lost k false)) (eq-eqb k 0 e)))
+      go (inr n) = sym (ap (λ b. b || is_peer (left_in names lost) (name_at names k)) (same_at k 0 l places.some ∙ ne_eqb k 0 n))
+          ∙ (node_at k l ∙ sym (ap (λ b. not b && not (get_or lost k false)) (ne_eqb k 0 n)))
+
+  -- another node than the own one is a peer that counts where it is not lost
+  pub peer_left : (k : ℕ) → k < length names → 0 < k → is_peer (left_in names lost) (name_at names k) ≡ not (lost_in names lost (name_at names k))
+  peer_left k l above = peer_at k l ∙ (ap (λ b. not b && not (get_or lost k false)) (ne_eqb k 0 (apart_from k above)) ∙ sym (ap not (lost_at k l)))
+    where
+      apart_from : (k : ℕ) → 0 < k → k ≡ 0 → ⊥
+      apart_from k above e = omega arith
+
+  pub whom_at : (who : Whom) (k : ℕ) → has_place who (length names) ≡ true → k < length names → whom names who (name_at names k) ≡ is_wanted who k
   whom_at Nobody k h l = refl
   whom_at (One only) k h l = same_at only k (below only (length names) h) l
     where

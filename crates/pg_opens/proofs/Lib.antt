@@ -4,6 +4,8 @@ pub mod Followed
 pub mod Forgotten
 pub mod Found
 pub mod Going
+pub mod Greatest
 pub mod Layered
 pub mod Named
+pub mod Placed
 pub mod Uses

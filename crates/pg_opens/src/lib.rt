@@ -4,6 +4,7 @@
 mod command;
 mod laws;
 mod mark;
+mod nodes;
 mod opens;
 mod outlook;
 

@@ -1,4 +1,4 @@
-ghost use Rattle.std.specs.Prelude.{◌≡◌, ◌↔◌, ℕ, ◌<◌, ◌+◌, ◌^◌, true, length, IfOk, OnOk, OnErr, vec_len};
+ghost use Rattle.std.specs.Prelude.{◌≡◌, ◌↔◌, ℕ, ◌<◌, ◌+◌, ◌^◌, true, false, not, ◌&&◌, length, IfOk, IfSome, OnOk, OnErr, vec_len};
 ghost use Rattle.std.specs.List.{IsDistinct, IsDistinct-prop};
 ghost use Rattle.std.specs.Option.{option_copied};
 ghost use Rattle.pg_term.specs.Same.{same_atom};
@@ -8,6 +8,7 @@ ghost use Rattle.pg_opens.specs.Commands.{AreKnown};
 
 use crate::command::{Gathering, OpenCommand, Phase, Standing, place_of, place_of_op};
 use crate::mark::{Asked, Mark, Wanted, all_pass};
+use crate::nodes::{greatest_place, place_of_atom};
 use crate::outlook::Outlook;
 use pg_group::Update;
 use pg_multicall::Taken;
@@ -41,7 +42,8 @@ impl Opens {
     ghost use Rattle.pg_group.specs.Table.{Table};
     ghost use Rattle.std.specs.Prelude.{Bool};
     ghost use Rattle.pg_group.specs.Value.{name_of};
-    ghost use Rattle.pg_step.specs.Nodes.{Node};
+    ghost use Rattle.pg_step.specs.Nodes.{Node, greatest, is_node, is_peer};
+    ghost use Rattle.std.specs.Option.{is_some};
     ghost use Rattle.pg_step.specs.State.{State, Status, new_state};
     ghost use Rattle.pg_step.specs.State.Use.{Locking, Updating};
     ghost use Rattle.pg_step.specs.State.Stage.{Closed, Waiting};
@@ -50,7 +52,7 @@ impl Opens {
     ghost use Rattle.pg_step.specs.Turns.{becomes};
     ghost use Rattle.pg_step.specs.Commands.{open_command};
     ghost use Rattle.pg_step.specs.Losses.{see_loss};
-    ghost use Rattle.pg_opens.specs.Opens.{names_of, left_of, lost_of, references_of, uses_of, opened_of, stages_of, Shows, Follows, has_room, places_of};
+    ghost use Rattle.pg_opens.specs.Opens.{names_of, whole_of, left_of, lost_of, references_of, uses_of, opened_of, stages_of, Shows, Follows, has_room, places_of};
     ghost use Rattle.pg_opens.specs.Marks.{whom, has_place};
     ghost use Rattle.pg_opens.specs.Readings.{gathering_of, standing_of, is_locking, is_updating, update_of, waiting_of, waits_by};
     ghost use Rattle.pg_opens.specs.Outlooks.{outlook_of};
@@ -119,6 +121,51 @@ impl Opens {
         ensures { result ≡ length (names_of self.now) }
     {
         self.names.len()
+    }
+
+    /// The name of the node at a place. It takes no memory.
+    pub fn name(&self, place: usize) -> &Atom
+        requires { place < length (names_of self.now) }
+        ensures { result.now ≡ name_at (names_of self.now) place }
+    {
+        &self.names[place]
+    }
+
+    /// The place of the node of a name, lost or not. It takes no memory: O(nodes).
+    ///
+    /// `None`: no node of the set has that name.
+    pub fn place_of_name(&self, name: &Atom) -> Option<usize>
+        ensures node { is_node (whole_of self.now) name.now ≡ is_some result }
+        ensures within { IfSome result (λ place. place < length (names_of self.now)) }
+        ensures some { IfSome result (λ place. name_at (names_of self.now) place ≡ name.now) }
+    {
+        place_of_atom(&self.names, name)
+    }
+
+    /// Whether the loss of the node at a place was seen: it counts no more. It takes no memory.
+    pub fn is_lost(&self, place: usize) -> bool
+        requires { place < length (names_of self.now) }
+        ensures { result ≡ lost_of self.now (name_at (names_of self.now) place) }
+    {
+        self.lost[place]
+    }
+
+    /// Whether the node at a place is a peer that counts: what goes to every peer goes to it. It takes no memory.
+    pub fn is_left(&self, place: usize) -> bool
+        requires { place < length (names_of self.now) }
+        ensures { result ≡ is_peer (left_of self.now) (name_at (names_of self.now) place) }
+    {
+        place != 0 && !self.is_lost(place)
+    }
+
+    /// The place of the greatest node that counts, by the order of atoms: who is asked for a lock first. It takes no memory:
+    /// O(nodes).
+    pub fn greatest(&self) -> usize
+        ensures within { result < length (names_of self.now) }
+        ensures counts { lost_of self.now (name_at (names_of self.now) result) ≡ false }
+        ensures greatest { name_at (names_of self.now) result ≡ greatest (left_of self.now) }
+    {
+        greatest_place(&self.names, &self.lost)
     }
 
     /// How a command stands. It takes no memory: O(open commands).
