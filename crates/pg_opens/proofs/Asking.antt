@@ -15,7 +15,7 @@ use Rattle.pg_opens.specs.declared.mark.Asked.TheVariants.{Nobody, One, All}
 use Rattle.pg_opens.specs.Places.{name_at, all_below, lost_in, left_in, ArePlaces}
 use Rattle.pg_opens.specs.declared.mark.Wanted.{Wanted}
 use Rattle.pg_opens.specs.declared.mark.Wanted.TheVariants.{Granted}
-use Rattle.pg_opens.specs.Marks.{status_of, statuses, has_yes, replies, asked_mark, is_wanted, whom, has_place, mark_at, passes, all_marks}
+use Rattle.pg_opens.specs.Marks.{status_of, statuses, has_yes, replies, asked_mark, is_wanted, whom, has_place, mark_at, asked_in, passes, all_marks}
 use Rattle.pg_opens.proofs.Named.{clash, atom_self, atom_other, names_differ, reads_at, reads_nobody, by_places, all_below_same, all_names, all_filtered, any_filtered}
 
 -- ---- tests of some of the nodes
@@ -177,6 +177,13 @@ module _ (names : List Node) (lost : List Bool) (apart : IsDistinct same_atom na
 
     pub reply_at : (k : ℕ) → k < length names → replies names marks (name_at names k) ≡ has_yes (get_or marks k mark.Unasked)
     reply_at k l = reads_at has_yes false names marks k mark.Unasked apart same l
+
+    -- who is asked, place by place
+    pub asked_at : (who : Whom) (k : ℕ) → has_place who (length names) ≡ true → k < length names
+        → (not (lost_in names lost (name_at names k)) && asks (whom names who) (statuses names marks) (name_at names k)) ≡ asked_in (get_or marks k mark.Unasked) (get_or lost k false) who k
+    asked_at who k h l = ap (λ b. not b && asks (whom names who) (statuses names marks) (name_at names k)) (lost_at k l)
+        ∙ (ap (λ b. not (get_or lost k false) && (b && is_unasked (statuses names marks (name_at names k)))) (whom_at who k h l)
+        ∙ ap (λ z. not (get_or lost k false) && (is_wanted who k && is_unasked z)) (status_at k l))
 
     -- what the nodes are asked, place by place
     pub with_at : (who : Whom) (granted : Bool) (k : ℕ) → has_place who (length names) ≡ true → k < length names

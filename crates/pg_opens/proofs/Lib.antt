@@ -6,6 +6,8 @@ pub mod Found
 pub mod Going
 pub mod Greatest
 pub mod Layered
+pub mod Listed
 pub mod Named
 pub mod Placed
+pub mod Requested
 pub mod Uses

@@ -4,7 +4,7 @@ use Rattle.pg_term.specs.Same.{same_atom}
 use Rattle.pg_step.specs.State.{Status}
 use Rattle.pg_step.specs.State.Status.{Unasked, Asked, Yes, No}
 use Rattle.pg_step.specs.Nodes.{Node}
-use Rattle.pg_step.specs.Attempts.{is_yes, is_asked, is_no}
+use Rattle.pg_step.specs.Attempts.{is_yes, is_unasked, is_asked, is_no}
 use Rattle.pg_opens.specs.declared.mark.Mark.{Mark}
 use Rattle.pg_opens.specs.declared.mark.Mark.TheVariants as mark
 use Rattle.pg_opens.specs.declared.mark.Asked.{Asked as Whom}
@@ -66,6 +66,10 @@ has_place All places = true
 -- the mark at a place once these were asked, of those that count
 abbrev pub mark_at : Mark → (lost : Bool) → Whom → ℕ → Bool → Mark
 mark_at mark lost who place granted = asked_mark mark (not lost && is_wanted who place) (place == 0) granted
+
+-- whether the node at a place is asked, where these are: it counts and was not asked
+abbrev pub asked_in : Mark → (lost : Bool) → Whom → ℕ → Bool
+asked_in mark lost who place = not lost && (is_wanted who place && is_unasked (status_of mark))
 
 -- the mark at a place where at most the own node has one
 abbrev pub first_mark : Mark → ℕ → Mark

@@ -1,14 +1,17 @@
 -- What the open commands of a node are seen as.
-use Rattle.std.specs.Prelude.{◌≡◌, ℕ, ◌<◌, Bool, length, List, vec_len, vec_capacity}
+use Rattle.std.specs.Prelude.{◌≡◌, ℕ, ◌<◌, Bool, not, length, map, List, vec_len, vec_capacity}
+use Rattle.std.specs.List.{IsDistinct, list_any}
 use Rattle.pg_step.specs.declared.command.OpId.{OpId}
 use Rattle.pg_step.specs.Nodes.{Node, Nodes}
 use Rattle.pg_step.specs.State.{State, Use, Stage}
 use Rattle.pg_step.specs.Turns.{NodeTurn}
+use Rattle.pg_step.specs.Attempts.{same_op}
 use Rattle.pg_opens.specs.declared.command.OpenCommand.{OpenCommand}
 use Rattle.pg_opens.specs.declared.opens.Opens.{Opens}
 use Rattle.pg_opens.specs.declared.opens.Room.{Room}
 use Rattle.pg_opens.specs.Places.{lost_in, left_in, whole_in}
 use Rattle.pg_opens.specs.Commands.{uses_in, stages_in}
+use Rattle.pg_opens.specs.Readings.{standing_of, is_closed}
 
 -- the nodes of the set by their places, the own one first
 abbrev pub names_of : Opens → List Node
@@ -40,6 +43,16 @@ opened_of opens = length opens.commands.items
 -- how each command stands
 abbrev pub stages_of : Opens → OpId → Stage
 stages_of opens = stages_in opens.commands.items
+
+-- the open commands, by their places
+abbrev pub ops_of : Opens → List OpId
+ops_of opens = map (λ command. command.op) opens.commands.items
+
+-- these commands are open, each stands among them once, and no other command is open
+pub record AreListed (opens : Opens) (ops : List OpId) : Type 0 where
+  pub count : length ops ≡ opened_of opens
+  pub once : IsDistinct same_op ops
+  pub open_ones : (op : OpId) → list_any (λ other. same_op other op) ops ≡ not (is_closed (standing_of (stages_of opens op)))
 
 -- a state of a node, as these lists say it
 pub record Says (names : List Node) (lost : List Bool) (made : ℕ) (commands : List OpenCommand) (s : State) : Type 0 where

@@ -97,7 +97,7 @@ impl OpenCommand {
     ghost use Rattle.std.specs.Prelude.{ℕ, slice_set};
     ghost use Rattle.pg_opens.specs.declared.mark.Mark.TheVariants.{Yes};
     ghost use Rattle.pg_opens.specs.declared.command.Phase.TheVariants.{Waiting, Asking, Changing};
-    ghost use Rattle.pg_opens.specs.Marks.{first_mark, mark_at, has_yes};
+    ghost use Rattle.pg_opens.specs.Marks.{first_mark, mark_at, asked_in, has_yes};
     ghost use Rattle.pg_opens.specs.Commands.{Turns};
     ghost use Rattle.pg_opens.specs.Readings.{gathering_in, standing_in, heard_in, complete_in, update_in, waiting_in, gathers_in};
     ghost use Rattle.std.specs.Option.{option_copied};
@@ -210,6 +210,15 @@ impl OpenCommand {
             ≡ mark_at (get_or self.old.marks.items place Unasked) (get_or lost.now place false) who place granted }
     {
         ask_all(&mut self.marks, lost, who, granted);
+    }
+
+    /// Whether the node at a place is asked for the lock, where these are.
+    pub fn is_asked_by(&self, lost: &[bool], who: Asked, place: usize) -> bool
+        requires place { place < length self.now.marks.items }
+        requires flags { length lost.now ≡ length self.now.marks.items }
+        ensures { result ≡ asked_in (get_or self.now.marks.items place Unasked) (get_or lost.now place false) who place }
+    {
+        !lost[place] && who.is_wanted(place) && self.marks[place].is_unasked()
     }
 
     /// What has come of the node at a place.

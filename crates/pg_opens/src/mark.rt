@@ -1,6 +1,7 @@
 ghost use Rattle.std.specs.Prelude.{◌≡◌, ℕ, ◌<◌, false, length, get_or};
 ghost use Rattle.pg_opens.specs.Marks.{status_of, has_yes, verdict_mark, asked_mark, first_mark, passes, is_wanted, mark_at, all_marks};
 ghost use Rattle.pg_opens.specs.declared.mark.Mark.TheVariants.{Unasked};
+ghost use Rattle.pg_step.specs.Attempts.{is_unasked};
 
 /// What has come of a node that a command asks: for the lock, or to apply the update.
 #[derive(Clone, Copy, Debug, PartialEq, Eq)]
@@ -38,7 +39,8 @@ pub enum Asked {
 }
 
 impl Asked {
-    fn is_wanted(self, place: usize) -> bool
+    /// Whether the node at a place is among them.
+    pub fn is_wanted(self, place: usize) -> bool
         ensures { result ≡ is_wanted self place }
     {
         match self {
@@ -63,6 +65,15 @@ impl Mark {
         match self {
             Mark::Yes => true,
             Mark::Unasked | Mark::Asked | Mark::No => false,
+        }
+    }
+
+    pub fn is_unasked(self) -> bool
+        ensures { result ≡ is_unasked (status_of self) }
+    {
+        match self {
+            Mark::Unasked => true,
+            Mark::Asked | Mark::Yes | Mark::No => false,
         }
     }
 

@@ -40,7 +40,7 @@ pub struct Room {
 impl Opens {
     ghost use Rattle.pg_multicall.specs.Gathered.{what_of};
     ghost use Rattle.pg_group.specs.Table.{Table};
-    ghost use Rattle.std.specs.Prelude.{Bool};
+    ghost use Rattle.std.specs.Prelude.{Bool, Some, slice_get};
     ghost use Rattle.pg_group.specs.Value.{name_of};
     ghost use Rattle.pg_step.specs.Nodes.{Node, greatest, is_node, is_peer};
     ghost use Rattle.std.specs.Option.{is_some};
@@ -48,11 +48,11 @@ impl Opens {
     ghost use Rattle.pg_step.specs.State.Use.{Locking, Updating};
     ghost use Rattle.pg_step.specs.State.Stage.{Closed, Waiting};
     ghost use Rattle.pg_step.specs.Peers.{would_grant};
-    ghost use Rattle.pg_step.specs.Attempts.{gathered, is_complete, is_yes, waits, new_attempt, ask, own_verdict, count_answer, count_ok, give_up, begin, finish};
+    ghost use Rattle.pg_step.specs.Attempts.{gathered, is_complete, is_yes, waits, asks, new_attempt, ask, own_verdict, count_answer, count_ok, give_up, begin, finish};
     ghost use Rattle.pg_step.specs.Turns.{becomes};
     ghost use Rattle.pg_step.specs.Commands.{open_command};
     ghost use Rattle.pg_step.specs.Losses.{see_loss};
-    ghost use Rattle.pg_opens.specs.Opens.{names_of, whole_of, left_of, lost_of, references_of, uses_of, opened_of, stages_of, Shows, Follows, has_room, places_of};
+    ghost use Rattle.pg_opens.specs.Opens.{names_of, whole_of, left_of, ops_of, AreListed, lost_of, references_of, uses_of, opened_of, stages_of, Shows, Follows, has_room, places_of};
     ghost use Rattle.pg_opens.specs.Marks.{whom, has_place};
     ghost use Rattle.pg_opens.specs.Readings.{gathering_of, standing_of, is_locking, is_updating, update_of, waiting_of, waits_by};
     ghost use Rattle.pg_opens.specs.Outlooks.{outlook_of};
@@ -181,6 +181,20 @@ impl Opens {
         }
     }
 
+    /// The open command at a place, of `open_count`: each stands at one of them. It takes no memory.
+    pub fn op_at(&self, place: usize) -> OpId
+        requires { place < opened_of self.now }
+        ensures { slice_get (ops_of self.now) place ≡ Some result }
+    {
+        let command = &self.commands[place];
+        command.op
+    }
+
+    /// The places of the open commands, by `op_at`, have each open command, once, and no other. It takes nothing.
+    pub fn has_each_once(&self)
+        ensures { AreListed self.now (ops_of self.now) }
+    {}
+
     /// Whether a command is not open. It takes no memory: O(open commands).
     pub fn is_closed(&self, op: OpId) -> bool
         ensures { (result ≡ true) ↔ (stages_of self.now op ≡ Closed) }
@@ -243,6 +257,29 @@ impl Opens {
             Some(found) => {
                 let command = &self.commands[found];
                 command.has_yes(place)
+            }
+        }
+    }
+
+    /// Whether the node at a place is asked for the lock under the reference of this number, where these are: it counts, is
+    /// one of them, and was not asked. A peer is sent the request exactly where it is asked. `place`: the node's, by the names. It
+    /// takes no memory: O(open commands).
+    pub fn is_asked_by(&self, number: u32, who: Asked, place: usize) -> bool
+        requires locking { is_locking (uses_of self.now number) ≡ true }
+        requires who { has_place who (length (names_of self.now)) ≡ true }
+        requires place { place < length (names_of self.now) }
+        ensures counts { (op : OpId) (update : Update) (first : Node) (st : Node → Status)
+            → uses_of self.now number ≡ Locking op update first st
+            → result ≡ (not (lost_of self.now (name_at (names_of self.now) place)) && asks (whom (names_of self.now) who) st (name_at (names_of self.now) place)) }
+        ensures peer { (op : OpId) (update : Update) (first : Node) (st : Node → Status)
+            → uses_of self.now number ≡ Locking op update first st → 0 < place
+            → result ≡ (is_peer (left_of self.now) (name_at (names_of self.now) place) && asks (whom (names_of self.now) who) st (name_at (names_of self.now) place)) }
+    {
+        match place_of(&self.commands, number) {
+            None => false,
+            Some(found) => {
+                let command = &self.commands[found];
+                command.is_asked_by(&self.lost, who, place)
             }
         }
     }
