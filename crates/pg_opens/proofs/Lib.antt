@@ -1,4 +1,5 @@
 pub mod Added
+pub mod Alike
 pub mod Asking
 pub mod Followed
 pub mod Forgotten
@@ -10,4 +11,6 @@ pub mod Listed
 pub mod Named
 pub mod Placed
 pub mod Requested
+pub mod Sameness
+pub mod Twins
 pub mod Uses

@@ -5,3 +5,4 @@ pub mod Opens
 pub mod Outlooks
 pub mod Places
 pub mod Readings
+pub mod Twins

@@ -44,6 +44,15 @@ opened_of opens = length opens.commands.items
 abbrev pub stages_of : Opens → OpId → Stage
 stages_of opens = stages_in opens.commands.items
 
+-- two nodes of one set keep the same of it and of their open commands
+pub record AreSame (one other : Opens) : Type 0 where
+  pub names : names_of one ≡ names_of other
+  pub lost_peers : lost_of one ≡ lost_of other
+  pub references : references_of one ≡ references_of other
+  pub uses : uses_of one ≡ uses_of other
+  pub opened : opened_of one ≡ opened_of other
+  pub stages : stages_of one ≡ stages_of other
+
 -- the open commands, by their places
 abbrev pub ops_of : Opens → List OpId
 ops_of opens = map (λ command. command.op) opens.commands.items

@@ -114,7 +114,8 @@ impl OpenCommand {
         }
     }
 
-    fn is(&self, op: OpId) -> bool
+    /// Whether it is this command.
+    pub fn is(&self, op: OpId) -> bool
         ensures { result ≡ same_op self.now.op op }
     {
         self.op.port == op.port && self.op.number == op.number

@@ -7,6 +7,7 @@ mod mark;
 mod nodes;
 mod opens;
 mod outlook;
+mod twin;
 
 pub use command::{Gathering, Standing};
 pub use laws::steps_go_by_outlook;

@@ -1,7 +1,9 @@
 ghost use Rattle.std.specs.Prelude.{◌≡◌, ℕ, ◌<◌, false, length, get_or};
 ghost use Rattle.pg_opens.specs.Marks.{status_of, has_yes, verdict_mark, asked_mark, first_mark, passes, is_wanted, mark_at, all_marks};
+ghost use Rattle.pg_opens.specs.Places.{all_below};
 ghost use Rattle.pg_opens.specs.declared.mark.Mark.TheVariants.{Unasked};
 ghost use Rattle.pg_step.specs.Attempts.{is_unasked};
+ghost use Rattle.pg_opens.specs.Twins.{same_mark, same_test, same_marks, same_replies};
 
 /// What has come of a node that a command asks: for the lock, or to apply the update.
 #[derive(Clone, Copy, Debug, PartialEq, Eq)]
@@ -57,6 +59,18 @@ impl Mark {
         ensures { result ≡ verdict_mark granted }
     {
         if granted { Mark::Yes } else { Mark::No }
+    }
+
+    fn is(self, other: Mark) -> bool
+        ensures { result ≡ same_mark self other }
+    {
+        match (self, other) {
+            (Mark::Unasked, Mark::Unasked)
+            | (Mark::Asked, Mark::Asked)
+            | (Mark::Yes, Mark::Yes)
+            | (Mark::No, Mark::No) => true,
+            _ => false,
+        }
     }
 
     pub fn is_yes(self) -> bool
@@ -169,4 +183,46 @@ pub fn all_pass(marks: &[Mark], lost: &[bool], wanted: Wanted, who: Asked, grant
         all = (is_lost || mark.passes(wanted)) && all;
     }
     all
+}
+
+/// Whether two lists have the same marks.
+pub fn same_marks(marks: &[Mark], others: &[Mark]) -> bool
+    ensures { result ≡ same_marks marks.now others.now }
+{
+    marks.len() == others.len() && agree_on_marks(marks, others)
+}
+
+fn agree_on_marks(marks: &[Mark], others: &[Mark]) -> bool
+    requires { length marks.now ≡ length others.now }
+    ensures { result ≡ all_below (length marks.now) (λ place. same_mark (get_or marks.now place Unasked) (get_or others.now place Unasked)) }
+{
+    let mut all = true;
+    for place in 0..marks.len() {
+        all = marks[place].is(others[place]) && all;
+    }
+    all
+}
+
+/// Whether two lists have a yes at the same places.
+pub fn same_replies(marks: &[Mark], others: &[Mark]) -> bool
+    ensures { result ≡ same_replies marks.now others.now }
+{
+    marks.len() == others.len() && agree_on_replies(marks, others)
+}
+
+fn agree_on_replies(marks: &[Mark], others: &[Mark]) -> bool
+    requires { length marks.now ≡ length others.now }
+    ensures { result ≡ all_below (length marks.now) (λ place. same_test (has_yes (get_or marks.now place Unasked)) (has_yes (get_or others.now place Unasked))) }
+{
+    let mut all = true;
+    for place in 0..marks.len() {
+        all = same_test(marks[place].is_yes(), others[place].is_yes()) && all;
+    }
+    all
+}
+
+fn same_test(one: bool, other: bool) -> bool
+    ensures { result ≡ same_test one other }
+{
+    if one { other } else { !other }
 }

@@ -1,4 +1,4 @@
-ghost use Rattle.std.specs.Prelude.{◌≡◌, ◌↔◌, ℕ, ◌<◌, ◌+◌, ◌^◌, true, false, not, ◌&&◌, length, IfOk, IfSome, OnOk, OnErr, vec_len};
+ghost use Rattle.std.specs.Prelude.{◌≡◌, ◌↔◌, IsTrue, ℕ, ◌<◌, ◌+◌, ◌^◌, true, false, not, ◌&&◌, length, IfOk, IfSome, OnOk, OnErr, vec_len};
 ghost use Rattle.std.specs.List.{IsDistinct, IsDistinct-prop};
 ghost use Rattle.std.specs.Option.{option_copied};
 ghost use Rattle.pg_term.specs.Same.{same_atom};
@@ -10,6 +10,7 @@ use crate::command::{Gathering, OpenCommand, Phase, Standing, place_of, place_of
 use crate::mark::{Asked, Mark, Wanted, all_pass};
 use crate::nodes::{greatest_place, place_of_atom};
 use crate::outlook::Outlook;
+use crate::twin::have_twins;
 use pg_group::Update;
 use pg_multicall::Taken;
 use pg_step::OpId;
@@ -52,10 +53,11 @@ impl Opens {
     ghost use Rattle.pg_step.specs.Turns.{becomes};
     ghost use Rattle.pg_step.specs.Commands.{open_command};
     ghost use Rattle.pg_step.specs.Losses.{see_loss};
-    ghost use Rattle.pg_opens.specs.Opens.{names_of, whole_of, left_of, ops_of, AreListed, lost_of, references_of, uses_of, opened_of, stages_of, Shows, Follows, has_room, places_of};
+    ghost use Rattle.pg_opens.specs.Opens.{names_of, whole_of, left_of, ops_of, AreListed, AreSame, lost_of, references_of, uses_of, opened_of, stages_of, Shows, Follows, has_room, places_of};
     ghost use Rattle.pg_opens.specs.Marks.{whom, has_place};
     ghost use Rattle.pg_opens.specs.Readings.{gathering_of, standing_of, is_locking, is_updating, update_of, waiting_of, waits_by};
     ghost use Rattle.pg_opens.specs.Outlooks.{outlook_of};
+    ghost use Rattle.pg_opens.specs.Twins.{same_commands};
 
     /// No command is open, no reference was made and no loss was seen. Two allocations.
     ///
@@ -166,6 +168,29 @@ impl Opens {
         ensures greatest { name_at (names_of self.now) result ≡ greatest (left_of self.now) }
     {
         greatest_place(&self.names, &self.lost)
+    }
+
+    /// Whether both know the same nodes by the same names, have seen the same losses, made as many references, and have the same
+    /// open commands with the same gathered, in whatever order. It takes no memory: O(open commands² + open commands * nodes).
+    pub fn same(&self, other: &Opens) -> bool
+        ensures { IsTrue result ↔ AreSame self.now other.now }
+    {
+        self.same_nodes(other) && self.same_commands(other)
+    }
+
+    fn same_nodes(&self, other: &Opens) -> bool
+        ensures { IsTrue result ↔ (names_of self.now ≡ names_of other.now) × (self.now.lost.items ≡ other.now.lost.items) }
+    {
+        self.names == other.names && self.lost == other.lost
+    }
+
+    fn same_commands(&self, other: &Opens) -> bool
+        ensures { result ≡ same_commands self.now.references self.now.commands.items other.now.references other.now.commands.items }
+    {
+        self.references == other.references
+            && self.commands.len() == other.commands.len()
+            && have_twins(&self.commands, &other.commands)
+            && have_twins(&other.commands, &self.commands)
     }
 
     /// How a command stands. It takes no memory: O(open commands).
