@@ -157,6 +157,131 @@ fn heard(opens: &Opens, number: u32, place: usize) -> Option<Taken> {
     }
 }
 
+fn name_is(opens: &Opens, place: usize, name: &Atom) -> bool {
+    if place < opens.node_count() {
+        return opens.name(place) == name;
+    }
+    false
+}
+
+fn is_lost(opens: &Opens, place: usize) -> bool {
+    if place < opens.node_count() {
+        return opens.is_lost(place);
+    }
+    false
+}
+
+fn is_left(opens: &Opens, place: usize) -> bool {
+    if place < opens.node_count() {
+        return opens.is_left(place);
+    }
+    false
+}
+
+fn is_asked_alone(opens: &Opens, number: u32, only: usize, place: usize) -> bool {
+    if opens.is_locking(number) {
+        if only < opens.node_count() {
+            if place < opens.node_count() {
+                return opens.is_asked_by(number, Asked::One(only), place);
+            }
+        }
+    }
+    false
+}
+
+fn is_asked_with_all(opens: &Opens, number: u32, place: usize) -> bool {
+    if opens.is_locking(number) {
+        if place < opens.node_count() {
+            return opens.is_asked_by(number, Asked::All, place);
+        }
+    }
+    false
+}
+
+fn op_at(opens: &Opens, place: usize) -> Option<OpId> {
+    if place < opens.open_count() {
+        Some(opens.op_at(place))
+    } else {
+        None
+    }
+}
+
+// Of a, b and c the last is the greatest, until it is lost.
+#[test]
+fn new_greatest(rt: HostRuntime) -> Result<(), Fail> {
+    let alloc = rt.alloc();
+    let mut opens = opens_of_a(alloc)?;
+    let c = Atom::new(alloc, "c")?;
+    let d = Atom::new(alloc, "d")?;
+    assert!(rt; name_is(&opens, 2, &c));
+    assert!(rt; !name_is(&opens, 1, &c));
+    assert!(rt; opens.place_of_name(&c) == Some(2));
+    assert!(rt; opens.place_of_name(&d) == None);
+    assert!(rt; !is_lost(&opens, 2));
+    assert!(rt; is_left(&opens, 2));
+    assert!(rt; !is_left(&opens, 0));
+    assert!(rt; opens.greatest() == 2);
+    assert!(rt; lost(&mut opens, 2));
+    assert!(rt; is_lost(&opens, 2));
+    assert!(rt; !is_left(&opens, 2));
+    assert!(rt; is_left(&opens, 1));
+    assert!(rt; opens.place_of_name(&c) == Some(2));
+    assert!(rt; opens.greatest() == 1);
+    Ok(())
+}
+
+// Who is asked: first c alone, then the others, of whom b is lost.
+#[test]
+fn asked_place_by_place(rt: HostRuntime) -> Result<(), Fail> {
+    let alloc = rt.alloc();
+    let mut opens = opens_of_a(alloc)?;
+    assert!(rt; opened(alloc, &mut opens, 1)?);
+    assert!(rt; started(&mut opens, 1, 2));
+    assert!(rt; is_asked_alone(&opens, 1, 2, 2));
+    assert!(rt; !is_asked_alone(&opens, 1, 2, 1));
+    assert!(rt; asked_one(&mut opens, 1, 2, true));
+    assert!(rt; !is_asked_with_all(&opens, 1, 2));
+    assert!(rt; is_asked_with_all(&opens, 1, 1));
+    assert!(rt; is_asked_with_all(&opens, 1, 0));
+    assert!(rt; lost(&mut opens, 1));
+    assert!(rt; !is_asked_with_all(&opens, 1, 1));
+    Ok(())
+}
+
+// Commands that were opened in another order are the same ones, as long as they stand alike.
+#[test]
+fn same_in_another_order(rt: HostRuntime) -> Result<(), Fail> {
+    let alloc = rt.alloc();
+    let mut one = opens_of_a(alloc)?;
+    let mut other = opens_of_a(alloc)?;
+    assert!(rt; one.same(&other));
+    assert!(rt; opened(alloc, &mut one, 1)?);
+    assert!(rt; !one.same(&other));
+    assert!(rt; opened(alloc, &mut one, 2)?);
+    assert!(rt; opened(alloc, &mut other, 2)?);
+    assert!(rt; opened(alloc, &mut other, 1)?);
+    assert!(rt; op_at(&one, 0) == Some(op(1)));
+    assert!(rt; op_at(&other, 0) == Some(op(2)));
+    assert!(rt; op_at(&one, 2) == None);
+    assert!(rt; one.same(&other));
+    assert!(rt; started(&mut one, 1, 2));
+    assert!(rt; !one.same(&other));
+    assert!(rt; started(&mut other, 1, 2));
+    assert!(rt; one.same(&other));
+    assert!(rt; asked_all(&mut one, 1, true));
+    assert!(rt; !other.same(&one));
+    assert!(rt; asked_all(&mut other, 1, true));
+    assert!(rt; began(&mut one, 1));
+    assert!(rt; began(&mut other, 1));
+    assert!(rt; one.same(&other));
+    assert!(rt; replied(&mut one, 2, 1));
+    assert!(rt; !one.same(&other));
+    assert!(rt; lost(&mut one, 1));
+    assert!(rt; lost(&mut other, 1));
+    assert!(rt; other.same(&one));
+    Ok(())
+}
+
 // c is asked first, then a and b; the update goes out, and the command ends.
 #[test]
 fn gathered_replies(rt: HostRuntime) -> Result<(), Fail> {
