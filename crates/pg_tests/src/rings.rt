@@ -1,0 +1,4 @@
+//! Tests of rings with what stands beside them: frames, and threads.
+
+mod frames;
+mod threads;

@@ -1,0 +1,33 @@
+use crate::packets::samples::create_packet;
+use crate::samples::atom;
+use bytes::BytesMut;
+use pg_frame::Deframer;
+use pg_message::{MessageFault, write_packet_into};
+use pg_ring::{Inlet, Link, ring_pair};
+use std::alloc::Global;
+use std::test::Fail;
+
+// A `create` call in a frame.
+fn create_call(alloc: Global) -> Result<BytesMut, MessageFault> {
+    let mut frame = BytesMut::new(alloc);
+    write_packet_into(&create_packet(alloc, 0, atom(alloc, "g")?)?, &mut frame)?;
+    Ok(frame)
+}
+
+// Takes each byte of a frame across the ring.
+#[test]
+fn frame_byte_by_byte(rt: HostRuntime) -> Result<(), Fail> {
+    let frame = create_call(rt.alloc())?;
+    let (mut out, mut inlet) = ring_pair(rt.alloc(), 1)?;
+    let mut deframer = Deframer::new(rt.alloc());
+    let mut place = [0u8; 1];
+    for byte in frame.as_slice() {
+        assert_eq!(rt; deframer.front(), Ok(None));
+        assert_eq!(rt; out.put(&[*byte, 0]), 1);
+        assert_eq!(rt; inlet.take(&mut place), 1);
+        deframer.feed(&place)?;
+    }
+    assert_eq!(rt; deframer.front(), Ok(Some(&frame.as_slice()[4..])));
+    assert_eq!(rt; inlet.take(&mut place), 0);
+    Ok(())
+}

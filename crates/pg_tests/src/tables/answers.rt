@@ -1,0 +1,112 @@
+ghost use Rattle.pg_group.specs.Scope.{anywhere};
+ghost use Rattle.pg_group.specs.Members.{IsMemberList};
+
+use crate::tables::pair::{Cast, Side};
+use crate::tables::reading::Reading;
+use pg_group::{GroupTable, Scope, one_member_list};
+use pg_query::{QueryFault, members};
+use pg_term::{Items, Pid, Term};
+use std::alloc::{AllocError, Global};
+
+/// Whether a table answers as the reading of the rules says, in all that can be asked of the two groups.
+pub fn answers_as<T: GroupTable>(
+    alloc: Global,
+    table: &T,
+    cast: &Cast,
+    reading: &Reading,
+) -> Result<bool, AllocError> {
+    for side in [Side::First, Side::Second] {
+        if !answers_of_group(alloc, table, cast, reading, side)? {
+            return Ok(false);
+        }
+    }
+    let names = table.groups()?;
+    for name in &names {
+        if !table.has(name) {
+            return Ok(false);
+        }
+    }
+    Ok(names.len() == reading.group_count())
+}
+
+fn answers_of_group<T: GroupTable>(
+    alloc: Global,
+    table: &T,
+    cast: &Cast,
+    reading: &Reading,
+    side: Side,
+) -> Result<bool, AllocError> {
+    let name = cast.name(side);
+    let listed = match members(alloc, table, name) {
+        Ok(listed) => listed,
+        Err(QueryFault::NoSuchGroup) => return Ok(
+            reading.group(side).is_none() && answers_nothing(table, cast, name),
+        ),
+        Err(QueryFault::OutOfMemory) => return Err(AllocError),
+        Err(QueryFault::NoMember) => unreachable!(),
+    };
+    let Some((a, b)) = reading.group(side) else {
+        return Ok(false);
+    };
+    Ok(
+        table.has(name)
+            && table.count(name, cast.pid(Side::First)) == a
+            && table.count(name, cast.pid(Side::Second)) == b
+            && size(table, name, &listed, Scope::All) == Some(a.saturating_add(b))
+            && size(table, name, &listed, Scope::At(cast.node(Side::First))) == Some(a)
+            && size(table, name, &listed, Scope::At(cast.node(Side::Second))) == Some(b)
+            && is_list(&listed, cast, a, b)
+            && has_places(table, cast, name, Side::First, a)
+            && has_places(table, cast, name, Side::Second, b),
+    )
+}
+
+/// Whether an absent group has no member anywhere.
+fn answers_nothing<T: GroupTable>(table: &T, cast: &Cast, name: &Term) -> bool {
+    !table.has(name)
+        && table.count(name, cast.pid(Side::First)) == 0
+        && table.count(name, cast.pid(Side::Second)) == 0
+        && table.pid_at(name, Scope::All, 0).is_none()
+        && table
+            .pid_at(name, Scope::At(cast.node(Side::First)), 0)
+            .is_none()
+}
+
+/// The size of a group whose members were listed.
+pub fn size<T: GroupTable>(
+    table: &T,
+    name: &Term,
+    listed: &Items<Pid>,
+    scope: Scope<'_>,
+) -> Option<u64>
+    requires { IsMemberList (T.contents table.now name.now) anywhere listed.now }
+{
+    one_member_list();
+    let _count = listed.len();
+    table.size(name, scope)
+}
+
+/// Whether a list has the first pid so often, then the second.
+fn is_list(listed: &Items<Pid>, cast: &Cast, a: u64, b: u64) -> bool {
+    let mut place = 0u64;
+    for pid in listed.as_slice() {
+        let wanted = if place < a { Side::First } else { Side::Second };
+        if pid != cast.pid(wanted) {
+            return false;
+        }
+        place = place.saturating_add(1);
+    }
+    place == a.saturating_add(b)
+}
+
+/// Whether the members on one node are so many of its pid.
+fn has_places<T: GroupTable>(table: &T, cast: &Cast, name: &Term, side: Side, count: u64) -> bool {
+    let scope = Scope::At(cast.node(side));
+    for place in 0..count {
+        match table.pid_at(name, scope, place) {
+            Some(pid) if pid == cast.pid(side) => (),
+            _ => return false,
+        }
+    }
+    table.pid_at(name, scope, count).is_none()
+}

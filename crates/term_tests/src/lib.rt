@@ -1,7 +1,0 @@
-//! Tests of terms and their bytes.
-#![tactic(auto)]
-
-#[cfg(test)]
-mod reading;
-#[cfg(test)]
-mod writing;
