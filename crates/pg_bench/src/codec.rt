@@ -1,18 +1,15 @@
-//! How fast terms are read and written. The arguments: which measure (`join`, `numbers`, `pids` or
-//! `deep`), and how many times. With none, each measure once. The figures go to standard error,
-//! since they differ from run to run.
-#![tactic(auto)]
+//! How fast terms are read and written, copied and compared.
 
-mod fault;
 mod measure;
 
+use crate::rates::report;
+use crate::words::{number, word};
 use bytes::BytesMut;
 use measure::Measure;
 use pg_term::{Term, TermFault};
 use pg_term_io::{decode, encode, encode_into};
 use std::alloc::Global;
-use std::env;
-use std::time::{Duration, Instant};
+use std::time::Instant;
 
 // Reads the bytes so many times.
 fn read(alloc: Global, bytes: &[u8], rounds: u64) -> Result<(), TermFault> {
@@ -61,47 +58,27 @@ fn compare(terms: &[Term], rounds: u64) -> u64 {
     same
 }
 
-// How many a second.
-fn rate(count: u64, time: Duration) -> u64 {
-    let nanos = u64::try_from(time.as_nanos()).unwrap_or(u64::MAX).max(1);
-    let seconds = u128::from(count).saturating_mul(1_000_000_000) / u128::from(nanos);
-    u64::try_from(seconds).unwrap_or(u64::MAX)
-}
-
-fn report(
-    rt: &HostRuntime,
-    what: &str,
-    rounds: u64,
-    len: u64,
-    time: Duration,
-) -> anyhow::Result<()> {
-    let packets = rate(rounds, time);
-    let megabytes = packets.saturating_mul(len) / 1_000_000;
-    eprintln!(rt; "  {what}: {packets} packets a second, {megabytes} MB a second")?;
-    Ok(())
-}
-
 fn reading(rt: &HostRuntime, bytes: &[u8], rounds: u64) -> anyhow::Result<()> {
     let start = Instant::now(rt)?;
     read(rt.alloc(), bytes, rounds)?;
-    report(rt, "decode", rounds, bytes.len() as u64, start.elapsed(rt)?)
+    report(rt, "decode", rounds, bytes.len(), start.elapsed(rt)?)
 }
 
 fn writing(rt: &HostRuntime, term: &Term, len: usize, rounds: u64) -> anyhow::Result<()> {
     let mut buffer = BytesMut::with_capacity(rt.alloc(), len)?;
     let start = Instant::now(rt)?;
     write(term, &mut buffer, rounds)?;
-    report(rt, "encode_into", rounds, len as u64, start.elapsed(rt)?)?;
+    report(rt, "encode_into", rounds, len, start.elapsed(rt)?)?;
     let start = Instant::now(rt)?;
     write_new(rt.alloc(), term, rounds)?;
-    report(rt, "encode", rounds, len as u64, start.elapsed(rt)?)
+    report(rt, "encode", rounds, len, start.elapsed(rt)?)
 }
 
 fn encoded(alloc: Global, measure: Measure) -> Result<Vec<u8>, TermFault> {
     encode(alloc, &measure.term(alloc)?)
 }
 
-fn run(rt: &HostRuntime, measure: Measure, rounds: u64) -> anyhow::Result<()> {
+fn both_ways(rt: &HostRuntime, measure: Measure, rounds: u64) -> anyhow::Result<()> {
     let bytes = encoded(rt.alloc(), measure)?;
     let len = bytes.len();
     eprintln!(rt; "{}: {len} bytes, {rounds} times", measure.name())?;
@@ -137,19 +114,21 @@ fn values(rt: &HostRuntime, measure: Measure, rounds: u64) -> anyhow::Result<()>
     comparing(rt, pair.as_slice(), rounds)
 }
 
-fn main(rt: HostRuntime) -> anyhow::Result<()> {
-    let mut words = env::args(&rt)?.skip(1);
-    let Some(name) = words.next() else {
-        run(&rt, Measure::Join, 1)?;
-        run(&rt, Measure::Numbers, 1)?;
-        run(&rt, Measure::Pids, 1)?;
-        return run(&rt, Measure::Deep, 1);
-    };
-    let rounds = match words.next() {
-        Some(text) => text.as_str().parse::<u64>()?,
-        None => 1,
-    };
-    let measure = Measure::of(name.as_str())?;
-    run(&rt, measure, rounds)?;
-    values(&rt, measure, rounds)
+// Each term once, read and written.
+fn each_once(rt: &HostRuntime) -> anyhow::Result<()> {
+    both_ways(rt, Measure::Join, 1)?;
+    both_ways(rt, Measure::Numbers, 1)?;
+    both_ways(rt, Measure::Pids, 1)?;
+    both_ways(rt, Measure::Deep, 1)
+}
+
+/// The words behind `codec`: which term (`join`, `numbers`, `pids` or `deep`), and how many times; with none, each term once.
+pub fn run(rt: &HostRuntime, words: &[String]) -> anyhow::Result<()> {
+    if words.len() < 2 {
+        return each_once(rt);
+    }
+    let measure = Measure::of(word(words, 1))?;
+    let rounds = number(words, 2, 1)?;
+    both_ways(rt, measure, rounds)?;
+    values(rt, measure, rounds)
 }

@@ -1,6 +1,6 @@
 use Rattle.std.proofs.Common.{◌≡◌, length, ap, arith}
 use Rattle.pg_group.specs.Scope.{anywhere}
-use Rattle.index_bench.proofs.calls.size_at.Goals as goal
+use Rattle.pg_bench.proofs.tables.calls.size_at.Goals as goal
 
 pub size-requires : goal.size-requires
 size-requires g c = λ pids is.

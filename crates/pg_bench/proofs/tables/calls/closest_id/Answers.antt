@@ -1,6 +1,6 @@
 use Rattle.std.proofs.Common.{◌≡◌, length, ap, arith}
 use Rattle.pg_group.specs.Scope.{anywhere}
-use Rattle.index_bench.proofs.calls.closest_id.Goals as goal
+use Rattle.pg_bench.proofs.tables.calls.closest_id.Goals as goal
 
 pub closest-requires : goal.closest-requires
 closest-requires g c = λ pids is.

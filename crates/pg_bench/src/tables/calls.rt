@@ -3,7 +3,7 @@ ghost use Rattle.pg_group.specs.Table.{HasRoom};
 ghost use Rattle.pg_group.specs.Scope.{anywhere};
 ghost use Rattle.pg_group.specs.Members.{IsMemberList};
 
-use crate::crowd::{names, next, node_of, pids};
+use crate::tables::crowd::{names, next, node_of, pids};
 use pg_group::{Ended, GroupTable, Scope, Update, one_member_list};
 use pg_query::{closest, members};
 use pg_term::{Atom, Items, Pid, Term};

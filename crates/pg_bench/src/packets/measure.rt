@@ -1,9 +1,10 @@
 //! What is measured: which packet.
 
 use crate::fault::BenchFault;
+use crate::samples::{pid, reference};
 use pg_group::Update;
 use pg_message::{Message, MessageFault, Packet, Request};
-use pg_term::{Atom, Items, Pid, Reference, Term};
+use pg_term::{Atom, Items, Pid, Term};
 use std::alloc::Global;
 
 /// The packet that is read and written.
@@ -21,7 +22,7 @@ impl Measure {
         match name {
             "join" => Ok(Measure::Join),
             "exchange" => Ok(Measure::Exchange),
-            _ => Err(BenchFault::UnknownMeasure),
+            _ => Err(BenchFault::UnknownPacket),
         }
     }
 
@@ -43,32 +44,26 @@ impl Measure {
     }
 }
 
-fn pid(alloc: Global, id: u32) -> Result<Pid, MessageFault> {
-    Ok(Pid {
-        node: Atom::new(alloc, "a")?,
-        serial: 0,
-        id,
-        creation: 1,
-    })
-}
-
 // {call, Ref, {join, g, Pid}}
 fn join_call(alloc: Global) -> Result<Message, MessageFault> {
-    let reference = Reference::new(Atom::new(alloc, "a")?, 1, &[1, 0, 0])?;
     let name = Term::Atom(Atom::new(alloc, "g")?);
     let join = Update::Join(name, pid(alloc, 1)?);
-    Ok(Message::Call(reference, Request::Change(join)))
+    Ok(Message::Call(reference(alloc)?, Request::Change(join)))
+}
+
+fn pids(alloc: Global, count: u32) -> Result<Items<Pid>, MessageFault> {
+    let mut pids = Vec::new(alloc);
+    for id in 0..count {
+        pids.push(pid(alloc, id)?)?;
+    }
+    Ok(Items::from_vec(pids))
 }
 
 // So many groups, named by numbers, with so many members each.
-fn exchange(alloc: Global, groups: u32, members: u32) -> Result<Message, MessageFault> {
+fn exchange(alloc: Global, groups: i64, members: u32) -> Result<Message, MessageFault> {
     let mut told = Vec::new(alloc);
     for number in 0..groups {
-        let mut pids = Vec::new(alloc);
-        for id in 0..members {
-            pids.push(pid(alloc, id)?)?;
-        }
-        told.push((Term::Int(i64::from(number)), Items::from_vec(pids)))?;
+        told.push((Term::Int(number), pids(alloc, members)?))?;
     }
     Ok(Message::Exchange(Atom::new(alloc, "a")?, Items::from_vec(told)))
 }

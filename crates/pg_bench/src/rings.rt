@@ -1,12 +1,11 @@
-//! How many bytes a second cross a ring between two threads, for pieces of several sizes. The figures
-//! go to standard error, since they differ from run to run.
-#![tactic(auto)]
+//! How many bytes a second cross a ring between two threads, for pieces of several sizes.
 
-ghost use Rattle.std.specs.Prelude.{◌≤◌};
-
+use crate::rates::rate;
 use pg_ring::{Inlet, Link, RingIn, RingOut, ring_pair};
+use std::io::Eprint;
 use std::sync::Wait;
-use std::time::{Duration, Instant};
+use std::thread::Threads;
+use std::time::{Clock, Duration, Instant};
 use std::{io, thread};
 
 // The capacity of the ring, in bytes.
@@ -54,26 +53,35 @@ fn receive(rt: &impl Wait, inlet: &mut RingIn, size: usize, bytes: usize) {
     unreachable!()
 }
 
-// Millions of bytes a second.
-fn rate(bytes: usize, time: Duration) -> u64 {
-    let nanos = u64::try_from(time.as_nanos()).unwrap_or(u64::MAX).max(1);
-    (bytes as u64).saturating_mul(1000) / nanos
+// The time in which so many pieces of this size cross.
+fn time_of<R: Threads + Wait + Clock + AllocGlobal + Copy + Send + 'static>(
+    rt: &R,
+    size: usize,
+    pieces: usize,
+) -> io::Result<Duration> {
+    let Ok((out, mut inlet)) = ring_pair(rt.alloc(), CAPACITY) else {
+        return Err(io::ErrorKind::OutOfMemory.into());
+    };
+    let start = Instant::now(rt)?;
+    let own = *rt;
+    let Ok(sending) = thread::spawn(rt, move || send(&own, out, size, pieces)) else {
+        return Err(io::ErrorKind::WouldBlock.into());
+    };
+    receive(rt, &mut inlet, size, size.saturating_mul(pieces));
+    sending.join(rt);
+    Ok(start.elapsed(rt)?)
 }
 
-fn main(rt: HostRuntime) -> io::Result<()> {
-    for (size, pieces) in ROUNDS {
-        let Ok((out, mut inlet)) = ring_pair(rt.alloc(), CAPACITY) else {
-            return Err(io::ErrorKind::OutOfMemory.into());
-        };
-        let bytes = size.saturating_mul(pieces);
-        let start = Instant::now(&rt)?;
-        let Ok(sending) = thread::spawn(&rt, move || send(&rt, out, size, pieces)) else {
-            return Err(io::ErrorKind::WouldBlock.into());
-        };
-        receive(&rt, &mut inlet, size, bytes);
-        sending.join(&rt);
-        let time = start.elapsed(&rt)?;
-        eprintln!(rt; "pieces of {size} bytes: {} MB/s", rate(bytes, time))?;
+/// Prints the figures of each size, of so many parts of the pieces one.
+pub fn cross<R: Threads + Wait + Clock + Eprint + AllocGlobal + Copy + Send + 'static>(
+    rt: &R,
+    parts: usize,
+) -> io::Result<()> {
+    for (size, all) in ROUNDS {
+        let pieces = all / parts.max(1);
+        let time = time_of(rt, size, pieces)?;
+        let megabytes = rate(size.saturating_mul(pieces) as u64, time) / 1_000_000;
+        eprintln!(rt; "pieces of {size} bytes: {megabytes} MB/s")?;
     }
     Ok(())
 }

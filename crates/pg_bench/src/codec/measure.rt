@@ -1,7 +1,8 @@
 //! What is measured: which term, and its bytes.
 
 use crate::fault::BenchFault;
-use pg_term::{Atom, Boxed, Fields, Items, Pid, Reference, Term, TermFault};
+use crate::samples::{pid, reference};
+use pg_term::{Atom, Boxed, Fields, Items, Term, TermFault};
 use std::alloc::Global;
 
 /// The term that is read and written.
@@ -25,7 +26,7 @@ impl Measure {
             "numbers" => Ok(Measure::Numbers),
             "pids" => Ok(Measure::Pids),
             "deep" => Ok(Measure::Deep),
-            _ => Err(BenchFault::UnknownMeasure),
+            _ => Err(BenchFault::UnknownTerm),
         }
     }
 
@@ -54,27 +55,17 @@ fn atom(alloc: Global, name: &str) -> Result<Term, TermFault> {
     Ok(Term::Atom(Atom::new(alloc, name)?))
 }
 
-fn pid(alloc: Global, id: u32) -> Result<Pid, TermFault> {
-    Ok(Pid {
-        node: Atom::new(alloc, "a")?,
-        serial: 0,
-        id,
-        creation: 1,
-    })
-}
-
 fn tuple(items: Vec<Term>) -> Term {
     Term::Tuple(Fields::from_vec(items))
 }
 
 // {0, {call, Ref, {join, g, Pid}}}
 fn join_call(alloc: Global) -> Result<Term, TermFault> {
-    let reference = Reference::new(Atom::new(alloc, "a")?, 1, &[1, 0, 0])?;
     let member = Term::Pid(pid(alloc, 1)?);
     let join = vec![in alloc; atom(alloc, "join")?, atom(alloc, "g")?, member]?;
     let call = vec![in alloc;
         atom(alloc, "call")?,
-        Term::Ref(Boxed::new(alloc, reference)?),
+        Term::Ref(Boxed::new(alloc, reference(alloc)?)?),
         tuple(join),
     ]?;
     let whole = vec![in alloc; Term::Int(0), tuple(call)]?;
