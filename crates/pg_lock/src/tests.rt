@@ -1,85 +1,89 @@
 use super::*;
 use pg_term::{Atom, Reference, Term, TermFault};
-use std::alloc::Global;
+use std::alloc::{AllocError, Global};
 use std::test::Fail;
 
 mod many;
 
-fn name(alloc: Global, text: &str) -> Result<Term, TermFault> {
-    Ok(Term::Atom(Atom::new(alloc, text)?))
-}
-
-fn reference(alloc: Global, word: u32) -> Result<Reference, TermFault> {
-    Reference::new(Atom::new(alloc, "a")?, 1, &[word])
-}
-
-/// The lock table after the first reference took "g", with that name and reference.
+/// The names g and h, two references of node a, and one of node b.
 #[derive(Drop)]
-struct Held {
+struct Cast {
     g: Term,
+    h: Term,
     first: Reference,
-    locks: LockTable,
+    second: Reference,
+    other: Reference,
 }
 
-fn first_holds(alloc: Global) -> Result<Held, Fail> {
+fn names_and_references(alloc: Global) -> Result<Cast, TermFault> {
+    Ok(Cast {
+        g: Term::Atom(Atom::new(alloc, "g")?),
+        h: Term::Atom(Atom::new(alloc, "h")?),
+        first: reference(alloc, "a", 1)?,
+        second: reference(alloc, "a", 2)?,
+        other: reference(alloc, "b", 1)?,
+    })
+}
+
+fn reference(alloc: Global, node: &str, word: u32) -> Result<Reference, TermFault> {
+    Reference::new(Atom::new(alloc, node)?, 1, &[word])
+}
+
+/// The lock table after the first reference took g.
+fn first_holds(alloc: Global, cast: &Cast) -> Result<LockTable, AllocError> {
     let mut locks = LockTable::new(alloc);
-    let g = name(alloc, "g")?;
-    let first = reference(alloc, 1)?;
-    locks.ask(true, &g, &first)?;
-    Ok(Held { g, first, locks })
+    locks.ask(true, &cast.g, &cast.first)?;
+    Ok(locks)
 }
 
 #[test]
 fn denied_while_not_formed(rt: HostRuntime) -> Result<(), Fail> {
+    let cast = names_and_references(rt.alloc())?;
     let mut locks = LockTable::new(rt.alloc());
-    let g = name(rt.alloc(), "g")?;
-    let first = reference(rt.alloc(), 1)?;
-    assert!(rt; !locks.ask(false, &g, &first)?);
-    assert!(rt; locks.holder(&g).is_none());
+    assert!(rt; !locks.ask(false, &cast.g, &cast.first)?);
+    assert!(rt; locks.holder(&cast.g).is_none());
     Ok(())
 }
 
 #[test]
 fn one_holder(rt: HostRuntime) -> Result<(), Fail> {
-    let mut held = first_holds(rt.alloc())?;
-    let second = reference(rt.alloc(), 2)?;
-    assert!(rt; !held.locks.ask(true, &held.g, &second)?);
-    assert!(rt; held.locks.holder(&held.g) == Some(&held.first));
+    let cast = names_and_references(rt.alloc())?;
+    let mut locks = first_holds(rt.alloc(), &cast)?;
+    assert!(rt; !locks.ask(true, &cast.g, &cast.second)?);
+    assert!(rt; locks.holder(&cast.g) == Some(&cast.first));
     Ok(())
 }
 
 #[test]
 fn other_names_are_free(rt: HostRuntime) -> Result<(), Fail> {
-    let mut held = first_holds(rt.alloc())?;
-    let h = name(rt.alloc(), "h")?;
-    let second = reference(rt.alloc(), 2)?;
-    assert!(rt; held.locks.ask(true, &h, &second)?);
-    assert!(rt; held.locks.holder(&held.g) == Some(&held.first));
+    let cast = names_and_references(rt.alloc())?;
+    let mut locks = first_holds(rt.alloc(), &cast)?;
+    assert!(rt; locks.ask(true, &cast.h, &cast.second)?);
+    assert!(rt; locks.holder(&cast.g) == Some(&cast.first));
     Ok(())
 }
 
 #[test]
 fn freed_by_its_holder_alone(rt: HostRuntime) -> Result<(), Fail> {
-    let mut held = first_holds(rt.alloc())?;
-    let second = reference(rt.alloc(), 2)?;
-    held.locks.give_up(&held.g, &second);
-    assert!(rt; held.locks.holder(&held.g) == Some(&held.first));
-    held.locks.give_up(&held.g, &held.first);
-    assert!(rt; held.locks.holder(&held.g).is_none());
+    let cast = names_and_references(rt.alloc())?;
+    let mut locks = first_holds(rt.alloc(), &cast)?;
+    locks.give_up(&cast.g, &cast.second);
+    assert!(rt; locks.holder(&cast.g) == Some(&cast.first));
+    locks.give_up(&cast.g, &cast.first);
+    assert!(rt; locks.holder(&cast.g).is_none());
     Ok(())
 }
 
 #[test]
 fn freed_where_its_node_is_lost(rt: HostRuntime) -> Result<(), Fail> {
-    let mut held = first_holds(rt.alloc())?;
-    let h = name(rt.alloc(), "h")?;
-    let other = Reference::new(Atom::new(rt.alloc(), "b")?, 1, &[1])?;
-    assert!(rt; held.locks.ask(true, &h, &other)?);
-    held.locks.free_node(other.node());
-    assert!(rt; held.locks.holder(&h).is_none());
-    assert!(rt; held.locks.holder(&held.g) == Some(&held.first));
-    held.locks.free_node(held.first.node());
-    assert!(rt; held.locks.holder(&held.g).is_none());
+    let cast = names_and_references(rt.alloc())?;
+    let mut locks = first_holds(rt.alloc(), &cast)?;
+    assert!(rt; locks.ask(true, &cast.h, &cast.other)?);
+    locks.free_node(cast.other.node());
+    assert!(rt; locks.holder(&cast.h).is_none());
+    assert!(rt; locks.holder(&cast.g) == Some(&cast.first));
+    locks.free_node(cast.first.node());
+    assert!(rt; locks.holder(&cast.g).is_none());
     Ok(())
 }
 
