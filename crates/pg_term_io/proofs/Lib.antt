@@ -10,6 +10,7 @@ pub mod Elements
 pub mod Identifiers
 pub mod Items
 pub mod Latin
+pub mod Lists
 pub mod Loop
 pub mod Outcomes
 pub mod Placed

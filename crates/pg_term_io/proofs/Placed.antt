@@ -25,7 +25,7 @@ reference_kind r = search (rules, the_lemmas)
 pid_kind : (p : Pid) → kind_of (Process p) ≡ 3
 pid_kind p = search (rules, the_lemmas)
 
-tuple_kind : (ts : List Term) → kind_of (Tuple ts) ≡ 4
+pub tuple_kind : (ts : List Term) → kind_of (Tuple ts) ≡ 4
 tuple_kind ts = search (rules, the_lemmas)
 
 list_kind : (ts : List Term) → kind_of (Listed ts) ≡ 5
@@ -35,10 +35,10 @@ binary_kind : (content : List ℕ) → kind_of (Binary content) ≡ 6
 binary_kind content = search (rules, the_lemmas)
 
 -- each term that is read is of this kind
-abbrev OfKind : Option ℕ → Read Term → Type 0
+abbrev pub OfKind : Option ℕ → Read Term → Type 0
 OfKind place read = (t : Term) (rest : List ℕ) → read ≡ Ok (t, rest) → place ≡ Some (kind_of t)
 
-made : {A : Type 0} (make : A → Term) (place : ℕ) → ((a : A) → kind_of (make a) ≡ place) → (read : Read A) → OfKind (Some place) (as_term make read)
+pub made : {A : Type 0} (make : A → Term) (place : ℕ) → ((a : A) → kind_of (make a) ≡ place) → (read : Read A) → OfKind (Some place) (as_term make read)
 made make place h (Ok x) t rest e = let same : (make x.0, x.1) ≡ (t, rest) = cc in ap Some (sym (h x.0) ∙ ap (λ (p : Term × List ℕ). kind_of p.0) same)
 made make place h (Err f) t rest e = absurd cc
 
@@ -110,7 +110,7 @@ unfolding readers item_behind arity_behind
 tuple_elements room tag n bytes rest h =
     counted room bytes (cond (is_list_tag tag) (as_term Listed (elements_behind room (readers room) tag bytes)) (leaf_behind tag bytes)) (eqb tag 104) (eqb tag 105) n rest h
 
-neither : (b : Bool) (j k : Option ℕ) → j ≢ Some 4 → k ≢ Some 4 → cond b j k ≢ Some 4
+neither : {place : Option ℕ} (b : Bool) (j k : Option ℕ) → j ≢ place → k ≢ place → cond b j k ≢ place
 neither true j k p q = p
 neither false j k p q = q
 
@@ -128,3 +128,13 @@ no_tuple zero tag f bytes t rest h e four = absurd cc
 no_tuple (suc room) tag f bytes t rest h e four =
     let parts = uncounted room bytes (cond (is_list_tag tag) (as_term Listed (elements_behind room (readers room) tag bytes)) (leaf_behind tag bytes)) (eqb tag 104) (eqb tag 105) f t rest h e in
     other_place tag parts.0 parts.1.0 (item_kind (suc room) (tag ∷ bytes) t rest e ∙ ap Some four)
+
+-- ---- lists
+
+-- no other tag is that of a list
+pub other_than_list : (tag : ℕ) → is_list_tag tag ≡ false → place_behind tag ≢ Some 5
+unfolding place_behind
+other_than_list tag h =
+    rw h (neither (eqb tag 104) _ _ (λ e. absurd cc) (neither (eqb tag 105) _ _ (λ e. absurd cc) (neither (eqb tag 97) _ _ (λ e. absurd cc) (neither (eqb tag 98) _ _ (λ e. absurd cc) (neither (eqb tag 110) _ _ (λ e. absurd cc)
+    (neither (is_atom_tag tag) _ _ (λ e. absurd cc) (neither (eqb tag 103) _ _ (λ e. absurd cc) (neither (eqb tag 88) _ _ (λ e. absurd cc) (neither (eqb tag 101) _ _ (λ e. absurd cc)
+    (neither (eqb tag 114) _ _ (λ e. absurd cc) (neither (eqb tag 90) _ _ (λ e. absurd cc) (neither (eqb tag 109) _ _ (λ e. absurd cc) (λ e. absurd cc)))))))))))))

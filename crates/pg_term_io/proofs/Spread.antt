@@ -1,5 +1,5 @@
 -- However a term is spelled, it takes at most 400 times the bytes that it is written in.
-use Rattle.std.proofs.Common.{◌≡◌, ℕ, pos, ◌+◌, ◌*◌, ◌≤◌, Bool, true, false, cond, List, [], ◌∷◌, ◌++◌, length, length-append, map, Ok, Err, ap, arith, rules}
+use Rattle.std.proofs.Common.{◌≡◌, ℕ, pos, ◌+◌, ◌*◌, ◌<◌, ◌≤◌, Bool, true, false, cond, List, [], ◌∷◌, ◌++◌, length, length-append, map, Ok, Err, ap, arith, rules}
 use Rattle.std.specs.Prelude.{nat_lt}
 use Rattle.std.specs.Int.{Width, w8, w16, w32, to_be_bytes, cast_signed}
 use Rattle.std.specs.List.{flat_map}
@@ -17,6 +17,7 @@ use Rattle.pg_term_io.specs.Spelling.{IsAtom, IsPid, IsOldRef, IsRef, Item, Item
 use Rattle.pg_term_io.specs.Spelling as s
 use Rattle.pg_term_io.specs.Writing.{text_bytes, atom_bytes, pid_bytes, reference_bytes, tuple_head, list_head, item_bytes, all_bytes}
 use Rattle.pg_term_io.proofs.Items.{levels}
+use Rattle.pg_term_io.proofs.Weighed.{weight_some, item_light}
 use Rattle.pg_term_io.proofs.Outcomes.{IsBytes, Took, Right}
 use Rattle.pg_term_io.proofs.Written.{tuple_is, list_is, binary_is, head_some, item_some, count_le}
 use Rattle.pg_term_io.proofs.WrittenWords.{words_len, reference_len}
@@ -178,3 +179,21 @@ took room bytes (Err f) t rest le h e = absurd cc
 -- an item that is read takes at most 400 times the bytes that it is written in
 pub wide : (room : ℕ) (bytes : List ℕ) (t : Term) (rest : List ℕ) → room ≤ 64 → IsBytes bytes → item_at room bytes ≡ Ok (t, rest) → length bytes ≤ length rest + 400 * length (item_bytes t)
 wide room bytes t rest le fits e = took room bytes (item_at room bytes) t rest le ((levels room).0 bytes fits) e
+
+took_some : (room : ℕ) (bytes : List ℕ) (read : Read Term) (t : Term) (rest : List ℕ) → Right (Item room) (BreaksItem room) bytes read → read ≡ Ok (t, rest) → length rest < length bytes
+took_some room bytes (Ok x) t rest h e =
+    let text : Took (Item room) bytes x = h in
+    let same : x ≡ (t, rest) = cc in
+    omega (
+      arith,
+      item_light room x.0 text.text text.is,
+      weight_some x.0,
+      ap length text.parts,
+      length-append text.text x.1,
+      ap (λ (p : Term × List ℕ). length p.1) same,
+    )
+took_some room bytes (Err f) t rest h e = absurd cc
+
+-- an item takes some bytes
+pub shorter : (room : ℕ) (bytes : List ℕ) (t : Term) (rest : List ℕ) → IsBytes bytes → item_at room bytes ≡ Ok (t, rest) → length rest < length bytes
+shorter room bytes t rest fits e = took_some room bytes (item_at room bytes) t rest ((levels room).0 bytes fits) e

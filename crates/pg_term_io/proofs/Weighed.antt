@@ -70,7 +70,7 @@ atom_some _ _ (s.IsAtom.small_latin text le fit) = omega arith
 atom_some _ _ (s.IsAtom.latin text le fit) = omega arith
 
 mutual
-  item_light : (room : ℕ) (t : Term) (b : List ℕ) → Item room t b → weight t ≤ length b
+  pub item_light : (room : ℕ) (t : Term) (b : List ℕ) → Item room t b → weight t ≤ length b
   item_light _ _ _ (s.Item.small_integer room n lt) = omega (arith, int_weight (pos n))
   item_light _ _ _ (s.Item.integer room n lt) = omega (arith, int_weight (cast_signed w32 n))
   item_light _ _ _ (s.Item.small_big room sign digits one few fit fits) = omega (arith, int_weight (big_value sign digits))

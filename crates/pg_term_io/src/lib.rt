@@ -1,6 +1,7 @@
 //! Terms as bytes, in Erlang's External Term Format.
 #![tactic(auto)]
 
+mod element;
 mod kind;
 pub mod laws;
 mod limits;
@@ -8,10 +9,12 @@ mod reading;
 mod size;
 mod writing;
 
+pub use element::NextElement;
 pub use kind::Kind;
 pub use limits::{MAX_DEPTH, MAX_LEN};
 pub use reading::{
-    check_term, decode, decode_item, decode_pid, decode_reference, kind_at, skip_item, tuple_at,
+    check_term, decode, decode_item, decode_pid, decode_reference, kind_at, next_element,
+    skip_item, tuple_at,
 };
 pub use size::{
     atom_len, encode_len, int_len, item_len, list_head_len, pid_len, reference_len, tuple_head_len,

@@ -1,6 +1,6 @@
 //! What stands at the front of bytes, told without building it: no memory is taken.
 
-ghost use Rattle.std.specs.Prelude.{◌≡◌, ◌≢◌, ◌+◌, ◌*◌, ◌≤◌, ℕ, suc, List, length, Some, Ok, IfOk, IfSome, IfNone};
+ghost use Rattle.std.specs.Prelude.{◌≡◌, ◌≢◌, ◌+◌, ◌*◌, ◌<◌, ◌≤◌, ℕ, suc, List, length, Some, Ok, IfOk, IfSome, IfNone};
 ghost use Rattle.std.specs.Option.{option_map};
 ghost use Rattle.pg_term.specs.Order.{kind_of};
 ghost use Rattle.pg_term.specs.declared.term.Term.{Term, Tuple};
@@ -76,6 +76,8 @@ fn arity_behind(tag: u8, bytes: &[u8]) -> Result<(u32, &[u8]), TermFault>
 /// of terms may nest in it, itself the first of them. The time is linear in the bytes that it takes.
 pub fn skip_item(levels: u8, bytes: &[u8]) -> Result<&[u8], TermFault>
     ensures exact { Tells (λ rest. rest.now) result (past (item_at levels bytes.now)) }
+    // An item takes some bytes.
+    ensures shorter { IfOk result (λ rest. length rest.now < length bytes.now) }
     // However a term is spelled, it takes at most 400 times the bytes that it is written in.
     ensures spread { (t : Term) → levels ≤ 64 → IfOk result (λ rest. item_at levels bytes.now ≡ Ok (t, rest.now)
         → length bytes.now ≤ length rest.now + 400 * length (item_bytes t)) }

@@ -1,0 +1,59 @@
+//! Walking over the elements of a list, whichever tails it is spelled with: no memory is taken.
+
+ghost use Rattle.std.specs.Prelude.{◌≡◌, ◌∷◌, ℕ, List, Ok};
+ghost use Rattle.pg_term.specs.declared.term.Term.{Term};
+ghost use Rattle.pg_term_io.specs.Lists.{list_from, Continues, IsWithin};
+ghost use Rattle.pg_term_io.specs.Reading.{tail_at};
+
+use crate::element::NextElement;
+use crate::reading::numbers::{u16_at, u32_at};
+
+/// Where the next element of a list stands, of which so many stand at the front of the bytes before its tail, and may
+/// nest so many levels each. A list that stands at the front of the bytes is its own tail: its first element is the next one
+/// for a count of 0 and as many levels as the list may nest.
+///
+/// It looks at five bytes for each tail that holds no elements. The element is skipped by `skip_item`.
+pub fn next_element(levels: u8, count: u32, bytes: &[u8]) -> NextElement<'_>
+    ensures next { (elements : List Term) (rest : List ℕ)
+        → list_from levels count bytes.now ≡ Ok (elements, rest) → Continues result elements rest }
+    ensures within { IsWithin levels bytes.now result }
+{
+    if count > 0 {
+        return NextElement::Item(levels, count - 1, bytes);
+    }
+    let Some((tag, behind)) = bytes.split_first() else {
+        return NextElement::NoItem;
+    };
+    match *tag {
+        106 => NextElement::End,
+        107 => text_end(behind),
+        108 => {
+            if levels == 0 {
+                return NextElement::NoItem;
+            }
+            match u32_at(behind) {
+                Ok((count, rest)) => next_element(levels - 1, count, rest),
+                Err(_) => NextElement::NoItem,
+            }
+        }
+        _ => NextElement::NoItem,
+    }
+}
+
+/// How a list goes on that is a text, behind its tag.
+fn text_end(bytes: &[u8]) -> NextElement<'_>
+    ensures next { (room : ℕ) (elements : List Term) (rest : List ℕ)
+        → tail_at room (107 ∷ bytes.now) ≡ Ok (elements, rest) → Continues result elements rest }
+    ensures within { (room : ℕ) (around : List ℕ) → IsWithin room around result }
+{
+    match u16_at(bytes) {
+        Ok((count, _)) => {
+            if count == 0 {
+                NextElement::End
+            } else {
+                NextElement::NoItem
+            }
+        }
+        Err(_) => NextElement::NoItem,
+    }
+}
