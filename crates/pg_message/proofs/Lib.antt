@@ -2,6 +2,7 @@ pub mod Ascents
 pub mod Bodies
 pub mod Collected
 pub mod Deep
+pub mod ListShapes
 pub mod Listed
 pub mod Members
 pub mod Put

@@ -31,7 +31,7 @@ use Rattle.pg_message.specs.Writing.{pair, triple, request_term, said_term, grou
 pub elements_is : (ts : List Term) → elements_of (Tuple ts) ≡ Some ts
 elements_is ts = search (rules, the_lemmas)
 
-items_is : (ts : List Term) → items_of (Listed ts) ≡ Some ts
+pub items_is : (ts : List Term) → items_of (Listed ts) ≡ Some ts
 items_is ts = search (rules, the_lemmas)
 
 atom_is : (a : List ℕ) → atom_of (Atom a) ≡ Some a

@@ -11,7 +11,7 @@ use Rattle.pg_term_io.specs.Reading.{Read, ◌>>=◌, items_at, item_at, as_term
 use Rattle.pg_term_io.specs.Scanning.{past}
 use Rattle.pg_message.specs.Name.{is_name}
 use Rattle.pg_message.specs.Parts.{tuple_in, elements_of, list_in, items_of, text_in, is_word, atom_in, atom_of, reference_in, reference_of, pid_in, pid_of}
-use Rattle.pg_message.specs.Reading.{request_on, membership_of, request_in, request_of, said_of, all_of, group_of, named_once, groups_of, freed, exchanged, cast_in, cast_of, referred, message_in, message_of, stamp_in, stamp_of, stamped, packet_in}
+use Rattle.pg_message.specs.Reading.{request_on, membership_of, request_in, request_of, said_of, groups_of, freed, exchanged, cast_in, cast_of, referred, message_in, message_of, stamp_in, stamp_of, stamped, packet_in}
 use Rattle.pg_group.specs.declared.update.Update.TheVariants.{Create, Delete, Join, Leave}
 use Rattle.pg_message.specs.declared.message.Message.{Message}
 use Rattle.pg_message.specs.declared.message.Message.TheVariants.{Call, Reply, DelLock, Exchange, Down}
@@ -201,11 +201,11 @@ no_items t other = at (out-Term t) other
 
 -- ---- ways that all lead to nothing
 
-none_if : {A : Type 0} (b : Bool) (o p : Option A) → o ≡ None → p ≡ None → cond b o p ≡ None
+pub none_if : {A : Type 0} (b : Bool) (o p : Option A) → o ≡ None → p ≡ None → cond b o p ≡ None
 none_if true o p h k = h
 none_if false o p h k = k
 
-none_after : {A B : Type 0} (f : A → Option B) (o : Option A) → ((x : A) → f x ≡ None) → option_and_then f o ≡ None
+pub none_after : {A B : Type 0} (f : A → Option B) (o : Option A) → ((x : A) → f x ≡ None) → option_and_then f o ≡ None
 none_after f (Some x) h = h x
 none_after f None h = refl
 
@@ -246,12 +246,12 @@ module _ (w first second : Term) where
       (ap (λ (b : Bool). cond b (option_map (DelLock first) (reference_of second)) None) why)
       (none_if (is_word w (codes "exchange")) (exchanged first second) None (ap (option_and_then (λ node. option_map (Exchange node) (groups_of second))) (no_atom first many)) refl)
 
-  pub cast_no_second : 4 ≤ kind_of second → kind_of second ≢ 5 → cast_in (w ∷ first ∷ second ∷ []) ≡ None
-  cast_no_second many other =
+  pub cast_no_second : 4 ≤ kind_of second → groups_of second ≡ None → cast_in (w ∷ first ∷ second ∷ []) ≡ None
+  cast_no_second many why =
       none_if (is_word w (codes "del_lock")) (freed first second) (cond (is_word w (codes "exchange")) (exchanged first second) None)
       (none_if (is_name first) (option_map (DelLock first) (reference_of second)) None (ap (option_map (DelLock first)) (no_reference second many)) refl)
       (none_if (is_word w (codes "exchange")) (exchanged first second) None
-      (none_after (λ node. option_map (Exchange node) (groups_of second)) (atom_of first) (λ node. ap (λ (o : Option (List Term)). option_map (Exchange node) (option_and_then named_once (option_and_then (all_of group_of) o))) (no_items second other)))
+      (none_after (λ node. option_map (Exchange node) (groups_of second)) (atom_of first) (λ node. ap (option_map (Exchange node)) why))
       refl)
 
 -- ---- messages

@@ -13,6 +13,8 @@ ghost use Rattle.pg_message.specs.declared.packet.Packet.{Packet};
 
 mod direct;
 mod exchange;
+#[cfg(test)]
+mod refused;
 mod shape;
 #[cfg(test)]
 mod tests;

@@ -17,6 +17,7 @@ use crate::name::{MAX_NAME_LEN, is_name};
 use crate::packet::{MAX_STAMP, Packet};
 use crate::parts::atom;
 use crate::reading::direct::groups::groups_at;
+use crate::reading::shape::groups::may_be_groups;
 use pg_group::Update;
 use pg_term::{Atom, Pid, Reference, Term, TermFault};
 use pg_term_io::{Kind, decode_item, decode_pid, decode_reference, kind_at, skip_item};
@@ -170,6 +171,15 @@ fn node_at(alloc: Global, bytes: &[u8]) -> Result<(Atom, &[u8]), Detour>
     Ok((node, rest))
 }
 
+/// Whether groups may stand behind a node, told without memory: what tells none is left unbuilt.
+fn check_exchange(bytes: &[u8]) -> Result<(), Detour> {
+    let groups = skip_item(NAME_LEVELS, bytes)?;
+    if !may_be_groups(NAME_LEVELS, groups) {
+        return Err(Detour::OtherForm);
+    }
+    Ok(())
+}
+
 fn message_at(alloc: Global, bytes: &[u8]) -> Result<(Message, &[u8]), Detour>
     ensures term { IfOk result (λ x. Stands 62 (message_term x.0) bytes.now x.1.now) }
     ensures sayable { IfOk result (λ x. is_sayable x.0 ≡ true) }
@@ -189,6 +199,7 @@ fn message_at(alloc: Global, bytes: &[u8]) -> Result<(Message, &[u8]), Detour>
             Ok((Message::DelLock(name, reference), rest))
         } else {
             let rest = opened(rest, 3, "exchange")?;
+            check_exchange(rest)?;
             let (node, rest) = node_at(alloc, rest)?;
             let (groups, rest) = groups_at(alloc, rest)?;
             Ok((Message::Exchange(node, groups), rest))

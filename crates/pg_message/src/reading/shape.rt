@@ -1,16 +1,19 @@
 //! Whether bytes may spell a packet, told without memory: what has not the shape of one is refused before anything of it
 //! is built. A part that holds others is a tuple, a list or a binary; all others are small.
 
-ghost use Rattle.std.specs.Prelude.{◌≡◌, ◌≢◌, ◌≤◌, ℕ, List, [], ◌∷◌, false, IfSome, IfNone, Ok, Err, None};
+ghost use Rattle.std.specs.Prelude.{◌≡◌, ◌≤◌, ℕ, List, [], ◌∷◌, false, IfSome, IfNone, Ok, Err, None};
 ghost use Rattle.pg_term.specs.declared.term.Term.{Term};
 ghost use Rattle.pg_term.specs.Order.{kind_of};
 ghost use Rattle.pg_term_io.specs.Reading.{item_at, term_of};
 ghost use Rattle.pg_term_io.specs.Scanning.{past};
 ghost use Rattle.pg_message.specs.Name.{is_name};
-ghost use Rattle.pg_message.specs.Reading.{message_in, cast_in, cast_of, request_in, request_of, message_of, packet_of};
+ghost use Rattle.pg_message.specs.Reading.{message_in, cast_in, cast_of, groups_of, request_in, request_of, message_of, packet_of};
+
+pub(crate) mod groups;
 
 use crate::fault::MessageFault;
 use crate::name::MAX_NAME_LEN;
+use crate::reading::shape::groups::may_be_groups;
 use pg_term_io::{Kind, kind_at, skip_item, tuple_at};
 
 /// How many bytes a name takes at most, however it is spelled: 400 times as many as it is written in.
@@ -44,7 +47,7 @@ fn past_small(levels: u8, bytes: &[u8]) -> Option<&[u8]>
 }
 
 /// What follows a part that may be a name by its length; `None` for what is none.
-fn past_name(levels: u8, bytes: &[u8]) -> Option<&[u8]>
+pub(crate) fn past_name(levels: u8, bytes: &[u8]) -> Option<&[u8]>
     requires { levels ≤ 64 }
     ensures some { IfSome result (λ rest. past (item_at levels bytes.now) ≡ Ok rest.now) }
     ensures none { (t : Term) (rest : List ℕ) → IfNone result
@@ -169,16 +172,14 @@ fn may_be_casting(bytes: &[u8]) -> bool
     may_end_cast(rest)
 }
 
+/// Whether a part is small, or may be a list of groups.
 fn may_end_cast(bytes: &[u8]) -> bool
-    ensures many { (room : ℕ) (t : Term) (rest : List ℕ) → result ≡ false
-        → item_at room bytes.now ≡ Ok (t, rest) → 4 ≤ kind_of t }
-    ensures other { (room : ℕ) (t : Term) (rest : List ℕ) → result ≡ false
-        → item_at room bytes.now ≡ Ok (t, rest) → kind_of t ≢ 5 }
+    ensures many { (t : Term) (rest : List ℕ) → result ≡ false
+        → item_at 61 bytes.now ≡ Ok (t, rest) → 4 ≤ kind_of t }
+    ensures groups { (t : Term) (rest : List ℕ) → result ≡ false
+        → item_at 61 bytes.now ≡ Ok (t, rest) → groups_of t ≡ None }
 {
-    match kind_at(bytes) {
-        Some(Kind::Tuple | Kind::Binary) | None => false,
-        Some(_) => true,
-    }
+    is_small(bytes) || may_be_groups(61, bytes)
 }
 
 // {Word, Name} or {Word, Name, Pid}

@@ -15,4 +15,4 @@ pub returns : goal.returns
 returns c a b x mid then rest r ea eb ex =
     let at = subst (λ (bytes : List ℕ). item_at 61 bytes ≡ Ok (b, then)) (end_is (item_at 61 c.args.bytes.now) a mid c.in-Some.rest.now ea c.in-Some.ensures.some) eb in
     let last = subst (λ (bytes : List ℕ). item_at 61 bytes ≡ Ok (x, rest)) (end_is (item_at 61 c.in-Some.rest.now) b then c.in-Some-past_first.rest.now at c.in-Some-past_first.ensures.some) ex in
-    cast_no_second a b x (c.may_end_cast.ensures.many 61 x rest r last) (c.may_end_cast.ensures.other 61 x rest r last)
+    cast_no_second a b x (c.may_end_cast.ensures.many x rest r last) (c.may_end_cast.ensures.groups x rest r last)
