@@ -13,6 +13,7 @@ ghost use Rattle.pg_message.specs.declared.packet.Packet.{Packet};
 
 mod direct;
 mod exchange;
+mod parts;
 #[cfg(test)]
 mod refused;
 mod shape;
@@ -23,9 +24,9 @@ use crate::fault::MessageFault;
 use crate::message::{Message, Request, Said};
 use crate::name::is_name;
 use crate::packet::{MAX_STAMP, Packet};
-use crate::parts::{atom, elements, is_word, pid, reference};
 use crate::reading::direct::{Detour, direct_packet};
 use crate::reading::exchange::groups;
+use crate::reading::parts::{atom, elements, is_word, pid, reference};
 use crate::reading::shape::may_be_packet;
 use pg_group::Update;
 use pg_term::{Reference, Term, TermFault};

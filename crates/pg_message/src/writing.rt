@@ -10,10 +10,14 @@ ghost use Rattle.pg_message.specs.Reading.{packet_spelled};
 ghost use Rattle.pg_message.specs.declared.message.Message.TheVariants as messages;
 ghost use Rattle.pg_message.specs.Writing.{pair, triple, update_term, request_term, said_term, group_term, message_term, term_of_packet, is_exchange, is_plain, body_of, framed, Puts, PutsAll};
 
+mod reply;
+mod size;
+
 use crate::fault::MessageFault;
 use crate::message::{Message, Request, Said};
 use crate::packet::Packet;
-use crate::size::{MAX_SMALL_LEN, packet_len};
+pub use crate::writing::reply::write_reply_into;
+pub use crate::writing::size::{MAX_SMALL_LEN, packet_len};
 use bytes::BytesMut;
 use pg_group::Update;
 use pg_term::{Atom, Items, Pid, Reference, Term};

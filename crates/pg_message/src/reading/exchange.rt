@@ -7,7 +7,7 @@ ghost use Rattle.pg_message.specs.Reading.{all_of, group_of, groups_of};
 
 use crate::groups::are_told_once;
 use crate::name::is_name;
-use crate::parts::{items, pid};
+use crate::reading::parts::{items, pid};
 use pg_term::{Items, Pid, Term};
 use std::alloc::{AllocError, Global};
 

@@ -2,7 +2,7 @@ use Rattle.std.proofs.Common.{arith, sym, ap, ◌∙◌, Ok, length, ◌<◌, �
 use Rattle.pg_term_io.specs.Writing.{written}
 use Rattle.pg_message.specs.Writing.{term_of_packet, length_of}
 use Rattle.pg_message.proofs.Bodies.{written_len, unsayable, late, long, short}
-use Rattle.pg_message.proofs.size.packet_len.Goals as goal
+use Rattle.pg_message.proofs.writing.size.packet_len.Goals as goal
 
 pub returns-in_default-clause-exact : goal.returns-in_default-clause-exact
 returns-in_default-clause-exact c = sym (ap length_of (unsayable c.args.packet.now c.in_default.ensures.none))

@@ -7,7 +7,7 @@ ghost use Rattle.pg_message.specs.Writing.{term_of_packet, framed, Puts};
 
 use crate::message::Said;
 use crate::packet::MAX_STAMP;
-use crate::size::{reply_len, stamp_len};
+use crate::writing::size::{reply_len, stamp_len};
 use crate::writing::{put_reply, put_stamp};
 use bytes::BytesMut;
 use pg_term::Reference;

@@ -4,7 +4,7 @@ use Rattle.pg_term.specs.declared.term.Term.TheVariants.{Int}
 use Rattle.pg_message.specs.declared.message.Message.TheVariants.{Reply}
 use Rattle.pg_message.specs.Writing.{message_term}
 use Rattle.pg_message.proofs.Put.{tuple_put, more, nothing}
-use Rattle.pg_message.proofs.reply.put_reply_packet.Goals as goal
+use Rattle.pg_message.proofs.writing.reply.put_reply_packet.Goals as goal
 
 pub returns : goal.returns
 returns c =

@@ -3,7 +3,7 @@ use Rattle.std.specs.Prelude.{pos}
 use Rattle.pg_term_io.specs.Writing.{int_bytes}
 use Rattle.pg_message.proofs.Stamps.{stamp_is, stamp_few}
 use Rattle.pg_message.proofs.Words.{int_is}
-use Rattle.pg_message.proofs.size.stamp_len.Goals as goal
+use Rattle.pg_message.proofs.writing.size.stamp_len.Goals as goal
 
 pub returns-clause-value : goal.returns-clause-value
 returns-clause-value c =

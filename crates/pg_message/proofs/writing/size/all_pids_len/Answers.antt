@@ -2,7 +2,7 @@ use Rattle.std.proofs.Common.{arith, ap, length}
 use Rattle.pg_term.specs.declared.term.Term.TheVariants.{Pid}
 use Rattle.pg_message.proofs.Listed.{part_len}
 use Rattle.pg_message.proofs.Words.{pid_is}
-use Rattle.pg_message.proofs.size.all_pids_len.Goals as goal
+use Rattle.pg_message.proofs.writing.size.all_pids_len.Goals as goal
 
 pub loop-pid-preserved : goal.loop-pid-preserved
 loop-pid-preserved c =

@@ -3,7 +3,7 @@ use Rattle.std.specs.List.{list_all}
 use Rattle.pg_term_io.specs.Writing.{all_bytes}
 use Rattle.pg_message.specs.Name.{is_name}
 use Rattle.pg_message.specs.Writing.{group_term}
-use Rattle.pg_message.proofs.size.all_groups_len.Given as goal
+use Rattle.pg_message.proofs.writing.size.all_groups_len.Given as goal
 
 abbrev pub invariant-loop-group : goal.invariant-loop-group
 invariant-loop-group l =

@@ -2,7 +2,7 @@ use Rattle.std.proofs.Common.{arith}
 use Rattle.pg_message.specs.Name.{is_name}
 use Rattle.pg_message.specs.Writing.{group_term}
 use Rattle.pg_message.proofs.Listed.{part_len, all_more}
-use Rattle.pg_message.proofs.size.all_groups_len.Goals as goal
+use Rattle.pg_message.proofs.writing.size.all_groups_len.Goals as goal
 
 pub loop-group-preserved : goal.loop-group-preserved
 loop-group-preserved c =
