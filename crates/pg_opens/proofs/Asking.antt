@@ -69,7 +69,7 @@ module _ (names : List Node) (lost : List Bool) (apart : IsDistinct same_atom na
   lost_at k l = reads_at (λ b. b) false names lost k false apart places.flags l
 
   -- the own node stands first, and it counts
-  own_here : lost_in names lost (name_at names 0) ≡ false
+  pub own_here : lost_in names lost (name_at names 0) ≡ false
   own_here = lost_at 0 places.some ∙ places.own
 
   all_left : (names' : List Node) (t : Node → Bool) → 0 < length names' → lost_in names lost (name_at names' 0) ≡ false

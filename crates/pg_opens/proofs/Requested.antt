@@ -14,7 +14,7 @@ use Rattle.pg_opens.specs.declared.command.OpenCommand.{OpenCommand}
 use Rattle.pg_opens.specs.Places.{name_at, lost_in, left_in, ArePlaces}
 use Rattle.pg_opens.specs.Marks.{whom, has_place, asked_in}
 use Rattle.pg_opens.specs.Commands.{uses_in, AreKnown}
-use Rattle.pg_opens.proofs.Asking.{asked_at, peer_left}
+use Rattle.pg_opens.proofs.Asking.{own_here, asked_at, peer_left}
 use Rattle.pg_opens.proofs.Found.{Stands}
 use Rattle.pg_opens.proofs.Followed.{locks_as}
 
@@ -28,3 +28,7 @@ module _ (names : List Node) (lost : List Bool) (made : ℕ) (os : List OpenComm
 
   pub asked_peer : 0 < place → asked ≡ (is_peer (left_in names lost) (name_at names place) && asks (whom names who) st (name_at names place))
   asked_peer above = asked_counts ∙ sym (ap (λ b. b && asks (whom names who) st (name_at names place)) (peer_left names lost apart places place l above))
+
+  pub asked_own : place ≡ 0 → asked ≡ asks (whom names who) st (name_at names 0)
+  asked_own own = asked_counts ∙ (ap (λ n. not (lost_in names lost (name_at names n)) && asks (whom names who) st (name_at names n)) own
+      ∙ ap (λ b. not b && asks (whom names who) st (name_at names 0)) (own_here names lost apart places))

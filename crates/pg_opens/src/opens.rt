@@ -296,6 +296,9 @@ impl Opens {
         ensures counts { (op : OpId) (update : Update) (first : Node) (st : Node → Status)
             → uses_of self.now number ≡ Locking op update first st
             → result ≡ (not (lost_of self.now (name_at (names_of self.now) place)) && asks (whom (names_of self.now) who) st (name_at (names_of self.now) place)) }
+        ensures own { (op : OpId) (update : Update) (first : Node) (st : Node → Status)
+            → uses_of self.now number ≡ Locking op update first st → place ≡ 0
+            → result ≡ asks (whom (names_of self.now) who) st (name_at (names_of self.now) 0) }
         ensures peer { (op : OpId) (update : Update) (first : Node) (st : Node → Status)
             → uses_of self.now number ≡ Locking op update first st → 0 < place
             → result ≡ (is_peer (left_of self.now) (name_at (names_of self.now) place) && asks (whom (names_of self.now) who) st (name_at (names_of self.now) place)) }

@@ -1,7 +1,7 @@
 use Rattle.std.proofs.Common.{false, get_or, ap, ◌∙◌}
 use Rattle.pg_opens.specs.declared.mark.Mark.TheVariants.{Unasked}
 use Rattle.pg_opens.specs.Marks.{asked_in}
-use Rattle.pg_opens.proofs.Requested.{asked_counts, asked_peer}
+use Rattle.pg_opens.proofs.Requested.{asked_counts, asked_own, asked_peer}
 use Rattle.pg_opens.proofs.Found.{stands, no_locking}
 use Rattle.pg_opens.proofs.opens.Opens.is_asked_by.Goals as goal
 
@@ -15,6 +15,8 @@ returns-in-Some c =
     ∙ ap (λ z. asked_in (get_or c.index-command.result.now.marks.items c.args.place Unasked) (get_or z c.args.place false) c.args.who c.args.place) c.deref-in-Some.ensures.value in
     record {
       counts = asked_counts c.args.self.now.names.items c.args.self.now.lost.items c.args.self.now.references c.args.self.now.commands.items c.in-Some.found c.index-command.result.now c.args.self.now.apart c.args.self.now.places c.args.self.now.known
+          c.args.number c.args.who c.args.place at c.requires.who c.requires.place c.is_asked_by.result is;
+      own = asked_own c.args.self.now.names.items c.args.self.now.lost.items c.args.self.now.references c.args.self.now.commands.items c.in-Some.found c.index-command.result.now c.args.self.now.apart c.args.self.now.places c.args.self.now.known
           c.args.number c.args.who c.args.place at c.requires.who c.requires.place c.is_asked_by.result is;
       peer = asked_peer c.args.self.now.names.items c.args.self.now.lost.items c.args.self.now.references c.args.self.now.commands.items c.in-Some.found c.index-command.result.now c.args.self.now.apart c.args.self.now.places c.args.self.now.known
           c.args.number c.args.who c.args.place at c.requires.who c.requires.place c.is_asked_by.result is;
