@@ -10,84 +10,159 @@ fn many_pids(alloc: Global) -> Result<Vec<Pid>, TermFault> {
     Ok(pids)
 }
 
-#[test]
-fn many_have_ended(rt: HostRuntime) -> Result<(), Fail> {
-    let alloc = rt.alloc();
-    let pids = many_pids(alloc)?;
-    let mut ended = Ended::new(alloc);
-    let mut lost = Ended::new(alloc);
-    for (pid, number) in pids.iter().zip(0..1001) {
+/// The pids end, each once.
+fn end_each(rt: &impl Abort, ended: &mut Ended, pids: &[Pid]) -> Result<(), AllocError> {
+    for pid in pids {
         assert!(rt; !ended.has(pid));
         ended.add(pid.copy()?)?;
-        lost.add_node(&Atom::new(alloc, &format!(in alloc; "b{number}")?)?)?;
-    }
-    for (pid, number) in pids.iter().zip(0..1001) {
-        assert!(rt; ended.has(pid));
-        assert!(rt; !lost.has(pid));
-        let elsewhere = Pid {
-            node: Atom::new(alloc, &format!(in alloc; "b{number}")?)?,
-            ..pid.copy()?
-        };
-        assert!(rt; lost.has(&elsewhere));
     }
     Ok(())
 }
 
-/// The groups 0 to 1000 are made, each gets two members, one of them twice, and all are dropped again.
+#[test]
+fn many_have_ended(rt: HostRuntime) -> Result<(), Fail> {
+    let pids = many_pids(rt.alloc())?;
+    let mut ended = Ended::new(rt.alloc());
+    end_each(&rt, &mut ended, &pids)?;
+    for pid in &pids {
+        assert!(rt; ended.has(pid));
+    }
+    Ok(())
+}
+
+/// The nodes b0 to b1000.
+fn many_nodes(alloc: Global) -> Result<Vec<Atom>, TermFault> {
+    let mut nodes = Vec::new(alloc);
+    for number in 0..1001 {
+        let text = format!(in alloc; "b{number}")?;
+        nodes.push(Atom::new(alloc, text.as_str())?)?;
+    }
+    Ok(nodes)
+}
+
+fn lose_each(ended: &mut Ended, nodes: &[Atom]) -> Result<(), AllocError> {
+    for node in nodes {
+        ended.add_node(node)?;
+    }
+    Ok(())
+}
+
+/// The pid with this id has not ended, and one of the node has.
+fn only_there(
+    rt: &impl Abort,
+    alloc: Global,
+    ended: &Ended,
+    node: &Atom,
+    id: u32,
+) -> Result<(), TermFault> {
+    let mut one = pid(alloc, id)?;
+    assert!(rt; !ended.has(&one));
+    one.node = node.copy()?;
+    assert!(rt; ended.has(&one));
+    Ok(())
+}
+
+#[test]
+fn many_nodes_are_lost(rt: HostRuntime) -> Result<(), Fail> {
+    let nodes = many_nodes(rt.alloc())?;
+    let mut ended = Ended::new(rt.alloc());
+    lose_each(&mut ended, &nodes)?;
+    for (node, id) in nodes.iter().zip(0..1001) {
+        only_there(&rt, rt.alloc(), &ended, node, id)?;
+    }
+    Ok(())
+}
+
+/// The groups 0 to 1000 are made, and each gets the members.
+fn make_groups<T: GroupTable>(
+    table: &mut T,
+    members: &[Pid],
+    ended: &Ended,
+) -> Result<(), AllocError> {
+    for number in 0..1001 {
+        table.apply(&Update::Create(Term::Int(number)), ended)?;
+        table.merge(&Term::Int(number), members, ended)?;
+    }
+    Ok(())
+}
+
+/// The pid is in each of the groups so often.
+fn is_in_each<T: GroupTable>(rt: &impl Abort, table: &T, pid: &Pid, count: u64) {
+    for number in 0..1001 {
+        let name = Term::Int(number);
+        assert!(rt; table.has(&name), "at {number}");
+        assert_eq!(rt; table.count(&name, pid), count, "at {number}");
+    }
+}
+
+/// The pid leaves each of them once.
+fn leave_each<T: GroupTable>(table: &mut T, pid: &Pid, ended: &Ended) -> Result<(), AllocError> {
+    for number in 0..1001 {
+        let leave = Update::Leave(Term::Int(number), pid.copy()?);
+        table.apply(&leave, ended)?;
+    }
+    Ok(())
+}
+
+fn delete_each<T: GroupTable>(table: &mut T, ended: &Ended) -> Result<(), AllocError> {
+    for number in 0..1001 {
+        table.apply(&Update::Delete(Term::Int(number)), ended)?;
+    }
+    Ok(())
+}
+
+/// A copy of a table in which one pid is once in each group, and two twice, keeps them when two leaves and is dropped.
+fn copy_keeps_many<T: GroupTable + Drop>(
+    rt: &impl Abort,
+    table: &mut T,
+    one: &Pid,
+    two: &Pid,
+    ended: &Ended,
+) -> Result<(), AllocError> {
+    let copy = table.copy()?;
+    leave_each(table, two, ended)?;
+    is_in_each(rt, table, two, 1);
+    table.drop_pid(two);
+    is_in_each(rt, table, two, 0);
+    is_in_each(rt, table, one, 1);
+    assert_eq!(rt; copy.groups()?.len(), 1001);
+    is_in_each(rt, &copy, one, 1);
+    is_in_each(rt, &copy, two, 2);
+    Ok(())
+}
+
+/// The groups are made, get two members, one of them twice, and are deleted again.
 fn keeps_many_groups<T: GroupTable + Drop>(
     rt: &impl Abort,
     table: &mut T,
-    alloc: Global,
-) -> Result<(), Fail> {
-    let ended = Ended::new(alloc);
-    let pids = pids(alloc, &[1, 2, 2])?;
-    assert_eq!(rt; pids.len(), 3);
-    for number in 0..1001 {
-        table.apply(&Update::Create(Term::Int(number)), &ended)?;
-        table.merge(&Term::Int(number), pids.as_slice(), &ended)?;
-    }
-    let copy = table.copy()?;
-    assert_eq!(rt; copy.groups()?.len(), 1001);
-    for number in 0..1001 {
-        let name = Term::Int(number);
-        assert_eq!(rt;
-            (copy.count(&name, &pids[0]), copy.count(&name, &pids[1])),
-            (1, 2)
-        );
-        table.apply(&Update::Leave(Term::Int(number), pids[1].copy()?), &ended)?;
-        assert_eq!(rt; table.count(&name, &pids[1]), 1);
-    }
-    table.drop_pid(&pids[1]);
-    for number in 0..1001 {
-        let name = Term::Int(number);
-        assert_eq!(rt;
-            (table.count(&name, &pids[0]), table.count(&name, &pids[1])),
-            (1, 0)
-        );
-    }
-    table.drop_node(&pids[0].node);
-    for number in 0..1001 {
-        assert_eq!(rt; table.count(&Term::Int(number), &pids[0]), 0);
-        assert!(rt; table.has(&Term::Int(number)));
-        table.apply(&Update::Delete(Term::Int(number)), &ended)?;
-    }
+    members: &[Pid; 3],
+    ended: &Ended,
+) -> Result<(), AllocError> {
+    make_groups(table, members, ended)?;
+    copy_keeps_many(rt, table, &members[0], &members[1], ended)?;
+    table.drop_node(&members[0].node);
+    is_in_each(rt, table, &members[0], 0);
+    delete_each(table, ended)?;
     assert_eq!(rt; table.groups()?.len(), 0);
     Ok(())
 }
 
 #[test]
 fn rows_keep_many_groups(rt: HostRuntime) -> Result<(), Fail> {
-    let mut table = RowTable::new(rt.alloc());
-    keeps_many_groups(&rt, &mut table, rt.alloc())
+    let alloc = rt.alloc();
+    let members = [pid(alloc, 1)?, pid(alloc, 2)?, pid(alloc, 2)?];
+    let mut table = RowTable::new(alloc);
+    keeps_many_groups(&rt, &mut table, &members, &Ended::new(alloc))?;
+    Ok(())
 }
 
 /// The pids join the group 1, each once.
-fn joins_each<T: GroupTable + Drop>(
+fn joins_each<T: GroupTable>(
     rt: &impl Abort,
     table: &mut T,
-    pids: &Vec<Pid>,
+    pids: &[Pid],
     ended: &Ended,
-) -> Result<(), Fail> {
+) -> Result<(), AllocError> {
     for pid in pids {
         let join = Update::Join(Term::Int(1), pid.copy()?);
         assert!(rt; has_room(table, &join));
@@ -97,7 +172,7 @@ fn joins_each<T: GroupTable + Drop>(
 }
 
 /// Each of the pids is twice in the group 1, in their order.
-fn has_each_twice<T: GroupTable + Drop>(rt: &impl Abort, table: &T, pids: &Vec<Pid>) {
+fn has_each_twice<T: GroupTable>(rt: &impl Abort, table: &T, pids: &[Pid]) {
     let name = Term::Int(1);
     for pid in pids {
         assert_eq!(rt; table.count(&name, pid), 2);
@@ -113,19 +188,19 @@ fn has_each_twice<T: GroupTable + Drop>(rt: &impl Abort, table: &T, pids: &Vec<P
 fn keeps_many_members<T: GroupTable + Drop>(
     rt: &impl Abort,
     table: &mut T,
-    alloc: Global,
-) -> Result<(), Fail> {
-    let ended = Ended::new(alloc);
-    let pids = many_pids(alloc)?;
-    table.merge(&Term::Int(1), pids.as_slice(), &ended)?;
-    joins_each(rt, table, &pids, &ended)?;
-    let copy = table.copy()?;
-    has_each_twice(rt, &copy, &pids);
+    pids: &[Pid],
+    ended: &Ended,
+) -> Result<(), AllocError> {
+    table.merge(&Term::Int(1), pids, ended)?;
+    joins_each(rt, table, pids, ended)?;
+    has_each_twice(rt, &table.copy()?, pids);
     Ok(())
 }
 
 #[test]
 fn rows_keep_many_members(rt: HostRuntime) -> Result<(), Fail> {
+    let pids = many_pids(rt.alloc())?;
     let mut table = RowTable::new(rt.alloc());
-    keeps_many_members(&rt, &mut table, rt.alloc())
+    keeps_many_members(&rt, &mut table, &pids, &Ended::new(rt.alloc()))?;
+    Ok(())
 }
