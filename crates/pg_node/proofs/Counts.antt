@@ -7,7 +7,8 @@ use Rattle.pg_term.specs.declared.term.Term.{Term}
 use Rattle.pg_term.specs.Same.{same_term, same_pid}
 use Rattle.pg_group.specs.declared.update.Update.{Update}
 use Rattle.pg_group.specs.Value.{Value, count_in, less, merge, listed}
-use Rattle.pg_group.specs.Table.{Table, changed, without, merged, exchanged}
+use Rattle.pg_group.specs.Scope.{at_node}
+use Rattle.pg_group.specs.Table.{Table, changed, without, without_node, merged, exchanged}
 use Rattle.pg_group.proofs.Growth.{changed_grown}
 use Rattle.pg_group.proofs.Changes.{upd_by}
 use Rattle.pg_exchange.specs.GroupList.{GroupList, all_merged}
@@ -27,30 +28,35 @@ less_counts (Some counts) ended pid = go (ended pid)
     go true = omega arith
     go false = omega arith
 
-pub few_without : (n m : ℕ) (old new : Table) (pid : Pid) → n < m → Few (n + 16777216) old → new ≡ without old pid → Few (m + 16777216) new
-few_without n m old new pid later few e = subst (Few (m + 16777216)) (sym e) (λ name q. omega (arith, less_counts (old name) (same_pid pid) q, few name q))
+pub few_without : (n m : ℕ) (old new : Table) (pid : Pid) → n ≤ m → Few n old → new ≡ without old pid → Few m new
+few_without n m old new pid later few e = subst (Few m) (sym e) (λ name q. omega (arith, less_counts (old name) (same_pid pid) q, few name q))
 
-pub few_changed : (n m : ℕ) (old new : Table) (update : Update) (ended : Pid → Bool) → n < m → Few (n + 16777216) old → new ≡ changed old update ended → Few (m + 16777216) new
-few_changed n m old new update ended later few e = subst (Few (m + 16777216)) (sym e) (λ name q. omega (arith, changed_grown (n + 16777216) old update ended few name q))
+pub few_without_node : (n m : ℕ) (old new : Table) (node : List ℕ) → n ≤ m → Few n old → new ≡ without_node old node → Few m new
+few_without_node n m old new node later few e = subst (Few m) (sym e) (λ name q. omega (arith, less_counts (old name) (at_node node) q, few name q))
+
+pub few_changed : (n m : ℕ) (old new : Table) (update : Update) (ended : Pid → Bool) → n < m → Few n old → new ≡ changed old update ended → Few m new
+few_changed n m old new update ended later few e = subst (Few m) (sym e) (λ name q. omega (arith, changed_grown n old update ended few name q))
 
 greater_counts : (n : ℕ) (v w : Value) (pid : Pid) → count_in v pid ≤ n → count_in w pid ≤ n → count_in (merge v w) pid ≤ n
 greater_counts n None w pid h k = k
 greater_counts n (Some f) None pid h k = h
 greater_counts n (Some f) (Some g) pid h k = omega (arith, h, k)
 
-group_counts : (n : ℕ) (table : Table) (name : Term) (pids : List Pid) (ended : Pid → Bool) → length pids ≤ 16777216 → Few (n + 16777216) table → Few (n + 16777216) (merged table name pids ended)
-group_counts n table name pids ended short few other q =
+group_counts : (n limit : ℕ) (table : Table) (name : Term) (pids : List Pid) (ended : Pid → Bool) → limit ≤ n → length pids ≤ limit → Few n table → Few n (merged table name pids ended)
+group_counts n limit table name pids ended fits short few other q =
     let counted : count_by (same_pid q) pids ≤ length pids = count_by-le-length (same_pid q) pids in
     let told : count_in (less (listed pids) ended) q ≤ count_by (same_pid q) pids = less_counts (listed pids) ended q in
-    upd_by same_term table name (λ v. count_in v q ≤ n + 16777216) (exchanged (table name) pids ended) other
-    (λ e. greater_counts (n + 16777216) (table name) (less (listed pids) ended) q (few name q) (omega arith)) (λ e. few other q)
+    upd_by same_term table name (λ v. count_in v q ≤ n) (exchanged (table name) pids ended) other
+    (λ e. greater_counts n (table name) (less (listed pids) ended) q (few name q) (omega arith)) (λ e. few other q)
 
-all_counts : (n : ℕ) (table : Table) (groups : GroupList) (ended : Pid → Bool) → HasFewMembers 16777216 groups → Few (n + 16777216) table → Few (n + 16777216) (all_merged table groups ended)
-all_counts n table [] ended short few = few
-all_counts n table (group ∷ groups) ended short few = all_counts n (merged table group.0 group.1 ended) groups ended short.1 (group_counts n table group.0 group.1 ended short.0 few)
+all_counts : (n limit : ℕ) (table : Table) (groups : GroupList) (ended : Pid → Bool) → limit ≤ n → HasFewMembers limit groups → Few n table → Few n (all_merged table groups ended)
+all_counts n limit table [] ended fits short few = few
+all_counts n limit table (group ∷ groups) ended fits short few =
+    all_counts n limit (merged table group.0 group.1 ended) groups ended fits short.1 (group_counts n limit table group.0 group.1 ended fits short.0 few)
 
-pub few_merged : (n m : ℕ) (old new : Table) (groups : GroupList) (ended : Pid → Bool) → n < m → HasFewMembers 16777216 groups → Few (n + 16777216) old → new ≡ all_merged old groups ended → Few (m + 16777216) new
-few_merged n m old new groups ended later short few e = subst (Few (m + 16777216)) (sym e) (λ name q. omega (arith, all_counts n old groups ended short few name q))
+pub few_merged : (n m limit : ℕ) (old new : Table) (groups : GroupList) (ended : Pid → Bool) → n ≤ m → limit ≤ n → HasFewMembers limit groups → Few n old → new ≡ all_merged old groups ended → Few m new
+few_merged n m limit old new groups ended later fits short few e =
+    subst (Few m) (sym e) (λ name q. omega (arith, all_counts n limit old groups ended fits short few name q))
 
 few_members : (n m : ℕ) (groups : GroupList) → n ≤ m → HasFewMembers n groups → HasFewMembers m groups
 few_members n m [] fits few = tt

@@ -1,6 +1,12 @@
 pub mod Bodies
+pub mod Coming
 pub mod Counts
+pub mod Formed
+pub mod Idle
+pub mod IdlePorts
+pub mod Kept
 pub mod Marks
+pub mod Merged
 pub mod Outcomes
 pub mod Served
 pub mod Streams

@@ -1,3 +1,6 @@
 pub mod Fault
+pub mod NodeFault
+pub mod Ports
 pub mod Progress
 pub mod Replica
+pub mod States

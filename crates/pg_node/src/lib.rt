@@ -4,7 +4,9 @@
 mod fault;
 mod replica;
 mod server;
+mod state;
 
 pub use fault::ServeFault;
 pub use replica::MAX_CLOCK;
 pub use server::serve;
+pub use state::{Done, NodeConfig, NodeFault, NodeState};

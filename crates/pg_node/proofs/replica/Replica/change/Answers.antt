@@ -1,4 +1,4 @@
-use Rattle.std.proofs.Common.{ap, ◌∙◌, sym, ◌++◌}
+use Rattle.std.proofs.Common.{ap, ◌∙◌, ◌+◌, arith, sym, ◌++◌}
 use Rattle.pg_group.specs.Ended.{ended_of}
 use Rattle.pg_group.specs.Table.{Table}
 use Rattle.pg_message.specs.declared.message.Message.TheVariants.{Reply}
@@ -15,7 +15,7 @@ invariant_of-self g c =
     record {
       one_peer = old.one_peer;
       within = c.requires.within;
-      few = few_changed old.clock c.args.clock (contents old.table) (contents c.apply.new.self) c.args.update.now (ended_of old.ended) c.requires.later old.few c.in-Ok.ensures.ok;
+      few = few_changed (old.clock + 16777216) (c.args.clock + 16777216) (contents old.table) (contents c.apply.new.self) c.args.update.now (ended_of old.ended) (omega (arith, c.requires.later)) old.few c.in-Ok.ensures.ok;
     }
 
 pub returns-in-Ok-clause-ok : goal.returns-in-Ok-clause-ok

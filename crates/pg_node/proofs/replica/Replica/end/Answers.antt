@@ -1,3 +1,4 @@
+use Rattle.std.proofs.Common.{◌+◌, arith}
 use Rattle.pg_node.proofs.Counts.{few_without}
 use Rattle.pg_node.proofs.replica.Replica.end.Goals as goal
 
@@ -8,5 +9,5 @@ invariant_of-self-2 g c =
     record {
       one_peer = old.one_peer;
       within = c.requires.within;
-      few = few_without old.clock c.args.clock (contents old.table) (contents c.take_end.new.table) c.args.pid.now c.requires.later old.few c.in_ok-take_end.ensures.dropped;
+      few = few_without (old.clock + 16777216) (c.args.clock + 16777216) (contents old.table) (contents c.take_end.new.table) c.args.pid.now (omega (arith, c.requires.later)) old.few c.in_ok-take_end.ensures.dropped;
     }

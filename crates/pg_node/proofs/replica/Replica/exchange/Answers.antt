@@ -1,4 +1,4 @@
-use Rattle.std.proofs.Common.{◌∙◌, length, true, ap, Bool, List, [], ◌∷◌}
+use Rattle.std.proofs.Common.{◌∙◌, ◌+◌, arith, length, true, ap, Bool, List, [], ◌∷◌}
 use Rattle.std.proofs.Math.ListN.{length-set}
 use Rattle.pg_group.specs.Ended.{ended_of}
 use Rattle.pg_node.specs.Replica.{state_of, marked}
@@ -13,7 +13,7 @@ invariant_of-self-2 g c =
     record {
       one_peer = ap (λ (marks : List Bool). length marks) c.in_ok-take.ensures.marked ∙ length-set old.formation 0 true ∙ old.one_peer;
       within = c.requires.within;
-      few = few_merged old.clock c.args.clock (contents old.table) (contents c.take.new.table) c.args.groups.now (ended_of old.ended) c.requires.later c.requires.short old.few c.in_ok-take.ensures.merged;
+      few = few_merged (old.clock + 16777216) (c.args.clock + 16777216) 16777216 (contents old.table) (contents c.take.new.table) c.args.groups.now (ended_of old.ended) (omega (arith, c.requires.later)) (omega arith) c.requires.short old.few c.in_ok-take.ensures.merged;
     }
 
 pub returns-clause-ok : goal.returns-clause-ok

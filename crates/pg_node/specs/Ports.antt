@@ -1,0 +1,22 @@
+-- What a node keeps of its peers and of its ports, by their places.
+use Rattle.std.specs.Prelude.{ℕ, zero, suc, Bool, false, drop, List, [], ◌∷◌}
+use Rattle.pg_opens.specs.Places.{reads}
+use Rattle.pg_step.specs.declared.answer.Answer.{Answer}
+use Rattle.pg_step.specs.Nodes.{Node}
+use Rattle.pg_node.specs.declared.state.port.Port.{Port}
+
+-- the peers whose exchange was taken, by the marks of the peers
+abbrev pub merged_in : List Node → List Bool → Node → Bool
+merged_in names marks = reads (λ mark. mark) false (drop 1 names) marks
+
+-- for each port how many commands came in there
+abbrev pub counts_in : List Port → ℕ → ℕ
+counts_in [] port = 0
+counts_in (p ∷ ports) zero = p.count
+counts_in (p ∷ ports) (suc n) = counts_in ports n
+
+-- the answers that were given at each port
+abbrev pub answers_in : List Port → ℕ → List Answer
+answers_in [] port = []
+answers_in (p ∷ ports) zero = p.answers.items
+answers_in (p ∷ ports) (suc n) = answers_in ports n

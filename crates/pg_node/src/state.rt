@@ -1,0 +1,61 @@
+//! One node over packets: what it keeps, and what its events make of it.
+
+ghost use Rattle.std.specs.Prelude.{◌≡◌, ◌≤◌, ◌<◌, ◌+◌, ◌*◌, ◌^◌, ℕ, true, length};
+ghost use Rattle.pg_term.specs.declared.pid.Pid.{Pid};
+ghost use Rattle.pg_term.specs.declared.term.Term.{Term};
+ghost use Rattle.pg_group.specs.Value.{count_in};
+ghost use Rattle.pg_ends.specs.Processes.{node_of};
+ghost use Rattle.pg_message.specs.declared.packet.TheConstants.{MAX_STAMP};
+ghost use Rattle.pg_step.specs.Nodes.{Node};
+ghost use Rattle.pg_opens.specs.Readings.{gathering_of};
+ghost use Rattle.pg_opens.specs.declared.command.Gathering.TheVariants.{Nothing};
+ghost use Rattle.pg_opens.specs.Opens.{names_of as open_names, lost_of, references_of, uses_of};
+ghost use Rattle.pg_opens.specs.Places.{name_at};
+ghost use Rattle.pg_node.specs.Ports.{merged_in, counts_in};
+
+mod done;
+mod fault;
+mod made;
+mod peers;
+mod port;
+mod take;
+#[cfg(test)]
+mod tests;
+
+pub use done::Done;
+pub use fault::NodeFault;
+pub use made::NodeConfig;
+use pg_ends::Processes;
+use pg_exchange::Formation;
+use pg_group::{Ended, GroupTable};
+use pg_lock::LockTable;
+use pg_opens::Opens;
+pub(crate) use port::Port;
+use std::alloc::Global;
+
+/// A node of a set over packets.
+#[derive(Drop)]
+pub struct NodeState<T: GroupTable> {
+    clock: u32,
+    opens: Opens,
+    table: T,
+    ended: Ended,
+    locks: LockTable,
+    // Which peers are merged.
+    formation: Formation,
+    processes: Processes,
+    ports: Vec<Port>,
+    alloc: Global,
+    ghost peers: { length formation + 1 ≡ length (open_names opens) },
+    ghost own: { node_of processes ≡ name_at (open_names opens) 0 },
+    // The loss of a peer counts as its exchange.
+    ghost forgotten: { (q : Node) → lost_of opens q ≡ true → merged_in (open_names opens) formation q ≡ true },
+    ghost within: { clock ≤ MAX_STAMP },
+    // An event makes two references at most.
+    ghost made: { references_of opens ≤ 2 * clock },
+    ghost counted: { (port : ℕ) → counts_in ports.items port ≤ clock },
+    // No command comes in yet, so that nothing is gathered.
+    ghost idle: { (c : ℕ) → gathering_of (uses_of opens c) ≡ Nothing },
+    // A count is at most what stood at first or in an exchange, and grows by one with an update.
+    ghost few: { (name : Term) (pid : Pid) → count_in (T.contents table name) pid ≤ 2 ^ 32 + clock },
+}
