@@ -8,6 +8,7 @@ pub mod Kept
 pub mod Marks
 pub mod Merged
 pub mod Outcomes
+pub mod Sent
 pub mod Served
 pub mod Streams
 pub mod Taken

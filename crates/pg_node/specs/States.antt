@@ -2,7 +2,6 @@
 use Rattle.std.specs.Prelude.{◌≡◌, ℕ, ◌+◌, ◌++◌, cond, max, nat_eq, List, [], ◌∷◌, Option, Some, None, Result, Ok, Err}
 use Rattle.pg_term.specs.Same.{same_atom}
 use Rattle.pg_group.specs.declared.table.GroupTable.{Ghosts}
-use Rattle.pg_group.specs.declared.update.Update.{Update}
 use Rattle.pg_group.specs.Ended.{ended_of}
 use Rattle.pg_group.specs.Functions.{upd}
 use Rattle.pg_lock.specs.Locks.{locks_of}

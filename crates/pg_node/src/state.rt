@@ -18,6 +18,7 @@ mod fault;
 mod made;
 mod peers;
 mod port;
+mod sends;
 mod take;
 #[cfg(test)]
 mod tests;
