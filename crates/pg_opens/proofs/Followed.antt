@@ -17,7 +17,7 @@ use Rattle.pg_step.specs.State.Status.{Unasked}
 use Rattle.pg_step.specs.State.Use.{Fresh, Locking, Owning, Updating, Spent}
 use Rattle.pg_step.specs.State.Stage.{Closed, Waiting, Changing}
 use Rattle.pg_step.specs.Peers.{would_grant}
-use Rattle.pg_step.specs.Attempts.{same_op, new_attempt, ask, with_asked, count_answer, count_ok, give_up, begin, finish, own_verdict}
+use Rattle.pg_step.specs.Attempts.{same_op, new_attempt, ask, with_asked, count_answer, give_up, begin, finish, own_verdict}
 use Rattle.pg_opens.specs.declared.mark.Mark.{Mark}
 use Rattle.pg_opens.specs.declared.mark.Mark.TheVariants as mark
 use Rattle.pg_opens.specs.declared.mark.Asked.{Asked as Whom}
@@ -193,35 +193,43 @@ module _ (names : List Node) (lost : List Bool) (made : ℕ) (os : List OpenComm
   verdict_same true = refl
   verdict_same false = refl
 
-  pub count_answer_follows : (x place : ℕ) (granted : Bool) (op : OpId) (update : Update) (f : Node) (st : Node → Status) → Stands os k o x → uses_in names made os x ≡ Locking op update f st → Turns o o' o.phase → place < length names
-      → o'.marks.items ≡ slice_set o.marks.items place (verdict_mark granted)
-      → (s : State) → Says names lost made os s → Says names lost made (slice_set os k o') (count_answer x op update f st (name_at names place) (own_verdict granted) s).state
+  -- a mark of a request for the lock is set
+  pub lock_mark_follows : (x place : ℕ) (mk : Mark) (op : OpId) (update : Update) (f : Node) (st : Node → Status) → Stands os k o x → uses_in names made os x ≡ Locking op update f st → Turns o o' o.phase → place < length names
+      → o'.marks.items ≡ slice_set o.marks.items place mk
+      → (s : State) → Says names lost made os s → Says names lost made (slice_set os k o') (count_answer x op update f st (name_at names place) (status_of mk) s).state
   unfolding upd
-  count_answer_follows x place granted op update f st at e t l is s h =
+  lock_mark_follows x place mk op update f st at e t l is s h =
       let w = locks_as names made os k o known x op update f st at e in
-      let now : statuses names o'.marks.items ≡ upd same_atom (statuses names o.marks.items) (name_at names place) (own_verdict granted) = fun_ext (λ q. ap (λ z. statuses names z q) is
-      ∙ (reads_set status_of Unasked names o.marks.items place (verdict_mark granted) q apart (known.marked k o at.here) l
-      ∙ ap (λ z. cond (same_atom (name_at names place) q) z (statuses names o.marks.items q)) (verdict_same granted))) in
+      let now : statuses names o'.marks.items ≡ upd same_atom (statuses names o.marks.items) (name_at names place) (status_of mk) = fun_ext (λ q. ap (λ z. statuses names z q) is
+      ∙ reads_set status_of Unasked names o.marks.items place mk q apart (known.marked k o at.here) l) in
       record {
         references = h.references;
-        uses = (λ i. upd nat_eq (h.uses i) x (Locking (sym w.1.is_op i) (sym w.1.is_update i) (sym w.1.is_first i) (upd same_atom (sym w.1.marks i) (name_at names place) (own_verdict granted))))
+        uses = (λ i. upd nat_eq (h.uses i) x (Locking (sym w.1.is_op i) (sym w.1.is_update i) (sym w.1.is_first i) (upd same_atom (sym w.1.marks i) (name_at names place) (status_of mk))))
             ∙ (ap (λ z. upd nat_eq (uses_in names made os) x (Locking o.op o.update (name_at names w.0) z)) (sym now) ∙ sym (marked_lock names made os k o known at.here o' x w.0 w.1.phase t));
         opened = h.opened ∙ sym (set_length stage_at os k o');
         stages = h.stages ∙ sym (stage_same names made os k o known at.here o' t.op (λ i. stage_in (t.update i) (t.phase i)));
         lost_peers = h.lost_peers;
       }
 
-  pub count_ok_follows : (x place : ℕ) (op : OpId) (update : Update) (lock : ℕ) (replied : Node → Bool) → Stands os k o x → uses_in names made os x ≡ Updating op update lock replied → Turns o o' o.phase → place < length names
-      → o'.marks.items ≡ slice_set o.marks.items place mark.Yes
-      → (s : State) → Says names lost made os s → Says names lost made (slice_set os k o') (count_ok x op update lock replied (name_at names place) s).state
+  pub count_answer_follows : (x place : ℕ) (granted : Bool) (op : OpId) (update : Update) (f : Node) (st : Node → Status) → Stands os k o x → uses_in names made os x ≡ Locking op update f st → Turns o o' o.phase → place < length names
+      → o'.marks.items ≡ slice_set o.marks.items place (verdict_mark granted)
+      → (s : State) → Says names lost made os s → Says names lost made (slice_set os k o') (count_answer x op update f st (name_at names place) (own_verdict granted) s).state
+  count_answer_follows x place granted op update f st at e t l is s h =
+      subst (λ (status : Status). Says names lost made (slice_set os k o') (count_answer x op update f st (name_at names place) status s).state) (verdict_same granted)
+      (lock_mark_follows x place (verdict_mark granted) op update f st at e t l is s h)
+
+  -- a mark of an update is set
+  pub update_mark_follows : (x place : ℕ) (mk : Mark) (op : OpId) (update : Update) (lock : ℕ) (replied : Node → Bool) → Stands os k o x → uses_in names made os x ≡ Updating op update lock replied → Turns o o' o.phase → place < length names
+      → o'.marks.items ≡ slice_set o.marks.items place mk
+      → (s : State) → Says names lost made os s → Says names lost made (slice_set os k o') (record s { uses = upd nat_eq s.uses x (Updating op update lock (upd same_atom replied (name_at names place) (has_yes mk))) })
   unfolding upd
-  count_ok_follows x place op update lock replied at e t l is s h =
+  update_mark_follows x place mk op update lock replied at e t l is s h =
       let w = updates_as names made os k o known x op update lock replied at e in
-      let now : replies names o'.marks.items ≡ upd same_atom (replies names o.marks.items) (name_at names place) true = fun_ext (λ q. ap (λ z. replies names z q) is
-      ∙ reads_set has_yes false names o.marks.items place mark.Yes q apart (known.marked k o at.here) l) in
+      let now : replies names o'.marks.items ≡ upd same_atom (replies names o.marks.items) (name_at names place) (has_yes mk) = fun_ext (λ q. ap (λ z. replies names z q) is
+      ∙ reads_set has_yes false names o.marks.items place mk q apart (known.marked k o at.here) l) in
       record {
         references = h.references;
-        uses = (λ i. upd nat_eq (h.uses i) x (Updating (sym w.is_op i) (sym w.is_update i) lock (upd same_atom (sym w.marks i) (name_at names place) true)))
+        uses = (λ i. upd nat_eq (h.uses i) x (Updating (sym w.is_op i) (sym w.is_update i) lock (upd same_atom (sym w.marks i) (name_at names place) (has_yes mk))))
             ∙ (ap (λ z. upd nat_eq (uses_in names made os) x (Updating o.op o.update lock z)) (sym now) ∙ sym (marked_update names made os k o known at.here o' lock x w.phase t));
         opened = h.opened ∙ sym (set_length stage_at os k o');
         stages = h.stages ∙ sym (stage_same names made os k o known at.here o' t.op (λ i. stage_in (t.update i) (t.phase i)));

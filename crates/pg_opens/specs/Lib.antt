@@ -5,4 +5,5 @@ pub mod Opens
 pub mod Outlooks
 pub mod Places
 pub mod Readings
+pub mod TakenBack
 pub mod Twins

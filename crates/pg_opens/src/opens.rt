@@ -57,6 +57,8 @@ impl Opens {
     ghost use Rattle.pg_opens.specs.Marks.{whom, has_place};
     ghost use Rattle.pg_opens.specs.Readings.{gathering_of, standing_of, is_locking, is_updating, update_of, waiting_of, waits_by};
     ghost use Rattle.pg_opens.specs.Outlooks.{outlook_of};
+    ghost use Rattle.pg_step.specs.State.Status.{Asked as AskedYet};
+    ghost use Rattle.pg_opens.specs.TakenBack.{ok_taken_back};
     ghost use Rattle.pg_opens.specs.Twins.{same_commands};
 
     /// No command is open, no reference was made and no loss was seen. Two allocations.
@@ -422,6 +424,38 @@ impl Opens {
         if let Some(found) = place_of(&self.commands, number) {
             let command = &mut self.commands[found];
             command.mark(place, Mark::Yes);
+        }
+    }
+
+    /// The answer of a node to the request for the lock is taken back: it has not answered. `place`: the node's, by the names.
+    /// It takes no memory: O(open commands).
+    pub fn take_back_answer(&mut self, number: u32, place: usize)
+        requires locking { is_locking (uses_of self.old number) ≡ true }
+        requires place { place < length (names_of self.old) }
+        ensures turned { (op : OpId) (update : Update) (first : Node) (st : Node → Status)
+            → uses_of self.old number ≡ Locking op update first st
+            → Follows self.old self.new (count_answer number op update first st (name_at (names_of self.old) place) AskedYet) }
+        ensures nodes { names_of self.new ≡ names_of self.old }
+    {
+        if let Some(found) = place_of(&self.commands, number) {
+            let command = &mut self.commands[found];
+            command.mark(place, Mark::Asked);
+        }
+    }
+
+    /// The ok of a node is taken back: it has not replied. `place`: the node's, by the names. It takes no memory:
+    /// O(open commands).
+    pub fn take_back_ok(&mut self, number: u32, place: usize)
+        requires updating { is_updating (uses_of self.old number) ≡ true }
+        requires place { place < length (names_of self.old) }
+        ensures turned { (op : OpId) (update : Update) (lock : ℕ) (replied : Node → Bool)
+            → uses_of self.old number ≡ Updating op update lock replied
+            → Follows self.old self.new (ok_taken_back number op update lock replied (name_at (names_of self.old) place)) }
+        ensures nodes { names_of self.new ≡ names_of self.old }
+    {
+        if let Some(found) = place_of(&self.commands, number) {
+            let command = &mut self.commands[found];
+            command.mark(place, Mark::Asked);
         }
     }
 

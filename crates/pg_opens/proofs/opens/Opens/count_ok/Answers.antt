@@ -1,5 +1,6 @@
+use Rattle.pg_opens.specs.declared.mark.Mark.TheVariants.{Yes}
 use Rattle.pg_opens.proofs.Found.{stands, no_updating}
-use Rattle.pg_opens.proofs.Followed.{count_ok_follows, same_known}
+use Rattle.pg_opens.proofs.Followed.{update_mark_follows, same_known}
 use Rattle.pg_opens.proofs.opens.Opens.count_ok.Goals as goal
 
 pub invariant_of-self : goal.invariant_of-self
@@ -10,7 +11,7 @@ invariant_of-self c = record {
 }
 
 pub returns-in-Some-clause-turned : goal.returns-in-Some-clause-turned
-returns-in-Some-clause-turned c op update lock replied e = count_ok_follows c.args.self.now.names.items c.args.self.now.lost.items c.args.self.now.references c.args.self.now.commands.items c.in-Some.found c.index_mut-command.result.now c.mark.new.self c.args.self.now.apart c.args.self.now.places c.args.self.now.known c.args.number c.args.place op update lock replied
+returns-in-Some-clause-turned c op update lock replied e = update_mark_follows c.args.self.now.names.items c.args.self.now.lost.items c.args.self.now.references c.args.self.now.commands.items c.in-Some.found c.index_mut-command.result.now c.mark.new.self c.args.self.now.apart c.args.self.now.places c.args.self.now.known c.args.number c.args.place Yes op update lock replied
     (stands c.args.self.now.commands.items c.deref.result.now c.in-Some.found c.index_mut-command.result.now c.args.number c.deref.ensures.value c.in-Some.ensures.within c.in-Some.ensures.some c.index_mut-command.ensures.value) e c.mark.ensures.turns c.requires.place c.mark.ensures.marks
 
 pub returns-in_default-clause-turned : goal.returns-in_default-clause-turned
