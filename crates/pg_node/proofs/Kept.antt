@@ -1,9 +1,52 @@
 -- The open commands of a node show its state.
-use Rattle.std.proofs.Common.{refl}
+use Rattle.std.proofs.Common.{◌≡◌, ℕ, Bool, refl, sym}
+use Rattle.pg_term.specs.declared.pid.Pid.{Pid}
 use Rattle.pg_group.specs.declared.table.GroupTable.{Ghosts}
-use Rattle.pg_opens.specs.Opens.{Shows}
+use Rattle.pg_group.specs.Table.{Table}
+use Rattle.pg_lock.specs.Locks.{Locks}
+use Rattle.pg_machine.specs.Clocked.{Timed}
+use Rattle.pg_opens.specs.declared.opens.Opens.{Opens}
+use Rattle.pg_opens.specs.Opens.{Shows, lost_of, references_of, uses_of, opened_of, stages_of}
+use Rattle.pg_step.specs.Nodes.{Node}
+use Rattle.pg_step.specs.State.{State}
 use Rattle.pg_node.specs.declared.state.NodeState.{NodeState}
 use Rattle.pg_node.specs.States.{kept_by}
 
 pub shows : {T : Type 0} {g : Ghosts T} (node : NodeState T g) → Shows node.opens (kept_by node)
 shows node = record { references = refl; uses = refl; opened = refl; stages = refl; lost_peers = refl }
+
+-- a state, by its parts and the open commands that show it
+pub assembled : (clock : ℕ) (t : State) (opens : Opens) (table : Table) (ended : Pid → Bool) (locks : Locks) (merged : Node → Bool) (processes : ℕ) (counts : ℕ → ℕ)
+    → Shows opens t → table ≡ t.table → ended ≡ t.ended → locks ≡ t.locks → merged ≡ t.merged → processes ≡ t.processes → counts ≡ t.counts
+    → ◌≡◌ {A = Timed State} (record {
+      clock = clock;
+      state = record {
+        table = table;
+        ended = ended;
+        locks = locks;
+        merged = merged;
+        lost = lost_of opens;
+        references = references_of opens;
+        uses = uses_of opens;
+        processes = processes;
+        opened = opened_of opens;
+        stages = stages_of opens;
+        counts = counts;
+      };
+    }) (record { clock = clock; state = t })
+assembled clock t opens table ended locks merged processes counts h e1 e2 e3 e4 e5 e6 = λ i. record {
+  clock = clock;
+  state = record {
+    table = e1 i;
+    ended = e2 i;
+    locks = e3 i;
+    merged = e4 i;
+    lost = sym h.lost_peers i;
+    references = sym h.references i;
+    uses = sym h.uses i;
+    processes = e5 i;
+    opened = sym h.opened i;
+    stages = sym h.stages i;
+    counts = e6 i;
+  };
+}

@@ -1,4 +1,5 @@
 pub mod Bodies
+pub mod Chains
 pub mod Coming
 pub mod Counts
 pub mod Formed
@@ -8,6 +9,7 @@ pub mod Kept
 pub mod Marks
 pub mod Merged
 pub mod Outcomes
+pub mod Ported
 pub mod Sent
 pub mod Served
 pub mod Streams

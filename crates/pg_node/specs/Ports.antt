@@ -1,8 +1,13 @@
 -- What a node keeps of its peers and of its ports, by their places.
-use Rattle.std.specs.Prelude.{ℕ, zero, suc, Bool, false, drop, List, [], ◌∷◌}
+use Rattle.std.specs.Prelude.{◌≡◌, ◌<◌, ℕ, zero, suc, Bool, false, drop, List, [], ◌∷◌}
 use Rattle.pg_opens.specs.Places.{reads}
 use Rattle.pg_step.specs.declared.answer.Answer.{Answer}
+use Rattle.pg_step.specs.declared.command.OpId.{OpId}
 use Rattle.pg_step.specs.Nodes.{Node}
+use Rattle.pg_step.specs.State.{Use, Stage}
+use Rattle.pg_opens.specs.declared.command.Gathering.{Gathering}
+use Rattle.pg_opens.specs.declared.command.Gathering.TheVariants as gathering
+use Rattle.pg_opens.specs.Readings.{gathering_of, standing_of, is_closed}
 use Rattle.pg_node.specs.declared.state.port.Port.{Port}
 
 -- the peers whose exchange was taken, by the marks of the peers
@@ -20,3 +25,13 @@ abbrev pub answers_in : List Port → ℕ → List Answer
 answers_in [] port = []
 answers_in (p ∷ ports) zero = p.answers.items
 answers_in (p ∷ ports) (suc n) = answers_in ports n
+
+-- what is gathered is for a command of one of so many ports
+pub record IsOf (ports : ℕ) (what : Gathering) : Type 0 where
+  pub locks : (op : OpId) → what ≡ gathering.Lock op → op.port < ports
+  pub updates : (op : OpId) (lock : ℕ) → what ≡ gathering.Update op lock → op.port < ports
+
+-- the open commands came in at these ports
+pub record ArePorted (ports : ℕ) (uses : ℕ → Use) (stages : OpId → Stage) : Type 0 where
+  pub by_use : (c : ℕ) → IsOf ports (gathering_of (uses c))
+  pub by_stage : (op : OpId) → is_closed (standing_of (stages op)) ≡ false → op.port < ports
