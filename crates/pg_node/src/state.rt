@@ -20,8 +20,6 @@ mod peers;
 mod port;
 mod sends;
 mod take;
-#[cfg(test)]
-mod tests;
 
 pub use done::Done;
 pub use fault::NodeFault;

@@ -105,6 +105,21 @@ fn replied(opens: &mut Opens, number: u32, place: usize) -> bool {
     false
 }
 
+// Takes back the answer that was counted, or the ok.
+fn taken_back(opens: &mut Opens, number: u32, place: usize) -> bool {
+    if place < opens.node_count() {
+        if opens.is_locking(number) {
+            opens.take_back_answer(number, place);
+            return true;
+        }
+        if opens.is_updating(number) {
+            opens.take_back_ok(number, place);
+            return true;
+        }
+    }
+    false
+}
+
 fn given_up(opens: &mut Opens, number: u32) -> bool {
     if opens.is_locking(number) {
         opens.give_up(number);
@@ -313,6 +328,30 @@ fn gathered_replies(rt: HostRuntime) -> Result<(), Fail> {
     assert!(rt; finished(&mut opens, 2));
     assert!(rt; opens.standing(op(1)) == Standing::Closed);
     assert!(rt; opens.open_count() == 0);
+    Ok(())
+}
+
+// A counted reply that is taken back is counted again.
+#[test]
+fn taken_back_replies(rt: HostRuntime) -> Result<(), Fail> {
+    let alloc = rt.alloc();
+    let mut opens = opens_of_a(alloc)?;
+    assert!(rt; opened(alloc, &mut opens, 1)?);
+    assert!(rt; started(&mut opens, 1, 2));
+    assert!(rt; asked_one(&mut opens, 1, 2, true));
+    assert!(rt; answered(&mut opens, 1, 2, true));
+    assert!(rt; taken_back(&mut opens, 1, 2));
+    assert!(rt; outlook(&opens, 1, true) == Some(Outlook::Wait));
+    assert!(rt; heard(&opens, 1, 2) == Some(Taken::Counted));
+    assert!(rt; answered(&mut opens, 1, 2, true));
+    assert!(rt; asked_all(&mut opens, 1, true));
+    assert!(rt; answered(&mut opens, 1, 1, true));
+    assert!(rt; began(&mut opens, 1));
+    assert!(rt; replied(&mut opens, 2, 1));
+    assert!(rt; replied(&mut opens, 2, 2));
+    assert!(rt; taken_back(&mut opens, 2, 1));
+    assert!(rt; !opens.is_complete(2));
+    assert!(rt; heard(&opens, 2, 1) == Some(Taken::Counted));
     Ok(())
 }
 

@@ -73,6 +73,13 @@ impl<T: GroupTable + Drop> NodeState<T> {
         self.clock
     }
 
+    /// How many peers it has, the lost ones too. It takes no memory.
+    pub fn peer_count(&self) -> usize
+        ensures { result + 1 ≡ length (names_of self.now) }
+    {
+        self.formation.peers()
+    }
+
     /// Whether it is formed: each peer has told its groups, or its loss was seen. It takes no memory.
     pub fn formed(&self) -> bool
         ensures { result ≡ formed (left_of self.now) (kept_by self.now) }
