@@ -4,8 +4,6 @@
 mod deframer;
 mod fault;
 mod laws;
-#[cfg(test)]
-mod tests;
 mod write;
 
 pub use deframer::Deframer;

@@ -14,8 +14,6 @@ ghost use Rattle.pg_message.specs.declared.packet.Packet.{Packet};
 mod direct;
 mod exchange;
 mod parts;
-#[cfg(test)]
-mod refused;
 mod shape;
 #[cfg(test)]
 mod tests;

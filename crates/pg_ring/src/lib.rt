@@ -15,8 +15,6 @@ mod ring_out;
 mod slot_in;
 mod slot_out;
 mod slots;
-#[cfg(test)]
-mod tests;
 
 pub use capacity::MAX_CAPACITY;
 pub use fault::RingFault;

@@ -22,6 +22,3 @@ pub use laws::{equality, order, order_by_kind};
 pub use pid::Pid;
 pub use reference::Reference;
 pub use term::Term;
-
-#[cfg(test)]
-mod tests;

@@ -1,7 +1,9 @@
-//! All that is only run: packets and terms by their bytes, rings between threads, and the trial that each table of groups is
-//! put to.
+//! All that is only run: terms, frames and packets by their bytes, rings, also between threads, and the trial that each table of
+//! groups is put to.
 #![tactic(auto)]
 
+#[cfg(test)]
+mod frames;
 #[cfg(test)]
 mod packets;
 #[cfg(test)]

@@ -1,4 +1,5 @@
-//! Tests of packets with what stands beneath them: their bytes, their faults, names, and memory that runs out.
+//! Tests of packets with what stands beneath them: their bytes, their faults, names, memory that runs out, and what is
+//! refused unbuilt.
 
 mod faults;
 mod forms;
@@ -7,3 +8,4 @@ mod memory;
 mod messages;
 mod names;
 pub mod samples;
+mod unbuilt;

@@ -1,4 +1,5 @@
-//! Tests of rings with what stands beside them: frames, and threads.
+//! Tests of rings: what moves, frames that cross them, and threads.
 
-mod frames;
+mod crossing;
+mod moves;
 mod threads;

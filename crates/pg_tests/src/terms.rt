@@ -6,6 +6,7 @@ use pg_term::TermFault;
 mod faults;
 mod limits;
 mod reading;
+mod values;
 mod writing;
 
 /// Makes a value, a second time where memory was refused.

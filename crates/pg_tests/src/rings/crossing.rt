@@ -1,3 +1,5 @@
+//! A frame that crosses a ring.
+
 use crate::packets::samples::create_packet;
 use crate::samples::atom;
 use bytes::BytesMut;
@@ -22,11 +24,15 @@ fn frame_byte_by_byte(rt: HostRuntime) -> Result<(), Fail> {
     let mut place = [0u8; 1];
     for byte in frame.as_slice() {
         assert_eq!(rt; deframer.front(), Ok(None));
+        assert_eq!(rt; deframer.next(), Ok(false));
         assert_eq!(rt; out.put(&[*byte, 0]), 1);
         assert_eq!(rt; inlet.take(&mut place), 1);
         deframer.feed(&place)?;
     }
+    assert_eq!(rt; deframer.rest_len(), frame.as_slice().len());
     assert_eq!(rt; deframer.front(), Ok(frame.as_slice().get(4..)));
+    assert_eq!(rt; deframer.next(), Ok(true));
+    assert_eq!(rt; deframer.rest_len(), 0);
     assert_eq!(rt; inlet.take(&mut place), 0);
     Ok(())
 }

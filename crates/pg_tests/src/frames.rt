@@ -1,6 +1,7 @@
-//! What no clause says: known bytes, and calls that get memory again once they were refused it.
-use crate::{Deframer, FrameFault, MAX_BODY, TooLong, frame_into, write_frame};
+//! Frames: known bytes, and calls that get memory again once they were refused it.
+
 use bytes::BytesMut;
+use pg_frame::{Deframer, FrameFault, MAX_BODY, TooLong, frame_into, write_frame};
 use std::alloc::AllocError;
 use std::process::Abort;
 use std::test::Fail;
@@ -48,22 +49,6 @@ fn written_into(rt: &impl Abort, out: &mut BytesMut, body: &[u8]) -> Result<(), 
         }
         answer => answer,
     }
-}
-
-#[test]
-fn frame_byte_by_byte(rt: HostRuntime) -> Result<(), Fail> {
-    let mut deframer = Deframer::new(rt.alloc());
-    for byte in &CREATE_CALL {
-        assert_eq!(rt; deframer.front(), Ok(None));
-        assert_eq!(rt; deframer.next(), Ok(false));
-        fed(&rt, &mut deframer, &[*byte])?;
-    }
-    assert_eq!(rt; deframer.rest_len(), 49);
-    assert_eq!(rt; deframer.front(), Ok(Some(&CREATE_CALL[4..])));
-    assert_eq!(rt; deframer.next(), Ok(true));
-    assert_eq!(rt; deframer.front(), Ok(None));
-    assert_eq!(rt; deframer.rest_len(), 0);
-    Ok(())
 }
 
 #[test]

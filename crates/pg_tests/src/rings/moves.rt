@@ -1,9 +1,10 @@
-//! What no clause says: known moves, each public call once, and each trait at both of its kinds.
+//! Known moves, each public call once, and each trait at both of its kinds.
+
 ghost use Rattle.std.specs.Prelude.{IfOk};
 ghost use Rattle.pg_ring.specs.Ends.{AreEnds};
 ghost use Rattle.pg_ring.specs.Slots.{AreSlots};
 
-use crate::{
+use pg_ring::{
     Inlet, Link, MAX_CAPACITY, MemRing, RingFault, RingIn, RingOut, SlotIn, SlotOut, ring_pair,
     slot_pair, slots_together, together,
 };

@@ -1,6 +1,6 @@
 //! What is no packet for what stands in the groups of its exchange is refused before anything of it is built.
 
-use crate::{MessageFault, read_packet};
+use pg_message::{MessageFault, read_packet};
 use pg_term_io::{NextElement, next_element, skip_item};
 use std::alloc::{AllocError, Global};
 use std::test::*;
