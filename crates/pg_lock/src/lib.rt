@@ -6,6 +6,3 @@ mod table;
 
 pub use attempt::Attempt;
 pub use table::LockTable;
-
-#[cfg(test)]
-mod tests;

@@ -4,6 +4,3 @@
 mod gather;
 
 pub use gather::{Gather, Replies, Taken};
-
-#[cfg(test)]
-mod tests;

@@ -10,6 +10,3 @@ pub use fault::RefFault;
 pub use laws::fresh_references;
 pub use numbers::{number_of, reference_of};
 pub use source::{MAX_REFERENCES, RefSource};
-
-#[cfg(test)]
-mod tests;

@@ -1,15 +1,15 @@
-// Nodes that are many.
-use super::*;
+//! Nodes that are many.
+
+use crate::samples::{many_nodes, reference};
+use pg_multicall::{Gather, Taken};
+use std::test::Fail;
 
 #[test]
 fn gather_over_many(rt: HostRuntime) -> Result<(), Fail> {
     let alloc = rt.alloc();
-    let call = reference(alloc, 1)?;
-    let mut nodes = Vec::new(alloc);
-    for number in 0..1001 {
-        nodes.push(Atom::new(alloc, &format!(in alloc; "n{number}")?)?)?;
-    }
-    let mut gather = Gather::new(alloc, reference(alloc, 1)?, &nodes)?;
+    let call = reference(alloc, "a", 1)?;
+    let nodes = many_nodes(alloc)?;
+    let mut gather = Gather::new(alloc, reference(alloc, "a", 1)?, &nodes)?;
     for (node, number) in nodes.iter().zip(0..1001) {
         assert!(rt; !gather.complete(), "at {number}");
         if number % 2 == 0 {

@@ -1,6 +1,11 @@
-// Locks that are many.
-use super::*;
+//! Locks that are many.
+
+use crate::samples::reference;
+use pg_lock::LockTable;
+use pg_term::{Reference, Term};
+use std::alloc::AllocError;
 use std::process::Abort;
+use std::test::Fail;
 
 /// A reference takes the locks from one number up to another.
 fn takes(
@@ -49,12 +54,13 @@ fn gives_up_all(rt: &impl Abort, locks: &mut LockTable, reference: &Reference) {
 
 #[test]
 fn many_locks(rt: HostRuntime) -> Result<(), Fail> {
-    let cast = names_and_references(rt.alloc())?;
+    let first = reference(rt.alloc(), "a", 1)?;
+    let other = reference(rt.alloc(), "b", 1)?;
     let mut locks = LockTable::new(rt.alloc());
-    takes(&rt, &mut locks, 0, 501, &cast.first)?;
-    takes(&rt, &mut locks, 501, 1001, &cast.other)?;
-    is_denied(&rt, &mut locks, &cast.first)?;
-    locks.free_node(cast.other.node());
-    gives_up_all(&rt, &mut locks, &cast.first);
+    takes(&rt, &mut locks, 0, 501, &first)?;
+    takes(&rt, &mut locks, 501, 1001, &other)?;
+    is_denied(&rt, &mut locks, &first)?;
+    locks.free_node(other.node());
+    gives_up_all(&rt, &mut locks, &first);
     Ok(())
 }

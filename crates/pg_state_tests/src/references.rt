@@ -1,4 +1,7 @@
-use super::*;
+//! Fresh references, and their numbers.
+
+use crate::samples::atom;
+use pg_refs::{RefSource, number_of, reference_of};
 use pg_term::{Atom, Reference};
 use std::test::Fail;
 
@@ -48,14 +51,10 @@ fn foreign_number(node: &Atom, creation: u32, words: &[u32]) -> Result<Option<u3
     Ok(number_of(node, &reference))
 }
 
-// Passes wherever an allocation is refused: nothing changes, and the same call succeeds.
+/// Passes wherever an allocation is refused: nothing changes, and the same call succeeds.
 #[test]
 fn refused_growth(rt: HostRuntime) -> Result<(), Fail> {
-    let node = match Atom::new(rt.alloc(), "a") {
-        Ok(node) => node,
-        Err(_) => Atom::new(rt.alloc(), "a")?,
-    };
-    let mut source = RefSource::new(node);
+    let mut source = RefSource::new(atom(rt.alloc(), "a")?);
     let reference = match source.next() {
         Ok(reference) => reference,
         Err(_) => source.next()?,
