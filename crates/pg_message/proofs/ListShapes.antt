@@ -1,5 +1,6 @@
 -- Lists that tell no groups, and no members, seen element by element.
-use Rattle.std.proofs.Common.{◌≡◌, ◌≢◌, ℕ, Bool, false, cond, List, [], ◌∷◌, map, Option, None, Ok, Err, Bor, refl, sym, ap, subst, ◌∙◌, rules}
+use Rattle.std.proofs.Common.{◌≡◌, ◌≢◌, ℕ, Bool, false, cond, List, [], ◌∷◌, map, Option, Some, None, Ok, Err, Bor, refl, sym, ap, subst, ◌∙◌, rules}
+use Rattle.std.specs.Prelude.{MatchOption}
 use Rattle.std.specs.Option.{option_map, option_and_then}
 use Rattle.pg_term.specs.declared.fault.TermFault.{TermFault}
 use Rattle.pg_term.specs.declared.term.Term.{Term, out-Term, the_lemmas}
@@ -16,7 +17,7 @@ use Rattle.pg_message.specs.Name.{is_name}
 use Rattle.pg_message.specs.Parts.{list_in, items_of, pid_in, pid_of}
 use Rattle.pg_message.specs.Reading.{all_of, group_in, group_of}
 use Rattle.pg_message.proofs.ReadBack.{items_is}
-use Rattle.pg_message.proofs.Shapes.{none_if, none_after, end_is}
+use Rattle.pg_message.proofs.Shapes.{no_items, none_if, none_after}
 
 -- ---- what is no list
 
@@ -44,6 +45,13 @@ of_lists follow t why = at (out-Term t) why
     at (Term-F.Pid p) h = refl
     at (Term-F.Tuple ts) h = refl
     at (Term-F.Binary content) h = refl
+
+pub no_list : {A : Type 0} (follow : List Term → Option A) (t : Term) → kind_of t ≢ 5 → option_and_then follow (items_of t) ≡ None
+no_list follow t other = ap (option_and_then follow) (no_items t other)
+
+-- an element that is read has an end
+pub has_end : {A : Type 0} (read : Read A) (a : A) (mid : List ℕ) (f : TermFault) → read ≡ Ok (a, mid) → past read ≡ Err f → ⊥
+has_end read a mid f here ends = let k : past read ≡ Ok mid = ap past here in absurd cc
 
 pub int_no_pid : (n : ℕ) → pid_of (int_of n) ≡ None
 int_no_pid n = search (rules, the_lemmas)
@@ -79,19 +87,15 @@ module _ {A : Type 0} (each : Term → Option A) where
       pub no_first : each goes.first ≡ None → option_and_then (all_of each) (items_of t) ≡ None
       no_first none = before.nothing (ap (all_of each) goes.are ∙ first_none goes.first goes.others none)
 
-      pub behind_first : (behind : List ℕ) → past (item_at below bytes) ≡ Ok behind → IsLeft below more behind t rest
+      pub behind_first : (behind : List ℕ) → goes.behind ≡ behind → IsLeft below more behind t rest
       behind_first behind ends = record {
         elements = goes.others;
-        read = subst (λ (b : List ℕ). list_from below more b ≡ Ok (goes.others, rest)) (end_is (item_at below bytes) goes.first goes.behind behind goes.here ends) goes.after;
+        read = subst (λ (b : List ℕ). list_from below more b ≡ Ok (goes.others, rest)) ends goes.after;
         nothing = λ none. before.nothing (ap (all_of each) goes.are ∙ others_none goes.first goes.others none);
       }
 
     pub no_text : ((n : ℕ) → each (int_of n) ≡ None) → IsText before.elements → option_and_then (all_of each) (items_of t) ≡ None
     no_text none text = before.nothing (ap (all_of each) text.are ∙ first_none (int_of text.first) (map int_of text.others) (none text.first))
-
--- an element that is read has an end
-pub has_end : {A : Type 0} (read : Read A) (a : A) (mid : List ℕ) (f : TermFault) → read ≡ Ok (a, mid) → past read ≡ Err f → ⊥
-has_end read a mid f here ends = let k : past read ≡ Ok mid = ap past here in absurd cc
 
 -- ---- what is no pair of a name and members
 
@@ -127,22 +131,33 @@ abbrev pub NoItemNext : NextElement → Type 0
 NoItemNext next = (a b : ℕ) (c : Bor (List ℕ)) → next ≡ Item a b c → ⊥
 
 pub starts_nothing : (next : NextElement) (ts : List Term) (rest : List ℕ) → NoItemNext next → Continues next ts rest → group_in ts ≡ None
-starts_nothing End ts rest other goes = ap group_in goes
+starts_nothing (End b) ts rest other goes = ap group_in goes.none
 starts_nothing (Item a b c) ts rest other goes = absurd (other a b c refl)
 starts_nothing NoItem ts rest other goes = text_no_group ts goes
 
 pub ends_nothing : (name : Term) (next : NextElement) (ts : List Term) (rest : List ℕ) → NoItemNext next → Continues next ts rest → group_in (name ∷ ts) ≡ None
-ends_nothing name End ts rest other goes = ap (λ (ts : List Term). group_in (name ∷ ts)) goes
+ends_nothing name (End b) ts rest other goes = ap (λ (ts : List Term). group_in (name ∷ ts)) goes.none
 ends_nothing name (Item a b c) ts rest other goes = absurd (other a b c refl)
 ends_nothing name NoItem ts rest other goes = text_behind_name name ts goes
 
 -- what goes on is not over
-pub goes_somewhere : (next : NextElement) (ts : List Term) (rest : List ℕ) → (next ≡ End → ⊥) → Continues next ts rest → ts ≢ []
-goes_somewhere End ts rest other goes e = absurd (other refl)
+pub goes_somewhere : (next : NextElement) (ts : List Term) (rest : List ℕ) → ((behind : Bor (List ℕ)) → next ≡ End behind → ⊥) → Continues next ts rest → ts ≢ []
+goes_somewhere (End b) ts rest other goes e = absurd (other b refl)
 goes_somewhere (Item a b c) ts rest other goes e = let k : [] ≡ goes.first ∷ goes.others = sym e ∙ goes.are in absurd cc
 goes_somewhere NoItem ts rest other goes e = let k : [] ≡ int_of goes.first ∷ map int_of goes.others = sym e ∙ goes.are in absurd cc
 
--- a list that is read is a group where its elements are
-pub group_is : (room : ℕ) (bytes : List ℕ) (t : Term) (rest : List ℕ) → item_at room bytes ≡ Ok (t, rest) → ((ts : List Term) → list_from room 0 bytes ≡ Ok (ts, rest) → group_in ts ≡ None) → group_of t ≡ None
-group_is room bytes t rest e why =
-    of_lists group_in t (λ five. let list = is_list room bytes t rest e five in ap group_of list.is ∙ ap (option_and_then group_in) (items_is list.elements) ∙ why list.elements list.read)
+-- a list that is read, which is a group where its elements are
+pub record IsListed (room : ℕ) (bytes : List ℕ) (t : Term) (rest : List ℕ) : Type 0 where
+  pub elements : List Term
+  pub read : list_from room 0 bytes ≡ Ok (elements, rest)
+  pub nothing : group_in elements ≡ None → group_of t ≡ None
+
+pub group_is : (room : ℕ) (bytes : List ℕ) (t : Term) (rest : List ℕ) → item_at room bytes ≡ Ok (t, rest) → kind_of t ≡ 5 → IsListed room bytes t rest
+group_is room bytes t rest e five =
+    let list = is_list room bytes t rest e five in
+    record { elements = list.elements; read = list.read; nothing = λ none. ap group_of list.is ∙ ap (option_and_then group_in) (items_is list.elements) ∙ none }
+
+-- what is refused for one reason is so for another
+pub refused : {X : Type 0} (r : Option X) (P : X → Type 0) {A B : Type 0} → (A → B) → MatchOption r A P → MatchOption r B P
+refused None P f h = f h
+refused (Some x) P f h = h

@@ -6,7 +6,7 @@ use Rattle.pg_term.specs.declared.fault.TermFault.{TermFault}
 use Rattle.pg_term.specs.declared.fault.TermFault.TheVariants.{Truncated, TooDeep}
 use Rattle.pg_term.specs.declared.term.Term.{Term, Tuple, List as Listed}
 use Rattle.pg_term.specs.Order.{kind_of}
-use Rattle.pg_term_io.specs.Lists.{list_from, GoesOn, IsText}
+use Rattle.pg_term_io.specs.Lists.{list_from, GoesOn, IsOver, IsText}
 use Rattle.pg_term_io.specs.Numbers.{int_of}
 use Rattle.pg_term_io.specs.Reading.{Read, ◌>>=◌, byte_at, number_at, bytes_at, items_at, item_at, tail_at, readers, elements_behind, item_behind, leaf_behind, as_term, string_at, list_at}
 use Rattle.pg_term_io.specs.Kinds.{place_behind}
@@ -87,10 +87,12 @@ pub no_deeper_tail : (tag : ℕ) (bytes : List ℕ) (ts : List Term) (rest : Lis
 unfolding readers
 no_deeper_tail tag bytes ts rest e = absurd cc
 
-pub tail_empty : (room : ℕ) (bytes : List ℕ) (ts : List Term) (rest : List ℕ) → tail_at room (106 ∷ bytes) ≡ Ok (ts, rest) → ts ≡ []
+pub tail_empty : (room : ℕ) (bytes : List ℕ) (ts : List Term) (rest : List ℕ) → tail_at room (106 ∷ bytes) ≡ Ok (ts, rest) → IsOver bytes ts rest
 unfolding readers elements_behind
 tail_empty zero bytes ts rest e = absurd cc
-tail_empty (suc room) bytes ts rest e = let same : ([], bytes) ≡ (ts, rest) = cc in ap (λ (p : List Term × List ℕ). p.0) (sym same)
+tail_empty (suc room) bytes ts rest e =
+    let same : ([], bytes) ≡ (ts, rest) = cc in
+    record { none = ap (λ (p : List Term × List ℕ). p.0) (sym same); after = ap (λ (p : List Term × List ℕ). p.1) (sym same) }
 
 pub tail_listed : (room n : ℕ) (bytes behind : List ℕ) (ts : List Term) (rest : List ℕ) → number_at w32 bytes ≡ Ok (n, behind) → tail_at (suc room) (108 ∷ bytes) ≡ Ok (ts, rest) → list_from room n behind ≡ Ok (ts, rest)
 unfolding readers elements_behind list_at list_from
@@ -109,37 +111,41 @@ text_of zero bytes le some = absurd (some refl)
 text_of (suc n) [] le some = absurd (omega arith)
 text_of (suc n) (b ∷ bytes) le some = record { first = b; others = take n bytes; are = refl }
 
--- what the bytes of a text are, behind their number
-pub record Spelt (n : ℕ) (behind : List ℕ) (ts : List Term) : Type 0 where
+-- what the bytes of a text are, behind their number, and what follows them
+pub record Spelt (n : ℕ) (behind : List ℕ) (ts : List Term) (rest : List ℕ) : Type 0 where
   pub long : n ≤ length behind
   pub are : ts ≡ map int_of (take n behind)
+  pub after : rest ≡ drop n behind
 
 -- what a text is read as, behind its number
 abbrev text_at : ℕ → ℕ × List ℕ → Read (List Term)
 text_at room n = bytes_at n.0 n.1 >>= λ text. cond (eqb room 0 && ltb 0 n.0) (Err TooDeep) (Ok (map int_of text.0, text.1))
 
-pub text_none : (n : ℕ) (behind : List ℕ) (ts : List Term) → n ≡ 0 → Spelt n behind ts → ts ≡ []
-text_none n behind ts none s = subst (λ (n : ℕ). ts ≡ map int_of (take n behind)) none s.are
+pub text_none : (n : ℕ) (behind : List ℕ) (ts : List Term) (rest : List ℕ) → n ≡ 0 → Spelt n behind ts rest → IsOver behind ts rest
+text_none n behind ts rest none s = record {
+  none = subst (λ (n : ℕ). ts ≡ map int_of (take n behind)) none s.are;
+  after = subst (λ (n : ℕ). rest ≡ drop n behind) none s.after;
+}
 
-pub text_some : (n : ℕ) (behind : List ℕ) (ts : List Term) → n ≢ 0 → Spelt n behind ts → IsText ts
-text_some n behind ts some s = subst IsText (sym s.are) (text_of n behind s.long some)
+pub text_some : (n : ℕ) (behind : List ℕ) (ts : List Term) (rest : List ℕ) → n ≢ 0 → Spelt n behind ts rest → IsText ts
+text_some n behind ts rest some s = subst IsText (sym s.are) (text_of n behind s.long some)
 
 module _ (room n : ℕ) (behind : List ℕ) (ts : List Term) (rest : List ℕ) where
   abbrev spelt_if : Bool → Bool → Read (List Term)
   spelt_if short deep = ◌>>=◌ {A = List ℕ × List ℕ} (cond short (Err Truncated) (Ok (take n behind, drop n behind))) λ text. cond deep (Err TooDeep) (Ok (map int_of text.0, text.1))
 
-  spelt : (short deep : Bool) → ltb (length behind) n ≡ short → spelt_if short deep ≡ Ok (ts, rest) → Spelt n behind ts
+  spelt : (short deep : Bool) → ltb (length behind) n ≡ short → spelt_if short deep ≡ Ok (ts, rest) → Spelt n behind ts rest
   spelt true deep is e = absurd cc
   spelt false true is e = absurd cc
   spelt false false is e =
       let same : (map int_of (take n behind), drop n behind) ≡ (ts, rest) = cc in
-      record { long = ltb-false (length behind) n is; are = ap (λ (p : List Term × List ℕ). p.0) (sym same) }
+      record { long = ltb-false (length behind) n is; are = ap (λ (p : List Term × List ℕ). p.0) (sym same); after = ap (λ (p : List Term × List ℕ). p.1) (sym same) }
 
-  pub tail_spelt : (bytes : List ℕ) → number_at w16 bytes ≡ Ok (n, behind) → tail_at room (107 ∷ bytes) ≡ Ok (ts, rest) → Spelt n behind ts
+  pub tail_spelt : (bytes : List ℕ) → number_at w16 bytes ≡ Ok (n, behind) → tail_at room (107 ∷ bytes) ≡ Ok (ts, rest) → Spelt n behind ts rest
   unfolding readers elements_behind string_at
   tail_spelt bytes count e = at room e
     where
-      at : (room : ℕ) → tail_at room (107 ∷ bytes) ≡ Ok (ts, rest) → Spelt n behind ts
+      at : (room : ℕ) → tail_at room (107 ∷ bytes) ≡ Ok (ts, rest) → Spelt n behind ts rest
       at zero e = absurd cc
       at (suc room) e = spelt (ltb (length behind) n) (eqb room 0 && ltb 0 n) refl (sym (ap (λ (r : Read ℕ). r >>= text_at room) count) ∙ e)
 

@@ -1,5 +1,5 @@
 -- A list from some place in it on: so many elements that stand there as items, and then its tail, with the further ones.
-use Rattle.std.specs.Prelude.{◌≡◌, ℕ, ◌≤◌, List, [], ◌∷◌, ◌++◌, length, map, Ok}
+use Rattle.std.specs.Prelude.{◌≡◌, ℕ, ◌≤◌, ◌<◌, List, [], ◌∷◌, ◌++◌, length, map, Ok}
 use Rattle.pg_term.specs.declared.term.Term.{Term}
 use Rattle.pg_term_io.specs.declared.element.NextElement.{NextElement}
 use Rattle.pg_term_io.specs.declared.element.NextElement.TheVariants.{End, Item, NoItem}
@@ -28,13 +28,19 @@ pub record IsText (elements : List Term) : Type 0 where
   pub others : List ℕ
   pub are : elements ≡ map int_of (first ∷ others)
 
+-- the list is over, and these bytes stand after it
+pub record IsOver (behind : List ℕ) (elements : List Term) (rest : List ℕ) : Type 0 where
+  pub none : elements ≡ []
+  pub after : rest ≡ behind
+
 -- how a list with these elements goes on
 abbrev pub Continues : NextElement → List Term → List ℕ → Type 0
-Continues End elements rest = elements ≡ []
+Continues (End behind) elements rest = IsOver behind.now elements rest
 Continues (Item room count bytes) elements rest = GoesOn room count bytes.now elements rest
 Continues NoItem elements rest = IsText elements
 
--- an element that stands there may nest no more levels, and stands in the same bytes
+-- an element that stands there may nest no more levels, and stands in the same bytes; fewer follow the list
 abbrev pub IsWithin : ℕ → List ℕ → NextElement → Type 0
+IsWithin room bytes (End behind) = length behind.now < length bytes
 IsWithin room bytes (Item below count behind) = (below ≤ room) × (length behind.now ≤ length bytes)
-IsWithin room bytes other = Unit {0}
+IsWithin room bytes NoItem = Unit {0}

@@ -1,7 +1,7 @@
 //! Whether bytes may spell a packet, told without memory: what has not the shape of one is refused before anything of it
 //! is built. A part that holds others is a tuple, a list or a binary; all others are small.
 
-ghost use Rattle.std.specs.Prelude.{◌≡◌, ◌≤◌, ℕ, List, [], ◌∷◌, false, IfSome, IfNone, Ok, Err, None};
+ghost use Rattle.std.specs.Prelude.{◌≡◌, ◌<◌, ◌≤◌, ℕ, List, [], ◌∷◌, length, false, IfSome, IfNone, Ok, Err, None};
 ghost use Rattle.pg_term.specs.declared.term.Term.{Term};
 ghost use Rattle.pg_term.specs.Order.{kind_of};
 ghost use Rattle.pg_term_io.specs.Reading.{item_at, term_of};
@@ -52,6 +52,7 @@ pub(crate) fn past_name(levels: u8, bytes: &[u8]) -> Option<&[u8]>
     ensures some { IfSome result (λ rest. past (item_at levels bytes.now) ≡ Ok rest.now) }
     ensures none { (t : Term) (rest : List ℕ) → IfNone result
         (item_at levels bytes.now ≡ Ok (t, rest) → is_name t ≡ false) }
+    ensures shorter { IfSome result (λ rest. length rest.now < length bytes.now) }
 {
     match skip_item(levels, bytes) {
         Ok(rest) if bytes.len().saturating_sub(rest.len()) <= MAX_SPELLED_NAME => Some(rest),

@@ -1,6 +1,6 @@
 //! Walking over the elements of a list, whichever tails it is spelled with: no memory is taken.
 
-ghost use Rattle.std.specs.Prelude.{◌≡◌, ◌∷◌, ℕ, List, Ok};
+ghost use Rattle.std.specs.Prelude.{◌≡◌, ◌<◌, ◌∷◌, ℕ, List, length, Ok};
 ghost use Rattle.pg_term.specs.declared.term.Term.{Term};
 ghost use Rattle.pg_term_io.specs.Lists.{list_from, Continues, IsWithin};
 ghost use Rattle.pg_term_io.specs.Reading.{tail_at};
@@ -25,7 +25,7 @@ pub fn next_element(levels: u8, count: u32, bytes: &[u8]) -> NextElement<'_>
         return NextElement::NoItem;
     };
     match *tag {
-        106 => NextElement::End,
+        106 => NextElement::End(behind),
         107 => text_end(behind),
         108 => {
             if levels == 0 {
@@ -44,12 +44,13 @@ pub fn next_element(levels: u8, count: u32, bytes: &[u8]) -> NextElement<'_>
 fn text_end(bytes: &[u8]) -> NextElement<'_>
     ensures next { (room : ℕ) (elements : List Term) (rest : List ℕ)
         → tail_at room (107 ∷ bytes.now) ≡ Ok (elements, rest) → Continues result elements rest }
-    ensures within { (room : ℕ) (around : List ℕ) → IsWithin room around result }
+    ensures within { (room : ℕ) (around : List ℕ) → length bytes.now < length around
+        → IsWithin room around result }
 {
     match u16_at(bytes) {
-        Ok((count, _)) => {
+        Ok((count, rest)) => {
             if count == 0 {
-                NextElement::End
+                NextElement::End(rest)
             } else {
                 NextElement::NoItem
             }

@@ -1,7 +1,8 @@
 //! Walking over bytes without building what they spell: no memory is taken.
 
-ghost use Rattle.std.specs.Prelude.{◌≡◌, Ok};
+ghost use Rattle.std.specs.Prelude.{◌≡◌, length, nat_lt, Ok};
 ghost use Rattle.std.specs.Int.{w8, w16, w32};
+ghost use Rattle.std.specs.Str.{chars};
 ghost use Rattle.pg_term_io.specs.Reading.{byte_at, number_at, bytes_at, big_at, i64_of, named_at, utf8_atom, latin_atom};
 ghost use Rattle.pg_term_io.specs.Numbers.{big_value};
 ghost use Rattle.pg_term_io.specs.Scanning.{past, Tells, Names, over_atom, over_node, over_byte, over_word, over_pid, over_old_reference, over_all, over_words, over_reference, over_binary, over_leaf, over_string, over_list, over_elements, over_behind, over_item, over_tail, over_term, walks};
@@ -35,13 +36,23 @@ fn past_text(count: usize, bytes: &[u8]) -> Result<&[u8], TermFault>
     Ok(rest)
 }
 
+/// Whether a text has more characters than an atom. It has no more of them than bytes, so that a short one is not counted.
+fn is_long(text: &str) -> bool
+    ensures { result ≡ nat_lt 255 (length (chars text.now)) }
+{
+    if text.len() <= 255 {
+        return false;
+    }
+    text.chars().count() > 255
+}
+
 /// Whether a text of UTF-8 is that of an atom.
 fn check_utf8(text: &[u8]) -> Result<(), TermFault>
     ensures { Names result (utf8_atom text.now) }
 {
     match str::from_utf8(text) {
         Ok(text) => {
-            if text.chars().count() > 255 {
+            if is_long(text) {
                 return Err(TermFault::BadAtom);
             }
             Ok(())

@@ -88,5 +88,5 @@ fn elements_stand_in_tails(rt: HostRuntime) {
     };
     assert!(rt; levels == 1 && count == 0 && second.starts_with(&[97, 2]));
     let behind = skip_item(levels, second).unwrap_or(&[]);
-    assert!(rt; matches!(next_element(levels, count, behind), NextElement::End));
+    assert!(rt; matches!(next_element(levels, count, behind), NextElement::End(_)));
 }

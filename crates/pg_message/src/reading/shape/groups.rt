@@ -1,11 +1,13 @@
-//! Whether the last part of an exchange may tell groups.
+//! Whether the last part of an exchange may tell groups. Its bytes are walked over once: each walk over a part hands back
+//! what follows it.
 
-ghost use Rattle.std.specs.Prelude.{◌≡◌, ◌≢◌, ◌≤◌, ℕ, List, [], ◌∷◌, false, Ok, None};
+ghost use Rattle.std.specs.Prelude.{◌≡◌, ◌≢◌, ◌<◌, ◌≤◌, ℕ, List, [], ◌∷◌, length, true, false, Ok, None, IfSome, IfNone, MatchOption};
 ghost use Rattle.std.specs.Option.{option_and_then};
 ghost use Rattle.pg_term.specs.declared.term.Term.{Term};
 ghost use Rattle.pg_term.specs.Order.{kind_of};
 ghost use Rattle.pg_term_io.specs.Lists.{list_from};
 ghost use Rattle.pg_term_io.specs.Reading.{item_at};
+ghost use Rattle.pg_term_io.specs.Scanning.{past};
 ghost use Rattle.pg_message.specs.Parts.{items_of, pid_of};
 ghost use Rattle.pg_message.specs.Reading.{all_of, group_in, group_of, groups_of};
 
@@ -24,86 +26,110 @@ pub(crate) fn may_be_groups(levels: u8, bytes: &[u8]) -> bool
     'elements: loop {
         match next_element(room, count, left) {
             NextElement::Item(below, more, group) => {
-                if !may_be_group(below, group) {
-                    return false;
-                }
-                let Ok(behind) = skip_item(below, group) else {
+                let Some(behind) = past_group(below, group) else {
                     return false;
                 };
                 room = below;
                 count = more;
                 left = behind;
             }
-            NextElement::End => return true,
+            NextElement::End(_) => return true,
             NextElement::NoItem => return false,
         }
     }
 }
 
 // [Name, Members]
-fn may_be_group(levels: u8, bytes: &[u8]) -> bool
+/// What follows a part that may be a group; `None` for what is none.
+fn past_group(levels: u8, bytes: &[u8]) -> Option<&[u8]>
     requires { levels ≤ 64 }
-    ensures { (t : Term) (rest : List ℕ) → result ≡ false
-        → item_at levels bytes.now ≡ Ok (t, rest) → group_of t ≡ None }
+    ensures group { (t : Term) (rest : List ℕ) → item_at levels bytes.now ≡ Ok (t, rest)
+        → MatchOption result (group_of t ≡ None) (λ behind. rest ≡ behind.now) }
+    ensures shorter { IfSome result (λ behind. length behind.now < length bytes.now) }
 {
+    if !is_list(bytes) {
+        return None;
+    }
     let NextElement::Item(room, more, name) = next_element(levels, 0, bytes) else {
-        return false;
+        return None;
     };
     match past_name(room, name) {
-        Some(behind) => may_end_group(room, more, behind),
-        None => false,
+        Some(behind) => past_members(room, more, behind),
+        None => None,
     }
 }
 
-/// Whether what is left of a list, behind a name, may be members alone.
-fn may_end_group(levels: u8, count: u32, bytes: &[u8]) -> bool
-    ensures { (name : Term) (others : List Term) (rest : List ℕ) → result ≡ false
-        → list_from levels count bytes.now ≡ Ok (others, rest) → group_in (name ∷ others) ≡ None }
+/// What follows a list of which its last element is left, which may be a list of members; `None` for what ends no group.
+fn past_members(levels: u8, count: u32, bytes: &[u8]) -> Option<&[u8]>
+    ensures group { (name : Term) (others : List Term) (rest : List ℕ)
+        → list_from levels count bytes.now ≡ Ok (others, rest)
+        → MatchOption result (group_in (name ∷ others) ≡ None) (λ behind. rest ≡ behind.now) }
+    ensures shorter { IfSome result (λ behind. length behind.now < length bytes.now) }
 {
     let NextElement::Item(room, more, members) = next_element(levels, count, bytes) else {
-        return false;
+        return None;
     };
-    match skip_item(room, members) {
-        Ok(behind) => may_be_members(room, members) && is_over(room, more, behind),
-        Err(_) => false,
+    match past_pids(room, members) {
+        Some(behind) => past_end(room, more, behind),
+        None => None,
     }
 }
 
-/// Whether nothing is left of a list.
-fn is_over(levels: u8, count: u32, bytes: &[u8]) -> bool
-    ensures { (others : List Term) (rest : List ℕ) → result ≡ false
-        → list_from levels count bytes.now ≡ Ok (others, rest) → others ≢ [] }
+/// What follows a list of which nothing is left; `None` for one of which some is.
+fn past_end(levels: u8, count: u32, bytes: &[u8]) -> Option<&[u8]>
+    ensures over { (others : List Term) (rest : List ℕ)
+        → list_from levels count bytes.now ≡ Ok (others, rest)
+        → MatchOption result (others ≢ []) (λ behind. rest ≡ behind.now) }
+    ensures shorter { IfSome result (λ behind. length behind.now < length bytes.now) }
 {
     match next_element(levels, count, bytes) {
-        NextElement::End => true,
-        _ => false,
+        NextElement::End(behind) => Some(behind),
+        _ => None,
     }
 }
 
-/// Whether a part may be a list of pids.
-fn may_be_members(levels: u8, bytes: &[u8]) -> bool
-    ensures { (t : Term) (rest : List ℕ) → result ≡ false
-        → item_at levels bytes.now ≡ Ok (t, rest) → option_and_then (all_of pid_of) (items_of t) ≡ None }
+/// What follows a list of pids; `None` for what is none.
+fn past_pids(levels: u8, bytes: &[u8]) -> Option<&[u8]>
+    ensures pids { (t : Term) (rest : List ℕ) → item_at levels bytes.now ≡ Ok (t, rest)
+        → MatchOption result (option_and_then (all_of pid_of) (items_of t) ≡ None)
+        (λ behind. rest ≡ behind.now) }
+    ensures shorter { IfSome result (λ behind. length behind.now < length bytes.now) }
 {
+    if !is_list(bytes) {
+        return None;
+    }
     let mut room = levels;
     let mut count = 0;
     let mut left = bytes;
     'elements: loop {
         match next_element(room, count, left) {
             NextElement::Item(below, more, pid) => {
-                if !is_pid(pid) {
-                    return false;
-                }
-                let Ok(behind) = skip_item(below, pid) else {
-                    return false;
+                let Some(behind) = past_pid(below, pid) else {
+                    return None;
                 };
                 room = below;
                 count = more;
                 left = behind;
             }
-            NextElement::End => return true,
-            NextElement::NoItem => return false,
+            NextElement::End(behind) => return Some(behind),
+            NextElement::NoItem => return None,
         }
+    }
+}
+
+/// What follows a pid; `None` for what is none.
+fn past_pid(levels: u8, bytes: &[u8]) -> Option<&[u8]>
+    ensures some { IfSome result (λ behind. past (item_at levels bytes.now) ≡ Ok behind.now) }
+    ensures none { (t : Term) (rest : List ℕ) → IfNone result
+        (item_at levels bytes.now ≡ Ok (t, rest) → pid_of t ≡ None) }
+    ensures shorter { IfSome result (λ behind. length behind.now < length bytes.now) }
+{
+    if !is_pid(bytes) {
+        return None;
+    }
+    match skip_item(levels, bytes) {
+        Ok(behind) => Some(behind),
+        Err(_) => None,
     }
 }
 
@@ -114,6 +140,19 @@ fn is_pid(bytes: &[u8]) -> bool
 {
     match kind_at(bytes) {
         Some(Kind::Pid) => true,
+        _ => false,
+    }
+}
+
+/// Whether a part is a list.
+fn is_list(bytes: &[u8]) -> bool
+    ensures yes { (room : ℕ) (t : Term) (rest : List ℕ) → result ≡ true
+        → item_at room bytes.now ≡ Ok (t, rest) → kind_of t ≡ 5 }
+    ensures no { (room : ℕ) (t : Term) (rest : List ℕ) → result ≡ false
+        → item_at room bytes.now ≡ Ok (t, rest) → kind_of t ≢ 5 }
+{
+    match kind_at(bytes) {
+        Some(Kind::List) => true,
         _ => false,
     }
 }

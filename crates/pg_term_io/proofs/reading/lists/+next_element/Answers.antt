@@ -1,4 +1,4 @@
-use Rattle.std.proofs.Common.{◌≡◌, ℕ, suc, ◌-◌, ◌∷◌, Ok, refl, subst, arith}
+use Rattle.std.proofs.Common.{◌≡◌, ℕ, suc, ◌-◌, ◌∷◌, Ok, length, refl, ap, subst, arith}
 use Rattle.pg_term_io.specs.Reading.{tail_at}
 use Rattle.pg_term_io.specs.Lists.{list_from}
 use Rattle.pg_term_io.proofs.Lists.{goes_on, tail_after, no_tail, no_deeper_tail, tail_empty, tail_listed, tail_uncounted, no_list}
@@ -21,7 +21,7 @@ returns-in-107-clause-next t c ts rest e =
     c.text_end.ensures.next c.args.levels ts rest (tail_after c.args.levels c.args.count c.args.bytes.now c.in-Some.tag.now 107 c.in-Some.behind.now ts rest (omega arith) c.in-Some.ensures.cases.0 c.in-107.is e)
 
 pub returns-in-107-clause-within : goal.returns-in-107-clause-within
-returns-in-107-clause-within t c = c.text_end.ensures.within c.args.levels c.args.bytes.now
+returns-in-107-clause-within t c = c.text_end.ensures.within c.args.levels c.args.bytes.now (omega (arith, ap length c.in-Some.ensures.cases.0))
 
 pub returns-then-levels-eq0-clause-next : goal.returns-then-levels-eq0-clause-next
 returns-then-levels-eq0-clause-next t c ts rest e =

@@ -1,8 +1,7 @@
-use Rattle.std.proofs.Common.{ap, refl, arith}
+use Rattle.std.proofs.Common.{ap, arith}
 use Rattle.std.specs.Option.{option_and_then}
-use Rattle.pg_term_io.specs.Reading.{item_at}
 use Rattle.pg_message.specs.Reading.{all_of, group_of, named_once}
-use Rattle.pg_message.proofs.ListShapes.{at_first, of_lists, no_first, behind_first, no_text, int_no_group, has_end}
+use Rattle.pg_message.proofs.ListShapes.{at_first, of_lists, no_first, behind_first, no_text, int_no_group}
 use Rattle.pg_message.proofs.reading.shape.groups.may_be_groups.Goals as goal
 
 pub elements-init : goal.elements-init
@@ -11,17 +10,11 @@ elements-init c = record { shallow = c.requires; left = λ t rest e five. at_fir
 pub elements-preserved : goal.elements-preserved
 elements-preserved c = record {
   shallow = omega (arith, c.in-Item.ensures.within.0, c.elements.invariant.shallow);
-  left = λ t rest e five. let before = c.elements.invariant.left t rest e five in
-      behind_first group_of t rest c.elements.room c.elements.count c.elements.left.now before c.in-Item.below c.in-Item.more c.in-Item.group.now (c.in-Item.ensures.next before.elements rest before.read) c.in-Ok.behind.now c.in-Ok.ensures.exact;
+  left = λ t rest e five.
+      let before = c.elements.invariant.left t rest e five in
+      let goes = c.in-Item.ensures.next before.elements rest before.read in
+      behind_first group_of t rest c.elements.room c.elements.count c.elements.left.now before c.in-Item.below c.in-Item.more c.in-Item.group.now goes c.in-Some.behind.now (c.in-Some.ensures.group goes.first goes.behind goes.here);
 }
-
-pub returns-then-not-may_be_group : goal.returns-then-not-may_be_group
-returns-then-not-may_be_group c t rest r e =
-    ap (option_and_then named_once)
-    (of_lists (all_of group_of) t
-    (λ five. let before = c.elements.invariant.left t rest e five in
-    let goes = c.in-Item.ensures.next before.elements rest before.read in
-    no_first group_of t rest c.elements.room c.elements.count c.elements.left.now before c.in-Item.below c.in-Item.more c.in-Item.group.now goes (c.if-not-may_be_group.ensures goes.first goes.behind refl goes.here)))
 
 pub returns-in_default : goal.returns-in_default
 returns-in_default c t rest r e =
@@ -29,7 +22,7 @@ returns-in_default c t rest r e =
     (of_lists (all_of group_of) t
     (λ five. let before = c.elements.invariant.left t rest e five in
     let goes = c.in-Item.ensures.next before.elements rest before.read in
-    absurd (has_end (item_at c.in-Item.below c.in-Item.group.now) goes.first goes.behind c.in_default.field-0 goes.here c.in_default.ensures.exact)))
+    no_first group_of t rest c.elements.room c.elements.count c.elements.left.now before c.in-Item.below c.in-Item.more c.in-Item.group.now goes (c.in_default.ensures.group goes.first goes.behind goes.here)))
 
 pub returns-in-NoItem : goal.returns-in-NoItem
 returns-in-NoItem c t rest r e =
