@@ -1,10 +1,11 @@
 -- Whether a list of groups names one twice.
-use Rattle.std.proofs.Common.{◌≡◌, ℕ, zero, suc, ◌+◌, ◌<◌, Bool, true, false, cond, List, [], ◌∷◌, ◌++◌, length, get_or, take, refl, sym, ap, ◌∙◌, arith}
+use Rattle.std.proofs.Common.{◌≡◌, ℕ, zero, suc, ◌+◌, ◌<◌, Bool, true, false, cond, List, [], ◌∷◌, ◌++◌, length, get_or, take, refl, sym, ap, ◌∙◌, arith, length-append}
 use Rattle.std.specs.Prelude.{◌&&◌, ◌||◌, not}
 use Rattle.std.specs.List.{list_any}
 use Rattle.std.specs.Ordering.{is_eq}
 use Rattle.std.specs.declared.cmp.Ordering.{Ordering}
 use Rattle.std.specs.declared.cmp.Ordering.TheVariants.{Less, Equal, Greater}
+use Rattle.std.proofs.Math.Seq.{get_or-append_seam, take-append_seam}
 use Rattle.std.proofs.lemmas.List.{take_more}
 use Rattle.pg_term.specs.declared.pid.Pid.{Pid}
 use Rattle.pg_term.specs.declared.term.Term.{Term}
@@ -110,6 +111,10 @@ pub told_more : (gs : Groups) (i : ℕ) (g : Term × List Pid) → i < length gs
 told_more gs i g h is n new old e before =
     e ∙ (λ k. cond (sym (tied g.0 n) k) true (before k)) ∙ swapped (same_term g.0 n) (is_among n (take i gs)) ∙ sym (among_more gs i g h is n)
 
+-- the same of groups before one more
+pub told_push : (gs : Groups) (g : Term × List Pid) (n : Term) (new old : Bool) → new ≡ cond (is_eq (term_cmp g.0 n)) true old → old ≡ is_among n gs → new ≡ is_among n (gs ++ g ∷ [])
+told_push gs g n new old e before = e ∙ (λ k. cond (sym (tied g.0 n) k) true (before k)) ∙ swapped (same_term g.0 n) (is_among n gs) ∙ sym (among_push n gs g)
+
 -- ---- a group that is named again
 
 here : (gs : Groups) (i : ℕ) (g : Term × List Pid) → i < length gs → g ≡ get_or gs i g → (n : Term) → same_term g.0 n ≡ true → is_among n gs ≡ true
@@ -135,6 +140,11 @@ pub twice : (gs : Groups) (i : ℕ) (g : Term × List Pid) → i < length gs →
 twice [] i g h is e = absurd (omega arith)
 twice (f ∷ gs) zero g h is e = absurd cc
 twice (f ∷ gs) (suc i) g h is e = again f g gs i (omega arith) is (twice gs i g (omega arith) is) (same_term f.0 g.0) (λ _. same_term f.0 g.0) e
+
+-- the same of groups between others
+pub told_again : (gs : Groups) (g : Term × List Pid) (later : Groups) → is_among g.0 gs ≡ true → is_named_once (gs ++ g ∷ later) ≡ false
+told_again gs g later e =
+    twice (gs ++ g ∷ later) (length gs) g (omega (arith, length-append gs (g ∷ later))) (sym (get_or-append_seam gs g later g)) (ap (is_among g.0) (take-append_seam gs (g ∷ later)) ∙ e)
 
 not_true : (b : Bool) → not b ≡ true → b ≡ false
 not_true true e = absurd cc

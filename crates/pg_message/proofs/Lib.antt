@@ -1,3 +1,4 @@
+pub mod Apart
 pub mod Ascents
 pub mod Bodies
 pub mod Collected

@@ -1,8 +1,9 @@
 -- Lists that tell no groups, and no members, seen element by element.
-use Rattle.std.proofs.Common.{◌≡◌, ◌≢◌, ℕ, Bool, false, cond, List, [], ◌∷◌, map, Option, Some, None, Ok, Err, Bor, refl, sym, ap, subst, ◌∙◌, rules}
+use Rattle.std.proofs.Common.{◌≡◌, ◌≢◌, ℕ, Bool, true, false, cond, List, [], ◌∷◌, map, Option, Some, None, Ok, Err, Bor, refl, sym, ap, subst, ◌∙◌, rules}
 use Rattle.std.specs.Prelude.{MatchOption}
 use Rattle.std.specs.Option.{option_map, option_and_then}
 use Rattle.pg_term.specs.declared.fault.TermFault.{TermFault}
+use Rattle.pg_term.specs.declared.pid.Pid.{Pid}
 use Rattle.pg_term.specs.declared.term.Term.{Term, out-Term, the_lemmas}
 use Rattle.pg_term.specs.declared.term.Term.TheOpen.{Term-F}
 use Rattle.pg_term.specs.Order.{kind_step, kind_of}
@@ -13,6 +14,7 @@ use Rattle.pg_term_io.specs.Numbers.{int_of}
 use Rattle.pg_term_io.specs.Reading.{Read, item_at}
 use Rattle.pg_term_io.specs.Scanning.{past}
 use Rattle.pg_term_io.proofs.Lists.{is_list}
+use Rattle.pg_message.specs.Groups.{IsNamed}
 use Rattle.pg_message.specs.Name.{is_name}
 use Rattle.pg_message.specs.Parts.{list_in, items_of, pid_in, pid_of}
 use Rattle.pg_message.specs.Reading.{all_of, group_in, group_of}
@@ -150,14 +152,32 @@ goes_somewhere NoItem ts rest other goes e = let k : [] ≡ int_of goes.first �
 pub record IsListed (room : ℕ) (bytes : List ℕ) (t : Term) (rest : List ℕ) : Type 0 where
   pub elements : List Term
   pub read : list_from room 0 bytes ≡ Ok (elements, rest)
-  pub nothing : group_in elements ≡ None → group_of t ≡ None
+  pub same : group_of t ≡ group_in elements
 
 pub group_is : (room : ℕ) (bytes : List ℕ) (t : Term) (rest : List ℕ) → item_at room bytes ≡ Ok (t, rest) → kind_of t ≡ 5 → IsListed room bytes t rest
 group_is room bytes t rest e five =
     let list = is_list room bytes t rest e five in
-    record { elements = list.elements; read = list.read; nothing = λ none. ap group_of list.is ∙ ap (option_and_then group_in) (items_is list.elements) ∙ none }
+    record { elements = list.elements; read = list.read; same = ap group_of list.is ∙ ap (option_and_then group_in) (items_is list.elements) }
 
 -- what is refused for one reason is so for another
 pub refused : {X : Type 0} (r : Option X) (P : X → Type 0) {A B : Type 0} → (A → B) → MatchOption r A P → MatchOption r B P
 refused None P f h = f h
 refused (Some x) P f h = h
+
+-- what is known of what was found, and of what was not
+pub at_some : {X : Type 0} (r : Option X) (x : X) (A : Type 0) (P : X → Type 0) → r ≡ Some x → MatchOption r A P → P x
+at_some {X = X} r x A P is h = subst (λ (o : Option X). MatchOption o A P) is h
+
+pub at_none : {X : Type 0} (r : Option X) (A : Type 0) (P : X → Type 0) → r ≡ None → MatchOption r A P → A
+at_none {X = X} r A P is h = subst (λ (o : Option X). MatchOption o A P) is h
+
+-- a group has the first element for its name
+pub first_named : (name : Term) (others : List Term) → IsNamed name (group_in (name ∷ others))
+first_named name [] = tt
+first_named name (members ∷ []) = at (is_name name) (option_and_then (all_of pid_of) (items_of members))
+  where
+    at : (b : Bool) (pids : Option (List Pid)) → IsNamed name (cond b (option_map (λ pids. (name, pids)) pids) None)
+    at true (Some pids) = refl
+    at true None = tt
+    at false pids = tt
+first_named name (members ∷ t ∷ ts) = tt

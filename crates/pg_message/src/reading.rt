@@ -66,7 +66,7 @@ fn whole_packet(alloc: Global, body: &[u8]) -> Result<Packet, MessageFault>
         Err(Detour::OtherForm) => {
             // What is no term is refused before anything of it is built.
             check_term(body)?;
-            if !may_be_packet(body) {
+            if !may_be_packet(alloc, body)? {
                 return Err(MessageFault::NotAMessage);
             }
             packet(alloc, decode(alloc, body)?)

@@ -171,10 +171,10 @@ fn node_at(alloc: Global, bytes: &[u8]) -> Result<(Atom, &[u8]), Detour>
     Ok((node, rest))
 }
 
-/// Whether groups may stand behind a node, told without memory: what tells none is left unbuilt.
-fn check_exchange(bytes: &[u8]) -> Result<(), Detour> {
+/// Whether groups may stand behind a node: of what tells none the names alone are built.
+fn check_exchange(alloc: Global, bytes: &[u8]) -> Result<(), Detour> {
     let groups = skip_item(NAME_LEVELS, bytes)?;
-    if !may_be_groups(NAME_LEVELS, groups) {
+    if !may_be_groups(alloc, NAME_LEVELS, groups)? {
         return Err(Detour::OtherForm);
     }
     Ok(())
@@ -199,7 +199,7 @@ fn message_at(alloc: Global, bytes: &[u8]) -> Result<(Message, &[u8]), Detour>
             Ok((Message::DelLock(name, reference), rest))
         } else {
             let rest = opened(rest, 3, "exchange")?;
-            check_exchange(rest)?;
+            check_exchange(alloc, rest)?;
             let (node, rest) = node_at(alloc, rest)?;
             let (groups, rest) = groups_at(alloc, rest)?;
             Ok((Message::Exchange(node, groups), rest))

@@ -1,5 +1,5 @@
-//! Whether bytes may spell a packet, told without memory: what has not the shape of one is refused before anything of it
-//! is built. A part that holds others is a tuple, a list or a binary; all others are small.
+//! Whether bytes may spell a packet, told with memory for the names in an exchange alone: what has not the shape of one is
+//! refused before anything else of it is built. A part that holds others is a tuple, a list or a binary; all others are small.
 
 ghost use Rattle.std.specs.Prelude.{◌≡◌, ◌<◌, ◌≤◌, ℕ, List, [], ◌∷◌, length, false, IfSome, IfNone, Ok, Err, None};
 ghost use Rattle.pg_term.specs.declared.term.Term.{Term};
@@ -15,6 +15,7 @@ use crate::fault::MessageFault;
 use crate::name::MAX_NAME_LEN;
 use crate::reading::shape::groups::may_be_groups;
 use pg_term_io::{Kind, kind_at, skip_item, tuple_at};
+use std::alloc::{AllocError, Global};
 
 /// How many bytes a name takes at most, however it is spelled: 400 times as many as it is written in.
 const MAX_SPELLED_NAME: usize = 400 * (MAX_NAME_LEN - 1);
@@ -75,58 +76,64 @@ fn past_first(bytes: &[u8]) -> Option<&[u8]>
 }
 
 /// Whether a body may spell a packet.
-pub(crate) fn may_be_packet(body: &[u8]) -> bool
-    ensures { (t : Term) → result ≡ false → term_of body.now ≡ Ok t
+pub(crate) fn may_be_packet(alloc: Global, body: &[u8]) -> Result<bool, AllocError>
+    ensures { (t : Term) → result ≡ Ok false → term_of body.now ≡ Ok t
         → packet_of t ≡ Err MessageFault.NotAMessage }
 {
     match body {
-        [] => false,
-        [_, item @ ..] => may_be_stamped(item),
+        [] => Ok(false),
+        [_, item @ ..] => may_be_stamped(alloc, item),
     }
 }
 
 // {Stamp, Message}
-fn may_be_stamped(bytes: &[u8]) -> bool
-    ensures { (t : Term) (rest : List ℕ) → result ≡ false → item_at 64 bytes.now ≡ Ok (t, rest)
+fn may_be_stamped(alloc: Global, bytes: &[u8]) -> Result<bool, AllocError>
+    ensures { (t : Term) (rest : List ℕ) → result ≡ Ok false → item_at 64 bytes.now ≡ Ok (t, rest)
         → packet_of t ≡ Err MessageFault.NotAMessage }
 {
     let Some((arity, parts)) = tuple_at(bytes) else {
-        return false;
+        return Ok(false);
     };
     if arity != 2 {
-        return false;
+        return Ok(false);
     }
     match past_small(63, parts) {
-        Some(rest) => may_be_message(rest),
-        None => false,
+        Some(rest) => may_be_message(alloc, rest),
+        None => Ok(false),
     }
 }
 
 // {Word, Said} or {Word, Ref, Said}
-fn may_be_message(bytes: &[u8]) -> bool
-    ensures { (t : Term) (rest : List ℕ) → result ≡ false
+fn may_be_message(alloc: Global, bytes: &[u8]) -> Result<bool, AllocError>
+    ensures { (t : Term) (rest : List ℕ) → result ≡ Ok false
         → item_at 63 bytes.now ≡ Ok (t, rest) → message_of t ≡ None }
 {
     let Some((arity, parts)) = tuple_at(bytes) else {
-        return false;
+        return Ok(false);
     };
     if arity == 2 {
-        may_be_unreferred(parts)
+        may_be_unreferred(alloc, parts)
     } else if arity == 3 {
-        may_be_referred(parts)
+        Ok(may_be_referred(parts))
     } else {
-        false
+        Ok(false)
     }
 }
 
 // {cast, Cast} or {down, Pid}
-fn may_be_unreferred(bytes: &[u8]) -> bool
-    ensures { (a b : Term) (mid rest : List ℕ) → result ≡ false → item_at 62 bytes.now ≡ Ok (a, mid)
+fn may_be_unreferred(alloc: Global, bytes: &[u8]) -> Result<bool, AllocError>
+    ensures { (a b : Term) (mid rest : List ℕ) → result ≡ Ok false → item_at 62 bytes.now ≡ Ok (a, mid)
         → item_at 62 mid ≡ Ok (b, rest) → message_in (a ∷ b ∷ []) ≡ None }
 {
     match past_small(62, bytes) {
-        Some(rest) => is_small(rest) || may_be_cast(rest),
-        None => false,
+        Some(rest) => {
+            if is_small(rest) {
+                Ok(true)
+            } else {
+                may_be_cast(alloc, rest)
+            }
+        }
+        None => Ok(false),
     }
 }
 
@@ -146,41 +153,45 @@ fn may_be_referred(bytes: &[u8]) -> bool
 }
 
 // {del_lock, Name, Ref} or {exchange, Node, Groups}
-fn may_be_cast(bytes: &[u8]) -> bool
-    ensures { (t : Term) (rest : List ℕ) → result ≡ false
+fn may_be_cast(alloc: Global, bytes: &[u8]) -> Result<bool, AllocError>
+    ensures { (t : Term) (rest : List ℕ) → result ≡ Ok false
         → item_at 62 bytes.now ≡ Ok (t, rest) → cast_of t ≡ None }
 {
     let Some((arity, parts)) = tuple_at(bytes) else {
-        return false;
+        return Ok(false);
     };
     if arity != 3 {
-        return false;
+        return Ok(false);
     }
-    may_be_casting(parts)
+    may_be_casting(alloc, parts)
 }
 
-fn may_be_casting(bytes: &[u8]) -> bool
-    ensures { (a b c : Term) (mid then rest : List ℕ) → result ≡ false → item_at 61 bytes.now ≡ Ok (a, mid)
+fn may_be_casting(alloc: Global, bytes: &[u8]) -> Result<bool, AllocError>
+    ensures { (a b c : Term) (mid then rest : List ℕ) → result ≡ Ok false → item_at 61 bytes.now ≡ Ok (a, mid)
         → item_at 61 mid ≡ Ok (b, then) → item_at 61 then ≡ Ok (c, rest)
         → cast_in (a ∷ b ∷ c ∷ []) ≡ None }
 {
     let Some(rest) = past_small(61, bytes) else {
-        return false;
+        return Ok(false);
     };
     let Some(rest) = past_first(rest) else {
-        return false;
+        return Ok(false);
     };
-    may_end_cast(rest)
+    may_end_cast(alloc, rest)
 }
 
 /// Whether a part is small, or may be a list of groups.
-fn may_end_cast(bytes: &[u8]) -> bool
-    ensures many { (t : Term) (rest : List ℕ) → result ≡ false
+fn may_end_cast(alloc: Global, bytes: &[u8]) -> Result<bool, AllocError>
+    ensures many { (t : Term) (rest : List ℕ) → result ≡ Ok false
         → item_at 61 bytes.now ≡ Ok (t, rest) → 4 ≤ kind_of t }
-    ensures groups { (t : Term) (rest : List ℕ) → result ≡ false
+    ensures groups { (t : Term) (rest : List ℕ) → result ≡ Ok false
         → item_at 61 bytes.now ≡ Ok (t, rest) → groups_of t ≡ None }
 {
-    is_small(bytes) || may_be_groups(61, bytes)
+    if is_small(bytes) {
+        Ok(true)
+    } else {
+        may_be_groups(alloc, 61, bytes)
+    }
 }
 
 // {Word, Name} or {Word, Name, Pid}

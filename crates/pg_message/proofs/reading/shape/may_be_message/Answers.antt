@@ -1,4 +1,4 @@
-use Rattle.std.proofs.Common.{◌∙◌, None, sym}
+use Rattle.std.proofs.Common.{◌≡◌, ◌∙◌, false, None, sym}
 use Rattle.std.specs.Option.{option_and_then}
 use Rattle.pg_message.specs.Reading.{message_in}
 use Rattle.pg_message.proofs.Shapes.{no_pair, no_triple, no_other, message_other}
@@ -10,7 +10,7 @@ returns-then-arity-eq2 c t rest r e =
 
 pub returns-then-arity-eq3 : goal.returns-then-arity-eq3
 returns-then-arity-eq3 c t rest r e =
-    no_triple 62 c.in-Some.arity c.args.bytes.now c.in-Some.parts.now (c.in-Some.ensures.some 62) t rest e (option_and_then message_in) None c.if-arity-eq3.true (λ a b x mid then ea eb ex. c.may_be_referred.ensures a b x mid then rest r ea eb ex)
+    no_triple 62 c.in-Some.arity c.args.bytes.now c.in-Some.parts.now (c.in-Some.ensures.some 62) t rest e (option_and_then message_in) None c.if-arity-eq3.true (λ a b x mid then ea eb ex. let no : c.may_be_referred.result ≡ false = cc in c.may_be_referred.ensures a b x mid then rest no ea eb ex)
 
 pub returns-else-arity-eq3 : goal.returns-else-arity-eq3
 returns-else-arity-eq3 c t rest r e =

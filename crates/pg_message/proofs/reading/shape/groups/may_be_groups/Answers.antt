@@ -1,32 +1,7 @@
-use Rattle.std.proofs.Common.{ap, arith}
+use Rattle.std.proofs.Common.{Ok, ap}
 use Rattle.std.specs.Option.{option_and_then}
-use Rattle.pg_message.specs.Reading.{all_of, group_of, named_once}
-use Rattle.pg_message.proofs.ListShapes.{at_first, of_lists, no_first, behind_first, no_text, int_no_group}
+use Rattle.pg_message.specs.Reading.{named_once}
 use Rattle.pg_message.proofs.reading.shape.groups.may_be_groups.Goals as goal
 
-pub elements-init : goal.elements-init
-elements-init c = record { shallow = c.requires; left = λ t rest e five. at_first group_of c.args.levels c.args.bytes.now t rest e five }
-
-pub elements-preserved : goal.elements-preserved
-elements-preserved c = record {
-  shallow = omega (arith, c.in-Item.ensures.within.0, c.elements.invariant.shallow);
-  left = λ t rest e five.
-      let before = c.elements.invariant.left t rest e five in
-      let goes = c.in-Item.ensures.next before.elements rest before.read in
-      behind_first group_of t rest c.elements.room c.elements.count c.elements.left.now before c.in-Item.below c.in-Item.more c.in-Item.group.now goes c.in-Some.behind.now (c.in-Some.ensures.group goes.first goes.behind goes.here);
-}
-
-pub returns-in_default : goal.returns-in_default
-returns-in_default c t rest r e =
-    ap (option_and_then named_once)
-    (of_lists (all_of group_of) t
-    (λ five. let before = c.elements.invariant.left t rest e five in
-    let goes = c.in-Item.ensures.next before.elements rest before.read in
-    no_first group_of t rest c.elements.room c.elements.count c.elements.left.now before c.in-Item.below c.in-Item.more c.in-Item.group.now goes (c.in_default.ensures.group goes.first goes.behind goes.here)))
-
-pub returns-in-NoItem : goal.returns-in-NoItem
-returns-in-NoItem c t rest r e =
-    ap (option_and_then named_once)
-    (of_lists (all_of group_of) t
-    (λ five. let before = c.elements.invariant.left t rest e five in
-    no_text group_of t rest c.elements.room c.elements.count c.elements.left.now before int_no_group (c.in-NoItem.ensures.next before.elements rest before.read)))
+pub returns-in-None : goal.returns-in-None
+returns-in-None c t rest r e = ap (option_and_then named_once) (c.in_ok-do_ascend.ensures t rest (ap Ok c.in-None.is) e)

@@ -4,7 +4,7 @@ use Rattle.pg_term.specs.Order.{kind_of}
 use Rattle.pg_term_io.specs.Reading.{item_at}
 use Rattle.pg_message.specs.Reading.{group_of}
 use Rattle.pg_message.proofs.ListShapes.{IsLeft}
-use Rattle.pg_message.proofs.reading.shape.groups.may_be_groups.Given as goal
+use Rattle.pg_message.proofs.reading.shape.groups.do_rise.Given as goal
 
 abbrev pub invariant-elements : goal.invariant-elements
 invariant-elements l = record {
