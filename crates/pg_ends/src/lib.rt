@@ -10,6 +10,3 @@ pub use end::take_end;
 pub use fault::EndFault;
 pub use laws::numbered_from_one;
 pub use processes::{MAX_PROCESSES, Processes};
-
-#[cfg(test)]
-mod tests;

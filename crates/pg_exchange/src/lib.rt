@@ -10,6 +10,3 @@ pub use fault::ExchangeFault;
 pub use formation::Formation;
 pub use group_list::snapshot;
 pub use laws::exchange_merges_tables;
-
-#[cfg(test)]
-mod tests;

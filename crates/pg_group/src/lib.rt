@@ -21,6 +21,3 @@ pub use row_table::RowTable;
 pub use scope::Scope;
 pub use table::GroupTable;
 pub use update::Update;
-
-#[cfg(test)]
-mod tests;

@@ -1,5 +1,5 @@
 -- What a list says of nodes that another list names, where the names differ.
-use Rattle.std.proofs.Common.{◌≡◌, subst, ℕ, ◌<◌, zero, suc, Bool, true, false, not, ◌&&◌, ◌||◌, cond, get_or, length, List, [], ◌∷◌, refl, ap, sym, ◌∙◌, inl, inr, ◌⊎◌, arith}
+use Rattle.std.proofs.Common.{◌≡◌, ℕ, ◌<◌, zero, suc, Bool, true, false, not, ◌&&◌, ◌||◌, cond, get_or, length, List, [], ◌∷◌, refl, ap, sym, ◌∙◌, inl, inr, ◌⊎◌, arith}
 use Rattle.std.specs.Prelude.{slice_set}
 use Rattle.std.specs.List.{AllByRecursion, IsDistinct, list_any, list_all, filter}
 use Rattle.std.specs.Cmp.Lexicographic.{bytes_decides}
@@ -192,8 +192,3 @@ any_filtered test p (x ∷ xs) = go (test x) (any_filtered test p xs)
         → list_any p (cond b (x ∷ filter test xs) (filter test xs)) ≡ ((b && p x) || list_any (λ x. test x && p x) xs)
     go true e = ap (λ b. p x || b) e
     go false e = e
-
--- three names that differ
-pub three_apart : (names : List Node) (a b c : Node) → names ≡ a ∷ b ∷ c ∷ [] → same_atom a b ≡ false → same_atom a c ≡ false → same_atom b c ≡ false → IsDistinct same_atom names
-unfolding IsDistinct
-three_apart names a b c e ab ac bc = subst (IsDistinct same_atom) (sym e) ((ab, (ac, tt)), ((bc, tt), (tt, tt)))

@@ -14,6 +14,3 @@ pub use laws::steps_go_by_outlook;
 pub use mark::Asked;
 pub use opens::{Opens, Room};
 pub use outlook::Outlook;
-
-#[cfg(test)]
-mod tests;

@@ -8,6 +8,3 @@ mod lists;
 pub use choice::closest;
 pub use fault::QueryFault;
 pub use lists::{local_members, members, which_groups};
-
-#[cfg(test)]
-mod tests;

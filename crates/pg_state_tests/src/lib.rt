@@ -1,11 +1,24 @@
-//! What is only run of what a node keeps: references, locks and gathered replies.
+//! What is only run of what a node keeps: tables of groups, ends of processes, exchanges, references, locks, gathered replies and
+//! open commands.
 #![tactic(auto)]
 
 #[cfg(test)]
+mod commands;
+#[cfg(test)]
+mod ends;
+#[cfg(test)]
+mod exchanges;
+#[cfg(test)]
+mod groups;
+#[cfg(test)]
 mod locks;
+#[cfg(test)]
+mod queries;
 #[cfg(test)]
 mod references;
 #[cfg(test)]
 mod replies;
 #[cfg(test)]
 mod samples;
+#[cfg(test)]
+mod tables;

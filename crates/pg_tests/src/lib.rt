@@ -1,5 +1,4 @@
-//! All that is only run: terms, frames and packets by their bytes, rings, also between threads, and the trial that each table of
-//! groups is put to.
+//! What is only run of terms, frames, packets and rings: their bytes, their faults, memory that runs out, and threads.
 #![tactic(auto)]
 
 #[cfg(test)]
@@ -10,7 +9,5 @@ mod packets;
 mod rings;
 #[cfg(test)]
 mod samples;
-#[cfg(test)]
-mod tables;
 #[cfg(test)]
 mod terms;

@@ -1,8 +1,10 @@
-// What no clause says: that calls succeed where there is memory, and values from outside. The test passes wherever an
-// allocation is refused: it looks at what the refusal left, and makes the call again.
-use super::*;
+//! How a node forms. Each test passes wherever an allocation is refused: it looks at what the refusal left, and makes the call
+//! again.
+
+use crate::samples::{again, pid};
+use pg_exchange::{ExchangeFault, Formation, snapshot};
 use pg_group::{Ended, GroupTable, RowTable};
-use pg_term::{Atom, Items, Pid, Term, TermFault};
+use pg_term::{Items, Pid, Term, TermFault};
 use std::alloc::Global;
 use std::test::Fail;
 
@@ -14,10 +16,7 @@ fn lost_peers_are_not_awaited(rt: HostRuntime) -> Result<(), Fail> {
     let alloc = rt.alloc();
     let ended = Ended::new(alloc);
     let mut table = RowTable::new(alloc);
-    let mut formation = match Formation::new(alloc, 2) {
-        Ok(formation) => formation,
-        Err(_) => Formation::new(alloc, 2)?,
-    };
+    let mut formation = again(|| Formation::new(alloc, 2))?;
     assert_eq!(rt; formation.peers(), 2);
     for peer in [1, 1, 0] {
         assert!(rt; !formation.formed());
@@ -34,12 +33,7 @@ fn lost_peers_are_not_awaited(rt: HostRuntime) -> Result<(), Fail> {
 fn told(alloc: Global) -> Result<Vec<(Term, Items<Pid>)>, TermFault> {
     let mut pids = Vec::new(alloc);
     for _ in 0..2 {
-        pids.push(Pid {
-            node: Atom::new(alloc, "a")?,
-            serial: 0,
-            id: 1,
-            creation: 1,
-        })?;
+        pids.push(pid(alloc, 1)?)?;
     }
     let mut groups = Vec::new(alloc);
     groups.push((Term::Int(7), Items::from_vec(pids)))?;
@@ -49,16 +43,10 @@ fn told(alloc: Global) -> Result<Vec<(Term, Items<Pid>)>, TermFault> {
 #[test]
 fn formation_of_two(rt: HostRuntime) -> Result<(), Fail> {
     let alloc = rt.alloc();
-    let groups = match told(alloc) {
-        Ok(groups) => groups,
-        Err(_) => told(alloc)?,
-    };
+    let groups = again(|| told(alloc))?;
     let ended = Ended::new(alloc);
     let mut table = RowTable::new(alloc);
-    let mut formation = match Formation::new(alloc, 2) {
-        Ok(formation) => formation,
-        Err(_) => Formation::new(alloc, 2)?,
-    };
+    let mut formation = again(|| Formation::new(alloc, 2))?;
     for peer in 0..2 {
         assert!(rt; !formation.formed());
         assert!(rt; peer < formation.peers());
@@ -72,14 +60,11 @@ fn formation_of_two(rt: HostRuntime) -> Result<(), Fail> {
             );
             formation.take(peer, groups.as_slice(), &mut table, &ended)?;
         }
-        let again = formation.take(peer, groups.as_slice(), &mut table, &ended);
-        assert_eq!(rt; again, Err(ExchangeFault::NotAMessage));
+        let twice = formation.take(peer, groups.as_slice(), &mut table, &ended);
+        assert_eq!(rt; twice, Err(ExchangeFault::NotAMessage));
     }
     assert!(rt; formation.formed());
-    let all = match snapshot(alloc, &table) {
-        Ok(all) => all,
-        Err(_) => snapshot(alloc, &table)?,
-    };
+    let all = again(|| snapshot(alloc, &table))?;
     assert_eq!(rt; all.len(), 1);
     assert!(rt;
         all.as_slice() == groups.as_slice(),

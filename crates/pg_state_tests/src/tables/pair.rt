@@ -1,3 +1,4 @@
+use crate::samples::pid_of;
 use pg_term::{Atom, Pid, Term, TermFault};
 use std::alloc::Global;
 
@@ -21,7 +22,7 @@ impl Cast {
     pub fn new(alloc: Global) -> Result<Cast, TermFault> {
         Ok(Cast {
             names: [Term::Int(1), Term::Int(2)],
-            pids: [pid(alloc, "a")?, pid(alloc, "b")?],
+            pids: [pid_of(alloc, "a", 1)?, pid_of(alloc, "b", 1)?],
             nodes: [Atom::new(alloc, "a")?, Atom::new(alloc, "b")?],
         })
     }
@@ -49,13 +50,4 @@ impl Cast {
             Side::Second => &self.nodes[1],
         }
     }
-}
-
-fn pid(alloc: Global, node: &str) -> Result<Pid, TermFault> {
-    Ok(Pid {
-        node: Atom::new(alloc, node)?,
-        serial: 0,
-        id: 1,
-        creation: 1,
-    })
 }

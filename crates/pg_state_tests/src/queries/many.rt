@@ -1,11 +1,18 @@
-// Groups and lists that are long.
-use super::*;
+//! Groups and lists that are long.
+
+use super::picks;
+use crate::samples::pid;
+use pg_group::{Ended, GroupTable, RowTable};
+use pg_query::{local_members, members, which_groups};
+use pg_term::{Atom, Items, Pid, Term, TermFault};
+use std::alloc::Global;
+use std::test::Fail;
 
 /// A table where the group 7 has the members 0 to 1000 of node a, which joined from the last on.
 fn long_group(alloc: Global) -> Result<RowTable, TermFault> {
     let mut pids = Vec::new(alloc);
     for id in (0..1001).rev() {
-        pids.push(pid(alloc, "a", id)?)?;
+        pids.push(pid(alloc, id)?)?;
     }
     let mut table = RowTable::new(alloc);
     table.merge(&Term::Int(7), pids.as_slice(), &Ended::new(alloc))?;

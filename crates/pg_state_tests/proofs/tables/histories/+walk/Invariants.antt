@@ -1,4 +1,4 @@
-use Rattle.pg_tests.proofs.tables.histories.+walk.Given as goal
+use Rattle.pg_state_tests.proofs.tables.histories.+walk.Given as goal
 
 -- how many steps may follow
 abbrev pub decreases-walk : goal.decreases-walk

@@ -1,5 +1,9 @@
-// Processes that are many.
-use super::*;
+//! Processes that are many.
+
+use pg_ends::{EndFault, Processes, take_end};
+use pg_group::{Ended, GroupTable, RowTable};
+use pg_term::{Atom, Term};
+use std::test::Fail;
 
 #[test]
 fn many_processes_are_made_and_end(rt: HostRuntime) -> Result<(), Fail> {

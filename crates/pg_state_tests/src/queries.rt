@@ -1,49 +1,32 @@
-// What no clause says: that calls succeed where there is memory, and values from outside. The test passes wherever an
-// allocation is refused: the call that failed is made again.
+//! Lists of groups and members, and the closest member. Each test passes wherever an allocation is refused: the call that
+//! failed is made again.
+
 ghost use Rattle.std.specs.Prelude.{IfOk};
 ghost use Rattle.pg_group.specs.Scope.{anywhere};
 ghost use Rattle.pg_group.specs.Members.{IsMemberList};
 
-use super::*;
+use crate::samples::{again, atom, pid, pid_of};
 use pg_group::{Ended, GroupTable, RowTable, one_member_list};
+use pg_query::{QueryFault, closest, local_members, members, which_groups};
 use pg_term::{Atom, Items, Pid, Term, TermFault};
 use std::alloc::Global;
 use std::test::Fail;
 
 mod many;
 
-fn pid(alloc: Global, node: &str, id: u32) -> Result<Pid, TermFault> {
-    Ok(Pid {
-        node: Atom::new(alloc, node)?,
-        serial: 0,
-        id,
-        creation: 1,
-    })
-}
-
 /// A table where the group 7 has two members on node a, one of them twice, and one on node b; the group 3 has none.
 fn filled(alloc: Global) -> Result<RowTable, TermFault> {
     let mut table = RowTable::new(alloc);
     let ended = Ended::new(alloc);
     let pids = [
-        pid(alloc, "b", 9)?,
-        pid(alloc, "a", 2)?,
-        pid(alloc, "a", 1)?,
-        pid(alloc, "a", 2)?,
+        pid_of(alloc, "b", 9)?,
+        pid(alloc, 2)?,
+        pid(alloc, 1)?,
+        pid(alloc, 2)?,
     ];
     table.merge(&Term::Int(7), &pids, &ended)?;
     table.merge(&Term::Int(3), &[], &ended)?;
     Ok(table)
-}
-
-/// Makes a value, a second time where memory was refused.
-fn again<V: Drop, E: Drop, F: Fn() -> Result<V, E>>(make: F) -> Result<V, E>
-    requires { F.IsAlwaysCallable make }
-{
-    match make() {
-        Ok(value) => Ok(value),
-        Err(_) => make(),
-    }
 }
 
 /// The members of a group, asked for a second time where memory was refused.
@@ -109,11 +92,11 @@ fn closest_member(rt: HostRuntime) -> Result<(), Fail> {
     let table = again(|| filled(alloc))?;
     let name = Term::Int(7);
     let listed = members_of(alloc, &table, &name)?;
-    let own = again(|| Atom::new(alloc, "a"))?;
+    let own = atom(alloc, "a")?;
     assert!(rt; picks(&table, &own, &name, &listed, &[(0, 1), (2, 2), (3, 1)])?);
-    let other = again(|| Atom::new(alloc, "b"))?;
+    let other = atom(alloc, "b")?;
     assert!(rt; picks(&table, &other, &name, &listed, &[(5, 9)])?);
-    let strange = again(|| Atom::new(alloc, "c"))?;
+    let strange = atom(alloc, "c")?;
     assert!(rt; picks(&table, &strange, &name, &listed, &[(3, 9), (4, 1)])?);
     let empty = Term::Int(3);
     let nobody = members_of(alloc, &table, &empty)?;
@@ -128,7 +111,7 @@ fn closest_member(rt: HostRuntime) -> Result<(), Fail> {
 fn members_in_order(rt: HostRuntime) -> Result<(), Fail> {
     let alloc = rt.alloc();
     let table = again(|| filled(alloc))?;
-    let own = again(|| Atom::new(alloc, "a"))?;
+    let own = atom(alloc, "a")?;
     for (name, all, local) in [
         (7, &[1, 2, 2, 9][..], &[1, 2, 2][..]),
         (3, &[][..], &[][..]),

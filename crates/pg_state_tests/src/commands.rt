@@ -1,9 +1,11 @@
+//! The open commands of a node, turn by turn.
+
 ghost use Rattle.std.specs.Prelude.{◌≡◌, false};
 ghost use Rattle.pg_term.specs.Same.{same_atom};
 
-use super::*;
 use pg_group::Update;
 use pg_multicall::Taken;
+use pg_opens::{Asked, Gathering, Opens, Outlook, Standing};
 use pg_step::OpId;
 use pg_term::{Atom, Term, TermFault};
 use std::alloc::Global;

@@ -1,77 +1,13 @@
-// Groups, members and ended processes that are many.
-use super::*;
+//! Groups and members that are many.
 
-/// The pids 0 to 1000 of node a.
-fn many_pids(alloc: Global) -> Result<Vec<Pid>, TermFault> {
-    let mut pids = Vec::new(alloc);
-    for id in 0..1001 {
-        pids.push(pid(alloc, id)?)?;
-    }
-    Ok(pids)
-}
-
-/// The pids end, each once.
-fn end_each(rt: &impl Abort, ended: &mut Ended, pids: &[Pid]) -> Result<(), AllocError> {
-    for pid in pids {
-        assert!(rt; !ended.has(pid));
-        ended.add(pid.copy()?)?;
-    }
-    Ok(())
-}
-
-#[test]
-fn many_have_ended(rt: HostRuntime) -> Result<(), Fail> {
-    let pids = many_pids(rt.alloc())?;
-    let mut ended = Ended::new(rt.alloc());
-    end_each(&rt, &mut ended, &pids)?;
-    for pid in &pids {
-        assert!(rt; ended.has(pid));
-    }
-    Ok(())
-}
-
-/// The nodes b0 to b1000.
-fn many_nodes(alloc: Global) -> Result<Vec<Atom>, TermFault> {
-    let mut nodes = Vec::new(alloc);
-    for number in 0..1001 {
-        let text = format!(in alloc; "b{number}")?;
-        nodes.push(Atom::new(alloc, text.as_str())?)?;
-    }
-    Ok(nodes)
-}
-
-fn lose_each(ended: &mut Ended, nodes: &[Atom]) -> Result<(), AllocError> {
-    for node in nodes {
-        ended.add_node(node)?;
-    }
-    Ok(())
-}
-
-/// The pid with this id has not ended, and one of the node has.
-fn only_there(
-    rt: &impl Abort,
-    alloc: Global,
-    ended: &Ended,
-    node: &Atom,
-    id: u32,
-) -> Result<(), TermFault> {
-    let mut one = pid(alloc, id)?;
-    assert!(rt; !ended.has(&one));
-    one.node = node.copy()?;
-    assert!(rt; ended.has(&one));
-    Ok(())
-}
-
-#[test]
-fn many_nodes_are_lost(rt: HostRuntime) -> Result<(), Fail> {
-    let nodes = many_nodes(rt.alloc())?;
-    let mut ended = Ended::new(rt.alloc());
-    lose_each(&mut ended, &nodes)?;
-    for (node, id) in nodes.iter().zip(0..1001) {
-        only_there(&rt, rt.alloc(), &ended, node, id)?;
-    }
-    Ok(())
-}
+use crate::samples::{many_pids, pid, pid_of};
+use crate::tables::step::has_room;
+use pg_group::{Ended, GroupTable, RowTable, Scope, Update};
+use pg_index::IndexTable;
+use pg_term::{Pid, Term, TermFault};
+use std::alloc::{AllocError, Global};
+use std::process::Abort;
+use std::test::Fail;
 
 /// The groups 0 to 1000 are made, and each gets the members.
 fn make_groups<T: GroupTable>(
@@ -131,17 +67,33 @@ fn copy_keeps_many<T: GroupTable + Drop>(
     Ok(())
 }
 
-/// The groups are made, get two members, one of them twice, and are deleted again.
+/// The groups lose the members of one node, and keep that of another.
+fn drops_all_of_a_node<T: GroupTable>(rt: &impl Abort, table: &mut T, one: &Pid, other: &Pid) {
+    table.drop_node(&one.node);
+    is_in_each(rt, table, one, 0);
+    is_in_each(rt, table, other, 1);
+}
+
+/// The pid 1 of node a, its pid 2 twice, and a pid of node b.
+fn members_of_two_nodes(alloc: Global) -> Result<[Pid; 4], TermFault> {
+    Ok([
+        pid(alloc, 1)?,
+        pid(alloc, 2)?,
+        pid(alloc, 2)?,
+        pid_of(alloc, "b", 1)?,
+    ])
+}
+
+/// The groups are made, get members, lose those of a node, and are deleted again.
 fn keeps_many_groups<T: GroupTable + Drop>(
     rt: &impl Abort,
     table: &mut T,
-    members: &[Pid; 3],
+    members: &[Pid; 4],
     ended: &Ended,
 ) -> Result<(), AllocError> {
     make_groups(table, members, ended)?;
     copy_keeps_many(rt, table, &members[0], &members[1], ended)?;
-    table.drop_node(&members[0].node);
-    is_in_each(rt, table, &members[0], 0);
+    drops_all_of_a_node(rt, table, &members[0], &members[3]);
     delete_each(table, ended)?;
     assert_eq!(rt; table.groups()?.len(), 0);
     Ok(())
@@ -150,8 +102,17 @@ fn keeps_many_groups<T: GroupTable + Drop>(
 #[test]
 fn rows_keep_many_groups(rt: HostRuntime) -> Result<(), Fail> {
     let alloc = rt.alloc();
-    let members = [pid(alloc, 1)?, pid(alloc, 2)?, pid(alloc, 2)?];
+    let members = members_of_two_nodes(alloc)?;
     let mut table = RowTable::new(alloc);
+    keeps_many_groups(&rt, &mut table, &members, &Ended::new(alloc))?;
+    Ok(())
+}
+
+#[test]
+fn index_keeps_many_groups(rt: HostRuntime) -> Result<(), Fail> {
+    let alloc = rt.alloc();
+    let members = members_of_two_nodes(alloc)?;
+    let mut table = IndexTable::new(alloc);
     keeps_many_groups(&rt, &mut table, &members, &Ended::new(alloc))?;
     Ok(())
 }
@@ -201,6 +162,14 @@ fn keeps_many_members<T: GroupTable + Drop>(
 fn rows_keep_many_members(rt: HostRuntime) -> Result<(), Fail> {
     let pids = many_pids(rt.alloc())?;
     let mut table = RowTable::new(rt.alloc());
+    keeps_many_members(&rt, &mut table, &pids, &Ended::new(rt.alloc()))?;
+    Ok(())
+}
+
+#[test]
+fn index_keeps_many_members(rt: HostRuntime) -> Result<(), Fail> {
+    let pids = many_pids(rt.alloc())?;
+    let mut table = IndexTable::new(rt.alloc());
     keeps_many_members(&rt, &mut table, &pids, &Ended::new(rt.alloc()))?;
     Ok(())
 }

@@ -1,17 +1,18 @@
-// Groups and peers that are many.
-use super::*;
+//! Groups and peers that are many.
+
+use crate::samples::pid;
+use pg_exchange::{Formation, snapshot};
+use pg_group::{Ended, RowTable};
+use pg_term::{Items, Pid, Term, TermFault};
+use std::alloc::Global;
+use std::test::Fail;
 
 /// The groups 0 to 1000, each with one member.
 fn many_groups(alloc: Global) -> Result<Vec<(Term, Items<Pid>)>, TermFault> {
     let mut groups = Vec::new(alloc);
     for number in 0..1001u32 {
         let mut pids = Vec::new(alloc);
-        pids.push(Pid {
-            node: Atom::new(alloc, "a")?,
-            serial: 0,
-            id: number,
-            creation: 1,
-        })?;
+        pids.push(pid(alloc, number)?)?;
         groups.push((Term::Int(i64::from(number)), Items::from_vec(pids)))?;
     }
     Ok(groups)

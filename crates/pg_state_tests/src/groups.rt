@@ -1,0 +1,56 @@
+//! Updates and ended processes: that calls succeed where there is memory. Each test passes wherever an allocation is refused.
+
+use crate::samples::{again, pid, pid_of};
+use pg_group::{Ended, Update};
+use pg_term::Term;
+use std::test::Fail;
+
+mod many;
+
+#[test]
+fn copies_are_equal(rt: HostRuntime) -> Result<(), Fail> {
+    let alloc = rt.alloc();
+    let one = again(|| pid(alloc, 1))?;
+    for update in [
+        Update::Create(Term::Int(1)),
+        Update::Delete(Term::Int(2)),
+        Update::Join(Term::Int(3), again(|| one.copy())?),
+        Update::Leave(Term::Int(4), again(|| one.copy())?),
+    ] {
+        let copy = again(|| update.copy(alloc))?;
+        assert_eq!(rt;
+            again(|| format!(in alloc; "{copy:?}"))?,
+            again(|| format!(in alloc; "{update:?}"))?
+        );
+        assert!(rt; copy.name().is(update.name()));
+    }
+    Ok(())
+}
+
+#[test]
+fn one_has_ended(rt: HostRuntime) -> Result<(), Fail> {
+    let alloc = rt.alloc();
+    let mut ended = Ended::new(alloc);
+    let one = again(|| pid(alloc, 1))?;
+    if ended.add(again(|| one.copy())?).is_err() {
+        assert!(rt; !ended.has(&one), "a refused end is none");
+        ended.add(again(|| one.copy())?)?;
+    }
+    assert!(rt; ended.has(&one));
+    assert!(rt; !ended.has(&again(|| pid(alloc, 2))?));
+    Ok(())
+}
+
+#[test]
+fn lost_nodes_have_ended(rt: HostRuntime) -> Result<(), Fail> {
+    let alloc = rt.alloc();
+    let mut ended = Ended::new(alloc);
+    let one = again(|| pid(alloc, 1))?;
+    if ended.add_node(&one.node).is_err() {
+        assert!(rt; !ended.has(&one), "a refused loss is none");
+        ended.add_node(&one.node)?;
+    }
+    assert!(rt; ended.has(&one));
+    assert!(rt; !ended.has(&again(|| pid_of(alloc, "b", 1))?));
+    Ok(())
+}
