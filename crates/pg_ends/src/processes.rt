@@ -18,7 +18,7 @@ pub struct Processes {
 }
 
 impl Processes {
-    ghost use Rattle.std.specs.Prelude.{◌≡◌, ◌≤◌, ◌+◌, ◌↔◌, Err, IfOk, OnOk, OnErr};
+    ghost use Rattle.std.specs.Prelude.{◌≡◌, ◌≤◌, ◌+◌, ◌↔◌, nat_le, Err, IfOk, OnOk, OnErr};
     ghost use Rattle.pg_group.specs.Ended.{ended_of};
     ghost use Rattle.pg_ends.specs.Numbers.{pid_of, is_among};
     ghost use Rattle.pg_ends.specs.Processes.{node_of, made_of, finish_of};
@@ -31,6 +31,13 @@ impl Processes {
         ensures made { made_of result ≡ made }
     {
         Processes { node, made }
+    }
+
+    /// Whether as many were made as can be. It takes no memory.
+    pub fn is_full(&self) -> bool
+        ensures { result ≡ nat_le MAX_PROCESSES (made_of self.now) }
+    {
+        self.made >= MAX_PROCESSES
     }
 
     /// Makes a process: it has the next number.
