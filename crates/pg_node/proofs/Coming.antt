@@ -14,18 +14,23 @@ use Rattle.pg_step.specs.State.{State, Response, left}
 use Rattle.pg_step.specs.Turns.{NodeTurn}
 use Rattle.pg_step.specs.Peers.{is_bad_exchange, exchange}
 use Rattle.pg_step.specs.Losses.{see_loss}
-use Rattle.pg_step.specs.Step.{CLOCK_LIMIT, taken, at_clock, timed, step_take}
+use Rattle.pg_step.specs.Step.{TimedTurn, CLOCK_LIMIT, taken, at_clock, timed, step_take}
 use Rattle.pg_step.specs.declared.refusal.Refusal.{Refusal}
 use Rattle.pg_step.specs.declared.refusal.Refusal.TheVariants as refusal
 use Rattle.pg_node.specs.declared.state.done.Done.{Done}
 use Rattle.pg_node.specs.declared.state.fault.NodeFault.{NodeFault}
 use Rattle.pg_node.specs.declared.state.fault.NodeFault.TheVariants.{Refused, OutOfMemory}
-use Rattle.pg_node.specs.States.{Tells, Gave, Happens, Comes, step_see_loss}
+use Rattle.pg_node.specs.States.{Tells, Gave, Happens, Comes, ComesAt, step_see_loss}
 
 -- a clause on errors, of what always holds
 pub on_err : {A E : Type 0} (result : Result A E) (P : Type 0) → P → OnErr result P
 on_err (Ok x) P p = tt
 on_err (Err e) P p = p
+
+-- a clause on successes, by another
+pub on_ok : {A E : Type 0} (result : Result A E) (P Q : Type 0) → (P → Q) → OnOk result P → OnOk result Q
+on_ok (Ok x) P Q then p = then p
+on_ok (Err e) P Q then p = tt
 
 -- a peer that is not lost, within the limit of the clock
 module _ (m : Nodes) (p : Node) (x : Stamped Message) (s : Timed State) (clock : ℕ)
@@ -47,6 +52,30 @@ module _ (m : Nodes) (p : Node) (x : Stamped Message) (s : Timed State) (clock :
         state = state;
         answers = subst (λ (gave : Option (OpId × Response)). Gave (name_at names 0) gave before after) (sym none) same;
       })
+
+  -- whatever it leads to
+  abbrev at_once : Result NodeTurn Refusal → Result TimedTurn Refusal
+  at_once (Ok turn) = Ok (at_clock clock turn)
+  at_once (Err fault) = Err fault
+
+  timed_is : (t : Result NodeTurn Refusal) → timed clock t ≡ at_once t
+  timed_is (Ok turn) = ap (λ b. cond b (Ok (at_clock clock turn)) (Err refusal.ClockFull)) (le-leb clock CLOCK_LIMIT within)
+  timed_is (Err refusal.NoSuchPlace) = refl
+  timed_is (Err refusal.NodeLost) = refl
+  timed_is (Err refusal.NotWaiting) = refl
+  timed_is (Err refusal.NotAMessage) = ap (λ b. cond b (Err refusal.NotAMessage) (Err refusal.ClockFull)) (le-leb clock CLOCK_LIMIT within)
+  timed_is (Err refusal.NotDrained) = ap (λ b. cond b (Err refusal.NotDrained) (Err refusal.ClockFull)) (le-leb clock CLOCK_LIMIT within)
+  timed_is (Err refusal.NotLost) = ap (λ b. cond b (Err refusal.NotLost) (Err refusal.ClockFull)) (le-leb clock CLOCK_LIMIT within)
+  timed_is (Err refusal.ClockFull) = ap (λ b. cond b (Err refusal.ClockFull) (Err refusal.ClockFull)) (le-leb clock CLOCK_LIMIT within)
+
+  pub comes_at : (names : List Node) (t : Result NodeTurn Refusal) (result : Result Done NodeFault) (s1 : Timed State) (before after : ℕ → List Answer)
+      → taken (left m s.state) p x.packet s.state ≡ t → ComesAt clock names t result s1 before after
+      → Comes names (step_take m p x s) result s1 before after
+  comes_at names t result s1 before after is told = subst (λ r. Comes names r result s1 before after) (sym (by_packet ∙ (ap (timed clock) is ∙ timed_is t))) (go t told)
+    where
+      go : (t : Result NodeTurn Refusal) → ComesAt clock names t result s1 before after → Comes names (at_once t) result s1 before after
+      go (Ok turn) h = h
+      go (Err fault) h = h
 
   -- the first groups of a peer
   pub groups_come : (names : List Node) (node : Node) (groups : GroupList) (result : Result Done NodeFault) (s1 : Timed State) (before after : ℕ → List Answer)

@@ -1,5 +1,5 @@
 -- The open commands of a node show its state.
-use Rattle.std.proofs.Common.{◌≡◌, ℕ, Bool, refl, sym}
+use Rattle.std.proofs.Common.{◌≡◌, ℕ, Bool, List, refl, sym, ap, subst}
 use Rattle.pg_term.specs.declared.pid.Pid.{Pid}
 use Rattle.pg_group.specs.declared.table.GroupTable.{Ghosts}
 use Rattle.pg_group.specs.Table.{Table}
@@ -10,7 +10,11 @@ use Rattle.pg_opens.specs.Opens.{Shows, lost_of, references_of, uses_of, opened_
 use Rattle.pg_step.specs.Nodes.{Node}
 use Rattle.pg_step.specs.State.{State}
 use Rattle.pg_node.specs.declared.state.NodeState.{NodeState}
-use Rattle.pg_node.specs.States.{kept_by}
+use Rattle.pg_step.specs.declared.answer.Answer.{Answer}
+use Rattle.pg_step.specs.Turns.{NodeTurn}
+use Rattle.pg_step.specs.Step.{at_clock}
+use Rattle.pg_node.specs.declared.state.done.Done.{Done}
+use Rattle.pg_node.specs.States.{kept_by, Happens}
 
 pub shows : {T : Type 0} {g : Ghosts T} (node : NodeState T g) → Shows node.opens (kept_by node)
 shows node = record { references = refl; uses = refl; opened = refl; stages = refl; lost_peers = refl }
@@ -50,3 +54,27 @@ assembled clock t opens table ended locks merged processes counts h e1 e2 e3 e4 
     counts = e6 i;
   };
 }
+
+-- the same without the clock
+pub assembled_state : (t : State) (opens : Opens) (table : Table) (ended : Pid → Bool) (locks : Locks) (merged : Node → Bool) (processes : ℕ) (counts : ℕ → ℕ)
+    → Shows opens t → table ≡ t.table → ended ≡ t.ended → locks ≡ t.locks → merged ≡ t.merged → processes ≡ t.processes → counts ≡ t.counts
+    → ◌≡◌ {A = State} (record {
+        table = table;
+        ended = ended;
+        locks = locks;
+        merged = merged;
+        lost = lost_of opens;
+        references = references_of opens;
+        uses = uses_of opens;
+        processes = processes;
+        opened = opened_of opens;
+        stages = stages_of opens;
+        counts = counts;
+      }) t
+assembled_state t opens table ended locks merged processes counts h e1 e2 e3 e4 e5 e6 = ap (λ (x : Timed State). x.state) (assembled 0 t opens table ended locks merged processes counts h e1 e2 e3 e4 e5 e6)
+
+-- a turn of the same nodes
+pub happens_as : (names names1 : List Node) (clock : ℕ) (t t1 : NodeTurn) (done : Done) (s : Timed State) (before after : ℕ → List Answer) → names1 ≡ names → t1 ≡ t
+    → Happens names1 (at_clock clock t1) done s before after → Happens names (at_clock clock t) done s before after
+happens_as names names1 clock t t1 done s before after e f h =
+    subst (λ (u : NodeTurn). Happens names (at_clock clock u) done s before after) f (subst (λ (ns : List Node). Happens ns (at_clock clock t1) done s before after) e h)

@@ -1,5 +1,7 @@
 pub mod Fault
+pub mod Issued
 pub mod NodeFault
+pub mod Orders
 pub mod Ports
 pub mod Progress
 pub mod Replica

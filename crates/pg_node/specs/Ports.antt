@@ -1,5 +1,5 @@
 -- What a node keeps of its peers and of its ports, by their places.
-use Rattle.std.specs.Prelude.{◌≡◌, ◌<◌, ℕ, zero, suc, Bool, false, drop, List, [], ◌∷◌}
+use Rattle.std.specs.Prelude.{◌≡◌, ◌<◌, ◌≤◌, ℕ, zero, suc, Bool, false, drop, List, [], ◌∷◌}
 use Rattle.pg_opens.specs.Places.{reads}
 use Rattle.pg_step.specs.declared.answer.Answer.{Answer}
 use Rattle.pg_step.specs.declared.command.OpId.{OpId}
@@ -26,12 +26,17 @@ answers_in [] port = []
 answers_in (p ∷ ports) zero = p.answers.items
 answers_in (p ∷ ports) (suc n) = answers_in ports n
 
--- what is gathered is for a command of one of so many ports
-pub record IsOf (ports : ℕ) (what : Gathering) : Type 0 where
-  pub locks : (op : OpId) → what ≡ gathering.Lock op → op.port < ports
-  pub updates : (op : OpId) (lock : ℕ) → what ≡ gathering.Update op lock → op.port < ports
+-- the command came in at one of so many ports, and is one of those that were counted there
+pub record CameIn (ports : ℕ) (counts : ℕ → ℕ) (op : OpId) : Type 0 where
+  pub port : op.port < ports
+  pub number : op.number ≤ counts op.port
 
--- the open commands came in at these ports
-pub record ArePorted (ports : ℕ) (uses : ℕ → Use) (stages : OpId → Stage) : Type 0 where
-  pub by_use : (c : ℕ) → IsOf ports (gathering_of (uses c))
-  pub by_stage : (op : OpId) → is_closed (standing_of (stages op)) ≡ false → op.port < ports
+-- what is gathered is for a command that came in
+pub record IsOf (came : OpId → Type 0) (what : Gathering) : Type 0 where
+  pub locks : (op : OpId) → what ≡ gathering.Lock op → came op
+  pub updates : (op : OpId) (lock : ℕ) → what ≡ gathering.Update op lock → came op
+
+-- each open command came in
+pub record AreGiven (came : OpId → Type 0) (uses : ℕ → Use) (stages : OpId → Stage) : Type 0 where
+  pub by_use : (c : ℕ) → IsOf came (gathering_of (uses c))
+  pub by_stage : (op : OpId) → is_closed (standing_of (stages op)) ≡ false → came op

@@ -18,7 +18,8 @@ use Rattle.pg_step.specs.Nodes.{Node, Nodes}
 use Rattle.pg_step.specs.State.{State, Response}
 use Rattle.pg_step.specs.Commands.{Answers}
 use Rattle.pg_step.specs.Losses.{see_loss}
-use Rattle.pg_step.specs.Step.{TimedTurn, timed}
+use Rattle.pg_step.specs.Turns.{NodeTurn}
+use Rattle.pg_step.specs.Step.{TimedTurn, at_clock, timed}
 use Rattle.pg_step.specs.declared.refusal.Refusal.{Refusal}
 use Rattle.pg_step.specs.declared.refusal.Refusal.TheVariants.{NodeLost}
 use Rattle.pg_node.specs.declared.state.NodeState.{NodeState}
@@ -101,3 +102,8 @@ Comes names (Ok t) (Ok done) s before after = Happens names t done s before afte
 Comes names (Ok t) (Err OutOfMemory) s before after = Unit {0}
 Comes names (Ok t) (Err (Refused refusal)) s before after = ⊥
 Comes names (Err refusal) result s before after = result ≡ Err (Refused refusal)
+
+-- the same of a turn without clock, at the clock that the event sets
+abbrev pub ComesAt : ℕ → List Node → Result NodeTurn Refusal → Result Done NodeFault → Timed State → (ℕ → List Answer) → (ℕ → List Answer) → Type 0
+ComesAt clock names (Ok t) result s before after = Comes names (Ok (at_clock clock t)) result s before after
+ComesAt clock names (Err refusal) result s before after = Comes names (Err refusal) result s before after

@@ -7,19 +7,25 @@ ghost use Rattle.pg_group.specs.Value.{count_in};
 ghost use Rattle.pg_ends.specs.Processes.{node_of};
 ghost use Rattle.pg_message.specs.declared.packet.TheConstants.{MAX_STAMP};
 ghost use Rattle.pg_step.specs.Nodes.{Node};
-ghost use Rattle.pg_opens.specs.Readings.{gathering_of};
-ghost use Rattle.pg_opens.specs.declared.command.Gathering.TheVariants.{Nothing};
-ghost use Rattle.pg_opens.specs.Opens.{names_of as open_names, lost_of, references_of, uses_of};
+ghost use Rattle.pg_opens.specs.Opens.{names_of as open_names, lost_of, references_of, uses_of, stages_of};
 ghost use Rattle.pg_opens.specs.Places.{name_at};
-ghost use Rattle.pg_node.specs.Ports.{merged_in, counts_in};
+ghost use Rattle.pg_node.specs.Ports.{merged_in, counts_in, CameIn, AreGiven};
 
+mod answers;
+mod calls;
 mod done;
 mod fault;
 mod made;
+mod orders;
+mod own;
 mod peers;
 mod port;
+mod processes;
+mod queries;
+mod replies;
 mod sends;
 mod take;
+mod turns;
 
 pub use done::Done;
 pub use fault::NodeFault;
@@ -53,8 +59,7 @@ pub struct NodeState<T: GroupTable> {
     // An event makes two references at most.
     ghost made: { references_of opens ≤ 2 * clock },
     ghost counted: { (port : ℕ) → counts_in ports.items port ≤ clock },
-    // No command comes in yet, so that nothing is gathered.
-    ghost idle: { (c : ℕ) → gathering_of (uses_of opens c) ≡ Nothing },
+    ghost given: { AreGiven (CameIn (length ports.items) (counts_in ports.items)) (uses_of opens) (stages_of opens) },
     // A count is at most what stood at first or in an exchange, and grows by one with an update.
     ghost few: { (name : Term) (pid : Pid) → count_in (T.contents table name) pid ≤ 2 ^ 32 + clock },
 }

@@ -13,36 +13,41 @@ ghost use Rattle.pg_step.specs.Attempts.{asks, is_yes};
 ghost use Rattle.pg_opens.specs.Opens.{names_of, left_of, uses_of};
 ghost use Rattle.pg_opens.specs.Readings.{is_locking};
 ghost use Rattle.pg_node.specs.Ports.{merged_in};
+ghost use Rattle.pg_node.specs.Orders.{message_of};
 ghost use Rattle.pg_node.specs.States.{sends_in};
 
-use pg_message::{Message, Packet};
+use crate::state::orders::Order;
+use pg_message::Packet;
 use pg_opens::{Asked, Opens};
+use pg_term::Reference;
 use std::alloc::{AllocError, Global};
 
-/// A message to each peer that counts. Its cost grows with the peers and the message.
+/// An order to each peer that counts. Its cost grows with the peers and the names.
 ///
 /// Error: `AllocError`.
 pub(crate) fn to_left(
     alloc: Global,
     clock: u32,
-    message: &Message,
+    order: Order<'_>,
+    reference: &Reference,
     opens: &Opens,
 ) -> Result<Vec<(usize, Packet)>, AllocError>
     ensures { IfOk result (λ sends. sends_in (names_of opens.now) sends.items
-        ≡ (λ q. stamped clock (to_peers (left_of opens.now) (λ q. true) message.now q))) }
+        ≡ (λ q. stamped clock (to_peers (left_of opens.now) (λ q. true) (message_of order.entry reference.now) q))) }
 {
     let goes = left_peers(alloc, opens)?;
-    to_marked(alloc, clock, message, &goes)
+    to_marked(alloc, clock, order, reference, &goes)
 }
 
-/// A message to each peer that is asked for the lock under the reference of this number, where all are: it counts and was not
+/// An order to each peer that is asked for the lock under the reference of this number, where all are: it counts and was not
 /// asked.
 ///
 /// Error: `AllocError`.
 pub(crate) fn to_asked(
     alloc: Global,
     clock: u32,
-    message: &Message,
+    order: Order<'_>,
+    reference: &Reference,
     opens: &Opens,
     number: u32,
 ) -> Result<Vec<(usize, Packet)>, AllocError>
@@ -50,19 +55,20 @@ pub(crate) fn to_asked(
     ensures { (op : OpId) (update : Update) (first : Node) (st : Node → Status)
         → uses_of opens.now number ≡ Locking op update first st
         → IfOk result (λ sends. sends_in (names_of opens.now) sends.items
-        ≡ (λ q. stamped clock (to_peers (left_of opens.now) (asks (λ q. true) st) message.now q))) }
+        ≡ (λ q. stamped clock (to_peers (left_of opens.now) (asks (λ q. true) st) (message_of order.entry reference.now) q))) }
 {
     let goes = asked_peers(alloc, opens, number)?;
-    to_marked(alloc, clock, message, &goes)
+    to_marked(alloc, clock, order, reference, &goes)
 }
 
-/// A message to each peer that counts and has granted the lock that is asked for under the reference of this number.
+/// An order to each peer that counts and has granted the lock that is asked for under the reference of this number.
 ///
 /// Error: `AllocError`.
 pub(crate) fn to_granted(
     alloc: Global,
     clock: u32,
-    message: &Message,
+    order: Order<'_>,
+    reference: &Reference,
     opens: &Opens,
     number: u32,
 ) -> Result<Vec<(usize, Packet)>, AllocError>
@@ -70,27 +76,28 @@ pub(crate) fn to_granted(
     ensures { (op : OpId) (update : Update) (first : Node) (st : Node → Status)
         → uses_of opens.now number ≡ Locking op update first st
         → IfOk result (λ sends. sends_in (names_of opens.now) sends.items
-        ≡ (λ q. stamped clock (to_peers (left_of opens.now) (λ q. is_yes (st q)) message.now q))) }
+        ≡ (λ q. stamped clock (to_peers (left_of opens.now) (λ q. is_yes (st q)) (message_of order.entry reference.now) q))) }
 {
     let goes = granted_peers(alloc, opens, number)?;
-    to_marked(alloc, clock, message, &goes)
+    to_marked(alloc, clock, order, reference, &goes)
 }
 
-/// A message to each peer that is marked, in the order of the peers. `goes`: the marks of the peers.
+/// An order to each peer that is marked, in the order of the peers. `goes`: the marks of the peers.
 fn to_marked(
     alloc: Global,
     clock: u32,
-    message: &Message,
+    order: Order<'_>,
+    reference: &Reference,
     goes: &[bool],
 ) -> Result<Vec<(usize, Packet)>, AllocError>
     ensures { (names : List Node) → IsDistinct same_atom names → length goes.now + 1 ≡ length names
         → IfOk result (λ sends. sends_in names sends.items
-        ≡ (λ q. stamped clock (cond (merged_in names goes.now q) (message.now ∷ []) []))) }
+        ≡ (λ q. stamped clock (cond (merged_in names goes.now q) (message_of order.entry reference.now ∷ []) []))) }
 {
     let mut sends = Vec::new(alloc);
     for peer in 0..goes.len() {
         if goes[peer] {
-            let message = message.copy(alloc)?;
+            let message = order.message(alloc, reference)?;
             let packet = Packet {
                 stamp: clock,
                 message,

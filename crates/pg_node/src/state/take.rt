@@ -7,14 +7,12 @@ ghost use Rattle.pg_message.specs.declared.packet.TheConstants.{MAX_STAMP};
 use crate::state::{Done, NodeFault, NodeState};
 use pg_group::GroupTable;
 use pg_message::{MAX_STAMP, Message, Packet, Request};
-use pg_step::{Odd, Refusal};
+use pg_step::Refusal;
 
 impl<T: GroupTable + Drop> NodeState<T> {
     ghost use Rattle.pg_opens.specs.Places.{name_at};
-    ghost use Rattle.pg_step.specs.Attempts.{strange};
-    ghost use Rattle.pg_step.specs.Step.{at_clock, step_take};
-    ghost use Rattle.pg_step.specs.declared.answer.Odd.TheVariants.{Stranger};
-    ghost use Rattle.pg_node.specs.States.{names_of, nodes_of, kept_by, state_of, answers_of, stamped_of, step_see_loss, Tells, Comes};
+    ghost use Rattle.pg_step.specs.Step.{step_take};
+    ghost use Rattle.pg_node.specs.States.{names_of, nodes_of, kept_by, state_of, answers_of, stamped_of, step_see_loss, Comes};
 
     /// Takes a packet of a peer. `peer`: its place among the peers. What is sent carries the clock that the event sets: the
     /// greater of the node's and the packet's, and 1 more.
@@ -45,7 +43,7 @@ impl<T: GroupTable + Drop> NodeState<T> {
                 Request::SetLock(name) => Ok(self.serve_lock(clock, peer, reference, name)?),
                 Request::Change(update) => Ok(self.serve_update(clock, peer, reference, update)?),
             },
-            Message::Reply(_, _) => Ok(self.note_stranger(clock)),
+            Message::Reply(reference, said) => self.take_reply(clock, peer, reference, *said),
             Message::DelLock(name, reference) => Ok(self.free_lock(clock, reference, name)),
             Message::Exchange(node, groups) => {
                 self.take_groups(clock, peer, node, groups.as_slice())
@@ -78,21 +76,5 @@ impl<T: GroupTable + Drop> NodeState<T> {
             return Err(NodeFault::Refused(Refusal::ClockFull));
         }
         Ok(self.forget_peer(latest + 1, peer)?)
-    }
-
-    /// Notes a reply that no command waits for.
-    fn note_stranger(&mut self, clock: u32) -> Done
-        requires later { self.old.clock < clock }
-        requires within { clock ≤ MAX_STAMP }
-        ensures state { state_of self.new ≡ (at_clock clock (strange Stranger (kept_by self.old))).state }
-        ensures told { Tells (names_of self.old) (at_clock clock (strange Stranger (kept_by self.old))) result }
-        ensures names { names_of self.new ≡ names_of self.old }
-        ensures answers { answers_of self.new ≡ answers_of self.old }
-    {
-        self.clock = clock;
-        Done {
-            odd: Some(Odd::Stranger),
-            ..Done::nothing(self.alloc)
-        }
     }
 }

@@ -10,9 +10,7 @@ use Rattle.pg_node.specs.Ports.{merged_in, counts_in}
 use Rattle.pg_node.specs.States.{names_of, kept_by}
 use Rattle.pg_node.proofs.Counts.{few_without_node}
 use Rattle.pg_node.proofs.Merged.{merged_set, marks_length, both_set}
-use Rattle.pg_opens.specs.Readings.{gathering_of}
-use Rattle.pg_step.specs.State.{Use}
-use Rattle.pg_node.proofs.Idle.{idle_after}
+use Rattle.pg_node.proofs.Given.{given_same, given_without}
 use Rattle.pg_node.proofs.Kept.{shows}
 use Rattle.pg_node.proofs.state.NodeState.forget_peer.Goals as goal
 
@@ -33,7 +31,7 @@ invariant_of-self-2 g c =
       within = c.requires.within;
       made = subst (λ n. n ≤ 2 * c.args.clock) turned.references (omega (arith, old.made, c.requires.later));
       counted = λ port. omega (arith, old.counted port, c.requires.later);
-      idle = λ n. ap (λ (uses : ℕ → Use). gathering_of (uses n)) (sym turned.uses) ∙ idle_after name (opens.uses_of old.opens n) (old.idle n);
+      given = given_same turned.uses turned.stages (given_without name old.given);
       few = few_without_node (2 ^ 32 + old.clock) (2 ^ 32 + c.args.clock) (contents old.table) (contents c.drop_node.new.self) c.name-name.result.now
           (omega (arith, c.requires.later)) old.few c.drop_node.ensures;
     }

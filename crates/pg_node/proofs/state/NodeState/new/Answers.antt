@@ -3,10 +3,9 @@ use Rattle.std.proofs.Common.{replicate}
 use Rattle.pg_lock.specs.Locks.{locks_of}
 use Rattle.pg_opens.specs.Places.{name_at}
 use Rattle.pg_opens.specs.Opens as opens
-use Rattle.pg_opens.specs.Readings.{gathering_of}
 use Rattle.pg_step.specs.Nodes.{Node}
-use Rattle.pg_step.specs.State.{Use}
 use Rattle.pg_node.specs.Ports.{merged_in}
+use Rattle.pg_node.proofs.Given.{given_same, given_none}
 use Rattle.pg_node.proofs.Merged.{nobody_merged, nobody_length}
 use Rattle.pg_node.proofs.state.NodeState.new.Goals as goal
 
@@ -26,7 +25,7 @@ invariant_of-result g c =
       within = omega arith;
       made = subst (λ n. n ≤ 2 * 0) started.references (omega arith);
       counted = λ port. subst (λ (f : ℕ → ℕ). f port ≤ 0) (sym c.in_ok-idle_ports.ensures.counts) (omega arith);
-      idle = λ n. ap (λ (f : ℕ → Use). gathering_of (f n)) (sym started.uses);
+      given = given_same started.uses started.stages given_none;
       few = λ name pid. omega (arith, c.requires.few name pid);
     }
 

@@ -5,13 +5,11 @@ use Rattle.pg_exchange.specs.GroupList.{GroupList}
 use Rattle.pg_opens.specs.Places.{name_at}
 use Rattle.pg_opens.specs.Opens.{lost_of}
 use Rattle.pg_step.specs.Nodes.{Node}
-use Rattle.pg_step.specs.Attempts.{strange}
+use Rattle.pg_step.specs.Attempts.{reply_taken}
 use Rattle.pg_step.specs.Peers.{lock_request, update_request, lock_freed, process_end}
 use Rattle.pg_step.specs.Step.{CLOCK_LIMIT, taken}
-use Rattle.pg_step.specs.declared.answer.Odd.TheVariants.{Stranger}
 use Rattle.pg_node.specs.States.{names_of, nodes_of, left_of, kept_by, state_of, answers_of, stamped_of}
-use Rattle.pg_node.proofs.Coming.{on_err, comes, groups_come}
-use Rattle.pg_node.proofs.Idle.{stranger}
+use Rattle.pg_node.proofs.Coming.{on_err, comes, comes_at, groups_come}
 use Rattle.pg_node.proofs.state.NodeState.take.Goals as goal
 
 pub returns-in_err-serve_lock-in-SetLock-clause-err : goal.returns-in_err-serve_lock-in-SetLock-clause-err
@@ -58,9 +56,8 @@ returns-in-Reply-clause-event g c =
     let here : lost_of old.opens p ≡ false = sym c.is_lost.ensures ∙ c.if-is_lost.false in
     let later : clock ≡ max old.clock c.args.packet.now.stamp + 1 = omega (arith, c.max-latest.ensures) in
     let within : clock ≤ CLOCK_LIMIT = omega (arith, c.if-latest-ge-MAX_STAMP.false) in
-    let turn = strange Stranger (kept_by old) in
-    comes (nodes_of old) p (stamped_of c.args.packet.now) (state_of old) clock here later within names turn c.note_stranger.result (state_of c.note_stranger.new.self) (answers_of old) (answers_of c.note_stranger.new.self)
-    (ap (λ (x : Message). taken (left_of old) p x (kept_by old)) (c.in-Reply.is) ∙ stranger (left_of old) p c.in-Reply.field-0 c.in-Reply.field-1 (kept_by old) old.idle) refl c.note_stranger.ensures.told c.note_stranger.ensures.state c.note_stranger.ensures.answers
+    comes_at (nodes_of old) p (stamped_of c.args.packet.now) (state_of old) clock here later within names (reply_taken (left_of old) p c.in-Reply.reference c.in-Reply.said (kept_by old)) c.take_reply.result (state_of c.take_reply.new.self) (answers_of old) (answers_of c.take_reply.new.self)
+    (ap (λ (x : Message). taken (left_of old) p x (kept_by old)) c.in-Reply.is) c.take_reply.ensures.comes
 
 pub returns-in-DelLock-clause-event : goal.returns-in-DelLock-clause-event
 returns-in-DelLock-clause-event g c =

@@ -41,7 +41,7 @@ invariant_of-self-2 g c =
       within = c.requires.within;
       made = omega (arith, old.made, c.requires.later);
       counted = λ port. omega (arith, old.counted port, c.requires.later);
-      idle = old.idle;
+      given = old.given;
       few = few_merged (2 ^ 32 + old.clock) (2 ^ 32 + c.args.clock) (2 ^ 32) (contents old.table) (contents c.take.new.table) c.args.groups.now (ended_of old.ended)
           (omega (arith, c.requires.later)) (omega arith) c.requires.few old.few c.in-Ok.ensures.merged;
     }

@@ -1,0 +1,81 @@
+-- What a reply leads to, by the reference that it is under.
+use Rattle.std.proofs.Common.{◌≡◌, ◌≤◌, ◌<◌, ◌+◌, ◌*◌, ◌^◌, ℕ, Bool, true, false, ◌&&◌, cond, nat_lt, nat_le, List, Option, Some, None, Result, Ok, Err, refl, sym, ap, ◌∙◌, arith}
+use Rattle.std.proofs.lemmas.Bool.Decides.{nat_tests}
+use Rattle.pg_term.specs.RefParts.{RefParts, ref_eq}
+use Rattle.pg_refs.specs.Numbered.{numbered, number_in}
+use Rattle.pg_message.specs.declared.message.Said.{Said}
+use Rattle.pg_multicall.specs.Gathered.{what_of}
+use Rattle.pg_multicall.specs.declared.gather.Taken.{Taken}
+use Rattle.pg_opens.specs.declared.opens.Opens.{Opens}
+use Rattle.pg_opens.specs.Opens.{uses_of, references_of}
+use Rattle.pg_opens.specs.Layers.{or_as, answers, seek}
+use Rattle.pg_opens.specs.Commands.{is_made, unused, use_at}
+use Rattle.pg_step.specs.Nodes.{Node, Nodes}
+use Rattle.pg_step.specs.State.{State, Use}
+use Rattle.pg_step.specs.State.Use.{Fresh, Spent}
+use Rattle.pg_step.specs.Turns.{NodeTurn}
+use Rattle.pg_step.specs.Attempts.{own_reference, use_of, gathered, is_kind, reply_by, reply_under, reply_taken, strange}
+use Rattle.pg_step.specs.declared.answer.Odd.TheVariants.{Stranger}
+use Rattle.pg_step.specs.declared.refusal.Refusal.{Refusal}
+
+-- a number that was not made yet is fresh
+pub fresh_beyond : (opens : Opens) (x : ℕ) → references_of opens < x → uses_of opens x ≡ Fresh
+fresh_beyond opens x beyond = go (seek (use_at opens.names.items) opens.commands.items x) (opens.known.uses_made x (unmade opens.references x beyond))
+    ∙ ap (λ b. cond b Spent Fresh) (unmade opens.references x beyond)
+  where
+    unmade : (made x : ℕ) → made < x → is_made made x ≡ false
+    unmade made x l = grind (arith, nat_tests)
+
+    go : (o : Option Use) → answers o ≡ false → or_as o (unused opens.references x) ≡ unused opens.references x
+    go None e = refl
+    go (Some u) e = absurd (cc)
+
+module _ (m : Nodes) (p : Node) (reference : RefParts) (said : Said) (s : State) where
+  abbrev number : ℕ
+  number = number_in reference
+
+  under_spent : (used : Use) → used ≡ Spent → reply_under used m p number said s ≡ Ok (strange Stranger s)
+  under_spent used e = ap (λ (u : Use). reply_under u m p number said s) e
+
+  under_fresh : (used : Use) → used ≡ Fresh → reply_under used m p number said s ≡ Ok (strange Stranger s)
+  under_fresh used e = ap (λ (u : Use). reply_under u m p number said s) e
+
+  -- a reference that the node cannot have made
+  pub no_number : cond (ref_eq (numbered m.own number) reference && nat_lt number (2 ^ 32)) (Some number) None ≡ None → (2 ^ 32 ≤ number → s.uses number ≡ Fresh)
+      → reply_taken m p reference said s ≡ Ok (strange Stranger s)
+  no_number e beyond = go (ref_eq (numbered m.own number) reference) (nat_lt number (2 ^ 32)) refl refl e
+    where
+      is_beyond : (n : ℕ) → nat_lt n (2 ^ 32) ≡ false → 2 ^ 32 ≤ n
+      is_beyond n e = grind (arith, nat_tests)
+
+      go : (b l : Bool) → ref_eq (numbered m.own number) reference ≡ b → nat_lt number (2 ^ 32) ≡ l → cond (b && l) (Some number) None ≡ None → reply_taken m p reference said s ≡ Ok (strange Stranger s)
+      go false l is within e = under_spent (use_of m reference s) (ap (λ b. cond b (s.uses number) Spent) is)
+      go true false is within e = under_fresh (use_of m reference s) (ap (λ b. cond b (s.uses number) Spent) is ∙ beyond (is_beyond number within))
+      go true true is within e = absurd (cc)
+
+  -- the number of a reference of the node
+  pub number_is : (n : ℕ) → cond (ref_eq (numbered m.own number) reference && nat_lt number (2 ^ 32)) (Some number) None ≡ Some n → number ≡ n
+  number_is n e = go (ref_eq (numbered m.own number) reference && nat_lt number (2 ^ 32)) e
+    where
+      value : Option ℕ → ℕ
+      value None = n
+      value (Some k) = k
+
+      go : (b : Bool) → cond b (Some number) None ≡ Some n → number ≡ n
+      go true e = ap (λ (o : Option ℕ). value o) e
+      go false e = absurd (cc)
+
+  use_is : (n : ℕ) → cond (ref_eq (numbered m.own number) reference && nat_lt number (2 ^ 32)) (Some number) None ≡ Some n → use_of m reference s ≡ s.uses number
+  use_is n e = go (ref_eq (numbered m.own number) reference) refl e
+    where
+      go : (b : Bool) → ref_eq (numbered m.own number) reference ≡ b → cond (b && nat_lt number (2 ^ 32)) (Some number) None ≡ Some n → use_of m reference s ≡ s.uses number
+      go true is e = ap (λ b. cond b (s.uses number) Spent) is
+      go false is e = absurd (cc)
+
+  -- by what it is to the gathered call, and whether it is of its kind
+  pub leads : (n : ℕ) → cond (ref_eq (numbered m.own number) reference && nat_lt number (2 ^ 32)) (Some number) None ≡ Some n
+      → (heard : Taken) (kind : Bool) → heard ≡ what_of true (gathered (s.uses n) p) → kind ≡ is_kind (s.uses n) said
+      → reply_taken m p reference said s ≡ reply_by heard kind (s.uses n) m p n said s
+  leads n e heard kind taken is = (λ i. reply_under (use_is n e i) m p number said s)
+      ∙ ((λ i. reply_under (s.uses (number_is n e i)) m p (number_is n e i) said s)
+      ∙ (λ i. reply_by (sym taken i) (sym is i) (s.uses n) m p n said s))

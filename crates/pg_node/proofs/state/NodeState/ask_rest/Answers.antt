@@ -1,0 +1,61 @@
+use Rattle.std.proofs.Common.{◌≡◌, ◌∙◌, ◌+◌, ◌*◌, ◌^◌, ◌<◌, ◌≤◌, ◌&&◌, ℕ, Bool, List, length, ap, sym, refl, arith, true, subst}
+use Rattle.pg_term.specs.declared.term.Term.{Term}
+use Rattle.pg_term.specs.RefParts.{RefParts}
+use Rattle.pg_group.specs.declared.update.Update.{Update as Change}
+use Rattle.pg_group.specs.Value.{name_of}
+use Rattle.pg_group.specs.Ended.{ended_of}
+use Rattle.pg_lock.specs.Locks.{Locks, locks_of, after_ask, given_up, is_holder}
+use Rattle.pg_ends.specs.Processes.{made_of, node_of}
+use Rattle.pg_opens.specs.Opens.{Shows, names_of as opens_names}
+use Rattle.pg_opens.specs.Readings.{update_of}
+use Rattle.pg_step.specs.State.{State}
+use Rattle.pg_node.specs.Ports.{merged_in, counts_in}
+use Rattle.pg_node.specs.States.{names_of, left_of, kept_by}
+use Rattle.pg_node.proofs.Coming.{on_err}
+use Rattle.pg_node.proofs.Kept.{shows, assembled}
+use Rattle.pg_node.proofs.Steady.{peers_stay, own_stays, merged_stay, lost_stay, made_stay, given_stay}
+use Rattle.pg_node.proofs.Turned.{LockParts, parts_by, Locks as LockOf, locks_by, Updates, updates_by, update_is}
+use Rattle.pg_step.specs.Attempts.{ask, with_asked, asks}
+use Rattle.pg_step.specs.Peers.{would_grant}
+use Rattle.pg_step.specs.State.Use.{Locking}
+use Rattle.pg_node.proofs.Given.{given_use, of_lock, locking_came}
+use Rattle.pg_node.proofs.state.NodeState.ask_rest.Goals as goal
+
+pub invariant_of-self-2 : goal.invariant_of-self-2
+invariant_of-self-2 g c =
+    let old = c.args.self.now in
+    let parts : LockParts ((kept_by old).uses c.args.number) = parts_by ((kept_by old).uses c.args.number) c.requires.locking in
+    let s : State = (ask (left_of old) (λ q. true) c.args.number parts.op parts.update parts.first parts.st (kept_by old)).state in
+    let new = c.ask.new.self in
+    let turned : Shows new s = c.ask.ensures.turned parts.op parts.update parts.first parts.st parts.is (kept_by old) (shows old) (sym (c.would_grant-granted.ensures parts.op parts.update parts.first parts.st parts.is)) in
+    let nodes = c.ask.ensures.nodes in
+    let came = locking_came c.args.number parts.op parts.update parts.first parts.st old.given parts.is in
+    record {
+      peers = peers_stay old.opens new s turned nodes old.formation old.peers;
+      own = own_stays old.opens new s turned nodes (node_of old.processes) old.own;
+      forgotten = lost_stay old.opens new s turned nodes refl old.formation old.forgotten;
+      within = c.requires.within;
+      made = made_stay old.opens new s turned nodes c.args.clock (omega (arith, old.made, c.requires.later));
+      counted = λ port. omega (arith, old.counted port, c.requires.later);
+      given = given_stay old.opens new s turned nodes (given_use c.args.number (Locking parts.op parts.update parts.first (with_asked (left_of old) (λ q. true) parts.st (would_grant (left_of old) (kept_by old) (name_of parts.update))))
+          (of_lock parts.op parts.update parts.first (with_asked (left_of old) (λ q. true) parts.st (would_grant (left_of old) (kept_by old) (name_of parts.update))) came) old.given);
+      few = λ name pid. omega (arith, old.few name pid, c.requires.later);
+    }
+
+pub returns-clause-happens : goal.returns-clause-happens
+returns-clause-happens g c = λ op update first st is.
+    let old = c.args.self.now in
+    let new = c.ask.new.self in
+    let t : State = (ask (left_of old) (λ q. true) c.args.number op update first st (kept_by old)).state in
+    let would = c.would_grant-granted.ensures op update first st is in
+    let turned : Shows new t = c.ask.ensures.turned op update first st is (kept_by old) (shows old) (sym would) in
+    let name = c.name-name.ensures ∙ ap name_of (update_is c.update_under.result.now update (sym c.update_under.ensures ∙ ap update_of is)) in
+    let lock = c.in_ok-calls.ensures.lock in
+    let asked = c.is_asked_by.ensures.own op update first st is refl in
+    record {
+      told = record { sends = c.in_ok-calls.ensures.sends op update first st is; began = c.in_ok-calls.ensures.began; odd = c.in_ok-calls.ensures.odd };
+      state = assembled c.args.clock t new ((kept_by old).table) ((kept_by old).ended) (locks_of c.ask_own.new.locks) (merged_in (opens_names new) old.formation) ((kept_by old).processes) ((kept_by old).counts)
+          turned refl refl (c.in_ok-ask_own.ensures.ok ∙ (λ i. after_ask (asked i && would i) (locks_of old.locks) (name i) (lock i)))
+          (merged_stay old.opens new t turned c.ask.ensures.nodes old.formation) refl refl;
+      answers = refl;
+    }

@@ -1,0 +1,103 @@
+//! What a query is answered, from the own table as it is.
+
+ghost use Rattle.std.specs.Prelude.{◌≡◌, ℕ, List, [], Some, IfOk, IfSome, IfNone};
+ghost use Rattle.pg_group.specs.Members.{IsMemberList};
+ghost use Rattle.pg_group.specs.Scope.{anywhere, at_node};
+ghost use Rattle.pg_step.specs.Commands.{ListsMembers, ListsGroups, PicksMember};
+ghost use Rattle.pg_query.specs.Closest.{picked};
+
+use pg_group::GroupTable;
+use pg_query::{QueryFault, local_members, members, which_groups};
+use pg_step::Reply;
+use pg_term::{Atom, Pid, Term};
+use std::alloc::{AllocError, Global};
+
+/// The members of a group, or that there is none.
+pub(crate) fn members_reply<T: GroupTable>(
+    alloc: Global,
+    table: &T,
+    name: &Term,
+) -> Result<Reply, AllocError>
+    ensures { IfOk result (ListsMembers (T.contents table.now name.now) anywhere name.now) }
+{
+    match members(alloc, table, name) {
+        Ok(pids) => Ok(Reply::Pids(pids)),
+        Err(QueryFault::NoSuchGroup) => Ok(Reply::NoSuchGroup(name.copy(alloc)?)),
+        Err(QueryFault::NoMember | QueryFault::OutOfMemory) => Err(AllocError),
+    }
+}
+
+/// The members of a group at the own node, or that there is none.
+pub(crate) fn local_members_reply<T: GroupTable>(
+    alloc: Global,
+    table: &T,
+    own: &Atom,
+    name: &Term,
+) -> Result<Reply, AllocError>
+    ensures { IfOk result (ListsMembers (T.contents table.now name.now) (at_node own.now) name.now) }
+{
+    match local_members(alloc, table, own, name) {
+        Ok(pids) => Ok(Reply::Pids(pids)),
+        Err(QueryFault::NoSuchGroup) => Ok(Reply::NoSuchGroup(name.copy(alloc)?)),
+        Err(QueryFault::NoMember | QueryFault::OutOfMemory) => Err(AllocError),
+    }
+}
+
+/// The names of the groups.
+pub(crate) fn groups_reply<T: GroupTable>(table: &T) -> Result<Reply, AllocError>
+    ensures { IfOk result (ListsGroups (T.contents table.now)) }
+{
+    Ok(Reply::Groups(which_groups(table)?))
+}
+
+/// The member that a word picks, or that there is none, or no group. Its cost is that of the lists.
+pub(crate) fn closest_reply<T: GroupTable>(
+    alloc: Global,
+    table: &T,
+    own: &Atom,
+    name: &Term,
+    word: u32,
+) -> Result<Reply, AllocError>
+    ensures { IfOk result (PicksMember (T.contents table.now name.now) own.now word name.now) }
+{
+    // How many members a group has may not fit 64 bits, for all that is known of the table: so the lists are taken.
+    match local_members(alloc, table, own, name) {
+        Ok(pids) => match pick(pids.as_slice(), word) {
+            Some(pid) => Ok(Reply::Closest(pid.copy()?)),
+            None => any_reply(alloc, table, name, word),
+        },
+        Err(QueryFault::NoSuchGroup) => Ok(Reply::NoSuchGroup(name.copy(alloc)?)),
+        Err(QueryFault::NoMember | QueryFault::OutOfMemory) => Err(AllocError),
+    }
+}
+
+/// The member that a word picks of all, or that there is none, or no group.
+fn any_reply<T: GroupTable>(
+    alloc: Global,
+    table: &T,
+    name: &Term,
+    word: u32,
+) -> Result<Reply, AllocError>
+    ensures { (own : List ℕ) → IsMemberList (T.contents table.now name.now) (at_node own) []
+        → IfOk result (PicksMember (T.contents table.now name.now) own word name.now) }
+{
+    match members(alloc, table, name) {
+        Ok(pids) => match pick(pids.as_slice(), word) {
+            Some(pid) => Ok(Reply::Closest(pid.copy()?)),
+            None => Ok(Reply::NoProcess(name.copy(alloc)?)),
+        },
+        Err(QueryFault::NoSuchGroup) => Ok(Reply::NoSuchGroup(name.copy(alloc)?)),
+        Err(QueryFault::NoMember | QueryFault::OutOfMemory) => Err(AllocError),
+    }
+}
+
+/// The pid that a word picks of a list, counted round it.
+fn pick(pids: &[Pid], word: u32) -> Option<&Pid>
+    ensures some { IfSome result (λ pid. picked pids.now word ≡ Some pid.now) }
+    ensures none { IfNone result (pids.now ≡ []) }
+{
+    if pids.is_empty() {
+        return None;
+    }
+    pids.get(word as usize % pids.len())
+}
