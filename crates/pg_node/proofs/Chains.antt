@@ -1,25 +1,24 @@
 -- What follows once answers are in, where it takes more than one turn.
-use Rattle.std.proofs.Common.{◌≡◌, ℕ, ◌+◌, Bool, true, false, not, ◌&&◌, ◌||◌, cond, nat_eq, List, [], ◌∷◌, ◌++◌, refl, ap, sym, ◌∙◌, subst}
+use Rattle.std.proofs.Common.{◌≡◌, ℕ, ◌+◌, Bool, true, false, not, ◌&&◌, ◌||◌, cond, nat_eq, List, [], ◌∷◌, ◌++◌, refl, ap, sym, ◌∙◌}
 use Rattle.std.specs.List.{list_any, list_all}
 use Rattle.std.proofs.Math.Path.{fun_ext}
 use Rattle.std.proofs.lemmas.Bool.{eq-eqb}
-use Rattle.pg_term.specs.RefParts.{RefParts}
 use Rattle.pg_term.specs.Same.{same_atom}
 use Rattle.pg_group.specs.declared.update.Update.{Update}
 use Rattle.pg_group.specs.Functions.{upd}
 use Rattle.pg_group.specs.Value.{name_of}
 use Rattle.pg_lock.specs.Attempts.{after_round, does_wait}
 use Rattle.pg_lock.specs.declared.attempt.Attempt.TheVariants.{AskingFirst, AskingRest}
-use Rattle.pg_lock.specs.Locks.{Locks, after_ask, given_up, is_holder}
+use Rattle.pg_lock.specs.Locks.{after_ask, given_up, is_holder}
 use Rattle.pg_message.specs.declared.message.Message.{Message}
 use Rattle.pg_message.specs.declared.message.Message.TheVariants.{Call, DelLock}
-use Rattle.pg_message.specs.declared.message.Request.TheVariants.{SetLock, Change}
+use Rattle.pg_message.specs.declared.message.Request.TheVariants.{SetLock}
 use Rattle.pg_step.specs.declared.command.OpId.{OpId}
 use Rattle.pg_step.specs.Nodes.{Node, Nodes, all_of, is_node, is_peer, every, to_peers}
 use Rattle.pg_step.specs.State.{State, Status, Use}
 use Rattle.pg_step.specs.State.Status.{Unasked, Asked, Yes, No}
 use Rattle.pg_step.specs.State.Use.{Locking, Owning, Updating, Spent}
-use Rattle.pg_step.specs.Turns.{NodeTurn, Report, nothing, becomes, and_then}
+use Rattle.pg_step.specs.Turns.{NodeTurn, nothing, becomes, and_then}
 use Rattle.pg_step.specs.Peers.{would_grant}
 use Rattle.pg_step.specs.Attempts.{is_unasked, is_asked, is_yes, is_no, asks, none_missing, none_denied, all_granted, round_of, with_asked, own_verdict, own_reference, ask, give_up, begin, replies_in, finish}
 use Rattle.pg_opens.specs.Outlooks.{outlook_of, outlook_by, turn_by}
@@ -28,7 +27,7 @@ use Rattle.pg_opens.proofs.Named.{atom_is, atom_self, clash}
 
 -- ---- tests of all nodes
 
-passes : (test : Node → Bool) (q : Node) (ns : List Node) → list_all test ns ≡ true → list_any (same_atom q) ns ≡ true → test q ≡ true
+pub passes : (test : Node → Bool) (q : Node) (ns : List Node) → list_all test ns ≡ true → list_any (same_atom q) ns ≡ true → test q ≡ true
 passes test q [] all here = absurd (clash (sym here))
 passes test q (n ∷ ns) all here = go (passes test q ns) (test n) (same_atom q n) refl refl all here
   where
@@ -37,7 +36,7 @@ passes test q (n ∷ ns) all here = go (passes test q ns) (test n) (same_atom q 
     go later true true is same all here = ap test (atom_is q n same) ∙ is
     go later true false is same all here = later all here
 
-all_pass : (test : Node → Bool) (ns : List Node) → ((q : Node) → list_any (same_atom q) ns ≡ true → test q ≡ true) → list_all test ns ≡ true
+pub all_pass : (test : Node → Bool) (ns : List Node) → ((q : Node) → list_any (same_atom q) ns ≡ true → test q ≡ true) → list_all test ns ≡ true
 all_pass test [] each = refl
 all_pass test (n ∷ ns) each = (λ i. each n (ap (λ b. b || list_any (same_atom n) ns) (atom_self n)) i && all_pass test ns (λ q here. each q (later (same_atom q n) (list_any (same_atom q) ns) here)) i)
   where

@@ -20,7 +20,7 @@ use Rattle.pg_step.specs.declared.refusal.Refusal.TheVariants as refusal
 use Rattle.pg_node.specs.declared.state.done.Done.{Done}
 use Rattle.pg_node.specs.declared.state.fault.NodeFault.{NodeFault}
 use Rattle.pg_node.specs.declared.state.fault.NodeFault.TheVariants.{Refused, OutOfMemory}
-use Rattle.pg_node.specs.States.{Tells, Gave, Happens, Comes, ComesAt, step_see_loss}
+use Rattle.pg_node.specs.States.{Tells, Gave, Comes, ComesAt, step_see_loss}
 
 -- a clause on errors, of what always holds
 pub on_err : {A E : Type 0} (result : Result A E) (P : Type 0) → P → OnErr result P

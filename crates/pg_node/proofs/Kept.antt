@@ -59,18 +59,18 @@ assembled clock t opens table ended locks merged processes counts h e1 e2 e3 e4 
 pub assembled_state : (t : State) (opens : Opens) (table : Table) (ended : Pid → Bool) (locks : Locks) (merged : Node → Bool) (processes : ℕ) (counts : ℕ → ℕ)
     → Shows opens t → table ≡ t.table → ended ≡ t.ended → locks ≡ t.locks → merged ≡ t.merged → processes ≡ t.processes → counts ≡ t.counts
     → ◌≡◌ {A = State} (record {
-        table = table;
-        ended = ended;
-        locks = locks;
-        merged = merged;
-        lost = lost_of opens;
-        references = references_of opens;
-        uses = uses_of opens;
-        processes = processes;
-        opened = opened_of opens;
-        stages = stages_of opens;
-        counts = counts;
-      }) t
+      table = table;
+      ended = ended;
+      locks = locks;
+      merged = merged;
+      lost = lost_of opens;
+      references = references_of opens;
+      uses = uses_of opens;
+      processes = processes;
+      opened = opened_of opens;
+      stages = stages_of opens;
+      counts = counts;
+    }) t
 assembled_state t opens table ended locks merged processes counts h e1 e2 e3 e4 e5 e6 = ap (λ (x : Timed State). x.state) (assembled 0 t opens table ended locks merged processes counts h e1 e2 e3 e4 e5 e6)
 
 -- a turn of the same nodes

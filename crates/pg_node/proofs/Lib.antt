@@ -1,5 +1,6 @@
 pub mod Alone
 pub mod Answered
+pub mod Attempted
 pub mod Bodies
 pub mod Chains
 pub mod Coming

@@ -1,5 +1,5 @@
 -- What a word picks of all members, where none is local.
-use Rattle.std.proofs.Common.{◌≡◌, ℕ, List, [], Some, None, refl, sym, subst, inr}
+use Rattle.std.proofs.Common.{◌≡◌, ℕ, List, [], Some, None, refl, subst, inr}
 use Rattle.pg_term.specs.declared.pid.Pid.{Pid}
 use Rattle.pg_term.specs.declared.term.Term.{Term}
 use Rattle.pg_group.specs.Value.{Value}

@@ -1,5 +1,5 @@
 -- What a reply leads to, by the reference that it is under.
-use Rattle.std.proofs.Common.{◌≡◌, ◌≤◌, ◌<◌, ◌+◌, ◌*◌, ◌^◌, ℕ, Bool, true, false, ◌&&◌, cond, nat_lt, nat_le, List, Option, Some, None, Result, Ok, Err, refl, sym, ap, ◌∙◌, arith}
+use Rattle.std.proofs.Common.{◌≡◌, ◌≤◌, ◌<◌, ◌^◌, ℕ, Bool, true, false, ◌&&◌, cond, nat_lt, Option, Some, None, Ok, refl, sym, ap, ◌∙◌, arith}
 use Rattle.std.proofs.lemmas.Bool.Decides.{nat_tests}
 use Rattle.pg_term.specs.RefParts.{RefParts, ref_eq}
 use Rattle.pg_refs.specs.Numbered.{numbered, number_in}
@@ -13,10 +13,8 @@ use Rattle.pg_opens.specs.Commands.{is_made, unused, use_at}
 use Rattle.pg_step.specs.Nodes.{Node, Nodes}
 use Rattle.pg_step.specs.State.{State, Use}
 use Rattle.pg_step.specs.State.Use.{Fresh, Spent}
-use Rattle.pg_step.specs.Turns.{NodeTurn}
-use Rattle.pg_step.specs.Attempts.{own_reference, use_of, gathered, is_kind, reply_by, reply_under, reply_taken, strange}
+use Rattle.pg_step.specs.Attempts.{use_of, gathered, is_kind, reply_by, reply_under, reply_taken, strange}
 use Rattle.pg_step.specs.declared.answer.Odd.TheVariants.{Stranger}
-use Rattle.pg_step.specs.declared.refusal.Refusal.{Refusal}
 
 -- a number that was not made yet is fresh
 pub fresh_beyond : (opens : Opens) (x : ℕ) → references_of opens < x → uses_of opens x ≡ Fresh

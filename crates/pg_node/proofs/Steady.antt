@@ -1,5 +1,5 @@
 -- What stays as it was where the open commands change by a turn that loses no peer.
-use Rattle.std.proofs.Common.{◌≡◌, ◌≤◌, ◌*◌, ◌+◌, ℕ, Bool, true, not, drop, List, length, refl, sym, ap, ◌∙◌, subst}
+use Rattle.std.proofs.Common.{◌≡◌, ◌≤◌, ◌*◌, ◌+◌, ℕ, Bool, true, not, drop, List, length, sym, ap, ◌∙◌, subst}
 use Rattle.std.specs.List.{filter}
 use Rattle.pg_opens.specs.declared.opens.Opens.{Opens}
 use Rattle.pg_opens.specs.Opens.{Shows, names_of, lost_of, left_of, references_of, uses_of, stages_of}

@@ -14,7 +14,6 @@ use Rattle.pg_step.specs.Nodes.{Node, to_one}
 use Rattle.pg_step.specs.Turns.{NodeTurn}
 use Rattle.pg_step.specs.State.{State as Kept}
 use Rattle.pg_step.specs.Step.{CLOCK_LIMIT, taken, node_takes, at_clock, timed}
-use Rattle.pg_step.specs.declared.refusal.Refusal.{Refusal}
 use Rattle.pg_step.specs.declared.refusal.Refusal.TheVariants as Refused
 use Rattle.pg_node.specs.Replica.{Pair, State, Turned, Answers, nodes_of, marked, frames_of, body_sent, bodies_to, taken_packet, turned}
 

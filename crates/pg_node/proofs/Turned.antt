@@ -1,6 +1,5 @@
 -- What a node counts of its peers, what is taken back of it, and what goes on then.
-use Rattle.std.proofs.Common.{◌≡◌, ◌≤◌, ◌<◌, ◌+◌, ℕ, Bool, true, false, not, ◌&&◌, cond, nat_eq, refl, sym, ap, ◌∙◌, subst, Option, Some, None}
-use Rattle.std.specs.Option.{option_copied}
+use Rattle.std.proofs.Common.{◌≡◌, ℕ, Bool, true, false, not, cond, nat_eq, refl, sym, ap, ◌∙◌, Option, Some, None}
 use Rattle.std.proofs.lemmas.Bool.{eqb-true, eq-eqb}
 use Rattle.pg_term.specs.Same.{same_atom}
 use Rattle.pg_group.specs.Functions.{upd}
@@ -20,9 +19,9 @@ use Rattle.pg_message.specs.declared.message.Said.{Said}
 use Rattle.pg_opens.specs.Outlooks.{outlook_of, turn_by}
 use Rattle.pg_opens.specs.declared.outlook.Outlook.{Outlook}
 use Rattle.pg_opens.specs.declared.command.Gathering.{Gathering}
-use Rattle.pg_opens.specs.declared.command.Gathering.TheVariants.{Nothing, Lock, Update}
+use Rattle.pg_opens.specs.declared.command.Gathering.TheVariants.{Lock, Update}
 use Rattle.pg_opens.specs.declared.opens.Opens.{Opens}
-use Rattle.pg_opens.specs.Opens.{names_of, left_of, lost_of}
+use Rattle.pg_opens.specs.Opens.{names_of, left_of}
 use Rattle.pg_opens.specs.Places.{name_at, lost_in}
 use Rattle.pg_opens.specs.Readings.{gathering_of, is_locking, is_updating, update_of}
 use Rattle.pg_opens.proofs.Named.{atom_is, clash}
@@ -77,8 +76,11 @@ pub updates_by : (used : Use) (op : OpId) (lock : ℕ) → gathering_of used ≡
 updates_by Fresh op lock e = absurd (cc)
 updates_by (Locking other update first st) op lock e = absurd (cc)
 updates_by (Owning name update) op lock e = absurd (cc)
-updates_by (Updating other update c replied) op lock e = record { update = update; replied = replied;
-  is = λ i. Updating (ap (λ (g : Gathering). op_in op g) e i) update (ap (λ (g : Gathering). lock_in lock g) e i) replied }
+updates_by (Updating other update c replied) op lock e = record {
+  update = update;
+  replied = replied;
+  is = λ i. Updating (ap (λ (g : Gathering). op_in op g) e i) update (ap (λ (g : Gathering). lock_in lock g) e i) replied;
+}
 updates_by Spent op lock e = absurd (cc)
 
 -- a request for a lock, whatever command it is for

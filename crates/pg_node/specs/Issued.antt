@@ -2,9 +2,14 @@
 use Rattle.std.specs.Prelude.{◌≡◌, ℕ, ◌+◌, ◌<◌, nat_eq, List, length, Some, slice_get, vec_len, vec_capacity}
 use Rattle.pg_group.specs.declared.table.GroupTable.{Ghosts}
 use Rattle.pg_group.specs.Functions.{upd}
+use Rattle.pg_group.specs.declared.update.Update.{Update}
+use Rattle.pg_term.specs.Same.{same_atom}
 use Rattle.pg_step.specs.declared.command.OpId.{OpId}
+use Rattle.pg_step.specs.Nodes.{Nodes, greatest}
 use Rattle.pg_step.specs.State.{State}
+use Rattle.pg_step.specs.State.Status.{Unasked}
 use Rattle.pg_step.specs.Turns.{NodeTurn, and_then}
+use Rattle.pg_step.specs.Attempts.{new_attempt, ask}
 use Rattle.pg_step.specs.Commands.{count_command, next_op}
 use Rattle.pg_node.specs.declared.state.NodeState.{NodeState}
 use Rattle.pg_node.specs.declared.state.port.Port.{Port}
@@ -24,3 +29,9 @@ HasRoomAt ports port = (p : Port) → slice_get ports port ≡ Some p → vec_le
 -- the next command of a port is counted, and this follows for it
 abbrev pub issued : ℕ → (OpId → State → NodeTurn) → State → NodeTurn
 issued port turn s = and_then (count_command port s) (turn (next_op port s))
+
+-- a new attempt begins, and the greatest of the nodes that count is asked, alone
+abbrev pub asked_first : Nodes → OpId → Update → State → NodeTurn
+asked_first m op update s =
+    and_then (new_attempt (greatest m) op update s)
+    (λ t. ask m (same_atom (greatest m)) t.references op update (greatest m) (λ q. Unasked) t)

@@ -36,7 +36,12 @@ pub(crate) struct Calls {
 /// An attempt is given up: each peer that granted frees the lock.
 ///
 /// Error: `AllocError`.
-pub(crate) fn freed(alloc: Global, clock: u32, opens: &Opens, number: u32) -> Result<Calls, AllocError>
+pub(crate) fn freed(
+    alloc: Global,
+    clock: u32,
+    opens: &Opens,
+    number: u32,
+) -> Result<Calls, AllocError>
     requires locking { is_locking (uses_of opens.now number) ≡ true }
     ensures sends { (op : OpId) (update : Update) (first : Node) (st : Node → Status) → uses_of opens.now number ≡ Locking op update first st
         → IfOk result (λ calls. sends_in (names_of opens.now) calls.done.sends.items ≡ (λ q. stamped clock (to_peers (left_of opens.now)
@@ -47,14 +52,26 @@ pub(crate) fn freed(alloc: Global, clock: u32, opens: &Opens, number: u32) -> Re
 {
     let update = update_under(opens, number);
     let lock = reference_of(opens.name(0), number)?;
-    let sends = to_granted(alloc, clock, Order::Free(update.name()), &lock, opens, number)?;
+    let sends = to_granted(
+        alloc,
+        clock,
+        Order::Free(update.name()),
+        &lock,
+        opens,
+        number,
+    )?;
     Ok(made_calls(sends, None, lock))
 }
 
 /// The rest is asked for the lock.
 ///
 /// Error: `AllocError`.
-pub(crate) fn asked(alloc: Global, clock: u32, opens: &Opens, number: u32) -> Result<Calls, AllocError>
+pub(crate) fn asked(
+    alloc: Global,
+    clock: u32,
+    opens: &Opens,
+    number: u32,
+) -> Result<Calls, AllocError>
     requires locking { is_locking (uses_of opens.now number) ≡ true }
     ensures sends { (op : OpId) (update : Update) (first : Node) (st : Node → Status) → uses_of opens.now number ≡ Locking op update first st
         → IfOk result (λ calls. sends_in (names_of opens.now) calls.done.sends.items ≡ (λ q. stamped clock (to_peers (left_of opens.now)
@@ -65,7 +82,14 @@ pub(crate) fn asked(alloc: Global, clock: u32, opens: &Opens, number: u32) -> Re
 {
     let update = update_under(opens, number);
     let lock = reference_of(opens.name(0), number)?;
-    let sends = to_asked(alloc, clock, Order::Lock(update.name()), &lock, opens, number)?;
+    let sends = to_asked(
+        alloc,
+        clock,
+        Order::Lock(update.name()),
+        &lock,
+        opens,
+        number,
+    )?;
     Ok(made_calls(sends, None, lock))
 }
 
@@ -120,11 +144,7 @@ pub(crate) fn ended(
     Ok(made_calls(sends, None, lock))
 }
 
-fn made_calls(
-    sends: Vec<(usize, Packet)>,
-    began: Option<(OpId, Update)>,
-    lock: Reference,
-) -> Calls
+fn made_calls(sends: Vec<(usize, Packet)>, began: Option<(OpId, Update)>, lock: Reference) -> Calls
     ensures sends { result.done.sends.items ≡ sends.items }
     ensures began { result.done.began ≡ began }
     ensures odd { result.done.odd ≡ None }

@@ -94,7 +94,14 @@ impl<T: GroupTable + Drop> NodeState<T> {
         let granted = self.would_grant(number);
         let asks = self.opens.is_asked_by(number, Asked::All, 0) & granted;
         let update = update_under(&self.opens, number);
-        apply_own(&mut self.locks, &mut self.table, &self.ended, asks, update, &calls.lock)?;
+        apply_own(
+            &mut self.locks,
+            &mut self.table,
+            &self.ended,
+            asks,
+            update,
+            &calls.lock,
+        )?;
         self.opens.ask(number, Asked::All, granted);
         self.opens.begin(number);
         self.clock = clock;

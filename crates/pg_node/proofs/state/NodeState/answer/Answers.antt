@@ -1,4 +1,4 @@
-use Rattle.std.proofs.Common.{◌≡◌, ◌∙◌, ◌≤◌, ◌<◌, ◌+◌, ◌*◌, ◌^◌, ℕ, List, ap, sym, refl, arith, subst}
+use Rattle.std.proofs.Common.{◌∙◌, ℕ, ap, arith}
 use Rattle.pg_node.specs.Issued.{counted_at}
 use Rattle.pg_node.specs.Ports.{counts_in, answers_in}
 use Rattle.pg_node.specs.States.{names_of, kept_by, sends_in}

@@ -1,20 +1,17 @@
-use Rattle.std.proofs.Common.{◌≡◌, ◌∙◌, ◌+◌, ◌*◌, ◌^◌, ◌<◌, ◌≤◌, ◌&&◌, ℕ, Bool, List, length, ap, sym, refl, arith, true, subst, nat_eq}
-use Rattle.pg_term.specs.declared.term.Term.{Term}
-use Rattle.pg_term.specs.RefParts.{RefParts}
+use Rattle.std.proofs.Common.{◌≡◌, ◌∙◌, ◌+◌, ◌^◌, ◌&&◌, ℕ, ap, sym, refl, arith, true, subst, nat_eq}
 use Rattle.pg_group.specs.declared.update.Update.{Update as Change}
 use Rattle.pg_group.specs.Value.{name_of}
 use Rattle.pg_group.specs.Ended.{ended_of}
-use Rattle.pg_lock.specs.Locks.{Locks, locks_of, after_ask, given_up, is_holder}
-use Rattle.pg_ends.specs.Processes.{made_of, node_of}
+use Rattle.pg_lock.specs.Locks.{locks_of, after_ask}
+use Rattle.pg_ends.specs.Processes.{node_of}
 use Rattle.pg_opens.specs.Opens.{Shows, names_of as opens_names}
 use Rattle.pg_opens.specs.Readings.{update_of}
 use Rattle.pg_step.specs.State.{State}
-use Rattle.pg_node.specs.Ports.{merged_in, counts_in}
-use Rattle.pg_node.specs.States.{names_of, left_of, kept_by}
-use Rattle.pg_node.proofs.Coming.{on_err}
+use Rattle.pg_node.specs.Ports.{merged_in}
+use Rattle.pg_node.specs.States.{left_of, kept_by}
 use Rattle.pg_node.proofs.Kept.{shows, assembled}
 use Rattle.pg_node.proofs.Steady.{peers_stay, own_stays, merged_stay, lost_stay, made_stay, given_stay}
-use Rattle.pg_node.proofs.Turned.{LockParts, parts_by, Locks as LockOf, locks_by, Updates, updates_by, update_is}
+use Rattle.pg_node.proofs.Turned.{Locks as LockOf, locks_by, update_is}
 use Rattle.std.proofs.lemmas.Bool.{eq-eqb}
 use Rattle.pg_term.specs.Same.{same_atom}
 use Rattle.pg_group.proofs.Changes.{upd_at}
@@ -39,8 +36,8 @@ begin-requires g c =
     let s : State = (ask (left_of old) (λ q. true) c.args.number c.args.op parts.update parts.first parts.st (kept_by old)).state in
     let asked : Shows c.ask.new.self s = c.ask.ensures.turned c.args.op parts.update parts.first parts.st parts.is (kept_by old) (shows old) (sym (c.would_grant-granted.ensures c.args.op parts.update parts.first parts.st parts.is)) in
     let later : uses_of c.ask.new.self c.args.number ≡ Locking c.args.op parts.update parts.first (with_asked (left_of old) (λ q. true) parts.st (would_grant (left_of old) (kept_by old) (name_of parts.update))) =
-        ap (λ (f : ℕ → Use). f c.args.number) (sym asked.uses)
-        ∙ upd_at nat_eq (kept_by old).uses c.args.number (Locking c.args.op parts.update parts.first (with_asked (left_of old) (λ q. true) parts.st (would_grant (left_of old) (kept_by old) (name_of parts.update)))) (eq-eqb c.args.number c.args.number refl) in
+    ap (λ (f : ℕ → Use). f c.args.number) (sym asked.uses)
+    ∙ upd_at nat_eq (kept_by old).uses c.args.number (Locking c.args.op parts.update parts.first (with_asked (left_of old) (λ q. true) parts.st (would_grant (left_of old) (kept_by old) (name_of parts.update)))) (eq-eqb c.args.number c.args.number refl) in
     record {
       locking = ap is_locking later;
       next = omega (arith, sym asked.references, old.made, c.requires.later, c.requires.within);
@@ -55,10 +52,10 @@ invariant_of-self-2 g c =
     let t : State = (begin (left_of old) c.args.number c.args.op parts.update s).state in
     let asked : Shows c.ask.new.self s = c.ask.ensures.turned c.args.op parts.update parts.first parts.st parts.is (kept_by old) (shows old) (sym (c.would_grant-granted.ensures c.args.op parts.update parts.first parts.st parts.is)) in
     let later : uses_of c.ask.new.self c.args.number ≡ Locking c.args.op parts.update parts.first st =
-        ap (λ (f : ℕ → Use). f c.args.number) (sym asked.uses) ∙ upd_at nat_eq (kept_by old).uses c.args.number (Locking c.args.op parts.update parts.first st) (eq-eqb c.args.number c.args.number refl) in
+    ap (λ (f : ℕ → Use). f c.args.number) (sym asked.uses) ∙ upd_at nat_eq (kept_by old).uses c.args.number (Locking c.args.op parts.update parts.first st) (eq-eqb c.args.number c.args.number refl) in
     let new = c.begin.new.self in
     let turned : Shows new t = subst (λ (m : Nodes). Shows new (begin m c.args.number c.args.op parts.update s).state) (left_stays old.opens c.ask.new.self s asked c.ask.ensures.nodes refl)
-        (c.begin.ensures.turned c.args.op parts.update parts.first st later s asked) in
+    (c.begin.ensures.turned c.args.op parts.update parts.first st later s asked) in
     let nodes = c.begin.ensures.nodes ∙ c.ask.ensures.nodes in
     let came = locking_came c.args.number c.args.op parts.update parts.first parts.st old.given parts.is in
     let changed : c.update_under-update.result.now ≡ parts.update = update_is c.update_under-update.result.now parts.update (sym c.update_under-update.ensures ∙ ap update_of parts.is) in
@@ -88,10 +85,10 @@ returns-clause-happens g c = λ update first st is.
     let t : State = (begin (left_of old) c.args.number op update s).state in
     let asked : Shows c.ask.new.self s = c.ask.ensures.turned op update first st is (kept_by old) (shows old) (sym would) in
     let later : uses_of c.ask.new.self c.args.number ≡ Locking op update first st' =
-        ap (λ (f : ℕ → Use). f c.args.number) (sym asked.uses) ∙ upd_at nat_eq (kept_by old).uses c.args.number (Locking op update first st') (eq-eqb c.args.number c.args.number refl) in
+    ap (λ (f : ℕ → Use). f c.args.number) (sym asked.uses) ∙ upd_at nat_eq (kept_by old).uses c.args.number (Locking op update first st') (eq-eqb c.args.number c.args.number refl) in
     let new = c.begin.new.self in
     let turned : Shows new t = subst (λ (m : Nodes). Shows new (begin m c.args.number op update s).state) (left_stays old.opens c.ask.new.self s asked c.ask.ensures.nodes refl)
-        (c.begin.ensures.turned op update first st' later s asked) in
+    (c.begin.ensures.turned op update first st' later s asked) in
     let changes : c.update_under-update.result.now ≡ update = update_is c.update_under-update.result.now update (sym c.update_under-update.ensures ∙ ap update_of is) in
     let lock = c.in_ok-calls.ensures.lock in
     let asks = c.is_asked_by.ensures.own op update first st is refl in

@@ -1,20 +1,17 @@
-use Rattle.std.proofs.Common.{◌≡◌, ◌∙◌, ◌+◌, ◌*◌, ◌^◌, ◌<◌, ◌≤◌, ◌&&◌, ℕ, Bool, List, length, ap, sym, refl, arith, true, subst, nat_eq}
-use Rattle.pg_term.specs.declared.term.Term.{Term}
-use Rattle.pg_term.specs.RefParts.{RefParts}
+use Rattle.std.proofs.Common.{◌≡◌, ◌∙◌, ◌+◌, ◌^◌, ◌<◌, ◌≤◌, ◌&&◌, ℕ, Bool, length, ap, sym, refl, arith, true, subst, nat_eq}
 use Rattle.pg_group.specs.declared.update.Update.{Update as Change}
 use Rattle.pg_group.specs.Value.{name_of}
 use Rattle.pg_group.specs.Ended.{ended_of}
-use Rattle.pg_lock.specs.Locks.{Locks, locks_of, after_ask, given_up, is_holder}
-use Rattle.pg_ends.specs.Processes.{made_of, node_of}
+use Rattle.pg_lock.specs.Locks.{Locks, locks_of, given_up, is_holder}
+use Rattle.pg_ends.specs.Processes.{node_of}
 use Rattle.pg_opens.specs.Opens.{Shows, names_of as opens_names, left_of as left_in}
 use Rattle.pg_opens.specs.Readings.{update_of}
 use Rattle.pg_step.specs.State.{State}
 use Rattle.pg_node.specs.Ports.{merged_in, counts_in}
 use Rattle.pg_node.specs.States.{names_of, left_of, kept_by}
-use Rattle.pg_node.proofs.Coming.{on_err}
 use Rattle.pg_node.proofs.Kept.{shows, assembled}
 use Rattle.pg_node.proofs.Steady.{peers_stay, own_stays, merged_stay, lost_stay, made_stay, given_stay}
-use Rattle.pg_node.proofs.Turned.{LockParts, parts_by, Locks as LockOf, locks_by, Updates, updates_by, update_is}
+use Rattle.pg_node.proofs.Turned.{Locks as LockOf, locks_by, update_is}
 use Rattle.std.proofs.lemmas.Bool.{eq-eqb}
 use Rattle.pg_term.specs.Same.{same_atom}
 use Rattle.pg_group.proofs.Changes.{upd_at}
@@ -24,8 +21,7 @@ use Rattle.pg_group.specs.Table.{Table, changed}
 use Rattle.pg_step.specs.Attempts.{ask, asks, begin, finish, with_asked, own_reference}
 use Rattle.pg_step.specs.declared.answer.Reply.TheVariants as reply
 use Rattle.pg_step.specs.Turns.{NodeTurn}
-use Rattle.pg_machine.specs.Clocked.{Stamped, stamped}
-use Rattle.pg_message.specs.declared.message.Message.{Message}
+use Rattle.pg_machine.specs.Clocked.{stamped}
 use Rattle.std.proofs.Math.Path.{fun_ext}
 use Rattle.std.proofs.Common.{Option, ◌++◌, ◌∷◌, []}
 use Rattle.pg_opens.specs.Places.{name_at}
@@ -36,8 +32,6 @@ use Rattle.pg_node.specs.States.{Gave}
 use Rattle.pg_node.specs.Ports.{answers_in}
 use Rattle.pg_node.proofs.Undone.{granted_free, not_taken}
 use Rattle.pg_step.specs.State.{formed}
-use Rattle.pg_opens.specs.Outlooks.{turn_by}
-use Rattle.pg_opens.specs.declared.outlook.Outlook.TheVariants as outlook
 use Rattle.pg_step.specs.Nodes.{Node, Nodes}
 use Rattle.pg_step.specs.Peers.{would_grant}
 use Rattle.pg_step.specs.declared.command.OpId.{OpId}
@@ -52,7 +46,6 @@ use Rattle.pg_node.proofs.Steady.{left_stays}
 use Rattle.pg_node.proofs.Alone.{to_none, begins_alone, sends_nothing, at_time}
 use Rattle.pg_node.proofs.state.NodeState.begin_alone.Goals as goal
 
-
 pub begin-requires : goal.begin-requires
 begin-requires g c =
     let old = c.args.self.now in
@@ -65,7 +58,7 @@ begin-requires g c =
     let s1 : State = (ask (left_of old) (λ q. true) number op update parts.first parts.st (kept_by old)).state in
     let asked : Shows c.ask.new.self s1 = c.ask.ensures.turned op update parts.first parts.st is (kept_by old) (shows old) (sym (c.would_grant-granted.ensures op update parts.first parts.st is)) in
     let locking : uses_of c.ask.new.self number ≡ Locking op update parts.first st =
-        ap (λ (f : ℕ → Use). f number) (sym asked.uses) ∙ upd_at nat_eq (kept_by old).uses number (Locking op update parts.first st) (eq-eqb number number refl) in
+    ap (λ (f : ℕ → Use). f number) (sym asked.uses) ∙ upd_at nat_eq (kept_by old).uses number (Locking op update parts.first st) (eq-eqb number number refl) in
     record {
       locking = ap is_locking locking;
       next = omega (arith, sym asked.references, old.made, c.requires.later, c.requires.within);
@@ -83,15 +76,15 @@ finish-requires g c =
     let s1 : State = (ask (left_of old) (λ q. true) number op update parts.first parts.st (kept_by old)).state in
     let asked : Shows c.ask.new.self s1 = c.ask.ensures.turned op update parts.first parts.st is (kept_by old) (shows old) (sym (c.would_grant-granted.ensures op update parts.first parts.st is)) in
     let locking : uses_of c.ask.new.self number ≡ Locking op update parts.first st =
-        ap (λ (f : ℕ → Use). f number) (sym asked.uses) ∙ upd_at nat_eq (kept_by old).uses number (Locking op update parts.first st) (eq-eqb number number refl) in
+    ap (λ (f : ℕ → Use). f number) (sym asked.uses) ∙ upd_at nat_eq (kept_by old).uses number (Locking op update parts.first st) (eq-eqb number number refl) in
     let s2 : State = (begin (left_of old) number op update s1).state in
     let begun : Shows c.begin.new.self s2 = subst (λ (m : Nodes). Shows c.begin.new.self (begin m number op update s1).state) (left_stays old.opens c.ask.new.self s1 asked c.ask.ensures.nodes refl)
-        (c.begin.ensures.turned op update parts.first st locking s1 asked) in
+    (c.begin.ensures.turned op update parts.first st locking s1 asked) in
     let changing : ℕ = (kept_by old).references + 1 in
     let made : c.references-changing.result + 1 ≡ changing = ap (λ n. n + 1) c.references-changing.ensures in
     let updating : uses_of c.begin.new.self changing ≡ Updating op update number (same_atom (left_of old).own) =
-        ap (λ (f : ℕ → Use). f changing) (sym begun.uses)
-        ∙ upd_at nat_eq (upd nat_eq s1.uses number (Owning (name_of update) changing)) changing (Updating op update number (same_atom (left_of old).own)) (eq-eqb changing changing refl) in
+    ap (λ (f : ℕ → Use). f changing) (sym begun.uses)
+    ∙ upd_at nat_eq (upd nat_eq s1.uses number (Owning (name_of update) changing)) changing (Updating op update number (same_atom (left_of old).own)) (eq-eqb changing changing refl) in
     record { updating = ap (λ (n : ℕ). is_updating (uses_of c.begin.new.self n)) made ∙ ap is_updating updating }
 
 pub reserve_answer-requires : goal.reserve_answer-requires
@@ -157,21 +150,21 @@ invariant_of-self-2 g c =
     let s1 : State = (ask (left_of old) (λ q. true) number op update parts.first parts.st (kept_by old)).state in
     let asked : Shows c.ask.new.self s1 = c.ask.ensures.turned op update parts.first parts.st is (kept_by old) (shows old) (sym (c.would_grant-granted.ensures op update parts.first parts.st is)) in
     let locking : uses_of c.ask.new.self number ≡ Locking op update parts.first st =
-        ap (λ (f : ℕ → Use). f number) (sym asked.uses) ∙ upd_at nat_eq (kept_by old).uses number (Locking op update parts.first st) (eq-eqb number number refl) in
+    ap (λ (f : ℕ → Use). f number) (sym asked.uses) ∙ upd_at nat_eq (kept_by old).uses number (Locking op update parts.first st) (eq-eqb number number refl) in
     let s2 : State = (begin (left_of old) number op update s1).state in
     let begun : Shows c.begin.new.self s2 = subst (λ (m : Nodes). Shows c.begin.new.self (begin m number op update s1).state) (left_stays old.opens c.ask.new.self s1 asked c.ask.ensures.nodes refl)
-        (c.begin.ensures.turned op update parts.first st locking s1 asked) in
+    (c.begin.ensures.turned op update parts.first st locking s1 asked) in
     let changing : ℕ = (kept_by old).references + 1 in
     let made : c.references-changing.result + 1 ≡ changing = ap (λ n. n + 1) c.references-changing.ensures in
     let updating : uses_of c.begin.new.self changing ≡ Updating op update number (same_atom (left_of old).own) =
-        ap (λ (f : ℕ → Use). f changing) (sym begun.uses)
-        ∙ upd_at nat_eq (upd nat_eq s1.uses number (Owning (name_of update) changing)) changing (Updating op update number (same_atom (left_of old).own)) (eq-eqb changing changing refl) in
+    ap (λ (f : ℕ → Use). f changing) (sym begun.uses)
+    ∙ upd_at nat_eq (upd nat_eq s1.uses number (Owning (name_of update) changing)) changing (Updating op update number (same_atom (left_of old).own)) (eq-eqb changing changing refl) in
     let nodes1 = c.begin.ensures.nodes ∙ c.ask.ensures.nodes in
     let s3 : State = (finish (left_of old) changing op update number s2).state in
     let new = c.finish.new.self in
     let turned : Shows new s3 = subst (λ (m : Nodes). Shows new (finish m changing op update number s2).state) (left_stays old.opens c.begin.new.self s2 begun nodes1 refl)
-        (subst (λ (n : ℕ). uses_of c.begin.new.self n ≡ Updating op update number (same_atom (left_of old).own) → Shows new (finish (left_in c.begin.new.self) n op update number s2).state) made
-        (λ e. c.finish.ensures.turned op update number (same_atom (left_of old).own) e s2 begun) updating) in
+    (subst (λ (n : ℕ). uses_of c.begin.new.self n ≡ Updating op update number (same_atom (left_of old).own) → Shows new (finish (left_in c.begin.new.self) n op update number s2).state) made
+    (λ e. c.finish.ensures.turned op update number (same_atom (left_of old).own) e s2 begun) updating) in
     let nodes = c.finish.ensures.nodes ∙ nodes1 in
     let came = locking_came number op update parts.first parts.st old.given is in
     let counts = c.keep_reserved.ensures.counts ∙ c.reserve_answer.ensures.counts in
@@ -203,21 +196,21 @@ returns-clause-happens g c = λ update first st0 is.
     let s1 : State = (ask (left_of old) (λ q. true) number op update first st0 (kept_by old)).state in
     let asked : Shows c.ask.new.self s1 = c.ask.ensures.turned op update first st0 is (kept_by old) (shows old) (sym (c.would_grant-granted.ensures op update first st0 is)) in
     let locking : uses_of c.ask.new.self number ≡ Locking op update first st =
-        ap (λ (f : ℕ → Use). f number) (sym asked.uses) ∙ upd_at nat_eq (kept_by old).uses number (Locking op update first st) (eq-eqb number number refl) in
+    ap (λ (f : ℕ → Use). f number) (sym asked.uses) ∙ upd_at nat_eq (kept_by old).uses number (Locking op update first st) (eq-eqb number number refl) in
     let s2 : State = (begin (left_of old) number op update s1).state in
     let begun : Shows c.begin.new.self s2 = subst (λ (m : Nodes). Shows c.begin.new.self (begin m number op update s1).state) (left_stays old.opens c.ask.new.self s1 asked c.ask.ensures.nodes refl)
-        (c.begin.ensures.turned op update first st locking s1 asked) in
+    (c.begin.ensures.turned op update first st locking s1 asked) in
     let changing : ℕ = (kept_by old).references + 1 in
     let made : c.references-changing.result + 1 ≡ changing = ap (λ n. n + 1) c.references-changing.ensures in
     let updating : uses_of c.begin.new.self changing ≡ Updating op update number (same_atom (left_of old).own) =
-        ap (λ (f : ℕ → Use). f changing) (sym begun.uses)
-        ∙ upd_at nat_eq (upd nat_eq s1.uses number (Owning (name_of update) changing)) changing (Updating op update number (same_atom (left_of old).own)) (eq-eqb changing changing refl) in
+    ap (λ (f : ℕ → Use). f changing) (sym begun.uses)
+    ∙ upd_at nat_eq (upd nat_eq s1.uses number (Owning (name_of update) changing)) changing (Updating op update number (same_atom (left_of old).own)) (eq-eqb changing changing refl) in
     let nodes1 = c.begin.ensures.nodes ∙ c.ask.ensures.nodes in
     let s3 : State = (finish (left_of old) changing op update number s2).state in
     let new = c.finish.new.self in
     let turned : Shows new s3 = subst (λ (m : Nodes). Shows new (finish m changing op update number s2).state) (left_stays old.opens c.begin.new.self s2 begun nodes1 refl)
-        (subst (λ (n : ℕ). uses_of c.begin.new.self n ≡ Updating op update number (same_atom (left_of old).own) → Shows new (finish (left_in c.begin.new.self) n op update number s2).state) made
-        (λ e. c.finish.ensures.turned op update number (same_atom (left_of old).own) e s2 begun) updating) in
+    (subst (λ (n : ℕ). uses_of c.begin.new.self n ≡ Updating op update number (same_atom (left_of old).own) → Shows new (finish (left_in c.begin.new.self) n op update number s2).state) made
+    (λ e. c.finish.ensures.turned op update number (same_atom (left_of old).own) e s2 begun) updating) in
     let nodes = c.finish.ensures.nodes ∙ nodes1 in
     let m : Nodes = left_of old in
     let clock : ℕ = c.args.clock in
@@ -230,8 +223,8 @@ returns-clause-happens g c = λ update first st0 is.
     let lock = c.in_ok-calls.ensures.lock in
     let name = c.name.ensures ∙ ap name_of changes in
     let freed = c.give_up.ensures ∙ ((λ i. given_up (is_holder (locks (name i)) (lock i)) locks (name i))
-        ∙ not_taken c.equality.ensures.terms c.equality.ensures.references locks (name_of update) (own_reference m number) (asks_own && would)
-        (granted_free asks_own (formed m (kept_by old)) would locks (name_of update) refl)) in
+    ∙ not_taken c.equality.ensures.terms c.equality.ensures.references locks (name_of update) (own_reference m number) (asks_own && would)
+    (granted_free asks_own (formed m (kept_by old)) would locks (name_of update) refl)) in
     let answers = c.reserve_answer.ensures.answers in
     record {
       told = record {

@@ -1,4 +1,3 @@
-use Rattle.std.proofs.Common.{◌≡◌}
 use Rattle.pg_node.proofs.state.NodeState.count.Goals as goal
 
 pub returns-in-Update-clause-happens : goal.returns-in-Update-clause-happens

@@ -1,20 +1,15 @@
-use Rattle.std.proofs.Common.{◌≡◌, ◌∙◌, ◌+◌, ◌*◌, ◌^◌, ◌<◌, ◌≤◌, ◌&&◌, ℕ, Bool, List, length, ap, sym, refl, arith, true, subst}
-use Rattle.pg_term.specs.declared.term.Term.{Term}
-use Rattle.pg_term.specs.RefParts.{RefParts}
-use Rattle.pg_group.specs.declared.update.Update.{Update as Change}
+use Rattle.std.proofs.Common.{◌∙◌, ◌≤◌, ℕ, length, ap, sym, refl, arith, subst}
 use Rattle.pg_group.specs.Value.{name_of}
-use Rattle.pg_group.specs.Ended.{ended_of}
-use Rattle.pg_lock.specs.Locks.{Locks, locks_of, after_ask, given_up, is_holder}
-use Rattle.pg_ends.specs.Processes.{made_of, node_of}
+use Rattle.pg_lock.specs.Locks.{locks_of, given_up, is_holder}
+use Rattle.pg_ends.specs.Processes.{node_of}
 use Rattle.pg_opens.specs.Opens.{Shows, names_of as opens_names}
 use Rattle.pg_opens.specs.Readings.{update_of}
 use Rattle.pg_step.specs.State.{State}
 use Rattle.pg_node.specs.Ports.{merged_in, counts_in}
-use Rattle.pg_node.specs.States.{names_of, left_of, kept_by}
-use Rattle.pg_node.proofs.Coming.{on_err}
+use Rattle.pg_node.specs.States.{left_of, kept_by}
 use Rattle.pg_node.proofs.Kept.{shows, assembled}
 use Rattle.pg_node.proofs.Steady.{peers_stay, own_stays, merged_stay, lost_stay, made_stay, given_stay}
-use Rattle.pg_node.proofs.Turned.{LockParts, parts_by, Locks as LockOf, locks_by, Updates, updates_by, update_is}
+use Rattle.pg_node.proofs.Turned.{Updates, updates_by, update_is}
 use Rattle.pg_step.specs.Attempts.{finish}
 use Rattle.pg_step.specs.declared.answer.Reply.TheVariants as reply
 use Rattle.pg_step.specs.State.Use.{Spent}

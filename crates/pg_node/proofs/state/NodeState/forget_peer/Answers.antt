@@ -1,4 +1,4 @@
-use Rattle.std.proofs.Common.{◌≡◌, ◌∙◌, ◌+◌, ◌*◌, ◌^◌, ◌≤◌, ℕ, Bool, List, length, ap, sym, refl, arith, true, subst}
+use Rattle.std.proofs.Common.{◌∙◌, ◌+◌, ◌*◌, ◌^◌, ◌≤◌, Bool, List, length, ap, sym, arith, subst}
 use Rattle.pg_group.specs.Ended.{ended_of, ended_with}
 use Rattle.pg_group.specs.Table.{without_node}
 use Rattle.pg_lock.specs.Locks.{locks_of, without_node as locks_without}

@@ -1,4 +1,4 @@
-use Rattle.std.proofs.Common.{◌≡◌, ◌∙◌, ◌≤◌, ◌<◌, ◌+◌, ◌*◌, ◌^◌, ℕ, List, ap, sym, refl, arith}
+use Rattle.std.proofs.Common.{◌∙◌, ◌+◌, ℕ, List, ap, arith}
 use Rattle.pg_ends.specs.Numbers.{pid_of}
 use Rattle.pg_ends.specs.Processes.{made_of}
 use Rattle.pg_step.specs.declared.answer.Reply.TheVariants.{Made}

@@ -8,7 +8,7 @@ use Rattle.pg_opens.specs.Places.{name_at}
 use Rattle.pg_step.specs.Nodes.{Node, to_one}
 use Rattle.pg_step.specs.Peers.{verdict}
 use Rattle.pg_opens.specs.Opens.{lost_of}
-use Rattle.pg_node.specs.States.{names_of, kept_by, state_of}
+use Rattle.pg_node.specs.States.{names_of, kept_by}
 use Rattle.pg_node.proofs.Formed.{formed_is}
 use Rattle.pg_node.proofs.state.NodeState.serve_lock.Goals as goal
 

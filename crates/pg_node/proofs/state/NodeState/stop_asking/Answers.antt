@@ -1,19 +1,15 @@
-use Rattle.std.proofs.Common.{◌≡◌, ◌∙◌, ◌+◌, ◌*◌, ◌^◌, ◌≤◌, ◌&&◌, ℕ, Bool, List, length, ap, sym, refl, arith, true}
-use Rattle.pg_term.specs.declared.term.Term.{Term}
-use Rattle.pg_term.specs.RefParts.{RefParts}
-use Rattle.pg_group.specs.declared.update.Update.{Update as Change}
+use Rattle.std.proofs.Common.{◌∙◌, ◌&&◌, ap, sym, refl, arith}
 use Rattle.pg_group.specs.Value.{name_of}
-use Rattle.pg_group.specs.Ended.{ended_of}
-use Rattle.pg_lock.specs.Locks.{Locks, locks_of, given_up, is_holder}
-use Rattle.pg_ends.specs.Processes.{made_of, node_of}
+use Rattle.pg_lock.specs.Locks.{locks_of, given_up, is_holder}
+use Rattle.pg_ends.specs.Processes.{node_of}
 use Rattle.pg_opens.specs.Opens.{Shows, names_of as opens_names}
 use Rattle.pg_opens.specs.Readings.{update_of}
-use Rattle.pg_step.specs.Attempts.{give_up, is_yes, own_reference}
+use Rattle.pg_step.specs.Attempts.{give_up}
 use Rattle.pg_step.specs.State.{State}
 use Rattle.pg_step.specs.State.Use.{Spent}
 use Rattle.pg_step.specs.State.Stage.{Waiting}
 use Rattle.pg_node.specs.Ports.{merged_in}
-use Rattle.pg_node.specs.States.{names_of, left_of, kept_by}
+use Rattle.pg_node.specs.States.{left_of, kept_by}
 use Rattle.pg_node.proofs.Given.{given_use, given_stage, of_none, locking_came}
 use Rattle.pg_node.proofs.Kept.{shows, assembled}
 use Rattle.pg_node.proofs.Steady.{peers_stay, own_stays, merged_stay, lost_stay, made_stay, given_stay}

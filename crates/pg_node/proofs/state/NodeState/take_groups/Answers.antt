@@ -1,9 +1,7 @@
-use Rattle.std.proofs.Common.{◌≡◌, ◌∙◌, ◌+◌, ◌^◌, ℕ, Bool, List, not, length, Ok, Err, ap, sym, refl, arith, true, false}
+use Rattle.std.proofs.Common.{◌≡◌, ◌∙◌, ◌+◌, ◌^◌, Bool, List, not, length, Err, ap, sym, refl, arith, true, false}
 use Rattle.pg_group.specs.Ended.{ended_of}
-use Rattle.pg_group.specs.Table.{Table}
 use Rattle.pg_term.specs.Same.{same_atom}
 use Rattle.pg_opens.specs.Places.{name_at}
-use Rattle.pg_step.specs.Nodes.{Node}
 use Rattle.pg_node.specs.Ports.{merged_in}
 use Rattle.pg_node.specs.States.{names_of, kept_by}
 use Rattle.pg_node.proofs.Counts.{few_merged}

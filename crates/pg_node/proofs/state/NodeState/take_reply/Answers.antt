@@ -1,4 +1,4 @@
-use Rattle.std.proofs.Common.{◌≡◌, ◌∙◌, ◌+◌, ◌≤◌, ◌<◌, ◌^◌, ◌*◌, ◌&&◌, ℕ, Bool, true, false, cond, nat_lt, Option, Some, None, Result, Ok, Err, sym, ap, refl, subst, arith}
+use Rattle.std.proofs.Common.{◌∙◌, ◌+◌, ◌^◌, ◌&&◌, ℕ, true, cond, nat_lt, Some, None, Result, Ok, Err, sym, ap, subst, arith}
 use Rattle.pg_term.specs.RefParts.{RefParts, ref_eq}
 use Rattle.pg_refs.specs.Numbered.{numbered, number_in}
 use Rattle.pg_multicall.specs.declared.gather.Taken.TheVariants as taken

@@ -1,5 +1,4 @@
-use Rattle.std.proofs.Common.{◌≡◌, ◌∙◌, ap, sym}
-use Rattle.pg_term.specs.declared.term.Term.{Term}
+use Rattle.std.proofs.Common.{◌∙◌, ap, sym}
 use Rattle.pg_group.specs.Value.{name_of}
 use Rattle.pg_lock.specs.Locks.{locks_of, grants}
 use Rattle.pg_opens.specs.Opens.{lost_of}

@@ -1,15 +1,11 @@
-use Rattle.std.proofs.Common.{◌≡◌, ◌∙◌, ◌+◌, ℕ, Bool, true, Option, Some, None, sym, ap}
-use Rattle.pg_term.specs.RefParts.{RefParts}
-use Rattle.pg_group.specs.declared.update.Update.{Update as Change}
+use Rattle.std.proofs.Common.{◌≡◌, ◌∙◌, sym, ap}
 use Rattle.pg_group.specs.Value.{name_of}
 use Rattle.pg_machine.specs.Clocked.{stamped}
-use Rattle.pg_message.specs.declared.message.Message.{Message}
 use Rattle.pg_message.specs.declared.message.Message.TheVariants as messages
-use Rattle.pg_message.specs.declared.message.Request.TheVariants as requests
 use Rattle.pg_opens.specs.Opens.{left_of, names_of}
 use Rattle.pg_opens.specs.Readings.{update_of}
 use Rattle.pg_refs.specs.Numbered.{numbered}
-use Rattle.pg_step.specs.Attempts.{asks, is_yes}
+use Rattle.pg_step.specs.Attempts.{is_yes}
 use Rattle.pg_step.specs.Nodes.{Node, to_peers}
 use Rattle.pg_node.specs.States.{sends_in}
 use Rattle.pg_node.proofs.Turned.{update_is}

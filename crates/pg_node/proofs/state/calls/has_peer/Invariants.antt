@@ -1,4 +1,3 @@
-use Rattle.std.proofs.Common.{◌≡◌}
 use Rattle.pg_opens.specs.Opens.{names_of, left_of}
 use Rattle.pg_node.proofs.Alone.{NobodyBelow}
 use Rattle.pg_node.proofs.state.calls.has_peer.Given as goal

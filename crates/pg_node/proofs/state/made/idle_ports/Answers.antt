@@ -1,6 +1,5 @@
-use Rattle.std.proofs.Common.{List, refl, sym, subst}
+use Rattle.std.proofs.Common.{refl, sym, subst}
 use Rattle.std.proofs.Math.Path.{fun_ext}
-use Rattle.pg_node.specs.declared.state.port.Port.{Port}
 use Rattle.pg_node.proofs.IdlePorts.{AreIdle, one_more}
 use Rattle.pg_node.proofs.state.made.idle_ports.Goals as goal
 

@@ -1,4 +1,3 @@
-use Rattle.std.proofs.Common.{◌≡◌}
 use Rattle.pg_node.proofs.Answered.{there, none_counted, one_answered}
 use Rattle.pg_node.proofs.state.port.keep_reserved.Goals as goal
 

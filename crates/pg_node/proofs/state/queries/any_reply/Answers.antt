@@ -1,8 +1,6 @@
-use Rattle.std.proofs.Common.{◌≡◌, ◌∙◌, List, Some, Result, Ok, Err, ap, sym, subst}
-use Rattle.pg_term.specs.declared.pid.Pid.{Pid}
+use Rattle.std.proofs.Common.{◌≡◌, ◌∙◌, Some, Result, Ok, Err, ap, sym, subst}
 use Rattle.pg_group.specs.Members.{IsMemberList}
 use Rattle.pg_group.specs.Scope.{anywhere}
-use Rattle.pg_query.specs.Closest.{picked}
 use Rattle.pg_query.specs.declared.fault.QueryFault.TheVariants.{NoSuchGroup}
 use Rattle.pg_node.proofs.Picked.{picks_one, picks_none}
 use Rattle.pg_node.proofs.state.queries.any_reply.Goals as goal
