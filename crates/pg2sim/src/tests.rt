@@ -1,5 +1,7 @@
 // The worked examples as bytes, and what no clause says: texts, readers and writers that fail.
 use crate::run::run_words;
+use pg_node::serve;
+use pg_term::Atom;
 use std::alloc::Global;
 use std::io;
 use std::io::{Read, Write};
@@ -315,5 +317,22 @@ fn refused_growth(rt: HostRuntime) -> Result<(), Fail> {
         let left = writer.len();
         assert!(rt; status == 0 && left == 0 || status == 1 && left == 44);
     }
+    Ok(())
+}
+
+#[test]
+fn names_alike(rt: HostRuntime) -> Result<(), Fail> {
+    let peer = Atom::new(rt.alloc(), "a")?;
+    let mut input = EXCHANGE.to_vec(rt.alloc())?;
+    input.extend_from_slice(&SET_LOCK)?;
+    let mut reader = input.as_slice();
+    let mut output = Vec::new(rt.alloc());
+    assert!(rt; serve(rt.alloc(), &peer, &peer, &mut reader, &mut output).is_ok());
+    assert!(rt; output.as_slice() == GRANTED.as_slice());
+    let nameless = Atom::new(rt.alloc(), "")?;
+    let mut call: &[u8] = &CREATE;
+    let mut reply = Vec::new(rt.alloc());
+    assert!(rt; serve(rt.alloc(), &nameless, &nameless, &mut call, &mut reply).is_ok());
+    assert!(rt; reply.as_slice() == CREATED.as_slice());
     Ok(())
 }

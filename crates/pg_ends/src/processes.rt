@@ -33,6 +33,13 @@ impl Processes {
         Processes { node, made }
     }
 
+    /// How many were made. It takes no memory.
+    pub fn made(&self) -> u32
+        ensures { result ≡ made_of self.now }
+    {
+        self.made
+    }
+
     /// Whether as many were made as can be. It takes no memory.
     pub fn is_full(&self) -> bool
         ensures { result ≡ nat_le MAX_PROCESSES (made_of self.now) }

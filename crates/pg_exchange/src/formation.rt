@@ -1,4 +1,4 @@
-ghost use Rattle.std.specs.Prelude.{◌≡◌, ◌<◌, ◌↔◌, true, false, length, slice_set, slice_get, Some, Err, IfOk, OnOk, OnErr};
+ghost use Rattle.std.specs.Prelude.{◌≡◌, ◌<◌, ◌↔◌, IsTrue, true, false, length, slice_set, slice_get, Some, Err, IfOk, OnOk, OnErr};
 ghost use Rattle.std.specs.List.{list_all};
 ghost use Rattle.std.proofs.Common.{replicate};
 ghost use Rattle.pg_group.specs.Ended.{ended_of};
@@ -41,6 +41,13 @@ impl Formation {
         ensures { result ≡ length self.now }
     {
         self.marks.len()
+    }
+
+    /// Whether the same peers are merged, of as many. It takes no memory: O(n) in the peers.
+    pub fn same(&self, other: &Formation) -> bool
+        ensures { IsTrue result ↔ (self.now ≡ other.now) }
+    {
+        self.marks == other.marks
     }
 
     /// Takes the groups that a peer announces: merges each into a copy, which takes the table's place at the end, and

@@ -1,5 +1,5 @@
 -- Which pids have ended.
-use Rattle.std.specs.Prelude.{ℕ, Bool, ◌||◌, List}
+use Rattle.std.specs.Prelude.{◌≡◌, ℕ, Bool, true, ◌||◌, List}
 use Rattle.std.specs.BTreeSet.{contains}
 use Rattle.pg_term.specs.declared.pid.Pid.{Pid}
 use Rattle.pg_term.specs.Same.{atom_cmp, pid_cmp}
@@ -13,3 +13,7 @@ ended_with ended node pid = at_node node pid || ended pid
 -- the set as a test of pids
 abbrev pub ended_of : Ended → Pid → Bool
 ended_of ended pid = contains atom_cmp ended.nodes pid.node || contains pid_cmp ended.pids pid
+
+-- each pid of the one test passes the other
+abbrev pub IsWithin : (Pid → Bool) → (Pid → Bool) → Type 0
+IsWithin one other = (pid : Pid) → one pid ≡ true → other pid ≡ true

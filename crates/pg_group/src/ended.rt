@@ -13,9 +13,10 @@ pub struct Ended {
 }
 
 impl Ended {
+    ghost use Rattle.std.specs.List.{list_all};
     ghost use Rattle.pg_term.specs.Same.{same_pid};
     ghost use Rattle.pg_group.specs.Functions.{upd};
-    ghost use Rattle.pg_group.specs.Ended.{ended_of, ended_with};
+    ghost use Rattle.pg_group.specs.Ended.{ended_of, ended_with, IsWithin};
 
     /// No pid has ended. It takes no memory.
     pub fn new(alloc: Global) -> Ended
@@ -32,6 +33,26 @@ impl Ended {
         ensures { result ≡ ended_of self.now pid.now }
     {
         self.nodes.contains(&pid.node) || self.pids.contains(pid)
+    }
+
+    /// Whether the same pids have ended in both. It takes no memory: O(n log n) in the pids and the nodes that were put in.
+    pub fn same(&self, other: &Ended) -> bool
+        ensures { IsTrue result ↔ (ended_of self.now ≡ ended_of other.now) }
+    {
+        self.is_within(other) && other.is_within(self)
+    }
+
+    /// Whether each pid that has ended has ended in the other too.
+    fn is_within(&self, other: &Ended) -> bool
+        ensures { IsTrue result ↔ IsWithin (ended_of self.now) (ended_of other.now) }
+    {
+        self.nodes.is_subset(&other.nodes) && other.has_all(&self.pids)
+    }
+
+    fn has_all(&self, pids: &BTreeSet<Pid>) -> bool
+        ensures { result ≡ list_all (ended_of self.now) pids.now.keys }
+    {
+        pids.iter().all(|pid| self.has(pid))
     }
 
     /// Puts the pid in. An error changes nothing. O(log n).

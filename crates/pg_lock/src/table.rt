@@ -1,4 +1,4 @@
-ghost use Rattle.std.specs.Prelude.{◌≡◌, false, Ok, None, IfOk, OnErr};
+ghost use Rattle.std.specs.Prelude.{◌≡◌, ◌↔◌, IsTrue, false, Ok, None, IfOk, OnErr};
 ghost use Rattle.std.specs.Option.{option_copied};
 
 use pg_term::{Atom, Reference, Term};
@@ -86,6 +86,13 @@ impl LockTable {
         ensures { locks_of self.new ≡ without_node (locks_of self.old) node.now }
     {
         self.holders.retain(|_, holder| node != holder.node());
+    }
+
+    /// Whether both tell the same holder of each name. It takes no memory: O(n) in the names that have a holder.
+    pub fn same(&self, other: &LockTable) -> bool
+        ensures { IsTrue result ↔ (locks_of self.now ≡ locks_of other.now) }
+    {
+        self.holders.len() == other.holders.len() && self.holders == other.holders
     }
 
     /// The holder of a name. It takes no memory: O(log n).

@@ -1,11 +1,14 @@
 -- A port where a command came in, or was answered.
-use Rattle.std.proofs.Common.{◌≡◌, ◌<◌, ◌≤◌, ◌+◌, ◌∙◌, ℕ, zero, suc, Bool, true, false, cond, nat_eq, List, [], ◌∷◌, ◌++◌, get_or, length, Some, refl, sym, ap, arith, subst}
+use Rattle.std.proofs.Common.{◌≡◌, ◌<◌, ◌≤◌, ◌+◌, ◌-◌, ◌∙◌, ℕ, zero, suc, Bool, true, false, cond, nat_eq, List, [], ◌∷◌, ◌++◌, get_or, length, Option, Some, refl, sym, ap, arith, subst}
 use Rattle.std.specs.Prelude.{slice_get, slice_set, vec_len, vec_capacity}
 use Rattle.std.proofs.Math.Path.{fun_ext}
 use Rattle.std.proofs.Math.Dec.{eqb-zero-suc, eqb-suc-zero, eqb-suc-suc}
 use Rattle.std.proofs.lemmas.Bool.{eqb-true, eq-eqb}
 use Rattle.pg_group.specs.Functions.{upd}
-use Rattle.pg_group.proofs.Changes.{upd_same}
+use Rattle.pg_group.proofs.Changes.{upd_same, upd_at, upd_twice}
+use Rattle.pg_group.specs.declared.update.Update.{Update}
+use Rattle.pg_group.specs.Value.{name_of}
+use Rattle.pg_message.specs.Name.{is_name}
 use Rattle.pg_step.specs.declared.answer.Answer.{Answer}
 use Rattle.pg_step.specs.declared.answer.Reply.{Reply}
 use Rattle.pg_step.specs.declared.command.OpId.{OpId}
@@ -74,12 +77,26 @@ module _ (ports : List Port) (port k : ℕ) (p q : Port) (same : k ≡ port) (wi
   pub count_there : counts_in ports port ≡ p.count
   count_there = count_here ports port p there
 
+  pub answers_there : answers_in ports port ≡ p.answers.items
+  answers_there = answers_here ports port p there
+
   pub one_counted : q.count ≡ p.count + 1 → counts_in (slice_set ports k q) ≡ counted_at port (counts_in ports)
   one_counted more = ap (λ i. counts_in (slice_set ports i q)) same ∙ counts_set ports port q (counts_in ports port + 1) within (more ∙ ap (λ n. n + 1) (sym count_there))
 
   pub none_counted : q.count ≡ p.count → counts_in (slice_set ports k q) ≡ counts_in ports
   none_counted still = ap (λ i. counts_in (slice_set ports i q)) same ∙ (counts_set ports port q (counts_in ports port) within (still ∙ sym count_there)
       ∙ upd_same nat_eq (counts_in ports) port (eqb-true port) (counts_in ports port) refl)
+
+  -- it counted one more before
+  pub one_less : (counts : ℕ → ℕ) → counts_in ports ≡ counted_at port counts → q.count ≡ p.count - 1 → counts_in (slice_set ports k q) ≡ counts
+  one_less counts counted less = ap (λ i. counts_in (slice_set ports i q)) same ∙ (counts_set ports port q (counts port) within (less ∙ was)
+      ∙ ((λ i. upd nat_eq (counted i) port (counts port)) ∙ (upd_twice nat_eq counts port (counts port + 1) (counts port) ∙ upd_same nat_eq counts port (eqb-true port) (counts port) refl)))
+    where
+      one_off : (n m : ℕ) → n ≡ m + 1 → n - 1 ≡ m
+      one_off n m e = omega arith
+
+      was : p.count - 1 ≡ counts port
+      was = one_off p.count (counts port) (sym count_there ∙ (ap (λ (f : ℕ → ℕ). f port) counted ∙ upd_at nat_eq counts port (counts port + 1) (eq-eqb port port refl)))
 
   pub one_answered : (answer : Answer) → q.answers.items ≡ p.answers.items ++ answer ∷ [] → answers_in (slice_set ports k q) ≡ upd nat_eq (answers_in ports) port (answers_in ports port ++ answer ∷ [])
   one_answered answer more = ap (λ i. answers_in (slice_set ports i q)) same
@@ -128,20 +145,22 @@ module _ (old new : List Port) (k : ℕ) (same : length new ≡ length old) (cou
   pub counts_within : (n m : ℕ) → ((port : ℕ) → counts_in old port ≤ n) → n < m → (port : ℕ) → counts_in new port ≤ m
   counts_within n m each later port = subst (λ (f : ℕ → ℕ). f port ≤ m) (sym counted) (count_within (counts_in old) k port n m each later)
 
-  came_later : (op : OpId) → CameIn (length old) (counts_in old) op → CameIn (length new) (counts_in new) op
-  came_later op came = record {
+  came_later : (op : OpId) (update : Option Update) → CameIn (length old) (counts_in old) op update → CameIn (length new) (counts_in new) op update
+  came_later op update came = record {
     port = subst (λ n. op.port < n) (sym same) came.port;
     number = subst (λ (f : ℕ → ℕ). op.number ≤ f op.port) (sym counted) (omega (arith, came.number, count_more (counts_in old) k op.port));
+    named = came.named;
   }
 
   pub given_later : {uses : ℕ → Use} {stages : OpId → Stage} → AreGiven (CameIn (length old) (counts_in old)) uses stages → AreGiven (CameIn (length new) (counts_in new)) uses stages
   given_later given = given_more came_later given
 
-  -- the command that was counted came in
-  pub next_came : k < length old → CameIn (length new) (counts_in new) (record { port = k; number = counts_in old k + 1 })
-  next_came within = record {
+  -- the command that was counted came in, with an update that has a name
+  pub next_came : (update : Update) → is_name (name_of update) ≡ true → k < length old → CameIn (length new) (counts_in new) (record { port = k; number = counts_in old k + 1 }) (Some update)
+  next_came update named within = record {
     port = subst (λ n. k < n) (sym same) within;
     number = subst (λ (f : ℕ → ℕ). counts_in old k + 1 ≤ f k) (sym counted) (count_itself (counts_in old) k);
+    named = named;
   }
 
 -- the ports after an event that counts no command

@@ -49,7 +49,7 @@ freed locks name reference free = fun_ext (λ other. go other (same_term name ot
     go other true same = sym free ∙ ap locks (same refl)
     go other false same = refl
 
-held_there : (locks : Locks) (name : Term) (holder : Option RefParts) → held locks name holder name ≡ holder
+pub held_there : (locks : Locks) (name : Term) (holder : Option RefParts) → held locks name holder name ≡ holder
 unfolding held
 held_there locks name holder = ap (λ b. cond b holder (locks name)) (term_laws.laws-law.refl name)
 

@@ -20,6 +20,7 @@ use Rattle.pg_step.specs.declared.refusal.Refusal.TheVariants as refusal
 use Rattle.pg_node.specs.declared.state.done.Done.{Done}
 use Rattle.pg_node.specs.declared.state.fault.NodeFault.{NodeFault}
 use Rattle.pg_node.specs.declared.state.fault.NodeFault.TheVariants.{Refused, OutOfMemory}
+use Rattle.pg_node.specs.declared.state.fault.NodeFault.TheVariants as faults
 use Rattle.pg_node.specs.States.{Tells, Gave, Comes, ComesAt, step_see_loss}
 
 -- a clause on errors, of what always holds
@@ -103,6 +104,21 @@ module _ (m : Nodes) (p : Node) (x : Stamped Message) (s : Timed State) (clock :
         where
           which : (Refused other ≡ Refused refusal.NotAMessage) ⊎ (Refused other ≡ OutOfMemory) → ⊥
           which (inl f) = let h : true ≡ false = sym (bad.0 (r ∙ ap Err f)) ∙ e in cc
+          which (inr f) = cc
+      good (Err (faults.Message other)) r e = absurd (which (subst (λ z. IfErr z (λ fault. (fault ≡ Refused refusal.NotAMessage) ⊎ (fault ≡ OutOfMemory))) r fault))
+        where
+          which : (faults.Message other ≡ Refused refusal.NotAMessage) ⊎ (faults.Message other ≡ OutOfMemory) → ⊥
+          which (inl f) = cc
+          which (inr f) = cc
+      good (Err faults.TooLong) r e = absurd (which (subst (λ z. IfErr z (λ fault. (fault ≡ Refused refusal.NotAMessage) ⊎ (fault ≡ OutOfMemory))) r fault))
+        where
+          which : (faults.TooLong ≡ Refused refusal.NotAMessage) ⊎ (faults.TooLong ≡ OutOfMemory) → ⊥
+          which (inl f) = cc
+          which (inr f) = cc
+      good (Err faults.Damaged) r e = absurd (which (subst (λ z. IfErr z (λ fault. (fault ≡ Refused refusal.NotAMessage) ⊎ (fault ≡ OutOfMemory))) r fault))
+        where
+          which : (faults.Damaged ≡ Refused refusal.NotAMessage) ⊎ (faults.Damaged ≡ OutOfMemory) → ⊥
+          which (inl f) = cc
           which (inr f) = cc
 
       go : (b : Bool) → is_bad_exchange p node s.state ≡ b → (r : Result Done NodeFault) → result ≡ r → Comes names (step_take m p x s) r s1 before after

@@ -26,7 +26,7 @@ all_marked (n ∷ ns) (mark ∷ marks) apart same = (λ i. cond (sym (nat_list_e
     shorter a b e = omega arith
 
 -- those who are left of some, where the others pass
-all_left : (lost test : Node → Bool) (ns : List Node) → ((q : Node) → lost q ≡ true → test q ≡ true)
+pub all_left : (lost test : Node → Bool) (ns : List Node) → ((q : Node) → lost q ≡ true → test q ≡ true)
     → list_all test ns ≡ list_all test (filter (λ q. not (lost q)) ns)
 all_left lost test [] passes = refl
 all_left lost test (n ∷ ns) passes = one (lost n) (list_all test ns) (filter (λ q. not (lost q)) ns) (passes n) (all_left lost test ns passes)

@@ -1,5 +1,5 @@
 -- The open commands of a node show its state.
-use Rattle.std.proofs.Common.{◌≡◌, ℕ, Bool, List, refl, sym, ap, subst}
+use Rattle.std.proofs.Common.{◌≡◌, ℕ, Bool, List, None, refl, sym, ap, subst}
 use Rattle.pg_term.specs.declared.pid.Pid.{Pid}
 use Rattle.pg_group.specs.declared.table.GroupTable.{Ghosts}
 use Rattle.pg_group.specs.Table.{Table}
@@ -8,13 +8,26 @@ use Rattle.pg_machine.specs.Clocked.{Timed}
 use Rattle.pg_opens.specs.declared.opens.Opens.{Opens}
 use Rattle.pg_opens.specs.Opens.{Shows, lost_of, references_of, uses_of, opened_of, stages_of}
 use Rattle.pg_step.specs.Nodes.{Node}
-use Rattle.pg_step.specs.State.{State}
+use Rattle.pg_step.specs.State.{State, new_state}
 use Rattle.pg_node.specs.declared.state.NodeState.{NodeState}
 use Rattle.pg_step.specs.declared.answer.Answer.{Answer}
 use Rattle.pg_step.specs.Turns.{NodeTurn}
 use Rattle.pg_step.specs.Step.{at_clock}
 use Rattle.pg_node.specs.declared.state.done.Done.{Done}
 use Rattle.pg_node.specs.States.{kept_by, Happens}
+
+-- a state that has these open commands, and nothing else
+abbrev pub shown : Opens → State
+shown opens = record (new_state (λ name. None) 0) {
+  lost = lost_of opens;
+  references = references_of opens;
+  uses = uses_of opens;
+  opened = opened_of opens;
+  stages = stages_of opens;
+}
+
+pub shows_it : (opens : Opens) → Shows opens (shown opens)
+shows_it opens = record { references = refl; uses = refl; opened = refl; stages = refl; lost_peers = refl }
 
 pub shows : {T : Type 0} {g : Ghosts T} (node : NodeState T g) → Shows node.opens (kept_by node)
 shows node = record { references = refl; uses = refl; opened = refl; stages = refl; lost_peers = refl }

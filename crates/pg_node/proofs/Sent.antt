@@ -34,7 +34,7 @@ sends_both names [] ys q = refl
 sends_both names (x ∷ xs) ys q = ap (λ z. cond (same_atom (name_at names (x.0 + 1)) q) (stamped_of x.1 ∷ []) [] ++ z) (sends_both names xs ys q)
     ∙ sym (append_assoc (cond (same_atom (name_at names (x.0 + 1)) q) (stamped_of x.1 ∷ []) []) (sends_in names xs q) (sends_in names ys q))
 
-and_nothing : {A : Type 0} (xs : List A) → xs ++ [] ≡ xs
+pub and_nothing : {A : Type 0} (xs : List A) → xs ++ [] ≡ xs
 and_nothing [] = refl
 and_nothing (x ∷ xs) = ap (λ z. x ∷ z) (and_nothing xs)
 

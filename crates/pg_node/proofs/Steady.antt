@@ -1,6 +1,7 @@
 -- What stays as it was where the open commands change by a turn that loses no peer.
-use Rattle.std.proofs.Common.{◌≡◌, ◌≤◌, ◌*◌, ◌+◌, ℕ, Bool, true, not, drop, List, length, sym, ap, ◌∙◌, subst}
+use Rattle.std.proofs.Common.{◌≡◌, ◌≤◌, ◌*◌, ◌+◌, ℕ, Bool, true, not, drop, List, length, Option, sym, ap, ◌∙◌, subst}
 use Rattle.std.specs.List.{filter}
+use Rattle.pg_group.specs.declared.update.Update.{Update}
 use Rattle.pg_opens.specs.declared.opens.Opens.{Opens}
 use Rattle.pg_opens.specs.Opens.{Shows, names_of, lost_of, left_of, references_of, uses_of, stages_of}
 use Rattle.pg_opens.specs.Places.{name_at}
@@ -27,7 +28,7 @@ module _ (old new : Opens) (s : State) (h : Shows new s) (nodes : names_of new �
   pub made_stay : (clock : ℕ) → s.references ≤ 2 * clock → references_of new ≤ 2 * clock
   made_stay clock e = subst (λ n. n ≤ 2 * clock) h.references e
 
-  pub given_stay : {came : OpId → Type 0} → AreGiven came s.uses s.stages → AreGiven came (uses_of new) (stages_of new)
+  pub given_stay : {came : OpId → Option Update → Type 0} → AreGiven came s.uses s.stages → AreGiven came (uses_of new) (stages_of new)
   given_stay given = given_same h.uses h.stages given
 
   -- the same nodes count

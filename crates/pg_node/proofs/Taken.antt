@@ -1,53 +1,112 @@
--- What the one peer is sent, and what a packet leads to once its turn is known.
-use Rattle.std.proofs.Common.{◌≡◌, ℕ, ◌+◌, ◌≤◌, Bool, true, false, ◌&&◌, cond, max, not, map, List, [], ◌∷◌, length, Ok, Err, sym, ap, ◌∙◌, append-nil}
-use Rattle.std.specs.List.{list_all, filter}
+-- What the one peer is sent, and what a packet leads to by what came of it.
+use Rattle.std.proofs.Common.{◌≡◌, ◌<◌, ◌+◌, ◌++◌, ℕ, zero, suc, true, cond, nat_eq, map, List, [], ◌∷◌, length, Result, Ok, Err, Some, refl, sym, ap, subst, ◌∙◌, append-nil, arith}
+use Rattle.std.specs.Prelude.{slice_get}
+use Rattle.std.specs.List.{AllByRecursion}
 use Rattle.std.proofs.lemmas.Cmp.{nat_list_eq_equiv}
-use Rattle.std.proofs.lemmas.Bool.{le-leb}
 use Rattle.pg_term.specs.Same.{same_atom}
-use Rattle.pg_term_io.specs.Writing.{written}
 use Rattle.pg_frame.specs.Frames.{frame}
-use Rattle.pg_message.specs.declared.message.Message.{Message}
 use Rattle.pg_message.specs.declared.packet.Packet.{Packet}
-use Rattle.pg_message.specs.Writing.{term_of_packet, framed}
-use Rattle.pg_machine.specs.Clocked.{stamped}
-use Rattle.pg_step.specs.Nodes.{Node, to_one}
-use Rattle.pg_step.specs.Turns.{NodeTurn}
-use Rattle.pg_step.specs.State.{State as Kept}
-use Rattle.pg_step.specs.Step.{CLOCK_LIMIT, taken, node_takes, at_clock, timed}
-use Rattle.pg_step.specs.declared.refusal.Refusal.TheVariants as Refused
-use Rattle.pg_node.specs.Replica.{Pair, State, Turned, Answers, nodes_of, marked, frames_of, body_sent, bodies_to, taken_packet, turned}
+use Rattle.pg_opens.specs.Places.{name_at, whole_in}
+use Rattle.pg_step.specs.declared.answer.Answer.{Answer as Given}
+use Rattle.pg_step.specs.declared.refusal.Refusal.{Refusal}
+use Rattle.pg_step.specs.declared.refusal.Refusal.TheVariants.{ClockFull, NotAMessage, NoSuchPlace, NotWaiting, NodeLost, NotLost, NotDrained}
+use Rattle.pg_step.specs.Nodes.{Node, Nodes}
+use Rattle.pg_step.specs.Step.{TimedTurn, step_take}
+use Rattle.pg_node.specs.declared.state.done.Done.{Done}
+use Rattle.pg_node.specs.declared.state.fault.NodeFault.{NodeFault}
+use Rattle.pg_node.specs.declared.state.fault.NodeFault.TheVariants.{Refused, OutOfMemory, Message, TooLong, Damaged}
+use Rattle.pg_node.specs.Fault.{refused_as, untaken_as, Refuses}
+use Rattle.pg_node.specs.Links.{frame_of, frames_to, FitLinks}
+use Rattle.pg_node.specs.Replica.{State, Answers, nodes_of, frames_of, body_sent, bodies_to, pair_in, taken_packet, turned}
+use Rattle.pg_node.specs.Sendable.{IsSendable, Ascends, AreSendable}
+use Rattle.pg_node.specs.States.{Comes, sends_in, stamped_of}
 
-abbrev pub self_same : (peer : Node) → same_atom peer peer ≡ true
+self_same : (peer : Node) → same_atom peer peer ≡ true
 self_same = nat_list_eq_equiv.refl
 
--- one message to the peer is one frame
-pub one_sent : (pair : Pair) (clock : ℕ) (message : Message) → frames_of (map body_sent (stamped clock (to_one pair.peer message pair.peer))) ≡ framed (written (term_of_packet (record { stamp = clock; message = message })))
+-- the frames that go to the place of the one peer are those of what is sent to its name
+frames_sent : (own peer : Node) (sends : List (ℕ × Packet)) → AllByRecursion (IsSendable (own ∷ peer ∷ [])) sends
+    → frames_to sends 0 ≡ frames_of (map body_sent (sends_in (own ∷ peer ∷ []) sends peer))
 unfolding frame
-one_sent pair clock message =
-    ap (λ b. frames_of (map body_sent (stamped clock (cond b (message ∷ []) [])))) (self_same pair.peer)
-    ∙ append-nil (framed (written (term_of_packet (record { stamp = clock; message = message }))))
+frames_sent own peer [] each = refl
+frames_sent own peer (sent ∷ others) each = go sent.0 each.0.place (frames_sent own peer others each.1)
+  where
+    go : (place : ℕ) → place + 1 < 2 → frames_to others 0 ≡ frames_of (map body_sent (sends_in (own ∷ peer ∷ []) others peer))
+        → cond (nat_eq place 0) (frame_of sent.1) [] ++ frames_to others 0
+        ≡ frames_of (map body_sent (cond (same_atom (name_at (own ∷ peer ∷ []) (place + 1)) peer) (stamped_of sent.1 ∷ []) [] ++ sends_in (own ∷ peer ∷ []) others peer))
+    go zero within same = ap (λ (bytes : List ℕ). frame_of sent.1 ++ bytes) same
+        ∙ ap (λ b. frames_of (map body_sent (cond b (stamped_of sent.1 ∷ []) [] ++ sends_in (own ∷ peer ∷ []) others peer))) (sym (self_same peer))
+    go (suc n) within same = absurd (omega (arith, within))
 
--- the one peer has told its groups where its mark says so
-pub formed_is : (peer : Node) (marks : List Bool) → length marks ≡ 1 → list_all (λ mark. mark) marks ≡ list_all (marked (peer ∷ []) marks) (peer ∷ [])
-formed_is peer [] e = absurd (cc)
-formed_is peer (mark ∷ []) e = ap (λ b. cond b mark false && true) (sym (self_same peer))
-formed_is peer (mark ∷ next ∷ marks) e = absurd (cc)
+-- two nodes are a pair
+set_is : (names : List Node) → length names ≡ 2 → whole_in names ≡ nodes_of (pair_in names)
+set_is [] two = absurd (cc)
+set_is (own ∷ []) two = absurd (cc)
+set_is (own ∷ peer ∷ []) two = refl
+set_is (own ∷ peer ∷ next ∷ names) two = absurd (cc)
 
--- where no loss was seen the peer's packet is taken by the nodes of the pair
-takes_is : (pair : Pair) (x : Message) (s : Kept) → s.lost ≡ (λ q. false) → node_takes (nodes_of pair) pair.peer x s ≡ taken (nodes_of pair) pair.peer x s
-takes_is pair x s none =
-    ap (λ (lost : Node → Bool). cond (lost pair.peer) (Err Refused.NodeLost) (taken (record { own = pair.own; peers = filter (λ q. not (lost q)) (pair.peer ∷ []) }) pair.peer x s)) none
+module _ (names : List Node) (two : length names ≡ 2) (s : State) (packet : Packet) (s1 : State) (before after : ℕ → List Given) where
+  abbrev told : Result TimedTurn Refusal
+  told = step_take (whole_in names) (name_at names 1) (stamped_of packet) s
 
--- a turn that is made within the limit
-pub answers : (pair : Pair) (s : State) (packet : Packet) (t : NodeTurn) (clock : ℕ) (s1 : State) (out0 out1 : List ℕ)
-    → s.state.lost ≡ (λ q. false)
-    → clock ≡ max s.clock packet.stamp + 1 → clock ≤ CLOCK_LIMIT → taken (nodes_of pair) pair.peer packet.message s.state ≡ Ok t
-    → Turned pair clock t s1 out0 out1 → Answers (taken_packet pair s packet) s1 out0 out1
-answers pair s packet t clock s1 out0 out1 none later within is turn = record {
-  sent = bodies_to pair (at_clock clock t);
-  is = ap (λ n. turned pair (timed n (node_takes (nodes_of pair) pair.peer packet.message s.state))) (sym later)
-      ∙ ap (λ r. turned pair (timed clock r)) (takes_is pair packet.message s.state none ∙ is)
-      ∙ ap (λ b. turned pair (cond b (Ok (at_clock clock t)) (Err Refused.ClockFull))) (le-leb clock CLOCK_LIMIT within)
-      ∙ ap (λ (u : State). Ok (record { state = u; sent = bodies_to pair (at_clock clock t) })) (sym turn.state);
-  output = turn.output;
-}
+  taken_is : turned (pair_in names) told ≡ taken_packet (pair_in names) s packet
+  taken_is = ap (λ (m : Nodes). turned (pair_in names) (step_take m (name_at names 1) (stamped_of packet) s)) (set_is names two)
+
+  all_frames : (names : List Node) → length names ≡ 2 → (sends : List (ℕ × Packet)) → AllByRecursion (IsSendable names) sends
+      → frames_to sends 0 ≡ frames_of (map body_sent (sends_in names sends (name_at names 1)))
+  all_frames [] two sends each = absurd (cc)
+  all_frames (own ∷ []) two sends each = absurd (cc)
+  all_frames (own ∷ peer ∷ []) two sends each = frames_sent own peer sends each
+  all_frames (own ∷ peer ∷ next ∷ names) two sends each = absurd (cc)
+
+  -- a packet that was taken
+  pub answers : (done : Done) (out0 out1 : List ℕ) → Comes names told (Ok done) s1 before after → AreSendable names done.sends.items
+      → out1 ≡ out0 ++ frames_to done.sends.items 0 → Answers (taken_packet (pair_in names) s packet) s1 out0 out1
+  answers done out0 out1 comes fits out = subst (λ r. Answers r s1 out0 out1) taken_is (go told comes)
+    where
+      go : (r : Result TimedTurn Refusal) → Comes names r (Ok done) s1 before after → Answers (turned (pair_in names) r) s1 out0 out1
+      go (Ok t) h = record {
+        sent = bodies_to (pair_in names) t;
+        is = ap (λ (u : State). Ok (record { state = u; sent = bodies_to (pair_in names) t })) (sym h.state);
+        output = out ∙ ap (λ (bytes : List ℕ). out0 ++ bytes) (all_frames names two done.sends.items fits.each
+            ∙ ap (λ f. frames_of (map body_sent (f (name_at names 1)))) h.told.sends);
+      }
+      go (Err refusal) h = absurd (cc)
+
+  -- a packet that was not taken
+  pub refuses : (fault : NodeFault) → Comes names told (Err fault) s1 before after → Refuses (taken_packet (pair_in names) s packet) (untaken_as fault)
+  refuses fault comes = subst (λ r. Refuses r (untaken_as fault)) taken_is (go told fault comes)
+    where
+      its_own : (refusal : Refusal) → Refuses (turned (pair_in names) (Err refusal)) (refused_as refusal)
+      its_own ClockFull = refl
+      its_own NotAMessage = refl
+      its_own NoSuchPlace = refl
+      its_own NotWaiting = refl
+      its_own NodeLost = refl
+      its_own NotLost = refl
+      its_own NotDrained = refl
+
+      same_fault : (refusal : Refusal) (fault : NodeFault) → ◌≡◌ {A = Result Done NodeFault} (Err fault) (Err (Refused refusal)) → fault ≡ Refused refusal
+      same_fault refusal fault e = cc
+
+      go : (r : Result TimedTurn Refusal) (fault : NodeFault) → Comes names r (Err fault) s1 before after → Refuses (turned (pair_in names) r) (untaken_as fault)
+      go (Ok t) OutOfMemory h = tt
+      go (Ok t) (Refused refusal) h = absurd h
+      go (Ok t) (Message other) h = absurd h
+      go (Ok t) TooLong h = absurd h
+      go (Ok t) Damaged h = absurd h
+      go (Err refusal) fault h = subst (λ f. Refuses (turned (pair_in names) (Err refusal)) (untaken_as f)) (sym (same_fault refusal fault h)) (its_own refusal)
+
+-- what fits one link is one packet at most
+pub one_packet : (sends : List (ℕ × Packet)) (sent : ℕ × Packet) → FitLinks 1 sends → slice_get sends 0 ≡ Some sent → frames_to sends 0 ≡ frame_of sent.1
+one_packet [] sent fit is = absurd (cc)
+one_packet (first ∷ others) sent fit is = go first.0 fit.2.each.0.place others (fit.2.each.1) fit.2.apart.1 ∙ ap (λ (p : ℕ × Packet). frame_of p.1) (same first sent is)
+  where
+    same : (x y : ℕ × Packet) → Some x ≡ Some y → x ≡ y
+    same x y e = cc
+
+    go : (place : ℕ) → place + 1 < length fit.0 → (others : List (ℕ × Packet)) → AllByRecursion (IsSendable fit.0) others → Ascends (place + 1) others
+        → cond (nat_eq place 0) (frame_of first.1) [] ++ frames_to others 0 ≡ frame_of first.1
+    go zero within [] each ascends = append-nil (frame_of first.1)
+    go zero within (next ∷ others) each ascends = absurd (omega (arith, fit.1, each.0.place, ascends.0))
+    go (suc n) within others each ascends = absurd (omega (arith, within, fit.1))

@@ -3,12 +3,12 @@ use Rattle.std.specs.Prelude.{◌≡◌, ℕ, Result, Err}
 use Rattle.pg_term.specs.declared.fault.TermFault.TheVariants.{OutOfMemory}
 use Rattle.pg_message.specs.Fault.{message_number_of}
 use Rattle.pg_message.specs.declared.fault.MessageFault.TheVariants.{Term, NotAMessage}
-use Rattle.pg_exchange.specs.declared.fault.ExchangeFault.{ExchangeFault}
-use Rattle.pg_exchange.specs.declared.fault.ExchangeFault.TheVariants as exchange
 use Rattle.pg_step.specs.declared.refusal.Refusal.{Refusal}
 use Rattle.pg_step.specs.declared.refusal.Refusal.TheVariants as refusal
 use Rattle.pg_node.specs.declared.fault.ServeFault.{ServeFault}
 use Rattle.pg_node.specs.declared.fault.ServeFault.TheVariants.{Message, FrameTooLong, ClockFull, ReadFault, WriteFault}
+use Rattle.pg_node.specs.declared.state.fault.NodeFault.{NodeFault}
+use Rattle.pg_node.specs.declared.state.fault.NodeFault.TheVariants as node
 
 -- the number of a fault
 abbrev pub number_of : ServeFault → ℕ
@@ -22,11 +22,6 @@ number_of WriteFault = 32
 abbrev pub out_of_memory : ServeFault
 out_of_memory = Message (Term OutOfMemory)
 
--- the fault of an exchange that is refused
-abbrev pub from_exchange : ExchangeFault → ServeFault
-from_exchange exchange.NotAMessage = Message NotAMessage
-from_exchange exchange.OutOfMemory = out_of_memory
-
 -- The fault of a packet that the node's step refuses: the clock is full, or it is no message. The other refusals are none of
 -- a packet of a peer whose loss was not seen; they stand here so that each has a fault.
 abbrev pub refused_as : Refusal → ServeFault
@@ -37,6 +32,15 @@ refused_as refusal.NotWaiting = Message NotAMessage
 refused_as refusal.NodeLost = Message NotAMessage
 refused_as refusal.NotLost = Message NotAMessage
 refused_as refusal.NotDrained = Message NotAMessage
+
+-- The fault of a packet that a node does not take: the node's step refuses it, or memory ran out. The others are none of a
+-- packet that was read; they stand here so that each has a fault.
+abbrev pub untaken_as : NodeFault → ServeFault
+untaken_as (node.Refused refusal) = refused_as refusal
+untaken_as node.OutOfMemory = out_of_memory
+untaken_as (node.Message fault) = Message fault
+untaken_as node.TooLong = FrameTooLong
+untaken_as node.Damaged = Message NotAMessage
 
 -- a fault is the one that is told, or memory ran out
 abbrev pub Refuses : {A : Type 0} → Result A ServeFault → ServeFault → Type 0

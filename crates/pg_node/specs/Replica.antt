@@ -1,16 +1,13 @@
 -- A replica: a node with one peer, no port and no group, which sent no exchange. What it makes of packets is the step of a
 -- node, and what it writes for a stream of bytes are the packets that it sends to its peer.
-use Rattle.std.specs.Prelude.{◌≡◌, ℕ, Bool, false, List, [], ◌∷◌, ◌++◌, length, take, map, ◌==◌, cond, if◌then◌else◌, Option, Some, None, Result, Ok, Err}
+use Rattle.std.specs.Prelude.{◌≡◌, ℕ, List, [], ◌∷◌, ◌++◌, length, take, map, ◌==◌, if◌then◌else◌, Option, Some, None, Result, Ok, Err}
 use Rattle.std.specs.List.{flat_map}
 use Rattle.std.specs.Io.KnownBytes.{Appends}
 use Rattle.pg_term.specs.declared.fault.TermFault.TheVariants.{Truncated, OutOfMemory}
-use Rattle.pg_term.specs.Same.{same_atom}
 use Rattle.pg_term_io.specs.Writing.{written}
 use Rattle.pg_frame.specs.declared.fault.TooLong.{TooLong}
 use Rattle.pg_frame.specs.Frames.{frame, front_of, bodies_of, rest_of}
 use Rattle.pg_group.specs.declared.table.GroupTable.{Ghosts}
-use Rattle.pg_group.specs.Ended.{ended_of}
-use Rattle.pg_lock.specs.Locks.{locks_of}
 use Rattle.pg_message.specs.declared.fault.MessageFault.{MessageFault}
 use Rattle.pg_message.specs.declared.fault.MessageFault.TheVariants.{Term}
 use Rattle.pg_message.specs.declared.message.Message.{Message}
@@ -21,13 +18,14 @@ use Rattle.pg_machine.specs.Clocked.{Timed, Stamped}
 use Rattle.pg_step.specs.Nodes.{Node, Nodes}
 use Rattle.pg_step.specs.State as machine
 use Rattle.pg_step.specs.State.{new_state}
-use Rattle.pg_step.specs.Turns.{NodeTurn}
-use Rattle.pg_step.specs.Step.{TimedTurn, at_clock, step_take}
+use Rattle.pg_opens.specs.Places.{name_at}
+use Rattle.pg_step.specs.Step.{TimedTurn, step_take}
 use Rattle.pg_step.specs.declared.refusal.Refusal.{Refusal}
 use Rattle.pg_node.specs.declared.fault.ServeFault.{ServeFault}
 use Rattle.pg_node.specs.declared.fault.ServeFault.TheVariants as faults
-use Rattle.pg_node.specs.declared.replica.Replica.{Replica}
+use Rattle.pg_node.specs.declared.state.NodeState.{NodeState}
 use Rattle.pg_node.specs.Fault.{refused_as}
+use Rattle.pg_node.specs.States.{names_of, stamped_of}
 
 -- ---- one packet
 
@@ -45,9 +43,6 @@ State = Timed machine.State
 -- clock 0, no group, no end, no lock
 abbrev pub start : State
 start = record { clock = 0; state = new_state (λ name. None) 0 }
-
-abbrev pub stamped_of : Packet → Stamped Message
-stamped_of packet = record { stamp = packet.stamp; packet = packet.message }
 
 -- the body of a packet that is sent
 abbrev pub body_sent : Stamped Message → List ℕ
@@ -138,29 +133,12 @@ pub record Serves (pair : Pair) (before after : Option (List ℕ)) (input : List
 
 -- ---- by the code
 
--- the marks of peers, in their order, as a test of nodes
-abbrev pub marked : List Node → List Bool → Node → Bool
-marked (peer ∷ peers) (mark ∷ marks) q = cond (same_atom peer q) mark (marked peers marks q)
-marked peers marks q = false
+-- the first two of some names
+abbrev pub pair_in : List Node → Pair
+pair_in names = record { own = name_at names 0; peer = name_at names 1 }
 
-abbrev pub pair_of : {T : Type 0} {g : Ghosts T} → Replica T g → Pair
-pair_of replica = record { own = replica.own; peer = replica.peer }
-
--- what a replica is seen as
-abbrev pub state_of : {T : Type 0} {g : Ghosts T} → Replica T g → State
-state_of {T} {g} replica = record {
-  clock = replica.clock;
-  state = record (new_state (g.contents replica.table) 0) {
-    ended = ended_of replica.ended;
-    locks = locks_of replica.locks;
-    merged = marked (replica.peer ∷ []) replica.formation;
-  };
-}
-
--- a turn was made at this clock: the state is the next one, and what is sent stands framed at the end of the output
-pub record Turned (pair : Pair) (clock : ℕ) (t : NodeTurn) (s1 : State) (output0 output1 : List ℕ) : Type 0 where
-  pub state : s1 ≡ (at_clock clock t).state
-  pub output : output1 ≡ output0 ++ frames_of (bodies_to pair (at_clock clock t))
+abbrev pub pair_of : {T : Type 0} {g : Ghosts T} → NodeState T g → Pair
+pair_of node = pair_in (names_of node)
 
 -- what is told came about: the state is the next one, and what is sent stands framed at the end of the output
 pub record Answers (told : Result Answer ServeFault) (s1 : State) (output0 output1 : List ℕ) : Type 0 where

@@ -100,7 +100,7 @@ pub record Happens (names : List Node) (t : TimedTurn) (done : Done) (s : Timed 
 abbrev pub Comes : List Node → Result TimedTurn Refusal → Result Done NodeFault → Timed State → (ℕ → List Answer) → (ℕ → List Answer) → Type 0
 Comes names (Ok t) (Ok done) s before after = Happens names t done s before after
 Comes names (Ok t) (Err OutOfMemory) s before after = Unit {0}
-Comes names (Ok t) (Err (Refused refusal)) s before after = ⊥
+Comes names (Ok t) (Err fault) s before after = ⊥
 Comes names (Err refusal) result s before after = result ≡ Err (Refused refusal)
 
 -- the same of a turn without clock, at the clock that the event sets

@@ -1,7 +1,6 @@
-use pg_exchange::ExchangeFault;
 use pg_message::MessageFault;
 use pg_term::TermFault;
-use std::alloc::{AllocError, AllocFailed};
+use std::alloc::AllocError;
 use thiserror::Error;
 
 /// Why a replica stopped.
@@ -66,22 +65,6 @@ impl From<TermFault> for ServeFault {
     }
 }
 
-impl From<ExchangeFault> for ServeFault {
-    ghost use Rattle.std.specs.Prelude.{◌≡◌};
-    ghost use Rattle.pg_node.specs.Fault.{from_exchange};
-
-    ghost from_gives = { λ fault e. e ≡ from_exchange fault };
-
-    fn from(fault: ExchangeFault) -> ServeFault {
-        match fault {
-            ExchangeFault::NotAMessage => ServeFault::Message(MessageFault::NotAMessage),
-            ExchangeFault::OutOfMemory => {
-                ServeFault::Message(MessageFault::Term(TermFault::OutOfMemory))
-            }
-        }
-    }
-}
-
 impl From<AllocError> for ServeFault {
     ghost use Rattle.std.specs.Prelude.{◌≡◌};
     ghost use Rattle.pg_node.specs.Fault.{out_of_memory};
@@ -89,17 +72,6 @@ impl From<AllocError> for ServeFault {
     ghost from_gives = { λ _ e. e ≡ out_of_memory };
 
     fn from(_e: AllocError) -> ServeFault {
-        ServeFault::Message(MessageFault::Term(TermFault::OutOfMemory))
-    }
-}
-
-impl<T: Drop> From<AllocFailed<T>> for ServeFault {
-    ghost use Rattle.std.specs.Prelude.{◌≡◌};
-    ghost use Rattle.pg_node.specs.Fault.{out_of_memory};
-
-    ghost from_gives = { λ _ e. e ≡ out_of_memory };
-
-    fn from(_e: AllocFailed<T>) -> ServeFault {
         ServeFault::Message(MessageFault::Term(TermFault::OutOfMemory))
     }
 }

@@ -1,12 +1,13 @@
-//! The replica of one node: packets come in as a stream of frames, and each is taken by the node's step.
+//! One node of a set: over packets, over bytes, and as a replica that is fed a stream of frames.
 #![tactic(auto)]
 
+mod answer;
 mod fault;
-mod replica;
+mod node;
 mod server;
 mod state;
 
 pub use fault::ServeFault;
-pub use replica::MAX_CLOCK;
+pub use node::Node;
 pub use server::serve;
 pub use state::{Done, NodeConfig, NodeFault, NodeState};

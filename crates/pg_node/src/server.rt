@@ -1,15 +1,18 @@
-ghost use Rattle.std.specs.Prelude.{◌≡◌, ◌<◌, ◌++◌, true, false, List, ℕ, length, [], Some, None, Ok, Err, IfSome, IfOk, IfErr, OnOk, ◌⊎◌, ◌==◌, if◌then◌else◌};
+ghost use Rattle.std.specs.Prelude.{◌≡◌, ◌<◌, ◌∷◌, ◌++◌, true, false, List, ℕ, length, [], Some, None, Ok, Err, IfSome, IfOk, IfErr, OnOk, ◌⊎◌, ◌==◌, if◌then◌else◌};
 ghost use Rattle.std.specs.Io.KnownBytes.{Appends, Keeps, Consumes, IsAtEnd};
 ghost use Rattle.pg_frame.specs.Frames.{front_of};
 ghost use Rattle.pg_node.specs.Fault.{out_of_memory};
-ghost use Rattle.pg_node.specs.Replica.{start, pair_of, state_of, Serves};
+ghost use Rattle.pg_node.specs.Replica.{start, pair_of, Serves};
+ghost use Rattle.pg_node.specs.States.{names_of, state_of};
+ghost use Rattle.pg_term.specs.Same.{same_atom};
 ghost use Rattle.pg_node.specs.Progress.{Progress, Reads, StopsAt, Stops};
 ghost use Rattle.pg_node.specs.declared.fault.ServeFault.TheVariants.{Message, ReadFault, WriteFault};
 ghost use Rattle.pg_message.specs.declared.fault.MessageFault.TheVariants.{Term};
 ghost use Rattle.pg_term.specs.declared.fault.TermFault.TheVariants.{Truncated};
 
+use crate::answer::answer;
 use crate::fault::ServeFault;
-use crate::replica::Replica;
+use crate::state::{NodeConfig, NodeState, started};
 use bytes::BytesMut;
 use pg_frame::Deframer;
 use pg_group::GroupTable;
@@ -44,27 +47,29 @@ fn put_whole<W: Write>(writer: &mut W, bytes: &[u8]) -> Result<(), ServeFault>
     Ok(())
 }
 
-/// A replica with the bytes that came in and the reply that goes out.
+/// A node with one peer, the bytes that came in and the reply that goes out.
 #[derive(Drop)]
 struct Server<T: GroupTable> {
     deframer: Deframer,
-    replica: Replica<T>,
+    node: NodeState<T>,
     reply: BytesMut,
+    alloc: Global,
+    ghost one_peer: { length (names_of node) ≡ 2 },
 }
 
 impl<T: GroupTable + Drop> Server<T> {
     /// Answers the next packet, if it is there: its reply is written whole before the packet is taken away.
     fn answer_next<W: Write>(&mut self, writer: &mut W) -> Result<bool, ServeFault>
-        ensures progress { OnOk result (Progress (pair_of self.old.replica) self.old.deframer.unread
+        ensures progress { OnOk result (Progress (pair_of self.old.node) self.old.deframer.unread
             self.new.deframer.unread
-            (state_of self.old.replica) (state_of self.new.replica)
+            (state_of self.old.node) (state_of self.new.node)
             (W.contents writer.old) (W.contents writer.new)) }
-        ensures pair { pair_of self.new.replica ≡ pair_of self.old.replica }
+        ensures pair { pair_of self.new.node ≡ pair_of self.old.node }
         ensures some { IfOk result (λ taken. taken ≡ true
             → length self.new.deframer.unread < length self.old.deframer.unread) }
         ensures none { IfOk result (λ taken. taken ≡ false → front_of self.new.deframer.unread ≡ Ok None) }
-        ensures fault { IfErr result (λ fault. StopsAt (pair_of self.old.replica) fault self.old.deframer.unread
-            (state_of self.old.replica) (W.contents writer.old) (W.contents writer.new)) }
+        ensures fault { IfErr result (λ fault. StopsAt (pair_of self.old.node) fault self.old.deframer.unread
+            (state_of self.old.node) (W.contents writer.old) (W.contents writer.new)) }
     {
         let body = match self.deframer.front() {
             Ok(Some(body)) => body,
@@ -72,7 +77,7 @@ impl<T: GroupTable + Drop> Server<T> {
             Err(_) => return Err(ServeFault::FrameTooLong),
         };
         self.reply.clear();
-        self.replica.answer(body, &mut self.reply)?;
+        answer(self.alloc, &mut self.node, body, &mut self.reply)?;
         put_whole(writer, self.reply.as_slice())?;
         // `front` gave a whole frame, so there is one to take out.
         let _ = self.deframer.next();
@@ -81,14 +86,14 @@ impl<T: GroupTable + Drop> Server<T> {
 
     /// Answers all packets that are there.
     fn answer_all<W: Write>(&mut self, writer: &mut W) -> Result<(), ServeFault>
-        ensures progress { OnOk result (Progress (pair_of self.old.replica) self.old.deframer.unread
+        ensures progress { OnOk result (Progress (pair_of self.old.node) self.old.deframer.unread
             self.new.deframer.unread
-            (state_of self.old.replica) (state_of self.new.replica)
+            (state_of self.old.node) (state_of self.new.node)
             (W.contents writer.old) (W.contents writer.new)) }
-        ensures pair { pair_of self.new.replica ≡ pair_of self.old.replica }
+        ensures pair { pair_of self.new.node ≡ pair_of self.old.node }
         ensures none { OnOk result (front_of self.new.deframer.unread ≡ Ok None) }
-        ensures fault { IfErr result (λ fault. Stops (pair_of self.old.replica) fault self.old.deframer.unread
-            (state_of self.old.replica) (W.contents writer.old) (W.contents writer.new)) }
+        ensures fault { IfErr result (λ fault. Stops (pair_of self.old.node) fault self.old.deframer.unread
+            (state_of self.old.node) (W.contents writer.old) (W.contents writer.new)) }
     {
         while self.answer_next(writer)? {}
         Ok(())
@@ -100,8 +105,8 @@ impl<T: GroupTable + Drop> Server<T> {
         ensures piece { IfOk result (Reads (R.remaining reader.old) (R.remaining reader.new)
             self.old.deframer.unread self.new.deframer.unread) }
         ensures fault { IfErr result (λ fault. (fault ≡ ReadFault) ⊎ (fault ≡ out_of_memory)) }
-        ensures pair { pair_of self.new.replica ≡ pair_of self.old.replica }
-        ensures state { state_of self.new.replica ≡ state_of self.old.replica }
+        ensures pair { pair_of self.new.node ≡ pair_of self.old.node }
+        ensures state { state_of self.new.node ≡ state_of self.old.node }
     {
         let count = match reader.read(piece) {
             Ok(count) => count,
@@ -114,9 +119,9 @@ impl<T: GroupTable + Drop> Server<T> {
     /// Serves the whole input.
     fn run<R: Read, W: Write>(&mut self, reader: &mut R, writer: &mut W) -> Result<(), ServeFault>
         requires fresh { self.old.deframer.unread ≡ [] }
-        requires start { state_of self.old.replica ≡ start }
+        requires start { state_of self.old.node ≡ start }
         ensures { IfSome (R.remaining reader.old) (λ input.
-            Serves (pair_of self.old.replica) (W.contents writer.old) (W.contents writer.new) input result) }
+            Serves (pair_of self.old.node) (W.contents writer.old) (W.contents writer.new) input result) }
     {
         let mut piece = [0; PIECE_LEN];
         for _ in 0..MAX_READS {
@@ -177,15 +182,59 @@ pub fn serve<R: Read, W: Write>(
 }
 
 /// A server that has read nothing.
-fn idle_server(alloc: Global, own: &Atom, peer: &Atom) -> Result<Server<IndexTable>, AllocError>
-    ensures pair { IfOk result (λ server. pair_of server.replica ≡ record { own = own.now; peer = peer.now }) }
-    ensures state { IfOk result (λ server. state_of server.replica ≡ start) }
+fn idle_server(alloc: Global, own: &Atom, peer: &Atom) -> Result<Server<IndexTable>, ServeFault>
+    ensures own { same_atom own.now peer.now ≡ false → IfOk result (λ server. (pair_of server.node).own ≡ own.now) }
+    ensures peer { IfOk result (λ server. (pair_of server.node).peer ≡ peer.now) }
+    ensures state { IfOk result (λ server. state_of server.node ≡ start) }
     ensures unread { IfOk result (λ server. server.deframer.unread ≡ []) }
+    ensures fault { IfErr result (λ fault. fault ≡ out_of_memory) }
 {
-    let replica = Replica::new(alloc, own.copy()?, peer.copy()?, IndexTable::new(alloc))?;
+    let config = NodeConfig {
+        own: own_name(alloc, own, peer)?,
+        peers: one_peer(alloc, peer)?,
+        made: 0,
+        ports: 0,
+    };
     Ok(Server {
         deframer: Deframer::new(alloc),
-        replica,
+        node: started(alloc, config, IndexTable::new(alloc))?,
         reply: BytesMut::new(alloc),
+        alloc,
     })
+}
+
+/// The node's own name. The names of a set differ, so where it is the peer's another one stands for it: a node without
+/// commands shows its own name in nothing that it answers.
+fn own_name(alloc: Global, own: &Atom, peer: &Atom) -> Result<Atom, ServeFault>
+    ensures own { same_atom own.now peer.now ≡ false → IfOk result (λ name. name ≡ own.now) }
+    ensures apart { IfOk result (λ name. same_atom name peer.now ≡ false) }
+    ensures fault { IfErr result (λ fault. fault ≡ out_of_memory) }
+{
+    if own != peer {
+        return Ok(own.copy()?);
+    }
+    match other_name(alloc, peer) {
+        Ok(name) => Ok(name),
+        Err(_) => Err(ServeFault::Message(MessageFault::Term(TermFault::OutOfMemory))),
+    }
+}
+
+/// A name that is not this one.
+fn other_name(alloc: Global, name: &Atom) -> Result<Atom, TermFault>
+    ensures { IfOk result (λ other. same_atom other name.now ≡ false) }
+{
+    if name.as_str().is_empty() {
+        Atom::new(alloc, "a")
+    } else {
+        Atom::new(alloc, "")
+    }
+}
+
+/// A list of this one name.
+fn one_peer(alloc: Global, peer: &Atom) -> Result<Vec<Atom>, AllocError>
+    ensures { IfOk result (λ peers. peers.items ≡ peer.now ∷ []) }
+{
+    let mut peers = Vec::with_capacity(alloc, 1)?;
+    peers.push(peer.copy()?)?;
+    Ok(peers)
 }

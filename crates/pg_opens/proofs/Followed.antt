@@ -31,9 +31,10 @@ use Rattle.pg_opens.specs.Commands.{use_in, use_at, has_in, stage_in, stage_at, 
 use Rattle.pg_opens.specs.declared.command.Standing.TheVariants as standing
 use Rattle.pg_opens.specs.Readings.{standing_of, is_locking}
 use Rattle.pg_opens.specs.Opens.{Says}
+use Rattle.pg_opens.specs.TakenBack.{command_taken_back}
 use Rattle.pg_opens.proofs.Layered.{set_length, others_length}
 use Rattle.pg_opens.proofs.Named.{clash, reads_set, reads_all, by_places, reads_at, reads_nobody, atom_other}
-use Rattle.pg_opens.proofs.Uses.{known_after, fits_started, fits_same, fits_given, fits_begun, was, stage_was, stage_new, stage_same, stage_ended, marked_lock, marked_update, started, begun, given, ended}
+use Rattle.pg_opens.proofs.Uses.{known_after, fits_started, fits_same, fits_given, fits_begun, was, stage_was, stage_new, stage_same, stage_ended, marked_lock, marked_update, started, begun, given, ended, use_taken_back}
 use Rattle.pg_opens.proofs.Asking.{asked_statuses, own_at}
 use Rattle.pg_opens.proofs.Found.{Stands, StandsFor, waiting_phase, locking_phase}
 
@@ -305,6 +306,9 @@ module _ (names : List Node) (made : ℕ) (os : List OpenCommand) (k : ℕ) (o o
 
 -- ---- a command ends
 
+one_less : (a b : ℕ) → suc a ≡ b → b - 1 ≡ a
+one_less a b e = omega arith
+
 pub finish_follows : (names : List Node) (lost : List Bool) (made : ℕ) (os : List OpenCommand) (k : ℕ) (o : OpenCommand) → AreKnown names made os
     → (m : Nodes) (x : ℕ) (op : OpId) (update : Update) (lock : ℕ) (replied : Node → Bool) → Stands os k o x → uses_in names made os x ≡ Updating op update lock replied
     → (s : State) → Says names lost made os s → Says names lost made (others os k) (finish m x op update lock s).state
@@ -313,10 +317,22 @@ finish_follows names lost made os k o known m x op update lock replied at e s h 
     record {
       references = h.references;
       uses = (λ i. upd nat_eq (upd nat_eq (h.uses i) lock Spent) x Spent) ∙ sym (ended names made os k o known at.here lock x w.phase);
-      opened = ap (λ n. n - 1) h.opened ∙ less (length (others os k)) (length os) (others_length stage_at os k o at.here);
+      opened = ap (λ n. n - 1) h.opened ∙ one_less (length (others os k)) (length os) (others_length stage_at os k o at.here);
       stages = (λ i. upd same_op (h.stages i) (sym w.is_op i) Closed) ∙ sym (stage_ended names made os k o known at.here);
       lost_peers = h.lost_peers;
     }
-  where
-    less : (a b : ℕ) → suc a ≡ b → b - 1 ≡ a
-    less a b e = omega arith
+
+-- ---- a command is taken back
+
+pub take_back_follows : (names : List Node) (lost : List Bool) (made : ℕ) (os : List OpenCommand) (k : ℕ) (o : OpenCommand) → AreKnown names made os
+    → (op : OpId) → StandsFor os k o op → standing_of (stages_in os op) ≡ standing.Waiting
+    → (s : State) → Says names lost made os s → Says names lost made (others os k) (command_taken_back op s).state
+take_back_follows names lost made os k o known op at waits s h =
+    let is_op : op ≡ o.op = sym (op_is o.op op at.is) in
+    record {
+      references = h.references;
+      uses = h.uses ∙ sym (use_taken_back names made os k o known at.here (waiting_phase names made os k o known op at waits));
+      opened = ap (λ n. n - 1) h.opened ∙ one_less (length (others os k)) (length os) (others_length stage_at os k o at.here);
+      stages = (λ i. upd same_op (h.stages i) (is_op i) Closed) ∙ sym (stage_ended names made os k o known at.here);
+      lost_peers = h.lost_peers;
+    }

@@ -330,6 +330,10 @@ module _ (names : List Node) (made : ℕ) (os : List OpenCommand) (k : ℕ) (o :
       one true r h = ap (λ z. or_as z Closed) (quiet_is r (h refl))
       one false r h = refl
 
+  -- a command that waits uses no reference
+  pub use_taken_back : o.phase ≡ phase.Waiting → uses_in names made (others os k) ≡ uses_in names made os
+  use_taken_back e = fun_ext (λ x. sym (was x ∙ ap (λ z. or_as (over z (rest x)) (unused made x)) (use_was names o phase.Waiting x e)))
+
   pub known_ended : AreKnown names made (others os k)
   known_ended = record {
     uses_alone = alone_of (use_at names) (others os k) (apart_others (use_at names) os k (apart_of (use_at names) os known.uses_alone));

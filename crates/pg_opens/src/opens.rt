@@ -58,7 +58,7 @@ impl Opens {
     ghost use Rattle.pg_opens.specs.Readings.{gathering_of, standing_of, is_locking, is_updating, update_of, waiting_of, waits_by};
     ghost use Rattle.pg_opens.specs.Outlooks.{outlook_of};
     ghost use Rattle.pg_step.specs.State.Status.{Asked as AskedYet};
-    ghost use Rattle.pg_opens.specs.TakenBack.{ok_taken_back};
+    ghost use Rattle.pg_opens.specs.TakenBack.{command_taken_back, ok_taken_back};
     ghost use Rattle.pg_opens.specs.Twins.{same_commands};
 
     /// No command is open, no reference was made and no loss was seen. Two allocations.
@@ -532,6 +532,17 @@ impl Opens {
             phase: Phase::Waiting,
             marks: room.marks,
         });
+    }
+
+    /// A command that waits is taken back, as if it had not been opened. It takes no memory: O(open commands).
+    pub fn take_back(&mut self, op: OpId)
+        requires waits { standing_of (stages_of self.old op) ≡ Standing.Waiting }
+        ensures turned { Follows self.old self.new (command_taken_back op) }
+        ensures nodes { names_of self.new ≡ names_of self.old }
+    {
+        if let Some(place) = place_of_op(&self.commands, op) {
+            self.commands.remove(place);
+        }
     }
 
     /// Sees the loss of a peer: it counts no more, and what is gathered forgets it. `place`: the peer's, by the names. It

@@ -1,5 +1,6 @@
 pub mod Closest
 pub mod QueryFault
+pub mod SameGroups
 pub use Rattle.pg_group.specs.Members
 pub use Rattle.pg_group.specs.Scope
 pub use Rattle.pg_group.specs.Table

@@ -4,7 +4,9 @@
 mod choice;
 mod fault;
 mod lists;
+mod same;
 
 pub use choice::closest;
 pub use fault::QueryFault;
 pub use lists::{local_members, members, which_groups};
+pub use same::same_groups;

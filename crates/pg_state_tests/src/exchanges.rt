@@ -29,6 +29,24 @@ fn lost_peers_are_not_awaited(rt: HostRuntime) -> Result<(), Fail> {
     Ok(())
 }
 
+/// Formations are compared by the peers that are merged, and how many there are.
+#[test]
+fn same_peers_are_merged(rt: HostRuntime) -> Result<(), Fail> {
+    let alloc = rt.alloc();
+    let mut one = again(|| Formation::new(alloc, 2))?;
+    let mut other = again(|| Formation::new(alloc, 2))?;
+    let more = again(|| Formation::new(alloc, 3))?;
+    assert!(rt; one.same(&other));
+    assert!(rt; !one.same(&more));
+    for (first, second, same) in [(0, 1, false), (1, 0, true)] {
+        assert!(rt; first < one.peers() && second < other.peers());
+        one.forget(first);
+        other.forget(second);
+        assert_eq!(rt; one.same(&other), same);
+    }
+    Ok(())
+}
+
 /// A group of one pid that is told twice.
 fn told(alloc: Global) -> Result<Vec<(Term, Items<Pid>)>, TermFault> {
     let mut pids = Vec::new(alloc);

@@ -1,7 +1,9 @@
-//! What is only run of what a node keeps: tables of groups, ends of processes, exchanges, references, locks, gathered replies and
-//! open commands.
+//! What is only run of what a node keeps: tables of groups, ends of processes, exchanges, references, locks, gathered replies,
+//! open commands and answers.
 #![tactic(auto)]
 
+#[cfg(test)]
+mod answers;
 #[cfg(test)]
 mod commands;
 #[cfg(test)]

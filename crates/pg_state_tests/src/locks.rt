@@ -2,10 +2,29 @@
 
 use crate::samples::reference;
 use pg_lock::{Attempt, LockTable};
-use pg_term::{Reference, Term};
+use pg_term::{Reference, Term, TermFault};
+use std::alloc::{AllocError, Global};
 use std::test::Fail;
 
 mod many;
+
+/// Asks a formed node for the lock of the name of this number.
+fn ask(locks: &mut LockTable, number: i64, reference: &Reference) -> Result<bool, AllocError> {
+    locks.ask(true, &Term::Int(number), reference)
+}
+
+fn give_up(locks: &mut LockTable, number: i64, reference: &Reference) {
+    locks.give_up(&Term::Int(number), reference);
+}
+
+/// Whether the reference holds the lock of a name.
+fn is_held(locks: &LockTable, number: i64, reference: &Reference) -> bool {
+    locks.holder(&Term::Int(number)) == Some(reference)
+}
+
+fn is_free(locks: &LockTable, number: i64) -> bool {
+    locks.holder(&Term::Int(number)).is_none()
+}
 
 /// A node that has not formed grants nothing; then the first to ask for a name holds it, and frees it alone.
 #[test]
@@ -13,23 +32,64 @@ fn one_holder(rt: HostRuntime) -> Result<(), Fail> {
     let alloc = rt.alloc();
     let first = reference(alloc, "a", 1)?;
     let second = reference(alloc, "a", 2)?;
-    let name = Term::Int(1);
     let mut locks = LockTable::new(alloc);
-    assert!(rt; !locks.ask(false, &name, &first)?);
-    assert!(rt; locks.holder(&name).is_none());
-    assert!(rt; locks.ask(true, &name, &first)?);
-    assert!(rt; !locks.ask(true, &name, &second)?);
-    assert!(rt; locks.ask(true, &Term::Int(2), &second)?);
-    locks.give_up(&name, &second);
-    assert!(rt; is_held(&locks, &name, &first));
-    locks.give_up(&name, &first);
-    assert!(rt; locks.holder(&name).is_none());
+    assert!(rt; !locks.ask(false, &Term::Int(1), &first)?);
+    assert!(rt; is_free(&locks, 1));
+    assert!(rt; ask(&mut locks, 1, &first)?);
+    assert!(rt; !ask(&mut locks, 1, &second)?);
+    assert!(rt; ask(&mut locks, 2, &second)?);
+    give_up(&mut locks, 1, &second);
+    assert!(rt; is_held(&locks, 1, &first));
+    give_up(&mut locks, 1, &first);
+    assert!(rt; is_free(&locks, 1));
     Ok(())
 }
 
-/// Whether the reference holds the lock of a name.
-fn is_held(locks: &LockTable, name: &Term, reference: &Reference) -> bool {
-    locks.holder(name) == Some(reference)
+/// Two tables, and two references that ask them.
+#[derive(Drop)]
+struct Tables {
+    one: LockTable,
+    other: LockTable,
+    first: Reference,
+    second: Reference,
+}
+
+fn empty_tables(alloc: Global) -> Result<Tables, TermFault> {
+    let first = reference(alloc, "a", 1)?;
+    let second = reference(alloc, "a", 2)?;
+    Ok(Tables {
+        one: LockTable::new(alloc),
+        other: LockTable::new(alloc),
+        first,
+        second,
+    })
+}
+
+/// Whether each of the two says that they are the same.
+fn are_same(tables: &Tables) -> bool {
+    tables.one.same(&tables.other) & tables.other.same(&tables.one)
+}
+
+/// Whether one of the two says that they are the same.
+fn seem_same(tables: &Tables) -> bool {
+    tables.one.same(&tables.other) | tables.other.same(&tables.one)
+}
+
+/// Tables are compared by who holds what, in whatever order it was asked for.
+#[test]
+fn same_holders(rt: HostRuntime) -> Result<(), Fail> {
+    let mut tables = empty_tables(rt.alloc())?;
+    assert!(rt; are_same(&tables));
+    assert!(rt; ask(&mut tables.one, 1, &tables.first)?);
+    assert!(rt; ask(&mut tables.one, 2, &tables.second)?);
+    assert!(rt; ask(&mut tables.other, 2, &tables.second)?);
+    assert!(rt; !seem_same(&tables), "one is missing");
+    assert!(rt; ask(&mut tables.other, 1, &tables.second)?);
+    assert!(rt; !seem_same(&tables), "another holds it");
+    give_up(&mut tables.other, 1, &tables.second);
+    assert!(rt; ask(&mut tables.other, 1, &tables.first)?);
+    assert!(rt; are_same(&tables));
+    Ok(())
 }
 
 #[test]

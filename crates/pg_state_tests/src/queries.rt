@@ -6,8 +6,9 @@ ghost use Rattle.pg_group.specs.Scope.{anywhere};
 ghost use Rattle.pg_group.specs.Members.{IsMemberList};
 
 use crate::samples::{again, atom, pid, pid_of};
-use pg_group::{Ended, GroupTable, RowTable, one_member_list};
-use pg_query::{QueryFault, closest, local_members, members, which_groups};
+use pg_group::{Ended, GroupTable, RowTable, Update, one_member_list};
+use pg_index::IndexTable;
+use pg_query::{QueryFault, closest, local_members, members, same_groups, which_groups};
 use pg_term::{Atom, Items, Pid, Term, TermFault};
 use std::alloc::Global;
 use std::test::Fail;
@@ -25,6 +26,57 @@ fn filled(alloc: Global) -> Result<RowTable, TermFault> {
         pid(alloc, 2)?,
     ];
     table.merge(&Term::Int(7), &pids, &ended)?;
+    table.merge(&Term::Int(3), &[], &ended)?;
+    Ok(table)
+}
+
+/// Tables are compared by what they say, whichever keeps it: the names of both, and of each the members as often.
+#[test]
+fn same_tables(rt: HostRuntime) -> Result<(), Fail> {
+    let alloc = rt.alloc();
+    let ended = Ended::new(alloc);
+    let rows = again(|| filled(alloc))?;
+    for (name, members, same) in [
+        (7, [9, 2, 1, 2], true),
+        (7, [9, 2, 1, 1], false),
+        (8, [9, 2, 1, 2], false),
+    ] {
+        let index = again(|| filled_index(alloc, name, &members))?;
+        assert_eq!(rt;
+            again(|| same_groups(alloc, &rows, &index))?,
+            same,
+            "{name}"
+        );
+        assert_eq!(rt;
+            again(|| same_groups(alloc, &index, &rows))?,
+            same,
+            "{name}"
+        );
+    }
+    let mut fewer = again(|| filled(alloc))?;
+    if fewer.apply(&Update::Delete(Term::Int(3)), &ended).is_err() {
+        fewer.apply(&Update::Delete(Term::Int(3)), &ended)?;
+    }
+    assert!(rt;
+        !again(|| same_groups(alloc, &rows, &fewer))?,
+        "a group is missing"
+    );
+    assert!(rt;
+        !again(|| same_groups(alloc, &fewer, &rows))?,
+        "there is one more"
+    );
+    Ok(())
+}
+
+/// A table with an index where a group has members with these ids, that of 9 on node b, and the group 3 has none.
+fn filled_index(alloc: Global, name: i64, ids: &[u32]) -> Result<IndexTable, TermFault> {
+    let mut table = IndexTable::new(alloc);
+    let ended = Ended::new(alloc);
+    let mut pids = Vec::new(alloc);
+    for id in ids {
+        pids.push(pid_of(alloc, if *id == 9 { "b" } else { "a" }, *id)?)?;
+    }
+    table.merge(&Term::Int(name), &pids, &ended)?;
     table.merge(&Term::Int(3), &[], &ended)?;
     Ok(table)
 }

@@ -5,5 +5,6 @@ pub mod Peering
 pub mod Peers
 pub mod Queries
 pub mod Refusals
+pub mod Replies
 pub mod Rounds
 pub mod Unnoticed

@@ -8,6 +8,7 @@ pub mod Losses
 pub mod Nodes
 pub mod Peers
 pub mod PeersServed
+pub mod SameAnswers
 pub mod State
 pub mod Step
 pub mod StepLaws

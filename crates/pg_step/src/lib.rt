@@ -11,7 +11,7 @@ mod served;
 mod start;
 mod step_laws;
 
-pub use answer::{Answer, Odd, Reply};
+pub use answer::{Answer, Odd, Reply, equal_answers};
 pub use command::{Command, OpId};
 pub use command_fault::CommandFault;
 pub use losses::{

@@ -46,9 +46,11 @@ impl Measure {
 
 // {call, Ref, {join, g, Pid}}
 fn join_call(alloc: Global) -> Result<Message, MessageFault> {
+    let from = reference(alloc)?;
+    let member = pid(alloc, 1)?;
     let name = Term::Atom(Atom::new(alloc, "g")?);
-    let join = Update::Join(name, pid(alloc, 1)?);
-    Ok(Message::Call(reference(alloc)?, Request::Change(join)))
+    let join = Update::Join(name, member);
+    Ok(Message::Call(from, Request::Change(join)))
 }
 
 fn pids(alloc: Global, count: u32) -> Result<Items<Pid>, MessageFault> {

@@ -302,10 +302,21 @@ fn joined_in_many<T: GroupTable>(
 
 fn join_300<T: GroupTable>(table: &mut T, pid: &Pid, ended: &Ended) -> Result<(), AllocError> {
     for number in 0..300 {
-        let join = join_of(number, pid)?;
-        apply(table, &join, ended)?;
+        join_one(table, number, pid, ended)?;
     }
     Ok(())
+}
+
+fn join_one<T: GroupTable>(
+    table: &mut T,
+    number: i64,
+    pid: &Pid,
+    ended: &Ended,
+) -> Result<(), AllocError> {
+    match join_of(number, pid) {
+        Ok(join) => apply(table, &join, ended),
+        Err(AllocError) => Err(AllocError),
+    }
 }
 
 fn join_of(number: i64, pid: &Pid) -> Result<Update, AllocError> {

@@ -16,6 +16,7 @@ impl<T: GroupTable + Drop> NodeState<T> {
     ghost use Rattle.pg_step.specs.Step.{at_clock};
     ghost use Rattle.pg_node.specs.Issued.{issued, ports_of};
     ghost use Rattle.pg_node.specs.States.{names_of, kept_by, state_of, answers_of, Happens};
+    ghost use Rattle.pg_node.specs.Sendable.{AreSendable};
 
     /// Counts the next command of a port, and answers it.
     pub(crate) fn answer(&mut self, clock: u32, port: u16, reply: Reply) -> Result<Done, AllocError>
@@ -28,6 +29,8 @@ impl<T: GroupTable + Drop> NodeState<T> {
         ensures err { OnErr result (state_of self.new ≡ state_of self.old) }
         ensures err_answers { OnErr result (answers_of self.new ≡ answers_of self.old) }
         ensures names { names_of self.new ≡ names_of self.old }
+        ensures ports { ports_of self.new ≡ ports_of self.old }
+        ensures fits { IfOk result (λ done. AreSendable (names_of self.old) done.sends.items) }
     {
         reserve_answer(&mut self.ports, port)?;
         give(&mut self.ports, port, reply);

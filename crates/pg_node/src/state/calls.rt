@@ -1,6 +1,6 @@
 //! What the turns behind answers send, made before anything changes.
 
-ghost use Rattle.std.specs.Prelude.{◌≡◌, ◌<◌, ◌+◌, ◌^◌, ℕ, Bool, true, Some, None, is_some, IfOk};
+ghost use Rattle.std.specs.Prelude.{◌≡◌, ◌≤◌, ◌<◌, ◌+◌, ◌^◌, ℕ, Bool, true, Some, None, is_some, IfOk};
 ghost use Rattle.pg_group.specs.declared.update.Update.{Update};
 ghost use Rattle.pg_group.specs.Value.{name_of};
 ghost use Rattle.pg_machine.specs.Clocked.{stamped};
@@ -14,6 +14,9 @@ ghost use Rattle.pg_step.specs.Nodes.{Node, to_peers};
 ghost use Rattle.pg_step.specs.State.{Status};
 ghost use Rattle.pg_step.specs.State.Use.{Locking, Updating};
 ghost use Rattle.pg_node.specs.States.{sends_in};
+ghost use Rattle.pg_node.specs.Sendable.{AreSendable};
+ghost use Rattle.pg_message.specs.Name.{is_name};
+ghost use Rattle.pg_message.specs.declared.packet.TheConstants.{MAX_STAMP};
 
 use crate::state::Done;
 use crate::state::orders::Order;
@@ -43,23 +46,20 @@ pub(crate) fn freed(
     number: u32,
 ) -> Result<Calls, AllocError>
     requires locking { is_locking (uses_of opens.now number) ≡ true }
+    requires within { clock ≤ MAX_STAMP }
+    requires named { (update : Update) → update_of (uses_of opens.now number) ≡ Some update → is_name (name_of update) ≡ true }
     ensures sends { (op : OpId) (update : Update) (first : Node) (st : Node → Status) → uses_of opens.now number ≡ Locking op update first st
         → IfOk result (λ calls. sends_in (names_of opens.now) calls.done.sends.items ≡ (λ q. stamped clock (to_peers (left_of opens.now)
         (λ q. is_yes (st q)) (messages.DelLock (name_of update) (own_reference (left_of opens.now) number)) q))) }
     ensures began { IfOk result (λ calls. calls.done.began ≡ None) }
     ensures odd { IfOk result (λ calls. calls.done.odd ≡ None) }
     ensures lock { IfOk result (λ calls. calls.lock ≡ own_reference (left_of opens.now) number) }
+    ensures fits { IfOk result (λ calls. AreSendable (names_of opens.now) calls.done.sends.items) }
 {
     let update = update_under(opens, number);
     let lock = reference_of(opens.name(0), number)?;
-    let sends = to_granted(
-        alloc,
-        clock,
-        Order::Free(update.name()),
-        &lock,
-        opens,
-        number,
-    )?;
+    let order = Order::Free(update.name(), &lock);
+    let sends = to_granted(alloc, clock, order, opens, number)?;
     Ok(made_calls(sends, None, lock))
 }
 
@@ -73,23 +73,20 @@ pub(crate) fn asked(
     number: u32,
 ) -> Result<Calls, AllocError>
     requires locking { is_locking (uses_of opens.now number) ≡ true }
+    requires within { clock ≤ MAX_STAMP }
+    requires named { (update : Update) → update_of (uses_of opens.now number) ≡ Some update → is_name (name_of update) ≡ true }
     ensures sends { (op : OpId) (update : Update) (first : Node) (st : Node → Status) → uses_of opens.now number ≡ Locking op update first st
         → IfOk result (λ calls. sends_in (names_of opens.now) calls.done.sends.items ≡ (λ q. stamped clock (to_peers (left_of opens.now)
         (asks (λ q. true) st) (messages.Call (own_reference (left_of opens.now) number) (requests.SetLock (name_of update))) q))) }
     ensures began { IfOk result (λ calls. calls.done.began ≡ None) }
     ensures odd { IfOk result (λ calls. calls.done.odd ≡ None) }
     ensures lock { IfOk result (λ calls. calls.lock ≡ own_reference (left_of opens.now) number) }
+    ensures fits { IfOk result (λ calls. AreSendable (names_of opens.now) calls.done.sends.items) }
 {
     let update = update_under(opens, number);
     let lock = reference_of(opens.name(0), number)?;
-    let sends = to_asked(
-        alloc,
-        clock,
-        Order::Lock(update.name()),
-        &lock,
-        opens,
-        number,
-    )?;
+    let order = Order::Lock(update.name(), &lock);
+    let sends = to_asked(alloc, clock, order, opens, number)?;
     Ok(made_calls(sends, None, lock))
 }
 
@@ -104,6 +101,8 @@ pub(crate) fn begun(
     op: OpId,
 ) -> Result<Calls, AllocError>
     requires locking { is_locking (uses_of opens.now number) ≡ true }
+    requires within { clock ≤ MAX_STAMP }
+    requires named { (update : Update) → update_of (uses_of opens.now number) ≡ Some update → is_name (name_of update) ≡ true }
     requires next { references_of opens.now + 1 < 2 ^ 32 }
     ensures sends { (other : OpId) (update : Update) (first : Node) (st : Node → Status) → uses_of opens.now number ≡ Locking other update first st
         → IfOk result (λ calls. sends_in (names_of opens.now) calls.done.sends.items ≡ (λ q. stamped clock (to_peers (left_of opens.now)
@@ -111,11 +110,12 @@ pub(crate) fn begun(
     ensures began { (update : Update) → update_of (uses_of opens.now number) ≡ Some update → IfOk result (λ calls. calls.done.began ≡ Some (op, update)) }
     ensures odd { IfOk result (λ calls. calls.done.odd ≡ None) }
     ensures lock { IfOk result (λ calls. calls.lock ≡ own_reference (left_of opens.now) number) }
+    ensures fits { IfOk result (λ calls. AreSendable (names_of opens.now) calls.done.sends.items) }
 {
     let update = update_under(opens, number);
     let lock = reference_of(opens.name(0), number)?;
     let call = reference_of(opens.name(0), opens.references() + 1)?;
-    let sends = to_left(alloc, clock, Order::Change(update), &call, opens)?;
+    let sends = to_left(alloc, clock, Order::Change(update, &call), opens)?;
     let began = (op, update.copy(alloc)?);
     Ok(made_calls(sends, Some(began), lock))
 }
@@ -131,20 +131,28 @@ pub(crate) fn ended(
     lock: u32,
 ) -> Result<Calls, AllocError>
     requires updating { is_updating (uses_of opens.now number) ≡ true }
+    requires within { clock ≤ MAX_STAMP }
+    requires named { (update : Update) → update_of (uses_of opens.now number) ≡ Some update → is_name (name_of update) ≡ true }
     ensures sends { (op : OpId) (update : Update) (holder : ℕ) (replied : Node → Bool) → uses_of opens.now number ≡ Updating op update holder replied
         → IfOk result (λ calls. sends_in (names_of opens.now) calls.done.sends.items ≡ (λ q. stamped clock (to_peers (left_of opens.now)
         (λ q. true) (messages.DelLock (name_of update) (own_reference (left_of opens.now) lock)) q))) }
     ensures began { IfOk result (λ calls. calls.done.began ≡ None) }
     ensures odd { IfOk result (λ calls. calls.done.odd ≡ None) }
     ensures lock { IfOk result (λ calls. calls.lock ≡ own_reference (left_of opens.now) lock) }
+    ensures fits { IfOk result (λ calls. AreSendable (names_of opens.now) calls.done.sends.items) }
 {
     let update = update_under(opens, number);
     let lock = reference_of(opens.name(0), lock)?;
-    let sends = to_left(alloc, clock, Order::Free(update.name()), &lock, opens)?;
+    let sends = to_left(alloc, clock, Order::Free(update.name(), &lock), opens)?;
     Ok(made_calls(sends, None, lock))
 }
 
-fn made_calls(sends: Vec<(usize, Packet)>, began: Option<(OpId, Update)>, lock: Reference) -> Calls
+/// What a turn sends, with no odd reply.
+pub(crate) fn made_calls(
+    sends: Vec<(usize, Packet)>,
+    began: Option<(OpId, Update)>,
+    lock: Reference,
+) -> Calls
     ensures sends { result.done.sends.items ≡ sends.items }
     ensures began { result.done.began ≡ began }
     ensures odd { result.done.odd ≡ None }

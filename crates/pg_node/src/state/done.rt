@@ -17,13 +17,16 @@ pub struct Done {
 }
 
 impl Done {
-    ghost use Rattle.std.specs.Prelude.{[], None};
+    ghost use Rattle.std.specs.Prelude.{List, [], None};
+    ghost use Rattle.pg_step.specs.Nodes.{Node};
+    ghost use Rattle.pg_node.specs.Sendable.{AreSendable};
 
     /// Nothing is sent, and nothing began. It takes no memory.
     pub(crate) fn nothing(alloc: Global) -> Done
         ensures sends { result.sends.items ≡ [] }
         ensures began { result.began ≡ None }
         ensures odd { result.odd ≡ None }
+        ensures fits { (names : List Node) → AreSendable names result.sends.items }
     {
         Done {
             sends: Vec::new(alloc),

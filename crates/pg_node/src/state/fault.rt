@@ -1,4 +1,7 @@
+use pg_frame::TooLong;
+use pg_message::MessageFault;
 use pg_step::Refusal;
+use pg_term::TermFault;
 use std::alloc::AllocError;
 use thiserror::Error;
 
@@ -8,6 +11,15 @@ pub enum NodeFault {
     /// The node's step refuses it.
     #[error("the event is refused")]
     Refused(Refusal),
+    /// A body is no term or no message.
+    #[error(transparent)]
+    Message(MessageFault),
+    /// A frame is longer than 16,777,216 bytes.
+    #[error("the frame is too long")]
+    TooLong,
+    /// A fault was told of the link before.
+    #[error("the link is damaged")]
+    Damaged,
     #[error("out of memory")]
     OutOfMemory,
 }
@@ -22,7 +34,10 @@ impl NodeFault {
     {
         match self {
             NodeFault::Refused(refusal) => refusal.number(),
+            NodeFault::Message(fault) => fault.number(),
             NodeFault::OutOfMemory => 10,
+            NodeFault::TooLong => 11,
+            NodeFault::Damaged => 14,
         }
     }
 }
@@ -35,5 +50,30 @@ impl From<AllocError> for NodeFault {
 
     fn from(_e: AllocError) -> NodeFault {
         NodeFault::OutOfMemory
+    }
+}
+
+impl From<MessageFault> for NodeFault {
+    ghost use Rattle.std.specs.Prelude.{◌≡◌};
+    ghost use Rattle.pg_node.specs.NodeFault.{from_message};
+
+    ghost from_gives = { λ fault e. e ≡ from_message fault };
+
+    fn from(fault: MessageFault) -> NodeFault {
+        match fault {
+            MessageFault::Term(TermFault::OutOfMemory) => NodeFault::OutOfMemory,
+            _ => NodeFault::Message(fault),
+        }
+    }
+}
+
+impl From<TooLong> for NodeFault {
+    ghost use Rattle.std.specs.Prelude.{◌≡◌};
+    ghost use Rattle.pg_node.specs.declared.state.fault.NodeFault.TheVariants as faults;
+
+    ghost from_gives = { λ _ e. e ≡ faults.TooLong };
+
+    fn from(_e: TooLong) -> NodeFault {
+        NodeFault::TooLong
     }
 }

@@ -1,6 +1,6 @@
 //! How a node starts, and what is read of it.
 
-ghost use Rattle.std.specs.Prelude.{◌≡◌, ◌∷◌, ◌≤◌, ◌+◌, ◌^◌, ℕ, [], IfOk, length};
+ghost use Rattle.std.specs.Prelude.{◌≡◌, ◌∷◌, ◌≤◌, ◌<◌, ◌+◌, ◌^◌, ℕ, [], IfOk, length};
 ghost use Rattle.std.specs.List.{IsDistinct};
 ghost use Rattle.std.specs.Option.{option_copied};
 ghost use Rattle.pg_term.specs.Same.{same_atom};
@@ -11,12 +11,15 @@ ghost use Rattle.pg_ends.specs.declared.processes.TheConstants.{MAX_PROCESSES};
 ghost use Rattle.pg_node.specs.Ports.{counts_in, answers_in};
 
 use crate::state::NodeState;
+use crate::state::opening::opening;
 use crate::state::port::Port;
 use pg_ends::Processes;
 use pg_exchange::Formation;
 use pg_group::{Ended, GroupTable};
 use pg_lock::LockTable;
+use pg_message::Packet;
 use pg_opens::Opens;
+use pg_step::{Answer, OpId};
 use pg_term::{Atom, Pid, Reference, Term};
 use std::alloc::{AllocError, Global};
 
@@ -33,37 +36,37 @@ pub struct NodeConfig {
     pub ports: u16,
 }
 
-impl<T: GroupTable + Drop> NodeState<T> {
-    ghost use Rattle.pg_lock.specs.Locks.{Locks};
-    ghost use Rattle.pg_step.specs.State.{new_state, formed};
-    ghost use Rattle.pg_node.specs.States.{names_of, left_of, kept_by, state_of, answers_of};
+ghost use Rattle.pg_opens.specs.Places.{name_at};
+ghost use Rattle.pg_lock.specs.Locks.{Locks};
+ghost use Rattle.pg_step.specs.State.{new_state, formed};
+ghost use Rattle.pg_node.specs.Issued.{ports_of};
+ghost use Rattle.pg_node.specs.Opening.{Announces};
+ghost use Rattle.pg_node.specs.States.{names_of, nodes_of, left_of, kept_by, state_of, answers_of, sends_in};
+ghost use Rattle.pg_node.specs.Waiting.{AreWaiting, waiting_of, ops_of};
 
-    /// A node at time 0, which has this table and has taken nothing. A few allocations, and one for each peer's name.
+impl<T: GroupTable + Drop> NodeState<T> {
+    /// A node at time 0, which has this table and has taken nothing, and the packets with which it begins, each to a peer by its
+    /// place among the peers: to every peer the groups of the table, as `snapshot` tells them, at time 0. Its cost is that of the
+    /// snapshot, and of a copy of it for each peer.
     ///
     /// Error: `AllocError`.
-    pub fn new(alloc: Global, config: NodeConfig, table: T) -> Result<NodeState<T>, AllocError>
+    pub fn new(
+        alloc: Global,
+        config: NodeConfig,
+        table: T,
+    ) -> Result<(NodeState<T>, Vec<(usize, Packet)>), AllocError>
         requires apart { IsDistinct same_atom (config.own ∷ config.peers.items) }
         requires made { config.made ≤ MAX_PROCESSES }
         requires few { (name : Term) (pid : Pid) → count_in (T.contents table name) pid ≤ 2 ^ 32 }
-        ensures names { IfOk result (λ node. names_of node ≡ config.own ∷ config.peers.items) }
-        ensures state { IfOk result (λ node. state_of node ≡ record { clock = 0; state = new_state (T.contents table) config.made }) }
-        ensures answers { IfOk result (λ node. answers_of node ≡ (λ port. [])) }
+        ensures names { IfOk result (λ begun. names_of begun.0 ≡ config.own ∷ config.peers.items) }
+        ensures state { IfOk result (λ begun. state_of begun.0 ≡ record { clock = 0; state = new_state (T.contents table) config.made }) }
+        ensures ports { IfOk result (λ begun. ports_of begun.0 ≡ config.ports) }
+        ensures answers { IfOk result (λ begun. answers_of begun.0 ≡ (λ port. [])) }
+        ensures sends { IfOk result (λ begun. Announces (T.contents table) (nodes_of begun.0) (sends_in (names_of begun.0) begun.1.items)) }
     {
-        let own = config.own.copy()?;
-        let formation = Formation::new(alloc, config.peers.len())?;
-        let mut names = config.peers;
-        names.insert(0, config.own)?;
-        Ok(NodeState {
-            clock: 0,
-            opens: Opens::new(alloc, names)?,
-            table,
-            ended: Ended::new(alloc),
-            locks: LockTable::new(alloc),
-            formation,
-            processes: Processes::new(own, config.made),
-            ports: idle_ports(alloc, config.ports)?,
-            alloc,
-        })
+        let node = started(alloc, config, table)?;
+        let sends = opening(alloc, &node.opens, &node.table)?;
+        Ok((node, sends))
     }
 
     /// Its clock. It takes no memory.
@@ -78,6 +81,13 @@ impl<T: GroupTable + Drop> NodeState<T> {
         ensures { result + 1 ≡ length (names_of self.now) }
     {
         self.formation.peers()
+    }
+
+    /// How many ports it has. It takes no memory.
+    pub fn port_count(&self) -> usize
+        ensures { result ≡ ports_of self.now }
+    {
+        self.ports.len()
     }
 
     /// Whether it is formed: each peer has told its groups, or its loss was seen. It takes no memory.
@@ -108,6 +118,42 @@ impl<T: GroupTable + Drop> NodeState<T> {
         self.locks.holder(name)
     }
 
+    /// The answers that were given at a port, in the order in which they were given. It takes no memory.
+    pub fn answers(&self, port: u16) -> &[Answer]
+        requires place { port < ports_of self.now }
+        ensures { result.now ≡ answers_of self.now port }
+    {
+        let entry = &self.ports[usize::from(port)];
+        entry.answers.as_slice()
+    }
+
+    /// The open commands that wait for their retry, in the order in which they were opened. One search of all open commands
+    /// for each of them.
+    ///
+    /// Error: `AllocError`.
+    pub fn waiting(&self) -> Result<Vec<OpId>, AllocError>
+        ensures waiting { IfOk result (λ ops. AreWaiting (left_of self.now) (kept_by self.now) ops.items) }
+        ensures order { IfOk result (λ ops. ops.items ≡ waiting_of (left_of self.now) (kept_by self.now) (ops_of self.now)) }
+    {
+        self.opens.has_each_once();
+        let mut ops = Vec::new(self.alloc);
+        for place in 0..self.open_count() {
+            let op = self.opens.op_at(place);
+            if self.opens.waits(op) {
+                ops.push(op)?;
+            }
+        }
+        Ok(ops)
+    }
+
+    /// Whether the loss of a peer was seen. `peer`: its place among the peers. It takes no memory.
+    pub fn is_lost(&self, peer: usize) -> bool
+        requires place { peer + 1 < length (names_of self.now) }
+        ensures { result ≡ (kept_by self.now).lost (name_at (names_of self.now) (peer + 1)) }
+    {
+        self.opens.is_lost(peer + 1)
+    }
+
     /// How many commands are open. It takes no memory.
     pub fn open_count(&self) -> usize
         ensures { result ≡ (kept_by self.now).opened }
@@ -116,13 +162,45 @@ impl<T: GroupTable + Drop> NodeState<T> {
     }
 }
 
+/// A node at time 0, before it sends anything.
+pub(crate) fn started<T: GroupTable + Drop>(
+    alloc: Global,
+    config: NodeConfig,
+    table: T,
+) -> Result<NodeState<T>, AllocError>
+    requires apart { IsDistinct same_atom (config.own ∷ config.peers.items) }
+    requires made { config.made ≤ MAX_PROCESSES }
+    requires few { (name : Term) (pid : Pid) → count_in (T.contents table name) pid ≤ 2 ^ 32 }
+    ensures names { IfOk result (λ node. names_of node ≡ config.own ∷ config.peers.items) }
+    ensures state { IfOk result (λ node. state_of node ≡ record { clock = 0; state = new_state (T.contents table) config.made }) }
+    ensures ports { IfOk result (λ node. ports_of node ≡ config.ports) }
+    ensures answers { IfOk result (λ node. answers_of node ≡ (λ port. [])) }
+{
+    let own = config.own.copy()?;
+    let formation = Formation::new(alloc, config.peers.len())?;
+    let mut names = config.peers;
+    names.insert(0, config.own)?;
+    Ok(NodeState {
+        clock: 0,
+        opens: Opens::new(alloc, names)?,
+        table,
+        ended: Ended::new(alloc),
+        locks: LockTable::new(alloc),
+        formation,
+        processes: Processes::new(own, config.made),
+        ports: idle_ports(alloc, config.ports)?,
+        alloc,
+    })
+}
+
 /// Ports at which no command came in.
 fn idle_ports(alloc: Global, ports: u16) -> Result<Vec<Port>, AllocError>
+    ensures len { IfOk result (λ made. length made.items ≡ ports) }
     ensures counts { IfOk result (λ made. counts_in made.items ≡ (λ port. 0)) }
     ensures answers { IfOk result (λ made. answers_in made.items ≡ (λ port. [])) }
 {
     let mut made = Vec::with_capacity(alloc, usize::from(ports))?;
-    for _ in 0..ports {
+    for port in 0..ports {
         made.push(Port {
             count: 0,
             answers: Vec::new(alloc),

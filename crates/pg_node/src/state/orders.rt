@@ -3,38 +3,40 @@ ghost use Rattle.pg_node.specs.Orders.{message_of};
 
 use pg_group::Update;
 use pg_message::{Message, Request};
-use pg_term::{Reference, Term};
+use pg_term::{Pid, Reference, Term};
 use std::alloc::{AllocError, Global};
 
-/// What a node tells its peers for a command of its own, under a reference.
+/// What a node tells its peers for a command of its own.
 #[derive(Clone, Copy)]
 pub(crate) enum Order<'a> {
-    /// The lock of a name is asked for.
-    Lock(&'a Term),
-    /// The lock of a name is free.
-    Free(&'a Term),
-    /// A group changes.
-    Change(&'a Update),
+    /// The lock of a name is asked for, under a reference.
+    Lock(&'a Term, &'a Reference),
+    /// The lock of a name is free, which this reference held.
+    Free(&'a Term, &'a Reference),
+    /// A group changes, under a reference.
+    Change(&'a Update, &'a Reference),
+    /// A process has ended.
+    End(&'a Pid),
 }
 
 impl Order<'_> {
-    /// The message that tells it. A copy of the name and of the reference.
+    /// The message that tells it. A copy of what it names.
     ///
     /// Error: `AllocError`.
-    pub(crate) fn message(
-        &self,
-        alloc: Global,
-        reference: &Reference,
-    ) -> Result<Message, AllocError>
-        ensures { IfOk result (λ message. message ≡ message_of self.now reference.now) }
+    pub(crate) fn message(&self, alloc: Global) -> Result<Message, AllocError>
+        ensures { IfOk result (λ message. message ≡ message_of self.now) }
     {
-        let reference = reference.copy()?;
         Ok(match self {
-            Order::Lock(name) => Message::Call(reference, Request::SetLock(name.copy(alloc)?)),
-            Order::Free(name) => Message::DelLock(name.copy(alloc)?, reference),
-            Order::Change(update) => {
-                Message::Call(reference, Request::Change(update.copy(alloc)?))
+            Order::Lock(name, reference) => {
+                Message::Call(reference.copy()?, Request::SetLock(name.copy(alloc)?))
             }
+            Order::Free(name, reference) => {
+                Message::DelLock(name.copy(alloc)?, reference.copy()?)
+            }
+            Order::Change(update, reference) => {
+                Message::Call(reference.copy()?, Request::Change(update.copy(alloc)?))
+            }
+            Order::End(pid) => Message::Down(pid.copy()?),
         })
     }
 }

@@ -20,7 +20,9 @@ impl<T: GroupTable + Drop> NodeState<T> {
     ghost use Rattle.pg_step.specs.Peers.{lock_request, update_request, lock_freed, exchange, process_end, is_bad_exchange, verdict};
     ghost use Rattle.pg_step.specs.Losses.{see_loss};
     ghost use Rattle.pg_step.specs.Step.{at_clock};
+    ghost use Rattle.pg_node.specs.Issued.{ports_of};
     ghost use Rattle.pg_node.specs.States.{names_of, left_of, kept_by, state_of, answers_of, Tells};
+    ghost use Rattle.pg_node.specs.Sendable.{AreSendable};
 
     /// Answers a request for a lock.
     pub(crate) fn serve_lock(
@@ -32,12 +34,15 @@ impl<T: GroupTable + Drop> NodeState<T> {
     ) -> Result<Done, AllocError>
         requires later { self.old.clock < clock }
         requires within { clock ≤ MAX_STAMP }
+        requires place { peer + 1 < length (names_of self.old) }
         ensures state { OnOk result (state_of self.new
             ≡ (at_clock clock (lock_request (left_of self.old) (name_at (names_of self.old) (peer + 1)) reference.now name.now (kept_by self.old))).state) }
         ensures told { IfOk result (Tells (names_of self.old)
             (at_clock clock (lock_request (left_of self.old) (name_at (names_of self.old) (peer + 1)) reference.now name.now (kept_by self.old)))) }
         ensures err { OnErr result (state_of self.new ≡ state_of self.old) }
         ensures names { names_of self.new ≡ names_of self.old }
+        ensures ports { ports_of self.new ≡ ports_of self.old }
+        ensures fits { IfOk result (λ done. AreSendable (names_of self.old) done.sends.items) }
         ensures answers { answers_of self.new ≡ answers_of self.old }
     {
         let formed = self.formation.formed();
@@ -58,12 +63,15 @@ impl<T: GroupTable + Drop> NodeState<T> {
     ) -> Result<Done, AllocError>
         requires later { self.old.clock < clock }
         requires within { clock ≤ MAX_STAMP }
+        requires place { peer + 1 < length (names_of self.old) }
         ensures state { OnOk result (state_of self.new
             ≡ (at_clock clock (update_request (name_at (names_of self.old) (peer + 1)) reference.now update.now (kept_by self.old))).state) }
         ensures told { IfOk result (Tells (names_of self.old)
             (at_clock clock (update_request (name_at (names_of self.old) (peer + 1)) reference.now update.now (kept_by self.old)))) }
         ensures err { OnErr result (state_of self.new ≡ state_of self.old) }
         ensures names { names_of self.new ≡ names_of self.old }
+        ensures ports { ports_of self.new ≡ ports_of self.old }
+        ensures fits { IfOk result (λ done. AreSendable (names_of self.old) done.sends.items) }
         ensures answers { answers_of self.new ≡ answers_of self.old }
     {
         let done = reply(self.alloc, clock, peer, reference, Said::Applied)?;
@@ -81,6 +89,8 @@ impl<T: GroupTable + Drop> NodeState<T> {
         ensures told { Tells (names_of self.old)
             (at_clock clock (lock_freed name.now reference.now (kept_by self.old))) result }
         ensures names { names_of self.new ≡ names_of self.old }
+        ensures ports { ports_of self.new ≡ ports_of self.old }
+        ensures fits { AreSendable (names_of self.old) result.sends.items }
         ensures answers { answers_of self.new ≡ answers_of self.old }
     {
         self.locks.give_up(name, reference);
@@ -111,6 +121,8 @@ impl<T: GroupTable + Drop> NodeState<T> {
         ensures fault { IfErr result (λ fault. (fault ≡ Refused NotAMessage) ⊎ (fault ≡ OutOfMemory)) }
         ensures err { OnErr result (state_of self.new ≡ state_of self.old) }
         ensures names { names_of self.new ≡ names_of self.old }
+        ensures ports { ports_of self.new ≡ ports_of self.old }
+        ensures fits { IfOk result (λ done. AreSendable (names_of self.old) done.sends.items) }
         ensures answers { answers_of self.new ≡ answers_of self.old }
     {
         if node != self.opens.name(peer + 1) {
@@ -138,6 +150,8 @@ impl<T: GroupTable + Drop> NodeState<T> {
         ensures told { IfOk result (Tells (names_of self.old) (at_clock clock (process_end pid.now (kept_by self.old)))) }
         ensures err { OnErr result (state_of self.new ≡ state_of self.old) }
         ensures names { names_of self.new ≡ names_of self.old }
+        ensures ports { ports_of self.new ≡ ports_of self.old }
+        ensures fits { IfOk result (λ done. AreSendable (names_of self.old) done.sends.items) }
         ensures answers { answers_of self.new ≡ answers_of self.old }
     {
         take_end(pid, &mut self.table, &mut self.ended)?;
@@ -156,6 +170,8 @@ impl<T: GroupTable + Drop> NodeState<T> {
             (at_clock clock (see_loss (name_at (names_of self.old) (peer + 1)) (kept_by self.old)))) }
         ensures err { OnErr result (state_of self.new ≡ state_of self.old) }
         ensures names { names_of self.new ≡ names_of self.old }
+        ensures ports { ports_of self.new ≡ ports_of self.old }
+        ensures fits { IfOk result (λ done. AreSendable (names_of self.old) done.sends.items) }
         ensures answers { answers_of self.new ≡ answers_of self.old }
     {
         let name = self.opens.name(peer + 1);
@@ -176,6 +192,7 @@ ghost use Rattle.pg_machine.specs.Clocked.{stamped};
 ghost use Rattle.pg_message.specs.declared.message.Message.TheVariants as messages;
 ghost use Rattle.pg_opens.specs.Places.{name_at};
 ghost use Rattle.pg_node.specs.States.{sends_in};
+ghost use Rattle.pg_node.specs.Sendable.{AreSendable};
 ghost use Rattle.pg_step.specs.Peers.{verdict};
 ghost use Rattle.std.specs.Prelude.{None};
 
@@ -187,10 +204,12 @@ fn reply(
     reference: &Reference,
     said: Said,
 ) -> Result<Done, AllocError>
+    requires within { clock ≤ MAX_STAMP }
     ensures sends { (names : List Node) → IfOk result (λ done. sends_in names done.sends.items
         ≡ (λ q. stamped clock (to_one (name_at names (peer + 1)) (messages.Reply reference.now said) q))) }
     ensures began { IfOk result (λ done. done.began ≡ None) }
     ensures odd { IfOk result (λ done. done.odd ≡ None) }
+    ensures fits { (names : List Node) → peer + 1 < length names → IfOk result (λ done. AreSendable names done.sends.items) }
 {
     let message = Message::Reply(reference.copy()?, said);
     let packet = Packet {

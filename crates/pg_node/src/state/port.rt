@@ -9,7 +9,7 @@ pub(crate) struct Port {
     pub(crate) answers: Vec<Answer>,
 }
 
-ghost use Rattle.std.specs.Prelude.{◌≡◌, ◌<◌, ◌+◌, ◌^◌, ◌++◌, [], ◌∷◌, nat_eq, length, vec_len, vec_capacity, OnOk, OnErr};
+ghost use Rattle.std.specs.Prelude.{◌≡◌, ◌<◌, ◌+◌, ◌^◌, ◌++◌, ℕ, [], ◌∷◌, nat_eq, length, vec_len, vec_capacity, OnOk, OnErr};
 ghost use Rattle.pg_group.specs.Functions.{upd};
 ghost use Rattle.pg_node.specs.Issued.{counted_at, HasRoomAt};
 ghost use Rattle.pg_node.specs.Ports.{counts_in, answers_in};
@@ -69,6 +69,31 @@ pub(crate) fn count(ports: &mut Vec<Port>, port: u16)
 {
     let entry = &mut ports[usize::from(port)];
     entry.count += 1;
+}
+
+/// Counts a command of a port less, which was counted. It takes no memory.
+pub(crate) fn uncount(ports: &mut Vec<Port>, port: u16)
+    requires place { port < length ports.old.items }
+    requires some { 0 < counts_in ports.old.items port }
+    ensures len { length ports.new.items ≡ length ports.old.items }
+    ensures counts { (counts : ℕ → ℕ) → counts_in ports.old.items ≡ counted_at port counts → counts_in ports.new.items ≡ counts }
+    ensures answers { answers_in ports.new.items ≡ answers_in ports.old.items }
+{
+    let entry = &mut ports[usize::from(port)];
+    entry.count -= 1;
+}
+
+/// The next command of a port. It takes no memory.
+pub(crate) fn next_op(ports: &Vec<Port>, port: u16) -> OpId
+    requires place { port < length ports.now.items }
+    requires few { counts_in ports.now.items port + 1 < 2 ^ 32 }
+    ensures { result ≡ record { port = port; number = counts_in ports.now.items port + 1 } }
+{
+    let entry = &ports[usize::from(port)];
+    OpId {
+        port,
+        number: entry.count + 1,
+    }
 }
 
 /// Keeps the answer to a command at its port, where there is room. It takes no memory.

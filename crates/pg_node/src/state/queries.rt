@@ -1,23 +1,42 @@
 //! What a query is answered, from the own table as it is.
 
-ghost use Rattle.std.specs.Prelude.{◌≡◌, ℕ, List, [], Some, IfOk, IfSome, IfNone};
+ghost use Rattle.std.specs.Prelude.{◌≡◌, ℕ, List, [], true, Some, IfOk, IfSome, IfNone};
 ghost use Rattle.pg_group.specs.Members.{IsMemberList};
 ghost use Rattle.pg_group.specs.Scope.{anywhere, at_node};
-ghost use Rattle.pg_step.specs.Commands.{ListsMembers, ListsGroups, PicksMember};
+ghost use Rattle.pg_step.specs.Commands.{ListsMembers, ListsGroups, PicksMember, Reads};
+ghost use Rattle.pg_step.specs.StepLaws.{is_query};
 ghost use Rattle.pg_query.specs.Closest.{picked};
 
 use pg_group::GroupTable;
 use pg_query::{QueryFault, local_members, members, which_groups};
-use pg_step::Reply;
+use pg_step::{Command, Reply};
 use pg_term::{Atom, Pid, Term};
 use std::alloc::{AllocError, Global};
 
-/// The members of a group, or that there is none.
-pub(crate) fn members_reply<T: GroupTable>(
+/// What a query reads in the own table as it is (`get_members/1`, `get_local_members/1`, `which_groups/0` and
+/// `get_closest_pid/1` of the pg2 manual page). Its cost is that of the lists.
+///
+/// Error: `AllocError`.
+pub(crate) fn query_reply<T: GroupTable>(
     alloc: Global,
     table: &T,
-    name: &Term,
+    own: &Atom,
+    query: &Command,
 ) -> Result<Reply, AllocError>
+    requires { is_query query.now ≡ true }
+    ensures { IfOk result (Reads own.now query.now (T.contents table.now)) }
+{
+    match query {
+        Command::Members(name) => members_reply(alloc, table, name),
+        Command::LocalMembers(name) => local_members_reply(alloc, table, own, name),
+        Command::WhichGroups => groups_reply(table),
+        Command::Closest(name, word) => closest_reply(alloc, table, own, name, *word),
+        _ => unreachable!(),
+    }
+}
+
+/// The members of a group, or that there is none.
+fn members_reply<T: GroupTable>(alloc: Global, table: &T, name: &Term) -> Result<Reply, AllocError>
     ensures { IfOk result (ListsMembers (T.contents table.now name.now) anywhere name.now) }
 {
     match members(alloc, table, name) {
@@ -28,7 +47,7 @@ pub(crate) fn members_reply<T: GroupTable>(
 }
 
 /// The members of a group at the own node, or that there is none.
-pub(crate) fn local_members_reply<T: GroupTable>(
+fn local_members_reply<T: GroupTable>(
     alloc: Global,
     table: &T,
     own: &Atom,
@@ -44,14 +63,14 @@ pub(crate) fn local_members_reply<T: GroupTable>(
 }
 
 /// The names of the groups.
-pub(crate) fn groups_reply<T: GroupTable>(table: &T) -> Result<Reply, AllocError>
+fn groups_reply<T: GroupTable>(table: &T) -> Result<Reply, AllocError>
     ensures { IfOk result (ListsGroups (T.contents table.now)) }
 {
     Ok(Reply::Groups(which_groups(table)?))
 }
 
 /// The member that a word picks, or that there is none, or no group. Its cost is that of the lists.
-pub(crate) fn closest_reply<T: GroupTable>(
+fn closest_reply<T: GroupTable>(
     alloc: Global,
     table: &T,
     own: &Atom,

@@ -22,7 +22,9 @@ impl<T: GroupTable + Drop> NodeState<T> {
     ghost use Rattle.pg_opens.specs.declared.command.Gathering.TheVariants as gatherings;
     ghost use Rattle.pg_step.specs.Attempts.{counted, gathered, reply_taken, strange};
     ghost use Rattle.pg_step.specs.Step.{at_clock};
+    ghost use Rattle.pg_node.specs.Issued.{ports_of};
     ghost use Rattle.pg_node.specs.States.{names_of, left_of, kept_by, state_of, answers_of, Happens, ComesAt};
+    ghost use Rattle.pg_node.specs.Sendable.{AreSendable};
 
     /// Takes the reply of a peer, which is not lost.
     ///
@@ -42,6 +44,8 @@ impl<T: GroupTable + Drop> NodeState<T> {
         ensures err { OnErr result (state_of self.new ≡ state_of self.old) }
         ensures err_answers { OnErr result (answers_of self.new ≡ answers_of self.old) }
         ensures names { names_of self.new ≡ names_of self.old }
+        ensures ports { ports_of self.new ≡ ports_of self.old }
+        ensures fits { IfOk result (λ done. AreSendable (names_of self.old) done.sends.items) }
     {
         let Some(number) = number_of(self.opens.name(0), reference) else {
             return Ok(self.note_odd(clock, Odd::Stranger));
@@ -76,6 +80,8 @@ impl<T: GroupTable + Drop> NodeState<T> {
         ensures err { OnErr result (state_of self.new ≡ state_of self.old) }
         ensures err_answers { OnErr result (answers_of self.new ≡ answers_of self.old) }
         ensures names { names_of self.new ≡ names_of self.old }
+        ensures ports { ports_of self.new ≡ ports_of self.old }
+        ensures fits { IfOk result (λ done. AreSendable (names_of self.old) done.sends.items) }
     {
         match self.opens.gathering(number) {
             Gathering::Lock(op) => self.count_answer(clock, number, op, peer, said),
@@ -104,6 +110,8 @@ impl<T: GroupTable + Drop> NodeState<T> {
         ensures err { OnErr result (state_of self.new ≡ state_of self.old) }
         ensures err_answers { OnErr result (answers_of self.new ≡ answers_of self.old) }
         ensures names { names_of self.new ≡ names_of self.old }
+        ensures ports { ports_of self.new ≡ ports_of self.old }
+        ensures fits { IfOk result (λ done. AreSendable (names_of self.old) done.sends.items) }
     {
         self.opens.count_answer(number, peer + 1, is_granted(said));
         match self.go_on(clock, number, op) {
@@ -135,6 +143,8 @@ impl<T: GroupTable + Drop> NodeState<T> {
         ensures err { OnErr result (state_of self.new ≡ state_of self.old) }
         ensures err_answers { OnErr result (answers_of self.new ≡ answers_of self.old) }
         ensures names { names_of self.new ≡ names_of self.old }
+        ensures ports { ports_of self.new ≡ ports_of self.old }
+        ensures fits { IfOk result (λ done. AreSendable (names_of self.old) done.sends.items) }
     {
         self.opens.count_ok(number, peer + 1);
         if !self.opens.is_complete(number) {
@@ -155,6 +165,8 @@ impl<T: GroupTable + Drop> NodeState<T> {
         requires within { clock ≤ MAX_STAMP }
         ensures happens { Happens (names_of self.old) (at_clock clock (strange odd (kept_by self.old))) result (state_of self.new) (answers_of self.old) (answers_of self.new) }
         ensures names { names_of self.new ≡ names_of self.old }
+        ensures ports { ports_of self.new ≡ ports_of self.old }
+        ensures fits { AreSendable (names_of self.old) result.sends.items }
     {
         self.clock = clock;
         Done {

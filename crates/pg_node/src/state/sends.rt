@@ -1,25 +1,28 @@
 //! The packets of a turn, one to each peer that it sends to.
 
-ghost use Rattle.std.specs.Prelude.{◌≡◌, ◌+◌, ◌&&◌, ℕ, List, [], ◌∷◌, true, cond, length, IfOk};
+ghost use Rattle.std.specs.Prelude.{◌≡◌, ◌≤◌, ◌<◌, ◌+◌, ◌&&◌, ℕ, List, [], ◌∷◌, true, cond, length, IfOk};
 ghost use Rattle.std.specs.List.{IsDistinct};
 ghost use Rattle.pg_term.specs.Same.{same_atom};
 ghost use Rattle.pg_group.specs.declared.update.Update.{Update};
 ghost use Rattle.pg_machine.specs.Clocked.{stamped};
 ghost use Rattle.pg_step.specs.declared.command.OpId.{OpId};
-ghost use Rattle.pg_step.specs.Nodes.{Node, is_peer, to_peers};
+ghost use Rattle.pg_step.specs.Nodes.{Node, is_peer, to_one, to_peers};
 ghost use Rattle.pg_step.specs.State.{Status};
 ghost use Rattle.pg_step.specs.State.Use.{Locking};
 ghost use Rattle.pg_step.specs.Attempts.{asks, is_yes};
 ghost use Rattle.pg_opens.specs.Opens.{names_of, left_of, uses_of};
+ghost use Rattle.pg_opens.specs.Places.{name_at};
 ghost use Rattle.pg_opens.specs.Readings.{is_locking};
 ghost use Rattle.pg_node.specs.Ports.{merged_in};
 ghost use Rattle.pg_node.specs.Orders.{message_of};
 ghost use Rattle.pg_node.specs.States.{sends_in};
+ghost use Rattle.pg_node.specs.Sendable.{AreSendable};
+ghost use Rattle.pg_message.specs.Writing.{is_sayable};
+ghost use Rattle.pg_message.specs.declared.packet.TheConstants.{MAX_STAMP};
 
 use crate::state::orders::Order;
 use pg_message::Packet;
 use pg_opens::{Asked, Opens};
-use pg_term::Reference;
 use std::alloc::{AllocError, Global};
 
 /// An order to each peer that counts. Its cost grows with the peers and the names.
@@ -29,14 +32,31 @@ pub(crate) fn to_left(
     alloc: Global,
     clock: u32,
     order: Order<'_>,
-    reference: &Reference,
+    opens: &Opens,
+) -> Result<Vec<(usize, Packet)>, AllocError>
+    requires within { clock ≤ MAX_STAMP }
+    requires named { is_sayable (message_of order) ≡ true }
+    ensures sends { IfOk result (λ sends. sends_in (names_of opens.now) sends.items
+        ≡ (λ q. stamped clock (to_peers (left_of opens.now) (λ q. true) (message_of order.entry) q))) }
+    ensures fits { IfOk result (λ sends. AreSendable (names_of opens.now) sends.items) }
+{
+    let goes = left_peers(alloc, opens)?;
+    to_marked(alloc, clock, order, &goes)
+}
+
+/// A copy of a packet to each peer that counts. Its cost grows with the peers and the packet.
+///
+/// Error: `AllocError`.
+pub(crate) fn copies_to_left(
+    alloc: Global,
+    packet: &Packet,
     opens: &Opens,
 ) -> Result<Vec<(usize, Packet)>, AllocError>
     ensures { IfOk result (λ sends. sends_in (names_of opens.now) sends.items
-        ≡ (λ q. stamped clock (to_peers (left_of opens.now) (λ q. true) (message_of order.entry reference.now) q))) }
+        ≡ (λ q. stamped packet.now.stamp (to_peers (left_of opens.now) (λ q. true) packet.now.message q))) }
 {
     let goes = left_peers(alloc, opens)?;
-    to_marked(alloc, clock, order, reference, &goes)
+    copies_to_marked(alloc, packet, &goes)
 }
 
 /// An order to each peer that is asked for the lock under the reference of this number, where all are: it counts and was not
@@ -47,18 +67,20 @@ pub(crate) fn to_asked(
     alloc: Global,
     clock: u32,
     order: Order<'_>,
-    reference: &Reference,
     opens: &Opens,
     number: u32,
 ) -> Result<Vec<(usize, Packet)>, AllocError>
     requires locking { is_locking (uses_of opens.now number) ≡ true }
-    ensures { (op : OpId) (update : Update) (first : Node) (st : Node → Status)
+    requires within { clock ≤ MAX_STAMP }
+    requires named { is_sayable (message_of order) ≡ true }
+    ensures sends { (op : OpId) (update : Update) (first : Node) (st : Node → Status)
         → uses_of opens.now number ≡ Locking op update first st
         → IfOk result (λ sends. sends_in (names_of opens.now) sends.items
-        ≡ (λ q. stamped clock (to_peers (left_of opens.now) (asks (λ q. true) st) (message_of order.entry reference.now) q))) }
+        ≡ (λ q. stamped clock (to_peers (left_of opens.now) (asks (λ q. true) st) (message_of order.entry) q))) }
+    ensures fits { IfOk result (λ sends. AreSendable (names_of opens.now) sends.items) }
 {
     let goes = asked_peers(alloc, opens, number)?;
-    to_marked(alloc, clock, order, reference, &goes)
+    to_marked(alloc, clock, order, &goes)
 }
 
 /// An order to each peer that counts and has granted the lock that is asked for under the reference of this number.
@@ -68,18 +90,46 @@ pub(crate) fn to_granted(
     alloc: Global,
     clock: u32,
     order: Order<'_>,
-    reference: &Reference,
     opens: &Opens,
     number: u32,
 ) -> Result<Vec<(usize, Packet)>, AllocError>
     requires locking { is_locking (uses_of opens.now number) ≡ true }
-    ensures { (op : OpId) (update : Update) (first : Node) (st : Node → Status)
+    requires within { clock ≤ MAX_STAMP }
+    requires named { is_sayable (message_of order) ≡ true }
+    ensures sends { (op : OpId) (update : Update) (first : Node) (st : Node → Status)
         → uses_of opens.now number ≡ Locking op update first st
         → IfOk result (λ sends. sends_in (names_of opens.now) sends.items
-        ≡ (λ q. stamped clock (to_peers (left_of opens.now) (λ q. is_yes (st q)) (message_of order.entry reference.now) q))) }
+        ≡ (λ q. stamped clock (to_peers (left_of opens.now) (λ q. is_yes (st q)) (message_of order.entry) q))) }
+    ensures fits { IfOk result (λ sends. AreSendable (names_of opens.now) sends.items) }
 {
     let goes = granted_peers(alloc, opens, number)?;
-    to_marked(alloc, clock, order, reference, &goes)
+    to_marked(alloc, clock, order, &goes)
+}
+
+/// An order to the node at a place, by the names, which is a peer.
+///
+/// Error: `AllocError`.
+pub(crate) fn to_place(
+    alloc: Global,
+    clock: u32,
+    order: Order<'_>,
+    place: usize,
+) -> Result<Vec<(usize, Packet)>, AllocError>
+    requires peer { 0 < place }
+    requires within { clock ≤ MAX_STAMP }
+    requires named { is_sayable (message_of order) ≡ true }
+    ensures sends { (names : List Node) → IfOk result (λ sends. sends_in names sends.items
+        ≡ (λ q. stamped clock (to_one (name_at names place) (message_of order.entry) q))) }
+    ensures fits { (names : List Node) → place < length names → IfOk result (λ sends. AreSendable names sends.items) }
+{
+    let mut sends = Vec::with_capacity(alloc, 1)?;
+    let message = order.message(alloc)?;
+    let packet = Packet {
+        stamp: clock,
+        message,
+    };
+    sends.push((place - 1, packet))?;
+    Ok(sends)
 }
 
 /// An order to each peer that is marked, in the order of the peers. `goes`: the marks of the peers.
@@ -87,22 +137,43 @@ fn to_marked(
     alloc: Global,
     clock: u32,
     order: Order<'_>,
-    reference: &Reference,
     goes: &[bool],
 ) -> Result<Vec<(usize, Packet)>, AllocError>
-    ensures { (names : List Node) → IsDistinct same_atom names → length goes.now + 1 ≡ length names
+    requires within { clock ≤ MAX_STAMP }
+    requires named { is_sayable (message_of order) ≡ true }
+    ensures sends { (names : List Node) → IsDistinct same_atom names → length goes.now + 1 ≡ length names
         → IfOk result (λ sends. sends_in names sends.items
-        ≡ (λ q. stamped clock (cond (merged_in names goes.now q) (message_of order.entry reference.now ∷ []) []))) }
+        ≡ (λ q. stamped clock (cond (merged_in names goes.now q) (message_of order.entry ∷ []) []))) }
+    ensures fits { (names : List Node) → length goes.now + 1 ≡ length names → IfOk result (λ sends. AreSendable names sends.items) }
 {
     let mut sends = Vec::new(alloc);
     for peer in 0..goes.len() {
         if goes[peer] {
-            let message = order.message(alloc, reference)?;
+            let message = order.message(alloc)?;
             let packet = Packet {
                 stamp: clock,
                 message,
             };
             sends.push((peer, packet))?;
+        }
+    }
+    Ok(sends)
+}
+
+/// A copy of a packet to each peer that is marked, in the order of the peers. `goes`: the marks of the peers.
+fn copies_to_marked(
+    alloc: Global,
+    packet: &Packet,
+    goes: &[bool],
+) -> Result<Vec<(usize, Packet)>, AllocError>
+    ensures { (names : List Node) → IsDistinct same_atom names → length goes.now + 1 ≡ length names
+        → IfOk result (λ sends. sends_in names sends.items
+        ≡ (λ q. stamped packet.now.stamp (cond (merged_in names goes.now q) (packet.now.message ∷ []) []))) }
+{
+    let mut sends = Vec::new(alloc);
+    for peer in 0..goes.len() {
+        if goes[peer] {
+            sends.push((peer, packet.copy(alloc)?))?;
         }
     }
     Ok(sends)

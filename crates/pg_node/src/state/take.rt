@@ -12,7 +12,9 @@ use pg_step::Refusal;
 impl<T: GroupTable + Drop> NodeState<T> {
     ghost use Rattle.pg_opens.specs.Places.{name_at};
     ghost use Rattle.pg_step.specs.Step.{step_take};
+    ghost use Rattle.pg_node.specs.Issued.{ports_of};
     ghost use Rattle.pg_node.specs.States.{names_of, nodes_of, kept_by, state_of, answers_of, stamped_of, step_see_loss, Comes};
+    ghost use Rattle.pg_node.specs.Sendable.{AreSendable};
 
     /// Takes a packet of a peer. `peer`: its place among the peers. What is sent carries the clock that the event sets: the
     /// greater of the node's and the packet's, and 1 more.
@@ -29,6 +31,8 @@ impl<T: GroupTable + Drop> NodeState<T> {
         ensures err { OnErr result (state_of self.new ≡ state_of self.old) }
         ensures err_answers { OnErr result (answers_of self.new ≡ answers_of self.old) }
         ensures names { names_of self.new ≡ names_of self.old }
+        ensures ports { ports_of self.new ≡ ports_of self.old }
+        ensures fits { IfOk result (λ done. AreSendable (names_of self.old) done.sends.items) }
     {
         if self.opens.is_lost(peer + 1) {
             return Err(NodeFault::Refused(Refusal::NodeLost));
@@ -67,6 +71,8 @@ impl<T: GroupTable + Drop> NodeState<T> {
         ensures err { OnErr result (state_of self.new ≡ state_of self.old) }
         ensures err_answers { OnErr result (answers_of self.new ≡ answers_of self.old) }
         ensures names { names_of self.new ≡ names_of self.old }
+        ensures ports { ports_of self.new ≡ ports_of self.old }
+        ensures fits { IfOk result (λ done. AreSendable (names_of self.old) done.sends.items) }
     {
         if self.opens.is_lost(peer + 1) {
             return Err(NodeFault::Refused(Refusal::NodeLost));

@@ -29,7 +29,9 @@ impl<T: GroupTable + Drop> NodeState<T> {
     ghost use Rattle.pg_step.specs.Attempts.{ask, begin, finish, give_up, go_on};
     ghost use Rattle.pg_step.specs.Step.{at_clock};
     ghost use Rattle.pg_step.specs.Turns.{becomes};
+    ghost use Rattle.pg_node.specs.Issued.{ports_of};
     ghost use Rattle.pg_node.specs.States.{names_of, left_of, kept_by, state_of, answers_of, Happens};
+    ghost use Rattle.pg_node.specs.Sendable.{AreSendable};
 
     /// Gives an attempt up: frees the lock at each node that granted it. `number`: the one of its reference.
     pub(crate) fn stop_asking(&mut self, clock: u32, number: u32) -> Result<Done, AllocError>
@@ -43,6 +45,8 @@ impl<T: GroupTable + Drop> NodeState<T> {
         ensures err { OnErr result (state_of self.new ≡ state_of self.old) }
         ensures err_answers { OnErr result (answers_of self.new ≡ answers_of self.old) }
         ensures names { names_of self.new ≡ names_of self.old }
+        ensures ports { ports_of self.new ≡ ports_of self.old }
+        ensures fits { IfOk result (λ done. AreSendable (names_of self.old) done.sends.items) }
     {
         let calls = freed(self.alloc, clock, &self.opens, number)?;
         let granted = self.opens.has_granted(number, 0);
@@ -65,6 +69,8 @@ impl<T: GroupTable + Drop> NodeState<T> {
         ensures err { OnErr result (state_of self.new ≡ state_of self.old) }
         ensures err_answers { OnErr result (answers_of self.new ≡ answers_of self.old) }
         ensures names { names_of self.new ≡ names_of self.old }
+        ensures ports { ports_of self.new ≡ ports_of self.old }
+        ensures fits { IfOk result (λ done. AreSendable (names_of self.old) done.sends.items) }
     {
         let calls = asked(self.alloc, clock, &self.opens, number)?;
         let granted = self.would_grant(number);
@@ -89,6 +95,8 @@ impl<T: GroupTable + Drop> NodeState<T> {
         ensures err { OnErr result (state_of self.new ≡ state_of self.old) }
         ensures err_answers { OnErr result (answers_of self.new ≡ answers_of self.old) }
         ensures names { names_of self.new ≡ names_of self.old }
+        ensures ports { ports_of self.new ≡ ports_of self.old }
+        ensures fits { IfOk result (λ done. AreSendable (names_of self.old) done.sends.items) }
     {
         let calls = begun(self.alloc, clock, &self.opens, number, op)?;
         let granted = self.would_grant(number);
@@ -127,6 +135,8 @@ impl<T: GroupTable + Drop> NodeState<T> {
         ensures err { OnErr result (state_of self.new ≡ state_of self.old) }
         ensures err_answers { OnErr result (answers_of self.new ≡ answers_of self.old) }
         ensures names { names_of self.new ≡ names_of self.old }
+        ensures ports { ports_of self.new ≡ ports_of self.old }
+        ensures fits { IfOk result (λ done. AreSendable (names_of self.old) done.sends.items) }
     {
         let calls = ended(self.alloc, clock, &self.opens, number, lock)?;
         keep_answer(&mut self.ports, op, Reply::Ok)?;
@@ -150,6 +160,8 @@ impl<T: GroupTable + Drop> NodeState<T> {
         ensures err { OnErr result (state_of self.new ≡ state_of self.old) }
         ensures err_answers { OnErr result (answers_of self.new ≡ answers_of self.old) }
         ensures names { names_of self.new ≡ names_of self.old }
+        ensures ports { ports_of self.new ≡ ports_of self.old }
+        ensures fits { IfOk result (λ done. AreSendable (names_of self.old) done.sends.items) }
     {
         let calls = begun(self.alloc, clock, &self.opens, number, op)?;
         let granted = self.would_grant(number);
@@ -178,6 +190,8 @@ impl<T: GroupTable + Drop> NodeState<T> {
         ensures err { OnErr result (state_of self.new ≡ state_of self.old) }
         ensures err_answers { OnErr result (answers_of self.new ≡ answers_of self.old) }
         ensures names { names_of self.new ≡ names_of self.old }
+        ensures ports { ports_of self.new ≡ ports_of self.old }
+        ensures fits { IfOk result (λ done. AreSendable (names_of self.old) done.sends.items) }
     {
         steps_go_by_outlook();
         let granted = self.would_grant(number);
@@ -202,6 +216,8 @@ impl<T: GroupTable + Drop> NodeState<T> {
         requires within { clock ≤ MAX_STAMP }
         ensures happens { Happens (names_of self.old) (at_clock clock (becomes (kept_by self.old))) result (state_of self.new) (answers_of self.old) (answers_of self.new) }
         ensures names { names_of self.new ≡ names_of self.old }
+        ensures ports { ports_of self.new ≡ ports_of self.old }
+        ensures fits { AreSendable (names_of self.old) result.sends.items }
     {
         self.clock = clock;
         Done::nothing(self.alloc)

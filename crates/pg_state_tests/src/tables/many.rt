@@ -1,5 +1,7 @@
 //! Groups and members that are many.
 
+ghost use Rattle.pg_group.specs.Table.{HasRoom};
+
 use crate::samples::{many_pids, pid, pid_of};
 use crate::tables::step::has_room;
 use pg_group::{Ended, GroupTable, RowTable, Scope, Update};
@@ -9,6 +11,39 @@ use std::alloc::{AllocError, Global};
 use std::process::Abort;
 use std::test::Fail;
 
+/// Applies an update that has room.
+fn apply<T: GroupTable>(table: &mut T, update: Update, ended: &Ended) -> Result<(), AllocError>
+    requires room { HasRoom (T.contents table.old) update }
+{
+    match table.apply(&update, ended) {
+        Ok(()) => Ok(()),
+        Err(AllocError) => Err(AllocError),
+    }
+}
+
+/// The group gets the members.
+fn merge<T: GroupTable>(
+    table: &mut T,
+    number: i64,
+    members: &[Pid],
+    ended: &Ended,
+) -> Result<(), AllocError> {
+    table.merge(&Term::Int(number), members, ended)
+}
+
+/// The pid joins the group of this number, where it has room.
+fn join<T: GroupTable>(
+    rt: &impl Abort,
+    table: &mut T,
+    number: i64,
+    pid: &Pid,
+    ended: &Ended,
+) -> Result<(), AllocError> {
+    let join = Update::Join(Term::Int(number), pid.copy()?);
+    assert!(rt; has_room(table, &join));
+    apply(table, join, ended)
+}
+
 /// The groups 0 to 1000 are made, and each gets the members.
 fn make_groups<T: GroupTable>(
     table: &mut T,
@@ -16,8 +51,8 @@ fn make_groups<T: GroupTable>(
     ended: &Ended,
 ) -> Result<(), AllocError> {
     for number in 0..1001 {
-        table.apply(&Update::Create(Term::Int(number)), ended)?;
-        table.merge(&Term::Int(number), members, ended)?;
+        apply(table, Update::Create(Term::Int(number)), ended)?;
+        merge(table, number, members, ended)?;
     }
     Ok(())
 }
@@ -34,15 +69,15 @@ fn is_in_each<T: GroupTable>(rt: &impl Abort, table: &T, pid: &Pid, count: u64) 
 /// The pid leaves each of them once.
 fn leave_each<T: GroupTable>(table: &mut T, pid: &Pid, ended: &Ended) -> Result<(), AllocError> {
     for number in 0..1001 {
-        let leave = Update::Leave(Term::Int(number), pid.copy()?);
-        table.apply(&leave, ended)?;
+        let pid = pid.copy()?;
+        apply(table, Update::Leave(Term::Int(number), pid), ended)?;
     }
     Ok(())
 }
 
 fn delete_each<T: GroupTable>(table: &mut T, ended: &Ended) -> Result<(), AllocError> {
     for number in 0..1001 {
-        table.apply(&Update::Delete(Term::Int(number)), ended)?;
+        apply(table, Update::Delete(Term::Int(number)), ended)?;
     }
     Ok(())
 }
@@ -125,9 +160,7 @@ fn joins_each<T: GroupTable>(
     ended: &Ended,
 ) -> Result<(), AllocError> {
     for pid in pids {
-        let join = Update::Join(Term::Int(1), pid.copy()?);
-        assert!(rt; has_room(table, &join));
-        table.apply(&join, ended)?;
+        join(rt, table, 1, pid, ended)?;
     }
     Ok(())
 }
@@ -152,7 +185,7 @@ fn keeps_many_members<T: GroupTable + Drop>(
     pids: &[Pid],
     ended: &Ended,
 ) -> Result<(), AllocError> {
-    table.merge(&Term::Int(1), pids, ended)?;
+    merge(table, 1, pids, ended)?;
     joins_each(rt, table, pids, ended)?;
     has_each_twice(rt, &table.copy()?, pids);
     Ok(())

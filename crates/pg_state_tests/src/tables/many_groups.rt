@@ -2,8 +2,77 @@ use crate::tables::answers::size;
 use crate::tables::pair::{Cast, Side};
 use pg_group::{Ended, GroupTable, Scope, Update};
 use pg_query::{QueryFault, members};
-use pg_term::{Term, TermFault};
-use std::alloc::Global;
+use pg_term::{Pid, Term, TermFault};
+use std::alloc::{AllocError, Global};
+
+/// The pid joins the group, where it is in it less than twice.
+fn joins<T: GroupTable>(
+    table: &mut T,
+    number: i64,
+    pid: &Pid,
+    ended: &Ended,
+) -> Result<bool, AllocError> {
+    let join = Update::Join(Term::Int(number), pid.copy()?);
+    if table.count(join.name(), pid) > 1 {
+        return Ok(false);
+    }
+    match table.apply(&join, ended) {
+        Ok(()) => Ok(true),
+        Err(AllocError) => Err(AllocError),
+    }
+}
+
+/// A group is made.
+fn make<T: GroupTable>(table: &mut T, number: i64, ended: &Ended) -> Result<(), AllocError> {
+    table.merge(&Term::Int(number), &[], ended)
+}
+
+/// A group is made, and the pid joins it twice.
+fn joins_twice<T: GroupTable>(
+    table: &mut T,
+    number: i64,
+    pid: &Pid,
+    ended: &Ended,
+) -> Result<bool, AllocError> {
+    make(table, number, ended)?;
+    let first = joins(table, number, pid, ended)?;
+    let second = joins(table, number, pid, ended)?;
+    Ok(first && second && table.count(&Term::Int(number), pid) == 2)
+}
+
+/// The pid joins each of 300 groups twice.
+fn joins_each_twice<T: GroupTable>(
+    table: &mut T,
+    pid: &Pid,
+    ended: &Ended,
+) -> Result<bool, AllocError> {
+    for number in 0..300 {
+        if !joins_twice(table, number, pid, ended)? {
+            return Ok(false);
+        }
+    }
+    Ok(true)
+}
+
+/// Whether the group is there, and has no member.
+fn is_empty<T: GroupTable>(alloc: Global, table: &T, number: i64) -> Result<bool, AllocError> {
+    let name = Term::Int(number);
+    match members(alloc, table, &name) {
+        Ok(listed) => Ok(size(table, &name, &listed, Scope::All) == Some(0)),
+        Err(QueryFault::OutOfMemory) => Err(AllocError),
+        Err(QueryFault::NoSuchGroup) | Err(QueryFault::NoMember) => Ok(false),
+    }
+}
+
+/// Whether there are 300 groups, each without a member.
+fn are_empty<T: GroupTable>(alloc: Global, table: &T) -> Result<bool, AllocError> {
+    for number in 0..300 {
+        if !is_empty(alloc, table, number)? {
+            return Ok(false);
+        }
+    }
+    Ok(table.groups()?.len() == 300)
+}
 
 /// Whether an empty table keeps 300 groups, of size 0, when the pid is dropped that joined each of them twice.
 pub fn keeps_groups_of_dropped_pid<T: GroupTable>(
@@ -13,30 +82,9 @@ pub fn keeps_groups_of_dropped_pid<T: GroupTable>(
     let cast = Cast::new(alloc)?;
     let ended = Ended::new(alloc);
     let pid = cast.pid(Side::First);
-    for number in 0..300 {
-        table.merge(&Term::Int(number), &[], &ended)?;
-        for _ in 0..2 {
-            let join = Update::Join(Term::Int(number), pid.copy()?);
-            if table.count(join.name(), pid) > 1 {
-                return Ok(false);
-            }
-            table.apply(&join, &ended)?;
-        }
-        if table.count(&Term::Int(number), pid) != 2 {
-            return Ok(false);
-        }
+    if !joins_each_twice(table, pid, &ended)? {
+        return Ok(false);
     }
     table.drop_pid(pid);
-    for number in 0..300 {
-        let name = Term::Int(number);
-        let listed = match members(alloc, table, &name) {
-            Ok(listed) => listed,
-            Err(QueryFault::OutOfMemory) => return Err(TermFault::OutOfMemory),
-            Err(QueryFault::NoSuchGroup | QueryFault::NoMember) => return Ok(false),
-        };
-        if size(table, &name, &listed, Scope::All) != Some(0) {
-            return Ok(false);
-        }
-    }
-    Ok(table.groups()?.len() == 300)
+    Ok(are_empty(alloc, table)?)
 }

@@ -1,7 +1,8 @@
 //! Bodies in other forms than they are written in, cut, and with a byte changed: each is read as its term is.
 
 use super::samples::{APPLIED, CREATE, DEL_LOCK, DOWN, EXCHANGE, JOIN};
-use pg_message::{MessageFault, read_packet, write_packet};
+use pg_message::{MessageFault, Packet, read_packet, write_packet};
+use pg_term::Term;
 use pg_term_io::decode;
 use std::alloc::Global;
 use std::test::*;
@@ -26,10 +27,20 @@ pub fn replaced(
     Ok(new)
 }
 
+/// Whether a packet is written so.
+pub fn is_written_as(alloc: Global, packet: &Packet, bytes: &[u8]) -> Result<bool, MessageFault> {
+    match write_packet(alloc, packet) {
+        Ok(body) => Ok(body.as_slice() == bytes),
+        Err(fault) => Err(fault),
+    }
+}
+
 /// Whether a body is read as the packet that is written so.
 pub fn is_read_as(alloc: Global, body: &[u8], written: &[u8]) -> Result<bool, MessageFault> {
-    let packet = read_packet(alloc, body)?;
-    Ok(write_packet(alloc, &packet)?.as_slice() == written)
+    match read_packet(alloc, body) {
+        Ok(packet) => is_written_as(alloc, &packet, written),
+        Err(fault) => Err(fault),
+    }
 }
 
 /// Whether the bytes, with a part of them replaced, are read as the same packet.
@@ -139,9 +150,20 @@ fn is_fault_of_its_term(alloc: Global, body: &[u8], told: MessageFault) -> bool 
     }
 }
 
+// Whether a body spells the term.
+fn spells(alloc: Global, body: &[u8], term: &Term) -> Result<bool, MessageFault> {
+    match decode(alloc, body) {
+        Ok(spelled) => Ok(spelled == *term),
+        Err(fault) => Err(MessageFault::Term(fault)),
+    }
+}
+
 // Whether two bodies spell the same term.
 fn spell_the_same(alloc: Global, body: &[u8], other: &[u8]) -> Result<bool, MessageFault> {
-    Ok(decode(alloc, body)? == decode(alloc, other)?)
+    match decode(alloc, body) {
+        Ok(term) => spells(alloc, other, &term),
+        Err(fault) => Err(MessageFault::Term(fault)),
+    }
 }
 
 // Whether a body is read as its term is: with its fault, or as a packet whose written form spells that term.

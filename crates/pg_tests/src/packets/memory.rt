@@ -89,12 +89,27 @@ fn join_in_large_tuple(alloc: Global) -> Result<Vec<u8>, MessageFault> {
     replaced(alloc, JOIN, 1, 2, &[105, 0, 0, 0, 2])
 }
 
+// Whether the packet is written so.
+fn is_written_as(alloc: Global, packet: &Packet, bytes: &[u8]) -> Result<bool, MessageFault> {
+    match written(alloc, packet) {
+        Ok(body) => Ok(body.as_slice() == bytes),
+        Err(fault) => Err(fault),
+    }
+}
+
+// Whether the body is read as the packet that is written so.
+fn is_read_as(alloc: Global, body: &[u8], bytes: &[u8]) -> Result<bool, MessageFault> {
+    match read(alloc, body) {
+        Ok(packet) => is_written_as(alloc, &packet, bytes),
+        Err(fault) => Err(fault),
+    }
+}
+
 #[test]
 fn growths_refused_for_another_form(rt: HostRuntime) -> Result<(), Fail> {
     let alloc = rt.alloc();
     let body = again(|| join_in_large_tuple(alloc))?;
-    let packet = read(alloc, &body)?;
-    assert!(rt; written(alloc, &packet)?.as_slice() == JOIN);
+    assert!(rt; is_read_as(alloc, &body, JOIN)?);
     Ok(())
 }
 

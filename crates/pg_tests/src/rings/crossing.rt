@@ -4,16 +4,27 @@ use crate::packets::samples::create_packet;
 use crate::samples::atom;
 use bytes::BytesMut;
 use pg_frame::Deframer;
-use pg_message::{MessageFault, write_packet_into};
+use pg_message::{MessageFault, Packet, write_packet_into};
 use pg_ring::{Inlet, Link, ring_pair};
 use std::alloc::Global;
 use std::test::Fail;
 
+// A packet in a frame.
+fn framed(alloc: Global, packet: &Packet) -> Result<BytesMut, MessageFault> {
+    let mut frame = BytesMut::new(alloc);
+    match write_packet_into(packet, &mut frame) {
+        Ok(()) => Ok(frame),
+        Err(fault) => Err(fault),
+    }
+}
+
 // A `create` call in a frame.
 fn create_call(alloc: Global) -> Result<BytesMut, MessageFault> {
-    let mut frame = BytesMut::new(alloc);
-    write_packet_into(&create_packet(alloc, 0, atom(alloc, "g")?)?, &mut frame)?;
-    Ok(frame)
+    let name = atom(alloc, "g")?;
+    match create_packet(alloc, 0, name) {
+        Ok(packet) => framed(alloc, &packet),
+        Err(fault) => Err(MessageFault::Term(fault)),
+    }
 }
 
 #[test]

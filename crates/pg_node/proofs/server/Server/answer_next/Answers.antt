@@ -5,15 +5,16 @@ use Rattle.std.proofs.lemmas.Result.{err_from_is_err_and}
 use Rattle.pg_frame.specs.Frames.{front_of}
 use Rattle.pg_frame.proofs.Readings.{front_is_frame}
 use Rattle.pg_node.specs.Progress.{Progress}
-use Rattle.pg_node.specs.Replica.{pair_of, state_of, Answers, answered}
+use Rattle.pg_node.specs.Replica.{pair_of, Answers, answered}
+use Rattle.pg_node.specs.States.{state_of}
 use Rattle.pg_node.proofs.Streams.{stay, one, refused, cut_short}
 use Rattle.pg_node.proofs.server.Server.answer_next.Goals as goal
 
 pub returns-in-Ok-None-clause-progress : goal.returns-in-Ok-None-clause-progress
-returns-in-Ok-None-clause-progress g c = stay (pair_of c.args.self.now.replica) c.args.self.now.deframer.unread (state_of c.args.self.now.replica) (g.W.Write.contents c.args.writer.now)
+returns-in-Ok-None-clause-progress g c = stay (pair_of c.args.self.now.node) c.args.self.now.deframer.unread (state_of c.args.self.now.node) (g.W.Write.contents c.args.writer.now)
 
-pub answer-requires : goal.answer-requires
-answer-requires g c =
+pub answer-requires-clause-len : goal.answer-requires-clause-len
+answer-requires-clause-len g c =
     front_is_frame.lawful c.args.self.now.deframer.unread c.in-Ok-Some.body.now (sym c.in-Ok-Some.ensures.body ∙ ap (λ o. Ok (option_copied o)) c.in-Ok-Some.field-0-is)
 
 pub returns-in_err-answer-clause-fault : goal.returns-in_err-answer-clause-fault
@@ -21,13 +22,13 @@ returns-in_err-answer-clause-fault g c =
     let unread = c.args.self.now.deframer.unread in
     let front : front_of unread ≡ Ok (Some c.in-Ok-Some.body.now) = sym c.in-Ok-Some.ensures.body ∙ ap (λ o. Ok (option_copied o)) c.in-Ok-Some.field-0-is in
     let p = err_from_is_err_and c.from_residual.result c.from_residual.ensures.1 in
-    rw (p.1, p.2) (refused (pair_of c.args.self.now.replica) unread c.in-Ok-Some.body.now (state_of c.args.self.now.replica) (g.W.Write.contents c.args.writer.now) front c.in_err-answer.field-0.0 c.in_err-answer.ensures.fault)
+    rw (p.1, p.2) (refused (pair_of c.args.self.now.node) unread c.in-Ok-Some.body.now (state_of c.args.self.now.node) (g.W.Write.contents c.args.writer.now) front c.in_err-answer.field-0.0 c.in_err-answer.ensures.fault)
 
 pub returns-in_err-put_whole-clause-fault : goal.returns-in_err-put_whole-clause-fault
 returns-in_err-put_whole-clause-fault g c =
-    let pair = pair_of c.args.self.now.replica in
-    let s = state_of c.args.self.now.replica in
-    let t = state_of c.answer.new.self in
+    let pair = pair_of c.args.self.now.node in
+    let s = state_of c.args.self.now.node in
+    let t = state_of c.answer.new.node in
     let unread = c.args.self.now.deframer.unread in
     let body = c.in-Ok-Some.body.now in
     let contents = g.W.Write.contents in
@@ -39,9 +40,9 @@ returns-in_err-put_whole-clause-fault g c =
 
 pub returns-clause-progress : goal.returns-clause-progress
 returns-clause-progress g c =
-    let pair = pair_of c.args.self.now.replica in
-    let s = state_of c.args.self.now.replica in
-    let t = state_of c.answer.new.self in
+    let pair = pair_of c.args.self.now.node in
+    let s = state_of c.args.self.now.node in
+    let t = state_of c.answer.new.node in
     let unread = c.args.self.now.deframer.unread in
     let body = c.in-Ok-Some.body.now in
     let front : front_of unread ≡ Ok (Some body) = sym c.in-Ok-Some.ensures.body ∙ ap (λ o. Ok (option_copied o)) c.in-Ok-Some.field-0-is in

@@ -1,11 +1,11 @@
-use Rattle.std.proofs.Common.{◌∙◌, ◌&&◌, ap, sym, refl, arith, true}
+use Rattle.std.proofs.Common.{◌∙◌, ◌&&◌, ap, sym, refl, arith, true, length}
 use Rattle.pg_group.specs.Value.{name_of}
 use Rattle.pg_lock.specs.Locks.{locks_of, after_ask}
 use Rattle.pg_ends.specs.Processes.{node_of}
 use Rattle.pg_opens.specs.Opens.{Shows, names_of as opens_names}
 use Rattle.pg_opens.specs.Readings.{update_of}
 use Rattle.pg_step.specs.State.{State}
-use Rattle.pg_node.specs.Ports.{merged_in}
+use Rattle.pg_node.specs.Ports.{merged_in, counts_in}
 use Rattle.pg_node.specs.States.{left_of, kept_by}
 use Rattle.pg_node.proofs.Kept.{shows, assembled}
 use Rattle.pg_node.proofs.Steady.{peers_stay, own_stays, merged_stay, lost_stay, made_stay, given_stay}
@@ -13,7 +13,7 @@ use Rattle.pg_node.proofs.Turned.{LockParts, parts_by, update_is}
 use Rattle.pg_step.specs.Attempts.{ask, with_asked}
 use Rattle.pg_step.specs.Peers.{would_grant}
 use Rattle.pg_step.specs.State.Use.{Locking}
-use Rattle.pg_node.proofs.Given.{given_use, of_lock, locking_came}
+use Rattle.pg_node.proofs.Given.{given_use, of_lock, locking_came, gathered_named}
 use Rattle.pg_node.proofs.state.NodeState.ask_rest.Goals as goal
 
 pub invariant_of-self-2 : goal.invariant_of-self-2
@@ -54,3 +54,8 @@ returns-clause-happens g c = λ op update first st is.
           (merged_stay old.opens new t turned c.ask.ensures.nodes old.formation) refl refl;
       answers = refl;
     }
+
+pub asked-requires-clause-named : goal.asked-requires-clause-named
+asked-requires-clause-named g c =
+    let old = c.args.self.now in
+    gathered_named (length old.ports.items) (counts_in old.ports.items) c.args.number old.given

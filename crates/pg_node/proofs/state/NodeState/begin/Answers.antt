@@ -1,4 +1,4 @@
-use Rattle.std.proofs.Common.{◌≡◌, ◌∙◌, ◌+◌, ◌^◌, ◌&&◌, ℕ, ap, sym, refl, arith, true, subst, nat_eq}
+use Rattle.std.proofs.Common.{◌≡◌, ◌∙◌, ◌+◌, ◌^◌, ◌&&◌, ℕ, ap, sym, refl, arith, true, subst, nat_eq, length}
 use Rattle.pg_group.specs.declared.update.Update.{Update as Change}
 use Rattle.pg_group.specs.Value.{name_of}
 use Rattle.pg_group.specs.Ended.{ended_of}
@@ -7,7 +7,7 @@ use Rattle.pg_ends.specs.Processes.{node_of}
 use Rattle.pg_opens.specs.Opens.{Shows, names_of as opens_names}
 use Rattle.pg_opens.specs.Readings.{update_of}
 use Rattle.pg_step.specs.State.{State}
-use Rattle.pg_node.specs.Ports.{merged_in}
+use Rattle.pg_node.specs.Ports.{merged_in, counts_in}
 use Rattle.pg_node.specs.States.{left_of, kept_by}
 use Rattle.pg_node.proofs.Kept.{shows, assembled}
 use Rattle.pg_node.proofs.Steady.{peers_stay, own_stays, merged_stay, lost_stay, made_stay, given_stay}
@@ -25,7 +25,7 @@ use Rattle.pg_step.specs.State.Stage.{Changing}
 use Rattle.pg_opens.specs.Readings.{is_locking}
 use Rattle.pg_opens.specs.Opens.{uses_of}
 use Rattle.pg_node.proofs.Counts.{few_changed}
-use Rattle.pg_node.proofs.Given.{given_use, given_stage, of_lock, of_none, of_update, locking_came}
+use Rattle.pg_node.proofs.Given.{given_use, of_any, given_stage, of_lock, of_none, of_update, locking_came, gathered_named}
 use Rattle.pg_node.proofs.Steady.{left_stays}
 use Rattle.pg_node.proofs.state.NodeState.begin.Goals as goal
 
@@ -70,7 +70,7 @@ invariant_of-self-2 g c =
           (given_use ((kept_by old).references + 1) (Updating c.args.op parts.update c.args.number (same_atom (left_of old).own)) (of_update c.args.op parts.update c.args.number (same_atom (left_of old).own) came)
           (given_use c.args.number (Owning (name_of parts.update) ((kept_by old).references + 1)) of_none
           (given_use c.args.number (Locking c.args.op parts.update parts.first st) (of_lock c.args.op parts.update parts.first st came)
-          (given_stage c.args.op (Changing ((kept_by old).references + 1)) came old.given))));
+          (given_stage c.args.op (Changing ((kept_by old).references + 1)) (of_any came) old.given))));
       few = few_changed (2 ^ 32 + old.clock) (2 ^ 32 + c.args.clock) (g.T.GroupTable.contents old.table) (g.T.GroupTable.contents c.apply_own.new.table) c.update_under-update.result.now (ended_of old.ended)
           (omega (arith, c.requires.later)) old.few c.in_ok-apply_own.ensures.table;
     }
@@ -100,3 +100,8 @@ returns-clause-happens g c = λ update first st is.
           (merged_stay old.opens new t turned (c.begin.ensures.nodes ∙ c.ask.ensures.nodes) old.formation) refl refl;
       answers = refl;
     }
+
+pub begun-requires-clause-named : goal.begun-requires-clause-named
+begun-requires-clause-named g c =
+    let old = c.args.self.now in
+    gathered_named (length old.ports.items) (counts_in old.ports.items) c.args.number old.given

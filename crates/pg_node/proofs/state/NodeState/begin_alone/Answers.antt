@@ -41,7 +41,7 @@ use Rattle.pg_step.specs.State.Stage.{Changing, Closed}
 use Rattle.pg_opens.specs.Readings.{is_locking, is_updating}
 use Rattle.pg_opens.specs.Opens.{uses_of}
 use Rattle.pg_node.proofs.Counts.{few_changed}
-use Rattle.pg_node.proofs.Given.{given_use, given_stage, of_lock, of_none, of_update, given_ports, locking_came}
+use Rattle.pg_node.proofs.Given.{given_use, of_any, given_stage, of_lock, of_none, of_update, given_ports, locking_came, gathered_named}
 use Rattle.pg_node.proofs.Steady.{left_stays}
 use Rattle.pg_node.proofs.Alone.{to_none, begins_alone, sends_nothing, at_time}
 use Rattle.pg_node.proofs.state.NodeState.begin_alone.Goals as goal
@@ -182,7 +182,7 @@ invariant_of-self-2 g c =
           (given_use changing (Updating op update number (same_atom (left_of old).own)) (of_update op update number (same_atom (left_of old).own) came)
           (given_use number (Owning (name_of update) changing) of_none
           (given_use number (Locking op update parts.first st) (of_lock op update parts.first st came)
-          (given_stage op Closed came (given_stage op (Changing changing) came old.given))))))));
+          (given_stage op Closed (of_any came) (given_stage op (Changing changing) (of_any came) old.given))))))));
       few = few_changed (2 ^ 32 + old.clock) (2 ^ 32 + c.args.clock) (g.T.GroupTable.contents old.table) (g.T.GroupTable.contents c.apply.new.self) c.update_under-update.result.now (ended_of old.ended)
           (omega (arith, c.requires.later)) old.few c.in_ok-apply.ensures.ok;
     }
@@ -241,3 +241,8 @@ returns-clause-happens g c = λ update first st0 is.
       answers = subst (λ (gave : Option (OpId × Response)). Gave (name_at (names_of old) 0) gave (answers_in old.ports.items) (answers_in c.keep_reserved.new.ports.items)) (sym (ap (λ (t : NodeTurn). t.reported.gave) whole))
           (reply.Ok, refl, c.keep_reserved.ensures.kept ∙ (λ i. upd nat_eq (answers i) op.port (answers i op.port ++ record { number = op.number; reply = reply.Ok } ∷ [])));
     }
+
+pub begun-requires-clause-named : goal.begun-requires-clause-named
+begun-requires-clause-named g c =
+    let old = c.args.self.now in
+    gathered_named (length old.ports.items) (counts_in old.ports.items) c.args.number old.given

@@ -16,6 +16,7 @@ use Rattle.pg_step.specs.State.Status.{Asked}
 use Rattle.pg_step.specs.State.Use.{Locking}
 use Rattle.pg_step.specs.Attempts.{counted, count_answer, go_on, lock_status}
 use Rattle.pg_node.specs.Ports.{merged_in}
+use Rattle.pg_node.specs.Sendable.{AreSendable}
 use Rattle.pg_node.specs.States.{names_of, left_of, kept_by, state_of, answers_of}
 use Rattle.pg_node.proofs.Given.{given_use, of_lock, locking_came}
 use Rattle.pg_node.proofs.Alone.{at_time}
@@ -201,3 +202,6 @@ returns-in-Err-clause-err g c =
     shown (ap (λ (x : State). x.table) kept2) (ap (λ (x : State). x.ended) kept2) (ap (λ (x : State). x.locks) kept2)
     (merged_stay self2.opens final s2 back c.take_back_answer.ensures.nodes self2.formation ∙ ap (λ (x : State). x.merged) kept2) (ap (λ (x : State). x.processes) kept2) (ap (λ (x : State). x.counts) kept2)
     ∙ ap (λ (n : ℕ). at_time n (kept_by old)) (ap (λ (x : Timed State). x.clock) same)
+
+pub returns-in-Ok-clause-fits : goal.returns-in-Ok-clause-fits
+returns-in-Ok-clause-fits g c = subst (λ (names : List Node). AreSendable names c.in-Ok.done.sends.items) c.count_answer.ensures.nodes c.in-Ok.ensures.fits

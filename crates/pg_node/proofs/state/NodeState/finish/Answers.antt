@@ -14,7 +14,7 @@ use Rattle.pg_step.specs.Attempts.{finish}
 use Rattle.pg_step.specs.declared.answer.Reply.TheVariants as reply
 use Rattle.pg_step.specs.State.Use.{Spent}
 use Rattle.pg_step.specs.State.Stage.{Closed}
-use Rattle.pg_node.proofs.Given.{given_use, given_stage, given_ports, of_none, updating_came}
+use Rattle.pg_node.proofs.Given.{given_use, of_any, given_stage, given_ports, of_none, updating_came, gathered_named}
 use Rattle.pg_node.proofs.state.NodeState.finish.Goals as goal
 
 pub keep_answer-requires : goal.keep_answer-requires
@@ -54,7 +54,7 @@ invariant_of-self-2 g c =
       made = made_stay old.opens new s turned nodes c.args.clock (omega (arith, old.made, c.requires.later));
       counted = λ port. subst (λ (f : ℕ → ℕ). f port ≤ c.args.clock) (sym c.keep_answer.ensures.counts) (omega (arith, old.counted port, c.requires.later));
       given = given_ports (length old.ports.items) (length c.keep_answer.new.ports.items) (counts_in old.ports.items) (counts_in c.keep_answer.new.ports.items) c.keep_answer.ensures.len c.keep_answer.ensures.counts
-          (given_stay old.opens new s turned nodes (given_use c.args.number Spent of_none (given_use c.args.lock Spent of_none (given_stage c.args.op Closed came old.given))));
+          (given_stay old.opens new s turned nodes (given_use c.args.number Spent of_none (given_use c.args.lock Spent of_none (given_stage c.args.op Closed (of_any came) old.given))));
       few = λ name pid. omega (arith, old.few name pid, c.requires.later);
     }
 
@@ -73,3 +73,8 @@ returns-clause-happens g c = λ update replied is.
           (merged_stay old.opens new t turned c.finish.ensures.nodes old.formation) refl c.keep_answer.ensures.counts;
       answers = (reply.Ok, refl, c.in_ok-keep_answer.ensures.ok);
     }
+
+pub ended-requires-clause-named : goal.ended-requires-clause-named
+ended-requires-clause-named g c =
+    let old = c.args.self.now in
+    gathered_named (length old.ports.items) (counts_in old.ports.items) c.args.number old.given

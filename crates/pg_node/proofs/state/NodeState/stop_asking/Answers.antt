@@ -1,4 +1,4 @@
-use Rattle.std.proofs.Common.{◌∙◌, ◌&&◌, ap, sym, refl, arith}
+use Rattle.std.proofs.Common.{◌∙◌, ◌&&◌, ap, sym, refl, arith, length}
 use Rattle.pg_group.specs.Value.{name_of}
 use Rattle.pg_lock.specs.Locks.{locks_of, given_up, is_holder}
 use Rattle.pg_ends.specs.Processes.{node_of}
@@ -8,9 +8,9 @@ use Rattle.pg_step.specs.Attempts.{give_up}
 use Rattle.pg_step.specs.State.{State}
 use Rattle.pg_step.specs.State.Use.{Spent}
 use Rattle.pg_step.specs.State.Stage.{Waiting}
-use Rattle.pg_node.specs.Ports.{merged_in}
+use Rattle.pg_node.specs.Ports.{merged_in, counts_in}
 use Rattle.pg_node.specs.States.{left_of, kept_by}
-use Rattle.pg_node.proofs.Given.{given_use, given_stage, of_none, locking_came}
+use Rattle.pg_node.proofs.Given.{given_use, given_stage, of_none, locking_came, gathered_named}
 use Rattle.pg_node.proofs.Kept.{shows, assembled}
 use Rattle.pg_node.proofs.Steady.{peers_stay, own_stays, merged_stay, lost_stay, made_stay, given_stay}
 use Rattle.pg_node.proofs.Turned.{LockParts, parts_by, update_is}
@@ -52,3 +52,8 @@ returns-clause-happens g c = λ op update first st is.
           (merged_stay old.opens new t turned c.give_up.ensures.nodes old.formation) refl refl;
       answers = refl;
     }
+
+pub freed-requires-clause-named : goal.freed-requires-clause-named
+freed-requires-clause-named g c =
+    let old = c.args.self.now in
+    gathered_named (length old.ports.items) (counts_in old.ports.items) c.args.number old.given

@@ -18,5 +18,5 @@ returns-clause-sends c =
     λ op update first st is.
     let changed : c.update_under-update.result.now ≡ update = update_is c.update_under-update.result.now update (sym c.update_under-update.ensures ∙ ap update_of is) in
     let lock = c.in_ok-lock.ensures ∙ ap (λ (n : Node). numbered n c.args.number) c.name.ensures in
-    ap (sends_in (names_of opens)) c.made_calls.ensures.sends ∙ (c.in_ok-sends.ensures op update first st is
+    ap (sends_in (names_of opens)) c.made_calls.ensures.sends ∙ (c.in_ok-sends.ensures.sends op update first st is
     ∙ (λ i q. stamped c.args.clock (to_peers (left_of opens) (asks (λ p. true) st) (messages.Call (lock i) (requests.SetLock ((c.name-2.ensures ∙ ap name_of changed) i))) q)))

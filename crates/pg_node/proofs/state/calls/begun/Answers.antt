@@ -16,5 +16,5 @@ returns-clause-sends c =
     λ op update first st is.
     let changed : c.update_under-update.result.now ≡ update = update_is c.update_under-update.result.now update (sym c.update_under-update.ensures ∙ ap update_of is) in
     let call = c.in_ok-call.ensures ∙ (λ i. numbered (c.name-2.ensures i) ((ap (λ n. n + 1) c.references.ensures) i)) in
-    ap (sends_in (names_of opens)) c.made_calls.ensures.sends ∙ (c.in_ok-sends.ensures
+    ap (sends_in (names_of opens)) c.made_calls.ensures.sends ∙ (c.in_ok-sends.ensures.sends
     ∙ (λ i q. stamped c.args.clock (to_peers (left_of opens) (λ p. true) (messages.Call (call i) (requests.Change (changed i))) q)))

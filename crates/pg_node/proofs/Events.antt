@@ -1,0 +1,107 @@
+-- The events of a node over bytes, from those of its parts.
+use Rattle.std.proofs.Common.{◌≡◌, ◌<◌, ℕ, Bool, true, false, ◌||◌, cond, nat_eq, List, length, get_or, Option, Some, None, Result, Ok, Err, refl, sym, ap, ◌∙◌}
+use Rattle.std.specs.Prelude.{slice_set}
+use Rattle.std.proofs.Math.Path.{fun_ext}
+use Rattle.std.proofs.lemmas.Bool.{eqb-true}
+use Rattle.pg_group.specs.Functions.{upd}
+use Rattle.pg_machine.specs.Clocked.{Timed}
+use Rattle.pg_message.specs.declared.packet.Packet.{Packet}
+use Rattle.pg_step.specs.declared.answer.Answer.{Answer}
+use Rattle.pg_step.specs.declared.refusal.Refusal.{Refusal}
+use Rattle.pg_step.specs.Nodes.{Node as Name, Nodes}
+use Rattle.pg_step.specs.State.{State}
+use Rattle.pg_step.specs.Step.{TimedTurn, step_take}
+use Rattle.pg_node.specs.declared.node.wire.Wire.{Wire}
+use Rattle.pg_node.specs.declared.state.done.Done.{Done}
+use Rattle.pg_node.specs.declared.state.fault.NodeFault.{NodeFault}
+use Rattle.pg_node.specs.declared.state.fault.NodeFault.TheVariants.{Refused, OutOfMemory, Message, TooLong, Damaged}
+use Rattle.pg_node.specs.Bytes.{Tells, damages, marked, passed}
+use Rattle.pg_node.specs.Links.{Link, link_of, links_in, at_link, frames_to, with_more}
+use Rattle.pg_node.specs.Nodes.{taken_as, taken_of, TakesNext, ComesInRoom, sent_out}
+use Rattle.pg_node.specs.States.{stamped_of, Comes}
+use Rattle.pg_node.proofs.Linked.{one_link}
+
+-- a fault that damages nothing marks nothing
+pub unmarked : (links : ℕ → Link) (peer : ℕ) (fault : NodeFault) → damages fault ≡ false → at_link peer (λ l. marked l fault) links ≡ links
+unfolding upd
+unmarked links peer fault e = fun_ext (λ place. go place (nat_eq peer place) (eqb-true peer place))
+  where
+    go : (place : ℕ) (b : Bool) → (b ≡ true → peer ≡ place) → cond b (marked (links peer) fault) (links place) ≡ links place
+    go place true is = ap (λ b. record (links peer) { damaged = b || (links peer).damaged }) e ∙ ap links (is refl)
+    go place false is = refl
+
+-- room was made, packets were sent, and the frame was taken out
+pub sent_links : (w0 w1 w2 : List Wire) (sends : List (ℕ × Packet)) (peer : ℕ) (old new : Wire) → links_in w1 ≡ links_in w0 → ((place : ℕ) → links_in w2 place ≡ with_more (links_in w1 place) (frames_to sends place))
+    → peer < length w2 → old ≡ get_or w2 peer old → link_of new ≡ passed (link_of old)
+    → (place : ℕ) → links_in (slice_set w2 peer new) place ≡ at_link peer passed (sent_out sends (links_in w0)) place
+sent_links w0 w1 w2 sends peer old new same sent within here is place = ap (λ (f : ℕ → Link). f place) (one_link w2 peer old new passed within here is
+    ∙ ap (at_link peer passed) (fun_ext (λ k. sent k ∙ ap (λ (f : ℕ → Link). with_more (f k) (frames_to sends k)) same)))
+
+abbrev as_some : Result Done NodeFault → Result (Option Done) NodeFault
+as_some (Ok done) = Ok (Some done)
+as_some (Err fault) = Err fault
+
+abbrev as_none : Result (Option Packet) NodeFault → Result (Option Done) NodeFault
+as_none (Ok packet) = Ok None
+as_none (Err fault) = Err fault
+
+module _ (names : List Name) (s0 s : Timed State) (before after : ℕ → List Answer) where
+  pub in_room : (r : Result TimedTurn Refusal) (result : Result Done NodeFault) → Comes names r result s before after → ComesInRoom names r result s before after
+  in_room r (Ok done) h = h
+  in_room r (Err OutOfMemory) h = tt
+  in_room r (Err (Refused refusal)) h = h
+  in_room r (Err (Message fault)) h = h
+  in_room r (Err TooLong) h = h
+  in_room r (Err Damaged) h = h
+
+  pub takes_ok : (r : Result TimedTurn Refusal) (done : Done) → ComesInRoom names r (Ok done) s before after → TakesNext names (taken_as r) (Ok (Some done)) s0 s before after
+  takes_ok (Ok t) done h = h
+  takes_ok (Err refusal) done h = absurd (cc)
+
+  pub takes_err : (r : Result TimedTurn Refusal) (fault : NodeFault) → ComesInRoom names r (Err fault) s before after → TakesNext names (taken_as r) (Err fault) s0 s before after
+  takes_err (Ok t) OutOfMemory h = tt
+  takes_err (Ok t) (Refused refusal) h = h
+  takes_err (Ok t) (Message fault) h = h
+  takes_err (Ok t) TooLong h = h
+  takes_err (Ok t) Damaged h = h
+  takes_err (Err refusal) OutOfMemory h = tt
+  takes_err (Err refusal) (Refused other) h = ap (λ (r : Result Done NodeFault). as_some r) h
+  takes_err (Err refusal) (Message fault) h = ap (λ (r : Result Done NodeFault). as_some r) h
+  takes_err (Err refusal) TooLong h = ap (λ (r : Result Done NodeFault). as_some r) h
+  takes_err (Err refusal) Damaged h = ap (λ (r : Result Done NodeFault). as_some r) h
+
+  memory_out : (r : Result TimedTurn Refusal) → TakesNext names (taken_as r) (Err OutOfMemory) s0 s before after
+  memory_out (Ok t) = tt
+  memory_out (Err refusal) = tt
+
+  -- no packet was read
+  pub next_err : (m : Nodes) (p : Name) (told : Result (Option Packet) NodeFault) (fault : NodeFault) → Tells told (Err fault) → TakesNext names (taken_of m p s0 told) (Err fault) s0 s before after
+  next_err m p (Ok (Some packet)) OutOfMemory h = memory_out (step_take m p (stamped_of packet) s0)
+  next_err m p (Ok (Some packet)) (Refused refusal) h = absurd (cc)
+  next_err m p (Ok (Some packet)) (Message fault) h = absurd (cc)
+  next_err m p (Ok (Some packet)) TooLong h = absurd (cc)
+  next_err m p (Ok (Some packet)) Damaged h = absurd (cc)
+  next_err m p (Ok None) fault h = absurd (cc)
+  next_err m p (Err (Message other)) OutOfMemory h = tt
+  next_err m p (Err (Message other)) (Refused refusal) h = ap (λ (r : Result (Option Packet) NodeFault). as_none r) h
+  next_err m p (Err (Message other)) (Message fault) h = ap (λ (r : Result (Option Packet) NodeFault). as_none r) h
+  next_err m p (Err (Message other)) TooLong h = ap (λ (r : Result (Option Packet) NodeFault). as_none r) h
+  next_err m p (Err (Message other)) Damaged h = ap (λ (r : Result (Option Packet) NodeFault). as_none r) h
+  next_err m p (Err (Refused other)) OutOfMemory h = tt
+  next_err m p (Err (Refused other)) (Refused refusal) h = ap (λ (r : Result (Option Packet) NodeFault). as_none r) h
+  next_err m p (Err (Refused other)) (Message fault) h = ap (λ (r : Result (Option Packet) NodeFault). as_none r) h
+  next_err m p (Err (Refused other)) TooLong h = ap (λ (r : Result (Option Packet) NodeFault). as_none r) h
+  next_err m p (Err (Refused other)) Damaged h = ap (λ (r : Result (Option Packet) NodeFault). as_none r) h
+  next_err m p (Err OutOfMemory) fault h = ap (λ (r : Result (Option Packet) NodeFault). as_none r) h
+  next_err m p (Err TooLong) fault h = ap (λ (r : Result (Option Packet) NodeFault). as_none r) h
+  next_err m p (Err Damaged) fault h = ap (λ (r : Result (Option Packet) NodeFault). as_none r) h
+
+-- what was read is what is told
+pub tells_ok : (told : Result (Option Packet) NodeFault) (some : Option Packet) → Tells told (Ok some) → told ≡ Ok some
+tells_ok (Ok (Some packet)) some h = sym h
+tells_ok (Ok None) some h = sym h
+tells_ok (Err (Message other)) some h = sym h
+tells_ok (Err (Refused other)) some h = sym h
+tells_ok (Err OutOfMemory) some h = sym h
+tells_ok (Err TooLong) some h = sym h
+tells_ok (Err Damaged) some h = sym h

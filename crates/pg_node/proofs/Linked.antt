@@ -1,0 +1,139 @@
+-- The links where one of them changes, and where packets are sent one after the other.
+use Rattle.std.proofs.Common.{◌≡◌, ◌<◌, ◌≤◌, ◌+◌, ◌∙◌, ℕ, zero, suc, Bool, true, false, cond, nat_eq, List, [], ◌∷◌, ◌++◌, get_or, length, Result, Ok, Err, IfOk, OnErr, refl, sym, ap, arith, subst, append_assoc, append-nil, drop}
+use Rattle.std.specs.Prelude.{slice_set}
+use Rattle.std.specs.List.{AllByRecursion}
+use Rattle.std.proofs.Math.Path.{fun_ext}
+use Rattle.std.proofs.Math.Seq.{drop-cons}
+use Rattle.std.proofs.Math.Dec.{eqb-zero-suc, eqb-suc-zero, eqb-suc-suc}
+use Rattle.std.proofs.lemmas.Bool.{eqb-true, eq-eqb}
+use Rattle.pg_group.specs.Functions.{upd}
+use Rattle.pg_message.specs.declared.packet.Packet.{Packet}
+use Rattle.pg_message.specs.declared.writing.size.TheConstants.{MAX_SMALL_LEN}
+use Rattle.pg_step.specs.Nodes.{Node}
+use Rattle.pg_node.specs.declared.node.wire.Wire.{Wire}
+use Rattle.pg_node.specs.Links.{Link, link_of, idle_link, part_in, links_in, at_link, room_in, frame_of, frames_to, with_more, HasRoom, HaveRoom, FitLinks}
+use Rattle.pg_node.specs.Sendable.{IsSendable, Ascends}
+
+-- a part where the link at a place is another
+pub part_set : {A : Type 0} (part : Wire → A) (none : A) (wires : List Wire) (k : ℕ) (wire : Wire) → k < length wires → (place : ℕ) → part_in part none (slice_set wires k wire) place ≡ cond (nat_eq k place) (part wire) (part_in part none wires place)
+part_set part none [] k wire within place = absurd (omega arith)
+part_set part none (w ∷ wires) zero wire within zero = refl
+part_set part none (w ∷ wires) zero wire within (suc n) = ap (λ b. cond b (part wire) (part_in part none wires n)) (sym (eqb-zero-suc n))
+part_set part none (w ∷ wires) (suc k) wire within zero = ap (λ b. cond b (part wire) (part w)) (sym (eqb-suc-zero k))
+part_set part none (w ∷ wires) (suc k) wire within (suc n) = part_set part none wires k wire (omega arith) n ∙ ap (λ b. cond b (part wire) (part_in part none wires n)) (sym (eqb-suc-suc k n))
+
+pub part_here : {A : Type 0} (part : Wire → A) (none : A) (wires : List Wire) (k : ℕ) (wire : Wire) → k < length wires → wire ≡ get_or wires k wire → part_in part none wires k ≡ part wire
+part_here part none [] k wire within e = absurd (omega arith)
+part_here part none (w ∷ wires) zero wire within e = ap part (sym e)
+part_here part none (w ∷ wires) (suc k) wire within e = part_here part none wires k wire (omega arith) e
+
+-- a link that stays
+pub same_links : (wires : List Wire) (k : ℕ) (old new : Wire) → k < length wires → old ≡ get_or wires k old → link_of new ≡ link_of old → links_in (slice_set wires k new) ≡ links_in wires
+same_links wires k old new within here same = fun_ext (λ place. part_set link_of idle_link wires k new within place ∙ go place (nat_eq k place) (eqb-true k place))
+  where
+    go : (place : ℕ) (b : Bool) → (b ≡ true → k ≡ place) → cond b (link_of new) (links_in wires place) ≡ links_in wires place
+    go place true is = same ∙ (sym (part_here link_of idle_link wires k old within here) ∙ ap (links_in wires) (is refl))
+    go place false is = refl
+
+-- a link that changes
+pub one_link : (wires : List Wire) (k : ℕ) (old new : Wire) (change : Link → Link) → k < length wires → old ≡ get_or wires k old → link_of new ≡ change (link_of old) → links_in (slice_set wires k new) ≡ at_link k change (links_in wires)
+unfolding upd
+one_link wires k old new change within here is = fun_ext (λ place. part_set link_of idle_link wires k new within place
+    ∙ ap (λ (l : Link). cond (nat_eq k place) l (links_in wires place)) (is ∙ ap change (sym (part_here link_of idle_link wires k old within here))))
+
+-- what holds of an answer
+pub if_ok : {A E : Type 0} (r : Result A E) (P Q R : A → Type 0) → ((a : A) → P a → Q a → R a) → IfOk r P → IfOk r Q → IfOk r R
+if_ok (Ok a) P Q R f p q = f a p q
+if_ok (Err e) P Q R f p q = tt
+
+pub on_err : {A E : Type 0} (r : Result A E) (P Q : Type 0) → (P → Q) → OnErr r P → OnErr r Q
+on_err (Ok a) P Q f p = tt
+on_err (Err e) P Q f p = f p
+
+-- ---- room
+
+-- room at the places below one
+abbrev pub RoomBelow : ℕ → List Wire → Type 0
+RoomBelow bound wires = (place : ℕ) → place < bound → 4 + MAX_SMALL_LEN ≤ room_in wires place
+
+pub room_more : (wires : List Wire) (k : ℕ) (new : Wire) → k < length wires → HasRoom new → RoomBelow k wires → RoomBelow (k + 1) (slice_set wires k new)
+room_more wires k new within room below place l = subst (λ n. 4 + MAX_SMALL_LEN ≤ n) (sym (part_set (λ wire. wire.outbox.spare) 0 wires k new within place)) (go (nat_eq k place) (eq-eqb k place))
+  where
+    sooner : (k ≡ place → ⊥) → place < k
+    sooner other = grind (arith, l, other)
+
+    go : (b : Bool) → (k ≡ place → b ≡ true) → 4 + MAX_SMALL_LEN ≤ cond b new.outbox.spare (room_in wires place)
+    go true is = room
+    go false is = below place (sooner (λ e. absurd (let f : false ≡ true = is e in cc)))
+
+-- ---- packets that are sent
+
+-- so far these are left to be sent
+pub record Sending (start : List Wire) (sends : List (ℕ × Packet)) (wires : List Wire) (rest : List (ℕ × Packet)) : Type 0 where
+  pub names : List Node
+  pub peers : length wires + 1 ≡ length names
+  pub len : length wires ≡ length start
+  pub least : ℕ
+  pub apart : Ascends least rest
+  pub each : AllByRecursion (IsSendable names) rest
+  pub room : (place : ℕ) → least ≤ place → place < length wires → 4 + MAX_SMALL_LEN ≤ room_in wires place
+  pub sent : (place : ℕ) → with_more (links_in wires place) (frames_to rest place) ≡ with_more (links_in start place) (frames_to sends place)
+
+pub all_left : (wires : List Wire) (sends : List (ℕ × Packet)) → FitLinks (length wires) sends → HaveRoom wires → Sending wires sends wires sends
+all_left wires sends fit room = record {
+  names = fit.0;
+  peers = fit.1;
+  len = refl;
+  least = 0;
+  apart = fit.2.apart;
+  each = fit.2.each;
+  room = λ place l within. room place within;
+  sent = λ place. refl;
+}
+
+pub none_left : (start wires : List Wire) (sends : List (ℕ × Packet)) → Sending start sends wires [] → (place : ℕ) → links_in wires place ≡ with_more (links_in start place) (frames_to sends place)
+none_left start wires sends sending place = ap (λ (out : List ℕ). record (links_in wires place) { outbox = out }) (sym (append-nil (links_in wires place).outbox)) ∙ sending.sent place
+
+module _ (start wires : List Wire) (sends others : List (ℕ × Packet)) (sent : ℕ × Packet) (sending : Sending start sends wires (sent ∷ others)) where
+  pub its_place : sent.0 < length wires
+  its_place = omega (arith, sending.each.0.place, sending.peers)
+
+  pub its_room : (wire : Wire) → wire ≡ get_or wires sent.0 wire → HasRoom wire
+  its_room wire here = subst (λ n. 4 + MAX_SMALL_LEN ≤ n) (part_here (λ w. w.outbox.spare) 0 wires sent.0 wire its_place here) (sending.room sent.0 sending.apart.0 its_place)
+
+  module _ (old new : Wire) (here : old ≡ get_or wires sent.0 old) (more : link_of new ≡ with_more (link_of old) (frame_of sent.1)) (same : length (slice_set wires sent.0 new) ≡ length wires) where
+    one_place : (place : ℕ) (b : Bool) → (b ≡ true → sent.0 ≡ place)
+        → with_more (cond b (link_of new) (links_in wires place)) (frames_to others place) ≡ with_more (links_in wires place) (cond b (frame_of sent.1) [] ++ frames_to others place)
+    one_place place true is = ap (λ (l : Link). with_more l (frames_to others place)) (more ∙ ap (λ (l : Link). with_more l (frame_of sent.1)) (sym (part_here link_of idle_link wires sent.0 old its_place here) ∙ ap (links_in wires) (is refl)))
+        ∙ ap (λ (out : List ℕ). record (links_in wires place) { outbox = out }) (append_assoc (links_in wires place).outbox (frame_of sent.1) (frames_to others place))
+    one_place place false is = refl
+
+    later_room : (place : ℕ) → sent.0 + 1 ≤ place → place < length (slice_set wires sent.0 new) → 4 + MAX_SMALL_LEN ≤ room_in (slice_set wires sent.0 new) place
+    later_room place l within = subst (λ n. 4 + MAX_SMALL_LEN ≤ n) (sym (part_set (λ w. w.outbox.spare) 0 wires sent.0 new its_place place)) (go (nat_eq sent.0 place) (eqb-true sent.0 place))
+      where
+        unlike : sent.0 ≡ place → ⊥
+        unlike e = omega (arith, l, e)
+
+        go : (b : Bool) → (b ≡ true → sent.0 ≡ place) → 4 + MAX_SMALL_LEN ≤ cond b new.outbox.spare (room_in wires place)
+        go true is = absurd (unlike (is refl))
+        go false is = sending.room place (omega (arith, sending.apart.0, l)) (omega (arith, within, same))
+
+    pub one_less : Sending start sends (slice_set wires sent.0 new) others
+    one_less = record {
+      names = sending.names;
+      peers = omega (arith, same, sending.peers);
+      len = same ∙ sending.len;
+      least = sent.0 + 1;
+      apart = sending.apart.1;
+      each = sending.each.1;
+      room = later_room;
+      sent = λ place. ap (λ (l : Link). with_more l (frames_to others place)) (part_set link_of idle_link wires sent.0 new its_place place)
+          ∙ (one_place place (nat_eq sent.0 place) (eqb-true sent.0 place) ∙ sending.sent place);
+    }
+
+-- the next of those that are left
+pub next_left : (start wires : List Wire) (sends : List (ℕ × Packet)) (i : ℕ) (sent : ℕ × Packet) → i < length sends → sent ≡ get_or sends i sent → Sending start sends wires (drop i sends) → Sending start sends wires (sent ∷ drop (i + 1) sends)
+next_left start wires sends i sent within here = subst (Sending start sends wires) (drop-cons sends i sent within ∙ (λ j. sym here j ∷ drop (next j) sends))
+  where
+    next : suc i ≡ i + 1
+    next = omega arith

@@ -1,0 +1,30 @@
+use Rattle.std.proofs.Common.{◌≡◌, ◌<◌, ◌∙◌, length, sym, ap, arith}
+use Rattle.pg_node.specs.Links.{Link, link_of, idle_link, links_in, with_fed}
+use Rattle.pg_node.proofs.Linked.{part_here, one_link, same_links, if_ok, on_err}
+use Rattle.pg_node.proofs.node.Node.pull.Goals as goal
+
+pub returns-clause-damaged : goal.returns-clause-damaged
+returns-clause-damaged g c is =
+    let wires = c.args.self.now.wires.items in
+    let within : c.args.peer < length wires = omega (arith, c.args.self.now.linked, c.requires.place) in
+    let here : links_in wires c.args.peer ≡ link_of c.index_mut-wire.result.now = part_here link_of idle_link wires c.args.peer c.index_mut-wire.result.now within c.index_mut-wire.ensures.value in
+    c.pull_some.ensures.damaged (sym (ap (λ (link : Link). link.damaged) here) ∙ is)
+
+pub returns-clause-memory : goal.returns-clause-memory
+returns-clause-memory g c is =
+    let wires = c.args.self.now.wires.items in
+    let within : c.args.peer < length wires = omega (arith, c.args.self.now.linked, c.requires.place) in
+    let here : links_in wires c.args.peer ≡ link_of c.index_mut-wire.result.now = part_here link_of idle_link wires c.args.peer c.index_mut-wire.result.now within c.index_mut-wire.ensures.value in
+    c.pull_some.ensures.memory (sym (ap (λ (link : Link). link.damaged) here) ∙ is)
+
+pub returns-clause-err : goal.returns-clause-err
+returns-clause-err g c =
+    let wires = c.args.self.now.wires.items in
+    let within : c.args.peer < length wires = omega (arith, c.args.self.now.linked, c.requires.place) in
+    on_err c.pull_some.result _ _ (same_links wires c.args.peer c.index_mut-wire.result.now c.pull_some.new.wire within c.index_mut-wire.ensures.value) c.pull_some.ensures.err
+
+pub returns-clause-fed : goal.returns-clause-fed
+returns-clause-fed g c =
+    let wires = c.args.self.now.wires.items in
+    let within : c.args.peer < length wires = omega (arith, c.args.self.now.linked, c.requires.place) in
+    if_ok c.pull_some.result _ _ _ (λ count fed more. (fed.0, fed.1, fed.2, one_link wires c.args.peer c.index_mut-wire.result.now c.pull_some.new.wire (λ link. with_fed link fed.0) within c.index_mut-wire.ensures.value fed.3)) c.pull_some.ensures.fed c.pull_some.ensures.within

@@ -1,0 +1,27 @@
+-- How a node over bytes begins.
+use Rattle.std.specs.Prelude.{◌≡◌, ◌⊎◌, ◌<◌, ℕ, Err}
+use Rattle.pg_group.specs.Table.{Table}
+use Rattle.pg_message.specs.declared.fault.MessageFault.{MessageFault}
+use Rattle.pg_message.specs.declared.packet.Packet.{Packet}
+use Rattle.pg_message.specs.Writing.{body_of}
+use Rattle.pg_step.specs.Nodes.{Node}
+use Rattle.pg_node.specs.declared.state.fault.NodeFault.{NodeFault}
+use Rattle.pg_node.specs.declared.state.fault.NodeFault.TheVariants.{OutOfMemory, Message}
+use Rattle.pg_node.specs.Links.{Link, idle_link, with_more, frame_of}
+use Rattle.pg_node.specs.Opening.{IsAnnouncement}
+
+-- nothing came in, and the frame of a packet goes out
+abbrev pub IsOpened : Packet → Link → Type 0
+IsOpened packet link = link ≡ with_more idle_link (frame_of packet)
+
+-- memory ran out, or the packet can't be written by this fault
+abbrev pub CantOpen : Packet → NodeFault → Type 0
+CantOpen packet fault = (fault ≡ OutOfMemory) ⊎ ((told : MessageFault) × (body_of packet ≡ Err told) × (fault ≡ Message told))
+
+-- the frame that tells the groups of a table goes out to each of so many peers
+abbrev pub Begins : Table → Node → ℕ → (ℕ → Link) → Type 0
+Begins table own peers links = (packet : Packet) × IsAnnouncement table own packet × ((place : ℕ) → place < peers → IsOpened packet (links place))
+
+-- memory ran out, or what tells the groups can't be written by this fault
+abbrev pub CantBegin : Table → Node → NodeFault → Type 0
+CantBegin table own fault = (fault ≡ OutOfMemory) ⊎ ((packet : Packet) × IsAnnouncement table own packet × CantOpen packet fault)

@@ -1,0 +1,90 @@
+-- The links of a node to its peers, by the places of the peers, and the frames that go out there.
+use Rattle.std.specs.Prelude.{◌≡◌, ◌≤◌, ◌+◌, ◌<◌, ℕ, zero, suc, nat_eq, cond, Bool, false, List, [], ◌∷◌, ◌++◌, length, drop}
+use Rattle.std.specs.List.{flat_map}
+use Rattle.pg_message.specs.declared.message.Message.{Message}
+use Rattle.pg_message.specs.declared.message.Request.{Request}
+use Rattle.pg_message.specs.declared.message.Request.TheVariants.{SetLock, Change}
+use Rattle.pg_message.specs.declared.packet.Packet.{Packet}
+use Rattle.pg_message.specs.Name.{is_name}
+use Rattle.pg_group.specs.Functions.{upd}
+use Rattle.pg_group.specs.Value.{name_of}
+use Rattle.pg_message.specs.declared.writing.size.TheConstants.{MAX_SMALL_LEN}
+use Rattle.pg_message.specs.Writing.{term_of_packet, framed}
+use Rattle.pg_machine.specs.Clocked.{Stamped}
+use Rattle.pg_term_io.specs.Writing.{written}
+use Rattle.pg_step.specs.Nodes.{Node}
+use Rattle.pg_node.specs.declared.node.wire.Wire.{Wire}
+use Rattle.pg_node.specs.Sendable.{AreSendable}
+
+-- what stands in the link to a peer: the bytes that came in and were not taken, those that go out and were not put, and
+-- whether a fault was told of it
+pub record Link : Type 0 where
+  pub unread : List ℕ
+  pub outbox : List ℕ
+  pub damaged : Bool
+
+abbrev pub idle_link : Link
+idle_link = record { unread = []; outbox = []; damaged = false }
+
+abbrev pub link_of : Wire → Link
+link_of wire = record { unread = wire.deframer.unread; outbox = wire.outbox.items; damaged = wire.damaged }
+
+-- a part of the link at a place
+abbrev pub part_in : {A : Type 0} → (Wire → A) → A → List Wire → ℕ → A
+part_in part none [] place = none
+part_in part none (wire ∷ wires) zero = part wire
+part_in part none (wire ∷ wires) (suc n) = part_in part none wires n
+
+-- the links by their places
+abbrev pub links_in : List Wire → ℕ → Link
+links_in wires = part_in link_of idle_link wires
+
+-- for how many bytes the outbox at each place has room
+abbrev pub room_in : List Wire → ℕ → ℕ
+room_in wires = part_in (λ wire. wire.outbox.spare) 0 wires
+
+-- the name in it is a name
+abbrev pub is_askable : Request → Bool
+is_askable (SetLock name) = is_name name
+is_askable (Change update) = is_name (name_of update)
+
+-- the frame of a packet
+abbrev pub frame_of : Packet → List ℕ
+frame_of packet = framed (written (term_of_packet packet))
+
+-- the frames of the packets that go to a place
+abbrev pub frames_to : List (ℕ × Packet) → ℕ → List ℕ
+frames_to [] place = []
+frames_to (sent ∷ others) place = cond (nat_eq sent.0 place) (frame_of sent.1) [] ++ frames_to others place
+
+-- the frames of messages that are sent
+abbrev pub frames_of : List (Stamped Message) → List ℕ
+frames_of sent = flat_map (λ x. frame_of (record { stamp = x.stamp; message = x.packet })) sent
+
+-- a link with more bytes that go out
+abbrev pub with_more : Link → List ℕ → Link
+with_more link more = record link { outbox = link.outbox ++ more }
+
+-- a link of whose outbox so many bytes were put
+abbrev pub without_front : Link → ℕ → Link
+without_front link count = record link { outbox = drop count link.outbox }
+
+-- a link where more bytes came in
+abbrev pub with_fed : Link → List ℕ → Link
+with_fed link piece = record link { unread = link.unread ++ piece }
+
+-- the link at one place is another
+abbrev pub at_link : ℕ → (Link → Link) → (ℕ → Link) → ℕ → Link
+at_link place change links = upd nat_eq links place (change (links place))
+
+-- a small frame needs no memory
+abbrev pub HasRoom : Wire → Type 0
+HasRoom wire = 4 + MAX_SMALL_LEN ≤ wire.outbox.spare
+
+-- nor does one at any place
+abbrev pub HaveRoom : List Wire → Type 0
+HaveRoom wires = (place : ℕ) → place < length wires → 4 + MAX_SMALL_LEN ≤ room_in wires place
+
+-- what is sent can be written in the outboxes of so many peers
+abbrev pub FitLinks : ℕ → List (ℕ × Packet) → Type 0
+FitLinks peers sends = (names : List Node) × (peers + 1 ≡ length names) × AreSendable names sends

@@ -1,0 +1,75 @@
+-- What a node over bytes is seen as, and what an event makes of it.
+use Rattle.std.specs.Prelude.{◌≡◌, ◌<◌, ◌+◌, ℕ, cond, List, Option, Some, None, Result, Ok, Err, length}
+use Rattle.pg_group.specs.declared.table.GroupTable.{Ghosts}
+use Rattle.pg_machine.specs.Clocked.{Timed}
+use Rattle.pg_message.specs.declared.packet.Packet.{Packet}
+use Rattle.pg_opens.specs.Places.{name_at}
+use Rattle.pg_step.specs.declared.answer.Answer.{Answer}
+use Rattle.pg_step.specs.declared.refusal.Refusal.{Refusal}
+use Rattle.pg_step.specs.declared.refusal.Refusal.TheVariants.{NodeLost, NotDrained}
+use Rattle.pg_step.specs.Nodes.{Node as Name, Nodes}
+use Rattle.pg_step.specs.State.{State}
+use Rattle.pg_step.specs.Step.{TimedTurn, step_take}
+use Rattle.pg_node.specs.declared.node.Node.{Node}
+use Rattle.pg_node.specs.declared.state.NodeState.{NodeState}
+use Rattle.pg_node.specs.declared.state.done.Done.{Done}
+use Rattle.pg_node.specs.declared.state.fault.NodeFault.{NodeFault}
+use Rattle.pg_node.specs.declared.state.fault.NodeFault.TheVariants.{Refused, OutOfMemory, Message}
+use Rattle.pg_node.specs.Links.{Link, links_in, frames_to, frames_of, with_more}
+use Rattle.pg_node.specs.Bytes.{next_packet, is_drained}
+use Rattle.pg_node.specs.States.{stamped_of, step_see_loss, Happens, Comes}
+
+-- the node over packets
+abbrev pub held_by : {T : Type 0} {g : Ghosts T} → Node T g → NodeState T g
+held_by node = node.state
+
+-- the links to its peers, by their places
+abbrev pub links_of : {T : Type 0} {g : Ghosts T} → Node T g → ℕ → Link
+links_of node = links_in node.wires.items
+
+-- ---- a packet is taken
+
+abbrev pub taken_as : Result TimedTurn Refusal → Result (Option TimedTurn) NodeFault
+taken_as (Ok t) = Ok (Some t)
+taken_as (Err refusal) = Err (Refused refusal)
+
+abbrev pub taken_of : Nodes → Name → Timed State → Result (Option Packet) NodeFault → Result (Option TimedTurn) NodeFault
+taken_of m p s (Ok (Some packet)) = taken_as (step_take m p (stamped_of packet) s)
+taken_of m p s (Ok None) = Ok None
+taken_of m p s (Err fault) = Err fault
+
+-- what the next packet of a peer leads to, by what stands in its link
+abbrev pub step_link : Nodes → Name → Link → Timed State → Result (Option TimedTurn) NodeFault
+step_link m p link s = cond (s.state.lost p) (Err (Refused NodeLost)) (taken_of m p s (next_packet link))
+
+-- What came of it: the event happened as the turn does; there was no packet, and nothing changed; or the fault is what is told.
+-- Memory may run out where a packet or a fault of it is told.
+abbrev pub TakesNext : List Name → Result (Option TimedTurn) NodeFault → Result (Option Done) NodeFault → Timed State → Timed State → (ℕ → List Answer) → (ℕ → List Answer) → Type 0
+TakesNext names (Ok (Some t)) (Ok (Some done)) s0 s before after = Happens names t done s before after
+TakesNext names (Ok (Some t)) (Err OutOfMemory) s0 s before after = Unit {0}
+TakesNext names (Ok None) (Ok None) s0 s before after = (s ≡ s0) × (after ≡ before)
+TakesNext names (Err (Message fault)) (Err OutOfMemory) s0 s before after = Unit {0}
+TakesNext names (Err (Refused refusal)) (Err OutOfMemory) s0 s before after = Unit {0}
+TakesNext names (Err fault) result s0 s before after = result ≡ Err fault
+TakesNext names told result s0 s before after = ⊥
+
+-- the same of a packet, where room is made first, so that memory may run out whatever is told
+abbrev pub ComesInRoom : List Name → Result TimedTurn Refusal → Result Done NodeFault → Timed State → (ℕ → List Answer) → (ℕ → List Answer) → Type 0
+ComesInRoom names told (Err OutOfMemory) s before after = Unit {0}
+ComesInRoom names told result s before after = Comes names told result s before after
+
+-- ---- the links
+
+-- each outbox is followed by the frames of the packets that go to its place
+abbrev pub sent_out : List (ℕ × Packet) → (ℕ → Link) → ℕ → Link
+sent_out sends links place = with_more (links place) (frames_to sends place)
+
+-- The frames in the outboxes are those of the packets that the turn sends there, each behind what stood there.
+pub record SendsOut (names : List Name) (t : TimedTurn) (before after : ℕ → Link) : Type 0 where
+  pub sent : (place : ℕ) → place + 1 < length names → (after place).outbox ≡ (with_more (before place) (frames_of (t.sends (name_at names (place + 1))))).outbox
+
+-- ---- the loss of a peer
+
+-- where a frame is left to be taken the loss is not seen
+abbrev pub step_lose : Name → ℕ → Link → Timed State → Result TimedTurn Refusal
+step_lose p last link s = cond (s.state.lost p) (Err NodeLost) (cond (is_drained link) (step_see_loss p last s) (Err NotDrained))

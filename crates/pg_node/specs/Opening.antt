@@ -1,0 +1,17 @@
+-- What a node sends as it begins.
+use Rattle.std.specs.Prelude.{◌≡◌, true, List}
+use Rattle.pg_group.specs.Table.{Table}
+use Rattle.pg_exchange.specs.GroupList.{GroupList, IsSnapshot}
+use Rattle.pg_machine.specs.Clocked.{Stamped, stamped}
+use Rattle.pg_message.specs.declared.message.Message.{Message}
+use Rattle.pg_message.specs.declared.message.Message.TheVariants.{Exchange}
+use Rattle.pg_message.specs.declared.packet.Packet.{Packet}
+use Rattle.pg_step.specs.Nodes.{Node, Nodes, to_peers}
+
+-- to each peer one packet at time 0, which tells all groups of a table
+abbrev pub Announces : Table → Nodes → (Node → List (Stamped Message)) → Type 0
+Announces table m sends = (groups : GroupList) × IsSnapshot table groups × (sends ≡ (λ q. stamped 0 (to_peers m (λ q. true) (Exchange m.own groups) q)))
+
+-- what a node tells each peer as it begins: all groups of a table, at time 0
+abbrev pub IsAnnouncement : Table → Node → Packet → Type 0
+IsAnnouncement table own packet = (groups : GroupList) × IsSnapshot table groups × (packet ≡ record { stamp = 0; message = Exchange own groups })

@@ -1,0 +1,23 @@
+-- The open commands of a node that wait for their retry.
+use Rattle.std.specs.Prelude.{◌≡◌, List}
+use Rattle.std.specs.List.{IsDistinct, filter, list_any}
+use Rattle.pg_group.specs.declared.table.GroupTable.{Ghosts}
+use Rattle.pg_step.specs.declared.command.OpId.{OpId}
+use Rattle.pg_step.specs.Nodes.{Nodes}
+use Rattle.pg_step.specs.State.{State}
+use Rattle.pg_step.specs.Attempts.{same_op, waits}
+use Rattle.pg_opens.specs.Opens as opens
+use Rattle.pg_node.specs.declared.state.NodeState.{NodeState}
+
+-- the open commands, the earliest first
+abbrev pub ops_of : {T : Type 0} {g : Ghosts T} → NodeState T g → List OpId
+ops_of node = opens.ops_of node.opens
+
+-- those of them that wait
+abbrev pub waiting_of : Nodes → State → List OpId → List OpId
+waiting_of m s ops = filter (λ op. waits m (s.stages op) s) ops
+
+-- these are the commands that wait, each once
+pub record AreWaiting (m : Nodes) (s : State) (ops : List OpId) : Type 0 where
+  pub each : (op : OpId) → list_any (λ other. same_op other op) ops ≡ waits m (s.stages op) s
+  pub once : IsDistinct same_op ops

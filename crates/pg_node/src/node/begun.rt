@@ -1,0 +1,117 @@
+//! How a node over bytes begins.
+
+ghost use Rattle.std.specs.Prelude.{◌≡◌, ◌∷◌, ◌≤◌, ◌<◌, ◌+◌, ◌^◌, ℕ, [], length, IfOk, IfErr};
+ghost use Rattle.std.specs.List.{IsDistinct};
+ghost use Rattle.pg_term.specs.Same.{same_atom};
+ghost use Rattle.pg_term.specs.declared.pid.Pid.{Pid};
+ghost use Rattle.pg_term.specs.declared.term.Term.{Term};
+ghost use Rattle.pg_group.specs.Value.{count_in};
+ghost use Rattle.pg_ends.specs.declared.processes.TheConstants.{MAX_PROCESSES};
+ghost use Rattle.pg_opens.specs.Places.{name_at};
+ghost use Rattle.pg_node.specs.Begun.{Begins, CantBegin, IsOpened, CantOpen};
+ghost use Rattle.pg_node.specs.Links.{link_of, links_in};
+ghost use Rattle.pg_node.specs.States.{names_of as names_known, kept_by};
+
+use crate::node::Node;
+use crate::node::wire::Wire;
+use crate::state::{NodeConfig, NodeFault, NodeState, started};
+use pg_group::GroupTable;
+use pg_message::{Packet, write_packet_into};
+use std::alloc::{AllocError, Global};
+
+/// How many bytes stand on their way from an inlet at once.
+const PIECE_LEN: usize = 65_536;
+
+impl<T: GroupTable + Drop> Node<T> {
+    ghost use Rattle.pg_step.specs.State.{new_state};
+    ghost use Rattle.pg_node.specs.Issued.{ports_of};
+    ghost use Rattle.pg_node.specs.Nodes.{held_by, links_of};
+    ghost use Rattle.pg_node.specs.States.{names_of, state_of, answers_of};
+
+    /// A node at time 0, as `NodeState::new` makes it: in the outbox to each peer stands the frame that tells the groups of the
+    /// table. Its cost is that of `snapshot`, and of the frame for each peer.
+    ///
+    /// Faults: `Message`, where what it tells can't be written: by `NotAMessage` where `check_name` refuses the name of a group,
+    /// and by `TooLong` where the body would take more than 16,777,216 bytes; `OutOfMemory` in the place of each.
+    pub fn new(alloc: Global, config: NodeConfig, table: T) -> Result<Node<T>, NodeFault>
+        requires apart { IsDistinct same_atom (config.own ∷ config.peers.items) }
+        requires made { config.made ≤ MAX_PROCESSES }
+        requires few { (name : Term) (pid : Pid) → count_in (T.contents table name) pid ≤ 2 ^ 32 }
+        ensures names { IfOk result (λ node. names_of (held_by node) ≡ config.own ∷ config.peers.items) }
+        ensures state { IfOk result (λ node. state_of (held_by node) ≡ record { clock = 0; state = new_state (T.contents table) config.made }) }
+        ensures ports { IfOk result (λ node. ports_of (held_by node) ≡ config.ports) }
+        ensures answers { IfOk result (λ node. answers_of (held_by node) ≡ (λ port. [])) }
+        ensures begun { IfOk result (λ node. Begins (T.contents table) config.own (length config.peers.items) (links_of node)) }
+        ensures fault { IfErr result (λ fault. CantBegin (T.contents table) config.own fault) }
+    {
+        let piece = match Vec::from_elem(alloc, 0, PIECE_LEN) {
+            Ok(piece) => piece,
+            Err(AllocError) => return Err(NodeFault::OutOfMemory),
+        };
+        let state = match started(alloc, config, table) {
+            Ok(state) => state,
+            Err(AllocError) => return Err(NodeFault::OutOfMemory),
+        };
+        let wires = match opening_wires(alloc, &state) {
+            Ok(wires) => wires,
+            Err(fault) => return Err(fault),
+        };
+        Ok(Node {
+            state,
+            wires,
+            piece,
+            alloc,
+        })
+    }
+}
+
+/// The links of a node that begins, one to each peer.
+fn opening_wires<T: GroupTable + Drop>(
+    alloc: Global,
+    state: &NodeState<T>,
+) -> Result<Vec<Wire>, NodeFault>
+    ensures len { IfOk result (λ wires. length wires.items + 1 ≡ length (names_known state.now)) }
+    ensures begun { (peers : ℕ) → peers + 1 ≡ length (names_known state.now)
+        → IfOk result (λ wires. Begins (kept_by state.now).table (name_at (names_known state.now) 0) peers (links_in wires.items)) }
+    ensures fault { IfErr result (λ fault. CantBegin (kept_by state.now).table (name_at (names_known state.now) 0) fault) }
+{
+    match state.announcement() {
+        Ok(packet) => opened_wires(alloc, state.peer_count(), &packet),
+        Err(AllocError) => Err(NodeFault::OutOfMemory),
+    }
+}
+
+/// Links in each of which the frame of a packet goes out.
+fn opened_wires(alloc: Global, peers: usize, packet: &Packet) -> Result<Vec<Wire>, NodeFault>
+    ensures len { IfOk result (λ wires. length wires.items ≡ peers) }
+    ensures opened { IfOk result (λ wires. (place : ℕ) → place < peers → IsOpened packet.now (links_in wires.items place)) }
+    ensures fault { IfErr result (λ fault. CantOpen packet.now fault) }
+{
+    let mut wires = match Vec::with_capacity(alloc, peers) {
+        Ok(wires) => wires,
+        Err(AllocError) => return Err(NodeFault::OutOfMemory),
+    };
+    for place in 0..peers {
+        let wire = match opened_wire(alloc, packet) {
+            Ok(wire) => wire,
+            Err(fault) => return Err(fault),
+        };
+        match wires.push(wire) {
+            Ok(()) => {}
+            Err(_) => return Err(NodeFault::OutOfMemory),
+        }
+    }
+    Ok(wires)
+}
+
+/// A link in which the frame of a packet goes out.
+fn opened_wire(alloc: Global, packet: &Packet) -> Result<Wire, NodeFault>
+    ensures opened { IfOk result (λ wire. IsOpened packet.now (link_of wire)) }
+    ensures fault { IfErr result (λ fault. CantOpen packet.now fault) }
+{
+    let mut wire = Wire::new(alloc);
+    match write_packet_into(packet, &mut wire.outbox) {
+        Ok(()) => Ok(wire),
+        Err(fault) => Err(NodeFault::from(fault)),
+    }
+}

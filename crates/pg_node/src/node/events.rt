@@ -1,0 +1,203 @@
+//! The events of a node over bytes.
+
+ghost use Rattle.std.specs.Prelude.{◌≡◌, ◌<◌, ◌+◌, ◌^◌, ℕ, None, Some, Ok, Err, IfOk, IfErr, OnOk, OnErr, length};
+ghost use Rattle.pg_message.specs.Members.{IsShort};
+
+use crate::node::Node;
+use crate::node::wires::{make_room, send_all};
+use crate::state::{Done, NodeFault};
+use pg_group::GroupTable;
+use pg_message::Packet;
+use pg_step::{Command, OpId, Refusal};
+use std::alloc::AllocError;
+
+impl<T: GroupTable + Drop> Node<T> {
+    ghost use Rattle.pg_opens.specs.Places.{name_at};
+    ghost use Rattle.pg_step.specs.Step.{Issue, Retry, step_act, step_take};
+    ghost use Rattle.pg_node.specs.Bytes.{marked, passed, closed};
+    ghost use Rattle.pg_node.specs.Nodes.{held_by, links_of, step_link, taken_of, TakesNext, ComesInRoom, sent_out, step_lose};
+    ghost use Rattle.pg_node.specs.Links.{at_link};
+    ghost use Rattle.pg_node.specs.Issued.{ports_of};
+    ghost use Rattle.pg_node.specs.Sendable.{AreSendable};
+    ghost use Rattle.pg_node.specs.States.{names_of, nodes_of, state_of, answers_of, stamped_of, Comes};
+
+    /// Takes the next packet of a peer, if its frame is whole: what the step sends stands framed in the outboxes. `peer`: its
+    /// place among the peers.
+    ///
+    /// Faults, the first that holds: `Refused` by `NodeLost` where the loss of the peer was seen; `Damaged`, where a fault was
+    /// told of the link before; `TooLong`; `Message`; `Refused` by `ClockFull` and by `NotAMessage`, as `NodeState::take` tells
+    /// them; `OutOfMemory` may be told in the place of those from `Message` on. `TooLong`, `Message` and `NotAMessage` damage the
+    /// link for good, and change nothing else; no other fault changes anything, and the frame stays.
+    pub fn take(&mut self, peer: usize) -> Result<Option<Done>, NodeFault>
+        requires place { peer + 1 < length (names_of (held_by self.old)) }
+        ensures event { TakesNext (names_of (held_by self.old))
+            (step_link (nodes_of (held_by self.old)) (name_at (names_of (held_by self.old)) (peer + 1)) (links_of self.old peer) (state_of (held_by self.old)))
+            result (state_of (held_by self.old)) (state_of (held_by self.new)) (answers_of (held_by self.old)) (answers_of (held_by self.new)) }
+        ensures sent { (done : Done) → result ≡ Ok (Some done)
+            → (place : ℕ) → links_of self.new place ≡ at_link peer passed (sent_out done.sends.items (links_of self.old)) place }
+        ensures none { result ≡ Ok None → links_of self.new ≡ links_of self.old }
+        ensures marked { IfErr result (λ fault. links_of self.new ≡ at_link peer (λ l. marked l fault) (links_of self.old)) }
+        ensures err { OnErr result (state_of (held_by self.new) ≡ state_of (held_by self.old)) }
+        ensures err_answers { OnErr result (answers_of (held_by self.new) ≡ answers_of (held_by self.old)) }
+        ensures names { names_of (held_by self.new) ≡ names_of (held_by self.old) }
+        ensures ports { ports_of (held_by self.new) ≡ ports_of (held_by self.old) }
+    {
+        if self.state.is_lost(peer) {
+            return Err(NodeFault::Refused(Refusal::NodeLost));
+        }
+        let wire = &mut self.wires[peer];
+        match wire.next(self.alloc) {
+            Ok(next) => self.take_next(peer, &next),
+            Err(fault) => Err(fault),
+        }
+    }
+
+    /// Takes the packet, if there is one, which the next frame of a peer holds.
+    fn take_next(&mut self, peer: usize, next: &Option<Packet>) -> Result<Option<Done>, NodeFault>
+        requires place { peer + 1 < length (names_of (held_by self.old)) }
+        requires few { (packet : Packet) → next.now ≡ Some packet → IsShort (2 ^ 32) packet.message }
+        ensures event { TakesNext (names_of (held_by self.old))
+            (taken_of (nodes_of (held_by self.old)) (name_at (names_of (held_by self.old)) (peer + 1)) (state_of (held_by self.old)) (Ok next.now))
+            result (state_of (held_by self.old)) (state_of (held_by self.new)) (answers_of (held_by self.old)) (answers_of (held_by self.new)) }
+        ensures sent { (done : Done) → result ≡ Ok (Some done)
+            → (place : ℕ) → links_of self.new place ≡ at_link peer passed (sent_out done.sends.items (links_of self.old)) place }
+        ensures none { result ≡ Ok None → links_of self.new ≡ links_of self.old }
+        ensures marked { IfErr result (λ fault. links_of self.new ≡ at_link peer (λ l. marked l fault) (links_of self.old)) }
+        ensures err { OnErr result (state_of (held_by self.new) ≡ state_of (held_by self.old)) }
+        ensures err_answers { OnErr result (answers_of (held_by self.new) ≡ answers_of (held_by self.old)) }
+        ensures names { names_of (held_by self.new) ≡ names_of (held_by self.old) }
+        ensures ports { ports_of (held_by self.new) ≡ ports_of (held_by self.old) }
+    {
+        match next {
+            None => Ok(None),
+            Some(packet) => match self.take_packet(peer, packet) {
+                Ok(done) => Ok(Some(done)),
+                Err(fault) => Err(fault),
+            },
+        }
+    }
+
+    /// Takes a packet, which the next frame of a peer holds.
+    fn take_packet(&mut self, peer: usize, packet: &Packet) -> Result<Done, NodeFault>
+        requires place { peer + 1 < length (names_of (held_by self.old)) }
+        requires few { IsShort (2 ^ 32) packet.now.message }
+        ensures event { ComesInRoom (names_of (held_by self.old))
+            (step_take (nodes_of (held_by self.old)) (name_at (names_of (held_by self.old)) (peer + 1)) (stamped_of packet.now) (state_of (held_by self.old)))
+            result (state_of (held_by self.new)) (answers_of (held_by self.old)) (answers_of (held_by self.new)) }
+        ensures sent { IfOk result (λ done. (place : ℕ) → links_of self.new place ≡ at_link peer passed (sent_out done.sends.items (links_of self.old)) place) }
+        ensures fits { IfOk result (λ done. AreSendable (names_of (held_by self.old)) done.sends.items) }
+        ensures marked { IfErr result (λ fault. links_of self.new ≡ at_link peer (λ l. marked l fault) (links_of self.old)) }
+        ensures err { OnErr result (state_of (held_by self.new) ≡ state_of (held_by self.old)) }
+        ensures err_answers { OnErr result (answers_of (held_by self.new) ≡ answers_of (held_by self.old)) }
+        ensures names { names_of (held_by self.new) ≡ names_of (held_by self.old) }
+        ensures ports { ports_of (held_by self.new) ≡ ports_of (held_by self.old) }
+    {
+        match make_room(&mut self.wires) {
+            Ok(()) => {}
+            Err(AllocError) => return Err(NodeFault::OutOfMemory),
+        }
+        match self.state.take(peer, packet) {
+            Ok(done) => {
+                send_all(&mut self.wires, done.sends.as_slice());
+                let wire = &mut self.wires[peer];
+                wire.pass();
+                Ok(done)
+            }
+            Err(fault) => {
+                let wire = &mut self.wires[peer];
+                wire.mark(fault);
+                Err(fault)
+            }
+        }
+    }
+
+    /// Takes a command that comes in at a port, as `NodeState::command` does: what the step sends stands framed in the
+    /// outboxes. `port`: its place among the ports.
+    ///
+    /// Faults, which change nothing: those of `NodeState::command`; `OutOfMemory` may be told in the place of each.
+    pub fn command(&mut self, port: u16, command: &Command) -> Result<Done, NodeFault>
+        requires place { port < ports_of (held_by self.old) }
+        ensures event { ComesInRoom (names_of (held_by self.old))
+            (step_act (nodes_of (held_by self.old)) (ports_of (held_by self.old)) (Issue port command.now) (state_of (held_by self.old)))
+            result (state_of (held_by self.new)) (answers_of (held_by self.old)) (answers_of (held_by self.new)) }
+        ensures sent { IfOk result (λ done. (place : ℕ) → links_of self.new place ≡ sent_out done.sends.items (links_of self.old) place) }
+        ensures kept { OnErr result (links_of self.new ≡ links_of self.old) }
+        ensures err { OnErr result (state_of (held_by self.new) ≡ state_of (held_by self.old)) }
+        ensures err_answers { OnErr result (answers_of (held_by self.new) ≡ answers_of (held_by self.old)) }
+        ensures names { names_of (held_by self.new) ≡ names_of (held_by self.old) }
+        ensures ports { ports_of (held_by self.new) ≡ ports_of (held_by self.old) }
+    {
+        match make_room(&mut self.wires) {
+            Ok(()) => {}
+            Err(AllocError) => return Err(NodeFault::OutOfMemory),
+        }
+        match self.state.command(port, command) {
+            Ok(done) => {
+                send_all(&mut self.wires, done.sends.as_slice());
+                Ok(done)
+            }
+            Err(fault) => Err(fault),
+        }
+    }
+
+    /// Tries a command again that waits, as `NodeState::retry` does: what the step sends stands framed in the outboxes.
+    ///
+    /// Faults, which change nothing: those of `NodeState::retry`; `OutOfMemory` may be told in the place of each.
+    pub fn retry(&mut self, op: OpId) -> Result<Done, NodeFault>
+        requires place { op.port < ports_of (held_by self.old) }
+        ensures event { ComesInRoom (names_of (held_by self.old))
+            (step_act (nodes_of (held_by self.old)) (ports_of (held_by self.old)) (Retry op) (state_of (held_by self.old)))
+            result (state_of (held_by self.new)) (answers_of (held_by self.old)) (answers_of (held_by self.new)) }
+        ensures sent { IfOk result (λ done. (place : ℕ) → links_of self.new place ≡ sent_out done.sends.items (links_of self.old) place) }
+        ensures kept { OnErr result (links_of self.new ≡ links_of self.old) }
+        ensures err { OnErr result (state_of (held_by self.new) ≡ state_of (held_by self.old)) }
+        ensures err_answers { OnErr result (answers_of (held_by self.new) ≡ answers_of (held_by self.old)) }
+        ensures names { names_of (held_by self.new) ≡ names_of (held_by self.old) }
+        ensures ports { ports_of (held_by self.new) ≡ ports_of (held_by self.old) }
+    {
+        match make_room(&mut self.wires) {
+            Ok(()) => {}
+            Err(AllocError) => return Err(NodeFault::OutOfMemory),
+        }
+        match self.state.retry(op) {
+            Ok(done) => {
+                send_all(&mut self.wires, done.sends.as_slice());
+                Ok(done)
+            }
+            Err(fault) => Err(fault),
+        }
+    }
+
+    /// Sees the loss of a peer, as `NodeState::see_loss` does; what goes out to it is dropped. `peer`: its place among the
+    /// peers. `last`: its clock at last.
+    ///
+    /// Faults, which change nothing, the first that holds: `Refused` by `NodeLost` where the loss was seen before, by
+    /// `NotDrained` where a whole frame of the peer is left (none is at a damaged link), and by `ClockFull`; `OutOfMemory`.
+    pub fn see_loss(&mut self, peer: usize, last: u32) -> Result<Done, NodeFault>
+        requires place { peer + 1 < length (names_of (held_by self.old)) }
+        ensures event { Comes (names_of (held_by self.old))
+            (step_lose (name_at (names_of (held_by self.old)) (peer + 1)) last (links_of self.old peer) (state_of (held_by self.old)))
+            result (state_of (held_by self.new)) (answers_of (held_by self.old)) (answers_of (held_by self.new)) }
+        ensures closed { OnOk result (links_of self.new ≡ at_link peer closed (links_of self.old)) }
+        ensures kept { OnErr result (links_of self.new ≡ links_of self.old) }
+        ensures err { OnErr result (state_of (held_by self.new) ≡ state_of (held_by self.old)) }
+        ensures err_answers { OnErr result (answers_of (held_by self.new) ≡ answers_of (held_by self.old)) }
+        ensures names { names_of (held_by self.new) ≡ names_of (held_by self.old) }
+        ensures ports { ports_of (held_by self.new) ≡ ports_of (held_by self.old) }
+    {
+        if self.state.is_lost(peer) {
+            return Err(NodeFault::Refused(Refusal::NodeLost));
+        }
+        if !self.wires[peer].is_drained() {
+            return Err(NodeFault::Refused(Refusal::NotDrained));
+        }
+        match self.state.see_loss(peer, last) {
+            Ok(done) => {
+                let wire = &mut self.wires[peer];
+                wire.close();
+                Ok(done)
+            }
+            Err(fault) => Err(fault),
+        }
+    }
+}

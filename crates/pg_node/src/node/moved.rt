@@ -1,0 +1,100 @@
+//! What is read of a node over bytes, and how bytes move between its links and its peers.
+
+ghost use Rattle.std.specs.Prelude.{◌≡◌, ◌≤◌, ◌<◌, ◌+◌, ◌++◌, ℕ, List, true, false, length, take, Err, IfOk, IfErr, OnErr};
+
+use crate::node::Node;
+use crate::node::wire::Wire;
+use crate::state::{NodeFault, NodeState};
+use pg_group::GroupTable;
+use pg_ring::{Inlet, Link};
+
+impl<T: GroupTable + Drop> Node<T> {
+    ghost use Rattle.pg_node.specs.declared.state.fault.NodeFault.TheVariants.{Damaged, OutOfMemory};
+    ghost use Rattle.pg_node.specs.Links.{at_link, with_fed, without_front};
+    ghost use Rattle.pg_node.specs.Nodes.{held_by, links_of};
+    ghost use Rattle.pg_node.specs.States.{names_of};
+
+    /// The node over packets. It takes no memory.
+    pub fn state(&self) -> &NodeState<T>
+        ensures { result.now ≡ held_by self.now }
+    {
+        &self.state
+    }
+
+    /// The bytes that go out to a peer and were not put. `peer`: its place among the peers. It takes no memory.
+    pub fn outbox(&self, peer: usize) -> &[u8]
+        requires place { peer + 1 < length (names_of (held_by self.now)) }
+        ensures { result.now ≡ (links_of self.now peer).outbox }
+    {
+        self.wires[peer].outbox.as_slice()
+    }
+
+    /// Whether the link to a peer is damaged: a fault of what came in was told. It takes no memory.
+    pub fn damaged(&self, peer: usize) -> bool
+        requires place { peer + 1 < length (names_of (held_by self.now)) }
+        ensures { result ≡ (links_of self.now peer).damaged }
+    {
+        self.wires[peer].damaged
+    }
+
+    /// Moves up to `max` bytes from the front of the outbox of a peer into a link, and returns how many it took. It takes no
+    /// memory. O(bytes moved).
+    pub fn put<L: Link>(&mut self, peer: usize, link: &mut L, max: usize) -> usize
+        requires place { peer + 1 < length (names_of (held_by self.old)) }
+        ensures within { result ≤ max }
+        ensures some { result ≤ length (links_of self.old peer).outbox }
+        ensures moved { L.accepts link.old (take result (links_of self.old peer).outbox) link.new }
+        ensures rest { links_of self.new ≡ at_link peer (λ l. without_front l result) (links_of self.old) }
+        ensures state { held_by self.new ≡ held_by self.old }
+    {
+        let wire = &mut self.wires[peer];
+        wire.put(link, max)
+    }
+
+    /// Adds what an inlet gives to the bytes that came in from a peer, and returns how many it gave: up to `max`, and up to
+    /// 65,536. O(bytes moved), and at times that of the bytes that were not taken yet.
+    ///
+    /// Faults, by which nothing changes: `Damaged`, exactly where the link is damaged; else `OutOfMemory`.
+    pub fn pull<I: Inlet>(
+        &mut self,
+        peer: usize,
+        inlet: &mut I,
+        max: usize,
+    ) -> Result<usize, NodeFault>
+        requires place { peer + 1 < length (names_of (held_by self.old)) }
+        ensures within { IfOk result (λ count. (count ≤ max) × (count ≤ 65536)) }
+        ensures fed { IfOk result (λ count. (piece : List ℕ) × (length piece ≡ count) × I.gives inlet.old piece inlet.new
+            × (links_of self.new ≡ at_link peer (λ l. with_fed l piece) (links_of self.old))) }
+        ensures damaged { (links_of self.old peer).damaged ≡ true → result ≡ Err Damaged }
+        ensures memory { (links_of self.old peer).damaged ≡ false → IfErr result (λ fault. fault ≡ OutOfMemory) }
+        ensures err { OnErr result (links_of self.new ≡ links_of self.old) }
+        ensures err_inlet { OnErr result (inlet.new ≡ inlet.old) }
+        ensures state { held_by self.new ≡ held_by self.old }
+    {
+        let wire = &mut self.wires[peer];
+        pull_some(wire, inlet, &mut self.piece, max)
+    }
+}
+
+ghost use Rattle.pg_node.specs.declared.state.fault.NodeFault.TheVariants as faults;
+ghost use Rattle.pg_node.specs.Links.{link_of, with_fed as link_fed};
+
+/// Adds what an inlet gives to what came in, up to `max` bytes and to the length of `piece`, where they stand on the way.
+fn pull_some<I: Inlet>(
+    wire: &mut Wire,
+    inlet: &mut I,
+    piece: &mut Vec<u8>,
+    max: usize,
+) -> Result<usize, NodeFault>
+    ensures within { IfOk result (λ count. (count ≤ max) × (count ≤ length piece.old.items)) }
+    ensures fed { IfOk result (λ count. (bytes : List ℕ) × (length bytes ≡ count) × I.gives inlet.old bytes inlet.new
+        × (link_of wire.new ≡ link_fed (link_of wire.old) bytes)) }
+    ensures len { length piece.new.items ≡ length piece.old.items }
+    ensures damaged { (link_of wire.old).damaged ≡ true → result ≡ Err faults.Damaged }
+    ensures memory { (link_of wire.old).damaged ≡ false → IfErr result (λ fault. fault ≡ faults.OutOfMemory) }
+    ensures err { OnErr result (link_of wire.new ≡ link_of wire.old) }
+    ensures err_inlet { OnErr result (inlet.new ≡ inlet.old) }
+{
+    let some = max.min(piece.len());
+    wire.pull(inlet, &mut piece[..some])
+}

@@ -1,0 +1,261 @@
+//! The link of a node to one peer.
+
+ghost use Rattle.std.specs.Prelude.{◌≡◌, ◌≤◌, ◌+◌, ◌++◌, ◌^◌, [], true, false, length, take, Err, IsOk, IfOk, IfErr, IfSome, OnOk, OnErr};
+ghost use Rattle.pg_term_io.specs.Writing.{item_bytes};
+ghost use Rattle.pg_message.specs.declared.packet.TheConstants.{MAX_STAMP};
+ghost use Rattle.pg_message.specs.Name.{is_name};
+ghost use Rattle.pg_message.specs.Writing.{message_term, request_term, update_term, is_exchange, is_sayable, body_of};
+ghost use Rattle.pg_group.specs.Value.{name_of};
+ghost use Rattle.pg_node.specs.Links.{is_askable, frame_of};
+ghost use Rattle.pg_message.specs.declared.writing.size.TheConstants.{MAX_SMALL_LEN};
+ghost use Rattle.pg_node.specs.Bytes.{damages};
+
+use crate::state::NodeFault;
+use bytes::BytesMut;
+use pg_frame::Deframer;
+use pg_group::Update;
+use pg_message::{MAX_SMALL_LEN, Message, Packet, Request, read_packet, write_packet_into};
+use pg_ring::{Inlet, Link};
+use pg_step::Refusal;
+use pg_term_io::{pid_len, reference_len};
+use std::alloc::{AllocError, Global};
+
+/// What came in from a peer and what goes out to it.
+#[derive(Debug, Drop)]
+pub(crate) struct Wire {
+    // The bytes that came in and were not taken.
+    pub(crate) deframer: Deframer,
+    // The bytes that go out and were not put.
+    pub(crate) outbox: BytesMut,
+    // A fault was told of what came in.
+    pub(crate) damaged: bool,
+}
+
+impl Wire {
+    ghost use Rattle.pg_message.specs.Members.{IsShort};
+    ghost use Rattle.pg_node.specs.declared.state.fault.NodeFault.TheVariants.{Damaged, OutOfMemory};
+    ghost use Rattle.pg_node.specs.Links.{idle_link, link_of, frame_of, with_more, with_fed, without_front, HasRoom};
+    ghost use Rattle.pg_node.specs.Bytes.{next_packet, Tells, marked, passed, closed, is_drained};
+
+    /// A link where nothing came in and nothing goes out. It takes no memory yet.
+    pub(crate) fn new(alloc: Global) -> Wire
+        ensures { link_of result ≡ idle_link }
+    {
+        Wire {
+            deframer: Deframer::new(alloc),
+            outbox: BytesMut::new(alloc),
+            damaged: false,
+        }
+    }
+
+    /// Makes room for one small frame in the outbox.
+    ///
+    /// Error: `AllocError`, by which nothing changes either.
+    pub(crate) fn reserve(&mut self) -> Result<(), AllocError>
+        ensures same { link_of self.new ≡ link_of self.old }
+        ensures room { OnOk result (HasRoom self.new) }
+        ensures stays { self.old.outbox.spare ≤ self.new.outbox.spare }
+    {
+        self.outbox.reserve(4 + MAX_SMALL_LEN)
+    }
+
+    /// Appends a small packet as one frame to the outbox, where there is room. It takes no memory.
+    pub(crate) fn send(&mut self, packet: &Packet)
+        requires named { is_sayable packet.now.message ≡ true }
+        requires stamp { packet.now.stamp ≤ MAX_STAMP }
+        requires small { is_exchange packet.now.message ≡ false }
+        requires room { HasRoom self.old }
+        ensures { link_of self.new ≡ with_more (link_of self.old) (frame_of packet.now) }
+    {
+        write_small(packet, &mut self.outbox);
+    }
+
+    /// Moves up to `max` bytes of the outbox's front into the link, and returns how many it took. It takes no memory.
+    pub(crate) fn put<L: Link>(&mut self, link: &mut L, max: usize) -> usize
+        ensures within { result ≤ max }
+        ensures some { result ≤ length (link_of self.old).outbox }
+        ensures moved { L.accepts link.old (take result (link_of self.old).outbox) link.new }
+        ensures rest { link_of self.new ≡ without_front (link_of self.old) result }
+    {
+        let bytes = self.outbox.as_slice();
+        let some = max.min(bytes.len());
+        let count = link.put(&bytes[..some]);
+        self.outbox.advance(count);
+        count
+    }
+
+    /// Adds what an inlet gives to the bytes that came in, and returns how many it gave. `piece`: where they stand on the way;
+    /// no more is asked for than it holds.
+    ///
+    /// Faults, by which nothing changes: `Damaged`, exactly where a fault was told; else `OutOfMemory`.
+    pub(crate) fn pull<I: Inlet>(
+        &mut self,
+        inlet: &mut I,
+        piece: &mut [u8],
+    ) -> Result<usize, NodeFault>
+        ensures within { IfOk result (λ count. count ≤ length piece.old) }
+        ensures moved { IfOk result (λ count. I.gives inlet.old (take count piece.new) inlet.new) }
+        ensures fed { IfOk result (λ count. link_of self.new ≡ with_fed (link_of self.old) (take count piece.new)) }
+        ensures len { length piece.new ≡ length piece.old }
+        ensures damaged { (link_of self.old).damaged ≡ true → result ≡ Err Damaged }
+        ensures memory { (link_of self.old).damaged ≡ false → IfErr result (λ fault. fault ≡ OutOfMemory) }
+        ensures err { OnErr result (link_of self.new ≡ link_of self.old) }
+        ensures err_inlet { OnErr result (inlet.new ≡ inlet.old) }
+    {
+        if self.damaged {
+            return Err(NodeFault::Damaged);
+        }
+        self.deframer.make_room(piece.len())?;
+        let count = inlet.take(piece);
+        self.deframer.feed(&piece[..count]).unwrap();
+        Ok(count)
+    }
+
+    /// The packet of the next whole frame, which stays. A fault of the frame or of its body damages the link.
+    ///
+    /// Faults, the first that holds: `Damaged`; `TooLong`; `Message`. `OutOfMemory` may be told in the place of a `Message`.
+    pub(crate) fn next(&mut self, alloc: Global) -> Result<Option<Packet>, NodeFault>
+        ensures told { Tells (next_packet (link_of self.old)) result }
+        ensures few { IfOk result (λ some. IfSome some (λ packet. IsShort (2 ^ 32) packet.message)) }
+        ensures same { OnOk result (link_of self.new ≡ link_of self.old) }
+        ensures marked { IfErr result (λ fault. link_of self.new ≡ marked (link_of self.old) fault) }
+    {
+        match self.front_packet(alloc) {
+            Ok(packet) => Ok(packet),
+            Err(fault) => {
+                self.mark(fault);
+                Err(fault)
+            }
+        }
+    }
+
+    /// The same, but that nothing is marked.
+    fn front_packet(&self, alloc: Global) -> Result<Option<Packet>, NodeFault>
+        ensures told { Tells (next_packet (link_of self.now)) result }
+        ensures few { IfOk result (λ some. IfSome some (λ packet. IsShort (2 ^ 32) packet.message)) }
+    {
+        if self.damaged {
+            return Err(NodeFault::Damaged);
+        }
+        match self.deframer.front() {
+            Ok(Some(body)) => match read_packet(alloc, body) {
+                Ok(packet) => Ok(Some(packet)),
+                Err(fault) => Err(NodeFault::from(fault)),
+            },
+            Ok(None) => Ok(None),
+            Err(_) => Err(NodeFault::TooLong),
+        }
+    }
+
+    /// Damages the link, where this fault of what came in does. It takes no memory.
+    pub(crate) fn mark(&mut self, fault: NodeFault)
+        ensures { link_of self.new ≡ marked (link_of self.old) fault }
+    {
+        if damages(fault) {
+            self.damaged = true;
+        }
+    }
+
+    /// Takes out the next whole frame, where one is there. It takes no memory.
+    pub(crate) fn pass(&mut self)
+        ensures { link_of self.new ≡ passed (link_of self.old) }
+    {
+        let _ = self.deframer.next();
+    }
+
+    /// Nothing goes out any more.
+    pub(crate) fn close(&mut self)
+        ensures { link_of self.new ≡ closed (link_of self.old) }
+    {
+        self.outbox.clear();
+    }
+
+    /// Whether nothing is left to be taken: a fault was told, or no whole frame is there. It takes no memory.
+    pub(crate) fn is_drained(&self) -> bool
+        ensures { result ≡ is_drained (link_of self.now) }
+    {
+        self.damaged || !matches!(self.deframer.front(), Ok(Some(_)))
+    }
+}
+
+/// Appends a small packet as one frame, where there is room. It takes no memory.
+pub(crate) fn write_small(packet: &Packet, out: &mut BytesMut)
+    requires named { is_sayable packet.now.message ≡ true }
+    requires stamp { packet.now.stamp ≤ MAX_STAMP }
+    requires small { is_exchange packet.now.message ≡ false }
+    requires room { 4 + MAX_SMALL_LEN ≤ out.old.spare }
+    ensures { out.new.items ≡ out.old.items ++ frame_of packet.now }
+{
+    bounds_of(packet);
+    write_packet_into(packet, out).unwrap();
+}
+
+// Whether a fault of what came in damages the link.
+fn damages(fault: NodeFault) -> bool
+    ensures { result ≡ damages fault }
+{
+    match fault {
+        NodeFault::Message(_) | NodeFault::TooLong => true,
+        NodeFault::Refused(refusal) => matches!(refusal, Refusal::NotAMessage),
+        NodeFault::Damaged | NodeFault::OutOfMemory => false,
+    }
+}
+
+// A small packet of names has a body. It computes nothing that is used: what its parts take is bounded.
+fn bounds_of(packet: &Packet)
+    requires named { is_sayable packet.now.message ≡ true }
+    requires stamp { packet.now.stamp ≤ MAX_STAMP }
+    requires small { is_exchange packet.now.message ≡ false }
+    ensures { IsOk (body_of packet.now) }
+{
+    bounds_of_message(&packet.message);
+}
+
+fn bounds_of_message(message: &Message)
+    requires named { is_sayable message.now ≡ true }
+    requires small { is_exchange message.now ≡ false }
+    ensures { length (item_bytes (message_term message.now)) ≤ 3118 }
+{
+    match message {
+        Message::Call(reference, request) => {
+            reference_len(reference);
+            bounds_of_request(request);
+        }
+        Message::Reply(reference, _) => {
+            reference_len(reference);
+        }
+        Message::DelLock(_, reference) => {
+            reference_len(reference);
+        }
+        Message::Exchange(_, _) => {}
+        Message::Down(pid) => {
+            pid_len(pid);
+        }
+    }
+}
+
+fn bounds_of_request(request: &Request)
+    requires { is_askable request.now ≡ true }
+    ensures { length (item_bytes (request_term request.now)) ≤ 2068 }
+{
+    match request {
+        Request::SetLock(_) => {}
+        Request::Change(update) => bounds_of_update(update),
+    }
+}
+
+fn bounds_of_update(update: &Update)
+    requires { is_name (name_of update.now) ≡ true }
+    ensures { length (item_bytes (update_term update.now)) ≤ 2068 }
+{
+    match update {
+        Update::Create(_) => {}
+        Update::Delete(_) => {}
+        Update::Join(_, pid) => {
+            pid_len(pid);
+        }
+        Update::Leave(_, pid) => {
+            pid_len(pid);
+        }
+    }
+}

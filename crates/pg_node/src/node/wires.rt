@@ -1,0 +1,37 @@
+//! The links of a node to all its peers.
+
+ghost use Rattle.std.specs.Prelude.{◌≡◌, ℕ, length, OnOk};
+ghost use Rattle.pg_node.specs.Links.{links_in, frames_to, with_more, HaveRoom, FitLinks};
+
+use crate::node::wire::Wire;
+use pg_message::Packet;
+use std::alloc::AllocError;
+
+/// Makes room for one small frame in every outbox.
+///
+/// Error: `AllocError`, by which nothing changes either.
+pub(crate) fn make_room(wires: &mut Vec<Wire>) -> Result<(), AllocError>
+    ensures same { links_in wires.new.items ≡ links_in wires.old.items }
+    ensures len { length wires.new.items ≡ length wires.old.items }
+    ensures room { OnOk result (HaveRoom wires.new.items) }
+{
+    for place in 0..wires.len() {
+        let wire = &mut wires[place];
+        wire.reserve()?;
+    }
+    Ok(())
+}
+
+/// Appends packets as frames to the outboxes of the peers that they go to, where there is room for one in each. It takes no
+/// memory.
+pub(crate) fn send_all(wires: &mut Vec<Wire>, sends: &[(usize, Packet)])
+    requires fit { FitLinks (length wires.old.items) sends.now }
+    requires room { HaveRoom wires.old.items }
+    ensures sent { (place : ℕ) → links_in wires.new.items place ≡ with_more (links_in wires.old.items place) (frames_to sends.now place) }
+    ensures len { length wires.new.items ≡ length wires.old.items }
+{
+    for sent in sends {
+        let wire = &mut wires[sent.0];
+        wire.send(&sent.1);
+    }
+}

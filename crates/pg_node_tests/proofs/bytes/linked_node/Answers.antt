@@ -1,0 +1,8 @@
+use Rattle.pg_node_tests.proofs.Started.{two_apart, none_few}
+use Rattle.pg_node_tests.proofs.bytes.linked_node.Goals as goal
+
+pub new-requires-clause-apart : goal.new-requires-clause-apart
+new-requires-clause-apart c = two_apart c.args.own c.args.peer _ c.in_ok-peers.ensures c.requires
+
+pub new-requires-clause-few : goal.new-requires-clause-few
+new-requires-clause-few c = none_few _ c.new-table.ensures

@@ -1,0 +1,128 @@
+//! Two nodes over bytes, and what moves between them.
+
+ghost use Rattle.std.specs.Prelude.{◌≡◌, ◌∷◌, [], false, IfOk};
+ghost use Rattle.pg_term.specs.Same.{same_atom};
+
+mod agree;
+mod damaged;
+mod full;
+
+use pg_index::IndexTable;
+use pg_node::{Done, Node, NodeConfig, NodeFault};
+use pg_ring::MemRing;
+use pg_step::{Command, Refusal};
+use pg_term::Atom;
+use std::alloc::{AllocError, Global};
+
+/// Two nodes, of which each is the other's only peer, and a ring each way.
+#[derive(Drop)]
+pub struct Pair {
+    pub a: Node<IndexTable>,
+    pub b: Node<IndexTable>,
+    // From a to b.
+    there: MemRing,
+    // From b to a.
+    back: MemRing,
+}
+
+impl Pair {
+    /// Moves the bytes of both nodes, some at a time, until nothing is on the way.
+    pub fn settle(&mut self) -> Result<(), NodeFault> {
+        for _ in 0..200 {
+            self.go_there()?;
+            self.go_back()?;
+        }
+        Ok(())
+    }
+
+    /// Moves some bytes of a to b.
+    pub fn go_there(&mut self) -> Result<(), NodeFault> {
+        moved(&mut self.a, &mut self.there, &mut self.b)
+    }
+
+    /// Moves some bytes of b to a.
+    pub fn go_back(&mut self) -> Result<(), NodeFault> {
+        moved(&mut self.b, &mut self.back, &mut self.a)
+    }
+}
+
+/// Moves at most 7 bytes from one node to the other, which takes the packet that is whole then.
+fn moved(
+    from: &mut Node<IndexTable>,
+    ring: &mut MemRing,
+    to: &mut Node<IndexTable>,
+) -> Result<(), NodeFault> {
+    if from.state().peer_count() == 1 && to.state().peer_count() == 1 {
+        from.put(0, ring, 7);
+        to.pull(0, ring, 7)?;
+        to.take(0)?;
+        Ok(())
+    } else {
+        Err(NodeFault::Refused(Refusal::NoSuchPlace))
+    }
+}
+
+fn one_peer(alloc: Global, peer: Atom) -> Result<Vec<Atom>, AllocError>
+    ensures { IfOk result (λ peers. peers.items ≡ peer ∷ []) }
+{
+    Ok(Vec::from_array(alloc, [peer])?)
+}
+
+/// A node of one port with one peer, at time 0.
+fn linked_node(alloc: Global, own: Atom, peer: Atom) -> Result<Node<IndexTable>, NodeFault>
+    requires { same_atom own peer ≡ false }
+{
+    let peers = one_peer(alloc, peer)?;
+    let table = IndexTable::new(alloc);
+    let config = NodeConfig {
+        own,
+        peers,
+        made: 0,
+        ports: 1,
+    };
+    Node::new(alloc, config, table)
+}
+
+/// The same by the texts of its names.
+fn new_linked_node(alloc: Global, own: &str, peer: &str) -> Result<Node<IndexTable>, NodeFault> {
+    let own = atom(alloc, own)?;
+    let peer = atom(alloc, peer)?;
+    if own == peer {
+        Err(NodeFault::Refused(Refusal::NoSuchPlace))
+    } else {
+        linked_node(alloc, own, peer)
+    }
+}
+
+fn atom(alloc: Global, text: &str) -> Result<Atom, NodeFault> {
+    match Atom::new(alloc, text) {
+        Ok(atom) => Ok(atom),
+        Err(_) => Err(NodeFault::OutOfMemory),
+    }
+}
+
+/// A ring for 64 bytes.
+pub fn new_ring(alloc: Global) -> Result<MemRing, NodeFault> {
+    match MemRing::new(alloc, 64) {
+        Ok(ring) => Ok(ring),
+        Err(_) => Err(NodeFault::OutOfMemory),
+    }
+}
+
+/// The nodes `a` and `b`, which have told each other nothing yet.
+pub fn linked_pair(alloc: Global) -> Result<Pair, NodeFault> {
+    let there = new_ring(alloc)?;
+    let back = new_ring(alloc)?;
+    let a = new_linked_node(alloc, "a", "b")?;
+    let b = new_linked_node(alloc, "b", "a")?;
+    Ok(Pair { a, b, there, back })
+}
+
+/// Gives a command at the port.
+pub fn given(node: &mut Node<IndexTable>, command: &Command) -> Result<Done, NodeFault> {
+    if node.state().port_count() == 1 {
+        node.command(0, command)
+    } else {
+        Err(NodeFault::Refused(Refusal::NoSuchPlace))
+    }
+}

@@ -1,0 +1,9 @@
+mod Answering
+mod Idle
+mod Peering
+mod Ported
+mod Sending
+mod Taking
+mod Turning
+mod Unplaced
+mod Viewing

@@ -1,0 +1,352 @@
+-- What a world shows once a node has made a turn.
+use Rattle.std.proofs.Common.{◌≡◌, ◌≢◌, ℕ, zero, suc, ◌+◌, ◌<◌, Bool, true, false, not, ◌&&◌, cond, nat_eq, nat_lt, get_or, drop, length, List, [], ◌∷◌, ◌++◌, Some, None, Result, Ok, Err, refl, sym, ap, ◌∙◌, inl, inr, ◌⊎◌, arith, subst}
+use Rattle.std.specs.Prelude.{slice_get, slice_set, max}
+use Rattle.std.proofs.lemmas.Bool.{cases_eq, eq-eqb, ne_eqb, lt-ltb, ltb-true}
+use Rattle.std.proofs.lemmas.Option.{slice_get_within}
+use Rattle.std.proofs.lemmas.List.{length-set}
+use Rattle.pg_message.specs.declared.message.Message.{Message}
+use Rattle.pg_machine.specs.Places.{is_place, is_pair}
+use Rattle.pg_machine.specs.Machine.{Event, Turn, Take, Do, Taken, Own, node_of, first_from, input_of, without_input, perform}
+use Rattle.pg_machine.specs.Happened.{Changes, Takes}
+use Rattle.pg_machine.specs.Clocked.{Timed, Stamped}
+use Rattle.pg_machine.proofs.Steps.{turn_changes, happens_so}
+use Rattle.pg_step.specs.Config.{Config, names_of, name_at, nodes_at, ports_at}
+use Rattle.pg_step.specs.FrameMachine.{frame_machine}
+use Rattle.pg_step.specs.Nodes.{Node, all_of}
+use Rattle.pg_step.specs.State.{State}
+use Rattle.pg_step.specs.Step.{Action, TimedTurn, node_takes, node_acts, step_take, step_act}
+use Rattle.pg_step.proofs.Refusals.{same_step}
+use Rattle.pg_step.specs.StepLaws.{place_timed, timed_placed}
+use Rattle.pg_step.specs.Turns.{Report}
+use Rattle.pg_step.specs.declared.answer.Answer.{Answer}
+use Rattle.pg_step.specs.declared.refusal.Refusal.{Refusal}
+use Rattle.pg_step.specs.declared.refusal.Refusal.TheVariants.{NoSuchPlace}
+use Rattle.pg_history.specs.History.{answers_by}
+use Rattle.pg_opens.specs.Places.{whole_in, name_at as place_name}
+use Rattle.pg_node.specs.declared.state.done.Done.{Done}
+use Rattle.pg_node.specs.declared.state.fault.NodeFault.{NodeFault}
+use Rattle.pg_node.specs.declared.state.fault.NodeFault.TheVariants.{Refused, OutOfMemory, Message as BadMessage, TooLong, Damaged}
+use Rattle.pg_world.specs.declared.step.Stepped.TheVariants.{Happened as HasHappened, Nothing}
+use Rattle.pg_node.specs.States.{sends_in, Gave, Happens, Comes}
+use Rattle.pg_node.specs.Sendable.{AreSendable}
+use Rattle.pg_world.specs.Views.{Seen, View, peer_place, on_the_way, first_of, packets_to}
+use Rattle.pg_world.specs.Worlds.{AreAnswers, Shows, ShowsNode, TimedFrameWorld, told, told_of_first, ComesTo}
+use Rattle.pg_world.proofs.Peering.{peer_name, named, there_and_back, peers_differ, sent_to, sent_home}
+use Rattle.pg_world.proofs.Answering.{answers_own, answers_other, answers_given}
+
+-- what stands at a place of a list where one place is another
+pub set_here : {A : Type 0} (xs : List A) (i : ℕ) (x y : A) → slice_get (slice_set xs i x) i ≡ Some y → x ≡ y
+set_here [] i x y e = absurd (cc)
+set_here (z ∷ zs) zero x y e = cc
+set_here (z ∷ zs) (suc i) x y e = set_here zs i x y e
+
+pub set_other : {A : Type 0} (xs : List A) (i j : ℕ) (x : A) → j ≢ i → slice_get (slice_set xs i x) j ≡ slice_get xs j
+set_other [] i j x n = refl
+set_other (z ∷ zs) zero zero x n = absurd (n refl)
+set_other (z ∷ zs) zero (suc j) x n = refl
+set_other (z ∷ zs) (suc i) zero x n = refl
+set_other (z ∷ zs) (suc i) (suc j) x n = set_other zs i j x (λ e. n (ap suc e))
+
+-- the packets on the way from a node to the peer at a place
+abbrev pub way_at : View → ℕ → ℕ → List (Stamped Message)
+way_at view x k = get_or (get_or view.ways x []) k []
+
+pub pair_is : (size x y : ℕ) → is_pair size x y ≡ true → (x < size) × (y < size) × (y ≢ x)
+pair_is size x y e = go (nat_lt x size) (nat_lt y size) (nat_eq x y) (ltb-true x size) (ltb-true y size) (eq-eqb x y) e
+  where
+    go : (a b c : Bool) → (a ≡ true → x < size) → (b ≡ true → y < size) → (x ≡ y → c ≡ true) → (a && (b && not c)) ≡ true → (x < size) × (y < size) × (y ≢ x)
+    go true true true f g h e = absurd (cc)
+    go true true false f g h e = (f refl, g refl, λ d. let k : false ≡ true = h (sym d) in absurd (cc))
+    go true false c f g h e = absurd (cc)
+    go false b c f g h e = absurd (cc)
+
+is_pair_so : (size x y : ℕ) → x < size → y < size → y ≢ x → is_pair size x y ≡ true
+is_pair_so size x y a b n = (λ j. lt-ltb x size a j && (lt-ltb y size b j && not (ne_eqb x y (λ e. n (sym e)) j)))
+
+pub pair_turned : (size x y : ℕ) → is_pair size x y ≡ true → is_pair size y x ≡ true
+pair_turned size x y e = let p = pair_is size x y e in is_pair_so size y x p.1 p.0 (λ d. p.2 (sym d))
+
+-- What an event of node i has left of the view: the node is another, which has made this turn, its packets are on their
+-- ways, and whatever else is on the way is what is said of it.
+pub record Turned (config : Config) (view view2 : View) (i : ℕ) (node after : Seen) (t : TimedTurn) (done : Done) : Type 0 where
+  pub here : slice_get view.nodes i ≡ Some node
+  pub nodes : view2.nodes ≡ slice_set view.nodes i after
+  pub names : after.names ≡ node.names
+  pub ports : after.ports ≡ node.ports
+  pub happened : Happens node.names t done after.state node.answers after.answers
+  pub fits : AreSendable node.names done.sends.items
+  pub sent : (k : ℕ) → way_at view2 i k ≡ way_at view i k ++ packets_to done.sends.items k
+
+module _ (config : Config) (view view2 : View) (w : TimedFrameWorld) (e : Event Action) (node after : Seen) (t : TimedTurn) (done : Done)
+    (shows : Shows config view w) (turned : Turned config view view2 (node_of e) node after t done) where
+  i : ℕ
+  i = node_of e
+
+  shown : ShowsNode config w (node_of e) node
+  shown = shows.nodes (node_of e) node turned.here
+
+  within : node_of e < length config
+  within = let l = slice_get_within view.nodes (node_of e) node turned.here in omega (arith, l, shows.size)
+
+  abbrev turn : Turn (Timed State) (Stamped Message) Report
+  turn = place_timed config t
+
+  -- what the turn sends is what was put on the ways
+  sends_are : sends_in (all_of (nodes_at config (node_of e))) done.sends.items ≡ t.sends
+  sends_are = subst (λ ns. sends_in ns done.sends.items ≡ t.sends) shown.names turned.happened.told.sends
+
+  fits : AreSendable (all_of (nodes_at config (node_of e))) done.sends.items
+  fits = subst (λ ns. AreSendable ns done.sends.items) shown.names turned.fits
+
+  sends_there : (y : ℕ) → y < length config → y ≢ node_of e → turn.sends y ≡ packets_to done.sends.items (peer_place (node_of e) y)
+  sends_there y l n = ap (λ b. cond b (t.sends (name_at config y)) []) (lt-ltb y (length config) l)
+      ∙ (ap (λ (f : Node → List (Stamped Message)). f (name_at config y)) (sym sends_are)
+      ∙ sent_to config (node_of e) within shows.apart done.sends.items y fits.each l n)
+
+  sends_nowhere : (y : ℕ) → is_pair (length config) (node_of e) y ≡ false → turn.sends y ≡ []
+  sends_nowhere y none = go (nat_lt y (length config)) (ltb-true y (length config)) (cases_eq y (node_of e))
+    where
+      go : (b : Bool) → (b ≡ true → y < length config) → (y ≡ node_of e) ⊎ (y ≢ node_of e) → cond b (t.sends (name_at config y)) [] ≡ []
+      go false h d = refl
+      go true h (inl d) = ap (λ z. t.sends (name_at config z)) d ∙ (ap (λ (f : Node → List (Stamped Message)). f (name_at config (node_of e))) (sym sends_are)
+          ∙ sent_home config (node_of e) within shows.apart done.sends.items fits.each)
+      go true h (inr n) = let both : true ≡ false = sym (is_pair_so (length config) (node_of e) y within (h refl) n) ∙ none in absurd (cc)
+
+  -- the node that made the turn, and the others
+  module _ (v : TimedFrameWorld) (changes : Changes e turn w v) where
+    own_answers : (port : ℕ) → AreAnswers (name_at config (node_of e)) (answers_by (node_of e) (w.reported ++ (node_of e, t.reported) ∷ []) port) (after.answers port)
+    own_answers port = subst (λ zs. AreAnswers (name_at config (node_of e)) zs (after.answers port)) (sym (answers_own (node_of e) port w.reported t.reported))
+        (answers_given (name_at config (node_of e)) t.reported.gave node.answers after.answers (answers_by (node_of e) w.reported)
+        (subst (λ ns. Gave (place_name ns 0) t.reported.gave node.answers after.answers) shown.names turned.happened.answers) shown.answers port)
+
+    own_shown : ShowsNode config v (node_of e) after
+    own_shown = record {
+      names = turned.names ∙ shown.names;
+      ports = turned.ports ∙ shown.ports;
+      state = changes.state ∙ sym turned.happened.state;
+      answers = λ port. subst (λ (zs : List (ℕ × Report)). AreAnswers (name_at config (node_of e)) (answers_by (node_of e) zs port) (after.answers port)) (sym changes.reported) (own_answers port);
+    }
+
+    other_shown : (j : ℕ) (other : Seen) → j ≢ node_of e → ShowsNode config w j other → ShowsNode config v j other
+    other_shown j other n h = record {
+      names = h.names;
+      ports = h.ports;
+      state = changes.states j n ∙ h.state;
+      answers = λ port. subst (λ (zs : List (ℕ × Report)). AreAnswers (name_at config j) (answers_by j zs port) (other.answers port)) (sym changes.reported)
+          (subst (λ zs. AreAnswers (name_at config j) zs (other.answers port)) (sym (answers_other j (node_of e) port w.reported t.reported n)) (h.answers port));
+    }
+
+    nodes_shown : (j : ℕ) (other : Seen) → slice_get view2.nodes j ≡ Some other → ShowsNode config v j other
+    nodes_shown j other at = go (cases_eq j (node_of e))
+      where
+        there : slice_get (slice_set view.nodes (node_of e) after) j ≡ Some other
+        there = ap (λ ns. slice_get ns j) (sym turned.nodes) ∙ at
+
+        go : (j ≡ node_of e) ⊎ (j ≢ node_of e) → ShowsNode config v j other
+        go (inl d) = subst (λ k. ShowsNode config v k other) (sym d) (subst (ShowsNode config v (node_of e))
+            (set_here view.nodes (node_of e) after other (subst (λ k. slice_get (slice_set view.nodes (node_of e) after) k ≡ Some other) d there)) own_shown)
+        go (inr n) = other_shown j other n (shows.nodes j other (sym (set_other view.nodes (node_of e) j after n) ∙ there))
+
+    -- the ways from the node
+    own_way : (y : ℕ) → is_pair (length config) (node_of e) y ≡ true → v.wire (node_of e) y ≡ on_the_way view2 (node_of e) y
+    own_way y pair = let p = pair_is (length config) (node_of e) y pair in
+        changes.sent y ∙ ((λ j. shows.ways (node_of e) y pair j ++ sends_there y p.1 p.2 j) ∙ sym (turned.sent (peer_place (node_of e) y)))
+
+    own_nowhere : (y : ℕ) → is_pair (length config) (node_of e) y ≡ false → v.wire (node_of e) y ≡ []
+    own_nowhere y none = changes.sent y ∙ (λ j. shows.nowhere (node_of e) y none j ++ sends_nowhere y none j)
+
+    -- the whole, by what is said of the ways from the others
+    pub shown_after : ((x y : ℕ) → x ≢ node_of e → is_pair (length config) x y ≡ true → v.wire x y ≡ on_the_way view2 x y)
+        → ((x y : ℕ) → is_pair (length config) x y ≡ false → Takes e x y → ⊥) → Shows config view2 v
+    shown_after others untaken = record {
+      apart = shows.apart;
+      size = ap length turned.nodes ∙ (length-set view.nodes (node_of e) after ∙ shows.size);
+      nodes = nodes_shown;
+      ways = λ x y pair. way_cases x y pair (cases_eq x (node_of e));
+      nowhere = λ x y none. none_cases x y none (cases_eq x (node_of e));
+    }
+      where
+        way_cases : (x y : ℕ) → is_pair (length config) x y ≡ true → (x ≡ node_of e) ⊎ (x ≢ node_of e) → v.wire x y ≡ on_the_way view2 x y
+        way_cases x y pair (inl d) = subst (λ k. v.wire k y ≡ on_the_way view2 k y) (sym d) (own_way y (subst (λ k. is_pair (length config) k y ≡ true) d pair))
+        way_cases x y pair (inr n) = others x y n pair
+
+        none_cases : (x y : ℕ) → is_pair (length config) x y ≡ false → (x ≡ node_of e) ⊎ (x ≢ node_of e) → v.wire x y ≡ []
+        none_cases x y none (inl d) = subst (λ k. v.wire k y ≡ []) (sym d) (own_nowhere y (subst (λ k. is_pair (length config) k y ≡ false) d none))
+        none_cases x y none (inr n) = changes.ways x y n (untaken x y none) ∙ shows.nowhere x y none
+
+-- ---- something of its own
+
+module _ (config : Config) (view : View) (w : TimedFrameWorld) (i : ℕ) (action : Action) (node : Seen) (shows : Shows config view w) (here : slice_get view.nodes i ≡ Some node) where
+  its : ShowsNode config w i node
+  its = shows.nodes i node here
+
+  its_place : is_place (length config) i ≡ true
+  its_place = let l = slice_get_within view.nodes i node here in lt-ltb i (length config) (omega (arith, l, shows.size))
+
+  -- what the node tells is what the configuration's tells
+  own_told : step_act (whole_in node.names) node.ports action node.state ≡ step_act (nodes_at config i) (ports_at config i) action (w.node i)
+  own_told = λ j. step_act (whole_in (its.names j)) (its.ports j) action (sym its.state j)
+
+  own_is : told config w (Do i action) ≡ Some (step_act (whole_in node.names) node.ports action node.state)
+  own_is = ap (λ b. Some (cond b (step_act (nodes_at config i) (ports_at config i) action (w.node i)) (Err NoSuchPlace))) its_place ∙ ap Some (sym own_told)
+
+  -- it is refused
+  pub own_refused : (fault : NodeFault) (s : Timed State) (before after : ℕ → List Answer) (Shown : TimedFrameWorld → Type 0)
+      → Comes node.names (step_act (whole_in node.names) node.ports action node.state) (Err fault) s before after → ComesTo config w (Do i action) (Err fault) Shown
+  own_refused fault s before after Shown comes = go (step_act (whole_in node.names) node.ports action node.state) fault own_is comes
+    where
+      go : (r : Result TimedTurn Refusal) (fault : NodeFault) → told config w (Do i action) ≡ Some r → Comes node.names r (Err fault) s before after → ComesTo config w (Do i action) (Err fault) Shown
+      go (Ok t) OutOfMemory is h = tt
+      go (Ok t) (Refused refusal) is h = absurd h
+      go (Ok t) (BadMessage fault) is h = absurd h
+      go (Ok t) TooLong is h = absurd h
+      go (Ok t) Damaged is h = absurd h
+      go (Err refusal) OutOfMemory is h = tt
+      go (Err refusal) (Refused other) is h = let same : refusal ≡ other = cc in is ∙ ap (λ (x : Refusal). Some (Err x)) same
+      go (Err refusal) (BadMessage fault) is h = absurd (cc)
+      go (Err refusal) TooLong is h = absurd (cc)
+      go (Err refusal) Damaged is h = absurd (cc)
+
+  module _ (view2 : View) (after : Seen) (done : Done) (nodes : view2.nodes ≡ slice_set view.nodes i after) (names : after.names ≡ node.names) (ports : after.ports ≡ node.ports)
+      (fits : AreSendable node.names done.sends.items) (sent : (k : ℕ) → way_at view2 i k ≡ way_at view i k ++ packets_to done.sends.items k)
+      (others : (x : ℕ) → x ≢ i → (k : ℕ) → way_at view2 x k ≡ way_at view x k) where
+    own_so : (t : TimedTurn) → step_act (whole_in node.names) node.ports action node.state ≡ Ok t → Happens node.names t done after.state node.answers after.answers
+        → ComesTo config w (Do i action) (Ok HasHappened) (Shows config view2)
+    own_so t is happened =
+        let turn = place_timed config t in
+        let v = perform (without_input w (Do i action)) i turn in
+        let made : (frame_machine config).step i (w.node i) (Own action) ≡ Some turn =
+        same_step config ((w.node i).clock + 1) (node_acts (nodes_at config i) (ports_at config i) action (w.node i).state) ∙ ap (timed_placed config) (sym own_told ∙ is) in
+        let changes : Changes (Do i action) turn w v = turn_changes (length config) w (Do i action) (Own action) turn its_place refl in
+        let turned : Turned config view view2 i node after t done =
+        record { here = here; nodes = nodes; names = names; ports = ports; happened = happened; fits = fits; sent = sent } in (
+          v,
+          happens_so (frame_machine config) w v (Do i action) (record { there = its_place; input = Own action; given = refl; turn = turn; made = made; leaves = refl }),
+          shown_after config view view2 w (Do i action) node after t done shows turned v changes
+              (λ x y n pair. changes.ways x y n (λ never. never) ∙ (shows.ways x y pair ∙ sym (others x n (peer_place x y))))
+              (λ x y none never. never),
+        )
+
+    -- it happened
+    pub own_happened : Comes node.names (step_act (whole_in node.names) node.ports action node.state) (Ok done) after.state node.answers after.answers
+        → ComesTo config w (Do i action) (Ok HasHappened) (Shows config view2)
+    own_happened comes = go (step_act (whole_in node.names) node.ports action node.state) refl comes
+      where
+        go : (r : Result TimedTurn Refusal) → step_act (whole_in node.names) node.ports action node.state ≡ r
+            → Comes node.names r (Ok done) after.state node.answers after.answers → ComesTo config w (Do i action) (Ok HasHappened) (Shows config view2)
+        go (Ok t) is h = own_so t is h
+        go (Err refusal) is h = absurd (cc)
+
+-- ---- a packet is taken
+
+module _ (config : Config) (view : View) (w : TimedFrameWorld) (i p : ℕ) (shows : Shows config view w) (pair : is_pair (length view.nodes) i p ≡ true) where
+  pair_there : is_pair (length config) i p ≡ true
+  pair_there = ap (λ n. is_pair n i p) (sym shows.size) ∙ pair
+
+  wire_is : w.wire p i ≡ on_the_way view p i
+  wire_is = shows.ways p i (pair_turned (length config) i p pair_there)
+
+  take_told : told config w (Take i p) ≡ told_of_first (nodes_at config i) (name_at config p) (w.node i) (on_the_way view p i)
+  take_told = ap (λ b. cond b (told_of_first (nodes_at config i) (name_at config p) (w.node i) (w.wire p i)) (Some (Err NoSuchPlace))) pair_there
+      ∙ ap (told_of_first (nodes_at config i) (name_at config p) (w.node i)) wire_is
+
+  -- nothing is on the way
+  pub take_nothing : None ≡ first_of (on_the_way view p i) → (Shown : TimedFrameWorld → Type 0) → ComesTo config w (Take i p) (Ok Nothing) Shown
+  take_nothing none Shown = take_told ∙ go (on_the_way view p i) none
+    where
+      go : (xs : List (Stamped Message)) → None ≡ first_of xs → told_of_first (nodes_at config i) (name_at config p) (w.node i) xs ≡ None
+      go [] e = refl
+      go (x ∷ xs) e = absurd (cc)
+
+  module _ (node : Seen) (here : slice_get view.nodes i ≡ Some node) (x : Stamped Message) (first : Some x ≡ first_of (on_the_way view p i)) where
+    taker : ShowsNode config w i node
+    taker = shows.nodes i node here
+
+    begins : on_the_way view p i ≡ x ∷ drop 1 (on_the_way view p i)
+    begins = go (on_the_way view p i) first
+      where
+        go : (xs : List (Stamped Message)) → Some x ≡ first_of xs → xs ≡ x ∷ drop 1 xs
+        go [] e = absurd (cc)
+        go (y ∷ ys) e = let same : y ≡ x = cc in ap (λ z. z ∷ ys) same
+
+    place_there : i < length config
+    place_there = (pair_is (length config) i p pair_there).0
+
+    peer_is : place_name node.names (peer_place i p + 1) ≡ name_at config p
+    peer_is = ap (λ ns. place_name ns (peer_place i p + 1)) taker.names ∙ (peer_name config i place_there (peer_place i p)
+        ∙ (ap (place_name (names_of config)) (there_and_back i p (pair_is (length config) i p pair_there).2) ∙ sym (named config i place_there p)))
+
+    told_here : Result TimedTurn Refusal
+    told_here = step_take (whole_in node.names) (place_name node.names (peer_place i p + 1)) x node.state
+
+    taken_told : step_take (whole_in node.names) (place_name node.names (peer_place i p + 1)) x node.state ≡ step_take (nodes_at config i) (name_at config p) x (w.node i)
+    taken_told = λ j. step_take (whole_in (taker.names j)) (peer_is j) x (sym taker.state j)
+
+    take_is : told config w (Take i p) ≡ Some (step_take (whole_in node.names) (place_name node.names (peer_place i p + 1)) x node.state)
+    take_is = take_told ∙ (ap (told_of_first (nodes_at config i) (name_at config p) (w.node i)) begins ∙ ap Some (sym taken_told))
+
+    -- it is refused
+    pub take_refused : (fault : NodeFault) (s : Timed State) (before after : ℕ → List Answer) (Shown : TimedFrameWorld → Type 0)
+        → Comes node.names (step_take (whole_in node.names) (place_name node.names (peer_place i p + 1)) x node.state) (Err fault) s before after
+        → ComesTo config w (Take i p) (Err fault) Shown
+    take_refused fault s before after Shown comes = go (step_take (whole_in node.names) (place_name node.names (peer_place i p + 1)) x node.state) fault take_is comes
+      where
+        go : (r : Result TimedTurn Refusal) (fault : NodeFault) → told config w (Take i p) ≡ Some r → Comes node.names r (Err fault) s before after → ComesTo config w (Take i p) (Err fault) Shown
+        go (Ok t) OutOfMemory is h = tt
+        go (Ok t) (Refused refusal) is h = absurd h
+        go (Ok t) (BadMessage fault) is h = absurd h
+        go (Ok t) TooLong is h = absurd h
+        go (Ok t) Damaged is h = absurd h
+        go (Err refusal) OutOfMemory is h = tt
+        go (Err refusal) (Refused other) is h = let same : refusal ≡ other = cc in is ∙ ap (λ (x : Refusal). Some (Err x)) same
+        go (Err refusal) (BadMessage fault) is h = absurd (cc)
+        go (Err refusal) TooLong is h = absurd (cc)
+        go (Err refusal) Damaged is h = absurd (cc)
+
+    module _ (view2 : View) (after : Seen) (done : Done) (nodes : view2.nodes ≡ slice_set view.nodes i after) (names : after.names ≡ node.names) (ports : after.ports ≡ node.ports)
+        (fits : AreSendable node.names done.sends.items) (sent : (k : ℕ) → way_at view2 i k ≡ way_at view i k ++ packets_to done.sends.items k)
+        (passed : way_at view2 p (peer_place p i) ≡ drop 1 (way_at view p (peer_place p i)))
+        (others : (a k : ℕ) → a ≢ i → ((a ≡ p) × (k ≡ peer_place p i) → ⊥) → way_at view2 a k ≡ way_at view a k) where
+      take_so : (t : TimedTurn) → step_take (whole_in node.names) (place_name node.names (peer_place i p + 1)) x node.state ≡ Ok t
+          → Happens node.names t done after.state node.answers after.answers → ComesTo config w (Take i p) (Ok HasHappened) (Shows config view2)
+      take_so t is happened =
+          let turn = place_timed config t in
+          let v = perform (without_input {C = Action} w (Take i p)) i turn in
+          let made : (frame_machine config).step i (w.node i) (Taken p x) ≡ Some turn =
+          same_step config (max (w.node i).clock x.stamp + 1) (node_takes (nodes_at config i) (name_at config p) x.packet (w.node i).state) ∙ ap (timed_placed config) (sym taken_told ∙ is) in
+          let given : input_of w (Take i p) ≡ Some (Taken p x) = ap (first_from p) (wire_is ∙ begins) in
+          let changes : Changes (Take i p) turn w v = turn_changes (length config) w (Take i p) (Taken p x) turn pair_there given in
+          let turned : Turned config view view2 i node after t done =
+          record { here = here; nodes = nodes; names = names; ports = ports; happened = happened; fits = fits; sent = sent } in (
+            v,
+            happens_so (frame_machine config) w v (Take i p) (record { there = pair_there; input = Taken p x; given = given; turn = turn; made = made; leaves = refl }),
+            shown_after config view view2 w (Take i p) node after t done shows turned v changes (ways_so v changes) nowhere_taken,
+          )
+        where
+          nowhere_taken : (a y : ℕ) → is_pair (length config) a y ≡ false → (p ≡ a) × (i ≡ y) → ⊥
+          nowhere_taken a y none both = let there : true ≡ false = sym (pair_turned (length config) i p pair_there) ∙ ((λ j. is_pair (length config) (both.0 j) (both.1 j)) ∙ none) in absurd (cc)
+
+          ways_so : (v : TimedFrameWorld) → Changes {C = Action} (Take i p) (place_timed config t) w v → (a y : ℕ) → a ≢ i → is_pair (length config) a y ≡ true → v.wire a y ≡ on_the_way view2 a y
+          ways_so v changes a y n there = go (cases_eq p a) (cases_eq i y)
+            where
+              rest_is : v.wire p i ≡ on_the_way view2 p i
+              rest_is = let gone = changes.taken p i (refl, refl) in sym (ap (drop 1) gone.1) ∙ (ap (drop 1) wire_is ∙ sym passed)
+
+              stays : ((p ≡ a) × (i ≡ y) → ⊥) → ((a ≡ p) × (peer_place a y ≡ peer_place p i) → ⊥) → v.wire a y ≡ on_the_way view2 a y
+              stays untaken apart = changes.ways a y n untaken ∙ (shows.ways a y there ∙ sym (others a (peer_place a y) n apart))
+
+              go : (p ≡ a) ⊎ (p ≢ a) → (i ≡ y) ⊎ (i ≢ y) → v.wire a y ≡ on_the_way view2 a y
+              go (inl e) (inl d) = subst (λ k. v.wire k y ≡ on_the_way view2 k y) e (subst (λ k. v.wire p k ≡ on_the_way view2 p k) d rest_is)
+              go (inr m) d = stays (λ both. m both.0) (λ both. m (sym both.0))
+              go (inl e) (inr m) = stays (λ both. m both.1)
+                  (λ both. peers_differ p y i (λ f. (pair_is (length config) a y there).2 (f ∙ e)) (λ f. (pair_is (length config) i p pair_there).2 (sym f)) (λ f. m (sym f)) (ap (λ k. peer_place k y) e ∙ both.1))
+
+      -- it happened
+      pub take_happened : Comes node.names (step_take (whole_in node.names) (place_name node.names (peer_place i p + 1)) x node.state) (Ok done) after.state node.answers after.answers
+          → ComesTo config w (Take i p) (Ok HasHappened) (Shows config view2)
+      take_happened comes = go (step_take (whole_in node.names) (place_name node.names (peer_place i p + 1)) x node.state) refl comes
+        where
+          go : (r : Result TimedTurn Refusal) → step_take (whole_in node.names) (place_name node.names (peer_place i p + 1)) x node.state ≡ r
+              → Comes node.names r (Ok done) after.state node.answers after.answers → ComesTo config w (Take i p) (Ok HasHappened) (Shows config view2)
+          go (Ok t) is h = take_so t is h
+          go (Err refusal) is h = absurd (cc)

@@ -1,0 +1,83 @@
+//! The packets on the way from one node to each of its peers.
+
+ghost use Rattle.std.specs.Prelude.{◌≡◌, ◌<◌, ◌+◌, ◌++◌, ◌^◌, ℕ, [], Some, get_or, slice_set, drop, length, replicate, option_map, IfOk, OnOk};
+ghost use Rattle.std.specs.Option.{option_copied};
+ghost use Rattle.pg_message.specs.declared.packet.Packet.{Packet};
+ghost use Rattle.pg_message.specs.Members.{IsShort};
+ghost use Rattle.pg_node.specs.States.{stamped_of};
+
+use crate::way::Way;
+use pg_message::Packet;
+use pg_node::Done;
+use std::alloc::{AllocError, Global};
+
+/// The packets on the way from one node to each of its peers.
+#[derive(Drop)]
+pub(crate) struct Outgoing {
+    // By the places of the peers.
+    ways: Vec<Way>,
+}
+
+impl Outgoing {
+    ghost use Rattle.pg_world.specs.Views.{ways_of, first_of, packets_to, HaveRoom, FitWays};
+
+    /// Nothing is on the way to so many peers. One allocation.
+    ///
+    /// Error: `AllocError`.
+    pub(crate) fn new(alloc: Global, peers: usize) -> Result<Outgoing, AllocError>
+        ensures { IfOk result (λ outgoing. ways_of outgoing ≡ replicate peers []) }
+    {
+        let mut ways = Vec::with_capacity(alloc, peers)?;
+        for _ in 0..peers {
+            ways.push(Way::new(alloc))?;
+        }
+        Ok(Outgoing { ways })
+    }
+
+    /// Makes room for one more packet to each peer.
+    ///
+    /// Error: `AllocError`, by which nothing changes either.
+    pub(crate) fn make_room(&mut self) -> Result<(), AllocError>
+        ensures same { ways_of self.new ≡ ways_of self.old }
+        ensures room { OnOk result (HaveRoom self.new) }
+    {
+        for place in 0..self.ways.len() {
+            let way = &mut self.ways[place];
+            way.reserve()?;
+        }
+        Ok(())
+    }
+
+    /// Puts the packets that an event sends on their ways, where there is room for one on each. It takes no memory.
+    pub(crate) fn send_all(&mut self, done: Done)
+        requires fit { FitWays (length (ways_of self.old)) done.sends.items }
+        requires room { HaveRoom self.old }
+        ensures len { length (ways_of self.new) ≡ length (ways_of self.old) }
+        ensures sent { (place : ℕ) → get_or (ways_of self.new) place []
+            ≡ get_or (ways_of self.old) place [] ++ packets_to done.sends.items place }
+    {
+        for sent in done.sends {
+            let way = &mut self.ways[sent.0];
+            way.send(sent.1);
+        }
+    }
+
+    /// The first packet on the way to a peer, if there is one. `peer`: its place among the peers. It takes no memory.
+    pub(crate) fn first(&self, peer: usize) -> Option<&Packet>
+        requires place { peer < length (ways_of self.now) }
+        ensures first { option_map stamped_of (option_copied result) ≡ first_of (get_or (ways_of self.now) peer []) }
+        ensures short { (packet : Packet) → option_copied result ≡ Some packet → IsShort (2 ^ 32) packet.message }
+    {
+        let way = &self.ways[peer];
+        way.first()
+    }
+
+    /// Takes the first packet off the way to a peer. `peer`: its place among the peers. It takes no memory.
+    pub(crate) fn pass(&mut self, peer: usize)
+        requires place { peer < length (ways_of self.old) }
+        ensures { ways_of self.new ≡ slice_set (ways_of self.old) peer (drop 1 (get_or (ways_of self.old) peer [])) }
+    {
+        let way = &mut self.ways[peer];
+        way.pass();
+    }
+}

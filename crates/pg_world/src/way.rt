@@ -1,0 +1,66 @@
+//! The packets on the way from one node to another.
+
+ghost use Rattle.std.specs.Prelude.{◌≡◌, ◌++◌, ◌∷◌, ◌^◌, [], drop, map, option_map, OnOk};
+ghost use Rattle.std.specs.Option.{option_copied};
+ghost use Rattle.pg_message.specs.declared.packet.Packet.{Packet};
+ghost use Rattle.pg_message.specs.Members.{IsShort};
+ghost use Rattle.pg_world.specs.Short.{AreShort, AreShort-prop};
+
+use pg_message::Packet;
+use std::alloc::{AllocError, Global};
+use std::collections::VecDeque;
+
+/// The packets on the way from one node to another, the first to be taken first.
+#[derive(Drop)]
+pub(crate) struct Way {
+    packets: VecDeque<Packet>,
+    ghost short: { AreShort packets.items } by { AreShort-prop packets.items },
+}
+
+impl Way {
+    ghost use Rattle.pg_world.specs.Views.{packets_of, first_of, HasRoom};
+    ghost use Rattle.pg_node.specs.States.{stamped_of};
+
+    /// Nothing is on the way. It takes no memory.
+    pub(crate) fn new(alloc: Global) -> Way
+        ensures { packets_of result ≡ [] }
+    {
+        Way {
+            packets: VecDeque::new(alloc),
+        }
+    }
+
+    /// Makes room for one more packet.
+    ///
+    /// Error: `AllocError`, by which nothing changes either.
+    pub(crate) fn reserve(&mut self) -> Result<(), AllocError>
+        ensures same { packets_of self.new ≡ packets_of self.old }
+        ensures room { OnOk result (HasRoom self.new) }
+    {
+        self.packets.reserve(1)
+    }
+
+    /// Puts a packet behind the others, where there is room. It takes no memory.
+    pub(crate) fn send(&mut self, packet: Packet)
+        requires short { IsShort (2 ^ 32) packet.message }
+        requires room { HasRoom self.old }
+        ensures { packets_of self.new ≡ packets_of self.old ++ stamped_of packet ∷ [] }
+    {
+        self.packets.push_back_reserved(packet);
+    }
+
+    /// The first packet, if there is one. It takes no memory.
+    pub(crate) fn first(&self) -> Option<&Packet>
+        ensures first { option_map stamped_of (option_copied result) ≡ first_of (packets_of self.now) }
+        ensures short { (packet : Packet) → option_copied result ≡ Some packet → IsShort (2 ^ 32) packet.message }
+    {
+        self.packets.front()
+    }
+
+    /// Takes the first packet out, if there is one. It takes no memory.
+    pub(crate) fn pass(&mut self)
+        ensures { packets_of self.new ≡ drop 1 (packets_of self.old) }
+    {
+        self.packets.pop_front();
+    }
+}

@@ -1,0 +1,210 @@
+//! Nodes and the packets on the way between them, and what a step makes of them.
+
+ghost use Rattle.std.specs.Prelude.{◌≡◌, ◌≢◌, ◌-◌, [], true, Ok, IfOk, OnErr, length, map, option_map, replicate, slice_get};
+ghost use Rattle.std.specs.List.{All};
+ghost use Rattle.std.specs.Option.{option_copied};
+ghost use Rattle.pg_world.specs.Views.{IsWhole, view_in};
+
+use crate::outgoing::Outgoing;
+use crate::step::{FrameStep, Stepped};
+use pg_group::GroupTable;
+use pg_node::{Done, NodeFault, NodeState};
+use pg_step::{Command, OpId, Refusal};
+use std::alloc::{AllocError, Global};
+
+/// Nodes over packets, and the packets on the way between them.
+#[derive(Drop)]
+pub struct FrameWorld<T: GroupTable> {
+    nodes: Vec<NodeState<T>>,
+    // What is on the way from each of them.
+    outgoing: Vec<Outgoing>,
+    ghost whole: { IsWhole (view_in nodes.items outgoing.items) },
+}
+
+impl<T: GroupTable + Drop> FrameWorld<T> {
+    ghost use Rattle.pg_node.specs.States.{names_of};
+    ghost use Rattle.pg_world.specs.Views.{idle_view, seen_of};
+    ghost use Rattle.pg_machine.specs.Places.{is_pair};
+    ghost use Rattle.pg_machine.specs.Machine.{Take, Do};
+    ghost use Rattle.pg_step.specs.Config.{Config};
+    ghost use Rattle.pg_step.specs.Step.{Issue, Retry};
+    ghost use Rattle.pg_world.specs.Worlds.{view_of, event_of, has_port, has_places, TimedFrameWorld, Shows, ComesTo};
+
+    /// A world of these nodes, between which nothing is on the way. Its cost is one allocation for each node, and one.
+    ///
+    /// Error: `AllocError`.
+    pub fn idle(alloc: Global, nodes: Vec<NodeState<T>>) -> Result<FrameWorld<T>, AllocError>
+        requires { All (λ node. length (names_of node) ≡ length nodes.items) nodes.items }
+        ensures { IfOk result (λ world. view_of world ≡ idle_view nodes.items) }
+    {
+        let outgoing = no_packets(alloc, nodes.len())?;
+        Ok(FrameWorld { nodes, outgoing })
+    }
+
+    /// The node at a place. It takes no memory.
+    pub fn node(&self, place: usize) -> Option<&NodeState<T>>
+        ensures { option_map seen_of (option_copied result) ≡ slice_get (view_of self.now).nodes place }
+    {
+        self.nodes.get(place)
+    }
+
+    /// Makes one step. Whatever frame world the world shows, as the nodes of a configuration come to, the step is the event of
+    /// the frame machine there, and the world shows what it leaves.
+    ///
+    /// Faults, which change nothing, the first that holds: `Refused` by `NoSuchPlace` where a node, a port or a peer is not
+    /// there, or a node would take from itself; those of `NodeState::take`, `command` and `retry`; `OutOfMemory` may be told
+    /// in the place of each behind `NoSuchPlace`, as room for what is sent is made before anything changes.
+    pub fn step(&mut self, step: &FrameStep) -> Result<Stepped, NodeFault>
+        ensures event { (config : Config) (w : TimedFrameWorld) → Shows config (view_of self.old) w
+            → ComesTo config w (event_of step.now) result (Shows config (view_of self.new)) }
+        ensures nothing { result ≡ Ok Stepped.Nothing → view_of self.new ≡ view_of self.old }
+        ensures err { OnErr result (view_of self.new ≡ view_of self.old) }
+    {
+        if !self.has_places(step) {
+            return Err(NodeFault::Refused(Refusal::NoSuchPlace));
+        }
+        match step {
+            FrameStep::Take { node, peer } => self.take(*node, *peer),
+            FrameStep::Command {
+                node,
+                port,
+                command,
+            } => self.command(*node, *port, command),
+            FrameStep::Retry { node, op } => self.retry(*node, *op),
+        }
+    }
+
+    /// Whether the places that a step names are there.
+    fn has_places(&self, step: &FrameStep) -> bool
+        ensures { result ≡ has_places (view_of self.now) step.now }
+    {
+        match step {
+            FrameStep::Take { node, peer } => self.has_pair(*node, *peer),
+            FrameStep::Command {
+                node,
+                port,
+                command: _,
+            } => self.has_port(*node, *port),
+            FrameStep::Retry { node, op } => self.has_port(*node, op.port),
+        }
+    }
+
+    /// Whether there are these two nodes, apart from each other.
+    fn has_pair(&self, node: usize, peer: usize) -> bool
+        ensures { result ≡ is_pair (length (view_of self.now).nodes) node peer }
+    {
+        let count = self.nodes.len();
+        node < count && peer < count && node != peer
+    }
+
+    /// Whether a node has that port.
+    fn has_port(&self, node: usize, port: u16) -> bool
+        ensures { result ≡ has_port (view_of self.now) node port }
+    {
+        match self.nodes.get(node) {
+            Some(state) => usize::from(port) < state.port_count(),
+            None => false,
+        }
+    }
+
+    /// A node takes the first packet on the way from a peer.
+    fn take(&mut self, node: usize, peer: usize) -> Result<Stepped, NodeFault>
+        requires pair { is_pair (length (view_of self.old).nodes) node peer ≡ true }
+        ensures event { (config : Config) (w : TimedFrameWorld) → Shows config (view_of self.old) w
+            → ComesTo config w (Take node peer) result (Shows config (view_of self.new)) }
+        ensures nothing { result ≡ Ok Stepped.Nothing → view_of self.new ≡ view_of self.old }
+        ensures err { OnErr result (view_of self.new ≡ view_of self.old) }
+    {
+        let outgoing = &mut self.outgoing[node];
+        match outgoing.make_room() {
+            Ok(()) => {}
+            Err(AllocError) => return Err(NodeFault::OutOfMemory),
+        }
+        let sender = &self.outgoing[peer];
+        match sender.first(peer_place(peer, node)) {
+            None => Ok(Stepped::Nothing),
+            Some(packet) => {
+                let state = &mut self.nodes[node];
+                match state.take(peer_place(node, peer), packet) {
+                    Ok(done) => {
+                        let sender = &mut self.outgoing[peer];
+                        sender.pass(peer_place(peer, node));
+                        let outgoing = &mut self.outgoing[node];
+                        outgoing.send_all(done);
+                        Ok(Stepped::Happened)
+                    }
+                    Err(fault) => Err(fault),
+                }
+            }
+        }
+    }
+
+    /// A command comes in at a port of a node.
+    fn command(&mut self, node: usize, port: u16, command: &Command) -> Result<Stepped, NodeFault>
+        requires port { has_port (view_of self.old) node port ≡ true }
+        ensures event { (config : Config) (w : TimedFrameWorld) → Shows config (view_of self.old) w
+            → ComesTo config w (Do node (Issue port command.now)) result (Shows config (view_of self.new)) }
+        ensures happens { result ≢ Ok Stepped.Nothing }
+        ensures err { OnErr result (view_of self.new ≡ view_of self.old) }
+    {
+        let outgoing = &mut self.outgoing[node];
+        match outgoing.make_room() {
+            Ok(()) => {}
+            Err(AllocError) => return Err(NodeFault::OutOfMemory),
+        }
+        let state = &mut self.nodes[node];
+        match state.command(port, command) {
+            Ok(done) => {
+                let outgoing = &mut self.outgoing[node];
+                outgoing.send_all(done);
+                Ok(Stepped::Happened)
+            }
+            Err(fault) => Err(fault),
+        }
+    }
+
+    /// A node tries a command again that waits.
+    fn retry(&mut self, node: usize, op: OpId) -> Result<Stepped, NodeFault>
+        requires port { has_port (view_of self.old) node op.port ≡ true }
+        ensures event { (config : Config) (w : TimedFrameWorld) → Shows config (view_of self.old) w
+            → ComesTo config w (Do node (Retry op)) result (Shows config (view_of self.new)) }
+        ensures happens { result ≢ Ok Stepped.Nothing }
+        ensures err { OnErr result (view_of self.new ≡ view_of self.old) }
+    {
+        let outgoing = &mut self.outgoing[node];
+        match outgoing.make_room() {
+            Ok(()) => {}
+            Err(AllocError) => return Err(NodeFault::OutOfMemory),
+        }
+        let state = &mut self.nodes[node];
+        match state.retry(op) {
+            Ok(done) => {
+                let outgoing = &mut self.outgoing[node];
+                outgoing.send_all(done);
+                Ok(Stepped::Happened)
+            }
+            Err(fault) => Err(fault),
+        }
+    }
+}
+
+ghost use Rattle.pg_world.specs.Views.{peer_place, ways_of};
+
+/// Nothing is on the way between so many nodes.
+fn no_packets(alloc: Global, count: usize) -> Result<Vec<Outgoing>, AllocError>
+    ensures { IfOk result (λ outgoing. map ways_of outgoing.items ≡ replicate count (replicate (count - 1) [])) }
+{
+    let mut outgoing = Vec::with_capacity(alloc, count)?;
+    for _ in 0..count {
+        outgoing.push(Outgoing::new(alloc, count - 1)?)?;
+    }
+    Ok(outgoing)
+}
+
+/// The place of another node among the peers of a node, which are the others in their order.
+fn peer_place(node: usize, other: usize) -> usize
+    requires { node ≢ other }
+    ensures { result ≡ peer_place node other }
+{
+    if other < node { other } else { other - 1 }
+}
