@@ -1,7 +1,5 @@
 -- The links of a node to its peers, by the places of the peers, and the frames that go out there.
 use Rattle.std.specs.Prelude.{◌≡◌, ◌≤◌, ◌+◌, ◌<◌, ℕ, zero, suc, nat_eq, cond, Bool, false, List, [], ◌∷◌, ◌++◌, length, drop}
-use Rattle.std.specs.List.{flat_map}
-use Rattle.pg_message.specs.declared.message.Message.{Message}
 use Rattle.pg_message.specs.declared.message.Request.{Request}
 use Rattle.pg_message.specs.declared.message.Request.TheVariants.{SetLock, Change}
 use Rattle.pg_message.specs.declared.packet.Packet.{Packet}
@@ -10,7 +8,6 @@ use Rattle.pg_group.specs.Functions.{upd}
 use Rattle.pg_group.specs.Value.{name_of}
 use Rattle.pg_message.specs.declared.writing.size.TheConstants.{MAX_SMALL_LEN}
 use Rattle.pg_message.specs.Writing.{term_of_packet, framed}
-use Rattle.pg_machine.specs.Clocked.{Stamped}
 use Rattle.pg_term_io.specs.Writing.{written}
 use Rattle.pg_step.specs.Nodes.{Node}
 use Rattle.pg_node.specs.declared.node.wire.Wire.{Wire}
@@ -56,10 +53,6 @@ frame_of packet = framed (written (term_of_packet packet))
 abbrev pub frames_to : List (ℕ × Packet) → ℕ → List ℕ
 frames_to [] place = []
 frames_to (sent ∷ others) place = cond (nat_eq sent.0 place) (frame_of sent.1) [] ++ frames_to others place
-
--- the frames of messages that are sent
-abbrev pub frames_of : List (Stamped Message) → List ℕ
-frames_of sent = flat_map (λ x. frame_of (record { stamp = x.stamp; message = x.packet })) sent
 
 -- a link with more bytes that go out
 abbrev pub with_more : Link → List ℕ → Link

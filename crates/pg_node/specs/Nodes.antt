@@ -1,9 +1,8 @@
 -- What a node over bytes is seen as, and what an event makes of it.
-use Rattle.std.specs.Prelude.{◌≡◌, ◌<◌, ◌+◌, ℕ, cond, List, Option, Some, None, Result, Ok, Err, length}
+use Rattle.std.specs.Prelude.{◌≡◌, ℕ, cond, List, Option, Some, None, Result, Ok, Err}
 use Rattle.pg_group.specs.declared.table.GroupTable.{Ghosts}
 use Rattle.pg_machine.specs.Clocked.{Timed}
 use Rattle.pg_message.specs.declared.packet.Packet.{Packet}
-use Rattle.pg_opens.specs.Places.{name_at}
 use Rattle.pg_step.specs.declared.answer.Answer.{Answer}
 use Rattle.pg_step.specs.declared.refusal.Refusal.{Refusal}
 use Rattle.pg_step.specs.declared.refusal.Refusal.TheVariants.{NodeLost, NotDrained}
@@ -15,7 +14,7 @@ use Rattle.pg_node.specs.declared.state.NodeState.{NodeState}
 use Rattle.pg_node.specs.declared.state.done.Done.{Done}
 use Rattle.pg_node.specs.declared.state.fault.NodeFault.{NodeFault}
 use Rattle.pg_node.specs.declared.state.fault.NodeFault.TheVariants.{Refused, OutOfMemory, Message}
-use Rattle.pg_node.specs.Links.{Link, links_in, frames_to, frames_of, with_more}
+use Rattle.pg_node.specs.Links.{Link, links_in, frames_to, with_more}
 use Rattle.pg_node.specs.Bytes.{next_packet, is_drained}
 use Rattle.pg_node.specs.States.{stamped_of, step_see_loss, Happens, Comes}
 
@@ -63,10 +62,6 @@ ComesInRoom names told result s before after = Comes names told result s before 
 -- each outbox is followed by the frames of the packets that go to its place
 abbrev pub sent_out : List (ℕ × Packet) → (ℕ → Link) → ℕ → Link
 sent_out sends links place = with_more (links place) (frames_to sends place)
-
--- The frames in the outboxes are those of the packets that the turn sends there, each behind what stood there.
-pub record SendsOut (names : List Name) (t : TimedTurn) (before after : ℕ → Link) : Type 0 where
-  pub sent : (place : ℕ) → place + 1 < length names → (after place).outbox ≡ (with_more (before place) (frames_of (t.sends (name_at names (place + 1))))).outbox
 
 -- ---- the loss of a peer
 
