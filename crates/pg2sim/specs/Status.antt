@@ -1,5 +1,5 @@
 -- What the words of a command line ask for, and the status that the program ends with.
-use Rattle.std.specs.Prelude.{◌≡◌, ℕ, List, [], ◌∷◌, map, codes, Option, Result, Ok, Err, string_bytes}
+use Rattle.std.specs.Prelude.{◌≡◌, ℕ, List, [], ◌∷◌, map, codes, Option, Result, Ok, Err, IfErr, string_bytes}
 use Rattle.std.specs.declared.string.String.{String}
 use Rattle.std.specs.declared.alloc.Global.{Global}
 use Rattle.pg_node.specs.declared.fault.ServeFault.{ServeFault}
@@ -18,8 +18,9 @@ status_of (Err fault) = 1
 abbrev pub named_pair : Pair
 named_pair = record { own = codes "b"; peer = codes "a" }
 
--- an input was served, and this is the status
-pub record EndsWith (before after : Option (List ℕ)) (input : List ℕ) (status : ℕ) : Type 0 where
+-- an input was served, a fault has its cause C, and this is the status
+pub record EndsWith (C : ServeFault → Type 0) (before after : Option (List ℕ)) (input : List ℕ) (status : ℕ) : Type 0 where
   pub result : Result (Unit {0}) ServeFault
+  pub cause : IfErr result C
   pub serves : Serves named_pair before after input result
   pub is : status ≡ status_of result

@@ -3,8 +3,11 @@
 
 mod run;
 #[cfg(test)]
+mod streams;
+#[cfg(test)]
 mod tests;
 
+use pg_node::{AnyReader, AnyWriter};
 use run::run_words;
 use std::io::BufWriter;
 use std::process::ExitCode;
@@ -15,11 +18,14 @@ fn status(rt: &HostRuntime) -> io::Result<u8> {
     for word in env::args(rt)?.skip(1) {
         words.push(word)?;
     }
-    let mut writer = BufWriter::new(rt.alloc(), rt.stdout())?;
+    let mut reader = AnyReader { reader: rt.stdin() };
+    let mut writer = AnyWriter {
+        writer: BufWriter::new(rt.alloc(), rt.stdout())?,
+    };
     Ok(run_words(
         rt.alloc(),
         words.as_slice(),
-        &mut rt.stdin(),
+        &mut reader,
         &mut writer,
         &mut rt.stderr(),
     ))

@@ -1,13 +1,14 @@
 ghost use Rattle.std.specs.Prelude.{◌≡◌, ◌↔◌, IsTrue, IfSome, IfOk, IfErr};
 ghost use Rattle.pg_term.specs.declared.fault.TermFault.TheVariants.{OutOfMemory};
 ghost use Rattle.std.specs.Io.KnownBytes.{Keeps};
+ghost use Rattle.pg_node.specs.Causes.{AllAnswered, Cause, FailedAt, Unread};
 ghost use Rattle.pg_node.specs.Replica.{Serves};
 ghost use Rattle.pg2sim.specs.Status.{AsksForBytes, EndsWith, named_pair};
 
-use pg_node::{ServeFault, serve};
+use pg_node::{ServeFault, Sink, Source, serve};
 use pg_term::{Atom, TermFault};
 use std::alloc::Global;
-use std::io::{Read, Write};
+use std::io::Write;
 
 // What the program answers: done, refused, words that it doesn't know.
 const DONE: u8 = 0;
@@ -21,15 +22,17 @@ const UNKNOWN_WORDS: u8 = 2;
 /// `bytes` reads framed packets from `reader` and writes the framed replies to `writer`, as `pg_node::serve` does:
 /// status 0, or 1 where the run was refused, and then `refused` and the number of the fault stand in a line of
 /// `faults`. Other words: status 2, and nothing is read or written.
-pub fn run_words<R: Read, W: Write, F: Write>(
+pub fn run_words<R: Source, W: Sink, F: Write>(
     alloc: Global,
     words: &[String],
     reader: &mut R,
     writer: &mut W,
     faults: &mut F,
 ) -> u8
-    ensures bytes { AsksForBytes words.now → IfSome (R.remaining reader.old) (λ input.
-        EndsWith (W.contents writer.old) (W.contents writer.new) input result) }
+    ensures bytes { AsksForBytes words.now → IfSome (R.remaining reader.old) (λ input. EndsWith
+        (Cause (Unread R.gives R.fails reader.old reader.new
+        (AllAnswered named_pair (W.contents writer.old) (W.contents writer.new))) (FailedAt W.fails writer.new))
+        (W.contents writer.old) (W.contents writer.new) input result) }
     ensures other { (AsksForBytes words.now → ⊥) → result ≡ UNKNOWN_WORDS }
     ensures silent { (AsksForBytes words.now → ⊥) → Keeps (R.remaining reader.old) (R.remaining reader.new)
         × Keeps (W.contents writer.old) (W.contents writer.new)
@@ -59,9 +62,16 @@ fn is_bytes(words: &[String]) -> bool
 }
 
 /// Serves the input as node `b` with the peer `a`.
-fn bytes<R: Read, W: Write>(alloc: Global, reader: &mut R, writer: &mut W) -> Result<(), ServeFault>
-    ensures { IfSome (R.remaining reader.old) (λ input.
+fn bytes<R: Source, W: Sink>(
+    alloc: Global,
+    reader: &mut R,
+    writer: &mut W,
+) -> Result<(), ServeFault>
+    ensures known { IfSome (R.remaining reader.old) (λ input.
         Serves named_pair (W.contents writer.old) (W.contents writer.new) input result) }
+    ensures cause { IfErr result (Cause (Unread R.gives R.fails reader.old reader.new
+        (AllAnswered named_pair (W.contents writer.old) (W.contents writer.new)))
+        (FailedAt W.fails writer.new)) }
 {
     let own = own_name(alloc)?;
     let peer = peer_name(alloc)?;

@@ -1,6 +1,6 @@
 // The worked examples as bytes, and what no clause says: texts, readers and writers that fail.
 use crate::run::run_words;
-use pg_node::serve;
+use pg_node::{AnyReader, AnyWriter, Source, serve};
 use pg_term::Atom;
 use std::alloc::Global;
 use std::io;
@@ -84,14 +84,16 @@ struct Printed {
     status: u8,
 }
 
-fn run<R: Read>(alloc: Global, word: &str, reader: &mut R) -> Result<Printed, Fail> {
+fn run<R: Source>(alloc: Global, word: &str, reader: &mut R) -> Result<Printed, Fail> {
     let mut words = Vec::new(alloc);
     words.push(String::from_str(alloc, word)?)?;
-    let mut output = Vec::new(alloc);
+    let mut output = AnyWriter {
+        writer: Vec::new(alloc),
+    };
     let mut faults = Vec::new(alloc);
     let status = run_words(alloc, words.as_slice(), reader, &mut output, &mut faults);
     Ok(Printed {
-        output,
+        output: output.writer,
         faults,
         status,
     })
@@ -214,10 +216,12 @@ impl<'a> Read for Pieces<'a> {
 #[test]
 fn input_in_pieces(rt: HostRuntime) -> Result<(), Fail> {
     for first in 1..49 {
-        let mut reader = Pieces {
-            text: &CREATE,
-            first,
-            fails: false,
+        let mut reader = AnyReader {
+            reader: Pieces {
+                text: &CREATE,
+                first,
+                fails: false,
+            },
         };
         let printed = run(rt.alloc(), "bytes", &mut reader)?;
         assert!(rt;
@@ -232,10 +236,12 @@ fn input_in_pieces(rt: HostRuntime) -> Result<(), Fail> {
 #[test]
 fn read_fails(rt: HostRuntime) -> Result<(), Fail> {
     for (length, output) in [(0, &[][..]), (48, &[][..]), (49, &CREATED[..])] {
-        let mut reader = Pieces {
-            text: &CREATE[..length],
-            first: usize::MAX,
-            fails: true,
+        let mut reader = AnyReader {
+            reader: Pieces {
+                text: &CREATE[..length],
+                first: usize::MAX,
+                fails: true,
+            },
         };
         let printed = run(rt.alloc(), "bytes", &mut reader)?;
         assert!(rt; printed.output.as_slice() == output, "after {length} bytes");
@@ -274,10 +280,12 @@ fn write_fails(rt: HostRuntime) -> Result<(), Fail> {
         let mut reader: &[u8] = &CREATE;
         let mut words = Vec::new(rt.alloc());
         words.push(String::from_str(rt.alloc(), "bytes")?)?;
-        let mut writer = Narrow {
-            held: 0,
-            piece: 5,
-            limit,
+        let mut writer = AnyWriter {
+            writer: Narrow {
+                held: 0,
+                piece: 5,
+                limit,
+            },
         };
         let mut faults = Vec::new(rt.alloc());
         let got = run_words(
@@ -288,7 +296,11 @@ fn write_fails(rt: HostRuntime) -> Result<(), Fail> {
             &mut faults,
         );
         assert_eq!(rt; got, status, "a writer that takes {limit} bytes");
-        assert_eq!(rt; writer.held, held, "a writer that takes {limit} bytes");
+        assert_eq!(rt;
+            writer.writer.held,
+            held,
+            "a writer that takes {limit} bytes"
+        );
         assert_eq!(rt; faults.is_empty(), status == 0);
     }
     Ok(())
@@ -304,7 +316,9 @@ fn refused_growth(rt: HostRuntime) -> Result<(), Fail> {
     for _ in 0..2 {
         let mut reader: &[u8] = &CREATE;
         let mut output = [0; 44];
-        let mut writer = &mut output[..];
+        let mut writer = AnyWriter {
+            writer: &mut output[..],
+        };
         let mut faults = [0; 11];
         let mut line = &mut faults[..];
         let status = run_words(
@@ -314,7 +328,7 @@ fn refused_growth(rt: HostRuntime) -> Result<(), Fail> {
             &mut writer,
             &mut line,
         );
-        let left = writer.len();
+        let left = writer.writer.len();
         assert!(rt; status == 0 && left == 0 || status == 1 && left == 44);
     }
     Ok(())
@@ -326,13 +340,17 @@ fn names_alike(rt: HostRuntime) -> Result<(), Fail> {
     let mut input = EXCHANGE.to_vec(rt.alloc())?;
     input.extend_from_slice(&SET_LOCK)?;
     let mut reader = input.as_slice();
-    let mut output = Vec::new(rt.alloc());
+    let mut output = AnyWriter {
+        writer: Vec::new(rt.alloc()),
+    };
     assert!(rt; serve(rt.alloc(), &peer, &peer, &mut reader, &mut output).is_ok());
-    assert!(rt; output.as_slice() == GRANTED.as_slice());
+    assert!(rt; output.writer.as_slice() == GRANTED.as_slice());
     let nameless = Atom::new(rt.alloc(), "")?;
     let mut call: &[u8] = &CREATE;
-    let mut reply = Vec::new(rt.alloc());
+    let mut reply = AnyWriter {
+        writer: Vec::new(rt.alloc()),
+    };
     assert!(rt; serve(rt.alloc(), &nameless, &nameless, &mut call, &mut reply).is_ok());
-    assert!(rt; reply.as_slice() == CREATED.as_slice());
+    assert!(rt; reply.writer.as_slice() == CREATED.as_slice());
     Ok(())
 }

@@ -1,6 +1,7 @@
 -- A node without commands shows its own name in nothing that it answers.
 use Rattle.std.proofs.Common.{◌≡◌, ◌+◌, ℕ, Bool, true, false, cond, max, nat_le, List, [], ◌∷◌, Option, Some, None, Result, Ok, Err, refl, sym, ap, subst, ◌∙◌}
-use Rattle.std.specs.Prelude.{IfOk, IfSome}
+use Rattle.std.specs.Prelude.{IfOk, IfErr, IfSome}
+use Rattle.std.specs.Io.KnownBytes.{Appends}
 use Rattle.pg_term.specs.RefParts.{RefParts, ref_eq}
 use Rattle.pg_refs.specs.Numbered.{number_in}
 use Rattle.pg_frame.specs.Frames.{front_of, bodies_of, rest_of}
@@ -23,8 +24,10 @@ use Rattle.pg_step.specs.State.Use.{Fresh, Spent}
 use Rattle.pg_step.specs.Step.{TimedTurn, CLOCK_LIMIT, taken, at_clock, timed, step_take}
 use Rattle.pg_step.specs.Turns.{NodeTurn}
 use Rattle.pg_node.specs.declared.fault.ServeFault.{ServeFault}
-use Rattle.pg_node.specs.Replica.{Pair, State, Answer, Run, start, nodes_of, turned, taken_packet, taken_in, answered, goes_on, preceded, run, served, rest_fault, first_fault, WroteFor, Serves}
+use Rattle.pg_node.specs.Causes.{AllAnswered, Cause, Unread}
+use Rattle.pg_node.specs.Replica.{Pair, State, Answer, Run, start, nodes_of, turned, taken_packet, taken_in, answered, goes_on, preceded, run, served, rest_fault, first_fault, frames_of, WroteFor, Serves}
 use Rattle.pg_node.specs.States.{stamped_of}
+use Rattle.pg_node.proofs.Served.{cause_of}
 
 -- no reference was made
 abbrev Idle : machine.State → Type 0
@@ -163,3 +166,17 @@ pub serves_any : (pair : Pair) (own peer : Node) (r before after : Option (List 
 serves_any pair own peer None before after result same h = tt
 serves_any pair own peer (Some input) before after result same h = subst (λ (p : Node). Serves (record { own = own; peer = p }) before after input result) same
     (record { output = h.output; wrote = h.wrote; is = subst (λ (r : Run). WroteFor r result h.output) (same_served pair.own own pair.peer input) h.is })
+
+-- and what was answered was answered under any other
+pub answered_any : (pair : Pair) (own peer : Node) (before after : Option (List ℕ)) (input : List ℕ) → pair.peer ≡ peer
+    → AllAnswered pair before after input → AllAnswered (record { own = own; peer = peer }) before after input
+answered_any pair own peer before after input same h = subst (λ (p : Node). AllAnswered (record { own = own; peer = p }) before after input) same
+    (let e = same_run pair.own own pair.peer start (bodies_of input) refl in
+    record { taken = subst (λ (r : Run). r.fault ≡ None) e h.taken; wrote = subst (λ (r : Run). Appends before after (frames_of r.replies)) e h.wrote })
+
+pub cause_any : {R : Type 0} (B : Type 0) (gives : R → List ℕ → R → Type 0) (fails : R → R → Type 0) (old new : R) (pair : Pair) (own peer : Node) (before after : Option (List ℕ)) (result : Result (Unit {0}) ServeFault) → pair.peer ≡ peer
+    → IfErr result (Cause (Unread gives fails old new (AllAnswered pair before after)) B)
+    → IfErr result (Cause (Unread gives fails old new (AllAnswered (record { own = own; peer = peer }) before after)) B)
+cause_any B gives fails old new pair own peer before after (Ok done) same h = tt
+cause_any B gives fails old new pair own peer before after (Err fault) same h =
+    cause_of (λ u. record { pieces = u.pieces; fact = answered_any pair own peer before after _ same u.fact; last = u.last }) (λ b. b) fault h

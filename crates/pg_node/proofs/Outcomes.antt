@@ -135,7 +135,7 @@ module _ (pair : Pair) (all unread : List ℕ) (s : State) (v w : Option (List �
   waits : (p.bodies ≡ bodies_of all) × (unread ≡ rest_of all)
   waits = let h = loop_keeps.waits all unread p.bodies p.leaves front in (h.0, h.1)
 
-  done : run pair start (bodies_of all) ≡ record { replies = p.replies; state = s; fault = None }
+  pub done : run pair start (bodies_of all) ≡ record { replies = p.replies; state = s; fault = None }
   done = ap (run pair start) (sym waits.0) ∙ p.ran
 
   replies_are : (served pair all).replies ≡ p.replies

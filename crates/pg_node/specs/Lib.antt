@@ -1,5 +1,6 @@
 pub mod Begun
 pub mod Bytes
+pub mod Causes
 pub mod Fault
 pub mod Issued
 pub mod Links

@@ -1,11 +1,12 @@
 -- What a server does with the frames that came in.
-use Rattle.std.specs.Prelude.{◌≡◌, ℕ, Bool, false, List, [], ◌++◌, Option, Some, None, Ok, Err, ◌⊎◌}
+use Rattle.std.specs.Prelude.{◌≡◌, ◌<◌, ℕ, Bool, true, false, List, [], ◌++◌, length, Option, Some, None, Ok, Err, ◌⊎◌}
 use Rattle.std.specs.Io.KnownBytes.{Appends, Keeps, Consumes, IsAtEnd}
 use Rattle.pg_term.specs.declared.fault.TermFault.TheVariants.{OutOfMemory}
 use Rattle.pg_message.specs.declared.fault.MessageFault.TheVariants.{Term}
 use Rattle.pg_frame.specs.Frames.{front_of, too_long, Leaves}
 use Rattle.pg_node.specs.declared.fault.ServeFault.{ServeFault}
 use Rattle.pg_node.specs.declared.fault.ServeFault.TheVariants.{Message, FrameTooLong, ReadFault, WriteFault}
+use Rattle.pg_node.specs.Causes.{joined}
 use Rattle.pg_node.specs.Replica.{Pair, State, Answer, answered, run, start, frames_of}
 
 -- some bodies were taken and answered, and their replies written
@@ -50,16 +51,20 @@ pub record Stops (pair : Pair) (fault : ServeFault) (unread0 : List ℕ) (s0 : S
   pub progress : Progress pair unread0 unread s0 state out0 written
   pub stops : StopsAt pair fault unread state written out1
 
--- the next piece came in, or the input was over
-pub record Reads (r0 r1 : Option (List ℕ)) (unread0 unread1 : List ℕ) (more : Bool) : Type 0 where
+-- the next piece, of which P says how it was read, came in, or the input was over
+pub record Reads (P : List ℕ → Type 0) (r0 r1 : Option (List ℕ)) (unread0 unread1 : List ℕ) (more : Bool) : Type 0 where
   pub piece : List ℕ
+  pub gave : P piece
   pub consumed : Consumes r0 r1 piece
   pub fed : unread1 ≡ unread0 ++ piece
   pub over : more ≡ false → IsAtEnd r1 × (piece ≡ [])
+  pub some : more ≡ true → 0 < length piece
 
--- what came in since the start was answered as far as packets are whole
-pub record Serving (pair : Pair) (r0 r1 : Option (List ℕ)) (unread : List ℕ) (s : State) (out0 out1 : Option (List ℕ)) : Type 0 where
-  pub input : List ℕ
-  pub consumed : Consumes r0 r1 input
-  pub progress : Progress pair input unread start s out0 out1
+-- the pieces that came in since the start, the last of them first, and of which P says how they were read, were answered as
+-- far as packets are whole
+pub record Serving (pair : Pair) (P : List (List ℕ) → Type 0) (r0 r1 : Option (List ℕ)) (unread : List ℕ) (s : State) (out0 out1 : Option (List ℕ)) : Type 0 where
+  pub pieces : List (List ℕ)
+  pub gave : P pieces
+  pub consumed : Consumes r0 r1 (joined pieces)
+  pub progress : Progress pair (joined pieces) unread start s out0 out1
   pub front : front_of unread ≡ Ok None

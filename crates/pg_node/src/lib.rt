@@ -5,9 +5,13 @@ mod answer;
 mod fault;
 mod node;
 mod server;
+mod sink;
+mod source;
 mod state;
 
 pub use fault::ServeFault;
 pub use node::Node;
 pub use server::serve;
+pub use sink::{AnyWriter, Sink};
+pub use source::{AnyReader, Source};
 pub use state::{Done, NodeConfig, NodeFault, NodeState};

@@ -1,6 +1,7 @@
-ghost use Rattle.std.specs.Prelude.{◌≡◌, ◌<◌, ◌∷◌, ◌++◌, true, false, List, ℕ, length, [], Some, None, Ok, Err, IfSome, IfOk, IfErr, OnOk, ◌⊎◌, ◌==◌, if◌then◌else◌};
+ghost use Rattle.std.specs.Prelude.{◌≡◌, ◌<◌, ◌∷◌, ◌++◌, true, false, List, ℕ, length, [], Some, None, Ok, Err, IfSome, IfOk, IfErr, OnOk, OnErr, ◌⊎◌, ◌==◌, if◌then◌else◌};
 ghost use Rattle.std.specs.Io.KnownBytes.{Appends, Keeps, Consumes, IsAtEnd};
 ghost use Rattle.pg_frame.specs.Frames.{front_of};
+ghost use Rattle.pg_node.specs.Causes.{AllAnswered, Cause, FailedAt, LeavesFlushed, Unread};
 ghost use Rattle.pg_node.specs.Fault.{out_of_memory};
 ghost use Rattle.pg_node.specs.Replica.{start, pair_of, Serves};
 ghost use Rattle.pg_node.specs.States.{names_of, state_of};
@@ -12,6 +13,8 @@ ghost use Rattle.pg_term.specs.declared.fault.TermFault.TheVariants.{Truncated};
 
 use crate::answer::answer;
 use crate::fault::ServeFault;
+use crate::sink::Sink;
+use crate::source::Source;
 use crate::state::{NodeConfig, NodeState, started};
 use bytes::BytesMut;
 use pg_frame::Deframer;
@@ -20,7 +23,6 @@ use pg_index::IndexTable;
 use pg_message::MessageFault;
 use pg_term::{Atom, TermFault};
 use std::alloc::{AllocError, Global};
-use std::io::{Read, Write};
 
 /// How many bytes one read asks for.
 const PIECE_LEN: usize = 65_536;
@@ -30,18 +32,19 @@ const MAX_READS: u64 = 1 << 40;
 
 /// Writes all the bytes.
 ///
-/// Fault: `WriteFault`, where a write fails or takes nothing; what was written is a prefix of the bytes then.
-fn put_whole<W: Write>(writer: &mut W, bytes: &[u8]) -> Result<(), ServeFault>
+/// Fault: `WriteFault`, where a write fails; what was written is a prefix of the bytes then.
+fn put_whole<W: Sink>(writer: &mut W, bytes: &[u8]) -> Result<(), ServeFault>
     ensures ok { OnOk result (Appends (W.contents writer.old) (W.contents writer.new) bytes.now) }
     ensures fault { IfErr result (λ fault. (fault ≡ WriteFault)
         × ((part : List ℕ) × (behind : List ℕ) × (part ++ behind ≡ bytes.now)
         × Appends (W.contents writer.old) (W.contents writer.new) part)) }
+    ensures cause { OnErr result (FailedAt W.fails writer.new) }
 {
     let mut rest = bytes;
     while !rest.is_empty() {
-        match writer.write(rest) {
-            Ok(0) | Err(_) => return Err(ServeFault::WriteFault),
+        match writer.write_some(rest) {
             Ok(count) => rest = &rest[count..],
+            Err(_) => return Err(ServeFault::WriteFault),
         }
     }
     Ok(())
@@ -59,7 +62,7 @@ struct Server<T: GroupTable> {
 
 impl<T: GroupTable + Drop> Server<T> {
     /// Answers the next packet, if it is there: its reply is written whole before the packet is taken away.
-    fn answer_next<W: Write>(&mut self, writer: &mut W) -> Result<bool, ServeFault>
+    fn answer_next<W: Sink>(&mut self, writer: &mut W) -> Result<bool, ServeFault>
         ensures progress { OnOk result (Progress (pair_of self.old.node) self.old.deframer.unread
             self.new.deframer.unread
             (state_of self.old.node) (state_of self.new.node)
@@ -70,6 +73,7 @@ impl<T: GroupTable + Drop> Server<T> {
         ensures none { IfOk result (λ taken. taken ≡ false → front_of self.new.deframer.unread ≡ Ok None) }
         ensures fault { IfErr result (λ fault. StopsAt (pair_of self.old.node) fault self.old.deframer.unread
             (state_of self.old.node) (W.contents writer.old) (W.contents writer.new)) }
+        ensures cause { IfErr result (Cause ⊥ (FailedAt W.fails writer.new)) }
     {
         let body = match self.deframer.front() {
             Ok(Some(body)) => body,
@@ -85,7 +89,7 @@ impl<T: GroupTable + Drop> Server<T> {
     }
 
     /// Answers all packets that are there.
-    fn answer_all<W: Write>(&mut self, writer: &mut W) -> Result<(), ServeFault>
+    fn answer_all<W: Sink>(&mut self, writer: &mut W) -> Result<(), ServeFault>
         ensures progress { OnOk result (Progress (pair_of self.old.node) self.old.deframer.unread
             self.new.deframer.unread
             (state_of self.old.node) (state_of self.new.node)
@@ -94,21 +98,23 @@ impl<T: GroupTable + Drop> Server<T> {
         ensures none { OnOk result (front_of self.new.deframer.unread ≡ Ok None) }
         ensures fault { IfErr result (λ fault. Stops (pair_of self.old.node) fault self.old.deframer.unread
             (state_of self.old.node) (W.contents writer.old) (W.contents writer.new)) }
+        ensures cause { IfErr result (Cause ⊥ (FailedAt W.fails writer.new)) }
     {
         while self.answer_next(writer)? {}
         Ok(())
     }
 
     /// Reads the next piece of the input. `false`: it is over.
-    fn read<R: Read>(&mut self, reader: &mut R, piece: &mut [u8]) -> Result<bool, ServeFault>
+    fn read<R: Source>(&mut self, reader: &mut R, piece: &mut [u8]) -> Result<bool, ServeFault>
         requires { 0 < length piece.old }
-        ensures piece { IfOk result (Reads (R.remaining reader.old) (R.remaining reader.new)
-            self.old.deframer.unread self.new.deframer.unread) }
+        ensures piece { IfOk result (Reads (λ bytes. R.gives reader.old bytes reader.new) (R.remaining reader.old)
+            (R.remaining reader.new) self.old.deframer.unread self.new.deframer.unread) }
         ensures fault { IfErr result (λ fault. (fault ≡ ReadFault) ⊎ (fault ≡ out_of_memory)) }
+        ensures cause { IfErr result (Cause (R.fails reader.old reader.new) ⊥) }
         ensures pair { pair_of self.new.node ≡ pair_of self.old.node }
         ensures state { state_of self.new.node ≡ state_of self.old.node }
     {
-        let count = match reader.read(piece) {
+        let count = match reader.read_some(piece) {
             Ok(count) => count,
             Err(_) => return Err(ServeFault::ReadFault),
         };
@@ -117,11 +123,15 @@ impl<T: GroupTable + Drop> Server<T> {
     }
 
     /// Serves the whole input.
-    fn run<R: Read, W: Write>(&mut self, reader: &mut R, writer: &mut W) -> Result<(), ServeFault>
+    fn run<R: Source, W: Sink>(&mut self, reader: &mut R, writer: &mut W) -> Result<(), ServeFault>
         requires fresh { self.old.deframer.unread ≡ [] }
         requires start { state_of self.old.node ≡ start }
-        ensures { IfSome (R.remaining reader.old) (λ input.
+        ensures known { IfSome (R.remaining reader.old) (λ input.
             Serves (pair_of self.old.node) (W.contents writer.old) (W.contents writer.new) input result) }
+        ensures cause { IfErr result (Cause (Unread R.gives R.fails reader.old reader.new
+            (AllAnswered (pair_of self.old.node) (W.contents writer.old) (W.contents writer.new)))
+            (FailedAt W.fails writer.new)) }
+        ensures flushed { LeavesFlushed W.flushed writer.old writer.new result }
     {
         let mut piece = [0; PIECE_LEN];
         for _ in 0..MAX_READS {
@@ -129,7 +139,7 @@ impl<T: GroupTable + Drop> Server<T> {
                 return self.finish();
             }
             self.answer_all(writer)?;
-            if writer.flush().is_err() {
+            if writer.flush_all().is_err() {
                 return Err(ServeFault::WriteFault);
             }
         }
@@ -152,30 +162,35 @@ impl<T: GroupTable + Drop> Server<T> {
 /// and sends no exchange. It answers requests for updates and for locks; a lock is granted once the exchange of the peer
 /// was taken. It takes in the peer's groups, freed locks and ends of processes. A reply to it is a stranger's, as it asks
 /// for nothing. A packet with stamp s sets the clock to `max(clock, s) + 1`, and what is sent for it carries that clock.
-/// Each reply is written whole before the next packet is taken.
+/// Each reply is written whole before the next packet is taken, and all are flushed before the next read.
 ///
 /// It ends at the end of the input: `Ok` where no bytes are left over, else `Truncated`. It ends at the first fault,
 /// in this order for one packet: `FrameTooLong`, the faults of terms, `NotAMessage`, `StampTooLarge`, `ClockFull`, and
-/// `NotAMessage` for an exchange of another node than the peer or a second one; or at `ReadFault` or `OutOfMemory`, and
-/// then the replies to the packets before it were written whole; or at `WriteFault`, and then what was written is a prefix
-/// of the replies' frames.
+/// `NotAMessage` for an exchange of another node than the peer or a second one; or at `OutOfMemory`, and then the replies to
+/// the packets before it were written whole; or at `ReadFault`, where a read failed or 2^40 reads were made, and then the
+/// replies to all packets that were read whole were written and flushed; or at `WriteFault`, where a write or a flush failed or
+/// a write took nothing, and then what was written is a prefix of the replies' frames.
 ///
-/// The time is that of the input, each update with a search of its group; an exchange copies the table and an end walks
-/// all groups. The memory is that of the longest frame, and of the groups with their members, the ended pids and the
+/// The time is that of the input, each update with a search of its group; an exchange copies the table and an end costs the
+/// groups of its process. The memory is that of the longest frame, and of the groups with their members, the ended pids and the
 /// locks that are held.
 ///
 /// The rules: `global:set_lock/2` and `global:del_lock/1` of the global manual page, a `gen_server` call and its reply
 /// (`gen_server:multi_call/4`), whose terms are in the External Term Format, and `create/1`, `delete/1`, `join/2` and
 /// `leave/2` of the pg2 manual page.
-pub fn serve<R: Read, W: Write>(
+pub fn serve<R: Source, W: Sink>(
     alloc: Global,
     own: &Atom,
     peer: &Atom,
     reader: &mut R,
     writer: &mut W,
 ) -> Result<(), ServeFault>
-    ensures { IfSome (R.remaining reader.old) (λ input. Serves (record { own = own.now; peer = peer.now })
+    ensures known { IfSome (R.remaining reader.old) (λ input. Serves (record { own = own.now; peer = peer.now })
         (W.contents writer.old) (W.contents writer.new) input result) }
+    ensures cause { IfErr result (Cause (Unread R.gives R.fails reader.old reader.new
+        (AllAnswered (record { own = own.now; peer = peer.now }) (W.contents writer.old) (W.contents writer.new)))
+        (FailedAt W.fails writer.new)) }
+    ensures flushed { LeavesFlushed W.flushed writer.old writer.new result }
 {
     let mut server = idle_server(alloc, own, peer)?;
     server.run(reader, writer)

@@ -70,6 +70,7 @@ pub struct NodeState<T: GroupTable> {
     // An event makes two references at most.
     ghost made: { references_of opens ≤ 2 * clock },
     ghost counted: { (port : ℕ) → counts_in ports.items port ≤ clock },
+    // Each open command came in at a port, with the update that is gathered for or that waits.
     ghost given: { AreGiven (CameIn (length ports.items) (counts_in ports.items)) (uses_of opens) (stages_of opens) },
     // A count is at most what stood at first or in an exchange, and grows by one with an update.
     ghost few: { (name : Term) (pid : Pid) → count_in (T.contents table name) pid ≤ 2 ^ 32 + clock },

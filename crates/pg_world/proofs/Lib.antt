@@ -1,8 +1,11 @@
 mod Answering
 mod Idle
+mod Ordered
 mod Peering
 mod Ported
+mod Running
 mod Sending
+mod Starting
 mod Taking
 mod Turning
 mod Unplaced

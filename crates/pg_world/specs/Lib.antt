@@ -1,3 +1,5 @@
+pub mod Runs
 pub mod Short
+pub mod Starts
 pub mod Views
 pub mod Worlds

@@ -1,10 +1,16 @@
 //! Worlds of nodes: the nodes of a configuration that step one at a time, and the packets on the way between them.
 #![tactic(auto)]
 
+mod begun;
+mod laws;
 mod outgoing;
+mod run;
+mod starts;
 mod step;
 mod way;
 mod world;
 
+pub use laws::orders_keep_tables;
+pub use run::run_frames;
 pub use step::{FrameStep, Stepped};
 pub use world::FrameWorld;

@@ -1,6 +1,6 @@
 //! The packets on the way from one node to each of its peers.
 
-ghost use Rattle.std.specs.Prelude.{◌≡◌, ◌<◌, ◌+◌, ◌++◌, ◌^◌, ℕ, [], Some, get_or, slice_set, drop, length, replicate, option_map, IfOk, OnOk};
+ghost use Rattle.std.specs.Prelude.{◌≡◌, ◌<◌, ◌+◌, ◌++◌, ◌∷◌, ◌^◌, ℕ, [], Some, get_or, slice_set, drop, length, replicate, option_map, IfOk, OnOk};
 ghost use Rattle.std.specs.Option.{option_copied};
 ghost use Rattle.pg_message.specs.declared.packet.Packet.{Packet};
 ghost use Rattle.pg_message.specs.Members.{IsShort};
@@ -30,6 +30,24 @@ impl Outgoing {
         let mut ways = Vec::with_capacity(alloc, peers)?;
         for _ in 0..peers {
             ways.push(Way::new(alloc))?;
+        }
+        Ok(Outgoing { ways })
+    }
+
+    /// A copy of the packet is on the way to each of so many peers. Its cost is that of the copies.
+    ///
+    /// Error: `AllocError`.
+    pub(crate) fn opened(
+        alloc: Global,
+        peers: usize,
+        packet: &Packet,
+    ) -> Result<Outgoing, AllocError>
+        requires short { IsShort (2 ^ 32) packet.now.message }
+        ensures { IfOk result (λ outgoing. ways_of outgoing ≡ replicate peers (stamped_of packet.now ∷ [])) }
+    {
+        let mut ways = Vec::with_capacity(alloc, peers)?;
+        for _ in 0..peers {
+            ways.push(Way::opened(alloc, packet)?)?;
         }
         Ok(Outgoing { ways })
     }

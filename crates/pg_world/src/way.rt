@@ -1,6 +1,6 @@
 //! The packets on the way from one node to another.
 
-ghost use Rattle.std.specs.Prelude.{◌≡◌, ◌++◌, ◌∷◌, ◌^◌, [], drop, map, option_map, OnOk};
+ghost use Rattle.std.specs.Prelude.{◌≡◌, ◌++◌, ◌∷◌, ◌^◌, [], drop, map, option_map, IfOk, OnOk};
 ghost use Rattle.std.specs.Option.{option_copied};
 ghost use Rattle.pg_message.specs.declared.packet.Packet.{Packet};
 ghost use Rattle.pg_message.specs.Members.{IsShort};
@@ -28,6 +28,19 @@ impl Way {
         Way {
             packets: VecDeque::new(alloc),
         }
+    }
+
+    /// A copy of the packet is on the way.
+    ///
+    /// Error: `AllocError`.
+    pub(crate) fn opened(alloc: Global, packet: &Packet) -> Result<Way, AllocError>
+        requires short { IsShort (2 ^ 32) packet.now.message }
+        ensures { IfOk result (λ way. packets_of way ≡ stamped_of packet.now ∷ []) }
+    {
+        let mut way = Way::new(alloc);
+        way.reserve()?;
+        way.send(packet.copy(alloc)?);
+        Ok(way)
     }
 
     /// Makes room for one more packet.

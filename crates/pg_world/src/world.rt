@@ -41,6 +41,14 @@ impl<T: GroupTable + Drop> FrameWorld<T> {
         Ok(FrameWorld { nodes, outgoing })
     }
 
+    /// These nodes, and what is on the way from each of them. It takes no memory.
+    pub(crate) fn of_parts(nodes: Vec<NodeState<T>>, outgoing: Vec<Outgoing>) -> FrameWorld<T>
+        requires { IsWhole (view_in nodes.items outgoing.items) }
+        ensures { view_of result ≡ view_in nodes.items outgoing.items }
+    {
+        FrameWorld { nodes, outgoing }
+    }
+
     /// The node at a place. It takes no memory.
     pub fn node(&self, place: usize) -> Option<&NodeState<T>>
         ensures { option_map seen_of (option_copied result) ≡ slice_get (view_of self.now).nodes place }

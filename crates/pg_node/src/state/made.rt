@@ -69,6 +69,22 @@ impl<T: GroupTable + Drop> NodeState<T> {
         Ok((node, sends))
     }
 
+    /// The same node, before it sends anything; what `new` sends to each peer is its `announcement`. Its cost is that of the
+    /// names.
+    ///
+    /// Error: `AllocError`.
+    pub fn started(alloc: Global, config: NodeConfig, table: T) -> Result<NodeState<T>, AllocError>
+        requires apart { IsDistinct same_atom (config.own ∷ config.peers.items) }
+        requires made { config.made ≤ MAX_PROCESSES }
+        requires few { (name : Term) (pid : Pid) → count_in (T.contents table name) pid ≤ 2 ^ 32 }
+        ensures names { IfOk result (λ node. names_of node ≡ config.own ∷ config.peers.items) }
+        ensures state { IfOk result (λ node. state_of node ≡ record { clock = 0; state = new_state (T.contents table) config.made }) }
+        ensures ports { IfOk result (λ node. ports_of node ≡ config.ports) }
+        ensures answers { IfOk result (λ node. answers_of node ≡ (λ port. [])) }
+    {
+        started(alloc, config, table)
+    }
+
     /// Its clock. It takes no memory.
     pub fn clock(&self) -> u32
         ensures { result ≡ (state_of self.now).clock }

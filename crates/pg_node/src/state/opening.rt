@@ -45,10 +45,11 @@ fn announced<T: GroupTable>(alloc: Global, opens: &Opens, table: &T) -> Result<P
 impl<T: GroupTable + Drop> NodeState<T> {
     ghost use Rattle.pg_node.specs.States.{names_of as names_known, kept_by};
 
-    /// What it tells each peer as it begins.
+    /// What a node that has its table tells each peer as it begins: all groups of the table, as `snapshot` tells them, at
+    /// time 0. Its cost is that of the snapshot.
     ///
     /// Error: `AllocError`.
-    pub(crate) fn announcement(&self) -> Result<Packet, AllocError>
+    pub fn announcement(&self) -> Result<Packet, AllocError>
         ensures { IfOk result (IsAnnouncement (kept_by self.now).table (name_at (names_known self.now) 0)) }
     {
         announced(self.alloc, &self.opens, &self.table)

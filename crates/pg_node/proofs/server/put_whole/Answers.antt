@@ -19,5 +19,5 @@ loop-rest-preserved g c =
     let n = c.in-Ok.count in (
       i.0 ++ take n rest,
       onward i.0 rest c.args.bytes.now n i.1,
-      appends_then (g.W.Write.contents c.args.writer.now) (g.W.Write.contents c.loop-rest.writer) (g.W.Write.contents c.write.new.self) i.0 (take n rest) i.2 c.in-Ok.ensures.bytes,
+      appends_then (g.W.Sink.contents c.args.writer.now) (g.W.Sink.contents c.loop-rest.writer) (g.W.Sink.contents c.write_some.new.self) i.0 (take n rest) i.2 c.in-Ok.ensures.bytes,
     )

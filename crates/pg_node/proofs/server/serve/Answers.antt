@@ -1,19 +1,35 @@
-use Rattle.std.proofs.Common.{[], inr, refl}
+use Rattle.std.proofs.Common.{ℕ, List, [], inl, inr, refl}
+use Rattle.std.specs.Prelude.{⊤, Err}
 use Rattle.std.proofs.lemmas.Result.{err_from_is_err_and}
 use Rattle.pg_node.specs.Replica.{Pair, pair_of, start}
-use Rattle.pg_node.proofs.AnyOwn.{serves_any}
+use Rattle.pg_node.proofs.AnyOwn.{serves_any, cause_any}
 use Rattle.pg_node.proofs.Served.{at_start, unread_ends}
 use Rattle.pg_node.proofs.server.serve.Goals as goal
 
-pub returns-in_err-server : goal.returns-in_err-server
-returns-in_err-server g c =
-    let input = g.R.Read.remaining c.args.reader.now in
-    let output = g.W.Write.contents c.args.writer.now in
+pub returns-in_err-server-clause-known : goal.returns-in_err-server-clause-known
+returns-in_err-server-clause-known g c =
+    let input = g.R.Source.remaining c.args.reader.now in
+    let output = g.W.Sink.contents c.args.writer.now in
     let pair : Pair = record { own = c.args.own.now; peer = c.args.peer.now } in
     let p = err_from_is_err_and c.from_residual.result c.from_residual.ensures.1 in
-    rw (p.1, p.2) (unread_ends pair input input [] start output output (at_start pair input output [] start refl refl) c.in_err-server.field-0.0 (inr c.in_err-server.ensures.fault))
+    rw (p.1, p.2) (unread_ends pair (λ (pieces : List (List ℕ)). ⊤) input input [] start output output (at_start pair (λ (pieces : List (List ℕ)). ⊤) input output [] start tt refl refl) c.in_err-server.field-0.0 (inr c.in_err-server.ensures.fault))
 
-pub returns : goal.returns
-returns g c =
-    serves_any (pair_of c.in_ok-server.server.node) c.args.own.now c.args.peer.now (g.R.Read.remaining c.args.reader.now) (g.W.Write.contents c.args.writer.now) (g.W.Write.contents c.run.new.writer) c.run.result
-    c.in_ok-server.ensures.peer c.run.ensures
+pub returns-in_err-server-clause-cause : goal.returns-in_err-server-clause-cause
+returns-in_err-server-clause-cause g c =
+    let p = err_from_is_err_and c.from_residual.result c.from_residual.ensures.1 in
+    rw (p.1, p.2, c.in_err-server.ensures.fault) tt
+
+pub returns-in_err-server-clause-flushed : goal.returns-in_err-server-clause-flushed
+returns-in_err-server-clause-flushed g c =
+    let p = err_from_is_err_and c.from_residual.result c.from_residual.ensures.1 in
+    rw (p.1, p.2, c.in_err-server.ensures.fault) tt
+
+pub returns-clause-known : goal.returns-clause-known
+returns-clause-known g c =
+    serves_any (pair_of c.in_ok-server.server.node) c.args.own.now c.args.peer.now (g.R.Source.remaining c.args.reader.now) (g.W.Sink.contents c.args.writer.now) (g.W.Sink.contents c.run.new.writer) c.run.result
+    c.in_ok-server.ensures.peer c.run.ensures.known
+
+pub returns-clause-cause : goal.returns-clause-cause
+returns-clause-cause g c =
+    cause_any _ g.R.Source.gives g.R.Source.fails c.args.reader.now c.run.new.reader (pair_of c.in_ok-server.server.node) c.args.own.now c.args.peer.now (g.W.Sink.contents c.args.writer.now) (g.W.Sink.contents c.run.new.writer) c.run.result
+    c.in_ok-server.ensures.peer c.run.ensures.cause

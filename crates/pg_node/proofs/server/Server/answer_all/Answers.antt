@@ -6,14 +6,14 @@ use Rattle.pg_node.proofs.Streams.{stay, onward}
 use Rattle.pg_node.proofs.server.Server.answer_all.Goals as goal
 
 pub loop-init : goal.loop-init
-loop-init g c = (refl, stay (pair_of c.args.self.now.node) c.args.self.now.deframer.unread (state_of c.args.self.now.node) (g.W.Write.contents c.args.writer.now))
+loop-init g c = (refl, stay (pair_of c.args.self.now.node) c.args.self.now.deframer.unread (state_of c.args.self.now.node) (g.W.Sink.contents c.args.writer.now))
 
 pub loop-preserved : goal.loop-preserved
 loop-preserved g c =
     let first = c.args.self.now in
     let now = c.loop.self in
     let new = c.answer_next.new.self in
-    let contents = g.W.Write.contents in
+    let contents = g.W.Sink.contents in
     let next = subst (λ (pair : Pair). Progress pair now.deframer.unread new.deframer.unread (state_of now.node) (state_of new.node) (contents c.loop.writer) (contents c.answer_next.new.writer)) c.loop.invariant.0 c.in_ok-answer_next.ensures.progress in (
       c.answer_next.ensures.pair ∙ c.loop.invariant.0,
       onward (pair_of first.node) first.deframer.unread now.deframer.unread new.deframer.unread (state_of first.node) (state_of now.node) (state_of new.node)
@@ -25,7 +25,7 @@ returns-clause-progress g c =
     let first = c.args.self.now in
     let now = c.loop.self in
     let new = c.answer_next.new.self in
-    let contents = g.W.Write.contents in
+    let contents = g.W.Sink.contents in
     let next = subst (λ (pair : Pair). Progress pair now.deframer.unread new.deframer.unread (state_of now.node) (state_of new.node) (contents c.loop.writer) (contents c.answer_next.new.writer)) c.loop.invariant.0 c.in_ok-answer_next.ensures.progress in
     onward (pair_of first.node) first.deframer.unread now.deframer.unread new.deframer.unread (state_of first.node) (state_of now.node) (state_of new.node)
     (contents c.args.writer.now) (contents c.loop.writer) (contents c.answer_next.new.writer) c.loop.invariant.1 next

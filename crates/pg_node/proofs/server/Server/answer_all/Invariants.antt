@@ -9,7 +9,7 @@ abbrev pub invariant-loop : goal.invariant-loop
 invariant-loop g l =
     (pair_of l.self.node ≡ pair_of l.fn.self.node)
     × Progress (pair_of l.fn.self.node) l.fn.self.deframer.unread l.self.deframer.unread
-    (state_of l.fn.self.node) (state_of l.self.node) (g.W.Write.contents l.fn.writer) (g.W.Write.contents l.writer)
+    (state_of l.fn.self.node) (state_of l.self.node) (g.W.Sink.contents l.fn.writer) (g.W.Sink.contents l.writer)
 
 abbrev pub decreases-loop : goal.decreases-loop
 decreases-loop g l = length l.self.deframer.unread

@@ -1,12 +1,15 @@
-use Rattle.std.proofs.Common.{◌≡◌}
+use Rattle.std.proofs.Common.{◌≡◌, List, ℕ, length}
+use Rattle.pg_node.specs.Causes.{Gave, IsFlushed}
 use Rattle.pg_node.specs.Progress.{Serving}
 use Rattle.pg_node.specs.Replica.{pair_of}
 use Rattle.pg_node.specs.States.{state_of}
 use Rattle.pg_node.proofs.server.Server.run.Given as goal
 
--- what came in since the start was answered
+-- what came in since the start, a piece a turn, was answered, and the replies were flushed
 abbrev pub invariant-loop : goal.invariant-loop
 invariant-loop g l =
     (pair_of l.self.node ≡ pair_of l.fn.self.node)
-    × Serving (pair_of l.fn.self.node) (g.R.Read.remaining l.fn.reader) (g.R.Read.remaining l.reader) l.self.deframer.unread
-    (state_of l.self.node) (g.W.Write.contents l.fn.writer) (g.W.Write.contents l.writer)
+    × Serving (pair_of l.fn.self.node) (λ (pieces : List (List ℕ)). Gave g.R.Source.gives l.fn.reader pieces l.reader × (length pieces ≡ l.counter))
+    (g.R.Source.remaining l.fn.reader) (g.R.Source.remaining l.reader) l.self.deframer.unread
+    (state_of l.self.node) (g.W.Sink.contents l.fn.writer) (g.W.Sink.contents l.writer)
+    × IsFlushed g.W.Sink.flushed l.fn.writer l.writer

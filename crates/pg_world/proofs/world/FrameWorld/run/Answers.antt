@@ -1,0 +1,23 @@
+use Rattle.std.proofs.Common.{◌≡◌, ◌<◌, ◌∙◌, length, arith}
+use Rattle.std.proofs.lemmas.List.{length-set}
+use Rattle.pg_world.specs.Worlds.{view_of, Shows}
+use Rattle.pg_world.proofs.Running.{steps_more, all_taken}
+use Rattle.pg_world.proofs.world.FrameWorld.run.Goals as goal
+
+pub loop-place-preserved : goal.loop-place-preserved
+loop-place-preserved g c =
+    let steps = c.args.steps.now in
+    let numbers = c.loop-place.numbers.items in
+    let within : c.loop-place.place < length steps = omega (arith, c.loop-place-test.true, c.loop-place.auto.place-end) in
+    let inside : c.loop-place.place < length numbers = omega (arith, within, c.loop-place.invariant.len) in
+    record {
+      len = length-set numbers c.loop-place.place c.step_number-number.result ∙ c.loop-place.invariant.len;
+      ran = λ config w shows.
+          steps_more config steps numbers c.loop-place.place c.step_number-number.result c.index-steps-place.result w (Shows config (view_of c.loop-place.self)) (Shows config (view_of c.step_number-number.new.self)) within inside c.index-steps-place.is
+          (c.loop-place.invariant.ran config w shows) (λ u shown. c.step_number-number.ensures config u shown);
+    }
+
+pub returns-clause-ran : goal.returns-clause-ran
+returns-clause-ran g c = λ config w shows.
+    let last : c.loop-place.place ≡ length c.args.steps.now = omega (arith, c.loop-place.auto.place-end, c.loop-place-test.false) in
+    all_taken config w c.args.steps.now c.loop-place.numbers.items c.loop-place.place (Shows config (view_of c.loop-place.self)) last c.loop-place.invariant.len (c.loop-place.invariant.ran config w shows)

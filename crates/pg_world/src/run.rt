@@ -1,0 +1,74 @@
+//! Runs of steps from a configuration.
+
+ghost use Rattle.std.specs.Prelude.{◌≡◌, ◌≤◌, ◌^◌, ℕ, IfOk, length};
+ghost use Rattle.std.specs.List.{IsDistinct};
+ghost use Rattle.pg_term.specs.Same.{same_atom, same_term};
+ghost use Rattle.pg_ends.specs.declared.processes.TheConstants.{MAX_PROCESSES};
+ghost use Rattle.pg_exchange.specs.GroupList.{announced_names};
+ghost use Rattle.pg_message.specs.Members.{HasFewMembers};
+ghost use Rattle.pg_step.specs.Config.{Config, names_of, groups_at, made_at};
+ghost use Rattle.pg_world.specs.Runs.{Ran};
+ghost use Rattle.pg_world.specs.Worlds.{view_of as shown_by};
+
+use crate::step::FrameStep;
+use crate::world::FrameWorld;
+use pg_group::GroupTable;
+use pg_history::one_history;
+use pg_index::IndexTable;
+use pg_step::Start;
+use std::alloc::{AllocError, Global};
+
+impl<T: GroupTable + Drop> FrameWorld<T> {
+    ghost use Rattle.pg_world.specs.Runs.{StepsTo, GoesTo};
+    ghost use Rattle.pg_world.specs.Worlds.{view_of, TimedFrameWorld, Shows};
+
+    /// Makes steps, one after another, and writes the number of each in its place: 0 where it happened, or nothing was on the
+    /// way; else that of its fault. A step that is refused changes nothing, and the others follow. Its cost is that of the steps.
+    pub fn run(&mut self, steps: &[FrameStep], numbers: &mut Vec<u8>)
+        requires { length numbers.old.items ≡ length steps.now }
+        ensures len { length numbers.new.items ≡ length steps.now }
+        ensures ran { (config : Config) (w : TimedFrameWorld) → Shows config (view_of self.old) w
+            → GoesTo config w steps.now numbers.new.items (Shows config (view_of self.new)) }
+    {
+        for place in 0..steps.len() {
+            let number = self.step_number(&steps[place]);
+            numbers[place] = number;
+        }
+    }
+
+    /// Makes one step, and tells its number.
+    fn step_number(&mut self, step: &FrameStep) -> u8
+        ensures { (config : Config) (w : TimedFrameWorld) → Shows config (view_of self.old) w
+            → StepsTo config w step.now result (Shows config (view_of self.new)) }
+    {
+        match self.step(step) {
+            Ok(_) => 0,
+            Err(fault) => fault.number(),
+        }
+    }
+}
+
+/// Performs steps from the start of a configuration: the world after them, and for each step its number, as `FrameWorld::run`
+/// tells it. The places of the numbers are got first; a step that is refused did not happen, and the run goes on.
+///
+/// The contract is the headline: the steps that happened are the events of a run of the frame machine, and of what they
+/// reported, and of the states that the world shows, everything holds that `OneHistory` says.
+///
+/// Error: `AllocError`, where the world can't be made.
+pub fn run_frames(
+    alloc: Global,
+    starts: &[Start],
+    steps: &[FrameStep],
+) -> Result<(FrameWorld<IndexTable>, Vec<u8>), AllocError>
+    requires apart { IsDistinct same_atom (names_of starts.now) }
+    requires made { (i : ℕ) → made_at starts.now i ≤ MAX_PROCESSES }
+    requires once { (i : ℕ) → IsDistinct same_term (announced_names (groups_at starts.now i)) }
+    requires few { (i : ℕ) → HasFewMembers (2 ^ 32) (groups_at starts.now i) }
+    ensures { IfOk result (λ ran. Ran starts.now steps.now ran.1.items (shown_by ran.0)) }
+{
+    one_history();
+    let mut numbers = Vec::from_elem(alloc, 0, steps.len())?;
+    let mut world = FrameWorld::begun(alloc, starts)?;
+    world.run(steps, &mut numbers);
+    Ok((world, numbers))
+}
