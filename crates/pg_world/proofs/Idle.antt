@@ -10,7 +10,7 @@ use Rattle.pg_machine.specs.Clocked.{Stamped}
 use Rattle.pg_node.specs.declared.state.NodeState.{NodeState}
 use Rattle.pg_node.specs.States.{names_of}
 use Rattle.pg_world.specs.declared.outgoing.Outgoing.{Outgoing}
-use Rattle.pg_world.specs.Views.{ways_of, Seen, seen_of, view_in, IsWhole}
+use Rattle.pg_world.specs.Views.{ways_of, Seen, seen_of, traffic_in, IsWhole}
 
 module _ {T : Type 0} {g : Ghosts T} (nodes : List (NodeState T g)) (outs : List Outgoing) (n : ℕ) (count : n ≡ length nodes) (ways : map ways_of outs ≡ replicate n (replicate (n - 1) []))
     (all : All (λ (node : NodeState T g). length (names_of node) ≡ length nodes) nodes) where
@@ -27,7 +27,7 @@ module _ {T : Type 0} {g : Ghosts T} (nodes : List (NodeState T g)) (outs : List
           let here = get_or_from_slice_get nodes i x x is in
           ap (λ (s : Seen). length s.names) (sym same) ∙ (ap (λ (y : NodeState T g). length (names_of y)) (sym here) ∙ (all i x (slice_get_within nodes i x is) ∙ sym nodes_are))
 
-  pub idle_whole : IsWhole (view_in nodes outs)
+  pub idle_whole : IsWhole (traffic_in nodes outs)
   idle_whole = record {
     rows = ap length ways ∙ (length-replicate n (replicate (n - 1) []) ∙ (count ∙ sym nodes_are));
     known = known;

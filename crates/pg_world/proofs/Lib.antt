@@ -1,12 +1,16 @@
 mod Answering
+mod Applying
 mod Idle
 mod Ordered
 mod Peering
 mod Ported
+mod Recording
+mod Rowed
 mod Running
 mod Sending
 mod Starting
 mod Taking
+mod Tallies
 mod Turning
 mod Unplaced
 mod Viewing

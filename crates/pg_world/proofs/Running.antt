@@ -121,7 +121,7 @@ ran_so given old new steps numbers begins goes history =
       w = run.left;
       runs = run.runs;
       shows = run.shown;
-      history = history config run.left run.events run.shown.apart (leads config steps numbers (start_of (frame_machine config)) run.left run.events run.runs);
+      history = history config run.left run.events run.shown.traffic.apart (leads config steps numbers (start_of (frame_machine config)) run.left run.events run.runs);
     }
 
 -- all steps were made

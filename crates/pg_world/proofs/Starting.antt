@@ -29,7 +29,7 @@ use Rattle.pg_node.specs.declared.state.NodeState.{NodeState}
 use Rattle.pg_node.specs.Issued.{ports_of}
 use Rattle.pg_node.specs.States.{kept_by, stamped_of, state_of, answers_of, names_of as known_names}
 use Rattle.pg_world.specs.declared.outgoing.Outgoing.{Outgoing}
-use Rattle.pg_world.specs.Views.{Seen, seen_of, ways_of, View, view_in, peer_place, on_the_way, IsWhole}
+use Rattle.pg_world.specs.Views.{Seen, seen_of, ways_of, Traffic, fresh_view, traffic_in, peer_place, on_the_way, IsWhole}
 use Rattle.pg_world.specs.Worlds.{Shows, ShowsNode, TimedFrameWorld}
 use Rattle.pg_world.specs.Starts.{seen_first, firsts, TellsFew, Opens, AllOpen, IsOrdered, Orders, Begins}
 use Rattle.pg_node.proofs.Counts.{few_merged}
@@ -186,16 +186,20 @@ module _ (given : Config) (nodes : List Seen) (rows : List (List (List (Stamped 
           ∙ length-replicate (length nodes - 1) (stamped 0 (Exchange (name_at the_told.config i) (groups_at the_told.config i) ∷ [])) in
           omega (arith, row, l)
 
-  pub begins : IsDistinct same_atom (names_of given) → Begins given (record { nodes = nodes; ways = rows })
+  pub begins : IsDistinct same_atom (names_of given) → Begins given (fresh_view (record { nodes = nodes; ways = rows }))
   begins apart = (
     config,
     the_told.orders,
     record {
-      apart = subst (IsDistinct same_atom) (sym (ordered_names given config the_told.orders)) apart;
-      size = count ∙ sym size;
-      nodes = λ i node at. subst (ShowsNode config start i) (same_first given config i the_told.orders ∙ sym (each_is i node at).1) (as_first i);
-      ways = ways;
-      nowhere = λ x y e. ap (λ b. stamped 0 (cond b (Exchange (name_at config x) (groups_at config x) ∷ []) [])) e;
+      traffic = record {
+        apart = subst (IsDistinct same_atom) (sym (ordered_names given config the_told.orders)) apart;
+        size = count ∙ sym size;
+        nodes = λ i node at. subst (ShowsNode config start i) (same_first given config i the_told.orders ∙ sym (each_is i node at).1) (as_first i);
+        ways = ways;
+        nowhere = λ x y e. ap (λ b. stamped 0 (cond b (Exchange (name_at config x) (groups_at config x) ∷ []) [])) e;
+      };
+      history = λ name. refl;
+      applied = λ i name. refl;
     },
   )
     where
@@ -324,10 +328,10 @@ module _ {T : Type 0} {g : Ghosts T} (given : Config) (nodes slice : List (NodeS
   all_open = subst (λ n. AllOpen (n - 1) (map seen_of nodes) (map ways_of outs)) (sym (length-map nodes seen_of))
       (subst (λ (ns : List (NodeState T g)). AllOpen (length ns - 1) (map seen_of ns) (map ways_of outs)) same going)
 
-  pub world_whole : IsWhole (view_in nodes outs)
+  pub world_whole : IsWhole (traffic_in nodes outs)
   world_whole = begins_whole given (map seen_of nodes) (map ways_of outs) are all_open
 
-  pub world_begins : IsDistinct same_atom (names_of given) → Begins given (view_in nodes outs)
+  pub world_begins : IsDistinct same_atom (names_of given) → Begins given (fresh_view (traffic_in nodes outs))
   world_begins apart = begins given (map seen_of nodes) (map ways_of outs) are all_open apart
 
 pub all_few_slice : {T : Type 0} {g : Ghosts T} (config : Config) (nodes slice : List (NodeState T g)) → slice ≡ nodes → map seen_of nodes ≡ firsts config (length config)

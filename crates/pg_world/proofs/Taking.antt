@@ -10,12 +10,12 @@ use Rattle.pg_machine.specs.Clocked.{Stamped}
 use Rattle.pg_node.specs.declared.state.NodeState.{NodeState}
 use Rattle.pg_node.specs.States.{names_of}
 use Rattle.pg_world.specs.declared.outgoing.Outgoing.{Outgoing}
-use Rattle.pg_world.specs.Views.{ways_of, seen_of, view_in, IsWhole, peer_place}
+use Rattle.pg_world.specs.Views.{ways_of, seen_of, traffic_in, IsWhole, peer_place}
 use Rattle.pg_world.proofs.Peering.{place_within}
 use Rattle.pg_world.proofs.Turning.{way_at, pair_is}
 use Rattle.pg_world.proofs.Viewing.{read_here, seen_here, whole_row}
 
-module _ {T : Type 0} {g : Ghosts T} (nodes : List (NodeState T g)) (outs : List Outgoing) (whole : IsWhole (view_in nodes outs)) (i p : ℕ) (pair : is_pair (length (map seen_of nodes)) i p ≡ true) where
+module _ {T : Type 0} {g : Ghosts T} (nodes : List (NodeState T g)) (outs : List Outgoing) (whole : IsWhole (traffic_in nodes outs)) (i p : ℕ) (pair : is_pair (length (map seen_of nodes)) i p ≡ true) where
   pub taker_there : i < length nodes
   taker_there = let l = (pair_is (length (map seen_of nodes)) i p pair).0 in omega (arith, l, length-map nodes seen_of)
 
@@ -50,7 +50,7 @@ module _ {T : Type 0} {g : Ghosts T} (nodes : List (NodeState T g)) (outs : List
         let l = place_within p i (length nodes) peer_there taker_there (λ e. apart (sym e)) in
         omega (arith, row, l, length-map nodes seen_of)
 
-    pub sender_way : get_or (ways_of sender) (peer_place p i) [] ≡ way_at (view_in nodes outs) p (peer_place p i)
+    pub sender_way : get_or (ways_of sender) (peer_place p i) [] ≡ way_at (traffic_in nodes outs) p (peer_place p i)
     sender_way = ap (λ (r : List (List (Stamped Message))). get_or r (peer_place p i) []) (sym sender_row)
 
     -- the first packet was taken off its way
@@ -64,21 +64,21 @@ module _ {T : Type 0} {g : Ghosts T} (nodes : List (NodeState T g)) (outs : List
       row_now : get_or (map ways_of (slice_set outs p passed)) p [] ≡ ways_of passed
       row_now = ap (λ (rs : List (List (List (Stamped Message)))). get_or rs p []) ways ∙ get_or-set_same (map ways_of outs) p (ways_of passed) [] inside
 
-      pub passed_whole : IsWhole (view_in nodes (slice_set outs p passed))
+      pub passed_whole : IsWhole (traffic_in nodes (slice_set outs p passed))
       passed_whole = subst IsWhole (λ j. record { nodes = map seen_of nodes; ways = sym ways j })
-          (whole_row (view_in nodes outs) whole p (ways_of passed) (pair_is (length (map seen_of nodes)) i p pair).1
+          (whole_row (traffic_in nodes outs) whole p (ways_of passed) (pair_is (length (map seen_of nodes)) i p pair).1
           (ap length is ∙ (length-set (ways_of sender) (peer_place p i) (drop 1 (get_or (ways_of sender) (peer_place p i) [])) ∙ ap length (sym sender_row))))
 
-      pub passed_here : way_at (view_in nodes (slice_set outs p passed)) p (peer_place p i) ≡ drop 1 (way_at (view_in nodes outs) p (peer_place p i))
+      pub passed_here : way_at (traffic_in nodes (slice_set outs p passed)) p (peer_place p i) ≡ drop 1 (way_at (traffic_in nodes outs) p (peer_place p i))
       passed_here = ap (λ (r : List (List (Stamped Message))). get_or r (peer_place p i) []) (row_now ∙ is)
           ∙ (get_or-set_same (ways_of sender) (peer_place p i) (drop 1 (get_or (ways_of sender) (peer_place p i) [])) [] sender_place ∙ ap (drop 1) sender_way)
 
-      pub passed_else : (a k : ℕ) → ((a ≡ p) × (k ≡ peer_place p i) → ⊥) → way_at (view_in nodes (slice_set outs p passed)) a k ≡ way_at (view_in nodes outs) a k
+      pub passed_else : (a k : ℕ) → ((a ≡ p) × (k ≡ peer_place p i) → ⊥) → way_at (traffic_in nodes (slice_set outs p passed)) a k ≡ way_at (traffic_in nodes outs) a k
       passed_else a k other = go (cases_eq a p) (cases_eq k (peer_place p i))
         where
-          go : (a ≡ p) ⊎ (a ≢ p) → (k ≡ peer_place p i) ⊎ (k ≢ peer_place p i) → way_at (view_in nodes (slice_set outs p passed)) a k ≡ way_at (view_in nodes outs) a k
+          go : (a ≡ p) ⊎ (a ≢ p) → (k ≡ peer_place p i) ⊎ (k ≢ peer_place p i) → way_at (traffic_in nodes (slice_set outs p passed)) a k ≡ way_at (traffic_in nodes outs) a k
           go (inl e) (inl f) = absurd (other (e, f))
-          go (inl e) (inr n) = subst (λ b. way_at (view_in nodes (slice_set outs p passed)) b k ≡ way_at (view_in nodes outs) b k) (sym e)
+          go (inl e) (inr n) = subst (λ b. way_at (traffic_in nodes (slice_set outs p passed)) b k ≡ way_at (traffic_in nodes outs) b k) (sym e)
               (ap (λ (r : List (List (Stamped Message))). get_or r k []) (row_now ∙ is)
               ∙ (get_or-set_other (ways_of sender) (peer_place p i) k (drop 1 (get_or (ways_of sender) (peer_place p i) [])) [] n
               ∙ ap (λ (r : List (List (Stamped Message))). get_or r k []) (sym sender_row)))

@@ -29,9 +29,12 @@ use Rattle.pg_node.specs.declared.state.fault.NodeFault.TheVariants.{Refused, Ou
 use Rattle.pg_world.specs.declared.step.Stepped.TheVariants.{Happened as HasHappened, Nothing}
 use Rattle.pg_node.specs.States.{sends_in, Gave, Happens, Comes}
 use Rattle.pg_node.specs.Sendable.{AreSendable}
-use Rattle.pg_world.specs.Views.{Seen, View, peer_place, on_the_way, first_of, packets_to}
-use Rattle.pg_world.specs.Worlds.{AreAnswers, Shows, ShowsNode, TimedFrameWorld, told, told_of_first, ComesTo}
+use Rattle.pg_world.specs.Views.{Seen, Traffic, peer_place, on_the_way, first_of, packets_to}
+use Rattle.pg_world.specs.Worlds.{AreAnswers, ShowsTraffic, ShowsNode, TimedFrameWorld, told, told_of_first, ComesTo}
 use Rattle.pg_world.proofs.Peering.{peer_name, named, there_and_back, peers_differ, sent_to, sent_home}
+use Rattle.pg_world.specs.Histories.{asked_by}
+use Rattle.pg_world.proofs.Applying.{take_applies, act_applies}
+use Rattle.pg_world.proofs.Recording.{Records, records_so}
 use Rattle.pg_world.proofs.Answering.{answers_own, answers_other, answers_given}
 
 -- what stands at a place of a list where one place is another
@@ -48,8 +51,8 @@ set_other (z ∷ zs) (suc i) zero x n = refl
 set_other (z ∷ zs) (suc i) (suc j) x n = set_other zs i j x (λ e. n (ap suc e))
 
 -- the packets on the way from a node to the peer at a place
-abbrev pub way_at : View → ℕ → ℕ → List (Stamped Message)
-way_at view x k = get_or (get_or view.ways x []) k []
+abbrev pub way_at : Traffic → ℕ → ℕ → List (Stamped Message)
+way_at traffic x k = get_or (get_or traffic.ways x []) k []
 
 pub pair_is : (size x y : ℕ) → is_pair size x y ≡ true → (x < size) × (y < size) × (y ≢ x)
 pair_is size x y e = go (nat_lt x size) (nat_lt y size) (nat_eq x y) (ltb-true x size) (ltb-true y size) (eq-eqb x y) e
@@ -66,19 +69,19 @@ is_pair_so size x y a b n = (λ j. lt-ltb x size a j && (lt-ltb y size b j && no
 pub pair_turned : (size x y : ℕ) → is_pair size x y ≡ true → is_pair size y x ≡ true
 pair_turned size x y e = let p = pair_is size x y e in is_pair_so size y x p.1 p.0 (λ d. p.2 (sym d))
 
--- What an event of node i has left of the view: the node is another, which has made this turn, its packets are on their
+-- What an event of node i has left of the traffic: the node is another, which has made this turn, its packets are on their
 -- ways, and whatever else is on the way is what is said of it.
-pub record Turned (config : Config) (view view2 : View) (i : ℕ) (node after : Seen) (t : TimedTurn) (done : Done) : Type 0 where
-  pub here : slice_get view.nodes i ≡ Some node
-  pub nodes : view2.nodes ≡ slice_set view.nodes i after
+pub record Turned (config : Config) (traffic traffic2 : Traffic) (i : ℕ) (node after : Seen) (t : TimedTurn) (done : Done) : Type 0 where
+  pub here : slice_get traffic.nodes i ≡ Some node
+  pub nodes : traffic2.nodes ≡ slice_set traffic.nodes i after
   pub names : after.names ≡ node.names
   pub ports : after.ports ≡ node.ports
   pub happened : Happens node.names t done after.state node.answers after.answers
   pub fits : AreSendable node.names done.sends.items
-  pub sent : (k : ℕ) → way_at view2 i k ≡ way_at view i k ++ packets_to done.sends.items k
+  pub sent : (k : ℕ) → way_at traffic2 i k ≡ way_at traffic i k ++ packets_to done.sends.items k
 
-module _ (config : Config) (view view2 : View) (w : TimedFrameWorld) (e : Event Action) (node after : Seen) (t : TimedTurn) (done : Done)
-    (shows : Shows config view w) (turned : Turned config view view2 (node_of e) node after t done) where
+module _ (config : Config) (traffic traffic2 : Traffic) (w : TimedFrameWorld) (e : Event Action) (node after : Seen) (t : TimedTurn) (done : Done)
+    (shows : ShowsTraffic config traffic w) (turned : Turned config traffic traffic2 (node_of e) node after t done) where
   i : ℕ
   i = node_of e
 
@@ -86,7 +89,7 @@ module _ (config : Config) (view view2 : View) (w : TimedFrameWorld) (e : Event 
   shown = shows.nodes (node_of e) node turned.here
 
   within : node_of e < length config
-  within = let l = slice_get_within view.nodes (node_of e) node turned.here in omega (arith, l, shows.size)
+  within = let l = slice_get_within traffic.nodes (node_of e) node turned.here in omega (arith, l, shows.size)
 
   abbrev turn : Turn (Timed State) (Stamped Message) Report
   turn = place_timed config t
@@ -136,19 +139,19 @@ module _ (config : Config) (view view2 : View) (w : TimedFrameWorld) (e : Event 
           (subst (λ zs. AreAnswers (name_at config j) zs (other.answers port)) (sym (answers_other j (node_of e) port w.reported t.reported n)) (h.answers port));
     }
 
-    nodes_shown : (j : ℕ) (other : Seen) → slice_get view2.nodes j ≡ Some other → ShowsNode config v j other
+    nodes_shown : (j : ℕ) (other : Seen) → slice_get traffic2.nodes j ≡ Some other → ShowsNode config v j other
     nodes_shown j other at = go (cases_eq j (node_of e))
       where
-        there : slice_get (slice_set view.nodes (node_of e) after) j ≡ Some other
+        there : slice_get (slice_set traffic.nodes (node_of e) after) j ≡ Some other
         there = ap (λ ns. slice_get ns j) (sym turned.nodes) ∙ at
 
         go : (j ≡ node_of e) ⊎ (j ≢ node_of e) → ShowsNode config v j other
         go (inl d) = subst (λ k. ShowsNode config v k other) (sym d) (subst (ShowsNode config v (node_of e))
-            (set_here view.nodes (node_of e) after other (subst (λ k. slice_get (slice_set view.nodes (node_of e) after) k ≡ Some other) d there)) own_shown)
-        go (inr n) = other_shown j other n (shows.nodes j other (sym (set_other view.nodes (node_of e) j after n) ∙ there))
+            (set_here traffic.nodes (node_of e) after other (subst (λ k. slice_get (slice_set traffic.nodes (node_of e) after) k ≡ Some other) d there)) own_shown)
+        go (inr n) = other_shown j other n (shows.nodes j other (sym (set_other traffic.nodes (node_of e) j after n) ∙ there))
 
     -- the ways from the node
-    own_way : (y : ℕ) → is_pair (length config) (node_of e) y ≡ true → v.wire (node_of e) y ≡ on_the_way view2 (node_of e) y
+    own_way : (y : ℕ) → is_pair (length config) (node_of e) y ≡ true → v.wire (node_of e) y ≡ on_the_way traffic2 (node_of e) y
     own_way y pair = let p = pair_is (length config) (node_of e) y pair in
         changes.sent y ∙ ((λ j. shows.ways (node_of e) y pair j ++ sends_there y p.1 p.2 j) ∙ sym (turned.sent (peer_place (node_of e) y)))
 
@@ -156,18 +159,18 @@ module _ (config : Config) (view view2 : View) (w : TimedFrameWorld) (e : Event 
     own_nowhere y none = changes.sent y ∙ (λ j. shows.nowhere (node_of e) y none j ++ sends_nowhere y none j)
 
     -- the whole, by what is said of the ways from the others
-    pub shown_after : ((x y : ℕ) → x ≢ node_of e → is_pair (length config) x y ≡ true → v.wire x y ≡ on_the_way view2 x y)
-        → ((x y : ℕ) → is_pair (length config) x y ≡ false → Takes e x y → ⊥) → Shows config view2 v
+    pub shown_after : ((x y : ℕ) → x ≢ node_of e → is_pair (length config) x y ≡ true → v.wire x y ≡ on_the_way traffic2 x y)
+        → ((x y : ℕ) → is_pair (length config) x y ≡ false → Takes e x y → ⊥) → ShowsTraffic config traffic2 v
     shown_after others untaken = record {
       apart = shows.apart;
-      size = ap length turned.nodes ∙ (length-set view.nodes (node_of e) after ∙ shows.size);
+      size = ap length turned.nodes ∙ (length-set traffic.nodes (node_of e) after ∙ shows.size);
       nodes = nodes_shown;
       ways = λ x y pair. way_cases x y pair (cases_eq x (node_of e));
       nowhere = λ x y none. none_cases x y none (cases_eq x (node_of e));
     }
       where
-        way_cases : (x y : ℕ) → is_pair (length config) x y ≡ true → (x ≡ node_of e) ⊎ (x ≢ node_of e) → v.wire x y ≡ on_the_way view2 x y
-        way_cases x y pair (inl d) = subst (λ k. v.wire k y ≡ on_the_way view2 k y) (sym d) (own_way y (subst (λ k. is_pair (length config) k y ≡ true) d pair))
+        way_cases : (x y : ℕ) → is_pair (length config) x y ≡ true → (x ≡ node_of e) ⊎ (x ≢ node_of e) → v.wire x y ≡ on_the_way traffic2 x y
+        way_cases x y pair (inl d) = subst (λ k. v.wire k y ≡ on_the_way traffic2 k y) (sym d) (own_way y (subst (λ k. is_pair (length config) k y ≡ true) d pair))
         way_cases x y pair (inr n) = others x y n pair
 
         none_cases : (x y : ℕ) → is_pair (length config) x y ≡ false → (x ≡ node_of e) ⊎ (x ≢ node_of e) → v.wire x y ≡ []
@@ -176,12 +179,12 @@ module _ (config : Config) (view view2 : View) (w : TimedFrameWorld) (e : Event 
 
 -- ---- something of its own
 
-module _ (config : Config) (view : View) (w : TimedFrameWorld) (i : ℕ) (action : Action) (node : Seen) (shows : Shows config view w) (here : slice_get view.nodes i ≡ Some node) where
+module _ (config : Config) (traffic : Traffic) (w : TimedFrameWorld) (i : ℕ) (action : Action) (node : Seen) (shows : ShowsTraffic config traffic w) (here : slice_get traffic.nodes i ≡ Some node) where
   its : ShowsNode config w i node
   its = shows.nodes i node here
 
   its_place : is_place (length config) i ≡ true
-  its_place = let l = slice_get_within view.nodes i node here in lt-ltb i (length config) (omega (arith, l, shows.size))
+  its_place = let l = slice_get_within traffic.nodes i node here in lt-ltb i (length config) (omega (arith, l, shows.size))
 
   -- what the node tells is what the configuration's tells
   own_told : step_act (whole_in node.names) node.ports action node.state ≡ step_act (nodes_at config i) (ports_at config i) action (w.node i)
@@ -207,63 +210,66 @@ module _ (config : Config) (view : View) (w : TimedFrameWorld) (i : ℕ) (action
       go (Err refusal) TooLong is h = absurd (cc)
       go (Err refusal) Damaged is h = absurd (cc)
 
-  module _ (view2 : View) (after : Seen) (done : Done) (nodes : view2.nodes ≡ slice_set view.nodes i after) (names : after.names ≡ node.names) (ports : after.ports ≡ node.ports)
-      (fits : AreSendable node.names done.sends.items) (sent : (k : ℕ) → way_at view2 i k ≡ way_at view i k ++ packets_to done.sends.items k)
-      (others : (x : ℕ) → x ≢ i → (k : ℕ) → way_at view2 x k ≡ way_at view x k) where
+  module _ (traffic2 : Traffic) (after : Seen) (done : Done) (nodes : traffic2.nodes ≡ slice_set traffic.nodes i after) (names : after.names ≡ node.names) (ports : after.ports ≡ node.ports)
+      (fits : AreSendable node.names done.sends.items) (sent : (k : ℕ) → way_at traffic2 i k ≡ way_at traffic i k ++ packets_to done.sends.items k)
+      (others : (x : ℕ) → x ≢ i → (k : ℕ) → way_at traffic2 x k ≡ way_at traffic x k) where
     own_so : (t : TimedTurn) → step_act (whole_in node.names) node.ports action node.state ≡ Ok t → Happens node.names t done after.state node.answers after.answers
-        → ComesTo config w (Do i action) (Ok HasHappened) (Shows config view2)
+        → ComesTo config w (Do i action) (Ok HasHappened) (λ v. ShowsTraffic config traffic2 v × Records w v i None done.began)
     own_so t is happened =
         let turn = place_timed config t in
         let v = perform (without_input w (Do i action)) i turn in
         let made : (frame_machine config).step i (w.node i) (Own action) ≡ Some turn =
         same_step config ((w.node i).clock + 1) (node_acts (nodes_at config i) (ports_at config i) action (w.node i).state) ∙ ap (timed_placed config) (sym own_told ∙ is) in
         let changes : Changes (Do i action) turn w v = turn_changes (length config) w (Do i action) (Own action) turn its_place refl in
-        let turned : Turned config view view2 i node after t done =
+        let turned : Turned config traffic traffic2 i node after t done =
         record { here = here; nodes = nodes; names = names; ports = ports; happened = happened; fits = fits; sent = sent } in (
           v,
           happens_so (frame_machine config) w v (Do i action) (record { there = its_place; input = Own action; given = refl; turn = turn; made = made; leaves = refl }),
-          shown_after config view view2 w (Do i action) node after t done shows turned v changes
-              (λ x y n pair. changes.ways x y n (λ never. never) ∙ (shows.ways x y pair ∙ sym (others x n (peer_place x y))))
-              (λ x y none never. never),
+          (
+            shown_after config traffic traffic2 w (Do i action) node after t done shows turned v changes
+                (λ x y n pair. changes.ways x y n (λ never. never) ∙ (shows.ways x y pair ∙ sym (others x n (peer_place x y))))
+                (λ x y none never. never),
+            records_so w v i None t.reported done.began refl happened.told.began (act_applies (whole_in node.names) node.ports action node.state t is),
+          ),
         )
 
     -- it happened
     pub own_happened : Comes node.names (step_act (whole_in node.names) node.ports action node.state) (Ok done) after.state node.answers after.answers
-        → ComesTo config w (Do i action) (Ok HasHappened) (Shows config view2)
+        → ComesTo config w (Do i action) (Ok HasHappened) (λ v. ShowsTraffic config traffic2 v × Records w v i None done.began)
     own_happened comes = go (step_act (whole_in node.names) node.ports action node.state) refl comes
       where
         go : (r : Result TimedTurn Refusal) → step_act (whole_in node.names) node.ports action node.state ≡ r
-            → Comes node.names r (Ok done) after.state node.answers after.answers → ComesTo config w (Do i action) (Ok HasHappened) (Shows config view2)
+            → Comes node.names r (Ok done) after.state node.answers after.answers → ComesTo config w (Do i action) (Ok HasHappened) (λ v. ShowsTraffic config traffic2 v × Records w v i None done.began)
         go (Ok t) is h = own_so t is h
         go (Err refusal) is h = absurd (cc)
 
 -- ---- a packet is taken
 
-module _ (config : Config) (view : View) (w : TimedFrameWorld) (i p : ℕ) (shows : Shows config view w) (pair : is_pair (length view.nodes) i p ≡ true) where
+module _ (config : Config) (traffic : Traffic) (w : TimedFrameWorld) (i p : ℕ) (shows : ShowsTraffic config traffic w) (pair : is_pair (length traffic.nodes) i p ≡ true) where
   pair_there : is_pair (length config) i p ≡ true
   pair_there = ap (λ n. is_pair n i p) (sym shows.size) ∙ pair
 
-  wire_is : w.wire p i ≡ on_the_way view p i
+  wire_is : w.wire p i ≡ on_the_way traffic p i
   wire_is = shows.ways p i (pair_turned (length config) i p pair_there)
 
-  take_told : told config w (Take i p) ≡ told_of_first (nodes_at config i) (name_at config p) (w.node i) (on_the_way view p i)
+  take_told : told config w (Take i p) ≡ told_of_first (nodes_at config i) (name_at config p) (w.node i) (on_the_way traffic p i)
   take_told = ap (λ b. cond b (told_of_first (nodes_at config i) (name_at config p) (w.node i) (w.wire p i)) (Some (Err NoSuchPlace))) pair_there
       ∙ ap (told_of_first (nodes_at config i) (name_at config p) (w.node i)) wire_is
 
   -- nothing is on the way
-  pub take_nothing : None ≡ first_of (on_the_way view p i) → (Shown : TimedFrameWorld → Type 0) → ComesTo config w (Take i p) (Ok Nothing) Shown
-  take_nothing none Shown = take_told ∙ go (on_the_way view p i) none
+  pub take_nothing : None ≡ first_of (on_the_way traffic p i) → (Shown : TimedFrameWorld → Type 0) → ComesTo config w (Take i p) (Ok Nothing) Shown
+  take_nothing none Shown = take_told ∙ go (on_the_way traffic p i) none
     where
       go : (xs : List (Stamped Message)) → None ≡ first_of xs → told_of_first (nodes_at config i) (name_at config p) (w.node i) xs ≡ None
       go [] e = refl
       go (x ∷ xs) e = absurd (cc)
 
-  module _ (node : Seen) (here : slice_get view.nodes i ≡ Some node) (x : Stamped Message) (first : Some x ≡ first_of (on_the_way view p i)) where
+  module _ (node : Seen) (here : slice_get traffic.nodes i ≡ Some node) (x : Stamped Message) (first : Some x ≡ first_of (on_the_way traffic p i)) where
     taker : ShowsNode config w i node
     taker = shows.nodes i node here
 
-    begins : on_the_way view p i ≡ x ∷ drop 1 (on_the_way view p i)
-    begins = go (on_the_way view p i) first
+    begins : on_the_way traffic p i ≡ x ∷ drop 1 (on_the_way traffic p i)
+    begins = go (on_the_way traffic p i) first
       where
         go : (xs : List (Stamped Message)) → Some x ≡ first_of xs → xs ≡ x ∷ drop 1 xs
         go [] e = absurd (cc)
@@ -303,12 +309,12 @@ module _ (config : Config) (view : View) (w : TimedFrameWorld) (i p : ℕ) (show
         go (Err refusal) TooLong is h = absurd (cc)
         go (Err refusal) Damaged is h = absurd (cc)
 
-    module _ (view2 : View) (after : Seen) (done : Done) (nodes : view2.nodes ≡ slice_set view.nodes i after) (names : after.names ≡ node.names) (ports : after.ports ≡ node.ports)
-        (fits : AreSendable node.names done.sends.items) (sent : (k : ℕ) → way_at view2 i k ≡ way_at view i k ++ packets_to done.sends.items k)
-        (passed : way_at view2 p (peer_place p i) ≡ drop 1 (way_at view p (peer_place p i)))
-        (others : (a k : ℕ) → a ≢ i → ((a ≡ p) × (k ≡ peer_place p i) → ⊥) → way_at view2 a k ≡ way_at view a k) where
+    module _ (traffic2 : Traffic) (after : Seen) (done : Done) (nodes : traffic2.nodes ≡ slice_set traffic.nodes i after) (names : after.names ≡ node.names) (ports : after.ports ≡ node.ports)
+        (fits : AreSendable node.names done.sends.items) (sent : (k : ℕ) → way_at traffic2 i k ≡ way_at traffic i k ++ packets_to done.sends.items k)
+        (passed : way_at traffic2 p (peer_place p i) ≡ drop 1 (way_at traffic p (peer_place p i)))
+        (others : (a k : ℕ) → a ≢ i → ((a ≡ p) × (k ≡ peer_place p i) → ⊥) → way_at traffic2 a k ≡ way_at traffic a k) where
       take_so : (t : TimedTurn) → step_take (whole_in node.names) (place_name node.names (peer_place i p + 1)) x node.state ≡ Ok t
-          → Happens node.names t done after.state node.answers after.answers → ComesTo config w (Take i p) (Ok HasHappened) (Shows config view2)
+          → Happens node.names t done after.state node.answers after.answers → ComesTo config w (Take i p) (Ok HasHappened) (λ v. ShowsTraffic config traffic2 v × Records w v i (asked_by x.packet) done.began)
       take_so t is happened =
           let turn = place_timed config t in
           let v = perform (without_input {C = Action} w (Take i p)) i turn in
@@ -316,37 +322,40 @@ module _ (config : Config) (view : View) (w : TimedFrameWorld) (i p : ℕ) (show
           same_step config (max (w.node i).clock x.stamp + 1) (node_takes (nodes_at config i) (name_at config p) x.packet (w.node i).state) ∙ ap (timed_placed config) (sym taken_told ∙ is) in
           let given : input_of w (Take i p) ≡ Some (Taken p x) = ap (first_from p) (wire_is ∙ begins) in
           let changes : Changes (Take i p) turn w v = turn_changes (length config) w (Take i p) (Taken p x) turn pair_there given in
-          let turned : Turned config view view2 i node after t done =
+          let turned : Turned config traffic traffic2 i node after t done =
           record { here = here; nodes = nodes; names = names; ports = ports; happened = happened; fits = fits; sent = sent } in (
             v,
             happens_so (frame_machine config) w v (Take i p) (record { there = pair_there; input = Taken p x; given = given; turn = turn; made = made; leaves = refl }),
-            shown_after config view view2 w (Take i p) node after t done shows turned v changes (ways_so v changes) nowhere_taken,
+            (
+              shown_after config traffic traffic2 w (Take i p) node after t done shows turned v changes (ways_so v changes) nowhere_taken,
+              records_so w v i (asked_by x.packet) t.reported done.began refl happened.told.began (take_applies (whole_in node.names) (place_name node.names (peer_place i p + 1)) x node.state t is),
+            ),
           )
         where
           nowhere_taken : (a y : ℕ) → is_pair (length config) a y ≡ false → (p ≡ a) × (i ≡ y) → ⊥
           nowhere_taken a y none both = let there : true ≡ false = sym (pair_turned (length config) i p pair_there) ∙ ((λ j. is_pair (length config) (both.0 j) (both.1 j)) ∙ none) in absurd (cc)
 
-          ways_so : (v : TimedFrameWorld) → Changes {C = Action} (Take i p) (place_timed config t) w v → (a y : ℕ) → a ≢ i → is_pair (length config) a y ≡ true → v.wire a y ≡ on_the_way view2 a y
+          ways_so : (v : TimedFrameWorld) → Changes {C = Action} (Take i p) (place_timed config t) w v → (a y : ℕ) → a ≢ i → is_pair (length config) a y ≡ true → v.wire a y ≡ on_the_way traffic2 a y
           ways_so v changes a y n there = go (cases_eq p a) (cases_eq i y)
             where
-              rest_is : v.wire p i ≡ on_the_way view2 p i
+              rest_is : v.wire p i ≡ on_the_way traffic2 p i
               rest_is = let gone = changes.taken p i (refl, refl) in sym (ap (drop 1) gone.1) ∙ (ap (drop 1) wire_is ∙ sym passed)
 
-              stays : ((p ≡ a) × (i ≡ y) → ⊥) → ((a ≡ p) × (peer_place a y ≡ peer_place p i) → ⊥) → v.wire a y ≡ on_the_way view2 a y
+              stays : ((p ≡ a) × (i ≡ y) → ⊥) → ((a ≡ p) × (peer_place a y ≡ peer_place p i) → ⊥) → v.wire a y ≡ on_the_way traffic2 a y
               stays untaken apart = changes.ways a y n untaken ∙ (shows.ways a y there ∙ sym (others a (peer_place a y) n apart))
 
-              go : (p ≡ a) ⊎ (p ≢ a) → (i ≡ y) ⊎ (i ≢ y) → v.wire a y ≡ on_the_way view2 a y
-              go (inl e) (inl d) = subst (λ k. v.wire k y ≡ on_the_way view2 k y) e (subst (λ k. v.wire p k ≡ on_the_way view2 p k) d rest_is)
+              go : (p ≡ a) ⊎ (p ≢ a) → (i ≡ y) ⊎ (i ≢ y) → v.wire a y ≡ on_the_way traffic2 a y
+              go (inl e) (inl d) = subst (λ k. v.wire k y ≡ on_the_way traffic2 k y) e (subst (λ k. v.wire p k ≡ on_the_way traffic2 p k) d rest_is)
               go (inr m) d = stays (λ both. m both.0) (λ both. m (sym both.0))
               go (inl e) (inr m) = stays (λ both. m both.1)
                   (λ both. peers_differ p y i (λ f. (pair_is (length config) a y there).2 (f ∙ e)) (λ f. (pair_is (length config) i p pair_there).2 (sym f)) (λ f. m (sym f)) (ap (λ k. peer_place k y) e ∙ both.1))
 
       -- it happened
       pub take_happened : Comes node.names (step_take (whole_in node.names) (place_name node.names (peer_place i p + 1)) x node.state) (Ok done) after.state node.answers after.answers
-          → ComesTo config w (Take i p) (Ok HasHappened) (Shows config view2)
+          → ComesTo config w (Take i p) (Ok HasHappened) (λ v. ShowsTraffic config traffic2 v × Records w v i (asked_by x.packet) done.began)
       take_happened comes = go (step_take (whole_in node.names) (place_name node.names (peer_place i p + 1)) x node.state) refl comes
         where
           go : (r : Result TimedTurn Refusal) → step_take (whole_in node.names) (place_name node.names (peer_place i p + 1)) x node.state ≡ r
-              → Comes node.names r (Ok done) after.state node.answers after.answers → ComesTo config w (Take i p) (Ok HasHappened) (Shows config view2)
+              → Comes node.names r (Ok done) after.state node.answers after.answers → ComesTo config w (Take i p) (Ok HasHappened) (λ v. ShowsTraffic config traffic2 v × Records w v i (asked_by x.packet) done.began)
           go (Ok t) is h = take_so t is h
           go (Err refusal) is h = absurd (cc)

@@ -13,7 +13,7 @@ use Rattle.pg_node.specs.Issued.{ports_of}
 use Rattle.pg_node.specs.Sendable.{AreSendable}
 use Rattle.pg_node.specs.States.{names_of, state_of, answers_of}
 use Rattle.pg_world.specs.declared.outgoing.Outgoing.{Outgoing}
-use Rattle.pg_world.specs.Views.{ways_of, packets_to, FitWays, Seen, seen_of, View, view_in, IsWhole}
+use Rattle.pg_world.specs.Views.{ways_of, packets_to, FitWays, Seen, seen_of, Traffic, traffic_in, IsWhole}
 use Rattle.pg_world.proofs.Turning.{way_at, set_here, set_other}
 
 -- what is read of an element
@@ -31,32 +31,32 @@ is_set xs k x y within here = sym (here ∙ get_or-set_same xs k x y within)
 
 -- ---- a world stays whole
 
-module _ (view : View) (whole : IsWhole view) (i : ℕ) where
-  pub whole_node : (node after : Seen) → slice_get view.nodes i ≡ Some node → after.names ≡ node.names → IsWhole (record { nodes = slice_set view.nodes i after; ways = view.ways })
+module _ (traffic : Traffic) (whole : IsWhole traffic) (i : ℕ) where
+  pub whole_node : (node after : Seen) → slice_get traffic.nodes i ≡ Some node → after.names ≡ node.names → IsWhole (record { nodes = slice_set traffic.nodes i after; ways = traffic.ways })
   whole_node node after here names = record {
-    rows = whole.rows ∙ sym (length-set view.nodes i after);
-    known = λ j other at. known j other at (cases_eq j i) ∙ sym (length-set view.nodes i after);
-    others = λ j l. whole.others j (omega (arith, l, length-set view.nodes i after)) ∙ sym (length-set view.nodes i after);
+    rows = whole.rows ∙ sym (length-set traffic.nodes i after);
+    known = λ j other at. known j other at (cases_eq j i) ∙ sym (length-set traffic.nodes i after);
+    others = λ j l. whole.others j (omega (arith, l, length-set traffic.nodes i after)) ∙ sym (length-set traffic.nodes i after);
   }
     where
-      known : (j : ℕ) (other : Seen) → slice_get (slice_set view.nodes i after) j ≡ Some other → (j ≡ i) ⊎ (j ≢ i) → length other.names ≡ length view.nodes
+      known : (j : ℕ) (other : Seen) → slice_get (slice_set traffic.nodes i after) j ≡ Some other → (j ≡ i) ⊎ (j ≢ i) → length other.names ≡ length traffic.nodes
       known j other at (inl e) =
-          let same : after ≡ other = set_here view.nodes i after other (subst (λ k. slice_get (slice_set view.nodes i after) k ≡ Some other) e at) in
+          let same : after ≡ other = set_here traffic.nodes i after other (subst (λ k. slice_get (slice_set traffic.nodes i after) k ≡ Some other) e at) in
           ap (λ (x : Seen). length x.names) (sym same) ∙ (ap length names ∙ whole.known i node here)
-      known j other at (inr n) = whole.known j other (sym (set_other view.nodes i j after n) ∙ at)
+      known j other at (inr n) = whole.known j other (sym (set_other traffic.nodes i j after n) ∙ at)
 
-  pub whole_row : (row : List (List (Stamped Message))) → i < length view.nodes → length row ≡ length (get_or view.ways i []) → IsWhole (record { nodes = view.nodes; ways = slice_set view.ways i row })
+  pub whole_row : (row : List (List (Stamped Message))) → i < length traffic.nodes → length row ≡ length (get_or traffic.ways i []) → IsWhole (record { nodes = traffic.nodes; ways = slice_set traffic.ways i row })
   whole_row row within len = record {
-    rows = length-set view.ways i row ∙ whole.rows;
+    rows = length-set traffic.ways i row ∙ whole.rows;
     known = whole.known;
     others = λ j l. others j l (cases_eq j i);
   }
     where
-      others : (j : ℕ) → j < length view.nodes → (j ≡ i) ⊎ (j ≢ i) → length (get_or (slice_set view.ways i row) j []) + 1 ≡ length view.nodes
-      others j l (inl e) = subst (λ k. length (get_or (slice_set view.ways i row) k []) + 1 ≡ length view.nodes) (sym e)
-          (ap (λ (x : List (List (Stamped Message))). length x + 1) (get_or-set_same view.ways i row [] (omega (arith, within, whole.rows)))
+      others : (j : ℕ) → j < length traffic.nodes → (j ≡ i) ⊎ (j ≢ i) → length (get_or (slice_set traffic.ways i row) j []) + 1 ≡ length traffic.nodes
+      others j l (inl e) = subst (λ k. length (get_or (slice_set traffic.ways i row) k []) + 1 ≡ length traffic.nodes) (sym e)
+          (ap (λ (x : List (List (Stamped Message))). length x + 1) (get_or-set_same traffic.ways i row [] (omega (arith, within, whole.rows)))
           ∙ (ap (λ n. n + 1) len ∙ whole.others i within))
-      others j l (inr n) = ap (λ (x : List (List (Stamped Message))). length x + 1) (get_or-set_other view.ways i j row [] n) ∙ whole.others j l
+      others j l (inr n) = ap (λ (x : List (List (Stamped Message))). length x + 1) (get_or-set_other traffic.ways i j row [] n) ∙ whole.others j l
 
 -- ---- the code's world
 
@@ -66,17 +66,17 @@ module _ {T : Type 0} {g : Ghosts T} (nodes : List (NodeState T g)) (outs : List
   seen_same old new names ports state answers = λ j. record { names = names j; ports = ports j; state = state j; answers = answers j }
 
   -- room was made for what is sent
-  pub view_room : (i : ℕ) (old new : Outgoing) → i < length outs → old ≡ get_or outs i old → ways_of new ≡ ways_of old → view_in nodes (slice_set outs i new) ≡ view_in nodes outs
+  pub view_room : (i : ℕ) (old new : Outgoing) → i < length outs → old ≡ get_or outs i old → ways_of new ≡ ways_of old → traffic_in nodes (slice_set outs i new) ≡ traffic_in nodes outs
   view_room i old new within here same = ap (λ (rows : List (List (List (Stamped Message)))). record { nodes = map seen_of nodes; ways = rows }) (map_same ways_of outs i old new within here same)
 
   -- and the node has refused the event
   pub view_refused : (i : ℕ) (old new : Outgoing) (state after : NodeState T g) → i < length outs → old ≡ get_or outs i old → ways_of new ≡ ways_of old
-      → i < length nodes → state ≡ get_or nodes i state → seen_of after ≡ seen_of state → view_in (slice_set nodes i after) (slice_set outs i new) ≡ view_in nodes outs
+      → i < length nodes → state ≡ get_or nodes i state → seen_of after ≡ seen_of state → traffic_in (slice_set nodes i after) (slice_set outs i new) ≡ traffic_in nodes outs
   view_refused i old new state after within here same inside there seen =
       ap (λ (seens : List Seen). record { nodes = seens; ways = map ways_of (slice_set outs i new) }) (map_same seen_of nodes i state after inside there seen)
       ∙ view_room i old new within here same
 
-  module _ (i : ℕ) (whole : IsWhole (view_in nodes outs)) (within : i < length nodes) (state : NodeState T g) (here : state ≡ get_or nodes i state) where
+  module _ (i : ℕ) (whole : IsWhole (traffic_in nodes outs)) (within : i < length nodes) (state : NodeState T g) (here : state ≡ get_or nodes i state) where
     pub rows_are : length outs ≡ length nodes
     rows_are = omega (arith, whole.rows, length-map outs ways_of, length-map nodes seen_of)
 
@@ -95,10 +95,10 @@ module _ {T : Type 0} {g : Ghosts T} (nodes : List (NodeState T g)) (outs : List
     -- the node made a turn, and what it sends was put on its ways
     module _ (after : NodeState T g) (out out2 : Outgoing) (sends : List (ℕ × Packet)) (names : names_of after ≡ names_of state) (there : out ≡ get_or outs i out)
         (len : length (ways_of out2) ≡ length (ways_of out)) (sent : (k : ℕ) → get_or (ways_of out2) k [] ≡ get_or (ways_of out) k [] ++ packets_to sends k) where
-      abbrev pub sent_view : View
-      sent_view = view_in (slice_set nodes i after) (slice_set outs i out2)
+      abbrev pub sent_view : Traffic
+      sent_view = traffic_in (slice_set nodes i after) (slice_set outs i out2)
 
-      parts : View
+      parts : Traffic
       parts = record { nodes = slice_set (map seen_of nodes) i (seen_of after); ways = slice_set (map ways_of outs) i (ways_of out2) }
 
       inside : i < length outs
@@ -118,23 +118,23 @@ module _ {T : Type 0} {g : Ghosts T} (nodes : List (NodeState T g)) (outs : List
 
       pub sent_whole : IsWhole sent_view
       sent_whole =
-          let one = whole_row (view_in nodes outs) whole i (ways_of out2) (omega (arith, within, length-map nodes seen_of)) (len ∙ ap length (sym row_is)) in
+          let one = whole_row (traffic_in nodes outs) whole i (ways_of out2) (omega (arith, within, length-map nodes seen_of)) (len ∙ ap length (sym row_is)) in
           let two = whole_node (record { nodes = map seen_of nodes; ways = slice_set (map ways_of outs) i (ways_of out2) }) one i (seen_of state) (seen_of after) seen_here names in
           subst IsWhole (λ j. record { nodes = sym sent_nodes j; ways = sym sent_ways j }) two
 
-      pub sent_there : (k : ℕ) → way_at sent_view i k ≡ way_at (view_in nodes outs) i k ++ packets_to sends k
+      pub sent_there : (k : ℕ) → way_at sent_view i k ≡ way_at (traffic_in nodes outs) i k ++ packets_to sends k
       sent_there k = ap (λ (rows : List (List (List (Stamped Message)))). get_or (get_or rows i []) k []) sent_ways
           ∙ (ap (λ (row : List (List (Stamped Message))). get_or row k []) (get_or-set_same (map ways_of outs) i (ways_of out2) [] inside_ways)
           ∙ (sent k ∙ ap (λ (row : List (List (Stamped Message))). get_or row k [] ++ packets_to sends k) (sym row_is)))
 
-      pub sent_others : (x : ℕ) → x ≢ i → (k : ℕ) → way_at sent_view x k ≡ way_at (view_in nodes outs) x k
+      pub sent_others : (x : ℕ) → x ≢ i → (k : ℕ) → way_at sent_view x k ≡ way_at (traffic_in nodes outs) x k
       sent_others x n k = ap (λ (rows : List (List (List (Stamped Message)))). get_or (get_or rows x []) k []) sent_ways
           ∙ ap (λ (row : List (List (Stamped Message))). get_or row k []) (get_or-set_other (map ways_of outs) i x (ways_of out2) [] n)
 
 -- the same behind room that was made
-module _ {T : Type 0} {g : Ghosts T} (nodes : List (NodeState T g)) (outs outs1 : List Outgoing) (same : view_in nodes outs1 ≡ view_in nodes outs) where
-  pub whole_as : IsWhole (view_in nodes outs) → IsWhole (view_in nodes outs1)
+module _ {T : Type 0} {g : Ghosts T} (nodes : List (NodeState T g)) (outs outs1 : List Outgoing) (same : traffic_in nodes outs1 ≡ traffic_in nodes outs) where
+  pub whole_as : IsWhole (traffic_in nodes outs) → IsWhole (traffic_in nodes outs1)
   whole_as whole = subst IsWhole (sym same) whole
 
-  pub way_as : (x k : ℕ) → way_at (view_in nodes outs1) x k ≡ way_at (view_in nodes outs) x k
-  way_as x k = ap (λ (v : View). way_at v x k) same
+  pub way_as : (x k : ℕ) → way_at (traffic_in nodes outs1) x k ≡ way_at (traffic_in nodes outs) x k
+  way_as x k = ap (λ (v : Traffic). way_at v x k) same

@@ -1,3 +1,4 @@
+pub mod Histories
 pub mod Runs
 pub mod Short
 pub mod Starts

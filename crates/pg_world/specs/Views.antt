@@ -1,7 +1,9 @@
 -- What nodes and the packets on the way between them are seen as.
 use Rattle.std.specs.Prelude.{◌≡◌, ℕ, ◌+◌, ◌-◌, ◌<◌, cond, nat_eq, nat_lt, map, length, replicate, get_or, slice_get, List, [], ◌∷◌, ◌++◌, Option, Some, None}
 use Rattle.std.specs.VecDeque.{deque_len, deque_capacity}
+use Rattle.pg_term.specs.declared.term.Term.{Term}
 use Rattle.pg_group.specs.declared.table.GroupTable.{Ghosts}
+use Rattle.pg_history.specs.History.{Entry}
 use Rattle.pg_message.specs.declared.message.Message.{Message}
 use Rattle.pg_message.specs.declared.packet.Packet.{Packet}
 use Rattle.pg_machine.specs.Clocked.{Timed, Stamped}
@@ -61,27 +63,38 @@ abbrev pub seen_of : {T : Type 0} {g : Ghosts T} → NodeState T g → Seen
 seen_of node = record { names = names_of node; ports = ports_of node; state = state_of node; answers = answers_of node }
 
 -- the nodes of a world by their places, and the packets on the way from each of them to each of its peers
-pub record View : Type 0 where
+pub record Traffic : Type 0 where
   pub nodes : List Seen
   pub ways : List (List (List (Stamped Message)))
 
-abbrev pub view_in : {T : Type 0} {g : Ghosts T} → List (NodeState T g) → List Outgoing → View
-view_in nodes outgoing = record { nodes = map seen_of nodes; ways = map ways_of outgoing }
+abbrev pub traffic_in : {T : Type 0} {g : Ghosts T} → List (NodeState T g) → List Outgoing → Traffic
+traffic_in nodes outgoing = record { nodes = map seen_of nodes; ways = map ways_of outgoing }
 
--- nodes between which nothing is on the way
+-- A world as it is seen: its nodes and what is on the way, the history of each group, and how many of its updates each node
+-- has applied.
+pub record View : Type 0 where
+  pub traffic : Traffic
+  pub histories : Term → List Entry
+  pub applied : ℕ → Term → ℕ
+
+-- a world where nothing has begun
+abbrev pub fresh_view : Traffic → View
+fresh_view traffic = record { traffic = traffic; histories = λ name. []; applied = λ i name. 0 }
+
+-- nodes between which nothing is on the way, and at which nothing has begun
 abbrev pub idle_view : {T : Type 0} {g : Ghosts T} → List (NodeState T g) → View
-idle_view nodes = record { nodes = map seen_of nodes; ways = replicate (length nodes) (replicate (length nodes - 1) []) }
+idle_view nodes = fresh_view (record { nodes = map seen_of nodes; ways = replicate (length nodes) (replicate (length nodes - 1) []) })
 
 -- the place of another node among the peers of a node, which are the others in their order
 abbrev pub peer_place : ℕ → ℕ → ℕ
 peer_place i other = cond (nat_lt other i) other (other - 1)
 
 -- the packets on the way from one node to another
-abbrev pub on_the_way : View → ℕ → ℕ → List (Stamped Message)
-on_the_way view x y = get_or (get_or view.ways x []) (peer_place x y) []
+abbrev pub on_the_way : Traffic → ℕ → ℕ → List (Stamped Message)
+on_the_way traffic x y = get_or (get_or traffic.ways x []) (peer_place x y) []
 
 -- each node knows as many as there are, and has a way to each other
-pub record IsWhole (view : View) : Type 0 where
-  pub rows : length view.ways ≡ length view.nodes
-  pub known : (i : ℕ) (node : Seen) → slice_get view.nodes i ≡ Some node → length node.names ≡ length view.nodes
-  pub others : (i : ℕ) → i < length view.nodes → length (get_or view.ways i []) + 1 ≡ length view.nodes
+pub record IsWhole (traffic : Traffic) : Type 0 where
+  pub rows : length traffic.ways ≡ length traffic.nodes
+  pub known : (i : ℕ) (node : Seen) → slice_get traffic.nodes i ≡ Some node → length node.names ≡ length traffic.nodes
+  pub others : (i : ℕ) → i < length traffic.nodes → length (get_or traffic.ways i []) + 1 ≡ length traffic.nodes

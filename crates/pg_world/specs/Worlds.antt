@@ -2,6 +2,7 @@
 use Rattle.std.specs.Prelude.{◌≡◌, ℕ, Bool, true, false, cond, nat_lt, length, slice_get, List, [], ◌∷◌, Option, Some, None, Result, Ok, Err}
 use Rattle.std.specs.List.{IsDistinct}
 use Rattle.std.specs.Option.{option_map_or}
+use Rattle.pg_term.specs.declared.term.Term.{Term}
 use Rattle.pg_term.specs.Same.{same_atom}
 use Rattle.pg_group.specs.declared.table.GroupTable.{Ghosts}
 use Rattle.pg_message.specs.declared.message.Message.{Message}
@@ -18,7 +19,7 @@ use Rattle.pg_step.specs.Nodes.{Node, Nodes, all_of}
 use Rattle.pg_step.specs.State.{State, Response}
 use Rattle.pg_step.specs.Step.{Action, Issue, Retry, TimedTurn, step_take, step_act}
 use Rattle.pg_step.specs.Turns.{Report}
-use Rattle.pg_history.specs.History.{answers_by}
+use Rattle.pg_history.specs.History.{answers_by, history, applied_count}
 use Rattle.pg_node.specs.declared.state.fault.NodeFault.{NodeFault}
 use Rattle.pg_node.specs.declared.state.fault.NodeFault.TheVariants.{Refused, OutOfMemory}
 use Rattle.pg_world.specs.declared.step.FrameStep.{FrameStep}
@@ -26,11 +27,15 @@ use Rattle.pg_world.specs.declared.step.FrameStep.TheVariants as steps
 use Rattle.pg_world.specs.declared.step.Stepped.{Stepped}
 use Rattle.pg_world.specs.declared.step.Stepped.TheVariants.{Nothing, Happened}
 use Rattle.pg_world.specs.declared.world.FrameWorld.{FrameWorld}
-use Rattle.pg_world.specs.Views.{Seen, View, view_in, on_the_way}
+use Rattle.pg_world.specs.Histories.{history_in, applied_in}
+use Rattle.pg_world.specs.Views.{Seen, Traffic, View, traffic_in, on_the_way}
 
 -- a world as it is seen
+abbrev pub traffic_of : {T : Type 0} {g : Ghosts T} → FrameWorld T g → Traffic
+traffic_of world = traffic_in world.nodes.items world.outgoing.items
+
 abbrev pub view_of : {T : Type 0} {g : Ghosts T} → FrameWorld T g → View
-view_of world = view_in world.nodes.items world.outgoing.items
+view_of world = record { traffic = traffic_of world; histories = history_in world.histories; applied = applied_in world.histories }
 
 -- ---- the frame world that it shows
 
@@ -51,14 +56,21 @@ pub record ShowsNode (config : Config) (w : TimedFrameWorld) (i : ℕ) (node : S
   pub state : w.node i ≡ node.state
   pub answers : (port : ℕ) → AreAnswers (name_at config i) (answers_by i w.reported port) (node.answers port)
 
--- A world shows a frame world of a configuration.
-pub record Shows (config : Config) (view : View) (w : TimedFrameWorld) : Type 0 where
+-- The nodes of a frame world and what is on the way there are as they are seen.
+pub record ShowsTraffic (config : Config) (traffic : Traffic) (w : TimedFrameWorld) : Type 0 where
   pub apart : IsDistinct same_atom (names_in config)
-  pub size : length view.nodes ≡ length config
-  pub nodes : (i : ℕ) (node : Seen) → slice_get view.nodes i ≡ Some node → ShowsNode config w i node
-  pub ways : (x y : ℕ) → is_pair (length config) x y ≡ true → w.wire x y ≡ on_the_way view x y
+  pub size : length traffic.nodes ≡ length config
+  pub nodes : (i : ℕ) (node : Seen) → slice_get traffic.nodes i ≡ Some node → ShowsNode config w i node
+  pub ways : (x y : ℕ) → is_pair (length config) x y ≡ true → w.wire x y ≡ on_the_way traffic x y
   -- nothing is on the way between places that are not there, or from a node to itself
   pub nowhere : (x y : ℕ) → is_pair (length config) x y ≡ false → w.wire x y ≡ []
+
+-- A world shows a frame world of a configuration: its nodes and what is on the way, the histories of its groups, and how many
+-- updates each node has applied.
+pub record Shows (config : Config) (view : View) (w : TimedFrameWorld) : Type 0 where
+  pub traffic : ShowsTraffic config view.traffic w
+  pub history : (name : Term) → view.histories name ≡ history name w.reported
+  pub applied : (i : ℕ) (name : Term) → view.applied i name ≡ applied_count i name w.reported
 
 -- ---- steps
 
@@ -69,14 +81,14 @@ event_of (steps.Command node port command) = Do node (Issue port command)
 event_of (steps.Retry node op) = Do node (Retry op)
 
 -- a node has that port
-abbrev pub has_port : View → ℕ → ℕ → Bool
-has_port view i port = option_map_or (λ node. nat_lt port node.ports) (slice_get view.nodes i) false
+abbrev pub has_port : Traffic → ℕ → ℕ → Bool
+has_port traffic i port = option_map_or (λ node. nat_lt port node.ports) (slice_get traffic.nodes i) false
 
 -- the places that a step names are there
-abbrev pub has_places : View → FrameStep → Bool
-has_places view (steps.Take node peer) = is_pair (length view.nodes) node peer
-has_places view (steps.Command node port command) = has_port view node port
-has_places view (steps.Retry node op) = has_port view node op.port
+abbrev pub has_places : Traffic → FrameStep → Bool
+has_places traffic (steps.Take node peer) = is_pair (length traffic.nodes) node peer
+has_places traffic (steps.Command node port command) = has_port traffic node port
+has_places traffic (steps.Retry node op) = has_port traffic node op.port
 
 -- what the step of a node tells of the first packet of a peer; None where there is none
 abbrev pub told_of_first : Nodes → Node → Timed State → List (Stamped Message) → Option (Result TimedTurn Refusal)

@@ -31,6 +31,6 @@ impl FrameWorld<IndexTable> {
     {
         let nodes = nodes_of(alloc, starts)?;
         let outgoing = openings(alloc, nodes.as_slice())?;
-        Ok(FrameWorld::of_parts(nodes, outgoing))
+        Ok(FrameWorld::of_parts(alloc, nodes, outgoing))
     }
 }

@@ -2,14 +2,20 @@
 #![tactic(auto)]
 
 mod begun;
+mod entry;
+mod histories;
 mod laws;
 mod outgoing;
+mod row;
+mod rows;
 mod run;
 mod starts;
 mod step;
+mod tally;
 mod way;
 mod world;
 
+pub use entry::Entry;
 pub use laws::orders_keep_tables;
 pub use run::run_frames;
 pub use step::{FrameStep, Stepped};

@@ -7,8 +7,10 @@ ghost use Rattle.pg_message.specs.Members.{IsShort};
 ghost use Rattle.pg_node.specs.States.{stamped_of};
 
 use crate::way::Way;
+use pg_group::Update;
 use pg_message::Packet;
 use pg_node::Done;
+use pg_step::OpId;
 use std::alloc::{AllocError, Global};
 
 /// The packets on the way from one node to each of its peers.
@@ -66,18 +68,21 @@ impl Outgoing {
         Ok(())
     }
 
-    /// Puts the packets that an event sends on their ways, where there is room for one on each. It takes no memory.
-    pub(crate) fn send_all(&mut self, done: Done)
+    /// Puts the packets that an event sends on their ways, where there is room for one on each, and gives what began. It takes
+    /// no memory.
+    pub(crate) fn send_all(&mut self, done: Done) -> Option<(OpId, Update)>
         requires fit { FitWays (length (ways_of self.old)) done.sends.items }
         requires room { HaveRoom self.old }
         ensures len { length (ways_of self.new) ≡ length (ways_of self.old) }
         ensures sent { (place : ℕ) → get_or (ways_of self.new) place []
             ≡ get_or (ways_of self.old) place [] ++ packets_to done.sends.items place }
+        ensures began { result ≡ done.began }
     {
         for sent in done.sends {
             let way = &mut self.ways[sent.0];
             way.send(sent.1);
         }
+        done.began
     }
 
     /// The first packet on the way to a peer, if there is one. `peer`: its place among the peers. It takes no memory.

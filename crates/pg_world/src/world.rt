@@ -1,15 +1,18 @@
 //! Nodes and the packets on the way between them, and what a step makes of them.
 
-ghost use Rattle.std.specs.Prelude.{◌≡◌, ◌≢◌, ◌-◌, [], true, Ok, IfOk, OnErr, length, map, option_map, replicate, slice_get};
+ghost use Rattle.std.specs.Prelude.{◌≡◌, ◌≢◌, ◌-◌, ◌++◌, [], true, Ok, IfOk, OnErr, length, map, option_map, replicate, slice_get};
 ghost use Rattle.std.specs.List.{All};
 ghost use Rattle.std.specs.Option.{option_copied};
-ghost use Rattle.pg_world.specs.Views.{IsWhole, view_in};
+ghost use Rattle.pg_world.specs.Views.{IsWhole, traffic_in};
 
+use crate::entry::Entry;
+use crate::histories::Histories;
 use crate::outgoing::Outgoing;
 use crate::step::{FrameStep, Stepped};
 use pg_group::GroupTable;
 use pg_node::{Done, NodeFault, NodeState};
 use pg_step::{Command, OpId, Refusal};
+use pg_term::Term;
 use std::alloc::{AllocError, Global};
 
 /// Nodes over packets, and the packets on the way between them.
@@ -18,17 +21,19 @@ pub struct FrameWorld<T: GroupTable> {
     nodes: Vec<NodeState<T>>,
     // What is on the way from each of them.
     outgoing: Vec<Outgoing>,
-    ghost whole: { IsWhole (view_in nodes.items outgoing.items) },
+    histories: Histories,
+    ghost whole: { IsWhole (traffic_in nodes.items outgoing.items) },
 }
 
 impl<T: GroupTable + Drop> FrameWorld<T> {
     ghost use Rattle.pg_node.specs.States.{names_of};
-    ghost use Rattle.pg_world.specs.Views.{idle_view, seen_of};
+    ghost use Rattle.pg_world.specs.Views.{fresh_view, idle_view, seen_of};
     ghost use Rattle.pg_machine.specs.Places.{is_pair};
     ghost use Rattle.pg_machine.specs.Machine.{Take, Do};
     ghost use Rattle.pg_step.specs.Config.{Config};
     ghost use Rattle.pg_step.specs.Step.{Issue, Retry};
-    ghost use Rattle.pg_world.specs.Worlds.{view_of, event_of, has_port, has_places, TimedFrameWorld, Shows, ComesTo};
+    ghost use Rattle.pg_world.specs.Histories.{IsSettled, as_entry, last_entries};
+    ghost use Rattle.pg_world.specs.Worlds.{traffic_of, view_of, event_of, has_port, has_places, TimedFrameWorld, Shows, ComesTo};
 
     /// A world of these nodes, between which nothing is on the way. Its cost is one allocation for each node, and one.
     ///
@@ -38,22 +43,50 @@ impl<T: GroupTable + Drop> FrameWorld<T> {
         ensures { IfOk result (λ world. view_of world ≡ idle_view nodes.items) }
     {
         let outgoing = no_packets(alloc, nodes.len())?;
-        Ok(FrameWorld { nodes, outgoing })
+        Ok(FrameWorld {
+            nodes,
+            outgoing,
+            histories: Histories::new(alloc),
+        })
     }
 
-    /// These nodes, and what is on the way from each of them. It takes no memory.
-    pub(crate) fn of_parts(nodes: Vec<NodeState<T>>, outgoing: Vec<Outgoing>) -> FrameWorld<T>
-        requires { IsWhole (view_in nodes.items outgoing.items) }
-        ensures { view_of result ≡ view_in nodes.items outgoing.items }
+    /// These nodes, and what is on the way from each of them, where nothing has begun. It takes no memory.
+    pub(crate) fn of_parts(
+        alloc: Global,
+        nodes: Vec<NodeState<T>>,
+        outgoing: Vec<Outgoing>,
+    ) -> FrameWorld<T>
+        requires { IsWhole (traffic_in nodes.items outgoing.items) }
+        ensures { view_of result ≡ fresh_view (traffic_in nodes.items outgoing.items) }
     {
-        FrameWorld { nodes, outgoing }
+        FrameWorld {
+            nodes,
+            outgoing,
+            histories: Histories::new(alloc),
+        }
     }
 
     /// The node at a place. It takes no memory.
     pub fn node(&self, place: usize) -> Option<&NodeState<T>>
-        ensures { option_map seen_of (option_copied result) ≡ slice_get (view_of self.now).nodes place }
+        ensures { option_map seen_of (option_copied result) ≡ slice_get (view_of self.now).traffic.nodes place }
     {
         self.nodes.get(place)
+    }
+
+    /// The updates of a group in the order in which they got their last grant, each with its node and its command: a slice, and
+    /// one more behind it, where the last event began it. It takes no memory: O(log n) in the groups that were named.
+    pub fn history(&self, name: &Term) -> (&[Entry], Option<&Entry>)
+        ensures { map as_entry result.0.now ++ last_entries (option_copied result.1) ≡ (view_of self.now).histories name.now }
+    {
+        self.histories.history(name)
+    }
+
+    /// How many updates of a group a node has applied: those that it began, and those that it took of its peers. It takes no
+    /// memory: O(log n) in the groups that were named.
+    pub fn applied(&self, node: usize, name: &Term) -> u128
+        ensures { result ≡ (view_of self.now).applied node name.now }
+    {
+        self.histories.applied(node, name)
     }
 
     /// Makes one step. Whatever frame world the world shows, as the nodes of a configuration come to, the step is the event of
@@ -71,6 +104,10 @@ impl<T: GroupTable + Drop> FrameWorld<T> {
         if !self.has_places(step) {
             return Err(NodeFault::Refused(Refusal::NoSuchPlace));
         }
+        match self.histories.settle() {
+            Ok(()) => {}
+            Err(AllocError) => return Err(NodeFault::OutOfMemory),
+        }
         match step {
             FrameStep::Take { node, peer } => self.take(*node, *peer),
             FrameStep::Command {
@@ -84,7 +121,7 @@ impl<T: GroupTable + Drop> FrameWorld<T> {
 
     /// Whether the places that a step names are there.
     fn has_places(&self, step: &FrameStep) -> bool
-        ensures { result ≡ has_places (view_of self.now) step.now }
+        ensures { result ≡ has_places (traffic_of self.now) step.now }
     {
         match step {
             FrameStep::Take { node, peer } => self.has_pair(*node, *peer),
@@ -99,7 +136,7 @@ impl<T: GroupTable + Drop> FrameWorld<T> {
 
     /// Whether there are these two nodes, apart from each other.
     fn has_pair(&self, node: usize, peer: usize) -> bool
-        ensures { result ≡ is_pair (length (view_of self.now).nodes) node peer }
+        ensures { result ≡ is_pair (length (traffic_of self.now).nodes) node peer }
     {
         let count = self.nodes.len();
         node < count && peer < count && node != peer
@@ -107,7 +144,7 @@ impl<T: GroupTable + Drop> FrameWorld<T> {
 
     /// Whether a node has that port.
     fn has_port(&self, node: usize, port: u16) -> bool
-        ensures { result ≡ has_port (view_of self.now) node port }
+        ensures { result ≡ has_port (traffic_of self.now) node port }
     {
         match self.nodes.get(node) {
             Some(state) => usize::from(port) < state.port_count(),
@@ -117,7 +154,8 @@ impl<T: GroupTable + Drop> FrameWorld<T> {
 
     /// A node takes the first packet on the way from a peer.
     fn take(&mut self, node: usize, peer: usize) -> Result<Stepped, NodeFault>
-        requires pair { is_pair (length (view_of self.old).nodes) node peer ≡ true }
+        requires settled { IsSettled self.old.histories }
+        requires pair { is_pair (length (traffic_of self.old).nodes) node peer ≡ true }
         ensures event { (config : Config) (w : TimedFrameWorld) → Shows config (view_of self.old) w
             → ComesTo config w (Take node peer) result (Shows config (view_of self.new)) }
         ensures nothing { result ≡ Ok Stepped.Nothing → view_of self.new ≡ view_of self.old }
@@ -132,13 +170,18 @@ impl<T: GroupTable + Drop> FrameWorld<T> {
         match sender.first(peer_place(peer, node)) {
             None => Ok(Stepped::Nothing),
             Some(packet) => {
+                match self.histories.make_room(node, packet) {
+                    Ok(()) => {}
+                    Err(AllocError) => return Err(NodeFault::OutOfMemory),
+                }
                 let state = &mut self.nodes[node];
                 match state.take(peer_place(node, peer), packet) {
                     Ok(done) => {
+                        self.histories.serve(node, packet);
                         let sender = &mut self.outgoing[peer];
                         sender.pass(peer_place(peer, node));
                         let outgoing = &mut self.outgoing[node];
-                        outgoing.send_all(done);
+                        self.histories.begin(node, outgoing.send_all(done));
                         Ok(Stepped::Happened)
                     }
                     Err(fault) => Err(fault),
@@ -149,7 +192,8 @@ impl<T: GroupTable + Drop> FrameWorld<T> {
 
     /// A command comes in at a port of a node.
     fn command(&mut self, node: usize, port: u16, command: &Command) -> Result<Stepped, NodeFault>
-        requires port { has_port (view_of self.old) node port ≡ true }
+        requires settled { IsSettled self.old.histories }
+        requires port { has_port (traffic_of self.old) node port ≡ true }
         ensures event { (config : Config) (w : TimedFrameWorld) → Shows config (view_of self.old) w
             → ComesTo config w (Do node (Issue port command.now)) result (Shows config (view_of self.new)) }
         ensures happens { result ≢ Ok Stepped.Nothing }
@@ -164,7 +208,7 @@ impl<T: GroupTable + Drop> FrameWorld<T> {
         match state.command(port, command) {
             Ok(done) => {
                 let outgoing = &mut self.outgoing[node];
-                outgoing.send_all(done);
+                self.histories.begin(node, outgoing.send_all(done));
                 Ok(Stepped::Happened)
             }
             Err(fault) => Err(fault),
@@ -173,7 +217,8 @@ impl<T: GroupTable + Drop> FrameWorld<T> {
 
     /// A node tries a command again that waits.
     fn retry(&mut self, node: usize, op: OpId) -> Result<Stepped, NodeFault>
-        requires port { has_port (view_of self.old) node op.port ≡ true }
+        requires settled { IsSettled self.old.histories }
+        requires port { has_port (traffic_of self.old) node op.port ≡ true }
         ensures event { (config : Config) (w : TimedFrameWorld) → Shows config (view_of self.old) w
             → ComesTo config w (Do node (Retry op)) result (Shows config (view_of self.new)) }
         ensures happens { result ≢ Ok Stepped.Nothing }
@@ -188,7 +233,7 @@ impl<T: GroupTable + Drop> FrameWorld<T> {
         match state.retry(op) {
             Ok(done) => {
                 let outgoing = &mut self.outgoing[node];
-                outgoing.send_all(done);
+                self.histories.begin(node, outgoing.send_all(done));
                 Ok(Stepped::Happened)
             }
             Err(fault) => Err(fault),

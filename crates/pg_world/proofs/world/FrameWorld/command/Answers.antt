@@ -3,8 +3,12 @@ use Rattle.std.specs.Prelude.{slice_set}
 use Rattle.std.proofs.lemmas.List.{length-map}
 use Rattle.pg_node.specs.States.{state_of, answers_of}
 use Rattle.pg_step.specs.Step.{Issue}
-use Rattle.pg_world.specs.Views.{seen_of, ways_of, packets_to, view_in, HaveRoom, IsWhole}
+use Rattle.pg_world.specs.Views.{seen_of, ways_of, packets_to, traffic_in, HaveRoom, IsWhole}
 use Rattle.pg_world.proofs.Ported.{port_there, port_place}
+use Rattle.pg_machine.specs.Machine.{Do}
+use Rattle.std.specs.Prelude.{None, refl}
+use Rattle.pg_world.specs.Worlds.{view_of}
+use Rattle.pg_world.proofs.Recording.{shows_all, view_is, grew_own}
 use Rattle.pg_world.proofs.Turning.{own_refused, own_happened}
 use Rattle.pg_world.proofs.Viewing.{is_set, seen_same, view_room, view_refused, seen_here, fit_ways, sent_nodes, sent_view, sent_whole, sent_there, sent_others, whole_as, way_as}
 use Rattle.pg_world.proofs.world.FrameWorld.command.Goals as goal
@@ -29,7 +33,7 @@ returns-in-Err-clause-err g c =
     let inside : c.args.node < length outs = omega (arith, within, whole.rows, length-map outs ways_of, length-map nodes seen_of) in
     let outs1 = slice_set outs c.args.node c.make_room.new.self in
     let room = view_room nodes outs c.args.node c.index_mut-outgoing.result.now c.make_room.new.self inside c.index_mut-outgoing.ensures.value c.make_room.ensures.same in
-    room
+    view_is _ _ room refl refl
 
 pub index_mut-state-requires : goal.index_mut-state-requires
 index_mut-state-requires g c =
@@ -136,11 +140,13 @@ returns-in-Ok-command-clause-event g c =
     let sends = c.in-Ok-command.done.sends.items in
     let whole1 = whole_as nodes outs outs1 room whole in
     λ config w shows.
-    own_happened config (view_in nodes outs) w c.args.node (Issue c.args.port c.args.command.now) (seen_of state) shows (seen_here nodes outs c.args.node whole within state here)
+    shows_all config (view_of c.args.self.now) _ w (Do c.args.node (Issue c.args.port c.args.command.now)) c.args.node None c.in-Ok-command.done.began shows
+    (grew_own (view_of c.args.self.now) _ c.args.node c.in-Ok-command.done.began c.send_all.result c.send_all.ensures.began c.begin.ensures.history c.begin.ensures.applied)
+    (own_happened config (traffic_in nodes outs) w c.args.node (Issue c.args.port c.args.command.now) (seen_of state) shows.traffic (seen_here nodes outs c.args.node whole within state here)
     (sent_view nodes outs1 c.args.node whole1 within state here after out c.send_all.new.self sends c.in-Ok-command.ensures.names there c.send_all.ensures.len c.send_all.ensures.sent) (seen_of after) c.in-Ok-command.done (sent_nodes nodes outs1 c.args.node whole1 within state here after out c.send_all.new.self sends c.in-Ok-command.ensures.names there c.send_all.ensures.len c.send_all.ensures.sent) c.in-Ok-command.ensures.names c.in-Ok-command.ensures.ports c.in-Ok-command.ensures.fits
     (λ k. sent_there nodes outs1 c.args.node whole1 within state here after out c.send_all.new.self sends c.in-Ok-command.ensures.names there c.send_all.ensures.len c.send_all.ensures.sent k ∙ ap (λ xs. xs ++ packets_to sends k) (way_as nodes outs outs1 room c.args.node k))
     (λ x n k. sent_others nodes outs1 c.args.node whole1 within state here after out c.send_all.new.self sends c.in-Ok-command.ensures.names there c.send_all.ensures.len c.send_all.ensures.sent x n k ∙ way_as nodes outs outs1 room x k)
-    c.in-Ok-command.ensures.event
+    c.in-Ok-command.ensures.event)
 
 pub returns-in-Err-command-clause-event : goal.returns-in-Err-command-clause-event
 returns-in-Err-command-clause-event g c =
@@ -152,7 +158,7 @@ returns-in-Err-command-clause-event g c =
     let state = c.index_mut-state.result.now in
     let here = c.index_mut-state.ensures.value in
     λ config w shows.
-    own_refused config (view_in nodes outs) w c.args.node (Issue c.args.port c.args.command.now) (seen_of state) shows (seen_here nodes outs c.args.node whole within state here)
+    own_refused config (traffic_in nodes outs) w c.args.node (Issue c.args.port c.args.command.now) (seen_of state) shows.traffic (seen_here nodes outs c.args.node whole within state here)
     c.in-Err-command.fault (state_of c.command.new.self) (answers_of state) (answers_of c.command.new.self) _ c.in-Err-command.ensures.event
 
 pub returns-in-Err-command-clause-err : goal.returns-in-Err-command-clause-err
@@ -167,4 +173,4 @@ returns-in-Err-command-clause-err g c =
     let after = c.command.new.self in
     let seen = seen_same nodes outs state after c.in-Err-command.ensures.names c.in-Err-command.ensures.ports c.in-Err-command.ensures.err c.in-Err-command.ensures.err_answers in
     let same = view_refused nodes outs c.args.node c.index_mut-outgoing.result.now c.make_room.new.self state after inside c.index_mut-outgoing.ensures.value c.make_room.ensures.same within here seen in
-    same
+    view_is _ _ same refl refl

@@ -4,8 +4,13 @@ use Rattle.std.proofs.lemmas.List.{get_or-set_other}
 use Rattle.pg_opens.specs.Places.{name_at}
 use Rattle.pg_step.specs.Step.{step_take}
 use Rattle.pg_node.specs.States.{names_of, nodes_of, state_of, answers_of, stamped_of, Comes}
-use Rattle.pg_world.specs.Views.{seen_of, ways_of, packets_to, first_of, view_in, peer_place, HaveRoom, IsWhole}
+use Rattle.pg_world.specs.Views.{seen_of, ways_of, packets_to, first_of, traffic_in, peer_place, HaveRoom, IsWhole}
 use Rattle.pg_world.proofs.Taking.{taker_there, row_there, apart, taker_place, sender_place, sender_way, passed_whole, passed_here, passed_else}
+use Rattle.pg_machine.specs.Machine.{Take}
+use Rattle.std.specs.Prelude.{refl}
+use Rattle.pg_world.specs.Worlds.{view_of}
+use Rattle.pg_world.specs.Histories.{asked_by}
+use Rattle.pg_world.proofs.Recording.{shows_all, view_is, grew_taken}
 use Rattle.pg_world.proofs.Turning.{take_nothing, take_refused, take_happened}
 use Rattle.pg_world.proofs.Viewing.{is_set, seen_same, view_room, view_refused, seen_here, fit_ways, sent_nodes, sent_view, sent_whole, sent_there, sent_others, whole_as, way_as}
 use Rattle.pg_world.proofs.world.FrameWorld.take.Goals as goal
@@ -36,7 +41,35 @@ returns-in-Err-clause-err g c =
     let outs1 = slice_set outs node c.make_room.new.self in
     let room = view_room nodes outs node c.index_mut-outgoing.result.now c.make_room.new.self inside c.index_mut-outgoing.ensures.value c.make_room.ensures.same in
     let whole1 = whole_as nodes outs outs1 room whole in
-    room
+    view_is _ _ room refl refl
+
+pub returns-in-Err-make_room-clause-err : goal.returns-in-Err-make_room-clause-err
+returns-in-Err-make_room-clause-err g c =
+    let nodes = c.args.self.now.nodes.items in
+    let outs = c.args.self.now.outgoing.items in
+    let whole = c.args.self.now.whole in
+    let node = c.args.node in
+    let peer = c.args.peer in
+    let within = taker_there nodes outs whole node peer c.requires.pair in
+    let inside = row_there nodes outs whole node peer c.requires.pair in
+    let outs1 = slice_set outs node c.make_room.new.self in
+    let room = view_room nodes outs node c.index_mut-outgoing.result.now c.make_room.new.self inside c.index_mut-outgoing.ensures.value c.make_room.ensures.same in
+    let whole1 = whole_as nodes outs outs1 room whole in
+    view_is _ _ room c.make_room-in-Some.ensures.history c.make_room-in-Some.ensures.applied
+
+pub invariant_of-self-in-Err-make_room : goal.invariant_of-self-in-Err-make_room
+invariant_of-self-in-Err-make_room g c =
+    let nodes = c.args.self.now.nodes.items in
+    let outs = c.args.self.now.outgoing.items in
+    let whole = c.args.self.now.whole in
+    let node = c.args.node in
+    let peer = c.args.peer in
+    let within = taker_there nodes outs whole node peer c.requires.pair in
+    let inside = row_there nodes outs whole node peer c.requires.pair in
+    let outs1 = slice_set outs node c.make_room.new.self in
+    let room = view_room nodes outs node c.index_mut-outgoing.result.now c.make_room.new.self inside c.index_mut-outgoing.ensures.value c.make_room.ensures.same in
+    let whole1 = whole_as nodes outs outs1 room whole in
+    record { whole = whole1 }
 
 pub first-requires : goal.first-requires
 first-requires g c =
@@ -200,7 +233,7 @@ returns-in-None-clause-event g c =
     let there = c.index-sender.ensures in
     let way = sender_way nodes outs1 whole1 node peer c.requires.pair sender there ∙ way_as nodes outs outs1 room peer (peer_place peer node) in
     λ config w shows.
-    take_nothing config (view_in nodes outs) w node peer shows c.requires.pair
+    take_nothing config (traffic_in nodes outs) w node peer shows.traffic c.requires.pair
     (c.in-None.ensures.first ∙ (ap (λ k. first_of (get_or (ways_of sender) k [])) c.peer_place.ensures ∙ ap first_of way)) (λ v. Unit {0})
 
 pub returns-in-None-clause-nothing : goal.returns-in-None-clause-nothing
@@ -215,7 +248,7 @@ returns-in-None-clause-nothing g c =
     let outs1 = slice_set outs node c.make_room.new.self in
     let room = view_room nodes outs node c.index_mut-outgoing.result.now c.make_room.new.self inside c.index_mut-outgoing.ensures.value c.make_room.ensures.same in
     let whole1 = whole_as nodes outs outs1 room whole in
-    λ _. room
+    λ _. view_is _ _ room refl refl
 
 pub returns-in-Ok-take-clause-event : goal.returns-in-Ok-take-clause-event
 returns-in-Ok-take-clause-event g c =
@@ -246,14 +279,17 @@ returns-in-Ok-take-clause-event g c =
     let sends = c.in-Ok-take.done.sends.items in
     let apart = apart nodes outs whole node peer c.requires.pair in
     λ config w shows.
-    take_happened config (view_in nodes outs) w node peer shows c.requires.pair (seen_of state) (seen_here nodes outs node whole within state here) (stamped_of c.in-Some.packet.now)
+    shows_all config (view_of c.args.self.now) _ w (Take node peer) node (asked_by c.in-Some.packet.now.message) c.in-Ok-take.done.began shows
+    (grew_taken (view_of c.args.self.now) _ node (asked_by c.in-Some.packet.now.message) c.in-Ok-take.done.began c.send_all.result _ _ _ _ c.send_all.ensures.began
+    c.make_room-in-Some.ensures.history c.make_room-in-Some.ensures.applied c.serve.ensures.history c.serve.ensures.applied c.begin.ensures.history c.begin.ensures.applied)
+    (take_happened config (traffic_in nodes outs) w node peer shows.traffic c.requires.pair (seen_of state) (seen_here nodes outs node whole within state here) (stamped_of c.in-Some.packet.now)
     (c.in-Some.ensures.first ∙ (ap (λ k. first_of (get_or (ways_of sender) k [])) c.peer_place.ensures ∙ ap first_of way))
     (sent_view nodes outs2 node whole2 within state here after out c.send_all.new.self sends c.in-Ok-take.ensures.names outthere c.send_all.ensures.len c.send_all.ensures.sent) (seen_of after) c.in-Ok-take.done (sent_nodes nodes outs2 node whole2 within state here after out c.send_all.new.self sends c.in-Ok-take.ensures.names outthere c.send_all.ensures.len c.send_all.ensures.sent) c.in-Ok-take.ensures.names c.in-Ok-take.ensures.ports c.in-Ok-take.ensures.fits
     (λ k. sent_there nodes outs2 node whole2 within state here after out c.send_all.new.self sends c.in-Ok-take.ensures.names outthere c.send_all.ensures.len c.send_all.ensures.sent k ∙ ap (λ xs. xs ++ packets_to sends k) (passed_else nodes outs1 whole1 node peer c.requires.pair from fromthere passed is node k (λ both. apart (sym both.0)) ∙ way_as nodes outs outs1 room node k))
     (sent_others nodes outs2 node whole2 within state here after out c.send_all.new.self sends c.in-Ok-take.ensures.names outthere c.send_all.ensures.len c.send_all.ensures.sent peer apart (peer_place peer node) ∙ (passed_here nodes outs1 whole1 node peer c.requires.pair from fromthere passed is ∙ ap (drop 1) (way_as nodes outs outs1 room peer (peer_place peer node))))
     (λ a k n other. sent_others nodes outs2 node whole2 within state here after out c.send_all.new.self sends c.in-Ok-take.ensures.names outthere c.send_all.ensures.len c.send_all.ensures.sent a n k ∙ (passed_else nodes outs1 whole1 node peer c.requires.pair from fromthere passed is a k other ∙ way_as nodes outs outs1 room a k))
     (subst (λ k. Comes (names_of state) (step_take (nodes_of state) (name_at (names_of state) (k + 1)) (stamped_of c.in-Some.packet.now) (state_of state)) (Ok c.in-Ok-take.done) (state_of after) (answers_of state) (answers_of after))
-    c.peer_place-in-Some.ensures c.in-Ok-take.ensures.event)
+    c.peer_place-in-Some.ensures c.in-Ok-take.ensures.event))
 
 pub returns-in-Err-take-clause-event : goal.returns-in-Err-take-clause-event
 returns-in-Err-take-clause-event g c =
@@ -273,7 +309,7 @@ returns-in-Err-take-clause-event g c =
     let here = c.index_mut-state.ensures.value in
     let way = sender_way nodes outs1 whole1 node peer c.requires.pair sender there ∙ way_as nodes outs outs1 room peer (peer_place peer node) in
     λ config w shows.
-    take_refused config (view_in nodes outs) w node peer shows c.requires.pair (seen_of state) (seen_here nodes outs node whole within state here) (stamped_of c.in-Some.packet.now)
+    take_refused config (traffic_in nodes outs) w node peer shows.traffic c.requires.pair (seen_of state) (seen_here nodes outs node whole within state here) (stamped_of c.in-Some.packet.now)
     (c.in-Some.ensures.first ∙ (ap (λ k. first_of (get_or (ways_of sender) k [])) c.peer_place.ensures ∙ ap first_of way))
     c.in-Err-take.fault (state_of c.take.new.self) (answers_of state) (answers_of c.take.new.self) _
     (subst (λ k. Comes (names_of state) (step_take (nodes_of state) (name_at (names_of state) (k + 1)) (stamped_of c.in-Some.packet.now) (state_of state)) (Err c.in-Err-take.fault) (state_of c.take.new.self) (answers_of state) (answers_of c.take.new.self))
@@ -296,4 +332,4 @@ returns-in-Err-take-clause-err g c =
     let after = c.take.new.self in
     let seen = seen_same nodes outs state after c.in-Err-take.ensures.names c.in-Err-take.ensures.ports c.in-Err-take.ensures.err c.in-Err-take.ensures.err_answers in
     let same = view_refused nodes outs node c.index_mut-outgoing.result.now c.make_room.new.self state after inside c.index_mut-outgoing.ensures.value c.make_room.ensures.same within here seen in
-    same
+    view_is _ _ same c.make_room-in-Some.ensures.history c.make_room-in-Some.ensures.applied
