@@ -1,5 +1,5 @@
 -- What an event applies: the update that a taken packet asks for, else that of the command that got its last grant.
-use Rattle.std.proofs.Common.{◌≡◌, ◌⊎◌, ℕ, Bool, true, false, cond, nat_lt, max, ◌+◌, Option, Some, None, Result, Ok, Err, nat_le, subst, refl, ap, ◌∙◌, inl, inr}
+use Rattle.std.proofs.Common.{◌≡◌, ◌⊎◌, ℕ, Bool, true, false, cond, nat_lt, max, ◌+◌, Option, Some, None, Result, Ok, Err, nat_le, subst, refl, inl, inr}
 use Rattle.pg_group.specs.declared.update.Update.{Update}
 use Rattle.pg_message.specs.declared.message.Message.{Message}
 use Rattle.pg_message.specs.declared.message.Message.TheVariants.{Call, Reply, DelLock, Exchange, Down}
@@ -8,9 +8,8 @@ use Rattle.pg_message.specs.declared.message.Said.{Said}
 use Rattle.pg_machine.specs.Clocked.{Timed, Stamped}
 use Rattle.pg_multicall.specs.declared.gather.Taken.{Taken as Heard}
 use Rattle.pg_multicall.specs.declared.gather.Taken.TheVariants as what
-use Rattle.pg_multicall.specs.Gathered.{what_of}
-use Rattle.pg_step.specs.Attempts.{finish, begin, give_up, ask, new_attempt, count_answer, count_ok, lock_status, replies_in, locks_in, go_on, attempt, tried_again, waits, retry, counted, gathered, is_kind, reply_by, reply_taken, use_of, all_granted, none_missing, none_denied, round_of}
-use Rattle.pg_step.specs.Commands.{OPEN_LIMIT, answer, refused, open_command, count_command, look, undertake, change_by, change, carried_out, command_by, command, fault_of, next_op}
+use Rattle.pg_step.specs.Attempts.{finish, begin, give_up, ask, new_attempt, count_answer, count_ok, lock_status, replies_in, locks_in, go_on, attempt, tried_again, waits, retry, counted, reply_by, use_of, all_granted, none_missing, none_denied, round_of}
+use Rattle.pg_step.specs.Commands.{OPEN_LIMIT, answer, refused, open_command, count_command, undertake, change_by, carried_out, command_by, command, fault_of, next_op}
 use Rattle.pg_step.specs.declared.answer.Reply.{Reply as Answer}
 use Rattle.pg_step.specs.declared.command.Command.{Command}
 use Rattle.pg_step.specs.declared.command.Command.TheVariants as commands

@@ -1,5 +1,5 @@
 -- A configuration whose groups are put in order.
-use Rattle.std.proofs.Common.{◌≡◌, ◌≤◌, ◌^◌, ℕ, zero, suc, ◌+◌, Bool, true, false, cond, map, length, List, [], ◌∷◌, Some, None, refl, sym, ap, ◌∙◌, arith, subst}
+use Rattle.std.proofs.Common.{◌≡◌, ◌≤◌, ◌^◌, ℕ, zero, suc, ◌+◌, Bool, true, false, cond, map, length, List, [], ◌∷◌, None, refl, sym, ap, ◌∙◌, arith, subst}
 use Rattle.std.specs.Prelude.{count_by, slice_get, unwrap_or}
 use Rattle.std.specs.List.{AllByRecursion, IsDistinct, remove}
 use Rattle.std.proofs.Math.Path.{fun_ext}
@@ -14,13 +14,13 @@ use Rattle.pg_group.specs.Scope.{anywhere}
 use Rattle.pg_group.specs.Members.{IsMemberList}
 use Rattle.pg_group.proofs.Merges.{merge_associates, less_merge}
 use Rattle.pg_group.proofs.Longer.{longer_by}
-use Rattle.pg_exchange.specs.GroupList.{GroupList, announced_table, announced_names, IsSnapshot}
+use Rattle.pg_exchange.specs.GroupList.{GroupList, announced_table, announced_names}
 use Rattle.pg_exchange.proofs.Tables.{all_announced, snapshot_announced}
 use Rattle.pg_message.specs.Members.{HasFewMembers}
 use Rattle.pg_step.specs.declared.start.Start.{Start}
-use Rattle.pg_step.specs.Nodes.{Node, all_of}
+use Rattle.pg_step.specs.Nodes.{Node}
 use Rattle.pg_step.specs.State.{new_state}
-use Rattle.pg_step.specs.Config.{Config, names_of, name_at, nodes_at, groups_at, made_at, ports_at, first_table}
+use Rattle.pg_step.specs.Config.{Config, names_of, groups_at, made_at, ports_at, first_table}
 use Rattle.pg_history.specs.History.{known}
 use Rattle.pg_history.proofs.tables.Values.{less_nobody}
 use Rattle.pg_world.specs.Starts.{IsOrdered, Orders, TellsFew, seen_first}

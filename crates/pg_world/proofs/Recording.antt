@@ -1,17 +1,14 @@
 -- What an event adds to the histories, and to what each node has applied.
-use Rattle.std.proofs.Common.{◌≡◌, ◌⊎◌, ℕ, ◌+◌, Bool, true, false, cond, nat_eq, ◌&&◌, List, [], ◌∷◌, ◌++◌, Option, Some, None, Ok, refl, ap, sym, ◌∙◌, inl, inr, arith}
+use Rattle.std.proofs.Common.{◌≡◌, ℕ, ◌+◌, Bool, true, false, cond, nat_eq, ◌&&◌, List, [], ◌∷◌, ◌++◌, Option, None, Ok, refl, ap, sym, ◌∙◌, inl, inr, arith}
 use Rattle.std.proofs.lemmas.List.{append-nil}
 use Rattle.pg_term.specs.declared.term.Term.{Term}
 use Rattle.pg_group.specs.declared.update.Update.{Update}
-use Rattle.pg_machine.specs.Machine.{Event, perform, without_input, Turn}
-use Rattle.pg_message.specs.declared.message.Message.{Message}
-use Rattle.pg_machine.specs.Clocked.{Timed, Stamped}
+use Rattle.pg_machine.specs.Machine.{Event}
 use Rattle.pg_step.specs.declared.command.OpId.{OpId}
 use Rattle.pg_step.specs.Config.{Config}
-use Rattle.pg_step.specs.State.{State}
 use Rattle.pg_step.specs.Step.{Action}
 use Rattle.pg_step.specs.Turns.{Report}
-use Rattle.pg_history.specs.History.{Entry, entries, entry_of, history, of_group, applied_count, is_update_of}
+use Rattle.pg_history.specs.History.{Entry, entries, entry_of, history, of_group, applied_count}
 use Rattle.pg_history.proofs.steps.Grows.{entries_append, of_group_append}
 use Rattle.pg_world.specs.declared.step.Stepped.TheVariants.{Happened}
 use Rattle.pg_world.specs.Histories.{begun_by, one_of}

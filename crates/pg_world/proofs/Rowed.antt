@@ -1,9 +1,8 @@
 -- The rows of groups where one of them changes.
-use Rattle.std.proofs.Common.{◌≡◌, ℕ, ◌+◌, Bool, true, false, cond, nat_eq, ◌&&◌, List, [], ◌∷◌, ◌++◌, Option, Some, None, refl, sym, ap, ◌∙◌, arith, append-nil}
+use Rattle.std.proofs.Common.{◌≡◌, ℕ, ◌+◌, Bool, true, false, cond, nat_eq, ◌&&◌, List, [], ◌++◌, Option, Some, None, refl, sym, ap, ◌∙◌, arith, append-nil}
 use Rattle.std.specs.Prelude.{Result, Ok, Err, OnOk, is_some}
 use Rattle.std.specs.Option.{option_map_or}
 use Rattle.std.specs.BTreeMap.{BTreeMap, get, UpdatesBy}
-use Rattle.std.proofs.Math.Path.{fun_ext}
 use Rattle.std.proofs.lemmas.Bool.{eqb-true}
 use Rattle.pg_term.specs.declared.term.Term.{Term}
 use Rattle.pg_term.specs.Same.{same_term, term_cmp}
@@ -13,7 +12,7 @@ use Rattle.pg_term.proofs.Same.{same_term as term_is}
 use Rattle.pg_group.specs.Functions.{upd}
 use Rattle.pg_history.specs.History.{Entry}
 use Rattle.pg_world.specs.declared.row.Row.{Row}
-use Rattle.pg_world.specs.Histories.{count_at, entries_of, entries_in, counts_in, HasRoom, HasRow}
+use Rattle.pg_world.specs.Histories.{count_at, entries_of, entries_in, counts_in}
 
 abbrev Rows : Type 0
 Rows = BTreeMap Term Row

@@ -1,5 +1,5 @@
 -- Steps that are made one after another.
-use Rattle.std.proofs.Common.{◌≡◌, ℕ, ◌+◌, ◌<◌, List, [], ◌∷◌, ◌++◌, Some, None, Ok, Err, Result, Option, take, length, get_or, refl, sym, ap, ◌∙◌, inl, inr, ◌⊎◌, arith, subst}
+use Rattle.std.proofs.Common.{◌≡◌, ℕ, ◌+◌, ◌<◌, List, [], ◌∷◌, ◌++◌, Ok, Err, Result, take, length, get_or, refl, sym, ap, ◌∙◌, inl, inr, subst}
 use Rattle.std.specs.Prelude.{slice_set}
 use Rattle.std.specs.List.{IsDistinct}
 use Rattle.std.proofs.lemmas.List.{take_more, take_more_set}
@@ -9,8 +9,7 @@ use Rattle.pg_machine.specs.Clocked.{plain}
 use Rattle.pg_machine.specs.Runs.{Leads}
 use Rattle.pg_step.specs.Config.{Config, names_of}
 use Rattle.pg_step.specs.FrameMachine.{frame_machine}
-use Rattle.pg_step.specs.Step.{Action, TimedTurn}
-use Rattle.pg_step.specs.declared.refusal.Refusal.{Refusal}
+use Rattle.pg_step.specs.Step.{Action}
 use Rattle.pg_term.specs.Same.{same_atom}
 use Rattle.pg_history.specs.Headline.{OneHistory}
 use Rattle.pg_history.specs.Reached.{Reaches}
@@ -21,8 +20,8 @@ use Rattle.pg_world.specs.declared.step.FrameStep.{FrameStep}
 use Rattle.pg_world.specs.declared.step.Stepped.{Stepped}
 use Rattle.pg_world.specs.declared.step.Stepped.TheVariants.{Happened, Nothing}
 use Rattle.pg_world.specs.Views.{View}
-use Rattle.pg_world.specs.Worlds.{TimedFrameWorld, Shows, ComesTo, event_of, told}
-use Rattle.pg_world.specs.Runs.{number_told, IsPassed, Goes, StepsTo, Led, RunsTo, GoesTo, Ran}
+use Rattle.pg_world.specs.Worlds.{TimedFrameWorld, Shows, ComesTo, event_of}
+use Rattle.pg_world.specs.Runs.{number_told, IsPassed, StepsTo, RunsTo, GoesTo, Ran}
 use Rattle.pg_world.specs.Starts.{Begins}
 
 module _ (config : Config) where

@@ -1,5 +1,5 @@
 -- What the world shows in which all nodes start.
-use Rattle.std.proofs.Common.{◌≡◌, ◌≢◌, ℕ, zero, suc, ◌+◌, ◌-◌, ◌<◌, ◌≤◌, ◌^◌, Bool, true, false, cond, map, get_or, take, length, replicate, List, [], ◌∷◌, ◌++◌, Option, Some, None, refl, sym, ap, ◌∙◌, inl, inr, ◌⊎◌, arith, subst}
+use Rattle.std.proofs.Common.{◌≡◌, ℕ, zero, suc, ◌+◌, ◌-◌, ◌<◌, ◌≤◌, ◌^◌, true, false, cond, map, get_or, take, length, replicate, List, [], ◌∷◌, ◌++◌, Option, Some, None, refl, sym, ap, ◌∙◌, inl, inr, ◌⊎◌, arith, subst}
 use Rattle.std.specs.Prelude.{slice_get, option_map, Result, Ok, Err, IfOk}
 use Rattle.std.specs.List.{All, AllByRecursion, IsDistinct, remove}
 use Rattle.std.proofs.lemmas.Map.Keys.{IsDistinct-head, IsDistinct-tail}
@@ -16,12 +16,12 @@ use Rattle.pg_exchange.specs.GroupList.{GroupList, IsSnapshot, announced_names}
 use Rattle.pg_message.specs.declared.message.Message.{Message}
 use Rattle.pg_message.specs.declared.message.Message.TheVariants.{Exchange}
 use Rattle.pg_message.specs.Members.{HasFewMembers}
-use Rattle.pg_machine.specs.Places.{is_place, is_pair}
+use Rattle.pg_machine.specs.Places.{is_pair}
 use Rattle.pg_machine.specs.Machine.{start_of}
 use Rattle.pg_machine.specs.Clocked.{Stamped, stamped}
 use Rattle.pg_step.specs.declared.start.Start.{Start}
-use Rattle.pg_step.specs.Nodes.{Node, all_of}
-use Rattle.pg_step.specs.Config.{Config, names_of, name_at, nodes_at, groups_at, made_at, ports_at, first_table}
+use Rattle.pg_step.specs.Nodes.{Node}
+use Rattle.pg_step.specs.Config.{Config, names_of, name_at, groups_at, made_at, ports_at, first_table}
 use Rattle.pg_step.specs.FrameMachine.{frame_machine}
 use Rattle.pg_opens.specs.Places.{name_at as place_name}
 use Rattle.pg_opens.proofs.Named.{names_differ}
@@ -29,9 +29,9 @@ use Rattle.pg_node.specs.declared.state.NodeState.{NodeState}
 use Rattle.pg_node.specs.Issued.{ports_of}
 use Rattle.pg_node.specs.States.{kept_by, stamped_of, state_of, answers_of, names_of as known_names}
 use Rattle.pg_world.specs.declared.outgoing.Outgoing.{Outgoing}
-use Rattle.pg_world.specs.Views.{Seen, seen_of, ways_of, Traffic, fresh_view, traffic_in, peer_place, on_the_way, IsWhole}
-use Rattle.pg_world.specs.Worlds.{Shows, ShowsNode, TimedFrameWorld}
-use Rattle.pg_world.specs.Starts.{seen_first, firsts, TellsFew, Opens, AllOpen, IsOrdered, Orders, Begins}
+use Rattle.pg_world.specs.Views.{Seen, seen_of, ways_of, fresh_view, traffic_in, peer_place, on_the_way, IsWhole}
+use Rattle.pg_world.specs.Worlds.{ShowsNode, TimedFrameWorld}
+use Rattle.pg_world.specs.Starts.{seen_first, firsts, TellsFew, Opens, AllOpen, Orders, Begins}
 use Rattle.pg_node.proofs.Counts.{few_merged}
 use Rattle.pg_node.proofs.Apart.{few_in_none}
 use Rattle.pg_world.proofs.Ordered.{itself_le, ordered_names, ordered_length, same_first, tells_few}

@@ -1,5 +1,5 @@
 -- How a world begins: the nodes of a configuration as they start, and the packets that they send then.
-use Rattle.std.specs.Prelude.{◌≡◌, ◌≤◌, ◌^◌, ℕ, zero, suc, List, [], ◌∷◌, ◌++◌, replicate}
+use Rattle.std.specs.Prelude.{◌≡◌, ◌^◌, ℕ, zero, suc, List, [], ◌∷◌, ◌++◌, replicate}
 use Rattle.std.specs.List.{AllByRecursion-prop}
 use Rattle.std.proofs.Math.Bridge.{le_prop}
 use Rattle.pg_group.specs.Table.{Table}

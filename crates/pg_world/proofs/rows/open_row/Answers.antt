@@ -1,4 +1,4 @@
-use Rattle.std.proofs.Common.{◌≡◌, Some, None, [], sym, ap, subst, ◌∙◌}
+use Rattle.std.proofs.Common.{Some, None, [], sym, subst, ◌∙◌}
 use Rattle.std.proofs.Math.Path.{fun_ext}
 use Rattle.std.specs.BTreeMap.{UpdatesBy}
 use Rattle.pg_term.specs.declared.term.Term.{Term}

@@ -1,4 +1,4 @@
-use Rattle.std.proofs.Common.{◌≡◌, ◌≤◌, ◌^◌, ◌∙◌, false, subst}
+use Rattle.std.proofs.Common.{◌≤◌, ◌^◌, ◌∙◌, false, subst}
 use Rattle.pg_ends.specs.declared.processes.TheConstants.{MAX_PROCESSES}
 use Rattle.pg_exchange.specs.GroupList.{all_merged}
 use Rattle.pg_message.specs.Members.{HasFewMembers}

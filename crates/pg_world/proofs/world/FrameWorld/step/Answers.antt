@@ -1,4 +1,4 @@
-use Rattle.std.proofs.Common.{◌≡◌, ◌∙◌, sym, subst, refl}
+use Rattle.std.proofs.Common.{◌∙◌, sym, subst, refl}
 use Rattle.pg_world.specs.declared.step.FrameStep.{FrameStep}
 use Rattle.pg_world.specs.Views.{View}
 use Rattle.pg_world.specs.Worlds.{traffic_of, view_of, event_of, Shows, ComesTo}

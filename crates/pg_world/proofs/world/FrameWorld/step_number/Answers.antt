@@ -1,4 +1,4 @@
-use Rattle.std.proofs.Common.{sym, subst, ℕ}
+use Rattle.std.proofs.Common.{sym, subst}
 use Rattle.pg_world.specs.Worlds.{view_of, Shows}
 use Rattle.pg_world.specs.Runs.{StepsTo}
 use Rattle.pg_world.proofs.Running.{happened_so, refused_so}
