@@ -1,6 +1,6 @@
 //! Nodes and the packets on the way between them, and what a step makes of them.
 
-ghost use Rattle.std.specs.Prelude.{◌≡◌, ◌≢◌, ◌-◌, ◌++◌, [], true, Ok, IfOk, OnErr, length, map, option_map, replicate, slice_get};
+ghost use Rattle.std.specs.Prelude.{◌≡◌, ◌≢◌, ◌<◌, ◌↔◌, ◌-◌, ◌++◌, [], true, IsTrue, Ok, IfOk, OnErr, length, map, option_map, replicate, slice_get};
 ghost use Rattle.std.specs.List.{All};
 ghost use Rattle.std.specs.Option.{option_copied};
 ghost use Rattle.pg_world.specs.Views.{IsWhole, traffic_in};
@@ -30,7 +30,9 @@ impl<T: GroupTable + Drop> FrameWorld<T> {
     ghost use Rattle.pg_world.specs.Views.{fresh_view, idle_view, seen_of};
     ghost use Rattle.pg_machine.specs.Places.{is_pair};
     ghost use Rattle.pg_machine.specs.Machine.{Take, Do};
+    ghost use Rattle.pg_machine.specs.Clocked.{plain};
     ghost use Rattle.pg_step.specs.Config.{Config};
+    ghost use Rattle.pg_history.specs.History.{LockFree};
     ghost use Rattle.pg_step.specs.Step.{Issue, Retry};
     ghost use Rattle.pg_world.specs.Histories.{IsSettled, as_entry, last_entries};
     ghost use Rattle.pg_world.specs.Worlds.{traffic_of, view_of, event_of, has_port, has_places, TimedFrameWorld, Shows, ComesTo};
@@ -87,6 +89,16 @@ impl<T: GroupTable + Drop> FrameWorld<T> {
         ensures { result ≡ (view_of self.now).applied node name.now }
     {
         self.histories.applied(node, name)
+    }
+
+    /// Whether a node sees the lock of a group free. It takes no memory: O(log n) in the names that have a holder there.
+    pub fn lock_free(&self, node: usize, name: &Term) -> bool
+        requires place { node < length (traffic_of self.now).nodes }
+        ensures { (config : Config) (w : TimedFrameWorld) → Shows config (view_of self.now) w
+            → IsTrue result ↔ LockFree (plain w) node name.now }
+    {
+        let state = &self.nodes[node];
+        state.holder(name).is_none()
     }
 
     /// Makes one step. Whatever frame world the world shows, as the nodes of a configuration come to, the step is the event of
