@@ -1,6 +1,6 @@
 -- The links where one of them changes, and where packets are sent one after the other.
 use Rattle.std.proofs.Common.{◌≡◌, ◌<◌, ◌≤◌, ◌+◌, ◌∙◌, ℕ, zero, suc, Bool, true, false, cond, nat_eq, List, [], ◌∷◌, ◌++◌, get_or, length, Result, Ok, Err, IfOk, OnErr, refl, sym, ap, arith, subst, append_assoc, append-nil, drop}
-use Rattle.std.specs.Prelude.{slice_set}
+use Rattle.std.specs.Prelude.{slice_set, IfErr, OnOk}
 use Rattle.std.specs.List.{AllByRecursion}
 use Rattle.std.proofs.Math.Path.{fun_ext}
 use Rattle.std.proofs.Math.Seq.{drop-cons}
@@ -11,7 +11,7 @@ use Rattle.pg_message.specs.declared.packet.Packet.{Packet}
 use Rattle.pg_message.specs.declared.writing.size.TheConstants.{MAX_SMALL_LEN}
 use Rattle.pg_step.specs.Nodes.{Node}
 use Rattle.pg_node.specs.declared.node.wire.Wire.{Wire}
-use Rattle.pg_node.specs.Links.{Link, link_of, idle_link, part_in, links_in, at_link, room_in, frame_of, frames_to, with_more, HasRoom, HaveRoom, FitLinks}
+use Rattle.pg_node.specs.Links.{Link, link_of, idle_link, part_in, links_in, at_link, room_in, frame_of, frames_to, with_more, HasRoom, HaveRoom, FitLinks, IsSmallFrame, AreSmallFrames}
 use Rattle.pg_node.specs.Sendable.{IsSendable, Ascends}
 
 -- a part where the link at a place is another
@@ -46,6 +46,18 @@ pub if_ok : {A E : Type 0} (r : Result A E) (P Q R : A → Type 0) → ((a : A) 
 if_ok (Ok a) P Q R f p q = f a p q
 if_ok (Err e) P Q R f p q = tt
 
+pub as_ok : {A E : Type 0} (r : Result A E) (P Q : A → Type 0) → ((a : A) → P a → Q a) → IfOk r P → IfOk r Q
+as_ok (Ok a) P Q f p = f a p
+as_ok (Err e) P Q f p = tt
+
+pub as_err : {A E : Type 0} (r : Result A E) (P Q : E → Type 0) → ((e : E) → P e → Q e) → IfErr r P → IfErr r Q
+as_err (Ok a) P Q f p = tt
+as_err (Err e) P Q f p = f e p
+
+pub on_ok : {A E : Type 0} (r : Result A E) (P Q : Type 0) → (P → Q) → OnOk r P → OnOk r Q
+on_ok (Ok a) P Q f p = f p
+on_ok (Err e) P Q f p = tt
+
 pub on_err : {A E : Type 0} (r : Result A E) (P Q : Type 0) → (P → Q) → OnErr r P → OnErr r Q
 on_err (Ok a) P Q f p = tt
 on_err (Err e) P Q f p = f p
@@ -78,6 +90,7 @@ pub record Sending (start : List Wire) (sends : List (ℕ × Packet)) (wires : L
   pub each : AllByRecursion (IsSendable names) rest
   pub room : (place : ℕ) → least ≤ place → place < length wires → 4 + MAX_SMALL_LEN ≤ room_in wires place
   pub sent : (place : ℕ) → with_more (links_in wires place) (frames_to rest place) ≡ with_more (links_in start place) (frames_to sends place)
+  pub small : AreSmallFrames rest → AreSmallFrames sends
 
 pub all_left : (wires : List Wire) (sends : List (ℕ × Packet)) → FitLinks (length wires) sends → HaveRoom wires → Sending wires sends wires sends
 all_left wires sends fit room = record {
@@ -89,6 +102,7 @@ all_left wires sends fit room = record {
   each = fit.2.each;
   room = λ place l within. room place within;
   sent = λ place. refl;
+  small = λ all. all;
 }
 
 pub none_left : (start wires : List Wire) (sends : List (ℕ × Packet)) → Sending start sends wires [] → (place : ℕ) → links_in wires place ≡ with_more (links_in start place) (frames_to sends place)
@@ -101,7 +115,7 @@ module _ (start wires : List Wire) (sends others : List (ℕ × Packet)) (sent :
   pub its_room : (wire : Wire) → wire ≡ get_or wires sent.0 wire → HasRoom wire
   its_room wire here = subst (λ n. 4 + MAX_SMALL_LEN ≤ n) (part_here (λ w. w.outbox.spare) 0 wires sent.0 wire its_place here) (sending.room sent.0 sending.apart.0 its_place)
 
-  module _ (old new : Wire) (here : old ≡ get_or wires sent.0 old) (more : link_of new ≡ with_more (link_of old) (frame_of sent.1)) (same : length (slice_set wires sent.0 new) ≡ length wires) where
+  module _ (old new : Wire) (here : old ≡ get_or wires sent.0 old) (more : link_of new ≡ with_more (link_of old) (frame_of sent.1)) (same : length (slice_set wires sent.0 new) ≡ length wires) (small : IsSmallFrame sent.1) where
     one_place : (place : ℕ) (b : Bool) → (b ≡ true → sent.0 ≡ place)
         → with_more (cond b (link_of new) (links_in wires place)) (frames_to others place) ≡ with_more (links_in wires place) (cond b (frame_of sent.1) [] ++ frames_to others place)
     one_place place true is = ap (λ (l : Link). with_more l (frames_to others place)) (more ∙ ap (λ (l : Link). with_more l (frame_of sent.1)) (sym (part_here link_of idle_link wires sent.0 old its_place here) ∙ ap (links_in wires) (is refl)))
@@ -129,6 +143,7 @@ module _ (start wires : List Wire) (sends others : List (ℕ × Packet)) (sent :
       room = later_room;
       sent = λ place. ap (λ (l : Link). with_more l (frames_to others place)) (part_set link_of idle_link wires sent.0 new its_place place)
           ∙ (one_place place (nat_eq sent.0 place) (eqb-true sent.0 place) ∙ sending.sent place);
+      small = λ all. sending.small (small, all);
     }
 
 -- the next of those that are left

@@ -1,18 +1,22 @@
 -- How a node over bytes begins.
-use Rattle.std.specs.Prelude.{◌≡◌, ◌⊎◌, ◌<◌, ℕ, Err}
+use Rattle.std.specs.Prelude.{◌≡◌, ◌⊎◌, ◌<◌, ℕ, Ok, Err}
 use Rattle.pg_group.specs.Table.{Table}
 use Rattle.pg_message.specs.declared.fault.MessageFault.{MessageFault}
 use Rattle.pg_message.specs.declared.packet.Packet.{Packet}
-use Rattle.pg_message.specs.Writing.{body_of}
+use Rattle.pg_message.specs.Reading.{packet_spelled}
+use Rattle.pg_message.specs.Writing.{body_of, term_of_packet}
+use Rattle.pg_term_io.specs.Writing.{written}
 use Rattle.pg_step.specs.Nodes.{Node}
 use Rattle.pg_node.specs.declared.state.fault.NodeFault.{NodeFault}
 use Rattle.pg_node.specs.declared.state.fault.NodeFault.TheVariants.{OutOfMemory, Message}
 use Rattle.pg_node.specs.Links.{Link, idle_link, with_more, frame_of}
 use Rattle.pg_node.specs.Opening.{IsAnnouncement}
 
--- nothing came in, and the frame of a packet goes out
-abbrev pub IsOpened : Packet → Link → Type 0
-IsOpened packet link = link ≡ with_more idle_link (frame_of packet)
+-- nothing came in, and the frame of a packet goes out, where it is read as it is
+pub record IsOpened (packet : Packet) (link : Link) : Type 0 where
+  pub is : link ≡ with_more idle_link (frame_of packet)
+  pub body : body_of packet ≡ Ok (written (term_of_packet packet))
+  pub read : packet_spelled (written (term_of_packet packet)) ≡ Ok packet
 
 -- memory ran out, or the packet can't be written by this fault
 abbrev pub CantOpen : Packet → NodeFault → Type 0

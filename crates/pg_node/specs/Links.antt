@@ -1,9 +1,11 @@
 -- The links of a node to its peers, by the places of the peers, and the frames that go out there.
-use Rattle.std.specs.Prelude.{◌≡◌, ◌≤◌, ◌+◌, ◌<◌, ℕ, zero, suc, nat_eq, cond, Bool, false, List, [], ◌∷◌, ◌++◌, length, drop}
+use Rattle.std.specs.Prelude.{◌≡◌, ◌≤◌, ◌+◌, ◌<◌, ℕ, zero, suc, nat_eq, cond, Bool, false, List, [], ◌∷◌, ◌++◌, length, drop, Ok}
+use Rattle.std.specs.List.{AllByRecursion}
 use Rattle.pg_message.specs.declared.message.Request.{Request}
 use Rattle.pg_message.specs.declared.message.Request.TheVariants.{SetLock, Change}
 use Rattle.pg_message.specs.declared.packet.Packet.{Packet}
 use Rattle.pg_message.specs.Name.{is_name}
+use Rattle.pg_message.specs.Reading.{packet_spelled}
 use Rattle.pg_group.specs.Functions.{upd}
 use Rattle.pg_group.specs.Value.{name_of}
 use Rattle.pg_message.specs.declared.writing.size.TheConstants.{MAX_SMALL_LEN}
@@ -48,6 +50,15 @@ is_askable (Change update) = is_name (name_of update)
 -- the frame of a packet
 abbrev pub frame_of : Packet → List ℕ
 frame_of packet = framed (written (term_of_packet packet))
+
+-- a small packet stands in a frame as it is: it is read there, and takes no more room than a small frame
+pub record IsSmallFrame (packet : Packet) : Type 0 where
+  pub read : packet_spelled (written (term_of_packet packet)) ≡ Ok packet
+  pub small : length (frame_of packet) ≤ 4 + MAX_SMALL_LEN
+
+-- the same of packets that go to places
+abbrev pub AreSmallFrames : List (ℕ × Packet) → Type 0
+AreSmallFrames sends = AllByRecursion (λ sent. IsSmallFrame sent.1) sends
 
 -- the frames of the packets that go to a place
 abbrev pub frames_to : List (ℕ × Packet) → ℕ → List ℕ

@@ -1,6 +1,6 @@
 //! The events of a node over bytes.
 
-ghost use Rattle.std.specs.Prelude.{◌≡◌, ◌<◌, ◌+◌, ◌^◌, ℕ, None, Some, Ok, Err, IfOk, IfErr, OnOk, OnErr, length};
+ghost use Rattle.std.specs.Prelude.{◌≡◌, ◌<◌, ◌+◌, ◌^◌, ℕ, None, Some, Ok, Err, IfOk, IfErr, IfSome, OnOk, OnErr, length};
 ghost use Rattle.pg_message.specs.Members.{IsShort};
 
 use crate::node::Node;
@@ -14,9 +14,9 @@ use std::alloc::AllocError;
 impl<T: GroupTable + Drop> Node<T> {
     ghost use Rattle.pg_opens.specs.Places.{name_at};
     ghost use Rattle.pg_step.specs.Step.{Issue, Retry, step_act, step_take};
-    ghost use Rattle.pg_node.specs.Bytes.{marked, passed, closed};
+    ghost use Rattle.pg_node.specs.Bytes.{Tells, next_packet, marked, passed, closed};
     ghost use Rattle.pg_node.specs.Nodes.{held_by, links_of, step_link, taken_of, TakesNext, ComesInRoom, sent_out, step_lose};
-    ghost use Rattle.pg_node.specs.Links.{at_link};
+    ghost use Rattle.pg_node.specs.Links.{at_link, AreSmallFrames};
     ghost use Rattle.pg_node.specs.Issued.{ports_of};
     ghost use Rattle.pg_node.specs.Sendable.{AreSendable};
     ghost use Rattle.pg_node.specs.States.{names_of, nodes_of, state_of, answers_of, stamped_of, Comes};
@@ -35,6 +35,7 @@ impl<T: GroupTable + Drop> Node<T> {
             result (state_of (held_by self.old)) (state_of (held_by self.new)) (answers_of (held_by self.old)) (answers_of (held_by self.new)) }
         ensures sent { (done : Done) → result ≡ Ok (Some done)
             → (place : ℕ) → links_of self.new place ≡ at_link peer passed (sent_out done.sends.items (links_of self.old)) place }
+        ensures small { (done : Done) → result ≡ Ok (Some done) → AreSmallFrames done.sends.items }
         ensures none { result ≡ Ok None → links_of self.new ≡ links_of self.old }
         ensures marked { IfErr result (λ fault. links_of self.new ≡ at_link peer (λ l. marked l fault) (links_of self.old)) }
         ensures err { OnErr result (state_of (held_by self.new) ≡ state_of (held_by self.old)) }
@@ -61,6 +62,7 @@ impl<T: GroupTable + Drop> Node<T> {
             result (state_of (held_by self.old)) (state_of (held_by self.new)) (answers_of (held_by self.old)) (answers_of (held_by self.new)) }
         ensures sent { (done : Done) → result ≡ Ok (Some done)
             → (place : ℕ) → links_of self.new place ≡ at_link peer passed (sent_out done.sends.items (links_of self.old)) place }
+        ensures small { (done : Done) → result ≡ Ok (Some done) → AreSmallFrames done.sends.items }
         ensures none { result ≡ Ok None → links_of self.new ≡ links_of self.old }
         ensures marked { IfErr result (λ fault. links_of self.new ≡ at_link peer (λ l. marked l fault) (links_of self.old)) }
         ensures err { OnErr result (state_of (held_by self.new) ≡ state_of (held_by self.old)) }
@@ -70,21 +72,43 @@ impl<T: GroupTable + Drop> Node<T> {
     {
         match next {
             None => Ok(None),
-            Some(packet) => match self.take_packet(peer, packet) {
+            Some(packet) => match self.take_read(peer, packet) {
                 Ok(done) => Ok(Some(done)),
                 Err(fault) => Err(fault),
             },
         }
     }
 
-    /// Takes a packet, which the next frame of a peer holds.
-    fn take_packet(&mut self, peer: usize, packet: &Packet) -> Result<Done, NodeFault>
+    /// Reads the next packet of a peer, if its frame is whole. It stays, to be taken by `take_read`. `peer`: its place among the
+    /// peers.
+    ///
+    /// Faults, the first that holds: `Damaged`, `TooLong` and `Message`, as `take` tells them, of which the last two damage the
+    /// link for good; `OutOfMemory` may be told in the place of a `Message`. Nothing else changes.
+    pub fn next(&mut self, peer: usize) -> Result<Option<Packet>, NodeFault>
+        requires place { peer + 1 < length (names_of (held_by self.old)) }
+        ensures told { Tells (next_packet (links_of self.old peer)) result }
+        ensures few { IfOk result (λ some. IfSome some (λ packet. IsShort (2 ^ 32) packet.message)) }
+        ensures same { OnOk result (links_of self.new ≡ links_of self.old) }
+        ensures marked { IfErr result (λ fault. links_of self.new ≡ at_link peer (λ l. marked l fault) (links_of self.old)) }
+        ensures state { held_by self.new ≡ held_by self.old }
+    {
+        let wire = &mut self.wires[peer];
+        wire.next(self.alloc)
+    }
+
+    /// Takes the packet that `next` has read of a peer: what the step sends stands framed in the outboxes. `peer`: its place among
+    /// the peers.
+    ///
+    /// Faults: those of `NodeState::take`, of which `NotAMessage` damages the link for good; `OutOfMemory` may be told in the place
+    /// of each. Nothing else changes, and the frame stays.
+    pub fn take_read(&mut self, peer: usize, packet: &Packet) -> Result<Done, NodeFault>
         requires place { peer + 1 < length (names_of (held_by self.old)) }
         requires few { IsShort (2 ^ 32) packet.now.message }
         ensures event { ComesInRoom (names_of (held_by self.old))
             (step_take (nodes_of (held_by self.old)) (name_at (names_of (held_by self.old)) (peer + 1)) (stamped_of packet.now) (state_of (held_by self.old)))
             result (state_of (held_by self.new)) (answers_of (held_by self.old)) (answers_of (held_by self.new)) }
         ensures sent { IfOk result (λ done. (place : ℕ) → links_of self.new place ≡ at_link peer passed (sent_out done.sends.items (links_of self.old)) place) }
+        ensures small { IfOk result (λ done. AreSmallFrames done.sends.items) }
         ensures fits { IfOk result (λ done. AreSendable (names_of (held_by self.old)) done.sends.items) }
         ensures marked { IfErr result (λ fault. links_of self.new ≡ at_link peer (λ l. marked l fault) (links_of self.old)) }
         ensures err { OnErr result (state_of (held_by self.new) ≡ state_of (held_by self.old)) }
@@ -121,6 +145,8 @@ impl<T: GroupTable + Drop> Node<T> {
             (step_act (nodes_of (held_by self.old)) (ports_of (held_by self.old)) (Issue port command.now) (state_of (held_by self.old)))
             result (state_of (held_by self.new)) (answers_of (held_by self.old)) (answers_of (held_by self.new)) }
         ensures sent { IfOk result (λ done. (place : ℕ) → links_of self.new place ≡ sent_out done.sends.items (links_of self.old) place) }
+        ensures fits { IfOk result (λ done. AreSendable (names_of (held_by self.old)) done.sends.items) }
+        ensures small { IfOk result (λ done. AreSmallFrames done.sends.items) }
         ensures kept { OnErr result (links_of self.new ≡ links_of self.old) }
         ensures err { OnErr result (state_of (held_by self.new) ≡ state_of (held_by self.old)) }
         ensures err_answers { OnErr result (answers_of (held_by self.new) ≡ answers_of (held_by self.old)) }
@@ -149,6 +175,8 @@ impl<T: GroupTable + Drop> Node<T> {
             (step_act (nodes_of (held_by self.old)) (ports_of (held_by self.old)) (Retry op) (state_of (held_by self.old)))
             result (state_of (held_by self.new)) (answers_of (held_by self.old)) (answers_of (held_by self.new)) }
         ensures sent { IfOk result (λ done. (place : ℕ) → links_of self.new place ≡ sent_out done.sends.items (links_of self.old) place) }
+        ensures fits { IfOk result (λ done. AreSendable (names_of (held_by self.old)) done.sends.items) }
+        ensures small { IfOk result (λ done. AreSmallFrames done.sends.items) }
         ensures kept { OnErr result (links_of self.new ≡ links_of self.old) }
         ensures err { OnErr result (state_of (held_by self.new) ≡ state_of (held_by self.old)) }
         ensures err_answers { OnErr result (answers_of (held_by self.new) ≡ answers_of (held_by self.old)) }

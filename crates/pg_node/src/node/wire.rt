@@ -6,7 +6,7 @@ ghost use Rattle.pg_message.specs.declared.packet.TheConstants.{MAX_STAMP};
 ghost use Rattle.pg_message.specs.Name.{is_name};
 ghost use Rattle.pg_message.specs.Writing.{message_term, request_term, update_term, is_exchange, is_sayable, body_of};
 ghost use Rattle.pg_group.specs.Value.{name_of};
-ghost use Rattle.pg_node.specs.Links.{is_askable, frame_of};
+ghost use Rattle.pg_node.specs.Links.{is_askable, frame_of, IsSmallFrame};
 ghost use Rattle.pg_message.specs.declared.writing.size.TheConstants.{MAX_SMALL_LEN};
 ghost use Rattle.pg_node.specs.Bytes.{damages};
 
@@ -34,7 +34,7 @@ pub(crate) struct Wire {
 impl Wire {
     ghost use Rattle.pg_message.specs.Members.{IsShort};
     ghost use Rattle.pg_node.specs.declared.state.fault.NodeFault.TheVariants.{Damaged, OutOfMemory};
-    ghost use Rattle.pg_node.specs.Links.{idle_link, link_of, frame_of, with_more, with_fed, without_front, HasRoom};
+    ghost use Rattle.pg_node.specs.Links.{idle_link, link_of, frame_of, IsSmallFrame, with_more, with_fed, without_front, HasRoom};
     ghost use Rattle.pg_node.specs.Bytes.{next_packet, Tells, marked, passed, closed, is_drained};
 
     /// A link where nothing came in and nothing goes out. It takes no memory yet.
@@ -65,7 +65,8 @@ impl Wire {
         requires stamp { packet.now.stamp ≤ MAX_STAMP }
         requires small { is_exchange packet.now.message ≡ false }
         requires room { HasRoom self.old }
-        ensures { link_of self.new ≡ with_more (link_of self.old) (frame_of packet.now) }
+        ensures sent { link_of self.new ≡ with_more (link_of self.old) (frame_of packet.now) }
+        ensures small { IsSmallFrame packet.now }
     {
         write_small(packet, &mut self.outbox);
     }
@@ -184,7 +185,8 @@ pub(crate) fn write_small(packet: &Packet, out: &mut BytesMut)
     requires stamp { packet.now.stamp ≤ MAX_STAMP }
     requires small { is_exchange packet.now.message ≡ false }
     requires room { 4 + MAX_SMALL_LEN ≤ out.old.spare }
-    ensures { out.new.items ≡ out.old.items ++ frame_of packet.now }
+    ensures items { out.new.items ≡ out.old.items ++ frame_of packet.now }
+    ensures small { IsSmallFrame packet.now }
 {
     bounds_of(packet);
     write_packet_into(packet, out).unwrap();

@@ -1,7 +1,7 @@
 //! The links of a node to all its peers.
 
 ghost use Rattle.std.specs.Prelude.{◌≡◌, ℕ, length, OnOk};
-ghost use Rattle.pg_node.specs.Links.{links_in, frames_to, with_more, HaveRoom, FitLinks};
+ghost use Rattle.pg_node.specs.Links.{links_in, frames_to, with_more, HaveRoom, FitLinks, AreSmallFrames};
 
 use crate::node::wire::Wire;
 use pg_message::Packet;
@@ -28,6 +28,7 @@ pub(crate) fn send_all(wires: &mut Vec<Wire>, sends: &[(usize, Packet)])
     requires fit { FitLinks (length wires.old.items) sends.now }
     requires room { HaveRoom wires.old.items }
     ensures sent { (place : ℕ) → links_in wires.new.items place ≡ with_more (links_in wires.old.items place) (frames_to sends.now place) }
+    ensures small { AreSmallFrames sends.now }
     ensures len { length wires.new.items ≡ length wires.old.items }
 {
     for sent in sends {

@@ -3,4 +3,4 @@ use Rattle.pg_node.proofs.Taken.{one_packet}
 use Rattle.pg_node.proofs.answer.write_sent.Goals as goal
 
 pub returns-in-Some : goal.returns-in-Some
-returns-in-Some c = c.write_small.ensures ∙ ap (λ (bytes : List ℕ). c.args.out.now.items ++ bytes) (sym (one_packet c.args.sends.now c.in-Some.sent.now c.requires.fit (sym c.in-Some.ensures.value)))
+returns-in-Some c = c.write_small.ensures.items ∙ ap (λ (bytes : List ℕ). c.args.out.now.items ++ bytes) (sym (one_packet c.args.sends.now c.in-Some.sent.now c.requires.fit (sym c.in-Some.ensures.value)))

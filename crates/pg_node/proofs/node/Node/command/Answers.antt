@@ -1,6 +1,6 @@
-use Rattle.std.proofs.Common.{◌∙◌, ℕ, List, Err, ap}
+use Rattle.std.proofs.Common.{◌∙◌, ℕ, List, Err, ap, subst}
 use Rattle.pg_message.specs.declared.packet.Packet.{Packet}
-use Rattle.pg_node.specs.Links.{Link, links_in, frames_to, with_more}
+use Rattle.pg_node.specs.Links.{Link, links_in, frames_to, with_more, AreSmallFrames}
 use Rattle.pg_node.specs.States.{state_of}
 use Rattle.pg_node.proofs.Events.{in_room}
 use Rattle.pg_node.proofs.node.Node.command.Goals as goal
@@ -12,3 +12,6 @@ pub returns-in-Ok-command-clause-sent : goal.returns-in-Ok-command-clause-sent
 returns-in-Ok-command-clause-sent g c = λ place. c.send_all.ensures.sent place
     ∙ (ap (λ (sends : List (ℕ × Packet)). with_more (links_in c.make_room.new.wires.items place) (frames_to sends place)) c.as_slice.ensures.value
     ∙ ap (λ (f : ℕ → Link). with_more (f place) (frames_to c.in-Ok-command.done.sends.items place)) c.make_room.ensures.same)
+
+pub returns-in-Ok-command-clause-small : goal.returns-in-Ok-command-clause-small
+returns-in-Ok-command-clause-small g c = subst (λ (sends : List (ℕ × Packet)). AreSmallFrames sends) c.as_slice.ensures.value c.send_all.ensures.small

@@ -1,7 +1,9 @@
-use Rattle.std.proofs.Common.{◌+◌, Option, Some, None, Ok, Err, refl, sym, subst}
+use Rattle.std.proofs.Common.{◌≡◌, ◌+◌, Option, Some, None, Ok, Err, refl, sym, subst}
 use Rattle.pg_message.specs.declared.packet.Packet.{Packet}
 use Rattle.pg_opens.specs.Places.{name_at}
 use Rattle.pg_step.specs.Step.{step_take}
+use Rattle.pg_node.specs.declared.state.done.Done.{Done}
+use Rattle.pg_node.specs.Links.{AreSmallFrames}
 use Rattle.pg_node.specs.Nodes.{taken_of, TakesNext}
 use Rattle.pg_node.specs.States.{names_of, nodes_of, state_of, answers_of, stamped_of}
 use Rattle.pg_node.proofs.Events.{takes_ok, takes_err}
@@ -16,13 +18,16 @@ returns-in-None-clause-event g c =
 pub returns-in-Ok-clause-event : goal.returns-in-Ok-clause-event
 returns-in-Ok-clause-event g c =
     let old = c.args.self.now.state in
-    let new = c.take_packet.new.self.state in
+    let new = c.take_read.new.self.state in
     subst (λ (next : Option Packet). TakesNext (names_of old) (taken_of (nodes_of old) (name_at (names_of old) (c.args.peer + 1)) (state_of old) (Ok next)) (Ok (Some c.in-Ok.done)) (state_of old) (state_of new) (answers_of old) (answers_of new))
     (sym c.in-Some.is) (takes_ok (names_of old) (state_of old) (state_of new) (answers_of old) (answers_of new) (step_take (nodes_of old) (name_at (names_of old) (c.args.peer + 1)) (stamped_of c.in-Some.packet) (state_of old)) c.in-Ok.done c.in-Ok.ensures.event)
 
 pub returns-in-Err-clause-event : goal.returns-in-Err-clause-event
 returns-in-Err-clause-event g c =
     let old = c.args.self.now.state in
-    let new = c.take_packet.new.self.state in
+    let new = c.take_read.new.self.state in
     subst (λ (next : Option Packet). TakesNext (names_of old) (taken_of (nodes_of old) (name_at (names_of old) (c.args.peer + 1)) (state_of old) (Ok next)) (Err c.in-Err.fault) (state_of old) (state_of new) (answers_of old) (answers_of new))
     (sym c.in-Some.is) (takes_err (names_of old) (state_of old) (state_of new) (answers_of old) (answers_of new) (step_take (nodes_of old) (name_at (names_of old) (c.args.peer + 1)) (stamped_of c.in-Some.packet) (state_of old)) c.in-Err.fault c.in-Err.ensures.event)
+
+pub returns-in-Ok-clause-small : goal.returns-in-Ok-clause-small
+returns-in-Ok-clause-small g c = λ done is. let same : c.in-Ok.done ≡ done = cc in subst (λ (d : Done). AreSmallFrames d.sends.items) same c.in-Ok.ensures.small

@@ -19,4 +19,4 @@ loop-sent-preserved c =
     let sends = c.args.sends.now in
     let i = c.loop-sent.sent-index in
     let sending : Sending start sends wires (c.sent-item.result ∷ drop (i + 1) sends) = next_left start wires sends i c.sent-item.result c.loop-sent-test.true c.sent-item.is c.loop-sent.invariant in
-    one_less start wires sends (drop (i + 1) sends) c.sent-item.result sending c.index_mut-wire.result.now c.send.new.self c.index_mut-wire.ensures.value c.send.ensures (length-set wires c.sent-item.result.0 c.send.new.self)
+    one_less start wires sends (drop (i + 1) sends) c.sent-item.result sending c.index_mut-wire.result.now c.send.new.self c.index_mut-wire.ensures.value c.send.ensures.sent (length-set wires c.sent-item.result.0 c.send.new.self) c.send.ensures.small

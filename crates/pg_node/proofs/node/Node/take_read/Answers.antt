@@ -1,12 +1,12 @@
-use Rattle.std.proofs.Common.{◌≡◌, ◌<◌, ◌∙◌, ℕ, List, Err, length, refl, sym, ap, arith}
+use Rattle.std.proofs.Common.{◌≡◌, ◌<◌, ◌∙◌, ℕ, List, Err, length, refl, sym, ap, arith, subst}
 use Rattle.pg_message.specs.declared.packet.Packet.{Packet}
 use Rattle.pg_node.specs.declared.state.fault.NodeFault.TheVariants.{OutOfMemory}
 use Rattle.pg_node.specs.Bytes.{marked}
-use Rattle.pg_node.specs.Links.{links_in, at_link, frames_to, with_more}
+use Rattle.pg_node.specs.Links.{links_in, at_link, frames_to, with_more, AreSmallFrames}
 use Rattle.pg_node.specs.States.{state_of}
 use Rattle.pg_node.proofs.Linked.{one_link}
 use Rattle.pg_node.proofs.Events.{unmarked, sent_links, in_room}
-use Rattle.pg_node.proofs.node.Node.take_packet.Goals as goal
+use Rattle.pg_node.proofs.node.Node.take_read.Goals as goal
 
 pub returns-in-Err-clause-marked : goal.returns-in-Err-clause-marked
 returns-in-Err-clause-marked g c = c.make_room.ensures.same ∙ sym (unmarked (links_in c.args.self.now.wires.items) c.args.peer OutOfMemory refl)
@@ -29,3 +29,6 @@ returns-in-Ok-take-clause-sent g c =
     let sent : (place : ℕ) → links_in w2 place ≡ with_more (links_in w1 place) (frames_to c.in-Ok-take.done.sends.items place) = λ place. c.send_all.ensures.sent place ∙ ap (λ (sends : List (ℕ × Packet)). with_more (links_in w1 place) (frames_to sends place)) c.as_slice.ensures.value in
     let within : c.args.peer < length w2 = omega (arith, c.args.self.now.linked, c.requires.place, c.make_room.ensures.len, c.send_all.ensures.len) in
     λ place. sent_links w0 w1 w2 c.in-Ok-take.done.sends.items c.args.peer c.index_mut-wire.result.now c.pass.new.self c.make_room.ensures.same sent within c.index_mut-wire.ensures.value c.pass.ensures place
+
+pub returns-in-Ok-take-clause-small : goal.returns-in-Ok-take-clause-small
+returns-in-Ok-take-clause-small g c = subst (λ (sends : List (ℕ × Packet)). AreSmallFrames sends) c.as_slice.ensures.value c.send_all.ensures.small
