@@ -1,9 +1,14 @@
 mod Answering
 mod Applying
+mod Crossed
+mod Harmless
 mod Idle
+mod Linked
 mod Ordered
+mod Passing
 mod Peering
 mod Ported
+mod Queued
 mod Recording
 mod Rowed
 mod Running

@@ -12,8 +12,8 @@ use Rattle.pg_history.specs.History.{Entry, entries, entry_of, history, of_group
 use Rattle.pg_history.proofs.steps.Grows.{entries_append, of_group_append}
 use Rattle.pg_world.specs.declared.step.Stepped.TheVariants.{Happened}
 use Rattle.pg_world.specs.Histories.{begun_by, one_of}
-use Rattle.pg_world.specs.Views.{View}
-use Rattle.pg_world.specs.Worlds.{TimedFrameWorld, Shows, ShowsTraffic, ComesTo}
+use Rattle.pg_world.specs.Views.{Account, View}
+use Rattle.pg_world.specs.Worlds.{TimedFrameWorld, Shows, ShowsTraffic, ShowsUpdates, ComesTo}
 use Rattle.pg_world.proofs.Applying.{Applies}
 
 -- what an event of node i, by which an update that was asked for was applied or another began, adds to what is reported
@@ -56,34 +56,34 @@ records_so w v i asked r began is same applies = record {
       ∙ ap (λ n. applied_count j name w.reported + n) (applied_as i j name asked r applies ∙ ap (λ b. one_of i j name asked + one_of i j name (begun_by b)) (sym same));
 }
 
--- what is kept of the histories has grown so
-pub record Grew (old new : View) (i : ℕ) (asked : Option Update) (began : Option (OpId × Update)) : Type 0 where
+-- what is kept of the updates has grown so
+pub record Grew (old new : Account) (i : ℕ) (asked : Option Update) (began : Option (OpId × Update)) : Type 0 where
   pub history : (name : Term) → new.histories name ≡ old.histories name ++ of_group name (entry_of i began)
   pub applied : (j : ℕ) (name : Term) → new.applied j name ≡ old.applied j name + (one_of i j name asked + one_of i j name (begun_by began))
 
+-- what is kept is what is told behind the event
+pub updates_after : (old new : Account) (w v : TimedFrameWorld) (i : ℕ) (asked : Option Update) (began : Option (OpId × Update)) → ShowsUpdates old w → Grew old new i asked began
+    → Records w v i asked began → ShowsUpdates new v
+updates_after old new w v i asked began shows grew kept = record {
+  history = λ name. grew.history name ∙ ap (λ es. es ++ of_group name (entry_of i began)) (shows.history name) ∙ sym (kept.history name);
+  applied = λ j name. grew.applied j name ∙ ap (λ n. n + (one_of i j name asked + one_of i j name (begun_by began))) (shows.applied j name) ∙ sym (kept.applied j name);
+}
+
 -- the whole is shown
-pub shows_all : (config : Config) (old new : View) (w : TimedFrameWorld) (e : Event Action) (i : ℕ) (asked : Option Update) (began : Option (OpId × Update)) → Shows config old w → Grew old new i asked began
+pub shows_all : (config : Config) (old new : View) (w : TimedFrameWorld) (e : Event Action) (i : ℕ) (asked : Option Update) (began : Option (OpId × Update)) → Shows config old w → Grew old.account new.account i asked began
     → ComesTo config w e (Ok Happened) (λ v. ShowsTraffic config new.traffic v × Records w v i asked began) → ComesTo config w e (Ok Happened) (Shows config new)
 shows_all config old new w e i asked began shows grew comes =
     let v = comes.0 in
-    let kept = comes.2.1 in (
-      v,
-      comes.1,
-      record {
-        traffic = comes.2.0;
-        history = λ name. grew.history name ∙ ap (λ es. es ++ of_group name (entry_of i began)) (shows.history name) ∙ sym (kept.history name);
-        applied = λ j name. grew.applied j name ∙ ap (λ n. n + (one_of i j name asked + one_of i j name (begun_by began))) (shows.applied j name) ∙ sym (kept.applied j name);
-      },
-    )
+    (v, comes.1, record { traffic = comes.2.0; updates = updates_after old.account new.account w v i asked began shows.updates grew comes.2.1 })
 
 -- ---- views
 
 -- views are the same where their parts are
-pub view_is : (a b : View) → a.traffic ≡ b.traffic → a.histories ≡ b.histories → a.applied ≡ b.applied → a ≡ b
-view_is a b traffic histories applied = λ j. record { traffic = traffic j; histories = histories j; applied = applied j }
+pub view_is : (a b : View) → a.traffic ≡ b.traffic → a.account.histories ≡ b.account.histories → a.account.applied ≡ b.account.applied → a ≡ b
+view_is a b traffic histories applied = λ j. record { traffic = traffic j; account = record { histories = histories j; applied = applied j } }
 
 -- of an event that was asked for no update
-pub grew_own : (old new : View) (i : ℕ) (began b : Option (OpId × Update)) → b ≡ began
+pub grew_own : (old new : Account) (i : ℕ) (began b : Option (OpId × Update)) → b ≡ began
     → ((name : Term) → new.histories name ≡ old.histories name ++ of_group name (entry_of i b))
     → ((j : ℕ) (name : Term) → new.applied j name ≡ old.applied j name + one_of i j name (begun_by b)) → Grew old new i None began
 grew_own old new i began b same histories applied = record {
@@ -94,7 +94,7 @@ grew_own old new i began b same histories applied = record {
 }
 
 -- of a packet that was taken, by what is kept before and behind the update that it asks for
-pub grew_taken : (old new : View) (i : ℕ) (asked : Option Update) (began b : Option (OpId × Update)) (h1 h2 : Term → List Entry) (a1 a2 : ℕ → Term → ℕ) → b ≡ began
+pub grew_taken : (old new : Account) (i : ℕ) (asked : Option Update) (began b : Option (OpId × Update)) (h1 h2 : Term → List Entry) (a1 a2 : ℕ → Term → ℕ) → b ≡ began
     → h1 ≡ old.histories → a1 ≡ old.applied → h2 ≡ h1 → ((j : ℕ) (name : Term) → a2 j name ≡ a1 j name + one_of i j name asked)
     → ((name : Term) → new.histories name ≡ h2 name ++ of_group name (entry_of i b))
     → ((j : ℕ) (name : Term) → new.applied j name ≡ a2 j name + one_of i j name (begun_by b)) → Grew old new i asked began

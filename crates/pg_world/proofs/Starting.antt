@@ -192,14 +192,15 @@ module _ (given : Config) (nodes : List Seen) (rows : List (List (List (Stamped 
     the_told.orders,
     record {
       traffic = record {
-        apart = subst (IsDistinct same_atom) (sym (ordered_names given config the_told.orders)) apart;
-        size = count ∙ sym size;
-        nodes = λ i node at. subst (ShowsNode config start i) (same_first given config i the_told.orders ∙ sym (each_is i node at).1) (as_first i);
+        nodes = record {
+          apart = subst (IsDistinct same_atom) (sym (ordered_names given config the_told.orders)) apart;
+          size = count ∙ sym size;
+          each = λ i node at. subst (ShowsNode config start i) (same_first given config i the_told.orders ∙ sym (each_is i node at).1) (as_first i);
+          nowhere = λ x y e. ap (λ b. stamped 0 (cond b (Exchange (name_at config x) (groups_at config x) ∷ []) [])) e;
+        };
         ways = ways;
-        nowhere = λ x y e. ap (λ b. stamped 0 (cond b (Exchange (name_at config x) (groups_at config x) ∷ []) [])) e;
       };
-      history = λ name. refl;
-      applied = λ i name. refl;
+      updates = record { history = λ name. refl; applied = λ i name. refl };
     },
   )
     where

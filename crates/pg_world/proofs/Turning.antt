@@ -1,5 +1,5 @@
--- What a world shows once a node has made a turn.
-use Rattle.std.proofs.Common.{◌≡◌, ◌≢◌, ℕ, zero, suc, ◌+◌, ◌<◌, Bool, true, false, not, ◌&&◌, cond, nat_eq, nat_lt, get_or, drop, length, List, [], ◌∷◌, ◌++◌, Some, None, Result, Ok, Err, refl, sym, ap, ◌∙◌, inl, inr, ◌⊎◌, arith, subst}
+-- What a world shows of its nodes once one of them has made a turn, and what it leaves on the way.
+use Rattle.std.proofs.Common.{◌≡◌, ◌≢◌, ℕ, zero, suc, ◌+◌, ◌<◌, Bool, true, false, not, ◌&&◌, cond, nat_eq, nat_lt, get_or, drop, length, List, [], ◌∷◌, ◌++◌, Option, Some, None, Result, Ok, Err, refl, sym, ap, ◌∙◌, inl, inr, ◌⊎◌, arith, subst}
 use Rattle.std.specs.Prelude.{slice_get, slice_set, max}
 use Rattle.std.proofs.lemmas.Bool.{cases_eq, eq-eqb, ne_eqb, lt-ltb, ltb-true}
 use Rattle.std.proofs.lemmas.Option.{slice_get_within}
@@ -8,6 +8,9 @@ use Rattle.pg_message.specs.declared.message.Message.{Message}
 use Rattle.pg_machine.specs.Places.{is_place, is_pair}
 use Rattle.pg_machine.specs.Machine.{Event, Turn, Take, Do, Taken, Own, node_of, first_from, input_of, without_input, perform}
 use Rattle.pg_machine.specs.Happened.{Changes, Takes}
+use Rattle.pg_group.specs.declared.update.Update.{Update}
+use Rattle.pg_message.specs.declared.packet.Packet.{Packet}
+use Rattle.pg_step.specs.declared.command.OpId.{OpId}
 use Rattle.pg_machine.specs.Clocked.{Timed, Stamped}
 use Rattle.pg_machine.proofs.Steps.{turn_changes, happens_so}
 use Rattle.pg_step.specs.Config.{Config, names_of, name_at, nodes_at, ports_at}
@@ -30,7 +33,7 @@ use Rattle.pg_world.specs.declared.step.Stepped.TheVariants.{Happened as HasHapp
 use Rattle.pg_node.specs.States.{sends_in, Gave, Happens, Comes}
 use Rattle.pg_node.specs.Sendable.{AreSendable}
 use Rattle.pg_world.specs.Views.{Seen, Traffic, peer_place, on_the_way, first_of, packets_to}
-use Rattle.pg_world.specs.Worlds.{AreAnswers, ShowsTraffic, ShowsNode, TimedFrameWorld, told, told_of_first, ComesTo}
+use Rattle.pg_world.specs.Worlds.{AreAnswers, ShowsNodes, ShowsNode, TimedFrameWorld, told, told_of_first, ComesTo}
 use Rattle.pg_world.proofs.Peering.{peer_name, named, there_and_back, peers_differ, sent_to, sent_home}
 use Rattle.pg_world.specs.Histories.{asked_by}
 use Rattle.pg_world.proofs.Applying.{take_applies, act_applies}
@@ -69,27 +72,35 @@ is_pair_so size x y a b n = (λ j. lt-ltb x size a j && (lt-ltb y size b j && no
 pub pair_turned : (size x y : ℕ) → is_pair size x y ≡ true → is_pair size y x ≡ true
 pair_turned size x y e = let p = pair_is size x y e in is_pair_so size y x p.1 p.0 (λ d. p.2 (sym d))
 
--- What an event of node i has left of the traffic: the node is another, which has made this turn, its packets are on their
--- ways, and whatever else is on the way is what is said of it.
-pub record Turned (config : Config) (traffic traffic2 : Traffic) (i : ℕ) (node after : Seen) (t : TimedTurn) (done : Done) : Type 0 where
-  pub here : slice_get traffic.nodes i ≡ Some node
-  pub nodes : traffic2.nodes ≡ slice_set traffic.nodes i after
+-- What an event of node i has left of the nodes: the node is another, which has made this turn, and what it did can be sent.
+pub record Turned (nodes nodes2 : List Seen) (i : ℕ) (node after : Seen) (t : TimedTurn) (done : Done) : Type 0 where
+  pub here : slice_get nodes i ≡ Some node
+  pub set : nodes2 ≡ slice_set nodes i after
   pub names : after.names ≡ node.names
   pub ports : after.ports ≡ node.ports
   pub happened : Happens node.names t done after.state node.answers after.answers
   pub fits : AreSendable node.names done.sends.items
-  pub sent : (k : ℕ) → way_at traffic2 i k ≡ way_at traffic i k ++ packets_to done.sends.items k
 
-module _ (config : Config) (traffic traffic2 : Traffic) (w : TimedFrameWorld) (e : Event Action) (node after : Seen) (t : TimedTurn) (done : Done)
-    (shows : ShowsTraffic config traffic w) (turned : Turned config traffic traffic2 (node_of e) node after t done) where
-  i : ℕ
-  i = node_of e
+-- What an event has left of what was on the way: what its node sent stands behind what was on the way from there, the packet
+-- that it took is gone, and all else is as it was.
+pub record Passes (config : Config) (e : Event Action) (sends : List (ℕ × Packet)) (w v : TimedFrameWorld) : Type 0 where
+  pub own : (y : ℕ) → is_pair (length config) (node_of e) y ≡ true → v.wire (node_of e) y ≡ w.wire (node_of e) y ++ packets_to sends (peer_place (node_of e) y)
+  pub taken : (x y : ℕ) → Takes e x y → (packet : Stamped Message) × (w.wire x y ≡ packet ∷ v.wire x y)
+  pub others : (x y : ℕ) → x ≢ node_of e → (Takes e x y → ⊥) → v.wire x y ≡ w.wire x y
 
+-- What an event of the world w has left, by which an update that was asked for was applied or another began.
+pub record Left (config : Config) (nodes2 : List Seen) (e : Event Action) (sends : List (ℕ × Packet)) (asked : Option Update) (began : Option (OpId × Update)) (w v : TimedFrameWorld) : Type 0 where
+  pub nodes : ShowsNodes config nodes2 v
+  pub ways : Passes config e sends w v
+  pub records : Records w v (node_of e) asked began
+
+module _ (config : Config) (nodes nodes2 : List Seen) (w : TimedFrameWorld) (e : Event Action) (node after : Seen) (t : TimedTurn) (done : Done)
+    (shows : ShowsNodes config nodes w) (turned : Turned nodes nodes2 (node_of e) node after t done) where
   shown : ShowsNode config w (node_of e) node
-  shown = shows.nodes (node_of e) node turned.here
+  shown = shows.each (node_of e) node turned.here
 
   within : node_of e < length config
-  within = let l = slice_get_within traffic.nodes (node_of e) node turned.here in omega (arith, l, shows.size)
+  within = let l = slice_get_within nodes (node_of e) node turned.here in omega (arith, l, shows.size)
 
   abbrev turn : Turn (Timed State) (Stamped Message) Report
   turn = place_timed config t
@@ -139,52 +150,48 @@ module _ (config : Config) (traffic traffic2 : Traffic) (w : TimedFrameWorld) (e
           (subst (λ zs. AreAnswers (name_at config j) zs (other.answers port)) (sym (answers_other j (node_of e) port w.reported t.reported n)) (h.answers port));
     }
 
-    nodes_shown : (j : ℕ) (other : Seen) → slice_get traffic2.nodes j ≡ Some other → ShowsNode config v j other
+    nodes_shown : (j : ℕ) (other : Seen) → slice_get nodes2 j ≡ Some other → ShowsNode config v j other
     nodes_shown j other at = go (cases_eq j (node_of e))
       where
-        there : slice_get (slice_set traffic.nodes (node_of e) after) j ≡ Some other
-        there = ap (λ ns. slice_get ns j) (sym turned.nodes) ∙ at
+        there : slice_get (slice_set nodes (node_of e) after) j ≡ Some other
+        there = ap (λ ns. slice_get ns j) (sym turned.set) ∙ at
 
         go : (j ≡ node_of e) ⊎ (j ≢ node_of e) → ShowsNode config v j other
         go (inl d) = subst (λ k. ShowsNode config v k other) (sym d) (subst (ShowsNode config v (node_of e))
-            (set_here traffic.nodes (node_of e) after other (subst (λ k. slice_get (slice_set traffic.nodes (node_of e) after) k ≡ Some other) d there)) own_shown)
-        go (inr n) = other_shown j other n (shows.nodes j other (sym (set_other traffic.nodes (node_of e) j after n) ∙ there))
+            (set_here nodes (node_of e) after other (subst (λ k. slice_get (slice_set nodes (node_of e) after) k ≡ Some other) d there)) own_shown)
+        go (inr n) = other_shown j other n (shows.each j other (sym (set_other nodes (node_of e) j after n) ∙ there))
 
-    -- the ways from the node
-    own_way : (y : ℕ) → is_pair (length config) (node_of e) y ≡ true → v.wire (node_of e) y ≡ on_the_way traffic2 (node_of e) y
+    -- what is on the way from the node
+    own_way : (y : ℕ) → is_pair (length config) (node_of e) y ≡ true → v.wire (node_of e) y ≡ w.wire (node_of e) y ++ packets_to done.sends.items (peer_place (node_of e) y)
     own_way y pair = let p = pair_is (length config) (node_of e) y pair in
-        changes.sent y ∙ ((λ j. shows.ways (node_of e) y pair j ++ sends_there y p.1 p.2 j) ∙ sym (turned.sent (peer_place (node_of e) y)))
+        changes.sent y ∙ ap (λ xs. w.wire (node_of e) y ++ xs) (sends_there y p.1 p.2)
 
     own_nowhere : (y : ℕ) → is_pair (length config) (node_of e) y ≡ false → v.wire (node_of e) y ≡ []
     own_nowhere y none = changes.sent y ∙ (λ j. shows.nowhere (node_of e) y none j ++ sends_nowhere y none j)
 
-    -- the whole, by what is said of the ways from the others
-    pub shown_after : ((x y : ℕ) → x ≢ node_of e → is_pair (length config) x y ≡ true → v.wire x y ≡ on_the_way traffic2 x y)
-        → ((x y : ℕ) → is_pair (length config) x y ≡ false → Takes e x y → ⊥) → ShowsTraffic config traffic2 v
-    shown_after others untaken = record {
+    pub ways_after : Passes config e done.sends.items w v
+    ways_after = record { own = own_way; taken = changes.taken; others = changes.ways }
+
+    pub shown_after : ((x y : ℕ) → is_pair (length config) x y ≡ false → Takes e x y → ⊥) → ShowsNodes config nodes2 v
+    shown_after untaken = record {
       apart = shows.apart;
-      size = ap length turned.nodes ∙ (length-set traffic.nodes (node_of e) after ∙ shows.size);
-      nodes = nodes_shown;
-      ways = λ x y pair. way_cases x y pair (cases_eq x (node_of e));
+      size = ap length turned.set ∙ (length-set nodes (node_of e) after ∙ shows.size);
+      each = nodes_shown;
       nowhere = λ x y none. none_cases x y none (cases_eq x (node_of e));
     }
       where
-        way_cases : (x y : ℕ) → is_pair (length config) x y ≡ true → (x ≡ node_of e) ⊎ (x ≢ node_of e) → v.wire x y ≡ on_the_way traffic2 x y
-        way_cases x y pair (inl d) = subst (λ k. v.wire k y ≡ on_the_way traffic2 k y) (sym d) (own_way y (subst (λ k. is_pair (length config) k y ≡ true) d pair))
-        way_cases x y pair (inr n) = others x y n pair
-
         none_cases : (x y : ℕ) → is_pair (length config) x y ≡ false → (x ≡ node_of e) ⊎ (x ≢ node_of e) → v.wire x y ≡ []
         none_cases x y none (inl d) = subst (λ k. v.wire k y ≡ []) (sym d) (own_nowhere y (subst (λ k. is_pair (length config) k y ≡ false) d none))
         none_cases x y none (inr n) = changes.ways x y n (untaken x y none) ∙ shows.nowhere x y none
 
 -- ---- something of its own
 
-module _ (config : Config) (traffic : Traffic) (w : TimedFrameWorld) (i : ℕ) (action : Action) (node : Seen) (shows : ShowsTraffic config traffic w) (here : slice_get traffic.nodes i ≡ Some node) where
+module _ (config : Config) (nodes : List Seen) (w : TimedFrameWorld) (i : ℕ) (action : Action) (node : Seen) (shows : ShowsNodes config nodes w) (here : slice_get nodes i ≡ Some node) where
   its : ShowsNode config w i node
-  its = shows.nodes i node here
+  its = shows.each i node here
 
   its_place : is_place (length config) i ≡ true
-  its_place = let l = slice_get_within traffic.nodes i node here in lt-ltb i (length config) (omega (arith, l, shows.size))
+  its_place = let l = slice_get_within nodes i node here in lt-ltb i (length config) (omega (arith, l, shows.size))
 
   -- what the node tells is what the configuration's tells
   own_told : step_act (whole_in node.names) node.ports action node.state ≡ step_act (nodes_at config i) (ports_at config i) action (w.node i)
@@ -210,70 +217,53 @@ module _ (config : Config) (traffic : Traffic) (w : TimedFrameWorld) (i : ℕ) (
       go (Err refusal) TooLong is h = absurd (cc)
       go (Err refusal) Damaged is h = absurd (cc)
 
-  module _ (traffic2 : Traffic) (after : Seen) (done : Done) (nodes : traffic2.nodes ≡ slice_set traffic.nodes i after) (names : after.names ≡ node.names) (ports : after.ports ≡ node.ports)
-      (fits : AreSendable node.names done.sends.items) (sent : (k : ℕ) → way_at traffic2 i k ≡ way_at traffic i k ++ packets_to done.sends.items k)
-      (others : (x : ℕ) → x ≢ i → (k : ℕ) → way_at traffic2 x k ≡ way_at traffic x k) where
+  module _ (nodes2 : List Seen) (after : Seen) (done : Done) (set : nodes2 ≡ slice_set nodes i after) (names : after.names ≡ node.names) (ports : after.ports ≡ node.ports)
+      (fits : AreSendable node.names done.sends.items) where
     own_so : (t : TimedTurn) → step_act (whole_in node.names) node.ports action node.state ≡ Ok t → Happens node.names t done after.state node.answers after.answers
-        → ComesTo config w (Do i action) (Ok HasHappened) (λ v. ShowsTraffic config traffic2 v × Records w v i None done.began)
+        → ComesTo config w (Do i action) (Ok HasHappened) (Left config nodes2 (Do i action) done.sends.items None done.began w)
     own_so t is happened =
         let turn = place_timed config t in
         let v = perform (without_input w (Do i action)) i turn in
         let made : (frame_machine config).step i (w.node i) (Own action) ≡ Some turn =
         same_step config ((w.node i).clock + 1) (node_acts (nodes_at config i) (ports_at config i) action (w.node i).state) ∙ ap (timed_placed config) (sym own_told ∙ is) in
         let changes : Changes (Do i action) turn w v = turn_changes (length config) w (Do i action) (Own action) turn its_place refl in
-        let turned : Turned config traffic traffic2 i node after t done =
-        record { here = here; nodes = nodes; names = names; ports = ports; happened = happened; fits = fits; sent = sent } in (
+        let turned : Turned nodes nodes2 i node after t done =
+        record { here = here; set = set; names = names; ports = ports; happened = happened; fits = fits } in (
           v,
           happens_so (frame_machine config) w v (Do i action) (record { there = its_place; input = Own action; given = refl; turn = turn; made = made; leaves = refl }),
-          (
-            shown_after config traffic traffic2 w (Do i action) node after t done shows turned v changes
-                (λ x y n pair. changes.ways x y n (λ never. never) ∙ (shows.ways x y pair ∙ sym (others x n (peer_place x y))))
-                (λ x y none never. never),
-            records_so w v i None t.reported done.began refl happened.told.began (act_applies (whole_in node.names) node.ports action node.state t is),
-          ),
+          record {
+            nodes = shown_after config nodes nodes2 w (Do i action) node after t done shows turned v changes (λ x y none never. never);
+            ways = ways_after config nodes nodes2 w (Do i action) node after t done shows turned v changes;
+            records = records_so w v i None t.reported done.began refl happened.told.began (act_applies (whole_in node.names) node.ports action node.state t is);
+          },
         )
 
     -- it happened
-    pub own_happened : Comes node.names (step_act (whole_in node.names) node.ports action node.state) (Ok done) after.state node.answers after.answers
-        → ComesTo config w (Do i action) (Ok HasHappened) (λ v. ShowsTraffic config traffic2 v × Records w v i None done.began)
-    own_happened comes = go (step_act (whole_in node.names) node.ports action node.state) refl comes
+    pub own_left : Comes node.names (step_act (whole_in node.names) node.ports action node.state) (Ok done) after.state node.answers after.answers
+        → ComesTo config w (Do i action) (Ok HasHappened) (Left config nodes2 (Do i action) done.sends.items None done.began w)
+    own_left comes = go (step_act (whole_in node.names) node.ports action node.state) refl comes
       where
         go : (r : Result TimedTurn Refusal) → step_act (whole_in node.names) node.ports action node.state ≡ r
-            → Comes node.names r (Ok done) after.state node.answers after.answers → ComesTo config w (Do i action) (Ok HasHappened) (λ v. ShowsTraffic config traffic2 v × Records w v i None done.began)
+            → Comes node.names r (Ok done) after.state node.answers after.answers → ComesTo config w (Do i action) (Ok HasHappened) (Left config nodes2 (Do i action) done.sends.items None done.began w)
         go (Ok t) is h = own_so t is h
         go (Err refusal) is h = absurd (cc)
 
 -- ---- a packet is taken
 
-module _ (config : Config) (traffic : Traffic) (w : TimedFrameWorld) (i p : ℕ) (shows : ShowsTraffic config traffic w) (pair : is_pair (length traffic.nodes) i p ≡ true) where
-  pair_there : is_pair (length config) i p ≡ true
+module _ (config : Config) (nodes : List Seen) (w : TimedFrameWorld) (i p : ℕ) (shows : ShowsNodes config nodes w) (pair : is_pair (length nodes) i p ≡ true) where
+  pub pair_there : is_pair (length config) i p ≡ true
   pair_there = ap (λ n. is_pair n i p) (sym shows.size) ∙ pair
 
-  wire_is : w.wire p i ≡ on_the_way traffic p i
-  wire_is = shows.ways p i (pair_turned (length config) i p pair_there)
-
-  take_told : told config w (Take i p) ≡ told_of_first (nodes_at config i) (name_at config p) (w.node i) (on_the_way traffic p i)
+  take_told : told config w (Take i p) ≡ told_of_first (nodes_at config i) (name_at config p) (w.node i) (w.wire p i)
   take_told = ap (λ b. cond b (told_of_first (nodes_at config i) (name_at config p) (w.node i) (w.wire p i)) (Some (Err NoSuchPlace))) pair_there
-      ∙ ap (told_of_first (nodes_at config i) (name_at config p) (w.node i)) wire_is
 
   -- nothing is on the way
-  pub take_nothing : None ≡ first_of (on_the_way traffic p i) → (Shown : TimedFrameWorld → Type 0) → ComesTo config w (Take i p) (Ok Nothing) Shown
-  take_nothing none Shown = take_told ∙ go (on_the_way traffic p i) none
-    where
-      go : (xs : List (Stamped Message)) → None ≡ first_of xs → told_of_first (nodes_at config i) (name_at config p) (w.node i) xs ≡ None
-      go [] e = refl
-      go (x ∷ xs) e = absurd (cc)
+  pub none_told : w.wire p i ≡ [] → told config w (Take i p) ≡ None
+  none_told none = take_told ∙ ap (told_of_first (nodes_at config i) (name_at config p) (w.node i)) none
 
-  module _ (node : Seen) (here : slice_get traffic.nodes i ≡ Some node) (x : Stamped Message) (first : Some x ≡ first_of (on_the_way traffic p i)) where
+  module _ (node : Seen) (here : slice_get nodes i ≡ Some node) (x : Stamped Message) (rest : List (Stamped Message)) (begins : w.wire p i ≡ x ∷ rest) where
     taker : ShowsNode config w i node
-    taker = shows.nodes i node here
-
-    begins : on_the_way traffic p i ≡ x ∷ drop 1 (on_the_way traffic p i)
-    begins = go (on_the_way traffic p i) first
-      where
-        go : (xs : List (Stamped Message)) → Some x ≡ first_of xs → xs ≡ x ∷ drop 1 xs
-        go [] e = absurd (cc)
-        go (y ∷ ys) e = let same : y ≡ x = cc in ap (λ z. z ∷ ys) same
+    taker = shows.each i node here
 
     place_there : i < length config
     place_there = (pair_is (length config) i p pair_there).0
@@ -282,20 +272,18 @@ module _ (config : Config) (traffic : Traffic) (w : TimedFrameWorld) (i p : ℕ)
     peer_is = ap (λ ns. place_name ns (peer_place i p + 1)) taker.names ∙ (peer_name config i place_there (peer_place i p)
         ∙ (ap (place_name (names_of config)) (there_and_back i p (pair_is (length config) i p pair_there).2) ∙ sym (named config i place_there p)))
 
-    told_here : Result TimedTurn Refusal
-    told_here = step_take (whole_in node.names) (place_name node.names (peer_place i p + 1)) x node.state
-
-    taken_told : step_take (whole_in node.names) (place_name node.names (peer_place i p + 1)) x node.state ≡ step_take (nodes_at config i) (name_at config p) x (w.node i)
+    -- what the node tells is what the configuration's tells
+    pub taken_told : step_take (whole_in node.names) (place_name node.names (peer_place i p + 1)) x node.state ≡ step_take (nodes_at config i) (name_at config p) x (w.node i)
     taken_told = λ j. step_take (whole_in (taker.names j)) (peer_is j) x (sym taker.state j)
 
     take_is : told config w (Take i p) ≡ Some (step_take (whole_in node.names) (place_name node.names (peer_place i p + 1)) x node.state)
     take_is = take_told ∙ (ap (told_of_first (nodes_at config i) (name_at config p) (w.node i)) begins ∙ ap Some (sym taken_told))
 
     -- it is refused
-    pub take_refused : (fault : NodeFault) (s : Timed State) (before after : ℕ → List Answer) (Shown : TimedFrameWorld → Type 0)
+    pub taken_refused : (fault : NodeFault) (s : Timed State) (before after : ℕ → List Answer) (Shown : TimedFrameWorld → Type 0)
         → Comes node.names (step_take (whole_in node.names) (place_name node.names (peer_place i p + 1)) x node.state) (Err fault) s before after
         → ComesTo config w (Take i p) (Err fault) Shown
-    take_refused fault s before after Shown comes = go (step_take (whole_in node.names) (place_name node.names (peer_place i p + 1)) x node.state) fault take_is comes
+    taken_refused fault s before after Shown comes = go (step_take (whole_in node.names) (place_name node.names (peer_place i p + 1)) x node.state) fault take_is comes
       where
         go : (r : Result TimedTurn Refusal) (fault : NodeFault) → told config w (Take i p) ≡ Some r → Comes node.names r (Err fault) s before after → ComesTo config w (Take i p) (Err fault) Shown
         go (Ok t) OutOfMemory is h = tt
@@ -309,53 +297,37 @@ module _ (config : Config) (traffic : Traffic) (w : TimedFrameWorld) (i p : ℕ)
         go (Err refusal) TooLong is h = absurd (cc)
         go (Err refusal) Damaged is h = absurd (cc)
 
-    module _ (traffic2 : Traffic) (after : Seen) (done : Done) (nodes : traffic2.nodes ≡ slice_set traffic.nodes i after) (names : after.names ≡ node.names) (ports : after.ports ≡ node.ports)
-        (fits : AreSendable node.names done.sends.items) (sent : (k : ℕ) → way_at traffic2 i k ≡ way_at traffic i k ++ packets_to done.sends.items k)
-        (passed : way_at traffic2 p (peer_place p i) ≡ drop 1 (way_at traffic p (peer_place p i)))
-        (others : (a k : ℕ) → a ≢ i → ((a ≡ p) × (k ≡ peer_place p i) → ⊥) → way_at traffic2 a k ≡ way_at traffic a k) where
+    module _ (nodes2 : List Seen) (after : Seen) (done : Done) (set : nodes2 ≡ slice_set nodes i after) (names : after.names ≡ node.names) (ports : after.ports ≡ node.ports)
+        (fits : AreSendable node.names done.sends.items) where
       take_so : (t : TimedTurn) → step_take (whole_in node.names) (place_name node.names (peer_place i p + 1)) x node.state ≡ Ok t
-          → Happens node.names t done after.state node.answers after.answers → ComesTo config w (Take i p) (Ok HasHappened) (λ v. ShowsTraffic config traffic2 v × Records w v i (asked_by x.packet) done.began)
+          → Happens node.names t done after.state node.answers after.answers → ComesTo config w (Take i p) (Ok HasHappened) (Left config nodes2 (Take i p) done.sends.items (asked_by x.packet) done.began w)
       take_so t is happened =
           let turn = place_timed config t in
           let v = perform (without_input {C = Action} w (Take i p)) i turn in
           let made : (frame_machine config).step i (w.node i) (Taken p x) ≡ Some turn =
           same_step config (max (w.node i).clock x.stamp + 1) (node_takes (nodes_at config i) (name_at config p) x.packet (w.node i).state) ∙ ap (timed_placed config) (sym taken_told ∙ is) in
-          let given : input_of w (Take i p) ≡ Some (Taken p x) = ap (first_from p) (wire_is ∙ begins) in
+          let given : input_of w (Take i p) ≡ Some (Taken p x) = ap (first_from p) begins in
           let changes : Changes (Take i p) turn w v = turn_changes (length config) w (Take i p) (Taken p x) turn pair_there given in
-          let turned : Turned config traffic traffic2 i node after t done =
-          record { here = here; nodes = nodes; names = names; ports = ports; happened = happened; fits = fits; sent = sent } in (
+          let turned : Turned nodes nodes2 i node after t done =
+          record { here = here; set = set; names = names; ports = ports; happened = happened; fits = fits } in (
             v,
             happens_so (frame_machine config) w v (Take i p) (record { there = pair_there; input = Taken p x; given = given; turn = turn; made = made; leaves = refl }),
-            (
-              shown_after config traffic traffic2 w (Take i p) node after t done shows turned v changes (ways_so v changes) nowhere_taken,
-              records_so w v i (asked_by x.packet) t.reported done.began refl happened.told.began (take_applies (whole_in node.names) (place_name node.names (peer_place i p + 1)) x node.state t is),
-            ),
+            record {
+              nodes = shown_after config nodes nodes2 w (Take i p) node after t done shows turned v changes nowhere_taken;
+              ways = ways_after config nodes nodes2 w (Take i p) node after t done shows turned v changes;
+              records = records_so w v i (asked_by x.packet) t.reported done.began refl happened.told.began (take_applies (whole_in node.names) (place_name node.names (peer_place i p + 1)) x node.state t is);
+            },
           )
         where
           nowhere_taken : (a y : ℕ) → is_pair (length config) a y ≡ false → (p ≡ a) × (i ≡ y) → ⊥
           nowhere_taken a y none both = let there : true ≡ false = sym (pair_turned (length config) i p pair_there) ∙ ((λ j. is_pair (length config) (both.0 j) (both.1 j)) ∙ none) in absurd (cc)
 
-          ways_so : (v : TimedFrameWorld) → Changes {C = Action} (Take i p) (place_timed config t) w v → (a y : ℕ) → a ≢ i → is_pair (length config) a y ≡ true → v.wire a y ≡ on_the_way traffic2 a y
-          ways_so v changes a y n there = go (cases_eq p a) (cases_eq i y)
-            where
-              rest_is : v.wire p i ≡ on_the_way traffic2 p i
-              rest_is = let gone = changes.taken p i (refl, refl) in sym (ap (drop 1) gone.1) ∙ (ap (drop 1) wire_is ∙ sym passed)
-
-              stays : ((p ≡ a) × (i ≡ y) → ⊥) → ((a ≡ p) × (peer_place a y ≡ peer_place p i) → ⊥) → v.wire a y ≡ on_the_way traffic2 a y
-              stays untaken apart = changes.ways a y n untaken ∙ (shows.ways a y there ∙ sym (others a (peer_place a y) n apart))
-
-              go : (p ≡ a) ⊎ (p ≢ a) → (i ≡ y) ⊎ (i ≢ y) → v.wire a y ≡ on_the_way traffic2 a y
-              go (inl e) (inl d) = subst (λ k. v.wire k y ≡ on_the_way traffic2 k y) e (subst (λ k. v.wire p k ≡ on_the_way traffic2 p k) d rest_is)
-              go (inr m) d = stays (λ both. m both.0) (λ both. m (sym both.0))
-              go (inl e) (inr m) = stays (λ both. m both.1)
-                  (λ both. peers_differ p y i (λ f. (pair_is (length config) a y there).2 (f ∙ e)) (λ f. (pair_is (length config) i p pair_there).2 (sym f)) (λ f. m (sym f)) (ap (λ k. peer_place k y) e ∙ both.1))
-
       -- it happened
-      pub take_happened : Comes node.names (step_take (whole_in node.names) (place_name node.names (peer_place i p + 1)) x node.state) (Ok done) after.state node.answers after.answers
-          → ComesTo config w (Take i p) (Ok HasHappened) (λ v. ShowsTraffic config traffic2 v × Records w v i (asked_by x.packet) done.began)
-      take_happened comes = go (step_take (whole_in node.names) (place_name node.names (peer_place i p + 1)) x node.state) refl comes
+      pub take_left : Comes node.names (step_take (whole_in node.names) (place_name node.names (peer_place i p + 1)) x node.state) (Ok done) after.state node.answers after.answers
+          → ComesTo config w (Take i p) (Ok HasHappened) (Left config nodes2 (Take i p) done.sends.items (asked_by x.packet) done.began w)
+      take_left comes = go (step_take (whole_in node.names) (place_name node.names (peer_place i p + 1)) x node.state) refl comes
         where
           go : (r : Result TimedTurn Refusal) → step_take (whole_in node.names) (place_name node.names (peer_place i p + 1)) x node.state ≡ r
-              → Comes node.names r (Ok done) after.state node.answers after.answers → ComesTo config w (Take i p) (Ok HasHappened) (λ v. ShowsTraffic config traffic2 v × Records w v i (asked_by x.packet) done.began)
+              → Comes node.names r (Ok done) after.state node.answers after.answers → ComesTo config w (Take i p) (Ok HasHappened) (Left config nodes2 (Take i p) done.sends.items (asked_by x.packet) done.began w)
           go (Ok t) is h = take_so t is h
           go (Err refusal) is h = absurd (cc)

@@ -17,6 +17,7 @@ use Rattle.pg_world.specs.declared.entry.Entry.{Entry}
 use Rattle.pg_world.specs.declared.histories.Histories.{Histories}
 use Rattle.pg_world.specs.declared.row.Row.{Row}
 use Rattle.pg_world.specs.declared.tally.Tally.{Tally}
+use Rattle.pg_world.specs.Views.{Account}
 
 -- ---- how many updates each node has applied
 
@@ -72,6 +73,9 @@ history_in histories name = entries_in histories.rows name ++ of_group name (las
 -- how many updates of a group a node has applied
 abbrev pub applied_in : Histories → ℕ → Term → ℕ
 applied_in histories i name = counts_in histories.rows i name + last_count histories.last i name
+
+abbrev pub account_of : Histories → Account
+account_of histories = record { histories = history_in histories; applied = applied_in histories }
 
 -- each entry is in its row
 abbrev pub IsSettled : Histories → Type 0

@@ -1,3 +1,4 @@
+pub mod Crossings
 pub mod Histories
 pub mod Runs
 pub mod Short

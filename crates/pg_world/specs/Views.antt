@@ -70,16 +70,23 @@ pub record Traffic : Type 0 where
 abbrev pub traffic_in : {T : Type 0} {g : Ghosts T} → List (NodeState T g) → List Outgoing → Traffic
 traffic_in nodes outgoing = record { nodes = map seen_of nodes; ways = map ways_of outgoing }
 
--- A world as it is seen: its nodes and what is on the way, the history of each group, and how many of its updates each node
--- has applied.
-pub record View : Type 0 where
-  pub traffic : Traffic
+-- the history of each group, and how many of its updates each node has applied
+pub record Account : Type 0 where
   pub histories : Term → List Entry
   pub applied : ℕ → Term → ℕ
 
+-- nothing has begun
+abbrev pub no_account : Account
+no_account = record { histories = λ name. []; applied = λ i name. 0 }
+
+-- a world as it is seen: its nodes and what is on the way, and what it has kept of its updates
+pub record View : Type 0 where
+  pub traffic : Traffic
+  pub account : Account
+
 -- a world where nothing has begun
 abbrev pub fresh_view : Traffic → View
-fresh_view traffic = record { traffic = traffic; histories = λ name. []; applied = λ i name. 0 }
+fresh_view traffic = record { traffic = traffic; account = no_account }
 
 -- nodes between which nothing is on the way, and at which nothing has begun
 abbrev pub idle_view : {T : Type 0} {g : Ghosts T} → List (NodeState T g) → View

@@ -25,17 +25,17 @@ use Rattle.pg_node.specs.declared.state.fault.NodeFault.TheVariants.{Refused, Ou
 use Rattle.pg_world.specs.declared.step.FrameStep.{FrameStep}
 use Rattle.pg_world.specs.declared.step.FrameStep.TheVariants as steps
 use Rattle.pg_world.specs.declared.step.Stepped.{Stepped}
-use Rattle.pg_world.specs.declared.step.Stepped.TheVariants.{Nothing, Happened}
+use Rattle.pg_world.specs.declared.step.Stepped.TheVariants.{Nothing, Moved, Happened}
 use Rattle.pg_world.specs.declared.world.FrameWorld.{FrameWorld}
-use Rattle.pg_world.specs.Histories.{history_in, applied_in}
-use Rattle.pg_world.specs.Views.{Seen, Traffic, View, traffic_in, on_the_way}
+use Rattle.pg_world.specs.Histories.{account_of}
+use Rattle.pg_world.specs.Views.{Seen, Traffic, Account, View, traffic_in, on_the_way}
 
 -- a world as it is seen
 abbrev pub traffic_of : {T : Type 0} {g : Ghosts T} → FrameWorld T g → Traffic
 traffic_of world = traffic_in world.nodes.items world.outgoing.items
 
 abbrev pub view_of : {T : Type 0} {g : Ghosts T} → FrameWorld T g → View
-view_of world = record { traffic = traffic_of world; histories = history_in world.histories; applied = applied_in world.histories }
+view_of world = record { traffic = traffic_of world; account = account_of world.histories }
 
 -- ---- the frame world that it shows
 
@@ -56,21 +56,28 @@ pub record ShowsNode (config : Config) (w : TimedFrameWorld) (i : ℕ) (node : S
   pub state : w.node i ≡ node.state
   pub answers : (port : ℕ) → AreAnswers (name_at config i) (answers_by i w.reported port) (node.answers port)
 
--- The nodes of a frame world and what is on the way there are as they are seen.
-pub record ShowsTraffic (config : Config) (traffic : Traffic) (w : TimedFrameWorld) : Type 0 where
+-- The nodes of a frame world are as they are seen, each at its place, and they are those of the configuration.
+pub record ShowsNodes (config : Config) (nodes : List Seen) (w : TimedFrameWorld) : Type 0 where
   pub apart : IsDistinct same_atom (names_in config)
-  pub size : length traffic.nodes ≡ length config
-  pub nodes : (i : ℕ) (node : Seen) → slice_get traffic.nodes i ≡ Some node → ShowsNode config w i node
-  pub ways : (x y : ℕ) → is_pair (length config) x y ≡ true → w.wire x y ≡ on_the_way traffic x y
+  pub size : length nodes ≡ length config
+  pub each : (i : ℕ) (node : Seen) → slice_get nodes i ≡ Some node → ShowsNode config w i node
   -- nothing is on the way between places that are not there, or from a node to itself
   pub nowhere : (x y : ℕ) → is_pair (length config) x y ≡ false → w.wire x y ≡ []
 
--- A world shows a frame world of a configuration: its nodes and what is on the way, the histories of its groups, and how many
--- updates each node has applied.
+-- The nodes of a frame world and what is on the way there are as they are seen.
+pub record ShowsTraffic (config : Config) (traffic : Traffic) (w : TimedFrameWorld) : Type 0 where
+  pub nodes : ShowsNodes config traffic.nodes w
+  pub ways : (x y : ℕ) → is_pair (length config) x y ≡ true → w.wire x y ≡ on_the_way traffic x y
+
+-- What is kept of the updates is what a frame world tells: the history of each group, and how many each node has applied.
+pub record ShowsUpdates (account : Account) (w : TimedFrameWorld) : Type 0 where
+  pub history : (name : Term) → account.histories name ≡ history name w.reported
+  pub applied : (i : ℕ) (name : Term) → account.applied i name ≡ applied_count i name w.reported
+
+-- a world shows a frame world of a configuration: its nodes, what is on the way, and its updates
 pub record Shows (config : Config) (view : View) (w : TimedFrameWorld) : Type 0 where
   pub traffic : ShowsTraffic config view.traffic w
-  pub history : (name : Term) → view.histories name ≡ history name w.reported
-  pub applied : (i : ℕ) (name : Term) → view.applied i name ≡ applied_count i name w.reported
+  pub updates : ShowsUpdates view.account w
 
 -- ---- steps
 
@@ -81,14 +88,14 @@ event_of (steps.Command node port command) = Do node (Issue port command)
 event_of (steps.Retry node op) = Do node (Retry op)
 
 -- a node has that port
-abbrev pub has_port : Traffic → ℕ → ℕ → Bool
-has_port traffic i port = option_map_or (λ node. nat_lt port node.ports) (slice_get traffic.nodes i) false
+abbrev pub has_port : List Seen → ℕ → ℕ → Bool
+has_port nodes i port = option_map_or (λ node. nat_lt port node.ports) (slice_get nodes i) false
 
 -- the places that a step names are there
-abbrev pub has_places : Traffic → FrameStep → Bool
-has_places traffic (steps.Take node peer) = is_pair (length traffic.nodes) node peer
-has_places traffic (steps.Command node port command) = has_port traffic node port
-has_places traffic (steps.Retry node op) = has_port traffic node op.port
+abbrev pub has_places : List Seen → FrameStep → Bool
+has_places nodes (steps.Take node peer) = is_pair (length nodes) node peer
+has_places nodes (steps.Command node port command) = has_port nodes node port
+has_places nodes (steps.Retry node op) = has_port nodes node op.port
 
 -- what the step of a node tells of the first packet of a peer; None where there is none
 abbrev pub told_of_first : Nodes → Node → Timed State → List (Stamped Message) → Option (Result TimedTurn Refusal)
@@ -105,6 +112,7 @@ told config w (Do i action) = Some (cond (is_place (length config) i) (step_act 
 abbrev pub ComesTo : Config → TimedFrameWorld → Event Action → Result Stepped NodeFault → (TimedFrameWorld → Type 0) → Type 0
 ComesTo config w e (Ok Happened) Shown = (v : TimedFrameWorld) × (happens (frame_machine config) w e ≡ Some v) × Shown v
 ComesTo config w e (Ok Nothing) Shown = told config w e ≡ None
+ComesTo config w e (Ok (Moved count)) Shown = ⊥
 ComesTo config w e (Err OutOfMemory) Shown = Unit {0}
 ComesTo config w e (Err (Refused refusal)) Shown = told config w e ≡ Some (Err refusal)
 ComesTo config w e (Err fault) Shown = ⊥

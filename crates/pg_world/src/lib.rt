@@ -2,10 +2,12 @@
 #![tactic(auto)]
 
 mod begun;
+mod bytes;
 mod entry;
 mod histories;
 mod laws;
 mod outgoing;
+mod rings;
 mod row;
 mod rows;
 mod run;
@@ -15,8 +17,9 @@ mod tally;
 mod way;
 mod world;
 
+pub use bytes::World;
 pub use entry::Entry;
 pub use laws::orders_keep_tables;
 pub use run::run_frames;
-pub use step::{FrameStep, Stepped};
+pub use step::{FrameStep, Step, Stepped};
 pub use world::FrameWorld;

@@ -78,7 +78,7 @@ impl<T: GroupTable + Drop> FrameWorld<T> {
     /// The updates of a group in the order in which they got their last grant, each with its node and its command: a slice, and
     /// one more behind it, where the last event began it. It takes no memory: O(log n) in the groups that were named.
     pub fn history(&self, name: &Term) -> (&[Entry], Option<&Entry>)
-        ensures { map as_entry result.0.now ++ last_entries (option_copied result.1) ≡ (view_of self.now).histories name.now }
+        ensures { map as_entry result.0.now ++ last_entries (option_copied result.1) ≡ (view_of self.now).account.histories name.now }
     {
         self.histories.history(name)
     }
@@ -86,7 +86,7 @@ impl<T: GroupTable + Drop> FrameWorld<T> {
     /// How many updates of a group a node has applied: those that it began, and those that it took of its peers. It takes no
     /// memory: O(log n) in the groups that were named.
     pub fn applied(&self, node: usize, name: &Term) -> u128
-        ensures { result ≡ (view_of self.now).applied node name.now }
+        ensures { result ≡ (view_of self.now).account.applied node name.now }
     {
         self.histories.applied(node, name)
     }
@@ -133,7 +133,7 @@ impl<T: GroupTable + Drop> FrameWorld<T> {
 
     /// Whether the places that a step names are there.
     fn has_places(&self, step: &FrameStep) -> bool
-        ensures { result ≡ has_places (traffic_of self.now) step.now }
+        ensures { result ≡ has_places (traffic_of self.now).nodes step.now }
     {
         match step {
             FrameStep::Take { node, peer } => self.has_pair(*node, *peer),
@@ -156,7 +156,7 @@ impl<T: GroupTable + Drop> FrameWorld<T> {
 
     /// Whether a node has that port.
     fn has_port(&self, node: usize, port: u16) -> bool
-        ensures { result ≡ has_port (traffic_of self.now) node port }
+        ensures { result ≡ has_port (traffic_of self.now).nodes node port }
     {
         match self.nodes.get(node) {
             Some(state) => usize::from(port) < state.port_count(),
@@ -205,7 +205,7 @@ impl<T: GroupTable + Drop> FrameWorld<T> {
     /// A command comes in at a port of a node.
     fn command(&mut self, node: usize, port: u16, command: &Command) -> Result<Stepped, NodeFault>
         requires settled { IsSettled self.old.histories }
-        requires port { has_port (traffic_of self.old) node port ≡ true }
+        requires port { has_port (traffic_of self.old).nodes node port ≡ true }
         ensures event { (config : Config) (w : TimedFrameWorld) → Shows config (view_of self.old) w
             → ComesTo config w (Do node (Issue port command.now)) result (Shows config (view_of self.new)) }
         ensures happens { result ≢ Ok Stepped.Nothing }
@@ -230,7 +230,7 @@ impl<T: GroupTable + Drop> FrameWorld<T> {
     /// A node tries a command again that waits.
     fn retry(&mut self, node: usize, op: OpId) -> Result<Stepped, NodeFault>
         requires settled { IsSettled self.old.histories }
-        requires port { has_port (traffic_of self.old) node op.port ≡ true }
+        requires port { has_port (traffic_of self.old).nodes node op.port ≡ true }
         ensures event { (config : Config) (w : TimedFrameWorld) → Shows config (view_of self.old) w
             → ComesTo config w (Do node (Retry op)) result (Shows config (view_of self.new)) }
         ensures happens { result ≢ Ok Stepped.Nothing }
@@ -267,7 +267,7 @@ fn no_packets(alloc: Global, count: usize) -> Result<Vec<Outgoing>, AllocError>
 }
 
 /// The place of another node among the peers of a node, which are the others in their order.
-fn peer_place(node: usize, other: usize) -> usize
+pub(crate) fn peer_place(node: usize, other: usize) -> usize
     requires { node ≢ other }
     ensures { result ≡ peer_place node other }
 {

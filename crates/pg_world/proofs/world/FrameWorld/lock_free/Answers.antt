@@ -14,7 +14,7 @@ returns g c = λ config w shows.
     let within : c.args.node < length nodes = omega (arith, c.requires.place, length-map nodes seen_of) in
     let state = c.index-state.result.now in
     let at = seen_here nodes outs c.args.node c.args.self.now.whole within state c.index-state.ensures in
-    let node = shows.traffic.nodes c.args.node (seen_of state) at in
+    let node = shows.traffic.nodes.each c.args.node (seen_of state) at in
     let locks = ap (λ t. t.state.locks c.args.name.now) node.state in
     go c.holder.result c.is_none.result c.is_none.ensures ((w.node c.args.node).state.locks c.args.name.now) (c.holder.ensures ∙ sym locks)
   where

@@ -9,7 +9,7 @@ use Rattle.pg_machine.specs.Machine.{Do}
 use Rattle.std.specs.Prelude.{None, refl}
 use Rattle.pg_world.specs.Worlds.{view_of}
 use Rattle.pg_world.proofs.Recording.{shows_all, view_is, grew_own}
-use Rattle.pg_world.proofs.Turning.{own_refused, own_happened}
+use Rattle.pg_world.proofs.Queued.{own_refused, own_happened}
 use Rattle.pg_world.proofs.Viewing.{is_set, seen_same, view_room, view_refused, seen_here, fit_ways, sent_nodes, sent_view, sent_whole, sent_there, sent_others, whole_as, way_as}
 use Rattle.pg_world.proofs.world.FrameWorld.retry.Goals as goal
 
@@ -141,7 +141,7 @@ returns-in-Ok-retry-clause-event g c =
     let whole1 = whole_as nodes outs outs1 room whole in
     λ config w shows.
     shows_all config (view_of c.args.self.now) _ w (Do c.args.node (Retry c.args.op)) c.args.node None c.in-Ok-retry.done.began shows
-    (grew_own (view_of c.args.self.now) _ c.args.node c.in-Ok-retry.done.began c.send_all.result c.send_all.ensures.began c.begin.ensures.history c.begin.ensures.applied)
+    (grew_own (view_of c.args.self.now).account _ c.args.node c.in-Ok-retry.done.began c.send_all.result c.send_all.ensures.began c.begin.ensures.history c.begin.ensures.applied)
     (own_happened config (traffic_in nodes outs) w c.args.node (Retry c.args.op) (seen_of state) shows.traffic (seen_here nodes outs c.args.node whole within state here)
     (sent_view nodes outs1 c.args.node whole1 within state here after out c.send_all.new.self sends c.in-Ok-retry.ensures.names there c.send_all.ensures.len c.send_all.ensures.sent) (seen_of after) c.in-Ok-retry.done (sent_nodes nodes outs1 c.args.node whole1 within state here after out c.send_all.new.self sends c.in-Ok-retry.ensures.names there c.send_all.ensures.len c.send_all.ensures.sent) c.in-Ok-retry.ensures.names c.in-Ok-retry.ensures.ports c.in-Ok-retry.ensures.fits
     (λ k. sent_there nodes outs1 c.args.node whole1 within state here after out c.send_all.new.self sends c.in-Ok-retry.ensures.names there c.send_all.ensures.len c.send_all.ensures.sent k ∙ ap (λ xs. xs ++ packets_to sends k) (way_as nodes outs outs1 room c.args.node k))

@@ -7,7 +7,7 @@ use Rattle.pg_world.proofs.Unplaced.{unplaced}
 use Rattle.pg_world.proofs.world.FrameWorld.step.Goals as goal
 
 pub returns-then-not-has_places-clause-event : goal.returns-then-not-has_places-clause-event
-returns-then-not-has_places-clause-event g c = λ config w shows. unplaced config (traffic_of c.args.self.now) w shows.traffic c.args.step.now (sym c.has_places.ensures ∙ c.if-not-has_places.true)
+returns-then-not-has_places-clause-event g c = λ config w shows. unplaced config (traffic_of c.args.self.now).nodes w shows.traffic.nodes c.args.step.now (sym c.has_places.ensures ∙ c.if-not-has_places.true)
 
 pub returns-in-Take-clause-event : goal.returns-in-Take-clause-event
 returns-in-Take-clause-event g c = λ config w shows.

@@ -11,7 +11,7 @@ use Rattle.std.specs.Prelude.{refl}
 use Rattle.pg_world.specs.Worlds.{view_of}
 use Rattle.pg_world.specs.Histories.{asked_by}
 use Rattle.pg_world.proofs.Recording.{shows_all, view_is, grew_taken}
-use Rattle.pg_world.proofs.Turning.{take_nothing, take_refused, take_happened}
+use Rattle.pg_world.proofs.Queued.{take_nothing, take_refused, take_happened}
 use Rattle.pg_world.proofs.Viewing.{is_set, seen_same, view_room, view_refused, seen_here, fit_ways, sent_nodes, sent_view, sent_whole, sent_there, sent_others, whole_as, way_as}
 use Rattle.pg_world.proofs.world.FrameWorld.take.Goals as goal
 
@@ -280,7 +280,7 @@ returns-in-Ok-take-clause-event g c =
     let apart = apart nodes outs whole node peer c.requires.pair in
     λ config w shows.
     shows_all config (view_of c.args.self.now) _ w (Take node peer) node (asked_by c.in-Some.packet.now.message) c.in-Ok-take.done.began shows
-    (grew_taken (view_of c.args.self.now) _ node (asked_by c.in-Some.packet.now.message) c.in-Ok-take.done.began c.send_all.result _ _ _ _ c.send_all.ensures.began
+    (grew_taken (view_of c.args.self.now).account _ node (asked_by c.in-Some.packet.now.message) c.in-Ok-take.done.began c.send_all.result _ _ _ _ c.send_all.ensures.began
     c.make_room-in-Some.ensures.history c.make_room-in-Some.ensures.applied c.serve.ensures.history c.serve.ensures.applied c.begin.ensures.history c.begin.ensures.applied)
     (take_happened config (traffic_in nodes outs) w node peer shows.traffic c.requires.pair (seen_of state) (seen_here nodes outs node whole within state here) (stamped_of c.in-Some.packet.now)
     (c.in-Some.ensures.first ∙ (ap (λ k. first_of (get_or (ways_of sender) k [])) c.peer_place.ensures ∙ ap first_of way))

@@ -1,0 +1,207 @@
+-- What a world of bytes shows once bytes have moved, or a node has made a turn.
+use Rattle.std.proofs.Common.{◌≡◌, ◌≢◌, ◌≤◌, ◌<◌, ◌+◌, ℕ, Bool, true, false, cond, nat_eq, map, get_or, length, List, [], ◌∷◌, ◌++◌, Option, Some, Result, Ok, Err, refl, sym, ap, ◌∙◌, inl, inr, ◌⊎◌, arith, subst, length-append}
+use Rattle.std.specs.Int.{w32, to_be_bytes}
+use Rattle.std.specs.List.{AllByRecursion, flat_map}
+use Rattle.std.proofs.lemmas.Bool.{cases_eq}
+use Rattle.pg_term_io.specs.Writing.{written}
+use Rattle.pg_frame.specs.Frames.{IsBody, frame, front_of, after_front}
+use Rattle.pg_message.specs.declared.message.Message.{Message}
+use Rattle.pg_message.specs.declared.packet.Packet.{Packet}
+use Rattle.pg_message.specs.Writing.{is_exchange, term_of_packet}
+use Rattle.pg_machine.specs.Places.{is_pair}
+use Rattle.pg_machine.specs.Machine.{Event, Take, Do, node_of}
+use Rattle.pg_machine.specs.Happened.{Takes}
+use Rattle.pg_machine.specs.Clocked.{Stamped}
+use Rattle.pg_pieces.specs.Pieces.{Bytes, ArePackets, AreShort, FirstPacket, frames_of, sent as bytes_sent, taken as bytes_taken}
+use Rattle.pg_step.specs.Config.{Config}
+use Rattle.pg_step.specs.Step.{Action}
+use Rattle.pg_node.specs.Links.{Link, idle_link, IsSmallFrame, AreSmallFrames, frame_of, frames_to}
+use Rattle.pg_node.specs.States.{stamped_of}
+use Rattle.pg_world.specs.Views.{Seen, peer_place, packets_to}
+use Rattle.pg_world.specs.Worlds.{TimedFrameWorld, ShowsNodes}
+use Rattle.pg_world.specs.Crossings.{Crossing, link_at, bytes_at, packet_as, packets_between, written_of, CanCross, ShowsCrossing}
+use Rattle.pg_world.proofs.Turning.{Passes, pair_is}
+
+-- the links of a node
+abbrev pub links_at : Crossing → ℕ → ℕ → Link
+links_at crossing x = get_or crossing.links x (λ place. idle_link)
+
+-- ---- bytes move
+
+-- Bytes have moved from one node to another, and all else is as it was.
+pub record Moves (crossing crossing2 : Crossing) (x y : ℕ) (change : Bytes → Bytes) : Type 0 where
+  pub nodes : crossing2.nodes ≡ crossing.nodes
+  pub here : bytes_at crossing2 x y ≡ change (bytes_at crossing x y)
+  pub others : (a b : ℕ) → is_pair (length crossing.nodes) a b ≡ true → ((a ≡ x) × (b ≡ y) → ⊥) → bytes_at crossing2 a b ≡ bytes_at crossing a b
+  pub damaged : (a b : ℕ) → (link_at crossing2 a b).damaged ≡ (link_at crossing a b).damaged
+
+pub moved_shown : (config : Config) (crossing crossing2 : Crossing) (w : TimedFrameWorld) (x y : ℕ) (change : Bytes → Bytes)
+    → ((packets : List Packet) (bytes : Bytes) → ArePackets written_of packets bytes → ArePackets written_of packets (change bytes))
+    → Moves crossing crossing2 x y change → ShowsCrossing config crossing w → ShowsCrossing config crossing2 w
+moved_shown config crossing crossing2 w x y change keeps moves shows = record {
+  nodes = subst (λ (nodes : List Seen). ShowsNodes config nodes w) (sym moves.nodes) shows.nodes;
+  ways = λ a b pair. way a b pair (cases_eq a x) (cases_eq b y);
+  cross = shows.cross;
+  sound = λ a b pair. moves.damaged a b ∙ shows.sound a b pair;
+}
+  where
+    there : (a b : ℕ) → is_pair (length config) a b ≡ true → is_pair (length crossing.nodes) a b ≡ true
+    there a b pair = ap (λ n. is_pair n a b) shows.nodes.size ∙ pair
+
+    way : (a b : ℕ) → is_pair (length config) a b ≡ true → (a ≡ x) ⊎ (a ≢ x) → (b ≡ y) ⊎ (b ≢ y) → ArePackets written_of (packets_between w a b) (bytes_at crossing2 a b)
+    way a b pair (inl e) (inl d) =
+        let here : bytes_at crossing2 a b ≡ change (bytes_at crossing a b) = (λ j. bytes_at crossing2 (e j) (d j)) ∙ (moves.here ∙ (λ j. change (bytes_at crossing (sym e j) (sym d j)))) in
+        subst (ArePackets written_of (packets_between w a b)) (sym here) (keeps (packets_between w a b) (bytes_at crossing a b) (shows.ways a b pair))
+    way a b pair (inr n) d = subst (ArePackets written_of (packets_between w a b)) (sym (moves.others a b (there a b pair) (λ both. n both.0))) (shows.ways a b pair)
+    way a b pair (inl e) (inr n) = subst (ArePackets written_of (packets_between w a b)) (sym (moves.others a b (there a b pair) (λ both. n both.1))) (shows.ways a b pair)
+
+-- what is seen as before is shown as before
+pub same_shown : (config : Config) (crossing crossing2 : Crossing) (w : TimedFrameWorld) → crossing2 ≡ crossing → ShowsCrossing config crossing w → ShowsCrossing config crossing2 w
+same_shown config crossing crossing2 w same = subst (λ (x : Crossing). ShowsCrossing config x w) (sym same)
+
+-- ---- packets that are sent
+
+-- a small packet can cross
+four_more : (body : List ℕ) → length (frame body) ≡ 4 + length body
+unfolding frame
+four_more body = length-append (to_be_bytes w32 (length body)) body
+
+can_cross : (packet : Packet) → IsSmallFrame packet → CanCross packet
+unfolding frame
+can_cross packet small =
+    let l : 4 + length (written_of packet) ≤ 3130 = subst (λ n. n ≤ 3130) (four_more (written_of packet)) small.small in
+    record { read = small.read; fits = omega (arith, l); small = λ e. omega (arith, l) }
+
+-- those that go to a place can cross, and their frames go out there
+sent_cross : (sends : List (ℕ × Packet)) (k : ℕ) → AreSmallFrames sends → AllByRecursion CanCross (map packet_as (packets_to sends k))
+sent_cross [] k small = tt
+sent_cross (sent ∷ others) k small = go (nat_eq sent.0 k) (sent_cross others k small.1)
+  where
+    go : (b : Bool) → AllByRecursion CanCross (map packet_as (packets_to others k)) → AllByRecursion CanCross (map packet_as (cond b (stamped_of sent.1 ∷ []) [] ++ packets_to others k))
+    go true rest = (can_cross sent.1 small.0, rest)
+    go false rest = rest
+
+frames_sent : (sends : List (ℕ × Packet)) (k : ℕ) → frames_to sends k ≡ frames_of written_of (map packet_as (packets_to sends k))
+unfolding frame
+frames_sent [] k = refl
+frames_sent (sent ∷ others) k = go (nat_eq sent.0 k) (frames_sent others k)
+  where
+    go : (b : Bool) → frames_to others k ≡ frames_of written_of (map packet_as (packets_to others k))
+        → cond b (frame_of sent.1) [] ++ frames_to others k ≡ frames_of written_of (map packet_as (cond b (stamped_of sent.1 ∷ []) [] ++ packets_to others k))
+    go true rest = ap (λ xs. frame_of sent.1 ++ xs) rest
+    go false rest = rest
+
+map_append : (xs ys : List (Stamped Message)) → map packet_as (xs ++ ys) ≡ map packet_as xs ++ map packet_as ys
+map_append [] ys = refl
+map_append (x ∷ xs) ys = ap (λ zs. packet_as x ∷ zs) (map_append xs ys)
+
+all_append : (xs ys : List Packet) → AllByRecursion CanCross xs → AllByRecursion CanCross ys → AllByRecursion CanCross (xs ++ ys)
+all_append [] ys a b = b
+all_append (x ∷ xs) ys a b = (a.0, all_append xs ys a.1 b)
+
+pub all_short : (xs : List Packet) → AllByRecursion CanCross xs → AreShort written_of xs
+all_short [] all = tt
+all_short (x ∷ xs) all = (all.0.fits, all_short xs all.1)
+
+-- ---- an event
+
+-- What the event e of a node has left of the links: what it sends stands behind what went out there, the frame of the packet
+-- that it took is gone, and all else is as it was.
+pub record Acts (crossing crossing2 : Crossing) (e : Event Action) (sends : List (ℕ × Packet)) : Type 0 where
+  pub rings : crossing2.rings ≡ crossing.rings
+  pub elsewhere : (x : ℕ) → x ≢ node_of e → (k : ℕ) → links_at crossing2 x k ≡ links_at crossing x k
+  pub out : (k : ℕ) → (links_at crossing2 (node_of e) k).outbox ≡ (links_at crossing (node_of e) k).outbox ++ frames_to sends k
+  pub gone : (x : ℕ) → Takes e x (node_of e) → (link_at crossing2 (node_of e) x).unread ≡ after_front (link_at crossing (node_of e) x).unread
+  pub stays : (x : ℕ) → x ≢ node_of e → (Takes e x (node_of e) → ⊥) → (link_at crossing2 (node_of e) x).unread ≡ (link_at crossing (node_of e) x).unread
+  pub sound : (k : ℕ) → (links_at crossing2 (node_of e) k).damaged ≡ (links_at crossing (node_of e) k).damaged
+
+-- what is said of two packets, where one is taken first
+module _ (config : Config) (crossing crossing2 : Crossing) (w v : TimedFrameWorld) (e : Event Action) (sends : List (ℕ × Packet)) (shows : ShowsCrossing config crossing w)
+    (acts : Acts crossing crossing2 e sends) (passes : Passes config e sends w v) (small : AreSmallFrames sends)
+    (adds : (packets others : List Packet) (bytes : Bytes) → ArePackets written_of packets bytes → ArePackets written_of (packets ++ others) (bytes_sent (frames_of written_of others) bytes))
+    (takes : (x y : ℕ) → Takes e x y → (first : Packet) (others : List Packet) → packets_between w x y ≡ first ∷ others → ArePackets written_of others (bytes_taken (bytes_at crossing x y)))
+    (is_taken : (x y : ℕ) → Takes e x y ⊎ (Takes e x y → ⊥)) (by_node : (x y : ℕ) → Takes e x y → y ≡ node_of e) where
+  ring_same : (x k : ℕ) → get_or (get_or crossing2.rings x []) k [] ≡ get_or (get_or crossing.rings x []) k []
+  ring_same x k = ap (λ (rs : List (List (List ℕ))). get_or (get_or rs x []) k []) acts.rings
+
+  -- on the way from the node
+  own_packets : (y : ℕ) → is_pair (length config) (node_of e) y ≡ true → packets_between v (node_of e) y ≡ packets_between w (node_of e) y ++ map packet_as (packets_to sends (peer_place (node_of e) y))
+  own_packets y pair = ap (map packet_as) (passes.own y pair) ∙ map_append (w.wire (node_of e) y) (packets_to sends (peer_place (node_of e) y))
+
+  own_bytes : (y : ℕ) → y ≢ node_of e → bytes_at crossing2 (node_of e) y ≡ bytes_sent (frames_of written_of (map packet_as (packets_to sends (peer_place (node_of e) y)))) (bytes_at crossing (node_of e) y)
+  own_bytes y n = λ j. record {
+    outbox = (acts.out (peer_place (node_of e) y) ∙ ap (λ more. (links_at crossing (node_of e) (peer_place (node_of e) y)).outbox ++ more) (frames_sent sends (peer_place (node_of e) y))) j;
+    ring = ring_same (node_of e) (peer_place (node_of e) y) j;
+    came = (acts.elsewhere y n (peer_place y (node_of e)) j).unread;
+  }
+
+  own_way : (y : ℕ) → is_pair (length config) (node_of e) y ≡ true → ArePackets written_of (packets_between v (node_of e) y) (bytes_at crossing2 (node_of e) y)
+  own_way y pair =
+      let apart = (pair_is (length config) (node_of e) y pair).2 in
+      subst (λ (ps : List Packet). ArePackets written_of ps (bytes_at crossing2 (node_of e) y)) (sym (own_packets y pair))
+      (subst (ArePackets written_of (packets_between w (node_of e) y ++ map packet_as (packets_to sends (peer_place (node_of e) y)))) (sym (own_bytes y apart))
+      (adds (packets_between w (node_of e) y) (map packet_as (packets_to sends (peer_place (node_of e) y))) (bytes_at crossing (node_of e) y) (shows.ways (node_of e) y pair)))
+
+  -- where the first is taken
+  taken_bytes : (x y : ℕ) → x ≢ node_of e → Takes e x y → bytes_at crossing2 x y ≡ bytes_taken (bytes_at crossing x y)
+  taken_bytes x y n t = λ j. record {
+    outbox = (acts.elsewhere x n (peer_place x y) j).outbox;
+    ring = ring_same x (peer_place x y) j;
+    came = came j;
+  }
+    where
+      at_node : y ≡ node_of e
+      at_node = by_node x y t
+
+      came : (link_at crossing2 y x).unread ≡ after_front (link_at crossing y x).unread
+      came = subst (λ k. (link_at crossing2 k x).unread ≡ after_front (link_at crossing k x).unread) (sym at_node) (acts.gone x (subst (Takes e x) at_node t))
+
+  taken_way : (x y : ℕ) → x ≢ node_of e → Takes e x y → ArePackets written_of (packets_between v x y) (bytes_at crossing2 x y)
+  taken_way x y n t =
+      let gone = passes.taken x y t in
+      subst (ArePackets written_of (packets_between v x y)) (sym (taken_bytes x y n t)) (takes x y t (packet_as gone.0) (packets_between v x y) (ap (map packet_as) gone.1))
+
+  -- elsewhere
+  other_bytes : (x y : ℕ) → x ≢ node_of e → y ≢ x → (Takes e x y → ⊥) → bytes_at crossing2 x y ≡ bytes_at crossing x y
+  other_bytes x y n apart t = λ j. record {
+    outbox = (acts.elsewhere x n (peer_place x y) j).outbox;
+    ring = ring_same x (peer_place x y) j;
+    came = came (cases_eq y (node_of e)) j;
+  }
+    where
+      came : (y ≡ node_of e) ⊎ (y ≢ node_of e) → (link_at crossing2 y x).unread ≡ (link_at crossing y x).unread
+      came (inl d) = subst (λ k. (link_at crossing2 k x).unread ≡ (link_at crossing k x).unread) (sym d) (acts.stays x n (λ is. t (subst (Takes e x) (sym d) is)))
+      came (inr m) = ap (λ (l : Link). l.unread) (acts.elsewhere y m (peer_place y x))
+
+  other_way : (x y : ℕ) → x ≢ node_of e → is_pair (length config) x y ≡ true → (Takes e x y → ⊥) → ArePackets written_of (packets_between v x y) (bytes_at crossing2 x y)
+  other_way x y n pair t =
+      subst (λ (ps : List Packet). ArePackets written_of ps (bytes_at crossing2 x y)) (ap (map packet_as) (sym (passes.others x y n t)))
+      (subst (ArePackets written_of (packets_between w x y)) (sym (other_bytes x y n (pair_is (length config) x y pair).2 t)) (shows.ways x y pair))
+
+  -- the whole
+  pub event_shown : ShowsNodes config crossing2.nodes v → ShowsCrossing config crossing2 v
+  event_shown nodes = record {
+    nodes = nodes;
+    ways = λ x y pair. way x y pair (cases_eq x (node_of e)) (is_taken x y);
+    cross = λ x y pair. crossing_now x y pair (cases_eq x (node_of e)) (is_taken x y);
+    sound = λ x y pair. damage x y (cases_eq x (node_of e)) ∙ shows.sound x y pair;
+  }
+    where
+      way : (x y : ℕ) → is_pair (length config) x y ≡ true → (x ≡ node_of e) ⊎ (x ≢ node_of e) → Takes e x y ⊎ (Takes e x y → ⊥) → ArePackets written_of (packets_between v x y) (bytes_at crossing2 x y)
+      way x y pair (inl d) t = subst (λ k. ArePackets written_of (packets_between v k y) (bytes_at crossing2 k y)) (sym d) (own_way y (subst (λ k. is_pair (length config) k y ≡ true) d pair))
+      way x y pair (inr n) (inl t) = taken_way x y n t
+      way x y pair (inr n) (inr t) = other_way x y n pair t
+
+      crossing_now : (x y : ℕ) → is_pair (length config) x y ≡ true → (x ≡ node_of e) ⊎ (x ≢ node_of e) → Takes e x y ⊎ (Takes e x y → ⊥) → AllByRecursion CanCross (packets_between v x y)
+      crossing_now x y pair (inl d) t =
+          let own : is_pair (length config) (node_of e) y ≡ true = subst (λ k. is_pair (length config) k y ≡ true) d pair in
+          subst (λ k. AllByRecursion CanCross (packets_between v k y)) (sym d) (subst (λ (ps : List Packet). AllByRecursion CanCross ps) (sym (own_packets y own))
+          (all_append (packets_between w (node_of e) y) (map packet_as (packets_to sends (peer_place (node_of e) y))) (shows.cross (node_of e) y own) (sent_cross sends (peer_place (node_of e) y) small)))
+      crossing_now x y pair (inr n) (inl t) =
+          let gone = passes.taken x y t in
+          (subst (λ (ps : List Packet). AllByRecursion CanCross ps) (ap (map packet_as) gone.1) (shows.cross x y pair)).1
+      crossing_now x y pair (inr n) (inr t) = subst (λ (ps : List Packet). AllByRecursion CanCross ps) (ap (map packet_as) (sym (passes.others x y n t))) (shows.cross x y pair)
+
+      damage : (x y : ℕ) → (x ≡ node_of e) ⊎ (x ≢ node_of e) → (link_at crossing2 x y).damaged ≡ (link_at crossing x y).damaged
+      damage x y (inl d) = subst (λ k. (links_at crossing2 k (peer_place k y)).damaged ≡ (links_at crossing k (peer_place k y)).damaged) (sym d) (acts.sound (peer_place (node_of e) y))
+      damage x y (inr n) = ap (λ (l : Link). l.damaged) (acts.elsewhere x n (peer_place x y))

@@ -1,0 +1,30 @@
+-- A packet on the way is never refused as no message.
+use Rattle.std.proofs.Common.{◌≡◌, ◌≢◌, ◌+◌, ◌∙◌, ℕ, Bool, true, false, cond, max, nat_le, List, ◌∷◌, Some, None, Result, Ok, Err, refl, ap, sym}
+use Rattle.pg_message.specs.declared.message.Message.{Message}
+use Rattle.pg_machine.specs.Places.{is_pair}
+use Rattle.pg_machine.specs.Machine.{Taken}
+use Rattle.pg_machine.specs.Clocked.{Stamped, plain, packets_of}
+use Rattle.pg_step.specs.declared.refusal.Refusal.{Refusal}
+use Rattle.pg_step.specs.declared.refusal.Refusal.TheVariants.{NotAMessage, ClockFull}
+use Rattle.pg_step.specs.Config.{Config, name_at, nodes_at}
+use Rattle.std.specs.Prelude.{length}
+use Rattle.pg_step.specs.FrameMachine.{placed}
+use Rattle.pg_step.specs.Step.{CLOCK_LIMIT, TimedTurn, at_clock, timed, step_take, node_takes}
+use Rattle.pg_step.specs.Turns.{NodeTurn}
+use Rattle.pg_history.specs.Headline.{HarmsNobody}
+use Rattle.pg_world.specs.Worlds.{TimedFrameWorld}
+
+-- what is refused so is refused without a clock
+refused_so : (config : Config) (clock : ℕ) (r : Result NodeTurn Refusal) → timed clock r ≡ Err NotAMessage → placed config r ≡ None
+refused_so config clock (Err refusal) e = refl
+refused_so config clock (Ok t) e = absurd (go (nat_le clock CLOCK_LIMIT) e)
+  where
+    go : (b : Bool) → ◌≡◌ {A = Result TimedTurn Refusal} (cond b (Ok (at_clock clock t)) (Err ClockFull)) (Err NotAMessage) → ⊥
+    go true f = absurd (cc)
+    go false f = absurd (cc)
+
+pub never_refused : (config : Config) (w : TimedFrameWorld) (i p : ℕ) (x : Stamped Message) (rest : List (Stamped Message)) → HarmsNobody config (plain w) → is_pair (length config) i p ≡ true
+    → w.wire p i ≡ x ∷ rest → step_take (nodes_at config i) (name_at config p) x (w.node i) ≡ Err NotAMessage → ⊥
+never_refused config w i p x rest harmless pair begins refused =
+    harmless.packets i p x.packet (packets_of rest) pair (ap packets_of begins)
+    (refused_so config (max (w.node i).clock x.stamp + 1) (node_takes (nodes_at config i) (name_at config p) x.packet (w.node i).state) refused)

@@ -1,0 +1,255 @@
+-- A packet that a node takes off the bytes that came.
+use Rattle.std.proofs.Common.{◌≡◌, ◌≢◌, ◌<◌, ◌+◌, ℕ, Bool, true, false, ◌||◌, cond, nat_eq, map, length, List, [], ◌∷◌, ◌++◌, Option, Some, None, Result, Ok, Err, refl, sym, ap, ◌∙◌, inl, inr, ◌⊎◌, subst}
+use Rattle.std.specs.Prelude.{slice_get, slice_set}
+use Rattle.std.specs.List.{AllByRecursion}
+use Rattle.std.proofs.Math.Path.{fun_ext}
+use Rattle.std.proofs.lemmas.Bool.{cases_eq, eqb-true}
+use Rattle.pg_frame.specs.declared.fault.TooLong.{TooLong}
+use Rattle.pg_frame.specs.Frames.{front_of, too_long}
+use Rattle.pg_group.specs.Functions.{upd}
+use Rattle.pg_message.specs.declared.fault.MessageFault.{MessageFault}
+use Rattle.pg_message.specs.declared.message.Message.{Message}
+use Rattle.pg_message.specs.declared.packet.Packet.{Packet}
+use Rattle.pg_message.specs.Reading.{packet_spelled}
+use Rattle.pg_machine.specs.Places.{is_pair}
+use Rattle.pg_machine.specs.Machine.{Event, Take, Do, node_of}
+use Rattle.pg_machine.specs.Happened.{Takes}
+use Rattle.pg_machine.specs.Clocked.{Timed, Stamped, plain}
+use Rattle.pg_pieces.specs.Pieces.{Bytes, ArePackets, AreShort, FirstPacket, frames_of, sent as bytes_sent, taken as bytes_taken}
+use Rattle.pg_opens.specs.Places.{whole_in, name_at as place_name}
+use Rattle.pg_step.specs.declared.answer.Answer.{Answer}
+use Rattle.pg_step.specs.declared.refusal.Refusal.{Refusal}
+use Rattle.pg_step.specs.declared.refusal.Refusal.TheVariants.{NotAMessage, NoSuchPlace, NotWaiting, NodeLost, NotDrained, ClockFull, NotLost}
+use Rattle.pg_step.specs.Config.{Config, name_at, nodes_at}
+use Rattle.pg_step.specs.State.{State}
+use Rattle.pg_step.specs.Step.{Action, TimedTurn, step_take, step_act}
+use Rattle.pg_history.specs.Headline.{HarmsNobody}
+use Rattle.pg_node.specs.declared.state.done.Done.{Done}
+use Rattle.pg_node.specs.declared.state.fault.NodeFault.{NodeFault}
+use Rattle.pg_node.specs.declared.state.fault.NodeFault.TheVariants.{Refused, OutOfMemory, Message as BadMessage, TooLong as FrameTooLong, Damaged}
+use Rattle.pg_node.specs.Bytes.{Tells, damages, marked, packet_in, packet_at, next_packet}
+use Rattle.pg_node.specs.Links.{Link, at_link, AreSmallFrames}
+use Rattle.pg_node.specs.Nodes.{ComesInRoom}
+use Rattle.pg_node.specs.Sendable.{AreSendable}
+use Rattle.pg_node.specs.States.{stamped_of, Comes}
+use Rattle.pg_world.specs.declared.step.Stepped.{Stepped}
+use Rattle.pg_world.specs.declared.step.Stepped.TheVariants.{Nothing, Happened}
+use Rattle.pg_world.specs.Crossings.{Crossing, link_at, bytes_at, packet_as, packets_between, written_of, CanCross, ShowsCrossing, ShowsBytes, EventComesTo}
+use Rattle.pg_world.specs.Histories.{asked_by}
+use Rattle.pg_world.specs.Views.{Seen, Account, peer_place}
+use Rattle.pg_world.specs.Worlds.{TimedFrameWorld, ShowsNodes, ComesTo, told}
+use Rattle.pg_world.proofs.Crossed.{Acts, all_short, event_shown}
+use Rattle.pg_world.proofs.Harmless.{never_refused}
+use Rattle.pg_world.proofs.Recording.{Grew, updates_after}
+use Rattle.pg_world.proofs.Turning.{Left, pair_turned, pair_there, own_left, own_refused, taken_refused, taken_told, take_left}
+
+-- ---- links
+
+pub unmarked : (links : ℕ → Link) (k : ℕ) (fault : NodeFault) → damages fault ≡ false → at_link k (λ l. marked l fault) links ≡ links
+unfolding upd
+unmarked links k fault e = fun_ext (λ place. go place (nat_eq k place) (eqb-true k place))
+  where
+    go : (place : ℕ) (b : Bool) → (b ≡ true → k ≡ place) → cond b (marked (links k) fault) (links place) ≡ links place
+    go place true is = ap (λ b. record (links k) { damaged = b || (links k).damaged }) e ∙ ap links (is refl)
+    go place false is = refl
+
+-- ---- the first packet
+
+front_read : (r : Result (Option (List ℕ)) TooLong) (packet : Packet) → packet_at r ≡ Ok (Some packet) → (body : List ℕ) × (r ≡ Ok (Some body)) × (packet_spelled body ≡ Ok packet)
+front_read (Ok (Some body)) packet e = (body, refl, go (packet_spelled body) e)
+  where
+    go : (q : Result Packet MessageFault) → packet_in q ≡ Ok (Some packet) → q ≡ Ok packet
+    go (Ok other) f = let same : other ≡ packet = cc in ap (λ p. Ok p) same
+    go (Err fault) f = absurd (cc)
+front_read (Ok None) packet e = absurd (cc)
+front_read (Err fault) packet e = absurd (cc)
+
+none_read : (r : Result (Option (List ℕ)) TooLong) → packet_at r ≡ Ok None → r ≡ Ok None
+none_read (Ok (Some body)) e = absurd (go (packet_spelled body) e)
+  where
+    go : (q : Result Packet MessageFault) → packet_in q ≡ Ok None → ⊥
+    go (Ok other) f = absurd (cc)
+    go (Err fault) f = absurd (cc)
+none_read (Ok None) e = refl
+none_read (Err fault) e = absurd (cc)
+
+sound_next : (link : Link) → link.damaged ≡ false → next_packet link ≡ packet_at (front_of link.unread)
+sound_next link e = ap (λ b. cond b (Err Damaged) (packet_at (front_of link.unread))) e
+
+map_cons : (xs : List (Stamped Message)) (y : Packet) (ys : List Packet) → map packet_as xs ≡ y ∷ ys → (rest : List (Stamped Message)) × (xs ≡ stamped_of y ∷ rest) × (map packet_as rest ≡ ys)
+map_cons [] y ys e = absurd (cc)
+map_cons (x ∷ xs) y ys e =
+    let first : packet_as x ≡ y = cc in
+    let others : map packet_as xs ≡ ys = cc in
+    (xs, ap (λ p. stamped_of p ∷ xs) first, others)
+
+-- A packet that was read is the first that is on the way.
+pub record FirstRead (w : TimedFrameWorld) (crossing : Crossing) (i p : ℕ) (packet : Packet) : Type 0 where
+  pub rest : List (Stamped Message)
+  pub begins : w.wire p i ≡ stamped_of packet ∷ rest
+  pub left : (first : Packet) (others : List Packet) → packets_between w p i ≡ first ∷ others → ArePackets written_of others (bytes_taken (bytes_at crossing p i))
+
+module _ (config : Config) (crossing : Crossing) (w : TimedFrameWorld) (i p : ℕ) (shows : ShowsCrossing config crossing w) (pair : is_pair (length crossing.nodes) i p ≡ true)
+    (law : (packets : List Packet) (bytes : Bytes) (body : List ℕ) → AreShort written_of packets → ArePackets written_of packets bytes → front_of bytes.came ≡ Ok (Some body) → FirstPacket written_of packets bytes body) where
+  there : is_pair (length config) i p ≡ true
+  there = pair_there config crossing.nodes w i p shows.nodes pair
+
+  back : is_pair (length config) p i ≡ true
+  back = pair_turned (length config) i p there
+
+  pub first_read : (packet : Packet) → next_packet (link_at crossing i p) ≡ Ok (Some packet) → FirstRead w crossing i p packet
+  first_read packet front =
+      let read = front_read (front_of (link_at crossing i p).unread) packet (sym (sound_next (link_at crossing i p) (shows.sound i p there)) ∙ front) in
+      let first = law (packets_between w p i) (bytes_at crossing p i) read.0 (all_short (packets_between w p i) (shows.cross p i back)) (shows.ways p i back) read.1 in
+      let crosses : CanCross first.first = (subst (λ (ps : List Packet). AllByRecursion CanCross ps) first.are (shows.cross p i back)).0 in
+      let both : ◌≡◌ {A = Result Packet MessageFault} (Ok first.first) (Ok packet) = sym crosses.read ∙ (ap packet_spelled (sym first.is) ∙ read.2) in
+      let same : first.first ≡ packet = cc in
+      let begins = map_cons (w.wire p i) first.first first.others first.are in
+      record {
+        rest = begins.0;
+        begins = begins.1 ∙ ap (λ q. stamped_of q ∷ begins.0) same;
+        left = λ one others are. let more : first.others ≡ others = (let e : first.first ∷ first.others ≡ one ∷ others = sym first.are ∙ are in cc) in
+            subst (λ (ps : List Packet). ArePackets written_of ps (bytes_taken (bytes_at crossing p i))) more first.left;
+      }
+
+-- ---- what an event leaves
+
+-- what came of an event, from what it comes to with the world that it leaves
+happened_as : (config : Config) (w : TimedFrameWorld) (e : Event Action) (One Other : TimedFrameWorld → Type 0) → ((v : TimedFrameWorld) → One v → Other v)
+    → ComesTo config w e (Ok Happened) One → EventComesTo config w e (Ok Happened) Other
+happened_as config w e One Other f comes = (comes.0, comes.1, f comes.0 comes.2)
+
+module _ (config : Config) (crossing crossing2 : Crossing) (account account2 : Account) (w : TimedFrameWorld) (shows : ShowsBytes config crossing account w)
+    (adds : (packets others : List Packet) (bytes : Bytes) → ArePackets written_of packets bytes → ArePackets written_of (packets ++ others) (bytes_sent (frames_of written_of others) bytes)) where
+  -- something of its own
+  module _ (i : ℕ) (action : Action) (node after : Seen) (done : Done) (here : slice_get crossing.nodes i ≡ Some node) (set : crossing2.nodes ≡ slice_set crossing.nodes i after)
+      (names : after.names ≡ node.names) (ports : after.ports ≡ node.ports) (fits : AreSendable node.names done.sends.items) (small : AreSmallFrames done.sends.items)
+      (acts : Acts crossing crossing2 (Do i action) done.sends.items) (grew : Grew account account2 i None done.began) where
+    pub own_shown : ComesInRoom node.names (step_act (whole_in node.names) node.ports action node.state) (Ok done) after.state node.answers after.answers
+        → EventComesTo config w (Do i action) (Ok Happened) (ShowsBytes config crossing2 account2)
+    own_shown comes = happened_as config w (Do i action) _ _ whole
+        (own_left config crossing.nodes w i action node shows.traffic.nodes here crossing2.nodes after done set names ports fits comes)
+      where
+        whole : (v : TimedFrameWorld) → Left config crossing2.nodes (Do i action) done.sends.items None done.began w v → ShowsBytes config crossing2 account2 v
+        whole v left = record {
+          traffic = event_shown config crossing crossing2 w v (Do i action) done.sends.items shows.traffic acts left.ways small adds
+              (λ x y t. absurd t) (λ x y. inr (λ t. t)) (λ x y t. absurd t) left.nodes;
+          updates = updates_after account account2 w v i None done.began shows.updates grew left.records;
+        }
+
+  -- a packet that was read
+  module _ (i p : ℕ) (pair : is_pair (length crossing.nodes) i p ≡ true) (packet : Packet) (first : FirstRead w crossing i p packet) (node : Seen) (here : slice_get crossing.nodes i ≡ Some node) where
+    module _ (after : Seen) (done : Done) (set : crossing2.nodes ≡ slice_set crossing.nodes i after)
+        (names : after.names ≡ node.names) (ports : after.ports ≡ node.ports) (fits : AreSendable node.names done.sends.items) (small : AreSmallFrames done.sends.items)
+        (acts : Acts crossing crossing2 (Take i p) done.sends.items) (grew : Grew account account2 i (asked_by packet.message) done.began) where
+      pub taken_shown : ComesInRoom node.names (step_take (whole_in node.names) (place_name node.names (peer_place i p + 1)) (stamped_of packet) node.state) (Ok done) after.state node.answers after.answers
+          → EventComesTo config w (Take i p) (Ok Happened) (ShowsBytes config crossing2 account2)
+      taken_shown comes = happened_as config w (Take i p) _ _ whole
+          (take_left config crossing.nodes w i p shows.traffic.nodes pair node here (stamped_of packet) first.rest first.begins crossing2.nodes after done set names ports fits comes)
+        where
+          takes : (x y : ℕ) → (p ≡ x) × (i ≡ y) → (one : Packet) (others : List Packet) → packets_between w x y ≡ one ∷ others → ArePackets written_of others (bytes_taken (bytes_at crossing x y))
+          takes x y t one others are = subst (λ k. ArePackets written_of others (bytes_taken (bytes_at crossing k y))) t.0 (subst (λ k. ArePackets written_of others (bytes_taken (bytes_at crossing p k))) t.1
+              (first.left one others ((λ j. packets_between w (t.0 j) (t.1 j)) ∙ are)))
+
+          is_taken : (x y : ℕ) → ((p ≡ x) × (i ≡ y)) ⊎ ((p ≡ x) × (i ≡ y) → ⊥)
+          is_taken x y = go (cases_eq p x) (cases_eq i y)
+            where
+              go : (p ≡ x) ⊎ (p ≢ x) → (i ≡ y) ⊎ (i ≢ y) → ((p ≡ x) × (i ≡ y)) ⊎ ((p ≡ x) × (i ≡ y) → ⊥)
+              go (inl e) (inl d) = inl (e, d)
+              go (inr n) d = inr (λ both. n both.0)
+              go (inl e) (inr n) = inr (λ both. n both.1)
+
+          whole : (v : TimedFrameWorld) → Left config crossing2.nodes (Take i p) done.sends.items (asked_by packet.message) done.began w v → ShowsBytes config crossing2 account2 v
+          whole v left = record {
+            traffic = event_shown config crossing crossing2 w v (Take i p) done.sends.items shows.traffic acts left.ways small adds
+                takes is_taken (λ x y t. sym t.1) left.nodes;
+            updates = updates_after account account2 w v i (asked_by packet.message) done.began shows.updates grew left.records;
+          }
+
+-- ---- what is refused
+
+module _ (config : Config) (crossing : Crossing) (w : TimedFrameWorld) (shows : ShowsCrossing config crossing w) (Shown : TimedFrameWorld → Type 0) where
+  -- something of its own
+  pub own_err : (i : ℕ) (action : Action) (node : Seen) (s : Timed State) (after : ℕ → List Answer) → slice_get crossing.nodes i ≡ Some node → (fault : NodeFault)
+      → ComesInRoom node.names (step_act (whole_in node.names) node.ports action node.state) (Err fault) s node.answers after → Shown w → EventComesTo config w (Do i action) (Err fault) Shown
+  own_err i action node s after here OutOfMemory comes shown = shown
+  own_err i action node s after here (Refused refusal) comes shown = (own_refused config crossing.nodes w i action node shows.nodes here (Refused refusal) s node.answers after Shown comes, shown)
+  own_err i action node s after here (BadMessage fault) comes shown = own_refused config crossing.nodes w i action node shows.nodes here (BadMessage fault) s node.answers after Shown comes
+  own_err i action node s after here FrameTooLong comes shown = own_refused config crossing.nodes w i action node shows.nodes here FrameTooLong s node.answers after Shown comes
+  own_err i action node s after here Damaged comes shown = own_refused config crossing.nodes w i action node shows.nodes here Damaged s node.answers after Shown comes
+
+  -- a packet that was read
+  module _ (i p : ℕ) (pair : is_pair (length crossing.nodes) i p ≡ true) (packet : Packet) (first : FirstRead w crossing i p packet) (harmless : HarmsNobody config (plain w)) (node : Seen) (here : slice_get crossing.nodes i ≡ Some node)
+      (s : Timed State) (after : ℕ → List Answer) where
+    step_there : Result TimedTurn Refusal
+    step_there = step_take (whole_in node.names) (place_name node.names (peer_place i p + 1)) (stamped_of packet) node.state
+
+    refused_by : (fault : NodeFault) → Comes node.names (step_take (whole_in node.names) (place_name node.names (peer_place i p + 1)) (stamped_of packet) node.state) (Err fault) s node.answers after → ComesTo config w (Take i p) (Err fault) Shown
+    refused_by fault comes = taken_refused config crossing.nodes w i p shows.nodes pair node here (stamped_of packet) first.rest first.begins fault s node.answers after Shown comes
+
+    no_message : (r : Result TimedTurn Refusal) → Comes node.names r (Err (Refused NotAMessage)) s node.answers after → r ≡ Err NotAMessage
+    no_message (Ok t) comes = absurd comes
+    no_message (Err refusal) comes = let same : refusal ≡ NotAMessage = cc in ap (λ (x : Refusal). Err x) same
+
+    never : Comes node.names (step_take (whole_in node.names) (place_name node.names (peer_place i p + 1)) (stamped_of packet) node.state) (Err (Refused NotAMessage)) s node.answers after → ⊥
+    never comes = never_refused config w i p (stamped_of packet) first.rest harmless (pair_there config crossing.nodes w i p shows.nodes pair) first.begins
+        (sym (taken_told config crossing.nodes w i p shows.nodes pair node here (stamped_of packet) first.rest first.begins) ∙ no_message _ comes)
+
+    pub take_err : (fault : NodeFault) → ComesInRoom node.names (step_take (whole_in node.names) (place_name node.names (peer_place i p + 1)) (stamped_of packet) node.state) (Err fault) s node.answers after
+        → (damages fault ≡ false → Shown w) → EventComesTo config w (Take i p) (Err fault) Shown
+    take_err OutOfMemory comes shown = shown refl
+    take_err (Refused NotAMessage) comes shown = absurd (never comes)
+    take_err (Refused NoSuchPlace) comes shown = (refused_by (Refused NoSuchPlace) comes, shown refl)
+    take_err (Refused NotWaiting) comes shown = (refused_by (Refused NotWaiting) comes, shown refl)
+    take_err (Refused NodeLost) comes shown = (refused_by (Refused NodeLost) comes, shown refl)
+    take_err (Refused NotDrained) comes shown = (refused_by (Refused NotDrained) comes, shown refl)
+    take_err (Refused ClockFull) comes shown = (refused_by (Refused ClockFull) comes, shown refl)
+    take_err (Refused NotLost) comes shown = (refused_by (Refused NotLost) comes, shown refl)
+    take_err (BadMessage fault) comes shown = refused_by (BadMessage fault) comes
+    take_err FrameTooLong comes shown = refused_by FrameTooLong comes
+    take_err Damaged comes shown = refused_by Damaged comes
+
+-- ---- what is read
+
+pub tells_ok : (told : Result (Option Packet) NodeFault) (some : Option Packet) → Tells told (Ok some) → told ≡ Ok some
+tells_ok (Ok (Some packet)) some h = sym h
+tells_ok (Ok None) some h = sym h
+tells_ok (Err (BadMessage other)) some h = sym h
+tells_ok (Err (Refused other)) some h = sym h
+tells_ok (Err OutOfMemory) some h = sym h
+tells_ok (Err FrameTooLong) some h = sym h
+tells_ok (Err Damaged) some h = sym h
+
+-- what can be read is refused by want of memory alone
+pub only_memory : (o : Option Packet) (fault : NodeFault) → Tells (Ok o) (Err fault) → fault ≡ OutOfMemory
+only_memory (Some packet) OutOfMemory h = refl
+only_memory (Some packet) (Refused refusal) h = absurd (cc)
+only_memory (Some packet) (BadMessage fault) h = absurd (cc)
+only_memory (Some packet) FrameTooLong h = absurd (cc)
+only_memory (Some packet) Damaged h = absurd (cc)
+only_memory None fault h = absurd (cc)
+
+-- what came of a packet that could not be read
+pub unread_err : (config : Config) (w : TimedFrameWorld) (e : Event Action) (fault : NodeFault) (Shown : TimedFrameWorld → Type 0) → fault ≡ OutOfMemory → Shown w → EventComesTo config w e (Err fault) Shown
+unread_err config w e fault Shown is shown = subst (λ f. EventComesTo config w e (Err f) Shown) (sym is) shown
+
+module _ (config : Config) (crossing : Crossing) (w : TimedFrameWorld) (i p : ℕ) (shows : ShowsCrossing config crossing w) (pair : is_pair (length crossing.nodes) i p ≡ true)
+    (law : (packets : List Packet) (bytes : Bytes) (body : List ℕ) → AreShort written_of packets → ArePackets written_of packets bytes → front_of bytes.came ≡ Ok (Some body) → FirstPacket written_of packets bytes body)
+    (lawful : (packets : List Packet) (bytes : Bytes) → AreShort written_of packets → ArePackets written_of packets bytes → front_of bytes.came ≢ Err too_long) where
+  way_back : is_pair (length config) p i ≡ true
+  way_back = pair_turned (length config) i p (pair_there config crossing.nodes w i p shows.nodes pair)
+
+  -- whatever stands first can be read
+  pub readable : (o : Option Packet) × (next_packet (link_at crossing i p) ≡ Ok o)
+  readable = go (front_of (link_at crossing i p).unread) refl
+    where
+      is_next : next_packet (link_at crossing i p) ≡ packet_at (front_of (link_at crossing i p).unread)
+      is_next = sound_next (link_at crossing i p) (shows.sound i p (pair_there config crossing.nodes w i p shows.nodes pair))
+
+      go : (r : Result (Option (List ℕ)) TooLong) → front_of (link_at crossing i p).unread ≡ r → (o : Option Packet) × (next_packet (link_at crossing i p) ≡ Ok o)
+      go (Ok None) e = (None, is_next ∙ ap packet_at e)
+      go (Ok (Some body)) e =
+          let first = law (packets_between w p i) (bytes_at crossing p i) body (all_short (packets_between w p i) (shows.cross p i way_back)) (shows.ways p i way_back) e in
+          let crosses : CanCross first.first = (subst (λ (ps : List Packet). AllByRecursion CanCross ps) first.are (shows.cross p i way_back)).0 in
+          (Some first.first, is_next ∙ (ap packet_at e ∙ ap packet_in (ap packet_spelled first.is ∙ crosses.read)))
+      go (Err fault) e = absurd (lawful (packets_between w p i) (bytes_at crossing p i) (all_short (packets_between w p i) (shows.cross p i way_back)) (shows.ways p i way_back) e)

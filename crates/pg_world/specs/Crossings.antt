@@ -1,0 +1,129 @@
+-- A world whose packets cross as bytes: how it is seen, and the frame world that it shows.
+use Rattle.std.specs.Prelude.{◌≡◌, ◌≢◌, ◌≤◌, ◌+◌, ℕ, zero, suc, cond, Bool, true, false, nat_eq, map, length, get_or, List, [], ◌∷◌, Option, Some, None, Result, Ok, Err}
+use Rattle.std.specs.List.{AllByRecursion}
+use Rattle.pg_term_io.specs.Writing.{written}
+use Rattle.pg_frame.specs.Frames.{IsBody}
+use Rattle.pg_group.specs.declared.table.GroupTable.{Ghosts}
+use Rattle.pg_message.specs.declared.message.Message.{Message}
+use Rattle.pg_message.specs.declared.packet.Packet.{Packet}
+use Rattle.pg_message.specs.Reading.{packet_spelled}
+use Rattle.pg_message.specs.Writing.{is_exchange, term_of_packet}
+use Rattle.pg_machine.specs.Places.{is_pair}
+use Rattle.pg_machine.specs.Machine.{Event, happens, start_of}
+use Rattle.pg_machine.specs.Clocked.{Stamped}
+use Rattle.pg_machine.specs.Runs.{Leads}
+use Rattle.pg_pieces.specs.Pieces.{Bytes, ArePackets}
+use Rattle.pg_step.specs.declared.refusal.Refusal.{Refusal}
+use Rattle.pg_step.specs.declared.refusal.Refusal.TheVariants.{NoSuchPlace}
+use Rattle.pg_step.specs.Config.{Config}
+use Rattle.pg_step.specs.FrameMachine.{frame_machine}
+use Rattle.pg_step.specs.Step.{Action, TimedTurn}
+use Rattle.pg_node.specs.declared.node.Node.{Node}
+use Rattle.pg_node.specs.declared.state.fault.NodeFault.{NodeFault}
+use Rattle.pg_node.specs.declared.state.fault.NodeFault.TheVariants.{Refused, OutOfMemory}
+use Rattle.pg_node.specs.Links.{Link, idle_link}
+use Rattle.pg_node.specs.Nodes.{held_by, links_of}
+use Rattle.pg_history.specs.Reached.{Reaches}
+use Rattle.pg_world.specs.declared.rings.Rings.{Rings}
+use Rattle.pg_world.specs.declared.step.Step.{Step}
+use Rattle.pg_world.specs.declared.step.Step.TheVariants as steps
+use Rattle.pg_world.specs.declared.step.Stepped.{Stepped}
+use Rattle.pg_world.specs.declared.step.Stepped.TheVariants.{Nothing, Moved, Happened}
+use Rattle.pg_world.specs.declared.bytes.World.{World}
+use Rattle.pg_world.specs.Histories.{account_of}
+use Rattle.pg_world.specs.Views.{Seen, Account, seen_of, peer_place}
+use Rattle.pg_world.specs.Worlds.{TimedFrameWorld, ShowsNodes, ShowsUpdates, event_of, told}
+
+-- ---- a world as it is seen
+
+-- the nodes, the links of each to its peers by the places of the peers, and the bytes on the ring from each node to each peer
+pub record Crossing : Type 0 where
+  pub nodes : List Seen
+  pub links : List (ℕ → Link)
+  pub rings : List (List (List ℕ))
+
+-- the bytes on each ring
+abbrev pub bytes_of : Rings → List (List ℕ)
+bytes_of row = map (λ ring. ring.unread) row.rings.items
+
+-- a node over bytes, as it is seen
+abbrev pub node_of : {T : Type 0} {g : Ghosts T} → Node T g → Seen
+node_of node = seen_of (held_by node)
+
+abbrev pub crossing_in : {T : Type 0} {g : Ghosts T} → List (Node T g) → List Rings → Crossing
+crossing_in nodes rings = record { nodes = map node_of nodes; links = map links_of nodes; rings = map bytes_of rings }
+
+abbrev pub crossing_of : {T : Type 0} {g : Ghosts T} → World T g → Crossing
+crossing_of world = crossing_in world.nodes.items world.rings.items
+
+-- the link of one node to another
+abbrev pub link_at : Crossing → ℕ → ℕ → Link
+link_at crossing x y = get_or crossing.links x (λ place. idle_link) (peer_place x y)
+
+-- the bytes on the way from one node to another
+abbrev pub bytes_at : Crossing → ℕ → ℕ → Bytes
+bytes_at crossing x y = record { outbox = (link_at crossing x y).outbox; ring = get_or (get_or crossing.rings x []) (peer_place x y) []; came = (link_at crossing y x).unread }
+
+-- ---- the frame world that it shows
+
+-- a packet that is on the way
+abbrev pub packet_as : Stamped Message → Packet
+packet_as x = record { stamp = x.stamp; message = x.packet }
+
+-- the packets on the way from one node to another
+abbrev pub packets_between : TimedFrameWorld → ℕ → ℕ → List Packet
+packets_between w x y = map packet_as (w.wire x y)
+
+-- what is written of a packet
+abbrev pub written_of : Packet → List ℕ
+written_of packet = written (term_of_packet packet)
+
+-- A packet can cross: it is read as it was written, and a frame can hold it; the frame takes at most 4,096 bytes, unless it
+-- tells the groups of a node.
+pub record CanCross (packet : Packet) : Type 0 where
+  pub read : packet_spelled (written_of packet) ≡ Ok packet
+  pub fits : IsBody (written_of packet)
+  pub small : is_exchange packet.message ≡ false → 4 + length (written_of packet) ≤ 4096
+
+-- The nodes of a frame world are as they are seen, and what is on the way there is what the bytes on the way are, all of which
+-- can cross. No link is damaged.
+pub record ShowsCrossing (config : Config) (crossing : Crossing) (w : TimedFrameWorld) : Type 0 where
+  pub nodes : ShowsNodes config crossing.nodes w
+  pub ways : (x y : ℕ) → is_pair (length config) x y ≡ true → ArePackets written_of (packets_between w x y) (bytes_at crossing x y)
+  pub cross : (x y : ℕ) → is_pair (length config) x y ≡ true → AllByRecursion CanCross (packets_between w x y)
+  pub sound : (x y : ℕ) → is_pair (length config) x y ≡ true → (link_at crossing x y).damaged ≡ false
+
+-- the same with its updates
+pub record ShowsBytes (config : Config) (crossing : Crossing) (account : Account) (w : TimedFrameWorld) : Type 0 where
+  pub traffic : ShowsCrossing config crossing w
+  pub updates : ShowsUpdates account w
+
+-- a frame world that events lead to from the start
+abbrev pub IsReached : Config → TimedFrameWorld → Type 0
+IsReached config w = (events : List (Event Action)) × Reaches config events w
+
+-- ---- steps
+
+-- What came of an event in the world w: it happened, and led to a world that is shown; or no whole packet had come, memory ran
+-- out, or it was refused as is told, and the world w is shown.
+abbrev pub EventComesTo : Config → TimedFrameWorld → Event Action → Result Stepped NodeFault → (TimedFrameWorld → Type 0) → Type 0
+EventComesTo config w e (Ok Happened) Shown = (v : TimedFrameWorld) × (happens (frame_machine config) w e ≡ Some v) × Shown v
+EventComesTo config w e (Ok Nothing) Shown = Shown w
+EventComesTo config w e (Ok (Moved count)) Shown = ⊥
+EventComesTo config w e (Err OutOfMemory) Shown = Shown w
+EventComesTo config w e (Err (Refused refusal)) Shown = (told config w e ≡ Some (Err refusal)) × Shown w
+EventComesTo config w e (Err fault) Shown = ⊥
+
+-- What came of bytes that should move between two nodes: they moved, or memory ran out, or the nodes are not there; the world
+-- w is shown.
+abbrev pub MoveComesTo : Config → ℕ → ℕ → Result Stepped NodeFault → Type 0 → Type 0
+MoveComesTo config x y (Ok (Moved count)) Shown = Shown
+MoveComesTo config x y (Ok stepped) Shown = ⊥
+MoveComesTo config x y (Err OutOfMemory) Shown = Shown
+MoveComesTo config x y (Err (Refused refusal)) Shown = (refusal ≡ NoSuchPlace) × (is_pair (length config) x y ≡ false) × Shown
+MoveComesTo config x y (Err fault) Shown = ⊥
+
+abbrev pub StepComesTo : Config → TimedFrameWorld → Step → Result Stepped NodeFault → (TimedFrameWorld → Type 0) → Type 0
+StepComesTo config w (steps.Put from to max) result Shown = MoveComesTo config from to result (Shown w)
+StepComesTo config w (steps.Pull to from max) result Shown = MoveComesTo config from to result (Shown w)
+StepComesTo config w (steps.Event step) result Shown = EventComesTo config w (event_of step) result Shown

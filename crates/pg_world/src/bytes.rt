@@ -1,0 +1,305 @@
+//! Nodes whose packets cross as bytes, by rings between them, and what a step makes of them.
+
+ghost use Rattle.std.specs.Prelude.{◌≡◌, ◌+◌, ◌^◌, ◌++◌, true, Ok, Some, length, map, option_map, slice_get};
+ghost use Rattle.std.specs.List.{All};
+ghost use Rattle.std.specs.Option.{option_copied};
+ghost use Rattle.pg_node.specs.Nodes.{held_by};
+ghost use Rattle.pg_node.specs.States.{names_of};
+ghost use Rattle.pg_world.specs.declared.rings.Rings.{Rings};
+
+use crate::entry::Entry;
+use crate::histories::Histories;
+use crate::rings::Rings;
+use crate::step::{FrameStep, Step, Stepped};
+use crate::world::peer_place;
+use pg_group::GroupTable;
+use pg_history::nobody_is_harmed;
+use pg_message::Packet;
+use pg_node::{Node, NodeFault};
+use pg_pieces::{front_is_first_packet, moving_keeps_packets, sending_adds_packets};
+use pg_step::{Command, OpId, Refusal};
+use pg_term::Term;
+use std::alloc::AllocError;
+
+/// Nodes whose packets cross as bytes, and the rings between them.
+#[derive(Drop)]
+pub struct World<T: GroupTable> {
+    nodes: Vec<Node<T>>,
+    // The rings from each of them.
+    rings: Vec<Rings>,
+    histories: Histories,
+    ghost rows: { length rings.items ≡ length nodes.items },
+    // Each node knows as many as there are, and has a ring to each other.
+    ghost known: { All (λ node. length (names_of (held_by node)) ≡ length rings.items) nodes.items },
+    ghost others: { All (λ (row : Rings). length row.rings.items + 1 ≡ length rings.items) rings.items },
+}
+
+impl<T: GroupTable + Drop> World<T> {
+    ghost use Rattle.pg_machine.specs.Places.{is_pair};
+    ghost use Rattle.pg_machine.specs.Machine.{Take, Do};
+    ghost use Rattle.pg_step.specs.Config.{Config};
+    ghost use Rattle.pg_step.specs.Step.{Issue, Retry};
+    ghost use Rattle.pg_message.specs.Members.{IsShort};
+    ghost use Rattle.pg_node.specs.Bytes.{next_packet};
+    ghost use Rattle.pg_world.specs.Histories.{IsSettled, as_entry, last_entries, account_of};
+    ghost use Rattle.pg_world.specs.Worlds.{event_of, has_port, has_places, TimedFrameWorld};
+    ghost use Rattle.pg_world.specs.Crossings.{crossing_of, node_of, link_at, IsReached, ShowsCrossing, ShowsBytes, MoveComesTo, EventComesTo, StepComesTo};
+
+    /// The node at a place. It takes no memory.
+    pub fn node(&self, place: usize) -> Option<&Node<T>>
+        ensures { option_map node_of (option_copied result) ≡ slice_get (crossing_of self.now).nodes place }
+    {
+        self.nodes.get(place)
+    }
+
+    /// The updates of a group in the order in which they got their last grant, each with its node and its command: a slice, and
+    /// one more behind it, where the last event began it. It takes no memory: O(log n) in the groups that were named.
+    pub fn history(&self, name: &Term) -> (&[Entry], Option<&Entry>)
+        ensures { map as_entry result.0.now ++ last_entries (option_copied result.1) ≡ (account_of self.now.histories).histories name.now }
+    {
+        self.histories.history(name)
+    }
+
+    /// How many updates of a group a node has applied: those that it began, and those that it took of its peers. It takes no
+    /// memory: O(log n) in the groups that were named.
+    pub fn applied(&self, node: usize, name: &Term) -> u128
+        ensures { result ≡ (account_of self.now.histories).applied node name.now }
+    {
+        self.histories.applied(node, name)
+    }
+
+    /// Makes one step. Whatever frame world the world shows, as events lead to it from the start of a configuration: an event
+    /// that happens is the event of the frame machine there, and the world shows what it leaves; bytes that move leave the frame
+    /// world as it is.
+    ///
+    /// Faults, by which the frame world stays, the first that holds: `Refused` by `NoSuchPlace` where a node, a port or a peer is
+    /// not there, or a node and its peer are one; those of `NodeState::take`, `command` and `retry`, of which `NotAMessage` never
+    /// comes; `OutOfMemory` may be told in the place of each behind `NoSuchPlace`. No link is ever damaged.
+    pub fn step(&mut self, step: &Step) -> Result<Stepped, NodeFault>
+        ensures came { (config : Config) (w : TimedFrameWorld) → IsReached config w
+            → ShowsBytes config (crossing_of self.old) (account_of self.old.histories) w
+            → StepComesTo config w step.now result (ShowsBytes config (crossing_of self.new) (account_of self.new.histories)) }
+    {
+        match step {
+            Step::Put { from, to, max } => self.put(*from, *to, *max),
+            Step::Pull { to, from, max } => self.pull(*to, *from, *max),
+            Step::Event(event) => self.event(event),
+        }
+    }
+
+    /// Up to so many bytes of what a node sends to another go on the ring between them.
+    fn put(&mut self, from: usize, to: usize, max: usize) -> Result<Stepped, NodeFault>
+        ensures came { (config : Config) (w : TimedFrameWorld)
+            → ShowsBytes config (crossing_of self.old) (account_of self.old.histories) w
+            → MoveComesTo config from to result (ShowsBytes config (crossing_of self.new) (account_of self.new.histories) w) }
+    {
+        if !self.has_pair(from, to) {
+            return Err(NodeFault::Refused(Refusal::NoSuchPlace));
+        }
+        Ok(Stepped::Moved(self.put_some(from, to, max)))
+    }
+
+    /// The same, where both are there; and how many.
+    fn put_some(&mut self, from: usize, to: usize, max: usize) -> usize
+        requires pair { is_pair (length (crossing_of self.old).nodes) from to ≡ true }
+        ensures shown { (config : Config) (w : TimedFrameWorld) → ShowsCrossing config (crossing_of self.old) w
+            → ShowsCrossing config (crossing_of self.new) w }
+        ensures account { account_of self.new.histories ≡ account_of self.old.histories }
+    {
+        moving_keeps_packets::<Packet>();
+        let place = peer_place(from, to);
+        let node = &mut self.nodes[from];
+        let row = &mut self.rings[from];
+        let ring = &mut row.rings[place];
+        node.put(place, ring, max)
+    }
+
+    /// Up to so many bytes of what is on the ring from one node to another come there.
+    fn pull(&mut self, to: usize, from: usize, max: usize) -> Result<Stepped, NodeFault>
+        ensures came { (config : Config) (w : TimedFrameWorld)
+            → ShowsBytes config (crossing_of self.old) (account_of self.old.histories) w
+            → MoveComesTo config from to result (ShowsBytes config (crossing_of self.new) (account_of self.new.histories) w) }
+    {
+        if !self.has_pair(from, to) {
+            return Err(NodeFault::Refused(Refusal::NoSuchPlace));
+        }
+        self.pull_some(to, from, max)
+    }
+
+    /// The same, where both are there.
+    fn pull_some(&mut self, to: usize, from: usize, max: usize) -> Result<Stepped, NodeFault>
+        requires pair { is_pair (length (crossing_of self.old).nodes) from to ≡ true }
+        ensures came { (config : Config) (w : TimedFrameWorld)
+            → ShowsBytes config (crossing_of self.old) (account_of self.old.histories) w
+            → MoveComesTo config from to result (ShowsBytes config (crossing_of self.new) (account_of self.new.histories) w) }
+    {
+        moving_keeps_packets::<Packet>();
+        let node = &mut self.nodes[to];
+        let row = &mut self.rings[from];
+        let ring = &mut row.rings[peer_place(from, to)];
+        match node.pull(peer_place(to, from), ring, max) {
+            Ok(count) => Ok(Stepped::Moved(count)),
+            Err(fault) => Err(fault),
+        }
+    }
+
+    /// An event.
+    fn event(&mut self, event: &FrameStep) -> Result<Stepped, NodeFault>
+        ensures came { (config : Config) (w : TimedFrameWorld) → IsReached config w
+            → ShowsBytes config (crossing_of self.old) (account_of self.old.histories) w
+            → EventComesTo config w (event_of event.now) result (ShowsBytes config (crossing_of self.new) (account_of self.new.histories)) }
+    {
+        if !self.has_places(event) {
+            return Err(NodeFault::Refused(Refusal::NoSuchPlace));
+        }
+        match self.histories.settle() {
+            Ok(()) => {}
+            Err(AllocError) => return Err(NodeFault::OutOfMemory),
+        }
+        match event {
+            FrameStep::Take { node, peer } => self.take(*node, *peer),
+            FrameStep::Command {
+                node,
+                port,
+                command,
+            } => self.command(*node, *port, command),
+            FrameStep::Retry { node, op } => self.retry(*node, *op),
+        }
+    }
+
+    /// Whether the places that an event names are there.
+    fn has_places(&self, event: &FrameStep) -> bool
+        ensures { result ≡ has_places (crossing_of self.now).nodes event.now }
+    {
+        match event {
+            FrameStep::Take { node, peer } => self.has_pair(*node, *peer),
+            FrameStep::Command {
+                node,
+                port,
+                command: _,
+            } => self.has_port(*node, *port),
+            FrameStep::Retry { node, op } => self.has_port(*node, op.port),
+        }
+    }
+
+    /// Whether there are these two nodes, apart from each other.
+    fn has_pair(&self, node: usize, peer: usize) -> bool
+        ensures { result ≡ is_pair (length (crossing_of self.now).nodes) node peer }
+    {
+        let count = self.nodes.len();
+        node < count && peer < count && node != peer
+    }
+
+    /// Whether a node has that port.
+    fn has_port(&self, node: usize, port: u16) -> bool
+        ensures { result ≡ has_port (crossing_of self.now).nodes node port }
+    {
+        match self.nodes.get(node) {
+            Some(node) => usize::from(port) < node.state().port_count(),
+            None => false,
+        }
+    }
+
+    /// A node takes the first packet of a peer, where the whole of its frame has come.
+    fn take(&mut self, node: usize, peer: usize) -> Result<Stepped, NodeFault>
+        requires settled { IsSettled self.old.histories }
+        requires pair { is_pair (length (crossing_of self.old).nodes) node peer ≡ true }
+        ensures event { (config : Config) (w : TimedFrameWorld) → IsReached config w
+            → ShowsBytes config (crossing_of self.old) (account_of self.old.histories) w
+            → EventComesTo config w (Take node peer) result (ShowsBytes config (crossing_of self.new) (account_of self.new.histories)) }
+    {
+        front_is_first_packet::<Packet>();
+        let taker = &mut self.nodes[node];
+        match taker.next(peer_place(node, peer)) {
+            Ok(next) => self.take_next(node, peer, &next),
+            Err(fault) => Err(fault),
+        }
+    }
+
+    /// A node takes the packet that it has read of a peer, if there is one.
+    fn take_next(
+        &mut self,
+        node: usize,
+        peer: usize,
+        next: &Option<Packet>,
+    ) -> Result<Stepped, NodeFault>
+        requires settled { IsSettled self.old.histories }
+        requires pair { is_pair (length (crossing_of self.old).nodes) node peer ≡ true }
+        requires few { (packet : Packet) → next.now ≡ Some packet → IsShort (2 ^ 32) packet.message }
+        requires front { next_packet (link_at (crossing_of self.old) node peer) ≡ Ok next.now }
+        ensures event { (config : Config) (w : TimedFrameWorld) → IsReached config w
+            → ShowsBytes config (crossing_of self.old) (account_of self.old.histories) w
+            → EventComesTo config w (Take node peer) result (ShowsBytes config (crossing_of self.new) (account_of self.new.histories)) }
+    {
+        match next {
+            None => Ok(Stepped::Nothing),
+            Some(packet) => self.take_read(node, peer, packet),
+        }
+    }
+
+    /// A node takes the packet that it has read of a peer.
+    fn take_read(&mut self, node: usize, peer: usize, packet: &Packet) -> Result<Stepped, NodeFault>
+        requires settled { IsSettled self.old.histories }
+        requires pair { is_pair (length (crossing_of self.old).nodes) node peer ≡ true }
+        requires few { IsShort (2 ^ 32) packet.now.message }
+        requires front { next_packet (link_at (crossing_of self.old) node peer) ≡ Ok (Some packet.now) }
+        ensures event { (config : Config) (w : TimedFrameWorld) → IsReached config w
+            → ShowsBytes config (crossing_of self.old) (account_of self.old.histories) w
+            → EventComesTo config w (Take node peer) result (ShowsBytes config (crossing_of self.new) (account_of self.new.histories)) }
+    {
+        sending_adds_packets::<Packet>();
+        front_is_first_packet::<Packet>();
+        nobody_is_harmed();
+        match self.histories.make_room(node, packet) {
+            Ok(()) => {}
+            Err(AllocError) => return Err(NodeFault::OutOfMemory),
+        }
+        let taker = &mut self.nodes[node];
+        match taker.take_read(peer_place(node, peer), packet) {
+            Ok(done) => {
+                self.histories.serve(node, packet);
+                self.histories.begin(node, done.began);
+                Ok(Stepped::Happened)
+            }
+            Err(fault) => Err(fault),
+        }
+    }
+
+    /// A command comes in at a port of a node.
+    fn command(&mut self, node: usize, port: u16, command: &Command) -> Result<Stepped, NodeFault>
+        requires settled { IsSettled self.old.histories }
+        requires port { has_port (crossing_of self.old).nodes node port ≡ true }
+        ensures event { (config : Config) (w : TimedFrameWorld)
+            → ShowsBytes config (crossing_of self.old) (account_of self.old.histories) w
+            → EventComesTo config w (Do node (Issue port command.now)) result (ShowsBytes config (crossing_of self.new) (account_of self.new.histories)) }
+    {
+        sending_adds_packets::<Packet>();
+        let state = &mut self.nodes[node];
+        match state.command(port, command) {
+            Ok(done) => {
+                self.histories.begin(node, done.began);
+                Ok(Stepped::Happened)
+            }
+            Err(fault) => Err(fault),
+        }
+    }
+
+    /// A node tries a command again that waits.
+    fn retry(&mut self, node: usize, op: OpId) -> Result<Stepped, NodeFault>
+        requires settled { IsSettled self.old.histories }
+        requires port { has_port (crossing_of self.old).nodes node op.port ≡ true }
+        ensures event { (config : Config) (w : TimedFrameWorld)
+            → ShowsBytes config (crossing_of self.old) (account_of self.old.histories) w
+            → EventComesTo config w (Do node (Retry op)) result (ShowsBytes config (crossing_of self.new) (account_of self.new.histories)) }
+    {
+        sending_adds_packets::<Packet>();
+        let state = &mut self.nodes[node];
+        match state.retry(op) {
+            Ok(done) => {
+                self.histories.begin(node, done.began);
+                Ok(Stepped::Happened)
+            }
+            Err(fault) => Err(fault),
+        }
+    }
+}
