@@ -1,5 +1,6 @@
 mod Answering
 mod Applying
+mod Deciding
 mod Idle
 mod Ordered
 mod Peering

@@ -1,3 +1,5 @@
+pub mod Configs
+pub mod Faults
 pub mod Histories
 pub mod Runs
 pub mod Short

@@ -2,7 +2,9 @@
 #![tactic(auto)]
 
 mod begun;
+mod config;
 mod entry;
+mod fault;
 mod histories;
 mod laws;
 mod outgoing;
@@ -15,8 +17,10 @@ mod tally;
 mod way;
 mod world;
 
+pub use config::{Config, MAX_NODES, MAX_PORTS};
 pub use entry::Entry;
-pub use laws::orders_keep_tables;
+pub use fault::WorldFault;
+pub use laws::{configs_are_decided, orders_keep_tables};
 pub use run::run_frames;
 pub use step::{FrameStep, Stepped};
 pub use world::FrameWorld;
