@@ -1,5 +1,5 @@
 -- What the tests of a configuration decide.
-use Rattle.std.proofs.Common.{◌≡◌, ◌≤◌, ℕ, Bool, true, false, not, ◌&&◌, ◌||◌, cond, nat_le, map, length, List, [], ◌∷◌, Option, Some, None, refl, sym, ap, ◌∙◌, arith}
+use Rattle.std.proofs.Common.{◌≡◌, ℕ, Bool, true, false, not, ◌&&◌, ◌||◌, cond, nat_le, length, List, [], ◌∷◌, Some, None, refl, ◌∙◌}
 use Rattle.std.specs.List.{list_any, list_all, AllByRecursion, IsDistinct}
 use Rattle.std.proofs.lemmas.Bool.{leb-true, le-leb}
 use Rattle.pg_term.specs.declared.term.Term.{Term}
@@ -13,21 +13,20 @@ use Rattle.pg_message.specs.Reading.{is_named_once}
 use Rattle.pg_ring.specs.Capacity.{IsCapacity}
 use Rattle.pg_step.specs.declared.start.Start.{Start}
 use Rattle.pg_step.specs.Config.{Config, IsConfig, IsStart, names_of, was_made}
-use Rattle.pg_world.specs.declared.fault.WorldFault.{WorldFault}
 use Rattle.pg_world.specs.declared.fault.WorldFault.TheVariants.{BadConfig, NameTooLarge, BadCapacity}
 use Rattle.pg_world.specs.Configs.{are_apart, are_made, is_start, is_config, are_names, have_names, is_capacity, refusal_of}
 
 -- ---- tests
 
-left : (b c : Bool) → (b && c) ≡ true → b ≡ true
+pub left : (b c : Bool) → (b && c) ≡ true → b ≡ true
 left true c e = refl
 left false c e = absurd cc
 
-right : (b c : Bool) → (b && c) ≡ true → c ≡ true
+pub right : (b c : Bool) → (b && c) ≡ true → c ≡ true
 right true c e = e
 right false c e = absurd cc
 
-both : (b c : Bool) → b ≡ true → c ≡ true → (b && c) ≡ true
+pub both : (b c : Bool) → b ≡ true → c ≡ true → (b && c) ≡ true
 both true c e f = f
 both false c e f = absurd cc
 
@@ -108,7 +107,7 @@ once_named (group ∷ groups) e =
     let alone = left (not (list_any (λ other. same_term other.0 group.0) groups)) (is_named_once groups) e in
     (groups_differ group groups (is_not _ alone), once_named groups (right (not (list_any (λ other. same_term other.0 group.0) groups)) (is_named_once groups) e))
 
-named_once : (groups : GroupList) → IsDistinct same_term (announced_names groups) → is_named_once groups ≡ true
+pub named_once : (groups : GroupList) → IsDistinct same_term (announced_names groups) → is_named_once groups ≡ true
 unfolding IsDistinct
 named_once [] h = refl
 named_once (group ∷ groups) h = both (not (list_any (λ other. same_term other.0 group.0) groups)) (is_named_once groups) (not_is _ (differ_groups group groups h.0)) (named_once groups h.1)
@@ -203,3 +202,6 @@ pub passed : (ring : ℕ) (config : Config) → IsConfig config × IsCapacity ri
 passed ring config h =
     refused_not (is_config config) (have_names config) (is_capacity ring) (pass_config config h.0) (pass_all_names config h.0)
     (both (nat_le 1 ring) (nat_le ring 65536) (le-leb 1 ring h.1.0) (le-leb ring 65536 h.1.1))
+
+pub names_passed : (ring : ℕ) (config : Config) → refusal_of ring config ≡ None → have_names config ≡ true
+names_passed ring config e = (unrefused (is_config config) (have_names config) (is_capacity ring) e).1

@@ -1,7 +1,9 @@
 mod Answering
 mod Applying
 mod Deciding
+mod Fitted
 mod Idle
+mod Opened
 mod Ordered
 mod Peering
 mod Ported

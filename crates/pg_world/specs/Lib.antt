@@ -1,6 +1,8 @@
 pub mod Configs
 pub mod Faults
+pub mod Fitting
 pub mod Histories
+pub mod Openings
 pub mod Runs
 pub mod Short
 pub mod Starts
