@@ -3,24 +3,19 @@ use Rattle.std.proofs.Common.{◌≡◌, ◌≤◌, ◌<◌, ◌-◌, ◌^◌, �
 use Rattle.std.specs.Prelude.{slice_get, option_map, IfOk, IfErr, is_some}
 use Rattle.std.specs.List.{All, AllByRecursion, IsDistinct, list_any}
 use Rattle.std.proofs.lemmas.Bool.{leb-true}
-use Rattle.std.proofs.lemmas.List.{length-map}
 use Rattle.std.proofs.lemmas.Option.{slice_get-map, slice_get-get_or, same_Some}
-use Rattle.pg_term.specs.declared.pid.Pid.{Pid}
 use Rattle.pg_term.specs.declared.term.Term.{Term}
 use Rattle.pg_term.specs.Same.{same_atom, same_term}
 use Rattle.pg_term.specs.contracts.term.TermEq.TheImpl.Laws as term_laws
 use Rattle.pg_term.proofs.Same.{same_term as term_is}
-use Rattle.pg_group.specs.Table.{Table}
 use Rattle.pg_group.specs.Value.{listed, merge}
 use Rattle.pg_group.specs.declared.table.GroupTable.{Ghosts}
 use Rattle.pg_ends.specs.declared.processes.TheConstants.{MAX_PROCESSES}
-use Rattle.pg_exchange.specs.GroupList.{GroupList, IsSnapshot, announced_names, announced_table}
+use Rattle.pg_exchange.specs.GroupList.{GroupList, announced_names, announced_table}
 use Rattle.pg_machine.specs.Clocked.{Stamped}
 use Rattle.pg_message.specs.Members.{HasFewMembers}
 use Rattle.pg_message.specs.Name.{is_name}
 use Rattle.pg_message.specs.declared.message.Message.{Message}
-use Rattle.pg_ring.specs.Capacity.{IsCapacity}
-use Rattle.pg_step.specs.declared.start.Start.{Start}
 use Rattle.pg_step.specs.Config.{Config, IsConfig, IsStart, names_of, groups_at, made_at, first_table}
 use Rattle.pg_node.specs.declared.state.NodeState.{NodeState}
 use Rattle.pg_node.specs.States.{kept_by}

@@ -1,5 +1,5 @@
 -- Whether what nodes tell as they begin fits, and why a world can't begin.
-use Rattle.std.specs.Prelude.{◌≡◌, ◌<◌, ◌⊎◌, Bool, true, false, nat_le, ℕ, length, slice_get, List, Option, Some, None}
+use Rattle.std.specs.Prelude.{◌≡◌, ◌<◌, ◌⊎◌, Bool, true, false, nat_le, ℕ, length, slice_get, List, Some, None}
 use Rattle.std.specs.List.{list_all}
 use Rattle.pg_group.specs.Table.{Table}
 use Rattle.pg_exchange.specs.GroupList.{GroupList, IsSnapshot}
