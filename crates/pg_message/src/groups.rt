@@ -23,10 +23,7 @@ pub(crate) fn are_named_once(groups: &[(Term, Items<Pid>)]) -> bool
 /// terms; else each name is looked up in a tree of those before it.
 ///
 /// Error: `AllocError`.
-pub fn are_told_once(
-    alloc: Global,
-    groups: &[(Term, Items<Pid>)],
-) -> Result<bool, AllocError>
+pub fn are_told_once(alloc: Global, groups: &[(Term, Items<Pid>)]) -> Result<bool, AllocError>
     ensures { IfOk result (λ once. once ≡ is_named_once groups.now) }
 {
     if do_ascend(groups) {

@@ -152,9 +152,10 @@ pass_start config start h =
 
 starts_pass : (config starts : Config) → list_all (is_start config) starts ≡ true → have_names starts ≡ true → AllByRecursion (IsStart config) starts
 starts_pass config [] e names = tt
-starts_pass config (start ∷ starts) e names =
-    (start_passes config start (left (is_start config start) _ e) (left (are_names start.groups) (have_names starts) names),
-    starts_pass config starts (right (is_start config start) _ e) (right (are_names start.groups) (have_names starts) names))
+starts_pass config (start ∷ starts) e names = (
+  start_passes config start (left (is_start config start) _ e) (left (are_names start.groups) (have_names starts) names),
+  starts_pass config starts (right (is_start config start) _ e) (right (are_names start.groups) (have_names starts) names),
+)
 
 -- ---- configurations
 

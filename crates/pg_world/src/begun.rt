@@ -87,9 +87,7 @@ const MAX_MEMBERS: usize = 4_294_967_296;
 fn have_few(starts: &[Start]) -> bool
     ensures { result ≡ have_few starts.now }
 {
-    starts
-        .iter()
-        .all(|start| are_few(start.groups.as_slice()))
+    starts.iter().all(|start| are_few(start.groups.as_slice()))
 }
 
 fn are_few(groups: &[(Term, Items<Pid>)]) -> bool

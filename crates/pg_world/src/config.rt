@@ -128,9 +128,7 @@ fn all_made(starts: &[Start], members: &[Pid]) -> bool
 fn was_made(starts: &[Start], pid: &Pid) -> bool
     ensures { result ≡ was_made starts.now pid.now }
 {
-    starts
-        .iter()
-        .any(|start| pid.node == start.name && is_among(start.made, pid))
+    starts.iter().any(|start| pid.node == start.name && is_among(start.made, pid))
 }
 
 /// Whether a pid is that of one of the first processes of its node.

@@ -76,11 +76,7 @@ pub fn takes(steps: &mut Vec<FrameStep>, times: u32) -> Result<(), TermFault> {
 }
 
 /// A command comes in at the port of a node.
-pub fn command(
-    steps: &mut Vec<FrameStep>,
-    node: usize,
-    command: Command,
-) -> Result<(), TermFault> {
+pub fn command(steps: &mut Vec<FrameStep>, node: usize, command: Command) -> Result<(), TermFault> {
     steps.push(FrameStep::Command {
         node,
         port: 0,

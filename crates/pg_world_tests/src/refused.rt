@@ -123,7 +123,11 @@ fn rings_are_measured(rt: HostRuntime) -> Result<(), Fail> {
     for (ring, bad) in [(0, true), (1, false), (65_536, false), (65_537, true)] {
         let mut config = alone(alloc, bare(alloc, "a", 0, 0)?)?;
         config.ring = ring;
-        let expected = if bad { Some(WorldFault::BadCapacity) } else { None };
+        let expected = if bad {
+            Some(WorldFault::BadCapacity)
+        } else {
+            None
+        };
         assert!(rt; fault_of(alloc, &config) == expected);
     }
     Ok(())

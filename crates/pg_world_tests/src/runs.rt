@@ -23,7 +23,7 @@ fn ran(
                 Err(TermFault::BadAtom)
             }
         }
-        Err(_) => Err(TermFault::BadAtom),
+        Err(_fault) => Err(TermFault::BadAtom),
     }
 }
 
@@ -111,6 +111,14 @@ fn pending_end(rt: HostRuntime) -> Result<(), Fail> {
     Ok(())
 }
 
+/// The numbers of these steps.
+fn numbers_of(alloc: Global, config: &Config, steps: &[FrameStep]) -> Result<Vec<u8>, TermFault> {
+    match run_frames(alloc, config, steps) {
+        Ok((_world, numbers)) => Ok(numbers),
+        Err(_fault) => Err(TermFault::BadAtom),
+    }
+}
+
 // What a step is refused by has its number, and the others follow.
 #[test]
 fn refused_steps_are_numbered(rt: HostRuntime) -> Result<(), Fail> {
@@ -120,9 +128,7 @@ fn refused_steps_are_numbered(rt: HostRuntime) -> Result<(), Fail> {
     take(&mut steps, 0, 2)?;
     take(&mut steps, 1, 1)?;
     take(&mut steps, 0, 1)?;
-    match run_frames(alloc, &config, steps.as_slice()) {
-        Ok((_, numbers)) => assert!(rt; numbers.as_slice() == [16, 16, 0].as_slice()),
-        Err(_) => assert!(rt; false),
-    }
+    let numbers = numbers_of(alloc, &config, steps.as_slice())?;
+    assert!(rt; numbers.as_slice() == [16, 16, 0].as_slice());
     Ok(())
 }
