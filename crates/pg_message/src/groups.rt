@@ -21,10 +21,9 @@ pub(crate) fn are_named_once(groups: &[(Term, Items<Pid>)]) -> bool
 
 /// Whether no group is named twice, for groups that come from outside. One walk where they ascend in the order of
 /// terms; else each name is looked up in a tree of those before it.
-pub(crate) fn are_told_once(
-    alloc: Global,
-    groups: &[(Term, Items<Pid>)],
-) -> Result<bool, AllocError>
+///
+/// Error: `AllocError`.
+pub fn are_told_once(alloc: Global, groups: &[(Term, Items<Pid>)]) -> Result<bool, AllocError>
     ensures { IfOk result (λ once. once ≡ is_named_once groups.now) }
 {
     if do_ascend(groups) {

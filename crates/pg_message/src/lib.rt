@@ -11,6 +11,7 @@ mod reading;
 mod writing;
 
 pub use fault::MessageFault;
+pub use groups::are_told_once;
 pub use laws::read_back;
 pub use message::{Message, Request, Said};
 pub use name::{MAX_NAME_DEPTH, MAX_NAME_LEN, check_name};

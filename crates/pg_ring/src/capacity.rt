@@ -4,8 +4,8 @@ ghost use Rattle.pg_ring.specs.Capacity.{IsCapacity, IsBadCapacity};
 /// The greatest capacity of a ring, in bytes or in values. This project's own limit.
 pub const MAX_CAPACITY: usize = 65_536;
 
-// Whether a ring may have room for this many.
-pub(crate) fn is_capacity(cap: usize) -> bool
+/// Whether a ring may have room for this many: 1 to 65,536. It takes no memory.
+pub fn is_capacity(cap: usize) -> bool
     ensures yes { IsTrue result → IsCapacity cap }
     ensures no { IsFalse result → IsBadCapacity cap }
 {

@@ -16,7 +16,7 @@ mod slot_in;
 mod slot_out;
 mod slots;
 
-pub use capacity::MAX_CAPACITY;
+pub use capacity::{MAX_CAPACITY, is_capacity};
 pub use fault::RingFault;
 pub use laws::{later_ends_pair, later_slots_pair, ring_keeps_order};
 pub use link::{Inlet, Link};

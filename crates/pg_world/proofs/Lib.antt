@@ -1,9 +1,12 @@
 mod Answering
 mod Applying
 mod Crossed
+mod Deciding
+mod Fitted
 mod Harmless
 mod Idle
 mod Linked
+mod Opened
 mod Ordered
 mod Passing
 mod Peering

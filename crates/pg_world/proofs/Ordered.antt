@@ -26,7 +26,7 @@ use Rattle.pg_history.proofs.tables.Values.{less_nobody}
 use Rattle.pg_world.specs.Starts.{IsOrdered, Orders, TellsFew, seen_first}
 
 -- what a node starts with is what its groups tell
-first_told : (groups : GroupList) (name : Term) → first_table groups name ≡ announced_table groups name
+pub first_told : (groups : GroupList) (name : Term) → first_table groups name ≡ announced_table groups name
 first_told groups name = all_announced term_is merge_associates (λ pid. false) (less_merge (λ pid. false)) (λ n. None) groups name ∙ less_nobody (announced_table groups name)
 
 -- ---- tables

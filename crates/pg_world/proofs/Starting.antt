@@ -51,7 +51,7 @@ at_end (z ∷ zs) x y (suc i) e = go (at_end zs x y i e)
     go (inl h) = inl h
     go (inr h) = inr (ap suc h.0, h.1)
 
-firsts_length : (config : Config) (n : ℕ) → length (firsts config n) ≡ n
+pub firsts_length : (config : Config) (n : ℕ) → length (firsts config n) ≡ n
 firsts_length config zero = refl
 firsts_length config (suc n) = length-append (firsts config n) (seen_first config n ∷ []) ∙ (λ j. one (firsts_length config n j) j)
   where

@@ -1,5 +1,9 @@
+pub mod Configs
 pub mod Crossings
+pub mod Faults
+pub mod Fitting
 pub mod Histories
+pub mod Openings
 pub mod Runs
 pub mod Short
 pub mod Starts

@@ -17,6 +17,7 @@ use Rattle.pg_step.specs.State.{new_state}
 use Rattle.pg_opens.specs.Places.{name_at}
 use Rattle.pg_node.specs.Opening.{IsAnnouncement}
 use Rattle.pg_node.specs.States.{stamped_of}
+use Rattle.pg_world.specs.Fitting.{FitsFrame}
 use Rattle.pg_world.specs.Views.{Seen, View}
 use Rattle.pg_world.specs.Worlds.{Shows}
 
@@ -48,9 +49,9 @@ HasFewMembers-prop limit groups = AllByRecursion-prop _ (λ group. le_prop) grou
 pub TellsFew-prop : (table : Table) → (a b : TellsFew table) → a ≡ b
 TellsFew-prop table a b = λ i groups is. HasFewMembers-prop (2 ^ 32) groups (a groups is) (b groups is) i
 
--- to each of so many peers one packet is on the way, which tells all groups of the node's table
+-- to each of so many peers one packet is on the way, which tells all groups of the node's table and fits into a frame
 abbrev pub Opens : ℕ → Seen → List (List (Stamped Message)) → Type 0
-Opens peers node row = (packet : Packet) × IsAnnouncement node.state.state.table (name_at node.names 0) packet × (row ≡ replicate peers (stamped_of packet ∷ []))
+Opens peers node row = (packet : Packet) × IsAnnouncement node.state.state.table (name_at node.names 0) packet × (row ≡ replicate peers (stamped_of packet ∷ [])) × FitsFrame packet
 
 -- the same of each node
 abbrev pub AllOpen : ℕ → List Seen → List (List (List (Stamped Message))) → Type 0

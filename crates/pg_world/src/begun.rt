@@ -1,36 +1,99 @@
 //! How a world begins.
 
-ghost use Rattle.std.specs.Prelude.{◌≡◌, ◌≤◌, ◌^◌, ℕ, IfOk};
+ghost use Rattle.std.specs.Prelude.{◌≡◌, ◌≤◌, ◌^◌, ℕ, true, IfOk, IfErr};
 ghost use Rattle.std.specs.List.{IsDistinct};
 ghost use Rattle.pg_term.specs.Same.{same_atom, same_term};
 ghost use Rattle.pg_ends.specs.declared.processes.TheConstants.{MAX_PROCESSES};
 ghost use Rattle.pg_exchange.specs.GroupList.{announced_names};
 ghost use Rattle.pg_message.specs.Members.{HasFewMembers};
-ghost use Rattle.pg_step.specs.Config.{names_of, groups_at, made_at};
+ghost use Rattle.pg_ring.specs.Capacity.{IsCapacity};
+ghost use Rattle.pg_step.specs.Config.{IsConfig, names_of, groups_at, made_at};
 
+use crate::config::Config;
+use crate::fault::WorldFault;
 use crate::starts::{nodes_of, openings};
 use crate::world::FrameWorld;
 use pg_index::IndexTable;
 use pg_step::Start;
-use std::alloc::{AllocError, Global};
+use pg_term::{Items, Pid, Term};
+use std::alloc::Global;
 
 impl FrameWorld<IndexTable> {
+    ghost use Rattle.pg_world.specs.Configs.{have_names};
+    ghost use Rattle.pg_world.specs.Openings.{AllFit, CantBegin, CantStart};
     ghost use Rattle.pg_world.specs.Starts.{Begins};
     ghost use Rattle.pg_world.specs.Worlds.{view_of};
 
     /// The nodes of a configuration as they start, where what each of them tells of its groups is on the way to each other.
-    /// Its cost is that of the groups of each node, once in its table and once for each peer, and for each node that of all names.
+    /// Its cost is that of `Config::check`, of the groups of each node, once in its table and once for each peer, and for each
+    /// node that of all names.
     ///
-    /// Error: `AllocError`.
-    pub fn begun(alloc: Global, starts: &[Start]) -> Result<FrameWorld<IndexTable>, AllocError>
+    /// Faults, the first that holds: those of `Config::check`; `TooLong`, where what a node tells takes more than a frame, as a
+    /// group of more than 2^32 members does; `OutOfMemory` in the place of each.
+    pub fn new(alloc: Global, config: &Config) -> Result<FrameWorld<IndexTable>, WorldFault>
+        ensures good { IfOk result (λ world. IsConfig config.now.starts.items × IsCapacity config.now.ring) }
+        ensures fits { IfOk result (λ world. AllFit config.now.starts.items) }
+        ensures begins { IfOk result (λ world. Begins config.now.starts.items (view_of world)) }
+        ensures fault { IfErr result (CantBegin config.now.ring config.now.starts.items) }
+    {
+        match config.check(alloc) {
+            Ok(()) => FrameWorld::checked(alloc, config.starts.as_slice()),
+            Err(fault) => Err(fault),
+        }
+    }
+
+    /// The same of a configuration that was checked.
+    fn checked(alloc: Global, starts: &[Start]) -> Result<FrameWorld<IndexTable>, WorldFault>
+        requires apart { IsDistinct same_atom (names_of starts.now) }
+        requires made { (i : ℕ) → made_at starts.now i ≤ MAX_PROCESSES }
+        requires once { (i : ℕ) → IsDistinct same_term (announced_names (groups_at starts.now i)) }
+        requires named { have_names starts.now ≡ true }
+        ensures begins { IfOk result (λ world. Begins starts.now (view_of world)) }
+        ensures fits { IfOk result (λ world. AllFit starts.now) }
+        ensures fault { IfErr result (CantStart starts.now) }
+    {
+        if have_few(starts) {
+            FrameWorld::begun(alloc, starts)
+        } else {
+            Err(WorldFault::TooLong)
+        }
+    }
+
+    /// The same where no group has more than 2^32 members.
+    fn begun(alloc: Global, starts: &[Start]) -> Result<FrameWorld<IndexTable>, WorldFault>
         requires apart { IsDistinct same_atom (names_of starts.now) }
         requires made { (i : ℕ) → made_at starts.now i ≤ MAX_PROCESSES }
         requires once { (i : ℕ) → IsDistinct same_term (announced_names (groups_at starts.now i)) }
         requires few { (i : ℕ) → HasFewMembers (2 ^ 32) (groups_at starts.now i) }
-        ensures { IfOk result (λ world. Begins starts.now (view_of world)) }
+        requires named { have_names starts.now ≡ true }
+        ensures begins { IfOk result (λ world. Begins starts.now (view_of world)) }
+        ensures fits { IfOk result (λ world. AllFit starts.now) }
+        ensures fault { IfErr result (CantStart starts.now) }
     {
         let nodes = nodes_of(alloc, starts)?;
-        let outgoing = openings(alloc, nodes.as_slice())?;
-        Ok(FrameWorld::of_parts(alloc, nodes, outgoing))
+        match openings(alloc, nodes.as_slice()) {
+            Ok(outgoing) => Ok(FrameWorld::of_parts(alloc, nodes, outgoing)),
+            Err(fault) => Err(fault),
+        }
     }
+}
+
+ghost use Rattle.pg_world.specs.Openings.{are_few, have_few};
+
+/// How many members a group has at most that is handed in.
+const MAX_MEMBERS: usize = 4_294_967_296;
+
+/// Whether no group of a node has more than 2^32 members.
+fn have_few(starts: &[Start]) -> bool
+    ensures { result ≡ have_few starts.now }
+{
+    starts.iter().all(|start| are_few(start.groups.as_slice()))
+}
+
+fn are_few(groups: &[(Term, Items<Pid>)]) -> bool
+    ensures { result ≡ are_few groups.now }
+{
+    groups
+        .iter()
+        .all(|group| group.1.as_slice().len() <= MAX_MEMBERS)
 }

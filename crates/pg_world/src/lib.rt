@@ -3,7 +3,9 @@
 
 mod begun;
 mod bytes;
+mod config;
 mod entry;
+mod fault;
 mod histories;
 mod laws;
 mod outgoing;
@@ -18,8 +20,10 @@ mod way;
 mod world;
 
 pub use bytes::World;
+pub use config::{Config, MAX_NODES, MAX_PORTS};
 pub use entry::Entry;
-pub use laws::orders_keep_tables;
+pub use fault::WorldFault;
+pub use laws::{configs_are_decided, orders_keep_tables};
 pub use run::run_frames;
 pub use step::{FrameStep, Step, Stepped};
 pub use world::FrameWorld;

@@ -1,22 +1,20 @@
 //! Runs of steps from a configuration.
 
-ghost use Rattle.std.specs.Prelude.{◌≡◌, ◌≤◌, ◌^◌, ℕ, IfOk, length};
-ghost use Rattle.std.specs.List.{IsDistinct};
-ghost use Rattle.pg_term.specs.Same.{same_atom, same_term};
-ghost use Rattle.pg_ends.specs.declared.processes.TheConstants.{MAX_PROCESSES};
-ghost use Rattle.pg_exchange.specs.GroupList.{announced_names};
-ghost use Rattle.pg_message.specs.Members.{HasFewMembers};
-ghost use Rattle.pg_step.specs.Config.{Config, names_of, groups_at, made_at};
+ghost use Rattle.std.specs.Prelude.{◌≡◌, IfOk, IfErr, length};
+ghost use Rattle.pg_ring.specs.Capacity.{IsCapacity};
+ghost use Rattle.pg_step.specs.Config.{Config as Configuration, IsConfig};
+ghost use Rattle.pg_world.specs.Openings.{AllFit, CantBegin};
 ghost use Rattle.pg_world.specs.Runs.{Ran};
 ghost use Rattle.pg_world.specs.Worlds.{view_of as shown_by};
 
+use crate::config::Config;
+use crate::fault::WorldFault;
 use crate::step::FrameStep;
 use crate::world::FrameWorld;
 use pg_group::GroupTable;
 use pg_history::one_history;
 use pg_index::IndexTable;
-use pg_step::Start;
-use std::alloc::{AllocError, Global};
+use std::alloc::Global;
 
 impl<T: GroupTable + Drop> FrameWorld<T> {
     ghost use Rattle.pg_world.specs.Runs.{StepsTo, GoesTo};
@@ -27,7 +25,7 @@ impl<T: GroupTable + Drop> FrameWorld<T> {
     pub fn run(&mut self, steps: &[FrameStep], numbers: &mut Vec<u8>)
         requires { length numbers.old.items ≡ length steps.now }
         ensures len { length numbers.new.items ≡ length steps.now }
-        ensures ran { (config : Config) (w : TimedFrameWorld) → Shows config (view_of self.old) w
+        ensures ran { (config : Configuration) (w : TimedFrameWorld) → Shows config (view_of self.old) w
             → GoesTo config w steps.now numbers.new.items (Shows config (view_of self.new)) }
     {
         for place in 0..steps.len() {
@@ -38,7 +36,7 @@ impl<T: GroupTable + Drop> FrameWorld<T> {
 
     /// Makes one step, and tells its number.
     fn step_number(&mut self, step: &FrameStep) -> u8
-        ensures { (config : Config) (w : TimedFrameWorld) → Shows config (view_of self.old) w
+        ensures { (config : Configuration) (w : TimedFrameWorld) → Shows config (view_of self.old) w
             → StepsTo config w step.now result (Shows config (view_of self.new)) }
     {
         match self.step(step) {
@@ -54,21 +52,25 @@ impl<T: GroupTable + Drop> FrameWorld<T> {
 /// The contract is the headline: the steps that happened are the events of a run of the frame machine, and of what they
 /// reported, and of the states that the world shows, everything holds that `OneHistory` says.
 ///
-/// Error: `AllocError`, where the world can't be made.
+/// Faults: those of `FrameWorld::new`.
 pub fn run_frames(
     alloc: Global,
-    starts: &[Start],
+    config: &Config,
     steps: &[FrameStep],
-) -> Result<(FrameWorld<IndexTable>, Vec<u8>), AllocError>
-    requires apart { IsDistinct same_atom (names_of starts.now) }
-    requires made { (i : ℕ) → made_at starts.now i ≤ MAX_PROCESSES }
-    requires once { (i : ℕ) → IsDistinct same_term (announced_names (groups_at starts.now i)) }
-    requires few { (i : ℕ) → HasFewMembers (2 ^ 32) (groups_at starts.now i) }
-    ensures { IfOk result (λ ran. Ran starts.now steps.now ran.1.items (shown_by ran.0)) }
+) -> Result<(FrameWorld<IndexTable>, Vec<u8>), WorldFault>
+    ensures good { IfOk result (λ ran. IsConfig config.now.starts.items × IsCapacity config.now.ring) }
+    ensures fits { IfOk result (λ ran. AllFit config.now.starts.items) }
+    ensures ran { IfOk result (λ ran. Ran config.now.starts.items steps.now ran.1.items (shown_by ran.0)) }
+    ensures fault { IfErr result (CantBegin config.now.ring config.now.starts.items) }
 {
     one_history();
     let mut numbers = Vec::from_elem(alloc, 0, steps.len())?;
-    let mut world = FrameWorld::begun(alloc, starts)?;
-    world.run(steps, &mut numbers);
-    Ok((world, numbers))
+    match FrameWorld::new(alloc, config) {
+        Ok(begun) => {
+            let mut world = begun;
+            world.run(steps, &mut numbers);
+            Ok((world, numbers))
+        }
+        Err(fault) => Err(fault),
+    }
 }

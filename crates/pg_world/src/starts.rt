@@ -1,19 +1,25 @@
 //! The nodes of a configuration as they start, and what each of them sends then.
 
-ghost use Rattle.std.specs.Prelude.{◌≡◌, ◌≤◌, ◌<◌, ◌-◌, ◌^◌, ℕ, false, None, IfOk, length, map};
+ghost use Rattle.std.specs.Prelude.{◌≡◌, ◌≤◌, ◌<◌, ◌-◌, ◌^◌, ◌∷◌, [], ℕ, true, false, None, IfOk, IfErr, length, map, replicate};
 ghost use Rattle.std.specs.List.{All, AllByRecursion, IsDistinct};
 ghost use Rattle.pg_term.specs.Same.{same_atom};
 ghost use Rattle.pg_ends.specs.declared.processes.TheConstants.{MAX_PROCESSES};
 ghost use Rattle.pg_exchange.specs.GroupList.{all_merged};
-ghost use Rattle.pg_message.specs.Members.{HasFewMembers};
+ghost use Rattle.pg_message.specs.Members.{HasFewMembers, IsShort};
+ghost use Rattle.pg_message.specs.Writing.{is_sayable};
+ghost use Rattle.pg_message.specs.declared.packet.TheConstants.{MAX_STAMP};
 ghost use Rattle.pg_step.specs.Config.{names_of, groups_at, made_at, first_table};
-ghost use Rattle.pg_node.specs.States.{kept_by};
+ghost use Rattle.pg_node.specs.States.{kept_by, stamped_of};
+ghost use Rattle.pg_world.specs.Fitting.{FitsFrame, CantSend};
+ghost use Rattle.pg_world.specs.Openings.{TellsNames, CantOpen, SomeCantOpen};
 ghost use Rattle.pg_world.specs.Views.{seen_of, ways_of};
 ghost use Rattle.pg_world.specs.Starts.{seen_first, firsts, TellsFew, Opens, AllOpen};
 
+use crate::fault::WorldFault;
 use crate::outgoing::Outgoing;
 use pg_group::{Ended, GroupTable};
 use pg_index::IndexTable;
+use pg_message::{Packet, packet_len};
 use pg_node::{NodeConfig, NodeState};
 use pg_step::Start;
 use pg_term::{Atom, Items, Pid, Term};
@@ -99,34 +105,58 @@ fn filled<T: GroupTable + Drop>(
 /// What each node sends as it starts: all groups of its table to each other, one packet each. Its cost is that of the snapshots,
 /// and of a copy for each peer.
 ///
-/// Error: `AllocError`.
+/// Faults: `TooLong`, where what one of them tells takes more than a frame; `OutOfMemory`.
 pub(crate) fn openings<T: GroupTable + Drop>(
     alloc: Global,
     nodes: &[NodeState<T>],
-) -> Result<Vec<Outgoing>, AllocError>
+) -> Result<Vec<Outgoing>, WorldFault>
     requires few { All (λ node. TellsFew (kept_by node).table) nodes.now }
-    ensures { IfOk result (λ outgoing. AllOpen (length nodes.now - 1) (map seen_of nodes.now) (map ways_of outgoing.items)) }
+    requires named { All (λ node. TellsNames (kept_by node).table) nodes.now }
+    ensures open { IfOk result (λ outgoing. AllOpen (length nodes.now - 1) (map seen_of nodes.now) (map ways_of outgoing.items)) }
+    ensures fault { IfErr result (SomeCantOpen (map seen_of nodes.now)) }
 {
     let mut outgoing = Vec::with_capacity(alloc, nodes.len())?;
     for place in 0..nodes.len() {
-        outgoing.push(opening(alloc, &nodes[place], nodes.len() - 1)?)?;
+        match opening(alloc, &nodes[place], nodes.len() - 1) {
+            Ok(ways) => outgoing.push(ways)?,
+            Err(fault) => return Err(fault),
+        }
     }
     Ok(outgoing)
 }
 
 /// What one node sends to so many peers as it starts.
 ///
-/// Error: `AllocError`.
+/// Faults: `TooLong`, where what it tells takes more than a frame; `OutOfMemory`.
 fn opening<T: GroupTable + Drop>(
     alloc: Global,
     node: &NodeState<T>,
     peers: usize,
-) -> Result<Outgoing, AllocError>
+) -> Result<Outgoing, WorldFault>
     requires few { TellsFew (kept_by node.now).table }
-    ensures { IfOk result (λ outgoing. Opens peers (seen_of node.now) (ways_of outgoing)) }
+    requires named { TellsNames (kept_by node.now).table }
+    ensures open { IfOk result (λ outgoing. Opens peers (seen_of node.now) (ways_of outgoing)) }
+    ensures fault { IfErr result (CantOpen (seen_of node.now)) }
 {
     match node.announcement() {
-        Ok(packet) => Outgoing::opened(alloc, peers, &packet),
-        Err(AllocError) => Err(AllocError),
+        Ok(packet) => opened(alloc, peers, &packet),
+        Err(AllocError) => Err(WorldFault::OutOfMemory),
+    }
+}
+
+/// A packet that can be sent is on the way to each of so many peers.
+///
+/// Faults: `TooLong`, where it takes more than a frame; `OutOfMemory`.
+fn opened(alloc: Global, peers: usize, packet: &Packet) -> Result<Outgoing, WorldFault>
+    requires short { IsShort (2 ^ 32) packet.now.message }
+    requires named { is_sayable packet.now.message ≡ true }
+    requires stamp { packet.now.stamp ≤ MAX_STAMP }
+    ensures fits { IfOk result (λ outgoing. FitsFrame packet.now) }
+    ensures ways { IfOk result (λ outgoing. ways_of outgoing ≡ replicate peers (stamped_of packet.now ∷ [])) }
+    ensures fault { IfErr result (CantSend packet.now) }
+{
+    match packet_len(packet) {
+        Ok(_) => Ok(Outgoing::opened(alloc, peers, packet)?),
+        Err(_) => Err(WorldFault::TooLong),
     }
 }

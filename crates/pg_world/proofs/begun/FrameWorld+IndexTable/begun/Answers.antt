@@ -1,14 +1,24 @@
 use Rattle.std.proofs.Common.{sym, subst}
 use Rattle.pg_world.specs.Starts.{Begins}
+use Rattle.pg_world.proofs.Opened.{all_name_slice, slice_fits, cant_start_slice}
 use Rattle.pg_world.proofs.Starting.{all_few_slice, world_whole, world_begins}
 use Rattle.pg_world.proofs.begun.FrameWorld+IndexTable.begun.Goals as goal
 
-pub openings-requires : goal.openings-requires
-openings-requires c = record { few = all_few_slice c.args.starts.now c.in_ok-nodes.nodes.items c.as_slice.result.now c.as_slice.ensures.value c.in_ok-nodes.ensures c.requires.once c.requires.few }
+pub openings-requires-clause-few : goal.openings-requires-clause-few
+openings-requires-clause-few c = all_few_slice c.args.starts.now c.in_ok-nodes.nodes.items c.as_slice.result.now c.as_slice.ensures.value c.in_ok-nodes.ensures c.requires.once c.requires.few
+
+pub openings-requires-clause-named : goal.openings-requires-clause-named
+openings-requires-clause-named c = all_name_slice c.args.starts.now c.in_ok-nodes.nodes.items c.as_slice.result.now c.as_slice.ensures.value c.in_ok-nodes.ensures c.requires.named
 
 pub of_parts-requires : goal.of_parts-requires
-of_parts-requires c = world_whole c.args.starts.now c.in_ok-nodes.nodes.items c.as_slice.result.now c.in_ok-outgoing.outgoing.items c.as_slice.ensures.value c.in_ok-nodes.ensures c.in_ok-outgoing.ensures
+of_parts-requires c = world_whole c.args.starts.now c.in_ok-nodes.nodes.items c.as_slice.result.now c.in-Ok.outgoing.items c.as_slice.ensures.value c.in_ok-nodes.ensures c.in-Ok.ensures.open
 
-pub returns : goal.returns
-returns c = subst (Begins c.args.starts.now) (sym c.of_parts.ensures)
-    (world_begins c.args.starts.now c.in_ok-nodes.nodes.items c.as_slice.result.now c.in_ok-outgoing.outgoing.items c.as_slice.ensures.value c.in_ok-nodes.ensures c.in_ok-outgoing.ensures c.requires.apart)
+pub returns-in-Ok-clause-begins : goal.returns-in-Ok-clause-begins
+returns-in-Ok-clause-begins c = subst (Begins c.args.starts.now) (sym c.of_parts.ensures)
+    (world_begins c.args.starts.now c.in_ok-nodes.nodes.items c.as_slice.result.now c.in-Ok.outgoing.items c.as_slice.ensures.value c.in_ok-nodes.ensures c.in-Ok.ensures.open c.requires.apart)
+
+pub returns-in-Ok-clause-fits : goal.returns-in-Ok-clause-fits
+returns-in-Ok-clause-fits c = slice_fits c.args.starts.now c.in_ok-nodes.nodes.items c.as_slice.result.now _ c.as_slice.ensures.value c.in_ok-nodes.ensures c.in-Ok.ensures.open
+
+pub returns-in-Err-clause-fault : goal.returns-in-Err-clause-fault
+returns-in-Err-clause-fault c = cant_start_slice c.args.starts.now c.in_ok-nodes.nodes.items c.as_slice.result.now c.in-Err.fault c.as_slice.ensures.value c.in_ok-nodes.ensures c.in-Err.ensures.fault
