@@ -1,0 +1,4 @@
+pub mod Acts
+pub mod Joining
+pub mod Moved
+pub mod Reading

@@ -1,0 +1,17 @@
+ghost use Rattle.std.specs.Prelude.{ℕ, List};
+ghost use Rattle.pg_machine.specs.Machine.{Machine, Event};
+ghost use Rattle.pg_machine.specs.Clocked.{Timed, Stamped};
+ghost use Rattle.pg_machine.specs.Timely.{KeepsTime};
+ghost use Rattle.pg_joining.specs.Logs.{Act, AreLogs};
+ghost use Rattle.pg_joining.specs.Merge.{Merges, clocks_of, merged};
+ghost use Rattle.pg_joining.specs.Joined.{Joined};
+
+/// The logs of nodes that ran apart join to one run: their entries, merged by clock and then by node, happen one after another
+/// from the start, and lead each node to where its log ended. So it is for every machine that keeps time.
+pub fn logs_join<S, P, C, O>()
+    ensures { (limit : ℕ) (m : Machine (Timed S) (Stamped P) C O) (logs : ℕ → List (ℕ × Event C))
+        (acts : ℕ → List (Act (Timed S) (Stamped P) C O)) (ends : ℕ → Timed S)
+        (left : ℕ → ℕ → List (Stamped P)) (order : List (ℕ × ℕ)) → KeepsTime limit m
+        → AreLogs m logs acts ends left → Merges m.size (λ i. clocks_of (logs i)) order
+        → Joined m logs acts ends left (merged logs order) }
+{}

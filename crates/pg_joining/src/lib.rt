@@ -1,0 +1,8 @@
+//! The logs of nodes that ran apart, joined to one run of all of them.
+#![tactic(auto)]
+
+mod laws;
+mod order;
+
+pub use laws::logs_join;
+pub use order::order_of_logs;
