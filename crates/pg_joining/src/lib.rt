@@ -1,8 +1,10 @@
 //! The logs of nodes that ran apart, joined to one run of all of them.
 #![tactic(auto)]
 
+mod history;
 mod laws;
 mod order;
 
+pub use history::joined_history;
 pub use laws::logs_join;
 pub use order::order_of_logs;
