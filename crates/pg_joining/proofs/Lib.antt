@@ -1,4 +1,5 @@
 pub mod Acts
 pub mod Joining
+pub mod Losing
 pub mod Moved
 pub mod Reading

@@ -1,3 +1,4 @@
-pub mod Logs
-pub mod Merge
 pub mod Joined
+pub mod Logs
+pub mod Losses
+pub mod Merge

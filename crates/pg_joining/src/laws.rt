@@ -1,10 +1,11 @@
-ghost use Rattle.std.specs.Prelude.{ℕ, List};
+ghost use Rattle.std.specs.Prelude.{◌≡◌, ℕ, Bool, List};
 ghost use Rattle.pg_machine.specs.Machine.{Machine, Event};
 ghost use Rattle.pg_machine.specs.Clocked.{Timed, Stamped};
 ghost use Rattle.pg_machine.specs.Timely.{KeepsTime};
 ghost use Rattle.pg_joining.specs.Logs.{Act, AreLogs};
 ghost use Rattle.pg_joining.specs.Merge.{Merges, clocks_of, merged};
 ghost use Rattle.pg_joining.specs.Joined.{Joined};
+ghost use Rattle.pg_joining.specs.Losses.{Logged, AreLosingLogs, LosingJoined};
 
 /// The logs of nodes that ran apart join to one run: their entries, merged by clock and then by node, happen one after another
 /// from the start, and lead each node to where its log ended. So it is for every machine that keeps time.
@@ -14,4 +15,16 @@ pub fn logs_join<S, P, C, O>()
         (left : ℕ → ℕ → List (Stamped P)) (order : List (ℕ × ℕ)) → KeepsTime limit m
         → AreLogs m logs acts ends left → Merges m.size (λ i. clocks_of (logs i)) order
         → Joined m logs acts ends left (merged logs order) }
+{}
+
+/// The same where nodes are lost. A loss stands in the log of the lost node as its last entry, at the clock at which it stopped. Its
+/// last notice carries that clock, so that whoever takes it comes later in the merge.
+pub fn losing_logs_join<S, P, C, O>()
+    ensures { (limit : ℕ) (m : Machine (Timed S) (Stamped P) C O) (last : Timed S → Stamped P) (lost : ℕ → Bool)
+        (kept : ℕ → ℕ → ℕ) (logs : ℕ → List (ℕ × Logged C))
+        (acts : ℕ → List (Act (Timed S) (Stamped P) C O)) (ends : ℕ → Timed S)
+        (left : ℕ → ℕ → List (Stamped P)) (order : List (ℕ × ℕ)) → KeepsTime limit m
+        → ((s : Timed S) → (last s).stamp ≡ s.clock) → AreLosingLogs m last lost kept logs acts ends left
+        → Merges m.size (λ i. clocks_of (logs i)) order
+        → LosingJoined m last lost acts ends left (merged logs order) }
 {}
