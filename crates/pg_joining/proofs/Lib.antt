@@ -2,4 +2,5 @@ pub mod Acts
 pub mod Joining
 pub mod Losing
 pub mod Moved
+pub mod Once
 pub mod Reading

@@ -1,11 +1,11 @@
 -- The merge of logs happens where nodes are lost.
-use Rattle.std.proofs.Common.{◌≡◌, ◌≢◌, ℕ, ◌+◌, ◌-◌, ◌<◌, ◌≤◌, Bool, true, false, not, ◌&&◌, ◌||◌, cond, nat_eq, nat_le, nat_lt, map, take, drop, length, List, [], ◌∷◌, ◌++◌, Option, Some, None, refl, ap, sym, ◌∙◌, subst, inl, inr, ◌⊎◌, arith, zero, suc}
+use Rattle.std.proofs.Common.{◌≡◌, ◌≢◌, ℕ, ◌+◌, ◌-◌, ◌<◌, ◌≤◌, Bool, true, false, not, ◌&&◌, ◌||◌, cond, nat_eq, nat_le, nat_lt, map, take, drop, length, List, [], ◌∷◌, ◌++◌, Some, None, refl, ap, sym, ◌∙◌, subst, inl, inr, ◌⊎◌, arith, zero, suc}
 use Rattle.std.specs.Prelude.{option_map}
-use Rattle.std.specs.List.{AllByRecursion, flat_map}
+use Rattle.std.specs.List.{AllByRecursion}
 use Rattle.std.proofs.lemmas.Bool.{cases_eq, eq-eqb, ne_eqb, lt-ltb, le-leb}
 use Rattle.std.proofs.lemmas.List.{append-nil, append_assoc, append_cancel_left, drop-map, length-append}
-use Rattle.pg_machine.specs.Places.{is_place, is_pair, set_at}
-use Rattle.pg_machine.specs.Machine.{Input, Turn, Machine, Event, World, Taken, Own, Take, Do, is_there, node_of, start_of, happens}
+use Rattle.pg_machine.specs.Places.{is_pair, set_at}
+use Rattle.pg_machine.specs.Machine.{Input, Machine, Taken, Own, is_there, node_of, start_of, happens}
 use Rattle.pg_machine.specs.Runs.{reported_by}
 use Rattle.pg_machine.specs.Clocked.{Timed, Stamped, TimedWorld}
 use Rattle.pg_machine.specs.Timely.{KeepsTime}
@@ -16,7 +16,7 @@ use Rattle.pg_machine.proofs.Steps.{pair_apart}
 use Rattle.pg_joining.specs.Logs.{Act, event_of, NodeLeads, sent_to, packet_from, taken_from, reports_of}
 use Rattle.pg_joining.specs.Merge.{ComesFirst, IsNext, rest_of, MergesRest, Merges, clocks_of, entry_at, merged}
 use Rattle.pg_joining.specs.Losses.{Logged, Turned, Stopped, logged, turn_entry, losing_log, arriving, AreLosingLogs, LosingJoined}
-use Rattle.pg_joining.proofs.Acts.{all_append, pair_places, drop_next, map_nil, From, later, later_than_first, stamped_later}
+use Rattle.pg_joining.proofs.Acts.{pair_places, drop_next, From, later_than_first, stamped_later}
 use Rattle.pg_joining.proofs.Moved.{Moved, own_moved, take_moved}
 
 -- a first part that is taken whole

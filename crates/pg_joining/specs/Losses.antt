@@ -5,7 +5,6 @@ use Rattle.pg_machine.specs.Clocked.{Timed, Stamped}
 use Rattle.pg_machine.specs.Runs.{reported_by}
 use Rattle.pg_machine.specs.Losing.{LosingWorld, LosingEvent, Step, Lose, LosingLeads, nobody_gone}
 use Rattle.pg_joining.specs.Logs.{Act, NodeLeads, event_of, sent_to, taken_from, reports_of}
-use Rattle.pg_joining.specs.Merge.{merged}
 
 -- what an entry says: an event of its node, or that its node stopped
 pub data Logged (Command : Type 0) : Type 0 where

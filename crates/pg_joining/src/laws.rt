@@ -28,3 +28,9 @@ pub fn losing_logs_join<S, P, C, O>()
         → Merges m.size (λ i. clocks_of (logs i)) order
         → LosingJoined m last lost acts ends left (merged logs order) }
 {}
+
+/// Logs are merged in one order.
+pub fn merge_is_one()
+    ensures { (size : ℕ) (clocks : ℕ → List ℕ) (order others : List (ℕ × ℕ)) → Merges size clocks order
+        → Merges size clocks others → order ≡ others }
+{}
