@@ -4,3 +4,4 @@ pub mod Losing
 pub mod Moved
 pub mod Once
 pub mod Reading
+pub mod Seen

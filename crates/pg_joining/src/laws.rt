@@ -1,9 +1,9 @@
-ghost use Rattle.std.specs.Prelude.{◌≡◌, ℕ, Bool, List};
+ghost use Rattle.std.specs.Prelude.{◌≡◌, ℕ, Bool, List, map};
 ghost use Rattle.pg_machine.specs.Machine.{Machine, Event};
 ghost use Rattle.pg_machine.specs.Clocked.{Timed, Stamped};
 ghost use Rattle.pg_machine.specs.Timely.{KeepsTime};
 ghost use Rattle.pg_joining.specs.Logs.{Act, AreLogs};
-ghost use Rattle.pg_joining.specs.Merge.{Merges, clocks_of, merged};
+ghost use Rattle.pg_joining.specs.Merge.{Merges, clocks_of, merged, seen_log};
 ghost use Rattle.pg_joining.specs.Joined.{Joined};
 ghost use Rattle.pg_joining.specs.Losses.{Logged, AreLosingLogs, LosingJoined};
 
@@ -33,4 +33,12 @@ pub fn losing_logs_join<S, P, C, O>()
 pub fn merge_is_one()
     ensures { (size : ℕ) (clocks : ℕ → List ℕ) (order others : List (ℕ × ℕ)) → Merges size clocks order
         → Merges size clocks others → order ≡ others }
+{}
+
+/// Whatever the entries of logs are seen as beside their clocks: the logs have the same clocks, so they are merged in the same order,
+/// and what stands in that order is seen so.
+pub fn seen_logs_merge_alike<E, F>()
+    ensures clocks { (view : E → F) (log : List (ℕ × E)) → clocks_of (seen_log view log) ≡ clocks_of log }
+    ensures merged { (view : E → F) (logs : ℕ → List (ℕ × E)) (order : List (ℕ × ℕ))
+        → merged (λ i. seen_log view (logs i)) order ≡ map view (merged logs order) }
 {}
