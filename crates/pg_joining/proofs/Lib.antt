@@ -5,3 +5,4 @@ pub mod Moved
 pub mod Once
 pub mod Reading
 pub mod Seen
+pub mod Sorted

@@ -1,6 +1,6 @@
 -- The order in which the entries of several logs are merged: by clock, and at one clock by place of the log.
-use Rattle.std.specs.Prelude.{◌≡◌, ℕ, ◌+◌, ◌<◌, ◌≤◌, drop, take, map, slice_index_or, List, [], ◌∷◌}
-use Rattle.std.specs.List.{flat_map}
+use Rattle.std.specs.Prelude.{◌≡◌, ℕ, ◌+◌, ◌<◌, ◌≤◌, cond, nat_eq, drop, take, map, slice_index, slice_index_or, List, [], ◌∷◌}
+use Rattle.std.specs.List.{AllByRecursion, flat_map}
 use Rattle.pg_machine.specs.Places.{set_at}
 
 -- a clock of log i comes no later than another of log j
@@ -30,6 +30,25 @@ MergesRest size clocks read (x ∷ order) =
 -- The order in which so many logs with these clocks are merged.
 abbrev pub Merges : ℕ → (ℕ → List ℕ) → List (ℕ × ℕ) → Type 0
 Merges size clocks order = MergesRest size clocks (λ i. 0) order
+
+-- the places of log i in an order
+abbrev pub places_of : ℕ → List (ℕ × ℕ) → List ℕ
+places_of i [] = []
+places_of i (x ∷ order) = cond (nat_eq x.0 i) (x.1 ∷ places_of i order) (places_of i order)
+
+-- no clock is below one before it
+abbrev pub IsRising : List ℕ → Type 0
+IsRising [] = Unit {0}
+IsRising (clock ∷ clocks) = AllByRecursion (λ later. clock ≤ later) clocks × IsRising clocks
+
+-- the clock of an entry
+abbrev pub clock_at : (ℕ → List ℕ) → ℕ × ℕ → ℕ
+clock_at clocks x = slice_index (clocks x.0) x.1
+
+-- each entry comes no later than those after it, by clock and then by log
+abbrev pub IsSorted : (ℕ → List ℕ) → List (ℕ × ℕ) → Type 0
+IsSorted clocks [] = Unit {0}
+IsSorted clocks (x ∷ order) = AllByRecursion (λ (y : ℕ × ℕ). ComesFirst (clock_at clocks x) x.0 (clock_at clocks y) y.0) order × IsSorted clocks order
 
 -- the clocks of the entries of a log
 abbrev pub clocks_of : {E : Type 0} → List (ℕ × E) → List ℕ

@@ -1,9 +1,10 @@
-ghost use Rattle.std.specs.Prelude.{◌≡◌, ℕ, Bool, List, map};
+ghost use Rattle.std.specs.Prelude.{◌≡◌, ◌<◌, ℕ, Bool, List, map, length};
+ghost use Rattle.std.specs.List.{AllByRecursion, range_with_len};
 ghost use Rattle.pg_machine.specs.Machine.{Machine, Event};
 ghost use Rattle.pg_machine.specs.Clocked.{Timed, Stamped};
 ghost use Rattle.pg_machine.specs.Timely.{KeepsTime};
 ghost use Rattle.pg_joining.specs.Logs.{Act, AreLogs};
-ghost use Rattle.pg_joining.specs.Merge.{Merges, clocks_of, merged, seen_log};
+ghost use Rattle.pg_joining.specs.Merge.{Merges, IsRising, IsSorted, places_of, clocks_of, merged, seen_log};
 ghost use Rattle.pg_joining.specs.Joined.{Joined};
 ghost use Rattle.pg_joining.specs.Losses.{Logged, AreLosingLogs, LosingJoined};
 
@@ -41,4 +42,15 @@ pub fn seen_logs_merge_alike<E, F>()
     ensures clocks { (view : E → F) (log : List (ℕ × E)) → clocks_of (seen_log view log) ≡ clocks_of log }
     ensures merged { (view : E → F) (logs : ℕ → List (ℕ × E)) (order : List (ℕ × ℕ))
         → merged (λ i. seen_log view (logs i)) order ≡ map view (merged logs order) }
+{}
+
+/// A merge has each entry of each log once, those of a log in their order. Where the clocks of no log fall, it is sorted by clock,
+/// and at one clock by log.
+pub fn merges_are_sorted()
+    ensures once { (size : ℕ) (clocks : ℕ → List ℕ) (order : List (ℕ × ℕ)) (i : ℕ) → Merges size clocks order → i < size
+        → places_of i order ≡ range_with_len 0 (length (clocks i)) }
+    ensures logs { (size : ℕ) (clocks : ℕ → List ℕ) (order : List (ℕ × ℕ)) → Merges size clocks order
+        → AllByRecursion (λ x. x.0 < size) order }
+    ensures sorted { (size : ℕ) (clocks : ℕ → List ℕ) (order : List (ℕ × ℕ)) → Merges size clocks order
+        → ((i : ℕ) → i < size → IsRising (clocks i)) → IsSorted clocks order }
 {}
