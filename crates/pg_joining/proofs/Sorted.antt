@@ -1,5 +1,5 @@
 -- What stands in a merge, and in which order.
-use Rattle.std.proofs.Common.{◌≡◌, ℕ, ◌+◌, ◌-◌, ◌<◌, ◌≤◌, Bool, true, false, cond, nat_eq, drop, length, get_or, slice_index, List, [], ◌∷◌, refl, ap, sym, ◌∙◌, subst, inl, inr, ◌⊎◌, arith, zero, suc}
+use Rattle.std.proofs.Common.{◌≡◌, ℕ, ◌+◌, ◌-◌, ◌<◌, ◌≤◌, cond, nat_eq, drop, length, get_or, slice_index, List, [], ◌∷◌, refl, ap, sym, ◌∙◌, subst, inl, inr, ◌⊎◌, arith, zero, suc}
 use Rattle.std.specs.List.{AllByRecursion, range_with_len}
 use Rattle.std.proofs.lemmas.Bool.{cases_eq, eq-eqb, ne_eqb}
 use Rattle.std.proofs.lemmas.List.{length-drop, drop_more}
@@ -80,9 +80,11 @@ module _ (size : ℕ) (clocks : ℕ → List ℕ) where
         → AllByRecursion (λ c. ComesFirst next.clock i c j) r
     all_later read i next j low [] is up = tt
     all_later read i next j low (c ∷ cs) is up =
-        let o : ComesFirst next.clock i c j = next.first j c cs low is in
-        (o, all_weaker (λ d. c ≤ d) (λ d. ComesFirst next.clock i d j) cs
-        (λ d less. record { clocks = omega (arith, o.clocks, less); places = λ same. o.places (omega (arith, o.clocks, less, same)) }) up.0)
+        let o : ComesFirst next.clock i c j = next.first j c cs low is in (
+          o,
+          all_weaker (λ d. c ≤ d) (λ d. ComesFirst next.clock i d j) cs
+              (λ d less. record { clocks = omega (arith, o.clocks, less); places = λ same. o.places (omega (arith, o.clocks, less, same)) }) up.0,
+        )
 
     pub sorted : (order : List (ℕ × ℕ)) (read : ℕ → ℕ) → MergesRest size clocks read order → IsSorted clocks order
     sorted [] read merges = tt

@@ -6,5 +6,7 @@ mod laws;
 mod order;
 
 pub use history::joined_history;
-pub use laws::{logs_join, losing_logs_join, merge_is_one, merges_are_sorted, seen_logs_merge_alike};
+pub use laws::{
+    logs_join, losing_logs_join, merge_is_one, merges_are_sorted, seen_logs_merge_alike,
+};
 pub use order::order_of_logs;
