@@ -6,7 +6,7 @@ use Rattle.std.proofs.lemmas.Bool.{cases_eq}
 use Rattle.std.proofs.lemmas.List.{append_assoc, append-nil, get_or-map, get_or-set_same, get_or-set_other, get_or_read, length-set, length-map, length-drop}
 use Rattle.pg_machine.specs.Places.{set_at}
 use Rattle.pg_machine.proofs.Places.{set_at_here, set_at_other}
-use Rattle.pg_joining.specs.Merge.{ComesFirst, IsNext, rest_of, MergesRest, Merges, clocks_of, log_at}
+use Rattle.pg_joining.specs.Merge.{ComesFirst, IsNext, rest_of, MergesRest, Merges, clocks_of, log_at, clocks_in}
 
 -- the entry that comes first among the logs before log i, and its clock
 abbrev pub FirstBefore : (ℕ → List ℕ) → ℕ → Option ℕ → ℕ → Type 0
@@ -97,10 +97,6 @@ module _ (rest : ℕ → List ℕ) (i least : ℕ) where
       → none ≡ false → least ≤ clock → FirstBefore rest (i + 1) next least
   past_else None none clock later h e asked is low = let no : false ≡ true = asked ∙ ap not is in absurd (cc)
   past_else (Some k) none clock later h e asked is low = past_later k clock later h e low
-
--- the clocks of the logs of a slice
-abbrev pub clocks_in : {E : Type 0} → List (List (ℕ × E)) → ℕ → List ℕ
-clocks_in logs i = clocks_of (log_at logs i)
 
 pub log_there : {E V : Type 0} (items : V → List (ℕ × E)) (logs : List V) (v : V) (i : ℕ) → i < length logs → v ≡ get_or logs i v → log_at (map items logs) i ≡ items v
 log_there items logs v i low is = get_or-map items logs i v [] low ∙ ap items (sym is)

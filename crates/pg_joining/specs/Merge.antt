@@ -58,6 +58,10 @@ clocks_of log = map (λ x. x.0) log
 abbrev pub log_at : {E : Type 0} → List (List (ℕ × E)) → ℕ → List (ℕ × E)
 log_at logs i = slice_index_or logs i []
 
+-- the clocks of each log
+abbrev pub clocks_in : {E : Type 0} → List (List (ℕ × E)) → ℕ → List ℕ
+clocks_in logs i = clocks_of (log_at logs i)
+
 -- what stands at a place of a log, without its clock; nothing past its end
 abbrev pub entry_at : {E : Type 0} → List (ℕ × E) → ℕ → List E
 entry_at log place = map (λ x. x.1) (take 1 (drop place log))

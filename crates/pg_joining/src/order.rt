@@ -1,5 +1,5 @@
 ghost use Rattle.std.specs.Prelude.{◌≡◌, ◌<◌, ◌+◌, ◌∷◌, [], ℕ, List, map, drop, length, slice_index, IfOk, MatchOption};
-ghost use Rattle.pg_joining.specs.Merge.{Merges, IsNext, rest_of, clocks_of, log_at};
+ghost use Rattle.pg_joining.specs.Merge.{Merges, IsNext, rest_of, clocks_of, clocks_in};
 
 use std::alloc::{AllocError, Global};
 
@@ -27,8 +27,10 @@ fn place_after<E>(log: &[(u32, E)], place: usize) -> usize
 fn next_log<E>(logs: &[Vec<(u32, E)>], read: &[usize]) -> Option<usize>
     requires { length read.now ≡ length logs.now }
     ensures { MatchOption result
-        ((i : ℕ) → i < length logs.now → rest_of (λ j. clocks_of (log_at (map (λ v. v.items) logs.now) j)) (λ j. slice_index read.now j) i ≡ [])
-        (λ i. IsNext (length logs.now) (rest_of (λ j. clocks_of (log_at (map (λ v. v.items) logs.now) j)) (λ j. slice_index read.now j)) i) }
+        ((i : ℕ) → i < length logs.now
+        → rest_of (clocks_in (map (λ v. v.items) logs.now)) (λ j. slice_index read.now j) i ≡ [])
+        (λ i. IsNext (length logs.now)
+        (rest_of (clocks_in (map (λ v. v.items) logs.now)) (λ j. slice_index read.now j)) i) }
 {
     let mut next = None;
     let mut least = 0;
@@ -50,7 +52,7 @@ pub fn order_of_logs<E>(
     logs: &[Vec<(u32, E)>],
 ) -> Result<Vec<(usize, usize)>, AllocError>
     ensures ok { IfOk result (λ order. Merges (length logs.now)
-        (λ i. clocks_of (log_at (map (λ v. v.items) logs.now) i)) order.items) }
+        (clocks_in (map (λ v. v.items) logs.now)) order.items) }
 {
     let mut read = vec![in alloc; 0usize; logs.len()]?;
     let mut order = Vec::new(alloc);

@@ -1,7 +1,7 @@
 -- One more log is looked at.
 use Rattle.std.proofs.Common.{ℕ, List, ◌≡◌, ◌+◌, Option, Some, map, drop, sym, ◌∙◌, ap, subst, slice_index}
-use Rattle.pg_joining.specs.Merge.{rest_of, clocks_of}
-use Rattle.pg_joining.proofs.Reading.{FirstBefore, clocks_in, past_empty, past_if, past_else, log_there}
+use Rattle.pg_joining.specs.Merge.{clocks_in, rest_of, clocks_of}
+use Rattle.pg_joining.proofs.Reading.{FirstBefore, past_empty, past_if, past_else, log_there}
 use Rattle.pg_joining.proofs.order.next_log.Goals as goal
 use Rattle.pg_joining.proofs.order.next_log.Goals.{in-Some+then-is_none, in-Some+else-is_none+else-clock-least, in_default}
 

@@ -1,6 +1,6 @@
 use Rattle.std.proofs.Common.{map, slice_index}
-use Rattle.pg_joining.specs.Merge.{rest_of}
-use Rattle.pg_joining.proofs.Reading.{FirstBefore, clocks_in}
+use Rattle.pg_joining.specs.Merge.{clocks_in, rest_of}
+use Rattle.pg_joining.proofs.Reading.{FirstBefore}
 use Rattle.pg_joining.proofs.order.next_log.Given as goal
 
 abbrev pub invariant-loop-i : goal.invariant-loop-i

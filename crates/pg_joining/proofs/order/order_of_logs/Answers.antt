@@ -1,6 +1,7 @@
 -- The loop puts the entry that comes first, and goes on in its log.
 use Rattle.std.proofs.Common.{sym, subst, map, length, set}
-use Rattle.pg_joining.proofs.Reading.{SoFar, clocks_in, turn_ends, turn_keeps, turns_done}
+use Rattle.pg_joining.specs.Merge.{clocks_in}
+use Rattle.pg_joining.proofs.Reading.{SoFar, turn_ends, turn_keeps, turns_done}
 use Rattle.pg_joining.proofs.order.order_of_logs.Goals as goal
 
 pub loop-i-smaller : goal.loop-i-smaller

@@ -1,5 +1,6 @@
 use Rattle.std.proofs.Common.{map, length}
-use Rattle.pg_joining.proofs.Reading.{SoFar, clocks_in, unread}
+use Rattle.pg_joining.specs.Merge.{clocks_in}
+use Rattle.pg_joining.proofs.Reading.{SoFar, unread}
 use Rattle.pg_joining.proofs.order.order_of_logs.Given as goal
 
 abbrev pub invariant-loop-i : goal.invariant-loop-i
