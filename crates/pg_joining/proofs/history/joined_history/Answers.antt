@@ -1,0 +1,13 @@
+-- The joined run is one of the nodes of the configuration.
+use Rattle.pg_step.specs.Step.{CLOCK_LIMIT}
+use Rattle.pg_step.specs.FrameMachine.{frame_machine}
+use Rattle.pg_joining.specs.Joined.{Joined}
+use Rattle.pg_joining.specs.Merge.{merged}
+use Rattle.pg_joining.proofs.Joining.{joined}
+use Rattle.pg_joining.proofs.history.joined_history.Goals as goal
+
+pub returns : goal.returns
+returns c = λ config logs acts ends left order apart are merges.
+    let run : Joined (frame_machine config) logs acts ends left (merged logs order) =
+    joined CLOCK_LIMIT (frame_machine config) logs acts ends left order (c.nodes_keep_time.ensures.steps config) are merges in
+    (run, c.one_history.ensures.each_world config run.world (merged logs order) apart run.leads)

@@ -1,0 +1,18 @@
+-- One run of all nodes out of the logs of each.
+use Rattle.std.specs.Prelude.{◌≡◌, ◌≢◌, ℕ, ◌<◌, map, List}
+use Rattle.pg_machine.specs.Machine.{Machine, Event, start_of}
+use Rattle.pg_machine.specs.Clocked.{Timed, Stamped, TimedWorld}
+use Rattle.pg_machine.specs.Runs.{Leads, events_of, reported_by}
+use Rattle.pg_joining.specs.Logs.{Act, reports_of}
+
+-- The events lead from the start to a world in which each node is where its log ended, and what was not taken is on the way;
+-- each node's events are those of its log, and what it reported is reported.
+pub record Joined {S P C O : Type 0} (m : Machine (Timed S) (Stamped P) C O) (logs : ℕ → List (ℕ × Event C))
+    (acts : ℕ → List (Act (Timed S) (Stamped P) C O)) (ends : ℕ → Timed S) (left : ℕ → ℕ → List (Stamped P))
+    (events : List (Event C)) : Type 0 where
+  pub world : TimedWorld S P O
+  pub leads : Leads m (start_of m) events world
+  pub nodes : (i : ℕ) → i < m.size → world.node i ≡ ends i
+  pub ways : (p q : ℕ) → p < m.size → q < m.size → p ≢ q → world.wire p q ≡ left p q
+  pub reported : (i : ℕ) → i < m.size → reported_by i world.reported ≡ reports_of (acts i)
+  pub logs_of : (i : ℕ) → i < m.size → events_of i events ≡ map (λ x. x.1) (logs i)

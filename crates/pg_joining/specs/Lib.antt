@@ -1,0 +1,4 @@
+pub mod Joined
+pub mod Logs
+pub mod Losses
+pub mod Merge

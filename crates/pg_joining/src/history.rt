@@ -1,0 +1,33 @@
+ghost use Rattle.std.specs.Prelude.{◌≡◌, ℕ, List, length};
+ghost use Rattle.std.specs.List.{IsDistinct};
+ghost use Rattle.pg_term.specs.Same.{same_atom};
+ghost use Rattle.pg_message.specs.declared.message.Message.{Message};
+ghost use Rattle.pg_machine.specs.Machine.{Event};
+ghost use Rattle.pg_machine.specs.Clocked.{Timed, Stamped, plain};
+ghost use Rattle.pg_step.specs.State.{State};
+ghost use Rattle.pg_step.specs.Turns.{Report};
+ghost use Rattle.pg_step.specs.Step.{Action};
+ghost use Rattle.pg_step.specs.Config.{Config, names_of};
+ghost use Rattle.pg_step.specs.FrameMachine.{frame_machine};
+ghost use Rattle.pg_history.specs.Headline.{OneHistory};
+ghost use Rattle.pg_joining.specs.Logs.{Act, AreLogs};
+ghost use Rattle.pg_joining.specs.Merge.{Merges, clocks_of, merged};
+ghost use Rattle.pg_joining.specs.Joined.{Joined};
+
+use pg_history::one_history;
+use pg_step::nodes_keep_time;
+
+/// The nodes of a configuration that ran apart have one history of each group: their logs join to one run, and of the world that it
+/// leads to, which shows each node as its log ended, everything holds that `one_history` says.
+pub fn joined_history()
+    ensures { (config : Config) (logs : ℕ → List (ℕ × Event Action))
+        (acts : ℕ → List (Act (Timed State) (Stamped Message) Action Report)) (ends : ℕ → Timed State)
+        (left : ℕ → ℕ → List (Stamped Message)) (order : List (ℕ × ℕ))
+        → IsDistinct same_atom (names_of config) → AreLogs (frame_machine config) logs acts ends left
+        → Merges (length config) (λ i. clocks_of (logs i)) order
+        → (run : Joined (frame_machine config) logs acts ends left (merged logs order))
+        × OneHistory config (merged logs order) (plain run.world) }
+{
+    nodes_keep_time();
+    one_history();
+}

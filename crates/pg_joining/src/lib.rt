@@ -1,0 +1,12 @@
+//! The logs of nodes that ran apart, joined to one run of all of them.
+#![tactic(auto)]
+
+mod history;
+mod laws;
+mod order;
+
+pub use history::joined_history;
+pub use laws::{
+    logs_join, losing_logs_join, merge_is_one, merges_are_sorted, seen_logs_merge_alike,
+};
+pub use order::order_of_logs;
