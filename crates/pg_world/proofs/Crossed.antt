@@ -1,18 +1,16 @@
 -- What a world of bytes shows once bytes have moved, or a node has made a turn.
-use Rattle.std.proofs.Common.{◌≡◌, ◌≢◌, ◌≤◌, ◌<◌, ◌+◌, ℕ, Bool, true, false, cond, nat_eq, map, get_or, length, List, [], ◌∷◌, ◌++◌, Option, Some, Result, Ok, Err, refl, sym, ap, ◌∙◌, inl, inr, ◌⊎◌, arith, subst, length-append}
+use Rattle.std.proofs.Common.{◌≡◌, ◌≢◌, ◌≤◌, ◌+◌, ℕ, Bool, true, false, cond, nat_eq, map, get_or, length, List, [], ◌∷◌, ◌++◌, refl, sym, ap, ◌∙◌, inl, inr, ◌⊎◌, arith, subst, length-append}
 use Rattle.std.specs.Int.{w32, to_be_bytes}
-use Rattle.std.specs.List.{AllByRecursion, flat_map}
+use Rattle.std.specs.List.{AllByRecursion}
 use Rattle.std.proofs.lemmas.Bool.{cases_eq}
-use Rattle.pg_term_io.specs.Writing.{written}
-use Rattle.pg_frame.specs.Frames.{IsBody, frame, front_of, after_front}
+use Rattle.pg_frame.specs.Frames.{frame, after_front}
 use Rattle.pg_message.specs.declared.message.Message.{Message}
 use Rattle.pg_message.specs.declared.packet.Packet.{Packet}
-use Rattle.pg_message.specs.Writing.{is_exchange, term_of_packet}
 use Rattle.pg_machine.specs.Places.{is_pair}
-use Rattle.pg_machine.specs.Machine.{Event, Take, Do, node_of}
+use Rattle.pg_machine.specs.Machine.{Event, node_of}
 use Rattle.pg_machine.specs.Happened.{Takes}
 use Rattle.pg_machine.specs.Clocked.{Stamped}
-use Rattle.pg_pieces.specs.Pieces.{Bytes, ArePackets, AreShort, FirstPacket, frames_of, sent as bytes_sent, taken as bytes_taken}
+use Rattle.pg_pieces.specs.Pieces.{Bytes, ArePackets, AreShort, frames_of, sent as bytes_sent, taken as bytes_taken}
 use Rattle.pg_step.specs.Config.{Config}
 use Rattle.pg_step.specs.Step.{Action}
 use Rattle.pg_node.specs.Links.{Link, idle_link, IsSmallFrame, AreSmallFrames, frame_of, frames_to}

@@ -1,31 +1,30 @@
 -- What a world of bytes is seen as where one of its nodes, or a ring from it, is another.
-use Rattle.std.proofs.Common.{◌≡◌, ◌≢◌, ◌≤◌, ◌<◌, ◌+◌, ℕ, zero, suc, Bool, true, false, cond, nat_eq, nat_lt, map, get_or, take, drop, length, List, [], ◌∷◌, ◌++◌, Some, refl, sym, ap, ◌∙◌, inl, inr, ◌⊎◌, arith, subst}
+use Rattle.std.proofs.Common.{◌≡◌, ◌≢◌, ◌<◌, ◌+◌, ◌-◌, ℕ, replicate, true, cond, nat_lt, map, get_or, take, drop, length, List, [], ◌∷◌, ◌++◌, Some, refl, sym, ap, ◌∙◌, inl, inr, ◌⊎◌, arith, subst}
 use Rattle.std.specs.Prelude.{slice_get, slice_set, Err}
 use Rattle.std.specs.List.{All}
 use Rattle.std.proofs.lemmas.Bool.{cases_eq, eq-eqb, ne_eqb}
 use Rattle.std.proofs.lemmas.Option.{slice_get_read, slice_get_within}
-use Rattle.std.proofs.lemmas.List.{get_or-map, get_or-set_same, get_or-set_other, map-set, length-map, length-set}
+use Rattle.std.proofs.lemmas.List.{get_or-map, get_or-set_same, get_or-set_other, get_or-replicate, map-set, length-map, length-replicate}
 use Rattle.pg_frame.specs.Frames.{after_front}
 use Rattle.pg_group.specs.Functions.{upd}
 use Rattle.pg_group.specs.declared.table.GroupTable.{Ghosts}
 use Rattle.pg_ring.specs.MemRing.{RingBytes, Grows, Loses}
 use Rattle.pg_message.specs.declared.packet.Packet.{Packet}
 use Rattle.pg_machine.specs.Places.{is_pair}
-use Rattle.pg_machine.specs.Machine.{Event, Take, Do}
-use Rattle.pg_machine.specs.Happened.{Takes}
-use Rattle.pg_pieces.specs.Pieces.{Bytes, put, pull}
+use Rattle.pg_machine.specs.Machine.{Take, Do}
+use Rattle.pg_pieces.specs.Pieces.{put, pull}
 use Rattle.pg_step.specs.Config.{Config}
 use Rattle.pg_step.specs.Step.{Action}
 use Rattle.pg_node.specs.declared.node.Node.{Node}
 use Rattle.pg_node.specs.declared.state.fault.NodeFault.{NodeFault}
 use Rattle.pg_node.specs.declared.state.fault.NodeFault.TheVariants.{OutOfMemory}
 use Rattle.pg_node.specs.Bytes.{passed}
-use Rattle.pg_node.specs.Links.{Link, idle_link, at_link, with_fed, without_front, frames_to}
+use Rattle.pg_node.specs.Links.{Link, idle_link, at_link, with_fed, without_front}
 use Rattle.pg_node.specs.Nodes.{held_by, links_of, sent_out}
 use Rattle.pg_node.specs.Issued.{ports_of}
 use Rattle.pg_node.specs.States.{names_of, state_of, answers_of}
 use Rattle.pg_world.specs.declared.rings.Rings.{Rings}
-use Rattle.pg_world.specs.Crossings.{Crossing, bytes_of, node_of, crossing_in, link_at, bytes_at, MoveComesTo}
+use Rattle.pg_world.specs.Crossings.{Crossing, bytes_of, node_of, crossing_in, MoveComesTo}
 use Rattle.pg_world.specs.Views.{Seen, seen_of, peer_place}
 use Rattle.pg_world.specs.Worlds.{has_port}
 use Rattle.pg_world.proofs.Crossed.{links_at, Moves, Acts}
@@ -353,3 +352,16 @@ port_place nodes i port has =
 -- it is refused by want of memory alone
 pub pull_err : (config : Config) (x y : ℕ) (fault : NodeFault) (Shown : Type 0) → fault ≡ OutOfMemory → Shown → MoveComesTo config x y (Err fault) Shown
 pull_err config x y fault Shown is shown = subst (λ f. MoveComesTo config x y (Err f) Shown) (sym is) shown
+
+-- ---- a world that begins
+
+module _ (rings : List Rings) (n : ℕ) (are : map bytes_of rings ≡ replicate n (replicate (n - 1) [])) where
+  pub idle_rows : length rings ≡ n
+  idle_rows = sym (length-map rings bytes_of) ∙ (ap length are ∙ length-replicate n (replicate (n - 1) []))
+
+  pub idle_others : All (λ (row : Rings). length row.rings.items + 1 ≡ length rings) rings
+  idle_others j d l =
+      let within : j < n = omega (arith, l, idle_rows) in
+      let row : bytes_of (get_or rings j d) ≡ replicate (n - 1) [] = sym (get_or-map bytes_of rings j d [] l) ∙ (ap (λ (rs : List (List (List ℕ))). get_or rs j []) are ∙ get_or-replicate n j (replicate (n - 1) []) [] within) in
+      let len : length (get_or rings j d).rings.items ≡ n - 1 = sym (length-map (get_or rings j d).rings.items (λ (r : RingBytes). r.unread)) ∙ (ap length row ∙ length-replicate (n - 1) []) in
+      omega (arith, len, within, idle_rows)

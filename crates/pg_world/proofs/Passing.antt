@@ -1,5 +1,5 @@
 -- A packet that a node takes off the bytes that came.
-use Rattle.std.proofs.Common.{◌≡◌, ◌≢◌, ◌<◌, ◌+◌, ℕ, Bool, true, false, ◌||◌, cond, nat_eq, map, length, List, [], ◌∷◌, ◌++◌, Option, Some, None, Result, Ok, Err, refl, sym, ap, ◌∙◌, inl, inr, ◌⊎◌, subst}
+use Rattle.std.proofs.Common.{◌≡◌, ◌≢◌, ◌+◌, ℕ, Bool, true, false, ◌||◌, cond, nat_eq, map, length, List, [], ◌∷◌, ◌++◌, Option, Some, None, Result, Ok, Err, refl, sym, ap, ◌∙◌, inl, inr, ◌⊎◌, subst}
 use Rattle.std.specs.Prelude.{slice_get, slice_set}
 use Rattle.std.specs.List.{AllByRecursion}
 use Rattle.std.proofs.Math.Path.{fun_ext}
@@ -12,15 +12,14 @@ use Rattle.pg_message.specs.declared.message.Message.{Message}
 use Rattle.pg_message.specs.declared.packet.Packet.{Packet}
 use Rattle.pg_message.specs.Reading.{packet_spelled}
 use Rattle.pg_machine.specs.Places.{is_pair}
-use Rattle.pg_machine.specs.Machine.{Event, Take, Do, node_of}
-use Rattle.pg_machine.specs.Happened.{Takes}
+use Rattle.pg_machine.specs.Machine.{Event, Take, Do}
 use Rattle.pg_machine.specs.Clocked.{Timed, Stamped, plain}
 use Rattle.pg_pieces.specs.Pieces.{Bytes, ArePackets, AreShort, FirstPacket, frames_of, sent as bytes_sent, taken as bytes_taken}
 use Rattle.pg_opens.specs.Places.{whole_in, name_at as place_name}
 use Rattle.pg_step.specs.declared.answer.Answer.{Answer}
 use Rattle.pg_step.specs.declared.refusal.Refusal.{Refusal}
 use Rattle.pg_step.specs.declared.refusal.Refusal.TheVariants.{NotAMessage, NoSuchPlace, NotWaiting, NodeLost, NotDrained, ClockFull, NotLost}
-use Rattle.pg_step.specs.Config.{Config, name_at, nodes_at}
+use Rattle.pg_step.specs.Config.{Config}
 use Rattle.pg_step.specs.State.{State}
 use Rattle.pg_step.specs.Step.{Action, TimedTurn, step_take, step_act}
 use Rattle.pg_history.specs.Headline.{HarmsNobody}
@@ -32,12 +31,11 @@ use Rattle.pg_node.specs.Links.{Link, at_link, AreSmallFrames}
 use Rattle.pg_node.specs.Nodes.{ComesInRoom}
 use Rattle.pg_node.specs.Sendable.{AreSendable}
 use Rattle.pg_node.specs.States.{stamped_of, Comes}
-use Rattle.pg_world.specs.declared.step.Stepped.{Stepped}
-use Rattle.pg_world.specs.declared.step.Stepped.TheVariants.{Nothing, Happened}
+use Rattle.pg_world.specs.declared.step.Stepped.TheVariants.{Happened}
 use Rattle.pg_world.specs.Crossings.{Crossing, link_at, bytes_at, packet_as, packets_between, written_of, CanCross, ShowsCrossing, ShowsBytes, EventComesTo}
 use Rattle.pg_world.specs.Histories.{asked_by}
 use Rattle.pg_world.specs.Views.{Seen, Account, peer_place}
-use Rattle.pg_world.specs.Worlds.{TimedFrameWorld, ShowsNodes, ComesTo, told}
+use Rattle.pg_world.specs.Worlds.{TimedFrameWorld, ComesTo}
 use Rattle.pg_world.proofs.Crossed.{Acts, all_short, event_shown}
 use Rattle.pg_world.proofs.Harmless.{never_refused}
 use Rattle.pg_world.proofs.Recording.{Grew, updates_after}

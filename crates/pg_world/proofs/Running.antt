@@ -18,7 +18,7 @@ use Rattle.pg_node.specs.declared.state.fault.NodeFault.{NodeFault}
 use Rattle.pg_node.specs.declared.state.fault.NodeFault.TheVariants.{Refused, OutOfMemory, Message as BadMessage, TooLong, Damaged}
 use Rattle.pg_world.specs.declared.step.FrameStep.{FrameStep}
 use Rattle.pg_world.specs.declared.step.Stepped.{Stepped}
-use Rattle.pg_world.specs.declared.step.Stepped.TheVariants.{Happened, Nothing}
+use Rattle.pg_world.specs.declared.step.Stepped.TheVariants.{Happened, Moved, Nothing}
 use Rattle.pg_world.specs.Views.{View}
 use Rattle.pg_world.specs.Worlds.{TimedFrameWorld, Shows, ComesTo, event_of}
 use Rattle.pg_world.specs.Runs.{number_told, IsPassed, StepsTo, RunsTo, GoesTo, Ran}
@@ -90,6 +90,7 @@ pub happened_so : (config : Config) (w : TimedFrameWorld) (step : FrameStep) (ol
 happened_so config w step old new (Ok Happened) stepped e shows (v, happened, shown) nothing = inl (record { listed = refl; left = v; happened = happened; rest = shown })
 happened_so config w step old new (Ok Nothing) stepped e shows comes nothing =
     inr (inl (sym (ap number_told comes)), subst (λ (view : View). Shows config view w) (sym (nothing refl)) shows)
+happened_so config w step old new (Ok (Moved count)) stepped e shows comes nothing = absurd comes
 happened_so config w step old new (Err fault) stepped e shows comes nothing = absurd (cc)
 
 pub refused_so : (config : Config) (w : TimedFrameWorld) (step : FrameStep) (old new : View) (result : Result Stepped NodeFault) (fault : NodeFault) → result ≡ Err fault → Shows config old w
@@ -120,7 +121,7 @@ ran_so given old new steps numbers begins goes history =
       w = run.left;
       runs = run.runs;
       shows = run.shown;
-      history = history config run.left run.events run.shown.traffic.apart (leads config steps numbers (start_of (frame_machine config)) run.left run.events run.runs);
+      history = history config run.left run.events run.shown.traffic.nodes.apart (leads config steps numbers (start_of (frame_machine config)) run.left run.events run.runs);
     }
 
 -- all steps were made

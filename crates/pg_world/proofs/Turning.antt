@@ -1,5 +1,5 @@
 -- What a world shows of its nodes once one of them has made a turn, and what it leaves on the way.
-use Rattle.std.proofs.Common.{◌≡◌, ◌≢◌, ℕ, zero, suc, ◌+◌, ◌<◌, Bool, true, false, not, ◌&&◌, cond, nat_eq, nat_lt, get_or, drop, length, List, [], ◌∷◌, ◌++◌, Option, Some, None, Result, Ok, Err, refl, sym, ap, ◌∙◌, inl, inr, ◌⊎◌, arith, subst}
+use Rattle.std.proofs.Common.{◌≡◌, ◌≢◌, ℕ, zero, suc, ◌+◌, ◌<◌, Bool, true, false, not, ◌&&◌, cond, nat_eq, nat_lt, get_or, length, List, [], ◌∷◌, ◌++◌, Option, Some, None, Result, Ok, Err, refl, sym, ap, ◌∙◌, inl, inr, ◌⊎◌, arith, subst}
 use Rattle.std.specs.Prelude.{slice_get, slice_set, max}
 use Rattle.std.proofs.lemmas.Bool.{cases_eq, eq-eqb, ne_eqb, lt-ltb, ltb-true}
 use Rattle.std.proofs.lemmas.Option.{slice_get_within}
@@ -29,12 +29,12 @@ use Rattle.pg_opens.specs.Places.{whole_in, name_at as place_name}
 use Rattle.pg_node.specs.declared.state.done.Done.{Done}
 use Rattle.pg_node.specs.declared.state.fault.NodeFault.{NodeFault}
 use Rattle.pg_node.specs.declared.state.fault.NodeFault.TheVariants.{Refused, OutOfMemory, Message as BadMessage, TooLong, Damaged}
-use Rattle.pg_world.specs.declared.step.Stepped.TheVariants.{Happened as HasHappened, Nothing}
+use Rattle.pg_world.specs.declared.step.Stepped.TheVariants.{Happened as HasHappened}
 use Rattle.pg_node.specs.States.{sends_in, Gave, Happens, Comes}
 use Rattle.pg_node.specs.Sendable.{AreSendable}
-use Rattle.pg_world.specs.Views.{Seen, Traffic, peer_place, on_the_way, first_of, packets_to}
+use Rattle.pg_world.specs.Views.{Seen, Traffic, peer_place, packets_to}
 use Rattle.pg_world.specs.Worlds.{AreAnswers, ShowsNodes, ShowsNode, TimedFrameWorld, told, told_of_first, ComesTo}
-use Rattle.pg_world.proofs.Peering.{peer_name, named, there_and_back, peers_differ, sent_to, sent_home}
+use Rattle.pg_world.proofs.Peering.{peer_name, named, there_and_back, sent_to, sent_home}
 use Rattle.pg_world.specs.Histories.{asked_by}
 use Rattle.pg_world.proofs.Applying.{take_applies, act_applies}
 use Rattle.pg_world.proofs.Recording.{Records, records_so}

@@ -1,5 +1,5 @@
 -- A world whose packets cross as bytes: how it is seen, and the frame world that it shows.
-use Rattle.std.specs.Prelude.{◌≡◌, ◌≢◌, ◌≤◌, ◌+◌, ℕ, zero, suc, cond, Bool, true, false, nat_eq, map, length, get_or, List, [], ◌∷◌, Option, Some, None, Result, Ok, Err}
+use Rattle.std.specs.Prelude.{◌≡◌, ◌≤◌, ◌+◌, ◌-◌, ℕ, true, false, map, length, get_or, replicate, List, [], Some, Result, Ok, Err}
 use Rattle.std.specs.List.{AllByRecursion}
 use Rattle.pg_term_io.specs.Writing.{written}
 use Rattle.pg_frame.specs.Frames.{IsBody}
@@ -9,15 +9,13 @@ use Rattle.pg_message.specs.declared.packet.Packet.{Packet}
 use Rattle.pg_message.specs.Reading.{packet_spelled}
 use Rattle.pg_message.specs.Writing.{is_exchange, term_of_packet}
 use Rattle.pg_machine.specs.Places.{is_pair}
-use Rattle.pg_machine.specs.Machine.{Event, happens, start_of}
+use Rattle.pg_machine.specs.Machine.{Event, happens}
 use Rattle.pg_machine.specs.Clocked.{Stamped}
-use Rattle.pg_machine.specs.Runs.{Leads}
 use Rattle.pg_pieces.specs.Pieces.{Bytes, ArePackets}
-use Rattle.pg_step.specs.declared.refusal.Refusal.{Refusal}
 use Rattle.pg_step.specs.declared.refusal.Refusal.TheVariants.{NoSuchPlace}
 use Rattle.pg_step.specs.Config.{Config}
 use Rattle.pg_step.specs.FrameMachine.{frame_machine}
-use Rattle.pg_step.specs.Step.{Action, TimedTurn}
+use Rattle.pg_step.specs.Step.{Action}
 use Rattle.pg_node.specs.declared.node.Node.{Node}
 use Rattle.pg_node.specs.declared.state.fault.NodeFault.{NodeFault}
 use Rattle.pg_node.specs.declared.state.fault.NodeFault.TheVariants.{Refused, OutOfMemory}
@@ -30,7 +28,6 @@ use Rattle.pg_world.specs.declared.step.Step.TheVariants as steps
 use Rattle.pg_world.specs.declared.step.Stepped.{Stepped}
 use Rattle.pg_world.specs.declared.step.Stepped.TheVariants.{Nothing, Moved, Happened}
 use Rattle.pg_world.specs.declared.bytes.World.{World}
-use Rattle.pg_world.specs.Histories.{account_of}
 use Rattle.pg_world.specs.Views.{Seen, Account, seen_of, peer_place}
 use Rattle.pg_world.specs.Worlds.{TimedFrameWorld, ShowsNodes, ShowsUpdates, event_of, told}
 
@@ -55,6 +52,10 @@ crossing_in nodes rings = record { nodes = map node_of nodes; links = map links_
 
 abbrev pub crossing_of : {T : Type 0} {g : Ghosts T} → World T g → Crossing
 crossing_of world = crossing_in world.nodes.items world.rings.items
+
+-- nodes between which the rings are empty
+abbrev pub idle_crossing : {T : Type 0} {g : Ghosts T} → List (Node T g) → Crossing
+idle_crossing nodes = record { nodes = map node_of nodes; links = map links_of nodes; rings = replicate (length nodes) (replicate (length nodes - 1) []) }
 
 -- the link of one node to another
 abbrev pub link_at : Crossing → ℕ → ℕ → Link

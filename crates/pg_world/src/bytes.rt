@@ -1,6 +1,6 @@
 //! Nodes whose packets cross as bytes, by rings between them, and what a step makes of them.
 
-ghost use Rattle.std.specs.Prelude.{◌≡◌, ◌+◌, ◌^◌, ◌++◌, true, Ok, Some, length, map, option_map, slice_get};
+ghost use Rattle.std.specs.Prelude.{◌≡◌, ◌+◌, ◌^◌, ◌++◌, true, Ok, Some, IfOk, length, map, option_map, slice_get};
 ghost use Rattle.std.specs.List.{All};
 ghost use Rattle.std.specs.Option.{option_copied};
 ghost use Rattle.pg_node.specs.Nodes.{held_by};
@@ -9,7 +9,7 @@ ghost use Rattle.pg_world.specs.declared.rings.Rings.{Rings};
 
 use crate::entry::Entry;
 use crate::histories::Histories;
-use crate::rings::Rings;
+use crate::rings::{Rings, rings_between};
 use crate::step::{FrameStep, Step, Stepped};
 use crate::world::peer_place;
 use pg_group::GroupTable;
@@ -19,7 +19,7 @@ use pg_node::{Node, NodeFault};
 use pg_pieces::{front_is_first_packet, moving_keeps_packets, sending_adds_packets};
 use pg_step::{Command, OpId, Refusal};
 use pg_term::Term;
-use std::alloc::AllocError;
+use std::alloc::{AllocError, Global};
 
 /// Nodes whose packets cross as bytes, and the rings between them.
 #[derive(Drop)]
@@ -35,6 +35,7 @@ pub struct World<T: GroupTable> {
 }
 
 impl<T: GroupTable + Drop> World<T> {
+    ghost use Rattle.pg_ring.specs.Capacity.{IsCapacity};
     ghost use Rattle.pg_machine.specs.Places.{is_pair};
     ghost use Rattle.pg_machine.specs.Machine.{Take, Do};
     ghost use Rattle.pg_step.specs.Config.{Config};
@@ -43,7 +44,26 @@ impl<T: GroupTable + Drop> World<T> {
     ghost use Rattle.pg_node.specs.Bytes.{next_packet};
     ghost use Rattle.pg_world.specs.Histories.{IsSettled, as_entry, last_entries, account_of};
     ghost use Rattle.pg_world.specs.Worlds.{event_of, has_port, has_places, TimedFrameWorld};
-    ghost use Rattle.pg_world.specs.Crossings.{crossing_of, node_of, link_at, IsReached, ShowsCrossing, ShowsBytes, MoveComesTo, EventComesTo, StepComesTo};
+    ghost use Rattle.pg_world.specs.Views.{no_account};
+    ghost use Rattle.pg_world.specs.Crossings.{crossing_of, idle_crossing, node_of, link_at, IsReached, ShowsCrossing, ShowsBytes, MoveComesTo, EventComesTo, StepComesTo};
+
+    /// A world of these nodes, with an empty ring from each to each other, which has room for `ring` bytes, and where nothing has
+    /// begun. Its cost is one allocation for each node and for each ring, and one.
+    ///
+    /// Error: `AllocError`.
+    pub fn idle(alloc: Global, nodes: Vec<Node<T>>, ring: usize) -> Result<World<T>, AllocError>
+        requires known { All (λ node. length (names_of (held_by node)) ≡ length nodes.items) nodes.items }
+        requires capacity { IsCapacity ring }
+        ensures crossing { IfOk result (λ world. crossing_of world ≡ idle_crossing nodes.items) }
+        ensures account { IfOk result (λ world. account_of world.histories ≡ no_account) }
+    {
+        let rings = rings_between(alloc, nodes.len(), ring)?;
+        Ok(World {
+            nodes,
+            rings,
+            histories: Histories::new(alloc),
+        })
+    }
 
     /// The node at a place. It takes no memory.
     pub fn node(&self, place: usize) -> Option<&Node<T>>

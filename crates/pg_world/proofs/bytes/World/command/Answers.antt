@@ -1,7 +1,6 @@
 use Rattle.std.proofs.Common.{refl, sym, subst}
-use Rattle.std.specs.Prelude.{None}
 use Rattle.pg_step.specs.Step.{Issue}
-use Rattle.pg_node.specs.Nodes.{held_by, links_of}
+use Rattle.pg_node.specs.Nodes.{held_by}
 use Rattle.pg_node.specs.States.{state_of, answers_of}
 use Rattle.pg_world.specs.Crossings.{Crossing, crossing_of, node_of, written_of, ShowsBytes}
 use Rattle.pg_world.specs.Histories.{account_of}

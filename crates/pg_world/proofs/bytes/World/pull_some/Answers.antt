@@ -1,4 +1,4 @@
-use Rattle.std.proofs.Common.{◌≡◌, ◌∙◌, ℕ, Bool, true, false, get_or, length, ap, subst, sym}
+use Rattle.std.proofs.Common.{◌≡◌, ◌∙◌, ℕ, true, false, get_or, length, ap, subst, sym}
 use Rattle.std.specs.Prelude.{slice_set}
 use Rattle.pg_machine.specs.Places.{is_pair}
 use Rattle.pg_pieces.specs.Pieces.{pull}

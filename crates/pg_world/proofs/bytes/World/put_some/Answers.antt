@@ -1,4 +1,4 @@
-use Rattle.std.proofs.Common.{◌≡◌, ◌∙◌, ℕ, get_or, take, ap, subst}
+use Rattle.std.proofs.Common.{◌≡◌, ◌∙◌, get_or, take, ap, subst}
 use Rattle.std.specs.Prelude.{slice_set}
 use Rattle.pg_ring.specs.MemRing.{Grows}
 use Rattle.pg_pieces.specs.Pieces.{put}

@@ -1,13 +1,11 @@
-use Rattle.std.proofs.Common.{◌≡◌, ◌∙◌, ◌+◌, ℕ, Ok, Err, refl, sym, ap, subst}
-use Rattle.std.specs.Prelude.{length}
+use Rattle.std.proofs.Common.{◌≡◌, ◌∙◌, ℕ, Ok, Err, refl, sym, ap, subst}
 use Rattle.pg_machine.specs.Machine.{Take}
 use Rattle.pg_node.specs.declared.state.fault.NodeFault.{NodeFault}
 use Rattle.pg_node.specs.declared.state.fault.NodeFault.TheVariants.{OutOfMemory}
 use Rattle.pg_node.specs.Bytes.{Tells, next_packet, marked}
 use Rattle.pg_node.specs.Links.{Link, at_link}
-use Rattle.pg_node.specs.Nodes.{held_by, links_of}
-use Rattle.pg_node.specs.States.{names_of}
-use Rattle.pg_world.specs.Crossings.{Crossing, crossing_of, node_of, link_at, written_of, ShowsBytes}
+use Rattle.pg_node.specs.Nodes.{links_of}
+use Rattle.pg_world.specs.Crossings.{Crossing, crossing_of, written_of, ShowsBytes}
 use Rattle.pg_world.specs.Histories.{account_of}
 use Rattle.pg_world.specs.Views.{seen_of, peer_place}
 use Rattle.pg_world.proofs.Linked.{first_there, links_here, links_now, node_same}

@@ -1,14 +1,14 @@
-use Rattle.std.proofs.Common.{◌≡◌, ◌∙◌, ◌+◌, ℕ, Result, Ok, Err, refl, sym, ap, subst}
+use Rattle.std.proofs.Common.{◌≡◌, ◌∙◌, ◌+◌, ℕ, Ok, Err, refl, sym, subst}
 use Rattle.std.specs.Prelude.{slice_set}
 use Rattle.pg_opens.specs.Places.{name_at}
 use Rattle.pg_step.specs.Step.{step_take}
-use Rattle.pg_node.specs.Bytes.{marked, passed}
+use Rattle.pg_node.specs.Bytes.{passed}
 use Rattle.pg_node.specs.Links.{at_link}
 use Rattle.pg_node.specs.Nodes.{held_by, links_of, sent_out, ComesInRoom}
 use Rattle.pg_node.specs.States.{names_of, nodes_of, state_of, answers_of, stamped_of}
 use Rattle.pg_world.specs.Crossings.{Crossing, crossing_in, crossing_of, node_of, written_of, ShowsBytes}
 use Rattle.pg_world.specs.Histories.{account_of, asked_by}
-use Rattle.pg_world.specs.Views.{Account, peer_place}
+use Rattle.pg_world.specs.Views.{Account}
 use Rattle.pg_world.proofs.Linked.{first_there, seen_there, nodes_set, seen_kept, take_acts, node_same}
 use Rattle.pg_world.proofs.Passing.{first_read, taken_shown, take_err, unmarked}
 use Rattle.pg_world.proofs.Recording.{grew_taken}

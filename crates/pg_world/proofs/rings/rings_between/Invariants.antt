@@ -1,0 +1,6 @@
+use Rattle.std.proofs.Common.{◌≡◌, ◌-◌, [], map, replicate}
+use Rattle.pg_world.specs.Crossings.{bytes_of}
+use Rattle.pg_world.proofs.rings.rings_between.Given as goal
+
+abbrev pub invariant-loop : goal.invariant-loop
+invariant-loop l = map bytes_of l.rings.items ≡ replicate l.counter (replicate (l.nodes - 1) [])
