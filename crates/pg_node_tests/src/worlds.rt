@@ -57,7 +57,7 @@ fn taken(
 fn take(world: &mut FrameWorld<IndexTable>, node: usize, peer: usize) -> Result<u32, NodeFault> {
     match taken(world, node, peer) {
         Ok(Stepped::Happened) => Ok(1),
-        Ok(Stepped::Nothing) => Ok(0),
+        Ok(_) => Ok(0),
         Err(fault) => Err(fault),
     }
 }
