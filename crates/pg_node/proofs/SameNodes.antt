@@ -1,19 +1,17 @@
 -- Nodes whose parts are the same are the same, and the other way round.
-use Rattle.std.proofs.Common.{◌≡◌, ◌<◌, ◌+◌, ◌∙◌, ℕ, Bool, false, List, get_or, length, refl, sym, ap, arith}
+use Rattle.std.proofs.Common.{◌≡◌, ◌<◌, ◌+◌, ◌∙◌, ℕ, Bool, false, List, get_or, length, sym, ap, arith}
 use Rattle.std.specs.List.{IsDistinct}
 use Rattle.std.proofs.lemmas.List.{same_lists, get_or_default}
 use Rattle.pg_term.specs.Same.{same_atom}
-use Rattle.pg_group.specs.Table.{Table}
 use Rattle.pg_group.specs.declared.table.GroupTable.{Ghosts}
 use Rattle.pg_machine.specs.Clocked.{Timed}
-use Rattle.pg_opens.specs.Opens.{AreSame}
 use Rattle.pg_opens.specs.Places.{name_at}
 use Rattle.pg_step.specs.Nodes.{Node}
 use Rattle.pg_step.specs.State.{State}
 use Rattle.pg_node.specs.declared.state.NodeState.{NodeState}
 use Rattle.pg_node.specs.Ports.{merged_in}
-use Rattle.pg_node.specs.Same.{AreSamePorts, AreSameNodes, AreSameBeside}
-use Rattle.pg_node.specs.States.{names_of, state_of}
+use Rattle.pg_node.specs.Same.{AreSameNodes, AreSameBeside}
+use Rattle.pg_node.specs.States.{names_of}
 use Rattle.pg_node.proofs.Merged.{merged_at}
 
 -- marks by which the same peers are merged are the same

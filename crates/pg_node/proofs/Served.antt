@@ -5,7 +5,7 @@ use Rattle.std.specs.Io.KnownBytes.{Appends, Keeps, Consumes, IsAtEnd}
 use Rattle.std.proofs.lemmas.List.{nil_from_length}
 use Rattle.std.proofs.lemmas.Bool.{eqb-true}
 use Rattle.std.specs.Result.{is_err}
-use Rattle.pg_frame.specs.Frames.{front_of, bodies_of}
+use Rattle.pg_frame.specs.Frames.{front_of}
 use Rattle.pg_frame.proofs.Readings.{written_is_read}
 use Rattle.pg_term.specs.declared.fault.TermFault.TheVariants.{Truncated, OutOfMemory}
 use Rattle.pg_node.specs.declared.fault.ServeFault.{ServeFault}

@@ -22,9 +22,15 @@ pub record IsOpened (packet : Packet) (link : Link) : Type 0 where
 abbrev pub CantOpen : Packet → NodeFault → Type 0
 CantOpen packet fault = (fault ≡ OutOfMemory) ⊎ ((told : MessageFault) × (body_of packet ≡ Err told) × (fault ≡ Message told))
 
+-- What a node tells can be written, and its frame goes out to each of so many peers.
+pub record BeginsWith (table : Table) (own : Node) (peers : ℕ) (links : ℕ → Link) (packet : Packet) : Type 0 where
+  pub tells : IsAnnouncement table own packet
+  pub body : body_of packet ≡ Ok (written (term_of_packet packet))
+  pub each : (place : ℕ) → place < peers → IsOpened packet (links place)
+
 -- the frame that tells the groups of a table goes out to each of so many peers
 abbrev pub Begins : Table → Node → ℕ → (ℕ → Link) → Type 0
-Begins table own peers links = (packet : Packet) × IsAnnouncement table own packet × ((place : ℕ) → place < peers → IsOpened packet (links place))
+Begins table own peers links = (packet : Packet) × BeginsWith table own peers links packet
 
 -- memory ran out, or what tells the groups can't be written by this fault
 abbrev pub CantBegin : Table → Node → NodeFault → Type 0

@@ -1,5 +1,5 @@
 -- What a clause sees of a `MemRing`.
-use Rattle.std.specs.Prelude.{◌≡◌, ℕ, ◌-◌, List, ◌++◌, length, refl}
+use Rattle.std.specs.Prelude.{◌≡◌, ℕ, ◌-◌, List, ◌++◌, length, min, refl}
 use Rattle.std.specs.Coded.{Coded, code_by, coded×, coded_list, coded_ℕ}
 
 -- the bytes that were put and not yet taken, and how many there may be
@@ -25,3 +25,11 @@ pub record Grows (a : RingBytes) (xs : List ℕ) (b : RingBytes) : Type 0 where
 pub record Loses (a : RingBytes) (xs : List ℕ) (b : RingBytes) : Type 0 where
   pub lost : a.unread ≡ xs ++ b.unread
   pub kept : b.capacity ≡ a.capacity
+
+-- of so many bytes that are offered it takes in as many as there is room for
+abbrev pub HasRoomFor : RingBytes → ℕ → ℕ → Type 0
+HasRoomFor r offered count = count ≡ min offered (free_room r)
+
+-- where so many bytes are asked for it gives as many as are unread
+abbrev pub HasUnread : RingBytes → ℕ → ℕ → Type 0
+HasUnread r asked count = count ≡ min asked (length r.unread)

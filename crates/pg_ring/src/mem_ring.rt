@@ -1,6 +1,6 @@
-ghost use Rattle.std.specs.Prelude.{◌≡◌, ◌≢◌, ◌≤◌, ◌↔◌, [], length, take, drop, min, IfOk};
+ghost use Rattle.std.specs.Prelude.{◌≡◌, ◌≢◌, ◌≤◌, ◌↔◌, [], length, take, drop, IfOk};
 ghost use Rattle.pg_ring.specs.Capacity.{IsCapacity, IsBadCapacity};
-ghost use Rattle.pg_ring.specs.MemRing.{Grows, Loses, free_room};
+ghost use Rattle.pg_ring.specs.MemRing.{Grows, Loses, HasRoomFor, HasUnread};
 ghost use Rattle.pg_ring.specs.MemRingLaws.{Grows-rests, Grows-composes, Grows-agrees, Loses-rests, Loses-composes, Loses-agrees};
 
 use crate::capacity::is_capacity;
@@ -48,10 +48,12 @@ impl MemRing {
 impl Link for MemRing {
     ghost accepts = { Grows };
 
+    ghost moves = { HasRoomFor };
+
     fn put(&mut self, bytes: &[u8]) -> usize
         ensures within { result ≤ length bytes.now }
         ensures moved { Grows self.old (take result bytes.now) self.new }
-        ensures exact { result ≡ min (length bytes.now) (free_room self.old) }
+        ensures many { HasRoomFor self.old (length bytes.now) result }
     {
         self.bytes.fill_from_slice(bytes)
     }
@@ -67,11 +69,13 @@ impl Link for MemRing {
 impl Inlet for MemRing {
     ghost gives = { Loses };
 
+    ghost moves = { HasUnread };
+
     fn take(&mut self, into: &mut [u8]) -> usize
         ensures within { result ≤ length into.old }
         ensures moved { Loses self.old (take result into.new) self.new }
         ensures others { drop result into.new ≡ drop result into.old }
-        ensures exact { result ≡ min (length into.old) (length self.old.unread) }
+        ensures many { HasUnread self.old (length into.old) result }
     {
         self.bytes.read_into(into)
     }

@@ -21,10 +21,14 @@ pub struct RingIn {
 impl Inlet for RingIn {
     ghost gives = { Receives };
 
+    // How many is known by what the end finds, `known`, `empty` and `settled`.
+    ghost moves = { λ end asked count. count ≤ asked };
+
     fn take(&mut self, into: &mut [u8]) -> usize
         ensures within { result ≤ length into.old }
         ensures moved { Receives self.old (take result into.new) self.new }
         ensures others { drop result into.new ≡ drop result into.old }
+        ensures many { result ≤ length into.old }
         // The bytes that are known to be in the ring come first.
         ensures known { IsPrefix (bytes_left self.old) (take result into.new ++ bytes_left self.new) }
         ensures empty { ¬ IsSettled self.old → result < length into.old → bytes_left self.new ≡ [] }

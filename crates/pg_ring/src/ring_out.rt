@@ -16,9 +16,13 @@ pub struct RingOut {
 impl Link for RingOut {
     ghost accepts = { Sends };
 
+    // How many is known by what the end finds, `free` and `full`.
+    ghost moves = { λ end offered count. count ≤ offered };
+
     fn put(&mut self, bytes: &[u8]) -> usize
         ensures within { result ≤ length bytes.now }
         ensures moved { Sends self.old (take result bytes.now) self.new }
+        ensures many { result ≤ length bytes.now }
         // Room that is known is used, and the move ends early only at a full ring.
         ensures free { bytes_free self.old ≤ bytes_free self.new + result }
         ensures full { result < length bytes.now → bytes_free self.new ≡ 0 }

@@ -1,12 +1,14 @@
 //! How a node over bytes begins.
 
-ghost use Rattle.std.specs.Prelude.{◌≡◌, ◌∷◌, ◌≤◌, ◌<◌, ◌+◌, ◌^◌, ℕ, [], length, IfOk, IfErr};
+ghost use Rattle.std.specs.Prelude.{◌≡◌, ◌∷◌, ◌≤◌, ◌<◌, ◌+◌, ◌^◌, ℕ, [], length, Ok, IfOk, IfErr, OnOk};
 ghost use Rattle.std.specs.List.{IsDistinct};
 ghost use Rattle.pg_term.specs.Same.{same_atom};
 ghost use Rattle.pg_term.specs.declared.pid.Pid.{Pid};
 ghost use Rattle.pg_term.specs.declared.term.Term.{Term};
+ghost use Rattle.pg_term_io.specs.Writing.{written};
 ghost use Rattle.pg_group.specs.Value.{count_in};
 ghost use Rattle.pg_ends.specs.declared.processes.TheConstants.{MAX_PROCESSES};
+ghost use Rattle.pg_message.specs.Writing.{body_of, term_of_packet};
 ghost use Rattle.pg_opens.specs.Places.{name_at};
 ghost use Rattle.pg_node.specs.Begun.{Begins, CantBegin, IsOpened, CantOpen};
 ghost use Rattle.pg_node.specs.Links.{link_of, links_in};
@@ -16,7 +18,7 @@ use crate::node::Node;
 use crate::node::wire::Wire;
 use crate::state::{NodeConfig, NodeFault, NodeState, started};
 use pg_group::GroupTable;
-use pg_message::{Packet, write_packet_into};
+use pg_message::{Packet, packet_len, write_packet_into};
 use std::alloc::{AllocError, Global};
 
 /// How many bytes stand on their way from an inlet at once.
@@ -44,12 +46,24 @@ impl<T: GroupTable + Drop> Node<T> {
         ensures begun { IfOk result (λ node. Begins (T.contents table) config.own (length config.peers.items) (links_of node)) }
         ensures fault { IfErr result (λ fault. CantBegin (T.contents table) config.own fault) }
     {
+        match started(alloc, config, table) {
+            Ok(state) => Node::opened(alloc, state),
+            Err(AllocError) => Err(NodeFault::OutOfMemory),
+        }
+    }
+
+    /// The node over bytes of one over packets: in the outbox to each peer stands the frame that tells the groups of its table at
+    /// time 0. Its cost is that of `snapshot`, and of the frame for each peer.
+    ///
+    /// Faults: those of `new`.
+    pub fn opened(alloc: Global, state: NodeState<T>) -> Result<Node<T>, NodeFault>
+        ensures state { IfOk result (λ node. held_by node ≡ state) }
+        ensures begun { (peers : ℕ) → peers + 1 ≡ length (names_of state)
+            → IfOk result (λ node. Begins (kept_by state).table (name_at (names_of state) 0) peers (links_of node)) }
+        ensures fault { IfErr result (λ fault. CantBegin (kept_by state).table (name_at (names_of state) 0) fault) }
+    {
         let piece = match Vec::from_elem(alloc, 0, PIECE_LEN) {
             Ok(piece) => piece,
-            Err(AllocError) => return Err(NodeFault::OutOfMemory),
-        };
-        let state = match started(alloc, config, table) {
-            Ok(state) => state,
             Err(AllocError) => return Err(NodeFault::OutOfMemory),
         };
         let wires = match opening_wires(alloc, &state) {
@@ -81,8 +95,21 @@ fn opening_wires<T: GroupTable + Drop>(
     }
 }
 
-/// Links in each of which the frame of a packet goes out.
+/// Links in each of which the frame of a packet goes out, if it can be written.
 fn opened_wires(alloc: Global, peers: usize, packet: &Packet) -> Result<Vec<Wire>, NodeFault>
+    ensures len { IfOk result (λ wires. length wires.items ≡ peers) }
+    ensures body { OnOk result (body_of packet.now ≡ Ok (written (term_of_packet packet.now))) }
+    ensures opened { IfOk result (λ wires. (place : ℕ) → place < peers → IsOpened packet.now (links_in wires.items place)) }
+    ensures fault { IfErr result (λ fault. CantOpen packet.now fault) }
+{
+    match packet_len(packet) {
+        Ok(_) => wires_with(alloc, peers, packet),
+        Err(fault) => Err(NodeFault::from(fault)),
+    }
+}
+
+/// Links in each of which the frame of a packet goes out.
+fn wires_with(alloc: Global, peers: usize, packet: &Packet) -> Result<Vec<Wire>, NodeFault>
     ensures len { IfOk result (λ wires. length wires.items ≡ peers) }
     ensures opened { IfOk result (λ wires. (place : ℕ) → place < peers → IsOpened packet.now (links_in wires.items place)) }
     ensures fault { IfErr result (λ fault. CantOpen packet.now fault) }

@@ -1,6 +1,6 @@
 //! What is read of a node over bytes, and how bytes move between its links and its peers.
 
-ghost use Rattle.std.specs.Prelude.{◌≡◌, ◌≤◌, ◌<◌, ◌+◌, ◌++◌, ℕ, List, true, false, length, take, Err, IfOk, IfErr, OnErr};
+ghost use Rattle.std.specs.Prelude.{◌≡◌, ◌≤◌, ◌<◌, ◌+◌, ◌++◌, ℕ, List, true, false, length, take, min, Err, IfOk, IfErr, OnErr};
 
 use crate::node::Node;
 use crate::node::wire::Wire;
@@ -44,6 +44,7 @@ impl<T: GroupTable + Drop> Node<T> {
         ensures within { result ≤ max }
         ensures some { result ≤ length (links_of self.old peer).outbox }
         ensures moved { L.accepts link.old (take result (links_of self.old peer).outbox) link.new }
+        ensures many { L.moves link.old (min max (length (links_of self.old peer).outbox)) result }
         ensures rest { links_of self.new ≡ at_link peer (λ l. without_front l result) (links_of self.old) }
         ensures state { held_by self.new ≡ held_by self.old }
     {
@@ -63,6 +64,7 @@ impl<T: GroupTable + Drop> Node<T> {
     ) -> Result<usize, NodeFault>
         requires place { peer + 1 < length (names_of (held_by self.old)) }
         ensures within { IfOk result (λ count. (count ≤ max) × (count ≤ 65536)) }
+        ensures many { IfOk result (λ count. I.moves inlet.old (min max 65536) count) }
         ensures fed { IfOk result (λ count. (piece : List ℕ) × (length piece ≡ count) × I.gives inlet.old piece inlet.new
             × (links_of self.new ≡ at_link peer (λ l. with_fed l piece) (links_of self.old))) }
         ensures damaged { (links_of self.old peer).damaged ≡ true → result ≡ Err Damaged }
@@ -87,6 +89,7 @@ fn pull_some<I: Inlet>(
     max: usize,
 ) -> Result<usize, NodeFault>
     ensures within { IfOk result (λ count. (count ≤ max) × (count ≤ length piece.old.items)) }
+    ensures many { IfOk result (λ count. I.moves inlet.old (min max (length piece.old.items)) count) }
     ensures fed { IfOk result (λ count. (bytes : List ℕ) × (length bytes ≡ count) × I.gives inlet.old bytes inlet.new
         × (link_of wire.new ≡ link_fed (link_of wire.old) bytes)) }
     ensures len { length piece.new.items ≡ length piece.old.items }

@@ -1,6 +1,6 @@
 //! The link of a node to one peer.
 
-ghost use Rattle.std.specs.Prelude.{◌≡◌, ◌≤◌, ◌+◌, ◌++◌, ◌^◌, [], true, false, length, take, Err, IsOk, IfOk, IfErr, IfSome, OnOk, OnErr};
+ghost use Rattle.std.specs.Prelude.{◌≡◌, ◌≤◌, ◌+◌, ◌++◌, ◌^◌, [], true, false, length, take, min, Err, IsOk, IfOk, IfErr, IfSome, OnOk, OnErr};
 ghost use Rattle.pg_term_io.specs.Writing.{item_bytes};
 ghost use Rattle.pg_message.specs.declared.packet.TheConstants.{MAX_STAMP};
 ghost use Rattle.pg_message.specs.Name.{is_name};
@@ -76,6 +76,7 @@ impl Wire {
         ensures within { result ≤ max }
         ensures some { result ≤ length (link_of self.old).outbox }
         ensures moved { L.accepts link.old (take result (link_of self.old).outbox) link.new }
+        ensures many { L.moves link.old (min max (length (link_of self.old).outbox)) result }
         ensures rest { link_of self.new ≡ without_front (link_of self.old) result }
     {
         let bytes = self.outbox.as_slice();
@@ -96,6 +97,7 @@ impl Wire {
     ) -> Result<usize, NodeFault>
         ensures within { IfOk result (λ count. count ≤ length piece.old) }
         ensures moved { IfOk result (λ count. I.gives inlet.old (take count piece.new) inlet.new) }
+        ensures many { IfOk result (λ count. I.moves inlet.old (length piece.old) count) }
         ensures fed { IfOk result (λ count. link_of self.new ≡ with_fed (link_of self.old) (take count piece.new)) }
         ensures len { length piece.new ≡ length piece.old }
         ensures damaged { (link_of self.old).damaged ≡ true → result ≡ Err Damaged }

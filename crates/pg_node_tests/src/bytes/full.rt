@@ -1,5 +1,6 @@
 //! What a link does not take stays in the outbox.
 
+ghost use Rattle.std.specs.Prelude.{◌≡◌};
 ghost use Rattle.pg_node_tests.specs.Full.{TakesNothing, nothing-rests, nothing-composes, nothing-agrees};
 
 use crate::bytes::linked_pair;
@@ -17,6 +18,8 @@ struct Full {
 
 impl Link for Full {
     ghost accepts = { TakesNothing };
+
+    ghost moves = { λ link offered count. count ≡ 0 };
 
     fn put(&mut self, bytes: &[u8]) -> usize {
         self.offered = bytes.len();

@@ -1,5 +1,5 @@
-use Rattle.std.proofs.Common.{ℕ, List, [], inl, inr, refl}
-use Rattle.std.specs.Prelude.{⊤, Err}
+use Rattle.std.proofs.Common.{ℕ, List, [], inr, refl}
+use Rattle.std.specs.Prelude.{⊤}
 use Rattle.std.proofs.lemmas.Result.{err_from_is_err_and}
 use Rattle.pg_node.specs.Replica.{Pair, pair_of, start}
 use Rattle.pg_node.proofs.AnyOwn.{serves_any, cause_any}

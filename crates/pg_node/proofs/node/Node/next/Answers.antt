@@ -1,7 +1,7 @@
-use Rattle.std.proofs.Common.{◌≡◌, ◌<◌, ◌+◌, ℕ, length, sym, arith, subst}
+use Rattle.std.proofs.Common.{◌<◌, length, sym, arith, subst}
 use Rattle.pg_node.specs.declared.state.fault.NodeFault.{NodeFault}
 use Rattle.pg_node.specs.Bytes.{Tells, next_packet, marked}
-use Rattle.pg_node.specs.Links.{Link, link_of, idle_link, links_in, at_link}
+use Rattle.pg_node.specs.Links.{Link, link_of, idle_link}
 use Rattle.pg_node.proofs.Linked.{part_here, same_links, one_link, on_ok, as_err}
 use Rattle.pg_node.proofs.node.Node.next.Goals as goal
 

@@ -1,16 +1,10 @@
-use Rattle.std.proofs.Common.{◌+◌, ◌∙◌, List, length, sym, ap, arith, subst}
-use Rattle.pg_node.specs.declared.node.wire.Wire.{Wire}
-use Rattle.pg_node.specs.Begun.{IsOpened}
-use Rattle.pg_node.specs.Links.{links_in}
-use Rattle.pg_node.proofs.Begun.{opened_more, one_longer}
+use Rattle.std.proofs.Common.{sym, ◌∙◌, subst}
+use Rattle.pg_node.specs.Begun.{CantOpen}
+use Rattle.pg_node.proofs.Begun.{no_length, has_body, on_ok_any}
 use Rattle.pg_node.proofs.node.begun.opened_wires.Goals as goal
 
-pub loop-place-preserved : goal.loop-place-preserved
-loop-place-preserved c =
-    let wires = c.loop-place.wires.items in
-    let wire = c.in-Ok-opened_wire.wire in
-    record {
-      count = ap (λ (ws : List Wire). length ws) c.in-Ok-push.ensures.items ∙ (one_longer wires wire ∙ ap (λ n. n + 1) c.loop-place.invariant.count);
-      each = λ k l. subst (λ (ws : List Wire). IsOpened c.args.packet.now (links_in ws k)) (sym c.in-Ok-push.ensures.items)
-          (opened_more c.args.packet.now wires wire c.in-Ok-opened_wire.ensures.opened (λ j lj. c.loop-place.invariant.each j (omega (arith, lj, c.loop-place.invariant.count))) k (omega (arith, l, c.loop-place.invariant.count)));
-    }
+pub returns-in-Ok-clause-body : goal.returns-in-Ok-clause-body
+returns-in-Ok-clause-body c = on_ok_any c.wires_with.result (has_body c.args.packet.now c.in-Ok.field-0 (sym c.in-Ok.is ∙ c.packet_len.ensures.exact))
+
+pub returns-in-Err-clause-fault : goal.returns-in-Err-clause-fault
+returns-in-Err-clause-fault c = subst (CantOpen c.args.packet.now) (sym c.from.ensures) (no_length c.args.packet.now c.in-Err.fault (sym c.in-Err.is ∙ c.packet_len.ensures.exact))

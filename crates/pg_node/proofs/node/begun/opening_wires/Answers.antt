@@ -1,8 +1,12 @@
-use Rattle.std.proofs.Common.{◌≡◌, ◌<◌, ◌+◌, ℕ, length, arith}
-use Rattle.pg_node.specs.declared.node.wire.Wire.{Wire}
-use Rattle.pg_node.proofs.Linked.{as_ok}
+use Rattle.std.proofs.Common.{◌≡◌, arith}
+use Rattle.pg_opens.specs.Places.{name_at}
+use Rattle.pg_node.specs.Links.{links_in}
+use Rattle.pg_node.specs.States.{names_of, kept_by}
+use Rattle.pg_node.proofs.Begun.{begins_so}
 use Rattle.pg_node.proofs.node.begun.opening_wires.Goals as goal
 
 pub returns-in-Ok-clause-begun : goal.returns-in-Ok-clause-begun
 returns-in-Ok-clause-begun g c = λ peers same.
-    as_ok c.opened_wires.result _ _ (λ wires opened. (c.in-Ok.packet, c.in-Ok.ensures, λ place l. opened place (let count = c.peer_count.ensures in omega (arith, l, same, count)))) c.opened_wires.ensures.opened
+    let count : c.peer_count.result ≡ peers = let known = c.peer_count.ensures in omega (arith, same, known) in
+    begins_so c.opened_wires.result (λ wires. links_in wires.items) (kept_by c.args.state.now).table (name_at (names_of c.args.state.now) 0) c.peer_count.result peers c.in-Ok.packet count c.in-Ok.ensures
+    c.opened_wires.ensures.body c.opened_wires.ensures.opened
