@@ -1,0 +1,135 @@
+-- What the links of a node have moved where one peer's change, and one stretch after another.
+use Rattle.std.proofs.Common.{◌≡◌, ◌≢◌, ◌<◌, ◌∙◌, ◌⊎◌, ℕ, cond, get_or, take, drop, length, List, [], ◌∷◌, ◌++◌, refl, sym, ap, subst, inl, inr, arith, append_assoc, append-nil}
+use Rattle.std.specs.Prelude.{slice_set}
+use Rattle.std.specs.List.{flat_map}
+use Rattle.std.proofs.lemmas.Bool.{cases_eq, eq-eqb, ne_eqb}
+use Rattle.std.proofs.lemmas.List.{get_or-set_same, get_or-set_other, get_or_default, take-append-drop}
+use Rattle.std.proofs.lemmas.List.{length-set}
+use Rattle.std.proofs.lemmas.Grind.{flat_map-append}
+use Rattle.pg_group.specs.Functions.{upd}
+use Rattle.pg_node.specs.Links.{Link, at_link, frames_to}
+use Rattle.pg_run.specs.declared.run.Peer.{Peer}
+use Rattle.pg_run.specs.Acts.{Act, frames_sent, frames_taken, is_from}
+use Rattle.pg_run.specs.Follows.{HasMoved, HaveMoved}
+
+-- a link of a node where one changes
+pub link_there : (k : ℕ) (change : Link → Link) (links : ℕ → Link) → at_link k change links k ≡ change (links k)
+unfolding upd
+link_there k change links = ap (λ b. cond b (change (links k)) (links k)) (eq-eqb k k refl)
+
+pub link_else : (k j : ℕ) (change : Link → Link) (links : ℕ → Link) → j ≢ k → at_link k change links j ≡ links j
+unfolding upd
+link_else k j change links n = ap (λ b. cond b (change (links k)) (links j)) (ne_eqb k j (λ e. n (sym e)))
+
+-- two equations of lists, one behind the other
+seam : (p b a f q c s : List ℕ) → p ++ b ≡ a ++ f → q ++ c ≡ b ++ s → (p ++ q) ++ c ≡ a ++ (f ++ s)
+seam p b a f q c s one two = append_assoc p q c ∙ (ap (λ w. p ++ w) two ∙ (sym (append_assoc p b s) ∙ (ap (λ w. w ++ s) one ∙ append_assoc a f s)))
+
+module _ {L I : Type 0} (accepts : L → List ℕ → L → Type 0) (gives : I → List ℕ → I → Type 0) where
+  -- nothing has moved
+  pub unmoved : (link_rests : (a : L) → accepts a [] a) (inlet_rests : (a : I) → gives a [] a) (place : ℕ) (bytes bytes2 : Link) (peer : Peer L I)
+      → bytes2.outbox ≡ bytes.outbox → bytes2.unread ≡ bytes.unread → HasMoved accepts gives place [] bytes bytes2 peer peer
+  unmoved link_rests inlet_rests place bytes bytes2 peer out came = record {
+    put = [];
+    accepted = link_rests peer.link;
+    sent = out ∙ sym (append-nil bytes.outbox);
+    given = [];
+    gave = inlet_rests peer.inlet;
+    taken = append-nil bytes.unread ∙ sym came;
+  }
+
+  -- bytes went out
+  pub put_moved : (inlet_rests : (a : I) → gives a [] a) (place n : ℕ) (bytes bytes2 : Link) (peer peer2 : Peer L I)
+      → accepts peer.link (take n bytes.outbox) peer2.link → peer2.inlet ≡ peer.inlet → bytes2.outbox ≡ drop n bytes.outbox → bytes2.unread ≡ bytes.unread
+      → HasMoved accepts gives place [] bytes bytes2 peer peer2
+  put_moved inlet_rests place n bytes bytes2 peer peer2 accepted same out came = record {
+    put = take n bytes.outbox;
+    accepted = accepted;
+    sent = ap (λ w. take n bytes.outbox ++ w) out ∙ (take-append-drop n bytes.outbox ∙ sym (append-nil bytes.outbox));
+    given = [];
+    gave = subst (λ i. gives peer.inlet [] i) (sym same) (inlet_rests peer.inlet);
+    taken = append-nil bytes.unread ∙ sym came;
+  }
+
+  -- bytes came in
+  pub pull_moved : (link_rests : (a : L) → accepts a [] a) (place : ℕ) (piece : List ℕ) (bytes bytes2 : Link) (peer peer2 : Peer L I)
+      → gives peer.inlet piece peer2.inlet → peer2.link ≡ peer.link → bytes2.outbox ≡ bytes.outbox → bytes2.unread ≡ bytes.unread ++ piece
+      → HasMoved accepts gives place [] bytes bytes2 peer peer2
+  pull_moved link_rests place piece bytes bytes2 peer peer2 gave same out came = record {
+    put = [];
+    accepted = subst (λ l. accepts peer.link [] l) (sym same) (link_rests peer.link);
+    sent = out ∙ sym (append-nil bytes.outbox);
+    given = piece;
+    gave = gave;
+    taken = sym came;
+  }
+
+  -- an act took a frame, or none, and sent frames
+  pub act_moved : (link_rests : (a : L) → accepts a [] a) (inlet_rests : (a : I) → gives a [] a) (place : ℕ) (act : Act) (bytes bytes2 : Link) (peer : Peer L I)
+      → bytes2.outbox ≡ bytes.outbox ++ frames_sent place (act ∷ []) → bytes.unread ≡ frames_taken place (act ∷ []) ++ bytes2.unread
+      → HasMoved accepts gives place (act ∷ []) bytes bytes2 peer peer
+  act_moved link_rests inlet_rests place act bytes bytes2 peer out came = record {
+    put = [];
+    accepted = link_rests peer.link;
+    sent = out;
+    given = [];
+    gave = inlet_rests peer.inlet;
+    taken = append-nil bytes.unread ∙ came;
+  }
+
+  -- the links of the peer at one place change
+  pub peer_set : (acts : List Act) (links links2 : ℕ → Link) (peers : List (Peer L I)) (k : ℕ) (peer peer2 : Peer L I) → k < length peers → peer ≡ get_or peers k peer
+      → HasMoved accepts gives k acts (links k) (links2 k) peer peer2
+      → ((place : ℕ) (other : Peer L I) → place ≢ k → HasMoved accepts gives place acts (links place) (links2 place) other other)
+      → HaveMoved accepts gives acts links links2 peers (slice_set peers k peer2)
+  peer_set acts links links2 peers k peer peer2 within is here others = record {
+    len = length-set peers k peer2;
+    each = λ place none low. go place none low (cases_eq place k);
+  }
+    where
+      go : (place : ℕ) (none : Peer L I) → place < length peers → (place ≡ k) ⊎ (place ≢ k)
+          → HasMoved accepts gives place acts (links place) (links2 place) (get_or peers place none) (get_or (slice_set peers k peer2) place none)
+      go place none low (inl e) =
+          let first : get_or peers k none ≡ peer = sym (is ∙ get_or_default peers k peer none within) in
+          let last : get_or (slice_set peers k peer2) k none ≡ peer2 = get_or-set_same peers k peer2 none within in
+          subst (λ j. HasMoved accepts gives j acts (links j) (links2 j) (get_or peers j none) (get_or (slice_set peers k peer2) j none)) (sym e)
+          (subst (λ x. HasMoved accepts gives k acts (links k) (links2 k) x (get_or (slice_set peers k peer2) k none)) (sym first)
+          (subst (λ y. HasMoved accepts gives k acts (links k) (links2 k) peer y) (sym last) here))
+      go place none low (inr n) =
+          subst (λ y. HasMoved accepts gives place acts (links place) (links2 place) (get_or peers place none) y) (sym (get_or-set_other peers k place peer2 none n))
+          (others place (get_or peers place none) n)
+
+  -- those of no peer change
+  pub peers_kept : (acts : List Act) (links links2 : ℕ → Link) (peers : List (Peer L I))
+      → ((place : ℕ) (other : Peer L I) → HasMoved accepts gives place acts (links place) (links2 place) other other)
+      → HaveMoved accepts gives acts links links2 peers peers
+  peers_kept acts links links2 peers each = record { len = refl; each = λ place none low. each place (get_or peers place none) }
+
+  -- ---- one stretch after another
+
+  pub moved_on : ((a b c : L) (xs ys : List ℕ) → accepts a xs b → accepts b ys c → accepts a (xs ++ ys) c)
+      → ((a b c : I) (xs ys : List ℕ) → gives a xs b → gives b ys c → gives a (xs ++ ys) c)
+      → (place : ℕ) (first second : List Act) (bytes bytes2 bytes3 : Link) (peer peer2 peer3 : Peer L I)
+      → HasMoved accepts gives place first bytes bytes2 peer peer2 → HasMoved accepts gives place second bytes2 bytes3 peer2 peer3
+      → HasMoved accepts gives place (first ++ second) bytes bytes3 peer peer3
+  moved_on link_composes inlet_composes place first second bytes bytes2 bytes3 peer peer2 peer3 h k = record {
+    put = h.put ++ k.put;
+    accepted = link_composes peer.link peer2.link peer3.link h.put k.put h.accepted k.accepted;
+    sent = seam h.put bytes2.outbox bytes.outbox (frames_sent place first) k.put bytes3.outbox (frames_sent place second) h.sent k.sent
+    ∙ ap (λ w. bytes.outbox ++ w) (sym (flat_map-append (λ (act : Act). frames_to act.sends place) first second));
+    given = h.given ++ k.given;
+    gave = inlet_composes peer.inlet peer2.inlet peer3.inlet h.given k.given h.gave k.gave;
+    taken = sym (seam (frames_taken place first) bytes2.unread bytes.unread h.given (frames_taken place second) bytes3.unread k.given (sym h.taken) (sym k.taken))
+    ∙ ap (λ w. w ++ bytes3.unread) (sym (flat_map-append (λ (act : Act). cond (is_from place act.input) act.came []) first second));
+  }
+
+  pub have_moved_on : ((a b c : L) (xs ys : List ℕ) → accepts a xs b → accepts b ys c → accepts a (xs ++ ys) c)
+      → ((a b c : I) (xs ys : List ℕ) → gives a xs b → gives b ys c → gives a (xs ++ ys) c)
+      → (first second : List Act) (links links2 links3 : ℕ → Link) (peers peers2 peers3 : List (Peer L I))
+      → HaveMoved accepts gives first links links2 peers peers2 → HaveMoved accepts gives second links2 links3 peers2 peers3
+      → HaveMoved accepts gives (first ++ second) links links3 peers peers3
+  have_moved_on link_composes inlet_composes first second links links2 links3 peers peers2 peers3 h k = record {
+    len = k.len ∙ h.len;
+    each = λ place none low. moved_on link_composes inlet_composes place first second (links place) (links2 place) (links3 place) (get_or peers place none) (get_or peers2 place none) (get_or peers3 place none)
+        (h.each place none low) (k.each place none (subst (λ n. place < n) (sym h.len) low));
+  }

@@ -1,0 +1,51 @@
+-- What a put and a pull have moved.
+use Rattle.std.proofs.Common.{◌≡◌, ◌≢◌, ◌<◌, ◌≤◌, ◌+◌, ◌∙◌, ℕ, cond, get_or, take, drop, length, List, [], ◌++◌, refl, sym, ap, subst, arith, length-drop, append-nil}
+use Rattle.std.specs.Prelude.{slice_set}
+use Rattle.pg_node.specs.Links.{Link, at_link, without_front, with_fed}
+use Rattle.pg_run.specs.declared.run.Peer.{Peer}
+use Rattle.pg_run.specs.Follows.{HaveMoved}
+use Rattle.pg_run.proofs.Moving.{link_there, link_else, unmoved, put_moved, pull_moved, peer_set, peers_kept}
+
+pub put_count : (links links2 : ℕ → Link) (k n : ℕ) → links2 ≡ at_link k (λ l. without_front l n) links → n ≤ length (links k).outbox
+    → length (links2 k).outbox + n ≡ length (links k).outbox
+put_count links links2 k n is some =
+    let out : (links2 k).outbox ≡ drop n (links k).outbox = ap (λ (ls : ℕ → Link). (ls k).outbox) is ∙ ap (λ (l : Link). l.outbox) (link_there k (λ l. without_front l n) links) in
+    let len = ap length out in
+    omega (arith, len, some, length-drop n (links k).outbox)
+
+module _ {L I : Type 0} (accepts : L → List ℕ → L → Type 0) (gives : I → List ℕ → I → Type 0) (link_rests : (a : L) → accepts a [] a) (inlet_rests : (a : I) → gives a [] a)
+    (links links2 : ℕ → Link) (peers : List (Peer L I)) (k : ℕ) where
+  pub have_put : (n : ℕ) (peer peer2 : Peer L I) → k < length peers → peer ≡ get_or peers k peer → links2 ≡ at_link k (λ l. without_front l n) links
+      → accepts peer.link (take n (links k).outbox) peer2.link → peer2.inlet ≡ peer.inlet → HaveMoved accepts gives [] links links2 peers (slice_set peers k peer2)
+  have_put n peer peer2 within here is accepted same =
+      let there : links2 k ≡ without_front (links k) n = ap (λ (ls : ℕ → Link). ls k) is ∙ link_there k (λ l. without_front l n) links in
+      peer_set accepts gives [] links links2 peers k peer peer2 within here
+      (put_moved accepts gives inlet_rests k n (links k) (links2 k) peer peer2 accepted same (ap (λ (l : Link). l.outbox) there) (ap (λ (l : Link). l.unread) there))
+      (λ place other apart.
+          let else : links2 place ≡ links place = ap (λ (ls : ℕ → Link). ls place) is ∙ link_else k place (λ l. without_front l n) links apart in
+          unmoved accepts gives link_rests inlet_rests place (links place) (links2 place) other (ap (λ (l : Link). l.outbox) else) (ap (λ (l : Link). l.unread) else))
+
+  pub have_pulled : (piece : List ℕ) (peer peer2 : Peer L I) → k < length peers → peer ≡ get_or peers k peer → links2 ≡ at_link k (λ l. with_fed l piece) links
+      → gives peer.inlet piece peer2.inlet → peer2.link ≡ peer.link → HaveMoved accepts gives [] links links2 peers (slice_set peers k peer2)
+  have_pulled piece peer peer2 within here is gave same =
+      let there : links2 k ≡ with_fed (links k) piece = ap (λ (ls : ℕ → Link). ls k) is ∙ link_there k (λ l. with_fed l piece) links in
+      peer_set accepts gives [] links links2 peers k peer peer2 within here
+      (pull_moved accepts gives link_rests k piece (links k) (links2 k) peer peer2 gave same (ap (λ (l : Link). l.outbox) there) (ap (λ (l : Link). l.unread) there))
+      (λ place other apart.
+          let else : links2 place ≡ links place = ap (λ (ls : ℕ → Link). ls place) is ∙ link_else k place (λ l. with_fed l piece) links apart in
+          unmoved accepts gives link_rests inlet_rests place (links place) (links2 place) other (ap (λ (l : Link). l.outbox) else) (ap (λ (l : Link). l.unread) else))
+
+  -- what stays, whatever the inlet is written back as
+  pub have_stayed : (peer peer2 : Peer L I) → k < length peers → peer ≡ get_or peers k peer → links2 ≡ links → peer2.link ≡ peer.link → peer2.inlet ≡ peer.inlet
+      → HaveMoved accepts gives [] links links2 peers (slice_set peers k peer2)
+  have_stayed peer peer2 within here is same_link same_inlet =
+      peer_set accepts gives [] links links2 peers k peer peer2 within here
+      (record {
+        put = [];
+        accepted = subst (λ l. accepts peer.link [] l) (sym same_link) (link_rests peer.link);
+        sent = (ap (λ (ls : ℕ → Link). (ls k).outbox) is) ∙ sym (append-nil (links k).outbox);
+        given = [];
+        gave = subst (λ i. gives peer.inlet [] i) (sym same_inlet) (inlet_rests peer.inlet);
+        taken = append-nil (links k).unread ∙ sym (ap (λ (ls : ℕ → Link). (ls k).unread) is);
+      })
+      (λ place other apart. unmoved accepts gives link_rests inlet_rests place (links place) (links2 place) other (ap (λ (ls : ℕ → Link). (ls place).outbox) is) (ap (λ (ls : ℕ → Link). (ls place).unread) is))

@@ -1,0 +1,99 @@
+-- What the events of one node make, by the step of the node and in the bytes of its links.
+use Rattle.std.specs.Prelude.{◌≡◌, ℕ, ◌+◌, Bool, false, cond, nat_eq, length, map, List, [], ◌∷◌, Option, Some, Result, Ok, Err}
+use Rattle.std.specs.List.{flat_map}
+use Rattle.pg_frame.specs.Frames.{front_of}
+use Rattle.pg_machine.specs.Clocked.{Timed, Stamped}
+use Rattle.pg_machine.specs.Machine.{Input, Taken, Own}
+use Rattle.pg_message.specs.declared.message.Message.{Message}
+use Rattle.pg_message.specs.declared.packet.Packet.{Packet}
+use Rattle.pg_message.specs.Reading.{packet_spelled}
+use Rattle.pg_node.specs.Links.{frames_to, AreSmallFrames}
+use Rattle.pg_node.specs.Sendable.{AreSendable}
+use Rattle.pg_node.specs.States.{stamped_of, sends_in, Gave}
+use Rattle.pg_opens.specs.Places.{name_at, whole_in}
+use Rattle.pg_run.specs.declared.log.LogEntry.{LogEntry}
+use Rattle.pg_run.specs.declared.log.NodeEvent.{NodeEvent}
+use Rattle.pg_run.specs.declared.log.NodeEvent.TheVariants as events
+use Rattle.pg_step.specs.declared.answer.Answer.{Answer}
+use Rattle.pg_step.specs.declared.refusal.Refusal.{Refusal}
+use Rattle.pg_step.specs.Nodes.{Node}
+use Rattle.pg_step.specs.State.{State}
+use Rattle.pg_step.specs.Step.{Action, Issue, Retry, TimedTurn, step_take, step_act}
+
+-- what a node is given: a packet, by the place of the peer that sent it among the peers, or an action of its own
+abbrev pub Given : Type 0
+Given = Input (Stamped Message) Action
+
+-- the step of the node with these names, of which the own one is the first, and so many ports
+abbrev pub node_step : List Node → ℕ → Timed State → Given → Result TimedTurn Refusal
+node_step names ports s (Taken p x) = step_take (whole_in names) (name_at names (p + 1)) x s
+node_step names ports s (Own action) = step_act (whole_in names) ports action s
+
+-- what a node was given, the turn that its step made of it, the packets that it sent, by the places of the peers, and the bytes
+-- that it took out of what came in
+pub record Act : Type 0 where
+  pub input : Given
+  pub turn : TimedTurn
+  pub sends : List (ℕ × Packet)
+  pub came : List ℕ
+
+-- the bytes are one whole frame, and its body spells the packet
+pub record IsFrameOf (bytes : List ℕ) (x : Stamped Message) : Type 0 where
+  pub body : List ℕ
+  pub packet : Packet
+  pub front : front_of bytes ≡ Ok (Some body)
+  pub alone : length bytes ≡ 4 + length body
+  pub spelled : packet_spelled body ≡ Ok packet
+  pub is : stamped_of packet ≡ x
+
+-- a packet was taken in its frame, and an action takes no bytes
+abbrev pub Came : Given → List ℕ → Type 0
+Came (Taken p x) bytes = IsFrameOf bytes x
+Came (Own action) bytes = bytes ≡ []
+
+-- ---- one act after another
+
+-- the state of a node, and the answers that were given at each port
+pub record Standing : Type 0 where
+  pub state : Timed State
+  pub answers : ℕ → List Answer
+
+-- An act leads the node with these names and ports from one standing to another.
+pub record Leads (names : List Node) (ports : ℕ) (a : Standing) (act : Act) (b : Standing) : Type 0 where
+  pub made : node_step names ports a.state act.input ≡ Ok act.turn
+  pub state : b.state ≡ act.turn.state
+  pub answers : Gave (name_at names 0) act.turn.reported.gave a.answers b.answers
+  pub sends : sends_in names act.sends ≡ act.turn.sends
+  pub fits : AreSendable names act.sends
+  pub small : AreSmallFrames act.sends
+  pub came : Came act.input act.came
+
+-- the acts, one after another
+abbrev pub AllLead : List Node → ℕ → Standing → List Act → Standing → Type 0
+AllLead names ports a [] b = b ≡ a
+AllLead names ports a (act ∷ acts) b = (m : Standing) × Leads names ports a act m × AllLead names ports m acts b
+
+-- ---- what a log keeps of them
+
+abbrev pub event_of : Given → NodeEvent
+event_of (Taken p x) = events.Take p
+event_of (Own (Issue port command)) = events.Command port command
+event_of (Own (Retry op)) = events.Retry op
+
+-- the event, and the clock that it set
+abbrev pub entry_of : Act → LogEntry
+entry_of act = record { clock = act.turn.state.clock; event = event_of act.input }
+
+-- ---- their bytes
+
+-- the frames that go out to the peer at a place
+abbrev pub frames_sent : ℕ → List Act → List ℕ
+frames_sent place acts = flat_map (λ act. frames_to act.sends place) acts
+
+abbrev pub is_from : ℕ → Given → Bool
+is_from place (Taken p x) = nat_eq p place
+is_from place (Own action) = false
+
+-- the frames that were taken of the peer at a place
+abbrev pub frames_taken : ℕ → List Act → List ℕ
+frames_taken place acts = flat_map (λ act. cond (is_from place act.input) act.came []) acts
