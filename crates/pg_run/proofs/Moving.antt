@@ -116,11 +116,11 @@ module _ {L I : Type 0} (accepts : L → List ℕ → L → Type 0) (gives : I �
     put = h.put ++ k.put;
     accepted = link_composes peer.link peer2.link peer3.link h.put k.put h.accepted k.accepted;
     sent = seam h.put bytes2.outbox bytes.outbox (frames_sent place first) k.put bytes3.outbox (frames_sent place second) h.sent k.sent
-    ∙ ap (λ w. bytes.outbox ++ w) (sym (flat_map-append (λ (act : Act). frames_to act.sends place) first second));
+        ∙ ap (λ w. bytes.outbox ++ w) (sym (flat_map-append (λ (act : Act). frames_to act.sends place) first second));
     given = h.given ++ k.given;
     gave = inlet_composes peer.inlet peer2.inlet peer3.inlet h.given k.given h.gave k.gave;
     taken = sym (seam (frames_taken place first) bytes2.unread bytes.unread h.given (frames_taken place second) bytes3.unread k.given (sym h.taken) (sym k.taken))
-    ∙ ap (λ w. w ++ bytes3.unread) (sym (flat_map-append (λ (act : Act). cond (is_from place act.input) act.came []) first second));
+        ∙ ap (λ w. w ++ bytes3.unread) (sym (flat_map-append (λ (act : Act). cond (is_from place act.input) act.came []) first second));
   }
 
   pub have_moved_on : ((a b c : L) (xs ys : List ℕ) → accepts a xs b → accepts b ys c → accepts a (xs ++ ys) c)

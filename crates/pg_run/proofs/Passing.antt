@@ -1,6 +1,7 @@
 -- What a put and a pull have moved.
 use Rattle.std.proofs.Common.{◌≡◌, ◌≢◌, ◌<◌, ◌≤◌, ◌+◌, ◌∙◌, ℕ, cond, get_or, take, drop, length, List, [], ◌++◌, refl, sym, ap, subst, arith, length-drop, append-nil}
-use Rattle.std.specs.Prelude.{slice_set}
+use Rattle.std.specs.Prelude.{slice_set, Result, Ok, Err, IfOk, OnErr}
+use Rattle.pg_node.specs.declared.state.fault.NodeFault.{NodeFault}
 use Rattle.pg_node.specs.Links.{Link, at_link, without_front, with_fed}
 use Rattle.pg_run.specs.declared.run.Peer.{Peer}
 use Rattle.pg_run.specs.Follows.{HaveMoved}
@@ -22,8 +23,8 @@ module _ {L I : Type 0} (accepts : L → List ℕ → L → Type 0) (gives : I �
       peer_set accepts gives [] links links2 peers k peer peer2 within here
       (put_moved accepts gives inlet_rests k n (links k) (links2 k) peer peer2 accepted same (ap (λ (l : Link). l.outbox) there) (ap (λ (l : Link). l.unread) there))
       (λ place other apart.
-          let else : links2 place ≡ links place = ap (λ (ls : ℕ → Link). ls place) is ∙ link_else k place (λ l. without_front l n) links apart in
-          unmoved accepts gives link_rests inlet_rests place (links place) (links2 place) other (ap (λ (l : Link). l.outbox) else) (ap (λ (l : Link). l.unread) else))
+      let else : links2 place ≡ links place = ap (λ (ls : ℕ → Link). ls place) is ∙ link_else k place (λ l. without_front l n) links apart in
+      unmoved accepts gives link_rests inlet_rests place (links place) (links2 place) other (ap (λ (l : Link). l.outbox) else) (ap (λ (l : Link). l.unread) else))
 
   pub have_pulled : (piece : List ℕ) (peer peer2 : Peer L I) → k < length peers → peer ≡ get_or peers k peer → links2 ≡ at_link k (λ l. with_fed l piece) links
       → gives peer.inlet piece peer2.inlet → peer2.link ≡ peer.link → HaveMoved accepts gives [] links links2 peers (slice_set peers k peer2)
@@ -32,8 +33,8 @@ module _ {L I : Type 0} (accepts : L → List ℕ → L → Type 0) (gives : I �
       peer_set accepts gives [] links links2 peers k peer peer2 within here
       (pull_moved accepts gives link_rests k piece (links k) (links2 k) peer peer2 gave same (ap (λ (l : Link). l.outbox) there) (ap (λ (l : Link). l.unread) there))
       (λ place other apart.
-          let else : links2 place ≡ links place = ap (λ (ls : ℕ → Link). ls place) is ∙ link_else k place (λ l. with_fed l piece) links apart in
-          unmoved accepts gives link_rests inlet_rests place (links place) (links2 place) other (ap (λ (l : Link). l.outbox) else) (ap (λ (l : Link). l.unread) else))
+      let else : links2 place ≡ links place = ap (λ (ls : ℕ → Link). ls place) is ∙ link_else k place (λ l. with_fed l piece) links apart in
+      unmoved accepts gives link_rests inlet_rests place (links place) (links2 place) other (ap (λ (l : Link). l.outbox) else) (ap (λ (l : Link). l.unread) else))
 
   -- what stays, whatever the inlet is written back as
   pub have_stayed : (peer peer2 : Peer L I) → k < length peers → peer ≡ get_or peers k peer → links2 ≡ links → peer2.link ≡ peer.link → peer2.inlet ≡ peer.inlet
@@ -49,3 +50,10 @@ module _ {L I : Type 0} (accepts : L → List ℕ → L → Type 0) (gives : I �
         taken = append-nil (links k).unread ∙ sym (ap (λ (ls : ℕ → Link). (ls k).unread) is);
       })
       (λ place other apart. unmoved accepts gives link_rests inlet_rests place (links place) (links2 place) other (ap (λ (ls : ℕ → Link). (ls place).outbox) is) (ap (λ (ls : ℕ → Link). (ls place).unread) is))
+
+  -- what a pull has moved, if anything
+  pub have_tried : (r : Result ℕ NodeFault) (peer peer2 : Peer L I) → k < length peers → peer ≡ get_or peers k peer → peer2.link ≡ peer.link
+      → IfOk r (λ count. (piece : List ℕ) × (length piece ≡ count) × gives peer.inlet piece peer2.inlet × (links2 ≡ at_link k (λ l. with_fed l piece) links))
+      → OnErr r (links2 ≡ links) → OnErr r (peer2.inlet ≡ peer.inlet) → HaveMoved accepts gives [] links links2 peers (slice_set peers k peer2)
+  have_tried (Ok count) peer peer2 within here same fed kept stays = have_pulled fed.0 peer peer2 within here fed.3 fed.2 same
+  have_tried (Err fault) peer peer2 within here same fed kept stays = have_stayed peer peer2 within here kept same stays

@@ -1,22 +1,15 @@
 -- A node that follows from another by its events, and by the bytes that its links moved.
-use Rattle.std.specs.Prelude.{◌≡◌, ℕ, ◌<◌, get_or, length, map, List, [], ◌∷◌, ◌++◌, Bool, true, false, Option, Some, None, Result, Ok, Err}
+use Rattle.std.specs.Prelude.{◌≡◌, ℕ, ◌<◌, get_or, length, map, List, ◌++◌}
 use Rattle.pg_group.specs.declared.table.GroupTable.{Ghosts}
-use Rattle.pg_machine.specs.Clocked.{Stamped}
-use Rattle.pg_machine.specs.Machine.{Taken}
-use Rattle.pg_message.specs.declared.message.Message.{Message}
-use Rattle.pg_message.specs.declared.packet.Packet.{Packet}
 use Rattle.pg_node.specs.declared.node.Node.{Node}
-use Rattle.pg_node.specs.declared.state.fault.NodeFault.{NodeFault}
-use Rattle.pg_node.specs.declared.state.fault.NodeFault.TheVariants.{Refused, OutOfMemory}
-use Rattle.pg_node.specs.Bytes.{next_packet}
 use Rattle.pg_node.specs.Issued.{ports_of}
 use Rattle.pg_node.specs.Links.{Link}
 use Rattle.pg_node.specs.Nodes.{held_by, links_of}
-use Rattle.pg_node.specs.States.{names_of, state_of, answers_of, stamped_of}
+use Rattle.pg_node.specs.States.{names_of, state_of, answers_of}
 use Rattle.pg_run.specs.declared.log.LogEntry.{LogEntry}
 use Rattle.pg_run.specs.declared.run.NodeRun.{NodeRun}
 use Rattle.pg_run.specs.declared.run.Peer.{Peer}
-use Rattle.pg_run.specs.Acts.{Given, Act, Standing, AllLead, node_step, entry_of, frames_sent, frames_taken}
+use Rattle.pg_run.specs.Acts.{Act, Standing, AllLead, entry_of, frames_sent, frames_taken}
 
 -- ---- a node as it is seen
 
@@ -61,30 +54,3 @@ module _ {L I : Type 0} (accepts : L → List ℕ → L → Type 0) (gives : I �
     pub lead : AllLead (names_of (held_by (node_of a))) (ports_of (held_by (node_of a))) (standing_of (node_of a)) acts (standing_of (node_of b))
     pub log : log_of b ≡ log_of a ++ map entry_of acts
     pub moved : HaveMoved acts (links_of (node_of a)) (links_of (node_of b)) (peers_of a) (peers_of b)
-
--- ---- what comes of an event
-
--- why a node did not do it: memory ran out, or its step refuses it
-abbrev pub IsUndone : {T : Type 0} {g : Ghosts T} → Node T g → Given → NodeFault → Type 0
-IsUndone node input OutOfMemory = Unit {0}
-IsUndone node input (Refused refusal) = node_step (names_of (held_by node)) (ports_of (held_by node)) (state_of (held_by node)) input ≡ Err refusal
-IsUndone node input fault = ⊥
-
--- why a node took no packet of the peer at a place: memory ran out, its step refuses the next one, or what came in has a fault
-abbrev pub IsUntaken : {T : Type 0} {g : Ghosts T} → Node T g → ℕ → NodeFault → Type 0
-IsUntaken node place OutOfMemory = Unit {0}
-IsUntaken node place (Refused refusal) = (packet : Packet) × (next_packet (links_of node place) ≡ Ok (Some packet))
-    × (node_step (names_of (held_by node)) (ports_of (held_by node)) (state_of (held_by node)) (Taken place (stamped_of packet)) ≡ Err refusal)
-IsUntaken node place fault = next_packet (links_of node place) ≡ Err fault
-
-module _ {L I : Type 0} (accepts : L → List ℕ → L → Type 0) (gives : I → List ℕ → I → Type 0) where
-  -- the act of this input is done, or nothing is, and why
-  abbrev pub EventComes : {T : Type 0} {g : Ghosts T} → Given → Result (Unit {0}) NodeFault → NodeRun T L I g → NodeRun T L I g → Type 0
-  EventComes input (Ok done) a b = (act : Act) × (act.input ≡ input) × Follows accepts gives (act ∷ []) a b
-  EventComes input (Err fault) a b = Follows accepts gives [] a b × IsUndone (node_of a) input fault
-
-  -- a packet of the peer at a place is taken, none has come, or none is taken, and why
-  abbrev pub TakeComes : {T : Type 0} {g : Ghosts T} → ℕ → Result Bool NodeFault → NodeRun T L I g → NodeRun T L I g → Type 0
-  TakeComes place (Ok true) a b = (act : Act) × (x : Stamped Message) × (act.input ≡ Taken place x) × Follows accepts gives (act ∷ []) a b
-  TakeComes place (Ok false) a b = Follows accepts gives [] a b × (next_packet (links_of (node_of a) place) ≡ Ok None)
-  TakeComes place (Err fault) a b = Follows accepts gives [] a b × IsUntaken (node_of a) place fault

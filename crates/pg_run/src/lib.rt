@@ -1,7 +1,6 @@
 //! One node with its links to its peers and its log: what a thread that owns the node does, one phase after another.
 #![tactic(auto)]
 
-mod events;
 mod log;
 mod moves;
 mod run;
