@@ -1,15 +1,13 @@
 -- What follows from what follows.
-use Rattle.std.proofs.Common.{◌≡◌, ◌<◌, ◌∙◌, ℕ, map, get_or, length, List, [], ◌∷◌, ◌++◌, refl, sym, ap, subst, append_assoc, append-nil}
+use Rattle.std.proofs.Common.{◌≡◌, ◌∙◌, ℕ, map, List, [], ◌∷◌, ◌++◌, refl, sym, ap, subst, append_assoc, append-nil}
 use Rattle.std.proofs.lemmas.List.{map-append}
 use Rattle.pg_group.specs.declared.table.GroupTable.{Ghosts}
-use Rattle.pg_node.specs.declared.node.Node.{Node}
-use Rattle.pg_node.specs.Links.{Link}
 use Rattle.pg_node.specs.Issued.{ports_of}
 use Rattle.pg_node.specs.Nodes.{held_by, links_of}
 use Rattle.pg_node.specs.States.{names_of, state_of, answers_of}
 use Rattle.pg_run.specs.declared.run.NodeRun.{NodeRun}
-use Rattle.pg_run.specs.Acts.{Act, Standing, Leads, AllLead, entry_of}
-use Rattle.pg_run.specs.Follows.{HasMoved, HaveMoved, Follows, node_of, peers_of, log_of, standing_of}
+use Rattle.pg_run.specs.Acts.{Act, Standing, AllLead, entry_of}
+use Rattle.pg_run.specs.Follows.{HaveMoved, Follows, node_of, peers_of, log_of, standing_of}
 use Rattle.pg_run.proofs.Moving.{have_moved_on, peers_kept, unmoved}
 use Rattle.pg_step.specs.Nodes.{Node as Name}
 

@@ -1,11 +1,11 @@
 -- What a put and a pull have moved.
-use Rattle.std.proofs.Common.{◌≡◌, ◌≢◌, ◌<◌, ◌≤◌, ◌+◌, ◌∙◌, ℕ, cond, get_or, take, drop, length, List, [], ◌++◌, refl, sym, ap, subst, arith, length-drop, append-nil}
+use Rattle.std.proofs.Common.{◌≡◌, ◌<◌, ◌≤◌, ◌+◌, ◌∙◌, ℕ, get_or, take, drop, length, List, [], sym, ap, subst, arith, length-drop, append-nil}
 use Rattle.std.specs.Prelude.{slice_set, Result, Ok, Err, IfOk, OnErr}
 use Rattle.pg_node.specs.declared.state.fault.NodeFault.{NodeFault}
 use Rattle.pg_node.specs.Links.{Link, at_link, without_front, with_fed}
 use Rattle.pg_run.specs.declared.run.Peer.{Peer}
 use Rattle.pg_run.specs.Follows.{HaveMoved}
-use Rattle.pg_run.proofs.Moving.{link_there, link_else, unmoved, put_moved, pull_moved, peer_set, peers_kept}
+use Rattle.pg_run.proofs.Moving.{link_there, link_else, unmoved, put_moved, pull_moved, peer_set}
 
 pub put_count : (links links2 : ℕ → Link) (k n : ℕ) → links2 ≡ at_link k (λ l. without_front l n) links → n ≤ length (links k).outbox
     → length (links2 k).outbox + n ≡ length (links k).outbox

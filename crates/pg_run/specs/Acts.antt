@@ -1,5 +1,5 @@
 -- What the events of one node make, by the step of the node and in the bytes of its links.
-use Rattle.std.specs.Prelude.{◌≡◌, ℕ, ◌+◌, Bool, false, cond, nat_eq, length, map, List, [], ◌∷◌, Option, Some, Result, Ok, Err}
+use Rattle.std.specs.Prelude.{◌≡◌, ℕ, ◌+◌, Bool, false, cond, nat_eq, length, List, [], ◌∷◌, Some, Result, Ok}
 use Rattle.std.specs.List.{flat_map}
 use Rattle.pg_frame.specs.Frames.{front_of}
 use Rattle.pg_machine.specs.Clocked.{Timed, Stamped}
