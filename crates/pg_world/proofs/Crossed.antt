@@ -13,25 +13,15 @@ use Rattle.pg_machine.specs.Clocked.{Stamped}
 use Rattle.pg_pieces.specs.Pieces.{Bytes, ArePackets, AreShort, frames_of, sent as bytes_sent, taken as bytes_taken}
 use Rattle.pg_step.specs.Config.{Config}
 use Rattle.pg_step.specs.Step.{Action}
-use Rattle.pg_node.specs.Links.{Link, idle_link, IsSmallFrame, AreSmallFrames, frame_of, frames_to}
+use Rattle.pg_node.specs.Links.{Link, IsSmallFrame, AreSmallFrames, frame_of, frames_to}
 use Rattle.pg_node.specs.States.{stamped_of}
 use Rattle.pg_world.specs.Views.{Seen, peer_place, packets_to}
 use Rattle.pg_world.specs.Worlds.{TimedFrameWorld, ShowsNodes}
 use Rattle.pg_world.specs.Crossings.{Crossing, link_at, bytes_at, packet_as, packets_between, written_of, CanCross, ShowsCrossing}
+use Rattle.pg_world.specs.Changes.{Moves, links_at}
 use Rattle.pg_world.proofs.Turning.{Passes, pair_is}
 
--- the links of a node
-abbrev pub links_at : Crossing → ℕ → ℕ → Link
-links_at crossing x = get_or crossing.links x (λ place. idle_link)
-
 -- ---- bytes move
-
--- Bytes have moved from one node to another, and all else is as it was.
-pub record Moves (crossing crossing2 : Crossing) (x y : ℕ) (change : Bytes → Bytes) : Type 0 where
-  pub nodes : crossing2.nodes ≡ crossing.nodes
-  pub here : bytes_at crossing2 x y ≡ change (bytes_at crossing x y)
-  pub others : (a b : ℕ) → is_pair (length crossing.nodes) a b ≡ true → ((a ≡ x) × (b ≡ y) → ⊥) → bytes_at crossing2 a b ≡ bytes_at crossing a b
-  pub damaged : (a b : ℕ) → (link_at crossing2 a b).damaged ≡ (link_at crossing a b).damaged
 
 pub moved_shown : (config : Config) (crossing crossing2 : Crossing) (w : TimedFrameWorld) (x y : ℕ) (change : Bytes → Bytes)
     → ((packets : List Packet) (bytes : Bytes) → ArePackets written_of packets bytes → ArePackets written_of packets (change bytes))

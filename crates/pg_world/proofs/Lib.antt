@@ -22,3 +22,5 @@ mod Tallies
 mod Turning
 mod Unplaced
 mod Viewing
+mod BytesOpened
+mod Cutting

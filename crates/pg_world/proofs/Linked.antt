@@ -1,6 +1,6 @@
 -- What a world of bytes is seen as where one of its nodes, or a ring from it, is another.
 use Rattle.std.proofs.Common.{◌≡◌, ◌≢◌, ◌<◌, ◌+◌, ◌-◌, ℕ, replicate, true, cond, nat_lt, map, get_or, take, drop, length, List, [], ◌∷◌, ◌++◌, Some, refl, sym, ap, ◌∙◌, inl, inr, ◌⊎◌, arith, subst}
-use Rattle.std.specs.Prelude.{slice_get, slice_set, Err}
+use Rattle.std.specs.Prelude.{slice_get, slice_set, min, Err}
 use Rattle.std.specs.List.{All}
 use Rattle.std.proofs.lemmas.Bool.{cases_eq, eq-eqb, ne_eqb}
 use Rattle.std.proofs.lemmas.Option.{slice_get_read, slice_get_within}
@@ -8,7 +8,7 @@ use Rattle.std.proofs.lemmas.List.{get_or-map, get_or-set_same, get_or-set_other
 use Rattle.pg_frame.specs.Frames.{after_front}
 use Rattle.pg_group.specs.Functions.{upd}
 use Rattle.pg_group.specs.declared.table.GroupTable.{Ghosts}
-use Rattle.pg_ring.specs.MemRing.{RingBytes, Grows, Loses}
+use Rattle.pg_ring.specs.MemRing.{RingBytes, Grows, Loses, HasRoomFor, HasUnread}
 use Rattle.pg_message.specs.declared.packet.Packet.{Packet}
 use Rattle.pg_machine.specs.Places.{is_pair}
 use Rattle.pg_machine.specs.Machine.{Take, Do}
@@ -24,13 +24,15 @@ use Rattle.pg_node.specs.Nodes.{held_by, links_of, sent_out}
 use Rattle.pg_node.specs.Issued.{ports_of}
 use Rattle.pg_node.specs.States.{names_of, state_of, answers_of}
 use Rattle.pg_world.specs.declared.rings.Rings.{Rings}
-use Rattle.pg_world.specs.Crossings.{Crossing, bytes_of, node_of, crossing_in, MoveComesTo}
+use Rattle.pg_world.specs.Rooms.{HaveRoomFor}
+use Rattle.pg_world.specs.Crossings.{Crossing, bytes_of, bytes_at, node_of, crossing_in, MoveComesTo}
 use Rattle.pg_world.specs.Views.{Seen, seen_of, peer_place}
 use Rattle.pg_world.specs.Worlds.{has_port}
-use Rattle.pg_world.proofs.Crossed.{links_at, Moves, Acts}
+use Rattle.pg_world.specs.Changes.{Moves, put_count, pull_count, ChangesAlone, links_at}
+use Rattle.pg_world.proofs.Crossed.{Acts}
 use Rattle.pg_world.proofs.Ported.{test_of}
 use Rattle.pg_world.proofs.Peering.{place_within, peers_differ}
-use Rattle.pg_world.proofs.Turning.{pair_is, pair_turned}
+use Rattle.pg_world.proofs.Turning.{pair_is, pair_turned, set_other}
 use Rattle.pg_world.proofs.Viewing.{read_here, map_same}
 
 take_front : {A : Type 0} (xs ys : List A) → take (length xs) (xs ++ ys) ≡ xs
@@ -260,6 +262,27 @@ module _ {T : Type 0} {g : Ghosts T} (nodes : List (Node T g)) (rings : List Rin
       other_is : (a b : ℕ) → is_pair (length (map node_of nodes)) a b ≡ true → b ≡ y → peer_place b a ≡ peer_place y x → a ≡ x
       other_is a b other e d = same_peer y a x (pair_turned (length (map node_of nodes)) a y (subst (λ k. is_pair (length (map node_of nodes)) a k ≡ true) e other)) (λ f. apart (sym f)) (ap (λ k. peer_place k a) (sym e) ∙ d)
 
+-- how many bytes move
+module _ {T : Type 0} {g : Ghosts T} (nodes : List (Node T g)) (rings : List Rings) (x y : ℕ) (pair : is_pair (length (map node_of nodes)) x y ≡ true) (rows : length rings ≡ length nodes)
+    (row : Rings) (ring : RingBytes) (here : row ≡ get_or rings x row) (lk : peer_place x y < length row.rings.items) (there : ring ≡ get_or row.rings.items (peer_place x y) ring) where
+  on_ring : ring.unread ≡ (bytes_at (crossing_in nodes rings) x y).ring
+  on_ring = sym (ring_here rings x (peer_place x y) row ring (row_there nodes rings x y pair rows) here lk there)
+
+  capacity_is : (capacity : ℕ) → All (HaveRoomFor capacity) rings → ring.capacity ≡ capacity
+  capacity_is capacity sized = ap (λ (r : RingBytes). r.capacity) there
+      ∙ subst (λ (r : Rings). All (λ (q : RingBytes). q.capacity ≡ capacity) r.rings.items) (sym here) (sized x row (row_there nodes rings x y pair rows)) (peer_place x y) ring lk
+
+  pub put_many : (capacity : ℕ) → All (HaveRoomFor capacity) rings → (node : Node T g) → node ≡ get_or nodes x node → (max count : ℕ) → HasRoomFor ring (min max (length (links_of node (peer_place x y)).outbox)) count
+      → count ≡ put_count capacity max (bytes_at (crossing_in nodes rings) x y)
+  put_many capacity sized node at max count many = many
+      ∙ (λ j. min (min max (length (sym (links_here nodes rings x node (first_there nodes rings x y pair rows) at) j (peer_place x y)).outbox)) (capacity_is capacity sized j - length (on_ring j)))
+
+  pub pull_many : (max count : ℕ) → HasUnread ring (min max 65536) count → count ≡ pull_count max (bytes_at (crossing_in nodes rings) x y)
+  pull_many max count many = many ∙ (λ j. min (min max 65536) (length (on_ring j)))
+
+pub pulled_as : (before after : Crossing) (x y n count : ℕ) → n ≡ count → Moves before after x y (pull n) → Moves before after x y (pull count)
+pulled_as before after x y n count same = subst (λ k. Moves before after x y (pull k)) same
+
 -- ---- a node that makes a turn
 
 module _ {T : Type 0} {g : Ghosts T} (nodes : List (Node T g)) (rings : List Rings) (i : ℕ) (node node2 : Node T g) (sends : List (ℕ × Packet)) (l : i < length nodes) (at : node ≡ get_or nodes i node) where
@@ -307,6 +330,19 @@ module _ {T : Type 0} {g : Ghosts T} (nodes : List (Node T g)) (rings : List Rin
               (ap part (link_there (peer_place i p) passed (sent_out sends (links_at old i))) ∙ same (sent_out sends (links_at old i) (peer_place i p)))
           go (inr m) = ap part (link_else (peer_place i p) k passed (sent_out sends (links_at old i)) m)
 
+-- ---- what an event changes
+
+module _ {T : Type 0} {g : Ghosts T} (nodes : List (Node T g)) (rings : List Rings) (i : ℕ) where
+  pub alone : (node2 : Node T g) → ChangesAlone i (crossing_in nodes rings) (crossing_in (slice_set nodes i node2) rings)
+  alone node2 = record {
+    nodes = λ x n. ap (λ (seen : List Seen). slice_get seen x) (nodes_set nodes rings i node2) ∙ set_other (map node_of nodes) i x (node_of node2) n;
+    links = λ x n. links_else nodes rings rings i x node2 n;
+    rings = refl;
+  }
+
+pub unchanged : (i : ℕ) (crossing : Crossing) → ChangesAlone i crossing crossing
+unchanged i crossing = record { nodes = λ x n. refl; links = λ x n. refl; rings = refl }
+
 -- ---- what stays
 
 -- one node and one row of rings that are seen as before
@@ -350,8 +386,8 @@ port_place nodes i port has =
 -- ---- what a pull told
 
 -- it is refused by want of memory alone
-pub pull_err : (config : Config) (x y : ℕ) (fault : NodeFault) (Shown : Type 0) → fault ≡ OutOfMemory → Shown → MoveComesTo config x y (Err fault) Shown
-pull_err config x y fault Shown is shown = subst (λ f. MoveComesTo config x y (Err f) Shown) (sym is) shown
+pub pull_err : (config : Config) (x y : ℕ) (fault : NodeFault) (Shown : Type 0) → fault ≡ OutOfMemory → is_pair (length config) x y ≡ true → Shown → MoveComesTo config x y (Err fault) Shown
+pull_err config x y fault Shown is pair shown = subst (λ f. MoveComesTo config x y (Err f) Shown) (sym is) (pair, shown)
 
 -- ---- a world that begins
 

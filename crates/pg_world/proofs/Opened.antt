@@ -1,6 +1,6 @@
 -- What nodes tell as they begin: its names can be sent, and it fits, or a world can't begin.
 use Rattle.std.proofs.Common.{◌≡◌, ◌≤◌, ◌<◌, ◌-◌, ◌^◌, ℕ, zero, suc, Bool, true, false, cond, ◌||◌, ◌&&◌, nat_le, inl, inr, map, get_or, length, List, [], ◌∷◌, Option, Some, None, Result, Ok, Err, refl, sym, ap, ◌∙◌, subst, arith}
-use Rattle.std.specs.Prelude.{slice_get, option_map, IfOk, IfErr, is_some}
+use Rattle.std.specs.Prelude.{slice_get, option_map, IfOk, IfErr, OnOk, is_some}
 use Rattle.std.specs.List.{All, AllByRecursion, IsDistinct, list_any}
 use Rattle.std.proofs.lemmas.Bool.{leb-true}
 use Rattle.std.proofs.lemmas.Option.{slice_get-map, slice_get-get_or, same_Some}
@@ -22,7 +22,7 @@ use Rattle.pg_node.specs.States.{kept_by}
 use Rattle.pg_world.specs.declared.fault.WorldFault.{WorldFault}
 use Rattle.pg_world.specs.declared.fault.WorldFault.TheVariants.{BadConfig, NameTooLarge, BadCapacity, TooLong, OutOfMemory}
 use Rattle.pg_world.specs.Configs.{is_config, is_capacity, are_names, have_names, refusal_of, IsJudged}
-use Rattle.pg_world.specs.Openings.{SomeIsTooLong, are_few, have_few, TellsNames, Fits, IsTooLong, AllFit, SomeCantOpen, CantBegin, CantStart}
+use Rattle.pg_world.specs.Openings.{AreReady, SomeIsTooLong, are_few, have_few, TellsNames, Fits, IsTooLong, AllFit, SomeCantOpen, CantBegin, CantStart}
 use Rattle.pg_world.specs.Starts.{firsts, seen_first, AllOpen}
 use Rattle.pg_world.specs.Views.{Seen, seen_of}
 use Rattle.pg_world.proofs.Deciding.{both, left, right, passes, names_passed}
@@ -58,7 +58,7 @@ pub tells_names : (groups : GroupList) → are_names groups ≡ true → TellsNa
 tells_names groups names told is =
     all_named told (λ name e. named_in groups name names (ap is_some (sym (first_told groups name)) ∙ (sym (is.names.each name) ∙ e)))
 
-names_at : (config : Config) (i : ℕ) → have_names config ≡ true → are_names (groups_at config i) ≡ true
+pub names_at : (config : Config) (i : ℕ) → have_names config ≡ true → are_names (groups_at config i) ≡ true
 names_at [] i e = refl
 names_at (start ∷ starts) zero e = left (are_names start.groups) (have_names starts) e
 names_at (start ∷ starts) (suc i) e = names_at starts i (right (are_names start.groups) (have_names starts) e)
@@ -211,3 +211,15 @@ module _ (ring : ℕ) (config slice : Config) (same : slice ≡ config) (none : 
 
   pub good_fault : {X : Type 0} (result : Result X WorldFault) → IfErr result (CantStart slice) → IfErr result (CantBegin ring config)
   good_fault result cant = cant_begin ring config result none (subst (λ (c : Config). IfErr result (CantStart c)) same cant)
+
+  pub ready_so : {X : Type 0} (result : Result X WorldFault) → OnOk result (have_few slice ≡ true) → OnOk result (AreReady config)
+  ready_so (Ok x) few = subst AreReady same (record { apart = good_apart; made = good_made; once = good_once; few = λ i. few_at slice i few; named = good_names })
+  ready_so (Err fault) few = tt
+
+  pub few_fault : {X : Type 0} (result : Result X WorldFault) → IfErr result (λ fault. (fault ≡ TooLong) × (have_few slice ≡ false)) → IfErr result (CantBegin ring config)
+  few_fault (Ok x) told = tt
+  few_fault (Err fault) told = subst (CantBegin ring config) (sym told.0) (none, subst SomeIsTooLong same (too_many slice told.1))
+
+pub on_ok : {X : Type 0} {P : Type 0} (result : Result X WorldFault) → P → OnOk result P
+on_ok (Ok x) p = p
+on_ok (Err fault) p = tt

@@ -1,9 +1,11 @@
 -- What a world is seen as where one of its nodes, or what is on the way from it, is another.
-use Rattle.std.proofs.Common.{◌≡◌, ◌≢◌, ℕ, ◌+◌, ◌<◌, map, get_or, length, List, [], ◌++◌, Some, sym, ap, ◌∙◌, inl, inr, ◌⊎◌, arith, subst}
-use Rattle.std.specs.Prelude.{slice_get, slice_set}
+use Rattle.std.proofs.Common.{◌≡◌, ◌≢◌, ℕ, ◌+◌, ◌<◌, Bool, true, false, IsTrue, Bor, map, get_or, length, List, [], ◌++◌, Option, Some, None, refl, sym, ap, ◌∙◌, inl, inr, ◌⊎◌, arith, subst}
+use Rattle.std.specs.Prelude.{slice_get, slice_set, not}
+use Rattle.std.specs.Option.{is_some, option_copied}
 use Rattle.std.proofs.lemmas.Bool.{cases_eq}
 use Rattle.std.proofs.lemmas.Option.{slice_get_read}
 use Rattle.std.proofs.lemmas.List.{get_or-map, get_or-set_same, get_or-set_other, map-set, set-get_or, length-map, length-set}
+use Rattle.pg_term.specs.RefParts.{RefParts}
 use Rattle.pg_group.specs.declared.table.GroupTable.{Ghosts}
 use Rattle.pg_message.specs.declared.message.Message.{Message}
 use Rattle.pg_message.specs.declared.packet.Packet.{Packet}
@@ -138,3 +140,10 @@ module _ {T : Type 0} {g : Ghosts T} (nodes : List (NodeState T g)) (outs outs1 
 
   pub way_as : (x k : ℕ) → way_at (traffic_in nodes outs1) x k ≡ way_at (traffic_in nodes outs) x k
   way_as x k = ap (λ (v : Traffic). way_at v x k) same
+
+-- a lock that a node is seen to leave free
+pub none_held : (o : Option (Bor RefParts)) (b : Bool) → is_some o ≡ not b → (held : Option RefParts) → option_copied o ≡ held → (IsTrue b → held ≡ None) × (held ≡ None → IsTrue b)
+none_held None true e held is = (λ t. sym is, λ n. refl)
+none_held None false e held is = absurd (cc)
+none_held (Some r) true e held is = absurd (cc)
+none_held (Some r) false e held is = (λ t. absurd (cc), λ n. let never : Some r.now ≡ None = is ∙ n in absurd (cc))

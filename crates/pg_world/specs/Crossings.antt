@@ -1,5 +1,5 @@
 -- A world whose packets cross as bytes: how it is seen, and the frame world that it shows.
-use Rattle.std.specs.Prelude.{◌≡◌, ◌≤◌, ◌+◌, ◌-◌, ℕ, true, false, map, length, get_or, replicate, List, [], Some, Result, Ok, Err}
+use Rattle.std.specs.Prelude.{◌≡◌, ◌≤◌, ◌+◌, ◌-◌, ℕ, Bool, true, false, map, length, get_or, replicate, List, [], Some, Result, Ok, Err}
 use Rattle.std.specs.List.{AllByRecursion}
 use Rattle.pg_term_io.specs.Writing.{written}
 use Rattle.pg_frame.specs.Frames.{IsBody}
@@ -9,7 +9,7 @@ use Rattle.pg_message.specs.declared.packet.Packet.{Packet}
 use Rattle.pg_message.specs.Reading.{packet_spelled}
 use Rattle.pg_message.specs.Writing.{is_exchange, term_of_packet}
 use Rattle.pg_machine.specs.Places.{is_pair}
-use Rattle.pg_machine.specs.Machine.{Event, happens}
+use Rattle.pg_machine.specs.Machine.{Event, Take, Do, happens}
 use Rattle.pg_machine.specs.Clocked.{Stamped}
 use Rattle.pg_pieces.specs.Pieces.{Bytes, ArePackets}
 use Rattle.pg_step.specs.declared.refusal.Refusal.TheVariants.{NoSuchPlace}
@@ -57,9 +57,13 @@ crossing_of world = crossing_in world.nodes.items world.rings.items
 abbrev pub idle_crossing : {T : Type 0} {g : Ghosts T} → List (Node T g) → Crossing
 idle_crossing nodes = record { nodes = map node_of nodes; links = map links_of nodes; rings = replicate (length nodes) (replicate (length nodes - 1) []) }
 
+-- those of a node that is not there
+abbrev pub no_links : ℕ → Link
+no_links place = idle_link
+
 -- the link of one node to another
 abbrev pub link_at : Crossing → ℕ → ℕ → Link
-link_at crossing x y = get_or crossing.links x (λ place. idle_link) (peer_place x y)
+link_at crossing x y = get_or crossing.links x no_links (peer_place x y)
 
 -- the bytes on the way from one node to another
 abbrev pub bytes_at : Crossing → ℕ → ℕ → Bytes
@@ -105,22 +109,26 @@ IsReached config w = (events : List (Event Action)) × Reaches config events w
 
 -- ---- steps
 
+abbrev pub is_take : Event Action → Bool
+is_take (Take i p) = true
+is_take (Do i action) = false
+
 -- What came of an event in the world w: it happened, and led to a world that is shown; or no whole packet had come, memory ran
 -- out, or it was refused as is told, and the world w is shown.
 abbrev pub EventComesTo : Config → TimedFrameWorld → Event Action → Result Stepped NodeFault → (TimedFrameWorld → Type 0) → Type 0
 EventComesTo config w e (Ok Happened) Shown = (v : TimedFrameWorld) × (happens (frame_machine config) w e ≡ Some v) × Shown v
-EventComesTo config w e (Ok Nothing) Shown = Shown w
+EventComesTo config w e (Ok Nothing) Shown = (is_take e ≡ true) × Shown w
 EventComesTo config w e (Ok (Moved count)) Shown = ⊥
 EventComesTo config w e (Err OutOfMemory) Shown = Shown w
 EventComesTo config w e (Err (Refused refusal)) Shown = (told config w e ≡ Some (Err refusal)) × Shown w
 EventComesTo config w e (Err fault) Shown = ⊥
 
--- What came of bytes that should move between two nodes: they moved, or memory ran out, or the nodes are not there; the world
--- w is shown.
+-- What came of bytes that should move between two nodes: they moved, or memory ran out; or the nodes are not there. The world w
+-- is shown.
 abbrev pub MoveComesTo : Config → ℕ → ℕ → Result Stepped NodeFault → Type 0 → Type 0
-MoveComesTo config x y (Ok (Moved count)) Shown = Shown
+MoveComesTo config x y (Ok (Moved count)) Shown = (is_pair (length config) x y ≡ true) × Shown
 MoveComesTo config x y (Ok stepped) Shown = ⊥
-MoveComesTo config x y (Err OutOfMemory) Shown = Shown
+MoveComesTo config x y (Err OutOfMemory) Shown = (is_pair (length config) x y ≡ true) × Shown
 MoveComesTo config x y (Err (Refused refusal)) Shown = (refusal ≡ NoSuchPlace) × (is_pair (length config) x y ≡ false) × Shown
 MoveComesTo config x y (Err fault) Shown = ⊥
 

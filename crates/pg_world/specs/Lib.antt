@@ -4,8 +4,11 @@ pub mod Faults
 pub mod Fitting
 pub mod Histories
 pub mod Openings
+pub mod Rooms
 pub mod Runs
 pub mod Short
 pub mod Starts
 pub mod Views
 pub mod Worlds
+pub mod BytesStart
+pub mod Changes

@@ -1,15 +1,20 @@
 -- Whether what nodes tell as they begin fits, and why a world can't begin.
-use Rattle.std.specs.Prelude.{◌≡◌, ◌<◌, ◌⊎◌, Bool, true, false, nat_le, ℕ, length, slice_get, List, Some, None}
-use Rattle.std.specs.List.{list_all}
+use Rattle.std.specs.Prelude.{◌≡◌, ◌≤◌, ◌<◌, ◌^◌, ◌⊎◌, Bool, true, false, nat_le, ℕ, length, slice_get, List, Some, None}
+use Rattle.std.specs.List.{IsDistinct, list_all}
+use Rattle.pg_term.specs.Same.{same_atom, same_term}
+use Rattle.pg_ends.specs.declared.processes.TheConstants.{MAX_PROCESSES}
+use Rattle.pg_message.specs.Members.{HasFewMembers}
 use Rattle.pg_group.specs.Table.{Table}
-use Rattle.pg_exchange.specs.GroupList.{GroupList, IsSnapshot}
+use Rattle.pg_exchange.specs.GroupList.{GroupList, IsSnapshot, announced_names}
 use Rattle.pg_message.specs.declared.packet.Packet.{Packet}
-use Rattle.pg_step.specs.Config.{Config, groups_at}
+use Rattle.pg_step.specs.Config.{Config, names_of, groups_at, made_at}
 use Rattle.pg_opens.specs.Places.{name_at}
+use Rattle.pg_node.specs.declared.state.fault.NodeFault.{NodeFault}
+use Rattle.pg_node.specs.declared.state.fault.NodeFault.TheVariants as faults
 use Rattle.pg_node.specs.Opening.{IsAnnouncement}
 use Rattle.pg_world.specs.declared.fault.WorldFault.{WorldFault}
 use Rattle.pg_world.specs.declared.fault.WorldFault.TheVariants.{TooLong, OutOfMemory}
-use Rattle.pg_world.specs.Configs.{are_names, refusal_of}
+use Rattle.pg_world.specs.Configs.{are_names, have_names, refusal_of}
 use Rattle.pg_world.specs.Fitting.{FitsFrame, IsOverlong}
 use Rattle.pg_world.specs.Starts.{seen_first}
 use Rattle.pg_world.specs.Views.{Seen}
@@ -32,6 +37,11 @@ CantOpen node OutOfMemory = Unit {0}
 CantOpen node TooLong = IsTooLong node
 CantOpen node fault = ⊥
 
+-- the fault by which a node can't begin, as a world tells it
+abbrev pub opening_fault_of : NodeFault → WorldFault
+opening_fault_of faults.OutOfMemory = OutOfMemory
+opening_fault_of fault = TooLong
+
 -- the same of some node
 abbrev pub SomeCantOpen : List Seen → WorldFault → Type 0
 SomeCantOpen nodes OutOfMemory = Unit {0}
@@ -41,6 +51,15 @@ SomeCantOpen nodes fault = ⊥
 -- what each node of a configuration tells as it begins fits into a frame
 abbrev pub AllFit : Config → Type 0
 AllFit config = (i : ℕ) → i < length config → Fits (seen_first config i)
+
+-- The nodes of a configuration can start: their names differ, each has made as many processes as a node may and tells each group
+-- once, by a name that can be sent, with at most 2^32 members.
+pub record AreReady (starts : Config) : Type 0 where
+  pub apart : IsDistinct same_atom (names_of starts)
+  pub made : (i : ℕ) → made_at starts i ≤ MAX_PROCESSES
+  pub once : (i : ℕ) → IsDistinct same_term (announced_names (groups_at starts i))
+  pub few : (i : ℕ) → HasFewMembers (2 ^ 32) (groups_at starts i)
+  pub named : have_names starts ≡ true
 
 -- no group has more than 2^32 members
 abbrev pub are_few : GroupList → Bool

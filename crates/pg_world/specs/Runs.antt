@@ -1,17 +1,21 @@
 -- What comes of steps that are made one after another.
-use Rattle.std.specs.Prelude.{◌≡◌, ◌⊎◌, ℕ, List, [], ◌∷◌, Option, Some, None, Result, Ok, Err}
+use Rattle.std.specs.Prelude.{◌≡◌, ◌⊎◌, ℕ, true, false, length, List, [], ◌∷◌, Option, Some, None, Result, Ok, Err}
+use Rattle.pg_machine.specs.Places.{is_pair}
 use Rattle.pg_machine.specs.Machine.{Event, happens, start_of}
 use Rattle.pg_machine.specs.Clocked.{plain}
 use Rattle.pg_step.specs.declared.refusal.Refusal.{Refusal}
+use Rattle.pg_step.specs.declared.refusal.Refusal.TheVariants.{NoSuchPlace}
 use Rattle.pg_step.specs.Config.{Config}
 use Rattle.pg_step.specs.Faults.{refusal_number_of}
 use Rattle.pg_step.specs.FrameMachine.{frame_machine}
 use Rattle.pg_step.specs.Step.{Action, TimedTurn}
 use Rattle.pg_history.specs.Headline.{OneHistory}
 use Rattle.pg_world.specs.declared.step.FrameStep.{FrameStep}
+use Rattle.pg_world.specs.declared.step.Step.{Step}
+use Rattle.pg_world.specs.declared.step.Step.TheVariants as steps
+use Rattle.pg_world.specs.Crossings.{is_take}
 use Rattle.pg_world.specs.Starts.{Orders}
-use Rattle.pg_world.specs.Views.{View}
-use Rattle.pg_world.specs.Worlds.{TimedFrameWorld, Shows, event_of, told}
+use Rattle.pg_world.specs.Worlds.{TimedFrameWorld, event_of, told}
 
 -- the number of a step that did nothing, by what is told of its event: 0 where nothing was on the way, that of the refusal where
 -- it is refused, and 10, out of memory, where it could have happened
@@ -20,20 +24,58 @@ number_told None = 0
 number_told (Some (Err refusal)) = refusal_number_of refusal
 number_told (Some (Ok turn)) = 10
 
--- a step in the world w did nothing, and has this number: what is told of it, in the place of which memory may run out
+-- ---- kinds of steps
+
+-- A kind of steps: the event that a step is, if it is one, and when a step that left a frame world as it was has a number.
+pub record Kind (S : Type 0) : Type 1 where
+  pub event : S → Option (Event Action)
+  pub Passed : Config → TimedFrameWorld → S → ℕ → Type 0
+
+-- A step over packets that did nothing has the number of what is told of it, in the place of which memory may run out.
 abbrev pub IsPassed : Config → TimedFrameWorld → FrameStep → ℕ → Type 0
 IsPassed config w step number = (number ≡ number_told (told config w (event_of step))) ⊎ (number ≡ 10)
 
--- A step in the world w happened and has number 0; the rest follows in the world that it left.
-pub record Goes (config : Config) (w : TimedFrameWorld) (step : FrameStep) (number : ℕ) (Rest : TimedFrameWorld → Type 0) : Type 0 where
-  pub listed : number ≡ 0
-  pub left : TimedFrameWorld
-  pub happened : happens (frame_machine config) w (event_of step) ≡ Some left
-  pub rest : Rest left
+abbrev pub over_packets : Kind FrameStep
+over_packets = record { event = λ step. Some (event_of step); Passed = IsPassed }
 
--- what came of a step: it happened and led to a world that is shown, or did nothing
-abbrev pub StepsTo : Config → TimedFrameWorld → FrameStep → ℕ → (TimedFrameWorld → Type 0) → Type 0
-StepsTo config w step number Shown = Goes config w step number Shown ⊎ (IsPassed config w step number × Shown w)
+-- bytes that should move between two nodes: they moved, or memory ran out; or the nodes are not there
+abbrev pub IsMove : Config → ℕ → ℕ → ℕ → Type 0
+IsMove config x y number = ((is_pair (length config) x y ≡ true) × ((number ≡ 0) ⊎ (number ≡ 10)))
+    ⊎ ((is_pair (length config) x y ≡ false) × (number ≡ refusal_number_of NoSuchPlace))
+
+-- an event over bytes that did not happen: no whole packet had come; it is refused as is told; or memory ran out
+abbrev pub IsLeft : Config → TimedFrameWorld → Event Action → ℕ → Type 0
+IsLeft config w e number = ((is_take e ≡ true) × (number ≡ 0))
+    ⊎ (((refusal : Refusal) × (told config w e ≡ Some (Err refusal)) × (number ≡ refusal_number_of refusal)) ⊎ (number ≡ 10))
+
+-- the event of a step over bytes, if it is one
+abbrev pub event_in : Step → Option (Event Action)
+event_in (steps.Put from to max) = None
+event_in (steps.Pull to from max) = None
+event_in (steps.Event step) = Some (event_of step)
+
+abbrev pub IsStill : Config → TimedFrameWorld → Step → ℕ → Type 0
+IsStill config w (steps.Put from to max) number = IsMove config from to number
+IsStill config w (steps.Pull to from max) number = IsMove config from to number
+IsStill config w (steps.Event step) number = IsLeft config w (event_of step) number
+
+abbrev pub over_bytes : Kind Step
+over_bytes = record { event = event_in; Passed = IsStill }
+
+-- ---- runs
+
+-- The event of a step happened in the world w, and its number is 0; the rest follows in the world that it left.
+pub record Goes (config : Config) (w : TimedFrameWorld) (event : Option (Event Action)) (number : ℕ) (Rest : Event Action → TimedFrameWorld → Type 0) : Type 0 where
+  pub listed : number ≡ 0
+  pub e : Event Action
+  pub is : event ≡ Some e
+  pub left : TimedFrameWorld
+  pub happened : happens (frame_machine config) w e ≡ Some left
+  pub rest : Rest e left
+
+-- what came of a step: it happened and led to a world that is shown, or left the frame world as it was
+abbrev pub StepsTo : {S : Type 0} → Kind S → Config → TimedFrameWorld → S → ℕ → (TimedFrameWorld → Type 0) → Type 0
+StepsTo kind config w step number Shown = Goes config w (kind.event step) number (λ e left. Shown left) ⊎ (kind.Passed config w step number × Shown w)
 
 -- These events are led by one event, and the others follow.
 pub record Led (event : Event Action) (events : List (Event Action)) (Rest : List (Event Action) → Type 0) : Type 0 where
@@ -42,29 +84,30 @@ pub record Led (event : Event Action) (events : List (Event Action)) (Rest : Lis
   pub rest : Rest later
 
 -- Steps from the world w have these numbers, the events of those that happened are these, in their order, and lead to the world v.
-abbrev pub RunsTo : Config → TimedFrameWorld → List FrameStep → List ℕ → List (Event Action) → TimedFrameWorld → Type 0
-RunsTo config w [] [] events v = (events ≡ []) × (w ≡ v)
-RunsTo config w (step ∷ steps) (number ∷ numbers) events v =
-    Goes config w step number (λ u. Led (event_of step) events (λ later. RunsTo config u steps numbers later v))
-    ⊎ (IsPassed config w step number × RunsTo config w steps numbers events v)
-RunsTo config w steps numbers events v = ⊥
+abbrev pub RunsTo : {S : Type 0} → Kind S → Config → TimedFrameWorld → List S → List ℕ → List (Event Action) → TimedFrameWorld → Type 0
+RunsTo kind config w [] [] events v = (events ≡ []) × (w ≡ v)
+RunsTo kind config w (step ∷ later) (number ∷ numbers) events v =
+    Goes config w (kind.event step) number (λ e u. Led e events (λ others. RunsTo kind config u later numbers others v))
+    ⊎ (kind.Passed config w step number × RunsTo kind config w later numbers events v)
+RunsTo kind config w all numbers events v = ⊥
 
 -- steps from the world w have these numbers, and lead to a world that is shown
-pub record GoesTo (config : Config) (w : TimedFrameWorld) (steps : List FrameStep) (numbers : List ℕ) (Shown : TimedFrameWorld → Type 0) : Type 0 where
+pub record GoesTo {S : Type 0} (kind : Kind S) (config : Config) (w : TimedFrameWorld) (all : List S) (numbers : List ℕ) (Shown : TimedFrameWorld → Type 0) : Type 0 where
   pub events : List (Event Action)
   pub left : TimedFrameWorld
-  pub runs : RunsTo config w steps numbers events left
+  pub runs : RunsTo kind config w all numbers events left
   pub shown : Shown left
 
--- What a run of steps from the start of a configuration came to, as a world shows it, with the number of each step.
-pub record Ran (given : Config) (steps : List FrameStep) (numbers : List ℕ) (view : View) : Type 0 where
+-- What a run of steps from the start of a configuration came to, with the number of each step; Shown: the frame worlds of a
+-- configuration that the code's world shows then.
+pub record Ran {S : Type 0} (kind : Kind S) (given : Config) (all : List S) (numbers : List ℕ) (Shown : Config → TimedFrameWorld → Type 0) : Type 0 where
   -- the configuration with the groups of each node in order
   pub config : Config
   pub orders : Orders given config
   -- the events of the steps that happened, and the frame world to which they lead
   pub events : List (Event Action)
   pub w : TimedFrameWorld
-  pub runs : RunsTo config (start_of (frame_machine config)) steps numbers events w
-  pub shows : Shows config view w
+  pub runs : RunsTo kind config (start_of (frame_machine config)) all numbers events w
+  pub shows : Shown config w
   -- the headline
   pub history : OneHistory config events (plain w)

@@ -1,13 +1,9 @@
 //! How a world begins.
 
-ghost use Rattle.std.specs.Prelude.{◌≡◌, ◌≤◌, ◌^◌, ℕ, true, IfOk, IfErr};
-ghost use Rattle.std.specs.List.{IsDistinct};
-ghost use Rattle.pg_term.specs.Same.{same_atom, same_term};
-ghost use Rattle.pg_ends.specs.declared.processes.TheConstants.{MAX_PROCESSES};
-ghost use Rattle.pg_exchange.specs.GroupList.{announced_names};
-ghost use Rattle.pg_message.specs.Members.{HasFewMembers};
+ghost use Rattle.std.specs.Prelude.{◌≡◌, true, false, None, IfOk, IfErr, OnOk};
 ghost use Rattle.pg_ring.specs.Capacity.{IsCapacity};
-ghost use Rattle.pg_step.specs.Config.{IsConfig, names_of, groups_at, made_at};
+ghost use Rattle.pg_step.specs.Config.{IsConfig};
+ghost use Rattle.pg_world.specs.Configs.{refusal_of};
 
 use crate::config::Config;
 use crate::fault::WorldFault;
@@ -19,8 +15,7 @@ use pg_term::{Items, Pid, Term};
 use std::alloc::Global;
 
 impl FrameWorld<IndexTable> {
-    ghost use Rattle.pg_world.specs.Configs.{have_names};
-    ghost use Rattle.pg_world.specs.Openings.{AllFit, CantBegin, CantStart};
+    ghost use Rattle.pg_world.specs.Openings.{AreReady, AllFit, CantBegin, CantStart};
     ghost use Rattle.pg_world.specs.Starts.{Begins};
     ghost use Rattle.pg_world.specs.Worlds.{view_of};
 
@@ -36,36 +31,15 @@ impl FrameWorld<IndexTable> {
         ensures begins { IfOk result (λ world. Begins config.now.starts.items (view_of world)) }
         ensures fault { IfErr result (CantBegin config.now.ring config.now.starts.items) }
     {
-        match config.check(alloc) {
-            Ok(()) => FrameWorld::checked(alloc, config.starts.as_slice()),
+        match ready(alloc, config) {
+            Ok(()) => FrameWorld::begun(alloc, config.starts.as_slice()),
             Err(fault) => Err(fault),
         }
     }
 
-    /// The same of a configuration that was checked.
-    fn checked(alloc: Global, starts: &[Start]) -> Result<FrameWorld<IndexTable>, WorldFault>
-        requires apart { IsDistinct same_atom (names_of starts.now) }
-        requires made { (i : ℕ) → made_at starts.now i ≤ MAX_PROCESSES }
-        requires once { (i : ℕ) → IsDistinct same_term (announced_names (groups_at starts.now i)) }
-        requires named { have_names starts.now ≡ true }
-        ensures begins { IfOk result (λ world. Begins starts.now (view_of world)) }
-        ensures fits { IfOk result (λ world. AllFit starts.now) }
-        ensures fault { IfErr result (CantStart starts.now) }
-    {
-        if have_few(starts) {
-            FrameWorld::begun(alloc, starts)
-        } else {
-            Err(WorldFault::TooLong)
-        }
-    }
-
-    /// The same where no group has more than 2^32 members.
+    /// The same of nodes that can start.
     fn begun(alloc: Global, starts: &[Start]) -> Result<FrameWorld<IndexTable>, WorldFault>
-        requires apart { IsDistinct same_atom (names_of starts.now) }
-        requires made { (i : ℕ) → made_at starts.now i ≤ MAX_PROCESSES }
-        requires once { (i : ℕ) → IsDistinct same_term (announced_names (groups_at starts.now i)) }
-        requires few { (i : ℕ) → HasFewMembers (2 ^ 32) (groups_at starts.now i) }
-        requires named { have_names starts.now ≡ true }
+        requires ready { AreReady starts.now }
         ensures begins { IfOk result (λ world. Begins starts.now (view_of world)) }
         ensures fits { IfOk result (λ world. AllFit starts.now) }
         ensures fault { IfErr result (CantStart starts.now) }
@@ -78,7 +52,35 @@ impl FrameWorld<IndexTable> {
     }
 }
 
-ghost use Rattle.pg_world.specs.Openings.{are_few, have_few};
+ghost use Rattle.pg_world.specs.Openings.{AreReady as AreReadyNodes, CantBegin as CantBeginWith, are_few, have_few};
+
+/// Whether a world of a configuration can begin, but for the length of what its nodes tell. Its cost is that of `Config::check`.
+///
+/// Faults, the first that holds: those of `Config::check`; `TooLong`, where a group has more than 2^32 members; `OutOfMemory` in
+/// the place of each.
+pub(crate) fn ready(alloc: Global, config: &Config) -> Result<(), WorldFault>
+    ensures good { OnOk result (IsConfig config.now.starts.items × IsCapacity config.now.ring) }
+    ensures ready { OnOk result (AreReadyNodes config.now.starts.items) }
+    ensures none { OnOk result (refusal_of config.now.ring config.now.starts.items ≡ None) }
+    ensures fault { IfErr result (CantBeginWith config.now.ring config.now.starts.items) }
+{
+    match config.check(alloc) {
+        Ok(()) => few_enough(config.starts.as_slice()),
+        Err(fault) => Err(fault),
+    }
+}
+
+/// Tells `TooLong` where a group has more than 2^32 members.
+fn few_enough(starts: &[Start]) -> Result<(), WorldFault>
+    ensures few { OnOk result (have_few starts.now ≡ true) }
+    ensures fault { IfErr result (λ fault. (fault ≡ WorldFault.TooLong) × (have_few starts.now ≡ false)) }
+{
+    if have_few(starts) {
+        Ok(())
+    } else {
+        Err(WorldFault::TooLong)
+    }
+}
 
 /// How many members a group has at most that is handed in.
 const MAX_MEMBERS: usize = 4_294_967_296;

@@ -1,11 +1,15 @@
 //! Nodes whose packets cross as bytes, by rings between them, and what a step makes of them.
 
-ghost use Rattle.std.specs.Prelude.{◌≡◌, ◌+◌, ◌^◌, ◌++◌, true, Ok, Some, IfOk, length, map, option_map, slice_get};
+ghost use Rattle.std.specs.Prelude.{◌≡◌, ◌↔◌, ◌<◌, ◌+◌, ◌^◌, ◌++◌, IsTrue, true, Ok, Some, IfOk, length, map, option_map, slice_get};
 ghost use Rattle.std.specs.List.{All};
 ghost use Rattle.std.specs.Option.{option_copied};
 ghost use Rattle.pg_node.specs.Nodes.{held_by};
 ghost use Rattle.pg_node.specs.States.{names_of};
 ghost use Rattle.pg_world.specs.declared.rings.Rings.{Rings};
+ghost use Rattle.pg_world.specs.Rooms.{HaveRoomFor};
+
+mod begun;
+mod runs;
 
 use crate::entry::Entry;
 use crate::histories::Histories;
@@ -19,24 +23,29 @@ use pg_node::{Node, NodeFault};
 use pg_pieces::{front_is_first_packet, moving_keeps_packets, sending_adds_packets};
 use pg_step::{Command, OpId, Refusal};
 use pg_term::Term;
+pub use runs::run;
 use std::alloc::{AllocError, Global};
 
 /// Nodes whose packets cross as bytes, and the rings between them.
 #[derive(Drop)]
 pub struct World<T: GroupTable> {
     nodes: Vec<Node<T>>,
-    // The rings from each of them.
+    // The rings from each of them, each with room for as many bytes.
     rings: Vec<Rings>,
+    ring: usize,
     histories: Histories,
     ghost rows: { length rings.items ≡ length nodes.items },
     // Each node knows as many as there are, and has a ring to each other.
     ghost known: { All (λ node. length (names_of (held_by node)) ≡ length rings.items) nodes.items },
     ghost others: { All (λ (row : Rings). length row.rings.items + 1 ≡ length rings.items) rings.items },
+    ghost sized: { All (HaveRoomFor ring) rings.items },
 }
 
 impl<T: GroupTable + Drop> World<T> {
     ghost use Rattle.pg_ring.specs.Capacity.{IsCapacity};
+    ghost use Rattle.pg_machine.specs.Clocked.{plain};
     ghost use Rattle.pg_machine.specs.Places.{is_pair};
+    ghost use Rattle.pg_history.specs.History.{LockFree};
     ghost use Rattle.pg_machine.specs.Machine.{Take, Do};
     ghost use Rattle.pg_step.specs.Config.{Config};
     ghost use Rattle.pg_step.specs.Step.{Issue, Retry};
@@ -45,7 +54,9 @@ impl<T: GroupTable + Drop> World<T> {
     ghost use Rattle.pg_world.specs.Histories.{IsSettled, as_entry, last_entries, account_of};
     ghost use Rattle.pg_world.specs.Worlds.{event_of, has_port, has_places, TimedFrameWorld};
     ghost use Rattle.pg_world.specs.Views.{no_account};
-    ghost use Rattle.pg_world.specs.Crossings.{crossing_of, idle_crossing, node_of, link_at, IsReached, ShowsCrossing, ShowsBytes, MoveComesTo, EventComesTo, StepComesTo};
+    ghost use Rattle.pg_world.specs.Changes.{Moves, put_count, pull_count, MoveChanges, EventChanges, StepChanges};
+    ghost use Rattle.pg_pieces.specs.Pieces.{put, pull};
+    ghost use Rattle.pg_world.specs.Crossings.{crossing_of, idle_crossing, node_of, link_at, bytes_at, IsReached, ShowsCrossing, ShowsBytes, MoveComesTo, EventComesTo, StepComesTo};
 
     /// A world of these nodes, with an empty ring from each to each other, which has room for `ring` bytes, and where nothing has
     /// begun. Its cost is one allocation for each node and for each ring, and one.
@@ -61,6 +72,7 @@ impl<T: GroupTable + Drop> World<T> {
         Ok(World {
             nodes,
             rings,
+            ring,
             histories: Histories::new(alloc),
         })
     }
@@ -88,6 +100,16 @@ impl<T: GroupTable + Drop> World<T> {
         self.histories.applied(node, name)
     }
 
+    /// Whether a node sees the lock of a group free. It takes no memory: O(log n) in the names that have a holder there.
+    pub fn lock_free(&self, node: usize, name: &Term) -> bool
+        requires place { node < length (crossing_of self.now).nodes }
+        ensures { (config : Config) (w : TimedFrameWorld) → ShowsCrossing config (crossing_of self.now) w
+            → IsTrue result ↔ LockFree (plain w) node name.now }
+    {
+        let over = &self.nodes[node];
+        over.state().holder(name).is_none()
+    }
+
     /// Makes one step. Whatever frame world the world shows, as events lead to it from the start of a configuration: an event
     /// that happens is the event of the frame machine there, and the world shows what it leaves; bytes that move leave the frame
     /// world as it is.
@@ -99,6 +121,7 @@ impl<T: GroupTable + Drop> World<T> {
         ensures came { (config : Config) (w : TimedFrameWorld) → IsReached config w
             → ShowsBytes config (crossing_of self.old) (account_of self.old.histories) w
             → StepComesTo config w step.now result (ShowsBytes config (crossing_of self.new) (account_of self.new.histories)) }
+        ensures changes { StepChanges self.old.ring (crossing_of self.old) (crossing_of self.new) step.now result }
     {
         match step {
             Step::Put { from, to, max } => self.put(*from, *to, *max),
@@ -112,6 +135,7 @@ impl<T: GroupTable + Drop> World<T> {
         ensures came { (config : Config) (w : TimedFrameWorld)
             → ShowsBytes config (crossing_of self.old) (account_of self.old.histories) w
             → MoveComesTo config from to result (ShowsBytes config (crossing_of self.new) (account_of self.new.histories) w) }
+        ensures changes { MoveChanges (crossing_of self.old) (crossing_of self.new) from to (put_count self.old.ring max (bytes_at (crossing_of self.old) from to)) put result }
     {
         if !self.has_pair(from, to) {
             return Err(NodeFault::Refused(Refusal::NoSuchPlace));
@@ -125,6 +149,8 @@ impl<T: GroupTable + Drop> World<T> {
         ensures shown { (config : Config) (w : TimedFrameWorld) → ShowsCrossing config (crossing_of self.old) w
             → ShowsCrossing config (crossing_of self.new) w }
         ensures account { account_of self.new.histories ≡ account_of self.old.histories }
+        ensures many { result ≡ put_count self.old.ring max (bytes_at (crossing_of self.old) from to) }
+        ensures moves { Moves (crossing_of self.old) (crossing_of self.new) from to (put result) }
     {
         moving_keeps_packets::<Packet>();
         let place = peer_place(from, to);
@@ -139,6 +165,7 @@ impl<T: GroupTable + Drop> World<T> {
         ensures came { (config : Config) (w : TimedFrameWorld)
             → ShowsBytes config (crossing_of self.old) (account_of self.old.histories) w
             → MoveComesTo config from to result (ShowsBytes config (crossing_of self.new) (account_of self.new.histories) w) }
+        ensures changes { MoveChanges (crossing_of self.old) (crossing_of self.new) from to (pull_count max (bytes_at (crossing_of self.old) from to)) pull result }
     {
         if !self.has_pair(from, to) {
             return Err(NodeFault::Refused(Refusal::NoSuchPlace));
@@ -152,6 +179,7 @@ impl<T: GroupTable + Drop> World<T> {
         ensures came { (config : Config) (w : TimedFrameWorld)
             → ShowsBytes config (crossing_of self.old) (account_of self.old.histories) w
             → MoveComesTo config from to result (ShowsBytes config (crossing_of self.new) (account_of self.new.histories) w) }
+        ensures changes { MoveChanges (crossing_of self.old) (crossing_of self.new) from to (pull_count max (bytes_at (crossing_of self.old) from to)) pull result }
     {
         moving_keeps_packets::<Packet>();
         let node = &mut self.nodes[to];
@@ -168,6 +196,7 @@ impl<T: GroupTable + Drop> World<T> {
         ensures came { (config : Config) (w : TimedFrameWorld) → IsReached config w
             → ShowsBytes config (crossing_of self.old) (account_of self.old.histories) w
             → EventComesTo config w (event_of event.now) result (ShowsBytes config (crossing_of self.new) (account_of self.new.histories)) }
+        ensures changes { EventChanges (crossing_of self.old) (crossing_of self.new) (event_of event.now) result }
     {
         if !self.has_places(event) {
             return Err(NodeFault::Refused(Refusal::NoSuchPlace));
@@ -227,6 +256,7 @@ impl<T: GroupTable + Drop> World<T> {
         ensures event { (config : Config) (w : TimedFrameWorld) → IsReached config w
             → ShowsBytes config (crossing_of self.old) (account_of self.old.histories) w
             → EventComesTo config w (Take node peer) result (ShowsBytes config (crossing_of self.new) (account_of self.new.histories)) }
+        ensures changes { EventChanges (crossing_of self.old) (crossing_of self.new) (Take node peer) result }
     {
         front_is_first_packet::<Packet>();
         let taker = &mut self.nodes[node];
@@ -250,6 +280,7 @@ impl<T: GroupTable + Drop> World<T> {
         ensures event { (config : Config) (w : TimedFrameWorld) → IsReached config w
             → ShowsBytes config (crossing_of self.old) (account_of self.old.histories) w
             → EventComesTo config w (Take node peer) result (ShowsBytes config (crossing_of self.new) (account_of self.new.histories)) }
+        ensures changes { EventChanges (crossing_of self.old) (crossing_of self.new) (Take node peer) result }
     {
         match next {
             None => Ok(Stepped::Nothing),
@@ -266,6 +297,7 @@ impl<T: GroupTable + Drop> World<T> {
         ensures event { (config : Config) (w : TimedFrameWorld) → IsReached config w
             → ShowsBytes config (crossing_of self.old) (account_of self.old.histories) w
             → EventComesTo config w (Take node peer) result (ShowsBytes config (crossing_of self.new) (account_of self.new.histories)) }
+        ensures changes { EventChanges (crossing_of self.old) (crossing_of self.new) (Take node peer) result }
     {
         sending_adds_packets::<Packet>();
         front_is_first_packet::<Packet>();
@@ -292,6 +324,7 @@ impl<T: GroupTable + Drop> World<T> {
         ensures event { (config : Config) (w : TimedFrameWorld)
             → ShowsBytes config (crossing_of self.old) (account_of self.old.histories) w
             → EventComesTo config w (Do node (Issue port command.now)) result (ShowsBytes config (crossing_of self.new) (account_of self.new.histories)) }
+        ensures changes { EventChanges (crossing_of self.old) (crossing_of self.new) (Do node (Issue port command.now)) result }
     {
         sending_adds_packets::<Packet>();
         let state = &mut self.nodes[node];
@@ -311,6 +344,7 @@ impl<T: GroupTable + Drop> World<T> {
         ensures event { (config : Config) (w : TimedFrameWorld)
             → ShowsBytes config (crossing_of self.old) (account_of self.old.histories) w
             → EventComesTo config w (Do node (Retry op)) result (ShowsBytes config (crossing_of self.new) (account_of self.new.histories)) }
+        ensures changes { EventChanges (crossing_of self.old) (crossing_of self.new) (Do node (Retry op)) result }
     {
         sending_adds_packets::<Packet>();
         let state = &mut self.nodes[node];

@@ -1,7 +1,9 @@
 //! The rings from one node to its peers.
 
 ghost use Rattle.std.specs.Prelude.{◌≡◌, ◌-◌, [], IfOk, map, replicate};
+ghost use Rattle.std.specs.List.{All};
 ghost use Rattle.pg_ring.specs.Capacity.{IsCapacity};
+ghost use Rattle.pg_world.specs.Rooms.{HaveRoomFor};
 ghost use Rattle.pg_world.specs.Crossings.{bytes_of};
 
 use pg_ring::MemRing;
@@ -20,7 +22,8 @@ impl Rings {
     /// Error: `AllocError`.
     fn new(alloc: Global, peers: usize, capacity: usize) -> Result<Rings, AllocError>
         requires capacity { IsCapacity capacity }
-        ensures { IfOk result (λ row. bytes_of row ≡ replicate peers []) }
+        ensures bytes { IfOk result (λ row. bytes_of row ≡ replicate peers []) }
+        ensures sized { IfOk result (HaveRoomFor capacity) }
     {
         let mut rings = Vec::with_capacity(alloc, peers)?;
         for _ in 0..peers {
@@ -42,7 +45,8 @@ pub(crate) fn rings_between(
     capacity: usize,
 ) -> Result<Vec<Rings>, AllocError>
     requires capacity { IsCapacity capacity }
-    ensures { IfOk result (λ rings. map bytes_of rings.items ≡ replicate nodes (replicate (nodes - 1) [])) }
+    ensures bytes { IfOk result (λ rings. map bytes_of rings.items ≡ replicate nodes (replicate (nodes - 1) [])) }
+    ensures sized { IfOk result (λ rings. All (HaveRoomFor capacity) rings.items) }
 {
     let mut rings = Vec::with_capacity(alloc, nodes)?;
     for _ in 0..nodes {

@@ -47,7 +47,7 @@ pub(crate) fn nodes_of(
 /// The node at a place of a configuration as it starts.
 ///
 /// Error: `AllocError`.
-fn node_at(
+pub(crate) fn node_at(
     alloc: Global,
     starts: &[Start],
     place: usize,

@@ -8,7 +8,8 @@ use Rattle.pg_node.specs.Nodes.{links_of}
 use Rattle.pg_world.specs.Crossings.{Crossing, crossing_of, written_of, ShowsBytes}
 use Rattle.pg_world.specs.Histories.{account_of}
 use Rattle.pg_world.specs.Views.{seen_of, peer_place}
-use Rattle.pg_world.proofs.Linked.{first_there, links_here, links_now, node_same}
+use Rattle.pg_world.specs.Changes.{EventChanges}
+use Rattle.pg_world.proofs.Linked.{alone, first_there, links_here, links_now, node_same}
 use Rattle.pg_world.proofs.Passing.{tells_ok, readable, only_memory, unread_err, unmarked}
 use Rattle.pg_world.proofs.bytes.World.take.Goals as goal
 
@@ -33,6 +34,14 @@ returns-in-Ok g c = record {
       let l = first_there nodes rings i c.args.peer c.requires.pair c.args.self.now.rows in
       let same = node_same nodes rings i node node2 l c.index_mut-taker.ensures.value (ap seen_of c.in-Ok.ensures.state) c.in-Ok.ensures.same in
       c.take_next.ensures.event config w reached (subst (λ (crossing : Crossing). ShowsBytes config crossing (account_of c.args.self.now.histories) w) (sym same) shows);
+  changes =
+      let nodes = c.args.self.now.nodes.items in
+      let rings = c.args.self.now.rings.items in
+      let i = c.args.node in
+      let node = c.index_mut-taker.result.now in
+      let l = first_there nodes rings i c.args.peer c.requires.pair c.args.self.now.rows in
+      let same = node_same nodes rings i node c.next.new.self l c.index_mut-taker.ensures.value (ap seen_of c.in-Ok.ensures.state) c.in-Ok.ensures.same in
+      subst (λ (crossing : Crossing). EventChanges crossing (crossing_of c.take_next.new.self) (Take i c.args.peer) c.take_next.result) same c.take_next.ensures.changes;
 }
 
 pub returns-in-Err : goal.returns-in-Err
@@ -55,4 +64,5 @@ returns-in-Err g c = record {
       let unchanged = c.in-Err.ensures.marked ∙ (ap (λ (f : NodeFault). at_link c.peer_place.result (λ l. marked l f) (links_of node)) memory ∙ unmarked (links_of node) c.peer_place.result OutOfMemory refl) in
       let same = node_same nodes rings i node node2 l at (ap seen_of c.in-Err.ensures.state) unchanged in
       unread_err config w (Take i p) fault _ memory (subst (λ (crossing : Crossing). ShowsBytes config crossing (account_of c.args.self.now.histories) w) (sym same) shows);
+  changes = alone c.args.self.now.nodes.items c.args.self.now.rings.items c.args.node c.next.new.self;
 }

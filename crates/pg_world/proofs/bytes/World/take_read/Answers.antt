@@ -9,7 +9,7 @@ use Rattle.pg_node.specs.States.{names_of, nodes_of, state_of, answers_of, stamp
 use Rattle.pg_world.specs.Crossings.{Crossing, crossing_in, crossing_of, node_of, written_of, ShowsBytes}
 use Rattle.pg_world.specs.Histories.{account_of, asked_by}
 use Rattle.pg_world.specs.Views.{Account}
-use Rattle.pg_world.proofs.Linked.{first_there, seen_there, nodes_set, seen_kept, take_acts, node_same}
+use Rattle.pg_world.proofs.Linked.{alone, first_there, seen_there, nodes_set, seen_kept, take_acts, node_same}
 use Rattle.pg_world.proofs.Passing.{first_read, taken_shown, take_err, unmarked}
 use Rattle.pg_world.proofs.Recording.{grew_taken}
 use Rattle.pg_world.proofs.Turning.{pair_is}
@@ -41,6 +41,7 @@ returns-in-Ok-take_read g c = record {
       c.make_room.ensures.history c.make_room.ensures.applied c.serve.ensures.history c.serve.ensures.applied c.begin.ensures.history c.begin.ensures.applied)
       (subst (λ k. ComesInRoom (names_of (held_by node)) (step_take (nodes_of (held_by node)) (name_at (names_of (held_by node)) (k + 1)) (stamped_of packet) (state_of (held_by node))) (Ok done) (state_of (held_by node2)) (answers_of (held_by node)) (answers_of (held_by node2)))
       place c.in-Ok-take_read.ensures.event);
+  changes = alone c.args.self.now.nodes.items c.args.self.now.rings.items c.args.node c.take_read.new.self;
 }
 
 pub returns-in-Err-take_read : goal.returns-in-Err-take_read
@@ -68,4 +69,5 @@ returns-in-Err-take_read g c = record {
       (λ harms. subst (λ (a : Account). ShowsBytes config (crossing_in (slice_set nodes i node2) rings) a w) (sym account)
       (subst (λ (x : Crossing). ShowsBytes config x (account_of c.args.self.now.histories) w)
       (sym (node_same nodes rings i node node2 l at seen (c.in-Err-take_read.ensures.marked ∙ unmarked (links_of node) c.peer_place.result fault harms))) shows));
+  changes = alone c.args.self.now.nodes.items c.args.self.now.rings.items c.args.node c.take_read.new.self;
 }

@@ -4,8 +4,8 @@ ghost use Rattle.std.specs.Prelude.{◌≡◌, IfOk, IfErr, length};
 ghost use Rattle.pg_ring.specs.Capacity.{IsCapacity};
 ghost use Rattle.pg_step.specs.Config.{Config as Configuration, IsConfig};
 ghost use Rattle.pg_world.specs.Openings.{AllFit, CantBegin};
-ghost use Rattle.pg_world.specs.Runs.{Ran};
-ghost use Rattle.pg_world.specs.Worlds.{view_of as shown_by};
+ghost use Rattle.pg_world.specs.Runs.{Ran, over_packets};
+ghost use Rattle.pg_world.specs.Worlds.{Shows as shows_frames, view_of as shown_by};
 
 use crate::config::Config;
 use crate::fault::WorldFault;
@@ -17,7 +17,7 @@ use pg_index::IndexTable;
 use std::alloc::Global;
 
 impl<T: GroupTable + Drop> FrameWorld<T> {
-    ghost use Rattle.pg_world.specs.Runs.{StepsTo, GoesTo};
+    ghost use Rattle.pg_world.specs.Runs.{StepsTo, GoesTo, over_packets};
     ghost use Rattle.pg_world.specs.Worlds.{view_of, TimedFrameWorld, Shows};
 
     /// Makes steps, one after another, and writes the number of each in its place: 0 where it happened, or nothing was on the
@@ -26,7 +26,7 @@ impl<T: GroupTable + Drop> FrameWorld<T> {
         requires { length numbers.old.items ≡ length steps.now }
         ensures len { length numbers.new.items ≡ length steps.now }
         ensures ran { (config : Configuration) (w : TimedFrameWorld) → Shows config (view_of self.old) w
-            → GoesTo config w steps.now numbers.new.items (Shows config (view_of self.new)) }
+            → GoesTo over_packets config w steps.now numbers.new.items (Shows config (view_of self.new)) }
     {
         for place in 0..steps.len() {
             let number = self.step_number(&steps[place]);
@@ -37,7 +37,7 @@ impl<T: GroupTable + Drop> FrameWorld<T> {
     /// Makes one step, and tells its number.
     fn step_number(&mut self, step: &FrameStep) -> u8
         ensures { (config : Configuration) (w : TimedFrameWorld) → Shows config (view_of self.old) w
-            → StepsTo config w step.now result (Shows config (view_of self.new)) }
+            → StepsTo over_packets config w step.now result (Shows config (view_of self.new)) }
     {
         match self.step(step) {
             Ok(_) => 0,
@@ -60,7 +60,7 @@ pub fn run_frames(
 ) -> Result<(FrameWorld<IndexTable>, Vec<u8>), WorldFault>
     ensures good { IfOk result (λ ran. IsConfig config.now.starts.items × IsCapacity config.now.ring) }
     ensures fits { IfOk result (λ ran. AllFit config.now.starts.items) }
-    ensures ran { IfOk result (λ ran. Ran config.now.starts.items steps.now ran.1.items (shown_by ran.0)) }
+    ensures ran { IfOk result (λ ran. Ran over_packets config.now.starts.items steps.now ran.1.items (λ given. shows_frames given (shown_by ran.0))) }
     ensures fault { IfErr result (CantBegin config.now.ring config.now.starts.items) }
 {
     one_history();

@@ -1,0 +1,15 @@
+use Rattle.std.proofs.Common.{[], refl}
+use Rattle.pg_step.specs.Config.{Config}
+use Rattle.pg_step.specs.FrameMachine.{frame_machine}
+use Rattle.pg_machine.specs.Machine.{start_of}
+use Rattle.pg_world.specs.Crossings.{ShowsBytes, crossing_of}
+use Rattle.pg_world.specs.Histories.{account_of}
+use Rattle.pg_world.specs.Runs.{over_bytes}
+use Rattle.pg_world.proofs.Running.{ran_so}
+use Rattle.pg_world.proofs.bytes.runs.run.Goals as goal
+
+pub returns-in-Ok-clause-ran : goal.returns-in-Ok-clause-ran
+returns-in-Ok-clause-ran c = ran_so over_bytes c.args.config.now.starts.items (λ (config : Config). ShowsBytes config (crossing_of c.in-Ok.begun) (account_of c.in-Ok.begun.histories))
+    (λ (config : Config). ShowsBytes config (crossing_of c.run.new.self) (account_of c.run.new.self.histories))
+    c.args.steps.now c.run.new.numbers.items c.in-Ok.ensures.begins (λ config shows. c.run.ensures.ran config (start_of (frame_machine config)) ([], refl) shows)
+    (λ config w shows. shows.traffic.nodes.apart) c.one_history.ensures.each_world

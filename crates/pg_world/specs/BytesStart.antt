@@ -1,0 +1,19 @@
+-- How a world of bytes begins: what each node tells stands in the outboxes to its peers.
+use Rattle.std.specs.Prelude.{ℕ}
+use Rattle.pg_machine.specs.Machine.{start_of}
+use Rattle.pg_step.specs.Config.{Config}
+use Rattle.pg_step.specs.FrameMachine.{frame_machine}
+use Rattle.pg_opens.specs.Places.{name_at}
+use Rattle.pg_node.specs.Begun.{Begins}
+use Rattle.pg_node.specs.Links.{Link}
+use Rattle.pg_world.specs.Crossings.{Crossing, ShowsBytes}
+use Rattle.pg_world.specs.Starts.{Orders}
+use Rattle.pg_world.specs.Views.{Seen, Account}
+
+-- the frame that tells the groups of a node goes out to each of so many peers
+abbrev pub OpensLinks : ℕ → Seen → (ℕ → Link) → Type 0
+OpensLinks peers node links = Begins node.state.state.table (name_at node.names 0) peers links
+
+-- a world of bytes shows the start of a configuration, with the groups of each node in order
+abbrev pub BytesBegin : Config → Crossing → Account → Type 0
+BytesBegin given crossing account = (config : Config) × Orders given config × ShowsBytes config crossing account (start_of (frame_machine config))

@@ -1,0 +1,61 @@
+-- What a step over bytes changes, and how many bytes move.
+use Rattle.std.specs.Prelude.{◌≡◌, ◌≢◌, ◌-◌, ℕ, true, min, length, get_or, slice_get, None, Result, Ok}
+use Rattle.pg_machine.specs.Places.{is_pair}
+use Rattle.pg_machine.specs.Machine.{Event, Take, Do, node_of as place_of}
+use Rattle.pg_pieces.specs.Pieces.{Bytes, put, pull}
+use Rattle.pg_step.specs.Step.{Action}
+use Rattle.pg_node.specs.declared.state.fault.NodeFault.{NodeFault}
+use Rattle.pg_node.specs.Bytes.{next_packet}
+use Rattle.pg_node.specs.Links.{Link}
+use Rattle.pg_world.specs.declared.step.Step.{Step}
+use Rattle.pg_world.specs.declared.step.Step.TheVariants as steps
+use Rattle.pg_world.specs.declared.step.Stepped.{Stepped}
+use Rattle.pg_world.specs.declared.step.Stepped.TheVariants.{Nothing, Moved}
+use Rattle.pg_world.specs.Crossings.{Crossing, no_links, link_at, bytes_at}
+use Rattle.pg_world.specs.Worlds.{event_of}
+
+-- Bytes have moved from one node to another, and all else is as it was.
+pub record Moves (old new : Crossing) (x y : ℕ) (change : Bytes → Bytes) : Type 0 where
+  pub nodes : new.nodes ≡ old.nodes
+  pub here : bytes_at new x y ≡ change (bytes_at old x y)
+  pub others : (a b : ℕ) → is_pair (length old.nodes) a b ≡ true → ((a ≡ x) × (b ≡ y) → ⊥) → bytes_at new a b ≡ bytes_at old a b
+  pub damaged : (a b : ℕ) → (link_at new a b).damaged ≡ (link_at old a b).damaged
+
+-- as many go on a ring with room for so many as there are, as should, and as find room
+abbrev pub put_count : ℕ → ℕ → Bytes → ℕ
+put_count capacity max bytes = min (min max (length bytes.outbox)) (capacity - length bytes.ring)
+
+-- as many come off it as there are, and as should, but at most 65,536
+abbrev pub pull_count : ℕ → Bytes → ℕ
+pull_count max bytes = min (min max 65536) (length bytes.ring)
+
+-- what came of bytes that should move: so many moved, as a change says; or nothing changed
+abbrev pub MoveChanges : Crossing → Crossing → ℕ → ℕ → ℕ → (ℕ → Bytes → Bytes) → Result Stepped NodeFault → Type 0
+MoveChanges old new x y most change (Ok (Moved count)) = (count ≡ most) × Moves old new x y (change count)
+MoveChanges old new x y most change result = new ≡ old
+
+-- the links of a node
+abbrev pub links_at : Crossing → ℕ → ℕ → Link
+links_at crossing x = get_or crossing.links x no_links
+
+-- One node and its links may have changed, and nothing else.
+pub record ChangesAlone (i : ℕ) (old new : Crossing) : Type 0 where
+  pub nodes : (x : ℕ) → x ≢ i → slice_get new.nodes x ≡ slice_get old.nodes x
+  pub links : (x : ℕ) → x ≢ i → links_at new x ≡ links_at old x
+  pub rings : new.rings ≡ old.rings
+
+-- no whole frame of the peer has come
+abbrev pub HasNone : Crossing → Event Action → Type 0
+HasNone crossing (Take i p) = next_packet (link_at crossing i p) ≡ Ok None
+HasNone crossing (Do i action) = ⊥
+
+-- an event changes its node alone, and nothing is told only where no whole frame has come
+abbrev pub EventChanges : Crossing → Crossing → Event Action → Result Stepped NodeFault → Type 0
+EventChanges old new e (Ok Nothing) = HasNone old e × ChangesAlone (place_of e) old new
+EventChanges old new e result = ChangesAlone (place_of e) old new
+
+-- what a step changes, where each ring has room for so many bytes
+abbrev pub StepChanges : ℕ → Crossing → Crossing → Step → Result Stepped NodeFault → Type 0
+StepChanges capacity old new (steps.Put x y max) result = MoveChanges old new x y (put_count capacity max (bytes_at old x y)) put result
+StepChanges capacity old new (steps.Pull y x max) result = MoveChanges old new x y (pull_count max (bytes_at old x y)) pull result
+StepChanges capacity old new (steps.Event step) result = EventChanges old new (event_of step) result

@@ -1,0 +1,108 @@
+//! How a world of bytes begins.
+
+ghost use Rattle.std.specs.Prelude.{◌≡◌, ◌<◌, ◌-◌, ℕ, IfOk, IfErr, length, map, get_or};
+ghost use Rattle.pg_ring.specs.Capacity.{IsCapacity};
+ghost use Rattle.pg_step.specs.Config.{IsConfig};
+ghost use Rattle.pg_node.specs.Nodes.{links_of};
+ghost use Rattle.pg_world.specs.Crossings.{node_of, no_links};
+ghost use Rattle.pg_world.specs.Openings.{AreReady, CantOpen, CantStart, opening_fault_of};
+ghost use Rattle.pg_world.specs.Starts.{seen_first, firsts};
+ghost use Rattle.pg_world.specs.BytesStart.{OpensLinks};
+
+use crate::begun::ready;
+use crate::bytes::World;
+use crate::config::Config;
+use crate::fault::WorldFault;
+use crate::starts::node_at;
+use pg_index::IndexTable;
+use pg_node::{Node, NodeFault};
+use pg_step::Start;
+use std::alloc::Global;
+
+impl World<IndexTable> {
+    ghost use Rattle.pg_world.specs.Histories.{account_of};
+    ghost use Rattle.pg_world.specs.BytesStart.{BytesBegin};
+    ghost use Rattle.pg_world.specs.Crossings.{crossing_of};
+    ghost use Rattle.pg_world.specs.Openings.{AllFit, CantBegin, CantStart, AreReady};
+
+    /// The nodes of a configuration as they start, where what each of them tells of its groups stands in its outbox to each other,
+    /// and the ring from each to each other is empty. Its cost is that of `FrameWorld::new`, and of the rings.
+    ///
+    /// Faults: those of `FrameWorld::new`.
+    pub fn new(alloc: Global, config: &Config) -> Result<World<IndexTable>, WorldFault>
+        ensures good { IfOk result (λ world. IsConfig config.now.starts.items × IsCapacity config.now.ring) }
+        ensures fits { IfOk result (λ world. AllFit config.now.starts.items) }
+        ensures begins { IfOk result (λ world. BytesBegin config.now.starts.items (crossing_of world) (account_of world.histories)) }
+        ensures fault { IfErr result (CantBegin config.now.ring config.now.starts.items) }
+    {
+        match ready(alloc, config) {
+            Ok(()) => World::begun(alloc, config.starts.as_slice(), config.ring),
+            Err(fault) => Err(fault),
+        }
+    }
+
+    /// The same of nodes that can start.
+    fn begun(alloc: Global, starts: &[Start], ring: usize) -> Result<World<IndexTable>, WorldFault>
+        requires ready { AreReady starts.now }
+        requires capacity { IsCapacity ring }
+        ensures fits { IfOk result (λ world. AllFit starts.now) }
+        ensures begins { IfOk result (λ world. BytesBegin starts.now (crossing_of world) (account_of world.histories)) }
+        ensures fault { IfErr result (CantStart starts.now) }
+    {
+        match opened_nodes(alloc, starts) {
+            Ok(nodes) => Ok(World::idle(alloc, nodes, ring)?),
+            Err(fault) => Err(fault),
+        }
+    }
+}
+
+/// The nodes of a configuration as they start, by their places: what each tells stands in its outboxes.
+///
+/// Faults: `TooLong`, where what one of them tells takes more than a frame; `OutOfMemory`.
+fn opened_nodes(alloc: Global, starts: &[Start]) -> Result<Vec<Node<IndexTable>>, WorldFault>
+    requires ready { AreReady starts.now }
+    ensures nodes { IfOk result (λ nodes. map node_of nodes.items ≡ firsts starts.now (length starts.now)) }
+    ensures opened { IfOk result (λ nodes. (i : ℕ) → i < length starts.now
+        → OpensLinks (length starts.now - 1) (seen_first starts.now i) (get_or (map links_of nodes.items) i no_links)) }
+    ensures fault { IfErr result (CantStart starts.now) }
+{
+    let mut nodes = Vec::with_capacity(alloc, starts.len())?;
+    for place in 0..starts.len() {
+        match opened_node(alloc, starts, place) {
+            Ok(node) => nodes.push(node)?,
+            Err(fault) => return Err(fault),
+        }
+    }
+    Ok(nodes)
+}
+
+/// The node at a place of a configuration as it starts.
+///
+/// Faults: `TooLong`, where what it tells takes more than a frame; `OutOfMemory`.
+fn opened_node(
+    alloc: Global,
+    starts: &[Start],
+    place: usize,
+) -> Result<Node<IndexTable>, WorldFault>
+    requires place { place < length starts.now }
+    requires ready { AreReady starts.now }
+    ensures node { IfOk result (λ node. node_of node ≡ seen_first starts.now place) }
+    ensures opened { IfOk result (λ node. OpensLinks (length starts.now - 1) (seen_first starts.now place) (links_of node)) }
+    ensures fault { IfErr result (CantOpen (seen_first starts.now place)) }
+{
+    let state = node_at(alloc, starts, place)?;
+    match Node::opened(alloc, state) {
+        Ok(node) => Ok(node),
+        Err(fault) => Err(opening_fault(fault)),
+    }
+}
+
+/// Why a world can't begin where a node can't.
+fn opening_fault(fault: NodeFault) -> WorldFault
+    ensures { result ≡ opening_fault_of fault }
+{
+    match fault {
+        NodeFault::OutOfMemory => WorldFault::OutOfMemory,
+        _ => WorldFault::TooLong,
+    }
+}

@@ -1,0 +1,83 @@
+//! Runs of steps over bytes from a configuration.
+
+ghost use Rattle.std.specs.Prelude.{◌≡◌, IfOk, IfErr, length};
+ghost use Rattle.pg_ring.specs.Capacity.{IsCapacity};
+ghost use Rattle.pg_step.specs.Config.{Config as Configuration, IsConfig};
+ghost use Rattle.pg_world.specs.Crossings.{ShowsBytes as shows_bytes, crossing_of as shown_by};
+ghost use Rattle.pg_world.specs.Histories.{account_of as kept_of};
+ghost use Rattle.pg_world.specs.Openings.{AllFit, CantBegin};
+ghost use Rattle.pg_world.specs.Runs.{Ran, over_bytes};
+
+use crate::bytes::World;
+use crate::config::Config;
+use crate::fault::WorldFault;
+use crate::step::Step;
+use pg_group::GroupTable;
+use pg_history::one_history;
+use pg_index::IndexTable;
+use std::alloc::Global;
+
+impl<T: GroupTable + Drop> World<T> {
+    ghost use Rattle.pg_world.specs.Crossings.{IsReached, ShowsBytes, crossing_of};
+    ghost use Rattle.pg_world.specs.Histories.{account_of};
+    ghost use Rattle.pg_world.specs.Runs.{StepsTo, GoesTo, over_bytes};
+    ghost use Rattle.pg_world.specs.Worlds.{TimedFrameWorld};
+
+    /// Makes steps, one after another, and writes the number of each in its place: 0 where it happened, bytes moved, or no whole
+    /// packet had come; else that of its fault. A step that is refused changes nothing of what the world shows, and the others
+    /// follow. Its cost is that of the steps.
+    pub fn run(&mut self, steps: &[Step], numbers: &mut Vec<u8>)
+        requires { length numbers.old.items ≡ length steps.now }
+        ensures len { length numbers.new.items ≡ length steps.now }
+        ensures ran { (config : Configuration) (w : TimedFrameWorld) → IsReached config w
+            → ShowsBytes config (crossing_of self.old) (account_of self.old.histories) w
+            → GoesTo over_bytes config w steps.now numbers.new.items (ShowsBytes config (crossing_of self.new) (account_of self.new.histories)) }
+    {
+        for place in 0..steps.len() {
+            let number = self.step_number(&steps[place]);
+            numbers[place] = number;
+        }
+    }
+
+    /// Makes one step, and tells its number.
+    fn step_number(&mut self, step: &Step) -> u8
+        ensures { (config : Configuration) (w : TimedFrameWorld) → IsReached config w
+            → ShowsBytes config (crossing_of self.old) (account_of self.old.histories) w
+            → StepsTo over_bytes config w step.now result (ShowsBytes config (crossing_of self.new) (account_of self.new.histories)) }
+    {
+        match self.step(step) {
+            Ok(_) => 0,
+            Err(fault) => fault.number(),
+        }
+    }
+}
+
+/// Performs steps over bytes from the start of a configuration: the world after them, and for each step its number, as
+/// `World::run` tells it. The places of the numbers are got first; a step that is refused did not happen, and the run goes on.
+///
+/// The contract is the headline, however the bytes were cut: the steps that happened are the events of a run of the frame
+/// machine, and of what they reported, and of the states that the world shows, everything holds that `OneHistory` says.
+///
+/// Faults: those of `World::new`.
+pub fn run(
+    alloc: Global,
+    config: &Config,
+    steps: &[Step],
+) -> Result<(World<IndexTable>, Vec<u8>), WorldFault>
+    ensures good { IfOk result (λ ran. IsConfig config.now.starts.items × IsCapacity config.now.ring) }
+    ensures fits { IfOk result (λ ran. AllFit config.now.starts.items) }
+    ensures ran { IfOk result (λ ran. Ran over_bytes config.now.starts.items steps.now ran.1.items
+        (λ given. shows_bytes given (shown_by ran.0) (kept_of ran.0.histories))) }
+    ensures fault { IfErr result (CantBegin config.now.ring config.now.starts.items) }
+{
+    one_history();
+    let mut numbers = Vec::from_elem(alloc, 0, steps.len())?;
+    match World::new(alloc, config) {
+        Ok(begun) => {
+            let mut world = begun;
+            world.run(steps, &mut numbers);
+            Ok((world, numbers))
+        }
+        Err(fault) => Err(fault),
+    }
+}
