@@ -1,0 +1,4 @@
+pub mod Adding
+pub mod Fronts
+pub mod Numerals
+pub mod Quoting

@@ -1,0 +1,13 @@
+//! Text of terms: as scripts are written and answers are printed.
+#![tactic(auto)]
+
+mod fault;
+mod reading;
+mod writing;
+
+pub use fault::TextFault;
+pub use reading::{read_atom, read_number, read_pid, read_term};
+pub use writing::{write_atom, write_pid, write_term, write_update};
+
+#[cfg(test)]
+mod tests;

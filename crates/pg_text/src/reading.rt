@@ -1,0 +1,85 @@
+//! Values out of their text.
+
+ghost use Rattle.std.specs.Prelude.{◌≡◌, ◌≢◌, length, Some, None, IfOk, IfErr};
+ghost use Rattle.std.specs.Str.{chars};
+ghost use Rattle.pg_text.specs.Reading.{term_of, atom_of, pid_of, number_of};
+ghost use Rattle.pg_text.specs.declared.fault.TextFault.TheVariants.{BadText};
+
+mod atoms;
+mod numerals;
+mod parts;
+mod quoted;
+mod terms;
+
+use crate::fault::TextFault;
+use crate::reading::atoms::atom_at;
+use crate::reading::numerals::number_at;
+use crate::reading::parts::pid_at;
+use crate::reading::terms::term_at;
+use pg_term::{Atom, Pid, Term};
+use std::alloc::{AllocError, Global};
+
+/// How many levels deep a term nests at most.
+pub const MAX_DEPTH: usize = 64;
+
+// What stands at the front of a text, and what follows it.
+pub(crate) type Read<'a, T> = Result<(T, &'a [char]), TextFault>;
+
+fn characters_of(alloc: Global, text: &str) -> Result<Vec<char>, AllocError>
+    ensures { IfOk result (λ characters. characters.items ≡ chars text.now) }
+{
+    text.chars().collect(alloc)
+}
+
+// What was read, where nothing follows it.
+fn whole<T: Drop>(value: T, rest: &[char]) -> Result<T, TextFault>
+    ensures ok { IfOk result (λ whole. (whole ≡ value) × (length rest.now ≡ 0)) }
+    ensures err { IfErr result (λ fault. (fault ≡ BadText) × (length rest.now ≢ 0)) }
+{
+    if rest.is_empty() {
+        Ok(value)
+    } else {
+        Err(TextFault::BadText)
+    }
+}
+
+/// Reads a term. Faults: `BadText` where this is the text of no term of at most 64 levels, else `OutOfMemory`.
+pub fn read_term(alloc: Global, text: &str) -> Result<Term, TextFault>
+    ensures ok { IfOk result (λ term. term_of (chars text.now) ≡ Some term) }
+    ensures err { IfErr result (λ fault. fault ≡ BadText → term_of (chars text.now) ≡ None) }
+{
+    let characters = characters_of(alloc, text)?;
+    let (term, rest) = term_at(alloc, characters.as_slice(), MAX_DEPTH)?;
+    whole(term, rest)
+}
+
+/// Reads an atom. Faults: `BadText` where this is the text of no atom, else `OutOfMemory`.
+pub fn read_atom(alloc: Global, text: &str) -> Result<Atom, TextFault>
+    ensures ok { IfOk result (λ atom. atom_of (chars text.now) ≡ Some atom) }
+    ensures err { IfErr result (λ fault. fault ≡ BadText → atom_of (chars text.now) ≡ None) }
+{
+    let characters = characters_of(alloc, text)?;
+    let (atom, rest) = atom_at(alloc, characters.as_slice())?;
+    whole(atom, rest)
+}
+
+/// Reads a pid. Faults: `BadText` where this is the text of no pid, else `OutOfMemory`.
+pub fn read_pid(alloc: Global, text: &str) -> Result<Pid, TextFault>
+    ensures ok { IfOk result (λ pid. pid_of (chars text.now) ≡ Some pid) }
+    ensures err { IfErr result (λ fault. fault ≡ BadText → pid_of (chars text.now) ≡ None) }
+{
+    let characters = characters_of(alloc, text)?;
+    let (pid, rest) = pid_at(alloc, characters.as_slice())?;
+    whole(pid, rest)
+}
+
+/// Reads a number of 32 bits in decimal, without sign and leading zeros. Faults: `BadText` where this is the text of no such
+/// number, else `OutOfMemory`.
+pub fn read_number(alloc: Global, text: &str) -> Result<u32, TextFault>
+    ensures ok { IfOk result (λ number. number_of (chars text.now) ≡ Some number) }
+    ensures err { IfErr result (λ fault. fault ≡ BadText → number_of (chars text.now) ≡ None) }
+{
+    let characters = characters_of(alloc, text)?;
+    let (number, rest) = number_at(characters.as_slice())?;
+    whole(number, rest)
+}
