@@ -1,3 +1,4 @@
+pub mod Again
 pub mod Faults
 pub mod Reading
 pub mod Writing

@@ -1,11 +1,14 @@
 //! Text of terms: as scripts are written and answers are printed.
 #![tactic(auto)]
 
+mod again;
 mod fault;
+mod laws;
 mod reading;
 mod writing;
 
 pub use fault::TextFault;
+pub use laws::printed_is_read;
 pub use reading::{read_atom, read_number, read_pid, read_term};
 pub use writing::{write_atom, write_pid, write_term, write_update};
 

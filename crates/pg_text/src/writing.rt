@@ -5,8 +5,10 @@ ghost use Rattle.std.specs.Char.{digit_char};
 ghost use Rattle.std.specs.Fmt.{signed_decimal};
 ghost use Rattle.std.specs.List.{flat_map};
 ghost use Rattle.std.specs.Str.{chars};
+ghost use Rattle.pg_text.specs.Again.{ReadsBack, ReadBack};
 ghost use Rattle.pg_text.specs.Writing.{Adds, is_word as counts_as_word, is_bare as stands_bare, begins_lower, atom_text, pid_text, part_text, reference_text, binary_text, term_text, terms_text, change_text, membership_text, update_text, escape_text, quoted_text, hex_text, creation_text, between_text, more_text, listed, comma_text};
 
+use crate::again::{atom_again, binary_again, integer_again, pid_again, reference_again};
 use itoa::Buffer;
 use pg_group::Update;
 use pg_term::{Atom, Pid, Reference, Term};
@@ -224,19 +226,36 @@ fn write_binary(content: &[u8], out: &mut String) -> Result<(), AllocError>
     put('>', out)
 }
 
-/// Appends the text of a term. On an error some of it may stand there. One walk over the term.
+/// Appends the text of a term. On an error some of it may stand there. One walk over the term. What was written is read as the
+/// term, where it nests at most 64 levels deep.
 #[cycle(write)]
 pub fn write_term(term: &Term, out: &mut String) -> Result<(), AllocError>
-    ensures { OnOk result (Adds (term_text term.now) (string_bytes out.old) (string_bytes out.new)) }
+    ensures text { OnOk result (Adds (term_text term.now) (string_bytes out.old) (string_bytes out.new)) }
+    ensures again { OnOk result (ReadsBack term.now) }
 {
     match term {
-        Term::Int(number) => write_integer(*number, out),
-        Term::Atom(atom) => write_atom(atom, out),
-        Term::Ref(reference) => write_reference(reference.get(), out),
-        Term::Pid(pid) => write_pid(pid, out),
+        Term::Int(number) => {
+            integer_again(*number);
+            write_integer(*number, out)
+        }
+        Term::Atom(atom) => {
+            atom_again(atom);
+            write_atom(atom, out)
+        }
+        Term::Ref(reference) => {
+            reference_again(reference.get());
+            write_reference(reference.get(), out)
+        }
+        Term::Pid(pid) => {
+            pid_again(pid);
+            write_pid(pid, out)
+        }
         Term::Tuple(elements) => write_between('{', elements.as_slice(), '}', out),
         Term::List(elements) => write_between('[', elements.as_slice(), ']', out),
-        Term::Binary(content) => write_binary(content.as_slice(), out),
+        Term::Binary(content) => {
+            binary_again(content.as_slice());
+            write_binary(content.as_slice(), out)
+        }
     }
 }
 
@@ -248,7 +267,8 @@ fn write_between(
     last: char,
     out: &mut String,
 ) -> Result<(), AllocError>
-    ensures { OnOk result (Adds (between_text first (terms_text terms.now) last) (string_bytes out.old) (string_bytes out.new)) }
+    ensures text { OnOk result (Adds (between_text first (terms_text terms.now) last) (string_bytes out.old) (string_bytes out.new)) }
+    ensures again { OnOk result (ReadBack terms.now) }
 {
     put(first, out)?;
     write_all(terms, out)?;
@@ -258,7 +278,8 @@ fn write_between(
 // Terms with commas between them.
 #[cycle(write)]
 fn write_all(terms: &[Term], out: &mut String) -> Result<(), AllocError>
-    ensures { OnOk result (Adds (terms_text terms.now) (string_bytes out.old) (string_bytes out.new)) }
+    ensures text { OnOk result (Adds (terms_text terms.now) (string_bytes out.old) (string_bytes out.new)) }
+    ensures again { OnOk result (ReadBack terms.now) }
 {
     for (at, term) in terms.iter().enumerate() {
         write_comma(at, out)?;

@@ -1,0 +1,14 @@
+//! Laws of the texts.
+
+ghost use Rattle.std.specs.Prelude.{◌≡◌, ◌≤◌, Some};
+ghost use Rattle.pg_term.specs.declared.term.Term.{Term};
+ghost use Rattle.pg_term.specs.Depth.{depth};
+ghost use Rattle.pg_text.specs.Again.{ReadsBack};
+ghost use Rattle.pg_text.specs.Reading.{term_of};
+ghost use Rattle.pg_text.specs.Writing.{term_text};
+
+/// What is written of a term is read as that term, whole: of each term that `write_term` wrote (`ReadsBack`), where it nests at most 64
+/// levels deep.
+pub fn printed_is_read()
+    ensures { (t : Term) → ReadsBack t → depth t ≤ 64 → term_of (term_text t) ≡ Some t }
+{}
