@@ -1,8 +1,11 @@
 pub mod Adding
 pub mod AtomsBack
 pub mod Fronts
+pub mod JustThose
 pub mod Numerals
 pub mod NumbersBack
 pub mod PartsBack
+pub mod QuotedJust
 pub mod Quoting
 pub mod TermsBack
+pub mod TermsJust

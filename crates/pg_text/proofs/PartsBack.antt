@@ -50,7 +50,7 @@ regroup a b c d e f = simp append_assoc
 pub regroup_three : (a b c d : List ℕ) → ((a ++ b) ++ c) ++ d ≡ a ++ (b ++ (c ++ d))
 regroup_three a b c d = simp append_assoc
 
-regroup_four : (a b c d e : List ℕ) → (((a ++ b) ++ c) ++ d) ++ e ≡ a ++ (b ++ (c ++ (d ++ e)))
+pub regroup_four : (a b c d e : List ℕ) → (((a ++ b) ++ c) ++ d) ++ e ≡ a ++ (b ++ (c ++ (d ++ e)))
 regroup_four a b c d e = simp append_assoc
 
 pub pid_back : (p : Pid) (rest : List ℕ) → length p.node ≤ 255 → scalars p.node ≡ true → p.id < 2 ^ 32 → p.serial < 2 ^ 32 → p.creation < 2 ^ 32 → pid_at (pid_text p ++ rest) ≡ Some (p, rest)

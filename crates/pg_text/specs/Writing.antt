@@ -51,12 +51,18 @@ abbrev pub creation_text : ℕ → List ℕ
 creation_text n = if n == 1 then [] else part_text 47 n
 
 -- `<NODE.ID.SERIAL>` or `<NODE.ID.SERIAL/CREATION>`
+abbrev pub pid_with : List ℕ → Pid → List ℕ
+pid_with node p = 60 ∷ node ++ part_text 46 p.id ++ part_text 46 p.serial ++ creation_text p.creation ++ 62 ∷ []
+
 abbrev pub pid_text : Pid → List ℕ
-pid_text p = 60 ∷ atom_text p.node ++ part_text 46 p.id ++ part_text 46 p.serial ++ creation_text p.creation ++ 62 ∷ []
+pid_text p = pid_with (atom_text p.node) p
 
 -- `#<NODE/CREATION.W..>`
+abbrev pub reference_with : List ℕ → RefParts → List ℕ
+reference_with node r = 35 ∷ 60 ∷ node ++ part_text 47 r.creation ++ flat_map (part_text 46) r.words ++ 62 ∷ []
+
 abbrev pub reference_text : RefParts → List ℕ
-reference_text r = 35 ∷ 60 ∷ atom_text r.node ++ part_text 47 r.creation ++ flat_map (part_text 46) r.words ++ 62 ∷ []
+reference_text r = reference_with (atom_text r.node) r
 
 -- each of them behind a comma
 abbrev pub more_text : {A : Type 0} → (A → List ℕ) → List A → List ℕ
