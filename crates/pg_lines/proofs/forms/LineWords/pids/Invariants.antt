@@ -1,0 +1,6 @@
+use Rattle.std.proofs.Common.{length}
+use Rattle.pg_lines.specs.Words.{words_left}
+use Rattle.pg_lines.proofs.forms.LineWords.pids.Given as goal
+
+abbrev pub decreases-loop-word : goal.decreases-loop-word
+decreases-loop-word l = length (words_left l.self.words)

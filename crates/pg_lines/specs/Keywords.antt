@@ -1,0 +1,37 @@
+-- The first word of a line.
+use Rattle.std.specs.Prelude.{ℕ, List, codes}
+use Rattle.pg_lines.specs.declared.keyword.Keyword.{Keyword}
+use Rattle.pg_lines.specs.declared.keyword.Keyword.TheVariants.{Ring, Node, Has, Settle, History, Pair, At}
+use Rattle.pg_lines.specs.declared.keyword.PairKeyword.{PairKeyword}
+use Rattle.pg_lines.specs.declared.keyword.PairKeyword.TheVariants as pair
+use Rattle.pg_lines.specs.declared.keyword.NodeKeyword.{NodeKeyword}
+use Rattle.pg_lines.specs.declared.keyword.NodeKeyword.TheVariants as node
+
+abbrev pub pair_keyword_text : PairKeyword → List ℕ
+pair_keyword_text pair.Put = codes "put"
+pair_keyword_text pair.Pull = codes "pull"
+pair_keyword_text pair.Take = codes "take"
+pair_keyword_text pair.Outbox = codes "outbox"
+
+abbrev pub node_keyword_text : NodeKeyword → List ℕ
+node_keyword_text node.Create = codes "create"
+node_keyword_text node.Delete = codes "delete"
+node_keyword_text node.Join = codes "join"
+node_keyword_text node.Leave = codes "leave"
+node_keyword_text node.Make = codes "make"
+node_keyword_text node.End = codes "end"
+node_keyword_text node.Members = codes "members"
+node_keyword_text node.Local = codes "local"
+node_keyword_text node.Groups = codes "groups"
+node_keyword_text node.Closest = codes "closest"
+node_keyword_text node.Retry = codes "retry"
+node_keyword_text node.Lock = codes "lock"
+
+abbrev pub keyword_text : Keyword → List ℕ
+keyword_text Ring = codes "ring"
+keyword_text Node = codes "node"
+keyword_text Has = codes "has"
+keyword_text Settle = codes "settle"
+keyword_text History = codes "history"
+keyword_text (Pair keyword) = pair_keyword_text keyword
+keyword_text (At keyword) = node_keyword_text keyword

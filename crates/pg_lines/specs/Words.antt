@@ -1,0 +1,45 @@
+-- The words of a line, which single spaces part; a space within single quotes belongs to its word.
+use Rattle.std.specs.Prelude.{◌≡◌, ℕ, suc, List, [], ◌∷◌, Bool, true, false, ◌==◌, if◌then◌else◌, Option, Some, None, option_map}
+use Rattle.pg_lines.specs.declared.words.Stand.{Stand}
+use Rattle.pg_lines.specs.declared.words.Stand.TheVariants.{Bare, Quoted, Escaped}
+use Rattle.pg_lines.specs.declared.words.Words.{Words}
+
+-- where a walk stands behind one more byte: a quote opens and closes, and within quotes a backslash takes the next byte
+abbrev pub after : Stand → ℕ → Stand
+after Bare b = if b == 39 then Quoted else Bare
+after Quoted b = if b == 39 then Bare else if b == 92 then Escaped else Quoted
+after Escaped b = Quoted
+
+-- a space outside of quotes ends a word
+abbrev pub ends_word : Stand → ℕ → Bool
+ends_word Bare b = b == 32
+ends_word Quoted b = false
+ends_word Escaped b = false
+
+-- how many bytes there are before the end of the first word
+abbrev pub word_len : Stand → List ℕ → ℕ
+word_len stand [] = 0
+word_len stand (b ∷ bs) = if ends_word stand b then 0 else suc (word_len (after stand b) bs)
+
+-- a byte before the first of some words
+abbrev pub onto : ℕ → List (List ℕ) → List (List ℕ)
+onto b [] = (b ∷ []) ∷ []
+onto b (word ∷ words) = (b ∷ word) ∷ words
+
+-- the words of a text
+abbrev pub words_in : Stand → List ℕ → List (List ℕ)
+words_in stand [] = [] ∷ []
+words_in stand (b ∷ bs) = if ends_word stand b then [] ∷ words_in Bare bs else onto b (words_in (after stand b) bs)
+
+abbrev pub words_of_rest : Option (List ℕ) → List (List ℕ)
+words_of_rest None = []
+words_of_rest (Some rest) = words_in Bare rest
+
+-- the first word was taken, if there is one
+abbrev pub TakesWord : List (List ℕ) → Option (List ℕ) → List (List ℕ) → Type 0
+TakesWord old None new = (old ≡ []) × (new ≡ [])
+TakesWord old (Some word) new = old ≡ word ∷ new
+
+-- the words that are left of a line
+abbrev pub words_left : Words → List (List ℕ)
+words_left words = words_of_rest (option_map (λ s. s.now) words.rest)

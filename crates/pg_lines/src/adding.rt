@@ -1,0 +1,28 @@
+//! Text at the end of a text.
+
+ghost use Rattle.std.specs.Prelude.{◌≡◌, ◌∷◌, [], OnOk, string_bytes, decimal};
+ghost use Rattle.std.specs.Str.{chars};
+ghost use Rattle.pg_text.specs.Writing.{Adds};
+
+use std::alloc::AllocError;
+
+/// Appends a character.
+pub fn add_char(out: &mut String, character: char) -> Result<(), AllocError>
+    ensures { OnOk result (Adds (character ∷ []) (string_bytes out.old) (string_bytes out.new)) }
+{
+    out.push(character)
+}
+
+/// Appends a text.
+pub fn add_text(out: &mut String, text: &str) -> Result<(), AllocError>
+    ensures { OnOk result (Adds (chars text.now) (string_bytes out.old) (string_bytes out.new)) }
+{
+    out.push_str(text)
+}
+
+/// Appends a number in decimal.
+pub fn add_number(out: &mut String, number: u64) -> Result<(), AllocError>
+    ensures { OnOk result (Adds (decimal number) (string_bytes out.old) (string_bytes out.new)) }
+{
+    write!(out, "{number}")
+}

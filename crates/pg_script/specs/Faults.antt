@@ -1,0 +1,26 @@
+-- The numbers of the faults, and where they come from.
+use Rattle.std.specs.Prelude.{ℕ}
+use Rattle.pg_text.specs.declared.fault.TextFault.{TextFault}
+use Rattle.pg_text.specs.declared.fault.TextFault.TheVariants as text
+use Rattle.pg_world.specs.Faults.{world_number_of}
+use Rattle.pg_script.specs.declared.fault.LineFault.{LineFault}
+use Rattle.pg_script.specs.declared.fault.LineFault.TheVariants as line
+use Rattle.pg_script.specs.declared.fault.RunFault.{RunFault}
+use Rattle.pg_script.specs.declared.fault.RunFault.TheVariants as run
+
+abbrev pub line_number_of : LineFault → ℕ
+line_number_of line.OutOfMemory = 10
+line_number_of line.BadConfig = 15
+line_number_of line.BadLine = 40
+line_number_of line.UnknownNode = 41
+line_number_of line.LateDeclaration = 42
+
+abbrev pub run_number_of : RunFault → ℕ
+run_number_of (run.World fault) = world_number_of fault
+run_number_of run.OutOfMemory = 10
+run_number_of run.WriteFault = 32
+
+-- what is wrong with a line of which this is wrong
+abbrev pub line_fault_of : TextFault → LineFault
+line_fault_of text.BadText = line.BadLine
+line_fault_of text.OutOfMemory = line.OutOfMemory

@@ -1,0 +1,25 @@
+-- Why a run ends early.
+use Rattle.std.specs.Prelude.{◌≡◌, ⊤, ℕ, List}
+use Rattle.std.specs.List.{flat_map}
+use Rattle.pg_step.specs.declared.answer.Answer.{Answer}
+use Rattle.pg_lines.specs.Printing.{answer_line}
+use Rattle.pg_world.specs.declared.config.Config.{Config}
+use Rattle.pg_world.specs.Openings.{CantBegin}
+use Rattle.pg_script.specs.declared.fault.RunFault.{RunFault}
+use Rattle.pg_script.specs.declared.fault.RunFault.TheVariants.{World, OutOfMemory, WriteFault}
+
+-- a configuration was refused, as it had to be, and nothing was done; or a write failed; or there was no memory
+abbrev pub CausedBy : Config → Type 0 → Type 0 → RunFault → Type 0
+CausedBy config unchanged unwritten (World fault) = CantBegin config.ring config.starts.items fault × unchanged
+CausedBy config unchanged unwritten OutOfMemory = ⊤
+CausedBy config unchanged unwritten WriteFault = unwritten
+
+-- the same, where the run has begun
+abbrev pub Refused : Type 0 → RunFault → Type 0
+Refused unwritten (World fault) = ⊥
+Refused unwritten OutOfMemory = ⊤
+Refused unwritten WriteFault = unwritten
+
+-- the lines of answers of a node, one after another
+abbrev pub answer_lines : List ℕ → List Answer → List ℕ
+answer_lines node = flat_map (answer_line node)

@@ -1,0 +1,61 @@
+//! The line that a history prints.
+
+ghost use Rattle.std.specs.Prelude.{◌≡◌, OnOk, map, string_bytes};
+ghost use Rattle.std.specs.Option.{option_copied};
+ghost use Rattle.pg_text.specs.Writing.{Adds};
+ghost use Rattle.pg_script.specs.Histories.{history_line, listed_entries, more_entries, last_entry};
+
+use pg_lines::{add_char, add_text};
+use pg_text::write_update;
+use pg_world::Entry;
+use std::alloc::AllocError;
+
+/// `history [UPDATE,..]`, and a line feed. The last update may stand behind the others. On an error some of it stands there.
+pub(crate) fn print_history(
+    out: &mut String,
+    entries: &[Entry],
+    last: Option<&Entry>,
+) -> Result<(), AllocError>
+    ensures { OnOk result (Adds (history_line entries.now (option_copied last.entry)) (string_bytes out.old) (string_bytes out.new)) }
+{
+    add_text(out, "history [")?;
+    print_listed(out, entries)?;
+    print_last(out, entries.is_empty(), last)?;
+    add_text(out, "]\n")?;
+    Ok(())
+}
+
+/// With commas between them.
+fn print_listed(out: &mut String, entries: &[Entry]) -> Result<(), AllocError>
+    ensures { OnOk result (Adds (listed_entries entries.now) (string_bytes out.old) (string_bytes out.new)) }
+{
+    if let [first, rest @ ..] = entries {
+        write_update(&first.update, out)?;
+        return print_more(out, rest);
+    }
+    Ok(())
+}
+
+/// Each of them behind a comma.
+fn print_more(out: &mut String, entries: &[Entry]) -> Result<(), AllocError>
+    ensures { OnOk result (Adds (more_entries entries.now) (string_bytes out.old) (string_bytes out.new)) }
+{
+    for entry in entries {
+        add_char(out, ',')?;
+        write_update(&entry.update, out)?;
+    }
+    Ok(())
+}
+
+/// The last of them, if there is one, behind a comma where it is not the first.
+fn print_last(out: &mut String, is_first: bool, last: Option<&Entry>) -> Result<(), AllocError>
+    ensures { OnOk result (Adds (last_entry is_first (option_copied last.entry)) (string_bytes out.old) (string_bytes out.new)) }
+{
+    let Some(entry) = last else {
+        return Ok(());
+    };
+    if !is_first {
+        add_char(out, ',')?;
+    }
+    write_update(&entry.update, out)
+}

@@ -1,0 +1,18 @@
+//! Scripts: texts whose lines declare nodes and then make steps of a world of them, and what a run of them prints.
+#![tactic(auto)]
+
+mod act;
+mod fault;
+mod history;
+mod reading;
+mod running;
+mod script;
+mod settling;
+mod writing;
+
+pub use act::Act;
+pub use fault::{LineFault, RunFault, ScriptFault};
+pub use reading::read_script;
+pub use running::run_script;
+pub use script::{Script, ScriptLine};
+pub use writing::put_whole;

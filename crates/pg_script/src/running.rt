@@ -1,0 +1,187 @@
+//! Runs of scripts.
+
+ghost use Rattle.std.specs.Prelude.{◌≡◌, ◌<◌, List, ℕ, length, string_bytes, OnOk, IfErr, IfOk, ⊤};
+ghost use Rattle.std.specs.Io.KnownBytes.{Appends};
+ghost use Rattle.pg_node.specs.Causes.{FailedAt};
+ghost use Rattle.pg_text.specs.Writing.{Adds};
+ghost use Rattle.pg_script.specs.Runs.{CausedBy, Refused, answer_lines};
+
+use crate::act::Act;
+use crate::fault::RunFault;
+use crate::history::print_history;
+use crate::script::{Script, ScriptLine};
+use crate::settling::settle;
+use crate::writing::put_whole;
+use pg_index::IndexTable;
+use pg_lines::{print_answer, print_lock, print_outbox, print_refused};
+use pg_node::{NodeFault, Sink};
+use pg_step::{Answer, Start};
+use pg_term::{Atom, Term};
+use pg_world::World;
+use std::alloc::{AllocError, Global};
+
+/// A run: its world, the nodes as they started, how many answers of each were printed, and what is to be written.
+#[derive(Drop)]
+struct Run<'a> {
+    world: World<IndexTable>,
+    starts: &'a [Start],
+    printed: Vec<usize>,
+    out: String,
+    ghost rows: { length printed.items ≡ length starts.now },
+}
+
+impl Run<'_> {
+    /// Does what a line says, and prints it: its own print, the answers that are new, and by which number a step was refused.
+    fn line(&mut self, line: &ScriptLine) -> Result<(), AllocError> {
+        self.out.clear();
+        let refused = self.act(&line.act)?;
+        self.print_answers()?;
+        match refused {
+            Some(fault) => print_refused(&mut self.out, line.number, fault.number()),
+            None => Ok(()),
+        }
+    }
+
+    /// Does what a line says, with its own print; and by which fault a step was refused.
+    fn act(&mut self, act: &Act) -> Result<Option<NodeFault>, AllocError> {
+        match act {
+            Act::Step(step) => Ok(self.world.step(step).err()),
+            Act::Settle(rounds) => {
+                let count = self.starts.len();
+                Ok(settle(&mut self.world, count, *rounds).err())
+            }
+            Act::Lock { node, group } => {
+                self.print_lock(*node, group)?;
+                Ok(None)
+            }
+            Act::Outbox { from, to } => {
+                self.print_outbox(*from, *to)?;
+                Ok(None)
+            }
+            Act::History(group) => {
+                let (entries, last) = self.world.history(group);
+                print_history(&mut self.out, entries, last)?;
+                Ok(None)
+            }
+        }
+    }
+
+    /// Prints whether a node sees the lock of a group free.
+    fn print_lock(&mut self, place: usize, group: &Term) -> Result<(), AllocError> {
+        let Some(start) = self.starts.get(place) else {
+            return Ok(());
+        };
+        match self.world.node(place) {
+            Some(node) => {
+                let is_free = node.state().holder(group).is_none();
+                print_lock(&mut self.out, &start.name, group, is_free)
+            }
+            None => Ok(()),
+        }
+    }
+
+    /// Prints how many bytes wait at a node to go to another.
+    fn print_outbox(&mut self, from: usize, to: usize) -> Result<(), AllocError> {
+        let (Some(start), Some(other)) = (self.starts.get(from), self.starts.get(to)) else {
+            return Ok(());
+        };
+        let len = outbox_len(&self.world, from, to);
+        print_outbox(&mut self.out, &start.name, &other.name, len)
+    }
+
+    /// Prints all answers that are new, by node.
+    fn print_answers(&mut self) -> Result<(), AllocError> {
+        for place in 0..self.starts.len() {
+            self.print_answers_of(place)?;
+        }
+        Ok(())
+    }
+
+    /// Prints the answers of a node that are new.
+    fn print_answers_of(&mut self, place: usize) -> Result<(), AllocError>
+        requires { place < length self.old.starts.now }
+        ensures { length self.new.starts.now ≡ length self.old.starts.now }
+    {
+        let starts = self.starts;
+        let answers = answers_of(&self.world, place);
+        if let Some(new) = answers.get(self.printed[place]..) {
+            print_all(&mut self.out, &starts[place].name, new)?;
+        }
+        self.printed[place] = answers.len();
+        Ok(())
+    }
+}
+
+/// Prints answers of a node, one after another.
+fn print_all(out: &mut String, node: &Atom, answers: &[Answer]) -> Result<(), AllocError>
+    ensures { OnOk result (Adds (answer_lines node.now answers.now) (string_bytes out.old) (string_bytes out.new)) }
+{
+    for answer in answers {
+        print_answer(out, node, answer)?;
+    }
+    Ok(())
+}
+
+/// All answers of a node, at its one port.
+fn answers_of(world: &World<IndexTable>, place: usize) -> &[Answer] {
+    match world.node(place) {
+        Some(node) if node.state().port_count() > 0 => node.state().answers(0),
+        _ => &[],
+    }
+}
+
+/// How many bytes wait at a node to go to another.
+fn outbox_len(world: &World<IndexTable>, from: usize, to: usize) -> usize {
+    // The peers of a node are the others, in their order.
+    let peer = if to < from { to } else { to.saturating_sub(1) };
+    match world.node(from) {
+        Some(node) if peer < node.state().peer_count() => node.outbox(peer).len(),
+        _ => 0,
+    }
+}
+
+/// Runs a script from the start of its configuration, and writes what it prints. Behind each line stand its own print, the new
+/// answers by node and then in their order, and, where a step was refused, the number of the refusal; the run then goes on.
+///
+/// Faults: `World`, where `World::new` refuses the configuration, and then nothing is written; `OutOfMemory`; `WriteFault`, where
+/// a write or a flush failed. What was written is the first of what is printed.
+pub fn run_script<W: Sink>(alloc: Global, script: &Script, writer: &mut W) -> Result<(), RunFault>
+    ensures appended { (text : List ℕ) × Appends (W.contents writer.old) (W.contents writer.new) text }
+    ensures flushed { OnOk result (W.flushed writer.new) }
+    ensures fault { IfErr result (CausedBy script.now.config (writer.new ≡ writer.old) (FailedAt W.fails writer.new)) }
+{
+    let starts = script.config.starts.as_slice();
+    let printed = Vec::from_elem(alloc, 0, starts.len())?;
+    match World::new(alloc, &script.config) {
+        Ok(world) => {
+            let mut run = Run {
+                world,
+                starts,
+                printed,
+                out: String::new(alloc),
+            };
+            run_lines(&mut run, script.lines.as_slice(), writer)
+        }
+        Err(fault) => Err(RunFault::World(fault)),
+    }
+}
+
+/// Runs lines one after another, and writes what they print.
+fn run_lines<W: Sink>(
+    run: &mut Run<'_>,
+    lines: &[ScriptLine],
+    writer: &mut W,
+) -> Result<(), RunFault>
+    ensures appended { (text : List ℕ) × Appends (W.contents writer.old) (W.contents writer.new) text }
+    ensures flushed { OnOk result (W.flushed writer.new) }
+    ensures fault { IfErr result (Refused (FailedAt W.fails writer.new)) }
+{
+    for line in lines {
+        run.line(line)?;
+        put_whole(writer, run.out.as_bytes())?;
+    }
+    match writer.flush_all() {
+        Ok(()) => Ok(()),
+        Err(_) => Err(RunFault::WriteFault),
+    }
+}
