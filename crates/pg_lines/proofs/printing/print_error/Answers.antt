@@ -9,4 +9,4 @@ use Rattle.pg_lines.proofs.printing.print_error.Goals as goal
 pub returns : goal.returns
 unfolding chars
 returns c =
-    adds_as ((chars c.args.head.now) ++ ((term_text c.args.name.now) ++ ((codes "}}")))) _ (adds_both (chars c.args.head.now) ((term_text c.args.name.now) ++ ((codes "}}"))) c.in_ok-add_text.ensures (adds_both (term_text c.args.name.now) ((codes "}}")) c.in_ok-write_term.ensures (c.in_ok-add_text-2.ensures))) (simp append_assoc)
+    adds_as ((chars c.args.head.now) ++ ((term_text c.args.name.now) ++ ((codes "}}")))) _ (adds_both (chars c.args.head.now) ((term_text c.args.name.now) ++ ((codes "}}"))) c.in_ok-add_text.ensures (adds_both (term_text c.args.name.now) ((codes "}}")) c.in_ok-write_term.ensures.text (c.in_ok-add_text-2.ensures))) (simp append_assoc)

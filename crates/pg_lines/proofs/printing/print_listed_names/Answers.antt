@@ -8,4 +8,4 @@ use Rattle.pg_lines.proofs.printing.print_listed_names.Goals as goal
 
 pub returns-in-len1-up : goal.returns-in-len1-up
 returns-in-len1-up c =
-    on_ok_weaker c.print_more_names.result (λ h. adds_as (term_text c.first-item.result ++ _) _ (adds_both (term_text c.first-item.result) _ c.in_ok-write_term.ensures h) (listed_names_are c.args.names.now c.first-item.result c.in-len1-up.len_at_least c.first-item.is)) c.print_more_names.ensures
+    on_ok_weaker c.print_more_names.result (λ h. adds_as (term_text c.first-item.result ++ _) _ (adds_both (term_text c.first-item.result) _ c.in_ok-write_term.ensures.text h) (listed_names_are c.args.names.now c.first-item.result c.in-len1-up.len_at_least c.first-item.is)) c.print_more_names.ensures
