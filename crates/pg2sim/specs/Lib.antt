@@ -1,1 +1,5 @@
+pub mod Bytes
+pub mod CommandLine
+pub mod Faults
 pub mod Status
+pub mod Told

@@ -1,26 +1,39 @@
--- What the words of a command line ask for, and the status that the program ends with.
-use Rattle.std.specs.Prelude.{◌≡◌, ℕ, List, [], ◌∷◌, map, codes, Option, Result, Ok, Err, IfErr, string_bytes}
-use Rattle.std.specs.declared.string.String.{String}
-use Rattle.std.specs.declared.alloc.Global.{Global}
-use Rattle.pg_node.specs.declared.fault.ServeFault.{ServeFault}
-use Rattle.pg_node.specs.Replica.{Pair, Serves}
+-- How the program ends.
+use Rattle.std.specs.Prelude.{◌≡◌, ◌⊎◌, ℕ, List, [], Option, Result, Ok, Err, IfErr}
+use Rattle.std.specs.Str.{chars}
+use Rattle.pg_node.specs.Fault.{number_of}
+use Rattle.pg_script.specs.declared.fault.RunFault.{RunFault}
+use Rattle.pg2sim.specs.declared.bytes.BytesFault.{BytesFault}
+use Rattle.pg2sim.specs.declared.bytes.BytesFault.TheVariants.{Names, Serve}
+use Rattle.pg2sim.specs.declared.fault.Fault.{Fault}
+use Rattle.pg2sim.specs.declared.fault.Fault.TheVariants.{Run, Given, Line}
+use Rattle.pg2sim.specs.Bytes.{ServesAs}
+use Rattle.pg2sim.specs.Faults.{status_of, fault_line}
+use Rattle.pg2sim.specs.Told.{Tells}
 
--- the one word `bytes`
-abbrev pub AsksForBytes : List (String Global) → Type 0
-AsksForBytes words = map string_bytes words ≡ codes "bytes" ∷ []
+-- how serving ends, for the program
+abbrev pub end_of_bytes : Result (Unit {0}) BytesFault → Result (Unit {0}) Fault
+end_of_bytes (Ok done) = Ok tt
+end_of_bytes (Err (Names number)) = Err (Given number)
+end_of_bytes (Err (Serve fault)) = Err (Run (number_of fault))
 
--- 0: done, 1: refused
-abbrev pub status_of : Result (Unit {0}) ServeFault → ℕ
-status_of (Ok done) = 0
-status_of (Err fault) = 1
+-- 0: done
+abbrev pub end_status : Result (Unit {0}) Fault → ℕ
+end_status (Ok done) = 0
+end_status (Err fault) = status_of fault
 
--- the program is the node b, and a is its peer
-abbrev pub named_pair : Pair
-named_pair = record { own = codes "b"; peer = codes "a" }
+-- the line of a fault was written: whole, or a prefix of it where a write failed
+abbrev pub ToldEnd : {F : Type 0} → (F → F → Type 0) → (F → Option (List ℕ)) → F → F → Result (Unit {0}) Fault → Type 0
+ToldEnd fails contents old new (Ok done) = new ≡ old
+ToldEnd fails contents old new (Err fault) = (told : Result (Unit {0}) RunFault) × Tells fails (contents old) (contents new) new (fault_line fault) told
 
--- an input was served, a fault has its cause C, and this is the status
-pub record EndsWith (C : ServeFault → Type 0) (before after : Option (List ℕ)) (input : List ℕ) (status : ℕ) : Type 0 where
-  pub result : Result (Unit {0}) ServeFault
+-- an input was served, a fault has its cause C, and this is the end
+pub record BytesEnd (own peer : List ℕ) (C : BytesFault → Type 0) (before after : Option (List ℕ)) (input : List ℕ) (end : Result (Unit {0}) Fault) : Type 0 where
+  pub result : Result (Unit {0}) BytesFault
   pub cause : IfErr result C
-  pub serves : Serves named_pair before after input result
-  pub is : status ≡ status_of result
+  pub serves : ServesAs (chars own) (chars peer) before after input result
+  pub is : end ≡ end_of_bytes result
+
+-- words are refused: status 2; or there was no memory to read them
+abbrev pub WordsEnd : ℕ → Type 0
+WordsEnd status = (status ≡ 2) ⊎ (status ≡ 1)

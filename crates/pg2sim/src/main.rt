@@ -1,39 +1,56 @@
-//! `pg2sim bytes`: the replica of one node, from standard input to standard output.
+//! `pg2sim`: the replica of one node over bytes, and runs of scripts, from standard input to standard output.
 #![tactic(auto)]
 
+mod bytes;
+mod fault;
+mod help;
+mod input;
 mod run;
+mod script;
 #[cfg(test)]
 mod streams;
 #[cfg(test)]
 mod tests;
+mod words;
 
 use pg_node::{AnyReader, AnyWriter};
-use run::run_words;
-use std::io::BufWriter;
+use run::{OUT_OF_MEMORY, refuse, refuse_text, run_words};
+use std::io::{BufWriter, ErrorKind};
 use std::process::ExitCode;
 use std::{env, io, vec};
 
-fn status(rt: &HostRuntime) -> io::Result<u8> {
+/// The words behind the program's name.
+fn given_words(rt: &HostRuntime) -> io::Result<Vec<String>> {
     let mut words = Vec::new(rt.alloc());
     for word in env::args(rt)?.skip(1) {
         words.push(word)?;
     }
+    Ok(words)
+}
+
+/// Runs what the words ask for on standard input and both outputs.
+fn status(rt: &HostRuntime, words: &[String]) -> io::Result<u8> {
     let mut reader = AnyReader { reader: rt.stdin() };
     let mut writer = AnyWriter {
         writer: BufWriter::new(rt.alloc(), rt.stdout())?,
     };
-    Ok(run_words(
-        rt.alloc(),
-        words.as_slice(),
-        &mut reader,
-        &mut writer,
-        &mut rt.stderr(),
-    ))
+    let mut faults = AnyWriter {
+        writer: rt.stderr(),
+    };
+    Ok(run_words(rt.alloc(), words, &mut reader, &mut writer, &mut faults))
 }
 
 fn main(rt: HostRuntime) -> ExitCode {
-    match status(&rt) {
-        Ok(status) => ExitCode::from(status),
-        Err(_) => ExitCode::from(1),
-    }
+    let mut faults = AnyWriter {
+        writer: rt.stderr(),
+    };
+    let status = match given_words(&rt) {
+        Ok(words) => match status(&rt, words.as_slice()) {
+            Ok(status) => status,
+            Err(_) => refuse(&mut faults, OUT_OF_MEMORY),
+        },
+        Err(error) if error.kind() == ErrorKind::InvalidData => refuse_text(&mut faults),
+        Err(_) => refuse(&mut faults, OUT_OF_MEMORY),
+    };
+    ExitCode::from(status)
 }

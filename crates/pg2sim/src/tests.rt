@@ -90,11 +90,13 @@ fn run<R: Source>(alloc: Global, word: &str, reader: &mut R) -> Result<Printed, 
     let mut output = AnyWriter {
         writer: Vec::new(alloc),
     };
-    let mut faults = Vec::new(alloc);
+    let mut faults = AnyWriter {
+        writer: Vec::new(alloc),
+    };
     let status = run_words(alloc, words.as_slice(), reader, &mut output, &mut faults);
     Ok(Printed {
         output: output.writer,
-        faults,
+        faults: faults.writer,
         status,
     })
 }
@@ -102,9 +104,9 @@ fn run<R: Source>(alloc: Global, word: &str, reader: &mut R) -> Result<Printed, 
 // An input, and what a run on it prints: the output, the line on standard error, the status.
 type Row<'a> = (&'a [u8], &'a [u8], &'a str, u8);
 
-fn prints(alloc: Global, row: Row<'_>) -> Result<bool, Fail> {
+fn prints(alloc: Global, word: &str, row: Row<'_>) -> Result<bool, Fail> {
     let (mut reader, output, faults, status) = row;
-    let printed = run(alloc, "bytes", &mut reader)?;
+    let printed = run(alloc, word, &mut reader)?;
     Ok(
         printed.output.as_slice() == output
             && printed.faults.as_slice() == faults.as_bytes()
@@ -122,7 +124,7 @@ fn calls_and_frames(rt: HostRuntime) -> Result<(), Fail> {
         ("frame_too_long", (&[1, 0, 0, 1], &[], "refused 11\n", 1)),
     ];
     for (name, row) in rows {
-        assert!(rt; prints(rt.alloc(), row)?, "{name}");
+        assert!(rt; prints(rt.alloc(), "bytes", row)?, "{name}");
     }
     Ok(())
 }
@@ -135,7 +137,7 @@ fn stamps(rt: HostRuntime) -> Result<(), Fail> {
         ("stamp_too_large", (&LARGE_STAMP, &[], "refused 13\n", 1)),
     ];
     for (name, row) in rows {
-        assert!(rt; prints(rt.alloc(), row)?, "{name}");
+        assert!(rt; prints(rt.alloc(), "bytes", row)?, "{name}");
     }
     Ok(())
 }
@@ -153,7 +155,7 @@ fn broken_bodies(rt: HostRuntime) -> Result<(), Fail> {
         ),
     ];
     for (name, row) in rows {
-        assert!(rt; prints(rt.alloc(), row)?, "{name}");
+        assert!(rt; prints(rt.alloc(), "bytes", row)?, "{name}");
     }
     Ok(())
 }
@@ -176,7 +178,7 @@ fn exchange_then_lock(rt: HostRuntime) -> Result<(), Fail> {
         ),
     ];
     for (name, row) in rows {
-        assert!(rt; prints(rt.alloc(), row)?, "{name}");
+        assert!(rt; prints(rt.alloc(), "bytes", row)?, "{name}");
     }
     Ok(())
 }
@@ -186,8 +188,59 @@ fn other_words(rt: HostRuntime) -> Result<(), Fail> {
     let mut reader: &[u8] = &CREATE;
     let printed = run(rt.alloc(), "byte", &mut reader)?;
     assert_eq!(rt; printed.status, 2);
-    assert!(rt; printed.output.is_empty() && printed.faults.is_empty());
+    assert!(rt; printed.output.is_empty());
+    assert!(rt; printed.faults.as_slice().starts_with(b"error: "));
     assert_eq!(rt; reader.len(), 49, "nothing is read");
+    Ok(())
+}
+
+#[test]
+fn scripts(rt: HostRuntime) -> Result<(), Fail> {
+    let rows: [(&str, Row<'_>); 6] = [
+        (
+            "answers",
+            (
+                b"node a\ncreate a g\ngroups a\n",
+                b"a 1 ok\na 2 [g]\n",
+                "",
+                0,
+            ),
+        ),
+        (
+            "a refused step",
+            (b"node a\nretry a 1", b"line 2 refused 17\n", "", 0),
+        ),
+        ("no node", (b"settle\n", &[], "refused 15\n", 2)),
+        ("a bad ring", (b"ring 0\nnode a\n", &[], "refused 18\n", 2)),
+        (
+            "a faulty line",
+            (b"node a\ntake a b\n", &[], "line 2 refused 41\n", 2),
+        ),
+        ("no text", (b"node \xff\n", &[], "refused 40\n", 2)),
+    ];
+    for (name, row) in rows {
+        assert!(rt; prints(rt.alloc(), "script", row)?, "{name}");
+    }
+    Ok(())
+}
+
+// Gives signs for ever.
+#[derive(Drop)]
+struct Endless;
+
+impl Read for Endless {
+    fn read(&mut self, buf: &mut [u8]) -> io::Result<usize> {
+        buf.fill(b'%');
+        Ok(buf.len())
+    }
+}
+
+#[test]
+fn long_script(rt: HostRuntime) -> Result<(), Fail> {
+    let mut reader = AnyReader { reader: Endless };
+    let printed = run(rt.alloc(), "script", &mut reader)?;
+    assert!(rt; printed.faults.as_slice() == b"refused 11\n".as_slice());
+    assert_eq!(rt; printed.status, 2);
     Ok(())
 }
 
@@ -287,7 +340,9 @@ fn write_fails(rt: HostRuntime) -> Result<(), Fail> {
                 limit,
             },
         };
-        let mut faults = Vec::new(rt.alloc());
+        let mut faults = AnyWriter {
+            writer: Vec::new(rt.alloc()),
+        };
         let got = run_words(
             rt.alloc(),
             words.as_slice(),
@@ -301,7 +356,7 @@ fn write_fails(rt: HostRuntime) -> Result<(), Fail> {
             held,
             "a writer that takes {limit} bytes"
         );
-        assert_eq!(rt; faults.is_empty(), status == 0);
+        assert_eq!(rt; faults.writer.is_empty(), status == 0);
     }
     Ok(())
 }
@@ -320,7 +375,9 @@ fn refused_growth(rt: HostRuntime) -> Result<(), Fail> {
             writer: &mut output[..],
         };
         let mut faults = [0; 11];
-        let mut line = &mut faults[..];
+        let mut line = AnyWriter {
+            writer: &mut faults[..],
+        };
         let status = run_words(
             rt.alloc(),
             words.as_slice(),

@@ -1,0 +1,52 @@
+//! The texts of help.
+
+/// What the program is.
+pub(crate) const ABOUT: &str =
+    "Process groups over nodes that packets link, as Erlang's pg2 has them.
+
+Status 0: done. Status 1: the run was refused. Status 2: the words, the script or its configuration
+were refused. A refusal is a line `refused N` on standard error, a faulty line of a script `line L
+refused N`; docs/FAULTS.md lists the numbers.";
+
+/// What `bytes` does.
+pub(crate) const BYTES_ABOUT: &str =
+    "Serve framed packets from standard input as the replica of one node, and write its replies";
+
+/// What `script` does.
+pub(crate) const SCRIPT_ABOUT: &str =
+    "Run a script from standard input: nodes, and steps of them one at a time";
+
+/// The forms of the lines of a script.
+pub(crate) const SCRIPT_FORMS: &str = "Declarations, before all other lines:
+  ring N                 the capacity of every ring in bytes, 1 to 65536 (default 65536)
+  node NODE [made N]     a node, which has made N processes (default 0)
+  has NODE TERM [PID ..] a group that the node has, with members
+
+Bytes and packets:
+  put A B [N]            up to N bytes go from A's outbox on the ring to B (default 65536)
+  pull B A [N]           up to N bytes come off that ring to B
+  take B A               B takes one whole packet that came from A
+  settle [N]             rounds of put, pull and take for each pair of nodes, until nothing moves,
+                         at most N (default and greatest 1000000)
+
+Commands, each answered as `NODE NUMBER ANSWER`:
+  create A TERM          delete A TERM          join A TERM PID        leave A TERM PID
+  make A                 end A PID              members A TERM         local A TERM
+  groups A               closest A TERM N
+  retry A K              A's command K, which waits, asks for its lock again
+
+Prints:
+  lock A TERM            lock A TERM free, or held
+  outbox A B             outbox A B N: so many bytes wait at A to go to B
+  history TERM           the updates of the group, in the order in which they got their last grant
+
+Lines end with a line feed. Empty lines and lines that begin with % are skipped. Parts are separated by
+one space. A NODE is an atom, as a or 'my node'. Terms: -7, a, 'A b', {t,1}, [1,2], <<1,255>>,
+<a.1.0> (process 1 of node a), #<a/1.0.0.0>.
+
+Where a step is refused, `line L refused N` stands behind what its line printed, and the run goes on.
+docs/SCRIPTS.md shows each line with an example.";
+
+pub(crate) const NODE_HELP: &str = "the node's own name, an atom of just these characters";
+
+pub(crate) const PEER_HELP: &str = "the name of its one peer";

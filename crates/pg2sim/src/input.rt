@@ -1,0 +1,54 @@
+//! The text of a script.
+
+use crate::fault::Fault;
+use crate::run::OUT_OF_MEMORY;
+use pg_node::Source;
+use std::alloc::Global;
+
+// Numbers of faults of an input.
+const TOO_LONG: u8 = 11;
+
+const READ_FAULT: u8 = 31;
+
+const BAD_TEXT: u8 = 40;
+
+/// How many bytes a script has at most.
+pub(crate) const MAX_SCRIPT_LEN: usize = 16_777_216;
+
+/// How many bytes one read asks for.
+const PIECE_LEN: usize = 65_536;
+
+/// Reads the input to its end, but for what follows `MAX_SCRIPT_LEN` bytes.
+///
+/// Faults: where a read fails, where the input is longer, or for want of memory.
+pub(crate) fn read_input<R: Source>(alloc: Global, reader: &mut R) -> Result<Vec<u8>, Fault> {
+    let mut input = Vec::new(alloc);
+    let mut piece = [0; PIECE_LEN];
+    // Each read but the last gives a byte.
+    for _ in 0..MAX_SCRIPT_LEN + 2 {
+        let count = match reader.read_some(&mut piece) {
+            Ok(count) => count,
+            Err(_) => return Err(Fault::Run(READ_FAULT)),
+        };
+        if count == 0 {
+            return Ok(input);
+        }
+        if count > MAX_SCRIPT_LEN - input.len() {
+            return Err(Fault::Given(TOO_LONG));
+        }
+        if input.extend_from_slice(&piece[..count]).is_err() {
+            return Err(Fault::Run(OUT_OF_MEMORY));
+        }
+    }
+    Err(Fault::Given(TOO_LONG))
+}
+
+/// The text of these bytes.
+///
+/// Fault: where they are none.
+pub(crate) fn text_of(bytes: &[u8]) -> Result<&str, Fault> {
+    match str::from_utf8(bytes) {
+        Ok(text) => Ok(text),
+        Err(_) => Err(Fault::Given(BAD_TEXT)),
+    }
+}

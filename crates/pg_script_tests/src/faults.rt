@@ -1,0 +1,163 @@
+// Faulty lines, each behind two nodes.
+use crate::played::fault_of;
+use std::alloc::Global;
+use std::test::*;
+
+// Lines that have no form.
+const BAD: [&str; 64] = [
+    "ring",
+    "ring x",
+    "ring 1 2",
+    "ring 01",
+    "ring -1",
+    "ring 4294967296",
+    "node",
+    "node 1",
+    "node {a}",
+    "node B",
+    "node a made",
+    "node a make 1",
+    "node a made x",
+    "node a made 1 2",
+    "has",
+    "has a",
+    "has a G",
+    "has a g b",
+    "has a g <a.1>",
+    "put a",
+    "put a b x",
+    "put a b 1 2",
+    "pull a",
+    "pull a b -1",
+    "take a",
+    "take a b 1",
+    "outbox a",
+    "outbox a b 1",
+    "create a",
+    "create a g h",
+    "create a G",
+    "delete a",
+    "delete a g 1",
+    "join a g",
+    "join a g h",
+    "join a g <a.1.0> 1",
+    "leave a g",
+    "leave a <a.1.0>",
+    "make",
+    "make a 1",
+    "end a",
+    "end a 1",
+    "members a",
+    "members a g 1",
+    "local a",
+    "local a g 1",
+    "groups",
+    "groups a g",
+    "closest a g",
+    "closest a g x",
+    "closest a g 1 2",
+    "retry a",
+    "retry a x",
+    "retry a 1 2",
+    "settle x",
+    "settle 1000001",
+    "settle 1 2",
+    "lock a",
+    "lock a g 1",
+    "history",
+    "history g h",
+    "halt",
+    "Create a g",
+    "create  a g",
+];
+
+// Lines with signs that are none of a line, and texts of terms that are none.
+const STRANGE: [&str; 18] = [
+    " settle",
+    "settle ",
+    "settle\r",
+    "\tsettle",
+    "create\ta g",
+    "create a 'abc'",
+    "create a 'a b",
+    "create a '\\x{61}'",
+    "create a '\\x{0a}'",
+    "create a '\\x{A}'",
+    "create a '\\n'",
+    "create a -0",
+    "create a 007",
+    "create a {1, 2}",
+    "create a <a.1.0/1>",
+    "create a <<256>>",
+    "create a #<a/1>",
+    "create a 9223372036854775808",
+];
+
+// Lines that name a node that was not declared, or one node as a pair.
+const UNKNOWN: [&str; 16] = [
+    "put a c",
+    "put c a",
+    "put a a",
+    "pull b c 1",
+    "take b b",
+    "outbox c b",
+    "create c g",
+    "join c g <a.1.0>",
+    "make c",
+    "end c <a.1.0>",
+    "members c g",
+    "closest c g 0",
+    "groups c",
+    "retry c 1",
+    "lock c g",
+    "lock 'A' g",
+];
+
+// The fault of a script whose third line this is.
+fn third(alloc: Global, line: &str) -> Result<Option<(usize, u8)>, Fail> {
+    let text = format!(in alloc; "node a\nnode b\n{line}\nsettle\n")?;
+    Ok(fault_of(alloc, text.as_str()))
+}
+
+#[test]
+fn lines_without_form(rt: HostRuntime) -> Result<(), Fail> {
+    for line in BAD {
+        assert!(rt; third(rt.alloc(), line)? == Some((3, 40)), "{line}");
+    }
+    for line in STRANGE {
+        assert!(rt; third(rt.alloc(), line)? == Some((3, 40)), "{line}");
+    }
+    Ok(())
+}
+
+#[test]
+fn unknown_nodes(rt: HostRuntime) -> Result<(), Fail> {
+    for line in UNKNOWN {
+        assert!(rt; third(rt.alloc(), line)? == Some((3, 41)), "{line}");
+    }
+    Ok(())
+}
+
+// Texts whose faults come in their order.
+const TEXTS: [(&str, Option<(usize, u8)>); 12] = [
+    ("", None),
+    ("%\n\n%x\nnode a", None),
+    ("node a\nnode a", Some((2, 15))),
+    ("node a\nsettle\nnode a", Some((3, 42))),
+    ("node a\nsettle\nnode b", Some((3, 42))),
+    ("node a\nsettle\nhas c g", Some((3, 42))),
+    ("node a\nhas c g\nhas d", Some((2, 41))),
+    ("node a\nsettle\nring 4", Some((3, 42))),
+    ("ring 4\nring 5", Some((2, 40))),
+    ("ring 4\nnode a\nsettle\nring 5", Some((4, 40))),
+    ("node a\nsettle\nnode a made", Some((3, 40))),
+    ("take a b\nnode a", Some((1, 41))),
+];
+
+#[test]
+fn order_of_faults(rt: HostRuntime) -> Result<(), Fail> {
+    for (text, fault) in TEXTS {
+        assert!(rt; fault_of(rt.alloc(), text) == fault, "{text}");
+    }
+    Ok(())
+}
