@@ -1,4 +1,4 @@
-ghost use Rattle.std.specs.Prelude.{◌≡◌, ◌≢◌, ◌≤◌, ◌↔◌, [], length, take, drop, IfOk};
+ghost use Rattle.std.specs.Prelude.{◌≡◌, ◌==◌, ◌≢◌, ◌≤◌, ◌↔◌, [], length, take, drop, IfOk};
 ghost use Rattle.pg_ring.specs.Capacity.{IsCapacity, IsBadCapacity};
 ghost use Rattle.pg_ring.specs.MemRing.{Grows, Loses, HasRoomFor, HasUnread};
 ghost use Rattle.pg_ring.specs.MemRingLaws.{Grows-rests, Grows-composes, Grows-agrees, Loses-rests, Loses-composes, Loses-agrees};
@@ -41,6 +41,13 @@ impl MemRing {
         }
         let bytes = HeapCircularBuffer::with_capacity(alloc, cap)?;
         Ok(MemRing { bytes })
+    }
+
+    /// Whether no byte is there to be taken. It takes no memory.
+    pub fn is_empty(&self) -> bool
+        ensures { result ≡ (length self.now.unread == 0) }
+    {
+        self.bytes.is_empty()
     }
 }
 
