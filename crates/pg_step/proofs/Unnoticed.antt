@@ -20,7 +20,7 @@ use Rattle.pg_machine.proofs.Places.{set_at_map, set_way_map}
 -- ---- a machine with more packets
 
 -- the machine n does with packets of m what m does
-record Embeds {S P Q C O : Type 0} (m : Machine S P C O) (n : Machine S Q C O) (into : P → Q) : Type 0 where
+pub record Embeds {S P Q C O : Type 0} (m : Machine S P C O) (n : Machine S Q C O) (into : P → Q) : Type 0 where
   pub size : n.size ≡ m.size
   pub taken : (i p : ℕ) (s : S) (x : P) → n.step i s (Taken p (into x)) ≡ option_map (mapped_turn into) (m.step i s (Taken p x))
   pub own : (i : ℕ) (s : S) (c : C) → n.step i s (Own c) ≡ option_map (mapped_turn into) (m.step i s (Own c))
@@ -119,7 +119,7 @@ timed_sent clock (Some t) = go (nat_le clock CLOCK_LIMIT)
     go true = λ i. Some (record { state = record { clock = clock; state = t.state }; sends = (fun_ext (λ q. sent_stamped clock (t.sends q))) i; reported = t.reported })
     go false = refl
 
-frames_embed : (config : Config) → Embeds (frame_machine config) (losing_frame_machine config) sent_packet
+pub frames_embed : (config : Config) → Embeds (frame_machine config) (losing_frame_machine config) sent_packet
 frames_embed config = record {
   size = refl;
   taken = λ i p s x. timed_sent (next_clock {C = Action} s.clock (Taken p x)) ((machine_of config).step i s.state (Taken p x.packet));

@@ -1,18 +1,17 @@
 -- What bars a step over bytes where nodes may be lost: a place that is not there, and losses.
-use Rattle.std.specs.Prelude.{◌≡◌, ◌⊎◌, ℕ, Bool, true, false, not, ◌||◌, cond, nat_lt, length, List, [], ◌∷◌, Option, Some, None, Result, Ok, Err}
+use Rattle.std.specs.Prelude.{◌≡◌, ◌⊎◌, ℕ, Bool, true, false, not, nat_lt, length, List, [], ◌∷◌, Option, Some, None, Result, Ok, Err}
 use Rattle.pg_machine.specs.Places.{is_pair}
 use Rattle.pg_step.specs.declared.refusal.Refusal.{Refusal}
 use Rattle.pg_step.specs.declared.refusal.Refusal.TheVariants.{NoSuchPlace, NodeLost, NotLost, NotDrained}
 use Rattle.pg_step.specs.Faults.{first_that_holds}
 use Rattle.pg_node.specs.declared.state.fault.NodeFault.{NodeFault}
 use Rattle.pg_node.specs.declared.state.fault.NodeFault.TheVariants.{Refused, OutOfMemory}
-use Rattle.pg_node.specs.Bytes.{is_drained}
 use Rattle.pg_world.specs.declared.step.FrameStep.{FrameStep}
 use Rattle.pg_world.specs.declared.step.FrameStep.TheVariants as frames
 use Rattle.pg_world.specs.declared.step.Step.{Step}
 use Rattle.pg_world.specs.declared.step.Step.TheVariants as steps
 use Rattle.pg_world.specs.declared.step.Stepped.{Stepped}
-use Rattle.pg_world.specs.Crossings.{Crossing, link_at, bytes_at}
+use Rattle.pg_world.specs.Crossings.{Crossing, bytes_at}
 use Rattle.pg_world.specs.Losing.{is_cut_off, is_barred, lost_with, lost_after}
 use Rattle.pg_world.specs.Losses.{is_lost}
 use Rattle.pg_world.specs.Worlds.{has_places}
@@ -30,13 +29,13 @@ put_bar crossing lost x y = first_that_holds ((not (is_pair (length crossing.nod
 abbrev pub pull_bar : Crossing → List ℕ → ℕ → ℕ → Option Refusal
 pull_bar crossing lost y x = first_that_holds ((not (is_pair (length crossing.nodes) x y), NoSuchPlace) ∷ (is_cut_off crossing.nodes lost y x, NodeLost) ∷ [])
 
--- why a loss is not seen, but for a full clock: bytes of the lost node are on the ring, or a whole frame of it is left to be taken
+-- why a loss is not seen, but for a whole frame of the lost node that has come, and a full clock: bytes of it are on the ring
 abbrev pub sight_bar : Crossing → List ℕ → ℕ → ℕ → Option Refusal
 sight_bar crossing lost i p = first_that_holds (
     (not (is_pair (length crossing.nodes) i p), NoSuchPlace)
     ∷ (is_cut_off crossing.nodes lost i p, NodeLost)
     ∷ (not (is_lost lost p), NotLost)
-    ∷ (has_bytes (bytes_at crossing p i).ring || not (is_drained (link_at crossing i p)), NotDrained) ∷ [])
+    ∷ (has_bytes (bytes_at crossing p i).ring, NotDrained) ∷ [])
 
 -- why a node is not lost
 abbrev pub loss_bar : Crossing → List ℕ → ℕ → Option Refusal

@@ -1,20 +1,19 @@
 -- What a step over bytes changes, and how many bytes move.
-use Rattle.std.specs.Prelude.{◌≡◌, ◌≢◌, ◌-◌, ℕ, true, min, length, get_or, slice_get, slice_set, [], None, Result, Ok}
+use Rattle.std.specs.Prelude.{◌≡◌, ◌≢◌, ◌-◌, ℕ, true, min, length, get_or, slice_get, None, Result, Ok, Err}
 use Rattle.pg_machine.specs.Places.{is_pair}
 use Rattle.pg_machine.specs.Machine.{Event, Take, Do, node_of as place_of}
 use Rattle.pg_pieces.specs.Pieces.{Bytes, put, pull}
 use Rattle.pg_step.specs.Step.{Action, Issue, Retry}
 use Rattle.pg_node.specs.declared.state.fault.NodeFault.{NodeFault}
-use Rattle.pg_node.specs.Bytes.{next_packet, closed}
-use Rattle.pg_node.specs.Links.{Link, at_link}
+use Rattle.pg_node.specs.Bytes.{next_packet}
+use Rattle.pg_node.specs.Links.{Link}
 use Rattle.pg_world.specs.declared.step.FrameStep.{FrameStep}
 use Rattle.pg_world.specs.declared.step.FrameStep.TheVariants as frames
 use Rattle.pg_world.specs.declared.step.Step.{Step}
 use Rattle.pg_world.specs.declared.step.Step.TheVariants as steps
 use Rattle.pg_world.specs.declared.step.Stepped.{Stepped}
-use Rattle.pg_world.specs.declared.step.Stepped.TheVariants.{Nothing, Moved, Happened}
+use Rattle.pg_world.specs.declared.step.Stepped.TheVariants.{Nothing, Moved}
 use Rattle.pg_world.specs.Crossings.{Crossing, no_links, link_at, bytes_at}
-use Rattle.pg_world.specs.Views.{peer_place}
 
 -- Bytes have moved from one node to another, and all else is as it was.
 pub record Moves (old new : Crossing) (x y : ℕ) (change : Bytes → Bytes) : Type 0 where
@@ -46,14 +45,6 @@ pub record ChangesAlone (i : ℕ) (old new : Crossing) : Type 0 where
   pub links : (x : ℕ) → x ≢ i → links_at new x ≡ links_at old x
   pub rings : new.rings ≡ old.rings
 
--- A node has seen the loss of a peer from which nothing is on the ring: it may have changed alone, and nothing goes out to the
--- peer any more.
-pub record SeesAlone (i p : ℕ) (old new : Crossing) : Type 0 where
-  pub nodes : (x : ℕ) → x ≢ i → slice_get new.nodes x ≡ slice_get old.nodes x
-  pub links : new.links ≡ slice_set old.links i (at_link (peer_place i p) closed (links_at old i))
-  pub rings : new.rings ≡ old.rings
-  pub drained : (bytes_at old p i).ring ≡ []
-
 -- no whole frame of the peer has come
 abbrev pub HasNone : Crossing → Event Action → Type 0
 HasNone crossing (Take i p) = next_packet (link_at crossing i p) ≡ Ok None
@@ -64,18 +55,17 @@ abbrev pub EventChanges : Crossing → Crossing → Event Action → Result Step
 EventChanges old new e (Ok Nothing) = HasNone old e × ChangesAlone (place_of e) old new
 EventChanges old new e result = ChangesAlone (place_of e) old new
 
--- What seeing a loss changes: its node alone, and nothing where it is refused. No bytes are on the ring from the lost node
--- where it is seen, and what went out there is gone.
-abbrev pub SightChanges : Crossing → Crossing → ℕ → ℕ → Result Stepped NodeFault → Type 0
-SightChanges old new i p (Ok Happened) = SeesAlone i p old new
-SightChanges old new i p result = new ≡ old
+-- what seeing a loss changes: its node alone, and nothing where it is refused
+abbrev pub SightChanges : Crossing → Crossing → ℕ → Result Stepped NodeFault → Type 0
+SightChanges old new i (Ok stepped) = ChangesAlone i old new
+SightChanges old new i (Err fault) = new ≡ old
 
 -- what an event changes
 abbrev pub FrameChanges : Crossing → Crossing → FrameStep → Result Stepped NodeFault → Type 0
 FrameChanges old new (frames.Take i p) result = EventChanges old new (Take i p) result
 FrameChanges old new (frames.Command i port command) result = EventChanges old new (Do i (Issue port command)) result
 FrameChanges old new (frames.Retry i op) result = EventChanges old new (Do i (Retry op)) result
-FrameChanges old new (frames.SeeLoss i p) result = SightChanges old new i p result
+FrameChanges old new (frames.SeeLoss i p) result = SightChanges old new i result
 FrameChanges old new (frames.Lose i keep) result = new ≡ old
 
 -- what a step changes, where each ring has room for so many bytes; a loss leaves all bytes where they are

@@ -6,12 +6,13 @@ use Rattle.pg_message.specs.declared.message.Message.{Message}
 use Rattle.pg_machine.specs.Places.{is_place, is_pair}
 use Rattle.pg_machine.specs.Machine.{Take, Do}
 use Rattle.pg_machine.specs.Clocked.{Timed, Stamped}
-use Rattle.pg_machine.specs.Losing.{Noticed, Sent, Last, LosingEvent, Step, Lose, losing_happens}
+use Rattle.pg_machine.specs.Losing.{Noticed, Sent, Last, LosingEvent, Step, Lose, losing_happens, can_keep}
 use Rattle.pg_step.specs.declared.refusal.Refusal.{Refusal}
 use Rattle.pg_step.specs.declared.refusal.Refusal.TheVariants.{NoSuchPlace, NodeLost}
 use Rattle.pg_step.specs.Config.{Config, name_at, nodes_at, ports_at}
+use Rattle.pg_step.specs.Faults.{first_that_holds}
 use Rattle.pg_step.specs.FrameMachine.{losing_frame_machine, last_notice, sent_packet}
-use Rattle.pg_step.specs.LossLaws.{LosingFrameWorld, is_notice, see_refusal, lose_refusal}
+use Rattle.pg_step.specs.LossLaws.{LosingFrameWorld, is_notice, see_refusal}
 use Rattle.pg_step.specs.Nodes.{Node, Nodes}
 use Rattle.pg_step.specs.State.{State}
 use Rattle.pg_step.specs.Step.{Action, Issue, Retry, step_take, step_act}
@@ -98,14 +99,15 @@ abbrev pub none_sent : List (Stamped (Noticed Message)) → Bool
 none_sent [] = true
 none_sent (x ∷ rest) = is_notice x.packet
 
+-- why a packet is refused, if it is
+abbrev pub packet_refusal : Nodes → Node → Timed State → ℕ → Noticed Message → Option Refusal
+packet_refusal m p s stamp (Sent y) = refusal_of (step_take m p (record { stamp = stamp; packet = y }) s)
+packet_refusal m p s stamp Last = None
+
 -- why the first packet of a peer is refused, if it is
 abbrev pub first_refusal : Nodes → Node → Timed State → List (Stamped (Noticed Message)) → Option Refusal
 first_refusal m p s [] = None
-first_refusal m p s (x ∷ rest) = go x.packet
-  where
-    abbrev go : Noticed Message → Option Refusal
-    go (Sent y) = refusal_of (step_take m p (record { stamp = x.stamp; packet = y }) s)
-    go Last = None
+first_refusal m p s (x ∷ rest) = packet_refusal m p s x.stamp x.packet
 
 -- why a node does not take a packet of a peer, the first that holds
 abbrev pub take_refusal : Config → LosingFrameWorld → ℕ → ℕ → Option Refusal
@@ -143,14 +145,17 @@ told_own config u i action = record { event = Step (Do i action); refusal = own_
 abbrev pub told_sight : Config → LosingFrameWorld → ℕ → ℕ → Told
 told_sight config u i p = record { event = Step (Take i p); refusal = see_refusal config u i p; is_idle = false; is_loss = false }
 
+-- why a node is not lost, the first that holds: it is not there, or has not a number for each of its peers; it is lost; or more
+-- packets should stay than are on a way
+abbrev pub loss_refusal : Config → LosingFrameWorld → ℕ → List ℕ → Option Refusal
+loss_refusal config u i keep = first_that_holds (
+    (not (is_place (length config) i && nat_eq (length keep) (length config - 1)), NoSuchPlace)
+    ∷ (u.gone i, NodeLost)
+    ∷ (not (can_keep (length config) u.world i (keep_of i keep)), NoSuchPlace) ∷ [])
+
 -- A node is lost, with a number for each of its peers of how many packets stay on the way there.
 abbrev pub told_loss : Config → LosingFrameWorld → ℕ → List ℕ → Told
-told_loss config u i keep = record {
-  event = Lose i (keep_of i keep);
-  refusal = cond (nat_eq (length keep) (length config - 1)) (lose_refusal config u i (keep_of i keep)) (Some NoSuchPlace);
-  is_idle = false;
-  is_loss = true;
-}
+told_loss config u i keep = record { event = Lose i (keep_of i keep); refusal = loss_refusal config u i keep; is_idle = false; is_loss = true }
 
 abbrev pub told_of : Config → LosingFrameWorld → FrameStep → Told
 told_of config u (steps.Take i p) = told_take config u i p

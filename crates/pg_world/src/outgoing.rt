@@ -107,14 +107,13 @@ impl Outgoing {
     /// Whether so many packets can stay on the ways to the peers, by their places: on each as many as are there at most. It takes
     /// no memory.
     pub(crate) fn can_keep(&self, keep: &[usize]) -> bool
+        requires { length keep.now ≡ length (ways_of self.now) }
         ensures { IsTrue result ↔ CanStay keep.now (ways_of self.now) }
     {
-        if keep.len() != self.ways.len() {
-            return false;
-        }
         for place in 0..self.ways.len() {
             let way = &self.ways[place];
-            if keep[place] > way.len() {
+            let count = keep[place];
+            if count > way.len() {
                 return false;
             }
         }
@@ -129,8 +128,9 @@ impl Outgoing {
         ensures cut { (place : ℕ) → get_or (ways_of self.new) place [] ≡ take (get_or keep.now place 0) (get_or (ways_of self.old) place []) }
     {
         for place in 0..self.ways.len() {
+            let count = keep[place];
             let way = &mut self.ways[place];
-            way.cut(keep[place]);
+            way.cut(count);
         }
     }
 }

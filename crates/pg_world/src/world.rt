@@ -121,7 +121,8 @@ impl<T: GroupTable + Drop> FrameWorld<T> {
     /// Where nodes are lost, the step is the event of the machine with losses. A step of a node that is lost is refused by
     /// `NodeLost`, behind `NoSuchPlace`, and so is a take of a peer whose loss was seen. `SeeLoss`: `NoSuchPlace`; `NodeLost`, also
     /// where it was seen before; `NotLost`; `NotDrained` where a packet of the peer is on the way; `ClockFull`. `Lose`:
-    /// `NoSuchPlace`, also where `keep` has not one number for each peer or one above that of the packets on the way; `NodeLost`.
+    /// `NoSuchPlace`, also where `keep` has not one number for each peer; `NodeLost`; `NoSuchPlace` where more should stay than are on
+    /// the way.
     pub fn step(&mut self, step: &FrameStep) -> Result<Stepped, NodeFault>
         ensures event { (config : Config) (w : TimedFrameWorld) → lost_of self.old ≡ [] → Shows config (view_of self.old) w
             → StepComesTo config w step.now result (Shows config (view_of self.new)) }

@@ -76,7 +76,7 @@ sees_none m = record {
   freed = λ name reference s. refl;
 }
 
-step_sees_none : (config : Config) (i : ℕ) (s : State) (input : Input Message Action) (turn : Turn State Message Report) → node_step config i s input ≡ Some turn → turn.state.lost ≡ s.lost
+pub step_sees_none : (config : Config) (i : ℕ) (s : State) (input : Input Message Action) (turn : Turn State Message Report) → node_step config i s input ≡ Some turn → turn.state.lost ≡ s.lost
 step_sees_none config i s (Taken p x) turn is =
     let m = left (nodes_at config i) s in
     let t = took_so config i s p x turn is in

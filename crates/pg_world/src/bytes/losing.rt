@@ -1,8 +1,9 @@
 //! Nodes of a world of bytes that are lost.
 
-ghost use Rattle.std.specs.Prelude.{◌≡◌, ◌≢◌, ◌<◌, ◌==◌, [], true, false, Ok, Err, length};
+ghost use Rattle.std.specs.Prelude.{◌≡◌, true, false, Err, length};
 
 use crate::bytes::World;
+use crate::losses::let_go;
 use crate::step::{FrameStep, Stepped};
 use crate::world::peer_place;
 use pg_group::GroupTable;
@@ -13,6 +14,8 @@ use std::alloc::AllocError;
 impl<T: GroupTable + Drop> World<T> {
     ghost use Rattle.pg_machine.specs.Places.{is_pair};
     ghost use Rattle.pg_world.specs.Bars.{IsHeld, has_bytes, sight_bar, loss_bar};
+    ghost use Rattle.pg_step.specs.declared.refusal.Refusal.TheVariants.{NotLost};
+    ghost use Rattle.pg_node.specs.declared.state.fault.NodeFault.TheVariants.{Refused};
     ghost use Rattle.pg_world.specs.Changes.{SightChanges};
     ghost use Rattle.pg_world.specs.Crossings.{crossing_of, bytes_at};
     ghost use Rattle.pg_world.specs.Histories.{account_of};
@@ -65,9 +68,10 @@ impl<T: GroupTable + Drop> World<T> {
     /// A node sees the loss of a peer that is not known to it yet.
     pub(crate) fn see_loss(&mut self, node: usize, peer: usize) -> Result<Stepped, NodeFault>
         requires pair { is_pair (length (crossing_of self.old).nodes) node peer ≡ true }
-        requires open { is_cut_off (crossing_of self.old).nodes (lost_in self.old.losses) node peer ≡ false }
-        ensures changes { SightChanges (crossing_of self.old) (crossing_of self.new) node peer result }
+        requires lives { is_cut_off (crossing_of self.old).nodes (lost_in self.old.losses) node peer ≡ false }
+        ensures changes { SightChanges (crossing_of self.old) (crossing_of self.new) node result }
         ensures account { account_of self.new.histories ≡ account_of self.old.histories }
+        ensures none { is_lost (lost_in self.old.losses) peer ≡ false → result ≡ Err (Refused NotLost) }
         ensures barred { IsHeld (sight_bar (crossing_of self.old) (lost_in self.old.losses) node peer) result }
         ensures lost { lost_in self.new.losses ≡ lost_in self.old.losses }
     {
@@ -81,7 +85,10 @@ impl<T: GroupTable + Drop> World<T> {
         let last = lost.state().clock();
         let over = &mut self.nodes[node];
         match over.see_loss(peer_place(node, peer), last) {
-            Ok(_) => Ok(Stepped::Happened),
+            Ok(done) => {
+                let_go(done);
+                Ok(Stepped::Happened)
+            }
             Err(fault) => Err(fault),
         }
     }

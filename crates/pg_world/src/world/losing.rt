@@ -1,7 +1,8 @@
 //! Nodes of a world of packets that are lost.
 
-ghost use Rattle.std.specs.Prelude.{◌≡◌, ◌≢◌, ◌<◌, ◌↔◌, [], true, false, IsTrue, Ok, Err, OnErr, OnOk, length};
+ghost use Rattle.std.specs.Prelude.{◌≡◌, ◌≢◌, ◌<◌, ◌+◌, ◌↔◌, [], true, false, IsTrue, Ok, Err, OnErr, get_or, length};
 
+use crate::losses::let_go;
 use crate::step::{FrameStep, Stepped};
 use crate::world::{FrameWorld, peer_place};
 use pg_group::GroupTable;
@@ -17,7 +18,7 @@ impl<T: GroupTable + Drop> FrameWorld<T> {
     ghost use Rattle.pg_node.specs.declared.state.fault.NodeFault.TheVariants.{Refused};
     ghost use Rattle.pg_world.specs.Losses.{is_lost};
     ghost use Rattle.pg_world.specs.Losing.{lost_of, lost_with, seen_at, is_cut_off, is_barred, told_sight, told_loss, ShowsLosing, LosingComesTo};
-    ghost use Rattle.pg_world.specs.Views.{on_the_way};
+    ghost use Rattle.pg_world.specs.Views.{CanStay, on_the_way};
     ghost use Rattle.pg_world.specs.Worlds.{traffic_of, view_of, has_places};
 
     /// Whether a node is lost. It takes no memory: O(n) in the nodes that are lost.
@@ -65,7 +66,7 @@ impl<T: GroupTable + Drop> FrameWorld<T> {
     /// A node sees the loss of a peer that is not known to it yet.
     pub(crate) fn see_loss(&mut self, node: usize, peer: usize) -> Result<Stepped, NodeFault>
         requires pair { is_pair (length (traffic_of self.old).nodes) node peer ≡ true }
-        requires open { is_cut_off (traffic_of self.old).nodes (lost_of self.old) node peer ≡ false }
+        requires lives { is_cut_off (traffic_of self.old).nodes (lost_of self.old) node peer ≡ false }
         ensures losing { (config : Config) (u : LosingFrameWorld) → ShowsLosing config (view_of self.old) (lost_of self.old) u
             → LosingComesTo config u (told_sight config u node peer) result (ShowsLosing config (view_of self.new) (lost_of self.new)) }
         ensures none { is_lost (lost_of self.old) peer ≡ false → result ≡ Err (Refused NotLost) }
@@ -79,10 +80,14 @@ impl<T: GroupTable + Drop> FrameWorld<T> {
         if self.has_packet(node, peer) {
             return Err(NodeFault::Refused(Refusal::NotDrained));
         }
-        let last = self.nodes[peer].clock();
+        let lost = &self.nodes[peer];
+        let last = lost.clock();
         let state = &mut self.nodes[node];
         match state.see_loss(peer_place(node, peer), last) {
-            Ok(_) => Ok(Stepped::Happened),
+            Ok(done) => {
+                let_go(done);
+                Ok(Stepped::Happened)
+            }
             Err(fault) => Err(fault),
         }
     }
@@ -99,6 +104,16 @@ impl<T: GroupTable + Drop> FrameWorld<T> {
         }
     }
 
+    /// Whether so many packets can stay on the ways from a node to its peers.
+    fn can_keep(&self, node: usize, keep: &[usize]) -> bool
+        requires place { node < length (traffic_of self.now).nodes }
+        requires len { length keep.now + 1 ≡ length (traffic_of self.now).nodes }
+        ensures { IsTrue result ↔ CanStay keep.now (get_or (traffic_of self.now).ways node []) }
+    {
+        let outgoing = &self.outgoing[node];
+        outgoing.can_keep(keep)
+    }
+
     /// A node is lost, and of what is on the way from it the first packets stay.
     pub(crate) fn lose(&mut self, node: usize, keep: &[usize]) -> Result<Stepped, NodeFault>
         requires place { node < length (traffic_of self.old).nodes }
@@ -108,12 +123,14 @@ impl<T: GroupTable + Drop> FrameWorld<T> {
         ensures err { OnErr result (view_of self.new ≡ view_of self.old) }
         ensures lost { lost_of self.new ≡ lost_with node result (lost_of self.old) }
     {
-        let outgoing = &self.outgoing[node];
-        if !outgoing.can_keep(keep) {
+        if keep.len() != self.nodes.len() - 1 {
             return Err(NodeFault::Refused(Refusal::NoSuchPlace));
         }
         if self.losses.has(node) {
             return Err(NodeFault::Refused(Refusal::NodeLost));
+        }
+        if !self.can_keep(node, keep) {
+            return Err(NodeFault::Refused(Refusal::NoSuchPlace));
         }
         match self.losses.add(node) {
             Ok(()) => {}
