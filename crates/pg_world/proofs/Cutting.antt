@@ -1,23 +1,30 @@
 -- What steps over bytes come to, by their numbers.
-use Rattle.std.proofs.Common.{◌≡◌, ℕ, Ok, Err, Result, refl, ap, inl, inr, subst}
+use Rattle.std.proofs.Common.{◌≡◌, ℕ, Bool, false, List, length, Some, Ok, Err, Result, refl, ap, inl, inr, subst}
+use Rattle.pg_machine.specs.Places.{is_pair}
+use Rattle.pg_machine.specs.Machine.{Event, Take, Do}
 use Rattle.pg_step.specs.Config.{Config}
+use Rattle.pg_step.specs.Step.{Action, Issue, Retry}
 use Rattle.pg_step.specs.Faults.{refusal_number_of}
 use Rattle.pg_node.specs.NodeFault.{node_number_of}
 use Rattle.pg_node.specs.declared.state.fault.NodeFault.{NodeFault}
 use Rattle.pg_node.specs.declared.state.fault.NodeFault.TheVariants.{Refused, OutOfMemory, Message as BadMessage, TooLong, Damaged}
+use Rattle.pg_world.specs.declared.step.FrameStep.TheVariants as frames
 use Rattle.pg_world.specs.declared.step.Step.{Step}
 use Rattle.pg_world.specs.declared.step.Step.TheVariants as steps
 use Rattle.pg_world.specs.declared.step.Stepped.{Stepped}
-use Rattle.pg_world.specs.declared.step.Stepped.TheVariants.{Happened, Moved, Nothing}
-use Rattle.pg_world.specs.Crossings.{MoveComesTo, StepComesTo}
-use Rattle.pg_world.specs.Runs.{over_bytes, IsMove, StepsTo}
-use Rattle.pg_world.specs.Worlds.{TimedFrameWorld, event_of}
+use Rattle.pg_world.specs.declared.step.Stepped.TheVariants.{Happened, Moved, Nothing, Gone}
+use Rattle.pg_world.specs.Bars.{bytes_lost_after}
+use Rattle.pg_world.proofs.Running.{none_more}
+use Rattle.pg_world.specs.Crossings.{MoveComesTo, EventComesTo, StepComesTo, is_loss_in}
+use Rattle.pg_world.specs.Runs.{over_bytes, event_in, IsLeft, IsStill, IsMove, SeesNone, StepsTo}
+use Rattle.pg_world.specs.Worlds.{TimedFrameWorld, IsUnseen}
 
 module _ (config : Config) (w : TimedFrameWorld) (Shown : TimedFrameWorld → Type 0) where
   moved_so : (x y : ℕ) (stepped : Stepped) → MoveComesTo config x y (Ok stepped) (Shown w) → IsMove config x y 0 × Shown w
   moved_so x y (Moved count) (pair, shown) = (inl (pair, inl refl), shown)
   moved_so x y Nothing comes = absurd comes
   moved_so x y Happened comes = absurd comes
+  moved_so x y Gone comes = absurd comes
 
   unmoved_so : (x y : ℕ) (fault : NodeFault) → MoveComesTo config x y (Err fault) (Shown w) → IsMove config x y (node_number_of fault) × Shown w
   unmoved_so x y OutOfMemory (pair, shown) = (inl (pair, inr refl), shown)
@@ -26,26 +33,58 @@ module _ (config : Config) (w : TimedFrameWorld) (Shown : TimedFrameWorld → Ty
   unmoved_so x y TooLong comes = absurd comes
   unmoved_so x y Damaged comes = absurd comes
 
+  module _ (step : Step) (e : Event Action) (is : event_in step ≡ Some e) (passes : (number : ℕ) → IsLeft config w e number → IsStill config w step number) where
+    event_came : (stepped : Stepped) → EventComesTo config w e (Ok stepped) Shown → StepsTo over_bytes config w step 0 Shown
+    event_came Happened (v, happened, shown) = inl (record { listed = refl; e = e; is = is; left = v; happened = happened; rest = shown })
+    event_came Nothing (taken, shown) = inr (passes 0 (inl (taken, refl)), shown)
+    event_came (Moved count) comes = absurd comes
+    event_came Gone comes = absurd comes
+
+    event_refused : (fault : NodeFault) → EventComesTo config w e (Err fault) Shown → StepsTo over_bytes config w step (node_number_of fault) Shown
+    event_refused OutOfMemory shown = inr (passes 10 (inr (inr refl)), shown)
+    event_refused (Refused refusal) (told, shown) = inr (passes (refusal_number_of refusal) (inr (inl (refusal, told, refl))), shown)
+    event_refused (BadMessage m) comes = absurd comes
+    event_refused TooLong comes = absurd comes
+    event_refused Damaged comes = absurd comes
+
   -- a step that was not refused
-  came_as : (step : Step) (stepped : Stepped) → StepComesTo config w step (Ok stepped) Shown → StepsTo over_bytes config w step 0 Shown
-  came_as (steps.Put from to max) stepped comes = inr (moved_so from to stepped comes)
-  came_as (steps.Pull to from max) stepped comes = inr (moved_so from to stepped comes)
-  came_as (steps.Event step) Happened (v, happened, shown) = inl (record { listed = refl; e = event_of step; is = refl; left = v; happened = happened; rest = shown })
-  came_as (steps.Event step) Nothing (taken, shown) = inr (inl (taken, refl), shown)
-  came_as (steps.Event step) (Moved count) comes = absurd comes
+  came_as : (step : Step) → is_loss_in step ≡ false → (stepped : Stepped) → StepComesTo config w step (Ok stepped) Shown → StepsTo over_bytes config w step 0 Shown
+  came_as (steps.Put from to max) keeps stepped comes = inr (moved_so from to stepped comes)
+  came_as (steps.Pull to from max) keeps stepped comes = inr (moved_so from to stepped comes)
+  came_as (steps.Event (frames.Take i p)) keeps stepped comes = event_came (steps.Event (frames.Take i p)) (Take i p) refl (λ number left. left) stepped comes
+  came_as (steps.Event (frames.Command i port c)) keeps stepped comes = event_came (steps.Event (frames.Command i port c)) (Do i (Issue port c)) refl (λ number left. left) stepped comes
+  came_as (steps.Event (frames.Retry i op)) keeps stepped comes = event_came (steps.Event (frames.Retry i op)) (Do i (Retry op)) refl (λ number left. left) stepped comes
+  came_as (steps.Event (frames.SeeLoss i p)) keeps stepped comes = absurd comes.0
+  came_as (steps.Event (frames.Lose i keep)) keeps stepped comes = absurd (cc)
+  came_as (steps.Lose node) keeps stepped comes = absurd (cc)
+
+  unseen_as : (pair : Bool) (fault : NodeFault) → IsUnseen pair (Err fault) → SeesNone pair (node_number_of fault)
+  unseen_as pair OutOfMemory unseen = inr (unseen, refl)
+  unseen_as pair (Refused refusal) unseen = inl (ap refusal_number_of unseen)
+  unseen_as pair (BadMessage m) unseen = absurd unseen
+  unseen_as pair TooLong unseen = absurd unseen
+  unseen_as pair Damaged unseen = absurd unseen
 
   -- a step that was refused
-  refused_as : (step : Step) (fault : NodeFault) → StepComesTo config w step (Err fault) Shown → StepsTo over_bytes config w step (node_number_of fault) Shown
-  refused_as (steps.Put from to max) fault comes = inr (unmoved_so from to fault comes)
-  refused_as (steps.Pull to from max) fault comes = inr (unmoved_so from to fault comes)
-  refused_as (steps.Event step) OutOfMemory shown = inr (inr (inr refl), shown)
-  refused_as (steps.Event step) (Refused refusal) (told, shown) = inr (inr (inl (refusal, told, refl)), shown)
-  refused_as (steps.Event step) (BadMessage m) comes = absurd comes
-  refused_as (steps.Event step) TooLong comes = absurd comes
-  refused_as (steps.Event step) Damaged comes = absurd comes
+  refused_as : (step : Step) → is_loss_in step ≡ false → (fault : NodeFault) → StepComesTo config w step (Err fault) Shown → StepsTo over_bytes config w step (node_number_of fault) Shown
+  refused_as (steps.Put from to max) keeps fault comes = inr (unmoved_so from to fault comes)
+  refused_as (steps.Pull to from max) keeps fault comes = inr (unmoved_so from to fault comes)
+  refused_as (steps.Event (frames.Take i p)) keeps fault comes = event_refused (steps.Event (frames.Take i p)) (Take i p) refl (λ number left. left) fault comes
+  refused_as (steps.Event (frames.Command i port c)) keeps fault comes = event_refused (steps.Event (frames.Command i port c)) (Do i (Issue port c)) refl (λ number left. left) fault comes
+  refused_as (steps.Event (frames.Retry i op)) keeps fault comes = event_refused (steps.Event (frames.Retry i op)) (Do i (Retry op)) refl (λ number left. left) fault comes
+  refused_as (steps.Event (frames.SeeLoss i p)) keeps fault comes = inr (unseen_as (is_pair (length config) i p) fault comes.0, comes.1)
+  refused_as (steps.Event (frames.Lose i keep)) keeps fault comes = absurd (cc)
+  refused_as (steps.Lose node) keeps fault comes = absurd (cc)
 
-  pub came_so : (step : Step) (result : Result Stepped NodeFault) (stepped : Stepped) → result ≡ Ok stepped → StepComesTo config w step result Shown → StepsTo over_bytes config w step 0 Shown
-  came_so step result stepped is comes = came_as step stepped (subst (λ r. StepComesTo config w step r Shown) is comes)
+  pub came_so : (step : Step) → is_loss_in step ≡ false → (result : Result Stepped NodeFault) (stepped : Stepped) → result ≡ Ok stepped → StepComesTo config w step result Shown → StepsTo over_bytes config w step 0 Shown
+  came_so step keeps result stepped is comes = came_as step keeps stepped (subst (λ r. StepComesTo config w step r Shown) is comes)
 
-  pub fault_so : (step : Step) (result : Result Stepped NodeFault) (fault : NodeFault) → result ≡ Err fault → StepComesTo config w step result Shown → StepsTo over_bytes config w step (node_number_of fault) Shown
-  fault_so step result fault is comes = refused_as step fault (subst (λ r. StepComesTo config w step r Shown) is comes)
+  pub fault_so : (step : Step) → is_loss_in step ≡ false → (result : Result Stepped NodeFault) (fault : NodeFault) → result ≡ Err fault → StepComesTo config w step result Shown → StepsTo over_bytes config w step (node_number_of fault) Shown
+  fault_so step keeps result fault is comes = refused_as step keeps fault (subst (λ r. StepComesTo config w step r Shown) is comes)
+
+-- no more nodes are lost by a step over bytes that is no loss
+pub none_lost_in : (step : Step) (result : Result Stepped NodeFault) (lost : List ℕ) → is_loss_in step ≡ false → bytes_lost_after step result lost ≡ lost
+none_lost_in (steps.Put from to max) result lost keeps = refl
+none_lost_in (steps.Pull to from max) result lost keeps = refl
+none_lost_in (steps.Event step) result lost keeps = none_more step result lost keeps
+none_lost_in (steps.Lose node) result lost keeps = absurd (cc)

@@ -1,11 +1,14 @@
 mod Answering
 mod Applying
+mod Barred
 mod Crossed
 mod Deciding
+mod Dropped
 mod Fitted
 mod Harmless
 mod Idle
 mod Linked
+mod Lossy
 mod Opened
 mod Ordered
 mod Passing
@@ -15,8 +18,12 @@ mod Queued
 mod Recording
 mod Rowed
 mod Running
+mod Seeing
 mod Sending
+mod Shortened
+mod Sighted
 mod Starting
+mod Stopped
 mod Taking
 mod Tallies
 mod Turning

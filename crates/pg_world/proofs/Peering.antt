@@ -26,10 +26,10 @@ lt_false a b le = go (nat_lt a b) (ltb-true a b)
     go true h = let l : a < b = h refl in absurd (omega arith)
     go false h = refl
 
-peer_low : (i k : ℕ) → k < i → place_of_peer i k ≡ k
+pub peer_low : (i k : ℕ) → k < i → place_of_peer i k ≡ k
 peer_low i k l = ap (λ b. cond b k (k + 1)) (lt-ltb k i l)
 
-peer_high : (i k : ℕ) → i ≤ k → place_of_peer i k ≡ k + 1
+pub peer_high : (i k : ℕ) → i ≤ k → place_of_peer i k ≡ k + 1
 peer_high i k l = ap (λ b. cond b k (k + 1)) (lt_false k i l)
 
 pub place_low : (i y : ℕ) → y < i → peer_place i y ≡ y
@@ -84,7 +84,7 @@ place_within i y n a b other = go (low_or_high y i)
     go (inr l) = let ne : y ≢ i = other in subst (λ k. k + 1 < n) (sym (place_high i y l)) (omega (arith, b, l, ne))
 
 -- it is none of the node itself
-own_place : (i k : ℕ) → place_of_peer i k ≢ i
+pub own_place : (i k : ℕ) → place_of_peer i k ≢ i
 own_place i k = go (low_or_high k i)
   where
     go : (k < i) ⊎ (i ≤ k) → place_of_peer i k ≢ i

@@ -21,7 +21,7 @@ pub record Records (w v : TimedFrameWorld) (i : ℕ) (asked : Option Update) (be
   pub history : (name : Term) → history name v.reported ≡ history name w.reported ++ of_group name (entry_of i began)
   pub applied : (j : ℕ) (name : Term) → applied_count j name v.reported ≡ applied_count j name w.reported + (one_of i j name asked + one_of i j name (begun_by began))
 
-none_of : (i j : ℕ) (name : Term) → one_of i j name None ≡ 0
+pub none_of : (i j : ℕ) (name : Term) → one_of i j name None ≡ 0
 none_of i j name = go (nat_eq i j)
   where
     go : (b : Bool) → ◌≡◌ {A = ℕ} (cond (b && false) 1 0) 0

@@ -1,15 +1,17 @@
 -- Steps that are made one after another.
 use Rattle.std.proofs.Common.{◌≡◌, ℕ, ◌+◌, ◌<◌, List, [], ◌∷◌, ◌++◌, Ok, Err, Result, take, length, get_or, refl, sym, ap, ◌∙◌, inl, inr, subst}
-use Rattle.std.specs.Prelude.{slice_set}
-use Rattle.std.specs.List.{IsDistinct}
+use Rattle.std.specs.Prelude.{slice_set, not, Bool, true, false, Option, Some}
+use Rattle.std.specs.List.{IsDistinct, AllPass}
 use Rattle.std.proofs.lemmas.List.{take_more, take_more_set}
 use Rattle.std.proofs.Math.Seq.{take-length}
-use Rattle.pg_machine.specs.Machine.{Event, happens, start_of}
+use Rattle.pg_machine.specs.Machine.{Event, Take, Do, happens, start_of}
 use Rattle.pg_machine.specs.Clocked.{plain}
 use Rattle.pg_machine.specs.Runs.{Leads}
 use Rattle.pg_step.specs.Config.{Config, names_of}
+use Rattle.pg_machine.specs.Places.{is_pair}
+use Rattle.pg_step.specs.Faults.{refusal_number_of}
 use Rattle.pg_step.specs.FrameMachine.{frame_machine}
-use Rattle.pg_step.specs.Step.{Action}
+use Rattle.pg_step.specs.Step.{Action, Issue, Retry}
 use Rattle.pg_term.specs.Same.{same_atom}
 use Rattle.pg_history.specs.Headline.{OneHistory}
 use Rattle.pg_history.specs.Reached.{Reaches}
@@ -17,13 +19,31 @@ use Rattle.pg_node.specs.NodeFault.{node_number_of}
 use Rattle.pg_node.specs.declared.state.fault.NodeFault.{NodeFault}
 use Rattle.pg_node.specs.declared.state.fault.NodeFault.TheVariants.{Refused, OutOfMemory, Message as BadMessage, TooLong, Damaged}
 use Rattle.pg_world.specs.declared.step.FrameStep.{FrameStep}
+use Rattle.pg_world.specs.declared.step.FrameStep.TheVariants as frames
 use Rattle.pg_world.specs.declared.step.Stepped.{Stepped}
-use Rattle.pg_world.specs.declared.step.Stepped.TheVariants.{Happened, Moved, Nothing}
+use Rattle.pg_world.specs.declared.step.Stepped.TheVariants.{Happened, Moved, Nothing, Gone}
 use Rattle.pg_world.specs.Crossings.{IsReached}
+use Rattle.pg_world.specs.Losing.{lost_after}
 use Rattle.pg_world.specs.Views.{View}
-use Rattle.pg_world.specs.Worlds.{TimedFrameWorld, Shows, ComesTo, event_of}
-use Rattle.pg_world.specs.Runs.{Kind, over_packets, number_told, StepsTo, RunsTo, GoesTo, Ran}
+use Rattle.pg_world.specs.Worlds.{TimedFrameWorld, Shows, ComesTo, IsUnseen, StepComesTo, is_loss, event_of}
+use Rattle.pg_world.specs.Runs.{Kind, over_packets, IsTold, IsPassed, SeesNone, number_told, StepsTo, RunsTo, GoesTo, Ran}
 use Rattle.pg_world.specs.Starts.{Orders}
+
+-- a step of some of which none is a loss is none
+pub passes_at : {S : Type 0} (loses : S → Bool) (steps : List S) (k : ℕ) (s : S) → k < length steps → s ≡ get_or steps k s → AllPass (λ x. not (loses x)) steps → loses s ≡ false
+passes_at loses steps k s within here all = go (loses s) (ap (λ x. not (loses x)) here ∙ all k s within)
+  where
+    go : (b : Bool) → not b ≡ true → b ≡ false
+    go true e = absurd (cc)
+    go false e = refl
+
+-- no more nodes are lost by a step that is no loss
+pub none_more : (step : FrameStep) (result : Result Stepped NodeFault) (lost : List ℕ) → is_loss step ≡ false → lost_after step result lost ≡ lost
+none_more (frames.Take i p) result lost keeps = refl
+none_more (frames.Command i port c) result lost keeps = refl
+none_more (frames.Retry i op) result lost keeps = refl
+none_more (frames.SeeLoss i p) result lost keeps = refl
+none_more (frames.Lose i keep) result lost keeps = absurd (cc)
 
 -- events that lead on from where others led
 leads_on : (config : Config) (es fs : List (Event Action)) (w u v : TimedFrameWorld) → Leads (frame_machine config) w es u → Leads (frame_machine config) u fs v → Leads (frame_machine config) w (es ++ fs) v
@@ -105,26 +125,59 @@ module _ {S : Type 0} (kind : Kind S) (config : Config) where
       (subst (λ (ss : List S). GoesTo kind config w ss (take k numbers) Shown) (ap (λ n. take n steps) last ∙ take-length steps) goes)
 
 -- what a step came to, by its number
-pub happened_so : (config : Config) (w : TimedFrameWorld) (step : FrameStep) (old new : View) (result : Result Stepped NodeFault) (stepped : Stepped) → result ≡ Ok stepped → Shows config old w
-    → ComesTo config w (event_of step) result (Shows config new) → (result ≡ Ok Nothing → new ≡ old) → StepsTo over_packets config w step 0 (Shows config new)
-happened_so config w step old new (Ok Happened) stepped e shows (v, happened, shown) nothing = inl (record { listed = refl; e = event_of step; is = refl; left = v; happened = happened; rest = shown })
-happened_so config w step old new (Ok Nothing) stepped e shows comes nothing =
-    inr (inl (sym (ap number_told comes)), subst (λ (view : View). Shows config view w) (sym (nothing refl)) shows)
-happened_so config w step old new (Ok (Moved count)) stepped e shows comes nothing = absurd comes
-happened_so config w step old new (Err fault) stepped e shows comes nothing = absurd (cc)
+module _ (config : Config) (w : TimedFrameWorld) (old new : View) where
+  module _ (step : FrameStep) (e : Event Action) (is : event_of step ≡ Some e) (passes : (number : ℕ) → IsTold config w e number → IsPassed config w step number) where
+    event_so : (result : Result Stepped NodeFault) (stepped : Stepped) → result ≡ Ok stepped → Shows config old w
+        → ComesTo config w e result (Shows config new) → (result ≡ Ok Nothing → new ≡ old) → StepsTo over_packets config w step 0 (Shows config new)
+    event_so (Ok Happened) stepped r shows (v, happened, shown) nothing = inl (record { listed = refl; e = e; is = is; left = v; happened = happened; rest = shown })
+    event_so (Ok Nothing) stepped r shows comes nothing =
+        inr (passes 0 (inl (sym (ap number_told comes))), subst (λ (view : View). Shows config view w) (sym (nothing refl)) shows)
+    event_so (Ok (Moved count)) stepped r shows comes nothing = absurd comes
+    event_so (Ok Gone) stepped r shows comes nothing = absurd comes
+    event_so (Err fault) stepped r shows comes nothing = absurd (cc)
 
-pub refused_so : (config : Config) (w : TimedFrameWorld) (step : FrameStep) (old new : View) (result : Result Stepped NodeFault) (fault : NodeFault) → result ≡ Err fault → Shows config old w
-    → ComesTo config w (event_of step) result (Shows config new) → new ≡ old → StepsTo over_packets config w step (node_number_of fault) (Shows config new)
-refused_so config w step old new (Ok stepped) fault e shows comes same = absurd (cc)
-refused_so config w step old new (Err OutOfMemory) fault e shows comes same =
-    let is : OutOfMemory ≡ fault = cc in
-    inr (inr (ap node_number_of (sym is)), subst (λ (view : View). Shows config view w) (sym same) shows)
-refused_so config w step old new (Err (Refused refusal)) fault e shows comes same =
-    let is : Refused refusal ≡ fault = cc in
-    inr (inl (ap node_number_of (sym is) ∙ sym (ap number_told comes)), subst (λ (view : View). Shows config view w) (sym same) shows)
-refused_so config w step old new (Err (BadMessage m)) fault e shows comes same = absurd comes
-refused_so config w step old new (Err TooLong) fault e shows comes same = absurd comes
-refused_so config w step old new (Err Damaged) fault e shows comes same = absurd comes
+    event_refused : (result : Result Stepped NodeFault) (fault : NodeFault) → result ≡ Err fault → Shows config old w
+        → ComesTo config w e result (Shows config new) → new ≡ old → StepsTo over_packets config w step (node_number_of fault) (Shows config new)
+    event_refused (Ok stepped) fault r shows comes same = absurd (cc)
+    event_refused (Err OutOfMemory) fault r shows comes same =
+        let one : OutOfMemory ≡ fault = cc in
+        inr (passes (node_number_of fault) (inr (ap node_number_of (sym one))), subst (λ (view : View). Shows config view w) (sym same) shows)
+    event_refused (Err (Refused refusal)) fault r shows comes same =
+        let one : Refused refusal ≡ fault = cc in
+        inr (passes (node_number_of fault) (inl (ap node_number_of (sym one) ∙ sym (ap number_told comes))), subst (λ (view : View). Shows config view w) (sym same) shows)
+    event_refused (Err (BadMessage m)) fault r shows comes same = absurd comes
+    event_refused (Err TooLong) fault r shows comes same = absurd comes
+    event_refused (Err Damaged) fault r shows comes same = absurd comes
+
+  -- no loss is seen
+  pub unseen_never : (pair : Bool) (result : Result Stepped NodeFault) (stepped : Stepped) → result ≡ Ok stepped → IsUnseen pair result → ⊥
+  unseen_never pair (Ok other) stepped r unseen = unseen
+  unseen_never pair (Err fault) stepped r unseen = absurd (cc)
+
+  pub unseen_number : (pair : Bool) (result : Result Stepped NodeFault) (fault : NodeFault) → result ≡ Err fault → IsUnseen pair result → SeesNone pair (node_number_of fault)
+  unseen_number pair (Ok other) fault r unseen = absurd (cc)
+  unseen_number pair (Err OutOfMemory) fault r unseen = let one : OutOfMemory ≡ fault = cc in inr (unseen, ap node_number_of (sym one))
+  unseen_number pair (Err (Refused refusal)) fault r unseen = let one : Refused refusal ≡ fault = cc in inl (ap node_number_of (sym one) ∙ ap refusal_number_of unseen)
+  unseen_number pair (Err (BadMessage m)) fault r unseen = absurd unseen
+  unseen_number pair (Err TooLong) fault r unseen = absurd unseen
+  unseen_number pair (Err Damaged) fault r unseen = absurd unseen
+
+  pub happened_so : (step : FrameStep) → is_loss step ≡ false → (result : Result Stepped NodeFault) (stepped : Stepped) → result ≡ Ok stepped → Shows config old w
+      → StepComesTo config w step result (Shows config new) → (result ≡ Ok Nothing → new ≡ old) → StepsTo over_packets config w step 0 (Shows config new)
+  happened_so (frames.Take i p) keeps = event_so (frames.Take i p) (Take i p) refl (λ number told. told)
+  happened_so (frames.Command i port c) keeps = event_so (frames.Command i port c) (Do i (Issue port c)) refl (λ number told. told)
+  happened_so (frames.Retry i op) keeps = event_so (frames.Retry i op) (Do i (Retry op)) refl (λ number told. told)
+  happened_so (frames.SeeLoss i p) keeps = λ result stepped r shows comes nothing. absurd (unseen_never (is_pair (length config) i p) result stepped r comes)
+  happened_so (frames.Lose i keep) keeps = absurd (cc)
+
+  pub refused_so : (step : FrameStep) → is_loss step ≡ false → (result : Result Stepped NodeFault) (fault : NodeFault) → result ≡ Err fault → Shows config old w
+      → StepComesTo config w step result (Shows config new) → new ≡ old → StepsTo over_packets config w step (node_number_of fault) (Shows config new)
+  refused_so (frames.Take i p) keeps = event_refused (frames.Take i p) (Take i p) refl (λ number told. told)
+  refused_so (frames.Command i port c) keeps = event_refused (frames.Command i port c) (Do i (Issue port c)) refl (λ number told. told)
+  refused_so (frames.Retry i op) keeps = event_refused (frames.Retry i op) (Do i (Retry op)) refl (λ number told. told)
+  refused_so (frames.SeeLoss i p) keeps = λ result fault r shows comes same.
+      inr (unseen_number (is_pair (length config) i p) result fault r comes, subst (λ (view : View). Shows config view w) (sym same) shows)
+  refused_so (frames.Lose i keep) keeps = absurd (cc)
 
 -- a run from the start of a configuration, where one history is known of each world
 pub ran_so : {S : Type 0} (kind : Kind S) (given : Config) (Before Shown : Config → TimedFrameWorld → Type 0) (steps : List S) (numbers : List ℕ)

@@ -66,7 +66,7 @@ pair_is size x y e = go (nat_lt x size) (nat_lt y size) (nat_eq x y) (ltb-true x
     go true false c f g h e = absurd (cc)
     go false b c f g h e = absurd (cc)
 
-is_pair_so : (size x y : ℕ) → x < size → y < size → y ≢ x → is_pair size x y ≡ true
+pub is_pair_so : (size x y : ℕ) → x < size → y < size → y ≢ x → is_pair size x y ≡ true
 is_pair_so size x y a b n = (λ j. lt-ltb x size a j && (lt-ltb y size b j && not (ne_eqb x y (λ e. n (sym e)) j)))
 
 pub pair_turned : (size x y : ℕ) → is_pair size x y ≡ true → is_pair size y x ≡ true

@@ -1,11 +1,11 @@
 -- What is told of a step that names a place that is not there.
-use Rattle.std.proofs.Common.{◌≡◌, ℕ, ◌+◌, ◌<◌, ◌≤◌, true, false, cond, get_or, length, nat_lt, Some, None, Ok, Err, sym, ap, ◌∙◌, inl, inr, ◌⊎◌, arith}
-use Rattle.std.specs.Prelude.{slice_get, List}
+use Rattle.std.proofs.Common.{◌≡◌, ℕ, ◌+◌, ◌<◌, ◌≤◌, true, false, cond, get_or, length, nat_lt, Some, None, Ok, Err, refl, sym, ap, ◌∙◌, inl, inr, ◌⊎◌, arith}
+use Rattle.std.specs.Prelude.{slice_get, List, []}
 use Rattle.std.specs.Option.{option_map_or}
 use Rattle.std.proofs.lemmas.Bool.{lt-ltb}
 use Rattle.std.proofs.lemmas.Option.{slice_get_cases}
 use Rattle.pg_machine.specs.Places.{is_place, is_pair}
-use Rattle.pg_machine.specs.Machine.{Do}
+use Rattle.pg_machine.specs.Machine.{Take, Do}
 use Rattle.pg_machine.specs.Clocked.{Timed}
 use Rattle.pg_step.specs.Attempts.{retry}
 use Rattle.pg_step.specs.Commands.{command}
@@ -14,11 +14,14 @@ use Rattle.pg_step.specs.Nodes.{Nodes}
 use Rattle.pg_step.specs.State.{State, left}
 use Rattle.pg_step.specs.Step.{Action, Issue, Retry, timed, step_act}
 use Rattle.pg_step.specs.StepLaws.{port_of}
-use Rattle.pg_step.specs.declared.refusal.Refusal.TheVariants.{NoSuchPlace}
+use Rattle.pg_step.specs.declared.refusal.Refusal.TheVariants.{NoSuchPlace, NotLost}
+use Rattle.pg_node.specs.declared.state.fault.NodeFault.TheVariants.{Refused, OutOfMemory}
 use Rattle.pg_world.specs.declared.step.FrameStep.{FrameStep}
 use Rattle.pg_world.specs.declared.step.FrameStep.TheVariants as steps
 use Rattle.pg_world.specs.Views.{Seen}
-use Rattle.pg_world.specs.Worlds.{TimedFrameWorld, ShowsNodes, event_of, has_port, has_places, told, told_of_first}
+use Rattle.pg_world.specs.Worlds.{TimedFrameWorld, ShowsNodes, has_port, has_places, told, told_of_first, StepComesTo}
+use Rattle.pg_world.specs.Crossings.{FrameComesTo}
+use Rattle.pg_world.specs.Losing.{is_barred}
 use Rattle.pg_world.proofs.Peering.{lt_false}
 
 no_port : (m : Nodes) (ports : ℕ) (action : Action) (s : Timed State) → nat_lt (port_of action) ports ≡ false → step_act m ports action s ≡ Err NoSuchPlace
@@ -39,8 +42,48 @@ module _ (config : Config) (nodes : List Seen) (w : TimedFrameWorld) (shows : Sh
       go (inr r) = ap (λ b. Some (cond b (step_act (nodes_at config i) (ports_at config i) action (w.node i)) (Err NoSuchPlace)))
           (lt_false i (length config) (omega (arith, r.0, shows.size)))
 
-  pub unplaced : (step : FrameStep) → has_places nodes step ≡ false → told config w (event_of step) ≡ Some (Err NoSuchPlace)
-  unplaced (steps.Take i p) none = ap (λ b. cond b (told_of_first (nodes_at config i) (name_at config p) (w.node i) (w.wire p i)) (Some (Err NoSuchPlace)))
+  taken_nowhere : (i p : ℕ) → is_pair (length nodes) i p ≡ false → told config w (Take i p) ≡ Some (Err NoSuchPlace)
+  taken_nowhere i p none = ap (λ b. cond b (told_of_first (nodes_at config i) (name_at config p) (w.node i) (w.wire p i)) (Some (Err NoSuchPlace)))
       (ap (λ n. is_pair n i p) (sym shows.size) ∙ none)
-  unplaced (steps.Command i port c) none = acts_nowhere i (Issue port c) none
-  unplaced (steps.Retry i op) none = acts_nowhere i (Retry op) none
+
+  unseen_nowhere : (i p : ℕ) → is_pair (length nodes) i p ≡ false → NoSuchPlace ≡ cond (is_pair (length config) i p) NotLost NoSuchPlace
+  unseen_nowhere i p none = sym (ap (λ b. cond b NotLost NoSuchPlace) (ap (λ n. is_pair n i p) (sym shows.size) ∙ none))
+
+  -- over packets
+  pub unplaced : (step : FrameStep) (Shown : TimedFrameWorld → Type 0) → has_places nodes step ≡ false → StepComesTo config w step (Err (Refused NoSuchPlace)) Shown
+  unplaced (steps.Take i p) Shown none = taken_nowhere i p none
+  unplaced (steps.Command i port c) Shown none = acts_nowhere i (Issue port c) none
+  unplaced (steps.Retry i op) Shown none = acts_nowhere i (Retry op) none
+  unplaced (steps.SeeLoss i p) Shown none = unseen_nowhere i p none
+  unplaced (steps.Lose i keep) Shown none = tt
+
+  -- over bytes
+  pub unplaced_event : (step : FrameStep) (Shown : TimedFrameWorld → Type 0) → has_places nodes step ≡ false → Shown w → FrameComesTo config w step (Err (Refused NoSuchPlace)) Shown
+  unplaced_event (steps.Take i p) Shown none shown = (taken_nowhere i p none, shown)
+  unplaced_event (steps.Command i port c) Shown none shown = (acts_nowhere i (Issue port c) none, shown)
+  unplaced_event (steps.Retry i op) Shown none shown = (acts_nowhere i (Retry op) none, shown)
+  unplaced_event (steps.SeeLoss i p) Shown none shown = (unseen_nowhere i p none, shown)
+  unplaced_event (steps.Lose i keep) Shown none shown = tt
+
+  -- memory ran out behind the places
+  pub starved : (step : FrameStep) (Shown : TimedFrameWorld → Type 0) → has_places nodes step ≡ true → StepComesTo config w step (Err OutOfMemory) Shown
+  starved (steps.Take i p) Shown places = tt
+  starved (steps.Command i port c) Shown places = tt
+  starved (steps.Retry i op) Shown places = tt
+  starved (steps.SeeLoss i p) Shown places = ap (λ n. is_pair n i p) (sym shows.size) ∙ places
+  starved (steps.Lose i keep) Shown places = tt
+
+  pub starved_event : (step : FrameStep) (Shown : TimedFrameWorld → Type 0) → has_places nodes step ≡ true → Shown w → FrameComesTo config w step (Err OutOfMemory) Shown
+  starved_event (steps.Take i p) Shown places shown = shown
+  starved_event (steps.Command i port c) Shown places shown = shown
+  starved_event (steps.Retry i op) Shown places shown = shown
+  starved_event (steps.SeeLoss i p) Shown places shown = (ap (λ n. is_pair n i p) (sym shows.size) ∙ places, shown)
+  starved_event (steps.Lose i keep) Shown places shown = tt
+
+-- where no node is lost no step is barred
+pub never_barred : (nodes : List Seen) (step : FrameStep) → is_barred nodes [] step ≡ false
+never_barred nodes (steps.Take i p) = refl
+never_barred nodes (steps.Command i port c) = refl
+never_barred nodes (steps.Retry i op) = refl
+never_barred nodes (steps.SeeLoss i p) = refl
+never_barred nodes (steps.Lose i keep) = refl

@@ -1,18 +1,19 @@
 -- What a step over bytes changes, and how many bytes move.
-use Rattle.std.specs.Prelude.{◌≡◌, ◌≢◌, ◌-◌, ℕ, true, min, length, get_or, slice_get, None, Result, Ok}
+use Rattle.std.specs.Prelude.{◌≡◌, ◌≢◌, ◌-◌, ℕ, true, min, length, get_or, slice_get, None, Result, Ok, Err}
 use Rattle.pg_machine.specs.Places.{is_pair}
 use Rattle.pg_machine.specs.Machine.{Event, Take, Do, node_of as place_of}
 use Rattle.pg_pieces.specs.Pieces.{Bytes, put, pull}
-use Rattle.pg_step.specs.Step.{Action}
+use Rattle.pg_step.specs.Step.{Action, Issue, Retry}
 use Rattle.pg_node.specs.declared.state.fault.NodeFault.{NodeFault}
 use Rattle.pg_node.specs.Bytes.{next_packet}
 use Rattle.pg_node.specs.Links.{Link}
+use Rattle.pg_world.specs.declared.step.FrameStep.{FrameStep}
+use Rattle.pg_world.specs.declared.step.FrameStep.TheVariants as frames
 use Rattle.pg_world.specs.declared.step.Step.{Step}
 use Rattle.pg_world.specs.declared.step.Step.TheVariants as steps
 use Rattle.pg_world.specs.declared.step.Stepped.{Stepped}
 use Rattle.pg_world.specs.declared.step.Stepped.TheVariants.{Nothing, Moved}
 use Rattle.pg_world.specs.Crossings.{Crossing, no_links, link_at, bytes_at}
-use Rattle.pg_world.specs.Worlds.{event_of}
 
 -- Bytes have moved from one node to another, and all else is as it was.
 pub record Moves (old new : Crossing) (x y : ℕ) (change : Bytes → Bytes) : Type 0 where
@@ -54,8 +55,22 @@ abbrev pub EventChanges : Crossing → Crossing → Event Action → Result Step
 EventChanges old new e (Ok Nothing) = HasNone old e × ChangesAlone (place_of e) old new
 EventChanges old new e result = ChangesAlone (place_of e) old new
 
--- what a step changes, where each ring has room for so many bytes
+-- what seeing a loss changes: its node alone, and nothing where it is refused
+abbrev pub SightChanges : Crossing → Crossing → ℕ → Result Stepped NodeFault → Type 0
+SightChanges old new i (Ok stepped) = ChangesAlone i old new
+SightChanges old new i (Err fault) = new ≡ old
+
+-- what an event changes
+abbrev pub FrameChanges : Crossing → Crossing → FrameStep → Result Stepped NodeFault → Type 0
+FrameChanges old new (frames.Take i p) result = EventChanges old new (Take i p) result
+FrameChanges old new (frames.Command i port command) result = EventChanges old new (Do i (Issue port command)) result
+FrameChanges old new (frames.Retry i op) result = EventChanges old new (Do i (Retry op)) result
+FrameChanges old new (frames.SeeLoss i p) result = SightChanges old new i result
+FrameChanges old new (frames.Lose i keep) result = new ≡ old
+
+-- what a step changes, where each ring has room for so many bytes; a loss leaves all bytes where they are
 abbrev pub StepChanges : ℕ → Crossing → Crossing → Step → Result Stepped NodeFault → Type 0
 StepChanges capacity old new (steps.Put x y max) result = MoveChanges old new x y (put_count capacity max (bytes_at old x y)) put result
 StepChanges capacity old new (steps.Pull y x max) result = MoveChanges old new x y (pull_count max (bytes_at old x y)) pull result
-StepChanges capacity old new (steps.Event step) result = EventChanges old new (event_of step) result
+StepChanges capacity old new (steps.Event step) result = FrameChanges old new step result
+StepChanges capacity old new (steps.Lose node) result = new ≡ old

@@ -15,7 +15,7 @@ use Rattle.pg_pieces.specs.Pieces.{Bytes, ArePackets}
 use Rattle.pg_step.specs.declared.refusal.Refusal.TheVariants.{NoSuchPlace}
 use Rattle.pg_step.specs.Config.{Config}
 use Rattle.pg_step.specs.FrameMachine.{frame_machine}
-use Rattle.pg_step.specs.Step.{Action}
+use Rattle.pg_step.specs.Step.{Action, Issue, Retry}
 use Rattle.pg_node.specs.declared.node.Node.{Node}
 use Rattle.pg_node.specs.declared.state.fault.NodeFault.{NodeFault}
 use Rattle.pg_node.specs.declared.state.fault.NodeFault.TheVariants.{Refused, OutOfMemory}
@@ -23,13 +23,15 @@ use Rattle.pg_node.specs.Links.{Link, idle_link}
 use Rattle.pg_node.specs.Nodes.{held_by, links_of}
 use Rattle.pg_history.specs.Reached.{Reaches}
 use Rattle.pg_world.specs.declared.rings.Rings.{Rings}
+use Rattle.pg_world.specs.declared.step.FrameStep.{FrameStep}
+use Rattle.pg_world.specs.declared.step.FrameStep.TheVariants as frames
 use Rattle.pg_world.specs.declared.step.Step.{Step}
 use Rattle.pg_world.specs.declared.step.Step.TheVariants as steps
 use Rattle.pg_world.specs.declared.step.Stepped.{Stepped}
 use Rattle.pg_world.specs.declared.step.Stepped.TheVariants.{Nothing, Moved, Happened}
 use Rattle.pg_world.specs.declared.bytes.World.{World}
 use Rattle.pg_world.specs.Views.{Seen, Account, seen_of, peer_place}
-use Rattle.pg_world.specs.Worlds.{TimedFrameWorld, ShowsNodes, ShowsUpdates, event_of, told}
+use Rattle.pg_world.specs.Worlds.{TimedFrameWorld, ShowsNodes, ShowsUpdates, IsUnseen, is_loss, told}
 
 -- ---- a world as it is seen
 
@@ -118,7 +120,7 @@ is_take (Do i action) = false
 abbrev pub EventComesTo : Config → TimedFrameWorld → Event Action → Result Stepped NodeFault → (TimedFrameWorld → Type 0) → Type 0
 EventComesTo config w e (Ok Happened) Shown = (v : TimedFrameWorld) × (happens (frame_machine config) w e ≡ Some v) × Shown v
 EventComesTo config w e (Ok Nothing) Shown = (is_take e ≡ true) × Shown w
-EventComesTo config w e (Ok (Moved count)) Shown = ⊥
+EventComesTo config w e (Ok stepped) Shown = ⊥
 EventComesTo config w e (Err OutOfMemory) Shown = Shown w
 EventComesTo config w e (Err (Refused refusal)) Shown = (told config w e ≡ Some (Err refusal)) × Shown w
 EventComesTo config w e (Err fault) Shown = ⊥
@@ -132,7 +134,23 @@ MoveComesTo config x y (Err OutOfMemory) Shown = (is_pair (length config) x y �
 MoveComesTo config x y (Err (Refused refusal)) Shown = (refusal ≡ NoSuchPlace) × (is_pair (length config) x y ≡ false) × Shown
 MoveComesTo config x y (Err fault) Shown = ⊥
 
+-- What came of an event where no node is lost.
+abbrev pub FrameComesTo : Config → TimedFrameWorld → FrameStep → Result Stepped NodeFault → (TimedFrameWorld → Type 0) → Type 0
+FrameComesTo config w (frames.Take i p) result Shown = EventComesTo config w (Take i p) result Shown
+FrameComesTo config w (frames.Command i port command) result Shown = EventComesTo config w (Do i (Issue port command)) result Shown
+FrameComesTo config w (frames.Retry i op) result Shown = EventComesTo config w (Do i (Retry op)) result Shown
+FrameComesTo config w (frames.SeeLoss i p) result Shown = IsUnseen (is_pair (length config) i p) result × Shown w
+FrameComesTo config w (frames.Lose i keep) result Shown = Unit {0}
+
+-- What came of a step over bytes where no node is lost. What the loss of a node leaves is said where nodes may be lost.
 abbrev pub StepComesTo : Config → TimedFrameWorld → Step → Result Stepped NodeFault → (TimedFrameWorld → Type 0) → Type 0
 StepComesTo config w (steps.Put from to max) result Shown = MoveComesTo config from to result (Shown w)
 StepComesTo config w (steps.Pull to from max) result Shown = MoveComesTo config from to result (Shown w)
-StepComesTo config w (steps.Event step) result Shown = EventComesTo config w (event_of step) result Shown
+StepComesTo config w (steps.Event step) result Shown = FrameComesTo config w step result Shown
+StepComesTo config w (steps.Lose node) result Shown = Unit {0}
+
+-- a step by which a node is lost
+abbrev pub is_loss_in : Step → Bool
+is_loss_in (steps.Event step) = is_loss step
+is_loss_in (steps.Lose node) = true
+is_loss_in step = false

@@ -1,8 +1,11 @@
+pub mod Bars
 pub mod Configs
 pub mod Crossings
 pub mod Faults
 pub mod Fitting
 pub mod Histories
+pub mod Losing
+pub mod Losses
 pub mod Openings
 pub mod Rooms
 pub mod Runs

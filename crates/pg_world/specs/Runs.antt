@@ -1,21 +1,23 @@
 -- What comes of steps that are made one after another.
-use Rattle.std.specs.Prelude.{◌≡◌, ◌⊎◌, ℕ, true, false, length, List, [], ◌∷◌, Option, Some, None, Result, Ok, Err}
+use Rattle.std.specs.Prelude.{◌≡◌, ◌⊎◌, ℕ, Bool, true, false, not, cond, length, List, [], ◌∷◌, Option, Some, None, Result, Ok, Err}
+use Rattle.std.specs.List.{AllPass}
 use Rattle.pg_machine.specs.Places.{is_pair}
-use Rattle.pg_machine.specs.Machine.{Event, happens, start_of}
+use Rattle.pg_machine.specs.Machine.{Event, Take, Do, happens, start_of}
 use Rattle.pg_machine.specs.Clocked.{plain}
 use Rattle.pg_step.specs.declared.refusal.Refusal.{Refusal}
-use Rattle.pg_step.specs.declared.refusal.Refusal.TheVariants.{NoSuchPlace}
+use Rattle.pg_step.specs.declared.refusal.Refusal.TheVariants.{NoSuchPlace, NotLost}
 use Rattle.pg_step.specs.Config.{Config}
 use Rattle.pg_step.specs.Faults.{refusal_number_of}
 use Rattle.pg_step.specs.FrameMachine.{frame_machine}
-use Rattle.pg_step.specs.Step.{Action, TimedTurn}
+use Rattle.pg_step.specs.Step.{Action, Issue, Retry, TimedTurn}
 use Rattle.pg_history.specs.Headline.{OneHistory}
 use Rattle.pg_world.specs.declared.step.FrameStep.{FrameStep}
+use Rattle.pg_world.specs.declared.step.FrameStep.TheVariants as frames
 use Rattle.pg_world.specs.declared.step.Step.{Step}
 use Rattle.pg_world.specs.declared.step.Step.TheVariants as steps
-use Rattle.pg_world.specs.Crossings.{is_take}
+use Rattle.pg_world.specs.Crossings.{is_take, is_loss_in}
 use Rattle.pg_world.specs.Starts.{Orders}
-use Rattle.pg_world.specs.Worlds.{TimedFrameWorld, event_of, told}
+use Rattle.pg_world.specs.Worlds.{TimedFrameWorld, event_of, is_loss, told}
 
 -- the number of a step that did nothing, by what is told of its event: 0 where nothing was on the way, that of the refusal where
 -- it is refused, and 10, out of memory, where it could have happened
@@ -31,12 +33,28 @@ pub record Kind (S : Type 0) : Type 1 where
   pub event : S → Option (Event Action)
   pub Passed : Config → TimedFrameWorld → S → ℕ → Type 0
 
--- A step over packets that did nothing has the number of what is told of it, in the place of which memory may run out.
+-- An event over packets that did nothing has the number of what is told of it, in the place of which memory may run out.
+abbrev pub IsTold : Config → TimedFrameWorld → Event Action → ℕ → Type 0
+IsTold config w e number = (number ≡ number_told (told config w e)) ⊎ (number ≡ 10)
+
+-- no loss is seen where no node is lost: a place is not there, the peer is not lost, or memory ran out
+abbrev pub SeesNone : Bool → ℕ → Type 0
+SeesNone pair number = (number ≡ refusal_number_of (cond pair NotLost NoSuchPlace)) ⊎ ((pair ≡ true) × (number ≡ 10))
+
+-- steps by which a node is lost are passed over by none of these runs
 abbrev pub IsPassed : Config → TimedFrameWorld → FrameStep → ℕ → Type 0
-IsPassed config w step number = (number ≡ number_told (told config w (event_of step))) ⊎ (number ≡ 10)
+IsPassed config w (frames.Take i p) number = IsTold config w (Take i p) number
+IsPassed config w (frames.Command i port command) number = IsTold config w (Do i (Issue port command)) number
+IsPassed config w (frames.Retry i op) number = IsTold config w (Do i (Retry op)) number
+IsPassed config w (frames.SeeLoss i p) number = SeesNone (is_pair (length config) i p) number
+IsPassed config w (frames.Lose i keep) number = ⊥
 
 abbrev pub over_packets : Kind FrameStep
-over_packets = record { event = λ step. Some (event_of step); Passed = IsPassed }
+over_packets = record { event = event_of; Passed = IsPassed }
+
+-- none of these steps is a loss
+abbrev pub LosesNone : List FrameStep → Type 0
+LosesNone all = AllPass (λ step. not (is_loss step)) all
 
 -- bytes that should move between two nodes: they moved, or memory ran out; or the nodes are not there
 abbrev pub IsMove : Config → ℕ → ℕ → ℕ → Type 0
@@ -48,19 +66,32 @@ abbrev pub IsLeft : Config → TimedFrameWorld → Event Action → ℕ → Type
 IsLeft config w e number = ((is_take e ≡ true) × (number ≡ 0))
     ⊎ (((refusal : Refusal) × (told config w e ≡ Some (Err refusal)) × (number ≡ refusal_number_of refusal)) ⊎ (number ≡ 10))
 
--- the event of a step over bytes, if it is one
+-- the event of a step over bytes, if it is one of nodes that know of no loss
 abbrev pub event_in : Step → Option (Event Action)
 event_in (steps.Put from to max) = None
 event_in (steps.Pull to from max) = None
-event_in (steps.Event step) = Some (event_of step)
+event_in (steps.Event step) = event_of step
+event_in (steps.Lose node) = None
+
+abbrev pub IsEventLeft : Config → TimedFrameWorld → FrameStep → ℕ → Type 0
+IsEventLeft config w (frames.Take i p) number = IsLeft config w (Take i p) number
+IsEventLeft config w (frames.Command i port command) number = IsLeft config w (Do i (Issue port command)) number
+IsEventLeft config w (frames.Retry i op) number = IsLeft config w (Do i (Retry op)) number
+IsEventLeft config w (frames.SeeLoss i p) number = SeesNone (is_pair (length config) i p) number
+IsEventLeft config w (frames.Lose i keep) number = ⊥
 
 abbrev pub IsStill : Config → TimedFrameWorld → Step → ℕ → Type 0
 IsStill config w (steps.Put from to max) number = IsMove config from to number
 IsStill config w (steps.Pull to from max) number = IsMove config from to number
-IsStill config w (steps.Event step) number = IsLeft config w (event_of step) number
+IsStill config w (steps.Event step) number = IsEventLeft config w step number
+IsStill config w (steps.Lose node) number = ⊥
 
 abbrev pub over_bytes : Kind Step
 over_bytes = record { event = event_in; Passed = IsStill }
+
+-- none of these steps over bytes is a loss
+abbrev pub NobodyLost : List Step → Type 0
+NobodyLost all = AllPass (λ step. not (is_loss_in step)) all
 
 -- ---- runs
 

@@ -1,5 +1,5 @@
 -- What nodes and the packets on the way between them are seen as.
-use Rattle.std.specs.Prelude.{◌≡◌, ℕ, ◌+◌, ◌-◌, ◌<◌, cond, nat_eq, nat_lt, map, length, replicate, get_or, slice_get, List, [], ◌∷◌, ◌++◌, Option, Some, None}
+use Rattle.std.specs.Prelude.{◌≡◌, ℕ, ◌+◌, ◌-◌, ◌<◌, ◌≤◌, cond, nat_eq, nat_lt, map, length, replicate, get_or, slice_get, List, [], ◌∷◌, ◌++◌, Option, Some, None}
 use Rattle.std.specs.VecDeque.{deque_len, deque_capacity}
 use Rattle.pg_term.specs.declared.term.Term.{Term}
 use Rattle.pg_group.specs.declared.table.GroupTable.{Ghosts}
@@ -48,6 +48,11 @@ packets_to (sent ∷ others) place = cond (nat_eq sent.0 place) (stamped_of sent
 -- what is sent goes to places among so many peers, and to each at most once
 abbrev pub FitWays : ℕ → List (ℕ × Packet) → Type 0
 FitWays peers sends = (names : List Node) × (peers + 1 ≡ length names) × AreSendable names sends
+
+-- so many packets can stay on the ways to the peers, by their places: on each as many as are there at most
+pub record CanStay (keep : List ℕ) (ways : List (List (Stamped Message))) : Type 0 where
+  pub len : length keep ≡ length ways
+  pub fits : (place : ℕ) → place < length ways → get_or keep place 0 ≤ length (get_or ways place [])
 
 -- ---- a world as it is seen
 

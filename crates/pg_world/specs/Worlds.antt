@@ -11,7 +11,7 @@ use Rattle.pg_machine.specs.Machine.{Event, Take, Do, happens}
 use Rattle.pg_machine.specs.Clocked.{Timed, Stamped, TimedWorld}
 use Rattle.pg_step.specs.declared.answer.Answer.{Answer}
 use Rattle.pg_step.specs.declared.refusal.Refusal.{Refusal}
-use Rattle.pg_step.specs.declared.refusal.Refusal.TheVariants.{NoSuchPlace}
+use Rattle.pg_step.specs.declared.refusal.Refusal.TheVariants.{NoSuchPlace, NotLost}
 use Rattle.pg_step.specs.Commands.{Answers}
 use Rattle.pg_step.specs.Config.{Config, names_of as names_in, name_at, nodes_at, ports_at}
 use Rattle.pg_step.specs.FrameMachine.{frame_machine}
@@ -81,11 +81,13 @@ pub record Shows (config : Config) (view : View) (w : TimedFrameWorld) : Type 0 
 
 -- ---- steps
 
--- the event of a step
-abbrev pub event_of : FrameStep → Event Action
-event_of (steps.Take node peer) = Take node peer
-event_of (steps.Command node port command) = Do node (Issue port command)
-event_of (steps.Retry node op) = Do node (Retry op)
+-- the event of a step, where it is one of nodes that know of no loss
+abbrev pub event_of : FrameStep → Option (Event Action)
+event_of (steps.Take node peer) = Some (Take node peer)
+event_of (steps.Command node port command) = Some (Do node (Issue port command))
+event_of (steps.Retry node op) = Some (Do node (Retry op))
+event_of (steps.SeeLoss node peer) = None
+event_of (steps.Lose node keep) = None
 
 -- a node has that port
 abbrev pub has_port : List Seen → ℕ → ℕ → Bool
@@ -96,6 +98,8 @@ abbrev pub has_places : List Seen → FrameStep → Bool
 has_places nodes (steps.Take node peer) = is_pair (length nodes) node peer
 has_places nodes (steps.Command node port command) = has_port nodes node port
 has_places nodes (steps.Retry node op) = has_port nodes node op.port
+has_places nodes (steps.SeeLoss node peer) = is_pair (length nodes) node peer
+has_places nodes (steps.Lose node keep) = nat_lt node (length nodes)
 
 -- what the step of a node tells of the first packet of a peer; None where there is none
 abbrev pub told_of_first : Nodes → Node → Timed State → List (Stamped Message) → Option (Result TimedTurn Refusal)
@@ -112,7 +116,28 @@ told config w (Do i action) = Some (cond (is_place (length config) i) (step_act 
 abbrev pub ComesTo : Config → TimedFrameWorld → Event Action → Result Stepped NodeFault → (TimedFrameWorld → Type 0) → Type 0
 ComesTo config w e (Ok Happened) Shown = (v : TimedFrameWorld) × (happens (frame_machine config) w e ≡ Some v) × Shown v
 ComesTo config w e (Ok Nothing) Shown = told config w e ≡ None
-ComesTo config w e (Ok (Moved count)) Shown = ⊥
+ComesTo config w e (Ok stepped) Shown = ⊥
 ComesTo config w e (Err OutOfMemory) Shown = Unit {0}
 ComesTo config w e (Err (Refused refusal)) Shown = told config w e ≡ Some (Err refusal)
 ComesTo config w e (Err fault) Shown = ⊥
+
+-- What came of seeing a loss where no node is lost: it is refused, since a place is not there or the peer is not lost; or memory
+-- ran out.
+abbrev pub IsUnseen : Bool → Result Stepped NodeFault → Type 0
+IsUnseen pair (Ok stepped) = ⊥
+IsUnseen pair (Err OutOfMemory) = pair ≡ true
+IsUnseen pair (Err (Refused refusal)) = refusal ≡ cond pair NotLost NoSuchPlace
+IsUnseen pair (Err fault) = ⊥
+
+-- What came of a step in the world w, where no node is lost. What the loss of a node leaves is said where nodes may be lost.
+abbrev pub StepComesTo : Config → TimedFrameWorld → FrameStep → Result Stepped NodeFault → (TimedFrameWorld → Type 0) → Type 0
+StepComesTo config w (steps.Take i p) result Shown = ComesTo config w (Take i p) result Shown
+StepComesTo config w (steps.Command i port command) result Shown = ComesTo config w (Do i (Issue port command)) result Shown
+StepComesTo config w (steps.Retry i op) result Shown = ComesTo config w (Do i (Retry op)) result Shown
+StepComesTo config w (steps.SeeLoss i p) result Shown = IsUnseen (is_pair (length config) i p) result
+StepComesTo config w (steps.Lose i keep) result Shown = Unit {0}
+
+-- a step by which a node is lost
+abbrev pub is_loss : FrameStep → Bool
+is_loss (steps.Lose i keep) = true
+is_loss step = false

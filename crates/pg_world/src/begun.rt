@@ -1,6 +1,6 @@
 //! How a world begins.
 
-ghost use Rattle.std.specs.Prelude.{◌≡◌, true, false, None, IfOk, IfErr, OnOk};
+ghost use Rattle.std.specs.Prelude.{◌≡◌, [], true, false, None, IfOk, IfErr, OnOk};
 ghost use Rattle.pg_ring.specs.Capacity.{IsCapacity};
 ghost use Rattle.pg_step.specs.Config.{IsConfig};
 ghost use Rattle.pg_world.specs.Configs.{refusal_of};
@@ -18,6 +18,7 @@ impl FrameWorld<IndexTable> {
     ghost use Rattle.pg_world.specs.Openings.{AreReady, AllFit, CantBegin, CantStart};
     ghost use Rattle.pg_world.specs.Starts.{Begins};
     ghost use Rattle.pg_world.specs.Worlds.{view_of};
+    ghost use Rattle.pg_world.specs.Losing.{lost_of};
 
     /// The nodes of a configuration as they start, where what each of them tells of its groups is on the way to each other.
     /// Its cost is that of `Config::check`, of the groups of each node, once in its table and once for each peer, and for each
@@ -29,6 +30,7 @@ impl FrameWorld<IndexTable> {
         ensures good { IfOk result (λ world. IsConfig config.now.starts.items × IsCapacity config.now.ring) }
         ensures fits { IfOk result (λ world. AllFit config.now.starts.items) }
         ensures begins { IfOk result (λ world. Begins config.now.starts.items (view_of world)) }
+        ensures lost { IfOk result (λ world. lost_of world ≡ []) }
         ensures fault { IfErr result (CantBegin config.now.ring config.now.starts.items) }
     {
         match ready(alloc, config) {
@@ -41,6 +43,7 @@ impl FrameWorld<IndexTable> {
     fn begun(alloc: Global, starts: &[Start]) -> Result<FrameWorld<IndexTable>, WorldFault>
         requires ready { AreReady starts.now }
         ensures begins { IfOk result (λ world. Begins starts.now (view_of world)) }
+        ensures lost { IfOk result (λ world. lost_of world ≡ []) }
         ensures fits { IfOk result (λ world. AllFit starts.now) }
         ensures fault { IfErr result (CantStart starts.now) }
     {

@@ -1,6 +1,6 @@
 //! Nodes whose packets cross as bytes, by rings between them, and what a step makes of them.
 
-ghost use Rattle.std.specs.Prelude.{◌≡◌, ◌↔◌, ◌<◌, ◌+◌, ◌^◌, ◌++◌, IsTrue, true, Ok, Some, IfOk, length, map, option_map, slice_get};
+ghost use Rattle.std.specs.Prelude.{◌≡◌, ◌↔◌, ◌<◌, ◌+◌, ◌^◌, ◌++◌, IsTrue, true, [], Ok, Some, IfOk, length, map, option_map, slice_get};
 ghost use Rattle.std.specs.List.{All};
 ghost use Rattle.std.specs.Option.{option_copied};
 ghost use Rattle.pg_node.specs.Nodes.{held_by};
@@ -9,10 +9,12 @@ ghost use Rattle.pg_world.specs.declared.rings.Rings.{Rings};
 ghost use Rattle.pg_world.specs.Rooms.{HaveRoomFor};
 
 mod begun;
+mod losing;
 mod runs;
 
 use crate::entry::Entry;
 use crate::histories::Histories;
+use crate::losses::Losses;
 use crate::rings::{Rings, rings_between};
 use crate::step::{FrameStep, Step, Stepped};
 use crate::world::peer_place;
@@ -34,6 +36,7 @@ pub struct World<T: GroupTable> {
     rings: Vec<Rings>,
     ring: usize,
     histories: Histories,
+    losses: Losses,
     ghost rows: { length rings.items ≡ length nodes.items },
     // Each node knows as many as there are, and has a ring to each other.
     ghost known: { All (λ node. length (names_of (held_by node)) ≡ length rings.items) nodes.items },
@@ -52,11 +55,14 @@ impl<T: GroupTable + Drop> World<T> {
     ghost use Rattle.pg_message.specs.Members.{IsShort};
     ghost use Rattle.pg_node.specs.Bytes.{next_packet};
     ghost use Rattle.pg_world.specs.Histories.{IsSettled, as_entry, last_entries, account_of};
-    ghost use Rattle.pg_world.specs.Worlds.{event_of, has_port, has_places, TimedFrameWorld};
+    ghost use Rattle.pg_world.specs.Losses.{lost_in};
+    ghost use Rattle.pg_world.specs.Losing.{lost_after};
+    ghost use Rattle.pg_world.specs.Bars.{IsHeld, put_bar, pull_bar, event_bar, bar_of, bytes_lost_after};
+    ghost use Rattle.pg_world.specs.Worlds.{has_port, has_places, TimedFrameWorld};
     ghost use Rattle.pg_world.specs.Views.{no_account};
-    ghost use Rattle.pg_world.specs.Changes.{Moves, put_count, pull_count, MoveChanges, EventChanges, StepChanges};
+    ghost use Rattle.pg_world.specs.Changes.{Moves, put_count, pull_count, MoveChanges, EventChanges, FrameChanges, StepChanges};
     ghost use Rattle.pg_pieces.specs.Pieces.{put, pull};
-    ghost use Rattle.pg_world.specs.Crossings.{crossing_of, idle_crossing, node_of, link_at, bytes_at, IsReached, ShowsCrossing, ShowsBytes, MoveComesTo, EventComesTo, StepComesTo};
+    ghost use Rattle.pg_world.specs.Crossings.{crossing_of, idle_crossing, node_of, link_at, bytes_at, IsReached, ShowsCrossing, ShowsBytes, MoveComesTo, EventComesTo, FrameComesTo, StepComesTo};
 
     /// A world of these nodes, with an empty ring from each to each other, which has room for `ring` bytes, and where nothing has
     /// begun. Its cost is one allocation for each node and for each ring, and one.
@@ -67,6 +73,7 @@ impl<T: GroupTable + Drop> World<T> {
         requires capacity { IsCapacity ring }
         ensures crossing { IfOk result (λ world. crossing_of world ≡ idle_crossing nodes.items) }
         ensures account { IfOk result (λ world. account_of world.histories ≡ no_account) }
+        ensures lost { IfOk result (λ world. lost_in world.losses ≡ []) }
     {
         let rings = rings_between(alloc, nodes.len(), ring)?;
         Ok(World {
@@ -74,6 +81,7 @@ impl<T: GroupTable + Drop> World<T> {
             rings,
             ring,
             histories: Histories::new(alloc),
+            losses: Losses::new(alloc),
         })
     }
 
@@ -117,28 +125,41 @@ impl<T: GroupTable + Drop> World<T> {
     /// Faults, by which the frame world stays, the first that holds: `Refused` by `NoSuchPlace` where a node, a port or a peer is
     /// not there, or a node and its peer are one; those of `NodeState::take`, `command` and `retry`, of which `NotAMessage` never
     /// comes; `OutOfMemory` may be told in the place of each behind `NoSuchPlace`. No link is ever damaged.
+    ///
+    /// Where nodes are lost, no frame world is promised. A step of a node that is lost, and a put from it, is refused by `NodeLost`,
+    /// behind `NoSuchPlace`, and so is a pull or a take of a peer whose loss was seen. `SeeLoss`: `NoSuchPlace`; `NodeLost`, also
+    /// where it was seen before; `NotLost`; `NotDrained` where bytes of the peer are on the ring, or a whole frame of it has come;
+    /// `ClockFull`. `Lose`: `NoSuchPlace`, `NodeLost`.
     pub fn step(&mut self, step: &Step) -> Result<Stepped, NodeFault>
-        ensures came { (config : Config) (w : TimedFrameWorld) → IsReached config w
+        ensures came { (config : Config) (w : TimedFrameWorld) → lost_in self.old.losses ≡ [] → IsReached config w
             → ShowsBytes config (crossing_of self.old) (account_of self.old.histories) w
             → StepComesTo config w step.now result (ShowsBytes config (crossing_of self.new) (account_of self.new.histories)) }
         ensures changes { StepChanges self.old.ring (crossing_of self.old) (crossing_of self.new) step.now result }
+        ensures barred { IsHeld (bar_of (crossing_of self.old) (lost_in self.old.losses) step.now) result }
+        ensures lost { lost_in self.new.losses ≡ bytes_lost_after step.now result (lost_in self.old.losses) }
     {
         match step {
             Step::Put { from, to, max } => self.put(*from, *to, *max),
             Step::Pull { to, from, max } => self.pull(*to, *from, *max),
             Step::Event(event) => self.event(event),
+            Step::Lose { node } => self.lose(*node),
         }
     }
 
     /// Up to so many bytes of what a node sends to another go on the ring between them.
     fn put(&mut self, from: usize, to: usize, max: usize) -> Result<Stepped, NodeFault>
-        ensures came { (config : Config) (w : TimedFrameWorld)
+        ensures came { (config : Config) (w : TimedFrameWorld) → lost_in self.old.losses ≡ []
             → ShowsBytes config (crossing_of self.old) (account_of self.old.histories) w
             → MoveComesTo config from to result (ShowsBytes config (crossing_of self.new) (account_of self.new.histories) w) }
+        ensures barred { IsHeld (put_bar (crossing_of self.old) (lost_in self.old.losses) from to) result }
+        ensures lost { lost_in self.new.losses ≡ lost_in self.old.losses }
         ensures changes { MoveChanges (crossing_of self.old) (crossing_of self.new) from to (put_count self.old.ring max (bytes_at (crossing_of self.old) from to)) put result }
     {
         if !self.has_pair(from, to) {
             return Err(NodeFault::Refused(Refusal::NoSuchPlace));
+        }
+        if self.losses.has(from) {
+            return Err(NodeFault::Refused(Refusal::NodeLost));
         }
         Ok(Stepped::Moved(self.put_some(from, to, max)))
     }
@@ -149,6 +170,7 @@ impl<T: GroupTable + Drop> World<T> {
         ensures shown { (config : Config) (w : TimedFrameWorld) → ShowsCrossing config (crossing_of self.old) w
             → ShowsCrossing config (crossing_of self.new) w }
         ensures account { account_of self.new.histories ≡ account_of self.old.histories }
+        ensures lost { lost_in self.new.losses ≡ lost_in self.old.losses }
         ensures many { result ≡ put_count self.old.ring max (bytes_at (crossing_of self.old) from to) }
         ensures moves { Moves (crossing_of self.old) (crossing_of self.new) from to (put result) }
     {
@@ -162,13 +184,18 @@ impl<T: GroupTable + Drop> World<T> {
 
     /// Up to so many bytes of what is on the ring from one node to another come there.
     fn pull(&mut self, to: usize, from: usize, max: usize) -> Result<Stepped, NodeFault>
-        ensures came { (config : Config) (w : TimedFrameWorld)
+        ensures came { (config : Config) (w : TimedFrameWorld) → lost_in self.old.losses ≡ []
             → ShowsBytes config (crossing_of self.old) (account_of self.old.histories) w
             → MoveComesTo config from to result (ShowsBytes config (crossing_of self.new) (account_of self.new.histories) w) }
+        ensures barred { IsHeld (pull_bar (crossing_of self.old) (lost_in self.old.losses) to from) result }
+        ensures lost { lost_in self.new.losses ≡ lost_in self.old.losses }
         ensures changes { MoveChanges (crossing_of self.old) (crossing_of self.new) from to (pull_count max (bytes_at (crossing_of self.old) from to)) pull result }
     {
         if !self.has_pair(from, to) {
             return Err(NodeFault::Refused(Refusal::NoSuchPlace));
+        }
+        if self.is_cut_off(to, from) {
+            return Err(NodeFault::Refused(Refusal::NodeLost));
         }
         self.pull_some(to, from, max)
     }
@@ -179,6 +206,7 @@ impl<T: GroupTable + Drop> World<T> {
         ensures came { (config : Config) (w : TimedFrameWorld)
             → ShowsBytes config (crossing_of self.old) (account_of self.old.histories) w
             → MoveComesTo config from to result (ShowsBytes config (crossing_of self.new) (account_of self.new.histories) w) }
+        ensures lost { lost_in self.new.losses ≡ lost_in self.old.losses }
         ensures changes { MoveChanges (crossing_of self.old) (crossing_of self.new) from to (pull_count max (bytes_at (crossing_of self.old) from to)) pull result }
     {
         moving_keeps_packets::<Packet>();
@@ -193,13 +221,18 @@ impl<T: GroupTable + Drop> World<T> {
 
     /// An event.
     fn event(&mut self, event: &FrameStep) -> Result<Stepped, NodeFault>
-        ensures came { (config : Config) (w : TimedFrameWorld) → IsReached config w
+        ensures came { (config : Config) (w : TimedFrameWorld) → lost_in self.old.losses ≡ [] → IsReached config w
             → ShowsBytes config (crossing_of self.old) (account_of self.old.histories) w
-            → EventComesTo config w (event_of event.now) result (ShowsBytes config (crossing_of self.new) (account_of self.new.histories)) }
-        ensures changes { EventChanges (crossing_of self.old) (crossing_of self.new) (event_of event.now) result }
+            → FrameComesTo config w event.now result (ShowsBytes config (crossing_of self.new) (account_of self.new.histories)) }
+        ensures changes { FrameChanges (crossing_of self.old) (crossing_of self.new) event.now result }
+        ensures barred { IsHeld (event_bar (crossing_of self.old) (lost_in self.old.losses) event.now) result }
+        ensures lost { lost_in self.new.losses ≡ lost_after event.now result (lost_in self.old.losses) }
     {
         if !self.has_places(event) {
             return Err(NodeFault::Refused(Refusal::NoSuchPlace));
+        }
+        if self.is_barred(event) {
+            return Err(NodeFault::Refused(Refusal::NodeLost));
         }
         match self.histories.settle() {
             Ok(()) => {}
@@ -213,6 +246,8 @@ impl<T: GroupTable + Drop> World<T> {
                 command,
             } => self.command(*node, *port, command),
             FrameStep::Retry { node, op } => self.retry(*node, *op),
+            FrameStep::SeeLoss { node, peer } => self.see_loss(*node, *peer),
+            FrameStep::Lose { node, keep: _ } => self.lose(*node),
         }
     }
 
@@ -228,6 +263,8 @@ impl<T: GroupTable + Drop> World<T> {
                 command: _,
             } => self.has_port(*node, *port),
             FrameStep::Retry { node, op } => self.has_port(*node, op.port),
+            FrameStep::SeeLoss { node, peer } => self.has_pair(*node, *peer),
+            FrameStep::Lose { node, keep: _ } => *node < self.nodes.len(),
         }
     }
 
@@ -257,6 +294,7 @@ impl<T: GroupTable + Drop> World<T> {
             → ShowsBytes config (crossing_of self.old) (account_of self.old.histories) w
             → EventComesTo config w (Take node peer) result (ShowsBytes config (crossing_of self.new) (account_of self.new.histories)) }
         ensures changes { EventChanges (crossing_of self.old) (crossing_of self.new) (Take node peer) result }
+        ensures lost { lost_in self.new.losses ≡ lost_in self.old.losses }
     {
         front_is_first_packet::<Packet>();
         let taker = &mut self.nodes[node];
@@ -281,6 +319,7 @@ impl<T: GroupTable + Drop> World<T> {
             → ShowsBytes config (crossing_of self.old) (account_of self.old.histories) w
             → EventComesTo config w (Take node peer) result (ShowsBytes config (crossing_of self.new) (account_of self.new.histories)) }
         ensures changes { EventChanges (crossing_of self.old) (crossing_of self.new) (Take node peer) result }
+        ensures lost { lost_in self.new.losses ≡ lost_in self.old.losses }
     {
         match next {
             None => Ok(Stepped::Nothing),
@@ -298,6 +337,7 @@ impl<T: GroupTable + Drop> World<T> {
             → ShowsBytes config (crossing_of self.old) (account_of self.old.histories) w
             → EventComesTo config w (Take node peer) result (ShowsBytes config (crossing_of self.new) (account_of self.new.histories)) }
         ensures changes { EventChanges (crossing_of self.old) (crossing_of self.new) (Take node peer) result }
+        ensures lost { lost_in self.new.losses ≡ lost_in self.old.losses }
     {
         sending_adds_packets::<Packet>();
         front_is_first_packet::<Packet>();
@@ -325,6 +365,7 @@ impl<T: GroupTable + Drop> World<T> {
             → ShowsBytes config (crossing_of self.old) (account_of self.old.histories) w
             → EventComesTo config w (Do node (Issue port command.now)) result (ShowsBytes config (crossing_of self.new) (account_of self.new.histories)) }
         ensures changes { EventChanges (crossing_of self.old) (crossing_of self.new) (Do node (Issue port command.now)) result }
+        ensures lost { lost_in self.new.losses ≡ lost_in self.old.losses }
     {
         sending_adds_packets::<Packet>();
         let state = &mut self.nodes[node];
@@ -345,6 +386,7 @@ impl<T: GroupTable + Drop> World<T> {
             → ShowsBytes config (crossing_of self.old) (account_of self.old.histories) w
             → EventComesTo config w (Do node (Retry op)) result (ShowsBytes config (crossing_of self.new) (account_of self.new.histories)) }
         ensures changes { EventChanges (crossing_of self.old) (crossing_of self.new) (Do node (Retry op)) result }
+        ensures lost { lost_in self.new.losses ≡ lost_in self.old.losses }
     {
         sending_adds_packets::<Packet>();
         let state = &mut self.nodes[node];

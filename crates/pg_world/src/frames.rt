@@ -1,10 +1,10 @@
 //! Runs of steps from a configuration.
 
-ghost use Rattle.std.specs.Prelude.{◌≡◌, IfOk, IfErr, length};
+ghost use Rattle.std.specs.Prelude.{◌≡◌, [], false, IfOk, IfErr, length};
 ghost use Rattle.pg_ring.specs.Capacity.{IsCapacity};
 ghost use Rattle.pg_step.specs.Config.{Config as Configuration, IsConfig};
 ghost use Rattle.pg_world.specs.Openings.{AllFit, CantBegin};
-ghost use Rattle.pg_world.specs.Runs.{Ran, over_packets};
+ghost use Rattle.pg_world.specs.Runs.{Ran, LosesNone as NoneIsLost, over_packets};
 ghost use Rattle.pg_world.specs.Worlds.{Shows as shows_frames, view_of as shown_by};
 
 use crate::config::Config;
@@ -17,16 +17,18 @@ use pg_index::IndexTable;
 use std::alloc::Global;
 
 impl<T: GroupTable + Drop> FrameWorld<T> {
-    ghost use Rattle.pg_world.specs.Runs.{StepsTo, GoesTo, over_packets};
-    ghost use Rattle.pg_world.specs.Worlds.{view_of, TimedFrameWorld, Shows};
+    ghost use Rattle.pg_world.specs.Runs.{StepsTo, GoesTo, LosesNone, over_packets};
+    ghost use Rattle.pg_world.specs.Losing.{lost_of};
+    ghost use Rattle.pg_world.specs.Worlds.{view_of, is_loss, TimedFrameWorld, Shows};
 
     /// Makes steps, one after another, and writes the number of each in its place: 0 where it happened, or nothing was on the
     /// way; else that of its fault. A step that is refused changes nothing, and the others follow. Its cost is that of the steps.
     pub fn run(&mut self, steps: &[FrameStep], numbers: &mut Vec<u8>)
         requires { length numbers.old.items ≡ length steps.now }
         ensures len { length numbers.new.items ≡ length steps.now }
-        ensures ran { (config : Configuration) (w : TimedFrameWorld) → Shows config (view_of self.old) w
+        ensures ran { LosesNone steps.now → (config : Configuration) (w : TimedFrameWorld) → lost_of self.old ≡ [] → Shows config (view_of self.old) w
             → GoesTo over_packets config w steps.now numbers.new.items (Shows config (view_of self.new)) }
+        ensures lost { LosesNone steps.now → lost_of self.new ≡ lost_of self.old }
     {
         for place in 0..steps.len() {
             let number = self.step_number(&steps[place]);
@@ -36,8 +38,9 @@ impl<T: GroupTable + Drop> FrameWorld<T> {
 
     /// Makes one step, and tells its number.
     fn step_number(&mut self, step: &FrameStep) -> u8
-        ensures { (config : Configuration) (w : TimedFrameWorld) → Shows config (view_of self.old) w
+        ensures steps { is_loss step.now ≡ false → (config : Configuration) (w : TimedFrameWorld) → lost_of self.old ≡ [] → Shows config (view_of self.old) w
             → StepsTo over_packets config w step.now result (Shows config (view_of self.new)) }
+        ensures lost { is_loss step.now ≡ false → lost_of self.new ≡ lost_of self.old }
     {
         match self.step(step) {
             Ok(_) => 0,
@@ -49,7 +52,7 @@ impl<T: GroupTable + Drop> FrameWorld<T> {
 /// Performs steps from the start of a configuration: the world after them, and for each step its number, as `FrameWorld::run`
 /// tells it. The places of the numbers are got first; a step that is refused did not happen, and the run goes on.
 ///
-/// The contract is the headline: the steps that happened are the events of a run of the frame machine, and of what they
+/// The contract is the headline, for steps of which none is a loss: the steps that happened are the events of a run of the frame machine, and of what they
 /// reported, and of the states that the world shows, everything holds that `OneHistory` says.
 ///
 /// Faults: those of `FrameWorld::new`.
@@ -60,7 +63,7 @@ pub fn run_frames(
 ) -> Result<(FrameWorld<IndexTable>, Vec<u8>), WorldFault>
     ensures good { IfOk result (λ ran. IsConfig config.now.starts.items × IsCapacity config.now.ring) }
     ensures fits { IfOk result (λ ran. AllFit config.now.starts.items) }
-    ensures ran { IfOk result (λ ran. Ran over_packets config.now.starts.items steps.now ran.1.items (λ given. shows_frames given (shown_by ran.0))) }
+    ensures ran { IfOk result (λ ran. NoneIsLost steps.now → Ran over_packets config.now.starts.items steps.now ran.1.items (λ given. shows_frames given (shown_by ran.0))) }
     ensures fault { IfErr result (CantBegin config.now.ring config.now.starts.items) }
 {
     one_history();

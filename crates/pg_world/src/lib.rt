@@ -9,6 +9,7 @@ mod fault;
 mod frames;
 mod histories;
 mod laws;
+mod losses;
 mod outgoing;
 mod rings;
 mod row;

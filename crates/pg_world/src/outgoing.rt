@@ -1,6 +1,6 @@
 //! The packets on the way from one node to each of its peers.
 
-ghost use Rattle.std.specs.Prelude.{◌≡◌, ◌<◌, ◌+◌, ◌++◌, ◌∷◌, ◌^◌, ℕ, [], Some, get_or, slice_set, drop, length, replicate, option_map, IfOk, OnOk};
+ghost use Rattle.std.specs.Prelude.{◌≡◌, ◌↔◌, ◌<◌, ◌+◌, ◌++◌, ◌∷◌, ◌^◌, ℕ, [], Some, get_or, slice_set, drop, take, length, replicate, option_map, IsTrue, IfOk, OnOk};
 ghost use Rattle.std.specs.Option.{option_copied};
 ghost use Rattle.pg_message.specs.declared.packet.Packet.{Packet};
 ghost use Rattle.pg_message.specs.Members.{IsShort};
@@ -21,7 +21,7 @@ pub(crate) struct Outgoing {
 }
 
 impl Outgoing {
-    ghost use Rattle.pg_world.specs.Views.{ways_of, first_of, packets_to, HaveRoom, FitWays};
+    ghost use Rattle.pg_world.specs.Views.{ways_of, first_of, packets_to, CanStay, HaveRoom, FitWays};
 
     /// Nothing is on the way to so many peers. One allocation.
     ///
@@ -102,5 +102,35 @@ impl Outgoing {
     {
         let way = &mut self.ways[peer];
         way.pass();
+    }
+
+    /// Whether so many packets can stay on the ways to the peers, by their places: on each as many as are there at most. It takes
+    /// no memory.
+    pub(crate) fn can_keep(&self, keep: &[usize]) -> bool
+        requires { length keep.now ≡ length (ways_of self.now) }
+        ensures { IsTrue result ↔ CanStay keep.now (ways_of self.now) }
+    {
+        for place in 0..self.ways.len() {
+            let way = &self.ways[place];
+            let count = keep[place];
+            if count > way.len() {
+                return false;
+            }
+        }
+        true
+    }
+
+    /// Only the first packets stay on each way, as many as `keep` has at the place of the peer. It takes no memory: O(packets
+    /// that go).
+    pub(crate) fn cut(&mut self, keep: &[usize])
+        requires { length keep.now ≡ length (ways_of self.old) }
+        ensures len { length (ways_of self.new) ≡ length (ways_of self.old) }
+        ensures cut { (place : ℕ) → get_or (ways_of self.new) place [] ≡ take (get_or keep.now place 0) (get_or (ways_of self.old) place []) }
+    {
+        for place in 0..self.ways.len() {
+            let count = keep[place];
+            let way = &mut self.ways[place];
+            way.cut(count);
+        }
     }
 }

@@ -19,6 +19,17 @@ pub enum FrameStep {
         node: usize,
         op: OpId,
     },
+    /// The node sees the loss of the peer, once it has taken all that came from there.
+    SeeLoss {
+        node: usize,
+        peer: usize,
+    },
+    /// The node is lost, and does nothing any more. Of what is on the way from it to each of its peers the first packets stay, as
+    /// many as `keep` has at the place of the peer.
+    Lose {
+        node: usize,
+        keep: Vec<usize>,
+    },
 }
 
 /// A step of a world whose packets cross as bytes. Nodes are named by their places.
@@ -28,8 +39,11 @@ pub enum Step {
     Put { from: usize, to: usize, max: usize },
     /// Up to `max` bytes, and up to 65,536, of what is on the ring from one node to another come there.
     Pull { to: usize, from: usize, max: usize },
-    /// An event. A node takes the first packet of a peer where the whole of its frame has come.
+    /// An event. A node takes the first packet of a peer where the whole of its frame has come. By `FrameStep::Lose` the node is
+    /// lost as by `Lose`, whatever it would keep.
     Event(FrameStep),
+    /// The node is lost, and does nothing any more. What is on the rings from it, and has come of it, stays.
+    Lose { node: usize },
 }
 
 /// What a step did.
@@ -41,4 +55,6 @@ pub enum Stepped {
     Moved(usize),
     /// The event happened.
     Happened,
+    /// The node is lost.
+    Gone,
 }

@@ -1,6 +1,6 @@
 //! The packets on the way from one node to another.
 
-ghost use Rattle.std.specs.Prelude.{◌≡◌, ◌++◌, ◌∷◌, ◌^◌, [], drop, map, option_map, IfOk, OnOk};
+ghost use Rattle.std.specs.Prelude.{◌≡◌, ◌++◌, ◌∷◌, ◌^◌, [], drop, take, length, map, option_map, IfOk, OnOk};
 ghost use Rattle.std.specs.Option.{option_copied};
 ghost use Rattle.pg_message.specs.declared.packet.Packet.{Packet};
 ghost use Rattle.pg_message.specs.Members.{IsShort};
@@ -68,6 +68,20 @@ impl Way {
         ensures short { (packet : Packet) → option_copied result ≡ Some packet → IsShort (2 ^ 32) packet.message }
     {
         self.packets.front()
+    }
+
+    /// How many packets there are. It takes no memory.
+    pub(crate) fn len(&self) -> usize
+        ensures { result ≡ length (packets_of self.now) }
+    {
+        self.packets.len()
+    }
+
+    /// Only the first packets stay, so many at most. It takes no memory: O(packets that go).
+    pub(crate) fn cut(&mut self, keep: usize)
+        ensures { packets_of self.new ≡ take keep (packets_of self.old) }
+    {
+        self.packets.truncate(keep);
     }
 
     /// Takes the first packet out, if there is one. It takes no memory.

@@ -5,8 +5,11 @@ ghost use Rattle.std.specs.List.{All};
 ghost use Rattle.std.specs.Option.{option_copied};
 ghost use Rattle.pg_world.specs.Views.{IsWhole, traffic_in};
 
+mod losing;
+
 use crate::entry::Entry;
 use crate::histories::Histories;
+use crate::losses::Losses;
 use crate::outgoing::Outgoing;
 use crate::step::{FrameStep, Stepped};
 use pg_group::GroupTable;
@@ -22,6 +25,7 @@ pub struct FrameWorld<T: GroupTable> {
     // What is on the way from each of them.
     outgoing: Vec<Outgoing>,
     histories: Histories,
+    losses: Losses,
     ghost whole: { IsWhole (traffic_in nodes.items outgoing.items) },
 }
 
@@ -35,20 +39,24 @@ impl<T: GroupTable + Drop> FrameWorld<T> {
     ghost use Rattle.pg_history.specs.History.{LockFree};
     ghost use Rattle.pg_step.specs.Step.{Issue, Retry};
     ghost use Rattle.pg_world.specs.Histories.{IsSettled, as_entry, last_entries};
-    ghost use Rattle.pg_world.specs.Worlds.{traffic_of, view_of, event_of, has_port, has_places, TimedFrameWorld, Shows, ComesTo};
+    ghost use Rattle.pg_world.specs.Worlds.{traffic_of, view_of, has_port, has_places, TimedFrameWorld, Shows, ComesTo, StepComesTo};
+    ghost use Rattle.pg_step.specs.LossLaws.{LosingFrameWorld};
+    ghost use Rattle.pg_world.specs.Losing.{lost_of, lost_after, told_of, ShowsLosing, LosingComesTo};
 
     /// A world of these nodes, between which nothing is on the way. Its cost is one allocation for each node, and one.
     ///
     /// Error: `AllocError`.
     pub fn idle(alloc: Global, nodes: Vec<NodeState<T>>) -> Result<FrameWorld<T>, AllocError>
         requires { All (λ node. length (names_of node) ≡ length nodes.items) nodes.items }
-        ensures { IfOk result (λ world. view_of world ≡ idle_view nodes.items) }
+        ensures view { IfOk result (λ world. view_of world ≡ idle_view nodes.items) }
+        ensures lost { IfOk result (λ world. lost_of world ≡ []) }
     {
         let outgoing = no_packets(alloc, nodes.len())?;
         Ok(FrameWorld {
             nodes,
             outgoing,
             histories: Histories::new(alloc),
+            losses: Losses::new(alloc),
         })
     }
 
@@ -59,12 +67,14 @@ impl<T: GroupTable + Drop> FrameWorld<T> {
         outgoing: Vec<Outgoing>,
     ) -> FrameWorld<T>
         requires { IsWhole (traffic_in nodes.items outgoing.items) }
-        ensures { view_of result ≡ fresh_view (traffic_in nodes.items outgoing.items) }
+        ensures view { view_of result ≡ fresh_view (traffic_in nodes.items outgoing.items) }
+        ensures lost { lost_of result ≡ [] }
     {
         FrameWorld {
             nodes,
             outgoing,
             histories: Histories::new(alloc),
+            losses: Losses::new(alloc),
         }
     }
 
@@ -107,14 +117,26 @@ impl<T: GroupTable + Drop> FrameWorld<T> {
     /// Faults, which change nothing, the first that holds: `Refused` by `NoSuchPlace` where a node, a port or a peer is not
     /// there, or a node would take from itself; those of `NodeState::take`, `command` and `retry`; `OutOfMemory` may be told
     /// in the place of each behind `NoSuchPlace`, as room for what is sent is made before anything changes.
+    ///
+    /// Where nodes are lost, the step is the event of the machine with losses. A step of a node that is lost is refused by
+    /// `NodeLost`, behind `NoSuchPlace`, and so is a take of a peer whose loss was seen. `SeeLoss`: `NoSuchPlace`; `NodeLost`, also
+    /// where it was seen before; `NotLost`; `NotDrained` where a packet of the peer is on the way; `ClockFull`. `Lose`:
+    /// `NoSuchPlace`, also where `keep` has not one number for each peer; `NodeLost`; `NoSuchPlace` where more should stay than are on
+    /// the way.
     pub fn step(&mut self, step: &FrameStep) -> Result<Stepped, NodeFault>
-        ensures event { (config : Config) (w : TimedFrameWorld) → Shows config (view_of self.old) w
-            → ComesTo config w (event_of step.now) result (Shows config (view_of self.new)) }
+        ensures event { (config : Config) (w : TimedFrameWorld) → lost_of self.old ≡ [] → Shows config (view_of self.old) w
+            → StepComesTo config w step.now result (Shows config (view_of self.new)) }
+        ensures losing { (config : Config) (u : LosingFrameWorld) → ShowsLosing config (view_of self.old) (lost_of self.old) u
+            → LosingComesTo config u (told_of config u step.now) result (ShowsLosing config (view_of self.new) (lost_of self.new)) }
+        ensures lost { lost_of self.new ≡ lost_after step.now result (lost_of self.old) }
         ensures nothing { result ≡ Ok Stepped.Nothing → view_of self.new ≡ view_of self.old }
         ensures err { OnErr result (view_of self.new ≡ view_of self.old) }
     {
         if !self.has_places(step) {
             return Err(NodeFault::Refused(Refusal::NoSuchPlace));
+        }
+        if self.is_barred(step) {
+            return Err(NodeFault::Refused(Refusal::NodeLost));
         }
         match self.histories.settle() {
             Ok(()) => {}
@@ -128,6 +150,8 @@ impl<T: GroupTable + Drop> FrameWorld<T> {
                 command,
             } => self.command(*node, *port, command),
             FrameStep::Retry { node, op } => self.retry(*node, *op),
+            FrameStep::SeeLoss { node, peer } => self.see_loss(*node, *peer),
+            FrameStep::Lose { node, keep } => self.lose(*node, keep.as_slice()),
         }
     }
 
@@ -143,6 +167,8 @@ impl<T: GroupTable + Drop> FrameWorld<T> {
                 command: _,
             } => self.has_port(*node, *port),
             FrameStep::Retry { node, op } => self.has_port(*node, op.port),
+            FrameStep::SeeLoss { node, peer } => self.has_pair(*node, *peer),
+            FrameStep::Lose { node, keep: _ } => *node < self.nodes.len(),
         }
     }
 
@@ -172,6 +198,7 @@ impl<T: GroupTable + Drop> FrameWorld<T> {
             → ComesTo config w (Take node peer) result (Shows config (view_of self.new)) }
         ensures nothing { result ≡ Ok Stepped.Nothing → view_of self.new ≡ view_of self.old }
         ensures err { OnErr result (view_of self.new ≡ view_of self.old) }
+        ensures lost { lost_of self.new ≡ lost_of self.old }
     {
         let outgoing = &mut self.outgoing[node];
         match outgoing.make_room() {
@@ -210,6 +237,7 @@ impl<T: GroupTable + Drop> FrameWorld<T> {
             → ComesTo config w (Do node (Issue port command.now)) result (Shows config (view_of self.new)) }
         ensures happens { result ≢ Ok Stepped.Nothing }
         ensures err { OnErr result (view_of self.new ≡ view_of self.old) }
+        ensures lost { lost_of self.new ≡ lost_of self.old }
     {
         let outgoing = &mut self.outgoing[node];
         match outgoing.make_room() {
@@ -235,6 +263,7 @@ impl<T: GroupTable + Drop> FrameWorld<T> {
             → ComesTo config w (Do node (Retry op)) result (Shows config (view_of self.new)) }
         ensures happens { result ≢ Ok Stepped.Nothing }
         ensures err { OnErr result (view_of self.new ≡ view_of self.old) }
+        ensures lost { lost_of self.new ≡ lost_of self.old }
     {
         let outgoing = &mut self.outgoing[node];
         match outgoing.make_room() {

@@ -1,6 +1,6 @@
 //! How a world of bytes begins.
 
-ghost use Rattle.std.specs.Prelude.{◌≡◌, ◌<◌, ◌-◌, ℕ, IfOk, IfErr, length, map, get_or};
+ghost use Rattle.std.specs.Prelude.{◌≡◌, [], ◌<◌, ◌-◌, ℕ, IfOk, IfErr, length, map, get_or};
 ghost use Rattle.pg_ring.specs.Capacity.{IsCapacity};
 ghost use Rattle.pg_step.specs.Config.{IsConfig};
 ghost use Rattle.pg_node.specs.Nodes.{links_of};
@@ -23,6 +23,7 @@ impl World<IndexTable> {
     ghost use Rattle.pg_world.specs.Histories.{account_of};
     ghost use Rattle.pg_world.specs.BytesStart.{BytesBegin};
     ghost use Rattle.pg_world.specs.Crossings.{crossing_of};
+    ghost use Rattle.pg_world.specs.Losses.{lost_in};
     ghost use Rattle.pg_world.specs.Openings.{AllFit, CantBegin, CantStart, AreReady};
 
     /// The nodes of a configuration as they start, where what each of them tells of its groups stands in its outbox to each other,
@@ -33,6 +34,7 @@ impl World<IndexTable> {
         ensures good { IfOk result (λ world. IsConfig config.now.starts.items × IsCapacity config.now.ring) }
         ensures fits { IfOk result (λ world. AllFit config.now.starts.items) }
         ensures begins { IfOk result (λ world. BytesBegin config.now.starts.items (crossing_of world) (account_of world.histories)) }
+        ensures lost { IfOk result (λ world. lost_in world.losses ≡ []) }
         ensures fault { IfErr result (CantBegin config.now.ring config.now.starts.items) }
     {
         match ready(alloc, config) {
@@ -47,6 +49,7 @@ impl World<IndexTable> {
         requires capacity { IsCapacity ring }
         ensures fits { IfOk result (λ world. AllFit starts.now) }
         ensures begins { IfOk result (λ world. BytesBegin starts.now (crossing_of world) (account_of world.histories)) }
+        ensures lost { IfOk result (λ world. lost_in world.losses ≡ []) }
         ensures fault { IfErr result (CantStart starts.now) }
     {
         match opened_nodes(alloc, starts) {

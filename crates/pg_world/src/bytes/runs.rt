@@ -1,12 +1,12 @@
 //! Runs of steps over bytes from a configuration.
 
-ghost use Rattle.std.specs.Prelude.{◌≡◌, IfOk, IfErr, length};
+ghost use Rattle.std.specs.Prelude.{◌≡◌, [], false, IfOk, IfErr, length};
 ghost use Rattle.pg_ring.specs.Capacity.{IsCapacity};
 ghost use Rattle.pg_step.specs.Config.{Config as Configuration, IsConfig};
 ghost use Rattle.pg_world.specs.Crossings.{ShowsBytes as shows_bytes, crossing_of as shown_by};
 ghost use Rattle.pg_world.specs.Histories.{account_of as kept_of};
 ghost use Rattle.pg_world.specs.Openings.{AllFit, CantBegin};
-ghost use Rattle.pg_world.specs.Runs.{Ran, over_bytes};
+ghost use Rattle.pg_world.specs.Runs.{Ran, NobodyLost as NoneIsLost, over_bytes};
 
 use crate::bytes::World;
 use crate::config::Config;
@@ -18,9 +18,10 @@ use pg_index::IndexTable;
 use std::alloc::Global;
 
 impl<T: GroupTable + Drop> World<T> {
-    ghost use Rattle.pg_world.specs.Crossings.{IsReached, ShowsBytes, crossing_of};
+    ghost use Rattle.pg_world.specs.Crossings.{IsReached, ShowsBytes, crossing_of, is_loss_in};
+    ghost use Rattle.pg_world.specs.Losses.{lost_in};
     ghost use Rattle.pg_world.specs.Histories.{account_of};
-    ghost use Rattle.pg_world.specs.Runs.{StepsTo, GoesTo, over_bytes};
+    ghost use Rattle.pg_world.specs.Runs.{StepsTo, GoesTo, NobodyLost, over_bytes};
     ghost use Rattle.pg_world.specs.Worlds.{TimedFrameWorld};
 
     /// Makes steps, one after another, and writes the number of each in its place: 0 where it happened, bytes moved, or no whole
@@ -29,9 +30,10 @@ impl<T: GroupTable + Drop> World<T> {
     pub fn run(&mut self, steps: &[Step], numbers: &mut Vec<u8>)
         requires { length numbers.old.items ≡ length steps.now }
         ensures len { length numbers.new.items ≡ length steps.now }
-        ensures ran { (config : Configuration) (w : TimedFrameWorld) → IsReached config w
+        ensures ran { NobodyLost steps.now → (config : Configuration) (w : TimedFrameWorld) → lost_in self.old.losses ≡ [] → IsReached config w
             → ShowsBytes config (crossing_of self.old) (account_of self.old.histories) w
             → GoesTo over_bytes config w steps.now numbers.new.items (ShowsBytes config (crossing_of self.new) (account_of self.new.histories)) }
+        ensures lost { NobodyLost steps.now → lost_in self.new.losses ≡ lost_in self.old.losses }
     {
         for place in 0..steps.len() {
             let number = self.step_number(&steps[place]);
@@ -41,9 +43,10 @@ impl<T: GroupTable + Drop> World<T> {
 
     /// Makes one step, and tells its number.
     fn step_number(&mut self, step: &Step) -> u8
-        ensures { (config : Configuration) (w : TimedFrameWorld) → IsReached config w
+        ensures steps { is_loss_in step.now ≡ false → (config : Configuration) (w : TimedFrameWorld) → lost_in self.old.losses ≡ [] → IsReached config w
             → ShowsBytes config (crossing_of self.old) (account_of self.old.histories) w
             → StepsTo over_bytes config w step.now result (ShowsBytes config (crossing_of self.new) (account_of self.new.histories)) }
+        ensures lost { is_loss_in step.now ≡ false → lost_in self.new.losses ≡ lost_in self.old.losses }
     {
         match self.step(step) {
             Ok(_) => 0,
@@ -55,7 +58,7 @@ impl<T: GroupTable + Drop> World<T> {
 /// Performs steps over bytes from the start of a configuration: the world after them, and for each step its number, as
 /// `World::run` tells it. The places of the numbers are got first; a step that is refused did not happen, and the run goes on.
 ///
-/// The contract is the headline, however the bytes were cut: the steps that happened are the events of a run of the frame
+/// The contract is the headline, however the bytes were cut, for steps of which none is a loss: the steps that happened are the events of a run of the frame
 /// machine, and of what they reported, and of the states that the world shows, everything holds that `OneHistory` says.
 ///
 /// Faults: those of `World::new`.
@@ -66,7 +69,7 @@ pub fn run(
 ) -> Result<(World<IndexTable>, Vec<u8>), WorldFault>
     ensures good { IfOk result (λ ran. IsConfig config.now.starts.items × IsCapacity config.now.ring) }
     ensures fits { IfOk result (λ ran. AllFit config.now.starts.items) }
-    ensures ran { IfOk result (λ ran. Ran over_bytes config.now.starts.items steps.now ran.1.items
+    ensures ran { IfOk result (λ ran. NoneIsLost steps.now → Ran over_bytes config.now.starts.items steps.now ran.1.items
         (λ given. shows_bytes given (shown_by ran.0) (kept_of ran.0.histories))) }
     ensures fault { IfErr result (CantBegin config.now.ring config.now.starts.items) }
 {

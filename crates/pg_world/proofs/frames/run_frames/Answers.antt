@@ -7,6 +7,6 @@ use Rattle.pg_world.proofs.Running.{ran_so}
 use Rattle.pg_world.proofs.frames.run_frames.Goals as goal
 
 pub returns-in-Ok-clause-ran : goal.returns-in-Ok-clause-ran
-returns-in-Ok-clause-ran c = ran_so over_packets c.args.config.now.starts.items (λ (config : Config). Shows config (view_of c.in-Ok.begun)) (λ (config : Config). Shows config (view_of c.run.new.self))
-    c.args.steps.now c.run.new.numbers.items c.in-Ok.ensures.begins (λ config shows. c.run.ensures.ran config (start_of (frame_machine config)) shows)
+returns-in-Ok-clause-ran c = λ none. ran_so over_packets c.args.config.now.starts.items (λ (config : Config). Shows config (view_of c.in-Ok.begun)) (λ (config : Config). Shows config (view_of c.run.new.self))
+    c.args.steps.now c.run.new.numbers.items c.in-Ok.ensures.begins (λ config shows. c.run.ensures.ran none config (start_of (frame_machine config)) c.in-Ok.ensures.lost shows)
     (λ config w shows. shows.traffic.nodes.apart) c.one_history.ensures.each_world

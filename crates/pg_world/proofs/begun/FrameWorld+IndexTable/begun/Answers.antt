@@ -23,7 +23,7 @@ pub of_parts-requires : goal.of_parts-requires
 of_parts-requires c = world_whole c.args.starts.now c.in_ok-nodes.nodes.items c.as_slice.result.now c.in-Ok.outgoing.items c.as_slice.ensures.value c.in_ok-nodes.ensures c.in-Ok.ensures.open
 
 pub returns-in-Ok-clause-begins : goal.returns-in-Ok-clause-begins
-returns-in-Ok-clause-begins c = subst (Begins c.args.starts.now) (sym c.of_parts.ensures)
+returns-in-Ok-clause-begins c = subst (Begins c.args.starts.now) (sym c.of_parts.ensures.view)
     (world_begins c.args.starts.now c.in_ok-nodes.nodes.items c.as_slice.result.now c.in-Ok.outgoing.items c.as_slice.ensures.value c.in_ok-nodes.ensures c.in-Ok.ensures.open c.requires.ready.apart)
 
 pub returns-in-Ok-clause-fits : goal.returns-in-Ok-clause-fits

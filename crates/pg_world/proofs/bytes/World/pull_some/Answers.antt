@@ -1,4 +1,4 @@
-use Rattle.std.proofs.Common.{◌≡◌, ◌∙◌, ℕ, true, false, get_or, length, ap, subst, sym}
+use Rattle.std.proofs.Common.{◌≡◌, ◌∙◌, ℕ, true, false, get_or, length, ap, subst, sym, refl}
 use Rattle.std.specs.Prelude.{slice_set}
 use Rattle.pg_machine.specs.Places.{is_pair}
 use Rattle.pg_pieces.specs.Pieces.{pull}
@@ -34,6 +34,7 @@ returns-in-Ok g c = record {
           updates = shows.updates;
         },
       );
+  lost = refl;
   changes =
       let nodes = c.args.self.now.nodes.items in
       let rings = c.args.self.now.rings.items in
@@ -79,6 +80,7 @@ returns-in-Err g c = record {
             (row_there nodes rings x y c.requires.pair c.args.self.now.rows) c.index_mut-row.ensures.value c.in-Err.ensures.state c.in-Err.ensures.err lk there c.in-Err.ensures.err_inlet is) shows.traffic;
         updates = shows.updates;
       });
+  lost = refl;
   changes =
       let nodes = c.args.self.now.nodes.items in
       let rings = c.args.self.now.rings.items in

@@ -24,6 +24,7 @@ returns-in-Ok g c = record {
       (own_acts nodes rings i node node2 c.in-Ok.done.sends.items l at (Retry c.args.op) c.in-Ok.ensures.sent)
       (grew_own (account_of c.args.self.now.histories) _ i c.in-Ok.done.began c.in-Ok.done.began refl c.begin.ensures.history c.begin.ensures.applied) c.in-Ok.ensures.event;
   changes = alone c.args.self.now.nodes.items c.args.self.now.rings.items c.args.node c.retry.new.self;
+  lost = refl;
 }
 
 pub returns-in-Err : goal.returns-in-Err
@@ -41,4 +42,5 @@ returns-in-Err g c = record {
       own_err config (crossing_of c.args.self.now) w shows.traffic _ i (Retry c.args.op) (node_of node) (state_of (held_by node2)) (answers_of (held_by node2)) (seen_there nodes rings i node l at) c.in-Err.fault c.in-Err.ensures.event
       (subst (λ (crossing : Crossing). ShowsBytes config crossing (account_of c.args.self.now.histories) w) (sym same) shows);
   changes = alone c.args.self.now.nodes.items c.args.self.now.rings.items c.args.node c.retry.new.self;
+  lost = refl;
 }

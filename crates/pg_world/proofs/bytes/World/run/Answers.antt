@@ -1,9 +1,9 @@
 use Rattle.std.proofs.Common.{◌≡◌, ◌<◌, ◌∙◌, length, arith}
 use Rattle.std.proofs.lemmas.List.{length-set}
-use Rattle.pg_world.specs.Crossings.{ShowsBytes, crossing_of}
+use Rattle.pg_world.specs.Crossings.{ShowsBytes, crossing_of, is_loss_in}
 use Rattle.pg_world.specs.Histories.{account_of}
 use Rattle.pg_world.specs.Runs.{over_bytes}
-use Rattle.pg_world.proofs.Running.{steps_more, all_taken, reached_on}
+use Rattle.pg_world.proofs.Running.{passes_at, steps_more, all_taken, reached_on}
 use Rattle.pg_world.proofs.bytes.World.run.Goals as goal
 
 pub loop-place-preserved : goal.loop-place-preserved
@@ -14,14 +14,16 @@ loop-place-preserved g c =
     let inside : c.loop-place.place < length numbers = omega (arith, within, c.loop-place.invariant.len) in
     record {
       len = length-set numbers c.loop-place.place c.step_number-number.result ∙ c.loop-place.invariant.len;
-      ran = λ config w reached shows.
+      lost = λ none. c.step_number-number.ensures.lost (passes_at is_loss_in steps c.loop-place.place c.index-steps-place.result within c.index-steps-place.is none) ∙ c.loop-place.invariant.lost none;
+      ran = λ none config w nobody reached shows.
           steps_more over_bytes config steps numbers c.loop-place.place c.step_number-number.result c.index-steps-place.result w (ShowsBytes config (crossing_of c.loop-place.self) (account_of c.loop-place.self.histories))
           (ShowsBytes config (crossing_of c.step_number-number.new.self) (account_of c.step_number-number.new.self.histories)) within inside c.index-steps-place.is
-          (c.loop-place.invariant.ran config w reached shows) (λ u events led shown. c.step_number-number.ensures config u (reached_on config w u events reached led) shown);
+          (c.loop-place.invariant.ran none config w nobody reached shows)
+          (λ u events led shown. c.step_number-number.ensures.steps (passes_at is_loss_in steps c.loop-place.place c.index-steps-place.result within c.index-steps-place.is none) config u (c.loop-place.invariant.lost none ∙ nobody) (reached_on config w u events reached led) shown);
     }
 
 pub returns-clause-ran : goal.returns-clause-ran
-returns-clause-ran g c = λ config w reached shows.
+returns-clause-ran g c = λ none config w nobody reached shows.
     let last : c.loop-place.place ≡ length c.args.steps.now = omega (arith, c.loop-place.auto.place-end, c.loop-place-test.false) in
     all_taken over_bytes config w c.args.steps.now c.loop-place.numbers.items c.loop-place.place (ShowsBytes config (crossing_of c.loop-place.self) (account_of c.loop-place.self.histories)) last c.loop-place.invariant.len
-    (c.loop-place.invariant.ran config w reached shows)
+    (c.loop-place.invariant.ran none config w nobody reached shows)

@@ -42,6 +42,7 @@ returns-in-Ok g c = record {
       let l = first_there nodes rings i c.args.peer c.requires.pair c.args.self.now.rows in
       let same = node_same nodes rings i node c.next.new.self l c.index_mut-taker.ensures.value (ap seen_of c.in-Ok.ensures.state) c.in-Ok.ensures.same in
       subst (λ (crossing : Crossing). EventChanges crossing (crossing_of c.take_next.new.self) (Take i c.args.peer) c.take_next.result) same c.take_next.ensures.changes;
+  lost = c.take_next.ensures.lost;
 }
 
 pub returns-in-Err : goal.returns-in-Err
@@ -65,4 +66,5 @@ returns-in-Err g c = record {
       let same = node_same nodes rings i node node2 l at (ap seen_of c.in-Err.ensures.state) unchanged in
       unread_err config w (Take i p) fault _ memory (subst (λ (crossing : Crossing). ShowsBytes config crossing (account_of c.args.self.now.histories) w) (sym same) shows);
   changes = alone c.args.self.now.nodes.items c.args.self.now.rings.items c.args.node c.next.new.self;
+  lost = refl;
 }

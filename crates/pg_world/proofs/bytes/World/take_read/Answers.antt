@@ -42,6 +42,7 @@ returns-in-Ok-take_read g c = record {
       (subst (λ k. ComesInRoom (names_of (held_by node)) (step_take (nodes_of (held_by node)) (name_at (names_of (held_by node)) (k + 1)) (stamped_of packet) (state_of (held_by node))) (Ok done) (state_of (held_by node2)) (answers_of (held_by node)) (answers_of (held_by node2)))
       place c.in-Ok-take_read.ensures.event);
   changes = alone c.args.self.now.nodes.items c.args.self.now.rings.items c.args.node c.take_read.new.self;
+  lost = refl;
 }
 
 pub returns-in-Err-take_read : goal.returns-in-Err-take_read
@@ -70,4 +71,5 @@ returns-in-Err-take_read g c = record {
       (subst (λ (x : Crossing). ShowsBytes config x (account_of c.args.self.now.histories) w)
       (sym (node_same nodes rings i node node2 l at seen (c.in-Err-take_read.ensures.marked ∙ unmarked (links_of node) c.peer_place.result fault harms))) shows));
   changes = alone c.args.self.now.nodes.items c.args.self.now.rings.items c.args.node c.take_read.new.self;
+  lost = refl;
 }

@@ -9,7 +9,7 @@ use Rattle.pg_world.proofs.Running.{ran_so}
 use Rattle.pg_world.proofs.bytes.runs.run.Goals as goal
 
 pub returns-in-Ok-clause-ran : goal.returns-in-Ok-clause-ran
-returns-in-Ok-clause-ran c = ran_so over_bytes c.args.config.now.starts.items (λ (config : Config). ShowsBytes config (crossing_of c.in-Ok.begun) (account_of c.in-Ok.begun.histories))
+returns-in-Ok-clause-ran c = λ none. ran_so over_bytes c.args.config.now.starts.items (λ (config : Config). ShowsBytes config (crossing_of c.in-Ok.begun) (account_of c.in-Ok.begun.histories))
     (λ (config : Config). ShowsBytes config (crossing_of c.run.new.self) (account_of c.run.new.self.histories))
-    c.args.steps.now c.run.new.numbers.items c.in-Ok.ensures.begins (λ config shows. c.run.ensures.ran config (start_of (frame_machine config)) ([], refl) shows)
+    c.args.steps.now c.run.new.numbers.items c.in-Ok.ensures.begins (λ config shows. c.run.ensures.ran none config (start_of (frame_machine config)) c.in-Ok.ensures.lost ([], refl) shows)
     (λ config w shows. shows.traffic.nodes.apart) c.one_history.ensures.each_world

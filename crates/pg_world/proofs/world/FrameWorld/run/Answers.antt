@@ -1,8 +1,8 @@
 use Rattle.std.proofs.Common.{◌≡◌, ◌<◌, ◌∙◌, length, arith}
 use Rattle.std.proofs.lemmas.List.{length-set}
-use Rattle.pg_world.specs.Worlds.{view_of, Shows}
+use Rattle.pg_world.specs.Worlds.{view_of, is_loss, Shows}
 use Rattle.pg_world.specs.Runs.{over_packets}
-use Rattle.pg_world.proofs.Running.{steps_more, all_taken}
+use Rattle.pg_world.proofs.Running.{passes_at, steps_more, all_taken}
 use Rattle.pg_world.proofs.world.FrameWorld.run.Goals as goal
 
 pub loop-place-preserved : goal.loop-place-preserved
@@ -13,12 +13,14 @@ loop-place-preserved g c =
     let inside : c.loop-place.place < length numbers = omega (arith, within, c.loop-place.invariant.len) in
     record {
       len = length-set numbers c.loop-place.place c.step_number-number.result ∙ c.loop-place.invariant.len;
-      ran = λ config w shows.
+      lost = λ none. c.step_number-number.ensures.lost (passes_at is_loss steps c.loop-place.place c.index-steps-place.result within c.index-steps-place.is none) ∙ c.loop-place.invariant.lost none;
+      ran = λ none config w nobody shows.
           steps_more over_packets config steps numbers c.loop-place.place c.step_number-number.result c.index-steps-place.result w (Shows config (view_of c.loop-place.self)) (Shows config (view_of c.step_number-number.new.self)) within inside c.index-steps-place.is
-          (c.loop-place.invariant.ran config w shows) (λ u events led shown. c.step_number-number.ensures config u shown);
+          (c.loop-place.invariant.ran none config w nobody shows)
+          (λ u events led shown. c.step_number-number.ensures.steps (passes_at is_loss steps c.loop-place.place c.index-steps-place.result within c.index-steps-place.is none) config u (c.loop-place.invariant.lost none ∙ nobody) shown);
     }
 
 pub returns-clause-ran : goal.returns-clause-ran
-returns-clause-ran g c = λ config w shows.
+returns-clause-ran g c = λ none config w nobody shows.
     let last : c.loop-place.place ≡ length c.args.steps.now = omega (arith, c.loop-place.auto.place-end, c.loop-place-test.false) in
-    all_taken over_packets config w c.args.steps.now c.loop-place.numbers.items c.loop-place.place (Shows config (view_of c.loop-place.self)) last c.loop-place.invariant.len (c.loop-place.invariant.ran config w shows)
+    all_taken over_packets config w c.args.steps.now c.loop-place.numbers.items c.loop-place.place (Shows config (view_of c.loop-place.self)) last c.loop-place.invariant.len (c.loop-place.invariant.ran none config w nobody shows)

@@ -1,12 +1,14 @@
-use Rattle.std.proofs.Common.{◌≡◌, take, length}
+use Rattle.std.proofs.Common.{◌≡◌, take, length, []}
 use Rattle.pg_step.specs.Config.{Config}
+use Rattle.pg_world.specs.Losing.{lost_of}
 use Rattle.pg_world.specs.Worlds.{TimedFrameWorld, Shows, view_of}
-use Rattle.pg_world.specs.Runs.{over_packets, GoesTo}
+use Rattle.pg_world.specs.Runs.{over_packets, LosesNone, GoesTo}
 use Rattle.pg_world.proofs.world.FrameWorld.run.Given as goal
 
 abbrev pub invariant-loop-place : goal.invariant-loop-place
 invariant-loop-place g l = record {
   len : length l.numbers.items ≡ length l.steps;
-  ran : (config : Config) (w : TimedFrameWorld) → Shows config (view_of l.fn.self) w
+  lost : LosesNone l.steps → lost_of l.self ≡ lost_of l.fn.self;
+  ran : LosesNone l.steps → (config : Config) (w : TimedFrameWorld) → lost_of l.fn.self ≡ [] → Shows config (view_of l.fn.self) w
       → GoesTo over_packets config w (take l.place l.steps) (take l.place l.numbers.items) (Shows config (view_of l.self));
 }

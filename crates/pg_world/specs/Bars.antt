@@ -1,0 +1,65 @@
+-- What bars a step over bytes where nodes may be lost: a place that is not there, and losses.
+use Rattle.std.specs.Prelude.{◌≡◌, ◌⊎◌, ℕ, Bool, true, false, not, nat_lt, length, List, [], ◌∷◌, Option, Some, None, Result, Ok, Err}
+use Rattle.pg_machine.specs.Places.{is_pair}
+use Rattle.pg_step.specs.declared.refusal.Refusal.{Refusal}
+use Rattle.pg_step.specs.declared.refusal.Refusal.TheVariants.{NoSuchPlace, NodeLost, NotLost, NotDrained}
+use Rattle.pg_step.specs.Faults.{first_that_holds}
+use Rattle.pg_node.specs.declared.state.fault.NodeFault.{NodeFault}
+use Rattle.pg_node.specs.declared.state.fault.NodeFault.TheVariants.{Refused, OutOfMemory}
+use Rattle.pg_world.specs.declared.step.FrameStep.{FrameStep}
+use Rattle.pg_world.specs.declared.step.FrameStep.TheVariants as frames
+use Rattle.pg_world.specs.declared.step.Step.{Step}
+use Rattle.pg_world.specs.declared.step.Step.TheVariants as steps
+use Rattle.pg_world.specs.declared.step.Stepped.{Stepped}
+use Rattle.pg_world.specs.Crossings.{Crossing, bytes_at}
+use Rattle.pg_world.specs.Losing.{is_cut_off, is_barred, lost_with, lost_after}
+use Rattle.pg_world.specs.Losses.{is_lost}
+use Rattle.pg_world.specs.Worlds.{has_places}
+
+-- a ring has bytes that were not pulled
+abbrev pub has_bytes : List ℕ → Bool
+has_bytes [] = false
+has_bytes (x ∷ bytes) = true
+
+-- bytes of a lost node are not put
+abbrev pub put_bar : Crossing → List ℕ → ℕ → ℕ → Option Refusal
+put_bar crossing lost x y = first_that_holds ((not (is_pair (length crossing.nodes) x y), NoSuchPlace) ∷ (is_lost lost x, NodeLost) ∷ [])
+
+-- a lost node pulls nothing, and of a peer whose loss it has seen no node does
+abbrev pub pull_bar : Crossing → List ℕ → ℕ → ℕ → Option Refusal
+pull_bar crossing lost y x = first_that_holds ((not (is_pair (length crossing.nodes) x y), NoSuchPlace) ∷ (is_cut_off crossing.nodes lost y x, NodeLost) ∷ [])
+
+-- why a loss is not seen, but for a whole frame of the lost node that has come, and a full clock: bytes of it are on the ring
+abbrev pub sight_bar : Crossing → List ℕ → ℕ → ℕ → Option Refusal
+sight_bar crossing lost i p = first_that_holds (
+    (not (is_pair (length crossing.nodes) i p), NoSuchPlace)
+    ∷ (is_cut_off crossing.nodes lost i p, NodeLost)
+    ∷ (not (is_lost lost p), NotLost)
+    ∷ (has_bytes (bytes_at crossing p i).ring, NotDrained) ∷ [])
+
+-- why a node is not lost
+abbrev pub loss_bar : Crossing → List ℕ → ℕ → Option Refusal
+loss_bar crossing lost i = first_that_holds ((not (nat_lt i (length crossing.nodes)), NoSuchPlace) ∷ (is_lost lost i, NodeLost) ∷ [])
+
+-- what bars an event
+abbrev pub event_bar : Crossing → List ℕ → FrameStep → Option Refusal
+event_bar crossing lost (frames.SeeLoss i p) = sight_bar crossing lost i p
+event_bar crossing lost (frames.Lose i keep) = loss_bar crossing lost i
+event_bar crossing lost step = first_that_holds ((not (has_places crossing.nodes step), NoSuchPlace) ∷ (is_barred crossing.nodes lost step, NodeLost) ∷ [])
+
+abbrev pub bar_of : Crossing → List ℕ → Step → Option Refusal
+bar_of crossing lost (steps.Put x y max) = put_bar crossing lost x y
+bar_of crossing lost (steps.Pull y x max) = pull_bar crossing lost y x
+bar_of crossing lost (steps.Event step) = event_bar crossing lost step
+bar_of crossing lost (steps.Lose i) = loss_bar crossing lost i
+
+-- what is barred is refused so, or memory ran out
+abbrev pub IsHeld : Option Refusal → Result Stepped NodeFault → Type 0
+IsHeld None result = Unit {0}
+IsHeld (Some refusal) result = (result ≡ Err (Refused refusal)) ⊎ (result ≡ Err OutOfMemory)
+
+-- the lost nodes behind a step over bytes
+abbrev pub bytes_lost_after : Step → Result Stepped NodeFault → List ℕ → List ℕ
+bytes_lost_after (steps.Event step) result lost = lost_after step result lost
+bytes_lost_after (steps.Lose i) result lost = lost_with i result lost
+bytes_lost_after step result lost = lost

@@ -1,0 +1,123 @@
+//! Nodes of a world of bytes that are lost.
+
+ghost use Rattle.std.specs.Prelude.{◌≡◌, true, false, Err, length};
+
+use crate::bytes::World;
+use crate::losses::let_go;
+use crate::step::{FrameStep, Stepped};
+use crate::world::peer_place;
+use pg_group::GroupTable;
+use pg_node::NodeFault;
+use pg_step::Refusal;
+use std::alloc::AllocError;
+
+impl<T: GroupTable + Drop> World<T> {
+    ghost use Rattle.pg_machine.specs.Places.{is_pair};
+    ghost use Rattle.pg_world.specs.Bars.{IsHeld, has_bytes, sight_bar, loss_bar};
+    ghost use Rattle.pg_step.specs.declared.refusal.Refusal.TheVariants.{NotLost};
+    ghost use Rattle.pg_node.specs.declared.state.fault.NodeFault.TheVariants.{Refused};
+    ghost use Rattle.pg_world.specs.Changes.{SightChanges};
+    ghost use Rattle.pg_world.specs.Crossings.{crossing_of, bytes_at};
+    ghost use Rattle.pg_world.specs.Histories.{account_of};
+    ghost use Rattle.pg_world.specs.Losses.{lost_in, is_lost};
+    ghost use Rattle.pg_world.specs.Losing.{lost_with, seen_at, is_cut_off, is_barred};
+    ghost use Rattle.pg_world.specs.Worlds.{has_places};
+
+    /// Whether a node is lost. It takes no memory: O(n) in the nodes that are lost.
+    pub fn is_lost(&self, node: usize) -> bool
+        ensures { result ≡ is_lost (lost_in self.now.losses) node }
+    {
+        self.losses.has(node)
+    }
+
+    /// Whether an event is one of a node that is lost, or one with a peer whose loss the node has seen.
+    pub(crate) fn is_barred(&self, event: &FrameStep) -> bool
+        requires { has_places (crossing_of self.now).nodes event.now ≡ true }
+        ensures { result ≡ is_barred (crossing_of self.now).nodes (lost_in self.now.losses) event.now }
+    {
+        match event {
+            FrameStep::Take { node, peer } => self.is_cut_off(*node, *peer),
+            FrameStep::Command {
+                node,
+                port: _,
+                command: _,
+            } => self.losses.has(*node),
+            FrameStep::Retry { node, op: _ } => self.losses.has(*node),
+            FrameStep::SeeLoss { node, peer } => self.is_cut_off(*node, *peer),
+            FrameStep::Lose { node: _, keep: _ } => false,
+        }
+    }
+
+    /// Whether a node takes nothing of a peer any more: it is lost, or has seen the loss of the peer.
+    pub(crate) fn is_cut_off(&self, node: usize, peer: usize) -> bool
+        requires { is_pair (length (crossing_of self.now).nodes) node peer ≡ true }
+        ensures { result ≡ is_cut_off (crossing_of self.now).nodes (lost_in self.now.losses) node peer }
+    {
+        self.losses.has(node) || (self.losses.has(peer) && self.has_seen(node, peer))
+    }
+
+    /// Whether a node has seen the loss of a peer.
+    fn has_seen(&self, node: usize, peer: usize) -> bool
+        requires { is_pair (length (crossing_of self.now).nodes) node peer ≡ true }
+        ensures { result ≡ seen_at (crossing_of self.now).nodes node peer }
+    {
+        let over = &self.nodes[node];
+        over.state().is_lost(peer_place(node, peer))
+    }
+
+    /// A node sees the loss of a peer that is not known to it yet.
+    pub(crate) fn see_loss(&mut self, node: usize, peer: usize) -> Result<Stepped, NodeFault>
+        requires pair { is_pair (length (crossing_of self.old).nodes) node peer ≡ true }
+        requires lives { is_cut_off (crossing_of self.old).nodes (lost_in self.old.losses) node peer ≡ false }
+        ensures changes { SightChanges (crossing_of self.old) (crossing_of self.new) node result }
+        ensures account { account_of self.new.histories ≡ account_of self.old.histories }
+        ensures none { is_lost (lost_in self.old.losses) peer ≡ false → result ≡ Err (Refused NotLost) }
+        ensures barred { IsHeld (sight_bar (crossing_of self.old) (lost_in self.old.losses) node peer) result }
+        ensures lost { lost_in self.new.losses ≡ lost_in self.old.losses }
+    {
+        if !self.losses.has(peer) {
+            return Err(NodeFault::Refused(Refusal::NotLost));
+        }
+        if self.has_bytes(node, peer) {
+            return Err(NodeFault::Refused(Refusal::NotDrained));
+        }
+        let lost = &self.nodes[peer];
+        let last = lost.state().clock();
+        let over = &mut self.nodes[node];
+        match over.see_loss(peer_place(node, peer), last) {
+            Ok(done) => {
+                let_go(done);
+                Ok(Stepped::Happened)
+            }
+            Err(fault) => Err(fault),
+        }
+    }
+
+    /// Whether bytes are on the ring to a node from a peer.
+    fn has_bytes(&self, node: usize, peer: usize) -> bool
+        requires { is_pair (length (crossing_of self.now).nodes) node peer ≡ true }
+        ensures { result ≡ has_bytes (bytes_at (crossing_of self.now) peer node).ring }
+    {
+        let row = &self.rings[peer];
+        !row.rings[peer_place(peer, node)].is_empty()
+    }
+
+    /// A node is lost.
+    pub(crate) fn lose(&mut self, node: usize) -> Result<Stepped, NodeFault>
+        ensures same { crossing_of self.new ≡ crossing_of self.old }
+        ensures account { account_of self.new.histories ≡ account_of self.old.histories }
+        ensures barred { IsHeld (loss_bar (crossing_of self.old) (lost_in self.old.losses) node) result }
+        ensures lost { lost_in self.new.losses ≡ lost_with node result (lost_in self.old.losses) }
+    {
+        if node >= self.nodes.len() {
+            return Err(NodeFault::Refused(Refusal::NoSuchPlace));
+        }
+        if self.losses.has(node) {
+            return Err(NodeFault::Refused(Refusal::NodeLost));
+        }
+        match self.losses.add(node) {
+            Ok(()) => Ok(Stepped::Gone),
+            Err(AllocError) => Err(NodeFault::OutOfMemory),
+        }
+    }
+}
