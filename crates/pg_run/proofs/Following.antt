@@ -5,7 +5,7 @@ use Rattle.pg_group.specs.declared.table.GroupTable.{Ghosts}
 use Rattle.pg_node.specs.Issued.{ports_of}
 use Rattle.pg_node.specs.Nodes.{held_by, links_of}
 use Rattle.pg_node.specs.States.{names_of, state_of, answers_of}
-use Rattle.pg_run.specs.declared.run.NodeRun.{NodeRun}
+use Rattle.pg_run.specs.declared.linked.LinkedNode.{LinkedNode}
 use Rattle.pg_run.specs.Acts.{Act, Standing, AllLead, entry_of}
 use Rattle.pg_run.specs.Follows.{HaveMoved, Follows, node_of, peers_of, log_of, standing_of}
 use Rattle.pg_run.proofs.Moving.{have_moved_on, peers_kept, unmoved}
@@ -18,7 +18,7 @@ all_lead_on names ports a (act ∷ acts) b second c h k = (h.0, h.1, all_lead_on
 
 module _ {T L I : Type 0} {g : Ghosts T} (accepts : L → List ℕ → L → Type 0) (gives : I → List ℕ → I → Type 0) where
   -- a node follows from itself
-  pub follows_itself : ((a : L) → accepts a [] a) → ((a : I) → gives a [] a) → (a : NodeRun T L I g) → Follows accepts gives [] a a
+  pub follows_itself : ((a : L) → accepts a [] a) → ((a : I) → gives a [] a) → (a : LinkedNode T L I g) → Follows accepts gives [] a a
   follows_itself link_rests inlet_rests a = record {
     names = refl;
     ports = refl;
@@ -29,7 +29,7 @@ module _ {T L I : Type 0} {g : Ghosts T} (accepts : L → List ℕ → L → Typ
   }
 
   -- where only bytes moved
-  pub only_moved : (a b : NodeRun T L I g) → held_by (node_of b) ≡ held_by (node_of a) → log_of b ≡ log_of a
+  pub only_moved : (a b : LinkedNode T L I g) → held_by (node_of b) ≡ held_by (node_of a) → log_of b ≡ log_of a
       → HaveMoved accepts gives [] (links_of (node_of a)) (links_of (node_of b)) (peers_of a) (peers_of b) → Follows accepts gives [] a b
   only_moved a b held log moved = record {
     names = ap names_of held;
@@ -42,7 +42,7 @@ module _ {T L I : Type 0} {g : Ghosts T} (accepts : L → List ℕ → L → Typ
   -- one stretch after another
   pub follows_on : ((a b c : L) (xs ys : List ℕ) → accepts a xs b → accepts b ys c → accepts a (xs ++ ys) c)
       → ((a b c : I) (xs ys : List ℕ) → gives a xs b → gives b ys c → gives a (xs ++ ys) c)
-      → (first second : List Act) (a b c : NodeRun T L I g) → Follows accepts gives first a b → Follows accepts gives second b c → Follows accepts gives (first ++ second) a c
+      → (first second : List Act) (a b c : LinkedNode T L I g) → Follows accepts gives first a b → Follows accepts gives second b c → Follows accepts gives (first ++ second) a c
   follows_on link_composes inlet_composes first second a b c h k = record {
     names = k.names ∙ h.names;
     ports = k.ports ∙ h.ports;

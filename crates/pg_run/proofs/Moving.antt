@@ -7,7 +7,7 @@ use Rattle.std.proofs.lemmas.List.{length-set}
 use Rattle.std.proofs.lemmas.Grind.{flat_map-append}
 use Rattle.pg_group.specs.Functions.{upd}
 use Rattle.pg_node.specs.Links.{Link, at_link, frames_to}
-use Rattle.pg_run.specs.declared.run.Peer.{Peer}
+use Rattle.pg_run.specs.declared.linked.Peer.{Peer}
 use Rattle.pg_run.specs.Acts.{Act, frames_sent, frames_taken, is_from}
 use Rattle.pg_run.specs.Follows.{HasMoved, HaveMoved}
 

@@ -11,7 +11,6 @@ use Rattle.pg_node.specs.Links.{frames_to, AreSmallFrames}
 use Rattle.pg_node.specs.Sendable.{AreSendable}
 use Rattle.pg_node.specs.States.{stamped_of, sends_in, Gave}
 use Rattle.pg_opens.specs.Places.{name_at, whole_in}
-use Rattle.pg_run.specs.declared.log.LogEntry.{LogEntry}
 use Rattle.pg_run.specs.declared.log.NodeEvent.{NodeEvent}
 use Rattle.pg_run.specs.declared.log.NodeEvent.TheVariants as events
 use Rattle.pg_step.specs.declared.answer.Answer.{Answer}
@@ -80,9 +79,9 @@ event_of (Taken p x) = events.Take p
 event_of (Own (Issue port command)) = events.Command port command
 event_of (Own (Retry op)) = events.Retry op
 
--- the event, and the clock that it set
-abbrev pub entry_of : Act → LogEntry
-entry_of act = record { clock = act.turn.state.clock; event = event_of act.input }
+-- the clock that it set, and the event
+abbrev pub entry_of : Act → ℕ × NodeEvent
+entry_of act = (act.turn.state.clock, event_of act.input)
 
 -- ---- their bytes
 

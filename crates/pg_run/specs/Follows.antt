@@ -6,22 +6,22 @@ use Rattle.pg_node.specs.Issued.{ports_of}
 use Rattle.pg_node.specs.Links.{Link}
 use Rattle.pg_node.specs.Nodes.{held_by, links_of}
 use Rattle.pg_node.specs.States.{names_of, state_of, answers_of}
-use Rattle.pg_run.specs.declared.log.LogEntry.{LogEntry}
-use Rattle.pg_run.specs.declared.run.NodeRun.{NodeRun}
-use Rattle.pg_run.specs.declared.run.Peer.{Peer}
+use Rattle.pg_run.specs.declared.log.NodeEvent.{NodeEvent}
+use Rattle.pg_run.specs.declared.linked.LinkedNode.{LinkedNode}
+use Rattle.pg_run.specs.declared.linked.Peer.{Peer}
 use Rattle.pg_run.specs.Acts.{Act, Standing, AllLead, entry_of, frames_sent, frames_taken}
 
 -- ---- a node as it is seen
 
-abbrev pub node_of : {T L I : Type 0} {g : Ghosts T} → NodeRun T L I g → Node T g
+abbrev pub node_of : {T L I : Type 0} {g : Ghosts T} → LinkedNode T L I g → Node T g
 node_of run = run.node
 
 -- its links to its peers, by their places
-abbrev pub peers_of : {T L I : Type 0} {g : Ghosts T} → NodeRun T L I g → List (Peer L I)
+abbrev pub peers_of : {T L I : Type 0} {g : Ghosts T} → LinkedNode T L I g → List (Peer L I)
 peers_of run = run.peers.items
 
 -- its events, the earliest first
-abbrev pub log_of : {T L I : Type 0} {g : Ghosts T} → NodeRun T L I g → List LogEntry
+abbrev pub log_of : {T L I : Type 0} {g : Ghosts T} → LinkedNode T L I g → List (ℕ × NodeEvent)
 log_of run = run.log.items
 
 abbrev pub standing_of : {T : Type 0} {g : Ghosts T} → Node T g → Standing
@@ -48,7 +48,7 @@ module _ {L I : Type 0} (accepts : L → List ℕ → L → Type 0) (gives : I �
         → HasMoved place acts (links place) (links2 place) (get_or peers place none) (get_or peers2 place none)
 
   -- A node came by these acts, and by what its links moved meanwhile, from what it was; its log keeps the acts.
-  pub record Follows {T : Type 0} {g : Ghosts T} (acts : List Act) (a b : NodeRun T L I g) : Type 0 where
+  pub record Follows {T : Type 0} {g : Ghosts T} (acts : List Act) (a b : LinkedNode T L I g) : Type 0 where
     pub names : names_of (held_by (node_of b)) ≡ names_of (held_by (node_of a))
     pub ports : ports_of (held_by (node_of b)) ≡ ports_of (held_by (node_of a))
     pub lead : AllLead (names_of (held_by (node_of a))) (ports_of (held_by (node_of a))) (standing_of (node_of a)) acts (standing_of (node_of b))

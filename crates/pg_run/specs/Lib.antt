@@ -1,2 +1,6 @@
 pub mod Acts
+pub mod Events
 pub mod Follows
+pub mod Ports
+pub mod Runs
+pub mod Turns

@@ -1,9 +1,20 @@
-//! One node with its links to its peers and its log: what a thread that owns the node does, one phase after another.
+//! One node with its links to its peers, its log and its ports: what a thread that owns the node does, turn by turn.
 #![tactic(auto)]
 
+mod events;
+mod linked;
 mod log;
 mod moves;
+mod pauses;
+mod phases;
+mod port;
+mod retries;
 mod run;
+mod running;
+mod serving;
 
+pub use linked::{LinkedNode, Peer};
 pub use log::{LogEntry, NodeEvent};
-pub use run::{NodeRun, Peer};
+pub use port::{Asked, Client, PORT_PLACES, Port, port_pair};
+pub use run::{NodeRun, Turned};
+pub use running::{Gate, Ran, run_node};

@@ -13,9 +13,5 @@ pub enum NodeEvent {
     Retry(OpId),
 }
 
-/// An event, and the clock that it set.
-#[derive(Debug, Drop)]
-pub struct LogEntry {
-    pub clock: u32,
-    pub event: NodeEvent,
-}
+/// The clock that an event set, and the event.
+pub type LogEntry = (u32, NodeEvent);

@@ -2,12 +2,12 @@
 
 ghost use Rattle.std.specs.Prelude.{◌≡◌, ◌<◌, ◌≤◌, ◌+◌, [], true, false, Err, length, IfOk, IfErr};
 
-use crate::run::NodeRun;
+use crate::linked::LinkedNode;
 use pg_group::GroupTable;
 use pg_node::NodeFault;
 use pg_ring::{Inlet, Link};
 
-impl<T: GroupTable + Drop, L: Link + Drop, I: Inlet + Drop> NodeRun<T, L, I> {
+impl<T: GroupTable + Drop, L: Link + Drop, I: Inlet + Drop> LinkedNode<T, L, I> {
     ghost use Rattle.pg_node.specs.declared.state.fault.NodeFault.TheVariants.{Damaged, OutOfMemory};
     ghost use Rattle.pg_node.specs.Nodes.{links_of};
     ghost use Rattle.pg_run.specs.Follows.{Follows, node_of, peers_of};

@@ -1,74 +1,108 @@
-//! A node with its links to its peers and its log.
+//! A node as its thread runs it, and one turn of it.
 
-ghost use Rattle.std.specs.Prelude.{◌≡◌, ◌+◌, [], length};
+ghost use Rattle.std.specs.Prelude.{◌≡◌, length};
+ghost use Rattle.pg_node.specs.Issued.{ports_of};
 ghost use Rattle.pg_node.specs.Nodes.{held_by};
-ghost use Rattle.pg_node.specs.States.{names_of};
+ghost use Rattle.pg_run.specs.Follows.{node_of};
 
-use crate::log::LogEntry;
+use crate::linked::LinkedNode;
+use crate::pauses::Pauses;
+use crate::port::Port;
+use crate::retries::retry_all;
+use crate::serving::{command_all, hand_all};
 use pg_group::GroupTable;
-use pg_node::Node;
+use pg_ring::{Inlet, Link};
+use rand_core::Rng;
 use std::alloc::Global;
 
-/// The links of a node to one of its peers: where its bytes go out, and where those of the peer come in.
-#[derive(Drop)]
-pub struct Peer<L: Drop, I: Drop> {
-    pub link: L,
-    pub inlet: I,
+/// How a turn went.
+#[derive(Clone, Copy, Debug, PartialEq, Eq)]
+pub enum Turned {
+    /// All that was there to be done was done.
+    Whole,
+    /// A growth of memory was refused, or the clock is full.
+    Short,
+    /// The stop byte came, and nothing was done.
+    Stopped,
 }
 
-/// A node, its links to its peers by their places, and the log of its events, the earliest first.
+/// A node with its links and its log, its ports, where the stop byte comes, and the generator of its pauses.
 #[derive(Drop)]
-pub struct NodeRun<T: GroupTable, L: Drop, I: Drop> {
-    pub(crate) node: Node<T>,
-    pub(crate) peers: Vec<Peer<L, I>>,
-    pub(crate) log: Vec<LogEntry>,
-    ghost linked: { length peers.items + 1 ≡ length (names_of (held_by node)) },
+pub struct NodeRun<T: GroupTable, L: Drop, I: Drop, K: Drop> {
+    pub(crate) linked: LinkedNode<T, L, I>,
+    pub(crate) ports: Vec<Port>,
+    pub(crate) stop: I,
+    generator: K,
+    pauses: Pauses,
+    // Something moved or happened in the last turn.
+    busy: bool,
+    alloc: Global,
+    ghost ported: { length ports.items ≡ ports_of (held_by (node_of linked)) },
 }
 
-impl<T: GroupTable + Drop, L: Drop, I: Drop> NodeRun<T, L, I> {
-    ghost use Rattle.pg_run.specs.Follows.{node_of, peers_of, log_of};
+impl<T: GroupTable + Drop, L: Link + Drop, I: Inlet + Drop, K: Rng + Drop> NodeRun<T, L, I, K> {
+    ghost use Rattle.pg_run.specs.Runs.{linked_of, ports_at, stop_of, Runs, TurnedTo};
 
-    /// A node with these links to its peers, in their order, which has logged nothing. It takes no memory.
-    pub fn new(alloc: Global, node: Node<T>, peers: Vec<Peer<L, I>>) -> NodeRun<T, L, I>
-        requires links { length peers.items + 1 ≡ length (names_of (held_by node)) }
-        ensures node { node_of result ≡ node }
-        ensures peers { peers_of result ≡ peers.items }
-        ensures log { log_of result ≡ [] }
+    /// A node that has made no turn. It takes no memory.
+    pub fn new(
+        alloc: Global,
+        linked: LinkedNode<T, L, I>,
+        ports: Vec<Port>,
+        stop: I,
+        generator: K,
+    ) -> NodeRun<T, L, I, K>
+        requires { length ports.items ≡ ports_of (held_by (node_of linked)) }
+        ensures linked { linked_of result ≡ linked }
+        ensures ports { ports_at result ≡ ports.items }
+        ensures stop { stop_of result ≡ stop }
     {
         NodeRun {
-            node,
-            peers,
-            log: Vec::new(alloc),
+            linked,
+            ports,
+            stop,
+            generator,
+            pauses: Pauses::new(alloc),
+            busy: false,
+            alloc,
         }
     }
 
-    /// How many peers the node has. It takes no memory.
-    pub fn peer_count(&self) -> usize
-        ensures { result ≡ length (peers_of self.now) }
-    {
-        self.peers.len()
+    /// Whether something moved or happened in the last turn. It takes no memory.
+    pub fn is_busy(&self) -> bool {
+        self.busy
     }
 
-    /// The node. It takes no memory.
-    pub fn node(&self) -> &Node<T>
-        ensures { result.now ≡ node_of self.now }
+    /// The node with its links and its log, its ports, and where the stop byte comes.
+    pub fn into_parts(self) -> (LinkedNode<T, L, I>, Vec<Port>, I)
+        ensures linked { result.0 ≡ linked_of self }
+        ensures ports { result.1.items ≡ ports_at self }
+        ensures stop { result.2 ≡ stop_of self }
     {
-        &self.node
+        (self.linked, self.ports, self.stop)
     }
 
-    /// The log, the earliest event first. It takes no memory.
-    pub fn log(&self) -> &[LogEntry]
-        ensures { result.now ≡ log_of self.now }
+    /// One turn: a look for the stop byte; of each peer up to 4,096 bytes come in, and the next packet is taken; each port gives
+    /// a command at most; each command that waits is tried where its pause is over; what goes out is put; answers are handed
+    /// over.
+    pub fn turn(&mut self) -> Turned
+        ensures runs { Runs L.accepts I.gives self.old self.new }
+        ensures stop { TurnedTo I.gives (stop_of self.old) result (stop_of self.new) }
     {
-        self.log.as_slice()
-    }
-
-    /// The node, its links and its log.
-    pub fn into_parts(self) -> (Node<T>, Vec<Peer<L, I>>, Vec<LogEntry>)
-        ensures node { result.0 ≡ node_of self }
-        ensures peers { result.1.items ≡ peers_of self }
-        ensures log { result.2.items ≡ log_of self }
-    {
-        (self.node, self.peers, self.log)
+        let mut stop = [0u8; 1];
+        if self.stop.take(&mut stop) > 0 {
+            return Turned::Stopped;
+        }
+        let took = self.linked.take_all();
+        let commanded = command_all(&mut self.linked, &mut self.ports);
+        let retried = retry_all(&mut self.linked, &mut self.pauses, &mut self.generator);
+        let put = self.linked.put_all();
+        let handed = hand_all(self.alloc, &self.linked, &mut self.ports, &mut self.pauses);
+        let phase = took.and(commanded).and(retried).and(put).and(handed);
+        self.busy = phase.busy;
+        if phase.whole {
+            Turned::Whole
+        } else {
+            Turned::Short
+        }
     }
 }

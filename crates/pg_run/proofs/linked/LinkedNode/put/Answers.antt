@@ -2,7 +2,7 @@ use Rattle.std.proofs.Common.{refl}
 use Rattle.pg_node.specs.Nodes.{links_of}
 use Rattle.pg_run.proofs.Following.{only_moved}
 use Rattle.pg_run.proofs.Passing.{have_put, put_count}
-use Rattle.pg_run.proofs.run.NodeRun.put.Goals as goal
+use Rattle.pg_run.proofs.linked.LinkedNode.put.Goals as goal
 
 pub returns-clause-follows : goal.returns-clause-follows
 returns-clause-follows g c =

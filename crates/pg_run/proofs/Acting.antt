@@ -1,0 +1,195 @@
+-- What one event of a node makes of it and of its links.
+use Rattle.std.proofs.Common.{◌≡◌, ◌≢◌, ◌⊎◌, ◌∙◌, ℕ, cond, List, [], ◌∷◌, ◌++◌, refl, sym, ap, subst, inl, inr, append-nil}
+use Rattle.std.proofs.lemmas.Bool.{cases_eq}
+use Rattle.std.specs.Prelude.{Bool, true, false, Result, Ok, Err, Option, Some, None}
+use Rattle.pg_group.specs.declared.table.GroupTable.{Ghosts}
+use Rattle.pg_machine.specs.Clocked.{Timed}
+use Rattle.pg_node.specs.declared.state.done.Done.{Done}
+use Rattle.pg_node.specs.declared.state.fault.NodeFault.{NodeFault}
+use Rattle.pg_node.specs.declared.state.fault.NodeFault.TheVariants.{Refused, OutOfMemory, TooLong, Message, Damaged}
+use Rattle.pg_node.specs.Issued.{ports_of}
+use Rattle.pg_message.specs.declared.packet.Packet.{Packet}
+use Rattle.pg_node.specs.Bytes.{Tells, marked}
+use Rattle.pg_node.specs.Links.{Link, at_link, frames_to}
+use Rattle.pg_node.specs.Nodes.{held_by, links_of, taken_of, taken_as, ComesInRoom}
+use Rattle.pg_node.specs.States.{names_of, state_of, answers_of, stamped_of, Happens}
+use Rattle.pg_run.specs.declared.linked.LinkedNode.{LinkedNode}
+use Rattle.pg_run.specs.Acts.{Act, Standing, Leads, event_of, is_from}
+use Rattle.pg_run.specs.Events.{IsRefusedAs, IsTold}
+use Rattle.pg_run.specs.Follows.{Follows, HaveMoved, node_of, peers_of, log_of, standing_of}
+use Rattle.pg_run.proofs.Moving.{act_moved, peers_kept, unmoved, link_there, link_else}
+use Rattle.pg_step.specs.declared.answer.Answer.{Answer}
+use Rattle.pg_step.specs.declared.refusal.Refusal.{Refusal}
+use Rattle.pg_step.specs.declared.refusal.Refusal.TheVariants.{NodeLost}
+use Rattle.pg_step.specs.Nodes.{Node as Name, Nodes}
+use Rattle.pg_step.specs.State.{State}
+use Rattle.pg_step.specs.Step.{TimedTurn, step_take}
+
+-- ---- what is told of an event
+
+-- it happened by a turn of the step
+pub record HappenedBy (names : List Name) (told : Result TimedTurn Refusal) (done : Done) (s : Timed State) (before after : ℕ → List Answer) : Type 0 where
+  pub turn : TimedTurn
+  pub made : told ≡ Ok turn
+  pub happens : Happens names turn done s before after
+
+pub happened_by : (names : List Name) (told : Result TimedTurn Refusal) (done : Done) (s : Timed State) (before after : ℕ → List Answer)
+    → ComesInRoom names told (Ok done) s before after → HappenedBy names told done s before after
+happened_by names (Ok turn) done s before after came = record { turn = turn; made = refl; happens = came }
+happened_by names (Err refusal) done s before after came = absurd (cc)
+
+pub refused_as : (names : List Name) (told : Result TimedTurn Refusal) (fault : NodeFault) (s : Timed State) (before after : ℕ → List Answer)
+    → ComesInRoom names told (Err fault) s before after → IsRefusedAs told fault
+refused_as names told OutOfMemory s before after came = tt
+refused_as names (Err refusal) (Refused other) s before after came = cc
+refused_as names (Err refusal) (Message other) s before after came = cc
+refused_as names (Err refusal) TooLong s before after came = cc
+refused_as names (Err refusal) Damaged s before after came = cc
+refused_as names (Ok turn) (Refused other) s before after came = came
+refused_as names (Ok turn) (Message other) s before after came = came
+refused_as names (Ok turn) TooLong s before after came = came
+refused_as names (Ok turn) Damaged s before after came = came
+
+abbrev standing : Timed State → (ℕ → List Answer) → Standing
+standing s x = record { state = s; answers = x }
+
+alike : (s t : Timed State) (x y : ℕ → List Answer) → s ≡ t → x ≡ y → standing s x ≡ standing t y
+alike s t x y e f = ap (λ (u : Timed State). standing u x) e ∙ ap (λ (w : ℕ → List Answer). standing t w) f
+
+-- ---- why a packet was not taken
+
+by_lost : (lost : Bool) (r other : Result (Option TimedTurn) NodeFault) → lost ≡ false → r ≡ other → cond lost (Err (Refused NodeLost)) r ≡ other
+by_lost lost r other here same = ap (λ b. cond b (Err (Refused NodeLost)) r) here ∙ same
+
+-- the fault that was told of what came in
+pub told_next : (lost : Bool) (m : Nodes) (p : Name) (s : Timed State) (r : Result (Option Packet) NodeFault) (fault : NodeFault) → lost ≡ false → Tells r (Err fault)
+    → IsTold (cond lost (Err (Refused NodeLost)) (taken_of m p s r)) fault
+told_next lost m p s r OutOfMemory here told = tt
+told_next lost m p s (Ok (Some packet)) (Refused other) here told = absurd (cc)
+told_next lost m p s (Ok (Some packet)) (Message other) here told = absurd (cc)
+told_next lost m p s (Ok (Some packet)) TooLong here told = absurd (cc)
+told_next lost m p s (Ok (Some packet)) Damaged here told = absurd (cc)
+told_next lost m p s (Ok None) (Refused other) here told = absurd (cc)
+told_next lost m p s (Ok None) (Message other) here told = absurd (cc)
+told_next lost m p s (Ok None) TooLong here told = absurd (cc)
+told_next lost m p s (Ok None) Damaged here told = absurd (cc)
+told_next lost m p s (Err (Refused x)) (Refused other) here told = by_lost lost (Err (Refused x)) (Err (Refused other)) here (cc)
+told_next lost m p s (Err (Refused x)) (Message other) here told = absurd (cc)
+told_next lost m p s (Err (Refused x)) TooLong here told = absurd (cc)
+told_next lost m p s (Err (Refused x)) Damaged here told = absurd (cc)
+told_next lost m p s (Err (Message x)) (Refused other) here told = absurd (cc)
+told_next lost m p s (Err (Message x)) (Message other) here told = by_lost lost (Err (Message x)) (Err (Message other)) here (cc)
+told_next lost m p s (Err (Message x)) TooLong here told = absurd (cc)
+told_next lost m p s (Err (Message x)) Damaged here told = absurd (cc)
+told_next lost m p s (Err TooLong) (Refused other) here told = absurd (cc)
+told_next lost m p s (Err TooLong) (Message other) here told = absurd (cc)
+told_next lost m p s (Err TooLong) TooLong here told = by_lost lost (Err TooLong) (Err TooLong) here refl
+told_next lost m p s (Err TooLong) Damaged here told = absurd (cc)
+told_next lost m p s (Err Damaged) (Refused other) here told = absurd (cc)
+told_next lost m p s (Err Damaged) (Message other) here told = absurd (cc)
+told_next lost m p s (Err Damaged) TooLong here told = absurd (cc)
+told_next lost m p s (Err Damaged) Damaged here told = by_lost lost (Err Damaged) (Err Damaged) here refl
+told_next lost m p s (Err OutOfMemory) (Refused other) here told = absurd (cc)
+told_next lost m p s (Err OutOfMemory) (Message other) here told = absurd (cc)
+told_next lost m p s (Err OutOfMemory) TooLong here told = absurd (cc)
+told_next lost m p s (Err OutOfMemory) Damaged here told = absurd (cc)
+
+-- what was read is what is told
+pub told_ok : (r : Result (Option Packet) NodeFault) (next : Option Packet) → Tells r (Ok next) → r ≡ Ok next
+told_ok (Ok (Some packet)) next told = sym told
+told_ok (Ok None) next told = sym told
+told_ok (Err (Refused x)) next told = sym told
+told_ok (Err (Message x)) next told = sym told
+told_ok (Err TooLong) next told = sym told
+told_ok (Err Damaged) next told = sym told
+told_ok (Err OutOfMemory) next told = sym told
+
+-- the fault of a packet that was read
+pub told_read : (lost : Bool) (m : Nodes) (p : Name) (s : Timed State) (r : Result (Option Packet) NodeFault) (packet : Packet) (fault : NodeFault) → lost ≡ false → r ≡ Ok (Some packet)
+    → IsRefusedAs (step_take m p (stamped_of packet) s) fault → IsTold (cond lost (Err (Refused NodeLost)) (taken_of m p s r)) fault
+told_read lost m p s r packet fault here read refused =
+    subst (λ x. IsTold (cond lost (Err (Refused NodeLost)) (taken_of m p s x)) fault) (sym read) (go (step_take m p (stamped_of packet) s) fault refused)
+  where
+    go : (t : Result TimedTurn Refusal) (f : NodeFault) → IsRefusedAs t f → IsTold (cond lost (Err (Refused NodeLost)) (taken_as t)) f
+    go t OutOfMemory refused = tt
+    go (Err x) (Refused other) refused = by_lost lost (Err (Refused x)) (Err (Refused other)) here (cc)
+    go (Err x) (Message other) refused = absurd (cc)
+    go (Err x) TooLong refused = absurd (cc)
+    go (Err x) Damaged refused = absurd (cc)
+    go (Ok x) (Refused other) refused = absurd refused
+    go (Ok x) (Message other) refused = absurd refused
+    go (Ok x) TooLong refused = absurd refused
+    go (Ok x) Damaged refused = absurd refused
+
+-- the peer is lost
+pub told_lost : (lost : Bool) (r : Result (Option TimedTurn) NodeFault) → lost ≡ true → cond lost (Err (Refused NodeLost)) r ≡ Err (Refused NodeLost)
+told_lost lost r gone = ap (λ b. cond b (Err (Refused NodeLost)) r) gone
+
+-- ---- one act
+
+module _ {T L I : Type 0} {g : Ghosts T} (accepts : L → List ℕ → L → Type 0) (gives : I → List ℕ → I → Type 0)
+    (link_rests : (a : L) → accepts a [] a) (inlet_rests : (a : I) → gives a [] a) where
+  pub acts_once : (a b : LinkedNode T L I g) (act : Act)
+      → names_of (held_by (node_of b)) ≡ names_of (held_by (node_of a)) → ports_of (held_by (node_of b)) ≡ ports_of (held_by (node_of a))
+      → Leads (names_of (held_by (node_of a))) (ports_of (held_by (node_of a))) (standing_of (node_of a)) act (standing_of (node_of b))
+      → log_of b ≡ log_of a ++ ((state_of (held_by (node_of b))).clock, event_of act.input) ∷ [] → peers_of b ≡ peers_of a
+      → ((place : ℕ) → (links_of (node_of b) place).outbox ≡ (links_of (node_of a) place).outbox ++ frames_to act.sends place)
+      → ((place : ℕ) → (links_of (node_of a) place).unread ≡ cond (is_from place act.input) act.came [] ++ (links_of (node_of b) place).unread)
+      → Follows accepts gives (act ∷ []) a b
+  acts_once a b act names ports leads log peers out came = record {
+    names = names;
+    ports = ports;
+    lead = (standing_of (node_of b), leads, refl);
+    log = log ∙ ap (λ (s : Timed State). log_of a ++ (s.clock, event_of act.input) ∷ []) leads.state;
+    moved = subst (λ ps. HaveMoved accepts gives (act ∷ []) (links_of (node_of a)) (links_of (node_of b)) (peers_of a) ps) (sym peers)
+        (peers_kept accepts gives (act ∷ []) (links_of (node_of a)) (links_of (node_of b)) (peers_of a)
+        (λ place other. act_moved accepts gives link_rests inlet_rests place act (links_of (node_of a) place) (links_of (node_of b) place) other
+        (out place ∙ ap (λ w. (links_of (node_of a) place).outbox ++ w) (sym (append-nil (frames_to act.sends place))))
+        (came place ∙ ap (λ w. w ++ (links_of (node_of b) place).unread) (sym (append-nil (cond (is_from place act.input) act.came []))))));
+  }
+
+  -- ---- no act
+
+  -- nothing is seen to have changed, whatever memory was got
+  pub nothing_done : (a b : LinkedNode T L I g) → names_of (held_by (node_of b)) ≡ names_of (held_by (node_of a)) → ports_of (held_by (node_of b)) ≡ ports_of (held_by (node_of a))
+      → state_of (held_by (node_of b)) ≡ state_of (held_by (node_of a)) → answers_of (held_by (node_of b)) ≡ answers_of (held_by (node_of a))
+      → log_of b ≡ log_of a → peers_of b ≡ peers_of a
+      → ((place : ℕ) → (links_of (node_of b) place).outbox ≡ (links_of (node_of a) place).outbox)
+      → ((place : ℕ) → (links_of (node_of b) place).unread ≡ (links_of (node_of a) place).unread)
+      → Follows accepts gives [] a b
+  nothing_done a b names ports state answers log peers out came = record {
+    names = names;
+    ports = ports;
+    lead = alike (state_of (held_by (node_of b))) (state_of (held_by (node_of a))) (answers_of (held_by (node_of b))) (answers_of (held_by (node_of a))) state answers;
+    log = log ∙ sym (append-nil (log_of a));
+    moved = subst (λ ps. HaveMoved accepts gives [] (links_of (node_of a)) (links_of (node_of b)) (peers_of a) ps) (sym peers)
+        (peers_kept accepts gives [] (links_of (node_of a)) (links_of (node_of b)) (peers_of a)
+        (λ place other. unmoved accepts gives link_rests inlet_rests place (links_of (node_of a) place) (links_of (node_of b) place) other (out place) (came place)));
+  }
+
+  -- the same where the node over packets is the same
+  pub nothing_held : (a b : LinkedNode T L I g) → held_by (node_of b) ≡ held_by (node_of a) → log_of b ≡ log_of a → peers_of b ≡ peers_of a
+      → ((place : ℕ) → (links_of (node_of b) place).outbox ≡ (links_of (node_of a) place).outbox)
+      → ((place : ℕ) → (links_of (node_of b) place).unread ≡ (links_of (node_of a) place).unread)
+      → Follows accepts gives [] a b
+  nothing_held a b held log peers out came = nothing_done a b (ap names_of held) (ap ports_of held) (ap state_of held) (ap answers_of held) log peers out came
+
+-- a log that got room, and then an entry
+pub log_after : {E : Type 0} (l m r x : List E) → r ≡ m ++ x → m ≡ l → r ≡ l ++ x
+log_after l m r x e f = e ∙ ap (λ w. w ++ x) f
+
+-- ---- a link that was marked
+
+pub marked_outbox : (k : ℕ) (fault : NodeFault) (links : ℕ → Link) (place : ℕ) → (at_link k (λ l. marked l fault) links place).outbox ≡ (links place).outbox
+marked_outbox k fault links place = go (cases_eq place k)
+  where
+    go : (place ≡ k) ⊎ (place ≢ k) → (at_link k (λ l. marked l fault) links place).outbox ≡ (links place).outbox
+    go (inl e) = subst (λ j. (at_link k (λ l. marked l fault) links j).outbox ≡ (links j).outbox) (sym e) (ap (λ (l : Link). l.outbox) (link_there k (λ l. marked l fault) links))
+    go (inr n) = ap (λ (l : Link). l.outbox) (link_else k place (λ l. marked l fault) links n)
+
+pub marked_unread : (k : ℕ) (fault : NodeFault) (links : ℕ → Link) (place : ℕ) → (at_link k (λ l. marked l fault) links place).unread ≡ (links place).unread
+marked_unread k fault links place = go (cases_eq place k)
+  where
+    go : (place ≡ k) ⊎ (place ≢ k) → (at_link k (λ l. marked l fault) links place).unread ≡ (links place).unread
+    go (inl e) = subst (λ j. (at_link k (λ l. marked l fault) links j).unread ≡ (links j).unread) (sym e) (ap (λ (l : Link). l.unread) (link_there k (λ l. marked l fault) links))
+    go (inr n) = ap (λ (l : Link). l.unread) (link_else k place (λ l. marked l fault) links n)

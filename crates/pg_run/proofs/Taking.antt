@@ -1,0 +1,194 @@
+-- What a packet that is taken, and an action, make of a node with its links.
+use Rattle.std.proofs.Common.{◌≡◌, ◌≢◌, ◌+◌, ◌∙◌, ◌⊎◌, ℕ, cond, take, length, List, [], ◌∷◌, ◌++◌, refl, sym, ap, subst, inl, inr}
+use Rattle.std.specs.Prelude.{if◌then◌else◌, nat_eq, Bool, true, false, Option, Some, None, Result, Ok, Err, IfErr}
+use Rattle.std.proofs.lemmas.Bool.{cases_eq, eq-eqb, ne_eqb}
+use Rattle.pg_frame.specs.declared.fault.TooLong as frame
+use Rattle.pg_frame.specs.Frames.{front_of, after_front}
+use Rattle.pg_group.specs.declared.table.GroupTable.{Ghosts}
+use Rattle.pg_machine.specs.Machine.{Taken, Own}
+use Rattle.pg_message.specs.declared.fault.MessageFault.{MessageFault}
+use Rattle.pg_message.specs.declared.packet.Packet.{Packet}
+use Rattle.pg_message.specs.Reading.{packet_spelled}
+use Rattle.pg_node.specs.declared.node.Node.{Node}
+use Rattle.pg_node.specs.declared.state.done.Done.{Done}
+use Rattle.pg_node.specs.declared.state.fault.NodeFault.{NodeFault}
+use Rattle.pg_node.specs.declared.state.fault.NodeFault.TheVariants.{Damaged}
+use Rattle.pg_node.specs.Bytes.{next_packet, packet_at, packet_in, passed}
+use Rattle.pg_node.specs.Issued.{ports_of}
+use Rattle.pg_node.specs.Links.{Link, at_link, frames_to, AreSmallFrames}
+use Rattle.pg_node.specs.Nodes.{held_by, links_of, sent_out, step_link, ComesInRoom}
+use Rattle.pg_node.specs.Sendable.{AreSendable}
+use Rattle.pg_node.specs.States.{names_of, nodes_of, kept_by, state_of, answers_of, stamped_of, Gave}
+use Rattle.pg_opens.specs.Places.{name_at}
+use Rattle.pg_run.specs.declared.linked.LinkedNode.{LinkedNode}
+use Rattle.pg_run.specs.Acts.{Act, event_of, is_from}
+use Rattle.pg_node.specs.declared.state.NodeState.{NodeState}
+use Rattle.pg_run.specs.Events.{ActsOnce, IsOfPeer, TookNext, IsTold, told_of_peer}
+use Rattle.pg_run.proofs.Following.{follows_on}
+use Rattle.pg_run.specs.Follows.{Follows, node_of, peers_of, log_of, standing_of}
+use Rattle.pg_run.proofs.Acting.{HappenedBy, happened_by, acts_once}
+use Rattle.pg_run.proofs.Fronts.{front_alone, front_alone_len, front_taken}
+use Rattle.pg_run.proofs.Moving.{link_there, link_else}
+use Rattle.pg_step.specs.Step.{Action, TimedTurn, step_take, step_act}
+
+-- ---- the next packet of a link
+
+pub record IsNext (link : Link) (packet : Packet) : Type 0 where
+  pub body : List ℕ
+  pub front : front_of link.unread ≡ Ok (Some body)
+  pub spelled : packet_spelled body ≡ Ok packet
+
+undamaged : (d : Bool) (r : Result (Option Packet) NodeFault) (packet : Packet) → (if d then Err Damaged else r) ≡ Ok (Some packet) → r ≡ Ok (Some packet)
+undamaged true r packet e = absurd (cc)
+undamaged false r packet e = e
+
+spelled_as : (r : Result Packet MessageFault) (packet : Packet) → packet_in r ≡ Ok (Some packet) → r ≡ Ok packet
+spelled_as (Ok other) packet e = cc
+spelled_as (Err fault) packet e = absurd (cc)
+
+read_at : (r : Result (Option (List ℕ)) frame.TooLong) (packet : Packet) → packet_at r ≡ Ok (Some packet)
+    → (body : List ℕ) × (r ≡ Ok (Some body)) × (packet_spelled body ≡ Ok packet)
+read_at (Ok (Some body)) packet e = (body, refl, spelled_as (packet_spelled body) packet e)
+read_at (Ok None) packet e = absurd (cc)
+read_at (Err fault) packet e = absurd (cc)
+
+pub next_is : (link : Link) (packet : Packet) → next_packet link ≡ Ok (Some packet) → IsNext link packet
+next_is link packet e =
+    let read = read_at (front_of link.unread) packet (undamaged link.damaged (packet_at (front_of link.unread)) packet e) in
+    record { body = read.0; front = read.1; spelled = read.2 }
+
+-- ---- the links behind it
+
+passed_outbox : (k : ℕ) (links : ℕ → Link) (place : ℕ) → (at_link k passed links place).outbox ≡ (links place).outbox
+passed_outbox k links place = go (cases_eq place k)
+  where
+    go : (place ≡ k) ⊎ (place ≢ k) → (at_link k passed links place).outbox ≡ (links place).outbox
+    go (inl e) = subst (λ j. (at_link k passed links j).outbox ≡ (links j).outbox) (sym e) (ap (λ (l : Link). l.outbox) (link_there k passed links))
+    go (inr n) = ap (λ (l : Link). l.outbox) (link_else k place passed links n)
+
+taken_unread : (k : ℕ) (links links2 : ℕ → Link) (body : List ℕ) → ((place : ℕ) → (links2 place).unread ≡ (links place).unread) → front_of (links k).unread ≡ Ok (Some body)
+    → (place : ℕ) → (links place).unread ≡ cond (nat_eq k place) (take (4 + length body) (links k).unread) [] ++ (at_link k passed links2 place).unread
+taken_unread k links links2 body same front place = go (cases_eq place k)
+  where
+    go : (place ≡ k) ⊎ (place ≢ k) → (links place).unread ≡ cond (nat_eq k place) (take (4 + length body) (links k).unread) [] ++ (at_link k passed links2 place).unread
+    go (inl e) = subst (λ j. (links j).unread ≡ cond (nat_eq k j) (take (4 + length body) (links k).unread) [] ++ (at_link k passed links2 j).unread) (sym e)
+        (front_taken (links k).unread body front
+        ∙ (ap (λ w. take (4 + length body) (links k).unread ++ after_front w) (sym (same k))
+        ∙ (ap (λ (l : Link). take (4 + length body) (links k).unread ++ l.unread) (sym (link_there k passed links2))
+        ∙ ap (λ b. cond b (take (4 + length body) (links k).unread) [] ++ (at_link k passed links2 k).unread) (sym (eq-eqb k k refl)))))
+    go (inr n) = sym (same place)
+        ∙ (ap (λ (l : Link). l.unread) (sym (link_else k place passed links2 n))
+        ∙ ap (λ b. cond b (take (4 + length body) (links k).unread) [] ++ (at_link k passed links2 place).unread) (sym (ne_eqb k place (λ e. n (sym e)))))
+
+module _ {T L I : Type 0} {g : Ghosts T} (accepts : L → List ℕ → L → Type 0) (gives : I → List ℕ → I → Type 0)
+    (link_rests : (a : L) → accepts a [] a) (inlet_rests : (a : I) → gives a [] a) where
+  abbrev Gives : LinkedNode T L I g → TimedTurn → Node T g → Type 0
+  Gives a turn n = Gave (name_at (names_of (held_by (node_of a))) 0) turn.reported.gave (answers_of (held_by (node_of a))) (answers_of (held_by n))
+
+  -- a packet was taken, and that was logged
+  pub take_acts : (a b : LinkedNode T L I g) (m : Node T g) (peer : ℕ) (packet : Packet) (done : Done) → next_packet (links_of (node_of a) peer) ≡ Ok (Some packet)
+      → ComesInRoom (names_of (held_by (node_of a)))
+      (step_take (nodes_of (held_by (node_of a))) (name_at (names_of (held_by (node_of a))) (peer + 1)) (stamped_of packet) (state_of (held_by (node_of a))))
+      (Ok done) (state_of (held_by m)) (answers_of (held_by (node_of a))) (answers_of (held_by m))
+      → AreSendable (names_of (held_by (node_of a))) done.sends.items → AreSmallFrames done.sends.items
+      → ((place : ℕ) → links_of m place ≡ at_link peer passed (sent_out done.sends.items (links_of (node_of a))) place)
+      → names_of (held_by m) ≡ names_of (held_by (node_of a)) → ports_of (held_by m) ≡ ports_of (held_by (node_of a))
+      → node_of b ≡ m → log_of b ≡ log_of a ++ ((state_of (held_by m)).clock, event_of (Taken peer (stamped_of packet))) ∷ [] → peers_of b ≡ peers_of a
+      → ActsOnce accepts gives (IsOfPeer peer) a b
+  take_acts a b m peer packet done next came fits small sent names ports node log peers =
+      let links = links_of (node_of a) in
+      let happened = happened_by (names_of (held_by (node_of a)))
+      (step_take (nodes_of (held_by (node_of a))) (name_at (names_of (held_by (node_of a))) (peer + 1)) (stamped_of packet) (state_of (held_by (node_of a))))
+      done (state_of (held_by m)) (answers_of (held_by (node_of a))) (answers_of (held_by m)) came in
+      let is = next_is (links peer) packet next in
+      let act : Act = record { input = Taken peer (stamped_of packet); turn = happened.turn; sends = done.sends.items; came = take (4 + length is.body) (links peer).unread } in
+      let held = ap held_by node in record {
+        act = act;
+        wanted = refl;
+        follows = acts_once accepts gives link_rests inlet_rests a b act (ap names_of held ∙ names) (ap ports_of held ∙ ports)
+            (record {
+              made = happened.made;
+              state = ap state_of held ∙ happened.happens.state;
+              answers = subst (λ (n : Node T g). Gives a happened.turn n) (sym node) happened.happens.answers;
+              sends = happened.happens.told.sends;
+              fits = fits;
+              small = small;
+              came = record {
+                body = is.body;
+                packet = packet;
+                front = front_alone (links peer).unread is.body is.front;
+                alone = front_alone_len (links peer).unread is.body is.front;
+                spelled = is.spelled;
+                is = refl;
+              };
+            })
+            (log ∙ ap (λ (n : Node T g). log_of a ++ ((state_of (held_by n)).clock, event_of (Taken peer (stamped_of packet))) ∷ []) (sym node)) peers
+            (λ place. ap (λ (n : Node T g). (links_of n place).outbox) node ∙ (ap (λ (l : Link). l.outbox) (sent place) ∙ passed_outbox peer (sent_out done.sends.items links) place))
+            (λ place. taken_unread peer links (sent_out done.sends.items links) is.body (λ other. refl) is.front place
+            ∙ (ap (λ (l : Link). cond (is_from place (Taken peer (stamped_of packet))) (take (4 + length is.body) (links peer).unread) [] ++ l.unread) (sym (sent place))
+            ∙ ap (λ (n : Node T g). cond (is_from place (Taken peer (stamped_of packet))) (take (4 + length is.body) (links peer).unread) [] ++ (links_of n place).unread) (sym node)));
+      }
+
+  -- an action was made, and that was logged
+  pub action_acts : (a b : LinkedNode T L I g) (m : Node T g) (action : Action) (done : Done)
+      → ComesInRoom (names_of (held_by (node_of a)))
+      (step_act (nodes_of (held_by (node_of a))) (ports_of (held_by (node_of a))) action (state_of (held_by (node_of a))))
+      (Ok done) (state_of (held_by m)) (answers_of (held_by (node_of a))) (answers_of (held_by m))
+      → AreSendable (names_of (held_by (node_of a))) done.sends.items → AreSmallFrames done.sends.items
+      → ((place : ℕ) → links_of m place ≡ sent_out done.sends.items (links_of (node_of a)) place)
+      → names_of (held_by m) ≡ names_of (held_by (node_of a)) → ports_of (held_by m) ≡ ports_of (held_by (node_of a))
+      → node_of b ≡ m → log_of b ≡ log_of a ++ ((state_of (held_by m)).clock, event_of (Own action)) ∷ [] → peers_of b ≡ peers_of a
+      → ActsOnce accepts gives (λ input. input ≡ Own action) a b
+  action_acts a b m action done came fits small sent names ports node log peers =
+      let happened = happened_by (names_of (held_by (node_of a)))
+      (step_act (nodes_of (held_by (node_of a))) (ports_of (held_by (node_of a))) action (state_of (held_by (node_of a))))
+      done (state_of (held_by m)) (answers_of (held_by (node_of a))) (answers_of (held_by m)) came in
+      let act : Act = record { input = Own action; turn = happened.turn; sends = done.sends.items; came = [] } in
+      let held = ap held_by node in record {
+        act = act;
+        wanted = refl;
+        follows = acts_once accepts gives link_rests inlet_rests a b act (ap names_of held ∙ names) (ap ports_of held ∙ ports)
+            (record {
+              made = happened.made;
+              state = ap state_of held ∙ happened.happens.state;
+              answers = subst (λ (n : Node T g). Gives a happened.turn n) (sym node) happened.happens.answers;
+              sends = happened.happens.told.sends;
+              fits = fits;
+              small = small;
+              came = refl;
+            })
+            (log ∙ ap (λ (n : Node T g). log_of a ++ ((state_of (held_by n)).clock, event_of (Own action)) ∷ []) (sym node)) peers
+            (λ place. ap (λ (n : Node T g). (links_of n place).outbox) node ∙ ap (λ (l : Link). l.outbox) (sent place))
+            (λ place. ap (λ (l : Link). l.unread) (sym (sent place)) ∙ ap (λ (n : Node T g). (links_of n place).unread) (sym node));
+      }
+
+  -- what came of it, behind a stretch in which nothing happened
+  pub took_from : ((a b c : L) (xs ys : List ℕ) → accepts a xs b → accepts b ys c → accepts a (xs ++ ys) c)
+      → ((a b c : I) (xs ys : List ℕ) → gives a xs b → gives b ys c → gives a (xs ++ ys) c)
+      → (peer : ℕ) (r : Result Bool NodeFault) (a m b : LinkedNode T L I g) → Follows accepts gives [] a m → TookNext accepts gives peer r m b → TookNext accepts gives peer r a b
+  took_from link_composes inlet_composes peer (Ok true) a m b h took = record {
+    act = took.act;
+    wanted = took.wanted;
+    follows = follows_on accepts gives link_composes inlet_composes [] (took.act ∷ []) a m b h took.follows;
+  }
+  took_from link_composes inlet_composes peer (Ok false) a m b h took = follows_on accepts gives link_composes inlet_composes [] [] a m b h took
+  took_from link_composes inlet_composes peer (Err fault) a m b h took = follows_on accepts gives link_composes inlet_composes [] [] a m b h took
+
+-- what is told of a peer goes by the node over packets and by the link
+module _ {T : Type 0} {g : Ghosts T} (peer : ℕ) where
+  abbrev told_with : NodeState T g → (ℕ → Link) → Result (Option TimedTurn) NodeFault
+  told_with s links = step_link (nodes_of s) (name_at (names_of s) (peer + 1)) (links peer) (state_of s)
+
+  pub told_same : (n m : Node T g) → held_by m ≡ held_by n → links_of m ≡ links_of n → told_of_peer m peer ≡ told_of_peer n peer
+  told_same n m e f = ap (λ (s : NodeState T g). told_with s (links_of m)) e ∙ ap (λ (ls : ℕ → Link). told_with (held_by n) ls) f
+
+  pub told_err : (r : Result Bool NodeFault) (n m : Node T g) → held_by m ≡ held_by n → links_of m ≡ links_of n → IfErr r (λ fault. IsTold (told_of_peer m peer) fault)
+      → IfErr r (λ fault. IsTold (told_of_peer n peer) fault)
+  told_err (Ok took) n m e f told = tt
+  told_err (Err fault) n m e f told = subst (λ t. IsTold t fault) (told_same n m e f) told
+
+-- whether a peer is lost goes by the node over packets
+pub lost_at : {T : Type 0} {g : Ghosts T} (peer : ℕ) (seen held : NodeState T g) → seen ≡ held → (lost : Bool) → lost ≡ (kept_by seen).lost (name_at (names_of seen) (peer + 1)) → lost ≡ false
+    → (kept_by held).lost (name_at (names_of held) (peer + 1)) ≡ false
+lost_at {T} {g} peer seen held same lost is here =
+    ap (λ (s : NodeState T g). (kept_by s).lost (name_at (names_of s) (peer + 1))) (sym same) ∙ (sym is ∙ here)

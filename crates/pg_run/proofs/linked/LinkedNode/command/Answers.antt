@@ -1,0 +1,23 @@
+use Rattle.std.proofs.Common.{ap, refl}
+use Rattle.pg_node.specs.Nodes.{held_by}
+use Rattle.pg_node.specs.States.{names_of, state_of, answers_of}
+use Rattle.pg_run.specs.Events.{told_of_action}
+use Rattle.pg_run.proofs.Acting.{nothing_done, nothing_held, refused_as, log_after}
+use Rattle.pg_run.proofs.Taking.{action_acts}
+use Rattle.pg_run.proofs.linked.LinkedNode.command.Goals as goal
+use Rattle.pg_step.specs.Step.{Issue}
+
+pub returns-then-is_err-clause-acted : goal.returns-then-is_err-clause-acted
+returns-then-is_err-clause-acted g c =
+    nothing_held g.L.Link.accepts g.I.Inlet.gives g.met.L.Link.rests g.met.I.Inlet.rests c.args.self.now _ refl c.reserve.ensures.items refl (λ place. refl) (λ place. refl)
+
+pub returns-in-Ok-clause-acted : goal.returns-in-Ok-clause-acted
+returns-in-Ok-clause-acted g c =
+    action_acts g.L.Link.accepts g.I.Inlet.gives g.met.L.Link.rests g.met.I.Inlet.rests c.args.self.now c.keep.new.self c.command.new.self (Issue c.args.port c.args.command) _
+    c.in-Ok.ensures.event c.in-Ok.ensures.fits c.in-Ok.ensures.small c.in-Ok.ensures.sent c.command.ensures.names c.command.ensures.ports c.keep.ensures.node
+    (log_after _ _ _ _ c.keep.ensures.log c.reserve.ensures.items) c.keep.ensures.peers
+
+pub returns-in-Err-clause-acted : goal.returns-in-Err-clause-acted
+returns-in-Err-clause-acted g c =
+    nothing_done g.L.Link.accepts g.I.Inlet.gives g.met.L.Link.rests g.met.I.Inlet.rests c.args.self.now _ c.command.ensures.names c.command.ensures.ports c.in-Err.ensures.err c.in-Err.ensures.err_answers c.reserve.ensures.items refl
+    (λ place. ap (λ ls. (ls place).outbox) c.in-Err.ensures.kept) (λ place. ap (λ ls. (ls place).unread) c.in-Err.ensures.kept)

@@ -1,0 +1,5 @@
+use Rattle.pg_run.specs.Turns.{GoesOn}
+use Rattle.pg_run.proofs.linked.LinkedNode.put_all.Given as goal
+
+abbrev pub invariant-loop-peer : goal.invariant-loop-peer
+invariant-loop-peer g l = GoesOn g.L.Link.accepts g.I.Inlet.gives l.initial.self l.self

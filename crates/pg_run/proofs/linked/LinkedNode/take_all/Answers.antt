@@ -1,0 +1,8 @@
+use Rattle.pg_run.proofs.GoingOn.{goes_itself, goes_on}
+use Rattle.pg_run.proofs.linked.LinkedNode.take_all.Goals as goal
+
+pub loop-peer-init : goal.loop-peer-init
+loop-peer-init g c = goes_itself g.L.Link.accepts g.I.Inlet.gives g.met.L.Link.rests g.met.I.Inlet.rests c.args.self.now
+
+pub loop-peer-preserved : goal.loop-peer-preserved
+loop-peer-preserved g c = goes_on g.L.Link.accepts g.I.Inlet.gives g.met.L.Link.composes g.met.I.Inlet.composes c.args.self.now c.loop-peer.self c.pull_and_take.new.self c.loop-peer.invariant c.pull_and_take.ensures

@@ -1,0 +1,5 @@
+use Rattle.pg_run.proofs.GoingOn.{goes_itself, serves_going}
+use Rattle.pg_run.proofs.serving.hand_of.Goals as goal
+
+pub returns-in-Err : goal.returns-in-Err
+returns-in-Err g c = serves_going g.L.Link.accepts g.I.Inlet.gives c.args.linked.now c.args.linked.now c.args.ports.now.items (goes_itself g.L.Link.accepts g.I.Inlet.gives g.met.L.Link.rests g.met.I.Inlet.rests c.args.linked.now)

@@ -1,0 +1,83 @@
+-- What a clause sees of the two ends of a port.
+use Rattle.std.specs.Prelude.{◌≡◌, ℕ, ◌≤◌, List, [], ◌∷◌, ◌++◌, Option, Some, None, length, take}
+use Rattle.pg_ring.specs.Slots.{given, taken, AreSlots, SameSlotOut, SameSlotIn}
+use Rattle.pg_run.specs.declared.port.Asked.{Asked}
+use Rattle.pg_run.specs.declared.port.Client.{Client}
+use Rattle.pg_run.specs.declared.port.Port.{Port}
+use Rattle.pg_step.specs.declared.answer.Answer.{Answer}
+
+-- ---- the client's end
+
+-- every command that was ever submitted
+abbrev pub submitted : Client → List Asked
+submitted client = given client.commands
+
+-- every answer that was ever polled
+abbrev pub polled : Client → List Answer
+polled client = taken client.answers
+
+-- the same end of the same port
+abbrev pub SameClient : Client → Client → Type 0
+SameClient a b = SameSlotOut a.commands b.commands × SameSlotIn a.answers b.answers
+
+-- ---- the node's end
+
+-- every command that ever came
+abbrev pub asked : Port → List Asked
+asked port = taken port.commands
+
+-- every answer that was ever handed over
+abbrev pub handed : Port → List Answer
+handed port = given port.answers
+
+-- how many these are
+abbrev pub handed_count : Port → ℕ
+handed_count port = port.handed
+
+abbrev pub kept_in : Option Asked → List Asked
+kept_in None = []
+kept_in (Some next) = next ∷ []
+
+-- the command that came and was not taken, if there is one
+abbrev pub kept_by : Port → List Asked
+kept_by port = kept_in port.kept
+
+-- the same end of the same port
+abbrev pub SamePort : Port → Port → Type 0
+SamePort a b = SameSlotIn a.commands b.commands × SameSlotOut a.answers b.answers
+
+-- what was handed over is the first of these answers
+pub record HandedOver (answers : List Answer) (port : Port) : Type 0 where
+  pub first : handed port ≡ take (handed_count port) answers
+  pub within : handed_count port ≤ length answers
+
+-- what came is what was given before, and then this command, behind which none is kept
+pub record GivesNext (a b : Port) (next : Asked) : Type 0 where
+  pub came : (before : List Asked) → asked a ≡ before ++ kept_by a → asked b ≡ before ++ next ∷ []
+  pub none : kept_by b ≡ []
+
+-- what came is what was given before, and then what is kept
+abbrev pub KeepsAll : Port → Port → Type 0
+KeepsAll a b = (before : List Asked) → asked a ≡ before ++ kept_by a → asked b ≡ before ++ kept_by b
+
+-- some of these answers were handed over
+pub record Hands (answers : List Answer) (a b : Port) : Type 0 where
+  pub same : SamePort a b
+  pub asked : asked b ≡ asked a
+  pub kept : kept_by b ≡ kept_by a
+  pub handed : HandedOver answers a → HandedOver answers b
+
+-- ---- both
+
+-- they are the ends of one port
+abbrev pub ArePort : Client → Port → Type 0
+ArePort client port = AreSlots client.commands port.commands × AreSlots port.answers client.answers
+
+-- nothing was submitted, and nothing handed over
+pub record AreNew (client : Client) (port : Port) : Type 0 where
+  pub submitted : submitted client ≡ []
+  pub polled : polled client ≡ []
+  pub asked : asked port ≡ []
+  pub kept : kept_by port ≡ []
+  pub handed : handed port ≡ []
+  pub count : handed_count port ≡ 0

@@ -1,0 +1,138 @@
+//! The events of a node with its links, each of which is logged.
+
+ghost use Rattle.std.specs.Prelude.{◌≡◌, ◌<◌, ◌+◌, ◌^◌, ◌++◌, [], ◌∷◌, false, Ok, Some, IfErr, IfSome, length, vec_len, vec_capacity};
+
+use crate::linked::LinkedNode;
+use crate::log::NodeEvent;
+use pg_group::GroupTable;
+use pg_message::Packet;
+use pg_node::NodeFault;
+use pg_ring::{Inlet, Link};
+use pg_step::{Command, OpId, Refusal};
+
+impl<T: GroupTable + Drop, L: Link + Drop, I: Inlet + Drop> LinkedNode<T, L, I> {
+    ghost use Rattle.pg_message.specs.Members.{IsShort};
+    ghost use Rattle.pg_node.specs.Bytes.{next_packet};
+    ghost use Rattle.pg_node.specs.Issued.{ports_of};
+    ghost use Rattle.pg_node.specs.Nodes.{held_by, links_of};
+    ghost use Rattle.pg_node.specs.States.{names_of, kept_by, state_of};
+    ghost use Rattle.pg_opens.specs.Places.{name_at};
+    ghost use Rattle.pg_run.specs.Events.{TookNext, Acted, IsTold, IsRefusedAs, told_of_peer, told_of_action};
+    ghost use Rattle.pg_run.specs.Follows.{node_of, peers_of, log_of};
+    ghost use Rattle.pg_step.specs.Step.{Issue, Retry};
+
+    /// Takes the next packet of a peer, if its frame is whole, and logs that; whether it did. `peer`: its place among the peers.
+    /// The place in the log is got first.
+    ///
+    /// Faults, by which nothing happens and nothing is logged: those of `Node::take`, of which `TooLong`, `Message` and
+    /// `NotAMessage` damage the link; `OutOfMemory` may be told in the place of each.
+    pub fn take(&mut self, peer: usize) -> Result<bool, NodeFault>
+        requires place { peer < length (peers_of self.old) }
+        ensures took { TookNext L.accepts I.gives peer result self.old self.new }
+        ensures fault { IfErr result (IsTold (told_of_peer (node_of self.old) peer)) }
+    {
+        if self.log.reserve(1).is_err() {
+            return Err(NodeFault::OutOfMemory);
+        }
+        if self.node.state().is_lost(peer) {
+            return Err(NodeFault::Refused(Refusal::NodeLost));
+        }
+        match self.node.next(peer) {
+            Ok(next) => self.take_next(peer, &next),
+            Err(fault) => Err(fault),
+        }
+    }
+
+    /// Takes the packet, if there is one, that was read of a peer. There is room for it in the log.
+    fn take_next(&mut self, peer: usize, next: &Option<Packet>) -> Result<bool, NodeFault>
+        requires place { peer < length (peers_of self.old) }
+        requires few { IfSome next.now (λ packet. IsShort (2 ^ 32) packet.message) }
+        requires next { next_packet (links_of (node_of self.old) peer) ≡ Ok next.now }
+        requires here { (kept_by (held_by (node_of self.old))).lost (name_at (names_of (held_by (node_of self.old))) (peer + 1)) ≡ false }
+        requires room { vec_len self.old.log < vec_capacity self.old.log }
+        ensures took { TookNext L.accepts I.gives peer result self.old self.new }
+        ensures fault { IfErr result (λ fault. IsTold (told_of_peer (node_of self.old) peer) fault) }
+    {
+        match next {
+            None => Ok(false),
+            Some(packet) => self.take_read(peer, packet),
+        }
+    }
+
+    /// Takes the packet that was read of a peer. There is room for it in the log.
+    fn take_read(&mut self, peer: usize, packet: &Packet) -> Result<bool, NodeFault>
+        requires place { peer < length (peers_of self.old) }
+        requires few { IsShort (2 ^ 32) packet.now.message }
+        requires next { next_packet (links_of (node_of self.old) peer) ≡ Ok (Some packet.now) }
+        requires here { (kept_by (held_by (node_of self.old))).lost (name_at (names_of (held_by (node_of self.old))) (peer + 1)) ≡ false }
+        requires room { vec_len self.old.log < vec_capacity self.old.log }
+        ensures took { TookNext L.accepts I.gives peer result self.old self.new }
+        ensures fault { IfErr result (λ fault. IsTold (told_of_peer (node_of self.old) peer) fault) }
+    {
+        match self.node.take_read(peer, packet) {
+            Ok(done) => {
+                drop(done);
+                self.keep(NodeEvent::Take(peer));
+                Ok(true)
+            }
+            Err(fault) => Err(fault),
+        }
+    }
+
+    /// Takes a command that comes in at a port, and logs it. `port`: its place among the ports. The place in the log is got
+    /// first.
+    ///
+    /// Faults, by which nothing happens, nothing is logged, and the command is handed back: those of `Node::command`;
+    /// `OutOfMemory` may be told in the place of each.
+    pub fn command(&mut self, port: u16, command: Command) -> Result<(), (NodeFault, Command)>
+        requires place { port < ports_of (held_by (node_of self.old)) }
+        ensures acted { Acted L.accepts I.gives (Issue port command) result self.old self.new }
+        ensures fault { IfErr result (λ back. IsRefusedAs (told_of_action (node_of self.old) (Issue port command)) back.0) }
+        ensures back { IfErr result (λ back. back.1 ≡ command) }
+    {
+        if self.log.reserve(1).is_err() {
+            return Err((NodeFault::OutOfMemory, command));
+        }
+        match self.node.command(port, &command) {
+            Ok(done) => {
+                drop(done);
+                self.keep(NodeEvent::Command(port, command));
+                Ok(())
+            }
+            Err(fault) => Err((fault, command)),
+        }
+    }
+
+    /// Tries a command again that waits, and logs that. The place in the log is got first.
+    ///
+    /// Faults, by which nothing happens and nothing is logged: those of `Node::retry`; `OutOfMemory` may be told in the place
+    /// of each.
+    pub fn retry(&mut self, op: OpId) -> Result<(), NodeFault>
+        requires place { op.port < ports_of (held_by (node_of self.old)) }
+        ensures acted { Acted L.accepts I.gives (Retry op) result self.old self.new }
+        ensures fault { IfErr result (λ fault. IsRefusedAs (told_of_action (node_of self.old) (Retry op)) fault) }
+    {
+        if self.log.reserve(1).is_err() {
+            return Err(NodeFault::OutOfMemory);
+        }
+        match self.node.retry(op) {
+            Ok(done) => {
+                drop(done);
+                self.keep(NodeEvent::Retry(op));
+                Ok(())
+            }
+            Err(fault) => Err(fault),
+        }
+    }
+
+    /// Logs an event that happened, with the clock that it set. There is room for it. It takes no memory.
+    fn keep(&mut self, event: NodeEvent)
+        requires room { vec_len self.old.log < vec_capacity self.old.log }
+        ensures log { log_of self.new ≡ log_of self.old ++ ((state_of (held_by (node_of self.old))).clock, event) ∷ [] }
+        ensures node { node_of self.new ≡ node_of self.old }
+        ensures peers { peers_of self.new ≡ peers_of self.old }
+    {
+        let clock = self.node.state().clock();
+        self.log.push_reserved((clock, event));
+    }
+}

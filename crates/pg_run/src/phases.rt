@@ -1,0 +1,95 @@
+//! The phases of a turn that are between a node and its peers.
+
+ghost use Rattle.std.specs.Prelude.{◌<◌, length};
+
+use crate::linked::LinkedNode;
+use pg_group::GroupTable;
+use pg_node::NodeFault;
+use pg_ring::{Inlet, Link};
+use pg_step::Refusal;
+
+/// How many bytes are pulled of a peer in one turn at most.
+const PULL_LEN: usize = 4096;
+
+/// How a part of a turn went.
+#[derive(Clone, Copy, Debug, PartialEq, Eq)]
+pub(crate) struct Phase {
+    /// No growth of memory was refused, and the clock was not full.
+    pub whole: bool,
+    /// Something moved or happened.
+    pub busy: bool,
+}
+
+impl Phase {
+    /// Nothing was there to be done.
+    pub(crate) fn idle() -> Phase {
+        Phase {
+            whole: true,
+            busy: false,
+        }
+    }
+
+    /// Something happened, or nothing was there to do, or this fault was told.
+    pub(crate) fn of(busy: bool, fault: Option<NodeFault>) -> Phase {
+        let short = matches!(
+            fault,
+            Some(NodeFault::OutOfMemory | NodeFault::Refused(Refusal::ClockFull))
+        );
+        Phase {
+            whole: !short,
+            busy,
+        }
+    }
+
+    /// Both parts.
+    pub(crate) fn and(self, other: Phase) -> Phase {
+        Phase {
+            whole: self.whole && other.whole,
+            busy: self.busy || other.busy,
+        }
+    }
+}
+
+impl<T: GroupTable + Drop, L: Link + Drop, I: Inlet + Drop> LinkedNode<T, L, I> {
+    ghost use Rattle.pg_run.specs.Follows.{peers_of};
+    ghost use Rattle.pg_run.specs.Turns.{GoesOn};
+
+    /// Of each peer up to 4,096 bytes come in, and the next packet is taken.
+    pub(crate) fn take_all(&mut self) -> Phase
+        ensures { GoesOn L.accepts I.gives self.old self.new }
+    {
+        let mut phase = Phase::idle();
+        for peer in 0..self.peer_count() {
+            phase = phase.and(self.pull_and_take(peer));
+        }
+        phase
+    }
+
+    /// Of a peer up to 4,096 bytes come in, and the next packet is taken.
+    fn pull_and_take(&mut self, peer: usize) -> Phase
+        requires place { peer < length (peers_of self.old) }
+        ensures { GoesOn L.accepts I.gives self.old self.new }
+    {
+        let pulled = match self.pull(peer, PULL_LEN) {
+            Ok(count) => Phase::of(count > 0, None),
+            Err(fault) => Phase::of(false, Some(fault)),
+        };
+        let took = match self.take(peer) {
+            Ok(happened) => Phase::of(happened, None),
+            Err(fault) => Phase::of(false, Some(fault)),
+        };
+        pulled.and(took)
+    }
+
+    /// What waits for each peer is put.
+    pub(crate) fn put_all(&mut self) -> Phase
+        ensures { GoesOn L.accepts I.gives self.old self.new }
+    {
+        let mut phase = Phase::idle();
+        for peer in 0..self.peer_count() {
+            let count = self.put(peer);
+            phase = phase.and(Phase::of(count > 0, None));
+        }
+        phase
+    }
+}

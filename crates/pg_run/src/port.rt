@@ -1,0 +1,216 @@
+//! A port, at which the commands of a client come in: the client's end, and the node's.
+
+ghost use Rattle.std.specs.Prelude.{◌≡◌, ◌<◌, ◌+◌, ◌^◌, [], ◌∷◌, ◌++◌, IsTrue, IsFalse, IfOk, IfErr, IfSome, IfNone, OnOk, OnErr};
+
+use crate::pauses::Pauses;
+use crate::phases::Phase;
+use pg_ring::{SlotIn, SlotOut, slot_pair};
+use pg_step::{Answer, Command, OpId};
+use std::alloc::{AllocError, Global};
+
+/// How many commands, and how many answers, are on their way at a port at most.
+pub const PORT_PLACES: usize = 64;
+
+/// A command, and how many answers its client had polled when it submitted it.
+#[derive(Debug, Drop)]
+pub struct Asked {
+    pub command: Command,
+    pub polled: u64,
+}
+
+/// The end of a port where commands are submitted and answers polled.
+#[derive(Drop)]
+pub struct Client {
+    commands: SlotOut<Asked>,
+    answers: SlotIn<Answer>,
+    polled: u64,
+}
+
+/// The end of a port at its node.
+#[derive(Drop)]
+pub struct Port {
+    commands: SlotIn<Asked>,
+    answers: SlotOut<Answer>,
+    // A command that came and was not taken by the node.
+    kept: Option<Asked>,
+    // How many answers were handed over.
+    handed: usize,
+}
+
+ghost use Rattle.pg_run.specs.Ports.{ArePort, AreNew};
+
+/// The two ends of a new port.
+///
+/// Error: `AllocError`.
+pub fn port_pair(alloc: Global) -> Result<(Client, Port), AllocError>
+    ensures { IfOk result (λ pair. ArePort pair.0 pair.1 × AreNew pair.0 pair.1) }
+{
+    let Ok((to_node, from_client)) = slot_pair(alloc, PORT_PLACES) else {
+        return Err(AllocError);
+    };
+    let Ok((to_client, from_node)) = slot_pair(alloc, PORT_PLACES) else {
+        return Err(AllocError);
+    };
+    let client = Client {
+        commands: to_node,
+        answers: from_node,
+        polled: 0,
+    };
+    let port = Port {
+        commands: from_client,
+        answers: to_client,
+        kept: None,
+        handed: 0,
+    };
+    Ok((client, port))
+}
+
+impl Client {
+    ghost use Rattle.pg_run.specs.Ports.{SameClient, submitted, polled};
+
+    /// Submits a command, or hands it back where 64 are on their way; then nothing was submitted. It waits for nobody, and takes
+    /// no memory. O(1).
+    pub fn submit(&mut self, command: Command) -> Result<(), Command>
+        ensures same { SameClient self.old self.new }
+        ensures polled { polled self.new ≡ polled self.old }
+        ensures ok { OnOk result (submitted self.new ≡ submitted self.old ++ record { command = command; polled = self.old.polled } ∷ []) }
+        ensures back { IfErr result (λ back. back ≡ command) }
+        ensures err { OnErr result (submitted self.new ≡ submitted self.old) }
+    {
+        let asked = Asked {
+            command,
+            polled: self.polled,
+        };
+        match self.commands.give(asked) {
+            Ok(()) => Ok(()),
+            Err(Asked { command, polled: _ }) => Err(command),
+        }
+    }
+
+    /// The next answer, if one is there. It waits for nobody, and takes no memory. O(1).
+    pub fn poll(&mut self) -> Option<Answer>
+        ensures same { SameClient self.old self.new }
+        ensures submitted { submitted self.new ≡ submitted self.old }
+        ensures some { IfSome result (λ answer. polled self.new ≡ polled self.old ++ answer ∷ []) }
+        ensures none { IfNone result (polled self.new ≡ polled self.old) }
+    {
+        let answer = self.answers.take_one()?;
+        self.polled = self.polled.saturating_add(1);
+        Some(answer)
+    }
+}
+
+impl Port {
+    ghost use Rattle.pg_run.specs.Ports.{SamePort, Hands, GivesNext, KeepsAll, asked, handed, kept_by, handed_count};
+
+    /// The next command, if one is there whose client had polled no more answers than were handed over; else it is kept, if there
+    /// is one. It takes no memory.
+    pub(crate) fn next(&mut self) -> Option<Asked>
+        ensures same { SamePort self.old self.new }
+        ensures some { IfSome result (GivesNext self.old self.new) }
+        ensures none { IfNone result (KeepsAll self.old self.new) }
+        ensures handed { handed self.new ≡ handed self.old }
+        ensures count { handed_count self.new ≡ handed_count self.old }
+    {
+        let next = self.first()?;
+        if next.polled <= self.handed as u64 {
+            Some(next)
+        } else {
+            self.keep(next);
+            None
+        }
+    }
+
+    /// The command that was kept, or else the next that comes, if there is one. It takes no memory.
+    fn first(&mut self) -> Option<Asked>
+        ensures same { SamePort self.old self.new }
+        ensures some { IfSome result (GivesNext self.old self.new) }
+        ensures none { IfNone result (KeepsAll self.old self.new) }
+        ensures handed { handed self.new ≡ handed self.old }
+        ensures count { handed_count self.new ≡ handed_count self.old }
+    {
+        match self.kept.take() {
+            Some(next) => Some(next),
+            None => self.commands.take_one(),
+        }
+    }
+
+    /// Keeps a command that the node did not take. It takes no memory.
+    pub(crate) fn keep(&mut self, next: Asked)
+        ensures same { SamePort self.old self.new }
+        ensures asked { asked self.new ≡ asked self.old }
+        ensures kept { kept_by self.new ≡ next ∷ [] }
+        ensures handed { handed self.new ≡ handed self.old }
+        ensures count { handed_count self.new ≡ handed_count self.old }
+    {
+        self.kept = Some(next);
+    }
+
+    /// Hands over the next of these answers, if one is left and there is a place; the number of its command, if it did.
+    ///
+    /// Error: `AllocError`, which hands over nothing.
+    fn hand(&mut self, alloc: Global, answers: &[Answer]) -> Result<Option<u32>, AllocError>
+        ensures { Hands answers.now self.old self.new }
+    {
+        let Some(answer) = answers.get(self.handed) else {
+            return Ok(None);
+        };
+        let copy = answer.copy(alloc)?;
+        let number = copy.number;
+        if self.give(copy) {
+            Ok(Some(number))
+        } else {
+            Ok(None)
+        }
+    }
+
+    /// Hands over an answer, if there is a place; whether it did. It takes no memory.
+    fn give(&mut self, answer: Answer) -> bool
+        requires { handed_count self.old + 1 < 2 ^ 64 }
+        ensures same { SamePort self.old self.new }
+        ensures asked { asked self.new ≡ asked self.old }
+        ensures kept { kept_by self.new ≡ kept_by self.old }
+        ensures yes { IsTrue result → (handed self.new ≡ handed self.old ++ answer ∷ []) × (handed_count self.new ≡ handed_count self.old + 1) }
+        ensures no { IsFalse result → (handed self.new ≡ handed self.old) × (handed_count self.new ≡ handed_count self.old) }
+    {
+        match self.answers.give(answer) {
+            Ok(()) => {
+                self.handed += 1;
+                true
+            }
+            Err(_) => false,
+        }
+    }
+
+    /// Hands over the next of these answers, as many as are left and as there are places. The pauses of what they answer are
+    /// forgotten. `place`: that of the port.
+    pub(crate) fn hand_all(
+        &mut self,
+        alloc: Global,
+        answers: &[Answer],
+        place: u16,
+        pauses: &mut Pauses,
+    ) -> Phase
+        ensures { Hands answers.now self.old self.new }
+    {
+        let mut phase = Phase::idle();
+        for _ in 0..PORT_PLACES {
+            match self.hand(alloc, answers) {
+                Ok(Some(number)) => {
+                    let op = OpId {
+                        port: place,
+                        number,
+                    };
+                    pauses.forget(op);
+                    phase.busy = true;
+                }
+                Ok(None) => break,
+                Err(AllocError) => {
+                    phase.whole = false;
+                    break;
+                }
+            }
+        }
+        phase
+    }
+}

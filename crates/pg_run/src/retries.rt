@@ -1,0 +1,82 @@
+//! The phase of a turn in which commands that wait are tried again.
+
+ghost use Rattle.pg_run.specs.Turns.{GoesOn};
+
+use crate::linked::LinkedNode;
+use crate::pauses::Pauses;
+use crate::phases::Phase;
+use pg_group::GroupTable;
+use pg_node::NodeFault;
+use pg_ring::{Inlet, Link};
+use pg_step::OpId;
+use rand_core::Rng;
+use std::alloc::AllocError;
+
+/// Each command that waits is tried where its pause is over.
+pub(crate) fn retry_all<T: GroupTable + Drop, L: Link + Drop, I: Inlet + Drop, K: Rng>(
+    linked: &mut LinkedNode<T, L, I>,
+    pauses: &mut Pauses,
+    generator: &mut K,
+) -> Phase
+    ensures { GoesOn L.accepts I.gives linked.old linked.new }
+{
+    if linked.node().state().open_count() == 0 {
+        return Phase::idle();
+    }
+    match linked.node().state().waiting() {
+        Ok(ops) => retry_each(linked, pauses, generator, ops.as_slice()),
+        Err(AllocError) => Phase::of(false, Some(NodeFault::OutOfMemory)),
+    }
+}
+
+/// Each of these commands, which wait, is tried where its pause is over.
+fn retry_each<T: GroupTable + Drop, L: Link + Drop, I: Inlet + Drop, K: Rng>(
+    linked: &mut LinkedNode<T, L, I>,
+    pauses: &mut Pauses,
+    generator: &mut K,
+    ops: &[OpId],
+) -> Phase
+    ensures { GoesOn L.accepts I.gives linked.old linked.new }
+{
+    let mut phase = Phase::idle();
+    for op in ops {
+        phase = phase.and(retry_when_due(linked, pauses, generator, *op));
+    }
+    phase
+}
+
+/// A command that waits is tried where its pause is over.
+fn retry_when_due<T: GroupTable + Drop, L: Link + Drop, I: Inlet + Drop, K: Rng>(
+    linked: &mut LinkedNode<T, L, I>,
+    pauses: &mut Pauses,
+    generator: &mut K,
+    op: OpId,
+) -> Phase
+    ensures { GoesOn L.accepts I.gives linked.old linked.new }
+{
+    match pauses.pass(op, generator) {
+        Ok(true) => retry_of(linked, pauses, op),
+        Ok(false) => Phase::idle(),
+        Err(AllocError) => Phase::of(false, Some(NodeFault::OutOfMemory)),
+    }
+}
+
+/// A command is tried.
+fn retry_of<T: GroupTable + Drop, L: Link + Drop, I: Inlet + Drop>(
+    linked: &mut LinkedNode<T, L, I>,
+    pauses: &mut Pauses,
+    op: OpId,
+) -> Phase
+    ensures { GoesOn L.accepts I.gives linked.old linked.new }
+{
+    if usize::from(op.port) >= linked.node().state().port_count() {
+        return Phase::idle();
+    }
+    match linked.retry(op) {
+        Ok(()) => {
+            pauses.tried(op);
+            Phase::of(true, None)
+        }
+        Err(fault) => Phase::of(false, Some(fault)),
+    }
+}

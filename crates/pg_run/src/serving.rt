@@ -1,0 +1,133 @@
+//! The phases of a turn that are between a node and its clients.
+
+ghost use Rattle.std.specs.Prelude.{◌≡◌, ◌<◌, length};
+ghost use Rattle.pg_node.specs.Issued.{ports_of};
+ghost use Rattle.pg_node.specs.Nodes.{held_by};
+ghost use Rattle.pg_run.specs.Follows.{node_of};
+ghost use Rattle.pg_run.specs.Turns.{Serves, ServesPort};
+
+use crate::linked::LinkedNode;
+use crate::pauses::Pauses;
+use crate::phases::Phase;
+use crate::port::{Asked, Port};
+use pg_group::GroupTable;
+use pg_ring::{Inlet, Link};
+use std::alloc::Global;
+
+/// Each port gives a command at most.
+pub(crate) fn command_all<T: GroupTable + Drop, L: Link + Drop, I: Inlet + Drop>(
+    linked: &mut LinkedNode<T, L, I>,
+    ports: &mut Vec<Port>,
+) -> Phase
+    requires { length ports.old.items ≡ ports_of (held_by (node_of linked.old)) }
+    ensures { Serves L.accepts I.gives linked.old ports.old.items linked.new ports.new.items }
+{
+    let mut phase = Phase::idle();
+    for port in 0..ports.len() {
+        phase = phase.and(command_of(linked, ports, port));
+    }
+    phase
+}
+
+/// The port at a place gives a command at most. There are no more places than the number of a port can tell.
+fn command_of<T: GroupTable + Drop, L: Link + Drop, I: Inlet + Drop>(
+    linked: &mut LinkedNode<T, L, I>,
+    ports: &mut Vec<Port>,
+    port: usize,
+) -> Phase
+    requires ports { length ports.old.items ≡ ports_of (held_by (node_of linked.old)) }
+    requires place { port < length ports.old.items }
+    ensures { Serves L.accepts I.gives linked.old ports.old.items linked.new ports.new.items }
+{
+    match u16::try_from(port) {
+        Ok(place) => command_at(linked, ports, place),
+        Err(_) => Phase::idle(),
+    }
+}
+
+/// The port of this number gives a command at most.
+fn command_at<T: GroupTable + Drop, L: Link + Drop, I: Inlet + Drop>(
+    linked: &mut LinkedNode<T, L, I>,
+    ports: &mut Vec<Port>,
+    place: u16,
+) -> Phase
+    requires ports { length ports.old.items ≡ ports_of (held_by (node_of linked.old)) }
+    requires place { place < length ports.old.items }
+    ensures { Serves L.accepts I.gives linked.old ports.old.items linked.new ports.new.items }
+{
+    let port = &mut ports[usize::from(place)];
+    serve(linked, port, place)
+}
+
+/// This port, which is at that place, gives a command at most.
+fn serve<T: GroupTable + Drop, L: Link + Drop, I: Inlet + Drop>(
+    linked: &mut LinkedNode<T, L, I>,
+    port: &mut Port,
+    place: u16,
+) -> Phase
+    requires { place < ports_of (held_by (node_of linked.old)) }
+    ensures { ServesPort L.accepts I.gives place linked.old port.old linked.new port.new }
+{
+    match port.next() {
+        Some(Asked { command, polled }) => match linked.command(place, command) {
+            Ok(()) => Phase::of(true, None),
+            Err((fault, command)) => {
+                port.keep(Asked { command, polled });
+                Phase::of(false, Some(fault))
+            }
+        },
+        None => Phase::idle(),
+    }
+}
+
+/// Answers are handed over at each port.
+pub(crate) fn hand_all<T: GroupTable + Drop, L: Link + Drop, I: Inlet + Drop>(
+    alloc: Global,
+    linked: &LinkedNode<T, L, I>,
+    ports: &mut Vec<Port>,
+    pauses: &mut Pauses,
+) -> Phase
+    requires { length ports.old.items ≡ ports_of (held_by (node_of linked.now)) }
+    ensures { Serves L.accepts I.gives linked.now ports.old.items linked.now ports.new.items }
+{
+    let mut phase = Phase::idle();
+    for port in 0..ports.len() {
+        phase = phase.and(hand_of(alloc, linked, ports, pauses, port));
+    }
+    phase
+}
+
+/// Answers are handed over at the port at a place, as many as there are places.
+fn hand_of<T: GroupTable + Drop, L: Link + Drop, I: Inlet + Drop>(
+    alloc: Global,
+    linked: &LinkedNode<T, L, I>,
+    ports: &mut Vec<Port>,
+    pauses: &mut Pauses,
+    port: usize,
+) -> Phase
+    requires ports { length ports.old.items ≡ ports_of (held_by (node_of linked.now)) }
+    requires place { port < length ports.old.items }
+    ensures { Serves L.accepts I.gives linked.now ports.old.items linked.now ports.new.items }
+{
+    match u16::try_from(port) {
+        Ok(place) => hand_at(alloc, linked, ports, pauses, place),
+        Err(_) => Phase::idle(),
+    }
+}
+
+/// Answers are handed over at the port of this number.
+fn hand_at<T: GroupTable + Drop, L: Link + Drop, I: Inlet + Drop>(
+    alloc: Global,
+    linked: &LinkedNode<T, L, I>,
+    ports: &mut Vec<Port>,
+    pauses: &mut Pauses,
+    place: u16,
+) -> Phase
+    requires ports { length ports.old.items ≡ ports_of (held_by (node_of linked.now)) }
+    requires place { place < length ports.old.items }
+    ensures { Serves L.accepts I.gives linked.now ports.old.items linked.now ports.new.items }
+{
+    let answers = linked.node().state().answers(place);
+    let port = &mut ports[usize::from(place)];
+    port.hand_all(alloc, answers, place, pauses)
+}
