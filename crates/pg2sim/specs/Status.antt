@@ -27,12 +27,12 @@ abbrev pub ToldEnd : {F : Type 0} → (F → F → Type 0) → (F → Option (Li
 ToldEnd fails contents old new (Ok done) = new ≡ old
 ToldEnd fails contents old new (Err fault) = (told : Result (Unit {0}) RunFault) × Tells fails (contents old) (contents new) new (fault_line fault) told
 
--- an input was served, a fault has its cause C, and this is the end
-pub record BytesEnd (own peer : List ℕ) (C : BytesFault → Type 0) (before after : Option (List ℕ)) (input : List ℕ) (end : Result (Unit {0}) Fault) : Type 0 where
+-- an input was served, a fault has its cause C, and this is the status
+pub record BytesEnd (own peer : List ℕ) (C : BytesFault → Type 0) (before after : Option (List ℕ)) (input : List ℕ) (status : ℕ) : Type 0 where
   pub result : Result (Unit {0}) BytesFault
   pub cause : IfErr result C
   pub serves : ServesAs (chars own) (chars peer) before after input result
-  pub is : end ≡ end_of_bytes result
+  pub is : status ≡ end_status (end_of_bytes result)
 
 -- words are refused: status 2; or there was no memory to read them
 abbrev pub WordsEnd : ℕ → Type 0

@@ -1,9 +1,9 @@
 //! What the program does for its words.
 
-ghost use Rattle.std.specs.Prelude.{◌≡◌, ◌≢◌, [], IfSome, IfOk, IfErr, Ok, Err, map, string_bytes, codes, ◌∷◌};
+ghost use Rattle.std.specs.Prelude.{◌≡◌, ◌≢◌, List, ℕ, [], IfSome, Err, map, string_bytes};
 ghost use Rattle.std.specs.Io.KnownBytes.{Keeps};
 ghost use Rattle.std.specs.Str.{chars};
-ghost use Rattle.clap.specs.Words.{fault_of, subcommand_of};
+ghost use Rattle.clap.specs.Words.{fault_of, kind_of, subcommand_of};
 ghost use Rattle.pg_node.specs.Causes.{AllAnswered, FailedAt, Unread};
 ghost use Rattle.pg2sim.specs.Bytes.{BytesCause, pair_of_texts};
 ghost use Rattle.pg2sim.specs.CommandLine.{command_line, IsBytes};
@@ -44,31 +44,47 @@ pub fn run_words<R: Source, W: Sink, F: Sink>(
     ensures refused { fault_of command_line (map string_bytes words.now) ≢ [] → WordsEnd result
         × Keeps (R.remaining reader.old) (R.remaining reader.new)
         × Keeps (W.contents writer.old) (W.contents writer.new) }
+    ensures bytes { (own peer : List ℕ) → fault_of command_line (map string_bytes words.now) ≡ []
+        → IsBytes (subcommand_of command_line (map string_bytes words.now)) own peer
+        → IfSome (R.remaining reader.old) (λ input. BytesEnd own peer
+        (BytesCause (Unread R.gives R.fails reader.old reader.new
+        (AllAnswered (pair_of_texts (chars own) (chars peer)) (W.contents writer.old) (W.contents writer.new)))
+        (FailedAt W.fails writer.new)) (W.contents writer.old) (W.contents writer.new) input result) }
 {
     match read_words(alloc, words) {
-        Ok(task) => run_task(alloc, &task, reader, writer, faults),
+        Ok(Task::Bytes { own, peer }) => run_bytes(alloc, own, peer, reader, writer, faults),
+        Ok(Task::Script) => run_script(alloc, reader, writer, faults),
         Err(error) => refuse_words(alloc, faults, &error),
     }
 }
 
-/// Does what was asked for, and gives the status.
-fn run_task<R: Source, W: Sink, F: Sink>(
+/// Serves the input as this node with this peer, and gives the status.
+fn run_bytes<R: Source, W: Sink, F: Sink>(
     alloc: Global,
-    task: &Task<'_>,
+    own: &str,
+    peer: &str,
+    reader: &mut R,
+    writer: &mut W,
+    faults: &mut F,
+) -> u8
+    ensures { IfSome (R.remaining reader.old) (λ input. BytesEnd own.now peer.now
+        (BytesCause (Unread R.gives R.fails reader.old reader.new
+        (AllAnswered (pair_of_texts (chars own.now) (chars peer.now)) (W.contents writer.old) (W.contents writer.new)))
+        (FailedAt W.fails writer.new)) (W.contents writer.old) (W.contents writer.new) input result) }
+{
+    let served = serve_input(alloc, own, peer, reader, writer);
+    tell(faults, bytes_end(served))
+}
+
+/// Runs the script that the input is, and gives the status.
+fn run_script<R: Source, W: Sink, F: Sink>(
+    alloc: Global,
     reader: &mut R,
     writer: &mut W,
     faults: &mut F,
 ) -> u8 {
-    match task {
-        Task::Bytes { own, peer } => {
-            let result = serve_input(alloc, own, peer, reader, writer);
-            tell(faults, bytes_end(result))
-        }
-        Task::Script => {
-            let result = run_input(alloc, reader, writer);
-            tell(faults, result)
-        }
-    }
+    let ran = run_input(alloc, reader, writer);
+    tell(faults, ran)
 }
 
 /// How serving ends, for the program.
@@ -106,7 +122,8 @@ pub(crate) fn refuse<F: Sink>(faults: &mut F, number: u8) -> u8
 
 /// Writes why words are refused, or the help that they ask for, and gives the status.
 fn refuse_words<F: Sink>(alloc: Global, faults: &mut F, error: &Error) -> u8
-    ensures { WordsEnd result }
+    ensures end { WordsEnd result }
+    ensures memory { kind_of error.now ≡ ErrorKind.OutOfMemory → result ≡ 1 }
 {
     if error.kind() == ErrorKind::OutOfMemory {
         return refuse(faults, OUT_OF_MEMORY);
