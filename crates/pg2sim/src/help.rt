@@ -35,6 +35,10 @@ Commands, each answered as `NODE NUMBER ANSWER`:
   groups A               closest A TERM N
   retry A K              A's command K, which waits, asks for its lock again
 
+Losses:
+  lose A                 A is lost: it does nothing any more
+  seeloss B A            B sees it, once it has taken all that came from A
+
 Prints:
   lock A TERM            lock A TERM free, or held
   outbox A B             outbox A B N: so many bytes wait at A to go to B

@@ -12,6 +12,7 @@ pair_keyword_text pair.Put = codes "put"
 pair_keyword_text pair.Pull = codes "pull"
 pair_keyword_text pair.Take = codes "take"
 pair_keyword_text pair.Outbox = codes "outbox"
+pair_keyword_text pair.SeeLoss = codes "seeloss"
 
 abbrev pub node_keyword_text : NodeKeyword → List ℕ
 node_keyword_text node.Create = codes "create"
@@ -26,6 +27,7 @@ node_keyword_text node.Groups = codes "groups"
 node_keyword_text node.Closest = codes "closest"
 node_keyword_text node.Retry = codes "retry"
 node_keyword_text node.Lock = codes "lock"
+node_keyword_text node.Lose = codes "lose"
 
 abbrev pub keyword_text : Keyword → List ℕ
 keyword_text Ring = codes "ring"

@@ -109,6 +109,7 @@ impl LineWords<'_> {
             PairKeyword::Pull => Ok(PairForm::Pull(self.number_or(MAX_MOVED)?)),
             PairKeyword::Take => Ok(PairForm::Take),
             PairKeyword::Outbox => Ok(PairForm::Outbox),
+            PairKeyword::SeeLoss => Ok(PairForm::SeeLoss),
         }
     }
 
@@ -134,6 +135,7 @@ impl LineWords<'_> {
             }
             NodeKeyword::Retry => Ok(NodeForm::Retry(self.number()?)),
             NodeKeyword::Lock => Ok(NodeForm::Lock(self.term()?)),
+            NodeKeyword::Lose => Ok(NodeForm::Lose),
         }
     }
 

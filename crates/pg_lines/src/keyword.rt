@@ -24,6 +24,7 @@ pub(crate) enum PairKeyword {
     Pull,
     Take,
     Outbox,
+    SeeLoss,
 }
 
 /// What kind of line about one node.
@@ -41,6 +42,7 @@ pub(crate) enum NodeKeyword {
     Closest,
     Retry,
     Lock,
+    Lose,
 }
 
 /// The keyword of this text, if it is one.
@@ -57,6 +59,7 @@ pub(crate) fn keyword_of(word: &str) -> Option<Keyword>
         "pull" => Some(Keyword::Pair(PairKeyword::Pull)),
         "take" => Some(Keyword::Pair(PairKeyword::Take)),
         "outbox" => Some(Keyword::Pair(PairKeyword::Outbox)),
+        "seeloss" => Some(Keyword::Pair(PairKeyword::SeeLoss)),
         _ => match node_keyword_of(word) {
             Some(keyword) => Some(Keyword::At(keyword)),
             None => None,
@@ -81,6 +84,7 @@ fn node_keyword_of(word: &str) -> Option<NodeKeyword>
         "closest" => Some(NodeKeyword::Closest),
         "retry" => Some(NodeKeyword::Retry),
         "lock" => Some(NodeKeyword::Lock),
+        "lose" => Some(NodeKeyword::Lose),
         _ => None,
     }
 }

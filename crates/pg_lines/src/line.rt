@@ -47,6 +47,8 @@ pub enum PairForm {
     Take,
     /// `outbox A B`
     Outbox,
+    /// `seeloss B A`
+    SeeLoss,
 }
 
 /// What a line about one node asks for.
@@ -58,4 +60,6 @@ pub enum NodeForm {
     Retry(u32),
     /// `lock A TERM`
     Lock(Term),
+    /// `lose A`
+    Lose,
 }

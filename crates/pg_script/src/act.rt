@@ -37,6 +37,10 @@ pub(crate) fn pair_act(first: usize, second: usize, form: PairForm) -> Act {
             node: first,
             peer: second,
         })),
+        PairForm::SeeLoss => Act::Step(Step::Event(FrameStep::SeeLoss {
+            node: first,
+            peer: second,
+        })),
         PairForm::Outbox => Act::Outbox {
             from: first,
             to: second,
@@ -57,5 +61,6 @@ pub(crate) fn node_act(node: usize, form: NodeForm) -> Act {
             op: OpId { port: 0, number },
         })),
         NodeForm::Lock(group) => Act::Lock { node, group },
+        NodeForm::Lose => Act::Step(Step::Lose { node }),
     }
 }
