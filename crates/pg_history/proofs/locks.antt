@@ -23,5 +23,6 @@ pub mod Stages
 pub mod Starts
 pub mod Takes
 pub mod Telling
+pub mod Thins
 pub mod Unique
 pub mod Weights

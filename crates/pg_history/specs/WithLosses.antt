@@ -1,4 +1,4 @@
--- What runs in which nodes are lost keep, as records. No law proves them yet.
+-- What runs in which nodes are lost keep, as records. The laws of pg_loss prove them.
 --
 -- The history of a group, the answers and the entries are the words of runs without a loss, read of what the nodes reported:
 -- where a node was lost while it alone was waited for, the command's last grant, and so its entry, comes with the retry that
@@ -71,8 +71,9 @@ pub record HasThinned (config : Config) (w : LosingFrameWorld) (i : ℕ) (name :
   pub whole : (before ≡ history name w.world.reported) ⊎ ((last : Entry) × (before ++ last ∷ [] ≡ history name w.world.reported))
   pub thin : List Entry
   pub thinned : Thinned thin before (has_seen config w i)
-  -- the table is what they make of what all began with, less the ended, the processes of lost nodes among them
-  pub table : (w.world.node i).state.table name
+  -- once it is formed its table is what they make of what all began with, less the ended, the processes of lost nodes among
+  -- them
+  pub table : formed (nodes_at config i) (w.world.node i).state ≡ true → (w.world.node i).state.table name
       ≡ less (replay (base config name) (updates_of thin)) (λ pid. (w.world.node i).state.ended pid || is_of_lost config w i pid)
   -- no answered update is left out, also none of a lost node
   pub answered : (e : Entry) (first rest : List Entry) → history name w.world.reported ≡ first ++ e ∷ rest

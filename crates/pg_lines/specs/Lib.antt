@@ -1,3 +1,4 @@
 pub mod Keywords
 pub mod Printing
 pub mod Words
+pub mod Rows

@@ -25,8 +25,8 @@ pub fn print_answer(out: &mut String, node: &Atom, answer: &Answer) -> Result<()
     Ok(())
 }
 
-/// The text of a reply.
-fn print_reply(out: &mut String, reply: &Reply) -> Result<(), AllocError>
+/// Appends the text of a reply. On an error some of it stands there.
+pub fn print_reply(out: &mut String, reply: &Reply) -> Result<(), AllocError>
     ensures { OnOk result (Adds (reply_text reply.now) (string_bytes out.old) (string_bytes out.new)) }
 {
     match reply {

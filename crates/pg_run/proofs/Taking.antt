@@ -1,5 +1,5 @@
 -- What a packet that is taken, and an action, make of a node with its links.
-use Rattle.std.proofs.Common.{◌≡◌, ◌≢◌, ◌+◌, ◌∙◌, ◌⊎◌, ℕ, cond, take, length, List, [], ◌∷◌, ◌++◌, refl, sym, ap, subst, inl, inr}
+use Rattle.std.proofs.Common.{◌≡◌, ◌≢◌, ◌<◌, ◌+◌, ◌∙◌, ◌⊎◌, ℕ, cond, take, length, List, [], ◌∷◌, ◌++◌, refl, sym, ap, subst, inl, inr}
 use Rattle.std.specs.Prelude.{if◌then◌else◌, nat_eq, Bool, true, false, Option, Some, None, Result, Ok, Err, IfErr}
 use Rattle.std.proofs.lemmas.Bool.{cases_eq, eq-eqb, ne_eqb}
 use Rattle.pg_frame.specs.declared.fault.TooLong as frame
@@ -86,7 +86,7 @@ module _ {T L I : Type 0} {g : Ghosts T} (accepts : L → List ℕ → L → Typ
   Gives a turn n = Gave (name_at (names_of (held_by (node_of a))) 0) turn.reported.gave (answers_of (held_by (node_of a))) (answers_of (held_by n))
 
   -- a packet was taken, and that was logged
-  pub take_acts : (a b : LinkedNode T L I g) (m : Node T g) (peer : ℕ) (packet : Packet) (done : Done) → next_packet (links_of (node_of a) peer) ≡ Ok (Some packet)
+  pub take_acts : (a b : LinkedNode T L I g) (m : Node T g) (peer : ℕ) (packet : Packet) (done : Done) → peer + 1 < length (names_of (held_by (node_of a))) → next_packet (links_of (node_of a) peer) ≡ Ok (Some packet)
       → ComesInRoom (names_of (held_by (node_of a)))
       (step_take (nodes_of (held_by (node_of a))) (name_at (names_of (held_by (node_of a))) (peer + 1)) (stamped_of packet) (state_of (held_by (node_of a))))
       (Ok done) (state_of (held_by m)) (answers_of (held_by (node_of a))) (answers_of (held_by m))
@@ -95,7 +95,7 @@ module _ {T L I : Type 0} {g : Ghosts T} (accepts : L → List ℕ → L → Typ
       → names_of (held_by m) ≡ names_of (held_by (node_of a)) → ports_of (held_by m) ≡ ports_of (held_by (node_of a))
       → node_of b ≡ m → log_of b ≡ log_of a ++ ((state_of (held_by m)).clock, event_of (Taken peer (stamped_of packet))) ∷ [] → peers_of b ≡ peers_of a
       → ActsOnce accepts gives (IsOfPeer peer) a b
-  take_acts a b m peer packet done next came fits small sent names ports node log peers =
+  take_acts a b m peer packet done there next came fits small sent names ports node log peers =
       let links = links_of (node_of a) in
       let happened = happened_by (names_of (held_by (node_of a)))
       (step_take (nodes_of (held_by (node_of a))) (name_at (names_of (held_by (node_of a))) (peer + 1)) (stamped_of packet) (state_of (held_by (node_of a))))
@@ -107,6 +107,7 @@ module _ {T L I : Type 0} {g : Ghosts T} (accepts : L → List ℕ → L → Typ
         wanted = refl;
         follows = acts_once accepts gives link_rests inlet_rests a b act (ap names_of held ∙ names) (ap ports_of held ∙ ports)
             (record {
+              there = there;
               made = happened.made;
               state = ap state_of held ∙ happened.happens.state;
               answers = subst (λ (n : Node T g). Gives a happened.turn n) (sym node) happened.happens.answers;
@@ -149,6 +150,7 @@ module _ {T L I : Type 0} {g : Ghosts T} (accepts : L → List ℕ → L → Typ
         wanted = refl;
         follows = acts_once accepts gives link_rests inlet_rests a b act (ap names_of held ∙ names) (ap ports_of held ∙ ports)
             (record {
+              there = tt;
               made = happened.made;
               state = ap state_of held ∙ happened.happens.state;
               answers = subst (λ (n : Node T g). Gives a happened.turn n) (sym node) happened.happens.answers;

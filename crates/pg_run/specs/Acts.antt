@@ -1,5 +1,5 @@
 -- What the events of one node make, by the step of the node and in the bytes of its links.
-use Rattle.std.specs.Prelude.{◌≡◌, ℕ, ◌+◌, Bool, false, cond, nat_eq, length, List, [], ◌∷◌, Some, Result, Ok}
+use Rattle.std.specs.Prelude.{◌≡◌, ℕ, ◌+◌, ◌<◌, Bool, false, cond, nat_eq, length, List, [], ◌∷◌, Some, Result, Ok}
 use Rattle.std.specs.List.{flat_map}
 use Rattle.pg_frame.specs.Frames.{front_of}
 use Rattle.pg_machine.specs.Clocked.{Timed, Stamped}
@@ -50,6 +50,11 @@ abbrev pub Came : Given → List ℕ → Type 0
 Came (Taken p x) bytes = IsFrameOf bytes x
 Came (Own action) bytes = bytes ≡ []
 
+-- a packet is taken of a peer, by its place among the peers
+abbrev pub IsFromPeer : List Node → Given → Type 0
+IsFromPeer names (Taken p x) = p + 1 < length names
+IsFromPeer names (Own action) = Unit {0}
+
 -- ---- one act after another
 
 -- the state of a node, and the answers that were given at each port
@@ -59,6 +64,7 @@ pub record Standing : Type 0 where
 
 -- An act leads the node with these names and ports from one standing to another.
 pub record Leads (names : List Node) (ports : ℕ) (a : Standing) (act : Act) (b : Standing) : Type 0 where
+  pub there : IsFromPeer names act.input
   pub made : node_step names ports a.state act.input ≡ Ok act.turn
   pub state : b.state ≡ act.turn.state
   pub answers : Gave (name_at names 0) act.turn.reported.gave a.answers b.answers

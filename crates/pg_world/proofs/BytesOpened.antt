@@ -1,6 +1,8 @@
 -- A world of bytes that begins.
 use Rattle.std.proofs.Common.{◌≡◌, ◌≤◌, ◌<◌, ◌+◌, ◌-◌, ℕ, zero, suc, Bool, true, false, cond, nat_lt, map, get_or, length, replicate, List, [], ◌∷◌, ◌++◌, Option, Some, Result, Ok, Err, refl, sym, ap, ◌∙◌, inl, inr, ◌⊎◌, arith, subst}
-use Rattle.std.specs.Prelude.{slice_get, option_map}
+use Rattle.std.specs.Prelude.{slice_get, option_map, IfOk}
+use Rattle.std.specs.declared.alloc.Global.{Global}
+use Rattle.std.specs.declared.vec.Vec.{Vec}
 use Rattle.std.specs.List.{All, AllByRecursion, IsDistinct}
 use Rattle.std.proofs.lemmas.Bool.{ltb-false}
 use Rattle.std.proofs.lemmas.List.{get_or-replicate, length-map, length-append, map-append}
@@ -285,3 +287,16 @@ idle_begins given nodes are told_by apart =
 -- what is seen as a world that begins does
 pub begins_as : (given : Config) (a b : Crossing) (k l : Account) → a ≡ b → k ≡ l → BytesBegin given b l → BytesBegin given a k
 begins_as given a b k l same kept begins = subst (λ (x : Crossing). BytesBegin given x k) (sym same) (subst (λ (y : Account). BytesBegin given b y) (sym kept) begins)
+
+-- the same of nodes that were made, if they were
+pub made_begin : {T E : Type 0} {g : Ghosts T} (given : Config) (result : Result (Vec (Node T g) Global) E)
+    → IfOk result (λ nodes. map node_of nodes.items ≡ firsts given (length given))
+    → IfOk result (λ nodes. (i : ℕ) → i < length given → OpensLinks (length given - 1) (seen_first given i) (get_or (map links_of nodes.items) i no_links))
+    → IsDistinct same_atom (names_of given) → IfOk result (λ nodes. BytesBegin given (idle_crossing nodes.items) no_account)
+made_begin given (Ok nodes) are told_by apart = idle_begins given nodes.items are told_by apart
+made_begin given (Err fault) are told_by apart = tt
+
+pub made_count : {T E : Type 0} {g : Ghosts T} (given : Config) (result : Result (Vec (Node T g) Global) E)
+    → IfOk result (λ nodes. map node_of nodes.items ≡ firsts given (length given)) → IfOk result (λ nodes. length nodes.items ≡ length given)
+made_count given (Ok nodes) are = sym (length-map nodes.items node_of) ∙ (ap length are ∙ firsts_length given (length given))
+made_count given (Err fault) are = tt

@@ -61,7 +61,7 @@ can_cross packet small =
     record { read = small.read; fits = omega (arith, l); small = λ e. omega (arith, l) }
 
 -- those that go to a place can cross, and their frames go out there
-sent_cross : (sends : List (ℕ × Packet)) (k : ℕ) → AreSmallFrames sends → AllByRecursion CanCross (map packet_as (packets_to sends k))
+pub sent_cross : (sends : List (ℕ × Packet)) (k : ℕ) → AreSmallFrames sends → AllByRecursion CanCross (map packet_as (packets_to sends k))
 sent_cross [] k small = tt
 sent_cross (sent ∷ others) k small = go (nat_eq sent.0 k) (sent_cross others k small.1)
   where
@@ -69,7 +69,7 @@ sent_cross (sent ∷ others) k small = go (nat_eq sent.0 k) (sent_cross others k
     go true rest = (can_cross sent.1 small.0, rest)
     go false rest = rest
 
-frames_sent : (sends : List (ℕ × Packet)) (k : ℕ) → frames_to sends k ≡ frames_of written_of (map packet_as (packets_to sends k))
+pub frames_sent : (sends : List (ℕ × Packet)) (k : ℕ) → frames_to sends k ≡ frames_of written_of (map packet_as (packets_to sends k))
 unfolding frame
 frames_sent [] k = refl
 frames_sent (sent ∷ others) k = go (nat_eq sent.0 k) (frames_sent others k)
@@ -79,7 +79,7 @@ frames_sent (sent ∷ others) k = go (nat_eq sent.0 k) (frames_sent others k)
     go true rest = ap (λ xs. frame_of sent.1 ++ xs) rest
     go false rest = rest
 
-map_append : (xs ys : List (Stamped Message)) → map packet_as (xs ++ ys) ≡ map packet_as xs ++ map packet_as ys
+pub map_append : (xs ys : List (Stamped Message)) → map packet_as (xs ++ ys) ≡ map packet_as xs ++ map packet_as ys
 map_append [] ys = refl
 map_append (x ∷ xs) ys = ap (λ zs. packet_as x ∷ zs) (map_append xs ys)
 

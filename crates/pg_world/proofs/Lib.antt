@@ -1,7 +1,7 @@
-mod Answering
+pub mod Answering
 mod Applying
 mod Barred
-mod Crossed
+pub mod Crossed
 mod Deciding
 mod Dropped
 mod Fitted
@@ -10,9 +10,9 @@ mod Idle
 mod Linked
 mod Lossy
 mod Opened
-mod Ordered
+pub mod Ordered
 mod Passing
-mod Peering
+pub mod Peering
 mod Ported
 mod Queued
 mod Recording
@@ -26,7 +26,7 @@ mod Starting
 mod Stopped
 mod Taking
 mod Tallies
-mod Turning
+pub mod Turning
 mod Unplaced
 mod Viewing
 mod BytesOpened

@@ -13,11 +13,7 @@ use Rattle.pg_opens.specs.Places.{name_at}
 use Rattle.pg_opens.proofs.Named.{atom_self, names_differ}
 use Rattle.pg_node.specs.States.{stamped_of, sends_in}
 use Rattle.pg_node.specs.Sendable.{IsSendable}
-use Rattle.pg_world.specs.Views.{peer_place, packets_to}
-
--- the place of a peer among all nodes
-abbrev pub place_of_peer : ℕ → ℕ → ℕ
-place_of_peer i k = cond (nat_lt k i) k (k + 1)
+use Rattle.pg_world.specs.Views.{peer_place, place_of_peer, packets_to}
 
 pub lt_false : (a b : ℕ) → b ≤ a → nat_lt a b ≡ false
 lt_false a b le = go (nat_lt a b) (ltb-true a b)
@@ -46,7 +42,7 @@ low_or_high a b = go (nat_lt a b) refl
     go false e = inr (grind (arith, e, lt-ltb a b))
 
 -- a place among the peers is that of the place among all
-same_place : (i y k : ℕ) → y ≢ i → nat_eq (place_of_peer i k) y ≡ nat_eq k (peer_place i y)
+pub same_place : (i y k : ℕ) → y ≢ i → nat_eq (place_of_peer i k) y ≡ nat_eq k (peer_place i y)
 same_place i y k other = go (low_or_high k i) (low_or_high y i)
   where
     both : (a b c d : ℕ) → (a ≡ b → c ≡ d) → (c ≡ d → a ≡ b) → nat_eq a b ≡ nat_eq c d
@@ -108,7 +104,7 @@ module _ (config : Config) (i : ℕ) (within : i < length config) where
   pub known : length (all_of (nodes_at config i)) ≡ length config
   known = let n : i < length (names_of config) = omega (arith, count, within) in omega (arith, length-remove (names_of config) i n, count)
 
-  peer_within : (k : ℕ) → k + 1 < length (all_of (nodes_at config i)) → place_of_peer i k < length (names_of config)
+  pub peer_within : (k : ℕ) → k + 1 < length (all_of (nodes_at config i)) → place_of_peer i k < length (names_of config)
   peer_within k l = go (low_or_high k i)
     where
       go : (k < i) ⊎ (i ≤ k) → place_of_peer i k < length (names_of config)

@@ -101,6 +101,10 @@ idle_view nodes = fresh_view (record { nodes = map seen_of nodes; ways = replica
 abbrev pub peer_place : ℕ → ℕ → ℕ
 peer_place i other = cond (nat_lt other i) other (other - 1)
 
+-- and the other way: which node is the peer at a place
+abbrev pub place_of_peer : ℕ → ℕ → ℕ
+place_of_peer i place = cond (nat_lt place i) place (place + 1)
+
 -- the packets on the way from one node to another
 abbrev pub on_the_way : Traffic → ℕ → ℕ → List (Stamped Message)
 on_the_way traffic x y = get_or (get_or traffic.ways x []) (peer_place x y) []

@@ -18,6 +18,7 @@ use crate::losses::Losses;
 use crate::rings::{Rings, rings_between};
 use crate::step::{FrameStep, Step, Stepped};
 use crate::world::peer_place;
+pub use begun::starting_nodes;
 use pg_group::GroupTable;
 use pg_history::nobody_is_harmed;
 use pg_message::Packet;

@@ -20,7 +20,7 @@ mod tally;
 mod way;
 mod world;
 
-pub use bytes::{World, run};
+pub use bytes::{World, run, starting_nodes};
 pub use config::{Config, MAX_NODES, MAX_PORTS};
 pub use entry::Entry;
 pub use fault::WorldFault;

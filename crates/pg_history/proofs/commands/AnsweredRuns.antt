@@ -64,11 +64,11 @@ module _ (op : OpId) (r : Response) (s t : Answers) (answers : t ≡ with_answer
 -- ---- one event
 
 -- the command came in, and needs no lock
-abbrev NeedsNone : ℕ → List (Event Action) → OpId → Type 0
+abbrev pub NeedsNone : ℕ → List (Event Action) → OpId → Type 0
 NeedsNone i es op = (c : Command) × (command_at i op es ≡ Some c) × (ok_means_lock c ≡ false)
 
 -- the answers of node i, by what all nodes told
-record OkIn (i : ℕ) (es : List (Event Action)) (reported : List (ℕ × Report)) : Type 0 where
+pub record OkIn (i : ℕ) (es : List (Event Action)) (reported : List (ℕ × Report)) : Type 0 where
   pub behind : (op : OpId) → 0 < answered_count i op reported → IsAnsweredOk op (answers_by i reported)
   pub only : (op : OpId) → IsAnsweredOk op (answers_by i reported) → (0 < answered_count i op reported) ⊎ NeedsNone i es op
 
@@ -76,7 +76,7 @@ none_more : (i : ℕ) (es fs : List (Event Action)) (op : OpId) → NeedsNone i 
 none_more i es fs op needs = (needs.0, command_more i op needs.0 es fs needs.1, needs.2)
 
 module _ (i j : ℕ) (es fs : List (Event Action)) (ts : List (ℕ × Report)) (reported : Report) (before : OkIn i es ts) where
-  abbrev later : List (ℕ × Report)
+  abbrev pub later : List (ℕ × Report)
   later = ts ++ (j, reported) ∷ []
 
   counts : (op : OpId) → answered_count i op later ≡ answered_count i op ts + cond (nat_eq j i) (answered_by op reported.answered) 0
@@ -96,7 +96,7 @@ module _ (i j : ℕ) (es fs : List (Event Action)) (ts : List (ℕ × Report)) (
       omega (arith, some, more, no)
 
   -- the event is another node's
-  elsewhere_ok : j ≢ i → OkIn i (es ++ fs) later
+  pub elsewhere_ok : j ≢ i → OkIn i (es ++ fs) later
   elsewhere_ok other =
       let same = other_answers i j ts reported other in
       record {
@@ -114,7 +114,7 @@ module _ (i j : ℕ) (es fs : List (Event Action)) (ts : List (ℕ × Report)) (
     now_is : (o : Option (OpId × Response)) → reported.gave ≡ o → t ≡ and_gave s o
     now_is o gave = own_answers i j ts reported own ∙ ap (and_gave s) gave
 
-    abbrev May : OpId → Response → Type 0
+    abbrev pub May : OpId → Response → Type 0
     May op r = r ≡ Given reply.Ok → NeedsNone i (es ++ fs) op
 
     here : (n : ℕ) → cond (nat_eq j i) n 0 ≡ n
@@ -123,7 +123,7 @@ module _ (i j : ℕ) (es fs : List (Event Action)) (ts : List (ℕ × Report)) (
     not_now : (op : OpId) → reported.answered ≡ None → ◌≡◌ {A = ℕ} (cond (nat_eq j i) (answered_by op reported.answered) 0) 0
     not_now op none = here (answered_by op reported.answered) ∙ ap (answered_by op) none
 
-    own_ok : Answering May reported → OkIn i (es ++ fs) later
+    pub own_ok : Answering May reported → OkIn i (es ++ fs) later
     own_ok (Silent gave none) =
         let same = now_is None gave in
         record {
@@ -159,11 +159,11 @@ module _ (i j : ℕ) (es fs : List (Event Action)) (ts : List (ℕ × Report)) (
 
 -- ---- runs
 
-record AllOk (es : List (Event Action)) (w : FrameWorld) : Type 0 where
+pub record AllOk (es : List (Event Action)) (w : FrameWorld) : Type 0 where
   pub counts : AllCounted es w
   pub nodes : (i : ℕ) → OkIn i es w.reported
 
-event_ok : (config : Config) (es : List (Event Action)) (w v : FrameWorld) (e : Event Action) → Happened (machine_of config) w e v → AllOk es w → AllOk (es ++ e ∷ []) v
+pub event_ok : (config : Config) (es : List (Event Action)) (w v : FrameWorld) (e : Event Action) → Happened (machine_of config) w e v → AllOk es w → AllOk (es ++ e ∷ []) v
 event_ok config es w v e h all = record {
   counts = event_counted config es w v e h all.counts;
   nodes = λ j. subst (OkIn j (es ++ e ∷ [])) (sym (changes (machine_of config) w v e h).reported) (go j (cases_eq (node_of e) j));
@@ -183,7 +183,7 @@ run_ok config done [] w v l all = subst (λ es. AllOk es v) (sym (append-nil don
 run_ok config done (e ∷ es) w v l all = subst (λ fs. AllOk fs v) (append_assoc done (e ∷ []) es)
     (run_ok config (done ++ e ∷ []) es l.0 v l.2 (event_ok config done w l.0 e (happened (machine_of config) w l.0 e l.1) all))
 
-start_ok : (config : Config) → AllOk [] (start_of (machine_of config))
+pub start_ok : (config : Config) → AllOk [] (start_of (machine_of config))
 start_ok config = record {
   counts = λ i port. refl;
   nodes = λ i. record { behind = λ op some. absurd (none some); only = λ op ok. absurd (none_within ok.0 ok.1) };

@@ -23,18 +23,18 @@ use Rattle.pg_history.proofs.commands.Ports.{command_more, AllCounted, event_cou
 use Rattle.pg_step.specs.Commands.{change_of}
 
 -- the update is that of the command of this number, which came in at the port
-abbrev AskedBy : ℕ → List (Event Action) → OpId → Update → Type 0
+abbrev pub AskedBy : ℕ → List (Event Action) → OpId → Update → Type 0
 AskedBy i events op u = (c : Command) × (command_at i op events ≡ Some c) × (change_of c ≡ Some u)
 
-asked_more : (i : ℕ) (es fs : List (Event Action)) (op : OpId) (u : Update) → AskedBy i es op u → AskedBy i (es ++ fs) op u
+pub asked_more : (i : ℕ) (es fs : List (Event Action)) (op : OpId) (u : Update) → AskedBy i es op u → AskedBy i (es ++ fs) op u
 asked_more i es fs op u asked = (asked.0, command_more i op asked.0 es fs asked.1, asked.2)
 
-record AllAsked (es : List (Event Action)) (w : FrameWorld) : Type 0 where
+pub record AllAsked (es : List (Event Action)) (w : FrameWorld) : Type 0 where
   pub counts : AllCounted es w
   pub nodes : (i : ℕ) → HasAsked (AskedBy i es) (w.node i)
   pub entries : AllByRecursion (λ (e : Entry). AskedBy e.node es e.op e.update) (entries w.reported)
 
-has_more : (i : ℕ) (es fs : List (Event Action)) (s : Rattle.pg_step.specs.State.State) → HasAsked (AskedBy i es) s → HasAsked (AskedBy i (es ++ fs)) s
+pub has_more : (i : ℕ) (es fs : List (Event Action)) (s : Rattle.pg_step.specs.State.State) → HasAsked (AskedBy i es) s → HasAsked (AskedBy i (es ++ fs)) s
 has_more i es fs s all = record {
   waits = λ op u e. asked_more i es fs op u (all.waits op u e);
   locks = λ c op u lead st e. asked_more i es fs op u (all.locks c op u lead st e);
@@ -45,7 +45,7 @@ begun_entry : (i : ℕ) (es : List (Event Action)) (o : Option (OpId × Update))
 begun_entry i es None asked = tt
 begun_entry i es (Some x) asked = (asked x.0 x.1 refl, tt)
 
-event_asked : (config : Config) (es : List (Event Action)) (w v : FrameWorld) (e : Event Action) → Happened (machine_of config) w e v → AllAsked es w → AllAsked (es ++ e ∷ []) v
+pub event_asked : (config : Config) (es : List (Event Action)) (w v : FrameWorld) (e : Event Action) → Happened (machine_of config) w e v → AllAsked es w → AllAsked (es ++ e ∷ []) v
 event_asked config es w v e h all =
     let i = node_of e in
     let more = es ++ e ∷ [] in

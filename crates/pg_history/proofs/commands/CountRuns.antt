@@ -130,14 +130,14 @@ given_length x (Some (op, r)) port = go (cases_eq op.port port)
 
 -- ---- runs
 
-record AllCounts (config : Config) (w : FrameWorld) (i : ℕ) : Type 0 where
+pub record AllCounts (config : Config) (w : FrameWorld) (i : ℕ) : Type 0 where
   pub counts : Counts (ports_at config i) (w.node i)
   pub answered : (port : ℕ) → (w.node i).counts port ≡ length (answers_by i w.reported port) + open_at port (w.node i)
 
 abbrev Answering : FrameWorld → ℕ → State → Answers → Type 0
 Answering w i s x = (port : ℕ) → s.counts port ≡ length (x port) + open_at port s
 
-event_counts : (config : Config) (w v : FrameWorld) (e : Event Action) → Happened (machine_of config) w e v → ((i : ℕ) → AllCounts config w i) → (i : ℕ) → AllCounts config v i
+pub event_counts : (config : Config) (w v : FrameWorld) (e : Event Action) → Happened (machine_of config) w e v → ((i : ℕ) → AllCounts config w i) → (i : ℕ) → AllCounts config v i
 event_counts config w v e h all i = record {
   counts = state_after (machine_of config) w v e h (Counts (ports_at config i)) i
       (λ own. subst (λ j. Counts (ports_at config j) h.turn.state) (sym own) step.0) (λ other. (all i).counts);
@@ -172,7 +172,7 @@ none_open : (n : ℕ) (s : State) → ((port : ℕ) → open_at port s ≡ 0) �
 none_open zero s none = refl
 none_open (suc n) s none = ap (λ m. m + open_in n s) (none n) ∙ ap (λ m. 0 + m) (none_open n s none)
 
-start_counts : (config : Config) (i : ℕ) → AllCounts config (start_of (machine_of config)) i
+pub start_counts : (config : Config) (i : ℕ) → AllCounts config (start_of (machine_of config)) i
 start_counts config i = record {
   counts = record {
     fitting = record { fresh = λ c above. refl; fits = λ c. tt; closed = λ op below. refl };

@@ -140,7 +140,7 @@ pub record StandsIn (i : ℕ) (op : OpId) (s : State) (reported : List (ℕ × R
   pub once : times i op (entries reported) + chance op (answers_by i reported) s ≤ 1
   pub balanced : times i op (entries reported) ≡ under_way (s.stages op) + answered_count i op reported
 
-stands_later : (i j : ℕ) (op : OpId) (s t : State) (ts : List (ℕ × Report)) (reported : Report) → j ≡ i → StandsIn i op s ts → Stands op (answers_by i ts) s t reported → StandsIn i op t (ts ++ (j, reported) ∷ [])
+pub stands_later : (i j : ℕ) (op : OpId) (s t : State) (ts : List (ℕ × Report)) (reported : Report) → j ≡ i → StandsIn i op s ts → Stands op (answers_by i ts) s t reported → StandsIn i op t (ts ++ (j, reported) ∷ [])
 stands_later i j op s t ts reported own before turn =
     let same = eq-eqb j i own in
     let begun : times i op (entries (ts ++ (j, reported) ∷ [])) ≡ times i op (entries ts) + begun_by op reported.began =
@@ -163,7 +163,7 @@ stands_later i j op s t ts reported own before turn =
     sum : (x b u a more w : ℕ) → x ≡ w + a → u + more ≡ w + b → x + b ≡ u + (a + more)
     sum x b u a more w e f = omega arith
 
-stands_same : (i j : ℕ) (op : OpId) (s : State) (ts : List (ℕ × Report)) (reported : Report) → j ≢ i → StandsIn i op s ts → StandsIn i op s (ts ++ (j, reported) ∷ [])
+pub stands_same : (i j : ℕ) (op : OpId) (s : State) (ts : List (ℕ × Report)) (reported : Report) → j ≢ i → StandsIn i op s ts → StandsIn i op s (ts ++ (j, reported) ∷ [])
 stands_same i j op s ts reported other before =
     let differ = ne_eqb j i other in
     let begun : times i op (entries (ts ++ (j, reported) ∷ [])) ≡ times i op (entries ts) =
@@ -183,7 +183,7 @@ pub record Standing (w : FrameWorld) : Type 0 where
   pub kept : (i : ℕ) → Kept (answers_by i w.reported) (w.node i)
   pub stands : (i : ℕ) (op : OpId) → StandsIn i op (w.node i) w.reported
 
-event_stands : (config : Config) (w v : FrameWorld) (e : Event Action) → Happened (machine_of config) w e v → Standing w → Standing v
+pub event_stands : (config : Config) (w v : FrameWorld) (e : Event Action) → Happened (machine_of config) w e v → Standing w → Standing v
 event_stands config w v e h all =
     let step = step_stands (answers_by (node_of e) w.reported) config (node_of e) (w.node (node_of e)) h.input h.turn h.made (all.kept (node_of e)) in
     let reported = (changes (machine_of config) w v e h).reported in
@@ -201,7 +201,7 @@ event_stands config w v e h all =
           (λ other. subst (StandsIn j op (w.node j)) (sym reported) (stands_same j (node_of e) op (w.node j) w.reported h.turn.reported (λ same. other (sym same)) (all.stands j op)));
     }
 
-start_stands : (config : Config) → Standing (start_of (machine_of config))
+pub start_stands : (config : Config) → Standing (start_of (machine_of config))
 start_stands config = record {
   kept = λ i. record { fitting = record { fresh = λ c above. refl; fits = λ c. tt; closed = λ op below. refl }; over = λ op has. absurd (cc); single = λ op. omega arith };
   stands = λ i op. record { once = omega arith; balanced = refl };

@@ -13,9 +13,13 @@ use Rattle.pg_step.specs.State.Stage.{Changing}
 use Rattle.pg_history.proofs.references.Fitting.{is_changing}
 use Rattle.pg_history.proofs.locks.Named.{World, Entry, on, of_name, updates}
 use Rattle.pg_history.proofs.locks.Kept.{IsOpOf, updating, opens, answers_of, GoesOut, Tale, live, near, near_live, Inv}
-use Rattle.pg_history.proofs.locks.Telling.{updates-append}
+use Rattle.pg_history.proofs.locks.Thins.{updates-append, thin_whole}
 use Rattle.pg_history.proofs.locks.Unique.{IsUpdate, update_is, update_holds}
 use Rattle.pg_history.proofs.locks.Latest.{entry_name, updating_of}
+
+-- nobody has seen a loss
+abbrev pub NobodySeen : World → Type 0
+NobodySeen w = (x y : Node) → w.seen x y ≡ false
 
 -- all, or all but the last
 abbrev pub IsAllButOne : List Update → List Update → Type 0
@@ -35,20 +39,20 @@ pub record Agrees (w : World) : Type 0 where
   pub granted : (N : Term) (before after : List Entry) (e : Entry) → of_name N w.history ≡ before ++ e ∷ after → answers_of e.node e.op w.answered ≡ 0
       → (c : ℕ) × ((p : Node) → live w p → is_holder ((w.node p).locks N) (numbered e.node c) ≡ true)
 
-begins_of : (w : World) (N : Term) (p : Node) → Tale w N p → IsAllButOne (on N (w.log p)) (updates (of_name N w.history))
-begins_of w N p (inl f) = inl f.thin
-begins_of w N p (inr d) = inr (d.last.update, ap (λ us. us ++ d.last.update ∷ []) d.thin ∙ (sym (updates-append d.before (d.last ∷ [])) ∙ ap updates (sym d.is)))
+begins_of : (w : World) → NobodySeen w → (N : Term) (p : Node) → Tale w N p → IsAllButOne (on N (w.log p)) (updates (of_name N w.history))
+begins_of w nobody N p (inl f) = inl (thin_whole (nobody p) f.thin)
+begins_of w nobody N p (inr d) = inr (d.last.update, ap (λ us. us ++ d.last.update ∷ []) (thin_whole (nobody p) d.thin) ∙ (sym (updates-append d.before (d.last ∷ [])) ∙ ap updates (sym d.is)))
 
-free_of : (w : World) → Inv w → (N : Term) (p q : Node) → live w p → (w.node p).locks N ≡ None → Tale w N q → on N (w.log q) ≡ updates (of_name N w.history)
-free_of w inv N p q lp free (inl f) = f.thin
-free_of w inv N p q lp free (inr d) =
+free_of : (w : World) → Inv w → NobodySeen w → (N : Term) (p q : Node) → live w p → (w.node p).locks N ≡ None → Tale w N q → on N (w.log q) ≡ updates (of_name N w.history)
+free_of w inv nobody N p q lp free (inl f) = thin_whole (nobody q) f.thin
+free_of w inv nobody N p q lp free (inr d) =
     let b = update_is N ((w.node d.i).uses d.n) d.update in
-    let m : near w d.i p = record { home = d.near_it.home; peer = lp.there } in
+    let m : near w d.i p = record { home = d.near_it.home; peer = lp.there; known = nobody p d.i; counts = nobody d.i p } in
     let y : false ≡ true = sym (ap (λ o. is_holder o (numbered d.i b.lock)) free) ∙ update_holds w inv d.i d.n N p m b in
     absurd (cc)
 
 -- the update of an entry that is not answered goes out under a lock that its node holds everywhere
-granted_of : (w : World) → Inv w → (N : Term) (before after : List Entry) (e : Entry) → of_name N w.history ≡ before ++ e ∷ after → GoesOut w.nodes w.node e
+granted_of : (w : World) → Inv w → (N : Term) (before after : List Entry) (e : Entry) → of_name N w.history ≡ before ++ e ∷ after → GoesOut w.nodes w.seen w.node e
     → (c : ℕ) × ((p : Node) → live w p → is_holder ((w.node p).locks N) (numbered e.node c) ≡ true)
 granted_of w inv N before after e here d =
     let name = entry_name N w.history before after e here in
@@ -73,15 +77,15 @@ behind n before (x ∷ after) es e d q apart len =
 op_is : (x : Use) (o : OpId) → IsOpOf x o → (op : OpId) (u : Update) (c : ℕ) (rep : Node → Bool) → x ≡ Updating op u c rep → op ≡ o
 op_is x o (updating p v d q) op u c rep e = cc
 
-module _ (w : World) (inv : Inv w) where
+module _ (w : World) (inv : Inv w) (nobody : NobodySeen w) where
   everywhere : (N : Term) (p : Node) (before after : List Entry) (e : Entry) → of_name N w.history ≡ before ++ e ∷ after → 0 < answers_of e.node e.op w.answered → Tale w N p
       → length before < length (on N (w.log p))
   everywhere N p before after e here some (inl f) =
-      let a : length (on N (w.log p)) ≡ length (of_name N w.history) = ap length f.thin ∙ as_many (of_name N w.history) in
+      let a : length (on N (w.log p)) ≡ length (of_name N w.history) = ap length (thin_whole (nobody p) f.thin) ∙ as_many (of_name N w.history) in
       let b : length (of_name N w.history) ≡ length before + length (e ∷ after) = ap length here ∙ length-append before (e ∷ after) in
       omega (arith, a, b)
   everywhere N p before after e here some (inr d) =
-      behind (length (on N (w.log p))) before after d.before e d.last (sym here ∙ d.is) apart (ap length d.thin ∙ as_many d.before)
+      behind (length (on N (w.log p))) before after d.before e d.last (sym here ∙ d.is) apart (ap length (thin_whole (nobody p) d.thin) ∙ as_many d.before)
     where
       u : IsUpdate N ((w.node d.i).uses d.n)
       u = update_is N ((w.node d.i).uses d.n) d.update
@@ -99,9 +103,9 @@ module _ (w : World) (inv : Inv w) where
 
   pub agrees_of : Agrees w
   agrees_of = record {
-    begins = λ N p lp. begins_of w N p (inv.tales N p lp);
-    free = λ N p q lp lq e. free_of w inv N p q lp e (inv.tales N q lq);
+    begins = λ N p lp. begins_of w nobody N p (inv.tales N p lp);
+    free = λ N p q lp lq e. free_of w inv nobody N p q lp e (inv.tales N q lq);
     everywhere = λ N p before after e lp here some. everywhere N p before after e here some (inv.tales N p lp);
-    one_more = λ N before after e here none. (inv.latest N before after e here none).0;
-    granted = λ N before after e here none. granted_of w inv N before after e here (inv.latest N before after e here none).1;
+    one_more = λ N before after e here none. (inv.latest N before after e here none (λ p. nobody p e.node)).0;
+    granted = λ N before after e here none. granted_of w inv N before after e here (inv.latest N before after e here none (λ p. nobody p e.node)).1;
   }

@@ -14,15 +14,14 @@ use Rattle.pg_message.specs.declared.message.Message.TheVariants.{Call}
 use Rattle.pg_message.specs.declared.message.Request.TheVariants.{SetLock}
 use Rattle.pg_step.specs.declared.command.OpId.{OpId}
 use Rattle.pg_step.specs.Nodes.{Node, Nodes, is_node, is_peer}
-use Rattle.pg_step.specs.State.{State, Status, Use, formed}
+use Rattle.pg_step.specs.State.{State, Status, formed}
 use Rattle.pg_step.specs.State.Status.{Unasked, Asked, Yes, No}
-use Rattle.pg_step.specs.State.Use.{Fresh, Locking, Owning, Updating}
-use Rattle.pg_step.specs.State.Stage.{Asking, Changing}
+use Rattle.pg_step.specs.State.Use.{Locking}
 use Rattle.pg_step.specs.Turns.{NodeTurn}
 use Rattle.pg_step.specs.Peers.{would_grant}
 use Rattle.pg_step.specs.Attempts.{ask, asks, with_asked, own_verdict, is_unasked}
 use Rattle.pg_history.proofs.references.FittingTurns.{relock}
-use Rattle.pg_history.proofs.references.Keys.{atoms, numbers, split, differ, same_is, upd_same, read_other, from_read}
+use Rattle.pg_history.proofs.references.Keys.{atoms, numbers, split, differ, same_is, upd_same, read_other}
 use Rattle.pg_history.proofs.references.References.{about, about_here, about_sent_other, lent_other, numbered_other, numbered_same}
 use Rattle.pg_history.proofs.locks.Lines.{Line, talk_same, Fits, FitsStatus}
 use Rattle.pg_history.proofs.locks.Lines.Line.{Quiet, Wanting, Having}
@@ -30,7 +29,7 @@ use Rattle.pg_history.proofs.locks.Moves.{refit, asked, asked_self}
 use Rattle.pg_history.proofs.locks.Named.{World, perform}
 use Rattle.pg_history.proofs.locks.Kept.{says, IsUpdateOf, IsUpdating, Inv, near}
 use Rattle.pg_history.proofs.locks.Framed.{Acts, ours_sent, spoken, acts_lines, acts_tidy, locks_here, locks_there, fitting_perform, once_same}
-use Rattle.pg_history.proofs.locks.Telling.{mute_tales, fewer_upd, more_upd, ops_upd, mute_sent}
+use Rattle.pg_history.proofs.locks.Telling.{silent_remains, mute_tales, fewer_upd, more_upd, ops_upd, mute_sent}
 use Rattle.pg_history.proofs.locks.Latest.{latest_same, goes_upd}
 use Rattle.pg_history.proofs.locks.Seats.{Sits, seated, false_right, true_both, node_near, to_own, to_own_at, to_near, to_untold}
 
@@ -48,7 +47,7 @@ pub lent_eye : (b : Bool) (locks : Locks) (N : Term) (r s : RefParts) → (b ≡
 lent_eye true locks N r s free other M = lent_other locks N r s other (free refl) M
 lent_eye false locks N r s free other M = refl
 
-module _ (w : World) (a : Node) (peers : List Node) (sits : Sits w.nodes a peers) (c : ℕ) (op : OpId) (u : Update) (lead : Node) (st : Node → Status) (who : Node → Bool) where
+module _ (w : World) (a : Node) (peers : List Node) (sits : Sits w.nodes w.seen a peers) (c : ℕ) (op : OpId) (u : Update) (lead : Node) (st : Node → Status) (who : Node → Bool) where
   abbrev m : Nodes
   m = seated a peers
 
@@ -78,7 +77,7 @@ module _ (w : World) (a : Node) (peers : List Node) (sits : Sits w.nodes a peers
 
   ask_acts : Acts w a c t
   ask_acts = record {
-    silent = to_own w.nodes a peers sits (asks who st) x;
+    silent = to_own w.nodes w.seen a peers sits (asks who st) x;
     sends = λ h k q other. about_sent_other (numbered h k) (is_peer m q && asks who st q) x (numbered_other a h c k other);
     ours = λ q. ours_sent a q (is_peer m q && asks who st q) x (c, refl);
     locks = λ h k M other. lent_eye (asks who st a && free) s.locks N r (numbered h k) free_locks (numbered_other a h c k other) M;
@@ -101,7 +100,7 @@ module _ (w : World) (a : Node) (peers : List Node) (sits : Sits w.nodes a peers
       nothing e = ap (λ o. about r (w.wire a p) ++ about r o) e ∙ append-nil (about r (w.wire a p))
 
       own_nothing : p ≡ a → about r (w.wire a p) ++ about r (t.sends p) ≡ about r (w.wire a p)
-      own_nothing q = nothing (to_own_at w.nodes a peers sits (asks who st) x p q)
+      own_nothing q = nothing (to_own_at w.nodes w.seen a peers sits (asks who st) x p q)
 
       eye : Term → Locks → Bool
       eye M f = is_holder (f M) r
@@ -121,7 +120,7 @@ module _ (w : World) (a : Node) (peers : List Node) (sits : Sits w.nodes a peers
       at v y e f = subst (λ z. FitsStatus N z y) (sym e) f
 
       st_here : asks who st p ≡ true → (b : Bool) → same_atom a p ≡ b → st' p ≡ cond b (own_verdict free) Asked
-      st_here e b q = ap (λ y. cond y (cond (same_atom a p) (own_verdict free) Asked) (st p)) (true_both (node_near w.nodes a peers sits p d) e) ∙ ap (λ y. cond y (own_verdict free) Asked) q
+      st_here e b q = ap (λ y. cond y (cond (same_atom a p) (own_verdict free) Asked) (st p)) (true_both (node_near w.nodes w.seen a peers sits p d) e) ∙ ap (λ y. cond y (own_verdict free) Asked) q
 
       st_own : asks who st p ≡ true → p ≡ a → (b : Bool) → free ≡ b → st' p ≡ own_verdict b
       st_own e q b f = st_here e true (same_is same_atom atoms a p (sym q)) ∙ ap own_verdict f
@@ -133,10 +132,10 @@ module _ (w : World) (a : Node) (peers : List Node) (sits : Sits w.nodes a peers
       go : (b : Bool) → asks who st p ≡ b → (p ≡ a) ⊎ (p ≢ a) → spoken w a t c p
       go false e place =
           talk_same (refit l (at (st p) l.line (ap (λ y. cond y (cond (same_atom a p) (own_verdict free) Asked) (st p)) (false_right (is_node m p) e)) l.fits)) how
-          (nothing (to_untold w.nodes a peers sits (asks who st) x p e)) refl (no_loan e place)
+          (nothing (to_untold w.nodes w.seen a peers sits (asks who st) x p e)) refl (no_loan e place)
       go true e (inl q) = own e q free refl
       go true e (inr n) = talk_same (asked N l (quiet e) (at Asked (Wanting N) (st_here e false (differ same_atom atoms a p (λ y. n (sym y)))) refl)) how
-          (ap (λ o. about r (w.wire a p) ++ o) (ap (about r) (to_near w.nodes a peers sits (asks who st) x p d n e) ∙ about_here r x [] (numbered_same a c))) refl
+          (ap (λ o. about r (w.wire a p) ++ o) (ap (about r) (to_near w.nodes w.seen a peers sits (asks who st) x p d n e) ∙ about_here r x [] (numbered_same a c))) refl
           (λ M. ap (eye M) (locks_there w a t.state p n))
 
   pub ask_keeps : (w.node a).uses c ≡ Locking op u lead st → Inv w → Inv (perform w a (ask (seated a peers) who c op u lead st (w.node a)))
@@ -148,6 +147,7 @@ module _ (w : World) (a : Node) (peers : List Node) (sits : Sits w.nodes a peers
     tales = mute_tales w a t inv (record {
       applied = refl;
       began = refl;
+      remains = silent_remains w a t refl;
       fewer = λ M. fewer_upd s.uses c (Locking op u lead st') M (λ h. absurd h);
       more = λ M. more_upd s.uses c (Locking op u lead st') M (λ h. subst (IsUpdateOf M) is h);
       ops = λ M. ops_upd s.uses c (Locking op u lead st') M (λ h. absurd (subst (IsUpdateOf M) is h));

@@ -1,5 +1,5 @@
 -- A command has every grant, and its update goes out.
-use Rattle.std.proofs.Common.{◌≡◌, ◌≢◌, ℕ, ◌+◌, ◌<◌, Bool, true, false, ◌&&◌, cond, List, [], ◌∷◌, ◌++◌, nat_eq, refl, ap, sym, ◌∙◌, subst, inl, inr, ◌⊎◌, arith, append-nil}
+use Rattle.std.proofs.Common.{◌≡◌, ◌≢◌, ℕ, ◌+◌, Bool, true, false, ◌&&◌, cond, List, [], ◌∷◌, ◌++◌, nat_eq, refl, ap, sym, ◌∙◌, subst, inl, inr, ◌⊎◌, arith, append-nil}
 use Rattle.pg_term.specs.declared.term.Term.{Term}
 use Rattle.pg_term.specs.RefParts.{RefParts}
 use Rattle.pg_term.specs.Same.{same_atom, same_term}
@@ -7,7 +7,6 @@ use Rattle.pg_refs.specs.Numbered.{numbered}
 use Rattle.pg_group.specs.declared.update.Update.{Update}
 use Rattle.pg_group.specs.Functions.{upd}
 use Rattle.pg_group.specs.Value.{name_of}
-use Rattle.pg_group.specs.Table.{Table}
 use Rattle.pg_lock.specs.Locks.{Locks, is_holder}
 use Rattle.pg_message.specs.declared.message.Message.{Message}
 use Rattle.pg_message.specs.declared.message.Message.TheVariants.{Call}
@@ -17,7 +16,7 @@ use Rattle.pg_step.specs.Nodes.{Node, Nodes, is_peer}
 use Rattle.pg_step.specs.State.{State, Status, Use}
 use Rattle.pg_step.specs.State.Status.{Yes}
 use Rattle.pg_step.specs.State.Use.{Fresh, Locking, Owning, Updating}
-use Rattle.pg_step.specs.State.Stage.{Closed, Asking, Changing}
+use Rattle.pg_step.specs.State.Stage.{Changing}
 use Rattle.pg_step.specs.Turns.{NodeTurn}
 use Rattle.pg_step.specs.Attempts.{same_op, begin}
 use Rattle.pg_history.proofs.references.Keys.{atoms, terms, numbers, split, differ, same_is, upd_same, read_at, read_other, at_read, from_read}
@@ -28,7 +27,7 @@ use Rattle.pg_history.proofs.locks.Moves.{refit, reported}
 use Rattle.pg_history.proofs.locks.Named.{World, Entry, perform, on, of_name}
 use Rattle.pg_history.proofs.locks.Kept.{talk, near, live, live_own, near_live, IsUpdateOf, IsOpOf, updating, IsUpdating, GoesOut, Latest, Inv, carried, Tale, opens, answers_of}
 use Rattle.pg_history.proofs.locks.Framed.{Acts, ours_sent, spoken, acts_lines, acts_tidy, acts_about, locks_here, locks_there, fitting_perform, once_same}
-use Rattle.pg_history.proofs.locks.Telling.{tell_same, tell_more, fewer_upd, more_upd, tale_same, use_read, on-append, of_name-append}
+use Rattle.pg_history.proofs.locks.Telling.{silent_remains, tell_same, tell_more, fewer_upd, more_upd, tale_same, use_read, on-append, of_name-append}
 use Rattle.pg_history.proofs.locks.Latest.{GoesOn, parted, entry_name, updating_of, goes_upd, still_out, answered_same}
 use Rattle.pg_history.proofs.locks.Seats.{Sits, seated, to_own, to_own_at, to_near}
 use Rattle.pg_history.proofs.locks.Stages.{commands}
@@ -40,7 +39,7 @@ use Rattle.pg_history.proofs.locks.Unique.{update_is, update_owner, update_holds
 abbrev begun : (ℕ → Use) → ℕ → ℕ → OpId → Update → (Node → Bool) → ℕ → Use
 begun f c n op u rep = upd nat_eq (upd nat_eq f c (Owning (name_of u) n)) n (Updating op u c rep)
 
-module _ (w : World) (a : Node) (peers : List Node) (sits : Sits w.nodes a peers) (c : ℕ) (op : OpId) (u : Update) (lead : Node) (st : Node → Status) where
+module _ (w : World) (a : Node) (peers : List Node) (sits : Sits w.nodes w.seen a peers) (c : ℕ) (op : OpId) (u : Update) (lead : Node) (st : Node → Status) where
   abbrev m : Nodes
   m = seated a peers
 
@@ -76,7 +75,7 @@ module _ (w : World) (a : Node) (peers : List Node) (sits : Sits w.nodes a peers
 
   begin_acts : Acts w a n t
   begin_acts = record {
-    silent = to_own w.nodes a peers sits all_peers x;
+    silent = to_own w.nodes w.seen a peers sits all_peers x;
     sends = λ h k q other. about_sent_other (numbered h k) (is_peer m q && true) x (numbered_other a h n k other);
     ours = λ q. ours_sent a q (is_peer m q && true) x (n, refl);
     locks = λ h k M other. refl;
@@ -86,10 +85,10 @@ module _ (w : World) (a : Node) (peers : List Node) (sits : Sits w.nodes a peers
   quiet inv p d l = subst (λ y. Fits y p l.line) (fresh inv) l.fits
 
   to_self : (p : Node) → p ≡ a → about r (t.sends p) ≡ []
-  to_self p q = ap (about r) (to_own_at w.nodes a peers sits all_peers x p q)
+  to_self p q = ap (about r) (to_own_at w.nodes w.seen a peers sits all_peers x p q)
 
   to_peer : (p : Node) → near w a p → p ≢ a → about r (t.sends p) ≡ x ∷ []
-  to_peer p d l = ap (about r) (to_near w.nodes a peers sits all_peers x p d l refl) ∙ about_here r x [] (numbered_same a n)
+  to_peer p d l = ap (about r) (to_near w.nodes w.seen a peers sits all_peers x p d l refl) ∙ about_here r x [] (numbered_same a n)
 
   begin_line : Inv w → (p : Node) → near w a p → spoken w a t n p
   begin_line inv p d = go (split same_atom atoms p a)
@@ -195,7 +194,7 @@ module _ (w : World) (a : Node) (peers : List Node) (sits : Sits w.nodes a peers
       same q (inr d) = absurd (alone is all inv d.i d.n p d.near_it meets (subst (λ y. IsUpdateOf y ((w.node d.i).uses d.n)) q d.update))
       same q (inl f) = place (split same_atom atoms p a)
         where
-          clear : p ≡ a → (i : Node) (k : ℕ) → live w i → IsUpdateOf M ((v.node i).uses k) → carried (about (numbered i k) (v.wire i p)) ≡ []
+          clear : p ≡ a → (i : Node) (k : ℕ) → near w i p → IsUpdateOf M ((v.node i).uses k) → carried (about (numbered i k) (v.wire i p)) ≡ []
           clear d i k li h = elim (newer i k h) [
             | inl y ↦ ap (λ z. carried (about (numbered z k) (v.wire z p))) y.0.0 ∙ (ap (λ z. carried (about (numbered a z) (v.wire a p))) y.0.1 ∙ ap carried (way ∙ to_self p d))
             | inr y ↦ wires i k y ∙ f.clear i k li y
@@ -203,7 +202,7 @@ module _ (w : World) (a : Node) (peers : List Node) (sits : Sits w.nodes a peers
 
           place : (p ≡ a) ⊎ (p ≢ a) → Tale v M p
           place (inl d) = inl (record {
-            thin = tell_more w v.node v.wire v.log v.history v.answered M p (of_name M w.history) e
+            thin = tell_more w v.node v.wire v.log v.history v.answered M p (of_name M w.history) e (silent_remains w a t refl p)
                 (ap (on M) (read_at same_atom atoms w.log a (w.log a ++ u ∷ []) p d) ∙ (log_a ∙ (ap (λ b. on M (w.log a) ++ cond b (u ∷ []) []) (same_is same_term terms M N q) ∙ ap (λ y. on M (w.log y) ++ u ∷ []) (sym d))))
                 (names_here q) f.thin;
             clear = clear d;
@@ -218,18 +217,18 @@ module _ (w : World) (a : Node) (peers : List Node) (sits : Sits w.nodes a peers
             is = names_here q;
             node = refl;
             command = subst (λ y. IsOpOf y op) (sym new_use) (updating op u c (same_atom a));
-            thin = tell_same w v.node v.wire v.log v.history v.answered M p (ap (on M) (read_other same_atom atoms w.log a (w.log a ++ u ∷ []) p l)) refl f.thin;
+            thin = tell_same w v.node v.wire v.log v.history v.answered M p (silent_remains w a t refl p) (ap (on M) (read_other same_atom atoms w.log a (w.log a ++ u ∷ []) p l)) refl f.thin;
             way = ap carried (way ∙ to_peer p meets l);
           })
 
       go : (M ≡ N) ⊎ (M ≢ N) → Tale v M p
       go (inl q) = same q (inv.tales M p lp)
-      go (inr l) = tale_same w _ _ _ _ _ M p (inv.tales M p lp)
+      go (inr l) = tale_same w _ _ _ _ _ M p (inv.tales M p lp) (silent_remains w a t refl p)
           (at_read same_atom atoms (λ y. on M y ≡ on M (w.log p)) w.log a (w.log a ++ u ∷ []) p (λ q. none l ∙ ap (λ y. on M (w.log y)) (sym q)) (λ q. refl))
           (names ∙ (ap (λ b. of_name M w.history ++ cond b (e ∷ []) []) (differ same_term terms M N l) ∙ append-nil (of_name M w.history))) ops (fewer (λ q. l (sym q))) more wires
 
   begin_latest : live w a → s.uses c ≡ Locking op u lead st → ((p : Node) → near w a p → st p ≡ Yes) → Inv w → Latest (perform w a t)
-  begin_latest la is all inv M before after e names none = go (split same_term terms M N)
+  begin_latest la is all inv M before after e names none unseen = go (split same_term terms M N)
     where
       v : World
       v = perform w a t
@@ -247,21 +246,21 @@ module _ (w : World) (a : Node) (peers : List Node) (sits : Sits w.nodes a peers
       goes_on o x k h = goes_upd o x own_uses n new (λ z. absurd (subst (IsUpdating o x) (read_other nat_eq numbers s.uses c (Owning N n) n (λ y. apart is inv (sym y)) ∙ fresh inv) z)) k
           (goes_upd o x s.uses c (Owning N n) (λ z. subst (IsUpdating o x) is z) k h)
 
-      new_out : GoesOut w.nodes v.node d
+      new_out : GoesOut w.nodes w.seen v.node d
       new_out = record { there = la; number = n; update = subst (IsUpdating op u) (sym new_use) (refl, refl) }
 
-      here : M ≡ N → ((after ≡ []) × (e ≡ d)) ⊎ ((more : List Entry) × (of_name M w.history ≡ before ++ e ∷ more)) → (after ≡ []) × GoesOut v.nodes v.node e
-      here q (inl y) = (y.0, subst (GoesOut w.nodes v.node) (sym y.1) new_out)
+      here : M ≡ N → ((after ≡ []) × (e ≡ d)) ⊎ ((more : List Entry) × (of_name M w.history ≡ before ++ e ∷ more)) → (after ≡ []) × GoesOut v.nodes v.seen v.node e
+      here q (inl y) = (y.0, subst (GoesOut w.nodes w.seen v.node) (sym y.1) new_out)
       here q (inr y) =
-          let old = inv.latest M before y.0 e y.1 none_yet in
+          let old = inv.latest M before y.0 e y.1 none_yet unseen in
           absurd (alone is all inv e.node old.1.number a (near_live w e.node a old.1.there la) (live_own w a la)
           (updating_of N e.op e.update ((w.node e.node).uses old.1.number) (entry_name M w.history before y.0 e y.1 ∙ q) old.1.update))
 
-      go : (M ≡ N) ⊎ (M ≢ N) → (after ≡ []) × GoesOut v.nodes v.node e
+      go : (M ≡ N) ⊎ (M ≢ N) → (after ≡ []) × GoesOut v.nodes v.seen v.node e
       go (inl q) = here q (parted (of_name M w.history) d before after e (sym (ap (λ b. of_name M w.history ++ cond b (d ∷ []) []) (same_is same_term terms M N q)) ∙ all_names))
       go (inr l) =
           let old = inv.latest M before after e
-          (sym (ap (λ b. of_name M w.history ++ cond b (d ∷ []) []) (differ same_term terms M N l) ∙ append-nil (of_name M w.history)) ∙ all_names) none_yet in
+          (sym (ap (λ b. of_name M w.history ++ cond b (d ∷ []) []) (differ same_term terms M N l) ∙ append-nil (of_name M w.history)) ∙ all_names) none_yet unseen in
           (old.0, still_out w a t goes_on e old.1)
 
   pub begin_keeps : live w a → (w.node a).uses c ≡ Locking op u lead st → ((p : Node) → near w a p → st p ≡ Yes) → Inv w → Inv (perform w a (begin (seated a peers) c op u (w.node a)))

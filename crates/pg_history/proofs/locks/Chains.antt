@@ -59,14 +59,14 @@ upd_twice {A} f a x y = fun_ext (λ k. go k (cases same_atom atoms a k))
     go k (inl e) = upd_at same_atom atoms f a y k e ∙ sym (upd_at same_atom atoms (upd same_atom f a x) a y k e)
     go k (inr n) = upd_other same_atom atoms f a y k n ∙ sym (upd_other same_atom atoms (upd same_atom f a x) a y k n ∙ upd_other same_atom atoms f a x k n)
 
-upd_old : {A : Type 0} (f : Node → A) (a : Node) (x : A) → x ≡ f a → upd same_atom f a x ≡ f
+pub upd_old : {A : Type 0} (f : Node → A) (a : Node) (x : A) → x ≡ f a → upd same_atom f a x ≡ f
 upd_old {A} f a x e = fun_ext (λ k. go k (cases same_atom atoms a k))
   where
     go : (k : Node) → (a ≡ k) ⊎ (a ≢ k) → upd same_atom f a x k ≡ f k
     go k (inl q) = upd_at same_atom atoms f a x k q ∙ e ∙ ap f q
     go k (inr n) = upd_other same_atom atoms f a x k n
 
-world_path : (w : World) {f f' : Node → State} {g g' : Node → Node → List Message} {l l' : Node → List Update} {h h' : List Entry} {z z' : List (Node × OpId)}
+pub world_path : (w : World) {f f' : Node → State} {g g' : Node → Node → List Message} {l l' : Node → List Update} {h h' : List Entry} {z z' : List (Node × OpId)}
     → f ≡ f' → g ≡ g' → l ≡ l' → h ≡ h' → z ≡ z' → remade w f g l h z ≡ remade w f' g' l' h' z'
 world_path w p q r s t = λ i. remade w (p i) (q i) (r i) (s i) (t i)
 
@@ -138,7 +138,7 @@ module _ (m : Nodes) (n : ℕ) (s : State) where
       go true = refl
       go false = refl
 
-module _ (w : World) (a : Node) (peers : List Node) (sits : Sits w.nodes a peers) (la : live w a) (inv : Inv w) where
+module _ (w : World) (a : Node) (peers : List Node) (sits : Sits w.nodes w.seen a peers) (la : live w a) (inv : Inv w) where
   abbrev m : Nodes
   m = seated a peers
 
@@ -154,13 +154,13 @@ module _ (w : World) (a : Node) (peers : List Node) (sits : Sits w.nodes a peers
     where
       go : (b : Bool) → every m rep ≡ b → Inv (perform w a (cond b (finish m n op u c s) (becomes s)))
       go false q = still_keeps w a inv
-      go true q = finish_keeps w a peers sits n op u c rep la e (every_near w.nodes a peers sits rep q) inv
+      go true q = finish_keeps w a peers sits n op u c rep la e (every_near w.nodes w.seen a peers sits rep q) inv
 
   pub fails : (c : ℕ) (op : OpId) (u : Update) (lead : Node) (st : Node → Status) → s.uses c ≡ Locking op u lead st → (b : Bool) → none_missing m st ≡ b → Inv (perform w a (cond b (give_up m c op u st s) (becomes s)))
   fails c op u lead st e false q = still_keeps w a inv
-  fails c op u lead st e true q = fail_keeps w a peers sits c op u lead st la e (λ p d. not_asked (st p) (every_near w.nodes a peers sits (λ q. not (is_asked (st q))) q p d)) inv
+  fails c op u lead st e true q = fail_keeps w a peers sits c op u lead st la e (λ p d. not_asked (st p) (every_near w.nodes w.seen a peers sits (λ q. not (is_asked (st q))) q p d)) inv
 
-module _ (w : World) (a : Node) (peers : List Node) (sits : Sits w.nodes a peers) (la : live w a) (inv : Inv w) where
+module _ (w : World) (a : Node) (peers : List Node) (sits : Sits w.nodes w.seen a peers) (la : live w a) (inv : Inv w) where
   abbrev known : Nodes
   known = seated a peers
 
@@ -179,11 +179,11 @@ module _ (w : World) (a : Node) (peers : List Node) (sits : Sits w.nodes a peers
       go true q = chain w a (begin known c op u (w.node a)) more
           (let t = (begin known c op u (w.node a)).state in
           record { applied = inr (replies_applied known t.references t (t.uses t.references)); began = inr (replies_began known t.references t (t.uses t.references)); answered = inl refl })
-          (begin_keeps w a peers sits c op u lead st la e (λ p d. yes_is (st p) (every_near w.nodes a peers sits (λ q. is_yes (st q)) q p d)) inv)
+          (begin_keeps w a peers sits c op u lead st la e (λ p d. yes_is (st p) (every_near w.nodes w.seen a peers sits (λ q. is_yes (st q)) q p d)) inv)
           (λ x y l h z d k i. replies_in_keeps (remade w x y l h z) a peers sits la i (x a).references ((x a).uses (x a).references) refl)
       go false q = fails w a peers sits la inv c op u lead st e (none_missing known st) refl
 
-module _ (w : World) (a : Node) (peers : List Node) (sits : Sits w.nodes a peers) (la : live w a) (inv : Inv w) where
+module _ (w : World) (a : Node) (peers : List Node) (sits : Sits w.nodes w.seen a peers) (la : live w a) (inv : Inv w) where
   abbrev all_known : Nodes
   all_known = seated a peers
 
@@ -207,7 +207,7 @@ module _ (w : World) (a : Node) (peers : List Node) (sits : Sits w.nodes a peers
 
 -- ---- an attempt
 
-pub attempt_keeps : (w : World) (a : Node) (peers : List Node) → Sits w.nodes a peers → live w a → Inv w → (op : OpId) (u : Update) → (w.node a).stages op ≡ Waiting u → Inv (perform w a (attempt (seated a peers) op u (w.node a)))
+pub attempt_keeps : (w : World) (a : Node) (peers : List Node) → Sits w.nodes w.seen a peers → live w a → Inv w → (op : OpId) (u : Update) → (w.node a).stages op ≡ Waiting u → Inv (perform w a (attempt (seated a peers) op u (w.node a)))
 attempt_keeps w a peers sits la inv op u is = chain w a (new_attempt (greatest m) op u (w.node a)) first (record { applied = inl refl; began = inl refl; answered = inl refl }) (start_keeps w a (greatest m) op u inv is)
     (λ x y l h z e k i. chain (remade w x y l h z) a (ask m who (x a).references op u (greatest m) none (x a)) (more (x a).references) (record { applied = inl refl; began = inl refl; answered = inl refl })
     (ask_keeps (remade w x y l h z) a peers sits (x a).references op u (greatest m) none who (ap (λ (s : State). s.uses s.references) e ∙ upd_same nat_eq numbers (w.node a).uses ((w.node a).references + 1) (Locking op u (greatest m) none)) i)

@@ -21,9 +21,9 @@ use Rattle.pg_history.proofs.locks.Lines.{talk_same, Fits, FitsStatus, FitsReply
 use Rattle.pg_history.proofs.locks.Lines.Line.{Telling}
 use Rattle.pg_history.proofs.locks.Moves.{applied, change_line}
 use Rattle.pg_history.proofs.locks.Named.{World, perform, popped, on, of_name}
-use Rattle.pg_history.proofs.locks.Kept.{talk, near, live, near_live, IsUpdateOf, IsOpOf, carried, Tale, Inv}
+use Rattle.pg_history.proofs.locks.Kept.{talk, near, live, IsUpdateOf, IsOpOf, carried, Tale, Inv}
 use Rattle.pg_history.proofs.locks.Framed.{fitting_perform, read_same, once_same}
-use Rattle.pg_history.proofs.locks.Telling.{tell_more, tale_same, mute_sent, carried_mute, history_same, on-append}
+use Rattle.pg_history.proofs.locks.Telling.{silent_remains, tell_more, tale_same, mute_sent, carried_mute, history_same, on-append}
 use Rattle.pg_history.proofs.locks.Latest.{latest_same}
 use Rattle.pg_history.proofs.references.Fitting.{same_fitting}
 use Rattle.pg_history.proofs.locks.Pops.{Responds, respond_lines, respond_tidy, refers_other, about_else, wire_here, wire_to, pop_apart}
@@ -116,7 +116,7 @@ module _ (w : World) (a p : Node) (c : ℕ) (u : Update) (rest : List Message) (
   -- where the name of the log or the way is another
   others : (M : Term) (q : Node) → live w q → on M (v.log q) ≡ on M (w.log q)
       → ((i : Node) (k : ℕ) → IsUpdateOf M ((w.node i).uses k) → carried (about (numbered i k) (w'.wire i q)) ≡ carried (about (numbered i k) (w.wire i q))) → Tale v M q
-  others M q lq log wires = tale_same w v.node v.wire v.log v.history v.answered M q (inv.tales M q lq) log (names M) (λ i k h o. subst (λ y. IsOpOf y o) (sym (uses i k)))
+  others M q lq log wires = tale_same w v.node v.wire v.log v.history v.answered M q (inv.tales M q lq) (silent_remains w a t refl q) log (names M) (λ i k h o. subst (λ y. IsOpOf y o) (sym (uses i k)))
       (λ i k h. subst (IsUpdateOf M) (uses i k) h) (λ i k h. subst (IsUpdateOf M) (sym (uses i k)) h) (λ i k h. carried_mute w' a t mute i k q ∙ wires i k h)
 
   all : carried (about (numbered p c) (w.wire p a)) ≡ u ∷ []
@@ -127,9 +127,9 @@ module _ (w : World) (a p : Node) (c : ℕ) (u : Update) (rest : List Message) (
 
   reported : (M : Term) → N ≡ M → Tale w M a → Tale v M a
   reported M e (inl f) =
-      let y : carried (about (numbered p c) (w.wire p a)) ≡ [] = f.clear p c (record { there = meets.home }) (subst (λ z. IsUpdateOf z ((w.node p).uses c)) e mine) in
+      let y : carried (about (numbered p c) (w.wire p a)) ≡ [] = f.clear p c meets (subst (λ z. IsUpdateOf z ((w.node p).uses c)) e mine) in
       absurd (cc (all))
-  reported M e (inr d) = inl (record { thin = tell_more w v.node v.wire v.log v.history v.answered M a d.before d.last log (names M ∙ d.is) d.thin; clear = clear })
+  reported M e (inr d) = inl (record { thin = tell_more w v.node v.wire v.log v.history v.answered M a d.before d.last (silent_remains w a t refl a) log (names M ∙ d.is) d.thin; clear = clear })
     where
       r : (d.i ≡ p) × (d.n ≡ c)
       r = one_update w inv d.i d.n p c N a d.near_it meets (subst (λ z. IsUpdateOf z ((w.node d.i).uses d.n)) (sym e) d.update) mine
@@ -144,10 +144,10 @@ module _ (w : World) (a p : Node) (c : ℕ) (u : Update) (rest : List Message) (
       log = ap (on M) (upd_same same_atom atoms w.log a (w.log a ++ u ∷ [])) ∙ (log_a M ∙ (ap (λ b. on M (w.log a) ++ cond b (u ∷ []) []) (same_is same_term terms M N (sym e))
           ∙ ap (λ z. on M (w.log a) ++ z ∷ []) (sym (update_of (carried (about (numbered d.i d.n) (w.wire d.i a))) same_way d.way))))
 
-      clear : (i : Node) (k : ℕ) → live w i → IsUpdateOf M ((v.node i).uses k) → carried (about (numbered i k) (v.wire i a)) ≡ []
+      clear : (i : Node) (k : ℕ) → near w i a → IsUpdateOf M ((v.node i).uses k) → carried (about (numbered i k) (v.wire i a)) ≡ []
       clear i k li h =
           let h' : IsUpdateOf N ((w.node i).uses k) = subst (λ z. IsUpdateOf z ((w.node i).uses k)) (sym e) (subst (IsUpdateOf M) (uses i k) h) in
-          let o = one_update w inv i k p c N a (near_live w i a li la) meets h' mine in
+          let o = one_update w inv i k p c N a li meets h' mine in
           ap (λ z. carried (about (numbered z k) (v.wire z a))) o.0 ∙ (ap (λ z. carried (about (numbered p z) (v.wire p a))) o.1
           ∙ ap carried (from_here p c apart ∙ (ap (about (numbered p c)) (wire_here w a p x rest) ∙ line_is.1)))
 

@@ -15,11 +15,11 @@ use Rattle.pg_step.specs.declared.command.OpId.{OpId}
 use Rattle.pg_step.specs.Nodes.{Node, Nodes, is_peer}
 use Rattle.pg_step.specs.State.{State, Status}
 use Rattle.pg_step.specs.State.Status.{Unasked, Asked, Yes, No}
-use Rattle.pg_step.specs.State.Use.{Fresh, Spent, Locking, Owning, Updating}
-use Rattle.pg_step.specs.State.Stage.{Closed, Waiting, Asking, Changing}
+use Rattle.pg_step.specs.State.Use.{Spent, Locking}
+use Rattle.pg_step.specs.State.Stage.{Waiting}
 use Rattle.pg_step.specs.Turns.{NodeTurn}
 use Rattle.pg_step.specs.Attempts.{same_op, give_up, is_yes}
-use Rattle.pg_history.proofs.references.Keys.{atoms, terms, numbers, split, upd_same, read_other, at_read, from_read}
+use Rattle.pg_history.proofs.references.Keys.{atoms, terms, numbers, split, upd_same, read_other, at_read}
 use Rattle.pg_history.proofs.references.References.{about, about_here, about_sent_other, held_by_one, freed_other, numbered_other, numbered_same}
 use Rattle.pg_history.proofs.locks.Lines.{Line, talk_same, shows, Fits, FitsStatus, IsIdle}
 use Rattle.pg_history.proofs.locks.Lines.Line.{Having}
@@ -27,7 +27,7 @@ use Rattle.pg_history.proofs.locks.Moves.{refit, freed, freed_own}
 use Rattle.pg_history.proofs.locks.Named.{World, perform}
 use Rattle.pg_history.proofs.locks.Kept.{says, IsUpdateOf, IsUpdating, Inv, near, live, live_own, opens}
 use Rattle.pg_history.proofs.locks.Framed.{Acts, ours_sent, spoken, acts_lines, acts_tidy, locks_here, locks_there, fitting_perform, once_same}
-use Rattle.pg_history.proofs.locks.Telling.{mute_tales, fewer_upd, more_upd, ops_upd, mute_sent}
+use Rattle.pg_history.proofs.locks.Telling.{silent_remains, mute_tales, fewer_upd, more_upd, ops_upd, mute_sent}
 use Rattle.pg_history.proofs.locks.Latest.{latest_same, goes_upd}
 use Rattle.pg_history.proofs.locks.Seats.{Sits, seated, true_both, to_own, to_own_at, to_near, to_untold}
 use Rattle.pg_history.proofs.locks.Stages.{commands}
@@ -50,7 +50,7 @@ not_yes N Unasked l e n f = subst IsIdle (sym f) tt
 not_yes N Asked l e n f = absurd (n refl)
 not_yes N No l e n f = f
 
-module _ (w : World) (a : Node) (peers : List Node) (sits : Sits w.nodes a peers) (c : ℕ) (op : OpId) (u : Update) (lead : Node) (st : Node → Status) where
+module _ (w : World) (a : Node) (peers : List Node) (sits : Sits w.nodes w.seen a peers) (c : ℕ) (op : OpId) (u : Update) (lead : Node) (st : Node → Status) where
   abbrev m : Nodes
   m = seated a peers
 
@@ -87,7 +87,7 @@ module _ (w : World) (a : Node) (peers : List Node) (sits : Sits w.nodes a peers
 
   fail_acts : Acts w a c t
   fail_acts = record {
-    silent = to_own w.nodes a peers sits granted x;
+    silent = to_own w.nodes w.seen a peers sits granted x;
     sends = λ h k q other. about_sent_other (numbered h k) (is_peer m q && granted q) x (numbered_other a h c k other);
     ours = λ q. ours_sent a q (is_peer m q && granted q) x (c, refl);
     locks = λ h k M other. freed_eye (is_yes (st a) && is_holder (s.locks N) r) s.locks N (numbered h k)
@@ -123,10 +123,10 @@ module _ (w : World) (a : Node) (peers : List Node) (sits : Sits w.nodes a peers
       kept e (inr n) M = ap (eye M) (locks_there w a t.state p n)
 
       go : (b : Bool) → is_yes (st p) ≡ b → (p ≡ a) ⊎ (p ≢ a) → spoken w a t c p
-      go false e place = talk_same (refit l (not_yes N (st p) l.line e (none p d) l.fits)) how (nothing (to_untold w.nodes a peers sits granted x p e)) refl (kept e place)
-      go true e (inl q) = talk_same (freed_own N l (has e) tt) how (nothing (to_own_at w.nodes a peers sits granted x p q)) refl (λ M. ap (eye M) (here true e q))
+      go false e place = talk_same (refit l (not_yes N (st p) l.line e (none p d) l.fits)) how (nothing (to_untold w.nodes w.seen a peers sits granted x p e)) refl (kept e place)
+      go true e (inl q) = talk_same (freed_own N l (has e) tt) how (nothing (to_own_at w.nodes w.seen a peers sits granted x p q)) refl (λ M. ap (eye M) (here true e q))
       go true e (inr n) = talk_same (freed N l (has e) tt) how
-          (ap (λ o. about r (w.wire a p) ++ o) (ap (about r) (to_near w.nodes a peers sits granted x p d n e) ∙ about_here r x [] (numbered_same a c))) refl
+          (ap (λ o. about r (w.wire a p) ++ o) (ap (about r) (to_near w.nodes w.seen a peers sits granted x p d n e) ∙ about_here r x [] (numbered_same a c))) refl
           (λ M. ap (eye M) (locks_there w a t.state p n))
 
   pub fail_keeps : live w a → (w.node a).uses c ≡ Locking op u lead st → ((p : Node) → near w a p → st p ≢ Asked) → Inv w → Inv (perform w a (give_up (seated a peers) c op u st (w.node a)))
@@ -138,6 +138,7 @@ module _ (w : World) (a : Node) (peers : List Node) (sits : Sits w.nodes a peers
     tales = mute_tales w a t inv (record {
       applied = refl;
       began = refl;
+      remains = silent_remains w a t refl;
       fewer = λ M. fewer_upd s.uses c Spent M (λ h. absurd h);
       more = λ M. more_upd s.uses c Spent M (λ h. subst (IsUpdateOf M) is h);
       ops = λ M. ops_upd s.uses c Spent M (λ h. absurd (subst (IsUpdateOf M) is h));

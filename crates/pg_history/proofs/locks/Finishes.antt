@@ -13,8 +13,8 @@ use Rattle.pg_message.specs.declared.message.Message.TheVariants.{DelLock}
 use Rattle.pg_step.specs.declared.command.OpId.{OpId}
 use Rattle.pg_step.specs.Nodes.{Node, Nodes, is_peer}
 use Rattle.pg_step.specs.State.{State, Use}
-use Rattle.pg_step.specs.State.Use.{Fresh, Spent, Locking, Owning, Updating}
-use Rattle.pg_step.specs.State.Stage.{Closed, Asking, Changing}
+use Rattle.pg_step.specs.State.Use.{Spent, Owning, Updating}
+use Rattle.pg_step.specs.State.Stage.{Closed, Changing}
 use Rattle.pg_step.specs.Turns.{NodeTurn}
 use Rattle.pg_step.specs.Attempts.{same_op, finish}
 use Rattle.pg_history.proofs.references.Keys.{atoms, terms, numbers, split, upd_same, read_other, at_read, from_read, same_is}
@@ -25,7 +25,7 @@ use Rattle.pg_history.proofs.locks.Moves.{freed, freed_own}
 use Rattle.pg_history.proofs.locks.Named.{World, perform, on, of_name}
 use Rattle.pg_history.proofs.locks.Kept.{says, talk, near, live, live_own, near_live, IsUpdateOf, IsOpOf, IsUpdating, GoesOut, Latest, Inv, carried, Tale, opens, answers_of}
 use Rattle.pg_history.proofs.locks.Framed.{Acts, ours_sent, spoken, acts_lines, acts_tidy, locks_here, locks_there, fitting_perform}
-use Rattle.pg_history.proofs.locks.Telling.{full_same, fewer_upd, more_upd, mute_sent, tale_same, use_read, log_same, history_same, carried_mute, answers-append}
+use Rattle.pg_history.proofs.locks.Telling.{live_remains, full_same, fewer_upd, more_upd, mute_sent, tale_same, use_read, log_same, history_same, carried_mute, answers-append}
 use Rattle.pg_history.proofs.locks.Seats.{Sits, seated, to_own, to_own_at, to_near, true_both}
 use Rattle.pg_history.proofs.locks.Stages.{commands}
 use Rattle.pg_history.proofs.references.Fitting.{is_changing, is_owning}
@@ -50,7 +50,7 @@ keeps_use f c n k d m = read_other nat_eq numbers (upd nat_eq f c Spent) n Spent
 no_way : (xs : List Update) (u : Update) → xs ≡ [] → xs ≡ u ∷ [] → ⊥
 no_way xs u none e = cc
 
-module _ (w : World) (a : Node) (peers : List Node) (sits : Sits w.nodes a peers) (n : ℕ) (op : OpId) (u : Update) (c : ℕ) (rep : Node → Bool) where
+module _ (w : World) (a : Node) (peers : List Node) (sits : Sits w.nodes w.seen a peers) (n : ℕ) (op : OpId) (u : Update) (c : ℕ) (rep : Node → Bool) where
   abbrev m : Nodes
   m = seated a peers
 
@@ -80,7 +80,7 @@ module _ (w : World) (a : Node) (peers : List Node) (sits : Sits w.nodes a peers
 
   finish_acts : Acts w a c t
   finish_acts = record {
-    silent = to_own w.nodes a peers sits all_peers x;
+    silent = to_own w.nodes w.seen a peers sits all_peers x;
     sends = λ h k q other. about_sent_other (numbered h k) (is_peer m q && true) x (numbered_other a h c k other);
     ours = λ q. ours_sent a q (is_peer m q && true) x (c, refl);
     locks = λ h k M other. freed_eye (is_holder (s.locks N) r) s.locks N (numbered h k) (held_by_one r (numbered h k) (s.locks N) (numbered_other a h c k other)) M;
@@ -100,10 +100,10 @@ module _ (w : World) (a : Node) (peers : List Node) (sits : Sits w.nodes a peers
 
       go : (p ≡ a) ⊎ (p ≢ a) → spoken w a t c p
       go (inl q) = talk_same (freed_own N l l.fits tt) how
-          (ap (λ o. about r (w.wire a p) ++ about r o) (to_own_at w.nodes a peers sits all_peers x p q) ∙ append-nil (about r (w.wire a p))) refl
+          (ap (λ o. about r (w.wire a p) ++ about r o) (to_own_at w.nodes w.seen a peers sits all_peers x p q) ∙ append-nil (about r (w.wire a p))) refl
           (λ M. ap (eye M) (locks_here w a t.state p q ∙ (ap (λ b. given_up b s.locks N) (own_has la is inv) ∙ ap (λ y. given_up true (w.node y).locks N) (sym q))))
       go (inr k) = talk_same (freed N l l.fits tt) how
-          (ap (λ o. about r (w.wire a p) ++ o) (ap (about r) (to_near w.nodes a peers sits all_peers x p d k refl) ∙ about_here r x [] (numbered_same a c))) refl
+          (ap (λ o. about r (w.wire a p) ++ o) (ap (about r) (to_near w.nodes w.seen a peers sits all_peers x p d k refl) ∙ about_here r x [] (numbered_same a c))) refl
           (λ M. ap (eye M) (locks_there w a t.state p k))
 
   -- the reference of the update is quiet
@@ -135,7 +135,7 @@ module _ (w : World) (a : Node) (peers : List Node) (sits : Sits w.nodes a peers
       wires i k _ = carried_mute w a t mute i k q
 
       same : M ≡ N → Tale w M q → Tale v M q
-      same e (inl f) = inl (full_same w _ _ _ _ _ M q f logs names fewer wires)
+      same e (inl f) = inl (full_same w _ _ _ _ _ M q f (live_remains w a t la q) logs names fewer wires)
       same e (inr d) =
           let meets : near w a q = near_live w a q la lq in
           let mine : IsUpdateOf M ((w.node a).uses n) = subst (IsUpdateOf M) (sym is) (sym e) in
@@ -163,10 +163,10 @@ module _ (w : World) (a : Node) (peers : List Node) (sits : Sits w.nodes a peers
 
       go : (M ≡ N) ⊎ (M ≢ N) → Tale v M q
       go (inl e) = same e (inv.tales M q lq)
-      go (inr d) = tale_same w _ _ _ _ _ M q (inv.tales M q lq) logs names (ops d) fewer (more d) wires
+      go (inr d) = tale_same w _ _ _ _ _ M q (inv.tales M q lq) (live_remains w a t la q) logs names (ops d) fewer (more d) wires
 
   finish_latest : s.uses n ≡ Updating op u c rep → Inv w → Latest (perform w a t)
-  finish_latest is inv M before after e names none = (old.0, out)
+  finish_latest is inv M before after e names none unseen = (old.0, out)
     where
       mine : Bool
       mine = same_atom e.node a && same_op e.op op
@@ -174,8 +174,8 @@ module _ (w : World) (a : Node) (peers : List Node) (sits : Sits w.nodes a peers
       even : answers_of e.node e.op w.answered + (cond {A = ℕ} mine 1 0 + 0) ≡ 0
       even = sym (answers-append e.node e.op w.answered ((a, op) ∷ [])) ∙ none
 
-      old : (after ≡ []) × GoesOut w.nodes w.node e
-      old = inv.latest M before after e (sym (ap (of_name M) (history_same w a t refl)) ∙ names) (omega (arith, even))
+      old : (after ≡ []) × GoesOut w.nodes w.seen w.node e
+      old = inv.latest M before after e (sym (ap (of_name M) (history_same w a t refl)) ∙ names) (omega (arith, even)) unseen
 
       -- it is not the command that is answered
       apart : e.node ≡ a → e.op ≡ op → ⊥
@@ -192,7 +192,7 @@ module _ (w : World) (a : Node) (peers : List Node) (sits : Sits w.nodes a peers
       stays : e.node ≡ a → goes (s.uses k) → goes (t.state.uses k)
       stays q h = subst goes (sym (keeps_use s.uses c n k (λ y. subst goes (ap s.uses y ∙ own is inv) h) (λ y. apart q (sym (subst goes (ap s.uses y ∙ is) h).0)))) h
 
-      out : GoesOut w.nodes (perform w a t).node e
+      out : GoesOut w.nodes w.seen (perform w a t).node e
       out = record {
         there = old.1.there;
         number = k;

@@ -12,13 +12,14 @@ use Rattle.pg_step.specs.State.Stage.{Closed}
 use Rattle.pg_history.proofs.references.References.{about}
 use Rattle.pg_history.proofs.locks.Lines.{Fits}
 use Rattle.pg_history.proofs.locks.Lines.Line.{Quiet}
-use Rattle.pg_history.proofs.locks.Named.{World, Entry, Seated, on, of_name, updates}
+use Rattle.pg_history.proofs.locks.Named.{World, Entry, Seated, on, of_name}
+use Rattle.pg_history.proofs.locks.Thins.{thin_none}
 use Rattle.pg_history.specs.ReferencesFit.{ReferencesFit, Fits as SoundFits}
 use Rattle.pg_history.proofs.locks.Kept.{IsOurs, answers_of, carried, talk, Inv, opens}
 
 -- no lock is held, no reference made, no command given, nothing about a reference is on the way, and nothing applied
 pub record IsFirst (w : World) : Type 0 where
-  pub seats : Seated w.nodes w.seat
+  pub seats : Seated w.nodes w.seen w.seat
   pub locks : (i : Node) (N : Term) → (w.node i).locks N ≡ None
   pub uses : (i : Node) (c : ℕ) → (w.node i).uses c ≡ Fresh
   pub stages : (i : Node) (op : OpId) → (w.node i).stages op ≡ Closed
@@ -40,7 +41,7 @@ first_holds w first = record {
   tidy = record { own = first.own; stray = λ x y h c n m. first.plain x y (numbered h c); ours = first.ours };
   fitting = fitting;
   tales = λ N p lp. inl (record {
-    thin = ap (on N) (first.log p) ∙ sym (ap (λ es. updates (of_name N es)) first.history);
+    thin = thin_none (ap (on N) (first.log p)) (ap (of_name N) first.history);
     clear = λ i n li u. ap carried (first.plain i p (numbered i n));
   });
   once = record {
@@ -50,7 +51,7 @@ first_holds w first = record {
         omega (arith, p, q);
     unknown = λ i op lt. ap (answers_of i op) first.answered;
   };
-  latest = λ N before after e names none. absurd (no_entry before after e (sym (ap (of_name N) first.history) ∙ names));
+  latest = λ N before after e names none unseen. absurd (no_entry before after e (sym (ap (of_name N) first.history) ∙ names));
 }
   where
     line : (i : Node) (c : ℕ) (p : Node) → talk w i c p

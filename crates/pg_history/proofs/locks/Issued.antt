@@ -54,7 +54,7 @@ end_ours : (b : Bool) (pid : Pid) (a q : Node) → AllByRecursion (IsOurs a q) (
 end_ours true pid a q = (tt, tt)
 end_ours false pid a q = tt
 
-module _ (w : World) (a : Node) (peers : List Node) (sits : Sits w.nodes a peers) (la : live w a) (inv : Inv w) where
+module _ (w : World) (a : Node) (peers : List Node) (sits : Sits w.nodes w.seen a peers) (la : live w a) (inv : Inv w) where
   abbrev m : Nodes
   m = seated a peers
 
@@ -71,7 +71,7 @@ module _ (w : World) (a : Node) (peers : List Node) (sits : Sits w.nodes a peers
     applied = refl;
     began = refl;
     answered = refl;
-    silent = ap (λ o. o ++ []) (to_own w.nodes a peers sits (λ q. true) (Down pid));
+    silent = ap (λ o. o ++ []) (to_own w.nodes w.seen a peers sits (λ q. true) (Down pid));
     sends = λ r q. end_about (is_peer m q && true) pid r;
     ours = λ q. end_ours (is_peer m q && true) pid a q;
   }
@@ -86,7 +86,7 @@ pub record Unopened (s : State) (op : OpId) : Type 0 where
   pub closed : s.stages op ≡ Closed
   pub counted : op.number ≤ s.counts op.port
 
-module _ (w : World) (a : Node) (peers : List Node) (sits : Sits w.nodes a peers) (la : live w a) (inv : Inv w) (op : OpId) (new : Unopened (w.node a) op) (none : answers_of a op w.answered ≡ 0) where
+module _ (w : World) (a : Node) (peers : List Node) (sits : Sits w.nodes w.seen a peers) (la : live w a) (inv : Inv w) (op : OpId) (new : Unopened (w.node a) op) (none : answers_of a op w.answered ≡ 0) where
   abbrev own : Nodes
   own = seated a peers
 
@@ -126,12 +126,12 @@ module _ (w : World) (a : Node) (peers : List Node) (sits : Sits w.nodes a peers
 
 -- ---- a command, and a retry
 
-module _ (w : World) (a : Node) (peers : List Node) (sits : Sits w.nodes a peers) (la : live w a) (inv : Inv w) where
+module _ (w : World) (a : Node) (peers : List Node) (sits : Sits w.nodes w.seen a peers) (la : live w a) (inv : Inv w) where
   abbrev all_known : Nodes
   all_known = seated a peers
 
-  command_keeps : (port : ℕ) (c : Command) → Inv (perform w a (command all_known all_known port c (w.node a)))
-  command_keeps port c = chain w a (count_command port s) (command_by fault all_known op c) (record { applied = inl refl; began = inl refl; answered = inl refl }) (count_keeps w a port inv)
+  command_keeps : (whole : Nodes) (port : ℕ) (c : Command) → Inv (perform w a (command whole all_known port c (w.node a)))
+  command_keeps whole port c = chain w a (count_command port s) (command_by fault all_known op c) (record { applied = inl refl; began = inl refl; answered = inl refl }) (count_keeps w a port inv)
       (λ x y l h z e k i. command_by_keeps (remade w x y l h z) a peers sits la i op (unopened (x a) e) (unanswered z k) fault c)
     where
       s : State
@@ -141,7 +141,7 @@ module _ (w : World) (a : Node) (peers : List Node) (sits : Sits w.nodes a peers
       op = next_op port s
 
       fault : Option CommandFault
-      fault = fault_of all_known s c
+      fault = fault_of whole s c
 
       unanswered : (z : List (Node × OpId)) → z ≡ w.answered ++ [] → answers_of a op z ≡ 0
       unanswered z e = ap (answers_of a op) (e ∙ append-nil w.answered) ∙ inv.once.unknown a op (omega arith)
@@ -167,13 +167,13 @@ module _ (w : World) (a : Node) (peers : List Node) (sits : Sits w.nodes a peers
       go true e = subst (λ z. Inv (perform w a z)) (ok_is e) (tried_keeps ((w.node a).stages op) op refl)
       go false e = absurd (cc)
 
-  pub acted_keeps : (ports : ℕ) (action : Action) (t : NodeTurn) → acted (seated a peers) (seated a peers) ports action (w.node a) ≡ Ok t → Inv (perform w a t)
-  acted_keeps ports (Issue port c) t e = go (nat_lt port ports) e
+  pub acted_keeps : (whole : Nodes) (ports : ℕ) (action : Action) (t : NodeTurn) → acted whole (seated a peers) ports action (w.node a) ≡ Ok t → Inv (perform w a t)
+  acted_keeps whole ports (Issue port c) t e = go (nat_lt port ports) e
     where
-      go : (b : Bool) → cond b (Ok (command all_known all_known port c (w.node a))) (Err NoSuchPlace) ≡ Ok t → Inv (perform w a t)
-      go true e = subst (λ z. Inv (perform w a z)) (ok_is e) (command_keeps port c)
+      go : (b : Bool) → cond b (Ok (command whole all_known port c (w.node a))) (Err NoSuchPlace) ≡ Ok t → Inv (perform w a t)
+      go true e = subst (λ z. Inv (perform w a z)) (ok_is e) (command_keeps whole port c)
       go false e = absurd (cc)
-  acted_keeps ports (Retry op) t e = go (nat_lt op.port ports) e
+  acted_keeps whole ports (Retry op) t e = go (nat_lt op.port ports) e
     where
       go : (b : Bool) → cond b (retry all_known op (w.node a)) (Err NoSuchPlace) ≡ Ok t → Inv (perform w a t)
       go true e = retry_keeps op t e

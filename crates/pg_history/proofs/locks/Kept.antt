@@ -1,5 +1,5 @@
 -- What holds of every world of a run, of locks and of updates under them.
-use Rattle.std.proofs.Common.{◌≡◌, ℕ, ◌≢◌, ◌<◌, Bool, true, List, [], ◌∷◌, ◌++◌, refl, ap, ◌∙◌, subst, inl, inr, ◌⊎◌, append-nil, ◌≤◌}
+use Rattle.std.proofs.Common.{◌≡◌, ℕ, ◌≢◌, ◌<◌, Bool, true, false, List, [], ◌∷◌, ◌++◌, refl, ap, ◌∙◌, subst, inl, inr, ◌⊎◌, append-nil, ◌≤◌}
 use Rattle.std.specs.List.{AllByRecursion, list_any}
 use Rattle.pg_term.specs.declared.term.Term.{Term}
 use Rattle.pg_term.specs.RefParts.{RefParts}
@@ -14,9 +14,9 @@ use Rattle.pg_message.specs.declared.message.Message.TheVariants.{Call, Reply, D
 use Rattle.pg_message.specs.declared.message.Request.TheVariants.{SetLock, Change}
 use Rattle.pg_step.specs.declared.command.OpId.{OpId}
 use Rattle.pg_step.specs.Nodes.{Node}
-use Rattle.pg_step.specs.State.{State, Status, Use, Stage}
-use Rattle.pg_step.specs.State.Use.{Fresh, Locking, Owning, Updating}
-use Rattle.pg_step.specs.State.Stage.{Closed, Asking, Changing}
+use Rattle.pg_step.specs.State.{State, Use, Stage}
+use Rattle.pg_step.specs.State.Use.{Updating}
+use Rattle.pg_step.specs.State.Stage.{Closed}
 use Rattle.pg_step.specs.Turns.{NodeTurn}
 use Rattle.pg_history.specs.ReferencesFit.{ReferencesFit}
 use Rattle.pg_history.proofs.references.Keys.{atoms, cases, upd_at, upd_same, upd_other}
@@ -24,22 +24,26 @@ use Rattle.pg_history.proofs.references.References.{about, about-append}
 use Rattle.pg_history.proofs.locks.Lines.{Talk, talk_same}
 use Rattle.std.specs.Prelude.{cond, ◌&&◌, ◌+◌}
 use Rattle.pg_step.specs.Attempts.{same_op}
-use Rattle.pg_history.proofs.locks.Named.{World, Entry, Seated, perform, on, of_name, updates}
+use Rattle.pg_history.proofs.locks.Named.{World, Entry, Seated, perform, on, of_name}
+use Rattle.pg_history.proofs.locks.Thins.{Thin}
 
--- a node that may take a step
-pub record Live (nodes : List Node) (a : Node) : Type 0 where
+-- a node that may take a step: nobody has seen its loss
+pub record Live (nodes : List Node) (seen : Node → Node → Bool) (a : Node) : Type 0 where
   pub there : list_any (same_atom a) nodes ≡ true
+  pub unseen : (p : Node) → seen p a ≡ false
 
 abbrev pub live : World → Node → Type 0
-live w a = Live w.nodes a
+live w a = Live w.nodes w.seen a
 
--- two nodes that can speak to one another; a node speaks to itself too
-pub record Near (nodes : List Node) (i p : Node) : Type 0 where
+-- two nodes that have not seen the loss of one another; a node speaks to itself too
+pub record Near (nodes : List Node) (seen : Node → Node → Bool) (i p : Node) : Type 0 where
   pub home : list_any (same_atom i) nodes ≡ true
   pub peer : list_any (same_atom p) nodes ≡ true
+  pub known : seen p i ≡ false
+  pub counts : seen i p ≡ false
 
 abbrev pub near : World → Node → Node → Type 0
-near w i p = Near w.nodes i p
+near w i p = Near w.nodes w.seen i p
 
 -- a use of a reference, what is on the way about it to node p and back, and the locks of p, agree
 abbrev pub says : World → Use → Node → RefParts → List Message → List Message → Locks → Type 0
@@ -88,14 +92,23 @@ abbrev pub IsUpdating : OpId → Update → Use → Type 0
 IsUpdating op u (Updating o v c rep) = (o ≡ op) × (v ≡ u)
 IsUpdating op u _ = ⊥
 
--- node p was told of these entries of a name, and of no others
+-- how often a command was answered
+abbrev pub answers_of : Node → OpId → List (Node × OpId) → ℕ
+answers_of a op [] = 0
+answers_of a op (x ∷ xs) = cond (same_atom a x.0 && same_op op x.1) 1 0 + answers_of a op xs
+
+-- an entry of a node whose loss node p has seen, and which was not answered
+abbrev pub Excused : World → Node → Entry → Type 0
+Excused w p e = (w.seen p e.node ≡ true) × (answers_of e.node e.op w.answered ≡ 0)
+
+-- node p was told of these entries of a name, and of no others, but for one at most of each node whose loss it has seen
 abbrev pub Tells : World → Term → Node → List Entry → Type 0
-Tells w N p all = on N (w.log p) ≡ updates all
+Tells w N p all = Thin (Excused w p) (w.seen p) (on N (w.log p)) all
 
 -- node p has been told all that it will be told of a name
 pub record Full (w : World) (N : Term) (p : Node) : Type 0 where
   pub thin : Tells w N p (of_name N w.history)
-  pub clear : (i : Node) (n : ℕ) → live w i → IsUpdateOf N ((w.node i).uses n) → carried (about (numbered i n) (w.wire i p)) ≡ []
+  pub clear : (i : Node) (n : ℕ) → near w i p → IsUpdateOf N ((w.node i).uses n) → carried (about (numbered i n) (w.wire i p)) ≡ []
 
 -- node p has yet to take the last update of a name
 pub record Due (w : World) (N : Term) (p : Node) : Type 0 where
@@ -160,11 +173,6 @@ lines_perform w a t own none mine theirs rest i k p near_ = go (cases same_atom 
 
 -- Answers of commands
 
--- how often a command was answered
-abbrev pub answers_of : Node → OpId → List (Node × OpId) → ℕ
-answers_of a op [] = 0
-answers_of a op (x ∷ xs) = cond (same_atom a x.0 && same_op op x.1) 1 0 + answers_of a op xs
-
 -- a command is open, or not
 abbrev pub opens : Stage → ℕ
 opens Closed = 0
@@ -176,18 +184,18 @@ pub record Once (node : Node → State) (answered : List (Node × OpId)) : Type 
   pub unknown : (i : Node) (op : OpId) → (node i).counts op.port < op.number → answers_of i op answered ≡ 0
 
 -- the update of an entry goes out
-pub record GoesOut (nodes : List Node) (node : Node → State) (e : Entry) : Type 0 where
-  pub there : Live nodes e.node
+pub record GoesOut (nodes : List Node) (seen : Node → Node → Bool) (node : Node → State) (e : Entry) : Type 0 where
+  pub there : Live nodes seen e.node
   pub number : ℕ
   pub update : IsUpdating e.op e.update ((node e.node).uses number)
 
--- an entry that is not answered yet is the last of its name, and its update goes out
+-- an entry that is not answered yet, of a node whose loss nobody has seen, is the last of its name, and its update goes out
 abbrev pub Latest : World → Type 0
-Latest w = (N : Term) (before after : List Entry) (e : Entry) → of_name N w.history ≡ before ++ e ∷ after → answers_of e.node e.op w.answered ≡ 0
-    → (after ≡ []) × GoesOut w.nodes w.node e
+Latest w = (N : Term) (before after : List Entry) (e : Entry) → of_name N w.history ≡ before ++ e ∷ after → answers_of e.node e.op w.answered ≡ 0 → ((p : Node) → w.seen p e.node ≡ false)
+    → (after ≡ []) × GoesOut w.nodes w.seen w.node e
 
 pub record Inv (w : World) : Type 0 where
-  pub seats : Seated w.nodes w.seat
+  pub seats : Seated w.nodes w.seen w.seat
   pub lines : Lines w
   pub tidy : Tidy w.wire
   pub fitting : (i : Node) → ReferencesFit (w.node i)
@@ -198,10 +206,10 @@ pub record Inv (w : World) : Type 0 where
 -- Who is near whom
 
 pub live_own : (w : World) (a : Node) → live w a → near w a a
-live_own w a la = record { home = la.there; peer = la.there }
+live_own w a la = record { home = la.there; peer = la.there; known = la.unseen a; counts = la.unseen a }
 
 pub near_live : (w : World) (i p : Node) → live w i → live w p → near w i p
-near_live w i p li lp = record { home = li.there; peer = lp.there }
+near_live w i p li lp = record { home = li.there; peer = lp.there; known = li.unseen p; counts = lp.unseen i }
 
 pub near_swap : (w : World) (i p : Node) → near w i p → near w p i
-near_swap w i p m = record { home = m.peer; peer = m.home }
+near_swap w i p m = record { home = m.peer; peer = m.home; known = m.counts; counts = m.known }

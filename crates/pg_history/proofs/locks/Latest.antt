@@ -66,7 +66,7 @@ goes_upd op u f k v g n h = at_read nat_eq numbers (IsUpdating op u) f k v n (λ
 abbrev pub GoesOn : World → Node → NodeTurn → Type 0
 GoesOn w a t = (op : OpId) (u : Update) (k : ℕ) → IsUpdating op u ((w.node a).uses k) → IsUpdating op u (t.state.uses k)
 
-pub still_out : (w : World) (a : Node) (t : NodeTurn) → GoesOn w a t → (e : Entry) → GoesOut w.nodes w.node e → GoesOut w.nodes (perform w a t).node e
+pub still_out : (w : World) (a : Node) (t : NodeTurn) → GoesOn w a t → (e : Entry) → GoesOut w.nodes w.seen w.node e → GoesOut w.nodes w.seen (perform w a t).node e
 still_out w a t on e d = record {
   there = d.there;
   number = d.number;
@@ -78,6 +78,6 @@ answered_same w a t none = ap (λ o. w.answered ++ answer_of a o) none ∙ appen
 
 -- a turn that begins and answers nothing, and of which all updates go on
 pub latest_same : (w : World) (a : Node) (t : NodeTurn) → t.reported.began ≡ None → t.reported.answered ≡ None → GoesOn w a t → Latest w → Latest (perform w a t)
-latest_same w a t began answered on latest N before after e names none =
-    let old = latest N before after e (sym (ap (of_name N) (history_same w a t began)) ∙ names) (sym (ap (answers_of e.node e.op) (answered_same w a t answered)) ∙ none) in
+latest_same w a t began answered on latest N before after e names none unseen =
+    let old = latest N before after e (sym (ap (of_name N) (history_same w a t began)) ∙ names) (sym (ap (answers_of e.node e.op) (answered_same w a t answered)) ∙ none) unseen in
     (old.0, still_out w a t on e old.1)

@@ -15,18 +15,17 @@ use Rattle.pg_step.specs.declared.command.OpId.{OpId}
 use Rattle.pg_step.specs.Nodes.{Node}
 use Rattle.pg_step.specs.State.{State, Status, Use}
 use Rattle.pg_step.specs.State.Status.{Yes, No}
-use Rattle.pg_step.specs.State.Use.{Fresh, Locking, Owning, Updating}
-use Rattle.pg_step.specs.State.Stage.{Asking, Changing}
+use Rattle.pg_step.specs.State.Use.{Locking, Updating}
 use Rattle.pg_step.specs.Turns.{NodeTurn, becomes}
 use Rattle.pg_step.specs.Attempts.{count_answer, count_ok}
-use Rattle.pg_history.proofs.references.Keys.{atoms, numbers, split, upd_same, read_other, from_read}
+use Rattle.pg_history.proofs.references.Keys.{atoms, numbers, split, upd_same, read_other}
 use Rattle.pg_history.proofs.references.References.{refers, about, about_here, IsOther, numbered_other, numbered_same}
 use Rattle.pg_history.proofs.locks.Lines.{Talk, talk_same, Fits, FitsStatus, FitsReply}
 use Rattle.pg_history.proofs.locks.Moves.{refit, granted_back, denied_back, applied_back}
 use Rattle.pg_history.proofs.locks.Named.{World, perform, popped}
 use Rattle.pg_history.proofs.locks.Kept.{says, talk, near, near_swap, Lines, IsUpdateOf, IsOpOf, updating, IsUpdating, carried, Inv, Mine, Theirs, lines_perform}
 use Rattle.pg_history.proofs.locks.Framed.{read_same, fitting_perform, tidy_perform, once_same}
-use Rattle.pg_history.proofs.locks.Telling.{mute_told, fewer_upd, more_upd, ops_upd}
+use Rattle.pg_history.proofs.locks.Telling.{silent_remains, mute_told, fewer_upd, more_upd, ops_upd}
 use Rattle.pg_history.proofs.locks.Latest.{latest_same, goes_upd}
 use Rattle.pg_history.proofs.references.FittingTurns.{relock, confirmed_keeps}
 use Rattle.pg_history.proofs.locks.Pops.{refers_other, wire_here, wire_to, wire_from, about_else, pop_apart, pop_tidy, pop_told}
@@ -106,6 +105,7 @@ counted_keeps w a p c op u lead st v x rest of_a none move inv meets is use_is =
   tales = mute_told w' a t (pop_told w a p x rest inv is none) (record {
     applied = refl;
     began = refl;
+    remains = silent_remains w' a t refl;
     fewer = λ M. fewer_upd s.uses c new M (λ h. absurd h);
     more = λ M. more_upd s.uses c new M (λ h. subst (IsUpdateOf M) use_is h);
     ops = λ M. ops_upd s.uses c new M (λ h. absurd (subst (IsUpdateOf M) use_is h));
@@ -148,6 +148,7 @@ replied_keeps w a p n op u c rep rest inv meets is use_is = record {
   tales = mute_told w' a t (pop_told w a p x rest inv is refl) (record {
     applied = refl;
     began = refl;
+    remains = silent_remains w' a t refl;
     fewer = λ M. fewer_upd s.uses n new M (λ h. subst (IsUpdateOf M) (sym use_is) h);
     more = λ M. more_upd s.uses n new M (λ h. subst (IsUpdateOf M) use_is h);
     ops = λ M. ops_upd s.uses n new M (λ h o g. again o (subst (λ y. IsOpOf y o) use_is g));

@@ -14,16 +14,16 @@ use Rattle.pg_history.proofs.locks.Issued.{acted_keeps}
 use Rattle.pg_history.proofs.locks.Odd.{acted_even}
 use Rattle.pg_history.proofs.locks.Packets.{reply_heard, taken_keeps, taken_even}
 
-sits_of : (w : World) (a : Node) → Inv w → live w a → Sits w.nodes a (w.seat a).peers
+sits_of : (w : World) (a : Node) → Inv w → live w a → Sits w.nodes w.seen a (w.seat a).peers
 sits_of w a inv la = record { peer = λ q. inv.seats.peer a q la.there }
 
 seat_is : (w : World) (a : Node) → Inv w → live w a → w.seat a ≡ seated a (w.seat a).peers
 seat_is w a inv la = let own = inv.seats.own a la.there in λ i. record { own = own i; peers = (w.seat a).peers }
 
 -- a command that comes in, or a retry
-pub acts_keep : (w : World) (a : Node) → live w a → Inv w → (ports : ℕ) (action : Action) (t : NodeTurn) → acted (w.seat a) (w.seat a) ports action (w.node a) ≡ Ok t → Inv (perform w a t)
-acts_keep w a la inv ports action t e = acted_keeps w a (w.seat a).peers (sits_of w a inv la) la inv ports action t
-    (subst (λ (m : Nodes). acted m m ports action (w.node a) ≡ Ok t) (seat_is w a inv la) e)
+pub acts_keep : (w : World) (a : Node) → live w a → Inv w → (whole : Nodes) (ports : ℕ) (action : Action) (t : NodeTurn) → acted whole (w.seat a) ports action (w.node a) ≡ Ok t → Inv (perform w a t)
+acts_keep w a la inv whole ports action t e = acted_keeps w a (w.seat a).peers (sits_of w a inv la) la inv whole ports action t
+    (subst (λ (m : Nodes). acted whole m ports action (w.node a) ≡ Ok t) (seat_is w a inv la) e)
 
 -- a packet that is taken
 pub takes_keep : (w : World) (a p : Node) (x : Message) (rest : List Message) (t : NodeTurn) → live w a → near w p a → Inv w → w.wire p a ≡ x ∷ rest → taken (w.seat a) p x (w.node a) ≡ Ok t
@@ -32,8 +32,8 @@ takes_keep w a p x rest t la meets inv is e = taken_keeps w a (w.seat a).peers (
     (subst (λ (m : Nodes). taken m p x (w.node a) ≡ Ok t) (seat_is w a inv la) e)
 
 -- neither tells of an odd reply
-pub acts_even : (w : World) (a : Node) → live w a → Inv w → (ports : ℕ) (action : Action) (t : NodeTurn) → acted (w.seat a) (w.seat a) ports action (w.node a) ≡ Ok t → t.reported.odd ≡ None
-acts_even w a la inv ports action t e = acted_even (w.seat a) (w.seat a) ports action (w.node a) t e
+pub acts_even : (w : World) (a : Node) → live w a → Inv w → (whole : Nodes) (ports : ℕ) (action : Action) (t : NodeTurn) → acted whole (w.seat a) ports action (w.node a) ≡ Ok t → t.reported.odd ≡ None
+acts_even w a la inv whole ports action t e = acted_even (w.seat a) whole ports action (w.node a) t e
 
 pub takes_even : (w : World) (a p : Node) (x : Message) (rest : List Message) (t : NodeTurn) → live w a → near w p a → Inv w → w.wire p a ≡ x ∷ rest → taken (w.seat a) p x (w.node a) ≡ Ok t
     → t.reported.odd ≡ None

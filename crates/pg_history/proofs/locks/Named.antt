@@ -1,6 +1,6 @@
 -- The frame world with nodes by their names, and beside it what the proof keeps of each node: the updates that it has
 -- applied. A turn of the node's step is performed at once.
-use Rattle.std.proofs.Common.{◌≡◌, ℕ, true, not, ◌&&◌, List, [], ◌∷◌, ◌++◌, Option, Some, None}
+use Rattle.std.proofs.Common.{◌≡◌, ℕ, Bool, true, not, ◌&&◌, List, [], ◌∷◌, ◌++◌, Option, Some, None}
 use Rattle.std.specs.List.{list_any}
 use Rattle.pg_term.specs.declared.term.Term.{Term}
 use Rattle.pg_term.specs.Same.{same_atom, same_term}
@@ -28,16 +28,18 @@ pub record World : Type 0 where
   pub node : Node → State
   -- from x to y
   pub wire : Node → Node → List Message
+  -- whose loss each node has seen
+  pub seen : Node → Node → Bool
   -- what each node has applied, the earliest first
   pub log : Node → List Update
   pub history : List Entry
   -- the commands that were answered behind their locks
   pub answered : List (Node × OpId)
 
--- every node knows itself and all others
-pub record Seated (nodes : List Node) (seat : Node → Nodes) : Type 0 where
+-- every node knows itself and all others, but those whose loss it has seen
+pub record Seated (nodes : List Node) (seen : Node → Node → Bool) (seat : Node → Nodes) : Type 0 where
   pub own : (a : Node) → list_any (same_atom a) nodes ≡ true → (seat a).own ≡ a
-  pub peer : (a q : Node) → list_any (same_atom a) nodes ≡ true → is_peer (seat a) q ≡ (list_any (same_atom q) nodes && not (same_atom a q))
+  pub peer : (a q : Node) → list_any (same_atom a) nodes ≡ true → is_peer (seat a) q ≡ ((list_any (same_atom q) nodes && not (same_atom a q)) && not (seen a q))
 
 abbrev pub listed : {A : Type 0} → Option A → List A
 listed None = []

@@ -62,7 +62,7 @@ pub record Counts (w : World) (a : Node) (peers : List Node) (p : Node) (c : ℕ
   pub even : turn.reported.odd ≡ None
   pub kept : Inv (perform (popped w p a rest) a turn)
 
-module _ (w : World) (a : Node) (peers : List Node) (sits : Sits w.nodes a peers) (la : live w a) (inv : Inv w) (p : Node) (meets : near w p a) (c : ℕ) (rest : List Message) where
+module _ (w : World) (a : Node) (peers : List Node) (sits : Sits w.nodes w.seen a peers) (la : live w a) (inv : Inv w) (p : Node) (meets : near w p a) (c : ℕ) (rest : List Message) where
   abbrev m : Nodes
   m = seated a peers
 
@@ -135,7 +135,7 @@ module _ (w : World) (a : Node) (peers : List Node) (sits : Sits w.nodes a peers
 
 -- ---- all packets
 
-module _ (w : World) (a : Node) (peers : List Node) (sits : Sits w.nodes a peers) (la : live w a) (inv : Inv w) (p : Node) (meets : near w p a) (rest : List Message) where
+module _ (w : World) (a : Node) (peers : List Node) (sits : Sits w.nodes w.seen a peers) (la : live w a) (inv : Inv w) (p : Node) (meets : near w p a) (rest : List Message) where
   abbrev known : Nodes
   known = seated a peers
 

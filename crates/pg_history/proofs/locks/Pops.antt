@@ -100,7 +100,7 @@ module _ (w : World) (a p : Node) (x : Message) (rest : List Message) where
 
   -- what nodes were told, where the packet carries no update
   pub pop_told : Inv w → w.wire p a ≡ x ∷ rest → carried (x ∷ []) ≡ [] → (N : Term) (q : Node) → live after q → Tale after N q
-  pop_told inv is none N q lq = tale_same w w.node after.wire w.log w.history w.answered N q (inv.tales N q lq) refl refl (λ i n u op o. o) (λ i n u. u) (λ i n u. u) (λ i n u. carried_else is none (numbered i n) i q)
+  pop_told inv is none N q lq = tale_same w w.node after.wire w.log w.history w.answered N q (inv.tales N q lq) (λ e s n. n) refl refl (λ i n u op o. o) (λ i n u. u) (λ i n u. u) (λ i n u. carried_else is none (numbered i n) i q)
 
   -- a packet that is about no reference
   pub pop_plain : Inv w → w.wire p a ≡ x ∷ rest → ((r : RefParts) → refers r x ≡ false) → carried (x ∷ []) ≡ [] → Inv after

@@ -12,9 +12,9 @@ use Rattle.pg_history.proofs.locks.Kept.{Near}
 abbrev pub seated : Node → List Node → Nodes
 seated a peers = record { own = a; peers = peers }
 
--- the peers of node a are the other nodes
-pub record Sits (nodes : List Node) (a : Node) (peers : List Node) : Type 0 where
-  pub peer : (q : Node) → list_any (same_atom q) peers ≡ (list_any (same_atom q) nodes && not (same_atom a q))
+-- the peers of node a are the other nodes whose loss it has not seen
+pub record Sits (nodes : List Node) (seen : Node → Node → Bool) (a : Node) (peers : List Node) : Type 0 where
+  pub peer : (q : Node) → list_any (same_atom q) peers ≡ ((list_any (same_atom q) nodes && not (same_atom a q)) && not (seen a q))
 
 pub false_right : (b : Bool) {c : Bool} → c ≡ false → (b && c) ≡ false
 false_right true e = e
@@ -23,14 +23,14 @@ false_right false e = refl
 pub true_both : {b c : Bool} → b ≡ true → c ≡ true → (b && c) ≡ true
 true_both e f = λ i. e i && f i
 
-module _ (nodes : List Node) (a : Node) (peers : List Node) (sits : Sits nodes a peers) where
+module _ (nodes : List Node) (seen : Node → Node → Bool) (a : Node) (peers : List Node) (sits : Sits nodes seen a peers) where
   pub no_peer : is_peer (seated a peers) a ≡ false
-  no_peer = sits.peer a ∙ false_right (list_any (same_atom a) nodes) (ap not (atoms.refl a))
+  no_peer = sits.peer a ∙ ap (λ b. b && not (seen a a)) (false_right (list_any (same_atom a) nodes) (ap not (atoms.refl a)))
 
-  pub is_near : (p : Node) → Near nodes a p → p ≢ a → is_peer (seated a peers) p ≡ true
-  is_near p m n = sits.peer p ∙ true_both m.peer (ap not (differ same_atom atoms a p (λ e. n (sym e))))
+  pub is_near : (p : Node) → Near nodes seen a p → p ≢ a → is_peer (seated a peers) p ≡ true
+  is_near p m n = sits.peer p ∙ true_both (true_both m.peer (ap not (differ same_atom atoms a p (λ e. n (sym e))))) (ap not m.counts)
 
-  pub node_near : (p : Node) → Near nodes a p → is_node (seated a peers) p ≡ true
+  pub node_near : (p : Node) → Near nodes seen a p → is_node (seated a peers) p ≡ true
   node_near p m = go (split same_atom atoms p a)
     where
       right : (b c : Bool) → c ≡ true → (b || c) ≡ true
@@ -49,7 +49,7 @@ module _ (nodes : List Node) (a : Node) (peers : List Node) (sits : Sits nodes a
   to_own_at test x p e = ap (to_peers (seated a peers) test x) e ∙ to_own test x
 
   -- to each other node that passes the test
-  pub to_near : (test : Node → Bool) (x : Message) (p : Node) → Near nodes a p → p ≢ a → test p ≡ true → to_peers (seated a peers) test x p ≡ x ∷ []
+  pub to_near : (test : Node → Bool) (x : Message) (p : Node) → Near nodes seen a p → p ≢ a → test p ≡ true → to_peers (seated a peers) test x p ≡ x ∷ []
   to_near test x p m n e = ap (λ b. cond b (x ∷ []) []) (true_both (is_near p m n) e)
 
   pub to_untold : (test : Node → Bool) (x : Message) (p : Node) → test p ≡ false → to_peers (seated a peers) test x p ≡ []
@@ -64,7 +64,7 @@ module _ (nodes : List Node) (a : Node) (peers : List Node) (sits : Sits nodes a
       go false e d later = later d
 
   -- what all pass, each does that is near
-  pub every_near : (f : Node → Bool) → every (seated a peers) f ≡ true → (p : Node) → Near nodes a p → f p ≡ true
+  pub every_near : (f : Node → Bool) → every (seated a peers) f ≡ true → (p : Node) → Near nodes seen a p → f p ≡ true
   every_near f all p m = go (split same_atom atoms p a)
     where
       go : (p ≡ a) ⊎ (p ≢ a) → f p ≡ true

@@ -2,31 +2,29 @@
 use Rattle.pg_term.specs.Same.{same_atom}
 use Rattle.pg_term.specs.declared.pid.Pid.{Pid}
 use Rattle.pg_history.proofs.locks.Weights.{once_moved, none_only}
-use Rattle.std.proofs.Common.{◌≡◌, ℕ, ◌+◌, ◌<◌, ◌≤◌, ◌≢◌, [], ◌++◌, Bool, Option, None, nat_eq, refl, ap, sym, ◌∙◌, subst, arith, append-nil, ◌&&◌}
+use Rattle.std.proofs.Common.{◌≡◌, ℕ, ◌+◌, ◌≤◌, [], ◌++◌, Bool, Option, None, nat_eq, refl, ap, sym, ◌∙◌, subst, arith, append-nil, ◌&&◌}
 use Rattle.std.specs.List.{AllByRecursion}
 use Rattle.pg_term.specs.RefParts.{RefParts}
 use Rattle.pg_refs.specs.Numbered.{numbered}
 use Rattle.pg_lock.specs.Locks.{Locks, is_holder}
 use Rattle.pg_group.specs.declared.update.Update.{Update}
-use Rattle.pg_group.specs.Functions.{upd}
 use Rattle.pg_group.specs.Table.{Table}
-use Rattle.pg_group.specs.Value.{name_of}
 use Rattle.pg_step.specs.declared.command.OpId.{OpId}
 use Rattle.pg_step.specs.Nodes.{Node, to_nobody}
 use Rattle.pg_step.specs.State.{State, Use, Stage, Response}
 use Rattle.pg_step.specs.State.Status.{Unasked}
-use Rattle.pg_step.specs.State.Use.{Fresh, Locking, Owning, Updating}
-use Rattle.pg_step.specs.State.Stage.{Closed, Waiting, Asking, Changing}
+use Rattle.pg_step.specs.State.Use.{Fresh, Locking}
+use Rattle.pg_step.specs.State.Stage.{Closed, Waiting, Asking}
 use Rattle.pg_step.specs.Turns.{NodeTurn, nothing}
 use Rattle.pg_step.specs.Attempts.{same_op, new_attempt}
 use Rattle.pg_step.specs.Commands.{open_command, count_command}
-use Rattle.pg_history.proofs.references.Keys.{numbers, read_at, read_other, at_read, from_read}
+use Rattle.pg_history.proofs.references.Keys.{numbers, at_read}
 use Rattle.pg_history.proofs.references.References.{about}
 use Rattle.pg_history.proofs.locks.Lines.{talk_same, Fits}
 use Rattle.pg_history.proofs.locks.Named.{World, perform}
 use Rattle.pg_history.proofs.locks.Kept.{IsOurs, IsUpdateOf, IsOpOf, IsUpdating, carried, Inv, lines_perform, opens, answers_of}
 use Rattle.pg_history.proofs.locks.Framed.{still_lines, still_tidy, fitting_perform, tidy_perform, read_same, once_same}
-use Rattle.pg_history.proofs.locks.Telling.{mute_tales, fewer_upd, more_upd, ops_upd}
+use Rattle.pg_history.proofs.locks.Telling.{silent_remains, mute_tales, fewer_upd, more_upd, ops_upd}
 use Rattle.pg_history.proofs.locks.Stages.{commands}
 use Rattle.pg_history.proofs.references.Fitting.{same_fitting, counted_keeps, opened_keeps}
 use Rattle.pg_history.proofs.references.FittingTurns.{attempted_keeps}
@@ -77,6 +75,7 @@ idle_keeps w a t inv idle = record {
   tales = mute_tales w a t inv (record {
     applied = idle.applied;
     began = idle.began;
+    remains = silent_remains w a t idle.answered;
     fewer = λ N n. subst (IsUpdateOf N) (ap (λ (f : ℕ → Use). f n) idle.uses);
     more = λ N n. subst (IsUpdateOf N) (ap (λ (f : ℕ → Use). f n) (sym idle.uses));
     ops = λ N n u op. subst (λ x. IsOpOf x op) (ap (λ (f : ℕ → Use). f n) (sym idle.uses));
@@ -97,7 +96,7 @@ count_keeps w a port inv = record {
   lines = still_lines w a t.state inv (λ M. refl) (λ k p m l. l.fits);
   tidy = still_tidy w a t.state inv;
   fitting = fitting_perform w a t inv.fitting (counted_keeps port (w.node a) (inv.fitting a));
-  tales = mute_tales w a t inv (record { applied = refl; began = refl; fewer = λ M n h. h; more = λ M n h. h; ops = λ M n h op is. is; sends = λ n p. refl });
+  tales = mute_tales w a t inv (record { applied = refl; began = refl; remains = silent_remains w a t refl; fewer = λ M n h. h; more = λ M n h. h; ops = λ M n h op is. is; sends = λ n p. refl });
   once = once_same w a t refl (λ op. refl) (λ p. at_read nat_eq numbers (λ n. (w.node a).counts p ≤ n) (w.node a).counts port ((w.node a).counts port + 1) p
       (λ e. let same : (w.node a).counts p ≡ (w.node a).counts port = ap (w.node a).counts e in omega (arith, same)) (λ n. omega arith)) inv.once;
   latest = latest_same w a t refl refl (λ op u k h. h) inv.latest;
@@ -112,7 +111,7 @@ open_keeps w a op u inv closed known none = record {
   lines = still_lines w a t.state inv (λ M. refl) (λ k p m l. l.fits);
   tidy = still_tidy w a t.state inv;
   fitting = fitting_perform w a t inv.fitting (opened_keeps op u s (closed, known) (inv.fitting a));
-  tales = mute_tales w a t inv (record { applied = refl; began = refl; fewer = λ M n h. h; more = λ M n h. h; ops = λ M n h o is. is; sends = λ n p. refl });
+  tales = mute_tales w a t inv (record { applied = refl; began = refl; remains = silent_remains w a t refl; fewer = λ M n h. h; more = λ M n h. h; ops = λ M n h o is. is; sends = λ n p. refl });
   once = once_moved w a t op (Waiting u) 0 refl (λ i o. none_only (same_atom i a && same_op o op)) (λ port. omega arith) (λ lt. omega arith) (omega (arith, none)) inv.once;
   latest = latest_same w a t refl refl (λ o v k h. h) inv.latest;
 }
@@ -135,6 +134,7 @@ start_keeps w a lead op u inv is = record {
   tales = mute_tales w a t inv (record {
     applied = refl;
     began = refl;
+    remains = silent_remains w a t refl;
     fewer = λ M. fewer_upd s.uses (s.references + 1) new M (λ h. absurd h);
     more = λ M. more_upd s.uses (s.references + 1) new M (λ h. subst (IsUpdateOf M) fresh h);
     ops = λ M. ops_upd s.uses (s.references + 1) new M (λ h. absurd (subst (IsUpdateOf M) fresh h));

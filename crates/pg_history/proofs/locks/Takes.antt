@@ -21,7 +21,7 @@ use Rattle.pg_history.proofs.locks.Moves.{set_yes, set_no, del_holds, del_done}
 use Rattle.pg_history.proofs.locks.Named.{World, perform, popped}
 use Rattle.pg_history.proofs.locks.Kept.{says, talk, near, IsOurs, Inv}
 use Rattle.pg_history.proofs.locks.Framed.{fitting_perform, once_same}
-use Rattle.pg_history.proofs.locks.Telling.{mute_told, mute_sent}
+use Rattle.pg_history.proofs.locks.Telling.{silent_remains, mute_told, mute_sent}
 use Rattle.pg_history.proofs.locks.Latest.{latest_same}
 use Rattle.pg_history.proofs.references.Fitting.{same_fitting}
 use Rattle.pg_history.proofs.locks.Asks.{free_none, lent_eye}
@@ -79,6 +79,7 @@ lend_keeps w a p b c N rest free inv meets is = record {
   tales = mute_told v a t (pop_told w a p x rest inv is refl) (record {
     applied = refl;
     began = refl;
+    remains = silent_remains v a t refl;
     fewer = λ M n h. h;
     more = λ M n h. h;
     ops = λ M n h o g. g;
@@ -120,7 +121,7 @@ del_keeps w a p c N rest inv meets is = record {
       (λ l. talk_same (del_done N l) refl refl (append-nil (about (numbered p c) (w.wire a p))) (λ M. ap (λ (f : Locks). is_holder (f M) (numbered p c)) unlocked));
   tidy = respond_tidy w a p c x rest t inv meets is (numbered_same p c) responds;
   fitting = fitting_perform v a t inv.fitting (same_fitting s t.state refl refl refl refl (inv.fitting a));
-  tales = mute_told v a t (pop_told w a p x rest inv is refl) (record { applied = refl; began = refl; fewer = λ M n h. h; more = λ M n h. h; ops = λ M n h o g. g; sends = λ n q. refl });
+  tales = mute_told v a t (pop_told w a p x rest inv is refl) (record { applied = refl; began = refl; remains = silent_remains v a t refl; fewer = λ M n h. h; more = λ M n h. h; ops = λ M n h o g. g; sends = λ n q. refl });
   once = once_same v a t refl (λ o. refl) (λ port. omega arith) inv.once;
   latest = latest_same v a t refl refl (λ o u k h. h) inv.latest;
 }

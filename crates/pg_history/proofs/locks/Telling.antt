@@ -1,5 +1,5 @@
 -- What a turn of one node leaves of what each node was told.
-use Rattle.std.proofs.Common.{◌≡◌, ℕ, ◌+◌, ◌≢◌, Bool, true, false, cond, List, [], ◌∷◌, ◌++◌, None, refl, ap, sym, ◌∙◌, subst, inl, inr, arith, append-nil}
+use Rattle.std.proofs.Common.{◌≡◌, ℕ, ◌+◌, ◌≢◌, Bool, true, false, ◌&&◌, cond, List, [], ◌∷◌, ◌++◌, Option, Some, None, refl, ap, sym, ◌∙◌, subst, inl, inr, arith, append-nil}
 use Rattle.std.specs.Prelude.{nat_eq}
 use Rattle.pg_term.specs.declared.term.Term.{Term}
 use Rattle.pg_term.specs.RefParts.{RefParts}
@@ -14,17 +14,15 @@ use Rattle.pg_message.specs.declared.message.Request.TheVariants.{SetLock, Chang
 use Rattle.pg_step.specs.declared.command.OpId.{OpId}
 use Rattle.pg_step.specs.Nodes.{Node}
 use Rattle.pg_step.specs.State.{State, Use}
+use Rattle.pg_step.specs.Attempts.{same_op}
 use Rattle.pg_step.specs.Turns.{NodeTurn}
-use Rattle.pg_history.proofs.references.Keys.{atoms, numbers, at_read, from_read}
+use Rattle.pg_history.proofs.references.Keys.{atoms, numbers, at_read, from_read, differ}
 use Rattle.pg_history.proofs.references.References.{about, about-append, cond_append, refers}
-use Rattle.pg_history.proofs.locks.Named.{World, Entry, perform, listed, entry_of, on, of_name, updates, times}
+use Rattle.pg_history.proofs.locks.Named.{World, Entry, perform, listed, entry_of, answer_of, on, of_name, times}
+use Rattle.pg_history.proofs.locks.Thins.{thin_map, thin_push}
 use Rattle.pg_history.proofs.locks.Kept.{Tells, Full, Tale, IsUpdateOf, IsOpOf, carried, Inv, live, answers_of}
 
 -- ---- lists
-
-pub updates-append : (xs ys : List Entry) → updates (xs ++ ys) ≡ updates xs ++ updates ys
-updates-append [] ys = refl
-updates-append (x ∷ xs) ys = ap (λ zs. x.update ∷ zs) (updates-append xs ys)
 
 pub on-append : (N : Term) (xs ys : List Update) → on N (xs ++ ys) ≡ on N xs ++ on N ys
 on-append N [] ys = refl
@@ -66,31 +64,35 @@ mute_sent false x r e = refl
 abbrev pub remade : World → (Node → State) → (Node → Node → List Message) → (Node → List Update) → List Entry → List (Node × OpId) → World
 remade w f g l h z = record w { node = f; wire = g; log = l; history = h; answered = z }
 
-module _ (w : World) (f : Node → State) (g : Node → Node → List Message) (l : Node → List Update) (h : List Entry) (z : List (Node × OpId)) (N : Term) (p : Node) where
-  pub tell_same : {all all' : List Entry} → on N (l p) ≡ on N (w.log p) → all' ≡ all → Tells w N p all → Tells (remade w f g l h z) N p all'
-  tell_same log names t = log ∙ (t ∙ ap updates (sym names))
+-- who has an excuse before node p has it still
+abbrev pub Remains : World → Node → List (Node × OpId) → Type 0
+Remains w p z = (e : Entry) → w.seen p e.node ≡ true → answers_of e.node e.op w.answered ≡ 0 → answers_of e.node e.op z ≡ 0
 
-  pub tell_more : (all : List Entry) {all' : List Entry} (e : Entry) → on N (l p) ≡ on N (w.log p) ++ e.update ∷ [] → all' ≡ all ++ e ∷ [] → Tells w N p all → Tells (remade w f g l h z) N p all'
-  tell_more all e log names t = log ∙ (ap (λ us. us ++ e.update ∷ []) t ∙ (sym (updates-append all (e ∷ [])) ∙ ap updates (sym names)))
+module _ (w : World) (f : Node → State) (g : Node → Node → List Message) (l : Node → List Update) (h : List Entry) (z : List (Node × OpId)) (N : Term) (p : Node) where
+  pub tell_same : {all all' : List Entry} → Remains w p z → on N (l p) ≡ on N (w.log p) → all' ≡ all → Tells w N p all → Tells (remade w f g l h z) N p all'
+  tell_same stays log names t = thin_map (λ e x. (x.0, stays e x.0 x.1)) (λ a x. x) log names t
+
+  pub tell_more : (all : List Entry) {all' : List Entry} (e : Entry) → Remains w p z → on N (l p) ≡ on N (w.log p) ++ e.update ∷ [] → all' ≡ all ++ e ∷ [] → Tells w N p all → Tells (remade w f g l h z) N p all'
+  tell_more all e stays log names t = thin_push e (λ x y. (y.0, stays x y.0 y.1)) t log names
 
   -- who is told all stays so
-  pub full_same : Full w N p → on N (l p) ≡ on N (w.log p) → of_name N h ≡ of_name N w.history
+  pub full_same : Full w N p → Remains w p z → on N (l p) ≡ on N (w.log p) → of_name N h ≡ of_name N w.history
       → ((i : Node) (n : ℕ) → IsUpdateOf N ((f i).uses n) → IsUpdateOf N ((w.node i).uses n))
       → ((i : Node) (n : ℕ) → IsUpdateOf N ((w.node i).uses n) → carried (about (numbered i n) (g i p)) ≡ carried (about (numbered i n) (w.wire i p)))
       → Full (remade w f g l h z) N p
-  full_same t log names back wires = record {
-    thin = tell_same log names t.thin;
+  full_same t stays log names back wires = record {
+    thin = tell_same stays log names t.thin;
     clear = λ i n li u. let u' = back i n u in wires i n u' ∙ t.clear i n li u';
   }
 
-  pub tale_same : Tale w N p → on N (l p) ≡ on N (w.log p) → of_name N h ≡ of_name N w.history
+  pub tale_same : Tale w N p → Remains w p z → on N (l p) ≡ on N (w.log p) → of_name N h ≡ of_name N w.history
       → ((i : Node) (n : ℕ) → IsUpdateOf N ((w.node i).uses n) → (op : OpId) → IsOpOf ((w.node i).uses n) op → IsOpOf ((f i).uses n) op)
       → ((i : Node) (n : ℕ) → IsUpdateOf N ((f i).uses n) → IsUpdateOf N ((w.node i).uses n))
       → ((i : Node) (n : ℕ) → IsUpdateOf N ((w.node i).uses n) → IsUpdateOf N ((f i).uses n))
       → ((i : Node) (n : ℕ) → IsUpdateOf N ((w.node i).uses n) → carried (about (numbered i n) (g i p)) ≡ carried (about (numbered i n) (w.wire i p)))
       → Tale (remade w f g l h z) N p
-  tale_same (inl t) log names ops back forth wires = inl (full_same t log names back wires)
-  tale_same (inr t) log names ops back forth wires = inr (record {
+  tale_same (inl t) stays log names ops back forth wires = inl (full_same t stays log names back wires)
+  tale_same (inr t) stays log names ops back forth wires = inr (record {
     i = t.i;
     n = t.n;
     near_it = t.near_it;
@@ -100,7 +102,7 @@ module _ (w : World) (f : Node → State) (g : Node → Node → List Message) (
     is = names ∙ t.is;
     node = t.node;
     command = ops t.i t.n t.update t.last.op t.command;
-    thin = tell_same log refl t.thin;
+    thin = tell_same stays log refl t.thin;
     way = wires t.i t.n t.update ∙ t.way;
   })
 
@@ -115,10 +117,30 @@ carried_mute w a t sends i n p = at_read same_atom atoms (λ (f : Node → List 
     ∙ (append-nil (carried (about (numbered i n) (w.wire a p))) ∙ ap (λ x. carried (about (numbered i n) (w.wire x p))) (sym e)))))
     (λ e. refl)
 
+-- a turn that answers nothing leaves all excuses
+pub silent_remains : (w : World) (a : Node) (t : NodeTurn) → t.reported.answered ≡ None → (p : Node) → Remains w p (w.answered ++ answer_of a t.reported.answered)
+silent_remains w a t none p e seen unanswered = ap (answers_of e.node e.op) (ap (λ o. w.answered ++ answer_of a o) none ∙ append-nil w.answered) ∙ unanswered
+
+-- and so does a turn of a node whose loss nobody has seen
+pub live_remains : (w : World) (a : Node) (t : NodeTurn) → live w a → (p : Node) → Remains w p (w.answered ++ answer_of a t.reported.answered)
+live_remains w a t la p e seen unanswered =
+    let both : answers_of e.node e.op (w.answered ++ answer_of a t.reported.answered) ≡ answers_of e.node e.op w.answered + answers_of e.node e.op (answer_of a t.reported.answered) =
+    answers-append e.node e.op w.answered (answer_of a t.reported.answered) in
+    let none : answers_of e.node e.op (answer_of a t.reported.answered) ≡ 0 = go t.reported.answered in
+    omega (arith, both, none, unanswered)
+  where
+    apart : e.node ≢ a
+    apart same = let y : false ≡ true = sym (la.unseen p) ∙ (ap (w.seen p) (sym same) ∙ seen) in cc
+
+    go : (o : Option OpId) → answers_of e.node e.op (answer_of a o) ≡ 0
+    go None = refl
+    go (Some op) = ap (λ b. cond {A = ℕ} (b && same_op e.op op) 1 0 + 0) (differ same_atom atoms e.node a apart)
+
 -- a turn that tells nothing: it applies nothing, begins nothing, and sends no update
 pub record Mute (w : World) (a : Node) (t : NodeTurn) : Type 0 where
   pub applied : t.reported.applied ≡ None
   pub began : t.reported.began ≡ None
+  pub remains : (p : Node) → Remains w p (w.answered ++ answer_of a t.reported.answered)
   pub fewer : (N : Term) (n : ℕ) → IsUpdateOf N (t.state.uses n) → IsUpdateOf N ((w.node a).uses n)
   pub more : (N : Term) (n : ℕ) → IsUpdateOf N ((w.node a).uses n) → IsUpdateOf N (t.state.uses n)
   pub ops : (N : Term) (n : ℕ) → IsUpdateOf N ((w.node a).uses n) → (op : OpId) → IsOpOf ((w.node a).uses n) op → IsOpOf (t.state.uses n) op
@@ -137,7 +159,7 @@ pub use_read : (w : World) (a : Node) (s : State) (P : Node → Use → Type 0) 
 use_read w a s P n here there i = at_read same_atom atoms (λ (x : State). P i (x.uses n)) w.node a s i (λ e. subst (λ x. P x (s.uses n)) (sym e) here) (λ m. there i m)
 
 pub mute_told : (w : World) (a : Node) (t : NodeTurn) → ((N : Term) (p : Node) → live w p → Tale w N p) → Mute w a t → (N : Term) (p : Node) → live w p → Tale (perform w a t) N p
-mute_told w a t tales mute N p lp = tale_same w _ _ _ _ _ N p (tales N p lp) (ap (on N) (log_same w a t mute.applied p))
+mute_told w a t tales mute N p lp = tale_same w _ _ _ _ _ N p (tales N p lp) (mute.remains p) (ap (on N) (log_same w a t mute.applied p))
     (ap (of_name N) (history_same w a t mute.began)) same_ops back forth (λ i n _. carried_mute w a t mute.sends i n p)
   where
     same_ops : (i : Node) (n : ℕ) → IsUpdateOf N ((w.node i).uses n) → (op : OpId) → IsOpOf ((w.node i).uses n) op → IsOpOf ((upd same_atom w.node a t.state i).uses n) op

@@ -29,7 +29,7 @@ use Rattle.pg_history.proofs.steps.Ways.{all_both, state_after, own_place}
 use Rattle.pg_history.proofs.steps.Grows.{entries_append}
 use Rattle.pg_history.proofs.steps.Lossless.{NobodyLost, took_all, did_all, event_nobody}
 use Rattle.pg_history.proofs.ends.Apart.{place_below, pair_first, pair_second}
-use Rattle.pg_history.proofs.places.Located.{place_of, has_place, is_named, place_is, left_out}
+use Rattle.pg_history.proofs.places.Located.{place_of, has_place, is_named, place_is, and_true, left_out}
 use Rattle.pg_history.proofs.tables.TableRuns.{applied_after}
 use Rattle.pg_history.proofs.places.Unlocked.{AllUnlocked, event_unlocked}
 use Rattle.pg_history.proofs.places.Begun.{OwnFits, StepOwn, step_own}
@@ -38,7 +38,7 @@ use Rattle.pg_history.proofs.locks.Kept.{IsOurs, Live, Near, Inv}
 use Rattle.pg_history.proofs.references.References.{about}
 use Rattle.pg_history.proofs.locks.First.{IsFirst, first_holds}
 use Rattle.pg_history.proofs.locks.Moved.{acts_keep, takes_keep, acts_even, takes_even}
-use Rattle.pg_history.proofs.locks.Agreed.{agrees_of}
+use Rattle.pg_history.proofs.locks.Agreed.{NobodySeen, agrees_of}
 use Rattle.pg_history.proofs.places.Shown.{IsHere, by_name, Shows, shows_popped, shows_performed}
 
 -- ---- the first world
@@ -49,6 +49,7 @@ first_world config = record {
   seat = λ a. nodes_at config (place_of (names_of config) a);
   node = λ a. (machine_of config).first (place_of (names_of config) a);
   wire = λ x y. (machine_of config).opening (place_of (names_of config) x) (place_of (names_of config) y);
+  seen = λ a b. false;
   log = λ a. [];
   history = [];
   answered = [];
@@ -65,9 +66,10 @@ module _ (config : Config) (apart : IsDistinct same_atom (names_of config)) wher
   place_at : (i : ℕ) → IsHere config i → place_of (names_of config) (name_at config i) ≡ i
   place_at i here = place_is (names_of config) i (place_below config i here) apart
 
-  shows_first : Shows config (start_of (machine_of config)) (first_world config)
+  pub shows_first : Shows config (start_of (machine_of config)) (first_world config)
   shows_first = record {
     nodes = refl;
+    seen = refl;
     seat = λ i here. ap (nodes_at config) (place_at i here);
     node = λ i here. ap (machine_of config).first (place_at i here);
     wire = λ x y hx hy. λ k. (machine_of config).opening (place_at x hx k) (place_at y hy k);
@@ -76,14 +78,15 @@ module _ (config : Config) (apart : IsDistinct same_atom (names_of config)) wher
     answered = refl;
   }
 
-  first_is : IsFirst (first_world config)
+  pub first_is : IsFirst (first_world config)
   first_is = record {
     seats = record {
       own = λ a there. (has_place (names_of config) a there).1;
       peer = λ a q there.
           let at = has_place (names_of config) a there in
           left_out (names_of config) (place_of (names_of config) a) q at.0 apart
-          ∙ ap (λ z. list_any (same_atom q) (names_of config) && not (same_atom z q)) at.1;
+          ∙ (ap (λ z. list_any (same_atom q) (names_of config) && not (same_atom z q)) at.1
+          ∙ and_true (list_any (same_atom q) (names_of config) && not (same_atom a q)));
     };
     locks = λ i N. refl;
     uses = λ i c. refl;
@@ -112,11 +115,14 @@ module _ (config : Config) (apart : IsDistinct same_atom (names_of config)) wher
     pub shows : Shows config v world
     pub inv : Inv world
 
-  pub live_at : (v : FrameWorld) (w : World) (i : ℕ) → Shows config v w → IsHere config i → Live w.nodes (name_at config i)
-  live_at v w i shows here = record { there = ap (list_any (same_atom (name_at config i))) shows.nodes ∙ is_named (names_of config) i (place_below config i here) }
+  pub nobody_seen : (v : FrameWorld) (w : World) → Shows config v w → NobodySeen w
+  nobody_seen v w shows x y = ap (λ (f : Node → Node → Bool). f x y) shows.seen
 
-  pub near_at : (v : FrameWorld) (w : World) (i p : ℕ) → Shows config v w → IsHere config i → IsHere config p → Near w.nodes (name_at config p) (name_at config i)
-  near_at v w i p shows here there = record { home = (live_at v w p shows there).there; peer = (live_at v w i shows here).there }
+  pub live_at : (v : FrameWorld) (w : World) (i : ℕ) → Shows config v w → IsHere config i → Live w.nodes w.seen (name_at config i)
+  live_at v w i shows here = record { there = ap (list_any (same_atom (name_at config i))) shows.nodes ∙ is_named (names_of config) i (place_below config i here); unseen = λ p. nobody_seen v w shows p (name_at config i) }
+
+  pub near_at : (v : FrameWorld) (w : World) (i p : ℕ) → Shows config v w → IsHere config i → IsHere config p → Near w.nodes w.seen (name_at config p) (name_at config i)
+  near_at v w i p shows here there = record { home = (live_at v w p shows there).there; peer = (live_at v w i shows here).there; known = nobody_seen v w shows (name_at config i) (name_at config p); counts = nobody_seen v w shows (name_at config p) (name_at config i) }
 
   did_has : (v u : FrameWorld) (i : ℕ) (action : Action) → Happened (machine_of config) v (Do i action) u → NobodyLost v → Has v → Has u
   did_has v u i action h nobody has =
@@ -127,8 +133,8 @@ module _ (config : Config) (apart : IsDistinct same_atom (names_of config)) wher
       record {
         world = perform w (name_at config i) t.0;
         shows = subst (λ z. Shows config z (perform w (name_at config i) t.0)) (ap (perform_at v i) (sym t.2) ∙ h.leaves) (shows_performed config apart v w i h.there t.0 s);
-        inv = acts_keep w (name_at config i) (live_at v w i s h.there) has.inv (ports_at config i) action t.0
-            ((λ k. acted (s.seat i h.there k) (s.seat i h.there k) (ports_at config i) action (s.node i h.there k)) ∙ t.1);
+        inv = acts_keep w (name_at config i) (live_at v w i s h.there) has.inv (nodes_at config i) (ports_at config i) action t.0
+            ((λ k. acted (nodes_at config i) (s.seat i h.there k) (ports_at config i) action (s.node i h.there k)) ∙ t.1);
       }
 
   took_has : (v u : FrameWorld) (i p : ℕ) → Took (machine_of config) v i p u → NobodyLost v → Has v → Has u
@@ -163,7 +169,7 @@ module _ (config : Config) (apart : IsDistinct same_atom (names_of config)) wher
         h.turn.reported,
         ap (λ (x : FrameWorld). x.reported) (sym h.leaves),
         subst (λ (x : Turn State Message Report). x.reported.odd ≡ None) (sym t.2)
-            (acts_even w (name_at config i) (live_at v w i s h.there) has.inv (ports_at config i) action t.0 ((λ k. acted (s.seat i h.there k) (s.seat i h.there k) (ports_at config i) action (s.node i h.there k)) ∙ t.1)),
+            (acts_even w (name_at config i) (live_at v w i s h.there) has.inv (nodes_at config i) (ports_at config i) action t.0 ((λ k. acted (nodes_at config i) (s.seat i h.there k) (ports_at config i) action (s.node i h.there k)) ∙ t.1)),
       )
 
   took_even : (v u : FrameWorld) (i p : ℕ) → Took (machine_of config) v i p u → NobodyLost v → Has v → (reported : Report) × (u.reported ≡ v.reported ++ (i, reported) ∷ []) × (reported.odd ≡ None)
@@ -192,7 +198,7 @@ module _ (config : Config) (apart : IsDistinct same_atom (names_of config)) wher
   all_applied v has i N here free =
       let s = has.shows in
       let live = live_at v has.world i s here in
-      sym (s.log i N here) ∙ (agrees_of has.world has.inv).free N (name_at config i) (name_at config i) live live (ap (λ (x : State). x.locks N) (s.node i here) ∙ free)
+      sym (s.log i N here) ∙ (agrees_of has.world has.inv (nobody_seen v has.world s)).free N (name_at config i) (name_at config i) live live (ap (λ (x : State). x.locks N) (s.node i here) ∙ free)
 
   pub record Bridged (v : FrameWorld) : Type 0 where
     pub has : Has v

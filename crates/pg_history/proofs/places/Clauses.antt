@@ -44,7 +44,7 @@ use Rattle.pg_history.proofs.locks.Named.{World, on}
 use Rattle.pg_history.proofs.locks.Kept.{Live}
 use Rattle.pg_history.proofs.locks.Agreed.{Agrees, IsAllButOne, agrees_of}
 use Rattle.pg_history.proofs.places.Shown.{IsHere, by_name, Shows}
-use Rattle.pg_history.proofs.places.Bridged.{Bridged, bridged, live_at, near_at, all_applied}
+use Rattle.pg_history.proofs.places.Bridged.{Bridged, bridged, nobody_seen, live_at, near_at, all_applied}
 use Rattle.pg_history.proofs.places.Prefixes.{as_long, lengths, updates_shown, answers_shown, split_shown, node_here, as_many_updates}
 
 module _ (config : Config) (apart : IsDistinct same_atom (names_of config)) where
@@ -60,9 +60,9 @@ module _ (config : Config) (apart : IsDistinct same_atom (names_of config)) wher
     s = b.has.shows
 
     agrees : Agrees w
-    agrees = agrees_of w b.has.inv
+    agrees = agrees_of w b.has.inv (nobody_seen config apart v w s)
 
-    live : (i : ℕ) → IsHere config i → Live w.nodes (name_at config i)
+    live : (i : ℕ) → IsHere config i → Live w.nodes w.seen (name_at config i)
     live i here = live_at config apart v w i s here
 
     many : (i : ℕ) (N : Term) → applied_count i N v.reported ≡ length (applied_by i N v.reported)
@@ -131,11 +131,15 @@ module _ (config : Config) (apart : IsDistinct same_atom (names_of config)) (es 
   pub bridge : Bridged config apart v
   bridge = bridged config apart es v leads
 
+  -- a formed node's, by what it has applied
+  pub formed_tables : (i : ℕ) (N : Term) → IsHere config i → is_formed config v i ≡ true → (v.node i).table N ≡ less (replay (base config N) (applied_by i N v.reported)) (v.node i).ended
+  formed_tables i N here full =
+      tabled_run config apart i here N (applies_formed config apart i N here) es v leads
+      ∙ ap (λ value. less (replay value (applied_by i N v.reported)) (v.node i).ended) (knows_all config i (v.node i) N full)
+
   formed : (i : ℕ) (N : Term) → IsHere config i → is_formed config v i ≡ true
       → (v.node i).table N ≡ less (replay (base config N) (take (applied_count i N v.reported) (updates_of (history N v.reported)))) (v.node i).ended
-  formed i N here full =
-      tabled_run config apart i here N (applies_formed config apart i N here) es v leads
-      ∙ (λ k. less (replay (knows_all config i (v.node i) N full k) (is_prefix config apart v bridge i N here k)) (v.node i).ended)
+  formed i N here full = formed_tables i N here full ∙ (λ k. less (replay (base config N) (is_prefix config apart v bridge i N here k)) (v.node i).ended)
 
   unformed : (i : ℕ) (N : Term) → IsHere config i → is_formed config v i ≡ false → (v.node i).table N ≡ less (known (has_groups config v i) N config) (v.node i).ended
   unformed i N here not_yet = untouched_run config apart i here N es v leads (bridge.empty i N here not_yet)
@@ -180,7 +184,7 @@ module _ (config : Config) (apart : IsDistinct same_atom (names_of config)) (es 
   one_more : (N : Term) (before after : List Entry) (e : Entry) → history N v.reported ≡ before ++ e ∷ after → answered_count e.node e.op v.reported ≡ 0 → after ≡ []
   one_more N before after e is none =
       let b = bridge in
-      let all = agrees_of b.has.world b.has.inv in
+      let all = agrees_of b.has.world b.has.inv (nobody_seen config apart v b.has.world b.has.shows) in
       none_mapped after (all.one_more N (map (by_name config) before) (map (by_name config) after) (by_name config e)
       (split_shown config apart v b.has.world b.has.shows b.places N before after e is)
       (answers_shown config apart v b.has.world b.has.shows b.places e.node e.op (node_here config apart v b.has.world b.has.shows b.places N before after e is) ∙ none))
@@ -189,7 +193,7 @@ module _ (config : Config) (apart : IsDistinct same_atom (names_of config)) (es 
       → (c : ℕ) × ((x : ℕ) → IsHere config x → is_holder ((v.node x).locks N) (numbered (name_at config e.node) c) ≡ true)
   granted N before after e is none =
       let b = bridge in
-      let all = agrees_of b.has.world b.has.inv in
+      let all = agrees_of b.has.world b.has.inv (nobody_seen config apart v b.has.world b.has.shows) in
       let held = all.granted N (map (by_name config) before) (map (by_name config) after) (by_name config e)
       (split_shown config apart v b.has.world b.has.shows b.places N before after e is)
       (answers_shown config apart v b.has.world b.has.shows b.places e.node e.op (node_here config apart v b.has.world b.has.shows b.places N before after e is) ∙ none) in (

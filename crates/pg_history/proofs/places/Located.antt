@@ -61,7 +61,7 @@ none_named : (x : Node) (xs : List Node) → AllByRecursion (λ y. same_atom x y
 none_named x [] all = refl
 none_named x (y ∷ ys) all = ap (λ b. b || list_any (same_atom x) ys) all.0 ∙ none_named x ys all.1
 
-and_true : (b : Bool) → b ≡ (b && true)
+pub and_true : (b : Bool) → b ≡ (b && true)
 and_true true = refl
 and_true false = refl
 

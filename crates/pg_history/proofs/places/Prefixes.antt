@@ -9,6 +9,7 @@ use Rattle.pg_term.specs.Same.{same_atom, same_term}
 use Rattle.pg_group.specs.declared.update.Update.{Update}
 use Rattle.pg_group.specs.Value.{name_of}
 use Rattle.pg_step.specs.declared.command.OpId.{OpId}
+use Rattle.pg_step.specs.Nodes.{Node, Nodes}
 use Rattle.pg_step.specs.Turns.{Report}
 use Rattle.pg_step.specs.Attempts.{same_op}
 use Rattle.pg_step.specs.Config.{Config, names_of, name_at}
@@ -20,7 +21,7 @@ use Rattle.pg_history.proofs.places.Located.{same_names}
 use Rattle.pg_history.proofs.locks.Named.{World, answer_of, of_name, updates}
 use Rattle.pg_history.proofs.locks.Kept.{answers_of}
 use Rattle.pg_history.proofs.locks.Agreed.{IsAllButOne}
-use Rattle.pg_history.proofs.places.Shown.{IsHere, by_name, answers, Shows}
+use Rattle.pg_history.proofs.places.Shown.{IsHere, by_name, answers, ShowsAs}
 
 -- ---- entries
 
@@ -100,7 +101,7 @@ pub lengths : (xs ys : List Update) → IsAllButOne xs ys → (length xs ≡ len
 lengths xs ys (inl e) = inl (ap length e)
 lengths xs ys (inr last) = inr (sym (length-append xs (last.0 ∷ [])) ∙ ap length last.1)
 
-module _ (config : Config) (apart : IsDistinct same_atom (names_of config)) (v : FrameWorld) (w : World) (shows : Shows config v w)
+module _ (config : Config) (apart : IsDistinct same_atom (names_of config)) {seat : ℕ → Nodes} {seen : Node → Node → Bool} (v : FrameWorld) (w : World) (shows : ShowsAs config seat seen v w)
     (places : AllByRecursion (λ (t : ℕ × Report). IsHere config t.0) v.reported) where
   pub group_shown : (N : Term) → of_name N w.history ≡ map (by_name config) (history N v.reported)
   group_shown N = ap (of_name N) shows.history ∙ names_kept config N (entries v.reported)

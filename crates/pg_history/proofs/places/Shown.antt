@@ -11,7 +11,7 @@ use Rattle.pg_message.specs.declared.message.Message.{Message}
 use Rattle.pg_step.specs.declared.command.OpId.{OpId}
 use Rattle.pg_machine.specs.Places.{is_place, set_at, set_way}
 use Rattle.pg_machine.specs.Machine.{perform as perform_at}
-use Rattle.pg_step.specs.Nodes.{Node}
+use Rattle.pg_step.specs.Nodes.{Node, Nodes}
 use Rattle.pg_step.specs.Turns.{NodeTurn, Report}
 use Rattle.pg_step.specs.Config.{Config, names_of, name_at, nodes_at}
 use Rattle.pg_step.specs.FrameMachine.{place_turn, FrameWorld}
@@ -33,14 +33,20 @@ by_name config e = record { node = name_at config e.node; op = e.op; update = e.
 abbrev pub answers : Config → List (ℕ × Report) → List (Node × OpId)
 answers config reported = all_reported (λ (t : ℕ × Report). answer_of (name_at config t.0) t.1.answered) reported
 
-pub record Shows (config : Config) (v : FrameWorld) (w : World) : Type 0 where
+-- with nodes that know one another, and have seen losses, as these say
+pub record ShowsAs (config : Config) (seats : ℕ → Nodes) (saw : Node → Node → Bool) (v : FrameWorld) (w : World) : Type 0 where
   pub nodes : w.nodes ≡ names_of config
-  pub seat : (i : ℕ) → IsHere config i → w.seat (name_at config i) ≡ nodes_at config i
+  pub seen : w.seen ≡ saw
+  pub seat : (i : ℕ) → IsHere config i → w.seat (name_at config i) ≡ seats i
   pub node : (i : ℕ) → IsHere config i → w.node (name_at config i) ≡ v.node i
   pub wire : (x y : ℕ) → IsHere config x → IsHere config y → w.wire (name_at config x) (name_at config y) ≡ v.wire x y
   pub log : (i : ℕ) (N : Term) → IsHere config i → on N (w.log (name_at config i)) ≡ applied_by i N v.reported
   pub history : w.history ≡ map (by_name config) (entries v.reported)
   pub answered : w.answered ≡ answers config v.reported
+
+-- where nobody has seen a loss
+abbrev pub Shows : Config → FrameWorld → World → Type 0
+Shows config v w = ShowsAs config (nodes_at config) (λ x y. false) v w
 
 -- ---- what is told
 
@@ -74,10 +80,11 @@ module _ (config : Config) (apart : IsDistinct same_atom (names_of config)) wher
 
   -- ---- a packet is gone
 
-  pub shows_popped : (v : FrameWorld) (w : World) (p i : ℕ) (rest : List Message) → IsHere config p → IsHere config i → Shows config v w
-      → Shows config (record v { wire = set_way v.wire p i rest }) (popped w (name_at config p) (name_at config i) rest)
+  pub shows_popped : {seat : ℕ → Nodes} {seen : Node → Node → Bool} (v : FrameWorld) (w : World) (p i : ℕ) (rest : List Message) → IsHere config p → IsHere config i → ShowsAs config seat seen v w
+      → ShowsAs config seat seen (record v { wire = set_way v.wire p i rest }) (popped w (name_at config p) (name_at config i) rest)
   shows_popped v w p i rest from to shows = record {
     nodes = shows.nodes;
+    seen = shows.seen;
     seat = shows.seat;
     node = shows.node;
     wire = λ x y hx hy. put_row v.wire w.wire (upd same_atom (w.wire (name_at config p)) (name_at config i) rest) (set_at (v.wire p) i rest) p x y from hx
@@ -89,7 +96,7 @@ module _ (config : Config) (apart : IsDistinct same_atom (names_of config)) wher
 
   -- ---- a turn
 
-  module _ (v : FrameWorld) (w : World) (i : ℕ) (there : IsHere config i) (t : NodeTurn) (shows : Shows config v w) where
+  module _ {seat : ℕ → Nodes} {seen : Node → Node → Bool} (v : FrameWorld) (w : World) (i : ℕ) (there : IsHere config i) (t : NodeTurn) (shows : ShowsAs config seat seen v w) where
     abbrev pub a : Node
     a = name_at config i
 
@@ -108,9 +115,10 @@ module _ (config : Config) (apart : IsDistinct same_atom (names_of config)) wher
         go true own = on-append N (w.log a) (listed t.reported.applied) ∙ (λ k. (shows.log i N there ∙ ap (λ z. applied_by z N v.reported) (own refl)) k ++ on_one N t.reported.applied k)
         go false own = shows.log j N here ∙ sym (append-nil (applied_by j N v.reported))
 
-    pub shows_performed : Shows config (perform_at v i (place_turn config t)) (perform w a t)
+    pub shows_performed : ShowsAs config seat seen (perform_at v i (place_turn config t)) (perform w a t)
     shows_performed = record {
       nodes = shows.nodes;
+      seen = shows.seen;
       seat = shows.seat;
       node = λ j here. put v.node w.node t.state t.state i j there here refl (shows.node j here);
       wire = λ x y hx hy. put_row v.wire w.wire (λ z. w.wire a z ++ t.sends z) (λ z. v.wire i z ++ (place_turn config t).sends z) i x y there hx

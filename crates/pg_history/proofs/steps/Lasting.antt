@@ -1,10 +1,9 @@
 -- What lasts from one world to later ones: answers, formation, ends; and what a step makes of the table.
-use Rattle.std.proofs.Common.{◌≡◌, ◌≢◌, ℕ, Bool, true, false, ◌&&◌, cond, List, [], ◌∷◌, ◌++◌, Some, refl, ap, sym, ◌∙◌, subst}
+use Rattle.std.proofs.Common.{◌≡◌, ℕ, Bool, true, ◌&&◌, List, [], ◌∷◌, ◌++◌, Some, refl, ap, sym, ◌∙◌, subst}
 use Rattle.std.specs.Cmp.{first_so, second_so}
 use Rattle.std.specs.List.{list_all}
 use Rattle.pg_term.specs.declared.pid.Pid.{Pid}
 use Rattle.pg_term.specs.Same.{same_atom, same_pid}
-use Rattle.pg_group.specs.Functions.{upd}
 use Rattle.pg_group.proofs.Changes.{upd_by}
 use Rattle.pg_message.specs.declared.message.Message.{Message}
 use Rattle.pg_machine.specs.Clocked.{plain}
@@ -16,7 +15,7 @@ use Rattle.pg_machine.proofs.Sequences.{kept, tells}
 use Rattle.pg_step.specs.Config.{Config, nodes_at}
 use Rattle.pg_step.specs.FrameMachine.{FrameWorld, frame_machine, machine_of, node_step, place_turn}
 use Rattle.pg_step.specs.Nodes.{Node}
-use Rattle.pg_step.specs.State.{State, Response, formed}
+use Rattle.pg_step.specs.State.{State, Response}
 use Rattle.pg_step.specs.Step.{CLOCK_LIMIT, Action}
 use Rattle.pg_step.specs.Turns.{NodeTurn, Report}
 use Rattle.pg_history.specs.History.{answer_by, answers_by, is_formed}
@@ -43,7 +42,7 @@ tabling config i s input turn is =
 -- ---- what lasts
 
 -- the peers that were merged stay so, and the ends that were taken stay taken
-record Lasts (s t : State) : Type 0 where
+pub record Lasts (s t : State) : Type 0 where
   pub merged : (q : Node) → s.merged q ≡ true → t.merged q ≡ true
   pub ended : (pid : Pid) → s.ended pid ≡ true → t.ended pid ≡ true
 
@@ -57,14 +56,14 @@ placed_lasts s t (EndingOne pid table ended merged none) = record {
   ended = λ other is. ap (λ (f : Pid → Bool). f other) ended ∙ upd_by same_pid s.ended pid (λ b. b ≡ true) true other (λ _. refl) (λ _. is);
 }
 
-step_lasts : (config : Config) (s : State) (input : Input Message Action) (t : NodeTurn) → StepTables config s input t → Lasts s t.state
+pub step_lasts : (config : Config) (s : State) (input : Input Message Action) (t : NodeTurn) → StepTables config s input t → Lasts s t.state
 step_lasts config s input t (Tabled is) = placed_lasts s t is
 step_lasts config s input t (Merges p node groups taken good same) = subst (λ (u : NodeTurn). Lasts s u.state) (sym same) (record {
   merged = λ q is. upd_by same_atom s.merged _ (λ b. b ≡ true) true q (λ _. refl) (λ _. is);
   ended = λ pid is. is;
 })
 
-all_stay : (f g : Node → Bool) (qs : List Node) → ((q : Node) → f q ≡ true → g q ≡ true) → list_all f qs ≡ true → list_all g qs ≡ true
+pub all_stay : (f g : Node → Bool) (qs : List Node) → ((q : Node) → f q ≡ true → g q ≡ true) → list_all f qs ≡ true → list_all g qs ≡ true
 all_stay f g [] stays all = refl
 all_stay f g (q ∷ qs) stays all =
     ap (λ b. b && list_all g qs) (stays q (first_so (f q) (list_all f qs) all)) ∙ all_stay f g qs stays (second_so (f q) (list_all f qs) all)

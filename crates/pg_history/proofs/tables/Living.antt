@@ -103,10 +103,10 @@ step_lives config i s (Own action) turn is living =
 
 -- ---- runs
 
-abbrev AllLive : FrameWorld → Type 0
+abbrev pub AllLive : FrameWorld → Type 0
 AllLive w = (i : ℕ) → Lives (w.node i)
 
-event_lives : (config : Config) (w v : FrameWorld) (e : Event Action) → Happened (machine_of config) w e v → AllLive w → AllLive v
+pub event_lives : (config : Config) (w v : FrameWorld) (e : Event Action) → Happened (machine_of config) w e v → AllLive w → AllLive v
 event_lives config w v e h living j = state_after (machine_of config) w v e h Lives j
     (λ _. step_lives config (node_of e) (w.node (node_of e)) h.input h.turn h.made (living (node_of e))) (λ _. living j)
 

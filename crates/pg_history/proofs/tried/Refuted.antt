@@ -28,6 +28,7 @@ use Rattle.pg_history.proofs.locks.Lines.{Talk, shows, sent_has, IsIdle}
 use Rattle.pg_history.proofs.locks.Lines.Line.{Having}
 use Rattle.pg_history.proofs.locks.Moves.{change_line, applied_line}
 use Rattle.pg_history.proofs.locks.Named.{World, Entry, on, of_name, updates}
+use Rattle.pg_history.proofs.locks.Thins.{thin_whole}
 use Rattle.pg_history.proofs.locks.Kept.{Tale, carried}
 use Rattle.pg_history.proofs.places.Unlocked.{NoneHeld}
 use Rattle.pg_history.proofs.references.Fitting.{fit_at}
@@ -65,10 +66,10 @@ ended_and_told {p} {r} {u} {out} t = subst IsIdle (change_line r u out t.line (s
 pub ended_and_confirmed : {p : Node} {r : RefParts} {out back : List Message} {locks : Locks} → Talk Spent p r out (Reply r Applied ∷ back) locks → ⊥
 ended_and_confirmed {p} {r} {out} {back} t = subst IsIdle (applied_line r back t.line (sent_has t.back_is)).0 t.fits
 
--- a node to which no update is on the way has applied all of the history
-pub told_all : (w : World) (N : Term) (p : Node) → Tale w N p → ((i : Node) (n : ℕ) → carried (about (numbered i n) (w.wire i p)) ≡ []) → on N (w.log p) ≡ updates (of_name N w.history)
-told_all w N p (inl full) none = full.thin
-told_all w N p (inr due) none = let way : carried (about (numbered due.i due.n) (w.wire due.i p)) ≡ due.last.update ∷ [] = due.way in let nothing : carried (about (numbered due.i due.n) (w.wire due.i p)) ≡ [] = none due.i due.n in absurd (cc)
+-- a node that has seen no loss, and to which no update is on the way, has applied all of the history
+pub told_all : (w : World) (N : Term) (p : Node) → ((q : Node) → w.seen p q ≡ false) → Tale w N p → ((i : Node) (n : ℕ) → carried (about (numbered i n) (w.wire i p)) ≡ []) → on N (w.log p) ≡ updates (of_name N w.history)
+told_all w N p nobody (inl full) none = thin_whole nobody full.thin
+told_all w N p nobody (inr due) none = let way : carried (about (numbered due.i due.n) (w.wire due.i p)) ≡ due.last.update ∷ [] = due.way in let nothing : carried (about (numbered due.i due.n) (w.wire due.i p)) ≡ [] = none due.i due.n in absurd (cc)
 
 one_short : (before : List Entry) (last : Entry) → updates before ≡ updates (before ++ last ∷ []) → ⊥
 one_short [] last e = cc
@@ -76,8 +77,8 @@ one_short (x ∷ before) last e = one_short before last (cc)
 
 -- a node that answers an update and does not apply it: nothing is on the way to it, and it has not applied the last entry
 pub answered_unapplied : (w : World) (N : Term) (p : Node) (before : List Entry) (last : Entry) → of_name N w.history ≡ before ++ last ∷ [] → on N (w.log p) ≡ updates before
-    → ((i : Node) (n : ℕ) → carried (about (numbered i n) (w.wire i p)) ≡ []) → Tale w N p → ⊥
-answered_unapplied w N p before last is short none tale = one_short before last (sym short ∙ told_all w N p tale none ∙ ap updates is)
+    → ((i : Node) (n : ℕ) → carried (about (numbered i n) (w.wire i p)) ≡ []) → ((q : Node) → w.seen p q ≡ false) → Tale w N p → ⊥
+answered_unapplied w N p before last is short none nobody tale = one_short before last (sym short ∙ told_all w N p nobody tale none ∙ ap updates is)
 
 -- ---- tables
 

@@ -119,7 +119,7 @@ attempt_fitting m s fitting = attempted_at s fitting _ _ (omega arith) (omega ar
 pub begin_fitting : (m : Nodes) (s : State) → ReferencesFit s → (c : ℕ) (op : OpId) (u : Update) (lead : Node) (st : Node → Status) → s.uses c ≡ Locking op u lead st → ReferencesFit ((copied_begin m c op u s).state)
 begin_fitting m s fitting c op u = begun_at s fitting m _ _ _ (omega arith) (omega arith) c op u
 
-module _ (w : World) (a : Node) (peers : List Node) (sits : Sits w.nodes a peers) (la : live w a) (inv : Inv w) where
+module _ (w : World) (a : Node) (peers : List Node) (sits : Sits w.nodes w.seen a peers) (la : live w a) (inv : Inv w) where
   abbrev m : Nodes
   m = seated a peers
 
@@ -128,7 +128,7 @@ module _ (w : World) (a : Node) (peers : List Node) (sits : Sits w.nodes a peers
 
   -- where all have replied, each has that is near
   all_replied : (replied : Node → Bool) → copied_all_replied m replied ≡ true → (p : Node) → near w a p → replied p ≡ true
-  all_replied replied e = every_near w.nodes a peers sits replied e
+  all_replied replied e = every_near w.nodes w.seen a peers sits replied e
 
   -- so a command ends where all have replied
   pub replies_keep : (n : ℕ) (op : OpId) (u : Update) (c : ℕ) (replied : Node → Bool) → s.uses n ≡ Updating op u c replied
@@ -140,7 +140,7 @@ module _ (w : World) (a : Node) (peers : List Node) (sits : Sits w.nodes a peers
       go true all = finish_keeps w a peers sits n op u c replied la is (all refl) inv
 
   all_yes : (st : Node → Status) → copied_all_granted m st ≡ true → (p : Node) → near w a p → st p ≡ Yes
-  all_yes st e p d = yes_is (st p) (every_near w.nodes a peers sits (λ q. is_yes (st q)) e p d)
+  all_yes st e p d = yes_is (st p) (every_near w.nodes w.seen a peers sits (λ q. is_yes (st q)) e p d)
 
   -- and an update begins where all have granted
   pub locks_keep : (c : ℕ) (op : OpId) (u : Update) (lead : Node) (st : Node → Status) → s.uses c ≡ Locking op u lead st

@@ -4,7 +4,8 @@ ghost use Rattle.std.specs.Prelude.{◌≡◌, [], ◌<◌, ◌-◌, ℕ, IfOk, 
 ghost use Rattle.pg_ring.specs.Capacity.{IsCapacity};
 ghost use Rattle.pg_step.specs.Config.{IsConfig};
 ghost use Rattle.pg_node.specs.Nodes.{links_of};
-ghost use Rattle.pg_world.specs.Crossings.{node_of, no_links};
+ghost use Rattle.pg_world.specs.Crossings.{node_of, no_links, idle_crossing};
+ghost use Rattle.pg_world.specs.Views.{no_account};
 ghost use Rattle.pg_world.specs.Openings.{AreReady, CantOpen, CantStart, opening_fault_of};
 ghost use Rattle.pg_world.specs.Starts.{seen_first, firsts};
 ghost use Rattle.pg_world.specs.BytesStart.{OpensLinks};
@@ -56,6 +57,25 @@ impl World<IndexTable> {
             Ok(nodes) => Ok(World::idle(alloc, nodes, ring)?),
             Err(fault) => Err(fault),
         }
+    }
+}
+
+ghost use Rattle.pg_world.specs.Openings.{CantBegin as CantBeginWith};
+ghost use Rattle.pg_world.specs.BytesStart.{BytesBegin as BytesBeginOf};
+
+/// The nodes of a configuration as they start over bytes, by their places, for who moves the bytes between them: what each of them
+/// tells of its groups stands in its outbox to each other. Its cost is that of `FrameWorld::new`.
+///
+/// Faults: those of `FrameWorld::new`.
+pub fn starting_nodes(alloc: Global, config: &Config) -> Result<Vec<Node<IndexTable>>, WorldFault>
+    ensures good { IfOk result (λ nodes. IsConfig config.now.starts.items × IsCapacity config.now.ring) }
+    ensures count { IfOk result (λ nodes. length nodes.items ≡ length config.now.starts.items) }
+    ensures begins { IfOk result (λ nodes. BytesBeginOf config.now.starts.items (idle_crossing nodes.items) no_account) }
+    ensures fault { IfErr result (CantBeginWith config.now.ring config.now.starts.items) }
+{
+    match ready(alloc, config) {
+        Ok(()) => opened_nodes(alloc, config.starts.as_slice()),
+        Err(fault) => Err(fault),
     }
 }
 

@@ -1,4 +1,4 @@
-use Rattle.std.proofs.Common.{ap, refl, ◌∙◌, ◌+◌}
+use Rattle.std.proofs.Common.{ap, refl, ◌∙◌, ◌+◌, arith}
 use Rattle.pg_node.specs.Bytes.{next_packet}
 use Rattle.pg_node.specs.Nodes.{held_by, links_of}
 use Rattle.pg_node.specs.States.{names_of, nodes_of, kept_by, state_of, answers_of, stamped_of}
@@ -10,7 +10,8 @@ use Rattle.pg_run.proofs.linked.LinkedNode.take_read.Goals as goal
 
 pub returns-in-Ok-clause-took : goal.returns-in-Ok-clause-took
 returns-in-Ok-clause-took g c =
-    take_acts g.L.Link.accepts g.I.Inlet.gives g.met.L.Link.rests g.met.I.Inlet.rests c.args.self.now c.keep.new.self c.take_read.new.self c.args.peer c.args.packet.now _ c.requires.next
+    take_acts g.L.Link.accepts g.I.Inlet.gives g.met.L.Link.rests g.met.I.Inlet.rests c.args.self.now c.keep.new.self c.take_read.new.self c.args.peer c.args.packet.now _
+    (omega (arith, c.requires.place, c.args.self.now.linked)) c.requires.next
     c.in-Ok.ensures.event c.in-Ok.ensures.fits c.in-Ok.ensures.small c.in-Ok.ensures.sent c.take_read.ensures.names c.take_read.ensures.ports c.keep.ensures.node c.keep.ensures.log c.keep.ensures.peers
 
 pub returns-in-Err-clause-took : goal.returns-in-Err-clause-took

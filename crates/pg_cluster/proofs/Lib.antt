@@ -1,0 +1,12 @@
+pub mod Closing
+pub mod Finishing
+pub mod JoiningRows
+pub mod Judging
+pub mod Making
+pub mod NodesSent
+pub mod OneRun
+pub mod PartsSent
+pub mod Popping
+pub mod Settling
+pub mod Starts
+pub mod TermsSent

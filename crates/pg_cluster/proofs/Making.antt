@@ -1,0 +1,76 @@
+-- The rows of links, once all rings are made, and the nodes that have them.
+use Rattle.std.proofs.Common.{◌≡◌, ◌<◌, ◌≤◌, ◌+◌, ◌-◌, true, ℕ, List, [], ◌∷◌, length, map, get_or, refl, sym, ◌∙◌, ap, subst, arith, inl, inr}
+use Rattle.std.specs.Prelude.{IfOk, Result, Ok, Err}
+use Rattle.std.specs.List.{All}
+use Rattle.std.proofs.lemmas.Bool.Decides.{leb_tells}
+use Rattle.std.proofs.lemmas.List.{get_or-map, length-map}
+use Rattle.pg_machine.specs.Places.{is_pair}
+use Rattle.pg_step.specs.Config.{Config, IsConfig}
+use Rattle.pg_together.specs.Apart.{End}
+use Rattle.pg_world.proofs.Peering.{place_low, place_high}
+use Rattle.pg_world.proofs.Turning.{pair_is}
+use Rattle.pg_world.specs.BytesStart.{BytesBegin}
+use Rattle.pg_world.specs.Crossings.{idle_crossing}
+use Rattle.pg_world.specs.Views.{no_account, peer_place}
+use Rattle.pg_cluster.specs.declared.fault.StartFault.{StartFault}
+use Rattle.pg_cluster.specs.declared.runs.Made.{Made}
+use Rattle.pg_cluster.specs.Ended.{Row, AreWired, row_at}
+use Rattle.pg_cluster.specs.Rows.{Wired, RowsWired}
+use Rattle.pg_cluster.specs.Threads.{AreMade, NodeOf, RunOf, node_in, row_in, log_in}
+
+abbrev lists : List Row → List (List End)
+lists rows = map (λ v. v.items) rows
+
+module _ (n : ℕ) (rows : List Row) (none : Row) (wired : RowsWired n rows) where
+  row_is : (x : ℕ) → x < n → row_at (lists rows) x ≡ (get_or rows x none).items
+  row_is x low = get_or-map (λ v. v.items) rows x none [] (let e = wired.rows in omega arith)
+
+  two : (x y : ℕ) → is_pair n x y ≡ true → Wired (row_at (lists rows) x) (peer_place x y) (row_at (lists rows) y) (peer_place y x)
+  two x y pair = let p = pair_is n x y pair in elim (leb_tells x y) [
+    | inl t ↦
+        let less : x < y = omega (arith, t.1, p.2) in
+        rw (row_is x p.0, row_is y p.1, place_high x y t.1, place_low y x less) ((wired.earlier x y none less p.1 p.1).there)
+    | inr f ↦
+        let le : y ≤ x = omega (arith, f.1) in
+        rw (row_is x p.0, row_is y p.1, place_low x y f.1, place_high y x le) ((wired.earlier y x none f.1 p.0 p.0).back)
+  ]
+
+  wired_by : AreWired n (lists rows)
+  wired_by = record {
+    joined = record {
+      count = length-map rows (λ v. v.items) ∙ wired.rows;
+      each = λ x low. rw (row_is x low) (wired.between x none (omega arith) low low);
+      ends = λ x y end pair. (two x y pair end).0;
+    };
+    unsent = λ x y end pair. (two x y pair end).1;
+    unreceived = λ x y end pair. (two x y pair end).2;
+  }
+
+-- each two of so many nodes have the rings between them
+pub are_wired : (n : ℕ) (rows : List Row) → RowsWired n rows → AreWired n (lists rows)
+are_wired n [] wired = record {
+  joined = record {
+    count = wired.rows;
+    each = λ x low. absurd (let e = wired.rows in omega arith);
+    ends = λ x y end pair. absurd (let p = pair_is n x y pair in let e = wired.rows in omega (arith, p.0));
+  };
+  unsent = λ x y end pair. absurd (let p = pair_is n x y pair in let e = wired.rows in omega (arith, p.0));
+  unreceived = λ x y end pair. absurd (let p = pair_is n x y pair in let e = wired.rows in omega (arith, p.0));
+}
+are_wired n (row ∷ rows) wired = wired_by n (row ∷ rows) row wired
+
+-- the nodes of a configuration that were made with these links, if they were
+pub are_made : {K : Type 0} (given : Config) (nodes : List NodeOf) (rows : List Row) (result : Result (Made K) StartFault)
+    → IsConfig given → length nodes ≡ length given → BytesBegin given (idle_crossing nodes) no_account → RowsWired (length nodes) rows
+    → IfOk result (λ made. map node_in made.runs.items ≡ nodes) → IfOk result (λ made. map row_in made.runs.items ≡ lists rows)
+    → IfOk result (λ made. All (λ run. log_in run ≡ []) made.runs.items) → IfOk result (λ made. AreMade given made.runs.items)
+are_made given nodes rows (Ok made) good count begins wired held rowed unlogged =
+    let size : length made.runs.items ≡ length nodes = sym (length-map made.runs.items node_in) ∙ ap length held in record {
+      count = size ∙ count;
+      some = let s = good.some in omega arith;
+      few = good.few;
+      begins = subst (λ (ns : List NodeOf). BytesBegin given (idle_crossing ns) no_account) (sym held) begins;
+      unlogged = unlogged;
+      wired = subst (λ (n : ℕ). AreWired n (map row_in made.runs.items)) (sym size) (subst (AreWired (length nodes)) (sym rowed) (are_wired (length nodes) rows wired));
+    }
+are_made given nodes rows (Err fault) good count begins wired held rowed unlogged = tt

@@ -1,0 +1,249 @@
+-- A cluster that has ended, as one run of its configuration.
+use Rattle.std.proofs.Common.{◌≡◌, ◌<◌, ◌≤◌, ◌+◌, ◌-◌, ◌^◌, ℕ, Bool, true, false, cond, nat_lt, min, List, [], ◌∷◌, ◌++◌, length, map, take, drop, get_or, Option, Some, refl, sym, ◌∙◌, ap, subst, arith, inl, inr, ◌⊎◌}
+use Rattle.std.specs.Prelude.{slice_get}
+use Rattle.std.specs.List.{All, AllByRecursion, flat_map}
+use Rattle.std.proofs.lemmas.Bool.{ltb-true}
+use Rattle.std.proofs.lemmas.Bool.Decides.{leb_tells}
+use Rattle.std.proofs.lemmas.List.{get_or-map, length-map, map-append, append-nil}
+use Rattle.std.proofs.lemmas.Option.{slice_get-get_or, slice_get_within, get_or_from_slice_get}
+use Rattle.pg_machine.specs.Machine.{Machine, Event, World, is_there, start_of}
+use Rattle.pg_machine.specs.Clocked.{plain}
+use Rattle.pg_machine.specs.Places.{is_pair, set_at}
+use Rattle.pg_machine.specs.Runs.{Leads, events_of}
+use Rattle.pg_machine.proofs.Steps.{happened}
+use Rattle.pg_index.specs.declared.index_table.IndexTable.{IndexTable}
+use Rattle.pg_index.specs.contracts.index_table.IndexTableGroupTable.TheImpl.{ghosts}
+use Rattle.pg_joining.specs.Merge.{Merges, MergesRest, IsNext, rest_of, clocks_of, clocks_in, log_at, entry_at, merged, seen_log}
+use Rattle.pg_joining.proofs.Seen.{same_merge}
+use Rattle.pg_ring.specs.Ends.{Sends, Receives}
+use Rattle.pg_run.specs.declared.log.NodeEvent.{NodeEvent}
+use Rattle.pg_run.specs.declared.log.NodeEvent.TheVariants as entries
+use Rattle.pg_run.specs.Acts.{Act}
+use Rattle.pg_run.specs.Follows.{Follows, node_of as node_at, log_of}
+use Rattle.pg_run.specs.Runs.{linked_of}
+use Rattle.pg_step.specs.Config.{Config}
+use Rattle.pg_step.specs.FrameMachine.{frame_machine}
+use Rattle.pg_step.specs.Step.{Action}
+use Rattle.pg_together.specs.Apart.{End, Linked as LinkedBy, Crossed, RanApart, RanTogether, event_at, events_in, end_of}
+use Rattle.pg_world.specs.declared.step.FrameStep.{FrameStep}
+use Rattle.pg_world.specs.declared.step.FrameStep.TheVariants as steps
+use Rattle.pg_world.specs.Crossings.{node_of}
+use Rattle.pg_world.specs.Views.{peer_place, place_of_peer}
+use Rattle.pg_world.specs.Worlds.{ShowsNode, event_of}
+use Rattle.pg_world.proofs.Ordered.{ordered_length}
+use Rattle.pg_world.proofs.Turning.{pair_is}
+use Rattle.pg_cluster.specs.Ended.{row_at, end_at}
+use Rattle.pg_cluster.specs.Schedule.{IsSchedule, node_of_peer, step_as, steps_of}
+use Rattle.pg_cluster.specs.Threads.{NodeOf, RunOf, RanOf, Thread, AreMade, EndedWith, begun_by, limit_of, node_in, row_in, log_in, rows_begun, rows_ended}
+use Rattle.pg_cluster.specs.Together.{AreOneRun}
+
+abbrev pub Linked : Type 0
+Linked = LinkedBy IndexTable ghosts
+
+-- ---- logs that are merged alike
+
+next_alike : (size : ℕ) (a b : ℕ → List ℕ) (read : ℕ → ℕ) (i : ℕ) → ((j : ℕ) → j < size → a j ≡ b j) → IsNext size (rest_of a read) i → IsNext size (rest_of b read) i
+next_alike size a b read i same next = record {
+  there = next.there;
+  clock = next.clock;
+  later = next.later;
+  next = ap (drop (read i)) (sym (same i next.there)) ∙ next.next;
+  first = λ j other others low is. next.first j other others low (ap (drop (read j)) (same j low) ∙ is);
+}
+
+merges_alike : (size : ℕ) (a b : ℕ → List ℕ) (order : List (ℕ × ℕ)) (read : ℕ → ℕ) → ((j : ℕ) → j < size → a j ≡ b j) → MergesRest size a read order → MergesRest size b read order
+merges_alike size a b [] read same merges = λ i low. ap (drop (read i)) (sym (same i low)) ∙ merges i low
+merges_alike size a b (x ∷ order) read same merges =
+    (merges.0, next_alike size a b read x.0 same merges.1, merges_alike size a b order (set_at read x.0 (x.1 + 1)) same merges.2)
+
+-- ---- steps and events
+
+entry_seen : {E F : Type 0} (view : E → F) (log : List (ℕ × E)) (place : ℕ) → entry_at (seen_log view log) place ≡ map view (entry_at log place)
+entry_seen view log place = sym (append-nil (entry_at (seen_log view log) place)) ∙ (same_merge view (λ i. log) ((0, place) ∷ []) ∙ ap (map view) (append-nil (entry_at log place)))
+
+-- a place within 16 is the same as a machine word counts it
+peer_within : (i peer : ℕ) → place_of_peer i peer < 17 → node_of_peer i peer ≡ place_of_peer i peer
+peer_within i peer low = go (nat_lt peer i) low
+  where
+    go : (b : Bool) → cond {A = ℕ} b peer (peer + 1) < 17 → ◌≡◌ {A = ℕ} (cond b peer (min (peer + 1) (2 ^ 64 - 1))) (cond b peer (peer + 1))
+    go true l = refl
+    go false l = omega (arith, l)
+
+step_is : (size i : ℕ) (e : NodeEvent) → size ≤ 16 → is_there size (event_at i e) ≡ true → event_of (step_as i e) ≡ Some (event_at i e)
+step_is size i (entries.Take peer) few there = ap (λ p. event_of (step_taken p)) (peer_within i peer (let p = pair_is size i (place_of_peer i peer) there in omega (arith, p.1, few)))
+  where
+    step_taken : ℕ → FrameStep
+    step_taken p = steps.Take i p
+step_is size i (entries.Command port command) few there = refl
+step_is size i (entries.Retry op) few there = refl
+
+steps_are : (size i : ℕ) (es : List NodeEvent) → size ≤ 16 → AllByRecursion (λ e. is_there size e ≡ true) (map (event_at i) es)
+    → map event_of (map (step_as i) es) ≡ map Some (map (event_at i) es)
+steps_are size i [] few all = refl
+steps_are size i (e ∷ es) few all = (λ j. step_is size i e few all.0 j ∷ steps_are size i es few all.1 j)
+
+first_all : {A : Type 0} (P : A → Type 0) (xs ys : List A) → AllByRecursion P (xs ++ ys) → AllByRecursion P xs × AllByRecursion P ys
+first_all P [] ys all = (tt, all)
+first_all P (x ∷ xs) ys all = let rest = first_all P xs ys all.1 in ((all.0, rest.0), rest.1)
+
+-- the events of a run name places that are there
+all_there : {S P C O : Type 0} (m : Machine S P C O) (w v : World S P O) (events : List (Event C)) → Leads m w events v → AllByRecursion (λ e. is_there m.size e ≡ true) events
+all_there m w v [] leads = tt
+all_there m w v (e ∷ events) leads = ((happened m w leads.0 e leads.1).there, all_there m leads.0 v events leads.2)
+
+-- the steps of a merge are its events
+schedule_is : (size n : ℕ) (logs : List (List (ℕ × NodeEvent))) (at : ℕ → List (ℕ × NodeEvent)) (clocks : ℕ → List ℕ) (read : ℕ → ℕ) (order : List (ℕ × ℕ))
+    → size ≤ 16 → ((i : ℕ) → i < n → log_at logs i ≡ at i) → MergesRest n clocks read order
+    → AllByRecursion (λ e. is_there size e ≡ true) (merged (λ i. seen_log (event_at i) (at i)) order)
+    → map event_of (steps_of logs order) ≡ map Some (merged (λ i. seen_log (event_at i) (at i)) order)
+schedule_is size n logs at clocks read [] few same merges all = refl
+schedule_is size n logs at clocks read (x ∷ order) few same merges all =
+    let here : List NodeEvent = entry_at (at x.0) x.1 in
+    let later = merged (λ i. seen_log (event_at i) (at i)) order in
+    let seen = entry_seen (event_at x.0) (at x.0) x.1 in
+    let parts = first_all (λ e. is_there size e ≡ true) (map (event_at x.0) here) later (subst (λ es. AllByRecursion (λ e. is_there size e ≡ true) (es ++ later)) seen all) in
+    let first = steps_are size x.0 here few parts.0 in
+    let rest = schedule_is size n logs at clocks (set_at read x.0 (x.1 + 1)) order few same merges.2 parts.1 in
+    map-append event_of (map (step_as x.0) (entry_at (log_at logs x.0) x.1)) (steps_of logs order)
+    ∙ ((λ j. map event_of (map (step_as x.0) (entry_at (same x.0 merges.1.there j) x.1)) ++ rest j)
+    ∙ (ap (λ es. es ++ map Some later) first
+    ∙ (sym (map-append Some (map (event_at x.0) here) later) ∙ ap (λ es. map Some (es ++ later)) (sym seen))))
+
+-- ---- the threads
+
+all_at : {A : Type 0} (P : A → Type 0) (xs : List A) (i : ℕ) (d : A) → All P xs → i < length xs → P (get_or xs i d)
+all_at P xs i d all low = all i d low
+
+module _ {K : Type 0} (given : Config) (threads : List (Thread K)) (nodes : List NodeOf) (logs : List (List (ℕ × NodeEvent))) (schedule : List FrameStep)
+    (made : AreMade given (map begun_by threads)) (ended : EndedWith threads nodes logs) (is : IsSchedule logs (length logs) schedule) (thread : Thread K) (ran : RanOf K) where
+  abbrev pub config : Config
+  config = made.begins.0
+
+  abbrev pub rans : List (RanOf K)
+  rans = ended.rans
+
+  abbrev pub begun : ℕ → Linked
+  begun i = linked_of (begun_by (get_or threads i thread))
+
+  abbrev pub end : ℕ → Linked
+  end i = linked_of ((get_or ended.rans i ran).run)
+
+  size : length config ≡ length given
+  size = ordered_length given config made.begins.1
+
+  thread_count : length threads ≡ length config
+  thread_count = sym (length-map threads begun_by) ∙ (made.count ∙ sym size)
+
+  ran_count : length ended.rans ≡ length config
+  ran_count = ended.joined.0 ∙ thread_count
+
+  node_count : length nodes ≡ length config
+  node_count = ap length ended.ended ∙ (length-map ended.rans (λ r. node_in r.run) ∙ ran_count)
+
+  log_count : length logs ≡ length config
+  log_count = ap length ended.logged ∙ (length-map ended.rans (λ r. log_in r.run) ∙ ran_count)
+
+  run_at : (i : ℕ) → i < length config → get_or (map begun_by threads) i (begun_by thread) ≡ begun_by (get_or threads i thread)
+  run_at i low = get_or-map begun_by threads i thread (begun_by thread) (omega (arith, low, thread_count))
+
+  log_is : (i : ℕ) → i < length config → log_at logs i ≡ log_of (end i)
+  log_is i low = ap (λ ls. log_at ls i) ended.logged ∙ get_or-map (λ (r : RanOf K). log_in r.run) ended.rans i ran [] (omega (arith, low, ran_count))
+
+  held : (i : ℕ) → i < length config → slice_get (map node_in (map begun_by threads)) i ≡ Some (node_at (begun i))
+  held i low =
+      let runs = map begun_by threads in
+      let count : length runs ≡ length threads = length-map threads begun_by in
+      let nodes_count : length (map node_in runs) ≡ length runs = length-map runs node_in in
+      slice_get-get_or (map node_in runs) i (node_in (begun_by thread)) (omega (arith, low, thread_count, count, nodes_count))
+      ∙ ap Some (get_or-map node_in runs i (begun_by thread) (node_in (begun_by thread)) (omega (arith, low, thread_count, count)) ∙ ap node_in (run_at i low))
+
+  unlogged : (i : ℕ) → i < length config → log_of (begun i) ≡ []
+  unlogged i low =
+      let count : length (map begun_by threads) ≡ length threads = length-map threads begun_by in
+      subst (λ (r : RunOf K). log_in r ≡ []) (run_at i low) (all_at (λ (r : RunOf K). log_in r ≡ []) (map begun_by threads) i (begun_by thread) made.unlogged (omega (arith, low, thread_count, count)))
+
+  begun_row : (i : ℕ) → i < length config → row_at (rows_begun threads) i ≡ row_in (begun_by (get_or threads i thread))
+  begun_row i low = get_or-map (λ (t : Thread K). row_in (begun_by t)) threads i thread [] (omega (arith, low, thread_count))
+
+  ended_row : (i : ℕ) → i < length config → row_at (rows_ended ended.rans) i ≡ row_in (get_or ended.rans i ran).run
+  ended_row i low = get_or-map (λ (r : RanOf K). row_in r.run) ended.rans i ran [] (omega (arith, low, ran_count))
+
+  made_row : (i : ℕ) → i < length config → row_at (map row_in (map begun_by threads)) i ≡ row_in (begun_by (get_or threads i thread))
+  made_row i low =
+      let count : length (map begun_by threads) ≡ length threads = length-map threads begun_by in
+      get_or-map row_in (map begun_by threads) i (begun_by thread) [] (omega (arith, low, thread_count, count)) ∙ ap row_in (run_at i low)
+
+  linked : (i : ℕ) → i < length config → length (row_in (begun_by (get_or threads i thread))) + 1 ≡ length config
+  linked i low =
+      let count = length-map threads begun_by in
+      let e = made.wired.joined.each i (omega (arith, low, thread_count, count)) in
+      let r = ap length (made_row i low) in
+      omega (arith, e, r, count, thread_count)
+
+  acts_and : (i : ℕ) → (acts : List Act) × (i < length config → Follows Sends Receives acts (begun i) (end i))
+  acts_and i = elim (leb_tells (length config) i) [
+    | inl t ↦ ([], λ low. absurd (omega (arith, low, t.1)))
+    | inr f ↦ let kept = ended.joined.1 i thread ran (omega (arith, f.1, ran_count)) in (kept.runs.acts, λ low. kept.runs.follows)
+  ]
+
+  crossed : (x y : ℕ) (none : End) → is_pair (length config) x y ≡ true → Crossed (end_of (begun x) x y none) (end_of (begun y) y x none) (end_of (end x) x y none) (end_of (end y) y x none)
+  crossed x y none pair =
+      let p = pair_is (length config) x y pair in
+      rw (← begun_row x p.0, ← begun_row y p.1, ← ended_row x p.0, ← ended_row y p.1) (ended.crossed x y none (subst (λ n. is_pair n x y ≡ true) (sym thread_count) pair))
+
+  apart : RanApart config (map node_in (map begun_by threads)) begun end
+  apart = record {
+    starts = made.begins.2;
+    held = held;
+    unlogged = unlogged;
+    linked = linked;
+    acts = λ i. (acts_and i).0;
+    follows = λ i. (acts_and i).1;
+    crossed = crossed;
+  }
+
+  merges : Merges (length config) (λ i. clocks_of (log_of (end i))) is.order
+  merges = merges_alike (length config) (clocks_in logs) (λ i. clocks_of (log_of (end i))) is.order (λ i. 0) (λ i low. ap clocks_of (log_is i low))
+      (subst (λ n. Merges n (clocks_in logs) is.order) log_count is.merges)
+
+  few : length config ≤ 16
+  few = let f = made.few in omega (arith, f, size)
+
+  pub one_run_by : RanTogether config end (events_in end is.order) → AreOneRun given nodes logs schedule
+  one_run_by together = record {
+    config = config;
+    orders = made.begins.1;
+    events = events_in end is.order;
+    are = ap (map event_of) is.is ∙ schedule_is (length config) (length config) logs (λ i. log_of (end i)) (λ i. clocks_of (log_of (end i))) (λ i. 0) is.order few log_is merges
+        (all_there (frame_machine config) (start_of (frame_machine config)) together.w (events_in end is.order) together.leads);
+    w = together.w;
+    leads = together.leads;
+    size = node_count;
+    shown = λ i node at.
+        let low : i < length config = let l = slice_get_within nodes i node at in omega (arith, l, node_count) in
+        let is_node : node ≡ node_in (get_or ended.rans i ran).run =
+            sym (get_or_from_slice_get nodes i node node at) ∙ (ap (λ ns. get_or ns i node) ended.ended ∙ get_or-map (λ (r : RanOf K). node_in r.run) ended.rans i ran node (omega (arith, low, ran_count))) in
+        subst (λ (x : NodeOf). ShowsNode config together.w i (node_of x)) (sym is_node) (together.nodes i low);
+    logged = λ i low. together.logs i low ∙ ap (map (λ entry. event_at i entry.1)) (sym (log_is i low));
+    history = together.history;
+  }
+
+-- There is a first thread, and it has run.
+first_of : {K : Type 0} (threads : List (Thread K)) (rans : List (RanOf K)) → 0 < length threads → length rans ≡ length threads → Thread K × RanOf K
+first_of [] rans some e = absurd (omega (arith, some))
+first_of (t ∷ threads) [] some e = absurd (omega (arith, e))
+first_of (t ∷ threads) (r ∷ rans) some e = (t, r)
+
+pub one_run : {K : Type 0}
+    → ((config : Config) (begun_nodes : List NodeOf) (begun ended : ℕ → Linked) (order : List (ℕ × ℕ)) → RanApart config begun_nodes begun ended
+    → Merges (length config) (λ i. clocks_of (log_of (ended i))) order → RanTogether config ended (events_in ended order))
+    → (given : Config) (threads : List (Thread K)) (nodes : List NodeOf) (logs : List (List (ℕ × NodeEvent))) (schedule : List FrameStep)
+    → AreMade given (map begun_by threads) → EndedWith threads nodes logs → IsSchedule logs (length logs) schedule → AreOneRun given nodes logs schedule
+one_run law given threads nodes logs schedule made ended is =
+    let count = length-map threads begun_by in
+    let s = made.some in
+    let m = made.count in
+    let first = first_of threads ended.rans (omega (arith, s, m, count)) ended.joined.0 in
+    one_run_by given threads nodes logs schedule made ended is first.0 first.1
+    (law (config given threads nodes logs schedule made ended is first.0 first.1) _ _ _ is.order
+    (apart given threads nodes logs schedule made ended is first.0 first.1) (merges given threads nodes logs schedule made ended is first.0 first.1))

@@ -1,0 +1,17 @@
+use Rattle.std.proofs.Common.{◌≡◌, ◌≤◌, ◌+◌, ◌++◌, length, map}
+use Rattle.std.specs.Prelude.{vec_len, vec_capacity}
+use Rattle.std.specs.Vec.Iter.{into_iter_items, into_iter_len}
+use Rattle.pg_cluster.specs.Threads.{node_in, log_in, row_in, rows_ended}
+use Rattle.pg_cluster.proofs.closed.stopped_of.Given as goal
+
+abbrev pub invariant-loop-ran : goal.invariant-loop-ran
+invariant-loop-ran g l =
+    (goal.iterator-loop-ran g).can_next l.ran-iterator
+    × (goal.iterator-loop-ran g).is_finite l.ran-iterator
+    × (vec_len l.nodes + into_iter_len l.ran-iterator ≤ vec_capacity l.nodes)
+    × (vec_len l.rows + into_iter_len l.ran-iterator ≤ vec_capacity l.rows)
+    × (vec_len l.logs + into_iter_len l.ran-iterator ≤ vec_capacity l.logs)
+    × (l.nodes.items ++ map (λ ran. node_in ran.run) (into_iter_items l.ran-iterator) ≡ map (λ ran. node_in ran.run) l.fn.rans.items)
+    × (map (λ v. v.items) l.rows.items ++ map (λ ran. row_in ran.run) (into_iter_items l.ran-iterator) ≡ rows_ended l.fn.rans.items)
+    × (map (λ v. v.items) l.logs.items ++ map (λ ran. log_in ran.run) (into_iter_items l.ran-iterator) ≡ map (λ ran. log_in ran.run) l.fn.rans.items)
+    × (length l.rows.items + into_iter_len l.ran-iterator ≡ length l.fn.rans.items)

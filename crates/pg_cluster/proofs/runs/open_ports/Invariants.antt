@@ -1,0 +1,5 @@
+use Rattle.std.proofs.Common.{◌≡◌, length}
+use Rattle.pg_cluster.proofs.runs.open_ports.Given as goal
+
+abbrev pub invariant-loop : goal.invariant-loop
+invariant-loop l = length l.ports.items ≡ l.counter

@@ -1,0 +1,10 @@
+pub mod Closed
+pub mod Ended
+pub mod Fault
+pub mod Judges
+pub mod Promises
+pub mod Room
+pub mod Rows
+pub mod Schedule
+pub mod Threads
+pub mod Together

@@ -1,0 +1,95 @@
+-- The threads of a cluster, and what comes back from them.
+use Rattle.std.specs.Prelude.{◌≡◌, ℕ, ◌<◌, ◌≤◌, List, [], length, map, slice_index_or}
+use Rattle.std.specs.List.{All}
+use Rattle.std.specs.declared.thread.PromisedHandle.{PromisedHandle}
+use Rattle.pg_index.specs.declared.index_table.IndexTable.{IndexTable}
+use Rattle.pg_index.specs.contracts.index_table.IndexTableGroupTable.TheImpl.{ghosts}
+use Rattle.pg_node.specs.declared.node.Node.{Node}
+use Rattle.pg_ring.specs.declared.ring_out.RingOut.{RingOut}
+use Rattle.pg_ring.specs.declared.ring_in.RingIn.{RingIn}
+use Rattle.pg_run.specs.declared.log.NodeEvent.{NodeEvent}
+use Rattle.pg_run.specs.declared.run.NodeRun.{NodeRun}
+use Rattle.pg_run.specs.declared.running.Ran.{Ran}
+use Rattle.pg_run.specs.Follows.{node_of, peers_of, log_of}
+use Rattle.pg_run.specs.Runs.{linked_of}
+use Rattle.pg_cluster.specs.declared.promise.RanFrom.{RanFrom}
+use Rattle.pg_step.specs.Config.{Config}
+use Rattle.pg_together.specs.Apart.{End}
+use Rattle.pg_world.specs.BytesStart.{BytesBegin}
+use Rattle.pg_world.specs.Crossings.{idle_crossing}
+use Rattle.pg_world.specs.Views.{no_account}
+use Rattle.pg_cluster.specs.Ended.{AreWired, AllCrossed}
+use Rattle.pg_cluster.specs.Promises.{RanAs}
+
+abbrev pub NodeOf : Type 0
+NodeOf = Node IndexTable ghosts
+
+-- a node as its thread runs it, and as it has run
+abbrev pub RunOf : Type 0 → Type 0
+RunOf K = NodeRun IndexTable RingOut RingIn K ghosts
+
+abbrev pub RanOf : Type 0 → Type 0
+RanOf K = Ran IndexTable RingOut RingIn K ghosts
+
+abbrev pub Thread : Type 0 → Type 0
+Thread K = PromisedHandle (RanOf K) (RanFrom K)
+
+module _ {K : Type 0} where
+  -- ---- nodes before they run, and once they have
+
+  abbrev pub node_in : RunOf K → NodeOf
+  node_in run = node_of (linked_of run)
+
+  abbrev pub row_in : RunOf K → List End
+  row_in run = peers_of (linked_of run)
+
+  abbrev pub log_in : RunOf K → List (ℕ × NodeEvent)
+  log_in run = log_of (linked_of run)
+
+  -- These are the nodes of a configuration as they start, each with a log in which nothing stands, and with rings between each two.
+  pub record AreMade (given : Config) (runs : List (RunOf K)) : Type 0 where
+    pub count : length runs ≡ length given
+    pub some : 0 < length given
+    pub few : length given ≤ 16
+    pub begins : BytesBegin given (idle_crossing (map node_in runs)) no_account
+    pub unlogged : All (λ run. log_in run ≡ []) runs
+    pub wired : AreWired (length runs) (map row_in runs)
+
+  -- ---- threads
+
+  -- the node of a thread as it began, and how many turns it makes at most
+  abbrev pub begun_by : Thread K → RunOf K
+  begun_by thread = thread.promise.run.value
+
+  abbrev pub limit_of : Thread K → ℕ
+  limit_of thread = thread.promise.limit
+
+  -- thread i runs node i
+  abbrev pub StartedWith : List (RunOf K) → ℕ → List (Thread K) → Type 0
+  StartedWith runs limit threads =
+      (length threads ≡ length runs)
+      × ((i : ℕ) (run : RunOf K) (thread : Thread K) → i < length threads
+      → (begun_by (slice_index_or threads i thread) ≡ slice_index_or runs i run) × (limit_of (slice_index_or threads i thread) ≡ limit))
+
+  -- what came back from thread i is what it promised
+  abbrev pub Joined : List (Thread K) → List (RanOf K) → Type 0
+  Joined threads rans =
+      (length rans ≡ length threads)
+      × ((i : ℕ) (thread : Thread K) (ran : RanOf K) → i < length rans
+      → RanAs (begun_by (slice_index_or threads i thread)) (limit_of (slice_index_or threads i thread)) (slice_index_or rans i ran))
+
+  -- the rings of the nodes as the threads began, and as they ended
+  abbrev pub rows_begun : List (Thread K) → List (List End)
+  rows_begun threads = map (λ thread. row_in (begun_by thread)) threads
+
+  abbrev pub rows_ended : List (RanOf K) → List (List End)
+  rows_ended rans = map (λ ran. row_in ran.run) rans
+
+  -- Each thread ran its node, from where it began, to one of these nodes, with one of these logs, and what crossed between each
+  -- two is what was sent.
+  pub record EndedWith (threads : List (Thread K)) (nodes : List NodeOf) (logs : List (List (ℕ × NodeEvent))) : Type 0 where
+    pub rans : List (RanOf K)
+    pub joined : Joined threads rans
+    pub ended : nodes ≡ map (λ ran. node_in ran.run) rans
+    pub logged : logs ≡ map (λ ran. log_in ran.run) rans
+    pub crossed : AllCrossed (length threads) (rows_begun threads) (rows_ended rans)

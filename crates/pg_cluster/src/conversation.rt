@@ -1,0 +1,214 @@
+//! A conversation of clients with a cluster: what the program's `threads` does.
+
+ghost use Rattle.std.specs.Prelude.{◌≡◌, IfOk, length};
+
+use crate::cluster::Cluster;
+use crate::fault::StartFault;
+use crate::speaker::Speaker;
+use crate::{Client, Gate};
+use pg_step::Start;
+use pg_term::{Atom, Items};
+use pg_world::{Config, MAX_NODES, WorldFault};
+use rand_pcg::Pcg32;
+use std::alloc::{AllocError, Global};
+use std::io;
+use std::io::Write;
+use std::thread;
+use std::thread::Threads;
+
+/// How many bytes a ring between two nodes has room for.
+const RING: usize = 65_536;
+
+/// How a conversation is to be.
+#[derive(Clone, Copy, Debug, PartialEq, Eq)]
+pub struct Conversation {
+    /// How many nodes the cluster has, 1 to 16.
+    pub nodes: u16,
+    /// How many clients each node has, 1 to 16.
+    pub clients: u16,
+    /// How often each client joins the group and leaves it.
+    pub rounds: u32,
+    /// The seed of the pauses of the first node; that of each further node is one more, and wraps.
+    pub seed: u64,
+    /// How many turns each node makes at most, and how often the clients are looked at.
+    pub turns: u64,
+}
+
+impl Conversation {
+    /// How many clients all nodes have.
+    fn all_clients(&self) -> u64 {
+        u64::from(self.nodes).saturating_mul(u64::from(self.clients))
+    }
+
+    /// How many commands are to be asked: the create, and of each client a make and its rounds.
+    fn commands(&self) -> u64 {
+        let each = u64::from(self.rounds).saturating_mul(2).saturating_add(1);
+        self.all_clients().saturating_mul(each).saturating_add(1)
+    }
+}
+
+/// How a conversation went.
+#[derive(Clone, Copy, Debug, PartialEq, Eq)]
+pub struct Outcome {
+    /// How many nodes the cluster had.
+    pub nodes: u16,
+    /// How many clients all of them had.
+    pub clients: u64,
+    /// How many commands were answered.
+    pub answered: u64,
+    /// How many there were to be asked.
+    pub asked: u64,
+    /// Whether the nodes agree: `Closed::agrees`.
+    pub agree: bool,
+    /// Whether the schedule comes to the nodes as they ended: `Closed::replays`.
+    pub replay: bool,
+}
+
+impl Outcome {
+    /// Whether all was answered, the nodes agree, and the schedule replays.
+    pub fn is_good(&self) -> bool {
+        self.answered == self.asked && self.agree && self.replay
+    }
+
+    /// Writes it in four lines.
+    ///
+    /// Error: that of the writer.
+    pub fn write<W: Write>(&self, out: &mut W) -> io::Result<()> {
+        writeln!(out, "nodes {} clients {}", self.nodes, self.clients)?;
+        writeln!(out, "answered {} of {}", self.answered, self.asked)?;
+        writeln!(out, "agree {}", yes_or_no(self.agree))?;
+        writeln!(out, "replay {}", yes_or_no(self.replay))?;
+        Ok(())
+    }
+}
+
+fn yes_or_no(holds: bool) -> &'static str {
+    if holds { "yes" } else { "no" }
+}
+
+// A gate that lets everyone in.
+#[derive(Drop)]
+struct Open;
+
+impl Gate for Open {
+    fn pass(&self, _node: usize, _turn: u64) {}
+}
+
+/// Starts the cluster and lets its clients speak: the first client of the first node creates a group; once that is answered each
+/// client makes a process, and then joins the group and leaves it so many times, each command once the former is answered. The
+/// cluster is closed once all is answered, or after as many looks as there are turns. It may wait for threads.
+///
+/// Faults: those of `Cluster::start`, where `BadConfig` is told of more than 16 nodes, or of none.
+pub fn run_threads<R: Threads>(
+    rt: &R,
+    alloc: Global,
+    asked: Conversation,
+) -> Result<Outcome, StartFault> {
+    let config = config_of(alloc, asked)?;
+    let generators = generators(alloc, config.starts.len(), asked.seed)?;
+    let (cluster, mut clients) =
+        Cluster::start(rt, alloc, &config, generators, Open, asked.turns)?;
+    let heard = converse(alloc, &mut clients, asked);
+    let closed = match cluster.close(rt, clients) {
+        Ok(closed) => closed,
+        Err(_) => return Err(StartFault::World(WorldFault::OutOfMemory)),
+    };
+    let answered = heard?;
+    Ok(Outcome {
+        nodes: asked.nodes,
+        clients: asked.all_clients(),
+        answered,
+        asked: asked.commands(),
+        agree: closed.agrees(alloc)?,
+        replay: closed.replays(alloc, &config)?,
+    })
+}
+
+/// The nodes `n1`, `n2` and so on, with as many ports as clients.
+fn config_of(alloc: Global, asked: Conversation) -> Result<Config, StartFault> {
+    let mut starts = Vec::with_capacity(alloc, MAX_NODES)?;
+    for place in 0..asked.nodes {
+        starts.push(start_of(alloc, u32::from(place) + 1, asked.clients)?)?;
+    }
+    Ok(Config { ring: RING, starts })
+}
+
+fn start_of(alloc: Global, number: u32, ports: u16) -> Result<Start, StartFault> {
+    let text = format!(in alloc; "n{number}")?;
+    let Ok(name) = Atom::new(alloc, text.as_str()) else {
+        return Err(StartFault::World(WorldFault::OutOfMemory));
+    };
+    Ok(Start {
+        name,
+        made: 0,
+        ports,
+        groups: Items::from_vec(Vec::new(alloc)),
+    })
+}
+
+/// A generator for each node.
+fn generators(alloc: Global, count: usize, seed: u64) -> Result<Vec<Pcg32>, AllocError>
+    ensures { IfOk result (λ all. length all.items ≡ count) }
+{
+    let mut all = Vec::with_capacity(alloc, count)?;
+    for place in 0..count {
+        all.push_reserved(Pcg32::new(seed.wrapping_add(place as u64), 2));
+    }
+    Ok(all)
+}
+
+/// The clients speak until all is answered, or for so many looks; how many commands were answered.
+fn converse(
+    alloc: Global,
+    clients: &mut Vec<Client>,
+    asked: Conversation,
+) -> Result<u64, AllocError> {
+    let mut speakers = Vec::with_capacity(alloc, clients.len())?;
+    for place in 0..clients.len() {
+        speakers.push(if place == 0 {
+            Speaker::creating(asked.rounds)
+        } else {
+            Speaker::waiting(asked.rounds)
+        })?;
+    }
+    for _ in 0..asked.turns {
+        let moved = speak_all(alloc, clients, &mut speakers)?;
+        if speakers.iter().all(|speaker| speaker.is_silent()) {
+            break;
+        }
+        if !moved {
+            thread::yield_now();
+        }
+    }
+    Ok(answered_by(speakers.as_slice()))
+}
+
+/// Each client speaks once; whether something moved.
+fn speak_all(
+    alloc: Global,
+    clients: &mut Vec<Client>,
+    speakers: &mut Vec<Speaker>,
+) -> Result<bool, AllocError> {
+    let mut moved = false;
+    for place in 0..clients.len().min(speakers.len()) {
+        let speaker = &mut speakers[place];
+        if speaker.speak(alloc, &mut clients[place])? {
+            moved = true;
+        }
+    }
+    if speakers.first().is_some_and(|first| first.answered > 0) {
+        for speaker in speakers.iter_mut() {
+            speaker.begin();
+        }
+    }
+    Ok(moved)
+}
+
+/// How many commands of these clients were answered.
+fn answered_by(speakers: &[Speaker]) -> u64 {
+    let mut answered: u64 = 0;
+    for speaker in speakers {
+        answered = answered.saturating_add(speaker.answered);
+    }
+    answered
+}

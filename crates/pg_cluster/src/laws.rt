@@ -1,0 +1,20 @@
+ghost use Rattle.std.specs.Prelude.{ℕ, List, length, map};
+ghost use Rattle.pg_run.specs.declared.log.NodeEvent.{NodeEvent};
+ghost use Rattle.pg_step.specs.Config.{Config};
+ghost use Rattle.pg_world.specs.declared.step.FrameStep.{FrameStep};
+ghost use Rattle.pg_cluster.specs.Schedule.{IsSchedule};
+ghost use Rattle.pg_cluster.specs.Threads.{NodeOf, Thread, AreMade, EndedWith, begun_by};
+ghost use Rattle.pg_cluster.specs.Together.{AreOneRun};
+
+use pg_together::nodes_ran_together;
+
+/// The nodes of a configuration that ran as threads, with rings between them, made one run: their schedule is events that happen one
+/// after another from the start, each node does there what its log tells and comes to where it ended, and of the world to which
+/// they lead everything holds that `one_history` of pg_history says.
+pub fn threads_are_one_run<K>()
+    ensures { (given : Config) (threads : List (Thread K)) (nodes : List NodeOf) (logs : List (List (ℕ × NodeEvent))) (schedule : List FrameStep)
+        → AreMade given (map begun_by threads) → EndedWith threads nodes logs → IsSchedule logs (length logs) schedule
+        → AreOneRun given nodes logs schedule }
+{
+    nodes_ran_together();
+}

@@ -1,0 +1,23 @@
+//! A cluster: the nodes of a configuration in threads of their own, with rings between them, and a client at each port.
+#![tactic(auto)]
+
+mod closed;
+mod cluster;
+mod conversation;
+mod fault;
+mod judges;
+mod laws;
+mod pairs;
+mod promise;
+mod runs;
+mod schedule;
+mod speaker;
+mod threads;
+mod wires;
+
+pub use closed::{Closed, Stopped};
+pub use cluster::Cluster;
+pub use conversation::{Conversation, Outcome, run_threads};
+pub use fault::StartFault;
+pub use laws::threads_are_one_run;
+pub use pg_run::{Client, Gate, LogEntry, NodeEvent};

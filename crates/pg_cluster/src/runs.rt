@@ -1,0 +1,125 @@
+//! The nodes of a cluster before their threads are started.
+
+ghost use Rattle.std.specs.Prelude.{◌≡◌, IfOk, [], length, map};
+ghost use Rattle.std.specs.List.{All as AllOf};
+ghost use Rattle.pg_cluster.specs.Threads.{AreMade, node_in as node_of_run, row_in as row_of_run, log_in as log_of_run};
+
+use crate::fault::StartFault;
+use crate::wires::{Row, wire_all};
+use pg_index::IndexTable;
+use pg_node::Node;
+use pg_ring::{RingIn, RingOut, ring_pair};
+use pg_run::{Client, LinkedNode, NodeRun, Port, port_pair};
+use pg_world::{Config, WorldFault, starting_nodes};
+use rand_core::Rng;
+use std::alloc::{AllocError, Global};
+
+/// A node as its thread runs it.
+pub(crate) type Run<K> = NodeRun<IndexTable, RingOut, RingIn, K>;
+
+/// The nodes of a cluster, where each is stopped, and its clients.
+#[derive(Drop)]
+pub(crate) struct Made<K: Drop> {
+    pub runs: Vec<Run<K>>,
+    pub stops: Vec<RingOut>,
+    pub clients: Vec<Client>,
+}
+
+/// The nodes of a configuration as they start, with rings between them and a client at each port. `generators`: one for each node.
+///
+/// Faults: those of `Cluster::start`, but for `NoThread`.
+pub(crate) fn make<K: Rng + Drop>(
+    alloc: Global,
+    config: &Config,
+    generators: Vec<K>,
+) -> Result<Made<K>, StartFault>
+    ensures made { IfOk result (λ made. AreMade config.now.starts.items made.runs.items) }
+{
+    let nodes = match starting_nodes(alloc, config) {
+        Ok(nodes) => nodes,
+        Err(fault) => return Err(StartFault::World(fault)),
+    };
+    match wire_all(alloc, nodes.len(), config.ring) {
+        Ok(rows) => make_all(alloc, nodes, rows, generators),
+        Err(_) => Err(StartFault::World(WorldFault::OutOfMemory)),
+    }
+}
+
+/// The same of these nodes with these links, and a generator for each.
+fn make_all<K: Rng + Drop>(
+    alloc: Global,
+    nodes: Vec<Node<IndexTable>>,
+    rows: Vec<Row>,
+    generators: Vec<K>,
+) -> Result<Made<K>, StartFault>
+    requires rows { length rows.items ≡ length nodes.items }
+    ensures nodes { IfOk result (λ made. map node_of_run made.runs.items ≡ nodes.items) }
+    ensures rows { IfOk result (λ made. map row_of_run made.runs.items ≡ map (λ v. v.items) rows.items) }
+    ensures unlogged { IfOk result (λ made. AllOf (λ run. log_of_run run ≡ []) made.runs.items) }
+{
+    let mut made = Made {
+        runs: Vec::new(alloc),
+        stops: Vec::new(alloc),
+        clients: Vec::new(alloc),
+    };
+    let mut rows = rows.into_iter();
+    let mut generators = generators.into_iter();
+    for node in nodes {
+        match (rows.next(), generators.next()) {
+            (Some(row), Some(generator)) => made.add(alloc, node, row, generator)?,
+            _ => return Err(StartFault::World(WorldFault::BadConfig)),
+        }
+    }
+    Ok(made)
+}
+
+impl<K: Rng + Drop> Made<K> {
+    ghost use Rattle.std.specs.Prelude.{◌≡◌, ◌++◌, ◌∷◌, [], OnOk, map};
+    ghost use Rattle.std.specs.List.{All};
+    ghost use Rattle.pg_cluster.specs.Threads.{node_in, row_in, log_in};
+
+    /// A further node, with its clients. It has as many links as the node has peers, else `BadConfig` is told.
+    fn add(
+        &mut self,
+        alloc: Global,
+        node: Node<IndexTable>,
+        row: Row,
+        generator: K,
+    ) -> Result<(), StartFault>
+        ensures nodes { OnOk result (map node_in self.new.runs.items ≡ map node_in self.old.runs.items ++ node ∷ []) }
+        ensures rows { OnOk result (map row_in self.new.runs.items ≡ map row_in self.old.runs.items ++ row.items ∷ []) }
+        ensures unlogged { OnOk result (All (λ run. log_in run ≡ []) self.old.runs.items → All (λ run. log_in run ≡ []) self.new.runs.items) }
+    {
+        if row.len() != node.state().peer_count() {
+            return Err(StartFault::World(WorldFault::BadConfig));
+        }
+        let Ok((stop, stopped)) = ring_pair(alloc, 1) else {
+            return Err(StartFault::World(WorldFault::OutOfMemory));
+        };
+        let ports = open_ports(alloc, node.state().port_count(), &mut self.clients)?;
+        let linked = LinkedNode::new(alloc, node, row);
+        self.stops.push(stop)?;
+        self.runs
+            .push(NodeRun::new(alloc, linked, ports, stopped, generator))?;
+        Ok(())
+    }
+}
+
+/// So many ports; their clients come behind the others.
+///
+/// Error: `AllocError`.
+fn open_ports(
+    alloc: Global,
+    count: usize,
+    clients: &mut Vec<Client>,
+) -> Result<Vec<Port>, AllocError>
+    ensures { IfOk result (λ ports. length ports.items ≡ count) }
+{
+    let mut ports = Vec::new(alloc);
+    for _ in 0..count {
+        let (client, port) = port_pair(alloc)?;
+        clients.push(client)?;
+        ports.push(port)?;
+    }
+    Ok(ports)
+}

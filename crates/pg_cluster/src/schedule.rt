@@ -1,0 +1,95 @@
+//! The schedule to which logs join.
+
+ghost use Rattle.std.specs.Prelude.{◌≡◌, ◌++◌, IfOk, OnOk, map};
+ghost use Rattle.pg_joining.specs.Merge.{log_at, entry_at};
+ghost use Rattle.pg_cluster.specs.Schedule.{node_of_peer, step_as, steps_of};
+
+use pg_run::{LogEntry, NodeEvent};
+use pg_step::Command;
+use pg_world::FrameStep;
+use std::alloc::{AllocError, Global};
+
+/// An equal command.
+///
+/// Error: `AllocError`.
+fn copy_command(alloc: Global, command: &Command) -> Result<Command, AllocError>
+    ensures { IfOk result (λ copy. copy ≡ command.now) }
+{
+    Ok(match command {
+        Command::Create(name) => Command::Create(name.copy(alloc)?),
+        Command::Delete(name) => Command::Delete(name.copy(alloc)?),
+        Command::Join(name, pid) => Command::Join(name.copy(alloc)?, pid.copy()?),
+        Command::Leave(name, pid) => Command::Leave(name.copy(alloc)?, pid.copy()?),
+        Command::Make => Command::Make,
+        Command::Finish(pid) => Command::Finish(pid.copy()?),
+        Command::Members(name) => Command::Members(name.copy(alloc)?),
+        Command::LocalMembers(name) => Command::LocalMembers(name.copy(alloc)?),
+        Command::WhichGroups => Command::WhichGroups,
+        Command::Closest(name, word) => Command::Closest(name.copy(alloc)?, *word),
+    })
+}
+
+/// Which node the peer at a place among the peers of a node is.
+fn node_of_peer(node: usize, peer: usize) -> usize
+    ensures { result ≡ node_of_peer node peer }
+{
+    if peer < node { peer } else { peer.saturating_add(1) }
+}
+
+/// The step of a world that the event of a node is.
+///
+/// Error: `AllocError`.
+fn step_of(alloc: Global, node: usize, event: &NodeEvent) -> Result<FrameStep, AllocError>
+    ensures { IfOk result (λ step. step ≡ step_as node event.now) }
+{
+    Ok(match event {
+        NodeEvent::Take(peer) => FrameStep::Take {
+            node,
+            peer: node_of_peer(node, *peer),
+        },
+        NodeEvent::Command(port, command) => FrameStep::Command {
+            node,
+            port: *port,
+            command: copy_command(alloc, command)?,
+        },
+        NodeEvent::Retry(op) => FrameStep::Retry { node, op: *op },
+    })
+}
+
+/// The steps that the entries of these logs are, in this order, each given by its log and its place there.
+///
+/// Error: `AllocError`.
+pub(crate) fn steps_in(
+    alloc: Global,
+    logs: &[Vec<LogEntry>],
+    order: &[(usize, usize)],
+) -> Result<Vec<FrameStep>, AllocError>
+    ensures { IfOk result (λ steps. steps.items ≡ steps_of (map (λ v. v.items) logs.now) order.now) }
+{
+    let mut steps = Vec::new(alloc);
+    for at in order {
+        add_step(alloc, logs, at.0, at.1, &mut steps)?;
+    }
+    Ok(steps)
+}
+
+/// Adds the step that the entry at a place of a log is, if one is there.
+///
+/// Error: `AllocError`.
+fn add_step(
+    alloc: Global,
+    logs: &[Vec<LogEntry>],
+    node: usize,
+    place: usize,
+    steps: &mut Vec<FrameStep>,
+) -> Result<(), AllocError>
+    ensures { OnOk result (steps.new.items ≡ steps.old.items ++ map (step_as node) (entry_at (log_at (map (λ v. v.items) logs.now) node) place)) }
+{
+    if let Some(log) = logs.get(node) {
+        if let Some(entry) = log.get(place) {
+            let step = step_of(alloc, node, &entry.1)?;
+            steps.push(step)?;
+        }
+    }
+    Ok(())
+}

@@ -1,0 +1,141 @@
+//! What a client of a conversation says next.
+
+use crate::Client;
+use pg_step::{Answer, Command, Reply};
+use pg_term::{Atom, Pid, Term};
+use std::alloc::{AllocError, Global};
+
+/// Where a client is in its conversation.
+#[derive(Clone, Copy, Debug, PartialEq, Eq)]
+enum Stage {
+    /// It waits for the group.
+    Waiting,
+    /// It creates the group.
+    Creating,
+    /// It makes a process.
+    Making,
+    /// It joins the group with the process.
+    Joining,
+    /// It leaves the group with the process.
+    Leaving,
+    /// All is said.
+    Silent,
+}
+
+/// A client of a conversation: it makes a process and then joins the group and leaves it, again and again.
+#[derive(Debug, Drop)]
+pub(crate) struct Speaker {
+    stage: Stage,
+    // The command of the stage was submitted.
+    is_asked: bool,
+    pid: Option<Pid>,
+    rounds: u32,
+    // How many commands were answered.
+    pub(crate) answered: u64,
+}
+
+impl Speaker {
+    /// A client that creates the group first.
+    pub(crate) fn creating(rounds: u32) -> Speaker {
+        Speaker {
+            stage: Stage::Creating,
+            is_asked: false,
+            pid: None,
+            rounds,
+            answered: 0,
+        }
+    }
+
+    /// A client that waits for the group.
+    pub(crate) fn waiting(rounds: u32) -> Speaker {
+        Speaker {
+            stage: Stage::Waiting,
+            is_asked: false,
+            pid: None,
+            rounds,
+            answered: 0,
+        }
+    }
+
+    /// The group is there.
+    pub(crate) fn begin(&mut self) {
+        if self.stage == Stage::Waiting {
+            self.stage = Stage::Making;
+        }
+    }
+
+    /// Whether all is said and answered.
+    pub(crate) fn is_silent(&self) -> bool {
+        matches!(self.stage, Stage::Silent)
+    }
+
+    /// Polls an answer, or submits the next command; whether something moved.
+    ///
+    /// Error: `AllocError`.
+    pub(crate) fn speak(&mut self, alloc: Global, client: &mut Client) -> Result<bool, AllocError> {
+        if self.is_asked {
+            match client.poll() {
+                Some(answer) => {
+                    self.hear(answer);
+                    Ok(true)
+                }
+                None => Ok(false),
+            }
+        } else {
+            self.ask(alloc, client)
+        }
+    }
+
+    // Submits the command of the stage.
+    fn ask(&mut self, alloc: Global, client: &mut Client) -> Result<bool, AllocError> {
+        match self.command(alloc)? {
+            Some(command) => {
+                self.is_asked = client.submit(command).is_ok();
+                Ok(self.is_asked)
+            }
+            None => Ok(false),
+        }
+    }
+
+    // The command of the stage.
+    fn command(&self, alloc: Global) -> Result<Option<Command>, AllocError> {
+        Ok(match (self.stage, &self.pid) {
+            (Stage::Creating, _) => Some(Command::Create(group(alloc)?)),
+            (Stage::Making, _) => Some(Command::Make),
+            (Stage::Joining, Some(pid)) => Some(Command::Join(group(alloc)?, pid.copy()?)),
+            (Stage::Leaving, Some(pid)) => Some(Command::Leave(group(alloc)?, pid.copy()?)),
+            _ => None,
+        })
+    }
+
+    // Takes in the answer to the command of the stage.
+    fn hear(&mut self, answer: Answer) {
+        self.answered = self.answered.saturating_add(1);
+        self.is_asked = false;
+        match answer.reply {
+            Reply::Made(pid) => self.pid = Some(pid),
+            _other => {}
+        }
+        self.stage = match self.stage {
+            Stage::Waiting | Stage::Creating => Stage::Making,
+            Stage::Joining => Stage::Leaving,
+            Stage::Making | Stage::Leaving => {
+                if self.rounds > 0 {
+                    self.rounds -= 1;
+                    Stage::Joining
+                } else {
+                    Stage::Silent
+                }
+            }
+            Stage::Silent => Stage::Silent,
+        };
+    }
+}
+
+// The name of the group.
+fn group(alloc: Global) -> Result<Term, AllocError> {
+    match Atom::new(alloc, "g") {
+        Ok(name) => Ok(Term::Atom(name)),
+        Err(_) => Err(AllocError),
+    }
+}

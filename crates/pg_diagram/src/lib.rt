@@ -1,0 +1,20 @@
+//! Sequence diagrams as SVG: a lifeline for each node, and an arrow for each packet from where it was sent to where it was taken.
+#![tactic(auto)]
+
+mod adding;
+mod arrows;
+mod cut;
+mod data;
+mod draw;
+mod escape;
+mod laws;
+mod layout;
+mod legend;
+mod shapes;
+
+pub use data::{Diagram, Event, Topic};
+pub use draw::{svg_of, write_svg};
+pub use laws::{rows_go_down, texts_are_escaped};
+
+#[cfg(test)]
+mod tests;

@@ -1,0 +1,37 @@
+-- Steps of losses once more, word for word, each to be made wrong by an edit of must-fail/. What the laws need of them is proved in
+-- `Tried`.
+use Rattle.std.specs.Prelude.{true, cond, Option, None, Result, Err, option_map}
+use Rattle.pg_term.specs.Same.{same_atom}
+use Rattle.pg_group.specs.Ended.{ended_with}
+use Rattle.pg_group.specs.Functions.{upd}
+use Rattle.pg_group.specs.Table.{without_node}
+use Rattle.pg_lock.specs.Locks.{without_node as locks_without}
+use Rattle.pg_message.specs.declared.message.Message.{Message}
+use Rattle.pg_machine.specs.Losing.{LosingWorld}
+use Rattle.pg_machine.specs.Machine.{Event, Machine, happens, node_of}
+use Rattle.pg_step.specs.Losses.{forgets}
+use Rattle.pg_step.specs.Nodes.{Node, Nodes}
+use Rattle.pg_step.specs.State.{State, left}
+use Rattle.pg_step.specs.Step.{taken}
+use Rattle.pg_step.specs.Turns.{NodeTurn, becomes}
+use Rattle.pg_step.specs.declared.refusal.Refusal.{Refusal}
+use Rattle.pg_step.specs.declared.refusal.Refusal.TheVariants.{NodeLost}
+
+-- a loss is seen
+abbrev pub copied_see_loss : Node → State → NodeTurn
+copied_see_loss peer s = becomes (record s {
+  table = without_node s.table peer;
+  ended = ended_with s.ended peer;
+  locks = locks_without s.locks peer;
+  merged = upd same_atom s.merged peer true;
+  lost = upd same_atom s.lost peer true;
+  uses = λ c. forgets peer (s.uses c);
+})
+
+-- a packet is taken
+abbrev pub copied_takes : Nodes → Node → Message → State → Result NodeTurn Refusal
+copied_takes m p x s = cond (s.lost p) (Err NodeLost) (taken (left m s) p x s)
+
+-- a node takes a step
+abbrev pub copied_goes : {S P C O : Type 0} → Machine S P C O → LosingWorld S P O → Event C → Option (LosingWorld S P O)
+copied_goes m w e = cond (w.gone (node_of e)) None (option_map (λ v. record { world = v; gone = w.gone }) (happens m w.world e))

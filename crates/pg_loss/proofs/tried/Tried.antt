@@ -1,0 +1,50 @@
+-- What the laws of losses need of the copied steps, proved of each as of the machine's own.
+use Rattle.std.proofs.Common.{◌≡◌, ◌≢◌, ◌⊎◌, inl, inr, Bool, true, false, ◌||◌, cond, Some, None, Ok, Err, refl, ap, sym, ◌∙◌}
+use Rattle.std.specs.Prelude.{option_map}
+use Rattle.pg_term.specs.Same.{same_atom}
+use Rattle.pg_group.specs.Functions.{upd}
+use Rattle.pg_group.specs.Scope.{at_node}
+use Rattle.pg_group.proofs.Changes.{upd_other}
+use Rattle.pg_message.specs.declared.message.Message.{Message}
+use Rattle.pg_machine.specs.Losing.{LosingWorld}
+use Rattle.pg_machine.specs.Machine.{Event, Machine, happens, node_of}
+use Rattle.pg_step.specs.Nodes.{Node, Nodes}
+use Rattle.pg_step.specs.State.{State, left}
+use Rattle.pg_step.specs.Step.{taken}
+use Rattle.pg_step.specs.Turns.{NodeTurn}
+use Rattle.pg_step.specs.declared.refusal.Refusal.TheVariants.{NodeLost}
+use Rattle.pg_history.proofs.references.Keys.{atoms, read_other, split}
+use Rattle.pg_loss.proofs.Tabled.{HasEndedLost}
+use Rattle.pg_loss.proofs.Unheld.{Clear, freed_is}
+use Rattle.pg_loss.proofs.tried.Copies.{copied_goes, copied_see_loss, copied_takes}
+
+-- who sees a loss holds no lock for the lost
+pub loss_frees : (own peer : Node) (s : State) → same_atom peer own ≡ false → Clear own s → Clear own (copied_see_loss peer s).state
+loss_frees own peer s apart old = record {
+  here = upd_other same_atom s.lost peer true own apart ∙ old.here;
+  free = λ name h is. let held = freed_is peer (s.locks name) h is in upd_other same_atom s.lost peer true h.node held.1 ∙ old.free name h held.0;
+}
+
+or_left : (a b : Bool) → a ≡ true → a || b ≡ true
+or_left true b e = refl
+or_left false b e = absurd (cc)
+
+or_right : (a b : Bool) → b ≡ true → a || b ≡ true
+or_right true b e = refl
+or_right false b e = e
+
+-- and its processes have ended there, so that a late join of one adds nothing
+pub loss_ends : (peer : Node) (s : State) → HasEndedLost s → HasEndedLost (copied_see_loss peer s).state
+loss_ends peer s old q pid lost own = go (split same_atom atoms q peer) lost
+  where
+    go : (q ≡ peer) ⊎ (q ≢ peer) → upd same_atom s.lost peer true q ≡ true → (copied_see_loss peer s).state.ended pid ≡ true
+    go (inl e) _ = or_left (at_node peer pid) (s.ended pid) (ap (λ z. same_atom z pid.node) (sym e) ∙ own)
+    go (inr n) new = or_right (at_node peer pid) (s.ended pid) (old q pid (sym (read_other same_atom atoms s.lost peer true q n) ∙ new) own)
+
+-- nothing is taken from a node whose loss was seen
+pub lost_unheard : (m : Nodes) (p : Node) (x : Message) (s : State) (t : NodeTurn) → s.lost p ≡ true → copied_takes m p x s ≡ Ok t → ⊥
+lost_unheard m p x s t seen is = absurd (cc (sym is ∙ ap (λ b. cond b (Err NodeLost) (taken (left m s) p x s)) seen))
+
+-- no lost node takes a step
+pub lost_stops : {S P C O : Type 0} (m : Machine S P C O) (w v : LosingWorld S P O) (e : Event C) → w.gone (node_of e) ≡ true → copied_goes m w e ≡ Some v → ⊥
+lost_stops m w v e gone is = absurd (cc (sym is ∙ ap (λ b. cond b None (option_map (λ v. record { world = v; gone = w.gone }) (happens m w.world e))) gone))

@@ -1,0 +1,12 @@
+-- The logs of the nodes join to one run, which is that of the configuration.
+use Rattle.pg_together.proofs.Begun.{apart}
+use Rattle.pg_together.proofs.Crossing.{left_on}
+use Rattle.pg_together.proofs.Logged.{acts_on, are_logs, ends_on, logs_on, merges_on, ran_together}
+use Rattle.pg_together.proofs.laws.nodes_ran_together.Goals as goal
+
+pub returns : goal.returns
+returns c = λ config nodes begun ended order ran merges.
+    let joined = c.joined_history.ensures config (logs_on config nodes begun ended ran) (acts_on config nodes begun ended ran) (ends_on config nodes begun ended ran)
+    (left_on config nodes begun ended ran) order (apart config nodes begun ended ran) (are_logs config nodes begun ended ran c.pieces_continue.ensures c.written_is_read.ensures)
+    (merges_on config nodes begun ended ran order merges) in
+    ran_together config nodes begun ended ran order joined.0 joined.1

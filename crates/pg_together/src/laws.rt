@@ -1,0 +1,24 @@
+ghost use Rattle.std.specs.Prelude.{ℕ, List, length};
+ghost use Rattle.pg_index.specs.declared.index_table.IndexTable.{IndexTable};
+ghost use Rattle.pg_index.specs.contracts.index_table.IndexTableGroupTable.TheImpl.{ghosts};
+ghost use Rattle.pg_joining.specs.Merge.{Merges, clocks_of};
+ghost use Rattle.pg_node.specs.declared.node.Node.{Node};
+ghost use Rattle.pg_run.specs.Follows.{log_of};
+ghost use Rattle.pg_step.specs.Config.{Config};
+ghost use Rattle.pg_together.specs.Apart.{Linked, RanApart, RanTogether, events_in};
+
+use pg_frame::{pieces_continue, written_is_read};
+use pg_joining::joined_history;
+
+/// Nodes of a configuration that ran apart, with rings between them, made one run together: their logs, merged by clock and then by
+/// node, are events that happen one after another from the start, and lead to a world that shows each node as it ended and of
+/// which everything holds that `one_history` of pg_history says.
+pub fn nodes_ran_together()
+    ensures { (config : Config) (nodes : List (Node IndexTable ghosts)) (begun ended : ℕ → Linked IndexTable ghosts) (order : List (ℕ × ℕ))
+        → RanApart config nodes begun ended → Merges (length config) (λ i. clocks_of (log_of (ended i))) order
+        → RanTogether config ended (events_in ended order) }
+{
+    pieces_continue();
+    written_is_read();
+    joined_history();
+}

@@ -1,0 +1,6 @@
+//! Nodes that ran apart, each with its links as a thread runs it: they made one run of all nodes.
+#![tactic(auto)]
+
+mod laws;
+
+pub use laws::nodes_ran_together;

@@ -1,0 +1,117 @@
+//! Packets, as they are told.
+
+ghost use Rattle.std.specs.Prelude.{◌≡◌};
+ghost use Rattle.pg_trace.specs.Topics.{topic_of};
+
+use crate::texts::{reference_text, term_text};
+use pg_diagram::Topic;
+use pg_frame::Deframer;
+use pg_message::{Message, Request, Said, read_packet};
+use pg_term::Term;
+use pg_term_io::decode;
+use pg_text::write_term;
+use std::alloc::{AllocError, Global};
+
+/// A packet that was sent.
+#[derive(Debug, Drop)]
+pub struct Letter {
+    /// The node that sent it, by its place.
+    pub from: usize,
+    /// The node that it is for.
+    pub to: usize,
+    /// The clock of the event that sent it.
+    pub stamp: u32,
+    pub topic: Topic,
+    /// The text of its message.
+    pub text: String,
+    /// The lock that it asks for.
+    pub asks: Option<Asked>,
+    /// It denies a lock.
+    pub denies: bool,
+}
+
+/// A lock that is asked for: its name, and the reference of who asks, as texts.
+#[derive(Debug, Drop)]
+pub struct Asked {
+    pub name: String,
+    pub by: String,
+}
+
+/// What a message is about.
+fn topic_of(message: &Message) -> Topic
+    ensures { result ≡ topic_of message.now }
+{
+    match message {
+        Message::Call(_, Request::SetLock(_)) => Topic::Lock,
+        Message::Call(_, Request::Change(_)) => Topic::Update,
+        Message::Reply(_, _) => Topic::Reply,
+        Message::DelLock(_, _) => Topic::Free,
+        Message::Exchange(_, _) => Topic::Exchange,
+        Message::Down(_) => Topic::End,
+    }
+}
+
+/// The lock that a message asks for.
+fn asked_of(alloc: Global, message: &Message) -> Result<Option<Asked>, AllocError> {
+    match message {
+        Message::Call(reference, Request::SetLock(name)) => Ok(Some(Asked {
+            name: term_text(alloc, name)?,
+            by: reference_text(alloc, reference)?,
+        })),
+        _ => Ok(None),
+    }
+}
+
+/// The packet whose body this is, from one node to another.
+fn letter_of(alloc: Global, from: usize, to: usize, body: &[u8]) -> Result<Letter, AllocError> {
+    let text = message_text(alloc, body)?;
+    match read_packet(alloc, body) {
+        Ok(packet) => Ok(Letter {
+            from,
+            to,
+            stamp: packet.stamp,
+            topic: topic_of(&packet.message),
+            text,
+            asks: asked_of(alloc, &packet.message)?,
+            denies: matches!(&packet.message, Message::Reply(_, Said::Denied)),
+        }),
+        Err(_) => Err(AllocError),
+    }
+}
+
+/// The text of the message of the packet whose body this is: the second part of its tuple.
+fn message_text(alloc: Global, body: &[u8]) -> Result<String, AllocError> {
+    let mut text = String::new(alloc);
+    match decode(alloc, body) {
+        Ok(Term::Tuple(parts)) => {
+            if let [_, message] = parts.as_slice() {
+                write_term(message, &mut text)?;
+            }
+            Ok(text)
+        }
+        Ok(_) => Ok(text),
+        Err(_) => Err(AllocError),
+    }
+}
+
+/// Appends the packets whose frames these bytes are, from one node to another. Each is one that a node wrote.
+///
+/// Error: `AllocError`.
+pub(crate) fn add_letters(
+    alloc: Global,
+    from: usize,
+    to: usize,
+    bytes: &[u8],
+    letters: &mut Vec<Letter>,
+) -> Result<(), AllocError> {
+    let mut frames = Deframer::new(alloc);
+    frames.feed(bytes)?;
+    for _ in 0..bytes.len() {
+        match frames.front() {
+            Ok(Some(body)) => letters.push(letter_of(alloc, from, to, body)?)?,
+            _ => return Ok(()),
+        }
+        let _ = frames.next();
+    }
+    Ok(())
+}

@@ -1,0 +1,15 @@
+//! What is seen of a world from outside while it makes steps, and lines that tell it.
+#![tactic(auto)]
+
+mod columns;
+mod drawing;
+mod letter;
+mod seen;
+mod texts;
+mod watch;
+
+pub use columns::Columns;
+pub use drawing::diagram_of;
+pub use letter::{Asked, Letter};
+pub use seen::{Seen, Sight};
+pub use watch::Watch;
