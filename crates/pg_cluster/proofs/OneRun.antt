@@ -222,7 +222,7 @@ module _ {K : Type 0} (given : Config) (threads : List (Thread K)) (nodes : List
     shown = λ i node at.
         let low : i < length config = let l = slice_get_within nodes i node at in omega (arith, l, node_count) in
         let is_node : node ≡ node_in (get_or ended.rans i ran).run =
-            sym (get_or_from_slice_get nodes i node node at) ∙ (ap (λ ns. get_or ns i node) ended.ended ∙ get_or-map (λ (r : RanOf K). node_in r.run) ended.rans i ran node (omega (arith, low, ran_count))) in
+        sym (get_or_from_slice_get nodes i node node at) ∙ (ap (λ ns. get_or ns i node) ended.ended ∙ get_or-map (λ (r : RanOf K). node_in r.run) ended.rans i ran node (omega (arith, low, ran_count))) in
         subst (λ (x : NodeOf). ShowsNode config together.w i (node_of x)) (sym is_node) (together.nodes i low);
     logged = λ i low. together.logs i low ∙ ap (map (λ entry. event_at i entry.1)) (sym (log_is i low));
     history = together.history;

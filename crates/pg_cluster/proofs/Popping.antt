@@ -58,9 +58,10 @@ module _ (rows others : List Row) (row : Row) (joined : AreJoined (length rows) 
       let xl : x < length rows = omega (arith, low, l) in
       let high = place_high x (length others) (omega (arith, low)) in
       let there = joined.ends x (length others) end (is_pair_so (length rows) x (length others) xl l (omega (arith, low))) in
-      let back = joined.ends (length others) x end (is_pair_so (length rows) (length others) x l xl (omega (arith, low))) in
-      (rw (high, place_low (length others) x low, row_is rows x none xl, row_is rows (length others) none l) at there,
-       rw (high, place_low (length others) x low, row_is rows x none xl, row_is rows (length others) none l) at back)
+      let back = joined.ends (length others) x end (is_pair_so (length rows) (length others) x l xl (omega (arith, low))) in (
+        rw (high, place_low (length others) x low, row_is rows x none xl, row_is rows (length others) none l) at there,
+        rw (high, place_low (length others) x low, row_is rows x none xl, row_is rows (length others) none l) at back,
+      )
 
   pub are_last : AreLast others row.items
   are_last x none low =

@@ -85,7 +85,6 @@ rows_changed rows place v w low is same = (
   ],
 )
 
-
 -- ---- one node after another
 
 -- of the two rings between a last node and one before it, what was found later

@@ -11,10 +11,9 @@ use pg_term::{Atom, Items};
 use pg_world::{Config, MAX_NODES, WorldFault};
 use rand_pcg::Pcg32;
 use std::alloc::{AllocError, Global};
-use std::io;
 use std::io::Write;
-use std::thread;
 use std::thread::Threads;
+use std::{io, thread};
 
 /// How many bytes a ring between two nodes has room for.
 const RING: usize = 65_536;
@@ -106,8 +105,7 @@ pub fn run_threads<R: Threads>(
 ) -> Result<Outcome, StartFault> {
     let config = config_of(alloc, asked)?;
     let generators = generators(alloc, config.starts.len(), asked.seed)?;
-    let (cluster, mut clients) =
-        Cluster::start(rt, alloc, &config, generators, Open, asked.turns)?;
+    let (cluster, mut clients) = Cluster::start(rt, alloc, &config, generators, Open, asked.turns)?;
     let heard = converse(alloc, &mut clients, asked);
     let closed = match cluster.close(rt, clients) {
         Ok(closed) => closed,

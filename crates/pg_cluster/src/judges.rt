@@ -64,10 +64,7 @@ impl Closed {
 }
 
 /// Whether a world shows these nodes.
-fn shows_all(
-    world: &FrameWorld<IndexTable>,
-    nodes: &[Node<IndexTable>],
-) -> Result<bool, AllocError>
+fn shows_all(world: &FrameWorld<IndexTable>, nodes: &[Node<IndexTable>]) -> Result<bool, AllocError>
     ensures { IfOk result (λ yes. IsTrue yes → AreShownAll (view_of_world world.now).traffic.nodes nodes.now) }
 {
     for place in 0..nodes.len() {

@@ -33,7 +33,11 @@ fn copy_command(alloc: Global, command: &Command) -> Result<Command, AllocError>
 fn node_of_peer(node: usize, peer: usize) -> usize
     ensures { result ≡ node_of_peer node peer }
 {
-    if peer < node { peer } else { peer.saturating_add(1) }
+    if peer < node {
+        peer
+    } else {
+        peer.saturating_add(1)
+    }
 }
 
 /// The step of a world that the event of a node is.

@@ -60,7 +60,12 @@ pub(crate) fn start_all<
     let mut threads: Vec<NodeThread<K>> = Vec::with_capacity(alloc, runs.len())?;
     for run in runs {
         let Ok(gate) = Arc::try_clone(gate) else {
-            return give_up(rt, threads, stops, StartFault::World(WorldFault::OutOfMemory));
+            return give_up(
+                rt,
+                threads,
+                stops,
+                StartFault::World(WorldFault::OutOfMemory),
+            );
         };
         let place = threads.len();
         let promise = RanFrom {

@@ -20,9 +20,9 @@ loop-node-preserved g c =
       added.unlogged was.4,
       (let more : length c.add.new.self.runs.items ≡ length runs + 1 =
           sym (length-map c.add.new.self.runs.items node_in) ∙ (ap length added.nodes ∙ (length-append (map node_in runs) (c.in-Some.node ∷ []) ∙ ap (λ n. n + 1) (length-map runs node_in))) in
-      let fewer = c.in-Some.ensures.steps.1 in
-      let size = was.5 in
-      omega arith),
+          let fewer = c.in-Some.ensures.steps.1 in
+          let size = was.5 in
+          omega arith),
     )
 
 pub returns-clause-rows : goal.returns-clause-rows
