@@ -1,3 +1,4 @@
 pub mod Agreeing
 pub mod Reached
+pub mod Survived
 pub mod Thinned

@@ -3,6 +3,7 @@
 
 mod lasting;
 mod survival;
+mod world;
 
 pub use lasting::{
     answers_stay_past_losses, changes_are_answered_past_losses, changes_stand_once_past_losses,
@@ -14,3 +15,4 @@ pub use survival::{
     ends_at_home_past_losses, histories_are_thinned, losses_are_survived, no_lock_of_the_lost,
     no_packet_is_refused, no_reply_is_odd, nodes_left_agree, unanswered_changes_are_last,
 };
+pub use world::each_world_past_losses;

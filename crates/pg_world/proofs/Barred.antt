@@ -6,7 +6,7 @@ use Rattle.std.proofs.lemmas.Bool.{lt-ltb}
 use Rattle.std.proofs.lemmas.Option.{slice_get_cases}
 use Rattle.pg_message.specs.declared.message.Message.{Message}
 use Rattle.pg_machine.specs.Places.{is_place, is_pair}
-use Rattle.pg_machine.specs.Machine.{Event, Take, Do, node_of, happens}
+use Rattle.pg_machine.specs.Machine.{Event, Input, Take, Do, node_of, first_from, happens}
 use Rattle.pg_machine.specs.Clocked.{Timed, Stamped}
 use Rattle.pg_machine.specs.Losing.{Noticed, LosingEvent, Step, losing_happens, can_keep}
 use Rattle.pg_machine.proofs.Options.{some_is}
@@ -147,6 +147,12 @@ only_notices m p s last [] true e = (refl, refl)
 only_notices m p s last [] false e = (refl, refl)
 only_notices m p s last (x ∷ xs) b e = absurd (cc)
 
+-- a packet that is taken was on the way
+taken_sent : (p : ℕ) (xs : List (Stamped Message)) (more : List (Stamped (Noticed Message))) (input : Input (Stamped Message) Action)
+    → first_from p xs ≡ Some input → none_sent (map sent_packet xs ++ more) ≡ false
+taken_sent p [] more input e = absurd (cc)
+taken_sent p (x ∷ xs) more input e = refl
+
 module _ (config : Config) (old new : View) (lost lost2 : List ℕ) (w : TimedFrameWorld) (shows : Shows config old w) (seen : SeenAreLost config w lost) (same : lost2 ≡ lost) where
   -- nothing has changed
   pub still : new ≡ old → ShowsLosing config new lost2 (losing_of config w lost)
@@ -158,7 +164,8 @@ module _ (config : Config) (old new : View) (lost lost2 : List ℕ) (w : TimedFr
   }
 
   module _ (e : Event Action) (tells : Told) (event : tells.event ≡ Step e) (loss : tells.is_loss ≡ false) (stays : is_lost lost (node_of e) ≡ false)
-      (refused : (r : Refusal) → told config w e ≡ Some (Err r) → tells.refusal ≡ Some r) (idle : told config w e ≡ None → (tells.is_idle ≡ true) × (tells.refusal ≡ None)) where
+      (refused : (r : Refusal) → told config w e ≡ Some (Err r) → tells.refusal ≡ Some r) (idle : told config w e ≡ None → (tells.is_idle ≡ true) × (tells.refusal ≡ None))
+      (busy : (v : TimedFrameWorld) → happens (frame_machine config) w e ≡ Some v → tells.is_idle ≡ false) where
     led : (v : TimedFrameWorld) → happens (frame_machine config) w e ≡ Some v → Shows config new v → LosingLed config (losing_of config w lost) tells.event (ShowsLosing config new lost2)
     led v is shown =
         let h = happened (frame_machine config) w v e is in (
@@ -175,7 +182,7 @@ module _ (config : Config) (old new : View) (lost lost2 : List ℕ) (w : TimedFr
 
     pub comes : (result : Result Stepped NodeFault) → ComesTo config w e result (Shows config new) → (result ≡ Ok Nothing → new ≡ old) → OnErr result (new ≡ old)
         → LosingComesTo config (losing_of config w lost) tells result (ShowsLosing config new lost2)
-    comes (Ok Happened) (v, is, shown) nothing err = (loss, led v is shown)
+    comes (Ok Happened) (v, is, shown) nothing err = (loss, busy v is, led v is shown)
     comes (Ok Nothing) c nothing err = ((idle c).0, (idle c).1, still (nothing refl))
     comes (Ok (Moved count)) c nothing err = absurd c
     comes (Ok Gone) c nothing err = absurd c
@@ -190,7 +197,7 @@ module _ (config : Config) (old new : View) (lost lost2 : List ℕ) (w : TimedFr
       → ComesTo config w (Take i p) result (Shows config new) → (result ≡ Ok Nothing → new ≡ old) → OnErr result (new ≡ old)
       → LosingComesTo config (losing_of config w lost) (told_take config (losing_of config w lost) i p) result (ShowsLosing config new lost2)
   take_comes i p result places lives came nothing err =
-      comes (Take i p) (told_take config (losing_of config w lost) i p) refl refl (first_false (is_lost lost i) _ lives) refused idle result came nothing err
+      comes (Take i p) (told_take config (losing_of config w lost) i p) refl refl (first_false (is_lost lost i) _ lives) refused idle busy result came nothing err
     where
       pair : is_pair (length config) i p ≡ true
       pair = sym (pair_here config old.traffic.nodes w lost shows.traffic.nodes i p) ∙ places
@@ -215,12 +222,15 @@ module _ (config : Config) (old new : View) (lost lost2 : List ℕ) (w : TimedFr
       idle e = let none = only_notices (nodes_at config i) (name_at config p) (w.node i) (w.node p) (w.wire p i) (is_pair (length config) p i && (is_lost lost p && not ((w.node i).state.lost (name_at config p)))) (sym told_is ∙ e) in
           (none.0, is ∙ none.1)
 
+      busy : (v : TimedFrameWorld) → happens (frame_machine config) w (Take i p) ≡ Some v → none_sent (map sent_packet (w.wire p i) ++ notices config w lost p i) ≡ false
+      busy v is_so = let h = happened (frame_machine config) w v (Take i p) is_so in taken_sent p (w.wire p i) (notices config w lost p i) h.input h.given
+
   -- something of its own
   pub own_comes : (i : ℕ) (action : Action) (result : Result Stepped NodeFault) → has_port old.traffic.nodes i (port_of action) ≡ true → is_lost lost i ≡ false
       → ComesTo config w (Do i action) result (Shows config new) → (result ≡ Ok Nothing → new ≡ old) → OnErr result (new ≡ old)
       → LosingComesTo config (losing_of config w lost) (told_own config (losing_of config w lost) i action) result (ShowsLosing config new lost2)
   own_comes i action result places stays came nothing err =
-      comes (Do i action) (told_own config (losing_of config w lost) i action) refl refl stays refused (λ e. absurd (cc)) result came nothing err
+      comes (Do i action) (told_own config (losing_of config w lost) i action) refl refl stays refused (λ e. absurd (cc)) (λ v is. refl) result came nothing err
     where
       there : (is_place (length config) i && nat_lt (port_of action) (ports_at config i)) ≡ true
       there = sym (port_is config old.traffic.nodes w lost shows.traffic.nodes i (port_of action)) ∙ places

@@ -83,6 +83,7 @@ module _ (config : Config) (old new : View) (u : LosingFrameWorld) (i : ℕ) (ke
   lost_now stays can more nodes account here others =
       subst (λ (x : LosingFrameWorld). LosingComesTo config x (told_loss config x i keep) (Ok Gone) (ShowsLosing config new lost2)) (sym shows.is) (
         refl,
+        refl,
         (
           losing_of config cut (lost ++ i ∷ []),
           loss_happens config old shows.frames lost i keep shows.shows below stays count_here shows.seen can,

@@ -157,6 +157,7 @@ module _ (config : Config) (old new : View) (u : LosingFrameWorld) (i p : ℕ) (
         led : nat_le (sight_clock w i p) CLOCK_LIMIT ≡ true → Happens node.names turn done after.state node.answers after.answers → LosingComesTo config u (told_sight config u i p) (Ok Happened) (ShowsLosing config new lost2)
         led e happened = subst (λ (x : LosingFrameWorld). LosingComesTo config x (told_sight config x i p) (Ok Happened) (ShowsLosing config new lost2)) (sym shows.is) (
           refl,
+          refl,
           (
             losing_of config (sighted config w lost i p there) lost,
             sight_happens config w lost i p there shows.shows.traffic.nodes.apart turned stays gone unseen none_coming e,

@@ -5,6 +5,7 @@ pub mod Faults
 pub mod Fitting
 pub mod Histories
 pub mod Losing
+pub mod LosingRuns
 pub mod Losses
 pub mod Openings
 pub mod Rooms

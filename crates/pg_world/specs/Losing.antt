@@ -168,11 +168,11 @@ told_of config u (steps.Lose i keep) = told_loss config u i keep.items
 abbrev pub LosingLed : Config → LosingFrameWorld → LosingEvent Action → (LosingFrameWorld → Type 0) → Type 0
 LosingLed config u e Shown = (v : LosingFrameWorld) × (losing_happens (losing_frame_machine config) last_notice u e ≡ Some v) × Shown v
 
--- What came of a step in the world u: it happened, and led to a world that is shown; nothing was on the way; or memory ran out, or
--- it was refused as is told, and the world u is shown.
+-- What came of a step in the world u: it happened, with a packet on the way if it takes one, and led to a world that is shown; nothing
+-- was on the way; or memory ran out, or it was refused as is told, and the world u is shown.
 abbrev pub LosingComesTo : Config → LosingFrameWorld → Told → Result Stepped NodeFault → (LosingFrameWorld → Type 0) → Type 0
-LosingComesTo config u told (Ok Happened) Shown = (told.is_loss ≡ false) × LosingLed config u told.event Shown
-LosingComesTo config u told (Ok Gone) Shown = (told.is_loss ≡ true) × LosingLed config u told.event Shown
+LosingComesTo config u told (Ok Happened) Shown = (told.is_loss ≡ false) × (told.is_idle ≡ false) × LosingLed config u told.event Shown
+LosingComesTo config u told (Ok Gone) Shown = (told.is_loss ≡ true) × (told.is_idle ≡ false) × LosingLed config u told.event Shown
 LosingComesTo config u told (Ok Nothing) Shown = (told.is_idle ≡ true) × (told.refusal ≡ None) × Shown u
 LosingComesTo config u told (Ok stepped) Shown = ⊥
 LosingComesTo config u told (Err OutOfMemory) Shown = Shown u

@@ -109,8 +109,8 @@ abbrev pub StepsTo : {S : Type 0} → Kind S → Config → TimedFrameWorld → 
 StepsTo kind config w step number Shown = Goes config w (kind.event step) number (λ e left. Shown left) ⊎ (kind.Passed config w step number × Shown w)
 
 -- These events are led by one event, and the others follow.
-pub record Led (event : Event Action) (events : List (Event Action)) (Rest : List (Event Action) → Type 0) : Type 0 where
-  pub later : List (Event Action)
+pub record Led {E : Type 0} (event : E) (events : List E) (Rest : List E → Type 0) : Type 0 where
+  pub later : List E
   pub first : events ≡ event ∷ later
   pub rest : Rest later
 

@@ -1,7 +1,9 @@
 use Rattle.std.proofs.Common.{◌∙◌, sym, subst}
-use Rattle.pg_world.specs.Losing.{lost_of}
+use Rattle.pg_world.specs.Losing.{lost_of, ShowsLosing}
+use Rattle.pg_world.specs.LosingRuns.{LosingStepsTo}
 use Rattle.pg_world.specs.Worlds.{view_of, Shows}
 use Rattle.pg_world.specs.Runs.{over_packets, StepsTo}
+use Rattle.pg_world.proofs.LosingRunning.{made_so, left_out_so}
 use Rattle.pg_world.proofs.Running.{happened_so, refused_so, none_more}
 use Rattle.pg_world.proofs.world.FrameWorld.step_number.Goals as goal
 
@@ -19,3 +21,12 @@ returns-in-Err-clause-steps g c = λ keeps config w nobody shows.
 
 pub returns-in-Err-clause-lost : goal.returns-in-Err-clause-lost
 returns-in-Err-clause-lost g c = λ keeps. c.step.ensures.lost ∙ none_more c.args.step.now c.step.result (lost_of c.args.self.now) keeps
+
+pub returns-in-Ok-clause-losing : goal.returns-in-Ok-clause-losing
+returns-in-Ok-clause-losing g c = λ config u shows.
+    made_so config u c.args.step.now (ShowsLosing config (view_of c.step.new.self) (lost_of c.step.new.self)) c.step.result c.in-Ok.field-0 c.in-Ok.is (c.step.ensures.losing config u shows)
+
+pub returns-in-Err-clause-losing : goal.returns-in-Err-clause-losing
+returns-in-Err-clause-losing g c = λ config u shows.
+    subst (λ n. LosingStepsTo config u c.args.step.now n (ShowsLosing config (view_of c.step.new.self) (lost_of c.step.new.self))) (sym c.number.ensures)
+    (left_out_so config u c.args.step.now (ShowsLosing config (view_of c.step.new.self) (lost_of c.step.new.self)) c.step.result c.in-Err.fault c.in-Err.is (c.step.ensures.losing config u shows))

@@ -1,0 +1,38 @@
+ghost use Rattle.std.specs.Prelude.{List};
+ghost use Rattle.std.specs.List.{IsDistinct};
+ghost use Rattle.pg_term.specs.Same.{same_atom};
+ghost use Rattle.pg_machine.specs.Losing.{LosingEvent};
+ghost use Rattle.pg_step.specs.Config.{Config, names_of};
+ghost use Rattle.pg_step.specs.LossLaws.{LosingFrameWorld};
+ghost use Rattle.pg_step.specs.Step.{Action};
+ghost use Rattle.pg_loss.specs.Reached.{LosingReaches};
+ghost use Rattle.pg_loss.specs.Survived.{LossesSurvived};
+
+use crate::lasting::{
+    changes_are_answered_past_losses, changes_stand_once_past_losses,
+    commands_are_counted_past_losses, ended_are_in_no_group_past_losses,
+};
+use crate::survival::{
+    ends_at_home_past_losses, histories_are_thinned, losses_are_survived, no_lock_of_the_lost,
+    no_packet_is_refused, no_reply_is_odd, nodes_left_agree, unanswered_changes_are_last,
+};
+
+/// All that the laws say of one world, whoever is lost and whenever.
+pub fn each_world_past_losses()
+    ensures { (config : Config) (w : LosingFrameWorld) (events : List (LosingEvent Action))
+        → IsDistinct same_atom (names_of config) → LosingReaches config events w
+        → LossesSurvived config events w }
+{
+    losses_are_survived();
+    histories_are_thinned();
+    no_lock_of_the_lost();
+    no_reply_is_odd();
+    no_packet_is_refused();
+    unanswered_changes_are_last();
+    ends_at_home_past_losses();
+    nodes_left_agree();
+    changes_stand_once_past_losses();
+    changes_are_answered_past_losses();
+    commands_are_counted_past_losses();
+    ended_are_in_no_group_past_losses();
+}
