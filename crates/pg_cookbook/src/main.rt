@@ -6,7 +6,7 @@ mod play;
 
 use anyhow::Result;
 use block::next_example;
-use play::played;
+use play::{drawn, played, traced};
 use std::rt::{Env, Files};
 use std::{env, fs, vec};
 
@@ -31,14 +31,38 @@ fn run_page(rt: &HostRuntime, name: &str) -> Result<()> {
     Ok(())
 }
 
+/// The script of this name, as it stands in a file.
+fn script_of(rt: &HostRuntime, name: &str) -> Result<String> {
+    let file = format!(in rt.alloc(); "{name}.script")?;
+    Ok(fs::read_to_string(rt, file.as_str())?)
+}
+
 /// Runs a script that stands in a file, and tells where it prints something else than the file of its output says.
 fn run_file(rt: &HostRuntime, name: &str) -> Result<()> {
-    let script_name = format!(in rt.alloc(); "{name}.script")?;
-    let output_name = format!(in rt.alloc(); "{name}.out")?;
-    let script = fs::read_to_string(rt, script_name.as_str())?;
-    let output = fs::read_to_string(rt, output_name.as_str())?;
+    let file = format!(in rt.alloc(); "{name}.out")?;
+    let script = script_of(rt, name)?;
     let printed = played(rt.alloc(), script.as_str())?;
-    if printed.as_str() == output.as_str() {
+    tell(rt, name, file.as_str(), printed.as_str())
+}
+
+/// The same of its trace. `file`: the file of the trace.
+fn run_trace(rt: &HostRuntime, name: &str, file: &str) -> Result<()> {
+    let script = script_of(rt, name)?;
+    let printed = traced(rt.alloc(), script.as_str())?;
+    tell(rt, file, file, printed.as_str())
+}
+
+/// The same of its diagram. `file`: the file of the diagram.
+fn run_picture(rt: &HostRuntime, name: &str, file: &str) -> Result<()> {
+    let script = script_of(rt, name)?;
+    let picture = drawn(rt.alloc(), script.as_str())?;
+    tell(rt, file, file, picture.as_str())
+}
+
+/// Tells whether this is what a file holds.
+fn tell(rt: &HostRuntime, name: &str, file: &str, printed: &str) -> Result<()> {
+    let wanted = fs::read_to_string(rt, file)?;
+    if printed == wanted.as_str() {
         println!(rt; "{name}: as told")?;
     } else {
         println!(rt; "{name} prints:")?;
@@ -47,13 +71,23 @@ fn run_file(rt: &HostRuntime, name: &str) -> Result<()> {
     Ok(())
 }
 
+/// Runs what a name of a file, or of a script with its output, stands for.
+fn run(rt: &HostRuntime, name: &str) -> Result<()> {
+    if name.ends_with(".md") {
+        return run_page(rt, name);
+    }
+    if let Some(script) = name.strip_suffix(".trace") {
+        return run_trace(rt, script, name);
+    }
+    match name.strip_suffix(".svg") {
+        Some(script) => run_picture(rt, script, name),
+        None => run_file(rt, name),
+    }
+}
+
 fn main(rt: HostRuntime) -> Result<()> {
     for name in env::args(&rt)?.skip(1) {
-        if name.as_str().ends_with(".md") {
-            run_page(&rt, name.as_str())?;
-        } else {
-            run_file(&rt, name.as_str())?;
-        }
+        run(&rt, name.as_str())?;
     }
     Ok(())
 }

@@ -1,3 +1,4 @@
 pub mod Walks
 pub mod Adds
 pub mod Lists
+pub mod PidsSaid

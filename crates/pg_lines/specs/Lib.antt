@@ -2,3 +2,4 @@ pub mod Keywords
 pub mod Printing
 pub mod Words
 pub mod Rows
+pub mod Forms

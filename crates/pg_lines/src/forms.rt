@@ -1,7 +1,9 @@
 //! The forms of lines.
 
-ghost use Rattle.std.specs.Prelude.{◌≡◌, ◌≤◌, ◌∷◌, ◌++◌, [], IfOk, IfErr, OnOk, IsTrue, map, decimal, codes};
-ghost use Rattle.pg_text.specs.Writing.{atom_text, pid_text, term_text};
+ghost use Rattle.std.specs.Prelude.{◌≡◌, ◌≢◌, [], Some, None, IfOk, IfErr, OnErr, OnOk};
+ghost use Rattle.pg_text.specs.declared.fault.TextFault.TheVariants.{BadText};
+ghost use Rattle.pg_lines.specs.Words.{words_left};
+ghost use Rattle.pg_lines.specs.Forms.{atom_in, term_in, pid_in, pids_in, number_in, number_or, keyword_in, made_in, node_line, has_line, settle_line, pair_form, pair_line, node_form, at_line, line_in, line_of};
 
 use crate::keyword::{Keyword, NodeKeyword, PairKeyword, keyword_of};
 use crate::line::{Line, NodeForm, PairForm};
@@ -17,10 +19,13 @@ const MAX_MOVED: u32 = 65_536;
 /// How many rounds a `settle` makes at most, and where its line names no number.
 pub const MAX_ROUNDS: u32 = 1_000_000;
 
-/// Reads a line that is not empty and no comment.
+/// Reads a line that is not empty and no comment: what `line_of` of `specs/Forms.antt` reads. One walk over the line.
 ///
-/// Faults: `BadText`, where it has no form; `OutOfMemory`.
-pub fn read_line(alloc: Global, text: &str) -> Result<Line, TextFault> {
+/// Faults: `BadText`, where it has no form, else `OutOfMemory`.
+pub fn read_line(alloc: Global, text: &str) -> Result<Line, TextFault>
+    ensures ok { IfOk result (λ line. line_of text.now ≡ Some line) }
+    ensures err { IfErr result (λ fault. fault ≡ BadText → line_of text.now ≡ None) }
+{
     let mut words = LineWords {
         alloc,
         words: Words::new(text),
@@ -39,7 +44,10 @@ struct LineWords<'a> {
 
 impl LineWords<'_> {
     /// All words of the line's form.
-    fn line(&mut self) -> Result<Line, TextFault> {
+    fn line(&mut self) -> Result<Line, TextFault>
+        ensures ok { IfOk result (λ read. line_in (words_left self.old.words) ≡ Some (read, words_left self.new.words)) }
+        ensures err { IfErr result (λ fault. fault ≡ BadText → line_in (words_left self.old.words) ≡ None) }
+    {
         match self.keyword()? {
             Keyword::Ring => Ok(Line::Ring(self.number()?)),
             Keyword::Node => self.node_line(),
@@ -51,21 +59,30 @@ impl LineWords<'_> {
         }
     }
 
-    fn keyword(&mut self) -> Result<Keyword, TextFault> {
+    fn keyword(&mut self) -> Result<Keyword, TextFault>
+        ensures ok { IfOk result (λ read. keyword_in (words_left self.old.words) ≡ Some (read, words_left self.new.words)) }
+        ensures err { IfErr result (λ fault. fault ≡ BadText → keyword_in (words_left self.old.words) ≡ None) }
+    {
         match self.words.next() {
             Some(word) => keyword_of(word).ok_or(TextFault::BadText),
             None => Err(TextFault::BadText),
         }
     }
 
-    fn node_line(&mut self) -> Result<Line, TextFault> {
+    fn node_line(&mut self) -> Result<Line, TextFault>
+        ensures ok { IfOk result (λ read. node_line (words_left self.old.words) ≡ Some (read, words_left self.new.words)) }
+        ensures err { IfErr result (λ fault. fault ≡ BadText → node_line (words_left self.old.words) ≡ None) }
+    {
         let name = self.atom()?;
         let made = self.made()?;
         Ok(Line::Node { name, made })
     }
 
     /// How many processes were made: `made N`, or nothing.
-    fn made(&mut self) -> Result<u32, TextFault> {
+    fn made(&mut self) -> Result<u32, TextFault>
+        ensures ok { IfOk result (λ read. made_in (words_left self.old.words) ≡ Some (read, words_left self.new.words)) }
+        ensures err { IfErr result (λ fault. fault ≡ BadText → made_in (words_left self.old.words) ≡ None) }
+    {
         match self.words.next() {
             None => Ok(0),
             Some("made") => self.number(),
@@ -73,7 +90,10 @@ impl LineWords<'_> {
         }
     }
 
-    fn has_line(&mut self) -> Result<Line, TextFault> {
+    fn has_line(&mut self) -> Result<Line, TextFault>
+        ensures ok { IfOk result (λ read. has_line (words_left self.old.words) ≡ Some (read, words_left self.new.words)) }
+        ensures err { IfErr result (λ fault. fault ≡ BadText → has_line (words_left self.old.words) ≡ None) }
+    {
         let node = self.atom()?;
         let group = self.term()?;
         let members = self.pids()?;
@@ -84,7 +104,10 @@ impl LineWords<'_> {
         })
     }
 
-    fn settle_line(&mut self) -> Result<Line, TextFault> {
+    fn settle_line(&mut self) -> Result<Line, TextFault>
+        ensures ok { IfOk result (λ read. settle_line (words_left self.old.words) ≡ Some (read, words_left self.new.words)) }
+        ensures err { IfErr result (λ fault. fault ≡ BadText → settle_line (words_left self.old.words) ≡ None) }
+    {
         let rounds = self.number_or(MAX_ROUNDS)?;
         if rounds > MAX_ROUNDS {
             return Err(TextFault::BadText);
@@ -92,7 +115,10 @@ impl LineWords<'_> {
         Ok(Line::Settle(rounds))
     }
 
-    fn pair_line(&mut self, keyword: PairKeyword) -> Result<Line, TextFault> {
+    fn pair_line(&mut self, keyword: PairKeyword) -> Result<Line, TextFault>
+        ensures ok { IfOk result (λ read. pair_line keyword (words_left self.old.words) ≡ Some (read, words_left self.new.words)) }
+        ensures err { IfErr result (λ fault. fault ≡ BadText → pair_line keyword (words_left self.old.words) ≡ None) }
+    {
         let first = self.atom()?;
         let second = self.atom()?;
         let form = self.pair_form(keyword)?;
@@ -103,7 +129,10 @@ impl LineWords<'_> {
         })
     }
 
-    fn pair_form(&mut self, keyword: PairKeyword) -> Result<PairForm, TextFault> {
+    fn pair_form(&mut self, keyword: PairKeyword) -> Result<PairForm, TextFault>
+        ensures ok { IfOk result (λ read. pair_form keyword (words_left self.old.words) ≡ Some (read, words_left self.new.words)) }
+        ensures err { IfErr result (λ fault. fault ≡ BadText → pair_form keyword (words_left self.old.words) ≡ None) }
+    {
         match keyword {
             PairKeyword::Put => Ok(PairForm::Put(self.number_or(MAX_MOVED)?)),
             PairKeyword::Pull => Ok(PairForm::Pull(self.number_or(MAX_MOVED)?)),
@@ -113,13 +142,19 @@ impl LineWords<'_> {
         }
     }
 
-    fn at_line(&mut self, keyword: NodeKeyword) -> Result<Line, TextFault> {
+    fn at_line(&mut self, keyword: NodeKeyword) -> Result<Line, TextFault>
+        ensures ok { IfOk result (λ read. at_line keyword (words_left self.old.words) ≡ Some (read, words_left self.new.words)) }
+        ensures err { IfErr result (λ fault. fault ≡ BadText → at_line keyword (words_left self.old.words) ≡ None) }
+    {
         let node = self.atom()?;
         let form = self.node_form(keyword)?;
         Ok(Line::At { node, form })
     }
 
-    fn node_form(&mut self, keyword: NodeKeyword) -> Result<NodeForm, TextFault> {
+    fn node_form(&mut self, keyword: NodeKeyword) -> Result<NodeForm, TextFault>
+        ensures ok { IfOk result (λ read. node_form keyword (words_left self.old.words) ≡ Some (read, words_left self.new.words)) }
+        ensures err { IfErr result (λ fault. fault ≡ BadText → node_form keyword (words_left self.old.words) ≡ None) }
+    {
         match keyword {
             NodeKeyword::Create => Ok(NodeForm::Command(Command::Create(self.term()?))),
             NodeKeyword::Delete => Ok(NodeForm::Command(Command::Delete(self.term()?))),
@@ -139,21 +174,30 @@ impl LineWords<'_> {
         }
     }
 
-    fn atom(&mut self) -> Result<Atom, TextFault> {
+    fn atom(&mut self) -> Result<Atom, TextFault>
+        ensures ok { IfOk result (λ read. atom_in (words_left self.old.words) ≡ Some (read, words_left self.new.words)) }
+        ensures err { IfErr result (λ fault. fault ≡ BadText → atom_in (words_left self.old.words) ≡ None) }
+    {
         match self.words.next() {
             Some(word) => read_atom(self.alloc, word),
             None => Err(TextFault::BadText),
         }
     }
 
-    fn term(&mut self) -> Result<Term, TextFault> {
+    fn term(&mut self) -> Result<Term, TextFault>
+        ensures ok { IfOk result (λ read. term_in (words_left self.old.words) ≡ Some (read, words_left self.new.words)) }
+        ensures err { IfErr result (λ fault. fault ≡ BadText → term_in (words_left self.old.words) ≡ None) }
+    {
         match self.words.next() {
             Some(word) => read_term(self.alloc, word),
             None => Err(TextFault::BadText),
         }
     }
 
-    fn pid(&mut self) -> Result<Pid, TextFault> {
+    fn pid(&mut self) -> Result<Pid, TextFault>
+        ensures ok { IfOk result (λ read. pid_in (words_left self.old.words) ≡ Some (read, words_left self.new.words)) }
+        ensures err { IfErr result (λ fault. fault ≡ BadText → pid_in (words_left self.old.words) ≡ None) }
+    {
         match self.words.next() {
             Some(word) => read_pid(self.alloc, word),
             None => Err(TextFault::BadText),
@@ -161,7 +205,10 @@ impl LineWords<'_> {
     }
 
     /// The pids that follow, up to the end of the line.
-    fn pids(&mut self) -> Result<Items<Pid>, TextFault> {
+    fn pids(&mut self) -> Result<Items<Pid>, TextFault>
+        ensures ok { IfOk result (λ read. pids_in (words_left self.old.words) ≡ Some (read, words_left self.new.words)) }
+        ensures err { IfErr result (λ fault. fault ≡ BadText → pids_in (words_left self.old.words) ≡ None) }
+    {
         let mut pids = Vec::new(self.alloc);
         while let Some(word) = self.words.next() {
             pids.push(read_pid(self.alloc, word)?)?;
@@ -169,7 +216,10 @@ impl LineWords<'_> {
         Ok(Items::from_vec(pids))
     }
 
-    fn number(&mut self) -> Result<u32, TextFault> {
+    fn number(&mut self) -> Result<u32, TextFault>
+        ensures ok { IfOk result (λ read. number_in (words_left self.old.words) ≡ Some (read, words_left self.new.words)) }
+        ensures err { IfErr result (λ fault. fault ≡ BadText → number_in (words_left self.old.words) ≡ None) }
+    {
         match self.words.next() {
             Some(word) => read_number(self.alloc, word),
             None => Err(TextFault::BadText),
@@ -177,14 +227,20 @@ impl LineWords<'_> {
     }
 
     /// The number that ends the line, or this one where there is none.
-    fn number_or(&mut self, default: u32) -> Result<u32, TextFault> {
+    fn number_or(&mut self, default: u32) -> Result<u32, TextFault>
+        ensures ok { IfOk result (λ read. number_or default (words_left self.old.words) ≡ Some (read, words_left self.new.words)) }
+        ensures err { IfErr result (λ fault. fault ≡ BadText → number_or default (words_left self.old.words) ≡ None) }
+    {
         match self.words.next() {
             Some(word) => read_number(self.alloc, word),
             None => Ok(default),
         }
     }
 
-    fn end(&self) -> Result<(), TextFault> {
+    fn end(&self) -> Result<(), TextFault>
+        ensures ok { OnOk result (words_left self.now.words ≡ []) }
+        ensures err { OnErr result (words_left self.now.words ≢ []) }
+    {
         if self.words.is_over() {
             Ok(())
         } else {

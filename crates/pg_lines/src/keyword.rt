@@ -1,7 +1,7 @@
 //! The first word of a line.
 
 ghost use Rattle.std.specs.Prelude.{◌≡◌, IfSome};
-ghost use Rattle.pg_lines.specs.Keywords.{keyword_text, node_keyword_text};
+ghost use Rattle.pg_lines.specs.Keywords.{keyword_of, node_keyword_of};
 
 /// What kind of line it is.
 #[derive(Clone, Copy, Debug, PartialEq, Eq)]
@@ -47,7 +47,7 @@ pub(crate) enum NodeKeyword {
 
 /// The keyword of this text, if it is one.
 pub(crate) fn keyword_of(word: &str) -> Option<Keyword>
-    ensures { IfSome result (λ keyword. word.now ≡ keyword_text keyword) }
+    ensures { result ≡ keyword_of word.now }
 {
     match word {
         "ring" => Some(Keyword::Ring),
@@ -69,7 +69,7 @@ pub(crate) fn keyword_of(word: &str) -> Option<Keyword>
 
 /// The keyword of a line about one node, if this is one.
 fn node_keyword_of(word: &str) -> Option<NodeKeyword>
-    ensures { IfSome result (λ keyword. word.now ≡ node_keyword_text keyword) }
+    ensures { result ≡ node_keyword_of word.now }
 {
     match word {
         "create" => Some(NodeKeyword::Create),

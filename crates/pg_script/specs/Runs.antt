@@ -23,3 +23,9 @@ Refused unwritten WriteFault = unwritten
 -- the lines of answers of a node, one after another
 abbrev pub answer_lines : List ℕ → List Answer → List ℕ
 answer_lines node = flat_map (answer_line node)
+
+-- a configuration was refused, as it had to be; or there was no memory
+abbrev pub CantRun : Config → RunFault → Type 0
+CantRun config (World fault) = CantBegin config.ring config.starts.items fault
+CantRun config OutOfMemory = ⊤
+CantRun config WriteFault = ⊥

@@ -1,5 +1,8 @@
 //! What a line of a script does, where nodes stand by their places.
 
+ghost use Rattle.std.specs.Prelude.{◌≡◌};
+ghost use Rattle.pg_script.specs.Scripts.{node_act, pair_act};
+
 use pg_lines::{NodeForm, PairForm};
 use pg_step::OpId;
 use pg_term::Term;
@@ -21,7 +24,9 @@ pub enum Act {
 }
 
 /// What a line about two nodes does.
-pub(crate) fn pair_act(first: usize, second: usize, form: PairForm) -> Act {
+pub(crate) fn pair_act(first: usize, second: usize, form: PairForm) -> Act
+    ensures { result ≡ pair_act first second form }
+{
     match form {
         PairForm::Put(max) => Act::Step(Step::Put {
             from: first,
@@ -49,7 +54,9 @@ pub(crate) fn pair_act(first: usize, second: usize, form: PairForm) -> Act {
 }
 
 /// What a line about one node does. Each node has the one port 0.
-pub(crate) fn node_act(node: usize, form: NodeForm) -> Act {
+pub(crate) fn node_act(node: usize, form: NodeForm) -> Act
+    ensures { result ≡ node_act node form }
+{
     match form {
         NodeForm::Command(command) => Act::Step(Step::Event(FrameStep::Command {
             node,

@@ -8,11 +8,12 @@ mod reading;
 mod running;
 mod script;
 mod settling;
+mod stage;
 mod writing;
 
 pub use act::Act;
 pub use fault::{LineFault, RunFault, ScriptFault};
 pub use reading::read_script;
-pub use running::run_script;
+pub use running::{run_script, watch_script};
 pub use script::{Script, ScriptLine};
 pub use writing::put_whole;

@@ -1,5 +1,10 @@
 //! From the text of a script to the script.
 
+ghost use Rattle.std.specs.Prelude.{◌≡◌, ◌≢◌, ◌<◌, ◌∷◌, ◌++◌, [], List, ℕ, length, is_some, option_map, unwrap_or, true, false, Some, None, Ok, Err, IfOk, IfErr, OnOk, OnErr};
+ghost use Rattle.pg_script.specs.declared.fault.LineFault.TheVariants.{BadLine, UnknownNode, LateDeclaration, OutOfMemory};
+ghost use Rattle.pg_script.specs.declared.reading.TheConstants.{DEFAULT_RING};
+ghost use Rattle.pg_script.specs.Scripts.{act_said, change_at, contents_of, draft_of, has_said, is_skipped, line_said, lines_in, lines_of_rest, node_said, pair_of, place_of, ring_said, script_of, text_said, with_group, IsPlaced};
+
 use crate::act::{Act, node_act, pair_act};
 use crate::fault::{LineFault, ScriptFault};
 use crate::script::{Script, ScriptLine};
@@ -7,60 +12,62 @@ use pg_lines::{Line, read_line};
 use pg_step::Start;
 use pg_term::{Atom, Items, Pid, Term};
 use pg_world::Config;
-use std::alloc::{AllocError, Global};
+use std::alloc::Global;
 use std::collections::BTreeMap;
+use std::mem;
 
 /// The capacity of each ring where no line names it.
 const DEFAULT_RING: u32 = 65_536;
-
-/// A node that was declared.
-#[derive(Drop)]
-struct Declared {
-    name: Atom,
-    made: u32,
-    groups: Vec<(Term, Items<Pid>)>,
-}
-
-impl Declared {
-    fn into_start(self) -> Start {
-        let Declared { name, made, groups } = self;
-        Start {
-            name,
-            made,
-            ports: 1,
-            groups: Items::from_vec(groups),
-        }
-    }
-}
 
 /// What the lines so far say.
 #[derive(Drop)]
 struct Reading {
     alloc: Global,
     ring: Option<u32>,
-    nodes: Vec<Declared>,
+    starts: Vec<Start>,
     // The place of each node by its name.
     places: BTreeMap<Atom, usize>,
     lines: Vec<ScriptLine>,
 }
 
 impl Reading {
-    fn new(alloc: Global) -> Reading {
+    fn new(alloc: Global) -> Reading
+        ensures placed { IsPlaced result }
+        ensures ring { result.ring ≡ None }
+        ensures starts { result.starts.items ≡ [] }
+        ensures lines { result.lines.items ≡ [] }
+    {
         Reading {
             alloc,
             ring: None,
-            nodes: Vec::new(alloc),
+            starts: Vec::new(alloc),
             places: BTreeMap::new(alloc),
             lines: Vec::new(alloc),
         }
     }
 
     /// Reads one more line, of this number.
-    fn add(&mut self, number: usize, text: &str) -> Result<(), LineFault> {
-        if text.is_empty() || text.starts_with('%') {
+    fn add(&mut self, number: usize, text: &str) -> Result<(), LineFault>
+        requires { IsPlaced self.old }
+        ensures ok { OnOk result (text_said (draft_of self.old) number text.now ≡ Ok (draft_of self.new)) }
+        ensures err { IfErr result (λ fault. fault ≢ OutOfMemory → text_said (draft_of self.old) number text.now ≡ Err fault) }
+        ensures placed { OnOk result (IsPlaced self.new) }
+    {
+        if is_skipped(text) {
             return Ok(());
         }
-        match read_line(self.alloc, text)? {
+        let line = read_line(self.alloc, text)?;
+        self.add_line(number, line)
+    }
+
+    /// Adds what a line says.
+    fn add_line(&mut self, number: usize, line: Line) -> Result<(), LineFault>
+        requires { IsPlaced self.old }
+        ensures ok { OnOk result (line_said (draft_of self.old) number line ≡ Ok (draft_of self.new)) }
+        ensures err { IfErr result (λ fault. fault ≢ OutOfMemory → line_said (draft_of self.old) number line ≡ Err fault) }
+        ensures placed { OnOk result (IsPlaced self.new) }
+    {
+        match line {
             Line::Ring(capacity) => self.add_ring(capacity),
             Line::Node { name, made } => self.add_node(name, made),
             Line::Has {
@@ -85,7 +92,12 @@ impl Reading {
         }
     }
 
-    fn add_ring(&mut self, capacity: u32) -> Result<(), LineFault> {
+    fn add_ring(&mut self, capacity: u32) -> Result<(), LineFault>
+        requires { IsPlaced self.old }
+        ensures ok { OnOk result (ring_said (draft_of self.old) capacity ≡ Ok (draft_of self.new)) }
+        ensures err { IfErr result (λ fault. ring_said (draft_of self.old) capacity ≡ Err fault) }
+        ensures placed { OnOk result (IsPlaced self.new) }
+    {
         if self.ring.is_some() {
             return Err(LineFault::BadLine);
         }
@@ -94,41 +106,58 @@ impl Reading {
         Ok(())
     }
 
-    fn add_node(&mut self, name: Atom, made: u32) -> Result<(), LineFault> {
+    fn add_node(&mut self, name: Atom, made: u32) -> Result<(), LineFault>
+        requires { IsPlaced self.old }
+        ensures ok { OnOk result (node_said (draft_of self.old) name made ≡ Ok (draft_of self.new)) }
+        ensures err { IfErr result (λ fault. fault ≢ OutOfMemory → node_said (draft_of self.old) name made ≡ Err fault) }
+        ensures placed { OnOk result (IsPlaced self.new) }
+    {
         self.declares()?;
         if self.places.contains_key(&name) {
             return Err(LineFault::BadConfig);
         }
         let key = name.copy()?;
-        self.places.insert(key, self.nodes.len())?;
-        self.nodes.push(Declared {
+        self.places.insert(key, self.starts.len())?;
+        self.starts.push(Start {
             name,
             made,
-            groups: Vec::new(self.alloc),
+            ports: 1,
+            groups: Items::from_vec(Vec::new(self.alloc)),
         })?;
         Ok(())
     }
 
-    fn add_group(
-        &mut self,
-        node: &Atom,
-        group: Term,
-        members: Items<Pid>,
-    ) -> Result<(), LineFault> {
+    fn add_group(&mut self, node: &Atom, group: Term, members: Items<Pid>) -> Result<(), LineFault>
+        requires { IsPlaced self.old }
+        ensures ok { OnOk result (has_said (draft_of self.old) node.now group members ≡ Ok (draft_of self.new)) }
+        ensures err { IfErr result (λ fault. fault ≢ OutOfMemory → has_said (draft_of self.old) node.now group members ≡ Err fault) }
+        ensures placed { OnOk result (IsPlaced self.new) }
+    {
         self.declares()?;
         let place = self.place(node)?;
-        match self.nodes.get_mut(place) {
-            Some(node) => Ok(node.groups.push((group, members))?),
-            None => Err(LineFault::UnknownNode),
-        }
+        give_group(
+            self.alloc,
+            self.starts.as_mut_slice(),
+            place,
+            group,
+            members,
+        )
     }
 
-    fn add_act(&mut self, number: usize, act: Act) -> Result<(), LineFault> {
+    fn add_act(&mut self, number: usize, act: Act) -> Result<(), LineFault>
+        requires { IsPlaced self.old }
+        ensures ok { OnOk result (act_said (draft_of self.old) number act ≡ Ok (draft_of self.new)) }
+        ensures err { IfErr result (λ fault. fault ≡ OutOfMemory) }
+        ensures placed { OnOk result (IsPlaced self.new) }
+    {
         Ok(self.lines.push(ScriptLine { number, act })?)
     }
 
     /// A declaration may stand here.
-    fn declares(&self) -> Result<(), LineFault> {
+    fn declares(&self) -> Result<(), LineFault>
+        ensures ok { OnOk result (length self.now.lines.items ≡ 0) }
+        ensures err { IfErr result (λ fault. (fault ≡ LateDeclaration) × (length self.now.lines.items ≢ 0)) }
+    {
         if self.lines.is_empty() {
             Ok(())
         } else {
@@ -137,7 +166,11 @@ impl Reading {
     }
 
     /// The place of a node that was declared.
-    fn place(&self, name: &Atom) -> Result<usize, LineFault> {
+    fn place(&self, name: &Atom) -> Result<usize, LineFault>
+        requires { IsPlaced self.now }
+        ensures ok { IfOk result (λ place. place_of name.now self.now.starts.items ≡ Some place) }
+        ensures err { IfErr result (λ fault. (fault ≡ UnknownNode) × (place_of name.now self.now.starts.items ≡ None)) }
+    {
         match self.places.get(name) {
             Some(place) => Ok(*place),
             None => Err(LineFault::UnknownNode),
@@ -145,7 +178,11 @@ impl Reading {
     }
 
     /// The places of two nodes that were declared, apart from each other.
-    fn pair(&self, first: &Atom, second: &Atom) -> Result<(usize, usize), LineFault> {
+    fn pair(&self, first: &Atom, second: &Atom) -> Result<(usize, usize), LineFault>
+        requires { IsPlaced self.now }
+        ensures ok { IfOk result (λ places. pair_of first.now second.now self.now.starts.items ≡ Some places) }
+        ensures err { IfErr result (λ fault. (fault ≡ UnknownNode) × (pair_of first.now second.now self.now.starts.items ≡ None)) }
+    {
         let first = self.place(first)?;
         let second = self.place(second)?;
         if first == second {
@@ -154,23 +191,60 @@ impl Reading {
         Ok((first, second))
     }
 
-    fn finish(self) -> Result<Script, AllocError> {
+    fn finish(self) -> Script
+        ensures ring { (contents_of result).ring ≡ unwrap_or self.ring DEFAULT_RING }
+        ensures starts { (contents_of result).starts ≡ self.starts.items }
+        ensures lines { (contents_of result).lines ≡ self.lines.items }
+    {
         let Reading {
-            alloc,
+            alloc: _,
             ring,
-            nodes,
+            starts,
             places: _,
             lines,
         } = self;
-        let mut starts = Vec::with_capacity(alloc, nodes.len())?;
-        for node in nodes {
-            starts.push(node.into_start())?;
-        }
         let ring = ring.unwrap_or(DEFAULT_RING) as usize;
-        Ok(Script {
+        Script {
             config: Config { ring, starts },
             lines,
-        })
+        }
+    }
+}
+
+/// Gives the node at a place one group more.
+fn give_group(
+    alloc: Global,
+    starts: &mut [Start],
+    place: usize,
+    group: Term,
+    members: Items<Pid>,
+) -> Result<(), LineFault>
+    requires { place < length starts.old }
+    ensures ok { OnOk result (starts.new ≡ change_at place (with_group group members) starts.old) }
+    ensures places { (name : List ℕ) → place_of name starts.new ≡ place_of name starts.old }
+    ensures err { IfErr result (λ fault. fault ≡ OutOfMemory) }
+{
+    let start = &mut starts[place];
+    let mut groups = mem::replace(&mut start.groups, Items::from_vec(Vec::new(alloc))).into_vec();
+    groups.push((group, members))?;
+    start.groups = Items::from_vec(groups);
+    Ok(())
+}
+
+/// Whether a line is empty or a comment.
+fn is_skipped(text: &str) -> bool
+    ensures { result ≡ is_skipped text.now }
+{
+    text.is_empty() || text.starts_with('%')
+}
+
+/// The first line of a text, and what follows the line feed behind it, where one stands there.
+fn first_line(text: &str) -> (&str, Option<&str>)
+    ensures { lines_in text.now ≡ result.0.now ∷ lines_of_rest (option_map (λ rest. rest.now) result.1) }
+{
+    match text.split_once('\n') {
+        Some((line, rest)) => (line, Some(rest)),
+        None => (text, None),
     }
 }
 
@@ -181,11 +255,17 @@ impl Reading {
 /// `World::new`.
 ///
 /// The time is O(n log m) in the length of the text and the number of nodes.
-pub fn read_script(alloc: Global, text: &str) -> Result<Script, ScriptFault> {
+pub fn read_script(alloc: Global, text: &str) -> Result<Script, ScriptFault>
+    ensures ok { IfOk result (λ script. script_of text.now ≡ Ok (contents_of script)) }
+    ensures err { IfErr result (λ fault. fault.fault ≢ OutOfMemory → script_of text.now ≡ Err fault) }
+{
     let mut reading = Reading::new(alloc);
     let mut number = 0usize;
-    for line in text.split('\n') {
-        number = number.saturating_add(1);
+    let mut rest = Some(text);
+    while let Some(left) = rest {
+        let (line, behind) = first_line(left);
+        rest = behind;
+        number += 1;
         match reading.add(number, line) {
             Ok(()) => {}
             Err(fault) => return Err(ScriptFault {
@@ -194,11 +274,5 @@ pub fn read_script(alloc: Global, text: &str) -> Result<Script, ScriptFault> {
             }),
         }
     }
-    match reading.finish() {
-        Ok(script) => Ok(script),
-        Err(AllocError) => Err(ScriptFault {
-            line: number,
-            fault: LineFault::OutOfMemory,
-        }),
-    }
+    Ok(reading.finish())
 }

@@ -4,37 +4,48 @@ ghost use Rattle.std.specs.Prelude.{◌≡◌, ◌<◌, List, ℕ, length, strin
 ghost use Rattle.std.specs.Io.KnownBytes.{Appends};
 ghost use Rattle.pg_node.specs.Causes.{FailedAt};
 ghost use Rattle.pg_text.specs.Writing.{Adds};
-ghost use Rattle.pg_script.specs.Runs.{CausedBy, Refused, answer_lines};
+ghost use Rattle.pg_script.specs.Runs.{CantRun, CausedBy, Refused, answer_lines};
 
 use crate::act::Act;
 use crate::fault::RunFault;
 use crate::history::print_history;
 use crate::script::{Script, ScriptLine};
-use crate::settling::settle;
+use crate::settling::{Halt, settle};
+use crate::stage::Stage;
 use crate::writing::put_whole;
 use pg_index::IndexTable;
 use pg_lines::{print_answer, print_lock, print_outbox, print_refused};
 use pg_node::{NodeFault, Sink};
 use pg_step::{Answer, Start};
 use pg_term::{Atom, Term};
+use pg_trace::{Columns, Watch};
 use pg_world::World;
 use std::alloc::{AllocError, Global};
 
 /// A run: its world, the nodes as they started, how many answers of each were printed, and what is to be written.
 #[derive(Drop)]
 struct Run<'a> {
-    world: World<IndexTable>,
+    alloc: Global,
+    stage: Stage,
     starts: &'a [Start],
     printed: Vec<usize>,
     out: String,
+    // Where what is seen is told, and how much of it was.
+    columns: Option<Columns>,
+    told: usize,
     ghost rows: { length printed.items ≡ length starts.now },
 }
 
 impl Run<'_> {
-    /// Does what a line says, and prints it: its own print, the answers that are new, and by which number a step was refused.
+    /// Does what a line says, and prints it: what is seen of it, its own print, the answers that are new, and by which number a
+    /// step was refused.
     fn line(&mut self, line: &ScriptLine) -> Result<(), AllocError> {
         self.out.clear();
+        if let Some(watch) = &mut self.stage.watch {
+            watch.begin(line.number);
+        }
         let refused = self.act(&line.act)?;
+        self.print_sights()?;
         self.print_answers()?;
         match refused {
             Some(fault) => print_refused(&mut self.out, line.number, fault.number()),
@@ -45,11 +56,8 @@ impl Run<'_> {
     /// Does what a line says, with its own print; and by which fault a step was refused.
     fn act(&mut self, act: &Act) -> Result<Option<NodeFault>, AllocError> {
         match act {
-            Act::Step(step) => Ok(self.world.step(step).err()),
-            Act::Settle(rounds) => {
-                let count = self.starts.len();
-                Ok(settle(&mut self.world, count, *rounds).err())
-            }
+            Act::Step(step) => Ok(self.stage.step(step, false)?.err()),
+            Act::Settle(rounds) => self.settle(*rounds),
             Act::Lock { node, group } => {
                 self.print_lock(*node, group)?;
                 Ok(None)
@@ -59,11 +67,35 @@ impl Run<'_> {
                 Ok(None)
             }
             Act::History(group) => {
-                let (entries, last) = self.world.history(group);
+                let (entries, last) = self.stage.world.history(group);
                 print_history(&mut self.out, entries, last)?;
                 Ok(None)
             }
         }
+    }
+
+    /// Makes rounds, so many at most; and by which fault a step was refused.
+    fn settle(&mut self, rounds: u32) -> Result<Option<NodeFault>, AllocError> {
+        let count = self.starts.len();
+        match settle(&mut self.stage, count, rounds) {
+            Ok(()) => Ok(None),
+            Err(Halt::Refused(fault)) => Ok(Some(fault)),
+            Err(Halt::OutOfMemory) => Err(AllocError),
+        }
+    }
+
+    /// Prints what was seen and not told yet.
+    fn print_sights(&mut self) -> Result<(), AllocError> {
+        let (Some(columns), Some(watch)) = (&self.columns, &self.stage.watch) else {
+            return Ok(());
+        };
+        if let Some(new) = watch.sights.get(self.told..) {
+            for sight in new {
+                columns.print(&mut self.out, watch, sight)?;
+            }
+        }
+        self.told = watch.sights.len();
+        Ok(())
     }
 
     /// Prints whether a node sees the lock of a group free.
@@ -71,7 +103,7 @@ impl Run<'_> {
         let Some(start) = self.starts.get(place) else {
             return Ok(());
         };
-        match self.world.node(place) {
+        match self.stage.world.node(place) {
             Some(node) => {
                 let is_free = node.state().holder(group).is_none();
                 print_lock(&mut self.out, &start.name, group, is_free)
@@ -85,7 +117,7 @@ impl Run<'_> {
         let (Some(start), Some(other)) = (self.starts.get(from), self.starts.get(to)) else {
             return Ok(());
         };
-        let len = outbox_len(&self.world, from, to);
+        let len = outbox_len(&self.stage.world, from, to);
         print_outbox(&mut self.out, &start.name, &other.name, len)
     }
 
@@ -103,9 +135,12 @@ impl Run<'_> {
         ensures { length self.new.starts.now ≡ length self.old.starts.now }
     {
         let starts = self.starts;
-        let answers = answers_of(&self.world, place);
+        let answers = answers_of(&self.stage.world, place);
         if let Some(new) = answers.get(self.printed[place]..) {
             print_all(&mut self.out, &starts[place].name, new)?;
+            if let Some(watch) = &mut self.stage.watch {
+                see_answers(watch, place, new)?;
+            }
         }
         self.printed[place] = answers.len();
         Ok(())
@@ -118,6 +153,14 @@ fn print_all(out: &mut String, node: &Atom, answers: &[Answer]) -> Result<(), Al
 {
     for answer in answers {
         print_answer(out, node, answer)?;
+    }
+    Ok(())
+}
+
+/// Has a watch see answers of a node.
+fn see_answers(watch: &mut Watch, place: usize, answers: &[Answer]) -> Result<(), AllocError> {
+    for answer in answers {
+        watch.answered(place, answer)?;
     }
     Ok(())
 }
@@ -150,19 +193,93 @@ pub fn run_script<W: Sink>(alloc: Global, script: &Script, writer: &mut W) -> Re
     ensures flushed { OnOk result (W.flushed writer.new) }
     ensures fault { IfErr result (CausedBy script.now.config (writer.new ≡ writer.old) (FailedAt W.fails writer.new)) }
 {
+    match begun(alloc, script) {
+        Ok(begun) => {
+            let mut run = begun;
+            run_lines(&mut run, script.lines.as_slice(), writer)
+        }
+        Err(fault) => Err(fault),
+    }
+}
+
+/// Runs a script as `run_script` does, and gives what was seen of it. `is_told`: what is seen is printed, too, before all else that
+/// a line prints, behind a line of the columns' names; what was seen before the first line stands before that.
+///
+/// Faults: those of `run_script`.
+pub fn watch_script<W: Sink>(
+    alloc: Global,
+    script: &Script,
+    is_told: bool,
+    writer: &mut W,
+) -> Result<Watch, RunFault>
+    ensures appended { (text : List ℕ) × Appends (W.contents writer.old) (W.contents writer.new) text }
+    ensures flushed { OnOk result (W.flushed writer.new) }
+    ensures fault { IfErr result (CausedBy script.now.config (writer.new ≡ writer.old) (FailedAt W.fails writer.new)) }
+{
+    match begun(alloc, script) {
+        Ok(begun) => {
+            let mut run = begun;
+            run_watched(&mut run, script.lines.as_slice(), is_told, writer)
+        }
+        Err(fault) => Err(fault),
+    }
+}
+
+/// Runs lines one after another, watched, and writes what they print.
+fn run_watched<W: Sink>(
+    run: &mut Run<'_>,
+    lines: &[ScriptLine],
+    is_told: bool,
+    writer: &mut W,
+) -> Result<Watch, RunFault>
+    ensures appended { (text : List ℕ) × Appends (W.contents writer.old) (W.contents writer.new) text }
+    ensures flushed { OnOk result (W.flushed writer.new) }
+    ensures fault { IfErr result (Refused (FailedAt W.fails writer.new)) }
+{
+    run.watch(lines, is_told)?;
+    put_whole(writer, run.out.as_bytes())?;
+    run_lines(run, lines, writer)?;
+    match run.stage.watch.take() {
+        Some(watch) => Ok(watch),
+        None => Err(RunFault::OutOfMemory),
+    }
+}
+
+/// A run of a script that begins. It is not watched.
+fn begun(alloc: Global, script: &Script) -> Result<Run<'_>, RunFault>
+    ensures fault { IfErr result (CantRun script.now.config) }
+{
     let starts = script.config.starts.as_slice();
     let printed = Vec::from_elem(alloc, 0, starts.len())?;
     match World::new(alloc, &script.config) {
-        Ok(world) => {
-            let mut run = Run {
-                world,
-                starts,
-                printed,
-                out: String::new(alloc),
-            };
-            run_lines(&mut run, script.lines.as_slice(), writer)
-        }
+        Ok(world) => Ok(Run {
+            alloc,
+            stage: Stage { world, watch: None },
+            starts,
+            printed,
+            out: String::new(alloc),
+            columns: None,
+            told: 0,
+        }),
         Err(fault) => Err(RunFault::World(fault)),
+    }
+}
+
+impl Run<'_> {
+    /// Watches the run, which has these lines, from now on. `is_told`: what is seen is printed, that of the begin now.
+    fn watch(&mut self, lines: &[ScriptLine], is_told: bool) -> Result<(), AllocError> {
+        let watch = Watch::new(self.alloc, self.starts, &self.stage.world)?;
+        if is_told {
+            let last_line = match lines.last() {
+                Some(line) => line.number,
+                None => 0,
+            };
+            let columns = Columns::new(self.alloc, &watch, last_line);
+            columns.print_head(&mut self.out)?;
+            self.columns = Some(columns);
+        }
+        self.stage.watch = Some(watch);
+        self.print_sights()
     }
 }
 

@@ -1,23 +1,40 @@
 //! Rounds of steps until nothing moves.
 
-use pg_group::GroupTable;
+use crate::stage::Stage;
 use pg_node::NodeFault;
 use pg_step::Refusal;
-use pg_world::{FrameStep, Step, Stepped, World};
+use pg_world::{FrameStep, Step, Stepped};
+use std::alloc::AllocError;
 
 /// How many bytes a round moves at most of each pair.
 const MAX_MOVED: usize = 65_536;
 
+/// Why rounds end early.
+#[derive(Debug, Drop)]
+pub(crate) enum Halt {
+    /// A step was refused.
+    Refused(NodeFault),
+    /// There was no memory to tell what was seen.
+    OutOfMemory,
+}
+
+impl From<AllocError> for Halt {
+    ghost use Rattle.std.specs.Prelude.{◌≡◌};
+    ghost use Rattle.pg_script.specs.declared.settling.Halt.TheVariants.{OutOfMemory};
+
+    ghost from_gives = { λ _ e. e ≡ OutOfMemory };
+
+    fn from(_e: AllocError) -> Halt {
+        Halt::OutOfMemory
+    }
+}
+
 /// Makes rounds: for each ordered pair of nodes, by their places, bytes move from the first to the second, and it takes a packet
 /// there. It ends behind a round in which no byte moved and no packet was taken, behind so many rounds, or at a refused step.
 /// Steps of lost nodes are passed over.
-pub(crate) fn settle<T: GroupTable + Drop>(
-    world: &mut World<T>,
-    count: usize,
-    rounds: u32,
-) -> Result<(), NodeFault> {
+pub(crate) fn settle(stage: &mut Stage, count: usize, rounds: u32) -> Result<(), Halt> {
     for _ in 0..rounds {
-        if !round(world, count)? {
+        if !round(stage, count)? {
             return Ok(());
         }
     }
@@ -25,11 +42,11 @@ pub(crate) fn settle<T: GroupTable + Drop>(
 }
 
 /// One round; whether a byte moved or a packet was taken.
-fn round<T: GroupTable + Drop>(world: &mut World<T>, count: usize) -> Result<bool, NodeFault> {
+fn round(stage: &mut Stage, count: usize) -> Result<bool, Halt> {
     let mut moved = false;
     for from in 0..count {
         for to in 0..count {
-            if from != to && pass(world, from, to)? {
+            if from != to && pass(stage, from, to)? {
                 moved = true;
             }
         }
@@ -38,11 +55,7 @@ fn round<T: GroupTable + Drop>(world: &mut World<T>, count: usize) -> Result<boo
 }
 
 /// The steps of one pair in a round.
-fn pass<T: GroupTable + Drop>(
-    world: &mut World<T>,
-    from: usize,
-    to: usize,
-) -> Result<bool, NodeFault> {
+fn pass(stage: &mut Stage, from: usize, to: usize) -> Result<bool, Halt> {
     let put = Step::Put {
         from,
         to,
@@ -57,18 +70,18 @@ fn pass<T: GroupTable + Drop>(
         node: to,
         peer: from,
     });
-    let was_put = moves(world, &put)?;
-    let was_pulled = moves(world, &pull)?;
-    let was_taken = moves(world, &take)?;
+    let was_put = moves(stage, &put)?;
+    let was_pulled = moves(stage, &pull)?;
+    let was_taken = moves(stage, &take)?;
     Ok(was_put || was_pulled || was_taken)
 }
 
 /// Makes a step; whether a byte moved or an event happened.
-fn moves<T: GroupTable + Drop>(world: &mut World<T>, step: &Step) -> Result<bool, NodeFault> {
-    match world.step(step) {
+fn moves(stage: &mut Stage, step: &Step) -> Result<bool, Halt> {
+    match stage.step(step, true)? {
         Ok(Stepped::Nothing) | Ok(Stepped::Moved(0)) => Ok(false),
         Ok(_) => Ok(true),
         Err(NodeFault::Refused(Refusal::NodeLost)) => Ok(false),
-        Err(fault) => Err(fault),
+        Err(fault) => Err(Halt::Refused(fault)),
     }
 }
