@@ -1,3 +1,4 @@
+pub mod Agreeing
 pub mod Closing
 pub mod Finishing
 pub mod JoiningRows

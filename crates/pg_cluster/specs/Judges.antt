@@ -1,7 +1,22 @@
 -- What a cluster that has ended is judged by.
-use Rattle.std.specs.Prelude.{◌≡◌, ℕ, List, Some, slice_get}
+use Rattle.std.specs.Prelude.{◌≡◌, ℕ, Bool, true, false, not, ◌&&◌, List, Option, Some, None, is_none, is_some, slice_get}
+use Rattle.std.specs.declared.vec.Vec.{Vec}
+use Rattle.std.specs.declared.alloc.Global.{Global}
+use Rattle.std.specs.List.{All, list_all, list_any}
+use Rattle.pg_term.specs.declared.pid.Pid.{Pid}
+use Rattle.pg_term.specs.declared.term.Term.{Term}
+use Rattle.pg_term.specs.Same.{same_term}
 use Rattle.pg_group.specs.declared.table.GroupTable.{Ghosts}
+use Rattle.pg_group.specs.Members.{IsMemberList}
+use Rattle.pg_group.specs.Scope.{anywhere}
+use Rattle.pg_group.specs.Value.{Value}
 use Rattle.pg_node.specs.declared.node.Node.{Node}
+use Rattle.pg_node.specs.Nodes.{held_by}
+use Rattle.pg_node.specs.States.{kept_by, left_of}
+use Rattle.pg_run.specs.declared.log.NodeEvent.{NodeEvent}
+use Rattle.pg_run.specs.declared.log.NodeEvent.TheVariants as events
+use Rattle.pg_step.specs.declared.command.Command.TheVariants.{Finish}
+use Rattle.pg_step.specs.State.{State, formed}
 use Rattle.pg_step.specs.Config.{Config}
 use Rattle.pg_world.specs.declared.step.FrameStep.{FrameStep}
 use Rattle.pg_world.specs.Crossings.{node_of}
@@ -19,3 +34,55 @@ module _ {T : Type 0} {g : Ghosts T} where
   pub record Replays (given : Config) (schedule : List FrameStep) (nodes : List (Node T g)) : Type 0 where
     pub numbers : List ℕ
     pub ran : Ran over_packets given schedule numbers (λ config w. (i : ℕ) (node : Node T g) → slice_get nodes i ≡ Some node → ShowsNode config w i (node_of node))
+
+  -- ---- one opinion
+
+  abbrev pub state_in : Node T g → State
+  state_in node = kept_by (held_by node)
+
+  abbrev pub formed_in : Node T g → Bool
+  formed_in node = formed (left_of (held_by node)) (state_in node)
+
+  -- one of these nodes sees the lock of the group free
+  abbrev pub is_seen_free : List (Node T g) → Term → Bool
+  is_seen_free nodes name = list_any (λ node. is_none ((state_in node).locks name)) nodes
+
+  -- one of these nodes has taken the end of the process, and not each
+  abbrev pub is_taken_by_some : List (Node T g) → Pid → Bool
+  is_taken_by_some nodes pid = list_any (λ node. (state_in node).ended pid) nodes && not (list_all (λ node. (state_in node).ended pid) nodes)
+
+  -- the event is such an end
+  abbrev pub is_pending_end : List (Node T g) → NodeEvent → Bool
+  is_pending_end nodes (events.Command port (Finish pid)) = is_taken_by_some nodes pid
+  is_pending_end nodes event = false
+
+  -- these logs tell of such an end
+  abbrev pub is_end_pending : List (Node T g) → List (Vec (ℕ × NodeEvent) Global) → Bool
+  is_end_pending nodes logs = list_any (λ log. list_any (λ entry. is_pending_end nodes entry.1) log.items) logs
+
+  -- two nodes have the same of the group, or the second is not formed
+  abbrev pub HasAs : Node T g → Term → Node T g → Type 0
+  HasAs x name y = formed_in y ≡ true → (state_in x).table name ≡ (state_in y).table name
+
+  -- a node has the same as each of these nodes that is formed, of each of its groups whose lock one of them sees free
+  abbrev pub AgreesWith : List (Node T g) → Node T g → Type 0
+  AgreesWith nodes x = (name : Term) → is_some ((state_in x).table name) ≡ true → is_seen_free nodes name ≡ true → All (HasAs x name) nodes
+
+  -- formed nodes have the same of each group whose lock one node sees free
+  abbrev pub AreOne : List (Node T g) → Type 0
+  AreOne nodes = All (λ x. formed_in x ≡ true → (name : Term) → is_seen_free nodes name ≡ true → All (HasAs x name) nodes) nodes
+
+  -- they do, where no end is pending
+  abbrev pub Agree : List (Node T g) → List (Vec (ℕ × NodeEvent) Global) → Type 0
+  Agree nodes logs = is_end_pending nodes logs ≡ false → AreOne nodes
+
+-- what is told of a group: that there is none, or its members in order
+abbrev pub IsTold : Value → Option (Vec Pid Global) → Type 0
+IsTold value None = value ≡ None
+IsTold value (Some pids) = (is_some value ≡ true) × IsMemberList value anywhere pids.items
+
+-- both are none, or both are these members
+abbrev pub AreSame : Option (Vec Pid Global) → Option (Vec Pid Global) → Type 0
+AreSame None None = Unit {0}
+AreSame (Some pids) (Some others) = pids.items ≡ others.items
+AreSame pids others = ⊥

@@ -1,12 +1,26 @@
 //! Whether a cluster that has ended came to what its schedule says, and to one opinion.
 
-ghost use Rattle.std.specs.Prelude.{◌≡◌, IsTrue, IfOk, Some, slice_get};
+ghost use Rattle.std.specs.Prelude.{◌≡◌, ◌↔◌, true, IsTrue, IfOk, Some, slice_get};
+ghost use Rattle.std.specs.List.{All, list_all, list_any};
 ghost use Rattle.pg_world.specs.Crossings.{node_of};
 ghost use Rattle.pg_world.specs.Worlds.{view_of as view_of_world};
-ghost use Rattle.pg_cluster.specs.Judges.{AreShown as AreShownAll};
+ghost use Rattle.pg_cluster.specs.Judges.{
+  AreShown as AreShownAll,
+  AgreesWith,
+  AreOne,
+  AreSame,
+  HasAs,
+  formed_in,
+  IsTold,
+  is_pending_end,
+  is_end_pending as is_some_pending,
+  is_seen_free as is_free,
+  is_taken_by_some as is_taken,
+  state_in,
+};
 
 use crate::closed::Closed;
-use pg_group::GroupTable;
+use pg_group::{GroupTable, one_member_list};
 use pg_index::IndexTable;
 use pg_node::Node;
 use pg_query::{QueryFault, members};
@@ -19,23 +33,20 @@ use std::alloc::{AllocError, Global};
 impl Closed {
     ghost use Rattle.pg_world.specs.Worlds.{view_of};
     ghost use Rattle.pg_world.specs.Runs.{LosesNone};
-    ghost use Rattle.pg_cluster.specs.Judges.{AreShown, Replays};
+    ghost use Rattle.pg_cluster.specs.Judges.{Agree, AreShown, Replays};
 
-    /// Whether the nodes agree: no end is pending, and yet two formed nodes have other members in a group whose lock one node sees
-    /// free, exactly where they do not. Its cost is that of the list of each group of each node, for each other node.
+    /// Whether the nodes agree: formed nodes have the same of each group whose lock one node sees free, or an end is pending that
+    /// a log tells of. Its cost is that of the list of each group of each node, for each other node.
     ///
     /// Error: `AllocError`.
-    pub fn agrees(&self, alloc: Global) -> Result<bool, AllocError> {
+    pub fn agrees(&self, alloc: Global) -> Result<bool, AllocError>
+        ensures { IfOk result (λ yes. IsTrue yes ↔ Agree self.now.nodes.items self.now.logs.items) }
+    {
         let nodes = self.nodes.as_slice();
-        if are_pending(nodes, self.logs.as_slice()) {
+        if is_end_pending(nodes, self.logs.as_slice()) {
             return Ok(true);
         }
-        for node in nodes {
-            if node.state().formed() && !agrees_with(alloc, nodes, node)? {
-                return Ok(false);
-            }
-        }
-        Ok(true)
+        are_one(alloc, nodes)
     }
 
     /// Whether the schedule, made step by step from the start of this configuration, comes to the same nodes. Its cost is that of
@@ -89,57 +100,149 @@ fn shows_one(
     }
 }
 
-/// Whether an end that these logs tell of was taken by some node and not by all.
-fn are_pending(nodes: &[Node<IndexTable>], logs: &[Vec<LogEntry>]) -> bool {
-    logs.iter()
-        .any(|log| log.iter().any(|entry| is_pending(nodes, &entry.1)))
+/// Whether these logs tell of an end that some of these nodes have taken and not all.
+fn is_end_pending(nodes: &[Node<IndexTable>], logs: &[Vec<LogEntry>]) -> bool
+    ensures { result ≡ is_some_pending nodes.now logs.now }
+{
+    logs.iter().any(|log| is_pending_in(nodes, log.as_slice()))
 }
 
-/// Whether an event is the end of a process which some node took and not all.
-fn is_pending(nodes: &[Node<IndexTable>], event: &NodeEvent) -> bool {
+/// The same of one log.
+fn is_pending_in(nodes: &[Node<IndexTable>], log: &[LogEntry]) -> bool
+    ensures { result ≡ list_any (λ entry. is_pending_end nodes.now entry.1) log.now }
+{
+    log.iter().any(|entry| is_pending(nodes, &entry.1))
+}
+
+/// Whether an event is the end of a process that some of these nodes have taken and not all.
+fn is_pending(nodes: &[Node<IndexTable>], event: &NodeEvent) -> bool
+    ensures { result ≡ is_pending_end nodes.now event.now }
+{
     match event {
-        NodeEvent::Command(_, Command::Finish(pid)) => {
-            let taken = nodes.iter().any(|node| node.state().ended(pid));
-            taken && !nodes.iter().all(|node| node.state().ended(pid))
-        }
+        NodeEvent::Command(_, Command::Finish(pid)) => is_taken_by_some(nodes, pid),
         _ => false,
     }
 }
 
-/// Whether each formed node has the members of a node in each of its groups whose lock one node sees free.
-fn agrees_with(
-    alloc: Global,
-    nodes: &[Node<IndexTable>],
-    node: &Node<IndexTable>,
-) -> Result<bool, AllocError> {
-    let names = node.state().table().groups()?;
-    for name in &names {
-        if is_free(nodes, name) && !agree_on(alloc, nodes, node, name)? {
+/// Whether some of these nodes have taken the end of a process and not all.
+fn is_taken_by_some(nodes: &[Node<IndexTable>], pid: &Pid) -> bool
+    ensures { result ≡ is_taken nodes.now pid.now }
+{
+    is_taken_by_one(nodes, pid) && !is_taken_by_each(nodes, pid)
+}
+
+/// Whether one of these nodes has taken the end of a process.
+fn is_taken_by_one(nodes: &[Node<IndexTable>], pid: &Pid) -> bool
+    ensures { result ≡ list_any (λ node. (state_in node).ended pid.now) nodes.now }
+{
+    nodes.iter().any(|node| node.state().ended(pid))
+}
+
+/// Whether each of these nodes has.
+fn is_taken_by_each(nodes: &[Node<IndexTable>], pid: &Pid) -> bool
+    ensures { result ≡ list_all (λ node. (state_in node).ended pid.now) nodes.now }
+{
+    nodes.iter().all(|node| node.state().ended(pid))
+}
+
+/// Whether formed nodes have the same of each group whose lock one node sees free.
+fn are_one(alloc: Global, nodes: &[Node<IndexTable>]) -> Result<bool, AllocError>
+    ensures { IfOk result (λ yes. IsTrue yes ↔ AreOne nodes.now) }
+{
+    for node in nodes {
+        if !agrees_if_formed(alloc, nodes, node)? {
             return Ok(false);
         }
     }
     Ok(true)
 }
 
-/// Whether one node sees the lock of a group free.
-fn is_free(nodes: &[Node<IndexTable>], name: &Term) -> bool {
-    nodes.iter().any(|node| node.state().holder(name).is_none())
+/// Whether a node, if it is formed, agrees with each node.
+fn agrees_if_formed(
+    alloc: Global,
+    nodes: &[Node<IndexTable>],
+    node: &Node<IndexTable>,
+) -> Result<bool, AllocError>
+    ensures { IfOk result (λ yes. IsTrue yes ↔ (formed_in node.now ≡ true → AgreesWith nodes.now node.now)) }
+{
+    if !node.state().formed() {
+        return Ok(true);
+    }
+    let names = node.state().table().groups()?;
+    agrees_on(alloc, nodes, node, names.as_slice())
 }
 
-/// Whether each formed node has the members of a node in a group.
-fn agree_on(
+/// Whether a node agrees with each node on the groups of these names.
+fn agrees_on(
+    alloc: Global,
+    nodes: &[Node<IndexTable>],
+    node: &Node<IndexTable>,
+    names: &[Term],
+) -> Result<bool, AllocError>
+    ensures { IfOk result (λ yes. IsTrue yes ↔ All (λ name. is_free nodes.now name ≡ true → All (HasAs node.now name) nodes.now) names.now) }
+{
+    for name in names {
+        if !agrees_if_free(alloc, nodes, node, name)? {
+            return Ok(false);
+        }
+    }
+    Ok(true)
+}
+
+/// Whether a node agrees with each node on a group, if one node sees its lock free.
+fn agrees_if_free(
     alloc: Global,
     nodes: &[Node<IndexTable>],
     node: &Node<IndexTable>,
     name: &Term,
-) -> Result<bool, AllocError> {
-    let own = members_of(alloc, node, name)?;
+) -> Result<bool, AllocError>
+    ensures { IfOk result (λ yes. IsTrue yes ↔ (is_free nodes.now name.now ≡ true → All (HasAs node.now name.now) nodes.now)) }
+{
+    if !is_seen_free(nodes, name) {
+        return Ok(true);
+    }
     for other in nodes {
-        if other.state().formed() && members_of(alloc, other, name)? != own {
+        if !has_as(alloc, node, other, name)? {
             return Ok(false);
         }
     }
     Ok(true)
+}
+
+/// Whether one of these nodes sees the lock of a group free.
+fn is_seen_free(nodes: &[Node<IndexTable>], name: &Term) -> bool
+    ensures { result ≡ is_free nodes.now name.now }
+{
+    nodes.iter().any(|node| node.state().holder(name).is_none())
+}
+
+/// Whether two nodes have the same of a group, or the second is not formed.
+fn has_as(
+    alloc: Global,
+    one: &Node<IndexTable>,
+    other: &Node<IndexTable>,
+    name: &Term,
+) -> Result<bool, AllocError>
+    ensures { IfOk result (λ yes. IsTrue yes ↔ HasAs one.now name.now other.now) }
+{
+    if !other.state().formed() {
+        return Ok(true);
+    }
+    one_member_list();
+    let pids = members_of(alloc, one, name)?;
+    let others = members_of(alloc, other, name)?;
+    Ok(are_same(pids, others))
+}
+
+/// Whether two groups are both absent or have the same members.
+fn are_same(pids: Option<Vec<Pid>>, others: Option<Vec<Pid>>) -> bool
+    ensures { IsTrue result ↔ AreSame pids others }
+{
+    match (pids, others) {
+        (Some(pids), Some(others)) => pids == others,
+        (None, None) => true,
+        _ => false,
+    }
 }
 
 /// The members of a group at a node, in their order; none where there is no such group.
@@ -147,10 +250,12 @@ fn members_of(
     alloc: Global,
     node: &Node<IndexTable>,
     name: &Term,
-) -> Result<Option<Vec<Pid>>, AllocError> {
+) -> Result<Option<Vec<Pid>>, AllocError>
+    ensures { IfOk result (IsTold ((state_in node.now).table name.now)) }
+{
     match members(alloc, node.state().table(), name) {
         Ok(pids) => Ok(Some(pids.into_vec())),
-        Err(QueryFault::OutOfMemory) => Err(AllocError),
-        Err(_) => Ok(None),
+        Err(QueryFault::NoSuchGroup) => Ok(None),
+        Err(_) => Err(AllocError),
     }
 }

@@ -1,0 +1,108 @@
+-- Nodes that agree.
+use Rattle.std.proofs.Common.{◌≡◌, ◌↔◌, ℕ, zero, suc, ◌+◌, ◌<◌, Bool, true, false, not, ◌||◌, List, [], ◌∷◌, length, arith, Option, Some, None, Result, Ok, Err, refl, sym, ap, subst, ◌∙◌}
+use Rattle.std.specs.Prelude.{IfOk, IsTrue, is_some, slice_index_or}
+use Rattle.std.specs.declared.vec.Vec.{Vec}
+use Rattle.std.specs.declared.alloc.Global.{Global}
+use Rattle.std.specs.List.{All, list_any}
+use Rattle.pg_term.specs.declared.pid.Pid.{Pid}
+use Rattle.pg_term.specs.declared.term.Term.{Term}
+use Rattle.pg_term.specs.Same.{same_term}
+use Rattle.pg_term.specs.contracts.term.TermEq.TheImpl.Laws as term_laws
+use Rattle.pg_term.proofs.Same.{same_term as term_is}
+use Rattle.pg_group.specs.declared.table.GroupTable.{Ghosts}
+use Rattle.pg_group.specs.Members.{IsMemberList}
+use Rattle.pg_group.specs.Scope.{anywhere}
+use Rattle.pg_group.specs.Table.{AreNames, Table}
+use Rattle.pg_group.specs.Value.{Value}
+use Rattle.pg_node.specs.declared.node.Node.{Node}
+use Rattle.pg_query.proofs.SameGroups.{group_told}
+use Rattle.pg_cluster.specs.Judges.{AgreesWith, AreOne, AreSame, HasAs, IsTold, formed_in, is_seen_free, state_in}
+
+-- groups are one where what is told of them is the same
+pub told_same : (v w : Value) (pids others : Option (Vec Pid Global)) → IsTold v pids → IsTold w others → AreSame pids others → v ≡ w
+told_same v w None None f g same = f ∙ sym g
+told_same v w (Some pids) (Some others) f g same = group_told v w pids.items (f.0 ∙ sym g.0) f.1 (subst (IsMemberList w anywhere) (sym same) g.1)
+told_same v w None (Some others) f g same = absurd same
+told_same v w (Some pids) None f g same = absurd same
+
+-- and what is told of one group is the same
+pub same_told : (v w : Value) (pids others : Option (Vec Pid Global))
+    → ((xs ys : List Pid) → IsMemberList v anywhere xs → IsMemberList v anywhere ys → xs ≡ ys)
+    → IsTold v pids → IsTold w others → v ≡ w → AreSame pids others
+same_told v w None None unique f g e = tt
+same_told v w (Some pids) (Some others) unique f g e = unique pids.items others.items f.1 (subst (λ (u : Value). IsMemberList u anywhere others.items) (sym e) g.1)
+same_told v w None (Some others) unique f g e = absurd (let clash : is_some v ≡ true = ap is_some e ∙ g.0 in let none : is_some v ≡ false = ap is_some f in cc)
+same_told v w (Some pids) None unique f g e = absurd (let clash : is_some w ≡ true = ap is_some (sym e) ∙ f.0 in let none : is_some w ≡ false = ap is_some g in cc)
+
+-- a value that is not absent is there
+is_there : (v : Value) → (v ≡ None → ⊥) → is_some v ≡ true
+is_there None h = absurd (h refl)
+is_there (Some m) h = refl
+
+-- what is told of a group that is there
+pub told_members : (t u : Table) (name : Term) (pids : List Pid) (v : Vec Pid Global) → t ≡ u → v.items ≡ pids → (t name ≡ None → ⊥)
+    → IsMemberList (t name) anywhere pids → IsTold (u name) (Some v)
+told_members t u name pids v e is there list =
+    subst (λ (table : Table). IsTold (table name) (Some v)) e (is_there (t name) there, subst (IsMemberList (t name) anywhere) (sym is) list)
+
+module _ {T : Type 0} {g : Ghosts T} (nodes : List (Node T g)) where
+  -- formed nodes have the same, where each has of its own groups what the others have
+  pub one_so : All (λ x. formed_in x ≡ true → AgreesWith nodes x) nodes → AreOne nodes
+  one_so all k x low formed name free = λ j y lower formed2. same k x low formed name free j y lower formed2
+    where
+      same : (k : ℕ) (x : Node T g) → k < length nodes → formed_in (slice_index_or nodes k x) ≡ true → (name : Term) → is_seen_free nodes name ≡ true
+          → (j : ℕ) (y : Node T g) → j < length nodes → formed_in (slice_index_or nodes j y) ≡ true
+          → (state_in (slice_index_or nodes k x)).table name ≡ (state_in (slice_index_or nodes j y)).table name
+      same k x low formed name free j y lower formed2 = go ((state_in (slice_index_or nodes k x)).table name) refl ((state_in (slice_index_or nodes j y)).table name) refl
+        where
+          go : (v : Value) → (state_in (slice_index_or nodes k x)).table name ≡ v → (w : Value) → (state_in (slice_index_or nodes j y)).table name ≡ w
+              → (state_in (slice_index_or nodes k x)).table name ≡ (state_in (slice_index_or nodes j y)).table name
+          go (Some m) e w f = all k x low formed name (ap is_some e) free j y lower formed2
+          go None e (Some n) f = sym (all j y lower formed2 name (ap is_some f) free k x low formed)
+          go None e None f = e ∙ sym f
+
+  -- and so each has
+  pub so_one : AreOne nodes → All (λ x. formed_in x ≡ true → AgreesWith nodes x) nodes
+  so_one one k x low formed name there free = one k x low formed name free
+
+-- ---- names of a list
+
+or_so : (b c : Bool) → c ≡ true → (b || c) ≡ true
+or_so true c e = refl
+or_so false c e = e
+
+-- what is so of all of a list is so of each name in it
+pub of_named : (P : Term → Type 0) (names : List Term) → All P names → (name : Term) → list_any (same_term name) names ≡ true → P name
+of_named P [] all name e = absurd cc
+of_named P (x ∷ xs) all name e = go (same_term name x) refl e (of_named P xs (λ k d low. all (suc k) d (omega (arith, low))) name)
+  where
+    go : (b : Bool) → same_term name x ≡ b → (b || list_any (same_term name) xs) ≡ true → (list_any (same_term name) xs ≡ true → P name) → P name
+    go true is e later = subst P (sym (term_is name x is)) (all zero x (omega arith))
+    go false is e later = later e
+
+-- and the other way round
+pub named_all : (P : Term → Type 0) (names : List Term) → ((name : Term) → list_any (same_term name) names ≡ true → P name) → All P names
+named_all P [] h k d low = absurd (omega (arith, low))
+named_all P (x ∷ xs) h zero d low = h x (ap (λ b. b || list_any (same_term x) xs) (term_laws.laws-law.refl x))
+named_all P (x ∷ xs) h (suc k) d low = named_all P xs (λ name e. h name (or_so (same_term name x) (list_any (same_term name) xs) e)) k d (omega (arith, low))
+
+-- ---- one node
+
+module _ {T : Type 0} {g : Ghosts T} (nodes : List (Node T g)) (x : Node T g) where
+  -- a node, if it is formed, agrees with each of these
+  abbrev pub IsAgreed : Type 0
+  IsAgreed = formed_in x ≡ true → AgreesWith nodes x
+
+  -- it agrees on a group
+  abbrev pub IsAgreedOn : Term → Type 0
+  IsAgreedOn name = is_seen_free nodes name ≡ true → All (HasAs x name) nodes
+
+  -- it agrees on the groups that it tells, which are all that it has
+  module _ (table : Table) (names others : List Term) (is : table ≡ (state_in x).table) (are : AreNames table names) (same : others ≡ names) where
+    pub agreed_forth : All IsAgreedOn others → AgreesWith nodes x
+    agreed_forth all name there free =
+        of_named IsAgreedOn names (subst (All IsAgreedOn) same all) name (are.each name ∙ (ap (λ (t : Table). is_some (t name)) is ∙ there)) free
+
+    pub agreed_back : AgreesWith nodes x → All IsAgreedOn others
+    agreed_back agree =
+        subst (All IsAgreedOn) (sym same) (named_all IsAgreedOn names (λ name e. agree name (ap (λ (t : Table). is_some (t name)) (sym is) ∙ (sym (are.each name) ∙ e))))

@@ -1,0 +1,13 @@
+//! What is only run of clusters: that commands are answered, that nodes run at once.
+#![tactic(auto)]
+
+#[cfg(test)]
+mod conversation;
+#[cfg(test)]
+mod gates;
+#[cfg(test)]
+mod programs;
+#[cfg(test)]
+mod rings;
+#[cfg(test)]
+mod setting;
