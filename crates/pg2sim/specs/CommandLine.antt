@@ -1,9 +1,15 @@
 -- The words that the program knows, and what they ask for.
-use Rattle.std.specs.Prelude.{◌≡◌, List, ◌∷◌, [], true, Option, Some, None, codes, unwrap_or}
+use Rattle.std.specs.Prelude.{◌≡◌, ℕ, ◌-◌, ◌^◌, List, ◌∷◌, [], Bool, true, false, Option, Some, None, codes, unwrap_or, option_map}
+use Rattle.std.specs.Option.{option_map_or}
+use Rattle.std.specs.Str.{bytes_eq}
+use Rattle.clap.specs.declared.builder.action.ArgAction.TheVariants.{SetTrue}
+use Rattle.clap.specs.declared.builder.value_parser.ValueParser.TheVariants.{Unsigned}
 use Rattle.clap.specs.Words.{App, Row, Rule, Text, first_of, new_app, new_rule, with_rule, with_subcommand}
 use Rattle.clap.specs.Simple.{on_top}
+use Rattle.pg2sim.specs.declared.words.Aids.{Aids}
+use Rattle.pg2sim.specs.declared.words.Talk.{Talk}
 use Rattle.pg2sim.specs.declared.words.Task.{Task}
-use Rattle.pg2sim.specs.declared.words.Task.TheVariants.{Bytes, Script}
+use Rattle.pg2sim.specs.declared.words.Task.TheVariants.{Bytes, Script, Threads}
 
 -- `--ID NAME`, where this name stands for one that is not given
 abbrev pub name_rule : Text → Text → Rule
@@ -13,15 +19,34 @@ name_rule id default = record (new_rule id) { long = Some id; value_names = 1; d
 abbrev pub bytes_line : App
 bytes_line = with_rule (with_rule (new_app (codes "bytes")) (name_rule (codes "node") (codes "b"))) (name_rule (codes "peer") (codes "a"))
 
--- `script`
-abbrev pub script_line : App
-script_line = new_app (codes "script")
+-- `--ID`
+abbrev pub flag_rule : Text → Rule
+flag_rule id = record (new_rule id) { long = Some id; action = Some SetTrue }
 
--- one of the two
+-- `--diagram FILE`
+abbrev pub diagram_rule : Rule
+diagram_rule = record (new_rule (codes "diagram")) { long = Some (codes "diagram"); value_names = 1 }
+
+-- `script [--trace] [--diagram FILE]`
+abbrev pub script_line : App
+script_line = with_rule (with_rule (new_app (codes "script")) (flag_rule (codes "trace"))) diagram_rule
+
+-- `--ID N`, a number within bounds, where this one stands for one that is not given
+abbrev pub number_rule : Text → Text → ℕ → ℕ → Rule
+number_rule id default least most = record (new_rule id) { long = Some id; value_names = 1; defaults = default ∷ []; parser = Some (Unsigned least most) }
+
+-- `threads [--nodes N] [--clients N] [--rounds N] [--seed N] [--turns N] [--json]`
+abbrev pub threads_line : App
+threads_line = with_rule (with_rule (with_rule (with_rule (with_rule (with_rule (new_app (codes "threads"))
+    (number_rule (codes "nodes") (codes "3") 1 16)) (number_rule (codes "clients") (codes "2") 1 16))
+    (number_rule (codes "rounds") (codes "50") 0 1000)) (number_rule (codes "seed") (codes "1") 0 (2 ^ 64 - 1)))
+    (number_rule (codes "turns") (codes "100000000") 0 (2 ^ 64 - 1))) (flag_rule (codes "json"))
+
+-- one of the three
 abbrev pub command_line : App
-command_line = with_subcommand (with_subcommand
+command_line = with_subcommand (with_subcommand (with_subcommand
     (on_top (λ top. record top { no_binary_name = true; subcommand_required = true; disable_help_subcommand = true }) (new_app (codes "pg2sim")))
-    bytes_line.top) script_line.top
+    bytes_line.top) script_line.top) threads_line.top
 
 -- the name that was given, or this one
 abbrev pub given_name : Text → Text → List Row → Text
@@ -37,7 +62,27 @@ abbrev pub IsOther : Option (Text × List Row) → Type 0
 IsOther (Some p) = p.0 ≡ codes "bytes" → ⊥
 IsOther None = Unit {0}
 
+-- the flag was given
+abbrev pub is_flag : Text → List Row → Bool
+is_flag id rows = option_map_or (λ word. bytes_eq word (codes "true")) (first_of id rows) false
+
+-- a trace where its flag was given, and a diagram in the file that was given
+pub record AsksAids (rows : List Row) (aids : Aids) : Type 0 where
+  pub traced : aids.is_traced ≡ is_flag (codes "trace") rows
+  pub diagram : option_map (λ s. s.now) aids.diagram ≡ first_of (codes "diagram") rows
+
+-- another than `threads`, with these aids
+abbrev pub IsScript : Option (Text × List Row) → Aids → Type 0
+IsScript (Some p) aids = (p.0 ≡ codes "threads" → ⊥) × AsksAids p.1 aids
+IsScript None aids = Unit {0}
+
+-- `threads`, told as one line where its flag was given
+abbrev pub IsThreads : Option (Text × List Row) → Talk → Type 0
+IsThreads (Some p) talk = (p.0 ≡ codes "threads") × (talk.is_json ≡ is_flag (codes "json") p.1)
+IsThreads None talk = ⊥
+
 -- what a command and its matches ask for
 abbrev pub IsAsked : Option (Text × List Row) → Task → Type 0
 IsAsked matches (Bytes own peer) = IsBytes matches own.now peer.now
-IsAsked matches Script = IsOther matches
+IsAsked matches (Script aids) = IsOther matches × IsScript matches aids
+IsAsked matches (Threads talk) = IsOther matches × IsThreads matches talk

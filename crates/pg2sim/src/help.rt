@@ -48,9 +48,48 @@ Lines end with a line feed. Empty lines and lines that begin with % are skipped.
 one space. A NODE is an atom, as a or 'my node'. Terms: -7, a, 'A b', {t,1}, [1,2], <<1,255>>,
 <a.1.0> (process 1 of node a), #<a/1.0.0.0>.
 
-Where a step is refused, `line L refused N` stands behind what its line printed, and the run goes on.
+A trace begins its lines with %, behind it the line of the script, the node, its clock, what it does, with
+whom, and the packet. Where a step is refused, `line L refused N` stands behind what its line printed, and the run goes on.
 docs/SCRIPTS.md shows each line with an example.";
+
+/// What `--trace` does.
+pub(crate) const TRACE_HELP: &str =
+    "print what moved and happened, an event a line, before what each line of the script prints";
+
+/// What `--diagram` does.
+pub(crate) const DIAGRAM_HELP: &str =
+    "write a sequence diagram of the run to this file, as SVG, once the run has ended";
 
 pub(crate) const NODE_HELP: &str = "the node's own name, an atom of just these characters";
 
 pub(crate) const PEER_HELP: &str = "the name of its one peer";
+
+/// What `threads` does.
+pub(crate) const THREADS_ABOUT: &str =
+    "Run nodes as threads, with rings of bytes between them, and let clients join a group and leave it";
+
+/// What `threads` prints, and when it is content.
+pub(crate) const THREADS_LINES: &str =
+    "The first client of the first node, n1, creates the group g. Then each client makes a process, and joins g with it
+and leaves g, again and again, each command once the former is answered. Then the nodes are stopped,
+and four lines are printed:
+  nodes N clients M      how many nodes and clients there were in all
+  answered X of Y        how many commands were answered, of how many
+  agree yes              nodes have the same members where they see the lock of the group free
+  replay yes             the logs of the nodes, joined to one run, lead to the nodes as they ended
+
+Status 0: all were answered, and both say yes; else 1.";
+
+/// The options of `threads`.
+pub(crate) const NODES_HELP: &str = "how many nodes, 1 to 16";
+
+pub(crate) const CLIENTS_HELP: &str = "how many clients each node has, 1 to 16";
+
+pub(crate) const ROUNDS_HELP: &str = "how often each client joins and leaves, at most 1000";
+
+pub(crate) const SEED_HELP: &str = "the seed of the first node's pauses";
+
+pub(crate) const TURNS_HELP: &str = "how many turns each node makes at most";
+
+pub(crate) const JSON_HELP: &str =
+    "print the same as one line of JSON, with the time in microseconds";

@@ -1,4 +1,4 @@
-//! `pg2sim`: the replica of one node over bytes, and runs of scripts, from standard input to standard output.
+//! `pg2sim`: the replica of one node over bytes, runs of scripts, and nodes as threads.
 #![tactic(auto)]
 
 mod bytes;
@@ -9,15 +9,22 @@ mod run;
 mod script;
 #[cfg(test)]
 mod streams;
+mod system;
+#[cfg(test)]
+mod talks;
 #[cfg(test)]
 mod tests;
+mod threads;
 mod words;
 
 use pg_node::{AnyReader, AnyWriter};
 use run::{OUT_OF_MEMORY, refuse, refuse_text, run_words};
 use std::io::{BufWriter, ErrorKind};
 use std::process::ExitCode;
+use std::thread::Threads;
+use std::time::Instant;
 use std::{env, io, vec};
+use system::HostSystem;
 
 /// The words behind the program's name.
 fn given_words(rt: &HostRuntime) -> io::Result<Vec<String>> {
@@ -29,7 +36,7 @@ fn given_words(rt: &HostRuntime) -> io::Result<Vec<String>> {
 }
 
 /// Runs what the words ask for on standard input and both outputs.
-fn status(rt: &HostRuntime, words: &[String]) -> io::Result<u8> {
+fn status(rt: &HostRuntime, threads: &impl Threads, words: &[String]) -> io::Result<u8> {
     let mut reader = AnyReader { reader: rt.stdin() };
     let mut writer = AnyWriter {
         writer: BufWriter::new(rt.alloc(), rt.stdout())?,
@@ -37,7 +44,20 @@ fn status(rt: &HostRuntime, words: &[String]) -> io::Result<u8> {
     let mut faults = AnyWriter {
         writer: rt.stderr(),
     };
-    Ok(run_words(rt.alloc(), words, &mut reader, &mut writer, &mut faults))
+    let mut system = HostSystem {
+        alloc: rt.alloc(),
+        rt,
+        threads,
+        begun: Instant::now(rt)?,
+    };
+    Ok(run_words(
+        rt.alloc(),
+        words,
+        &mut reader,
+        &mut writer,
+        &mut system,
+        &mut faults,
+    ))
 }
 
 fn main(rt: HostRuntime) -> ExitCode {
@@ -45,7 +65,7 @@ fn main(rt: HostRuntime) -> ExitCode {
         writer: rt.stderr(),
     };
     let status = match given_words(&rt) {
-        Ok(words) => match status(&rt, words.as_slice()) {
+        Ok(words) => match status(&rt, &rt, words.as_slice()) {
             Ok(status) => status,
             Err(_) => refuse(&mut faults, OUT_OF_MEMORY),
         },

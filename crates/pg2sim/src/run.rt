@@ -13,7 +13,9 @@ ghost use Rattle.pg2sim.specs.declared.fault.Fault.TheVariants.{Run};
 use crate::bytes::{BytesFault, serve_input};
 use crate::fault::Fault;
 use crate::script::run_input;
-use crate::words::{Task, read_words};
+use crate::system::System;
+use crate::threads::converse;
+use crate::words::{Aids, Talk, Task, read_words};
 use clap::Error;
 use clap::error::ErrorKind;
 use pg_node::{Sink, Source};
@@ -25,20 +27,26 @@ pub(crate) const OUT_OF_MEMORY: u8 = 10;
 
 const DONE: u8 = 0;
 
+// A cluster's clients were not all answered, or its nodes are not what they should be.
+const NOT_GOOD: u8 = 1;
+
 const REFUSED_WORDS: u8 = 2;
 
 /// Does what the words of a command line ask for, without the name of the program, and gives the status that it ends with.
 ///
 /// `bytes [--node NAME] [--peer NAME]` reads framed packets from `reader` and writes the framed replies to `writer`, as
 /// `pg_node::serve` does; names that are too long or equal are refused. `script` reads a script and runs it, as
-/// `pg_script::run_script` does. A fault stands in a line of `faults`: `refused N`, or `line L refused N` for a faulty line of a
+/// `pg_script::run_script` does; by `--trace` it tells what was seen, too, and by `--diagram` it makes a file in `system` once the run
+/// has ended. `threads` lets clients speak with a cluster of nodes in threads, as `pg_cluster::run_threads` does, and prints how it went;
+/// status 1 where not all was well. A fault stands in a line of `faults`: `refused N`, or `line L refused N` for a faulty line of a
 /// script. Status 0: done; 1: the run was refused; 2: what was given was refused. Refused words print the text of `clap` on
 /// `faults`, status 2, and nothing is read or written.
-pub fn run_words<R: Source, W: Sink, F: Sink>(
+pub fn run_words<R: Source, W: Sink, D: System, F: Sink>(
     alloc: Global,
     words: &[String],
     reader: &mut R,
     writer: &mut W,
+    system: &mut D,
     faults: &mut F,
 ) -> u8
     ensures refused { fault_of command_line (map string_bytes words.now) ≢ [] → WordsEnd result
@@ -53,7 +61,8 @@ pub fn run_words<R: Source, W: Sink, F: Sink>(
 {
     match read_words(alloc, words) {
         Ok(Task::Bytes { own, peer }) => run_bytes(alloc, own, peer, reader, writer, faults),
-        Ok(Task::Script) => run_script(alloc, reader, writer, faults),
+        Ok(Task::Threads(talk)) => run_conversation(alloc, talk, writer, system, faults),
+        Ok(Task::Script(aids)) => run_script(alloc, aids, reader, writer, system, faults),
         Err(error) => refuse_words(alloc, faults, &error),
     }
 }
@@ -77,14 +86,31 @@ fn run_bytes<R: Source, W: Sink, F: Sink>(
 }
 
 /// Runs the script that the input is, and gives the status.
-fn run_script<R: Source, W: Sink, F: Sink>(
+fn run_script<R: Source, W: Sink, D: System, F: Sink>(
     alloc: Global,
+    aids: Aids<'_>,
     reader: &mut R,
     writer: &mut W,
+    system: &mut D,
     faults: &mut F,
 ) -> u8 {
-    let ran = run_input(alloc, reader, writer);
+    let ran = run_input(alloc, aids, reader, writer, system);
     tell(faults, ran)
+}
+
+/// Lets the clients of a cluster speak, and gives the status.
+fn run_conversation<W: Sink, D: System, F: Sink>(
+    alloc: Global,
+    talk: Talk,
+    writer: &mut W,
+    system: &mut D,
+    faults: &mut F,
+) -> u8 {
+    match converse(alloc, talk, writer, system) {
+        Ok(true) => DONE,
+        Ok(false) => NOT_GOOD,
+        Err(fault) => tell(faults, Err(fault)),
+    }
 }
 
 /// How serving ends, for the program.

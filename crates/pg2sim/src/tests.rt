@@ -1,5 +1,7 @@
 // The worked examples as bytes, and what no clause says: texts, readers and writers that fail.
 use crate::run::run_words;
+use crate::system::System;
+use pg_cluster::{Conversation, Outcome, StartFault};
 use pg_node::{AnyReader, AnyWriter, Source, serve};
 use pg_term::Atom;
 use std::alloc::Global;
@@ -76,12 +78,30 @@ const WIDE_REPLY: [u8; 44] = [
     255, 255, 255, 255, 0, 0, 0, 1, 0, 0, 0, 0, 0, 0, 0, 0, 119, 2, 111, 107,
 ];
 
+// Makes no file, and runs no thread.
+#[derive(Drop)]
+pub(crate) struct NoSystem;
+
+impl System for NoSystem {
+    fn put(&mut self, _name: &str, _bytes: &[u8]) -> io::Result<()> {
+        Err(io::Error::from(io::ErrorKind::PermissionDenied))
+    }
+
+    fn converse(&mut self, _asked: Conversation) -> Result<Outcome, StartFault> {
+        Err(StartFault::NoThread)
+    }
+
+    fn microseconds(&mut self) -> u64 {
+        0
+    }
+}
+
 // What a run printed, and its status.
 #[derive(Drop)]
-struct Printed {
-    output: Vec<u8>,
-    faults: Vec<u8>,
-    status: u8,
+pub(crate) struct Printed {
+    pub(crate) output: Vec<u8>,
+    pub(crate) faults: Vec<u8>,
+    pub(crate) status: u8,
 }
 
 fn run<R: Source>(alloc: Global, word: &str, reader: &mut R) -> Result<Printed, Fail> {
@@ -93,7 +113,14 @@ fn run<R: Source>(alloc: Global, word: &str, reader: &mut R) -> Result<Printed, 
     let mut faults = AnyWriter {
         writer: Vec::new(alloc),
     };
-    let status = run_words(alloc, words.as_slice(), reader, &mut output, &mut faults);
+    let status = run_words(
+        alloc,
+        words.as_slice(),
+        reader,
+        &mut output,
+        &mut NoSystem,
+        &mut faults,
+    );
     Ok(Printed {
         output: output.writer,
         faults: faults.writer,
@@ -348,6 +375,7 @@ fn write_fails(rt: HostRuntime) -> Result<(), Fail> {
             words.as_slice(),
             &mut reader,
             &mut writer,
+            &mut NoSystem,
             &mut faults,
         );
         assert_eq!(rt; got, status, "a writer that takes {limit} bytes");
@@ -383,6 +411,7 @@ fn refused_growth(rt: HostRuntime) -> Result<(), Fail> {
             words.as_slice(),
             &mut reader,
             &mut writer,
+            &mut NoSystem,
             &mut line,
         );
         let left = writer.writer.len();
@@ -409,5 +438,228 @@ fn names_alike(rt: HostRuntime) -> Result<(), Fail> {
     };
     assert!(rt; serve(rt.alloc(), &nameless, &nameless, &mut call, &mut reply).is_ok());
     assert!(rt; reply.writer.as_slice() == CREATED.as_slice());
+    Ok(())
+}
+
+// One file, which can't be made where `fails` is set; it runs no thread.
+#[derive(Drop)]
+struct Shelf {
+    name: Vec<u8>,
+    bytes: Vec<u8>,
+    fails: bool,
+}
+
+impl System for Shelf {
+    fn put(&mut self, name: &str, bytes: &[u8]) -> io::Result<()> {
+        if self.fails || !self.name.is_empty() {
+            return Err(io::Error::from(io::ErrorKind::PermissionDenied));
+        }
+        self.name.extend_from_slice(name.as_bytes())?;
+        self.bytes.extend_from_slice(bytes)?;
+        Ok(())
+    }
+
+    fn converse(&mut self, _asked: Conversation) -> Result<Outcome, StartFault> {
+        Err(StartFault::NoThread)
+    }
+
+    fn microseconds(&mut self) -> u64 {
+        0
+    }
+}
+
+fn empty_shelf(alloc: Global, fails: bool) -> Shelf {
+    Shelf {
+        name: Vec::new(alloc),
+        bytes: Vec::new(alloc),
+        fails,
+    }
+}
+
+pub(crate) fn run_with<D: System>(
+    alloc: Global,
+    given: &[&str],
+    text: &[u8],
+    system: &mut D,
+) -> Result<Printed, Fail> {
+    let mut words = Vec::new(alloc);
+    for word in given {
+        words.push(String::from_str(alloc, word)?)?;
+    }
+    let mut reader = text;
+    let mut output = AnyWriter {
+        writer: Vec::new(alloc),
+    };
+    let mut faults = AnyWriter {
+        writer: Vec::new(alloc),
+    };
+    let status = run_words(
+        alloc,
+        words.as_slice(),
+        &mut reader,
+        &mut output,
+        system,
+        &mut faults,
+    );
+    Ok(Printed {
+        output: output.writer,
+        faults: faults.writer,
+        status,
+    })
+}
+
+const ALONE: &[u8] = b"node 'a<b'\ncreate 'a<b' g\nlose 'a<b'\n";
+
+const TRACE: &[u8] = b"% line  node   clock  event  with        what
+%    2  'a<b'      1  do                 command 1: create g
+'a<b' 1 ok
+%    3  'a<b'         lose               the node is lost
+";
+
+#[test]
+fn aids(rt: HostRuntime) -> Result<(), Fail> {
+    let alloc = rt.alloc();
+    let mut files = empty_shelf(alloc, false);
+    let plain = run_with(alloc, &["script"], ALONE, &mut files)?;
+    assert!(rt; plain.output.as_slice() == b"'a<b' 1 ok\n".as_slice());
+    let traced = run_with(alloc, &["script", "--trace"], ALONE, &mut files)?;
+    assert!(rt; traced.output.as_slice() == TRACE);
+    assert!(rt; files.name.is_empty());
+    let drawn = run_with(alloc, &["script", "--diagram", "x.svg"], ALONE, &mut files)?;
+    assert_eq!(rt; drawn.status, 0);
+    assert!(rt; drawn.output.as_slice() == plain.output.as_slice());
+    assert!(rt; files.name.as_slice() == b"x.svg".as_slice());
+    let picture = str::from_utf8(files.bytes.as_slice())?;
+    for shown in [
+        ">&#39;a&lt;b&#39;</text>",
+        ">1: create g</text>",
+        ">1: ok</text>",
+        ">lost</text>",
+    ] {
+        assert!(rt; picture.contains(shown), "{shown}");
+    }
+    Ok(())
+}
+
+#[test]
+fn no_file_can_be_made(rt: HostRuntime) -> Result<(), Fail> {
+    let alloc = rt.alloc();
+    let mut files = empty_shelf(alloc, true);
+    let both = run_with(
+        alloc,
+        &["script", "--trace", "--diagram", "x"],
+        ALONE,
+        &mut files,
+    )?;
+    assert!(rt; both.output.as_slice() == TRACE);
+    assert!(rt; both.faults.as_slice() == b"refused 32\n".as_slice());
+    assert_eq!(rt; both.status, 1);
+    Ok(())
+}
+
+// Takes what is written, and fails where it is flushed; or takes nothing.
+#[derive(Drop)]
+struct Shut {
+    is_closed: bool,
+}
+
+impl Write for Shut {
+    fn write(&mut self, buf: &[u8]) -> io::Result<usize> {
+        if self.is_closed {
+            return Err(io::Error::from(io::ErrorKind::BrokenPipe));
+        }
+        Ok(buf.len())
+    }
+
+    fn flush(&mut self) -> io::Result<()> {
+        Err(io::Error::from(io::ErrorKind::BrokenPipe))
+    }
+}
+
+#[test]
+fn output_is_shut(rt: HostRuntime) -> Result<(), Fail> {
+    for (word, input) in [("bytes", &CREATE[..]), ("script", ALONE)] {
+        for is_closed in [false, true] {
+            let mut words = Vec::new(rt.alloc());
+            words.push(String::from_str(rt.alloc(), word)?)?;
+            let mut reader = input;
+            let mut writer = AnyWriter {
+                writer: Shut { is_closed },
+            };
+            let mut faults = AnyWriter {
+                writer: Vec::new(rt.alloc()),
+            };
+            let status = run_words(
+                rt.alloc(),
+                words.as_slice(),
+                &mut reader,
+                &mut writer,
+                &mut NoSystem,
+                &mut faults,
+            );
+            assert_eq!(rt; status, 1, "{word}");
+            assert!(rt;
+                faults.writer.as_slice() == b"refused 32\n".as_slice(),
+                "{word}"
+            );
+        }
+    }
+    Ok(())
+}
+
+// A directory, whose bytes can't be read.
+#[derive(Drop)]
+struct Directory;
+
+impl Read for Directory {
+    fn read(&mut self, _buf: &mut [u8]) -> io::Result<usize> {
+        Err(io::Error::from(io::ErrorKind::IsADirectory))
+    }
+}
+
+#[test]
+fn a_directory_is_no_script(rt: HostRuntime) -> Result<(), Fail> {
+    let mut reader = AnyReader { reader: Directory };
+    let printed = run(rt.alloc(), "script", &mut reader)?;
+    assert!(rt; printed.output.is_empty());
+    assert!(rt; printed.faults.as_slice() == b"refused 31\n".as_slice());
+    assert_eq!(rt; printed.status, 1);
+    Ok(())
+}
+
+// Gives a byte a read.
+#[derive(Drop)]
+struct Slow<'a> {
+    text: &'a [u8],
+}
+
+impl<'a> Read for Slow<'a> {
+    fn read(&mut self, buf: &mut [u8]) -> io::Result<usize> {
+        let count = self.text.len().min(buf.len()).min(1);
+        let (piece, rest) = self.text.split_at(count);
+        buf[..count].copy_from_slice(piece);
+        self.text = rest;
+        Ok(count)
+    }
+}
+
+// More reads than anything that counts them would be likely to have room for.
+#[test]
+fn many_reads(rt: HostRuntime) -> Result<(), Fail> {
+    let mut text = Vec::new(rt.alloc());
+    text.extend_from_slice(b"node a\n")?;
+    let mut answers = Vec::new(rt.alloc());
+    for number in 1..=200u32 {
+        text.extend_from_slice(b"groups a\n")?;
+        answers.extend_from_slice(format!(in rt.alloc(); "a {number} []\n")?.as_bytes())?;
+    }
+    let mut reader = AnyReader {
+        reader: Slow {
+            text: text.as_slice(),
+        },
+    };
+    let printed = run(rt.alloc(), "script", &mut reader)?;
+    assert_eq!(rt; printed.status, 0);
+    assert!(rt; printed.output.as_slice() == answers.as_slice());
     Ok(())
 }

@@ -1,12 +1,18 @@
 //! What the words of a command line ask for.
 
-ghost use Rattle.std.specs.Prelude.{◌≡◌, false, IfOk, IfErr, map, string_bytes};
-ghost use Rattle.clap.specs.Words.{rule_of, subcommand_rows_of, app_of, kind_of, found_of, rows_of, fault_of, subcommand_of, FailsBy};
+ghost use Rattle.std.specs.Prelude.{◌≡◌, false, IfOk, IfErr, codes, map, option_map, string_bytes};
+ghost use Rattle.clap.specs.Words.{rule_of, subcommand_rows_of, app_of, kind_of, found_of, rows_of, first_of, fault_of, subcommand_of, FailsBy};
 ghost use Rattle.clap.specs.declared.builder.Command.TheViews.{out-Command};
-ghost use Rattle.pg2sim.specs.CommandLine.{name_rule, bytes_line, script_line, command_line, given_name, IsAsked};
+ghost use Rattle.pg2sim.specs.CommandLine.{name_rule, bytes_line, script_line, flag_rule, diagram_rule, number_rule, threads_line, command_line, given_name, is_flag, AsksAids, IsAsked};
 
-use crate::help::{ABOUT, BYTES_ABOUT, NODE_HELP, PEER_HELP, SCRIPT_ABOUT, SCRIPT_FORMS};
-use clap::{Arg, ArgMatches, Command, Error};
+use crate::help::{
+    ABOUT, BYTES_ABOUT, CLIENTS_HELP, DIAGRAM_HELP, JSON_HELP, NODE_HELP, NODES_HELP, PEER_HELP,
+    ROUNDS_HELP, SCRIPT_ABOUT, SCRIPT_FORMS, SEED_HELP, THREADS_ABOUT, THREADS_LINES, TRACE_HELP,
+    TURNS_HELP,
+};
+use clap::builder::ValueParser;
+use clap::{Arg, ArgAction, ArgMatches, Command, Error};
+use pg_cluster::Conversation;
 use std::alloc::{AllocError, Global};
 
 /// What the words ask for.
@@ -14,8 +20,27 @@ use std::alloc::{AllocError, Global};
 pub(crate) enum Task<'a> {
     /// The replica of one node, with these names of the node and of its peer.
     Bytes { own: &'a str, peer: &'a str },
-    /// A run of a script.
-    Script,
+    /// A run of a script, with these aids.
+    Script(Aids<'a>),
+    /// Clients that speak with a cluster.
+    Threads(Talk),
+}
+
+/// Clients that speak with a cluster, and how it is told.
+#[derive(Clone, Copy, Debug)]
+pub(crate) struct Talk {
+    pub(crate) asked: Conversation,
+    /// It is told as one line of JSON.
+    pub(crate) is_json: bool,
+}
+
+/// What a run of a script gives beside what it prints.
+#[derive(Clone, Copy, Debug)]
+pub(crate) struct Aids<'a> {
+    /// It prints what moved and happened, too.
+    pub(crate) is_traced: bool,
+    /// The file that a sequence diagram goes to.
+    pub(crate) diagram: Option<&'a str>,
 }
 
 /// Reads the words, without the name of the program.
@@ -26,8 +51,10 @@ pub(crate) fn read_words<'a>(alloc: Global, words: &'a [String]) -> Result<Task<
     ensures refused { FailsBy (fault_of command_line (map string_bytes words.entry.now)) result }
 {
     let command = command(alloc)?;
-    let matches = command.try_get_matches_from(words)?;
-    Ok(task_of(&matches))
+    match command.try_get_matches_from(words) {
+        Ok(matches) => Ok(task_of(&matches)),
+        Err(error) => Err(error),
+    }
 }
 
 /// What the matches ask for.
@@ -39,7 +66,60 @@ fn task_of<'a>(matches: &ArgMatches<'a>) -> Task<'a>
             own: name_or(names, "node", "b"),
             peer: name_or(names, "peer", "a"),
         },
-        _ => Task::Script,
+        Some(("threads", given)) => Task::Threads(talk_of(given)),
+        Some((_, given)) => Task::Script(aids_of(given)),
+        None => Task::Script(Aids {
+            is_traced: false,
+            diagram: None,
+        }),
+    }
+}
+
+/// The aids that a run of a script is asked for.
+fn aids_of<'a>(given: &ArgMatches<'a>) -> Aids<'a>
+    ensures { AsksAids (rows_of (found_of given.now)) result }
+{
+    Aids {
+        is_traced: is_given(given, "trace"),
+        diagram: text_of(given, "diagram"),
+    }
+}
+
+/// Whether a flag was given.
+fn is_given(given: &ArgMatches<'_>, id: &str) -> bool
+    ensures { result ≡ is_flag id.now (rows_of (found_of given.now)) }
+{
+    match given.get_str(id) {
+        Some(word) => word == "true",
+        None => false,
+    }
+}
+
+/// The text of an option, if it was given.
+fn text_of<'a>(given: &ArgMatches<'a>, id: &str) -> Option<&'a str>
+    ensures { option_map (λ s. s.now) result ≡ first_of id.now (rows_of (found_of given.now)) }
+{
+    given.get_str(id)
+}
+
+/// The conversation that is asked for, and how it is to be told.
+fn talk_of(given: &ArgMatches<'_>) -> Talk
+    ensures { result.is_json ≡ is_flag (codes "json") (rows_of (found_of given.now)) }
+{
+    Talk {
+        asked: conversation_of(given),
+        is_json: is_given(given, "json"),
+    }
+}
+
+/// The conversation that is asked for.
+fn conversation_of(given: &ArgMatches<'_>) -> Conversation {
+    Conversation {
+        nodes: given.get_one("nodes").unwrap_or(3),
+        clients: given.get_one("clients").unwrap_or(2),
+        rounds: given.get_one("rounds").unwrap_or(50),
+        seed: given.get_one("seed").unwrap_or(1),
+        turns: given.get_one("turns").unwrap_or(100_000_000),
     }
 }
 
@@ -58,14 +138,16 @@ fn command<'a>(alloc: Global) -> Result<Command<'a>, AllocError>
     ensures { IfOk result (λ command. app_of command ≡ command_line) }
 {
     let bytes = bytes_command(alloc)?;
-    let script = script_command(alloc);
+    let script = script_command(alloc)?;
+    let threads = threads_command(alloc)?;
     Command::new(alloc, "pg2sim")
         .about(ABOUT)
         .no_binary_name(true)
         .subcommand_required(true)
         .disable_help_subcommand(true)
         .subcommand(bytes)?
-        .subcommand(script)
+        .subcommand(script)?
+        .subcommand(threads)
 }
 
 fn bytes_command<'a>(alloc: Global) -> Result<Command<'a>, AllocError>
@@ -92,11 +174,78 @@ fn name_option<'a>(alloc: Global, id: &'a str, default: &'a str, help: &'a str) 
         .help(help)
 }
 
-fn script_command<'a>(alloc: Global) -> Command<'a>
-    ensures app { app_of result ≡ script_line }
-    ensures local { (out-Command result).has_globals ≡ false }
+fn script_command<'a>(alloc: Global) -> Result<Command<'a>, AllocError>
+    ensures app { IfOk result (λ command. app_of command ≡ script_line) }
+    ensures local { IfOk result (λ command. (out-Command command).has_globals ≡ false) }
 {
+    let trace = flag(alloc, "trace", TRACE_HELP);
+    let diagram = diagram_option(alloc);
     Command::new(alloc, "script")
         .about(SCRIPT_ABOUT)
         .after_help(SCRIPT_FORMS)
+        .arg(trace)?
+        .arg(diagram)
+}
+
+/// A flag.
+fn flag<'a>(alloc: Global, id: &'a str, help: &'a str) -> Arg<'a>
+    ensures rule { rule_of result ≡ flag_rule id.entry.now }
+    ensures plain { result.global ≡ false }
+{
+    Arg::new(alloc, id)
+        .long(id)
+        .action(ArgAction::SetTrue)
+        .help(help)
+}
+
+/// The option that asks for a diagram.
+fn diagram_option<'a>(alloc: Global) -> Arg<'a>
+    ensures rule { rule_of result ≡ diagram_rule }
+    ensures plain { result.global ≡ false }
+{
+    Arg::new(alloc, "diagram")
+        .long("diagram")
+        .value_name("FILE")
+        .help(DIAGRAM_HELP)
+}
+
+fn threads_command<'a>(alloc: Global) -> Result<Command<'a>, AllocError>
+    ensures app { IfOk result (λ command. app_of command ≡ threads_line) }
+    ensures local { IfOk result (λ command. (out-Command command).has_globals ≡ false) }
+{
+    let nodes = number_option(alloc, "nodes", "3", 1, 16, NODES_HELP);
+    let clients = number_option(alloc, "clients", "2", 1, 16, CLIENTS_HELP);
+    let rounds = number_option(alloc, "rounds", "50", 0, 1000, ROUNDS_HELP);
+    let seed = number_option(alloc, "seed", "1", 0, u64::MAX, SEED_HELP);
+    let turns = number_option(alloc, "turns", "100000000", 0, u64::MAX, TURNS_HELP);
+    let json = flag(alloc, "json", JSON_HELP);
+    Command::new(alloc, "threads")
+        .about(THREADS_ABOUT)
+        .after_help(THREADS_LINES)
+        .arg(nodes)?
+        .arg(clients)?
+        .arg(rounds)?
+        .arg(seed)?
+        .arg(turns)?
+        .arg(json)
+}
+
+/// An option that gives a number within bounds.
+fn number_option<'a>(
+    alloc: Global,
+    id: &'a str,
+    default: &'a str,
+    least: u64,
+    most: u64,
+    help: &'a str,
+) -> Arg<'a>
+    ensures rule { rule_of result ≡ number_rule id.entry.now default.entry.now least most }
+    ensures plain { result.global ≡ false }
+{
+    Arg::new(alloc, id)
+        .long(id)
+        .value_name("N")
+        .default_value(default)
+        .value_parser(ValueParser::Unsigned(least, most))
+        .help(help)
 }

@@ -11,6 +11,8 @@ pub returns : goal.returns
 returns c =
     let head_is : app_of c.disable_help_subcommand.result ≡ head = search rules in
     let bytes_is = ap (λ (a : App). a.top) c.in_ok-bytes.ensures.app in
-    let script_is = ap (λ (a : App). a.top) c.script_command-script.ensures.app in
+    let script_is = ap (λ (a : App). a.top) c.in_ok-script.ensures.app in
     let first_is = c.in_ok-subcommand.ensures.shape c.in_ok-bytes.ensures.local ∙ ap₂ with_subcommand head_is bytes_is in
-    IfOk-weaker c.subcommand-2.result _ _ (λ m h. h.shape c.script_command-script.ensures.local ∙ ap₂ with_subcommand first_is script_is) c.subcommand-2.ensures
+    let threads_is = ap (λ (a : App). a.top) c.in_ok-threads.ensures.app in
+    let second_is = c.in_ok-subcommand-2.ensures.shape c.in_ok-script.ensures.local ∙ ap₂ with_subcommand first_is script_is in
+    IfOk-weaker c.subcommand-3.result _ _ (λ m h. h.shape c.in_ok-threads.ensures.local ∙ ap₂ with_subcommand second_is threads_is) c.subcommand-3.ensures
