@@ -1,2 +1,3 @@
+mod Cut
 mod Moved
 mod Read

@@ -1,7 +1,7 @@
 -- Packets that cross as bytes in pieces. How a packet is written is any function from packets to bodies.
-use Rattle.std.specs.Prelude.{◌≡◌, ℕ, List, ◌∷◌, ◌++◌, map, take, drop}
+use Rattle.std.specs.Prelude.{◌≡◌, ◌≤◌, ℕ, List, ◌∷◌, ◌++◌, None, Ok, length, map, take, drop}
 use Rattle.std.specs.List.{AllByRecursion, flat_map}
-use Rattle.pg_frame.specs.Frames.{IsBody, frame, after_front}
+use Rattle.pg_frame.specs.Frames.{IsBody, frame, front_of, after_front}
 
 -- The bytes on the way from one node to another.
 pub record Bytes : Type 0 where
@@ -63,3 +63,25 @@ pub record FirstPackets {P : Type 0} (write : P → List ℕ) (packets : List P)
   pub are : packets ≡ first ++ others
   pub is : bodies ≡ map write first
   pub left : behind ≡ frames_of write others
+
+-- ---- bytes of a node that is lost
+
+-- The bytes that came and those on the ring are these packets, and behind them a piece that is no whole frame. The outbox counts no more.
+pub record AreCut {P : Type 0} (write : P → List ℕ) (packets : List P) (bytes : Bytes) : Type 0 where
+  pub piece : List ℕ
+  pub torn : front_of piece ≡ Ok None
+  pub are : bytes.came ++ bytes.ring ≡ frames_of write packets ++ piece
+
+-- The first so many of some packets are still on the way.
+pub record StayWhole {P : Type 0} (write : P → List ℕ) (packets : List P) (bytes : Bytes) : Type 0 where
+  pub count : ℕ
+  pub few : count ≤ length packets
+  pub left : AreCut write (take count packets) bytes
+
+-- A body is that of the first of those packets, and once its frame is taken out the others are left.
+pub record FirstOfCut {P : Type 0} (write : P → List ℕ) (packets : List P) (bytes : Bytes) (body : List ℕ) : Type 0 where
+  pub first : P
+  pub others : List P
+  pub are : packets ≡ first ∷ others
+  pub is : body ≡ write first
+  pub left : AreCut write others (taken bytes)

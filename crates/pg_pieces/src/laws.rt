@@ -3,7 +3,7 @@
 ghost use Rattle.std.specs.Prelude.{◌≡◌, ◌≢◌, ◌∷◌, ◌++◌, ℕ, List, [], Ok, Err, Some};
 ghost use Rattle.std.specs.List.{AllByRecursion, flat_map};
 ghost use Rattle.pg_frame.specs.Frames.{IsBody, frame, front_of, too_long};
-ghost use Rattle.pg_pieces.specs.Pieces.{Bytes, ArePackets, AreShort, frames_of, put, pull, sent, taken, FirstPacket, FirstPackets};
+ghost use Rattle.pg_pieces.specs.Pieces.{Bytes, ArePackets, AreShort, frames_of, put, pull, sent, taken, FirstPacket, FirstPackets, AreCut, StayWhole, FirstOfCut};
 
 use pg_frame::{pieces_continue, taking_leaves_others, written_is_read};
 
@@ -50,5 +50,34 @@ pub fn packets_cross_in_order<P>()
         → AreShort write packets → AllByRecursion IsBody bodies → flat_map frame bodies ++ behind ≡ frames_of write packets
         → FirstPackets write packets bodies behind }
 {
+    written_is_read();
+}
+
+/// Where a node is lost, its outbox counts no more: of the packets on the way the first stay, as many as were put whole, and behind
+/// them there may be a piece of the next. However many bytes of them are pulled at once, they are the same packets.
+pub fn loss_cuts_packets<P>()
+    ensures cut { (write : P → List ℕ) (packets : List P) (bytes : Bytes)
+        → AreShort write packets → ArePackets write packets bytes → StayWhole write packets bytes }
+    ensures pull { (write : P → List ℕ) (packets : List P) (bytes : Bytes) (count : ℕ)
+        → AreCut write packets bytes → AreCut write packets (pull count bytes) }
+{
+    pieces_continue();
+    written_is_read();
+}
+
+/// The first whole frame of what came of a lost node is the first packet, and without it the others are left. No overlong frame comes,
+/// and once the ring is empty the frame of the first packet has come whole.
+pub fn front_is_first_of_cut<P>()
+    ensures first { (write : P → List ℕ) (packets : List P) (bytes : Bytes) (body : List ℕ)
+        → AreShort write packets → AreCut write packets bytes → front_of bytes.came ≡ Ok (Some body)
+        → FirstOfCut write packets bytes body }
+    ensures lawful { (write : P → List ℕ) (packets : List P) (bytes : Bytes)
+        → AreShort write packets → AreCut write packets bytes → front_of bytes.came ≢ Err too_long }
+    ensures whole { (write : P → List ℕ) (first : P) (others : List P) (bytes : Bytes)
+        → AreShort write (first ∷ others) → AreCut write (first ∷ others) bytes
+        → bytes.ring ≡ [] → front_of bytes.came ≡ Ok (Some (write first)) }
+{
+    pieces_continue();
+    taking_leaves_others();
     written_is_read();
 }

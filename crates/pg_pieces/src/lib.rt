@@ -5,6 +5,6 @@
 mod laws;
 
 pub use laws::{
-    front_is_first_packet, moving_keeps_packets, packets_cross_in_order, sending_adds_packets,
-    whole_frames_come,
+    front_is_first_of_cut, front_is_first_packet, loss_cuts_packets, moving_keeps_packets,
+    packets_cross_in_order, sending_adds_packets, whole_frames_come,
 };

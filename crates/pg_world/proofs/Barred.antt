@@ -153,6 +153,52 @@ taken_sent : (p : ℕ) (xs : List (Stamped Message)) (more : List (Stamped (Noti
 taken_sent p [] more input e = absurd (cc)
 taken_sent p (x ∷ xs) more input e = refl
 
+-- why an event is refused, and whether it takes a packet
+module _ (config : Config) (nodes : List Seen) (w : TimedFrameWorld) (lost : List ℕ) (shows : ShowsNodes config nodes w) (seen : SeenAreLost config w lost) where
+  pub either_stays : (a b : Bool) → (a || b) ≡ false → a ≡ false
+  either_stays true b e = absurd (cc)
+  either_stays false b e = refl
+
+  pub either_unseen : (a b : Bool) → (a || b) ≡ false → b ≡ false
+  either_unseen true b e = absurd (cc)
+  either_unseen false b e = e
+
+  module _ (i p : ℕ) (places : is_pair (length nodes) i p ≡ true) (lives : is_cut_off nodes lost i p ≡ false) where
+    take_pair : is_pair (length config) i p ≡ true
+    take_pair = sym (pair_here config nodes w lost shows i p) ∙ places
+
+    pub take_cut : (is_lost lost i || (w.node i).state.lost (name_at config p)) ≡ false
+    take_cut = sym (cut_is config nodes w lost shows seen i p take_pair) ∙ lives
+
+    told_first : told config w (Take i p) ≡ told_of_first (nodes_at config i) (name_at config p) (w.node i) (w.wire p i)
+    told_first = ap (λ b. cond b (told_of_first (nodes_at config i) (name_at config p) (w.node i) (w.wire p i)) (Some (Err NoSuchPlace))) take_pair
+
+    refusal_is : take_refusal config (losing_of config w lost) i p ≡ first_refusal (nodes_at config i) (name_at config p) (w.node i) (map sent_packet (w.wire p i) ++ notices config w lost p i)
+    refusal_is = take_barred config nodes w lost shows seen i p true false take_pair take_cut
+
+    pub take_refused_so : (r : Refusal) → told config w (Take i p) ≡ Some (Err r) → take_refusal config (losing_of config w lost) i p ≡ Some r
+    take_refused_so r e = refusal_is ∙ first_told (nodes_at config i) (name_at config p) (w.node i) (w.wire p i) (notices config w lost p i) r (sym told_first ∙ e)
+
+    pub take_idle_so : told config w (Take i p) ≡ None → (none_sent (map sent_packet (w.wire p i) ++ notices config w lost p i) ≡ true) × (take_refusal config (losing_of config w lost) i p ≡ None)
+    take_idle_so e = let none = only_notices (nodes_at config i) (name_at config p) (w.node i) (w.node p) (w.wire p i) (is_pair (length config) p i && (is_lost lost p && not ((w.node i).state.lost (name_at config p)))) (sym told_first ∙ e) in
+        (none.0, refusal_is ∙ none.1)
+
+    pub take_busy_so : (v : TimedFrameWorld) → happens (frame_machine config) w (Take i p) ≡ Some v → none_sent (map sent_packet (w.wire p i) ++ notices config w lost p i) ≡ false
+    take_busy_so v is_so = let h = happened (frame_machine config) w v (Take i p) is_so in taken_sent p (w.wire p i) (notices config w lost p i) h.input h.given
+
+  pub own_refused_so : (i : ℕ) (action : Action) → has_port nodes i (port_of action) ≡ true → is_lost lost i ≡ false
+      → (r : Refusal) → told config w (Do i action) ≡ Some (Err r) → own_refusal config (losing_of config w lost) i action ≡ Some r
+  own_refused_so i action places stays r e =
+      let there : (is_place (length config) i && nat_lt (port_of action) (ports_at config i)) ≡ true = sym (port_is config nodes w lost shows i (port_of action)) ∙ places in
+      let same : cond (is_place (length config) i) (step_act (nodes_at config i) (ports_at config i) action (w.node i)) (Err NoSuchPlace) ≡ Err r = some_is e in
+      let told_as : step_act (nodes_at config i) (ports_at config i) action (w.node i) ≡ Err r =
+      ap (λ b. cond b (step_act (nodes_at config i) (ports_at config i) action (w.node i)) (Err NoSuchPlace)) (sym (first_true (is_place (length config) i) _ there)) ∙ same in
+      own_barred config nodes w lost shows seen i action true false there stays ∙ ap refusal_of told_as
+    where
+      first_true : (a b : Bool) → (a && b) ≡ true → a ≡ true
+      first_true true b e = refl
+      first_true false b e = absurd (cc)
+
 module _ (config : Config) (old new : View) (lost lost2 : List ℕ) (w : TimedFrameWorld) (shows : Shows config old w) (seen : SeenAreLost config w lost) (same : lost2 ≡ lost) where
   -- nothing has changed
   pub still : new ≡ old → ShowsLosing config new lost2 (losing_of config w lost)
@@ -197,54 +243,18 @@ module _ (config : Config) (old new : View) (lost lost2 : List ℕ) (w : TimedFr
       → ComesTo config w (Take i p) result (Shows config new) → (result ≡ Ok Nothing → new ≡ old) → OnErr result (new ≡ old)
       → LosingComesTo config (losing_of config w lost) (told_take config (losing_of config w lost) i p) result (ShowsLosing config new lost2)
   take_comes i p result places lives came nothing err =
-      comes (Take i p) (told_take config (losing_of config w lost) i p) refl refl (first_false (is_lost lost i) _ lives) refused idle busy result came nothing err
-    where
-      pair : is_pair (length config) i p ≡ true
-      pair = sym (pair_here config old.traffic.nodes w lost shows.traffic.nodes i p) ∙ places
-
-      cut : (is_lost lost i || (w.node i).state.lost (name_at config p)) ≡ false
-      cut = sym (cut_is config old.traffic.nodes w lost shows.traffic.nodes seen i p pair) ∙ lives
-
-      first_false : (a b : Bool) → (a || b) ≡ false → a ≡ false
-      first_false true b e = absurd (cc)
-      first_false false b e = refl
-
-      told_is : told config w (Take i p) ≡ told_of_first (nodes_at config i) (name_at config p) (w.node i) (w.wire p i)
-      told_is = ap (λ b. cond b (told_of_first (nodes_at config i) (name_at config p) (w.node i) (w.wire p i)) (Some (Err NoSuchPlace))) pair
-
-      is : take_refusal config (losing_of config w lost) i p ≡ first_refusal (nodes_at config i) (name_at config p) (w.node i) (map sent_packet (w.wire p i) ++ notices config w lost p i)
-      is = take_barred config old.traffic.nodes w lost shows.traffic.nodes seen i p true false pair cut
-
-      refused : (r : Refusal) → told config w (Take i p) ≡ Some (Err r) → take_refusal config (losing_of config w lost) i p ≡ Some r
-      refused r e = is ∙ first_told (nodes_at config i) (name_at config p) (w.node i) (w.wire p i) (notices config w lost p i) r (sym told_is ∙ e)
-
-      idle : told config w (Take i p) ≡ None → (none_sent (map sent_packet (w.wire p i) ++ notices config w lost p i) ≡ true) × (take_refusal config (losing_of config w lost) i p ≡ None)
-      idle e = let none = only_notices (nodes_at config i) (name_at config p) (w.node i) (w.node p) (w.wire p i) (is_pair (length config) p i && (is_lost lost p && not ((w.node i).state.lost (name_at config p)))) (sym told_is ∙ e) in
-          (none.0, is ∙ none.1)
-
-      busy : (v : TimedFrameWorld) → happens (frame_machine config) w (Take i p) ≡ Some v → none_sent (map sent_packet (w.wire p i) ++ notices config w lost p i) ≡ false
-      busy v is_so = let h = happened (frame_machine config) w v (Take i p) is_so in taken_sent p (w.wire p i) (notices config w lost p i) h.input h.given
+      let nodes = old.traffic.nodes in
+      let its = shows.traffic.nodes in
+      comes (Take i p) (told_take config (losing_of config w lost) i p) refl refl (either_stays config nodes w lost its seen (is_lost lost i) _ (take_cut config nodes w lost its seen i p places lives))
+      (take_refused_so config nodes w lost its seen i p places lives) (take_idle_so config nodes w lost its seen i p places lives) (take_busy_so config nodes w lost its seen i p places lives) result came nothing err
 
   -- something of its own
   pub own_comes : (i : ℕ) (action : Action) (result : Result Stepped NodeFault) → has_port old.traffic.nodes i (port_of action) ≡ true → is_lost lost i ≡ false
       → ComesTo config w (Do i action) result (Shows config new) → (result ≡ Ok Nothing → new ≡ old) → OnErr result (new ≡ old)
       → LosingComesTo config (losing_of config w lost) (told_own config (losing_of config w lost) i action) result (ShowsLosing config new lost2)
   own_comes i action result places stays came nothing err =
-      comes (Do i action) (told_own config (losing_of config w lost) i action) refl refl stays refused (λ e. absurd (cc)) (λ v is. refl) result came nothing err
-    where
-      there : (is_place (length config) i && nat_lt (port_of action) (ports_at config i)) ≡ true
-      there = sym (port_is config old.traffic.nodes w lost shows.traffic.nodes i (port_of action)) ∙ places
-
-      first_true : (a b : Bool) → (a && b) ≡ true → a ≡ true
-      first_true true b e = refl
-      first_true false b e = absurd (cc)
-
-      refused : (r : Refusal) → told config w (Do i action) ≡ Some (Err r) → own_refusal config (losing_of config w lost) i action ≡ Some r
-      refused r e =
-          let same : cond (is_place (length config) i) (step_act (nodes_at config i) (ports_at config i) action (w.node i)) (Err NoSuchPlace) ≡ Err r = some_is e in
-          let told_as : step_act (nodes_at config i) (ports_at config i) action (w.node i) ≡ Err r =
-          ap (λ b. cond b (step_act (nodes_at config i) (ports_at config i) action (w.node i)) (Err NoSuchPlace)) (sym (first_true (is_place (length config) i) _ there)) ∙ same in
-          own_barred config old.traffic.nodes w lost shows.traffic.nodes seen i action true false there stays ∙ ap refusal_of told_as
+      comes (Do i action) (told_own config (losing_of config w lost) i action) refl refl stays (own_refused_so config old.traffic.nodes w lost shows.traffic.nodes seen i action places stays)
+      (λ e. absurd (cc)) (λ v is. refl) result came nothing err
 
 -- ---- the same of a world with losses that is shown
 

@@ -10,23 +10,25 @@ use Rattle.pg_machine.specs.Places.{is_pair}
 use Rattle.pg_machine.specs.Machine.{Event, node_of}
 use Rattle.pg_machine.specs.Happened.{Takes}
 use Rattle.pg_machine.specs.Clocked.{Stamped}
-use Rattle.pg_pieces.specs.Pieces.{Bytes, ArePackets, AreShort, frames_of, sent as bytes_sent, taken as bytes_taken}
+use Rattle.pg_pieces.specs.Pieces.{Bytes, AreShort, frames_of, sent as bytes_sent, taken as bytes_taken}
 use Rattle.pg_step.specs.Config.{Config}
 use Rattle.pg_step.specs.Step.{Action}
 use Rattle.pg_node.specs.Links.{Link, IsSmallFrame, AreSmallFrames, frame_of, frames_to}
 use Rattle.pg_node.specs.States.{stamped_of}
 use Rattle.pg_world.specs.Views.{Seen, peer_place, packets_to}
 use Rattle.pg_world.specs.Worlds.{TimedFrameWorld, ShowsNodes}
-use Rattle.pg_world.specs.Crossings.{Crossing, link_at, bytes_at, packet_as, packets_between, written_of, CanCross, ShowsCrossing}
+use Rattle.pg_world.specs.Crossings.{Crossing, link_at, bytes_at, packet_as, packets_between, written_of, CanCross, IsOnWay, ShowsPast}
 use Rattle.pg_world.specs.Changes.{Moves, links_at}
+use Rattle.pg_world.specs.Losses.{is_lost}
+use Rattle.pg_world.proofs.Past.{Adds, way_sent}
 use Rattle.pg_world.proofs.Turning.{Passes, pair_is}
 
 -- ---- bytes move
 
-pub moved_shown : (config : Config) (crossing crossing2 : Crossing) (w : TimedFrameWorld) (x y : ℕ) (change : Bytes → Bytes)
-    → ((packets : List Packet) (bytes : Bytes) → ArePackets written_of packets bytes → ArePackets written_of packets (change bytes))
-    → Moves crossing crossing2 x y change → ShowsCrossing config crossing w → ShowsCrossing config crossing2 w
-moved_shown config crossing crossing2 w x y change keeps moves shows = record {
+pub moved_shown : (config : Config) (lost : List ℕ) (crossing crossing2 : Crossing) (w : TimedFrameWorld) (x y : ℕ) (change : Bytes → Bytes)
+    → ((packets : List Packet) (bytes : Bytes) → IsOnWay (is_lost lost y) (is_lost lost x) packets bytes → IsOnWay (is_lost lost y) (is_lost lost x) packets (change bytes))
+    → Moves crossing crossing2 x y change → ShowsPast config lost crossing w → ShowsPast config lost crossing2 w
+moved_shown config lost crossing crossing2 w x y change keeps moves shows = record {
   nodes = subst (λ (nodes : List Seen). ShowsNodes config nodes w) (sym moves.nodes) shows.nodes;
   ways = λ a b pair. way a b pair (cases_eq a x) (cases_eq b y);
   cross = shows.cross;
@@ -36,16 +38,20 @@ moved_shown config crossing crossing2 w x y change keeps moves shows = record {
     there : (a b : ℕ) → is_pair (length config) a b ≡ true → is_pair (length crossing.nodes) a b ≡ true
     there a b pair = ap (λ n. is_pair n a b) shows.nodes.size ∙ pair
 
-    way : (a b : ℕ) → is_pair (length config) a b ≡ true → (a ≡ x) ⊎ (a ≢ x) → (b ≡ y) ⊎ (b ≢ y) → ArePackets written_of (packets_between w a b) (bytes_at crossing2 a b)
+    here : is_pair (length config) x y ≡ true → IsOnWay (is_lost lost y) (is_lost lost x) (packets_between w x y) (bytes_at crossing2 x y)
+    here pair = subst (IsOnWay (is_lost lost y) (is_lost lost x) (packets_between w x y)) (sym moves.here) (keeps (packets_between w x y) (bytes_at crossing x y) (shows.ways x y pair))
+
+    way : (a b : ℕ) → is_pair (length config) a b ≡ true → (a ≡ x) ⊎ (a ≢ x) → (b ≡ y) ⊎ (b ≢ y) → IsOnWay (is_lost lost b) (is_lost lost a) (packets_between w a b) (bytes_at crossing2 a b)
     way a b pair (inl e) (inl d) =
-        let here : bytes_at crossing2 a b ≡ change (bytes_at crossing a b) = (λ j. bytes_at crossing2 (e j) (d j)) ∙ (moves.here ∙ (λ j. change (bytes_at crossing (sym e j) (sym d j)))) in
-        subst (ArePackets written_of (packets_between w a b)) (sym here) (keeps (packets_between w a b) (bytes_at crossing a b) (shows.ways a b pair))
-    way a b pair (inr n) d = subst (ArePackets written_of (packets_between w a b)) (sym (moves.others a b (there a b pair) (λ both. n both.0))) (shows.ways a b pair)
-    way a b pair (inl e) (inr n) = subst (ArePackets written_of (packets_between w a b)) (sym (moves.others a b (there a b pair) (λ both. n both.1))) (shows.ways a b pair)
+        subst (λ k. IsOnWay (is_lost lost b) (is_lost lost k) (packets_between w k b) (bytes_at crossing2 k b)) (sym e)
+        (subst (λ k. IsOnWay (is_lost lost k) (is_lost lost x) (packets_between w x k) (bytes_at crossing2 x k)) (sym d)
+        (here (subst (λ k. is_pair (length config) k y ≡ true) e (subst (λ k. is_pair (length config) a k ≡ true) d pair))))
+    way a b pair (inr n) d = subst (IsOnWay (is_lost lost b) (is_lost lost a) (packets_between w a b)) (sym (moves.others a b (there a b pair) (λ both. n both.0))) (shows.ways a b pair)
+    way a b pair (inl e) (inr n) = subst (IsOnWay (is_lost lost b) (is_lost lost a) (packets_between w a b)) (sym (moves.others a b (there a b pair) (λ both. n both.1))) (shows.ways a b pair)
 
 -- what is seen as before is shown as before
-pub same_shown : (config : Config) (crossing crossing2 : Crossing) (w : TimedFrameWorld) → crossing2 ≡ crossing → ShowsCrossing config crossing w → ShowsCrossing config crossing2 w
-same_shown config crossing crossing2 w same = subst (λ (x : Crossing). ShowsCrossing config x w) (sym same)
+pub same_shown : (config : Config) (lost : List ℕ) (crossing crossing2 : Crossing) (w : TimedFrameWorld) → crossing2 ≡ crossing → ShowsPast config lost crossing w → ShowsPast config lost crossing2 w
+same_shown config lost crossing crossing2 w same = subst (λ (x : Crossing). ShowsPast config lost x w) (sym same)
 
 -- ---- packets that are sent
 
@@ -104,10 +110,9 @@ pub record Acts (crossing crossing2 : Crossing) (e : Event Action) (sends : List
   pub sound : (k : ℕ) → (links_at crossing2 (node_of e) k).damaged ≡ (links_at crossing (node_of e) k).damaged
 
 -- what is said of two packets, where one is taken first
-module _ (config : Config) (crossing crossing2 : Crossing) (w v : TimedFrameWorld) (e : Event Action) (sends : List (ℕ × Packet)) (shows : ShowsCrossing config crossing w)
-    (acts : Acts crossing crossing2 e sends) (passes : Passes config e sends w v) (small : AreSmallFrames sends)
-    (adds : (packets others : List Packet) (bytes : Bytes) → ArePackets written_of packets bytes → ArePackets written_of (packets ++ others) (bytes_sent (frames_of written_of others) bytes))
-    (takes : (x y : ℕ) → Takes e x y → (first : Packet) (others : List Packet) → packets_between w x y ≡ first ∷ others → ArePackets written_of others (bytes_taken (bytes_at crossing x y)))
+module _ (config : Config) (lost : List ℕ) (crossing crossing2 : Crossing) (w v : TimedFrameWorld) (e : Event Action) (sends : List (ℕ × Packet)) (shows : ShowsPast config lost crossing w)
+    (stays : is_lost lost (node_of e) ≡ false) (acts : Acts crossing crossing2 e sends) (passes : Passes config e sends w v) (small : AreSmallFrames sends) (adds : Adds)
+    (takes : (x y : ℕ) → Takes e x y → (first : Packet) (others : List Packet) → packets_between w x y ≡ first ∷ others → IsOnWay (is_lost lost y) (is_lost lost x) others (bytes_taken (bytes_at crossing x y)))
     (is_taken : (x y : ℕ) → Takes e x y ⊎ (Takes e x y → ⊥)) (by_node : (x y : ℕ) → Takes e x y → y ≡ node_of e) where
   ring_same : (x k : ℕ) → get_or (get_or crossing2.rings x []) k [] ≡ get_or (get_or crossing.rings x []) k []
   ring_same x k = ap (λ (rs : List (List (List ℕ))). get_or (get_or rs x []) k []) acts.rings
@@ -123,12 +128,13 @@ module _ (config : Config) (crossing crossing2 : Crossing) (w v : TimedFrameWorl
     came = (acts.elsewhere y n (peer_place y (node_of e)) j).unread;
   }
 
-  own_way : (y : ℕ) → is_pair (length config) (node_of e) y ≡ true → ArePackets written_of (packets_between v (node_of e) y) (bytes_at crossing2 (node_of e) y)
+  own_way : (y : ℕ) → is_pair (length config) (node_of e) y ≡ true → IsOnWay (is_lost lost y) (is_lost lost (node_of e)) (packets_between v (node_of e) y) (bytes_at crossing2 (node_of e) y)
   own_way y pair =
       let apart = (pair_is (length config) (node_of e) y pair).2 in
-      subst (λ (ps : List Packet). ArePackets written_of ps (bytes_at crossing2 (node_of e) y)) (sym (own_packets y pair))
-      (subst (ArePackets written_of (packets_between w (node_of e) y ++ map packet_as (packets_to sends (peer_place (node_of e) y)))) (sym (own_bytes y apart))
-      (adds (packets_between w (node_of e) y) (map packet_as (packets_to sends (peer_place (node_of e) y))) (bytes_at crossing (node_of e) y) (shows.ways (node_of e) y pair)))
+      let more = map packet_as (packets_to sends (peer_place (node_of e) y)) in
+      subst (λ (ps : List Packet). IsOnWay (is_lost lost y) (is_lost lost (node_of e)) ps (bytes_at crossing2 (node_of e) y)) (sym (own_packets y pair))
+      (subst (IsOnWay (is_lost lost y) (is_lost lost (node_of e)) (packets_between w (node_of e) y ++ more)) (sym (own_bytes y apart))
+      (way_sent adds (is_lost lost y) (is_lost lost (node_of e)) stays (packets_between w (node_of e) y) more (bytes_at crossing (node_of e) y) (shows.ways (node_of e) y pair)))
 
   -- where the first is taken
   taken_bytes : (x y : ℕ) → x ≢ node_of e → Takes e x y → bytes_at crossing2 x y ≡ bytes_taken (bytes_at crossing x y)
@@ -144,10 +150,10 @@ module _ (config : Config) (crossing crossing2 : Crossing) (w v : TimedFrameWorl
       came : (link_at crossing2 y x).unread ≡ after_front (link_at crossing y x).unread
       came = subst (λ k. (link_at crossing2 k x).unread ≡ after_front (link_at crossing k x).unread) (sym at_node) (acts.gone x (subst (Takes e x) at_node t))
 
-  taken_way : (x y : ℕ) → x ≢ node_of e → Takes e x y → ArePackets written_of (packets_between v x y) (bytes_at crossing2 x y)
+  taken_way : (x y : ℕ) → x ≢ node_of e → Takes e x y → IsOnWay (is_lost lost y) (is_lost lost x) (packets_between v x y) (bytes_at crossing2 x y)
   taken_way x y n t =
       let gone = passes.taken x y t in
-      subst (ArePackets written_of (packets_between v x y)) (sym (taken_bytes x y n t)) (takes x y t (packet_as gone.0) (packets_between v x y) (ap (map packet_as) gone.1))
+      subst (IsOnWay (is_lost lost y) (is_lost lost x) (packets_between v x y)) (sym (taken_bytes x y n t)) (takes x y t (packet_as gone.0) (packets_between v x y) (ap (map packet_as) gone.1))
 
   -- elsewhere
   other_bytes : (x y : ℕ) → x ≢ node_of e → y ≢ x → (Takes e x y → ⊥) → bytes_at crossing2 x y ≡ bytes_at crossing x y
@@ -161,13 +167,13 @@ module _ (config : Config) (crossing crossing2 : Crossing) (w v : TimedFrameWorl
       came (inl d) = subst (λ k. (link_at crossing2 k x).unread ≡ (link_at crossing k x).unread) (sym d) (acts.stays x n (λ is. t (subst (Takes e x) (sym d) is)))
       came (inr m) = ap (λ (l : Link). l.unread) (acts.elsewhere y m (peer_place y x))
 
-  other_way : (x y : ℕ) → x ≢ node_of e → is_pair (length config) x y ≡ true → (Takes e x y → ⊥) → ArePackets written_of (packets_between v x y) (bytes_at crossing2 x y)
+  other_way : (x y : ℕ) → x ≢ node_of e → is_pair (length config) x y ≡ true → (Takes e x y → ⊥) → IsOnWay (is_lost lost y) (is_lost lost x) (packets_between v x y) (bytes_at crossing2 x y)
   other_way x y n pair t =
-      subst (λ (ps : List Packet). ArePackets written_of ps (bytes_at crossing2 x y)) (ap (map packet_as) (sym (passes.others x y n t)))
-      (subst (ArePackets written_of (packets_between w x y)) (sym (other_bytes x y n (pair_is (length config) x y pair).2 t)) (shows.ways x y pair))
+      subst (λ (ps : List Packet). IsOnWay (is_lost lost y) (is_lost lost x) ps (bytes_at crossing2 x y)) (ap (map packet_as) (sym (passes.others x y n t)))
+      (subst (IsOnWay (is_lost lost y) (is_lost lost x) (packets_between w x y)) (sym (other_bytes x y n (pair_is (length config) x y pair).2 t)) (shows.ways x y pair))
 
   -- the whole
-  pub event_shown : ShowsNodes config crossing2.nodes v → ShowsCrossing config crossing2 v
+  pub event_shown : ShowsNodes config crossing2.nodes v → ShowsPast config lost crossing2 v
   event_shown nodes = record {
     nodes = nodes;
     ways = λ x y pair. way x y pair (cases_eq x (node_of e)) (is_taken x y);
@@ -175,8 +181,8 @@ module _ (config : Config) (crossing crossing2 : Crossing) (w v : TimedFrameWorl
     sound = λ x y pair. damage x y (cases_eq x (node_of e)) ∙ shows.sound x y pair;
   }
     where
-      way : (x y : ℕ) → is_pair (length config) x y ≡ true → (x ≡ node_of e) ⊎ (x ≢ node_of e) → Takes e x y ⊎ (Takes e x y → ⊥) → ArePackets written_of (packets_between v x y) (bytes_at crossing2 x y)
-      way x y pair (inl d) t = subst (λ k. ArePackets written_of (packets_between v k y) (bytes_at crossing2 k y)) (sym d) (own_way y (subst (λ k. is_pair (length config) k y ≡ true) d pair))
+      way : (x y : ℕ) → is_pair (length config) x y ≡ true → (x ≡ node_of e) ⊎ (x ≢ node_of e) → Takes e x y ⊎ (Takes e x y → ⊥) → IsOnWay (is_lost lost y) (is_lost lost x) (packets_between v x y) (bytes_at crossing2 x y)
+      way x y pair (inl d) t = subst (λ k. IsOnWay (is_lost lost y) (is_lost lost k) (packets_between v k y) (bytes_at crossing2 k y)) (sym d) (own_way y (subst (λ k. is_pair (length config) k y ≡ true) d pair))
       way x y pair (inr n) (inl t) = taken_way x y n t
       way x y pair (inr n) (inr t) = other_way x y n pair t
 

@@ -13,11 +13,12 @@ use Rattle.pg_step.specs.LossLaws.{LosingFrameWorld}
 use Rattle.pg_node.specs.declared.state.NodeState.{NodeState}
 use Rattle.pg_world.specs.declared.outgoing.Outgoing.{Outgoing}
 use Rattle.pg_world.specs.declared.step.Stepped.TheVariants.{Gone}
-use Rattle.pg_world.specs.Losing.{losing_of, loss_refusal, told_loss, ShowsLosing, LosingComesTo}
+use Rattle.pg_machine.specs.Places.{is_pair}
+use Rattle.pg_world.specs.Losing.{keep_of, losing_of, loss_refusal, told_loss, ShowsLosing, LosingComesTo}
 use Rattle.pg_world.specs.Losses.{is_lost}
 use Rattle.pg_world.specs.Views.{View, CanStay, IsWhole, seen_of, ways_of, traffic_in}
 use Rattle.pg_world.specs.Worlds.{TimedFrameWorld}
-use Rattle.pg_world.proofs.Stopped.{count_refused, lost_refused, many_refused, cut_off, shown_cut, loss_happens, seen_more}
+use Rattle.pg_world.proofs.Stopped.{count_refused, lost_refused, many_refused, can_stay, packets_cut, shown_cut, loss_happens, seen_more}
 use Rattle.pg_world.proofs.Turning.{way_at}
 
 -- ---- the ways from one node are short
@@ -86,15 +87,19 @@ module _ (config : Config) (old new : View) (u : LosingFrameWorld) (i : ℕ) (ke
         refl,
         (
           losing_of config cut (lost ++ i ∷ []),
-          loss_happens config old shows.frames lost i keep shows.shows below stays count_here shows.seen can,
+          loss_happens config shows.frames lost i (keep_of i keep) nowhere below stays shows.seen (can_stay config old shows.frames lost i keep shows.shows below stays count_here can),
           record {
             frames = cut;
-            shows = shown_cut config old shows.frames lost i keep shows.shows below new nodes account here others;
-            seen = λ x p pair has. ap (λ (l : List ℕ). is_lost l p) more ∙ seen_more config old shows.frames lost i keep shows.shows below stays count_here shows.seen can x p pair has;
+            shows = shown_cut config old shows.frames lost i keep shows.shows new nodes account here others;
+            seen = λ x p pair has. ap (λ (l : List ℕ). is_lost l p) more
+                ∙ seen_more config shows.frames lost i (keep_of i keep) nowhere below stays shows.seen (can_stay config old shows.frames lost i keep shows.shows below stays count_here can) x p pair has;
             is = ap (losing_of config cut) (sym more);
           },
         ),
       )
     where
+      nowhere : (y : ℕ) → is_pair (length config) i y ≡ false → shows.frames.wire i y ≡ []
+      nowhere y none = shows.shows.traffic.nodes.nowhere i y none
+
       cut : TimedFrameWorld
-      cut = cut_off config old shows.frames lost i keep shows.shows below
+      cut = packets_cut config old shows.frames lost i keep shows.shows

@@ -13,6 +13,7 @@ mod Lossy
 mod Opened
 pub mod Ordered
 mod Passing
+mod Past
 pub mod Peering
 mod Ported
 mod Queued
@@ -32,3 +33,7 @@ mod Unplaced
 mod Viewing
 mod BytesOpened
 mod Cutting
+mod BytesLost
+mod BytesPast
+mod BytesRunning
+mod BytesSeen

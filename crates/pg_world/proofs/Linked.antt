@@ -1,5 +1,5 @@
 -- What a world of bytes is seen as where one of its nodes, or a ring from it, is another.
-use Rattle.std.proofs.Common.{◌≡◌, ◌≢◌, ◌<◌, ◌+◌, ◌-◌, ℕ, replicate, true, cond, nat_lt, map, get_or, take, drop, length, List, [], ◌∷◌, ◌++◌, Some, refl, sym, ap, ◌∙◌, inl, inr, ◌⊎◌, arith, subst}
+use Rattle.std.proofs.Common.{◌≡◌, ◌≢◌, ◌<◌, ◌+◌, ◌-◌, ℕ, replicate, true, cond, nat_lt, map, get_or, take, drop, length, List, [], ◌∷◌, ◌++◌, Some, None, refl, sym, ap, ◌∙◌, inl, inr, ◌⊎◌, arith, subst}
 use Rattle.std.specs.Prelude.{slice_get, slice_set, min, Err}
 use Rattle.std.specs.List.{All}
 use Rattle.std.proofs.lemmas.Bool.{cases_eq, eq-eqb, ne_eqb}
@@ -25,7 +25,8 @@ use Rattle.pg_node.specs.Issued.{ports_of}
 use Rattle.pg_node.specs.States.{names_of, state_of, answers_of}
 use Rattle.pg_world.specs.declared.rings.Rings.{Rings}
 use Rattle.pg_world.specs.Rooms.{HaveRoomFor}
-use Rattle.pg_world.specs.Crossings.{Crossing, bytes_of, bytes_at, node_of, crossing_in, MoveComesTo}
+use Rattle.pg_world.specs.BytesLosing.{MoveLeaves}
+use Rattle.pg_world.specs.Crossings.{Crossing, bytes_of, bytes_at, node_of, crossing_in}
 use Rattle.pg_world.specs.Views.{Seen, seen_of, peer_place}
 use Rattle.pg_world.specs.Worlds.{has_port}
 use Rattle.pg_world.specs.Changes.{Moves, put_count, pull_count, ChangesAlone, links_at}
@@ -386,8 +387,8 @@ port_place nodes i port has =
 -- ---- what a pull told
 
 -- it is refused by want of memory alone
-pub pull_err : (config : Config) (x y : ℕ) (fault : NodeFault) (Shown : Type 0) → fault ≡ OutOfMemory → is_pair (length config) x y ≡ true → Shown → MoveComesTo config x y (Err fault) Shown
-pull_err config x y fault Shown is pair shown = subst (λ f. MoveComesTo config x y (Err f) Shown) (sym is) (pair, shown)
+pub pull_err : (fault : NodeFault) (Shown : Type 0) → fault ≡ OutOfMemory → Shown → MoveLeaves None (Err fault) Shown
+pull_err fault Shown is shown = subst (λ f. MoveLeaves None (Err f) Shown) (sym is) (refl, shown)
 
 -- ---- a world that begins
 

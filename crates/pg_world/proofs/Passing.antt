@@ -13,8 +13,8 @@ use Rattle.pg_message.specs.declared.packet.Packet.{Packet}
 use Rattle.pg_message.specs.Reading.{packet_spelled}
 use Rattle.pg_machine.specs.Places.{is_pair}
 use Rattle.pg_machine.specs.Machine.{Event, Take, Do}
-use Rattle.pg_machine.specs.Clocked.{Timed, Stamped, plain}
-use Rattle.pg_pieces.specs.Pieces.{Bytes, ArePackets, AreShort, FirstPacket, frames_of, sent as bytes_sent, taken as bytes_taken}
+use Rattle.pg_machine.specs.Clocked.{Timed, Stamped}
+use Rattle.pg_pieces.specs.Pieces.{Bytes, taken as bytes_taken}
 use Rattle.pg_opens.specs.Places.{whole_in, name_at as place_name}
 use Rattle.pg_step.specs.declared.answer.Answer.{Answer}
 use Rattle.pg_step.specs.declared.refusal.Refusal.{Refusal}
@@ -22,7 +22,6 @@ use Rattle.pg_step.specs.declared.refusal.Refusal.TheVariants.{NotAMessage, NoSu
 use Rattle.pg_step.specs.Config.{Config}
 use Rattle.pg_step.specs.State.{State}
 use Rattle.pg_step.specs.Step.{Action, TimedTurn, step_take, step_act}
-use Rattle.pg_history.specs.Headline.{HarmsNobody}
 use Rattle.pg_node.specs.declared.state.done.Done.{Done}
 use Rattle.pg_node.specs.declared.state.fault.NodeFault.{NodeFault}
 use Rattle.pg_node.specs.declared.state.fault.NodeFault.TheVariants.{Refused, OutOfMemory, Message as BadMessage, TooLong as FrameTooLong, Damaged}
@@ -32,12 +31,13 @@ use Rattle.pg_node.specs.Nodes.{ComesInRoom}
 use Rattle.pg_node.specs.Sendable.{AreSendable}
 use Rattle.pg_node.specs.States.{stamped_of, Comes}
 use Rattle.pg_world.specs.declared.step.Stepped.TheVariants.{Happened}
-use Rattle.pg_world.specs.Crossings.{Crossing, link_at, bytes_at, packet_as, packets_between, written_of, CanCross, ShowsCrossing, ShowsBytes, EventComesTo}
+use Rattle.pg_world.specs.Crossings.{Crossing, link_at, bytes_at, packet_as, packets_between, CanCross, IsOnWay, IsWelcome, ShowsPast, ShowsBytesPast, EventComesTo}
+use Rattle.pg_world.specs.Losses.{is_lost}
 use Rattle.pg_world.specs.Histories.{asked_by}
 use Rattle.pg_world.specs.Views.{Seen, Account, peer_place}
 use Rattle.pg_world.specs.Worlds.{TimedFrameWorld, ComesTo}
 use Rattle.pg_world.proofs.Crossed.{Acts, all_short, event_shown}
-use Rattle.pg_world.proofs.Harmless.{never_refused}
+use Rattle.pg_world.proofs.Past.{Adds, FirstOnWay, ReadsFirst, ReadsLawful}
 use Rattle.pg_world.proofs.Recording.{Grew, updates_after}
 use Rattle.pg_world.proofs.Turning.{Left, pair_turned, pair_there, own_left, own_refused, taken_refused, taken_told, take_left}
 
@@ -82,23 +82,27 @@ map_cons (x ∷ xs) y ys e =
     (xs, ap (λ p. stamped_of p ∷ xs) first, others)
 
 -- A packet that was read is the first that is on the way.
-pub record FirstRead (w : TimedFrameWorld) (crossing : Crossing) (i p : ℕ) (packet : Packet) : Type 0 where
+pub record FirstRead (lost : List ℕ) (w : TimedFrameWorld) (crossing : Crossing) (i p : ℕ) (packet : Packet) : Type 0 where
   pub rest : List (Stamped Message)
   pub begins : w.wire p i ≡ stamped_of packet ∷ rest
-  pub left : (first : Packet) (others : List Packet) → packets_between w p i ≡ first ∷ others → ArePackets written_of others (bytes_taken (bytes_at crossing p i))
+  pub left : (first : Packet) (others : List Packet) → packets_between w p i ≡ first ∷ others → IsOnWay (is_lost lost i) (is_lost lost p) others (bytes_taken (bytes_at crossing p i))
 
-module _ (config : Config) (crossing : Crossing) (w : TimedFrameWorld) (i p : ℕ) (shows : ShowsCrossing config crossing w) (pair : is_pair (length crossing.nodes) i p ≡ true)
-    (law : (packets : List Packet) (bytes : Bytes) (body : List ℕ) → AreShort written_of packets → ArePackets written_of packets bytes → front_of bytes.came ≡ Ok (Some body) → FirstPacket written_of packets bytes body) where
+module _ (config : Config) (lost : List ℕ) (crossing : Crossing) (w : TimedFrameWorld) (i p : ℕ) (shows : ShowsPast config lost crossing w) (pair : is_pair (length crossing.nodes) i p ≡ true)
+    (stays : is_lost lost i ≡ false) where
   there : is_pair (length config) i p ≡ true
   there = pair_there config crossing.nodes w i p shows.nodes pair
 
   back : is_pair (length config) p i ≡ true
   back = pair_turned (length config) i p there
 
-  pub first_read : (packet : Packet) → next_packet (link_at crossing i p) ≡ Ok (Some packet) → FirstRead w crossing i p packet
-  first_read packet front =
+  -- what is on the way to a node that is not lost
+  on_way : IsOnWay false (is_lost lost p) (packets_between w p i) (bytes_at crossing p i)
+  on_way = subst (λ b. IsOnWay b (is_lost lost p) (packets_between w p i) (bytes_at crossing p i)) stays (shows.ways p i back)
+
+  pub first_read : ReadsFirst → (packet : Packet) → next_packet (link_at crossing i p) ≡ Ok (Some packet) → FirstRead lost w crossing i p packet
+  first_read law packet front =
       let read = front_read (front_of (link_at crossing i p).unread) packet (sym (sound_next (link_at crossing i p) (shows.sound i p there)) ∙ front) in
-      let first = law (packets_between w p i) (bytes_at crossing p i) read.0 (all_short (packets_between w p i) (shows.cross p i back)) (shows.ways p i back) read.1 in
+      let first = law (is_lost lost p) (packets_between w p i) (bytes_at crossing p i) read.0 (all_short (packets_between w p i) (shows.cross p i back)) on_way read.1 in
       let crosses : CanCross first.first = (subst (λ (ps : List Packet). AllByRecursion CanCross ps) first.are (shows.cross p i back)).0 in
       let both : ◌≡◌ {A = Result Packet MessageFault} (Ok first.first) (Ok packet) = sym crosses.read ∙ (ap packet_spelled (sym first.is) ∙ read.2) in
       let same : first.first ≡ packet = cc in
@@ -107,8 +111,24 @@ module _ (config : Config) (crossing : Crossing) (w : TimedFrameWorld) (i p : �
         rest = begins.0;
         begins = begins.1 ∙ ap (λ q. stamped_of q ∷ begins.0) same;
         left = λ one others are. let more : first.others ≡ others = (let e : first.first ∷ first.others ≡ one ∷ others = sym first.are ∙ are in cc) in
-            subst (λ (ps : List Packet). ArePackets written_of ps (bytes_taken (bytes_at crossing p i))) more first.left;
+            subst (λ b. IsOnWay b (is_lost lost p) others (bytes_taken (bytes_at crossing p i))) (sym stays)
+            (subst (λ (ps : List Packet). IsOnWay false (is_lost lost p) ps (bytes_taken (bytes_at crossing p i))) more first.left);
       }
+
+  -- whatever stands first can be read
+  pub readable : ReadsFirst → ReadsLawful → (o : Option Packet) × (next_packet (link_at crossing i p) ≡ Ok o)
+  readable law lawful = go (front_of (link_at crossing i p).unread) refl
+    where
+      is_next : next_packet (link_at crossing i p) ≡ packet_at (front_of (link_at crossing i p).unread)
+      is_next = sound_next (link_at crossing i p) (shows.sound i p there)
+
+      go : (r : Result (Option (List ℕ)) TooLong) → front_of (link_at crossing i p).unread ≡ r → (o : Option Packet) × (next_packet (link_at crossing i p) ≡ Ok o)
+      go (Ok None) e = (None, is_next ∙ ap packet_at e)
+      go (Ok (Some body)) e =
+          let first = law (is_lost lost p) (packets_between w p i) (bytes_at crossing p i) body (all_short (packets_between w p i) (shows.cross p i back)) on_way e in
+          let crosses : CanCross first.first = (subst (λ (ps : List Packet). AllByRecursion CanCross ps) first.are (shows.cross p i back)).0 in
+          (Some first.first, is_next ∙ (ap packet_at e ∙ ap packet_in (ap packet_spelled first.is ∙ crosses.read)))
+      go (Err fault) e = absurd (lawful (is_lost lost p) (packets_between w p i) (bytes_at crossing p i) (all_short (packets_between w p i) (shows.cross p i back)) on_way e)
 
 -- ---- what an event leaves
 
@@ -117,36 +137,35 @@ happened_as : (config : Config) (w : TimedFrameWorld) (e : Event Action) (One Ot
     → ComesTo config w e (Ok Happened) One → EventComesTo config w e (Ok Happened) Other
 happened_as config w e One Other f comes = (comes.0, comes.1, f comes.0 comes.2)
 
-module _ (config : Config) (crossing crossing2 : Crossing) (account account2 : Account) (w : TimedFrameWorld) (shows : ShowsBytes config crossing account w)
-    (adds : (packets others : List Packet) (bytes : Bytes) → ArePackets written_of packets bytes → ArePackets written_of (packets ++ others) (bytes_sent (frames_of written_of others) bytes)) where
+module _ (config : Config) (lost : List ℕ) (crossing crossing2 : Crossing) (account account2 : Account) (w : TimedFrameWorld) (shows : ShowsBytesPast config lost crossing account w) (adds : Adds) where
   -- something of its own
-  module _ (i : ℕ) (action : Action) (node after : Seen) (done : Done) (here : slice_get crossing.nodes i ≡ Some node) (set : crossing2.nodes ≡ slice_set crossing.nodes i after)
+  module _ (i : ℕ) (stays : is_lost lost i ≡ false) (action : Action) (node after : Seen) (done : Done) (here : slice_get crossing.nodes i ≡ Some node) (set : crossing2.nodes ≡ slice_set crossing.nodes i after)
       (names : after.names ≡ node.names) (ports : after.ports ≡ node.ports) (fits : AreSendable node.names done.sends.items) (small : AreSmallFrames done.sends.items)
       (acts : Acts crossing crossing2 (Do i action) done.sends.items) (grew : Grew account account2 i None done.began) where
     pub own_shown : ComesInRoom node.names (step_act (whole_in node.names) node.ports action node.state) (Ok done) after.state node.answers after.answers
-        → EventComesTo config w (Do i action) (Ok Happened) (ShowsBytes config crossing2 account2)
+        → EventComesTo config w (Do i action) (Ok Happened) (ShowsBytesPast config lost crossing2 account2)
     own_shown comes = happened_as config w (Do i action) _ _ whole
         (own_left config crossing.nodes w i action node shows.traffic.nodes here crossing2.nodes after done set names ports fits comes)
       where
-        whole : (v : TimedFrameWorld) → Left config crossing2.nodes (Do i action) done.sends.items None done.began w v → ShowsBytes config crossing2 account2 v
+        whole : (v : TimedFrameWorld) → Left config crossing2.nodes (Do i action) done.sends.items None done.began w v → ShowsBytesPast config lost crossing2 account2 v
         whole v left = record {
-          traffic = event_shown config crossing crossing2 w v (Do i action) done.sends.items shows.traffic acts left.ways small adds
+          traffic = event_shown config lost crossing crossing2 w v (Do i action) done.sends.items shows.traffic stays acts left.ways small adds
               (λ x y t. absurd t) (λ x y. inr (λ t. t)) (λ x y t. absurd t) left.nodes;
           updates = updates_after account account2 w v i None done.began shows.updates grew left.records;
         }
 
   -- a packet that was read
-  module _ (i p : ℕ) (pair : is_pair (length crossing.nodes) i p ≡ true) (packet : Packet) (first : FirstRead w crossing i p packet) (node : Seen) (here : slice_get crossing.nodes i ≡ Some node) where
+  module _ (i p : ℕ) (stays : is_lost lost i ≡ false) (pair : is_pair (length crossing.nodes) i p ≡ true) (packet : Packet) (first : FirstRead lost w crossing i p packet) (node : Seen) (here : slice_get crossing.nodes i ≡ Some node) where
     module _ (after : Seen) (done : Done) (set : crossing2.nodes ≡ slice_set crossing.nodes i after)
         (names : after.names ≡ node.names) (ports : after.ports ≡ node.ports) (fits : AreSendable node.names done.sends.items) (small : AreSmallFrames done.sends.items)
         (acts : Acts crossing crossing2 (Take i p) done.sends.items) (grew : Grew account account2 i (asked_by packet.message) done.began) where
       pub taken_shown : ComesInRoom node.names (step_take (whole_in node.names) (place_name node.names (peer_place i p + 1)) (stamped_of packet) node.state) (Ok done) after.state node.answers after.answers
-          → EventComesTo config w (Take i p) (Ok Happened) (ShowsBytes config crossing2 account2)
+          → EventComesTo config w (Take i p) (Ok Happened) (ShowsBytesPast config lost crossing2 account2)
       taken_shown comes = happened_as config w (Take i p) _ _ whole
           (take_left config crossing.nodes w i p shows.traffic.nodes pair node here (stamped_of packet) first.rest first.begins crossing2.nodes after done set names ports fits comes)
         where
-          takes : (x y : ℕ) → (p ≡ x) × (i ≡ y) → (one : Packet) (others : List Packet) → packets_between w x y ≡ one ∷ others → ArePackets written_of others (bytes_taken (bytes_at crossing x y))
-          takes x y t one others are = subst (λ k. ArePackets written_of others (bytes_taken (bytes_at crossing k y))) t.0 (subst (λ k. ArePackets written_of others (bytes_taken (bytes_at crossing p k))) t.1
+          takes : (x y : ℕ) → (p ≡ x) × (i ≡ y) → (one : Packet) (others : List Packet) → packets_between w x y ≡ one ∷ others → IsOnWay (is_lost lost y) (is_lost lost x) others (bytes_taken (bytes_at crossing x y))
+          takes x y t one others are = subst (λ k. IsOnWay (is_lost lost y) (is_lost lost k) others (bytes_taken (bytes_at crossing k y))) t.0 (subst (λ k. IsOnWay (is_lost lost k) (is_lost lost p) others (bytes_taken (bytes_at crossing p k))) t.1
               (first.left one others ((λ j. packets_between w (t.0 j) (t.1 j)) ∙ are)))
 
           is_taken : (x y : ℕ) → ((p ≡ x) × (i ≡ y)) ⊎ ((p ≡ x) × (i ≡ y) → ⊥)
@@ -157,16 +176,16 @@ module _ (config : Config) (crossing crossing2 : Crossing) (account account2 : A
               go (inr n) d = inr (λ both. n both.0)
               go (inl e) (inr n) = inr (λ both. n both.1)
 
-          whole : (v : TimedFrameWorld) → Left config crossing2.nodes (Take i p) done.sends.items (asked_by packet.message) done.began w v → ShowsBytes config crossing2 account2 v
+          whole : (v : TimedFrameWorld) → Left config crossing2.nodes (Take i p) done.sends.items (asked_by packet.message) done.began w v → ShowsBytesPast config lost crossing2 account2 v
           whole v left = record {
-            traffic = event_shown config crossing crossing2 w v (Take i p) done.sends.items shows.traffic acts left.ways small adds
+            traffic = event_shown config lost crossing crossing2 w v (Take i p) done.sends.items shows.traffic stays acts left.ways small adds
                 takes is_taken (λ x y t. sym t.1) left.nodes;
             updates = updates_after account account2 w v i (asked_by packet.message) done.began shows.updates grew left.records;
           }
 
 -- ---- what is refused
 
-module _ (config : Config) (crossing : Crossing) (w : TimedFrameWorld) (shows : ShowsCrossing config crossing w) (Shown : TimedFrameWorld → Type 0) where
+module _ (config : Config) (lost : List ℕ) (crossing : Crossing) (w : TimedFrameWorld) (shows : ShowsPast config lost crossing w) (Shown : TimedFrameWorld → Type 0) where
   -- something of its own
   pub own_err : (i : ℕ) (action : Action) (node : Seen) (s : Timed State) (after : ℕ → List Answer) → slice_get crossing.nodes i ≡ Some node → (fault : NodeFault)
       → ComesInRoom node.names (step_act (whole_in node.names) node.ports action node.state) (Err fault) s node.answers after → Shown w → EventComesTo config w (Do i action) (Err fault) Shown
@@ -177,7 +196,7 @@ module _ (config : Config) (crossing : Crossing) (w : TimedFrameWorld) (shows : 
   own_err i action node s after here Damaged comes shown = own_refused config crossing.nodes w i action node shows.nodes here Damaged s node.answers after Shown comes
 
   -- a packet that was read
-  module _ (i p : ℕ) (pair : is_pair (length crossing.nodes) i p ≡ true) (packet : Packet) (first : FirstRead w crossing i p packet) (harmless : HarmsNobody config (plain w)) (node : Seen) (here : slice_get crossing.nodes i ≡ Some node)
+  module _ (i p : ℕ) (pair : is_pair (length crossing.nodes) i p ≡ true) (packet : Packet) (first : FirstRead lost w crossing i p packet) (welcome : IsWelcome config w i p) (node : Seen) (here : slice_get crossing.nodes i ≡ Some node)
       (s : Timed State) (after : ℕ → List Answer) where
     step_there : Result TimedTurn Refusal
     step_there = step_take (whole_in node.names) (place_name node.names (peer_place i p + 1)) (stamped_of packet) node.state
@@ -190,7 +209,7 @@ module _ (config : Config) (crossing : Crossing) (w : TimedFrameWorld) (shows : 
     no_message (Err refusal) comes = let same : refusal ≡ NotAMessage = cc in ap (λ (x : Refusal). Err x) same
 
     never : Comes node.names (step_take (whole_in node.names) (place_name node.names (peer_place i p + 1)) (stamped_of packet) node.state) (Err (Refused NotAMessage)) s node.answers after → ⊥
-    never comes = never_refused config w i p (stamped_of packet) first.rest harmless (pair_there config crossing.nodes w i p shows.nodes pair) first.begins
+    never comes = welcome (stamped_of packet) first.rest first.begins
         (sym (taken_told config crossing.nodes w i p shows.nodes pair node here (stamped_of packet) first.rest first.begins) ∙ no_message _ comes)
 
     pub take_err : (fault : NodeFault) → ComesInRoom node.names (step_take (whole_in node.names) (place_name node.names (peer_place i p + 1)) (stamped_of packet) node.state) (Err fault) s node.answers after
@@ -230,24 +249,3 @@ only_memory None fault h = absurd (cc)
 -- what came of a packet that could not be read
 pub unread_err : (config : Config) (w : TimedFrameWorld) (e : Event Action) (fault : NodeFault) (Shown : TimedFrameWorld → Type 0) → fault ≡ OutOfMemory → Shown w → EventComesTo config w e (Err fault) Shown
 unread_err config w e fault Shown is shown = subst (λ f. EventComesTo config w e (Err f) Shown) (sym is) shown
-
-module _ (config : Config) (crossing : Crossing) (w : TimedFrameWorld) (i p : ℕ) (shows : ShowsCrossing config crossing w) (pair : is_pair (length crossing.nodes) i p ≡ true)
-    (law : (packets : List Packet) (bytes : Bytes) (body : List ℕ) → AreShort written_of packets → ArePackets written_of packets bytes → front_of bytes.came ≡ Ok (Some body) → FirstPacket written_of packets bytes body)
-    (lawful : (packets : List Packet) (bytes : Bytes) → AreShort written_of packets → ArePackets written_of packets bytes → front_of bytes.came ≢ Err too_long) where
-  way_back : is_pair (length config) p i ≡ true
-  way_back = pair_turned (length config) i p (pair_there config crossing.nodes w i p shows.nodes pair)
-
-  -- whatever stands first can be read
-  pub readable : (o : Option Packet) × (next_packet (link_at crossing i p) ≡ Ok o)
-  readable = go (front_of (link_at crossing i p).unread) refl
-    where
-      is_next : next_packet (link_at crossing i p) ≡ packet_at (front_of (link_at crossing i p).unread)
-      is_next = sound_next (link_at crossing i p) (shows.sound i p (pair_there config crossing.nodes w i p shows.nodes pair))
-
-      go : (r : Result (Option (List ℕ)) TooLong) → front_of (link_at crossing i p).unread ≡ r → (o : Option Packet) × (next_packet (link_at crossing i p) ≡ Ok o)
-      go (Ok None) e = (None, is_next ∙ ap packet_at e)
-      go (Ok (Some body)) e =
-          let first = law (packets_between w p i) (bytes_at crossing p i) body (all_short (packets_between w p i) (shows.cross p i way_back)) (shows.ways p i way_back) e in
-          let crosses : CanCross first.first = (subst (λ (ps : List Packet). AllByRecursion CanCross ps) first.are (shows.cross p i way_back)).0 in
-          (Some first.first, is_next ∙ (ap packet_at e ∙ ap packet_in (ap packet_spelled first.is ∙ crosses.read)))
-      go (Err fault) e = absurd (lawful (packets_between w p i) (bytes_at crossing p i) (all_short (packets_between w p i) (shows.cross p i way_back)) (shows.ways p i way_back) e)

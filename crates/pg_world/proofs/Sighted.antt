@@ -31,16 +31,15 @@ use Rattle.pg_step.specs.Turns.{Report, NodeTurn}
 use Rattle.pg_opens.proofs.Named.{atom_self, names_differ}
 use Rattle.pg_node.specs.declared.state.done.Done.{Done}
 use Rattle.pg_node.specs.States.{Happens, step_see_loss}
-use Rattle.pg_node.specs.Sendable.{AreSendable}
 use Rattle.pg_world.specs.Losing.{notices, losing_of, ShowsLosing, LosingLed}
 use Rattle.pg_world.specs.Losses.{is_lost}
-use Rattle.pg_world.specs.Views.{Seen, Account, View, on_the_way}
-use Rattle.pg_world.specs.Worlds.{TimedFrameWorld, ShowsNodes, Shows}
+use Rattle.pg_world.specs.Views.{Seen, Account}
+use Rattle.pg_world.specs.Worlds.{TimedFrameWorld, ShowsNodes, ShowsUpdates}
 use Rattle.pg_world.proofs.Barred.{SeenAreLost}
 use Rattle.pg_world.proofs.Lossy.{no_notice}
 use Rattle.pg_world.proofs.Peering.{named}
 use Rattle.pg_world.proofs.Recording.{Records, records_so, updates_after, grew_own, none_of}
-use Rattle.pg_world.proofs.Turning.{Turned, pair_is, shown_after}
+use Rattle.pg_world.proofs.Turning.{Turned, pair_is, nodes_now}
 
 -- the turn of a node that sees a loss
 abbrev pub sight : Config → TimedFrameWorld → ℕ → ℕ → NodeTurn
@@ -236,25 +235,21 @@ module _ (config : Config) (w : TimedFrameWorld) (lost : List ℕ) (i p : ℕ) (
 
   -- ---- what is shown
 
-  module _ (old new : View) (node after : Seen) (done : Done) (shows : Shows config old w) (here : slice_get old.traffic.nodes i ≡ Some node)
-      (set : new.traffic.nodes ≡ slice_set old.traffic.nodes i after) (names : after.names ≡ node.names) (ports : after.ports ≡ node.ports)
-      (happened : Happens node.names told_turn done after.state node.answers after.answers) (fits : AreSendable node.names done.sends.items)
-      (ways : (x y : ℕ) → on_the_way new.traffic x y ≡ on_the_way old.traffic x y) (account : new.account ≡ old.account) where
-    turned_so : Turned old.traffic.nodes new.traffic.nodes i node after told_turn done
-    turned_so = record { here = here; set = set; names = names; ports = ports; happened = happened; fits = fits }
+  module _ (nodes nodes2 : List Seen) (old new : Account) (node after : Seen) (done : Done) (shows : ShowsNodes config nodes w) (updates : ShowsUpdates old w)
+      (here : slice_get nodes i ≡ Some node) (set : nodes2 ≡ slice_set nodes i after) (names : after.names ≡ node.names) (ports : after.ports ≡ node.ports)
+      (happened : Happens node.names told_turn done after.state node.answers after.answers) (account : new ≡ old) where
+    turned_so : Turned nodes nodes2 i node after told_turn done
+    turned_so = record { here = here; set = set; names = names; ports = ports; happened = happened }
 
     records : Records w sighted i None None
     records = records_so w sighted i None told_turn.reported None refl refl (inl (refl, refl))
 
-    pub shown : Shows config new sighted
-    shown = record {
-      traffic = record {
-        nodes = shown_after config old.traffic.nodes new.traffic.nodes w stand_in node after told_turn done shows.traffic.nodes turned_so sighted does (λ x y none never. never);
-        ways = λ x y there. same_wire x y ∙ (shows.traffic.ways x y there ∙ sym (ways x y));
-      };
-      updates = updates_after old.account new.account w sighted i None None shows.updates
-          (grew_own old.account new.account i None None refl
-          (λ name. ap (λ (a : Account). a.histories name) account ∙ sym (append-nil (old.account.histories name)))
-          (λ j name. let none = none_of i j name in let same : new.account.applied j name ≡ old.account.applied j name = ap (λ (a : Account). a.applied j name) account in omega (arith, none, same)))
-          records;
-    }
+    pub nodes_sighted : ShowsNodes config nodes2 sighted
+    nodes_sighted = nodes_now config nodes nodes2 w stand_in node after told_turn done shows turned_so sighted does (λ x y none. same_wire x y ∙ shows.nowhere x y none)
+
+    pub updates_sighted : ShowsUpdates new sighted
+    updates_sighted = updates_after old new w sighted i None None updates
+        (grew_own old new i None None refl
+        (λ name. ap (λ (a : Account). a.histories name) account ∙ sym (append-nil (old.histories name)))
+        (λ j name. let none = none_of i j name in let same : new.applied j name ≡ old.applied j name = ap (λ (a : Account). a.applied j name) account in omega (arith, none, same)))
+        records

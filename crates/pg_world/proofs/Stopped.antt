@@ -21,8 +21,8 @@ use Rattle.pg_step.specs.State.{State}
 use Rattle.pg_step.specs.Turns.{Report}
 use Rattle.pg_world.specs.Losing.{notices, losing_of, keep_of, loss_refusal}
 use Rattle.pg_world.specs.Losses.{is_lost}
-use Rattle.pg_world.specs.Views.{View, Account, CanStay, peer_place, place_of_peer, on_the_way}
-use Rattle.pg_world.specs.Worlds.{TimedFrameWorld, Shows}
+use Rattle.pg_world.specs.Views.{Seen, View, Account, CanStay, peer_place, place_of_peer, on_the_way}
+use Rattle.pg_world.specs.Worlds.{TimedFrameWorld, Shows, ShowsNodes, ShowsUpdates}
 use Rattle.pg_world.proofs.Barred.{SeenAreLost}
 use Rattle.pg_world.proofs.Lossy.{no_notice}
 use Rattle.pg_world.proofs.Peering.{peer_low, peer_high, place_low, place_high, own_place, place_within}
@@ -129,8 +129,8 @@ module _ (config : Config) (old : View) (w : TimedFrameWorld) (lost : List ℕ) 
     test y = not (is_pair (length config) i y) || nat_le (keep_of i keep y) (length (before.wire i y))
 
     -- as many as are there can stay
-    pub can_so : CanStay keep ways → can_keep (length config) before i (keep_of i keep) ≡ true
-    can_so can = each_so (length config) test (λ y below. go y (is_pair (length config) i y) refl)
+    pub can_stay : CanStay keep ways → can_keep (length config) before i (keep_of i keep) ≡ true
+    can_stay can = each_so (length config) test (λ y below. go y (is_pair (length config) i y) refl)
       where
         go : (y : ℕ) (b : Bool) → is_pair (length config) i y ≡ b → (not (is_pair (length config) i y) || nat_le (keep_of i keep y) (length (before.wire i y))) ≡ true
         go y true is =
@@ -175,116 +175,152 @@ module _ (config : Config) (old : View) (w : TimedFrameWorld) (lost : List ℕ) 
   pub count_refused : (length keep ≡ length config - 1 → ⊥) → loss_refusal config (losing_of config w lost) i keep ≡ Some NoSuchPlace
   count_refused other = λ j. tests (lt-ltb i (length config) within j) (ne_eqb (length keep) (length config - 1) other j) (is_lost lost i) (can_keep (length config) before i (keep_of i keep))
 
-  -- ---- the world that is left
+-- ---- the world that is left
 
+-- Of what is on the way from node i to y the first `kept y` packets stay.
+module _ (config : Config) (w : TimedFrameWorld) (lost : List ℕ) (i : ℕ) (kept : ℕ → ℕ) (nothing_else : (y : ℕ) → is_pair (length config) i y ≡ false → w.wire i y ≡ []) where
   abbrev cut_row : ℕ → List (Stamped Message)
-  cut_row y = take (keep_of i keep y) (w.wire i y)
+  cut_row y = take (kept y) (w.wire i y)
 
   abbrev pub cut_off : TimedFrameWorld
   cut_off = record w { wire = set_at {A = ℕ → List (Stamped Message)} w.wire i cut_row }
 
-  cut_here : (y : ℕ) → cut_off.wire i y ≡ cut_row y
+  pub cut_here : (y : ℕ) → cut_off.wire i y ≡ take (kept y) (w.wire i y)
   cut_here y = ap (λ (row : ℕ → List (Stamped Message)). row y) (set_at_here {A = ℕ → List (Stamped Message)} w.wire i cut_row i refl)
 
-  cut_else : (x y : ℕ) → x ≢ i → cut_off.wire x y ≡ w.wire x y
+  pub cut_else : (x y : ℕ) → x ≢ i → cut_off.wire x y ≡ w.wire x y
   cut_else x y n = ap (λ (row : ℕ → List (Stamped Message)). row y) (set_at_other {A = ℕ → List (Stamped Message)} w.wire i cut_row x n)
 
   take_none : (k : ℕ) → ◌≡◌ {A = List (Stamped Message)} (take k []) []
   take_none zero = refl
   take_none (suc k) = refl
 
-  pub shown_cut : (new : View) → new.traffic.nodes ≡ old.traffic.nodes → new.account ≡ old.account
-      → ((k : ℕ) → way_at new.traffic i k ≡ take (get_or keep k 0) (way_at old.traffic i k)) → ((x k : ℕ) → x ≢ i → way_at new.traffic x k ≡ way_at old.traffic x k) → Shows config new cut_off
-  shown_cut new nodes account here others = record {
-    traffic = record {
-      nodes = record {
-        apart = shows.traffic.nodes.apart;
-        size = ap length nodes ∙ shows.traffic.nodes.size;
-        each = λ j node at. let h = shows.traffic.nodes.each j node (ap (λ ns. slice_get ns j) (sym nodes) ∙ at) in record { names = h.names; ports = h.ports; state = h.state; answers = h.answers };
-        nowhere = λ x y none. nowhere x y none (cases_eq x i);
-      };
-      ways = λ x y pair. way x y pair (cases_eq x i);
-    };
-    updates = record {
-      history = λ name. ap (λ (a : Account). a.histories name) account ∙ shows.updates.history name;
-      applied = λ j name. ap (λ (a : Account). a.applied j name) account ∙ shows.updates.applied j name;
-    };
+  -- the nodes are as they were
+  pub nodes_cut : (nodes : List Seen) → ShowsNodes config nodes w → ShowsNodes config nodes cut_off
+  nodes_cut nodes shows = record {
+    apart = shows.apart;
+    size = shows.size;
+    each = λ j node at. let h = shows.each j node at in record { names = h.names; ports = h.ports; state = h.state; answers = h.answers };
+    nowhere = λ x y none. nowhere x y none (cases_eq x i);
   }
     where
       nowhere : (x y : ℕ) → is_pair (length config) x y ≡ false → (x ≡ i) ⊎ (x ≢ i) → cut_off.wire x y ≡ []
       nowhere x y none (inl d) = subst (λ k. cut_off.wire k y ≡ []) (sym d)
-          (cut_here y ∙ (ap (take (keep_of i keep y)) (none_else y (subst (λ k. is_pair (length config) k y ≡ false) d none)) ∙ take_none (keep_of i keep y)))
-      nowhere x y none (inr n) = cut_else x y n ∙ shows.traffic.nodes.nowhere x y none
+          (cut_here y ∙ (ap (take (kept y)) (nothing_else y (subst (λ k. is_pair (length config) k y ≡ false) d none)) ∙ take_none (kept y)))
+      nowhere x y none (inr n) = cut_else x y n ∙ shows.nowhere x y none
 
-      way : (x y : ℕ) → is_pair (length config) x y ≡ true → (x ≡ i) ⊎ (x ≢ i) → cut_off.wire x y ≡ on_the_way new.traffic x y
-      way x y pair (inl d) = subst (λ k. cut_off.wire k y ≡ on_the_way new.traffic k y) (sym d)
-          (cut_here y ∙ (ap (take (keep_of i keep y)) (way_is y (subst (λ k. is_pair (length config) k y ≡ true) d pair)) ∙ sym (here (peer_place i y))))
-      way x y pair (inr n) = cut_else x y n ∙ (shows.traffic.ways x y pair ∙ sym (others x (peer_place x y) n))
+  pub updates_cut : (account : Account) → ShowsUpdates account w → ShowsUpdates account cut_off
+  updates_cut account shows = record { history = shows.history; applied = shows.applied }
 
   -- ---- the event of the machine with losses
 
-  module _ (stays : is_lost lost i ≡ false) (count : length ways + 1 ≡ length config) (seen : SeenAreLost config w lost) (can : CanStay keep ways) where
-    abbrev more : List ℕ
-    more = lost ++ i ∷ []
+  module _ (within : i < length config) (stays : is_lost lost i ≡ false) (seen : SeenAreLost config w lost) where
+    abbrev world_before : LossyWorld
+    world_before = (losing_of config w lost).world
 
-    abbrev after : LossyWorld
-    after = (losing_of config cut_off more).world
+    pub wire_before : (y : ℕ) → world_before.wire i y ≡ map sent_packet (w.wire i y)
+    wire_before y = ap (λ (ns : List (Stamped (Noticed Message))). map sent_packet (w.wire i y) ++ ns) (no_notice config w lost i y stays) ∙ append-nil (map sent_packet (w.wire i y))
 
-    abbrev rest : ℕ → List (Stamped (Noticed Message))
-    rest y = cond (is_pair (length config) i y) (take (keep_of i keep y) (before.wire i y) ++ last_notice (w.node i) ∷ []) (before.wire i y)
-
-    abbrev left : LossyWorld
-    left = stopped (length config) last_notice before i (keep_of i keep)
-
-    unseen : (y : ℕ) → is_pair (length config) i y ≡ true → (w.node y).state.lost (name_at config i) ≡ false
-    unseen y pair = go ((w.node y).state.lost (name_at config i)) refl
+    -- no more are to stay than are there
+    pub can_so : ((y : ℕ) → is_pair (length config) i y ≡ true → kept y ≤ length (w.wire i y)) → can_keep (length config) world_before i kept ≡ true
+    can_so few = each_so (length config) test (λ y below. go y (is_pair (length config) i y) refl)
       where
-        go : (b : Bool) → (w.node y).state.lost (name_at config i) ≡ b → b ≡ false
-        go true is = let gone = seen y i (pair_turned (length config) i y pair) is in let no : true ≡ false = sym gone ∙ stays in absurd (cc)
-        go false is = refl
+        test : ℕ → Bool
+        test y = not (is_pair (length config) i y) || nat_le (kept y) (length (world_before.wire i y))
 
-    own_rest : (y : ℕ) → rest y ≡ after.wire i y
-    own_rest y = go (is_pair (length config) i y) refl
-      where
-        go : (b : Bool) → is_pair (length config) i y ≡ b → rest y ≡ after.wire i y
-        go true is =
-            ap (λ c. cond c (take (keep_of i keep y) (before.wire i y) ++ last_notice (w.node i) ∷ []) (before.wire i y)) is
-            ∙ (ap (λ xs. take (keep_of i keep y) xs ++ last_notice (w.node i) ∷ []) (wire_here stays count y)
-            ∙ (ap (λ xs. xs ++ last_notice (w.node i) ∷ []) (take-map sent_packet (keep_of i keep y) (w.wire i y))
-            ∙ (λ j. map sent_packet (sym (cut_here y) j) ++ cond (sym is j && (sym (lost_it lost i) j && not (sym (unseen y is) j))) (last_notice (w.node i) ∷ []) [])))
-        go false is =
-            ap (λ c. cond c (take (keep_of i keep y) (before.wire i y) ++ last_notice (w.node i) ∷ []) (before.wire i y)) is
-            ∙ (wire_here stays count y ∙ (ap (map sent_packet) (none_else y is)
-            ∙ (λ j. map sent_packet (sym (cut_here y ∙ (ap (take (keep_of i keep y)) (none_else y is) ∙ take_none (keep_of i keep y))) j)
-            ++ cond (sym is j && (is_lost more i && not ((w.node y).state.lost (name_at config i)))) (last_notice (w.node i) ∷ []) [])))
+        go : (y : ℕ) (b : Bool) → is_pair (length config) i y ≡ b → (not (is_pair (length config) i y) || nat_le (kept y) (length (world_before.wire i y))) ≡ true
+        go y true is =
+            let least = few y is in
+            let many : length (world_before.wire i y) ≡ length (w.wire i y) = ap length (wire_before y) ∙ length-map (w.wire i y) sent_packet in
+            ap (λ c. not c || nat_le (kept y) (length (world_before.wire i y))) is ∙ le-leb (kept y) (length (world_before.wire i y)) (omega (arith, least, many))
+        go y false is = ap (λ c. not c || nat_le (kept y) (length (world_before.wire i y))) is
 
-    wire_is : (x y : ℕ) → left.wire x y ≡ after.wire x y
-    wire_is x y = go (cases_eq x i)
-      where
-        go : (x ≡ i) ⊎ (x ≢ i) → left.wire x y ≡ after.wire x y
-        go (inl d) = subst (λ k. left.wire k y ≡ after.wire k y) (sym d)
-            (ap (λ (row : ℕ → List (Stamped (Noticed Message))). row y) (set_at_here {A = ℕ → List (Stamped (Noticed Message))} before.wire i rest i refl) ∙ own_rest y)
-        go (inr n) = ap (λ (row : ℕ → List (Stamped (Noticed Message))). row y) (set_at_other {A = ℕ → List (Stamped (Noticed Message))} before.wire i rest x n)
-            ∙ (λ j. map sent_packet (sym (cut_else x y n) j) ++ cond (is_pair (length config) x y && (sym (lost_others lost i x n) j && not ((w.node y).state.lost (name_at config x)))) (last_notice (w.node x) ∷ []) [])
+    module _ (can : can_keep (length config) world_before i kept ≡ true) where
+      abbrev more : List ℕ
+      more = lost ++ i ∷ []
 
-    gone_is : (x : ℕ) → set_at (is_lost lost) i true x ≡ is_lost more x
-    gone_is x = go (cases_eq x i)
-      where
-        go : (x ≡ i) ⊎ (x ≢ i) → set_at (is_lost lost) i true x ≡ is_lost more x
-        go (inl d) = set_at_here (is_lost lost) i true x d ∙ sym (ap (is_lost more) d ∙ lost_it lost i)
-        go (inr n) = set_at_other (is_lost lost) i true x n ∙ sym (lost_others lost i x n)
+      abbrev after : LossyWorld
+      after = (losing_of config cut_off more).world
 
-    left_is : ◌≡◌ {A = LosingFrameWorld} (record { world = left; gone = set_at (is_lost lost) i true }) (losing_of config cut_off more)
-    left_is = λ j. record {
-      world = record { node = w.node; wire = (fun_ext (λ x. fun_ext (wire_is x))) j; reported = w.reported };
-      gone = (fun_ext gone_is) j;
-    }
+      abbrev rest : ℕ → List (Stamped (Noticed Message))
+      rest y = cond (is_pair (length config) i y) (take (kept y) (world_before.wire i y) ++ last_notice (w.node i) ∷ []) (world_before.wire i y)
 
-    pub loss_happens : losing_happens (losing_frame_machine config) last_notice (losing_of config w lost) (Lose i (keep_of i keep)) ≡ Some (losing_of config cut_off more)
-    unfolding losing_happens
-    loss_happens =
-        (λ j. cond (lt-ltb i (length config) within j && (not (stays j) && can_so stays count can j)) (Some (record { world = left; gone = set_at (is_lost lost) i true })) None)
-        ∙ ap Some left_is
+      abbrev left : LossyWorld
+      left = stopped (length config) last_notice world_before i kept
 
-    pub seen_more : SeenAreLost config cut_off more
-    seen_more x p pair has = lost_still lost i p (seen x p pair has)
+      unseen : (y : ℕ) → is_pair (length config) i y ≡ true → (w.node y).state.lost (name_at config i) ≡ false
+      unseen y pair = go ((w.node y).state.lost (name_at config i)) refl
+        where
+          go : (b : Bool) → (w.node y).state.lost (name_at config i) ≡ b → b ≡ false
+          go true is = let gone = seen y i (pair_turned (length config) i y pair) is in let no : true ≡ false = sym gone ∙ stays in absurd (cc)
+          go false is = refl
+
+      own_rest : (y : ℕ) → rest y ≡ after.wire i y
+      own_rest y = go (is_pair (length config) i y) refl
+        where
+          go : (b : Bool) → is_pair (length config) i y ≡ b → rest y ≡ after.wire i y
+          go true is =
+              ap (λ c. cond c (take (kept y) (world_before.wire i y) ++ last_notice (w.node i) ∷ []) (world_before.wire i y)) is
+              ∙ (ap (λ xs. take (kept y) xs ++ last_notice (w.node i) ∷ []) (wire_before y)
+              ∙ (ap (λ xs. xs ++ last_notice (w.node i) ∷ []) (take-map sent_packet (kept y) (w.wire i y))
+              ∙ (λ j. map sent_packet (sym (cut_here y) j) ++ cond (sym is j && (sym (lost_it lost i) j && not (sym (unseen y is) j))) (last_notice (w.node i) ∷ []) [])))
+          go false is =
+              ap (λ c. cond c (take (kept y) (world_before.wire i y) ++ last_notice (w.node i) ∷ []) (world_before.wire i y)) is
+              ∙ (wire_before y ∙ (ap (map sent_packet) (nothing_else y is)
+              ∙ (λ j. map sent_packet (sym (cut_here y ∙ (ap (take (kept y)) (nothing_else y is) ∙ take_none (kept y))) j)
+              ++ cond (sym is j && (is_lost more i && not ((w.node y).state.lost (name_at config i)))) (last_notice (w.node i) ∷ []) [])))
+
+      wire_is : (x y : ℕ) → left.wire x y ≡ after.wire x y
+      wire_is x y = go (cases_eq x i)
+        where
+          go : (x ≡ i) ⊎ (x ≢ i) → left.wire x y ≡ after.wire x y
+          go (inl d) = subst (λ k. left.wire k y ≡ after.wire k y) (sym d)
+              (ap (λ (row : ℕ → List (Stamped (Noticed Message))). row y) (set_at_here {A = ℕ → List (Stamped (Noticed Message))} world_before.wire i rest i refl) ∙ own_rest y)
+          go (inr n) = ap (λ (row : ℕ → List (Stamped (Noticed Message))). row y) (set_at_other {A = ℕ → List (Stamped (Noticed Message))} world_before.wire i rest x n)
+              ∙ (λ j. map sent_packet (sym (cut_else x y n) j) ++ cond (is_pair (length config) x y && (sym (lost_others lost i x n) j && not ((w.node y).state.lost (name_at config x)))) (last_notice (w.node x) ∷ []) [])
+
+      gone_is : (x : ℕ) → set_at (is_lost lost) i true x ≡ is_lost more x
+      gone_is x = go (cases_eq x i)
+        where
+          go : (x ≡ i) ⊎ (x ≢ i) → set_at (is_lost lost) i true x ≡ is_lost more x
+          go (inl d) = set_at_here (is_lost lost) i true x d ∙ sym (ap (is_lost more) d ∙ lost_it lost i)
+          go (inr n) = set_at_other (is_lost lost) i true x n ∙ sym (lost_others lost i x n)
+
+      left_is : ◌≡◌ {A = LosingFrameWorld} (record { world = left; gone = set_at (is_lost lost) i true }) (losing_of config cut_off more)
+      left_is = λ j. record {
+        world = record { node = w.node; wire = (fun_ext (λ x. fun_ext (wire_is x))) j; reported = w.reported };
+        gone = (fun_ext gone_is) j;
+      }
+
+      pub loss_happens : losing_happens (losing_frame_machine config) last_notice (losing_of config w lost) (Lose i kept) ≡ Some (losing_of config cut_off more)
+      unfolding losing_happens
+      loss_happens =
+          (λ j. cond (lt-ltb i (length config) within j && (not (stays j) && can j)) (Some (record { world = left; gone = set_at (is_lost lost) i true })) None)
+          ∙ ap Some left_is
+
+      pub seen_more : SeenAreLost config cut_off more
+      seen_more x p pair has = lost_still lost i p (seen x p pair has)
+
+-- ---- over packets
+
+module _ (config : Config) (old : View) (w : TimedFrameWorld) (lost : List ℕ) (i : ℕ) (keep : List ℕ) (shows : Shows config old w) where
+  pub nowhere_from : (y : ℕ) → is_pair (length config) i y ≡ false → w.wire i y ≡ []
+  nowhere_from y none = shows.traffic.nodes.nowhere i y none
+
+  abbrev pub packets_cut : TimedFrameWorld
+  packets_cut = cut_off config w lost i (keep_of i keep) nowhere_from
+
+  pub shown_cut : (new : View) → new.traffic.nodes ≡ old.traffic.nodes → new.account ≡ old.account
+      → ((k : ℕ) → way_at new.traffic i k ≡ take (get_or keep k 0) (way_at old.traffic i k)) → ((x k : ℕ) → x ≢ i → way_at new.traffic x k ≡ way_at old.traffic x k) → Shows config new packets_cut
+  shown_cut new nodes account here others = record {
+    traffic = record {
+      nodes = subst (λ ns. ShowsNodes config ns packets_cut) (sym nodes) (nodes_cut config w lost i (keep_of i keep) nowhere_from old.traffic.nodes shows.traffic.nodes);
+      ways = λ x y pair. way x y pair (cases_eq x i);
+    };
+    updates = subst (λ (a : Account). ShowsUpdates a packets_cut) (sym account) (updates_cut config w lost i (keep_of i keep) nowhere_from old.account shows.updates);
+  }
+    where
+      way : (x y : ℕ) → is_pair (length config) x y ≡ true → (x ≡ i) ⊎ (x ≢ i) → packets_cut.wire x y ≡ on_the_way new.traffic x y
+      way x y pair (inl d) = subst (λ k. packets_cut.wire k y ≡ on_the_way new.traffic k y) (sym d)
+          (cut_here config w lost i (keep_of i keep) nowhere_from y ∙ (ap (take (keep_of i keep y)) (shows.traffic.ways i y (subst (λ k. is_pair (length config) k y ≡ true) d pair)) ∙ sym (here (peer_place i y))))
+      way x y pair (inr n) = cut_else config w lost i (keep_of i keep) nowhere_from x y n ∙ (shows.traffic.ways x y pair ∙ sym (others x (peer_place x y) n))

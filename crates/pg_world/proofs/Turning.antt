@@ -79,7 +79,6 @@ pub record Turned (nodes nodes2 : List Seen) (i : ℕ) (node after : Seen) (t : 
   pub names : after.names ≡ node.names
   pub ports : after.ports ≡ node.ports
   pub happened : Happens node.names t done after.state node.answers after.answers
-  pub fits : AreSendable node.names done.sends.items
 
 -- What an event has left of what was on the way: what its node sent stands behind what was on the way from there, the packet
 -- that it took is gone, and all else is as it was.
@@ -104,27 +103,6 @@ module _ (config : Config) (nodes nodes2 : List Seen) (w : TimedFrameWorld) (e :
 
   abbrev turn : Turn (Timed State) (Stamped Message) Report
   turn = place_timed config t
-
-  -- what the turn sends is what was put on the ways
-  sends_are : sends_in (all_of (nodes_at config (node_of e))) done.sends.items ≡ t.sends
-  sends_are = subst (λ ns. sends_in ns done.sends.items ≡ t.sends) shown.names turned.happened.told.sends
-
-  fits : AreSendable (all_of (nodes_at config (node_of e))) done.sends.items
-  fits = subst (λ ns. AreSendable ns done.sends.items) shown.names turned.fits
-
-  sends_there : (y : ℕ) → y < length config → y ≢ node_of e → turn.sends y ≡ packets_to done.sends.items (peer_place (node_of e) y)
-  sends_there y l n = ap (λ b. cond b (t.sends (name_at config y)) []) (lt-ltb y (length config) l)
-      ∙ (ap (λ (f : Node → List (Stamped Message)). f (name_at config y)) (sym sends_are)
-      ∙ sent_to config (node_of e) within shows.apart done.sends.items y fits.each l n)
-
-  sends_nowhere : (y : ℕ) → is_pair (length config) (node_of e) y ≡ false → turn.sends y ≡ []
-  sends_nowhere y none = go (nat_lt y (length config)) (ltb-true y (length config)) (cases_eq y (node_of e))
-    where
-      go : (b : Bool) → (b ≡ true → y < length config) → (y ≡ node_of e) ⊎ (y ≢ node_of e) → cond b (t.sends (name_at config y)) [] ≡ []
-      go false h d = refl
-      go true h (inl d) = ap (λ z. t.sends (name_at config z)) d ∙ (ap (λ (f : Node → List (Stamped Message)). f (name_at config (node_of e))) (sym sends_are)
-          ∙ sent_home config (node_of e) within shows.apart done.sends.items fits.each)
-      go true h (inr n) = let both : true ≡ false = sym (is_pair_so (length config) (node_of e) y within (h refl) n) ∙ none in absurd (cc)
 
   -- the node that made the turn, and the others
   module _ (v : TimedFrameWorld) (changes : Changes e turn w v) where
@@ -161,28 +139,54 @@ module _ (config : Config) (nodes nodes2 : List Seen) (w : TimedFrameWorld) (e :
             (set_here nodes (node_of e) after other (subst (λ k. slice_get (slice_set nodes (node_of e) after) k ≡ Some other) d there)) own_shown)
         go (inr n) = other_shown j other n (shows.each j other (sym (set_other nodes (node_of e) j after n) ∙ there))
 
-    -- what is on the way from the node
-    own_way : (y : ℕ) → is_pair (length config) (node_of e) y ≡ true → v.wire (node_of e) y ≡ w.wire (node_of e) y ++ packets_to done.sends.items (peer_place (node_of e) y)
-    own_way y pair = let p = pair_is (length config) (node_of e) y pair in
-        changes.sent y ∙ ap (λ xs. w.wire (node_of e) y ++ xs) (sends_there y p.1 p.2)
-
-    own_nowhere : (y : ℕ) → is_pair (length config) (node_of e) y ≡ false → v.wire (node_of e) y ≡ []
-    own_nowhere y none = changes.sent y ∙ (λ j. shows.nowhere (node_of e) y none j ++ sends_nowhere y none j)
-
-    pub ways_after : Passes config e done.sends.items w v
-    ways_after = record { own = own_way; taken = changes.taken; others = changes.ways }
-
-    pub shown_after : ((x y : ℕ) → is_pair (length config) x y ≡ false → Takes e x y → ⊥) → ShowsNodes config nodes2 v
-    shown_after untaken = record {
+    pub nodes_now : ((x y : ℕ) → is_pair (length config) x y ≡ false → v.wire x y ≡ []) → ShowsNodes config nodes2 v
+    nodes_now nowhere = record {
       apart = shows.apart;
       size = ap length turned.set ∙ (length-set nodes (node_of e) after ∙ shows.size);
       each = nodes_shown;
-      nowhere = λ x y none. none_cases x y none (cases_eq x (node_of e));
+      nowhere = nowhere;
     }
+
+  module _ (can : AreSendable node.names done.sends.items) where
+    -- what the turn sends is what was put on the ways
+    sends_are : sends_in (all_of (nodes_at config (node_of e))) done.sends.items ≡ t.sends
+    sends_are = subst (λ ns. sends_in ns done.sends.items ≡ t.sends) shown.names turned.happened.told.sends
+
+    fits : AreSendable (all_of (nodes_at config (node_of e))) done.sends.items
+    fits = subst (λ ns. AreSendable ns done.sends.items) shown.names can
+
+    sends_there : (y : ℕ) → y < length config → y ≢ node_of e → turn.sends y ≡ packets_to done.sends.items (peer_place (node_of e) y)
+    sends_there y l n = ap (λ b. cond b (t.sends (name_at config y)) []) (lt-ltb y (length config) l)
+        ∙ (ap (λ (f : Node → List (Stamped Message)). f (name_at config y)) (sym sends_are)
+        ∙ sent_to config (node_of e) within shows.apart done.sends.items y fits.each l n)
+
+    sends_nowhere : (y : ℕ) → is_pair (length config) (node_of e) y ≡ false → turn.sends y ≡ []
+    sends_nowhere y none = go (nat_lt y (length config)) (ltb-true y (length config)) (cases_eq y (node_of e))
       where
-        none_cases : (x y : ℕ) → is_pair (length config) x y ≡ false → (x ≡ node_of e) ⊎ (x ≢ node_of e) → v.wire x y ≡ []
-        none_cases x y none (inl d) = subst (λ k. v.wire k y ≡ []) (sym d) (own_nowhere y (subst (λ k. is_pair (length config) k y ≡ false) d none))
-        none_cases x y none (inr n) = changes.ways x y n (untaken x y none) ∙ shows.nowhere x y none
+        go : (b : Bool) → (b ≡ true → y < length config) → (y ≡ node_of e) ⊎ (y ≢ node_of e) → cond b (t.sends (name_at config y)) [] ≡ []
+        go false h d = refl
+        go true h (inl d) = ap (λ z. t.sends (name_at config z)) d ∙ (ap (λ (f : Node → List (Stamped Message)). f (name_at config (node_of e))) (sym sends_are)
+            ∙ sent_home config (node_of e) within shows.apart done.sends.items fits.each)
+        go true h (inr n) = let both : true ≡ false = sym (is_pair_so (length config) (node_of e) y within (h refl) n) ∙ none in absurd (cc)
+
+    module _ (v : TimedFrameWorld) (changes : Changes e turn w v) where
+      -- what is on the way from the node
+      own_way : (y : ℕ) → is_pair (length config) (node_of e) y ≡ true → v.wire (node_of e) y ≡ w.wire (node_of e) y ++ packets_to done.sends.items (peer_place (node_of e) y)
+      own_way y pair = let p = pair_is (length config) (node_of e) y pair in
+          changes.sent y ∙ ap (λ xs. w.wire (node_of e) y ++ xs) (sends_there y p.1 p.2)
+
+      own_nowhere : (y : ℕ) → is_pair (length config) (node_of e) y ≡ false → v.wire (node_of e) y ≡ []
+      own_nowhere y none = changes.sent y ∙ (λ j. shows.nowhere (node_of e) y none j ++ sends_nowhere y none j)
+
+      pub ways_after : Passes config e done.sends.items w v
+      ways_after = record { own = own_way; taken = changes.taken; others = changes.ways }
+
+      pub shown_after : ((x y : ℕ) → is_pair (length config) x y ≡ false → Takes e x y → ⊥) → ShowsNodes config nodes2 v
+      shown_after untaken = nodes_now v changes (λ x y none. none_cases x y none (cases_eq x (node_of e)))
+        where
+          none_cases : (x y : ℕ) → is_pair (length config) x y ≡ false → (x ≡ node_of e) ⊎ (x ≢ node_of e) → v.wire x y ≡ []
+          none_cases x y none (inl d) = subst (λ k. v.wire k y ≡ []) (sym d) (own_nowhere y (subst (λ k. is_pair (length config) k y ≡ false) d none))
+          none_cases x y none (inr n) = changes.ways x y n (untaken x y none) ∙ shows.nowhere x y none
 
 -- ---- something of its own
 
@@ -228,12 +232,12 @@ module _ (config : Config) (nodes : List Seen) (w : TimedFrameWorld) (i : ℕ) (
         same_step config ((w.node i).clock + 1) (node_acts (nodes_at config i) (ports_at config i) action (w.node i).state) ∙ ap (timed_placed config) (sym own_told ∙ is) in
         let changes : Changes (Do i action) turn w v = turn_changes (length config) w (Do i action) (Own action) turn its_place refl in
         let turned : Turned nodes nodes2 i node after t done =
-        record { here = here; set = set; names = names; ports = ports; happened = happened; fits = fits } in (
+        record { here = here; set = set; names = names; ports = ports; happened = happened } in (
           v,
           happens_so (frame_machine config) w v (Do i action) (record { there = its_place; input = Own action; given = refl; turn = turn; made = made; leaves = refl }),
           record {
-            nodes = shown_after config nodes nodes2 w (Do i action) node after t done shows turned v changes (λ x y none never. never);
-            ways = ways_after config nodes nodes2 w (Do i action) node after t done shows turned v changes;
+            nodes = shown_after config nodes nodes2 w (Do i action) node after t done shows turned fits v changes (λ x y none never. never);
+            ways = ways_after config nodes nodes2 w (Do i action) node after t done shows turned fits v changes;
             records = records_so w v i None t.reported done.began refl happened.told.began (act_applies (whole_in node.names) node.ports action node.state t is);
           },
         )
@@ -309,12 +313,12 @@ module _ (config : Config) (nodes : List Seen) (w : TimedFrameWorld) (i p : ℕ)
           let given : input_of w (Take i p) ≡ Some (Taken p x) = ap (first_from p) begins in
           let changes : Changes (Take i p) turn w v = turn_changes (length config) w (Take i p) (Taken p x) turn pair_there given in
           let turned : Turned nodes nodes2 i node after t done =
-          record { here = here; set = set; names = names; ports = ports; happened = happened; fits = fits } in (
+          record { here = here; set = set; names = names; ports = ports; happened = happened } in (
             v,
             happens_so (frame_machine config) w v (Take i p) (record { there = pair_there; input = Taken p x; given = given; turn = turn; made = made; leaves = refl }),
             record {
-              nodes = shown_after config nodes nodes2 w (Take i p) node after t done shows turned v changes nowhere_taken;
-              ways = ways_after config nodes nodes2 w (Take i p) node after t done shows turned v changes;
+              nodes = shown_after config nodes nodes2 w (Take i p) node after t done shows turned fits v changes nowhere_taken;
+              ways = ways_after config nodes nodes2 w (Take i p) node after t done shows turned fits v changes;
               records = records_so w v i (asked_by x.packet) t.reported done.began refl happened.told.began (take_applies (whole_in node.names) (place_name node.names (peer_place i p + 1)) x node.state t is);
             },
           )

@@ -1,5 +1,5 @@
 -- A world whose packets cross as bytes: how it is seen, and the frame world that it shows.
-use Rattle.std.specs.Prelude.{◌≡◌, ◌≤◌, ◌+◌, ◌-◌, ℕ, Bool, true, false, map, length, get_or, replicate, List, [], Some, Result, Ok, Err}
+use Rattle.std.specs.Prelude.{◌≡◌, ◌≢◌, ◌≤◌, ◌+◌, ◌-◌, ℕ, Bool, true, false, map, length, get_or, replicate, List, [], ◌∷◌, Some, Result, Ok, Err}
 use Rattle.std.specs.List.{AllByRecursion}
 use Rattle.pg_term_io.specs.Writing.{written}
 use Rattle.pg_frame.specs.Frames.{IsBody}
@@ -11,11 +11,11 @@ use Rattle.pg_message.specs.Writing.{is_exchange, term_of_packet}
 use Rattle.pg_machine.specs.Places.{is_pair}
 use Rattle.pg_machine.specs.Machine.{Event, Take, Do, happens}
 use Rattle.pg_machine.specs.Clocked.{Stamped}
-use Rattle.pg_pieces.specs.Pieces.{Bytes, ArePackets}
-use Rattle.pg_step.specs.declared.refusal.Refusal.TheVariants.{NoSuchPlace}
-use Rattle.pg_step.specs.Config.{Config}
+use Rattle.pg_pieces.specs.Pieces.{Bytes, ArePackets, AreCut}
+use Rattle.pg_step.specs.declared.refusal.Refusal.TheVariants.{NoSuchPlace, NotAMessage}
+use Rattle.pg_step.specs.Config.{Config, name_at, nodes_at}
 use Rattle.pg_step.specs.FrameMachine.{frame_machine}
-use Rattle.pg_step.specs.Step.{Action, Issue, Retry}
+use Rattle.pg_step.specs.Step.{Action, Issue, Retry, step_take}
 use Rattle.pg_node.specs.declared.node.Node.{Node}
 use Rattle.pg_node.specs.declared.state.fault.NodeFault.{NodeFault}
 use Rattle.pg_node.specs.declared.state.fault.NodeFault.TheVariants.{Refused, OutOfMemory}
@@ -30,6 +30,7 @@ use Rattle.pg_world.specs.declared.step.Step.TheVariants as steps
 use Rattle.pg_world.specs.declared.step.Stepped.{Stepped}
 use Rattle.pg_world.specs.declared.step.Stepped.TheVariants.{Nothing, Moved, Happened}
 use Rattle.pg_world.specs.declared.bytes.World.{World}
+use Rattle.pg_world.specs.Losses.{is_lost}
 use Rattle.pg_world.specs.Views.{Seen, Account, seen_of, peer_place}
 use Rattle.pg_world.specs.Worlds.{TimedFrameWorld, ShowsNodes, ShowsUpdates, IsUnseen, is_loss, told}
 
@@ -92,18 +93,37 @@ pub record CanCross (packet : Packet) : Type 0 where
   pub fits : IsBody (written_of packet)
   pub small : is_exchange packet.message ≡ false → 4 + length (written_of packet) ≤ 4096
 
+-- What is on the way to a node from another, by which of the two are lost: the bytes are the frames of the packets; of a lost node they
+-- are those whose frames were put whole, and a piece of the next; to a lost node they are any.
+abbrev pub IsOnWay : (to_lost from_lost : Bool) → List Packet → Bytes → Type 0
+IsOnWay true from_lost packets bytes = Unit {0}
+IsOnWay false true packets bytes = AreCut written_of packets bytes
+IsOnWay false false packets bytes = ArePackets written_of packets bytes
+
 -- The nodes of a frame world are as they are seen, and what is on the way there is what the bytes on the way are, all of which
--- can cross. No link is damaged.
-pub record ShowsCrossing (config : Config) (crossing : Crossing) (w : TimedFrameWorld) : Type 0 where
+-- can cross, where these nodes are lost. No link is damaged.
+pub record ShowsPast (config : Config) (lost : List ℕ) (crossing : Crossing) (w : TimedFrameWorld) : Type 0 where
   pub nodes : ShowsNodes config crossing.nodes w
-  pub ways : (x y : ℕ) → is_pair (length config) x y ≡ true → ArePackets written_of (packets_between w x y) (bytes_at crossing x y)
+  pub ways : (x y : ℕ) → is_pair (length config) x y ≡ true → IsOnWay (is_lost lost y) (is_lost lost x) (packets_between w x y) (bytes_at crossing x y)
   pub cross : (x y : ℕ) → is_pair (length config) x y ≡ true → AllByRecursion CanCross (packets_between w x y)
   pub sound : (x y : ℕ) → is_pair (length config) x y ≡ true → (link_at crossing x y).damaged ≡ false
 
 -- the same with its updates
-pub record ShowsBytes (config : Config) (crossing : Crossing) (account : Account) (w : TimedFrameWorld) : Type 0 where
-  pub traffic : ShowsCrossing config crossing w
+pub record ShowsBytesPast (config : Config) (lost : List ℕ) (crossing : Crossing) (account : Account) (w : TimedFrameWorld) : Type 0 where
+  pub traffic : ShowsPast config lost crossing w
   pub updates : ShowsUpdates account w
+
+-- where no node is lost
+abbrev pub ShowsCrossing : Config → Crossing → TimedFrameWorld → Type 0
+ShowsCrossing config crossing w = ShowsPast config [] crossing w
+
+abbrev pub ShowsBytes : Config → Crossing → Account → TimedFrameWorld → Type 0
+ShowsBytes config crossing account w = ShowsBytesPast config [] crossing account w
+
+-- the first packet on the way to node i from node p is never refused as no message
+abbrev pub IsWelcome : Config → TimedFrameWorld → ℕ → ℕ → Type 0
+IsWelcome config w i p = (x : Stamped Message) (rest : List (Stamped Message)) → w.wire p i ≡ x ∷ rest
+    → step_take (nodes_at config i) (name_at config p) x (w.node i) ≢ Err NotAMessage
 
 -- a frame world that events lead to from the start
 abbrev pub IsReached : Config → TimedFrameWorld → Type 0

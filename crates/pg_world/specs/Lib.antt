@@ -1,4 +1,6 @@
 pub mod Bars
+pub mod BytesLosing
+pub mod BytesLosingRuns
 pub mod Configs
 pub mod Crossings
 pub mod Faults

@@ -1,4 +1,4 @@
--- What comes of steps over packets that are made one after another, where nodes may be lost.
+-- What comes of steps that are made one after another, where nodes may be lost.
 use Rattle.std.specs.Prelude.{◌≡◌, ◌⊎◌, ℕ, false, cond, List, [], ◌∷◌, Some}
 use Rattle.std.specs.Option.{option_map_or}
 use Rattle.pg_machine.specs.Losing.{LosingEvent, losing_happens, nobody_gone}
@@ -23,46 +23,60 @@ number_left told = option_map_or refusal_number_of told.refusal (cond told.is_id
 abbrev pub IsLeftOut : Told → ℕ → Type 0
 IsLeftOut told number = (number ≡ number_left told) ⊎ (number ≡ 10)
 
--- The event of a step happened in the world u, with a packet on the way if it takes one, and its number is 0; the rest follows in the
--- world that it left.
-pub record LosingGoes (config : Config) (u : LosingFrameWorld) (told : Told) (number : ℕ) (Rest : LosingFrameWorld → Type 0) : Type 0 where
+-- ---- kinds of steps
+
+-- A kind of steps where nodes may be lost: which events a step can be in a world, and which number a step that did nothing can have there.
+pub record LosingKind (S : Type 0) : Type 1 where
+  pub Is : Config → LosingFrameWorld → S → LosingEvent Action → Type 0
+  pub LeftOut : Config → LosingFrameWorld → S → ℕ → Type 0
+
+-- the event that is told, with a packet on the way if it takes one
+abbrev pub IsToldEvent : Told → LosingEvent Action → Type 0
+IsToldEvent told e = (e ≡ told.event) × (told.is_idle ≡ false)
+
+abbrev pub packets_past_losses : LosingKind FrameStep
+packets_past_losses = record { Is = λ config u step. IsToldEvent (told_of config u step); LeftOut = λ config u step. IsLeftOut (told_of config u step) }
+
+-- ---- runs
+
+-- An event that a step can be happened in the world u, and the step's number is 0; the rest follows in the world that it left.
+pub record LosingGoes {S : Type 0} (kind : LosingKind S) (config : Config) (u : LosingFrameWorld) (step : S) (number : ℕ) (Rest : LosingEvent Action → LosingFrameWorld → Type 0) : Type 0 where
   pub listed : number ≡ 0
-  pub busy : told.is_idle ≡ false
+  pub e : LosingEvent Action
+  pub is : kind.Is config u step e
   pub left : LosingFrameWorld
-  pub happened : losing_happens (losing_frame_machine config) last_notice u told.event ≡ Some left
-  pub rest : Rest left
+  pub happened : losing_happens (losing_frame_machine config) last_notice u e ≡ Some left
+  pub rest : Rest e left
 
 -- what came of a step: it happened and led to a world that is shown, or left the world as it was
-abbrev pub LosingStepsTo : Config → LosingFrameWorld → FrameStep → ℕ → (LosingFrameWorld → Type 0) → Type 0
-LosingStepsTo config u step number Shown =
-    LosingGoes config u (told_of config u step) number Shown ⊎ (IsLeftOut (told_of config u step) number × Shown u)
+abbrev pub LosingStepsTo : {S : Type 0} → LosingKind S → Config → LosingFrameWorld → S → ℕ → (LosingFrameWorld → Type 0) → Type 0
+LosingStepsTo kind config u step number Shown = LosingGoes kind config u step number (λ e left. Shown left) ⊎ (kind.LeftOut config u step number × Shown u)
 
 -- Steps from the world u have these numbers, the events of those that happened are these, in their order, and lead to the world v.
-abbrev pub LosingRunsTo : Config → LosingFrameWorld → List FrameStep → List ℕ → List (LosingEvent Action) → LosingFrameWorld → Type 0
-LosingRunsTo config u [] [] events v = (events ≡ []) × (u ≡ v)
-LosingRunsTo config u (step ∷ later) (number ∷ numbers) events v =
-    LosingGoes config u (told_of config u step) number
-    (λ left. Led (told_of config u step).event events (λ others. LosingRunsTo config left later numbers others v))
-    ⊎ (IsLeftOut (told_of config u step) number × LosingRunsTo config u later numbers events v)
-LosingRunsTo config u all numbers events v = ⊥
+abbrev pub LosingRunsTo : {S : Type 0} → LosingKind S → Config → LosingFrameWorld → List S → List ℕ → List (LosingEvent Action) → LosingFrameWorld → Type 0
+LosingRunsTo kind config u [] [] events v = (events ≡ []) × (u ≡ v)
+LosingRunsTo kind config u (step ∷ later) (number ∷ numbers) events v =
+    LosingGoes kind config u step number (λ e left. Led e events (λ others. LosingRunsTo kind config left later numbers others v))
+    ⊎ (kind.LeftOut config u step number × LosingRunsTo kind config u later numbers events v)
+LosingRunsTo kind config u all numbers events v = ⊥
 
 -- steps from the world u have these numbers, and lead to a world that is shown
-pub record LosingGoesTo (config : Config) (u : LosingFrameWorld) (all : List FrameStep) (numbers : List ℕ) (Shown : LosingFrameWorld → Type 0) : Type 0 where
+pub record LosingGoesTo {S : Type 0} (kind : LosingKind S) (config : Config) (u : LosingFrameWorld) (all : List S) (numbers : List ℕ) (Shown : LosingFrameWorld → Type 0) : Type 0 where
   pub events : List (LosingEvent Action)
   pub left : LosingFrameWorld
-  pub runs : LosingRunsTo config u all numbers events left
+  pub runs : LosingRunsTo kind config u all numbers events left
   pub shown : Shown left
 
 -- What a run of steps from the start of a configuration came to, in which nodes may be lost, with the number of each step; Shown:
 -- the worlds with losses of a configuration that the code's world shows then.
-pub record RanLosing (given : Config) (all : List FrameStep) (numbers : List ℕ) (Shown : Config → LosingFrameWorld → Type 0) : Type 0 where
+pub record RanLosing {S : Type 0} (kind : LosingKind S) (given : Config) (all : List S) (numbers : List ℕ) (Shown : Config → LosingFrameWorld → Type 0) : Type 0 where
   -- the configuration with the groups of each node in order
   pub config : Config
   pub orders : Orders given config
   -- the events of the steps that happened, and the world with losses to which they lead
   pub events : List (LosingEvent Action)
   pub u : LosingFrameWorld
-  pub runs : LosingRunsTo config (nobody_gone (start_of (losing_frame_machine config))) all numbers events u
+  pub runs : LosingRunsTo kind config (nobody_gone (start_of (losing_frame_machine config))) all numbers events u
   pub shows : Shown config u
   -- what survives
   pub survived : LossesSurvived config events u

@@ -1,6 +1,6 @@
 //! Nodes whose packets cross as bytes, by rings between them, and what a step makes of them.
 
-ghost use Rattle.std.specs.Prelude.{◌≡◌, ◌↔◌, ◌<◌, ◌+◌, ◌^◌, ◌++◌, IsTrue, true, [], Ok, Some, IfOk, length, map, option_map, slice_get};
+ghost use Rattle.std.specs.Prelude.{◌≡◌, ◌↔◌, ◌<◌, ◌+◌, ◌^◌, ◌++◌, ℕ, List, IsTrue, true, false, [], Ok, Some, None, IfOk, length, map, option_map, slice_get};
 ghost use Rattle.std.specs.List.{All};
 ghost use Rattle.std.specs.Option.{option_copied};
 ghost use Rattle.pg_node.specs.Nodes.{held_by};
@@ -21,9 +21,13 @@ use crate::world::peer_place;
 pub use begun::starting_nodes;
 use pg_group::GroupTable;
 use pg_history::nobody_is_harmed;
+use pg_loss::no_packet_is_refused;
 use pg_message::Packet;
 use pg_node::{Node, NodeFault};
-use pg_pieces::{front_is_first_packet, moving_keeps_packets, sending_adds_packets};
+use pg_pieces::{
+    front_is_first_of_cut, front_is_first_packet, loss_cuts_packets, moving_keeps_packets,
+    sending_adds_packets,
+};
 use pg_step::{Command, OpId, Refusal};
 use pg_term::Term;
 pub use runs::run;
@@ -56,14 +60,16 @@ impl<T: GroupTable + Drop> World<T> {
     ghost use Rattle.pg_message.specs.Members.{IsShort};
     ghost use Rattle.pg_node.specs.Bytes.{next_packet};
     ghost use Rattle.pg_world.specs.Histories.{IsSettled, as_entry, last_entries, account_of};
-    ghost use Rattle.pg_world.specs.Losses.{lost_in};
+    ghost use Rattle.pg_step.specs.LossLaws.{LosingFrameWorld};
+    ghost use Rattle.pg_world.specs.BytesLosing.{IsReachedLosing, ShowsLosingBytes, MoveLeaves, EventLeaves, StepLeaves};
+    ghost use Rattle.pg_world.specs.Losses.{lost_in, is_lost};
     ghost use Rattle.pg_world.specs.Losing.{lost_after};
     ghost use Rattle.pg_world.specs.Bars.{IsHeld, put_bar, pull_bar, event_bar, bar_of, bytes_lost_after};
     ghost use Rattle.pg_world.specs.Worlds.{has_port, has_places, TimedFrameWorld};
     ghost use Rattle.pg_world.specs.Views.{no_account};
     ghost use Rattle.pg_world.specs.Changes.{Moves, put_count, pull_count, MoveChanges, EventChanges, FrameChanges, StepChanges};
     ghost use Rattle.pg_pieces.specs.Pieces.{put, pull};
-    ghost use Rattle.pg_world.specs.Crossings.{crossing_of, idle_crossing, node_of, link_at, bytes_at, IsReached, ShowsCrossing, ShowsBytes, MoveComesTo, EventComesTo, FrameComesTo, StepComesTo};
+    ghost use Rattle.pg_world.specs.Crossings.{crossing_of, idle_crossing, node_of, link_at, bytes_at, IsReached, IsWelcome, ShowsCrossing, ShowsPast, ShowsBytes, ShowsBytesPast, EventComesTo, FrameComesTo, StepComesTo};
 
     /// A world of these nodes, with an empty ring from each to each other, which has room for `ring` bytes, and where nothing has
     /// begun. Its cost is one allocation for each node and for each ring, and one.
@@ -127,7 +133,8 @@ impl<T: GroupTable + Drop> World<T> {
     /// not there, or a node and its peer are one; those of `NodeState::take`, `command` and `retry`, of which `NotAMessage` never
     /// comes; `OutOfMemory` may be told in the place of each behind `NoSuchPlace`. No link is ever damaged.
     ///
-    /// Where nodes are lost, no frame world is promised. A step of a node that is lost, and a put from it, is refused by `NodeLost`,
+    /// Where nodes are lost, the same holds of whatever world with losses the world shows, as events lead to it from the start: a step is
+    /// the event of the machine with losses. A step of a node that is lost, and a put from it, is refused by `NodeLost`,
     /// behind `NoSuchPlace`, and so is a pull or a take of a peer whose loss was seen. `SeeLoss`: `NoSuchPlace`; `NodeLost`, also
     /// where it was seen before; `NotLost`; `NotDrained` where bytes of the peer are on the ring, or a whole frame of it has come;
     /// `ClockFull`. `Lose`: `NoSuchPlace`, `NodeLost`.
@@ -135,6 +142,9 @@ impl<T: GroupTable + Drop> World<T> {
         ensures came { (config : Config) (w : TimedFrameWorld) → lost_in self.old.losses ≡ [] → IsReached config w
             → ShowsBytes config (crossing_of self.old) (account_of self.old.histories) w
             → StepComesTo config w step.now result (ShowsBytes config (crossing_of self.new) (account_of self.new.histories)) }
+        ensures losing { (config : Config) (u : LosingFrameWorld) → IsReachedLosing config u
+            → ShowsLosingBytes config (crossing_of self.old) (account_of self.old.histories) (lost_in self.old.losses) u
+            → StepLeaves config u step.now result (ShowsLosingBytes config (crossing_of self.new) (account_of self.new.histories) (lost_in self.new.losses)) }
         ensures changes { StepChanges self.old.ring (crossing_of self.old) (crossing_of self.new) step.now result }
         ensures barred { IsHeld (bar_of (crossing_of self.old) (lost_in self.old.losses) step.now) result }
         ensures lost { lost_in self.new.losses ≡ bytes_lost_after step.now result (lost_in self.old.losses) }
@@ -149,9 +159,9 @@ impl<T: GroupTable + Drop> World<T> {
 
     /// Up to so many bytes of what a node sends to another go on the ring between them.
     fn put(&mut self, from: usize, to: usize, max: usize) -> Result<Stepped, NodeFault>
-        ensures came { (config : Config) (w : TimedFrameWorld) → lost_in self.old.losses ≡ []
-            → ShowsBytes config (crossing_of self.old) (account_of self.old.histories) w
-            → MoveComesTo config from to result (ShowsBytes config (crossing_of self.new) (account_of self.new.histories) w) }
+        ensures came { (config : Config) (w : TimedFrameWorld)
+            → ShowsBytesPast config (lost_in self.old.losses) (crossing_of self.old) (account_of self.old.histories) w
+            → MoveLeaves (put_bar (crossing_of self.old) (lost_in self.old.losses) from to) result (ShowsBytesPast config (lost_in self.old.losses) (crossing_of self.new) (account_of self.new.histories) w) }
         ensures barred { IsHeld (put_bar (crossing_of self.old) (lost_in self.old.losses) from to) result }
         ensures lost { lost_in self.new.losses ≡ lost_in self.old.losses }
         ensures changes { MoveChanges (crossing_of self.old) (crossing_of self.new) from to (put_count self.old.ring max (bytes_at (crossing_of self.old) from to)) put result }
@@ -168,8 +178,8 @@ impl<T: GroupTable + Drop> World<T> {
     /// The same, where both are there; and how many.
     fn put_some(&mut self, from: usize, to: usize, max: usize) -> usize
         requires pair { is_pair (length (crossing_of self.old).nodes) from to ≡ true }
-        ensures shown { (config : Config) (w : TimedFrameWorld) → ShowsCrossing config (crossing_of self.old) w
-            → ShowsCrossing config (crossing_of self.new) w }
+        ensures shown { (config : Config) (lost : List ℕ) (w : TimedFrameWorld) → is_lost lost from ≡ false
+            → ShowsPast config lost (crossing_of self.old) w → ShowsPast config lost (crossing_of self.new) w }
         ensures account { account_of self.new.histories ≡ account_of self.old.histories }
         ensures lost { lost_in self.new.losses ≡ lost_in self.old.losses }
         ensures many { result ≡ put_count self.old.ring max (bytes_at (crossing_of self.old) from to) }
@@ -185,9 +195,9 @@ impl<T: GroupTable + Drop> World<T> {
 
     /// Up to so many bytes of what is on the ring from one node to another come there.
     fn pull(&mut self, to: usize, from: usize, max: usize) -> Result<Stepped, NodeFault>
-        ensures came { (config : Config) (w : TimedFrameWorld) → lost_in self.old.losses ≡ []
-            → ShowsBytes config (crossing_of self.old) (account_of self.old.histories) w
-            → MoveComesTo config from to result (ShowsBytes config (crossing_of self.new) (account_of self.new.histories) w) }
+        ensures came { (config : Config) (w : TimedFrameWorld)
+            → ShowsBytesPast config (lost_in self.old.losses) (crossing_of self.old) (account_of self.old.histories) w
+            → MoveLeaves (pull_bar (crossing_of self.old) (lost_in self.old.losses) to from) result (ShowsBytesPast config (lost_in self.old.losses) (crossing_of self.new) (account_of self.new.histories) w) }
         ensures barred { IsHeld (pull_bar (crossing_of self.old) (lost_in self.old.losses) to from) result }
         ensures lost { lost_in self.new.losses ≡ lost_in self.old.losses }
         ensures changes { MoveChanges (crossing_of self.old) (crossing_of self.new) from to (pull_count max (bytes_at (crossing_of self.old) from to)) pull result }
@@ -204,13 +214,14 @@ impl<T: GroupTable + Drop> World<T> {
     /// The same, where both are there.
     fn pull_some(&mut self, to: usize, from: usize, max: usize) -> Result<Stepped, NodeFault>
         requires pair { is_pair (length (crossing_of self.old).nodes) from to ≡ true }
-        ensures came { (config : Config) (w : TimedFrameWorld)
-            → ShowsBytes config (crossing_of self.old) (account_of self.old.histories) w
-            → MoveComesTo config from to result (ShowsBytes config (crossing_of self.new) (account_of self.new.histories) w) }
+        ensures came { (config : Config) (lost : List ℕ) (w : TimedFrameWorld)
+            → ShowsBytesPast config lost (crossing_of self.old) (account_of self.old.histories) w
+            → MoveLeaves None result (ShowsBytesPast config lost (crossing_of self.new) (account_of self.new.histories) w) }
         ensures lost { lost_in self.new.losses ≡ lost_in self.old.losses }
         ensures changes { MoveChanges (crossing_of self.old) (crossing_of self.new) from to (pull_count max (bytes_at (crossing_of self.old) from to)) pull result }
     {
         moving_keeps_packets::<Packet>();
+        loss_cuts_packets::<Packet>();
         let node = &mut self.nodes[to];
         let row = &mut self.rings[from];
         let ring = &mut row.rings[peer_place(from, to)];
@@ -225,10 +236,15 @@ impl<T: GroupTable + Drop> World<T> {
         ensures came { (config : Config) (w : TimedFrameWorld) → lost_in self.old.losses ≡ [] → IsReached config w
             → ShowsBytes config (crossing_of self.old) (account_of self.old.histories) w
             → FrameComesTo config w event.now result (ShowsBytes config (crossing_of self.new) (account_of self.new.histories)) }
+        ensures losing { (config : Config) (u : LosingFrameWorld) → IsReachedLosing config u
+            → ShowsLosingBytes config (crossing_of self.old) (account_of self.old.histories) (lost_in self.old.losses) u
+            → EventLeaves config u event.now result (ShowsLosingBytes config (crossing_of self.new) (account_of self.new.histories) (lost_in self.new.losses)) }
         ensures changes { FrameChanges (crossing_of self.old) (crossing_of self.new) event.now result }
         ensures barred { IsHeld (event_bar (crossing_of self.old) (lost_in self.old.losses) event.now) result }
         ensures lost { lost_in self.new.losses ≡ lost_after event.now result (lost_in self.old.losses) }
     {
+        nobody_is_harmed();
+        no_packet_is_refused();
         if !self.has_places(event) {
             return Err(NodeFault::Refused(Refusal::NoSuchPlace));
         }
@@ -291,13 +307,14 @@ impl<T: GroupTable + Drop> World<T> {
     fn take(&mut self, node: usize, peer: usize) -> Result<Stepped, NodeFault>
         requires settled { IsSettled self.old.histories }
         requires pair { is_pair (length (crossing_of self.old).nodes) node peer ≡ true }
-        ensures event { (config : Config) (w : TimedFrameWorld) → IsReached config w
-            → ShowsBytes config (crossing_of self.old) (account_of self.old.histories) w
-            → EventComesTo config w (Take node peer) result (ShowsBytes config (crossing_of self.new) (account_of self.new.histories)) }
+        ensures event { (config : Config) (lost : List ℕ) (w : TimedFrameWorld) → is_lost lost node ≡ false → IsWelcome config w node peer
+            → ShowsBytesPast config lost (crossing_of self.old) (account_of self.old.histories) w
+            → EventComesTo config w (Take node peer) result (ShowsBytesPast config lost (crossing_of self.new) (account_of self.new.histories)) }
         ensures changes { EventChanges (crossing_of self.old) (crossing_of self.new) (Take node peer) result }
         ensures lost { lost_in self.new.losses ≡ lost_in self.old.losses }
     {
         front_is_first_packet::<Packet>();
+        front_is_first_of_cut::<Packet>();
         let taker = &mut self.nodes[node];
         match taker.next(peer_place(node, peer)) {
             Ok(next) => self.take_next(node, peer, &next),
@@ -316,9 +333,9 @@ impl<T: GroupTable + Drop> World<T> {
         requires pair { is_pair (length (crossing_of self.old).nodes) node peer ≡ true }
         requires few { (packet : Packet) → next.now ≡ Some packet → IsShort (2 ^ 32) packet.message }
         requires front { next_packet (link_at (crossing_of self.old) node peer) ≡ Ok next.now }
-        ensures event { (config : Config) (w : TimedFrameWorld) → IsReached config w
-            → ShowsBytes config (crossing_of self.old) (account_of self.old.histories) w
-            → EventComesTo config w (Take node peer) result (ShowsBytes config (crossing_of self.new) (account_of self.new.histories)) }
+        ensures event { (config : Config) (lost : List ℕ) (w : TimedFrameWorld) → is_lost lost node ≡ false → IsWelcome config w node peer
+            → ShowsBytesPast config lost (crossing_of self.old) (account_of self.old.histories) w
+            → EventComesTo config w (Take node peer) result (ShowsBytesPast config lost (crossing_of self.new) (account_of self.new.histories)) }
         ensures changes { EventChanges (crossing_of self.old) (crossing_of self.new) (Take node peer) result }
         ensures lost { lost_in self.new.losses ≡ lost_in self.old.losses }
     {
@@ -334,15 +351,15 @@ impl<T: GroupTable + Drop> World<T> {
         requires pair { is_pair (length (crossing_of self.old).nodes) node peer ≡ true }
         requires few { IsShort (2 ^ 32) packet.now.message }
         requires front { next_packet (link_at (crossing_of self.old) node peer) ≡ Ok (Some packet.now) }
-        ensures event { (config : Config) (w : TimedFrameWorld) → IsReached config w
-            → ShowsBytes config (crossing_of self.old) (account_of self.old.histories) w
-            → EventComesTo config w (Take node peer) result (ShowsBytes config (crossing_of self.new) (account_of self.new.histories)) }
+        ensures event { (config : Config) (lost : List ℕ) (w : TimedFrameWorld) → is_lost lost node ≡ false → IsWelcome config w node peer
+            → ShowsBytesPast config lost (crossing_of self.old) (account_of self.old.histories) w
+            → EventComesTo config w (Take node peer) result (ShowsBytesPast config lost (crossing_of self.new) (account_of self.new.histories)) }
         ensures changes { EventChanges (crossing_of self.old) (crossing_of self.new) (Take node peer) result }
         ensures lost { lost_in self.new.losses ≡ lost_in self.old.losses }
     {
         sending_adds_packets::<Packet>();
         front_is_first_packet::<Packet>();
-        nobody_is_harmed();
+        front_is_first_of_cut::<Packet>();
         match self.histories.make_room(node, packet) {
             Ok(()) => {}
             Err(AllocError) => return Err(NodeFault::OutOfMemory),
@@ -362,9 +379,9 @@ impl<T: GroupTable + Drop> World<T> {
     fn command(&mut self, node: usize, port: u16, command: &Command) -> Result<Stepped, NodeFault>
         requires settled { IsSettled self.old.histories }
         requires port { has_port (crossing_of self.old).nodes node port ≡ true }
-        ensures event { (config : Config) (w : TimedFrameWorld)
-            → ShowsBytes config (crossing_of self.old) (account_of self.old.histories) w
-            → EventComesTo config w (Do node (Issue port command.now)) result (ShowsBytes config (crossing_of self.new) (account_of self.new.histories)) }
+        ensures event { (config : Config) (lost : List ℕ) (w : TimedFrameWorld) → is_lost lost node ≡ false
+            → ShowsBytesPast config lost (crossing_of self.old) (account_of self.old.histories) w
+            → EventComesTo config w (Do node (Issue port command.now)) result (ShowsBytesPast config lost (crossing_of self.new) (account_of self.new.histories)) }
         ensures changes { EventChanges (crossing_of self.old) (crossing_of self.new) (Do node (Issue port command.now)) result }
         ensures lost { lost_in self.new.losses ≡ lost_in self.old.losses }
     {
@@ -383,9 +400,9 @@ impl<T: GroupTable + Drop> World<T> {
     fn retry(&mut self, node: usize, op: OpId) -> Result<Stepped, NodeFault>
         requires settled { IsSettled self.old.histories }
         requires port { has_port (crossing_of self.old).nodes node op.port ≡ true }
-        ensures event { (config : Config) (w : TimedFrameWorld)
-            → ShowsBytes config (crossing_of self.old) (account_of self.old.histories) w
-            → EventComesTo config w (Do node (Retry op)) result (ShowsBytes config (crossing_of self.new) (account_of self.new.histories)) }
+        ensures event { (config : Config) (lost : List ℕ) (w : TimedFrameWorld) → is_lost lost node ≡ false
+            → ShowsBytesPast config lost (crossing_of self.old) (account_of self.old.histories) w
+            → EventComesTo config w (Do node (Retry op)) result (ShowsBytesPast config lost (crossing_of self.new) (account_of self.new.histories)) }
         ensures changes { EventChanges (crossing_of self.old) (crossing_of self.new) (Do node (Retry op)) result }
         ensures lost { lost_in self.new.losses ≡ lost_in self.old.losses }
     {

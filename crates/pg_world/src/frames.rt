@@ -4,7 +4,7 @@ ghost use Rattle.std.specs.Prelude.{◌≡◌, [], false, IfOk, IfErr, length};
 ghost use Rattle.pg_ring.specs.Capacity.{IsCapacity};
 ghost use Rattle.pg_step.specs.Config.{Config as Configuration, IsConfig};
 ghost use Rattle.pg_world.specs.Losing.{ShowsLosing as shows_losing, lost_of as lost_by};
-ghost use Rattle.pg_world.specs.LosingRuns.{RanLosing};
+ghost use Rattle.pg_world.specs.LosingRuns.{RanLosing, packets_past_losses as over_packets_past};
 ghost use Rattle.pg_world.specs.Openings.{AllFit, CantBegin};
 ghost use Rattle.pg_world.specs.Runs.{Ran, LosesNone as NoneIsLost, over_packets};
 ghost use Rattle.pg_world.specs.Worlds.{Shows as shows_frames, view_of as shown_by};
@@ -23,7 +23,7 @@ impl<T: GroupTable + Drop> FrameWorld<T> {
     ghost use Rattle.pg_world.specs.Runs.{StepsTo, GoesTo, LosesNone, over_packets};
     ghost use Rattle.pg_step.specs.LossLaws.{LosingFrameWorld};
     ghost use Rattle.pg_world.specs.Losing.{lost_of, ShowsLosing};
-    ghost use Rattle.pg_world.specs.LosingRuns.{LosingStepsTo, LosingGoesTo};
+    ghost use Rattle.pg_world.specs.LosingRuns.{LosingStepsTo, LosingGoesTo, packets_past_losses};
     ghost use Rattle.pg_world.specs.Worlds.{view_of, is_loss, TimedFrameWorld, Shows};
 
     /// Makes steps, one after another, and writes the number of each in its place: 0 where it happened, or nothing was on the
@@ -35,7 +35,7 @@ impl<T: GroupTable + Drop> FrameWorld<T> {
             → GoesTo over_packets config w steps.now numbers.new.items (Shows config (view_of self.new)) }
         ensures lost { LosesNone steps.now → lost_of self.new ≡ lost_of self.old }
         ensures losing { (config : Configuration) (u : LosingFrameWorld) → ShowsLosing config (view_of self.old) (lost_of self.old) u
-            → LosingGoesTo config u steps.now numbers.new.items (ShowsLosing config (view_of self.new) (lost_of self.new)) }
+            → LosingGoesTo packets_past_losses config u steps.now numbers.new.items (ShowsLosing config (view_of self.new) (lost_of self.new)) }
     {
         for place in 0..steps.len() {
             let number = self.step_number(&steps[place]);
@@ -49,7 +49,7 @@ impl<T: GroupTable + Drop> FrameWorld<T> {
             → StepsTo over_packets config w step.now result (Shows config (view_of self.new)) }
         ensures lost { is_loss step.now ≡ false → lost_of self.new ≡ lost_of self.old }
         ensures losing { (config : Configuration) (u : LosingFrameWorld) → ShowsLosing config (view_of self.old) (lost_of self.old) u
-            → LosingStepsTo config u step.now result (ShowsLosing config (view_of self.new) (lost_of self.new)) }
+            → LosingStepsTo packets_past_losses config u step.now result (ShowsLosing config (view_of self.new) (lost_of self.new)) }
     {
         match self.step(step) {
             Ok(_) => 0,
@@ -76,7 +76,7 @@ pub fn run_frames(
     ensures good { IfOk result (λ ran. IsConfig config.now.starts.items × IsCapacity config.now.ring) }
     ensures fits { IfOk result (λ ran. AllFit config.now.starts.items) }
     ensures ran { IfOk result (λ ran. NoneIsLost steps.now → Ran over_packets config.now.starts.items steps.now ran.1.items (λ given. shows_frames given (shown_by ran.0))) }
-    ensures losing { IfOk result (λ ran. RanLosing config.now.starts.items steps.now ran.1.items (λ given. shows_losing given (shown_by ran.0) (lost_by ran.0))) }
+    ensures losing { IfOk result (λ ran. RanLosing over_packets_past config.now.starts.items steps.now ran.1.items (λ given. shows_losing given (shown_by ran.0) (lost_by ran.0))) }
     ensures fault { IfErr result (CantBegin config.now.ring config.now.starts.items) }
 {
     one_history();

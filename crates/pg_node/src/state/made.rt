@@ -113,6 +113,13 @@ impl<T: GroupTable + Drop> NodeState<T> {
         self.formation.formed()
     }
 
+    /// How many processes its node has made: their pids are numbered from 1. It takes no memory.
+    pub fn made(&self) -> u32
+        ensures { result ≡ (kept_by self.now).processes }
+    {
+        self.processes.made()
+    }
+
     /// Its table of groups. It takes no memory.
     pub fn table(&self) -> &T
         ensures { T.contents result.now ≡ (kept_by self.now).table }

@@ -7,12 +7,17 @@ use crate::losses::let_go;
 use crate::step::{FrameStep, Stepped};
 use crate::world::peer_place;
 use pg_group::GroupTable;
+use pg_message::Packet;
 use pg_node::NodeFault;
+use pg_pieces::{front_is_first_of_cut, loss_cuts_packets};
 use pg_step::Refusal;
 use std::alloc::AllocError;
 
 impl<T: GroupTable + Drop> World<T> {
     ghost use Rattle.pg_machine.specs.Places.{is_pair};
+    ghost use Rattle.pg_step.specs.Config.{Config};
+    ghost use Rattle.pg_step.specs.LossLaws.{LosingFrameWorld};
+    ghost use Rattle.pg_world.specs.BytesLosing.{ShowsLosingBytes, SightComesTo, LossComesTo};
     ghost use Rattle.pg_world.specs.Bars.{IsHeld, has_bytes, sight_bar, loss_bar};
     ghost use Rattle.pg_step.specs.declared.refusal.Refusal.TheVariants.{NotLost};
     ghost use Rattle.pg_node.specs.declared.state.fault.NodeFault.TheVariants.{Refused};
@@ -20,7 +25,7 @@ impl<T: GroupTable + Drop> World<T> {
     ghost use Rattle.pg_world.specs.Crossings.{crossing_of, bytes_at};
     ghost use Rattle.pg_world.specs.Histories.{account_of};
     ghost use Rattle.pg_world.specs.Losses.{lost_in, is_lost};
-    ghost use Rattle.pg_world.specs.Losing.{lost_with, seen_at, is_cut_off, is_barred};
+    ghost use Rattle.pg_world.specs.Losing.{told_sight, lost_with, seen_at, is_cut_off, is_barred};
     ghost use Rattle.pg_world.specs.Worlds.{has_places};
 
     /// Whether a node is lost. It takes no memory: O(n) in the nodes that are lost.
@@ -74,7 +79,10 @@ impl<T: GroupTable + Drop> World<T> {
         ensures none { is_lost (lost_in self.old.losses) peer ≡ false → result ≡ Err (Refused NotLost) }
         ensures barred { IsHeld (sight_bar (crossing_of self.old) (lost_in self.old.losses) node peer) result }
         ensures lost { lost_in self.new.losses ≡ lost_in self.old.losses }
+        ensures losing { (config : Config) (u : LosingFrameWorld) → ShowsLosingBytes config (crossing_of self.old) (account_of self.old.histories) (lost_in self.old.losses) u
+            → SightComesTo config u (told_sight config u node peer) result (ShowsLosingBytes config (crossing_of self.new) (account_of self.new.histories) (lost_in self.new.losses)) }
     {
+        front_is_first_of_cut::<Packet>();
         if !self.losses.has(peer) {
             return Err(NodeFault::Refused(Refusal::NotLost));
         }
@@ -108,7 +116,10 @@ impl<T: GroupTable + Drop> World<T> {
         ensures account { account_of self.new.histories ≡ account_of self.old.histories }
         ensures barred { IsHeld (loss_bar (crossing_of self.old) (lost_in self.old.losses) node) result }
         ensures lost { lost_in self.new.losses ≡ lost_with node result (lost_in self.old.losses) }
+        ensures losing { (config : Config) (u : LosingFrameWorld) → ShowsLosingBytes config (crossing_of self.old) (account_of self.old.histories) (lost_in self.old.losses) u
+            → LossComesTo config u node result (ShowsLosingBytes config (crossing_of self.new) (account_of self.new.histories) (lost_in self.new.losses)) }
     {
+        loss_cuts_packets::<Packet>();
         if node >= self.nodes.len() {
             return Err(NodeFault::Refused(Refusal::NoSuchPlace));
         }

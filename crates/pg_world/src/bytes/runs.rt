@@ -3,8 +3,12 @@
 ghost use Rattle.std.specs.Prelude.{◌≡◌, [], false, IfOk, IfErr, length};
 ghost use Rattle.pg_ring.specs.Capacity.{IsCapacity};
 ghost use Rattle.pg_step.specs.Config.{Config as Configuration, IsConfig};
+ghost use Rattle.pg_world.specs.BytesLosing.{ShowsLosingBytes as shows_losing};
+ghost use Rattle.pg_world.specs.BytesLosingRuns.{bytes_past_losses as over_bytes_past};
 ghost use Rattle.pg_world.specs.Crossings.{ShowsBytes as shows_bytes, crossing_of as shown_by};
 ghost use Rattle.pg_world.specs.Histories.{account_of as kept_of};
+ghost use Rattle.pg_world.specs.Losses.{lost_in as lost_by};
+ghost use Rattle.pg_world.specs.LosingRuns.{RanLosing};
 ghost use Rattle.pg_world.specs.Openings.{AllFit, CantBegin};
 ghost use Rattle.pg_world.specs.Runs.{Ran, NobodyLost as NoneIsLost, over_bytes};
 
@@ -15,10 +19,15 @@ use crate::step::Step;
 use pg_group::GroupTable;
 use pg_history::one_history;
 use pg_index::IndexTable;
+use pg_loss::each_world_past_losses;
 use std::alloc::Global;
 
 impl<T: GroupTable + Drop> World<T> {
     ghost use Rattle.pg_world.specs.Crossings.{IsReached, ShowsBytes, crossing_of, is_loss_in};
+    ghost use Rattle.pg_step.specs.LossLaws.{LosingFrameWorld};
+    ghost use Rattle.pg_world.specs.BytesLosing.{IsReachedLosing, ShowsLosingBytes};
+    ghost use Rattle.pg_world.specs.BytesLosingRuns.{bytes_past_losses};
+    ghost use Rattle.pg_world.specs.LosingRuns.{LosingStepsTo, LosingGoesTo};
     ghost use Rattle.pg_world.specs.Losses.{lost_in};
     ghost use Rattle.pg_world.specs.Histories.{account_of};
     ghost use Rattle.pg_world.specs.Runs.{StepsTo, GoesTo, NobodyLost, over_bytes};
@@ -34,6 +43,9 @@ impl<T: GroupTable + Drop> World<T> {
             → ShowsBytes config (crossing_of self.old) (account_of self.old.histories) w
             → GoesTo over_bytes config w steps.now numbers.new.items (ShowsBytes config (crossing_of self.new) (account_of self.new.histories)) }
         ensures lost { NobodyLost steps.now → lost_in self.new.losses ≡ lost_in self.old.losses }
+        ensures losing { (config : Configuration) (u : LosingFrameWorld) → IsReachedLosing config u
+            → ShowsLosingBytes config (crossing_of self.old) (account_of self.old.histories) (lost_in self.old.losses) u
+            → LosingGoesTo bytes_past_losses config u steps.now numbers.new.items (ShowsLosingBytes config (crossing_of self.new) (account_of self.new.histories) (lost_in self.new.losses)) }
     {
         for place in 0..steps.len() {
             let number = self.step_number(&steps[place]);
@@ -47,6 +59,9 @@ impl<T: GroupTable + Drop> World<T> {
             → ShowsBytes config (crossing_of self.old) (account_of self.old.histories) w
             → StepsTo over_bytes config w step.now result (ShowsBytes config (crossing_of self.new) (account_of self.new.histories)) }
         ensures lost { is_loss_in step.now ≡ false → lost_in self.new.losses ≡ lost_in self.old.losses }
+        ensures losing { (config : Configuration) (u : LosingFrameWorld) → IsReachedLosing config u
+            → ShowsLosingBytes config (crossing_of self.old) (account_of self.old.histories) (lost_in self.old.losses) u
+            → LosingStepsTo bytes_past_losses config u step.now result (ShowsLosingBytes config (crossing_of self.new) (account_of self.new.histories) (lost_in self.new.losses)) }
     {
         match self.step(step) {
             Ok(_) => 0,
@@ -61,6 +76,9 @@ impl<T: GroupTable + Drop> World<T> {
 /// The contract is the headline, however the bytes were cut, for steps of which none is a loss: the steps that happened are the events of a run of the frame
 /// machine, and of what they reported, and of the states that the world shows, everything holds that `OneHistory` says.
 ///
+/// Whoever is lost, and wherever its bytes are cut then, the steps that happened are the events of a run of the machine with losses, and
+/// everything holds that `LossesSurvived` says of the world to which they lead.
+///
 /// Faults: those of `World::new`.
 pub fn run(
     alloc: Global,
@@ -71,9 +89,12 @@ pub fn run(
     ensures fits { IfOk result (λ ran. AllFit config.now.starts.items) }
     ensures ran { IfOk result (λ ran. NoneIsLost steps.now → Ran over_bytes config.now.starts.items steps.now ran.1.items
         (λ given. shows_bytes given (shown_by ran.0) (kept_of ran.0.histories))) }
+    ensures losing { IfOk result (λ ran. RanLosing over_bytes_past config.now.starts.items steps.now ran.1.items
+        (λ given. shows_losing given (shown_by ran.0) (kept_of ran.0.histories) (lost_by ran.0.losses))) }
     ensures fault { IfErr result (CantBegin config.now.ring config.now.starts.items) }
 {
     one_history();
+    each_world_past_losses();
     let mut numbers = Vec::from_elem(alloc, 0, steps.len())?;
     match World::new(alloc, config) {
         Ok(begun) => {

@@ -6,14 +6,16 @@ use Rattle.pg_node.specs.Links.{Link, at_link, with_fed}
 use Rattle.pg_node.specs.Nodes.{links_of}
 use Rattle.pg_world.specs.Crossings.{written_of}
 use Rattle.pg_world.specs.Views.{peer_place}
+use Rattle.pg_world.specs.Losses.{is_lost}
 use Rattle.pg_world.proofs.Crossed.{moved_shown, same_shown}
 use Rattle.pg_world.proofs.Linked.{pull_many, pulled_as, second_there, row_there, ring_there, links_here, pull_moves, ring_kept, pull_err}
+use Rattle.pg_world.proofs.Past.{way_pulled}
 use Rattle.pg_world.proofs.Turning.{pair_turned}
 use Rattle.pg_world.proofs.bytes.World.pull_some.Goals as goal
 
 pub returns-in-Ok : goal.returns-in-Ok
 returns-in-Ok g c = record {
-  came = λ config w shows.
+  came = λ config lost w shows.
       let nodes = c.args.self.now.nodes.items in
       let rings = c.args.self.now.rings.items in
       let x = c.args.from in
@@ -25,9 +27,10 @@ returns-in-Ok g c = record {
       let lk = ring_there nodes rings x y c.requires.pair c.args.self.now.rows row c.index_mut-row.ensures.value c.args.self.now.others in
       let there : ring ≡ get_or row.rings.items (peer_place x y) ring = c.index_mut-ring.ensures.value ∙ ap (λ k. get_or row.rings.items k ring) place in
       let piece = c.in-Ok.ensures.fed.0 in (
-        ap (λ n. is_pair n x y) (sym shows.traffic.nodes.size) ∙ c.requires.pair,
+        refl,
         record {
-          traffic = moved_shown config _ _ w x y (pull (length piece)) (λ packets bytes are. c.moving_keeps_packets.ensures.pull written_of packets bytes (length piece) are)
+          traffic = moved_shown config lost _ _ w x y (pull (length piece)) (way_pulled (length piece) (λ packets bytes are. c.moving_keeps_packets.ensures.pull written_of packets bytes (length piece) are)
+              (λ packets bytes are. c.loss_cuts_packets.ensures.pull written_of packets bytes (length piece) are) (is_lost lost y) (is_lost lost x))
               (pull_moves nodes rings x y c.requires.pair c.args.self.now.rows row _ ring c.pull.new.inlet c.index_mut-row.ensures.value lk there (ap (λ k. slice_set row.rings.items k c.pull.new.inlet) place)
               node c.pull.new.self c.index_mut-node.ensures.value piece c.in-Ok.ensures.state
               (subst (λ k. links_of c.pull.new.self ≡ at_link k (λ l. with_fed l piece) (links_of node)) c.peer_place-2.ensures c.in-Ok.ensures.fed.3) c.in-Ok.ensures.fed.2) shows.traffic;
@@ -58,7 +61,7 @@ returns-in-Ok g c = record {
 
 pub returns-in-Err : goal.returns-in-Err
 returns-in-Err g c = record {
-  came = λ config w shows.
+  came = λ config lost w shows.
       let nodes = c.args.self.now.nodes.items in
       let rings = c.args.self.now.rings.items in
       let x = c.args.from in
@@ -74,9 +77,9 @@ returns-in-Err g c = record {
       let sound : (links_of node c.peer_place-2.result).damaged ≡ false = ap (λ k. (links_of node k).damaged) c.peer_place-2.ensures
       ∙ (ap (λ (ls : ℕ → Link). (ls (peer_place y x)).damaged) (sym (links_here nodes rings y node ly c.index_mut-node.ensures.value)) ∙ shows.traffic.sound y x (pair_turned (length config) x y pair_here)) in
       let is = ap (λ k. slice_set row.rings.items k c.pull.new.inlet) place in
-      pull_err config x y c.in-Err.fault _ (c.in-Err.ensures.memory sound) pair_here
+      pull_err c.in-Err.fault _ (c.in-Err.ensures.memory sound)
       (record {
-        traffic = same_shown config _ _ w (ring_kept nodes rings y x (peer_place x y) node c.pull.new.self row _ ring c.pull.new.inlet ly c.index_mut-node.ensures.value
+        traffic = same_shown config lost _ _ w (ring_kept nodes rings y x (peer_place x y) node c.pull.new.self row _ ring c.pull.new.inlet ly c.index_mut-node.ensures.value
             (row_there nodes rings x y c.requires.pair c.args.self.now.rows) c.index_mut-row.ensures.value c.in-Err.ensures.state c.in-Err.ensures.err lk there c.in-Err.ensures.err_inlet is) shows.traffic;
         updates = shows.updates;
       });

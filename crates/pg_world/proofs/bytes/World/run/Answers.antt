@@ -3,6 +3,10 @@ use Rattle.std.proofs.lemmas.List.{length-set}
 use Rattle.pg_world.specs.Crossings.{ShowsBytes, crossing_of, is_loss_in}
 use Rattle.pg_world.specs.Histories.{account_of}
 use Rattle.pg_world.specs.Runs.{over_bytes}
+use Rattle.pg_world.specs.BytesLosing.{ShowsLosingBytes}
+use Rattle.pg_world.specs.BytesLosingRuns.{bytes_past_losses}
+use Rattle.pg_world.specs.Losses.{lost_in}
+use Rattle.pg_world.proofs.LosingRunning.{losing_steps_more, all_made, losing_reached_on}
 use Rattle.pg_world.proofs.Running.{passes_at, steps_more, all_taken, reached_on}
 use Rattle.pg_world.proofs.bytes.World.run.Goals as goal
 
@@ -15,6 +19,12 @@ loop-place-preserved g c =
     record {
       len = length-set numbers c.loop-place.place c.step_number-number.result ∙ c.loop-place.invariant.len;
       lost = λ none. c.step_number-number.ensures.lost (passes_at is_loss_in steps c.loop-place.place c.index-steps-place.result within c.index-steps-place.is none) ∙ c.loop-place.invariant.lost none;
+      losing = λ config u reached shows.
+          losing_steps_more bytes_past_losses config steps numbers c.loop-place.place c.step_number-number.result c.index-steps-place.result u
+          (ShowsLosingBytes config (crossing_of c.loop-place.self) (account_of c.loop-place.self.histories) (lost_in c.loop-place.self.losses))
+          (ShowsLosingBytes config (crossing_of c.step_number-number.new.self) (account_of c.step_number-number.new.self.histories) (lost_in c.step_number-number.new.self.losses)) within inside c.index-steps-place.is
+          (c.loop-place.invariant.losing config u reached shows)
+          (λ v events led shown. c.step_number-number.ensures.losing config v (losing_reached_on config u v events reached led) shown);
       ran = λ none config w nobody reached shows.
           steps_more over_bytes config steps numbers c.loop-place.place c.step_number-number.result c.index-steps-place.result w (ShowsBytes config (crossing_of c.loop-place.self) (account_of c.loop-place.self.histories))
           (ShowsBytes config (crossing_of c.step_number-number.new.self) (account_of c.step_number-number.new.self.histories)) within inside c.index-steps-place.is
@@ -27,3 +37,10 @@ returns-clause-ran g c = λ none config w nobody reached shows.
     let last : c.loop-place.place ≡ length c.args.steps.now = omega (arith, c.loop-place.auto.place-end, c.loop-place-test.false) in
     all_taken over_bytes config w c.args.steps.now c.loop-place.numbers.items c.loop-place.place (ShowsBytes config (crossing_of c.loop-place.self) (account_of c.loop-place.self.histories)) last c.loop-place.invariant.len
     (c.loop-place.invariant.ran none config w nobody reached shows)
+
+pub returns-clause-losing : goal.returns-clause-losing
+returns-clause-losing g c = λ config u reached shows.
+    let last : c.loop-place.place ≡ length c.args.steps.now = omega (arith, c.loop-place.auto.place-end, c.loop-place-test.false) in
+    all_made bytes_past_losses config u c.args.steps.now c.loop-place.numbers.items c.loop-place.place
+    (ShowsLosingBytes config (crossing_of c.loop-place.self) (account_of c.loop-place.self.histories) (lost_in c.loop-place.self.losses)) last c.loop-place.invariant.len
+    (c.loop-place.invariant.losing config u reached shows)

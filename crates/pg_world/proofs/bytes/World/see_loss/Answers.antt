@@ -1,12 +1,21 @@
-use Rattle.std.proofs.Common.{◌≡◌, ◌∙◌, ◌∷◌, [], Option, None, not, Ok, Err, sym, subst}
+use Rattle.std.proofs.Common.{◌≡◌, ◌∙◌, ◌∷◌, [], Option, None, not, Ok, Err, true, false, length, refl, sym, ap, subst}
 use Rattle.pg_step.specs.declared.refusal.Refusal.{Refusal}
 use Rattle.pg_step.specs.declared.refusal.Refusal.TheVariants.{NoSuchPlace, NodeLost, NotLost, NotDrained}
 use Rattle.pg_step.specs.Faults.{first_that_holds}
 use Rattle.pg_world.specs.declared.step.Stepped.TheVariants.{Happened}
 use Rattle.pg_world.specs.Bars.{IsHeld, sight_bar}
-use Rattle.pg_world.specs.Crossings.{crossing_of}
+use Rattle.pg_world.specs.Crossings.{crossing_of, node_of, written_of}
 use Rattle.pg_world.specs.Losses.{lost_in}
-use Rattle.pg_world.proofs.Linked.{alone, first_there, node_same, seen_kept}
+use Rattle.pg_node.specs.Bytes.{closed}
+use Rattle.pg_node.specs.Links.{Link, at_link}
+use Rattle.pg_node.specs.Nodes.{held_by, links_of}
+use Rattle.pg_node.specs.States.{state_of, answers_of}
+use Rattle.pg_world.specs.Histories.{account_of}
+use Rattle.pg_world.specs.Views.{peer_place}
+use Rattle.pg_world.proofs.BytesLost.{sight_not_lost, sight_made, sight_held}
+use Rattle.pg_world.proofs.BytesSeen.{peer_clock, closed_bytes, step_there}
+use Rattle.pg_world.proofs.Linked.{alone, first_there, second_there, node_same, seen_kept, seen_there, nodes_set, links_here, part_kept}
+use Rattle.pg_world.proofs.Turning.{pair_is}
 use Rattle.pg_world.proofs.bytes.World.see_loss.Goals as goal
 
 pub returns-in-Ok-clause-changes : goal.returns-in-Ok-clause-changes
@@ -38,3 +47,58 @@ returns-in-Err-clause-barred g c =
     (not (c.requires.pair j), NoSuchPlace) ∷ (c.requires.lives j, NodeLost) ∷ (not ((sym c.has.ensures ∙ c.if-not-has.false) j), NotLost)
     ∷ ((sym c.has_bytes.ensures ∙ c.if-has_bytes.false) j, NotDrained) ∷ []) in
     subst (λ (b : Option Refusal). IsHeld b (Err c.in-Err.fault)) (sym bar) tt
+
+pub returns-then-not-has-clause-losing : goal.returns-then-not-has-clause-losing
+returns-then-not-has-clause-losing g c = λ config u shows.
+    let crossing = crossing_of c.args.self.now in
+    let account = account_of c.args.self.now.histories in
+    let lost = lost_in c.args.self.now.losses in
+    sight_not_lost config crossing crossing account account u c.args.node c.args.peer lost lost shows c.requires.pair c.requires.lives (sym c.has.ensures ∙ c.if-not-has.true)
+
+pub returns-then-has_bytes-clause-losing : goal.returns-then-has_bytes-clause-losing
+returns-then-has_bytes-clause-losing g c = λ config u shows. shows
+
+pub returns-in-Ok-clause-losing : goal.returns-in-Ok-clause-losing
+returns-in-Ok-clause-losing g c = λ config u shows.
+    let nodes = c.args.self.now.nodes.items in
+    let rings = c.args.self.now.rings.items in
+    let i = c.args.node in
+    let p = c.args.peer in
+    let crossing = crossing_of c.args.self.now in
+    let account = account_of c.args.self.now.histories in
+    let lost = lost_in c.args.self.now.losses in
+    let over = c.index_mut-over.result.now in
+    let after = c.see_loss.new.self in
+    let at = c.index_mut-over.ensures.value in
+    let l = first_there nodes rings i p c.requires.pair c.args.self.now.rows in
+    let clock : (shows.frames.node p).clock ≡ c.clock-last.result = peer_clock config nodes rings p c.index-lost.result.now shows.frames shows.shows.traffic.nodes
+    (second_there nodes rings i p c.requires.pair c.args.self.now.rows) c.index-lost.ensures ∙ (ap (λ s. (state_of s).clock) (sym c.state.ensures) ∙ sym c.clock-last.ensures) in
+    let links = subst (λ k. links_of after ≡ at_link k closed (links_of over)) c.peer_place.ensures c.in-Ok.ensures.closed in
+    let gone = sym c.has.ensures ∙ c.if-not-has.false in
+    sight_made config crossing _ account account u i p lost lost shows c.requires.pair c.requires.lives (λ first others bytes. c.front_is_first_of_cut.ensures.whole written_of first others bytes)
+    gone (sym c.has_bytes.ensures ∙ c.if-has_bytes.false) (node_of over) (seen_there nodes rings i over l at) c.clock-last.result clock refl
+    (node_of after) c.in-Ok.done (nodes_set nodes rings i after) c.in-Ok.ensures.names c.in-Ok.ensures.ports refl
+    (closed_bytes nodes rings i p over after l at links lost gone (pair_is _ i p c.requires.pair).2 (length config))
+    (λ x y. part_kept nodes rings rings i (peer_place i p) over after closed l at links (λ (k : Link). k.damaged) (λ k. refl) x (peer_place x y))
+    (step_there c.peer_place.result (peer_place i p) c.peer_place.ensures over after c.clock-last.result (Ok c.in-Ok.done) (links_here nodes rings i over l at) c.in-Ok.ensures.event)
+
+pub returns-in-Err-clause-losing : goal.returns-in-Err-clause-losing
+returns-in-Err-clause-losing g c = λ config u shows.
+    let nodes = c.args.self.now.nodes.items in
+    let rings = c.args.self.now.rings.items in
+    let i = c.args.node in
+    let p = c.args.peer in
+    let crossing = crossing_of c.args.self.now in
+    let account = account_of c.args.self.now.histories in
+    let lost = lost_in c.args.self.now.losses in
+    let over = c.index_mut-over.result.now in
+    let after = c.see_loss.new.self in
+    let at = c.index_mut-over.ensures.value in
+    let l = first_there nodes rings i p c.requires.pair c.args.self.now.rows in
+    let clock : (shows.frames.node p).clock ≡ c.clock-last.result = peer_clock config nodes rings p c.index-lost.result.now shows.frames shows.shows.traffic.nodes
+    (second_there nodes rings i p c.requires.pair c.args.self.now.rows) c.index-lost.ensures ∙ (ap (λ s. (state_of s).clock) (sym c.state.ensures) ∙ sym c.clock-last.ensures) in
+    sight_held config crossing _ account account u i p lost lost shows c.requires.pair c.requires.lives (λ first others bytes. c.front_is_first_of_cut.ensures.whole written_of first others bytes)
+    (sym c.has.ensures ∙ c.if-not-has.false) (sym c.has_bytes.ensures ∙ c.if-has_bytes.false) (node_of over) (seen_there nodes rings i over l at) c.clock-last.result clock refl
+    c.in-Err.fault (state_of (held_by after)) (answers_of (held_by after))
+    (node_same nodes rings i over after l at (seen_kept over after c.in-Err.ensures.names c.in-Err.ensures.ports c.in-Err.ensures.err c.in-Err.ensures.err_answers) c.in-Err.ensures.kept) refl
+    (step_there c.peer_place.result (peer_place i p) c.peer_place.ensures over after c.clock-last.result (Err c.in-Err.fault) (links_here nodes rings i over l at) c.in-Err.ensures.event)

@@ -3,6 +3,10 @@ use Rattle.pg_world.specs.Crossings.{ShowsBytes, crossing_of}
 use Rattle.pg_world.specs.Histories.{account_of}
 use Rattle.pg_world.specs.Losses.{lost_in}
 use Rattle.pg_world.specs.Runs.{over_bytes, StepsTo}
+use Rattle.pg_world.specs.BytesLosing.{ShowsLosingBytes}
+use Rattle.pg_world.specs.BytesLosingRuns.{bytes_past_losses}
+use Rattle.pg_world.specs.LosingRuns.{LosingStepsTo}
+use Rattle.pg_world.proofs.BytesRunning.{left_ok, left_err}
 use Rattle.pg_world.proofs.Cutting.{came_so, fault_so, none_lost_in}
 use Rattle.pg_world.proofs.bytes.World.step_number.Goals as goal
 
@@ -21,3 +25,14 @@ returns-in-Err-clause-steps g c = λ keeps config w nobody reached shows.
 
 pub returns-in-Err-clause-lost : goal.returns-in-Err-clause-lost
 returns-in-Err-clause-lost g c = λ keeps. c.step.ensures.lost ∙ none_lost_in c.args.step.now c.step.result (lost_in c.args.self.now.losses) keeps
+
+pub returns-in-Ok-clause-losing : goal.returns-in-Ok-clause-losing
+returns-in-Ok-clause-losing g c = λ config u reached shows.
+    left_ok config u (ShowsLosingBytes config (crossing_of c.step.new.self) (account_of c.step.new.self.histories) (lost_in c.step.new.self.losses)) c.args.step.now c.step.result c.in-Ok.field-0 c.in-Ok.is
+    (c.step.ensures.losing config u reached shows)
+
+pub returns-in-Err-clause-losing : goal.returns-in-Err-clause-losing
+returns-in-Err-clause-losing g c = λ config u reached shows.
+    let Shown = ShowsLosingBytes config (crossing_of c.step.new.self) (account_of c.step.new.self.histories) (lost_in c.step.new.self.losses) in
+    subst (λ n. LosingStepsTo bytes_past_losses config u c.args.step.now n Shown) (sym c.number.ensures)
+    (left_err config u Shown c.args.step.now c.step.result c.in-Err.fault c.in-Err.is (c.step.ensures.losing config u reached shows))

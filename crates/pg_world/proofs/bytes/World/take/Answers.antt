@@ -5,12 +5,13 @@ use Rattle.pg_node.specs.declared.state.fault.NodeFault.TheVariants.{OutOfMemory
 use Rattle.pg_node.specs.Bytes.{Tells, next_packet, marked}
 use Rattle.pg_node.specs.Links.{Link, at_link}
 use Rattle.pg_node.specs.Nodes.{links_of}
-use Rattle.pg_world.specs.Crossings.{Crossing, crossing_of, written_of, ShowsBytes}
+use Rattle.pg_world.specs.Crossings.{Crossing, crossing_of, written_of, ShowsBytesPast}
 use Rattle.pg_world.specs.Histories.{account_of}
 use Rattle.pg_world.specs.Views.{seen_of, peer_place}
 use Rattle.pg_world.specs.Changes.{EventChanges}
 use Rattle.pg_world.proofs.Linked.{alone, first_there, links_here, links_now, node_same}
 use Rattle.pg_world.proofs.Passing.{tells_ok, readable, only_memory, unread_err, unmarked}
+use Rattle.pg_world.proofs.Past.{reads_first, reads_lawful}
 use Rattle.pg_world.proofs.bytes.World.take.Goals as goal
 
 pub take_next-requires-clause-front : goal.take_next-requires-clause-front
@@ -25,7 +26,7 @@ take_next-requires-clause-front g c =
 
 pub returns-in-Ok : goal.returns-in-Ok
 returns-in-Ok g c = record {
-  event = λ config w reached shows.
+  event = λ config lost w stays welcome shows.
       let nodes = c.args.self.now.nodes.items in
       let rings = c.args.self.now.rings.items in
       let i = c.args.node in
@@ -33,7 +34,7 @@ returns-in-Ok g c = record {
       let node2 = c.next.new.self in
       let l = first_there nodes rings i c.args.peer c.requires.pair c.args.self.now.rows in
       let same = node_same nodes rings i node node2 l c.index_mut-taker.ensures.value (ap seen_of c.in-Ok.ensures.state) c.in-Ok.ensures.same in
-      c.take_next.ensures.event config w reached (subst (λ (crossing : Crossing). ShowsBytes config crossing (account_of c.args.self.now.histories) w) (sym same) shows);
+      c.take_next.ensures.event config lost w stays welcome (subst (λ (crossing : Crossing). ShowsBytesPast config lost crossing (account_of c.args.self.now.histories) w) (sym same) shows);
   changes =
       let nodes = c.args.self.now.nodes.items in
       let rings = c.args.self.now.rings.items in
@@ -47,7 +48,7 @@ returns-in-Ok g c = record {
 
 pub returns-in-Err : goal.returns-in-Err
 returns-in-Err g c = record {
-  event = λ config w reached shows.
+  event = λ config lost w stays welcome shows.
       let nodes = c.args.self.now.nodes.items in
       let rings = c.args.self.now.rings.items in
       let i = c.args.node in
@@ -57,14 +58,15 @@ returns-in-Err g c = record {
       let at = c.index_mut-taker.ensures.value in
       let fault = c.in-Err.fault in
       let l = first_there nodes rings i p c.requires.pair c.args.self.now.rows in
-      let read = readable config (crossing_of c.args.self.now) w i p shows.traffic c.requires.pair (λ packets bytes body. c.front_is_first_packet.ensures.first written_of packets bytes body)
-      (λ packets bytes. c.front_is_first_packet.ensures.lawful written_of packets bytes) in
+      let read = readable config lost (crossing_of c.args.self.now) w i p shows.traffic c.requires.pair stays
+      (reads_first (λ packets bytes body. c.front_is_first_packet.ensures.first written_of packets bytes body) (λ packets bytes body. c.front_is_first_of_cut.ensures.first written_of packets bytes body))
+      (reads_lawful (λ packets bytes. c.front_is_first_packet.ensures.lawful written_of packets bytes) (λ packets bytes. c.front_is_first_of_cut.ensures.lawful written_of packets bytes)) in
       let next : next_packet (links_of node c.peer_place.result) ≡ Ok read.0 = ap (λ k. next_packet (links_of node k)) c.peer_place.ensures
       ∙ (ap (λ (ls : ℕ → Link). next_packet (ls (peer_place i p))) (sym (links_here nodes rings i node l at)) ∙ read.1) in
       let memory = only_memory read.0 fault (subst (λ r. Tells r (Err fault)) next c.in-Err.ensures.told) in
       let unchanged = c.in-Err.ensures.marked ∙ (ap (λ (f : NodeFault). at_link c.peer_place.result (λ l. marked l f) (links_of node)) memory ∙ unmarked (links_of node) c.peer_place.result OutOfMemory refl) in
       let same = node_same nodes rings i node node2 l at (ap seen_of c.in-Err.ensures.state) unchanged in
-      unread_err config w (Take i p) fault _ memory (subst (λ (crossing : Crossing). ShowsBytes config crossing (account_of c.args.self.now.histories) w) (sym same) shows);
+      unread_err config w (Take i p) fault _ memory (subst (λ (crossing : Crossing). ShowsBytesPast config lost crossing (account_of c.args.self.now.histories) w) (sym same) shows);
   changes = alone c.args.self.now.nodes.items c.args.self.now.rings.items c.args.node c.next.new.self;
   lost = refl;
 }

@@ -1,10 +1,13 @@
-use Rattle.std.proofs.Common.{[], refl}
+use Rattle.std.proofs.Common.{List, ℕ, [], refl, sym, subst}
 use Rattle.pg_step.specs.Config.{Config}
 use Rattle.pg_step.specs.FrameMachine.{frame_machine}
 use Rattle.pg_machine.specs.Machine.{start_of}
 use Rattle.pg_world.specs.Crossings.{ShowsBytes, crossing_of}
 use Rattle.pg_world.specs.Histories.{account_of}
 use Rattle.pg_world.specs.Runs.{over_bytes}
+use Rattle.pg_world.specs.BytesLosing.{ShowsLosingBytes}
+use Rattle.pg_world.specs.Losses.{lost_in}
+use Rattle.pg_world.proofs.LosingRunning.{ran_bytes_so}
 use Rattle.pg_world.proofs.Running.{ran_so}
 use Rattle.pg_world.proofs.bytes.runs.run.Goals as goal
 
@@ -13,3 +16,9 @@ returns-in-Ok-clause-ran c = λ none. ran_so over_bytes c.args.config.now.starts
     (λ (config : Config). ShowsBytes config (crossing_of c.run.new.self) (account_of c.run.new.self.histories))
     c.args.steps.now c.run.new.numbers.items c.in-Ok.ensures.begins (λ config shows. c.run.ensures.ran none config (start_of (frame_machine config)) c.in-Ok.ensures.lost ([], refl) shows)
     (λ config w shows. shows.traffic.nodes.apart) c.one_history.ensures.each_world
+
+pub returns-in-Ok-clause-losing : goal.returns-in-Ok-clause-losing
+returns-in-Ok-clause-losing c = ran_bytes_so c.args.config.now.starts.items (crossing_of c.in-Ok.begun) (crossing_of c.run.new.self) (account_of c.in-Ok.begun.histories) (account_of c.run.new.self.histories)
+    (lost_in c.run.new.self.losses) c.args.steps.now c.run.new.numbers.items c.in-Ok.ensures.begins
+    (λ config u reached shows. c.run.ensures.losing config u reached (subst (λ (lost : List ℕ). ShowsLosingBytes config (crossing_of c.in-Ok.begun) (account_of c.in-Ok.begun.histories) lost u) (sym c.in-Ok.ensures.lost) shows))
+    c.each_world_past_losses.ensures

@@ -1,6 +1,7 @@
 use Rattle.std.proofs.Common.{◌≡◌, ◌<◌, ◌∙◌, length, arith}
 use Rattle.std.proofs.lemmas.List.{length-set}
 use Rattle.pg_world.specs.Losing.{lost_of, ShowsLosing}
+use Rattle.pg_world.specs.LosingRuns.{packets_past_losses}
 use Rattle.pg_world.specs.Worlds.{view_of, is_loss, Shows}
 use Rattle.pg_world.specs.Runs.{over_packets}
 use Rattle.pg_world.proofs.LosingRunning.{losing_steps_more, all_made}
@@ -17,9 +18,9 @@ loop-place-preserved g c =
       len = length-set numbers c.loop-place.place c.step_number-number.result ∙ c.loop-place.invariant.len;
       lost = λ none. c.step_number-number.ensures.lost (passes_at is_loss steps c.loop-place.place c.index-steps-place.result within c.index-steps-place.is none) ∙ c.loop-place.invariant.lost none;
       losing = λ config u shows.
-          losing_steps_more config steps numbers c.loop-place.place c.step_number-number.result c.index-steps-place.result u (ShowsLosing config (view_of c.loop-place.self) (lost_of c.loop-place.self))
+          losing_steps_more packets_past_losses config steps numbers c.loop-place.place c.step_number-number.result c.index-steps-place.result u (ShowsLosing config (view_of c.loop-place.self) (lost_of c.loop-place.self))
           (ShowsLosing config (view_of c.step_number-number.new.self) (lost_of c.step_number-number.new.self)) within inside c.index-steps-place.is
-          (c.loop-place.invariant.losing config u shows) (λ v shown. c.step_number-number.ensures.losing config v shown);
+          (c.loop-place.invariant.losing config u shows) (λ v events led shown. c.step_number-number.ensures.losing config v shown);
       ran = λ none config w nobody shows.
           steps_more over_packets config steps numbers c.loop-place.place c.step_number-number.result c.index-steps-place.result w (Shows config (view_of c.loop-place.self)) (Shows config (view_of c.step_number-number.new.self)) within inside c.index-steps-place.is
           (c.loop-place.invariant.ran none config w nobody shows)
@@ -34,4 +35,4 @@ returns-clause-ran g c = λ none config w nobody shows.
 pub returns-clause-losing : goal.returns-clause-losing
 returns-clause-losing g c = λ config u shows.
     let last : c.loop-place.place ≡ length c.args.steps.now = omega (arith, c.loop-place.auto.place-end, c.loop-place-test.false) in
-    all_made config u c.args.steps.now c.loop-place.numbers.items c.loop-place.place (ShowsLosing config (view_of c.loop-place.self) (lost_of c.loop-place.self)) last c.loop-place.invariant.len (c.loop-place.invariant.losing config u shows)
+    all_made packets_past_losses config u c.args.steps.now c.loop-place.numbers.items c.loop-place.place (ShowsLosing config (view_of c.loop-place.self) (lost_of c.loop-place.self)) last c.loop-place.invariant.len (c.loop-place.invariant.losing config u shows)

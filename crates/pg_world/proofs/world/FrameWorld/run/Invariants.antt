@@ -2,7 +2,7 @@ use Rattle.std.proofs.Common.{◌≡◌, take, length, []}
 use Rattle.pg_step.specs.Config.{Config}
 use Rattle.pg_step.specs.LossLaws.{LosingFrameWorld}
 use Rattle.pg_world.specs.Losing.{lost_of, ShowsLosing}
-use Rattle.pg_world.specs.LosingRuns.{LosingGoesTo}
+use Rattle.pg_world.specs.LosingRuns.{LosingGoesTo, packets_past_losses}
 use Rattle.pg_world.specs.Worlds.{TimedFrameWorld, Shows, view_of}
 use Rattle.pg_world.specs.Runs.{over_packets, LosesNone, GoesTo}
 use Rattle.pg_world.proofs.world.FrameWorld.run.Given as goal
@@ -14,5 +14,5 @@ invariant-loop-place g l = record {
   ran : LosesNone l.steps → (config : Config) (w : TimedFrameWorld) → lost_of l.fn.self ≡ [] → Shows config (view_of l.fn.self) w
       → GoesTo over_packets config w (take l.place l.steps) (take l.place l.numbers.items) (Shows config (view_of l.self));
   losing : (config : Config) (u : LosingFrameWorld) → ShowsLosing config (view_of l.fn.self) (lost_of l.fn.self) u
-      → LosingGoesTo config u (take l.place l.steps) (take l.place l.numbers.items) (ShowsLosing config (view_of l.self) (lost_of l.self));
+      → LosingGoesTo packets_past_losses config u (take l.place l.steps) (take l.place l.numbers.items) (ShowsLosing config (view_of l.self) (lost_of l.self));
 }

@@ -1,6 +1,6 @@
 use Rattle.std.proofs.Common.{◌∙◌, sym, subst}
 use Rattle.pg_world.specs.Losing.{lost_of, ShowsLosing}
-use Rattle.pg_world.specs.LosingRuns.{LosingStepsTo}
+use Rattle.pg_world.specs.LosingRuns.{LosingStepsTo, packets_past_losses}
 use Rattle.pg_world.specs.Worlds.{view_of, Shows}
 use Rattle.pg_world.specs.Runs.{over_packets, StepsTo}
 use Rattle.pg_world.proofs.LosingRunning.{made_so, left_out_so}
@@ -28,5 +28,5 @@ returns-in-Ok-clause-losing g c = λ config u shows.
 
 pub returns-in-Err-clause-losing : goal.returns-in-Err-clause-losing
 returns-in-Err-clause-losing g c = λ config u shows.
-    subst (λ n. LosingStepsTo config u c.args.step.now n (ShowsLosing config (view_of c.step.new.self) (lost_of c.step.new.self))) (sym c.number.ensures)
+    subst (λ n. LosingStepsTo packets_past_losses config u c.args.step.now n (ShowsLosing config (view_of c.step.new.self) (lost_of c.step.new.self))) (sym c.number.ensures)
     (left_out_so config u c.args.step.now (ShowsLosing config (view_of c.step.new.self) (lost_of c.step.new.self)) c.step.result c.in-Err.fault c.in-Err.is (c.step.ensures.losing config u shows))

@@ -1,0 +1,32 @@
+use Rattle.std.proofs.Common.{◌≡◌, ◌∙◌, ◌∷◌, [], not, Option, None, Some, sym}
+use Rattle.pg_step.specs.declared.refusal.Refusal.{Refusal}
+use Rattle.pg_step.specs.declared.refusal.Refusal.TheVariants.{NoSuchPlace, NodeLost}
+use Rattle.pg_step.specs.Faults.{first_that_holds}
+use Rattle.pg_world.specs.Bars.{pull_bar}
+use Rattle.pg_world.specs.Crossings.{crossing_of}
+use Rattle.pg_world.specs.Losing.{is_cut_off}
+use Rattle.pg_world.specs.Losses.{lost_in}
+use Rattle.pg_world.proofs.BytesPast.{move_mapped}
+use Rattle.pg_world.proofs.bytes.World.pull.Goals as goal
+
+pub returns-then-not-has_pair-clause-came : goal.returns-then-not-has_pair-clause-came
+returns-then-not-has_pair-clause-came g c = λ config w shows.
+    let lost = lost_in c.args.self.now.losses in
+    let crossing = crossing_of c.args.self.now in
+    let bar : pull_bar crossing lost c.args.to c.args.from ≡ Some NoSuchPlace = λ j. first_that_holds (
+    (not ((sym c.has_pair.ensures ∙ c.if-not-has_pair.true) j), NoSuchPlace) ∷ (is_cut_off crossing.nodes lost c.args.to c.args.from, NodeLost) ∷ []) in
+    (bar, shows)
+
+pub returns-then-is_cut_off-clause-came : goal.returns-then-is_cut_off-clause-came
+returns-then-is_cut_off-clause-came g c = λ config w shows.
+    let lost = lost_in c.args.self.now.losses in
+    let bar : pull_bar (crossing_of c.args.self.now) lost c.args.to c.args.from ≡ Some NodeLost = λ j. first_that_holds (
+    (not ((sym c.has_pair.ensures ∙ c.if-not-has_pair.false) j), NoSuchPlace) ∷ ((sym c.is_cut_off.ensures ∙ c.if-is_cut_off.true) j, NodeLost) ∷ []) in
+    (bar, shows)
+
+pub returns-clause-came : goal.returns-clause-came
+returns-clause-came g c = λ config w shows.
+    let lost = lost_in c.args.self.now.losses in
+    let bar : pull_bar (crossing_of c.args.self.now) lost c.args.to c.args.from ≡ None = λ j. first_that_holds (
+    (not ((sym c.has_pair.ensures ∙ c.if-not-has_pair.false) j), NoSuchPlace) ∷ ((sym c.is_cut_off.ensures ∙ c.if-is_cut_off.false) j, NodeLost) ∷ []) in
+    move_mapped None (pull_bar (crossing_of c.args.self.now) lost c.args.to c.args.from) _ _ c.pull_some.result (sym bar) (λ s. s) (c.pull_some.ensures.came config lost w shows)

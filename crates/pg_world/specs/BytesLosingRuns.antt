@@ -1,0 +1,55 @@
+-- Steps over bytes that are made one after another, where nodes may be lost.
+use Rattle.std.specs.Prelude.{◌≡◌, ◌⊎◌, ℕ, Option}
+use Rattle.std.specs.Option.{option_map_or}
+use Rattle.pg_machine.specs.Losing.{LosingEvent, Lose}
+use Rattle.pg_step.specs.declared.refusal.Refusal.{Refusal}
+use Rattle.pg_step.specs.declared.refusal.Refusal.TheVariants.{NotDrained}
+use Rattle.pg_step.specs.Config.{Config}
+use Rattle.pg_step.specs.Faults.{refusal_number_of}
+use Rattle.pg_step.specs.LossLaws.{LosingFrameWorld}
+use Rattle.pg_step.specs.Step.{Action}
+use Rattle.pg_world.specs.declared.step.FrameStep.{FrameStep}
+use Rattle.pg_world.specs.declared.step.FrameStep.TheVariants as frames
+use Rattle.pg_world.specs.declared.step.Step.{Step}
+use Rattle.pg_world.specs.declared.step.Step.TheVariants as steps
+use Rattle.pg_world.specs.BytesLosing.{put_refusal, pull_refusal, gone_refusal}
+use Rattle.pg_world.specs.Losing.{told_of, told_take, told_sight}
+use Rattle.pg_world.specs.LosingRuns.{LosingKind, IsLeftOut, IsToldEvent}
+
+-- the loss of a node, whatever stays on the ways from it
+abbrev pub IsLossOf : ℕ → LosingEvent Action → Type 0
+IsLossOf i e = (keep : ℕ → ℕ) × (e ≡ Lose i keep)
+
+-- ---- which events a step can be
+
+abbrev pub IsFrameEvent : Config → LosingFrameWorld → FrameStep → LosingEvent Action → Type 0
+IsFrameEvent config u (frames.Lose i keep) e = IsLossOf i e
+IsFrameEvent config u step e = IsToldEvent (told_of config u step) e
+
+abbrev pub IsBytesEvent : Config → LosingFrameWorld → Step → LosingEvent Action → Type 0
+IsBytesEvent config u (steps.Put x y max) e = ⊥
+IsBytesEvent config u (steps.Pull y x max) e = ⊥
+IsBytesEvent config u (steps.Event step) e = IsFrameEvent config u step e
+IsBytesEvent config u (steps.Lose i) e = IsLossOf i e
+
+-- ---- the number of a step that did nothing
+
+-- what is told is its refusal, or else this number; in the place of which memory may run out
+abbrev pub HasNumber : Option Refusal → ℕ → ℕ → Type 0
+HasNumber refusal other number = (number ≡ option_map_or refusal_number_of refusal other) ⊎ (number ≡ 10)
+
+-- 0 where no whole frame had come; and bytes on the ring bar that a loss is seen
+abbrev pub IsFrameLeftOut : Config → LosingFrameWorld → FrameStep → ℕ → Type 0
+IsFrameLeftOut config u (frames.Take i p) number = (number ≡ 0) ⊎ IsLeftOut (told_take config u i p) number
+IsFrameLeftOut config u (frames.SeeLoss i p) number = (number ≡ refusal_number_of NotDrained) ⊎ IsLeftOut (told_sight config u i p) number
+IsFrameLeftOut config u (frames.Lose i keep) number = HasNumber (gone_refusal config u i) 10 number
+IsFrameLeftOut config u step number = IsLeftOut (told_of config u step) number
+
+abbrev pub IsBytesLeftOut : Config → LosingFrameWorld → Step → ℕ → Type 0
+IsBytesLeftOut config u (steps.Put x y max) number = HasNumber (put_refusal config u x y) 0 number
+IsBytesLeftOut config u (steps.Pull y x max) number = HasNumber (pull_refusal config u y x) 0 number
+IsBytesLeftOut config u (steps.Event step) number = IsFrameLeftOut config u step number
+IsBytesLeftOut config u (steps.Lose i) number = HasNumber (gone_refusal config u i) 10 number
+
+abbrev pub bytes_past_losses : LosingKind Step
+bytes_past_losses = record { Is = IsBytesEvent; LeftOut = IsBytesLeftOut }
