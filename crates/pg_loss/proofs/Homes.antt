@@ -31,19 +31,19 @@ use Rattle.pg_loss.proofs.Lasts.{event_stays}
 use Rattle.pg_loss.proofs.Lossy.{Lossy, Passed, Went, Died, kept_past, Makes, Steps, Sees, makes, noted}
 
 -- what a packet on the way from p tells of an end is of a process of p, which has ended there
-abbrev TellsOwn : Config → ℕ → State → Noticed Message → Type 0
+abbrev pub TellsOwn : Config → ℕ → State → Noticed Message → Type 0
 TellsOwn config p s (Sent x) = AllByRecursion (λ pid. (pid.node ≡ name_at config p) × (s.ended pid ≡ true)) (end_of x)
 TellsOwn config p s Last = Unit {0}
 
-abbrev AllOwn : Config → ℕ → State → List (Noticed Message) → Type 0
+abbrev pub AllOwn : Config → ℕ → State → List (Noticed Message) → Type 0
 AllOwn config p s xs = AllByRecursion (TellsOwn config p s) xs
 
-abbrev Home : Config → Lossy → ℕ → Pid → Type 0
+abbrev pub Home : Config → Lossy → ℕ → Pid → Type 0
 Home config w i pid = (h : ℕ) × (is_place (length config) h ≡ true) × (pid.node ≡ name_at config h) × (((w.world.node h).ended pid ≡ true) ⊎ ((w.world.node i).lost (name_at config h) ≡ true))
 
-record Homed (config : Config) (w : Lossy) : Type 0 where
-  at : (i : ℕ) (pid : Pid) → is_place (length config) i ≡ true → (w.world.node i).ended pid ≡ true → Home config w i pid
-  ways : (p y : ℕ) → AllOwn config p (w.world.node p) (w.world.wire p y)
+pub record Homed (config : Config) (w : Lossy) : Type 0 where
+  pub at : (i : ℕ) (pid : Pid) → is_place (length config) i ≡ true → (w.world.node i).ended pid ≡ true → Home config w i pid
+  pub ways : (p y : ℕ) → AllOwn config p (w.world.node p) (w.world.wire p y)
 
 -- ---- ways
 
@@ -165,7 +165,7 @@ module _ (config : Config) (w v : Lossy) (e : LosingEvent Action) (passed : Pass
     ways = λ x y. way x y (way_after (losing_machine_of config) w.world v.world d h x y);
   }
 
-passed_homed : (config : Config) (w v : Lossy) (e : LosingEvent Action) → Passed config w v e → Homed config w → Homed config v
+pub passed_homed : (config : Config) (w v : Lossy) (e : LosingEvent Action) → Passed config w v e → Homed config w → Homed config v
 passed_homed config w v e (Went d is lives h same) old = event_homed config w v e (Went d is lives h same) d h old
 passed_homed config w v e (Died i keep is there_ lives cut gone) old = record {
   at = λ j pid here ended. home_later config w v e (Died i keep is there_ lives cut gone) j pid (old.at j pid here (ap (λ u. (u.node j).ended pid) (sym cut) ∙ ended));
@@ -175,7 +175,7 @@ passed_homed config w v e (Died i keep is there_ lives cut gone) old = record {
       (λ other. old.ways x y));
 }
 
-start_homed : (config : Config) → Homed config (nobody_gone (start_of (losing_machine_of config)))
+pub start_homed : (config : Config) → Homed config (nobody_gone (start_of (losing_machine_of config)))
 start_homed config = record { at = λ i pid here ended. absurd (cc); ways = λ x y. opened x (is_pair (length config) x y) }
   where
     opened : (x : ℕ) (b : Bool) → AllOwn config x ((losing_machine_of config).first x) (map Sent (cond b (Exchange (name_at config x) (groups_at config x) ∷ []) []))

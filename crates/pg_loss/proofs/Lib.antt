@@ -7,6 +7,7 @@ pub mod Carried
 pub mod Counting
 pub mod Homes
 pub mod Lasts
+pub mod OwnEnds
 pub mod Standing
 pub mod Parting
 pub mod Requests

@@ -4,6 +4,7 @@ use Rattle.std.specs.List.{AllByRecursion}
 use Rattle.pg_term.specs.declared.pid.Pid.{Pid}
 use Rattle.pg_term.specs.declared.term.Term.{Term}
 use Rattle.pg_group.specs.Value.{NoneEnded}
+use Rattle.pg_ends.specs.Numbers.{is_among}
 use Rattle.pg_refs.specs.Numbered.{numbered}
 use Rattle.pg_lock.specs.Locks.{is_holder}
 use Rattle.pg_message.specs.declared.message.Message.{Message}
@@ -66,6 +67,8 @@ pub record LeftAgree (config : Config) (events : List (LosingEvent Action)) (w :
       → (w.world.node i).state.table name ≡ (w.world.node j).state.table name
   -- an end that a node has taken is at the home of its process, or the node has seen the loss of the home
   pub home : (i : ℕ) (pid : Pid) → is_place (length config) i ≡ true → (w.world.node i).state.ended pid ≡ true → EndedHome config w i pid
+  -- a process of a node which that node has as ended is one that it made
+  pub made : (i : ℕ) (pid : Pid) → pid.node ≡ name_at config i → (w.world.node i).state.ended pid ≡ true → is_among (w.world.node i).state.processes pid ≡ true
   -- who has ended at a node is a member of no group there
   pub ended : (i : ℕ) (name : Term) → NoneEnded ((w.world.node i).state.table name) (w.world.node i).state.ended
 

@@ -12,7 +12,8 @@ pub use lasting::{
     lost_nodes_are_not_heard, lost_nodes_do_nothing, seen_losses_stay_seen,
 };
 pub use survival::{
-    ends_at_home_past_losses, histories_are_thinned, losses_are_survived, no_lock_of_the_lost,
-    no_packet_is_refused, no_reply_is_odd, nodes_left_agree, unanswered_changes_are_last,
+    ended_processes_were_made_past_losses, ends_at_home_past_losses, histories_are_thinned,
+    losses_are_survived, no_lock_of_the_lost, no_packet_is_refused, no_reply_is_odd,
+    nodes_left_agree, unanswered_changes_are_last,
 };
 pub use world::each_world_past_losses;

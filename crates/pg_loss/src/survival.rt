@@ -3,6 +3,7 @@ ghost use Rattle.std.specs.List.{AllByRecursion, IsDistinct};
 ghost use Rattle.pg_term.specs.declared.pid.Pid.{Pid};
 ghost use Rattle.pg_term.specs.declared.term.Term.{Term};
 ghost use Rattle.pg_term.specs.Same.{same_atom};
+ghost use Rattle.pg_ends.specs.Numbers.{is_among};
 ghost use Rattle.pg_refs.specs.Numbered.{numbered};
 ghost use Rattle.pg_lock.specs.Locks.{is_holder};
 ghost use Rattle.pg_message.specs.declared.message.Message.{Message};
@@ -86,6 +87,14 @@ pub fn ends_at_home_past_losses()
     ensures { (config : Config) (w : LosingFrameWorld) (events : List (LosingEvent Action)) (i : ℕ) (pid : Pid)
         → LosingReaches config events w → is_place (length config) i ≡ true
         → (w.world.node i).state.ended pid ≡ true → EndedHome config w i pid }
+{}
+
+/// A process of a node which that node has as ended is one that it made.
+pub fn ended_processes_were_made_past_losses()
+    ensures { (config : Config) (w : LosingFrameWorld) (events : List (LosingEvent Action)) (i : ℕ) (pid : Pid)
+        → IsDistinct same_atom (names_of config) → LosingReaches config events w
+        → pid.node ≡ name_at config i → (w.world.node i).state.ended pid ≡ true
+        → is_among (w.world.node i).state.processes pid ≡ true }
 {}
 
 /// Two formed nodes that are left, and have applied the same updates of a group, agree on it, where each has seen the loss of every

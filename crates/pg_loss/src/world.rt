@@ -13,8 +13,9 @@ use crate::lasting::{
     commands_are_counted_past_losses, ended_are_in_no_group_past_losses,
 };
 use crate::survival::{
-    ends_at_home_past_losses, histories_are_thinned, losses_are_survived, no_lock_of_the_lost,
-    no_packet_is_refused, no_reply_is_odd, nodes_left_agree, unanswered_changes_are_last,
+    ended_processes_were_made_past_losses, ends_at_home_past_losses, histories_are_thinned,
+    losses_are_survived, no_lock_of_the_lost, no_packet_is_refused, no_reply_is_odd,
+    nodes_left_agree, unanswered_changes_are_last,
 };
 
 /// All that the laws say of one world, whoever is lost and whenever.
@@ -30,6 +31,7 @@ pub fn each_world_past_losses()
     no_packet_is_refused();
     unanswered_changes_are_last();
     ends_at_home_past_losses();
+    ended_processes_were_made_past_losses();
     nodes_left_agree();
     changes_stand_once_past_losses();
     changes_are_answered_past_losses();

@@ -8,6 +8,7 @@ mod Fitted
 mod Harmless
 mod Idle
 mod Linked
+mod Listed
 mod LosingRunning
 mod Lossy
 mod Opened

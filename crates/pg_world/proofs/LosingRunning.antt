@@ -44,7 +44,7 @@ sent_stamped clock [] = refl
 sent_stamped clock (x ∷ xs) = ap (λ (ys : List (Stamped (Noticed Message))). record { stamp = clock; packet = Sent x } ∷ ys) (sent_stamped clock xs)
 
 -- nobody is lost at the start, and no notice is on the way
-start_is : (config : Config) → nobody_gone (start_of (losing_frame_machine config)) ≡ losing_of config (start_of (frame_machine config)) []
+pub start_is : (config : Config) → nobody_gone (start_of (losing_frame_machine config)) ≡ losing_of config (start_of (frame_machine config)) []
 start_is config = λ j. record {
   world = record { node = (frame_machine config).first; wire = (fun_ext (λ x. fun_ext (wires x))) j; reported = [] };
   gone = λ i. false;

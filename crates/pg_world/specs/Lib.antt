@@ -10,6 +10,7 @@ pub mod Losing
 pub mod LosingRuns
 pub mod Losses
 pub mod Openings
+pub mod Pending
 pub mod Rooms
 pub mod Runs
 pub mod Short

@@ -10,6 +10,7 @@ ghost use Rattle.pg_world.specs.Rooms.{HaveRoomFor};
 
 mod begun;
 mod losing;
+mod pending;
 mod runs;
 
 use crate::entry::Entry;

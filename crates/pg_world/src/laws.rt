@@ -1,11 +1,28 @@
-ghost use Rattle.std.specs.Prelude.{◌≡◌, ◌↔◌, Bool, ℕ, None};
+ghost use Rattle.std.specs.Prelude.{◌≡◌, ◌↔◌, Bool, ℕ, None, List, []};
+ghost use Rattle.std.specs.List.{Contains};
+ghost use Rattle.pg_term.specs.declared.pid.Pid.{Pid};
 ghost use Rattle.pg_term.specs.declared.term.Term.{Term};
 ghost use Rattle.pg_ring.specs.Capacity.{IsCapacity};
+ghost use Rattle.pg_machine.specs.Clocked.{plain};
+ghost use Rattle.pg_machine.specs.Losing.{LosingEvent};
+ghost use Rattle.pg_machine.specs.Machine.{Event};
+ghost use Rattle.pg_step.specs.LossLaws.{LosingFrameWorld};
+ghost use Rattle.pg_step.specs.Step.{Action};
 ghost use Rattle.pg_step.specs.Nodes.{Node};
 ghost use Rattle.pg_step.specs.Config.{Config, IsConfig, names_of, ports_at, made_at, groups_at, first_table};
-ghost use Rattle.pg_history.specs.History.{base, known};
+ghost use Rattle.pg_history.specs.History.{NonePending, base, known};
+ghost use Rattle.pg_history.specs.Reached.{Reaches};
+ghost use Rattle.pg_history.specs.WithLosses.{NonePendingLeft};
+ghost use Rattle.pg_loss.specs.Reached.{LosingReaches};
 ghost use Rattle.pg_world.specs.Configs.{refusal_of};
+ghost use Rattle.pg_world.specs.Losing.{losing_of};
+ghost use Rattle.pg_world.specs.Pending.{IsPending, pending_of};
 ghost use Rattle.pg_world.specs.Starts.{Orders};
+ghost use Rattle.pg_world.specs.Views.{Seen};
+ghost use Rattle.pg_world.specs.Worlds.{ShowsNodes, TimedFrameWorld};
+
+use pg_ends::numbered_from_one;
+use pg_loss::ended_processes_were_made_past_losses;
 
 /// A configuration whose groups were put in order starts with the same tables: what the headline says of the one it says of the
 /// other.
@@ -24,3 +41,22 @@ pub fn orders_keep_tables()
 pub fn configs_are_decided()
     ensures { (ring : ℕ) (config : Config) → (refusal_of ring config ≡ None) ↔ (IsConfig config × IsCapacity ring) }
 {}
+
+/// The ends that are pending are listed, and no others: in each world that is shown to which events lead, whoever is lost and whenever.
+/// The list is empty exactly where no end is pending among the nodes that are left; where no node is lost, exactly where none is.
+pub fn pending_ends_are_listed()
+    ensures listed { (config : Config) (nodes : List Seen) (lost : List ℕ) (frames : TimedFrameWorld) (u : LosingFrameWorld)
+        (events : List (LosingEvent Action)) (pid : Pid)
+        → ShowsNodes config nodes frames → u ≡ losing_of config frames lost → LosingReaches config events u
+        → Contains (pending_of nodes lost) pid ↔ IsPending config u pid }
+    ensures none { (config : Config) (nodes : List Seen) (lost : List ℕ) (frames : TimedFrameWorld) (u : LosingFrameWorld)
+        (events : List (LosingEvent Action))
+        → ShowsNodes config nodes frames → u ≡ losing_of config frames lost → LosingReaches config events u
+        → (pending_of nodes lost ≡ []) ↔ NonePendingLeft config u }
+    ensures unlost { (config : Config) (nodes : List Seen) (w : TimedFrameWorld) (events : List (Event Action))
+        → ShowsNodes config nodes w → Reaches config events w
+        → (pending_of nodes [] ≡ []) ↔ NonePending config (plain w) }
+{
+    ended_processes_were_made_past_losses();
+    numbered_from_one();
+}

@@ -6,6 +6,7 @@ ghost use Rattle.std.specs.Option.{option_copied};
 ghost use Rattle.pg_world.specs.Views.{IsWhole, traffic_in};
 
 mod losing;
+mod pending;
 
 use crate::entry::Entry;
 use crate::histories::Histories;

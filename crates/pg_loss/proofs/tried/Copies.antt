@@ -1,6 +1,6 @@
--- Steps of losses once more, word for word, each to be made wrong by an edit of must-fail/. What the laws need of them is proved in
--- `Tried`.
-use Rattle.std.specs.Prelude.{true, cond, Option, None, Result, Err, option_map}
+-- Steps of losses once more, and why a command is refused, word for word, each to be made wrong by an edit of must-fail/. What the laws
+-- need of them is proved in `Tried`.
+use Rattle.std.specs.Prelude.{true, cond, [], ◌∷◌, Option, None, Result, Err, option_map}
 use Rattle.pg_term.specs.Same.{same_atom}
 use Rattle.pg_group.specs.Ended.{ended_with}
 use Rattle.pg_group.specs.Functions.{upd}
@@ -9,11 +9,16 @@ use Rattle.pg_lock.specs.Locks.{without_node as locks_without}
 use Rattle.pg_message.specs.declared.message.Message.{Message}
 use Rattle.pg_machine.specs.Losing.{LosingWorld}
 use Rattle.pg_machine.specs.Machine.{Event, Machine, happens, node_of}
+use Rattle.pg_step.specs.Commands.{ends_again, ends_unformed, ends_unmade, has_foreign_pid, has_large_name, passes_limit}
+use Rattle.pg_step.specs.Faults.{first_that_holds}
 use Rattle.pg_step.specs.Losses.{forgets}
 use Rattle.pg_step.specs.Nodes.{Node, Nodes}
 use Rattle.pg_step.specs.State.{State, left}
 use Rattle.pg_step.specs.Step.{taken}
 use Rattle.pg_step.specs.Turns.{NodeTurn, becomes}
+use Rattle.pg_step.specs.declared.command.Command.{Command}
+use Rattle.pg_step.specs.declared.command_fault.CommandFault.{CommandFault}
+use Rattle.pg_step.specs.declared.command_fault.CommandFault.TheVariants.{NameTooLarge, ForeignPid, NotFormed, NotMade, AlreadyEnded, ProcessLimit}
 use Rattle.pg_step.specs.declared.refusal.Refusal.{Refusal}
 use Rattle.pg_step.specs.declared.refusal.Refusal.TheVariants.{NodeLost}
 
@@ -35,3 +40,9 @@ copied_takes m p x s = cond (s.lost p) (Err NodeLost) (taken (left m s) p x s)
 -- a node takes a step
 abbrev pub copied_goes : {S P C O : Type 0} → Machine S P C O → LosingWorld S P O → Event C → Option (LosingWorld S P O)
 copied_goes m w e = cond (w.gone (node_of e)) None (option_map (λ v. record { world = v; gone = w.gone }) (happens m w.world e))
+
+-- which fault a command is refused by
+abbrev pub copied_fault_of : Nodes → State → Command → Option CommandFault
+copied_fault_of m s c = first_that_holds (
+    (has_large_name c, NameTooLarge) ∷ (has_foreign_pid m c, ForeignPid) ∷ (ends_unformed m s c, NotFormed)
+    ∷ (ends_unmade s c, NotMade) ∷ (ends_again s c, AlreadyEnded) ∷ (passes_limit s c, ProcessLimit) ∷ [])

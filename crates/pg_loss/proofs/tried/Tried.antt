@@ -1,22 +1,26 @@
 -- What the laws of losses need of the copied steps, proved of each as of the machine's own.
 use Rattle.std.proofs.Common.{◌≡◌, ◌≢◌, ◌⊎◌, inl, inr, Bool, true, false, ◌||◌, cond, Some, None, Ok, Err, refl, ap, sym, ◌∙◌}
 use Rattle.std.specs.Prelude.{option_map}
+use Rattle.pg_term.specs.declared.pid.Pid.{Pid}
 use Rattle.pg_term.specs.Same.{same_atom}
 use Rattle.pg_group.specs.Functions.{upd}
 use Rattle.pg_group.specs.Scope.{at_node}
 use Rattle.pg_group.proofs.Changes.{upd_other}
+use Rattle.pg_ends.specs.Numbers.{is_among}
 use Rattle.pg_message.specs.declared.message.Message.{Message}
 use Rattle.pg_machine.specs.Losing.{LosingWorld}
 use Rattle.pg_machine.specs.Machine.{Event, Machine, happens, node_of}
 use Rattle.pg_step.specs.Nodes.{Node, Nodes}
-use Rattle.pg_step.specs.State.{State, left}
+use Rattle.pg_step.specs.State.{State, formed, left}
 use Rattle.pg_step.specs.Step.{taken}
 use Rattle.pg_step.specs.Turns.{NodeTurn}
+use Rattle.pg_step.specs.declared.command.Command.TheVariants.{Finish}
 use Rattle.pg_step.specs.declared.refusal.Refusal.TheVariants.{NodeLost}
 use Rattle.pg_history.proofs.references.Keys.{atoms, read_other, split}
+use Rattle.pg_loss.proofs.OwnEnds.{was_made}
 use Rattle.pg_loss.proofs.Tabled.{HasEndedLost}
 use Rattle.pg_loss.proofs.Unheld.{Clear, freed_is}
-use Rattle.pg_loss.proofs.tried.Copies.{copied_goes, copied_see_loss, copied_takes}
+use Rattle.pg_loss.proofs.tried.Copies.{copied_fault_of, copied_goes, copied_see_loss, copied_takes}
 
 -- who sees a loss holds no lock for the lost
 pub loss_frees : (own peer : Node) (s : State) → same_atom peer own ≡ false → Clear own s → Clear own (copied_see_loss peer s).state
@@ -48,3 +52,7 @@ lost_unheard m p x s t seen is = absurd (cc (sym is ∙ ap (λ b. cond b (Err No
 -- no lost node takes a step
 pub lost_stops : {S P C O : Type 0} (m : Machine S P C O) (w v : LosingWorld S P O) (e : Event C) → w.gone (node_of e) ≡ true → copied_goes m w e ≡ Some v → ⊥
 lost_stops m w v e gone is = absurd (cc (sym is ∙ ap (λ b. cond b None (option_map (λ v. record { world = v; gone = w.gone }) (happens m w.world e))) gone))
+
+-- a process that is told to end, and not refused, was made
+pub end_was_made : (m : Nodes) (s : State) (pid : Pid) → copied_fault_of m s (Finish pid) ≡ None → is_among s.processes pid ≡ true
+end_was_made m s pid free = was_made (same_atom pid.node m.own) (formed m s) (is_among s.processes pid) (s.ended pid) free

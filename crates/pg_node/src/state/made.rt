@@ -92,6 +92,13 @@ impl<T: GroupTable + Drop> NodeState<T> {
         self.clock
     }
 
+    /// The name of its node. It takes no memory.
+    pub fn own(&self) -> &Atom
+        ensures { result.now ≡ name_at (names_of self.now) 0 }
+    {
+        self.opens.name(0)
+    }
+
     /// How many peers it has, the lost ones too. It takes no memory.
     pub fn peer_count(&self) -> usize
         ensures { result + 1 ≡ length (names_of self.now) }

@@ -1,0 +1,44 @@
+//! Which ends are pending in a world of bytes.
+
+ghost use Rattle.std.specs.Prelude.{◌≡◌, IfOk};
+
+use crate::bytes::World;
+use crate::pending::pending_among;
+use pg_group::GroupTable;
+use pg_node::NodeState;
+use pg_term::Pid;
+use std::alloc::AllocError;
+
+impl<T: GroupTable + Drop> World<T> {
+    ghost use Rattle.pg_world.specs.Crossings.{crossing_of};
+    ghost use Rattle.pg_world.specs.Losses.{lost_in};
+    ghost use Rattle.pg_world.specs.Pending.{lent_as, nodes_left, pending_of};
+
+    /// The ends that are pending: each is that of a process whose home has it, and which some node has not. Of nodes that are lost
+    /// nothing counts. They stand home by home, and by number at each. Its cost is a search at each node that is left for each
+    /// process that was made at one, and the memory of the list.
+    ///
+    /// Error: `AllocError`.
+    pub fn pending_ends(&self) -> Result<Vec<Pid>, AllocError>
+        ensures list { IfOk result (λ pids. pids.items ≡ pending_of (crossing_of self.now).nodes (lost_in self.now.losses)) }
+    {
+        let left = self.nodes_left()?;
+        pending_among(*self.nodes.allocator(), left.as_slice())
+    }
+
+    /// The nodes that are not lost.
+    ///
+    /// Error: `AllocError`.
+    fn nodes_left(&self) -> Result<Vec<&NodeState<T>>, AllocError>
+        ensures { IfOk result (λ left. lent_as left.items ≡ nodes_left (crossing_of self.now).nodes (lost_in self.now.losses)) }
+    {
+        let mut left = Vec::new(*self.nodes.allocator());
+        for place in 0..self.nodes.len() {
+            if !self.losses.has(place) {
+                let over = &self.nodes[place];
+                left.push(over.state())?;
+            }
+        }
+        Ok(left)
+    }
+}
