@@ -2,6 +2,7 @@ pub mod Closed
 pub mod Ended
 pub mod Fault
 pub mod Judges
+pub mod Outcomes
 pub mod Promises
 pub mod Room
 pub mod Rows

@@ -1,6 +1,8 @@
 //! A conversation of clients with a cluster: what the program's `threads` does.
 
-ghost use Rattle.std.specs.Prelude.{◌≡◌, IfOk, length};
+ghost use Rattle.std.specs.Prelude.{◌≡◌, IfOk, OnOk, length};
+ghost use Rattle.std.specs.Io.KnownBytes.{Appends};
+ghost use Rattle.pg_cluster.specs.Outcomes.{is_good, outcome_lines, yes_or_no};
 
 use crate::cluster::Cluster;
 use crate::fault::StartFault;
@@ -65,14 +67,18 @@ pub struct Outcome {
 
 impl Outcome {
     /// Whether all was answered, the nodes agree, and the schedule replays.
-    pub fn is_good(&self) -> bool {
+    pub fn is_good(&self) -> bool
+        ensures { result ≡ is_good self.now }
+    {
         self.answered == self.asked && self.agree && self.replay
     }
 
     /// Writes it in four lines.
     ///
     /// Error: that of the writer.
-    pub fn write<W: Write>(&self, out: &mut W) -> io::Result<()> {
+    pub fn write<W: Write>(&self, out: &mut W) -> io::Result<()>
+        ensures { OnOk result (Appends (W.contents out.old) (W.contents out.new) (outcome_lines self.now)) }
+    {
         writeln!(out, "nodes {} clients {}", self.nodes, self.clients)?;
         writeln!(out, "answered {} of {}", self.answered, self.asked)?;
         writeln!(out, "agree {}", yes_or_no(self.agree))?;
@@ -81,7 +87,9 @@ impl Outcome {
     }
 }
 
-fn yes_or_no(holds: bool) -> &'static str {
+fn yes_or_no(holds: bool) -> &'static str
+    ensures { result.now ≡ yes_or_no holds }
+{
     if holds { "yes" } else { "no" }
 }
 

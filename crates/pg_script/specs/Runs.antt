@@ -1,10 +1,12 @@
 -- Why a run ends early.
-use Rattle.std.specs.Prelude.{◌≡◌, ⊤, ℕ, List}
+use Rattle.std.specs.Prelude.{◌≡◌, ◌≤◌, ⊤, ℕ, List}
 use Rattle.std.specs.List.{flat_map}
+use Rattle.pg_step.specs.Config as starts
+use Rattle.pg_step.specs.Config.{IsConfig}
 use Rattle.pg_step.specs.declared.answer.Answer.{Answer}
 use Rattle.pg_lines.specs.Printing.{answer_line}
 use Rattle.pg_world.specs.declared.config.Config.{Config}
-use Rattle.pg_world.specs.Openings.{CantBegin}
+use Rattle.pg_world.specs.Openings.{AllFit, CantBegin}
 use Rattle.pg_script.specs.declared.fault.RunFault.{RunFault}
 use Rattle.pg_script.specs.declared.fault.RunFault.TheVariants.{World, OutOfMemory, WriteFault}
 
@@ -19,6 +21,10 @@ abbrev pub Refused : Type 0 → RunFault → Type 0
 Refused unwritten (World fault) = ⊥
 Refused unwritten OutOfMemory = ⊤
 Refused unwritten WriteFault = unwritten
+
+-- a configuration is one, its rings have a capacity, and what each node tells as it begins fits into a frame
+abbrev pub CanRun : ℕ → starts.Config → Type 0
+CanRun ring config = IsConfig config × (1 ≤ ring) × (ring ≤ 65536) × AllFit config
 
 -- the lines of answers of a node, one after another
 abbrev pub answer_lines : List ℕ → List Answer → List ℕ

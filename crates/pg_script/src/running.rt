@@ -4,7 +4,7 @@ ghost use Rattle.std.specs.Prelude.{◌≡◌, ◌<◌, List, ℕ, length, strin
 ghost use Rattle.std.specs.Io.KnownBytes.{Appends};
 ghost use Rattle.pg_node.specs.Causes.{FailedAt};
 ghost use Rattle.pg_text.specs.Writing.{Adds};
-ghost use Rattle.pg_script.specs.Runs.{CantRun, CausedBy, Refused, answer_lines};
+ghost use Rattle.pg_script.specs.Runs.{CanRun, CantRun, CausedBy, Refused, answer_lines};
 
 use crate::act::Act;
 use crate::fault::RunFault;
@@ -191,6 +191,7 @@ fn outbox_len(world: &World<IndexTable>, from: usize, to: usize) -> usize {
 pub fn run_script<W: Sink>(alloc: Global, script: &Script, writer: &mut W) -> Result<(), RunFault>
     ensures appended { (text : List ℕ) × Appends (W.contents writer.old) (W.contents writer.new) text }
     ensures flushed { OnOk result (W.flushed writer.new) }
+    ensures good { OnOk result (CanRun script.now.config.ring script.now.config.starts.items) }
     ensures fault { IfErr result (CausedBy script.now.config (writer.new ≡ writer.old) (FailedAt W.fails writer.new)) }
 {
     match begun(alloc, script) {
@@ -214,6 +215,7 @@ pub fn watch_script<W: Sink>(
 ) -> Result<Watch, RunFault>
     ensures appended { (text : List ℕ) × Appends (W.contents writer.old) (W.contents writer.new) text }
     ensures flushed { OnOk result (W.flushed writer.new) }
+    ensures good { OnOk result (CanRun script.now.config.ring script.now.config.starts.items) }
     ensures fault { IfErr result (CausedBy script.now.config (writer.new ≡ writer.old) (FailedAt W.fails writer.new)) }
 {
     match begun(alloc, script) {
@@ -247,6 +249,7 @@ fn run_watched<W: Sink>(
 
 /// A run of a script that begins. It is not watched.
 fn begun(alloc: Global, script: &Script) -> Result<Run<'_>, RunFault>
+    ensures good { OnOk result (CanRun script.now.config.ring script.now.config.starts.items) }
     ensures fault { IfErr result (CantRun script.now.config) }
 {
     let starts = script.config.starts.as_slice();

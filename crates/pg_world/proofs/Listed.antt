@@ -13,7 +13,7 @@ use Rattle.pg_term.specs.declared.pid.Pid.{Pid}
 use Rattle.pg_group.specs.declared.table.GroupTable.{Ghosts}
 use Rattle.pg_ends.specs.Numbers.{is_among, number_in, pid_of}
 use Rattle.pg_machine.specs.Clocked.{Timed, plain}
-use Rattle.pg_machine.specs.Losing.{LosingLeads, all_steps, nobody_gone}
+use Rattle.pg_machine.specs.Losing.{LosingLeads, all_steps}
 use Rattle.pg_machine.specs.Machine.{Event, start_of}
 use Rattle.pg_machine.specs.Places.{is_place}
 use Rattle.pg_machine.specs.Runs.{Leads}

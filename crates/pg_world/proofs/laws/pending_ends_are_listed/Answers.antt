@@ -1,13 +1,12 @@
-use Rattle.std.proofs.Common.{◌≡◌, ◌≤◌, ℕ, List, [], true, sym, subst, refl, ap, ◌∙◌}
-use Rattle.std.specs.List.{Contains}
+use Rattle.std.proofs.Common.{◌≡◌, ℕ, [], true, sym, subst}
 use Rattle.pg_term.specs.declared.pid.Pid.{Pid}
-use Rattle.pg_ends.specs.Numbers.{is_among, number_in, pid_of}
+use Rattle.pg_ends.specs.Numbers.{is_among}
 use Rattle.pg_machine.specs.Losing.{all_steps}
 use Rattle.pg_step.specs.LossLaws.{LosingFrameWorld}
 use Rattle.pg_history.specs.WithLosses.{NonePendingLeft}
 use Rattle.pg_loss.specs.Reached.{LosingReaches}
 use Rattle.pg_world.specs.Losing.{losing_of}
-use Rattle.pg_world.specs.Pending.{IsPending, pending_of}
+use Rattle.pg_world.specs.Pending.{IsPending}
 use Rattle.pg_world.proofs.Listed.{EndedWereMade, Numbered, empty_list, is_listed, listed_is, none_listed, none_of_plain, plain_none, reached_so}
 use Rattle.pg_world.proofs.laws.pending_ends_are_listed.Goals as goal
 

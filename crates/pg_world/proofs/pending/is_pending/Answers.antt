@@ -1,4 +1,4 @@
-use Rattle.std.proofs.Common.{◌≡◌, ◌&&◌, ◌∙◌, ap, not, sym}
+use Rattle.std.proofs.Common.{◌&&◌, ◌∙◌, ap, not, sym}
 use Rattle.std.specs.List.{list_any}
 use Rattle.pg_world.specs.Pending.{has_end, lent_as}
 use Rattle.pg_world.specs.Views.{Seen, seen_of}

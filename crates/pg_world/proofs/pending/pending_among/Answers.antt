@@ -1,4 +1,4 @@
-use Rattle.std.proofs.Common.{◌≡◌, ◌+◌, ◌++◌, ◌<◌, ◌∙◌, ap, arith, length, sym, take, take_all}
+use Rattle.std.proofs.Common.{◌∙◌, ap, arith, take_all}
 use Rattle.std.proofs.lemmas.List.{length-map}
 use Rattle.pg_world.specs.Pending.{lent_as, pending_among}
 use Rattle.pg_world.specs.Views.{seen_of}
