@@ -1,5 +1,5 @@
 -- How the program ends where it serves.
-use Rattle.std.proofs.Common.{◌≡◌, ◌⊎◌, ◌∷◌, ℕ, List, [], Option, Some, None, Result, Ok, Err, refl, sym, ◌∙◌, inl, inr, codes}
+use Rattle.std.proofs.Common.{arith, ◌≡◌, ◌⊎◌, Bool, ◌∷◌, ℕ, List, [], Option, Some, None, Result, Err, length, refl, sym, ap, ◌∙◌, inl, inr}
 use Rattle.std.specs.Prelude.{IfSome, IfErr}
 use Rattle.std.specs.Str.{chars}
 use Rattle.clap.specs.Words.{Kinds, IsAmong, Row, Text}
@@ -12,26 +12,66 @@ use Rattle.pg_node.specs.declared.fault.ServeFault.TheVariants.{Message}
 use Rattle.pg2sim.specs.declared.bytes.BytesFault.{BytesFault}
 use Rattle.pg2sim.specs.declared.bytes.BytesFault.TheVariants.{Serve}
 use Rattle.pg2sim.specs.Bytes.{BytesCause, ServesAs}
-use Rattle.pg2sim.specs.CommandLine.{IsBytes, IsOther}
-use Rattle.pg2sim.specs.Status.{BytesEnd, end_of_bytes, end_status}
+use Rattle.pg2sim.specs.CommandLine.{IsBytes, IsOther, IsScript, IsScriptWord, IsThreads}
+use Rattle.pg2sim.specs.Scripts.{ScriptEnd}
+use Rattle.pg2sim.specs.Status.{BytesEnd, Ends, end_of_bytes, end_status}
+use Rattle.pg2sim.specs.Talks.{EndsTalk, OrNoMemory}
+use Rattle.pg2sim.specs.declared.fault.Fault.{Fault}
+use Rattle.pg2sim.specs.declared.fault.Fault.TheVariants.{Run}
+use Rattle.pg2sim.specs.declared.words.Aids.{Aids}
+use Rattle.pg2sim.specs.declared.words.Talk.{Talk}
+
+abbrev pub End : Type 0
+End = Result (Unit {0}) Fault
 
 -- what was served is the end
-pub ended : (own peer : List ℕ) (C : BytesFault → Type 0) (r before after : Option (List ℕ)) (result : Result (Unit {0}) BytesFault) (status : ℕ)
-    → IfSome r (λ input. ServesAs (chars own) (chars peer) before after input result) → IfErr result C → status ≡ end_status (end_of_bytes result)
-    → IfSome r (λ input. BytesEnd own peer C before after input status)
-ended own peer C None before after result status h cause e = tt
-ended own peer C (Some input) before after result status h cause e = record { result = result; cause = cause; serves = h; is = e }
+pub ended : (own peer : List ℕ) (C : BytesFault → Type 0) (T : End → Type 0) (r before after : Option (List ℕ)) (result : Result (Unit {0}) BytesFault) (status : ℕ)
+    → IfSome r (λ input. ServesAs (chars own) (chars peer) before after input result) → IfErr result C → T (end_of_bytes result) → status ≡ end_status (end_of_bytes result)
+    → IfSome r (λ input. BytesEnd own peer C T before after input status)
+ended own peer C T None before after result status h cause told e = tt
+ended own peer C T (Some input) before after result status h cause told e = record { result = result; cause = cause; serves = h; told = told; is = e }
 
 -- there was no memory to read the words
-pub not_read : (own peer : List ℕ) (U V : Type 0) (r w : Option (List ℕ)) (status : ℕ) → status ≡ 1
-    → IfSome r (λ input. BytesEnd own peer (BytesCause U V) w w input status)
-not_read own peer U V None w status e = tt
-not_read own peer U V (Some input) w status e = record {
+pub not_read : (own peer : List ℕ) (U V : Type 0) (T : End → Type 0) (r w : Option (List ℕ)) (status : ℕ) → status ≡ 1 → T (Err (Run 10))
+    → IfSome r (λ input. BytesEnd own peer (BytesCause U V) T w w input status)
+not_read own peer U V T None w status e told = tt
+not_read own peer U V T (Some input) w status e told = record {
   result = Err (Serve (Message (Term OutOfMemory)));
   cause = tt;
   serves = record { output = []; wrote = appends_none w; is = (0, refl) };
+  told = told;
   is = e;
 }
+
+-- nothing was read of a script
+pub script_not_read : (I : List ℕ → Type 0) (U unchanged V F : Type 0) (T : End → Type 0) (status : ℕ) → unchanged → status ≡ 1 → T (Err (Run 10))
+    → Ends (ScriptEnd I U unchanged V F) T status
+script_not_read I U unchanged V F T status u e told = record { end = Err (Run 10); is = inl (inl refl, u); told = told; status_is = e }
+
+-- no conversation began
+pub not_spoken : (unchanged : Type 0) (E : Result Bool Fault → Type 0) (T : End → Type 0) (status : ℕ) → unchanged → status ≡ 1 → T (Err (Run 10))
+    → EndsTalk (OrNoMemory unchanged E) T status
+not_spoken unchanged E T status u e told = record { end = Err (Run 10); is = inl (refl, u); told = told; status_is = e }
+
+pub spoken : (unchanged : Type 0) (E : Result Bool Fault → Type 0) (T : End → Type 0) (status : ℕ) → EndsTalk E T status → EndsTalk (OrNoMemory unchanged E) T status
+spoken unchanged E T status h = record { end = h.end; is = inr h.is; told = h.told; status_is = h.status_is }
+
+-- the words of a command are no others
+pub script_no_bytes : (m : Option (Text × List Row)) (own peer : List ℕ) → IsScriptWord m → IsBytes m own peer → ⊥
+script_no_bytes None own peer h k = h
+script_no_bytes (Some p) own peer h k = let bad = ap length (sym h ∙ k.0) in absurd (omega (arith, bad))
+
+pub script_no_threads : (m : Option (Text × List Row)) (talk : Talk) → IsScriptWord m → IsThreads m talk → ⊥
+script_no_threads None talk h k = h
+script_no_threads (Some p) talk h k = let bad = ap length (sym h ∙ k.0) in absurd (omega (arith, bad))
+
+pub threads_no_bytes : (m : Option (Text × List Row)) (talk : Talk) (own peer : List ℕ) → IsThreads m talk → IsBytes m own peer → ⊥
+threads_no_bytes None talk own peer h k = h
+threads_no_bytes (Some p) talk own peer h k = let bad = ap length (sym h.0 ∙ k.0) in absurd (omega (arith, bad))
+
+pub threads_no_script : (m : Option (Text × List Row)) (talk : Talk) (aids : Aids) → IsThreads m talk → IsScript m aids → ⊥
+threads_no_script None talk aids h k = h
+threads_no_script (Some p) talk aids h k = k.0 h.0
 
 pub same_names : (m : Option (Text × List Row)) (own peer own2 peer2 : List ℕ) → IsBytes m own peer → IsBytes m own2 peer2 → (own ≡ own2) × (peer ≡ peer2)
 same_names None own peer own2 peer2 h k = absurd h

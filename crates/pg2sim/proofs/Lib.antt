@@ -1,2 +1,4 @@
 pub mod Ends
+pub mod Inputs
+pub mod Numbers
 pub mod Telling

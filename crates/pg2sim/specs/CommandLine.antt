@@ -1,11 +1,13 @@
 -- The words that the program knows, and what they ask for.
-use Rattle.std.specs.Prelude.{◌≡◌, ℕ, ◌-◌, ◌^◌, List, ◌∷◌, [], Bool, true, false, Option, Some, None, codes, unwrap_or, option_map}
+use Rattle.std.specs.Prelude.{◌≡◌, ◌<◌, ◌⊎◌, ℕ, ◌-◌, ◌^◌, List, ◌∷◌, [], Bool, true, false, Option, Some, None, codes, unwrap_or, option_map}
 use Rattle.std.specs.Option.{option_map_or}
 use Rattle.std.specs.Str.{bytes_eq}
+use Rattle.std.specs.Str.Parse.{IsNumeral, digits_value, without_leading_plus}
 use Rattle.clap.specs.declared.builder.action.ArgAction.TheVariants.{SetTrue}
 use Rattle.clap.specs.declared.builder.value_parser.ValueParser.TheVariants.{Unsigned}
-use Rattle.clap.specs.Words.{App, Row, Rule, Text, first_of, new_app, new_rule, with_rule, with_subcommand}
+use Rattle.clap.specs.Words.{App, Row, Rule, Text, first_of, one_of, new_app, new_rule, with_rule, with_subcommand}
 use Rattle.clap.specs.Simple.{on_top}
+use Rattle.pg_cluster.specs.declared.conversation.Conversation.{Conversation}
 use Rattle.pg2sim.specs.declared.words.Aids.{Aids}
 use Rattle.pg2sim.specs.declared.words.Talk.{Talk}
 use Rattle.pg2sim.specs.declared.words.Task.{Task}
@@ -76,10 +78,33 @@ abbrev pub IsScript : Option (Text × List Row) → Aids → Type 0
 IsScript (Some p) aids = (p.0 ≡ codes "threads" → ⊥) × AsksAids p.1 aids
 IsScript None aids = Unit {0}
 
--- `threads`, told as one line where its flag was given
+-- a text is a number of so many bits, in decimal, and a plus may stand before it
+abbrev pub IsNumber : ℕ → Text → Type 0
+IsNumber bits text = IsNumeral 10 (without_leading_plus text) × (digits_value 10 (without_leading_plus text) < 2 ^ bits)
+
+-- the number that a word gives, or this one where there is no word, or it is no such number
+abbrev pub GivesNumber : ℕ → ℕ → Option Text → ℕ → Type 0
+GivesNumber bits default None number = number ≡ default
+GivesNumber bits default (Some text) number =
+    (IsNumber bits text × (number ≡ digits_value 10 (without_leading_plus text))) ⊎ ((IsNumber bits text → ⊥) × (number ≡ default))
+
+-- each number of a conversation is that of its option
+pub record AsksTalk (rows : List Row) (asked : Conversation) : Type 0 where
+  pub nodes : GivesNumber 16 3 (one_of (codes "nodes") rows) asked.nodes
+  pub clients : GivesNumber 16 2 (one_of (codes "clients") rows) asked.clients
+  pub rounds : GivesNumber 32 50 (one_of (codes "rounds") rows) asked.rounds
+  pub seed : GivesNumber 64 1 (one_of (codes "seed") rows) asked.seed
+  pub turns : GivesNumber 64 100000000 (one_of (codes "turns") rows) asked.turns
+
+-- `threads`, with these numbers, told as one line where its flag was given
 abbrev pub IsThreads : Option (Text × List Row) → Talk → Type 0
-IsThreads (Some p) talk = (p.0 ≡ codes "threads") × (talk.is_json ≡ is_flag (codes "json") p.1)
+IsThreads (Some p) talk = (p.0 ≡ codes "threads") × AsksTalk p.1 talk.asked × (talk.is_json ≡ is_flag (codes "json") p.1)
 IsThreads None talk = ⊥
+
+-- the command is `script`
+abbrev pub IsScriptWord : Option (Text × List Row) → Type 0
+IsScriptWord (Some p) = p.0 ≡ codes "script"
+IsScriptWord None = ⊥
 
 -- what a command and its matches ask for
 abbrev pub IsAsked : Option (Text × List Row) → Task → Type 0

@@ -5,6 +5,7 @@ mod bytes;
 mod fault;
 mod help;
 mod input;
+mod laws;
 mod run;
 mod script;
 #[cfg(test)]
@@ -18,8 +19,8 @@ mod threads;
 mod words;
 
 use pg_node::{AnyReader, AnyWriter};
-use run::{OUT_OF_MEMORY, refuse, refuse_text, run_words};
-use std::io::{BufWriter, ErrorKind};
+use run::{OUT_OF_MEMORY, refuse, refuse_given, run_words};
+use std::io::BufWriter;
 use std::process::ExitCode;
 use std::thread::Threads;
 use std::time::Instant;
@@ -69,8 +70,7 @@ fn main(rt: HostRuntime) -> ExitCode {
             Ok(status) => status,
             Err(_) => refuse(&mut faults, OUT_OF_MEMORY),
         },
-        Err(error) if error.kind() == ErrorKind::InvalidData => refuse_text(&mut faults),
-        Err(_) => refuse(&mut faults, OUT_OF_MEMORY),
+        Err(error) => refuse_given(&mut faults, &error),
     };
     ExitCode::from(status)
 }

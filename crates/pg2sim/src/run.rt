@@ -1,14 +1,19 @@
 //! What the program does for its words.
 
-ghost use Rattle.std.specs.Prelude.{◌≡◌, ◌≢◌, List, ℕ, [], IfSome, Err, map, string_bytes};
-ghost use Rattle.std.specs.Io.KnownBytes.{Keeps};
+ghost use Rattle.std.specs.Prelude.{◌≡◌, ◌≢◌, ◌⊎◌, List, ℕ, [], IfSome, Err, map, string_bytes};
 ghost use Rattle.std.specs.Str.{chars};
+ghost use Rattle.std.specs.IoError.{error_kind};
+ghost use Rattle.std.specs.declared.io.ErrorKind.TheVariants.{InvalidData};
 ghost use Rattle.clap.specs.Words.{fault_of, kind_of, subcommand_of};
 ghost use Rattle.pg_node.specs.Causes.{AllAnswered, FailedAt, Unread};
 ghost use Rattle.pg2sim.specs.Bytes.{BytesCause, pair_of_texts};
-ghost use Rattle.pg2sim.specs.CommandLine.{command_line, IsBytes};
-ghost use Rattle.pg2sim.specs.Status.{BytesEnd, ToldEnd, WordsEnd, end_of_bytes, end_status};
+ghost use Rattle.pg2sim.specs.CommandLine.{command_line, IsBytes, IsScriptWord, IsThreads};
+ghost use Rattle.pg2sim.specs.Inputs.{IsInput, IsUnread};
+ghost use Rattle.pg2sim.specs.Scripts.{ScriptEnd};
+ghost use Rattle.pg2sim.specs.Status.{BytesEnd, Ends, ToldEnd, WordsEnd, end_of_bytes, end_status};
+ghost use Rattle.pg2sim.specs.Talks.{EndsTalk, OrNoMemory, TalkEnd};
 ghost use Rattle.pg2sim.specs.declared.fault.Fault.TheVariants.{Run};
+ghost use Rattle.pg2sim.specs.declared.words.Talk.{Talk};
 
 use crate::bytes::{BytesFault, serve_input};
 use crate::fault::Fault;
@@ -21,6 +26,7 @@ use clap::error::ErrorKind;
 use pg_node::{Sink, Source};
 use pg_script::put_whole;
 use std::alloc::Global;
+use std::io;
 
 // The number of the fault where memory runs out.
 pub(crate) const OUT_OF_MEMORY: u8 = 10;
@@ -49,15 +55,25 @@ pub fn run_words<R: Source, W: Sink, D: System, F: Sink>(
     system: &mut D,
     faults: &mut F,
 ) -> u8
-    ensures refused { fault_of command_line (map string_bytes words.now) ≢ [] → WordsEnd result
-        × Keeps (R.remaining reader.old) (R.remaining reader.new)
-        × Keeps (W.contents writer.old) (W.contents writer.new) }
+    ensures refused { fault_of command_line (map string_bytes words.now) ≢ [] → WordsEnd (ToldEnd F.fails F.contents faults.old faults.new) result
+        × (reader.new ≡ reader.old) × (writer.new ≡ writer.old) × (system.new ≡ system.old) }
     ensures bytes { (own peer : List ℕ) → fault_of command_line (map string_bytes words.now) ≡ []
         → IsBytes (subcommand_of command_line (map string_bytes words.now)) own peer
         → IfSome (R.remaining reader.old) (λ input. BytesEnd own peer
         (BytesCause (Unread R.gives R.fails reader.old reader.new
         (AllAnswered (pair_of_texts (chars own) (chars peer)) (W.contents writer.old) (W.contents writer.new)))
-        (FailedAt W.fails writer.new)) (W.contents writer.old) (W.contents writer.new) input result) }
+        (FailedAt W.fails writer.new)) (ToldEnd F.fails F.contents faults.old faults.new)
+        (W.contents writer.old) (W.contents writer.new) input result) }
+    ensures script { fault_of command_line (map string_bytes words.now) ≡ []
+        → IsScriptWord (subcommand_of command_line (map string_bytes words.now))
+        → Ends (ScriptEnd (IsInput R.remaining R.gives reader.old reader.new) (IsUnread R.gives R.fails reader.old reader.new)
+        (writer.new ≡ writer.old) (FailedAt W.fails writer.new ⊎ FailedAt D.fails system.new) (W.flushed writer.new))
+        (ToldEnd F.fails F.contents faults.old faults.new) result }
+    ensures threads { (talk : Talk) → fault_of command_line (map string_bytes words.now) ≡ []
+        → IsThreads (subcommand_of command_line (map string_bytes words.now)) talk
+        → EndsTalk (OrNoMemory (writer.new ≡ writer.old) (TalkEnd D.went talk.asked talk.is_json
+        (writer.new ≡ writer.old) (FailedAt W.fails writer.new) (W.flushed writer.new) (W.contents writer.old) (W.contents writer.new)))
+        (ToldEnd F.fails F.contents faults.old faults.new) result }
 {
     match read_words(alloc, words) {
         Ok(Task::Bytes { own, peer }) => run_bytes(alloc, own, peer, reader, writer, faults),
@@ -79,7 +95,8 @@ fn run_bytes<R: Source, W: Sink, F: Sink>(
     ensures { IfSome (R.remaining reader.old) (λ input. BytesEnd own.now peer.now
         (BytesCause (Unread R.gives R.fails reader.old reader.new
         (AllAnswered (pair_of_texts (chars own.now) (chars peer.now)) (W.contents writer.old) (W.contents writer.new)))
-        (FailedAt W.fails writer.new)) (W.contents writer.old) (W.contents writer.new) input result) }
+        (FailedAt W.fails writer.new)) (ToldEnd F.fails F.contents faults.old faults.new)
+        (W.contents writer.old) (W.contents writer.new) input result) }
 {
     let served = serve_input(alloc, own, peer, reader, writer);
     tell(faults, bytes_end(served))
@@ -93,7 +110,11 @@ fn run_script<R: Source, W: Sink, D: System, F: Sink>(
     writer: &mut W,
     system: &mut D,
     faults: &mut F,
-) -> u8 {
+) -> u8
+    ensures { Ends (ScriptEnd (IsInput R.remaining R.gives reader.old reader.new) (IsUnread R.gives R.fails reader.old reader.new)
+        (writer.new ≡ writer.old) (FailedAt W.fails writer.new ⊎ FailedAt D.fails system.new) (W.flushed writer.new))
+        (ToldEnd F.fails F.contents faults.old faults.new) result }
+{
     let ran = run_input(alloc, aids, reader, writer, system);
     tell(faults, ran)
 }
@@ -105,7 +126,10 @@ fn run_conversation<W: Sink, D: System, F: Sink>(
     writer: &mut W,
     system: &mut D,
     faults: &mut F,
-) -> u8 {
+) -> u8
+    ensures { EndsTalk (TalkEnd D.went talk.asked talk.is_json (writer.new ≡ writer.old) (FailedAt W.fails writer.new)
+        (W.flushed writer.new) (W.contents writer.old) (W.contents writer.new)) (ToldEnd F.fails F.contents faults.old faults.new) result }
+{
     match converse(alloc, talk, writer, system) {
         Ok(true) => DONE,
         Ok(false) => NOT_GOOD,
@@ -148,8 +172,9 @@ pub(crate) fn refuse<F: Sink>(faults: &mut F, number: u8) -> u8
 
 /// Writes why words are refused, or the help that they ask for, and gives the status.
 fn refuse_words<F: Sink>(alloc: Global, faults: &mut F, error: &Error) -> u8
-    ensures end { WordsEnd result }
-    ensures memory { kind_of error.now ≡ ErrorKind.OutOfMemory → result ≡ 1 }
+    ensures end { WordsEnd (ToldEnd F.fails F.contents faults.old faults.new) result }
+    ensures memory { kind_of error.now ≡ ErrorKind.OutOfMemory
+        → (result ≡ 1) × ToldEnd F.fails F.contents faults.old faults.new (Err (Run 10)) }
 {
     if error.kind() == ErrorKind::OutOfMemory {
         return refuse(faults, OUT_OF_MEMORY);
@@ -163,8 +188,24 @@ fn refuse_words<F: Sink>(alloc: Global, faults: &mut F, error: &Error) -> u8
     }
 }
 
+/// Writes why the words of the program can't be had, and gives the status: one of them is no text, which is refused as words are;
+/// else there was no memory.
+pub(crate) fn refuse_given<F: Sink>(faults: &mut F, error: &io::Error) -> u8
+    ensures text { error_kind error.now ≡ InvalidData → result ≡ 2 }
+    ensures memory { error_kind error.now ≢ InvalidData
+        → (result ≡ 1) × ToldEnd F.fails F.contents faults.old faults.new (Err (Run 10)) }
+{
+    if error.kind() == io::ErrorKind::InvalidData {
+        refuse_text(faults)
+    } else {
+        refuse(faults, OUT_OF_MEMORY)
+    }
+}
+
 /// Writes that a word is no text, and gives the status.
-pub(crate) fn refuse_text<F: Sink>(faults: &mut F) -> u8 {
+fn refuse_text<F: Sink>(faults: &mut F) -> u8
+    ensures { result ≡ 2 }
+{
     let _ = put_whole(
         faults,
         b"error: invalid UTF-8 was detected in one or more arguments\n\nUsage: pg2sim <COMMAND>\n\nFor more information, try '--help'.\n",

@@ -1,5 +1,14 @@
 //! `pg2sim script`.
 
+ghost use Rattle.std.specs.Prelude.{◌≡◌, ◌≢◌, ◌⊎◌, ◌≤◌, length, Ok, Err, IfOk, IfErr, OnErr};
+ghost use Rattle.pg_node.specs.Causes.{FailedAt};
+ghost use Rattle.pg_script.specs.Runs.{CausedBy};
+ghost use Rattle.pg_script.specs.Scripts.{contents_of};
+ghost use Rattle.pg2sim.specs.Inputs.{IsInput, IsUnread, ScriptRead, bytes_said};
+ghost use Rattle.pg2sim.specs.Scripts.{NotDrawn, Ran, ScriptEnd, run_fault_of, script_fault_of};
+ghost use Rattle.pg2sim.specs.declared.fault.Fault.TheVariants.{Run};
+ghost use Rattle.pg2sim.specs.declared.input.TheConstants.{MAX_SCRIPT_LEN};
+
 use crate::fault::Fault;
 use crate::input::{read_input, text_of};
 use crate::run::OUT_OF_MEMORY;
@@ -19,16 +28,59 @@ pub(crate) fn run_input<R: Source, W: Sink, D: System>(
     reader: &mut R,
     writer: &mut W,
     system: &mut D,
-) -> Result<(), Fault> {
-    let input = read_input(alloc, reader)?;
-    let script = script_of(alloc, input.as_slice())?;
-    if !aids.is_traced && aids.diagram.is_none() {
-        return match run_script(alloc, &script, writer) {
+) -> Result<(), Fault>
+    ensures { ScriptEnd (IsInput R.remaining R.gives reader.old reader.new) (IsUnread R.gives R.fails reader.old reader.new)
+        (writer.new ≡ writer.old) (FailedAt W.fails writer.new ⊎ FailedAt D.fails system.new) (W.flushed writer.new) result }
+{
+    match script_in(alloc, reader) {
+        Ok(script) => run(alloc, aids, &script, writer, system),
+        Err(fault) => Err(fault),
+    }
+}
+
+/// The script that the input is.
+fn script_in<R: Source>(alloc: Global, reader: &mut R) -> Result<Script, Fault>
+    ensures { ScriptRead (IsInput R.remaining R.gives reader.old reader.new) (IsUnread R.gives R.fails reader.old reader.new) result }
+{
+    match read_input(alloc, reader) {
+        Ok(input) => script_of(alloc, input.as_slice()),
+        Err(fault) => Err(fault),
+    }
+}
+
+/// Runs a script, and writes what it prints; with these aids.
+fn run<W: Sink, D: System>(
+    alloc: Global,
+    aids: Aids<'_>,
+    script: &Script,
+    writer: &mut W,
+    system: &mut D,
+) -> Result<(), Fault>
+    ensures { Ran (contents_of script.now) (writer.new ≡ writer.old) (FailedAt W.fails writer.new ⊎ FailedAt D.fails system.new)
+        (W.flushed writer.new) result }
+{
+    if aids.is_traced || aids.diagram.is_some() {
+        run_watched(alloc, aids, script, writer, system)
+    } else {
+        match run_script(alloc, script, writer) {
             Ok(()) => Ok(()),
             Err(fault) => Err(run_fault(fault)),
-        };
+        }
     }
-    match watch_script(alloc, &script, aids.is_traced, writer) {
+}
+
+/// Runs a script that is watched.
+fn run_watched<W: Sink, D: System>(
+    alloc: Global,
+    aids: Aids<'_>,
+    script: &Script,
+    writer: &mut W,
+    system: &mut D,
+) -> Result<(), Fault>
+    ensures { Ran (contents_of script.now) (writer.new ≡ writer.old) (FailedAt W.fails writer.new ⊎ FailedAt D.fails system.new)
+        (W.flushed writer.new) result }
+{
+    match watch_script(alloc, script, aids.is_traced, writer) {
         Ok(watch) => match aids.diagram {
             Some(name) => draw(alloc, &watch, name, system),
             None => Ok(()),
@@ -38,7 +90,9 @@ pub(crate) fn run_input<R: Source, W: Sink, D: System>(
 }
 
 /// Makes a file that holds the diagram of a run.
-fn draw<D: System>(alloc: Global, watch: &Watch, name: &str, system: &mut D) -> Result<(), Fault> {
+fn draw<D: System>(alloc: Global, watch: &Watch, name: &str, system: &mut D) -> Result<(), Fault>
+    ensures { IfErr result (NotDrawn (FailedAt D.fails system.new)) }
+{
     let mut picture = Vec::new(alloc);
     match diagram_of(alloc, watch) {
         Ok(diagram) => {
@@ -55,7 +109,10 @@ fn draw<D: System>(alloc: Global, watch: &Watch, name: &str, system: &mut D) -> 
 }
 
 /// The script of these bytes.
-fn script_of(alloc: Global, input: &[u8]) -> Result<Script, Fault> {
+fn script_of(alloc: Global, input: &[u8]) -> Result<Script, Fault>
+    ensures ok { IfOk result (λ script. bytes_said input.now ≡ Ok (contents_of script)) }
+    ensures err { IfErr result (λ fault. fault ≢ Run 10 → bytes_said input.now ≡ Err fault) }
+{
     let text = text_of(input)?;
     match read_script(alloc, text) {
         Ok(script) => Ok(script),
@@ -63,7 +120,10 @@ fn script_of(alloc: Global, input: &[u8]) -> Result<Script, Fault> {
     }
 }
 
-fn script_fault(fault: ScriptFault) -> Fault {
+/// What is told of a text that is no script.
+fn script_fault(fault: ScriptFault) -> Fault
+    ensures { result ≡ script_fault_of fault }
+{
     match fault.fault {
         LineFault::OutOfMemory => Fault::Run(OUT_OF_MEMORY),
         _ => Fault::Line {
@@ -73,7 +133,10 @@ fn script_fault(fault: ScriptFault) -> Fault {
     }
 }
 
-fn run_fault(fault: RunFault) -> Fault {
+/// What is told of a run that ended early.
+fn run_fault(fault: RunFault) -> Fault
+    ensures { result ≡ run_fault_of fault }
+{
     match fault {
         RunFault::World(WorldFault::OutOfMemory) => Fault::Run(OUT_OF_MEMORY),
         RunFault::World(fault) => Fault::Given(fault.number()),

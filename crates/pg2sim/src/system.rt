@@ -1,5 +1,10 @@
 //! What the program asks of the system: files, threads and time.
 
+ghost use Rattle.std.specs.Prelude.{⊤, Result, OnErr};
+ghost use Rattle.pg_cluster.specs.declared.conversation.Conversation.{Conversation};
+ghost use Rattle.pg_cluster.specs.declared.conversation.Outcome.{Outcome};
+ghost use Rattle.pg_cluster.specs.declared.fault.StartFault.{StartFault};
+
 use pg_cluster::{Conversation, Outcome, StartFault, run_threads};
 use std::alloc::Global;
 use std::thread::Threads;
@@ -8,21 +13,29 @@ use std::{fs, io};
 
 /// Where files are made, threads run, and time goes by.
 pub(crate) trait System {
+    /// `fails a b`: a file could not be made in `a`, and that left `b`.
+    ghost fails: { Self → Self → Type 0 } = { λ a b. ⊤ };
+
+    /// `went a asked told b`: a conversation that was asked for in `a` went as it is told, and that left `b`.
+    ghost went: { Self → Conversation → Result Outcome StartFault → Self → Type 0 } = { λ a asked told b. ⊤ };
+
     /// Makes a file of this name hold just these bytes.
     ///
     /// Error: any, where it can't be made or written.
-    fn put(&mut self, name: &str, bytes: &[u8]) -> io::Result<()>;
+    fn put(&mut self, name: &str, bytes: &[u8]) -> io::Result<()>
+        ensures err { OnErr result (fails self.old self.new) };
 
     /// Lets the clients of a cluster speak, and tells how it went. It may wait for threads.
     ///
     /// Faults: those of `run_threads`.
-    fn converse(&mut self, asked: Conversation) -> Result<Outcome, StartFault>;
+    fn converse(&mut self, asked: Conversation) -> Result<Outcome, StartFault>
+        ensures told { went self.old asked result self.new };
 
     /// How many microseconds went by since some moment that stays; 0 where no clock can be read.
     fn microseconds(&mut self) -> u64;
 }
 
-/// The system that runs the program.
+/// The system that runs the program. No clause says when a file can't be made, nor how a conversation goes.
 #[derive(Drop)]
 pub(crate) struct HostSystem<'a, R> {
     pub(crate) alloc: Global,

@@ -1,5 +1,6 @@
 // The worked examples as bytes, and what no clause says: texts, readers and writers that fail.
-use crate::run::run_words;
+use crate::input::MAX_SCRIPT_LEN;
+use crate::run::{refuse_given, run_words};
 use crate::system::System;
 use pg_cluster::{Conversation, Outcome, StartFault};
 use pg_node::{AnyReader, AnyWriter, Source, serve};
@@ -661,5 +662,41 @@ fn many_reads(rt: HostRuntime) -> Result<(), Fail> {
     let printed = run(rt.alloc(), "script", &mut reader)?;
     assert_eq!(rt; printed.status, 0);
     assert!(rt; printed.output.as_slice() == answers.as_slice());
+    Ok(())
+}
+
+// A word that is no text is refused as other words are; else there was no memory for the words.
+#[test]
+fn words_that_are_not_there(rt: HostRuntime) -> Result<(), Fail> {
+    for (kind, status) in [
+        (io::ErrorKind::InvalidData, 2),
+        (io::ErrorKind::OutOfMemory, 1),
+        (io::ErrorKind::Other, 1),
+    ] {
+        let mut faults = AnyWriter {
+            writer: Vec::new(rt.alloc()),
+        };
+        let got = refuse_given(&mut faults, &io::Error::from(kind));
+        let told = faults.writer.as_slice();
+        assert_eq!(rt; got, status);
+        assert_eq!(rt; told.starts_with(b"error: invalid UTF-8"), status == 2);
+        assert_eq!(rt; told == b"refused 10\n".as_slice(), status == 1);
+    }
+    Ok(())
+}
+
+// A script of just as many bytes as it may have is read, and one of a byte more is not.
+#[test]
+fn longest_script(rt: HostRuntime) -> Result<(), Fail> {
+    let mut text = Vec::from_elem(rt.alloc(), b'%', MAX_SCRIPT_LEN - 7)?;
+    text.extend_from_slice(b"\nnode a")?;
+    let mut reader = text.as_slice();
+    let fits = run(rt.alloc(), "script", &mut reader)?;
+    assert_eq!(rt; fits.status, 0);
+    text.push(b'\n')?;
+    let mut longer = text.as_slice();
+    let long = run(rt.alloc(), "script", &mut longer)?;
+    assert!(rt; long.faults.as_slice() == b"refused 11\n".as_slice());
+    assert_eq!(rt; long.status, 2);
     Ok(())
 }

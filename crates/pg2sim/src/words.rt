@@ -1,9 +1,9 @@
 //! What the words of a command line ask for.
 
 ghost use Rattle.std.specs.Prelude.{◌≡◌, false, IfOk, IfErr, codes, map, option_map, string_bytes};
-ghost use Rattle.clap.specs.Words.{rule_of, subcommand_rows_of, app_of, kind_of, found_of, rows_of, first_of, fault_of, subcommand_of, FailsBy};
+ghost use Rattle.clap.specs.Words.{rule_of, subcommand_rows_of, app_of, kind_of, found_of, rows_of, first_of, one_of, fault_of, subcommand_of, FailsBy};
 ghost use Rattle.clap.specs.declared.builder.Command.TheViews.{out-Command};
-ghost use Rattle.pg2sim.specs.CommandLine.{name_rule, bytes_line, script_line, flag_rule, diagram_rule, number_rule, threads_line, command_line, given_name, is_flag, AsksAids, IsAsked};
+ghost use Rattle.pg2sim.specs.CommandLine.{name_rule, bytes_line, script_line, flag_rule, diagram_rule, number_rule, threads_line, command_line, given_name, is_flag, AsksAids, AsksTalk, GivesNumber, IsAsked};
 
 use crate::help::{
     ABOUT, BYTES_ABOUT, CLIENTS_HELP, DIAGRAM_HELP, JSON_HELP, NODE_HELP, NODES_HELP, PEER_HELP,
@@ -104,7 +104,8 @@ fn text_of<'a>(given: &ArgMatches<'a>, id: &str) -> Option<&'a str>
 
 /// The conversation that is asked for, and how it is to be told.
 fn talk_of(given: &ArgMatches<'_>) -> Talk
-    ensures { result.is_json ≡ is_flag (codes "json") (rows_of (found_of given.now)) }
+    ensures asked { AsksTalk (rows_of (found_of given.now)) result.asked }
+    ensures json { result.is_json ≡ is_flag (codes "json") (rows_of (found_of given.now)) }
 {
     Talk {
         asked: conversation_of(given),
@@ -113,14 +114,37 @@ fn talk_of(given: &ArgMatches<'_>) -> Talk
 }
 
 /// The conversation that is asked for.
-fn conversation_of(given: &ArgMatches<'_>) -> Conversation {
+fn conversation_of(given: &ArgMatches<'_>) -> Conversation
+    ensures { AsksTalk (rows_of (found_of given.now)) result }
+{
     Conversation {
-        nodes: given.get_one("nodes").unwrap_or(3),
-        clients: given.get_one("clients").unwrap_or(2),
-        rounds: given.get_one("rounds").unwrap_or(50),
-        seed: given.get_one("seed").unwrap_or(1),
-        turns: given.get_one("turns").unwrap_or(100_000_000),
+        nodes: small_number(given, "nodes", 3),
+        clients: small_number(given, "clients", 2),
+        rounds: number(given, "rounds", 50),
+        seed: large_number(given, "seed", 1),
+        turns: large_number(given, "turns", 100_000_000),
     }
+}
+
+/// The number of 16 bits that an option gives, or this one.
+fn small_number(given: &ArgMatches<'_>, id: &str, default: u16) -> u16
+    ensures { GivesNumber 16 default (one_of id.now (rows_of (found_of given.now))) result }
+{
+    given.get_one(id).unwrap_or(default)
+}
+
+/// The number of 32 bits that an option gives, or this one.
+fn number(given: &ArgMatches<'_>, id: &str, default: u32) -> u32
+    ensures { GivesNumber 32 default (one_of id.now (rows_of (found_of given.now))) result }
+{
+    given.get_one(id).unwrap_or(default)
+}
+
+/// The number of 64 bits that an option gives, or this one.
+fn large_number(given: &ArgMatches<'_>, id: &str, default: u64) -> u64
+    ensures { GivesNumber 64 default (one_of id.now (rows_of (found_of given.now))) result }
+{
+    given.get_one(id).unwrap_or(default)
 }
 
 /// A name that was given, or this one.

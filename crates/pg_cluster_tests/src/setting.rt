@@ -4,10 +4,10 @@ ghost use Rattle.std.specs.Prelude.{◌≡◌, IfOk, length};
 
 use pg_cluster::{Client, Closed, Cluster, Gate};
 use pg_step::{Answer, Command, Reply, Start};
-use pg_term::{Atom, Items, Pid, Term};
+use pg_term::{Atom, Items, Pid, Term, TermFault};
 use pg_world::Config;
 use rand_pcg::Pcg32;
-use std::alloc::Global;
+use std::alloc::{AllocError, Global};
 use std::sync::Wait;
 use std::test::Fail;
 use std::thread;
@@ -22,7 +22,7 @@ impl Gate for Open {
 }
 
 /// A node of this name that has no group.
-fn start(alloc: Global, name: &str, ports: u16) -> Result<Start, Fail> {
+fn start(alloc: Global, name: &str, ports: u16) -> Result<Start, TermFault> {
     Ok(Start {
         name: Atom::new(alloc, name)?,
         made: 0,
@@ -32,7 +32,7 @@ fn start(alloc: Global, name: &str, ports: u16) -> Result<Start, Fail> {
 }
 
 /// Nodes of these names.
-pub fn config(alloc: Global, names: &[&str], ports: u16, ring: usize) -> Result<Config, Fail> {
+pub fn config(alloc: Global, names: &[&str], ports: u16, ring: usize) -> Result<Config, TermFault> {
     let mut starts = Vec::new(alloc);
     for name in names {
         starts.push(start(alloc, name, ports)?)?;
@@ -41,7 +41,7 @@ pub fn config(alloc: Global, names: &[&str], ports: u16, ring: usize) -> Result<
 }
 
 /// So many generators.
-fn generators(alloc: Global, count: usize) -> Result<Vec<Pcg32>, Fail>
+pub fn generators(alloc: Global, count: usize) -> Result<Vec<Pcg32>, AllocError>
     ensures { IfOk result (λ all. length all.items ≡ count) }
 {
     let mut all = Vec::new(alloc);
@@ -64,7 +64,7 @@ pub fn cluster<R: Threads, G: Gate + Drop + Send + Sync + 'static>(
 }
 
 /// Whether nodes that ended agree, and their schedule leads to them.
-pub fn is_well(alloc: Global, closed: &Closed, config: &Config) -> Result<bool, Fail> {
+pub fn is_well(alloc: Global, closed: &Closed, config: &Config) -> Result<bool, AllocError> {
     Ok(closed.agrees(alloc)? && closed.replays(alloc, config)?)
 }
 
@@ -77,7 +77,7 @@ pub fn client(clients: &mut [Client], place: usize) -> Result<&mut Client, Fail>
 }
 
 /// The name of the group.
-pub fn group(alloc: Global) -> Result<Term, Fail> {
+pub fn group(alloc: Global) -> Result<Term, TermFault> {
     Ok(Term::Atom(Atom::new(alloc, "g")?))
 }
 

@@ -1,8 +1,11 @@
-use Rattle.std.proofs.Common.{◌≡◌, map, string_bytes}
+use Rattle.std.proofs.Common.{map, refl, string_bytes}
 use Rattle.clap.specs.Words.{fault_of, kind_of, subcommand_of}
 use Rattle.pg2sim.specs.CommandLine.{command_line}
-use Rattle.pg2sim.proofs.Ends.{not_other, not_read, only_memory, same_names}
+use Rattle.pg2sim.proofs.Ends.{not_other, not_read, not_spoken, only_memory, same_names, script_not_read, spoken, script_no_bytes, script_no_threads, threads_no_bytes, threads_no_script}
+use Rattle.pg2sim.proofs.Numbers.{same_talk}
 use Rattle.pg2sim.proofs.run.run_words.Goals as goal
+
+-- ---- `bytes`
 
 pub returns-in-Ok-Bytes-clause-bytes : goal.returns-in-Ok-Bytes-clause-bytes
 returns-in-Ok-Bytes-clause-bytes g c =
@@ -11,19 +14,66 @@ returns-in-Ok-Bytes-clause-bytes g c =
     let e = same_names (subcommand_of command_line words) own peer c.in-Ok-Bytes.own.now c.in-Ok-Bytes.peer.now is (rw c.in-Ok-Bytes.field-0-is at c.in-Ok-Bytes.ensures.asked) in
     rw (e.0, e.1) c.run_bytes.ensures
 
+pub returns-in-Ok-Bytes-clause-script : goal.returns-in-Ok-Bytes-clause-script
+returns-in-Ok-Bytes-clause-script g c =
+    λ none is.
+    absurd (script_no_bytes (subcommand_of command_line (map string_bytes c.args.words.now)) c.in-Ok-Bytes.own.now c.in-Ok-Bytes.peer.now is (rw c.in-Ok-Bytes.field-0-is at c.in-Ok-Bytes.ensures.asked))
+
+pub returns-in-Ok-Bytes-clause-threads : goal.returns-in-Ok-Bytes-clause-threads
+returns-in-Ok-Bytes-clause-threads g c =
+    λ talk none is.
+    absurd (threads_no_bytes (subcommand_of command_line (map string_bytes c.args.words.now)) talk c.in-Ok-Bytes.own.now c.in-Ok-Bytes.peer.now is (rw c.in-Ok-Bytes.field-0-is at c.in-Ok-Bytes.ensures.asked))
+
+-- ---- `script`
+
 pub returns-in-Ok-Script-clause-bytes : goal.returns-in-Ok-Script-clause-bytes
 returns-in-Ok-Script-clause-bytes g c =
     λ own peer none is.
     absurd (not_other (subcommand_of command_line (map string_bytes c.args.words.now)) own peer is (rw c.in-Ok-Script.field-0-is at c.in-Ok-Script.ensures.asked).0)
+
+pub returns-in-Ok-Script-clause-threads : goal.returns-in-Ok-Script-clause-threads
+returns-in-Ok-Script-clause-threads g c =
+    λ talk none is.
+    let asked = rw c.in-Ok-Script.field-0-is at c.in-Ok-Script.ensures.asked in
+    absurd (threads_no_script (subcommand_of command_line (map string_bytes c.args.words.now)) talk c.in-Ok-Script.aids is asked.1)
+
+-- ---- `threads`
 
 pub returns-in-Ok-Threads-clause-bytes : goal.returns-in-Ok-Threads-clause-bytes
 returns-in-Ok-Threads-clause-bytes g c =
     λ own peer none is.
     absurd (not_other (subcommand_of command_line (map string_bytes c.args.words.now)) own peer is (rw c.in-Ok-Threads.field-0-is at c.in-Ok-Threads.ensures.asked).0)
 
+pub returns-in-Ok-Threads-clause-script : goal.returns-in-Ok-Threads-clause-script
+returns-in-Ok-Threads-clause-script g c =
+    λ none is.
+    let asked = rw c.in-Ok-Threads.field-0-is at c.in-Ok-Threads.ensures.asked in
+    absurd (script_no_threads (subcommand_of command_line (map string_bytes c.args.words.now)) c.in-Ok-Threads.talk is asked.1)
+
+pub returns-in-Ok-Threads-clause-threads : goal.returns-in-Ok-Threads-clause-threads
+returns-in-Ok-Threads-clause-threads g c =
+    λ talk none is.
+    let asked = rw c.in-Ok-Threads.field-0-is at c.in-Ok-Threads.ensures.asked in
+    let e = same_talk (subcommand_of command_line (map string_bytes c.args.words.now)) talk c.in-Ok-Threads.talk is asked.1 in
+    rw e (spoken _ _ _ c.run_conversation.result c.run_conversation.ensures)
+
+-- ---- no words
+
 pub returns-in-Err-clause-bytes : goal.returns-in-Err-clause-bytes
 returns-in-Err-clause-bytes g c =
     let words = map string_bytes c.args.words.now in
     λ own peer none is.
-    not_read own peer _ _ (g.R.Source.remaining c.args.reader.now) (g.W.Sink.contents c.args.writer.now) c.refuse_words.result
-    (c.refuse_words.ensures.memory (only_memory (fault_of command_line words) (kind_of c.in-Err.error) none c.in-Err.ensures.refused))
+    let ended = c.refuse_words.ensures.memory (only_memory (fault_of command_line words) (kind_of c.in-Err.error) none c.in-Err.ensures.refused) in
+    not_read own peer _ _ _ (g.R.Source.remaining c.args.reader.now) (g.W.Sink.contents c.args.writer.now) c.refuse_words.result ended.0 ended.1
+
+pub returns-in-Err-clause-script : goal.returns-in-Err-clause-script
+returns-in-Err-clause-script g c =
+    λ none is.
+    let ended = c.refuse_words.ensures.memory (only_memory (fault_of command_line (map string_bytes c.args.words.now)) (kind_of c.in-Err.error) none c.in-Err.ensures.refused) in
+    script_not_read _ _ _ _ _ _ c.refuse_words.result refl ended.0 ended.1
+
+pub returns-in-Err-clause-threads : goal.returns-in-Err-clause-threads
+returns-in-Err-clause-threads g c =
+    λ talk none is.
+    let ended = c.refuse_words.ensures.memory (only_memory (fault_of command_line (map string_bytes c.args.words.now)) (kind_of c.in-Err.error) none c.in-Err.ensures.refused) in
+    not_spoken _ _ _ c.refuse_words.result refl ended.0 ended.1

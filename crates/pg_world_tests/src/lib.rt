@@ -1,0 +1,21 @@
+//! What is only run of worlds of nodes: the worked examples as steps, random schedules, and the headline by a slow reading of it.
+#![tactic(auto)]
+
+#[cfg(test)]
+mod cast;
+#[cfg(test)]
+mod examples;
+#[cfg(test)]
+mod memory;
+#[cfg(test)]
+mod ops;
+#[cfg(test)]
+mod played;
+#[cfg(test)]
+mod prefixes;
+#[cfg(test)]
+mod random;
+#[cfg(test)]
+mod said;
+#[cfg(test)]
+mod slow;
