@@ -104,11 +104,39 @@ fn steps_of(alloc: Global, example: &Example<'_>) -> Result<Steps, TermFault> {
 }
 
 fn check(rt: &impl Abort, alloc: Global, example: &Example<'_>) -> Result<(), Fail> {
-    let nodes = example.nodes.len();
     let config = again(|| config(alloc, example.nodes, 4_096))?;
+    check_of(rt, alloc, &config, example)
+}
+
+fn check_of(
+    rt: &impl Abort,
+    alloc: Global,
+    config: &Config,
+    example: &Example<'_>,
+) -> Result<(), Fail> {
+    let mut twins = Twins::new(alloc, config)?;
+    check_twins(rt, alloc, example, &mut twins)
+}
+
+fn check_twins(
+    rt: &impl Abort,
+    alloc: Global,
+    example: &Example<'_>,
+    twins: &mut Twins,
+) -> Result<(), Fail> {
     let steps = again(|| steps_of(alloc, example))?;
-    let mut twins = Twins::new(alloc, &config)?;
-    for step in steps.steps.as_slice() {
+    step_all(rt, example, steps.steps.as_slice(), twins)
+}
+
+// Makes the steps in both worlds.
+fn step_all(
+    rt: &impl Abort,
+    example: &Example<'_>,
+    steps: &[Step],
+    twins: &mut Twins,
+) -> Result<(), Fail> {
+    let nodes = example.nodes.len();
+    for step in steps {
         twins.step(rt, nodes, step)?;
     }
     assert!(rt; twins.are_same(nodes)?);

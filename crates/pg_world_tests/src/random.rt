@@ -144,16 +144,44 @@ fn made(
     steps: &[Step],
 ) -> Result<(World<IndexTable>, Vec<bool>), Fail> {
     let mut world = World::new(alloc, config)?;
+    let happened = told_of_all(rt, alloc, config, steps, &mut world)?;
+    Ok((world, happened))
+}
+
+fn told_of_all(
+    rt: &impl Abort,
+    alloc: Global,
+    config: &Config,
+    steps: &[Step],
+    world: &mut World<IndexTable>,
+) -> Result<Vec<bool>, Fail> {
     let processes = Processes::new(alloc, config.starts.len(), 4)?;
-    let mut happened = Vec::new(alloc);
+    let mut happened = Vec::with_capacity(alloc, steps.len())?;
+    tell_all(rt, alloc, config, steps, world, &processes, &mut happened)?;
+    Ok(happened)
+}
+
+fn tell_all(
+    rt: &impl Abort,
+    alloc: Global,
+    config: &Config,
+    steps: &[Step],
+    world: &mut World<IndexTable>,
+    processes: &Processes,
+    happened: &mut Vec<bool>,
+) -> Result<(), Fail> {
     for (number, step) in steps.iter().enumerate() {
-        happened.push(world.step(step) == Ok(Stepped::Happened))?;
+        happened.push(happens(world, step))?;
         if number % 50 == 0 {
-            check_headline(rt, alloc, config, &world, &processes)?;
+            check_headline(rt, alloc, config, world, processes)?;
         }
     }
-    check_headline(rt, alloc, config, &world, &processes)?;
-    Ok((world, happened))
+    check_headline(rt, alloc, config, world, processes)
+}
+
+// Whether a step is an event that happens.
+fn happens(world: &mut World<IndexTable>, step: &Step) -> bool {
+    matches!(world.step(step), Ok(Stepped::Happened))
 }
 
 // The events that happened.
