@@ -5,12 +5,8 @@ ghost use Rattle.pg_term.specs.Same.{same_atom};
 
 mod agree;
 mod damaged;
-mod faults;
 mod full;
-mod skips;
-mod three;
 
-use crate::nodes::name;
 use pg_index::IndexTable;
 use pg_node::{Done, Node, NodeConfig, NodeFault};
 use pg_ring::MemRing;
@@ -129,15 +125,4 @@ pub fn given(node: &mut Node<IndexTable>, command: &Command) -> Result<Done, Nod
     } else {
         Err(NodeFault::Refused(Refusal::NoSuchPlace))
     }
-}
-
-fn given_and_dropped(node: &mut Node<IndexTable>, command: &Command) -> Result<(), NodeFault> {
-    given(node, command)?;
-    Ok(())
-}
-
-/// Makes the group at the port.
-pub fn create(node: &mut Node<IndexTable>) -> Result<(), NodeFault> {
-    let create = Command::Create(name());
-    given_and_dropped(node, &create)
 }

@@ -230,39 +230,3 @@ pub fn reply(stamp: u32, reference: &Reference, said: Said) -> Result<Packet, Te
     let message = Message::Reply(reference.copy()?, said);
     Ok(Packet { stamp, message })
 }
-
-/// A call of a node under its reference of this number, at the time of the same number.
-pub fn call(alloc: Global, node: &str, number: u32, request: Request) -> Result<Packet, TermFault> {
-    let reference = Reference::new(Atom::new(alloc, node)?, 1, &[number])?;
-    let message = Message::Call(reference, request);
-    Ok(Packet {
-        stamp: number,
-        message,
-    })
-}
-
-/// The lock of the group, which a node's reference of this number holds, is free.
-pub fn freed(alloc: Global, node: &str, number: u32) -> Result<Packet, TermFault> {
-    let reference = Reference::new(Atom::new(alloc, node)?, 1, &[number])?;
-    let message = Message::DelLock(name(), reference);
-    Ok(Packet {
-        stamp: number,
-        message,
-    })
-}
-
-/// A node tells that it has no group.
-pub fn exchange(alloc: Global, node: &str) -> Result<Packet, TermFault> {
-    let groups = Items::from_vec(Vec::new(alloc));
-    let message = Message::Exchange(Atom::new(alloc, node)?, groups);
-    Ok(Packet { stamp: 0, message })
-}
-
-/// Sees the loss of a peer, whose clock was this at last.
-pub fn lost(node: &mut NodeState<IndexTable>, peer: usize, last: u32) -> Result<Done, NodeFault> {
-    if peer < node.peer_count() {
-        node.see_loss(peer, last)
-    } else {
-        Err(NodeFault::Refused(Refusal::NoSuchPlace))
-    }
-}

@@ -4,14 +4,14 @@ ghost use Rattle.std.specs.Prelude.{◌≡◌, true, length};
 ghost use Rattle.std.specs.List.{All};
 ghost use Rattle.pg_node.specs.States.{names_of};
 
-use crate::nodes::{formed_node, is_done, name, pid};
+use crate::nodes::{formed_node, is_done, name};
 use pg_group::GroupTable;
 use pg_index::IndexTable;
 use pg_node::{NodeFault, NodeState};
 use pg_step::{Command, OpId, Refusal};
 use pg_term::TermFault;
 use pg_world::{FrameStep, FrameWorld, Stepped};
-use std::alloc::{AllocError, Global};
+use std::alloc::Global;
 use std::test::Fail;
 
 /// Whether each of the nodes knows as many as there are.
@@ -149,64 +149,4 @@ fn refusal_of_retry(
     op: OpId,
 ) -> Option<NodeFault> {
     retried(world, node, op).err()
-}
-
-/// A command comes in at the first node.
-fn given(world: &mut FrameWorld<IndexTable>, command: Command) -> Result<Stepped, NodeFault> {
-    world.step(&FrameStep::Command {
-        node: 0,
-        port: 0,
-        command,
-    })
-}
-
-/// A process is made at the first node, and ends there.
-fn end_first(alloc: Global, world: &mut FrameWorld<IndexTable>) -> Result<Stepped, Fail> {
-    given(world, Command::Make)?;
-    let process = pid(alloc, "a", 1)?;
-    Ok(given(world, Command::Finish(process))?)
-}
-
-/// How many ends are pending.
-fn pending_count(world: &FrameWorld<IndexTable>) -> Result<usize, AllocError> {
-    let pids = world.pending_ends()?;
-    Ok(pids.len())
-}
-
-/// The third node is lost, and nothing stays of what is on the way from it.
-fn lose_third(alloc: Global, world: &mut FrameWorld<IndexTable>) -> Result<Stepped, Fail> {
-    let keep = Vec::from_array(alloc, [0, 0])?;
-    Ok(world.step(&FrameStep::Lose { node: 2, keep })?)
-}
-
-// An end is pending until each node was told, or is lost that was not.
-#[test]
-fn ends_are_pending(rt: HostRuntime) -> Result<(), Fail> {
-    let alloc = rt.alloc();
-    let mut world = three(alloc)?;
-    end_first(alloc, &mut world)?;
-    assert_eq!(rt; take(&mut world, 1, 0)?, 1);
-    assert_eq!(rt; pending_count(&world)?, 1);
-    lose_third(alloc, &mut world)?;
-    assert_eq!(rt; pending_count(&world)?, 0);
-    Ok(())
-}
-
-/// Whether the list begins with the process of the first node.
-fn lists_process(alloc: Global, world: &FrameWorld<IndexTable>) -> Result<bool, Fail> {
-    let process = pid(alloc, "a", 1)?;
-    let pids = world.pending_ends()?;
-    Ok(pids.first() == Some(&process))
-}
-
-// The list has the pid of the process, until both others were told.
-#[test]
-fn pending_end_is_listed(rt: HostRuntime) -> Result<(), Fail> {
-    let alloc = rt.alloc();
-    let mut world = three(alloc)?;
-    end_first(alloc, &mut world)?;
-    assert!(rt; lists_process(alloc, &world)?);
-    assert_eq!(rt; settle(&mut world)?, 2);
-    assert_eq!(rt; pending_count(&world)?, 0);
-    Ok(())
 }

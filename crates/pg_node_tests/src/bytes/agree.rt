@@ -1,9 +1,11 @@
 //! Two nodes agree on what one of them was told.
 
-use crate::bytes::{Pair, create, linked_pair};
+use crate::bytes::{Pair, given, linked_pair};
 use crate::nodes::{is_done, name};
 use pg_group::GroupTable;
-use pg_node::NodeFault;
+use pg_index::IndexTable;
+use pg_node::{Node, NodeFault};
+use pg_step::Command;
 use std::test::Fail;
 
 fn are_formed(pair: &Pair) -> bool {
@@ -25,6 +27,11 @@ fn form(pair: &mut Pair) -> Result<bool, NodeFault> {
     let before = are_formed(pair);
     pair.settle()?;
     Ok(!before && are_formed(pair))
+}
+
+fn create(node: &mut Node<IndexTable>) -> Result<(), NodeFault> {
+    given(node, &Command::Create(name()))?;
+    Ok(())
 }
 
 // A group is created at a, and the command is answered.
