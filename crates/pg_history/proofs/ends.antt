@@ -1,4 +1,5 @@
 pub mod Apart
+pub mod Finished
 pub mod Homes
 pub mod Posts
 pub mod Talk

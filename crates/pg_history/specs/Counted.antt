@@ -1,6 +1,5 @@
 -- How many commands of a node are open.
 use Rattle.std.specs.Prelude.{◌≡◌, ℕ, zero, suc, ◌+◌, Bool, true, false, cond, length}
-use Rattle.pg_step.specs.declared.command.OpId.{OpId}
 use Rattle.pg_step.specs.Config.{Config, ports_at}
 use Rattle.pg_step.specs.FrameMachine.{FrameWorld}
 use Rattle.pg_step.specs.State.{State, Stage}

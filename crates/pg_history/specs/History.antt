@@ -6,17 +6,15 @@ use Rattle.pg_term.specs.Same.{same_term, same_atom}
 use Rattle.pg_group.specs.declared.update.Update.{Update}
 use Rattle.pg_group.specs.Value.{Value, apply, merge, name_of}
 use Rattle.pg_step.specs.declared.command.OpId.{OpId}
-use Rattle.pg_message.specs.declared.message.Message.{Message}
 use Rattle.pg_step.specs.declared.command.Command.{Command}
 use Rattle.pg_step.specs.declared.command.Command.TheVariants as command
 use Rattle.pg_step.specs.declared.answer.Reply.TheVariants as reply
-use Rattle.pg_group.specs.declared.update.Update.TheVariants as update
 use Rattle.std.specs.List.{Contains, count_by, list_any}
-use Rattle.pg_machine.specs.Machine.{World, Event, Do}
+use Rattle.pg_machine.specs.Machine.{Event, Do}
 use Rattle.pg_step.specs.Step.{Action, Issue}
 use Rattle.pg_machine.specs.Places.{is_place}
 use Rattle.pg_step.specs.Nodes.{Node}
-use Rattle.pg_step.specs.State.{State, Response, formed}
+use Rattle.pg_step.specs.State.{Response, formed}
 use Rattle.pg_step.specs.State.Response.{Given}
 use Rattle.pg_step.specs.Turns.{Report}
 use Rattle.pg_step.specs.Attempts.{same_op}

@@ -1,5 +1,5 @@
 -- What a step makes of the table, and of the commands that come in.
-use Rattle.std.specs.Prelude.{◌≡◌, ℕ, Bool, true, cond, nat_le, Option, Some, None}
+use Rattle.std.specs.Prelude.{◌≡◌, Bool, true, cond, nat_le, Option, Some, None}
 use Rattle.pg_term.specs.declared.pid.Pid.{Pid}
 use Rattle.pg_term.specs.Same.{same_pid}
 use Rattle.pg_group.specs.declared.update.Update.{Update}

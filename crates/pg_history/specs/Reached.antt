@@ -1,14 +1,15 @@
 -- The worlds that the nodes of a configuration come to, and words for them.
-use Rattle.std.specs.Prelude.{◌≡◌, ℕ, true, List, length}
+use Rattle.std.specs.Prelude.{◌≡◌, ℕ, true, List, ◌∷◌, ◌++◌, length}
 use Rattle.pg_term.specs.declared.pid.Pid.{Pid}
 use Rattle.pg_message.specs.declared.message.Message.{Message}
 use Rattle.pg_machine.specs.Places.{is_place}
-use Rattle.pg_machine.specs.Machine.{Event, start_of}
+use Rattle.pg_machine.specs.Machine.{Event, Do, start_of}
 use Rattle.pg_machine.specs.Clocked.{TimedWorld}
 use Rattle.pg_machine.specs.Runs.{Leads}
+use Rattle.pg_step.specs.declared.command.Command.TheVariants.{Finish}
 use Rattle.pg_step.specs.State.{State}
 use Rattle.pg_step.specs.Turns.{Report}
-use Rattle.pg_step.specs.Step.{Action}
+use Rattle.pg_step.specs.Step.{Action, Issue}
 use Rattle.pg_step.specs.Config.{Config, name_at}
 use Rattle.pg_step.specs.FrameMachine.{frame_machine, FrameWorld}
 
@@ -23,3 +24,10 @@ Reaches config events w = Leads (frame_machine config) (start_of (frame_machine 
 -- the process is of the node at this place, and has ended there
 abbrev pub HasEndedAt : Config → FrameWorld → Pid → ℕ → Type 0
 HasEndedAt config w pid h = (is_place (length config) h ≡ true) × (pid.node ≡ name_at config h) × ((w.node h).ended pid ≡ true)
+
+-- among these events is the command to a node that a process ends
+pub record FinishedAt (events : List (Event Action)) (i : ℕ) (pid : Pid) : Type 0 where
+  pub port : ℕ
+  pub before : List (Event Action)
+  pub after : List (Event Action)
+  pub is : events ≡ before ++ Do i (Issue port (Finish pid)) ∷ after

@@ -14,14 +14,14 @@ ghost use Rattle.pg_machine.specs.Clocked.{Timed, Stamped, plain};
 ghost use Rattle.pg_machine.specs.Losing.{Noticed, LosingWorld, LosingLeads, nobody_gone, all_steps, mapped};
 ghost use Rattle.pg_machine.specs.Runs.{Leads, run, ran};
 ghost use Rattle.pg_machine.specs.Places.{is_place, is_pair};
-ghost use Rattle.pg_step.specs.State.{State};
+ghost use Rattle.pg_step.specs.State.{State, left};
 ghost use Rattle.pg_step.specs.Turns.{Report};
 ghost use Rattle.pg_step.specs.Step.{Action};
-ghost use Rattle.pg_step.specs.Config.{Config, names_of, name_at, groups_at};
+ghost use Rattle.pg_step.specs.Config.{Config, names_of, name_at, nodes_at, groups_at};
 ghost use Rattle.pg_step.specs.FrameMachine.{node_step, frame_machine, losing_frame_machine, last_notice, sent_packet};
 ghost use Rattle.pg_history.specs.History.{LockFree, is_formed, history, updates_of, applied_count, applied_by};
 ghost use Rattle.pg_history.specs.Headline.{OneHistory, HoldsAnswered, AppliesHistory, HasTables, HarmsNobody, GoesOn};
-ghost use Rattle.pg_history.specs.Reached.{TimedFrameWorld, Reaches, HasEndedAt};
+ghost use Rattle.pg_history.specs.Reached.{TimedFrameWorld, Reaches, HasEndedAt, FinishedAt};
 ghost use Rattle.pg_history.specs.ReferencesFit.{ReferencesFit, Follows};
 ghost use Rattle.pg_history.specs.Sent.{ends_in, exchanges_in, is_reply};
 
@@ -110,6 +110,21 @@ pub fn ends_at_home()
         (events : List (Event Action)) (p i : ℕ)
         → Reaches config events w
         → AllByRecursion (λ pid. HasEndedAt config (plain w) pid p) (ends_in ((plain w).wire p i)) }
+{}
+
+/// A process of a node which that node has as ended ended by a command there.
+pub fn ended_processes_were_finished()
+    ensures { (config : Config) (w : TimedFrameWorld)
+        (events : List (Event Action)) (i : ℕ) (pid : Pid)
+        → IsDistinct same_atom (names_of config) → Reaches config events w
+        → pid.node ≡ name_at config i → ((plain w).node i).ended pid ≡ true
+        → FinishedAt events i pid }
+{}
+
+/// Where no node is lost none sees a loss, and so all count.
+pub fn no_loss_is_seen()
+    ensures { (config : Config) (w : TimedFrameWorld) (events : List (Event Action)) (i : ℕ)
+        → Reaches config events w → left (nodes_at config i) ((plain w).node i) ≡ nodes_at config i }
 {}
 
 /// The exchange of each node is on the way to each other node once, with the groups that it started with, until it is

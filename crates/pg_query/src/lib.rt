@@ -9,4 +9,4 @@ mod same;
 pub use choice::closest;
 pub use fault::QueryFault;
 pub use lists::{local_members, members, which_groups};
-pub use same::same_groups;
+pub use same::{same_group, same_groups};

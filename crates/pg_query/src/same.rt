@@ -51,8 +51,10 @@ fn agree_on<T: GroupTable, U: GroupTable>(
     Ok(true)
 }
 
-/// Whether two tables say the same of the group of a name.
-fn same_group<T: GroupTable, U: GroupTable>(
+/// Whether two tables say the same of the group of a name: neither has it, or both have it with the same members as often.
+///
+/// Error: `AllocError`. Its cost is a `has` and a `list` of each.
+pub fn same_group<T: GroupTable, U: GroupTable>(
     alloc: Global,
     one: &T,
     other: &U,

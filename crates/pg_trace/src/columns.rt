@@ -103,22 +103,10 @@ impl Columns {
     /// The other node of a sight.
     fn way_of(&self, watch: &Watch, seen: &Seen) -> Result<String, AllocError> {
         match seen {
-            Seen::Put {
-                from: _,
-                to,
-                count: _,
-            } => self.way(watch, "to", *to),
-            Seen::Pulled {
-                to: _,
-                from,
-                count: _,
-            } => self.way(watch, "from", *from),
-            Seen::NotThere { node: _, peer } => self.way(watch, "from", *peer),
-            Seen::Taken {
-                node: _,
-                packet,
-                clock: _,
-            } => match watch.letters.get(*packet) {
+            Seen::Put { to, .. } => self.way(watch, "to", *to),
+            Seen::Pulled { from, .. } => self.way(watch, "from", *from),
+            Seen::NotThere { peer, .. } => self.way(watch, "from", *peer),
+            Seen::Taken { packet, .. } => match watch.letters.get(*packet) {
                 Some(letter) => self.way(watch, "from", letter.from),
                 None => Ok(String::new(self.alloc)),
             },
@@ -126,11 +114,7 @@ impl Columns {
                 Some(letter) => self.way(watch, "to", letter.to),
                 None => Ok(String::new(self.alloc)),
             },
-            Seen::LossSeen {
-                node: _,
-                peer,
-                clock: _,
-            } => self.way(watch, "of", *peer),
+            Seen::LossSeen { peer, .. } => self.way(watch, "of", *peer),
             _ => Ok(String::new(self.alloc)),
         }
     }
@@ -139,56 +123,21 @@ impl Columns {
     fn what_of(&self, watch: &Watch, seen: &Seen) -> Result<String, AllocError> {
         let alloc = self.alloc;
         match seen {
-            Seen::Put {
-                from: _,
-                to: _,
-                count,
-            } => format!(in alloc; "{count} bytes"),
-            Seen::Pulled {
-                to: _,
-                from: _,
-                count,
-            } => format!(in alloc; "{count} bytes"),
+            Seen::Put { count, .. } => format!(in alloc; "{count} bytes"),
+            Seen::Pulled { count, .. } => format!(in alloc; "{count} bytes"),
             Seen::NotThere { .. } => self.text("no whole packet"),
-            Seen::Taken {
-                node: _,
-                packet,
-                clock: _,
-            } => self.message(watch, *packet),
+            Seen::Taken { packet, .. } => self.message(watch, *packet),
             Seen::Sent { packet } => self.message(watch, *packet),
-            Seen::Came {
-                node: _,
-                number,
-                text,
-                clock: _,
-            } => {
+            Seen::Came { number, text, .. } => {
                 let text = text.as_str();
                 format!(in alloc; "command {number}: {text}")
             }
-            Seen::Tried {
-                node: _,
-                number,
-                clock: _,
-            } => format!(in alloc; "command {number} again"),
-            Seen::Granted { node: _, name, to } => self.lock(
-                name.as_str(),
-                "granted to",
-                to.as_str(),
-            ),
-            Seen::Freed { node: _, name, by } => self.lock(name.as_str(), "freed by", by.as_str()),
-            Seen::Denied { node: _, name, to } => self.lock(
-                name.as_str(),
-                "denied to",
-                to.as_str(),
-            ),
-            Seen::Waits { node: _, number } => format!(in alloc;
-                "command {number} waits for a retry"
-            ),
-            Seen::Answered {
-                node: _,
-                number: _,
-                text,
-            } => self.text(text.as_str()),
+            Seen::Tried { number, .. } => format!(in alloc; "command {number} again"),
+            Seen::Granted { name, to, .. } => self.lock(name.as_str(), "granted to", to.as_str()),
+            Seen::Freed { name, by, .. } => self.lock(name.as_str(), "freed by", by.as_str()),
+            Seen::Denied { name, to, .. } => self.lock(name.as_str(), "denied to", to.as_str()),
+            Seen::Waits { number, .. } => format!(in alloc; "command {number} waits for a retry"),
+            Seen::Answered { text, .. } => self.text(text.as_str()),
             Seen::LossSeen { .. } => self.text("the loss is seen"),
             Seen::Lost { .. } => self.text("the node is lost"),
         }
@@ -225,63 +174,22 @@ fn digits(number: usize) -> usize {
 /// The node of a sight.
 fn place_of(watch: &Watch, seen: &Seen) -> Option<usize> {
     match seen {
-        Seen::Put {
-            from,
-            to: _,
-            count: _,
-        } => Some(*from),
-        Seen::Pulled {
-            to,
-            from: _,
-            count: _,
-        } => Some(*to),
+        Seen::Put { from, .. } => Some(*from),
+        Seen::Pulled { to, .. } => Some(*to),
         Seen::Sent { packet } => match watch.letters.get(*packet) {
             Some(letter) => Some(letter.from),
             None => None,
         },
-        Seen::NotThere { node, peer: _ }
-        | Seen::Taken {
-            node,
-            packet: _,
-            clock: _,
-        }
-        | Seen::Came {
-            node,
-            number: _,
-            text: _,
-            clock: _,
-        }
-        | Seen::Tried {
-            node,
-            number: _,
-            clock: _,
-        }
-        | Seen::Granted {
-            node,
-            name: _,
-            to: _,
-        }
-        | Seen::Freed {
-            node,
-            name: _,
-            by: _,
-        }
-        | Seen::Denied {
-            node,
-            name: _,
-            to: _,
-        }
-        | Seen::Waits { node, number: _ }
-        | Seen::Answered {
-            node,
-            number: _,
-            text: _,
-        }
-        | Seen::LossSeen {
-            node,
-            peer: _,
-            clock: _,
-        }
+        Seen::NotThere { node, .. }
+        | Seen::Taken { node, .. }
+        | Seen::Came { node, .. }
+        | Seen::Tried { node, .. }
+        | Seen::Granted { node, .. }
+        | Seen::Freed { node, .. }
+        | Seen::Denied { node, .. }
+        | Seen::Waits { node, .. }
+        | Seen::Answered { node, .. }
+        | Seen::LossSeen { node, .. }
         | Seen::Lost { node } => Some(*node),
     }
 }
@@ -289,27 +197,10 @@ fn place_of(watch: &Watch, seen: &Seen) -> Option<usize> {
 /// The clock that a node has behind an event, or with which it sent a packet.
 fn clock_of(watch: &Watch, seen: &Seen) -> Option<u32> {
     match seen {
-        Seen::Taken {
-            node: _,
-            packet: _,
-            clock,
-        }
-        | Seen::Came {
-            node: _,
-            number: _,
-            text: _,
-            clock,
-        }
-        | Seen::Tried {
-            node: _,
-            number: _,
-            clock,
-        }
-        | Seen::LossSeen {
-            node: _,
-            peer: _,
-            clock,
-        } => Some(*clock),
+        Seen::Taken { clock, .. }
+        | Seen::Came { clock, .. }
+        | Seen::Tried { clock, .. }
+        | Seen::LossSeen { clock, .. } => Some(*clock),
         Seen::Sent { packet } => stamp_of(watch.letters.get(*packet)),
         _ => None,
     }

@@ -2,6 +2,7 @@ pub mod Answering
 mod Applying
 mod Barred
 pub mod Crossed
+mod Cutting
 mod Deciding
 mod Dropped
 mod Fitted
@@ -32,9 +33,4 @@ mod Tallies
 pub mod Turning
 mod Unplaced
 mod Viewing
-mod BytesOpened
-mod Cutting
-mod BytesLost
-mod BytesPast
-mod BytesRunning
-mod BytesSeen
+mod over_bytes

@@ -13,7 +13,7 @@ use Rattle.pg_step.specs.declared.command.OpId.{OpId}
 use Rattle.pg_step.specs.declared.command_fault.CommandFault.{CommandFault}
 use Rattle.pg_step.specs.declared.command_fault.CommandFault.TheVariants.{Busy, NameTooLarge, ForeignPid, NotFormed, NotMade, AlreadyEnded, ProcessLimit}
 use Rattle.pg_step.specs.Attempts.{same_op, attempt}
-use Rattle.pg_step.specs.Commands.{OPEN_LIMIT, answer, carried_out, change, change_by, change_of, command as command_in, command_by, count_command, fault_of, look, next_op, open_command, refused, undertake}
+use Rattle.pg_step.specs.Commands.{OPEN_LIMIT, answer, carried_out, change, change_by, change_of, command as command_in, command_by, count_command, fault_of, look, next_op, open_command, refused}
 use Rattle.pg_step.specs.Faults.{command_number_of}
 use Rattle.pg_step.specs.Nodes.{Nodes}
 use Rattle.pg_step.specs.State.{State, Response}

@@ -1,5 +1,5 @@
 -- Each command that came in is answered or open, in each run.
-use Rattle.std.proofs.Common.{◌≡◌, ◌≢◌, ◌⊎◌, inl, inr, ℕ, zero, suc, ◌+◌, ◌<◌, ◌≤◌, Bool, true, false, cond, nat_eq, nat_lt, length, List, [], ◌∷◌, ◌++◌, Option, Some, None, Ok, Err, refl, ap, sym, ◌∙◌, subst, arith}
+use Rattle.std.proofs.Common.{◌≡◌, ◌⊎◌, inl, inr, ℕ, zero, suc, ◌+◌, Bool, true, false, cond, nat_eq, nat_lt, length, List, [], ◌∷◌, ◌++◌, Option, Some, None, Ok, Err, refl, ap, sym, ◌∙◌, subst, arith}
 use Rattle.std.proofs.lemmas.Bool.{eq-eqb, ne_eqb, cases_eq}
 use Rattle.std.proofs.lemmas.Bool.Decides.{Decides-ltb}
 use Rattle.std.proofs.lemmas.List.{length-append}
@@ -16,7 +16,7 @@ use Rattle.pg_step.specs.declared.command.Command.{Command}
 use Rattle.pg_step.specs.declared.command.OpId.{OpId}
 use Rattle.pg_step.specs.declared.refusal.Refusal.TheVariants.{NoSuchPlace, NotWaiting}
 use Rattle.pg_step.specs.Attempts.{waits, tried_again}
-use Rattle.pg_step.specs.Commands.{command as command_in, command_by, count_command, fault_of, next_op}
+use Rattle.pg_step.specs.Commands.{command as command_in, count_command, fault_of, next_op}
 use Rattle.pg_step.specs.Config.{Config, name_at, nodes_at, ports_at}
 use Rattle.pg_step.specs.FrameMachine.{FrameWorld, machine_of, node_step}
 use Rattle.pg_step.specs.Nodes.{Nodes}
@@ -27,9 +27,8 @@ use Rattle.pg_step.specs.Turns.{NodeTurn, Report}
 use Rattle.pg_history.specs.Counted.{CountsCommands, open_at, open_in}
 use Rattle.pg_history.specs.History.{Answers, answers_by}
 use Rattle.pg_history.specs.Reached.{Reaches, TimedFrameWorld}
-use Rattle.pg_history.specs.ReferencesFit.{ReferencesFit}
 use Rattle.pg_history.proofs.commands.Answered.{NoCommand}
-use Rattle.pg_history.proofs.commands.Counting.{Counts, Keeps, Pays, gave_at, counted_keeps_all, counts_singly, command_done, same_keeps}
+use Rattle.pg_history.proofs.commands.Counting.{Counts, Keeps, gave_at, counted_keeps_all, counts_singly, command_done, same_keeps}
 use Rattle.pg_history.proofs.commands.Ports.{counts_by, step_counts}
 use Rattle.pg_history.proofs.commands.Stand.{and_gave}
 use Rattle.pg_history.proofs.commands.StandRuns.{own_answers, other_answers}

@@ -1,5 +1,5 @@
 -- Each command that came in is answered, or open.
-use Rattle.std.proofs.Common.{◌≡◌, ◌≢◌, ◌⊎◌, inl, inr, ℕ, zero, suc, ◌+◌, ◌-◌, ◌<◌, ◌≤◌, Bool, true, false, ◌&&◌, cond, nat_eq, nat_le, nat_lt, length, List, [], ◌∷◌, Option, Some, None, Ok, Err, refl, ap, sym, ◌∙◌, subst, arith, add-one}
+use Rattle.std.proofs.Common.{◌≡◌, ◌≢◌, ◌⊎◌, inl, inr, ℕ, zero, suc, ◌+◌, ◌-◌, ◌<◌, ◌≤◌, Bool, true, false, ◌&&◌, cond, nat_eq, nat_le, Option, Some, None, refl, ap, sym, ◌∙◌, subst, arith, add-one}
 use Rattle.std.proofs.lemmas.Bool.{eq-eqb, ne_eqb, eqb-true, cases_eq}
 use Rattle.pg_group.specs.declared.update.Update.{Update}
 use Rattle.pg_group.specs.Functions.{upd}
@@ -26,7 +26,7 @@ use Rattle.pg_history.specs.ReferencesFit.{ReferencesFit}
 use Rattle.pg_history.proofs.commands.Stand.{open_is_in}
 use Rattle.pg_history.proofs.references.Fitting.{op_is, is_op, is_asking, is_changing, same_fitting, counted_keeps, opened_keeps}
 use Rattle.pg_history.proofs.references.FittingTurns.{attempted_keeps, relock, given_up_keeps, confirmed_keeps, finished_keeps, begun_keeps}
-use Rattle.pg_history.proofs.steps.Single.{AnyUpdate, OfSingle, attempt_so, tried_so, taken_so}
+use Rattle.pg_history.proofs.steps.Single.{AnyUpdate, OfSingle, attempt_so}
 use Rattle.pg_history.proofs.commands.Answered.{NoCommand}
 
 -- ---- sums

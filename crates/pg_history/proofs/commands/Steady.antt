@@ -8,14 +8,12 @@ use Rattle.pg_step.specs.declared.command.Command.{Command}
 use Rattle.pg_step.specs.declared.command.Command.TheVariants as command
 use Rattle.pg_step.specs.declared.command.OpId.{OpId}
 use Rattle.pg_step.specs.declared.answer.Reply.{Reply}
-use Rattle.pg_step.specs.declared.answer.Reply.TheVariants as reply
 use Rattle.pg_lock.specs.Attempts.{after_round, does_wait}
 use Rattle.pg_step.specs.Nodes.{Nodes, every, greatest}
 use Rattle.pg_step.specs.State.{State, Use, Stage}
 use Rattle.pg_step.specs.State.Status.{Unasked}
 use Rattle.pg_step.specs.State.Use.{Fresh, Locking, Owning, Updating, Spent}
 use Rattle.pg_step.specs.State.Stage.{Closed, Waiting, Asking, Changing}
-use Rattle.pg_step.specs.State.Response.{Given}
 use Rattle.pg_step.specs.Turns.{NodeTurn, becomes, and_then, first_of}
 use Rattle.pg_step.specs.Attempts.{round_of, all_granted, none_missing, none_denied, new_attempt, ask, give_up, begin, finish, replies_in, locks_in, go_on, attempt, waits, tried_again, retry}
 use Rattle.pg_step.specs.Commands.{OPEN_LIMIT, look, answer, open_command, undertake, change_by, change, carried_out, command_by, refused}

@@ -1,5 +1,5 @@
 -- The references, commands and counts of each node belong together in each run.
-use Rattle.std.proofs.Common.{◌≡◌, ℕ, ◌+◌, ◌<◌, nat_eq, List, refl, ap, sym, ◌∙◌, subst, arith, Some}
+use Rattle.std.proofs.Common.{◌≡◌, ℕ, ◌+◌, nat_eq, List, refl, sym, subst, arith, Some}
 use Rattle.std.proofs.lemmas.Bool.{eq-eqb}
 use Rattle.pg_group.specs.Functions.{upd}
 use Rattle.pg_group.proofs.Changes.{upd_at}
@@ -17,7 +17,7 @@ use Rattle.pg_step.specs.FrameMachine.{node_step, machine_of, FrameWorld}
 use Rattle.pg_machine.proofs.Sequences.{kept}
 use Rattle.pg_machine.proofs.Plain.{plain_from_start}
 use Rattle.pg_history.specs.Reached.{TimedFrameWorld, Reaches}
-use Rattle.pg_history.specs.ReferencesFit.{Fits, ReferencesFit}
+use Rattle.pg_history.specs.ReferencesFit.{ReferencesFit}
 use Rattle.pg_history.proofs.steps.Single.{AnyUpdate, OfSingle, acted_so, taken_so}
 use Rattle.pg_history.proofs.steps.Made.{took_so, did_so}
 use Rattle.pg_history.proofs.steps.Ways.{state_after}

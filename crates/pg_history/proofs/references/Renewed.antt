@@ -13,7 +13,6 @@ use Rattle.pg_step.specs.declared.command.Command.{Command}
 use Rattle.pg_step.specs.declared.command.Command.TheVariants as command
 use Rattle.pg_step.specs.declared.command.OpId.{OpId}
 use Rattle.pg_step.specs.declared.answer.Reply.{Reply as Answer}
-use Rattle.pg_step.specs.declared.answer.Reply.TheVariants as reply
 use Rattle.pg_machine.specs.Machine.{Input, Turn, Event, Taken, Own, node_of, start_of}
 use Rattle.pg_machine.specs.Happened.{Happened}
 use Rattle.pg_machine.specs.Clocked.{Timed, Stamped, unstamped, next_clock, timed, timed_turn}
@@ -23,7 +22,6 @@ use Rattle.pg_step.specs.State.{State, Use, Stage, left}
 use Rattle.pg_step.specs.State.Status.{Unasked}
 use Rattle.pg_step.specs.State.Use.{Fresh, Locking, Owning, Updating, Spent}
 use Rattle.pg_step.specs.State.Stage.{Closed, Waiting, Asking, Changing}
-use Rattle.pg_step.specs.State.Response.{Given}
 use Rattle.pg_step.specs.Turns.{NodeTurn, Report, becomes, and_then}
 use Rattle.pg_step.specs.Peers.{is_bad_exchange, exchange}
 use Rattle.pg_step.specs.Attempts.{round_of, all_granted, none_missing, none_denied, new_attempt, ask, begin, give_up, finish, count_answer, count_ok, replies_in, locks_in, go_on, attempt, use_of, retry, waits, tried_again, lock_status, counted, reply_under}

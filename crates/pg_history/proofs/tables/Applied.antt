@@ -4,7 +4,7 @@ use Rattle.pg_term.specs.declared.pid.Pid.{Pid}
 use Rattle.pg_term.specs.Same.{same_pid}
 use Rattle.pg_group.specs.declared.update.Update.{Update}
 use Rattle.pg_group.specs.Functions.{upd}
-use Rattle.pg_group.specs.Table.{Table, changed, without}
+use Rattle.pg_group.specs.Table.{Table, without}
 use Rattle.pg_exchange.specs.GroupList.{GroupList}
 use Rattle.pg_message.specs.declared.message.Message.{Message}
 use Rattle.pg_message.specs.declared.message.Message.TheVariants.{Call, Reply, DelLock, Exchange, Down}

@@ -13,7 +13,7 @@ use Rattle.pg_world.specs.Losses.{lost_in, is_lost}
 use Rattle.pg_world.specs.Views.{Account}
 use Rattle.pg_world.specs.Worlds.{has_places}
 use Rattle.pg_world.proofs.Barred.{either_stays, either_unseen, take_cut}
-use Rattle.pg_world.proofs.BytesPast.{take_past, own_past, unplaced_past, barred_past, starved_past}
+use Rattle.pg_world.proofs.over_bytes.Past.{take_past, own_past, unplaced_past, barred_past, starved_past}
 use Rattle.pg_world.proofs.Harmless.{welcome_there, welcome_left}
 use Rattle.pg_world.proofs.Turning.{pair_there}
 use Rattle.pg_world.proofs.Unplaced.{unplaced_event}

@@ -4,8 +4,8 @@ use Rattle.std.proofs.lemmas.List.{length-map}
 use Rattle.pg_world.specs.Crossings.{crossing_of, node_of, written_of}
 use Rattle.pg_world.specs.Histories.{account_of}
 use Rattle.pg_world.specs.Losses.{lost_in}
-use Rattle.pg_world.proofs.BytesLost.{lost_bytes}
-use Rattle.pg_world.proofs.BytesPast.{gone_unplaced, gone_before}
+use Rattle.pg_world.proofs.over_bytes.Lost.{lost_bytes}
+use Rattle.pg_world.proofs.over_bytes.Past.{gone_unplaced, gone_before}
 use Rattle.pg_world.proofs.Peering.{lt_false}
 use Rattle.pg_world.proofs.bytes.World.lose.Goals as goal
 

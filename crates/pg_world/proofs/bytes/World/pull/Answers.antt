@@ -6,7 +6,7 @@ use Rattle.pg_world.specs.Bars.{pull_bar}
 use Rattle.pg_world.specs.Crossings.{crossing_of}
 use Rattle.pg_world.specs.Losing.{is_cut_off}
 use Rattle.pg_world.specs.Losses.{lost_in}
-use Rattle.pg_world.proofs.BytesPast.{move_mapped}
+use Rattle.pg_world.proofs.over_bytes.Past.{move_mapped}
 use Rattle.pg_world.proofs.bytes.World.pull.Goals as goal
 
 pub returns-then-not-has_pair-clause-came : goal.returns-then-not-has_pair-clause-came

@@ -12,8 +12,8 @@ use Rattle.pg_node.specs.Nodes.{held_by, links_of}
 use Rattle.pg_node.specs.States.{state_of, answers_of}
 use Rattle.pg_world.specs.Histories.{account_of}
 use Rattle.pg_world.specs.Views.{peer_place}
-use Rattle.pg_world.proofs.BytesLost.{sight_not_lost, sight_made, sight_held}
-use Rattle.pg_world.proofs.BytesSeen.{peer_clock, closed_bytes, step_there}
+use Rattle.pg_world.proofs.over_bytes.Lost.{sight_not_lost, sight_made, sight_held}
+use Rattle.pg_world.proofs.over_bytes.Seen.{peer_clock, closed_bytes, step_there}
 use Rattle.pg_world.proofs.Linked.{alone, first_there, second_there, node_same, seen_kept, seen_there, nodes_set, links_here, part_kept}
 use Rattle.pg_world.proofs.Turning.{pair_is}
 use Rattle.pg_world.proofs.bytes.World.see_loss.Goals as goal

@@ -6,7 +6,7 @@ use Rattle.pg_world.specs.Histories.{account_of}
 use Rattle.pg_world.specs.Losses.{lost_in}
 use Rattle.pg_world.specs.Bars.{put_bar, pull_bar}
 use Rattle.pg_world.specs.BytesLosing.{MoveLeaves}
-use Rattle.pg_world.proofs.BytesPast.{move_came, put_in, pull_in}
+use Rattle.pg_world.proofs.over_bytes.Past.{move_came, put_in, pull_in}
 use Rattle.pg_world.proofs.bytes.World.step.Goals as goal
 
 pub returns-in-Put-clause-came : goal.returns-in-Put-clause-came

@@ -6,7 +6,7 @@ use Rattle.pg_world.specs.Runs.{over_bytes, StepsTo}
 use Rattle.pg_world.specs.BytesLosing.{ShowsLosingBytes}
 use Rattle.pg_world.specs.BytesLosingRuns.{bytes_past_losses}
 use Rattle.pg_world.specs.LosingRuns.{LosingStepsTo}
-use Rattle.pg_world.proofs.BytesRunning.{left_ok, left_err}
+use Rattle.pg_world.proofs.over_bytes.Running.{left_ok, left_err}
 use Rattle.pg_world.proofs.Cutting.{came_so, fault_so, none_lost_in}
 use Rattle.pg_world.proofs.bytes.World.step_number.Goals as goal
 

@@ -8,7 +8,7 @@ use Rattle.pg_world.specs.Openings.{CantOpen}
 use Rattle.pg_world.specs.Starts.{seen_first}
 use Rattle.pg_world.specs.Views.{Seen, seen_of}
 use Rattle.pg_world.proofs.Peering.{known}
-use Rattle.pg_world.proofs.BytesOpened.{cant_open_so, named_first}
+use Rattle.pg_world.proofs.over_bytes.Opened.{cant_open_so, named_first}
 use Rattle.pg_world.proofs.bytes.begun.opened_node.Goals as goal
 
 one_less : (n i : ℕ) → i < n → n - 1 + 1 ≡ n

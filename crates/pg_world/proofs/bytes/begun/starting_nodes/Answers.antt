@@ -1,6 +1,6 @@
 use Rattle.std.proofs.Common.{sym, subst}
 use Rattle.pg_world.specs.Openings.{AreReady}
-use Rattle.pg_world.proofs.BytesOpened.{made_begin, made_count}
+use Rattle.pg_world.proofs.over_bytes.Opened.{made_begin, made_count}
 use Rattle.pg_world.proofs.Opened.{of_ok, good_fault}
 use Rattle.pg_world.proofs.bytes.begun.starting_nodes.Goals as goal
 

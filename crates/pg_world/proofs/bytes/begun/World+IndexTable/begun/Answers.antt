@@ -1,6 +1,6 @@
 use Rattle.std.proofs.Common.{◌-◌, length, map}
 use Rattle.pg_node.specs.Nodes.{links_of}
-use Rattle.pg_world.proofs.BytesOpened.{all_known, all_links_fit, idle_begins, begins_as}
+use Rattle.pg_world.proofs.over_bytes.Opened.{all_known, all_links_fit, idle_begins, begins_as}
 use Rattle.pg_world.proofs.bytes.begun.World+IndexTable.begun.Goals as goal
 
 pub idle-requires-clause-known : goal.idle-requires-clause-known

@@ -35,7 +35,7 @@ use Rattle.pg_world.specs.Losing.{losing_of, is_cut_off, told_sight, LosingComes
 use Rattle.pg_world.specs.Losses.{is_lost}
 use Rattle.pg_world.specs.Views.{Seen, Account, peer_place}
 use Rattle.pg_world.specs.Worlds.{TimedFrameWorld, ShowsNodes, ShowsNode}
-use Rattle.pg_world.proofs.BytesPast.{sight_from}
+use Rattle.pg_world.proofs.over_bytes.Past.{sight_from}
 use Rattle.pg_world.proofs.Crossed.{all_short}
 use Rattle.pg_world.proofs.Peering.{named, peer_name, there_and_back}
 use Rattle.pg_world.proofs.Seeing.{there, turned, stays, unseen, not_lost, sight_refused, sight_seen}

@@ -1,0 +1,5 @@
+pub mod Lost
+pub mod Opened
+pub mod Past
+pub mod Running
+pub mod Seen
