@@ -35,7 +35,7 @@ pub(crate) trait System {
     fn microseconds(&mut self) -> u64;
 }
 
-/// The system that runs the program. No clause says when a file can't be made, nor how a conversation goes.
+/// The system that runs the program: a conversation that it tells of took place. No clause says when a file can't be made.
 #[derive(Drop)]
 pub(crate) struct HostSystem<'a, R> {
     pub(crate) alloc: Global,
@@ -45,6 +45,11 @@ pub(crate) struct HostSystem<'a, R> {
 }
 
 impl<R: Threads> System for HostSystem<'_, R> {
+    ghost use Rattle.std.specs.Prelude.{IfOk};
+    ghost use Rattle.pg_cluster.specs.Conversations.{TookPlace};
+
+    ghost went = { λ a asked told b. IfOk told (TookPlace asked) };
+
     fn put(&mut self, name: &str, bytes: &[u8]) -> io::Result<()> {
         fs::write(self.rt, name, bytes)
     }

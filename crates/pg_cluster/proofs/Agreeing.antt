@@ -1,49 +1,26 @@
 -- Nodes that agree.
-use Rattle.std.proofs.Common.{◌≡◌, ◌↔◌, ℕ, zero, suc, ◌+◌, ◌<◌, Bool, true, false, not, ◌||◌, List, [], ◌∷◌, length, arith, Option, Some, None, Result, Ok, Err, refl, sym, ap, subst, ◌∙◌}
+use Rattle.std.proofs.Common.{◌≡◌, ◌↔◌, ℕ, zero, suc, ◌<◌, Bool, true, false, ◌||◌, List, [], ◌∷◌, length, arith, Some, None, Result, Ok, Err, refl, sym, ap, subst, ◌∙◌}
 use Rattle.std.specs.Prelude.{IfOk, IsTrue, is_some, slice_index_or}
-use Rattle.std.specs.declared.vec.Vec.{Vec}
-use Rattle.std.specs.declared.alloc.Global.{Global}
 use Rattle.std.specs.List.{All, list_any}
-use Rattle.pg_term.specs.declared.pid.Pid.{Pid}
 use Rattle.pg_term.specs.declared.term.Term.{Term}
 use Rattle.pg_term.specs.Same.{same_term}
 use Rattle.pg_term.specs.contracts.term.TermEq.TheImpl.Laws as term_laws
 use Rattle.pg_term.proofs.Same.{same_term as term_is}
 use Rattle.pg_group.specs.declared.table.GroupTable.{Ghosts}
-use Rattle.pg_group.specs.Members.{IsMemberList}
-use Rattle.pg_group.specs.Scope.{anywhere}
 use Rattle.pg_group.specs.Table.{AreNames, Table}
 use Rattle.pg_group.specs.Value.{Value}
 use Rattle.pg_node.specs.declared.node.Node.{Node}
-use Rattle.pg_query.proofs.SameGroups.{group_told}
-use Rattle.pg_cluster.specs.Judges.{AgreesWith, AreOne, AreSame, HasAs, IsTold, formed_in, is_seen_free, state_in}
+use Rattle.pg_cluster.specs.Judges.{AgreesWith, AreOne, HasAs, formed_in, is_seen_free, state_in}
 
--- groups are one where what is told of them is the same
-pub told_same : (v w : Value) (pids others : Option (Vec Pid Global)) → IsTold v pids → IsTold w others → AreSame pids others → v ≡ w
-told_same v w None None f g same = f ∙ sym g
-told_same v w (Some pids) (Some others) f g same = group_told v w pids.items (f.0 ∙ sym g.0) f.1 (subst (IsMemberList w anywhere) (sym same) g.1)
-told_same v w None (Some others) f g same = absurd same
-told_same v w (Some pids) None f g same = absurd same
-
--- and what is told of one group is the same
-pub same_told : (v w : Value) (pids others : Option (Vec Pid Global))
-    → ((xs ys : List Pid) → IsMemberList v anywhere xs → IsMemberList v anywhere ys → xs ≡ ys)
-    → IsTold v pids → IsTold w others → v ≡ w → AreSame pids others
-same_told v w None None unique f g e = tt
-same_told v w (Some pids) (Some others) unique f g e = unique pids.items others.items f.1 (subst (λ (u : Value). IsMemberList u anywhere others.items) (sym e) g.1)
-same_told v w None (Some others) unique f g e = absurd (let clash : is_some v ≡ true = ap is_some e ∙ g.0 in let none : is_some v ≡ false = ap is_some f in cc)
-same_told v w (Some pids) None unique f g e = absurd (let clash : is_some w ≡ true = ap is_some (sym e) ∙ f.0 in let none : is_some w ≡ false = ap is_some g in cc)
-
--- a value that is not absent is there
-is_there : (v : Value) → (v ≡ None → ⊥) → is_some v ≡ true
-is_there None h = absurd (h refl)
-is_there (Some m) h = refl
-
--- what is told of a group that is there
-pub told_members : (t u : Table) (name : Term) (pids : List Pid) (v : Vec Pid Global) → t ≡ u → v.items ≡ pids → (t name ≡ None → ⊥)
-    → IsMemberList (t name) anywhere pids → IsTold (u name) (Some v)
-told_members t u name pids v e is there list =
-    subst (λ (table : Table). IsTold (table name) (Some v)) e (is_there (t name) there, subst (IsMemberList (t name) anywhere) (sym is) list)
+-- nodes have the same of a group where their tables say the same
+pub has_as_so : {T E : Type 0} {g : Ghosts T} (result : Result Bool E) (one other : Node T g) (name : Term) (table table2 : Table)
+    → table ≡ (state_in one).table → table2 ≡ (state_in other).table → formed_in other ≡ true
+    → IfOk result (λ same. IsTrue same ↔ (table name ≡ table2 name)) → IfOk result (λ yes. IsTrue yes ↔ HasAs one name other)
+has_as_so (Err e) one other name table table2 is is2 formed same = tt
+has_as_so (Ok told) one other name table table2 is is2 formed same = (
+  λ holds _. ap (λ (t : Table). t name) (sym is) ∙ (same.0 holds ∙ ap (λ (t : Table). t name) is2),
+  λ has. same.1 (ap (λ (t : Table). t name) is ∙ (has formed ∙ ap (λ (t : Table). t name) (sym is2))),
+)
 
 module _ {T : Type 0} {g : Ghosts T} (nodes : List (Node T g)) where
   -- formed nodes have the same, where each has of its own groups what the others have

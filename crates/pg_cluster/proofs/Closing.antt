@@ -1,17 +1,16 @@
 -- The rings of nodes whose threads have ended.
-use Rattle.std.proofs.Common.{◌≡◌, ◌<◌, ◌≤◌, ◌+◌, true, ℕ, List, [], ◌∷◌, ◌++◌, length, map, get_or, refl, sym, ◌∙◌, ap, subst, arith}
-use Rattle.std.proofs.lemmas.List.{get_or-map, length-map, append-nil}
+use Rattle.std.proofs.Common.{◌≡◌, ◌<◌, true, ℕ, List, [], ◌∷◌, length, get_or, ◌∙◌, subst, arith}
+use Rattle.std.proofs.lemmas.List.{get_or-map, length-map}
 use Rattle.pg_machine.specs.Places.{is_pair}
 use Rattle.pg_ring.specs.Ends.{AreEnds, Sends, Receives}
 use Rattle.pg_ring.specs.EndsLaws.{AreEnds-later}
-use Rattle.pg_run.specs.Follows.{HasMoved}
 use Rattle.pg_together.specs.Apart.{End, Crossed}
 use Rattle.pg_world.proofs.Peering.{place_within}
 use Rattle.pg_world.proofs.Turning.{pair_is, pair_turned}
 use Rattle.pg_world.specs.Views.{peer_place}
 use Rattle.pg_cluster.specs.Ended.{Arrived, AreJoined, AreWired, AllArrived, AllCrossed, row_at, end_at}
 use Rattle.pg_cluster.specs.Promises.{RanAs}
-use Rattle.pg_cluster.specs.Threads.{Thread, RanOf, RunOf, Joined, row_in, begun_by, limit_of, rows_begun, rows_ended}
+use Rattle.pg_cluster.specs.Threads.{Thread, RanOf, Joined, row_in, begun_by, limit_of, rows_begun, rows_ended}
 
 module _ {K : Type 0} (threads : List (Thread K)) (rans : List (RanOf K)) (joined : Joined threads rans) where
   -- the links of one node

@@ -1,22 +1,26 @@
 -- A cluster that is closed.
-use Rattle.std.proofs.Common.{◌≡◌, ◌<◌, ℕ, List, [], ◌∷◌, ◌++◌, length, map, get_or, refl, sym, ◌∙◌, ap, subst, arith, inl, inr, length-append, ◌+◌}
+use Rattle.std.proofs.Common.{◌≡◌, ◌<◌, ℕ, List, [], ◌∷◌, ◌++◌, length, map, get_or, refl, sym, subst, arith, inl, inr, length-append}
 use Rattle.std.specs.Prelude.{Result, Ok, Err, IfOk, IfErr, MatchResult}
 use Rattle.std.proofs.lemmas.Bool.Decides.{eqb_tells}
-use Rattle.std.proofs.lemmas.List.{length-map}
+use Rattle.std.specs.List.{All}
+use Rattle.std.proofs.lemmas.List.{length-map, get_or-map}
 use Rattle.std.proofs.Math.ListN.{get_or-append}
 use Rattle.std.proofs.Math.Seq.{get_or-append_seam}
 use Rattle.pg_run.specs.declared.log.NodeEvent.{NodeEvent}
 use Rattle.pg_run.specs.declared.port.Client.{Client}
+use Rattle.pg_run.specs.Ports.{Meets}
 use Rattle.pg_step.specs.Config.{Config}
 use Rattle.pg_world.specs.declared.step.FrameStep.{FrameStep}
 use Rattle.pg_cluster.specs.declared.closed.Closed.{Closed}
 use Rattle.pg_cluster.specs.declared.closed.Stopped.{Stopped}
+use Rattle.pg_cluster.specs.Clients.{AllPairs, AllHeard, ClientsRest, ports_ended}
 use Rattle.pg_cluster.specs.Closed.{nodes_of, logs_of, clients_of}
 use Rattle.pg_cluster.specs.Ended.{AreWired, AllArrived}
 use Rattle.pg_cluster.specs.Schedule.{IsSchedule}
-use Rattle.pg_cluster.specs.Threads.{NodeOf, RanOf, Thread, AreMade, EndedWith, Joined, begun_by, node_in, log_in, rows_begun, rows_ended}
+use Rattle.pg_cluster.specs.Threads.{NodeOf, RunOf, RanOf, Thread, AreMade, EndedWith, Joined, begun_by, node_in, log_in, rows_begun, rows_ended}
 use Rattle.pg_cluster.specs.Together.{AreOneRun}
 use Rattle.pg_cluster.proofs.Closing.{crossed_after}
+use Rattle.pg_cluster.proofs.Hearing.{heard_all}
 
 -- one more stands in its place
 pub one_more_stands :
@@ -55,11 +59,37 @@ finished_ended threads stopped (Ok closed) ended nodes logs same =
     subst (λ ns. EndedWith threads ns (map (λ v. v.items) closed.logs.items)) (sym nodes) (subst (EndedWith threads (nodes_of stopped)) (sym logs) ended)
 finished_ended threads stopped (Err other) ended nodes logs same = subst (λ (s : Stopped). EndedWith threads (nodes_of s) (logs_of s)) (sym same) ended
 
-pub finished_clients : (stopped : Stopped) (clients : List Client) (result : Result Closed Stopped) → clients_of stopped ≡ clients
+-- the clients are the same
+pub finished_clients : (clients : List Client) (stopped : Stopped) (result : Result Closed Stopped) → ClientsRest clients (clients_of stopped)
     → IfOk result (λ closed. closed.clients.items ≡ clients_of stopped) → IfErr result (λ other. other ≡ stopped)
-    → MatchResult result (λ closed. closed.clients.items ≡ clients) (λ other. clients_of other ≡ clients)
-finished_clients stopped clients (Ok closed) are same err = same ∙ are
-finished_clients stopped clients (Err other) are same err = ap clients_of err ∙ are
+    → MatchResult result (λ closed. ClientsRest clients closed.clients.items) (λ other. ClientsRest clients (clients_of other))
+finished_clients clients stopped (Ok closed) rest same err = subst (ClientsRest clients) (sym same) rest
+finished_clients clients stopped (Err other) rest same err = subst (λ (s : Stopped). ClientsRest clients (clients_of s)) (sym err) rest
+
+-- what they said and heard is in what is finished
+pub finished_heard : {K : Type 0} (threads : List (Thread K)) (clients : List Client) (stopped : Stopped) (result : Result Closed Stopped)
+    → ((given : Config) → AreMade given (map begun_by threads) → AllHeard threads (nodes_of stopped) (logs_of stopped) clients)
+    → IfOk result (λ closed. closed.nodes.items ≡ nodes_of stopped) → IfOk result (λ closed. map (λ v. v.items) closed.logs.items ≡ logs_of stopped) → IfErr result (λ other. other ≡ stopped)
+    → MatchResult result
+    (λ closed. (given : Config) → AreMade given (map begun_by threads) → AllHeard threads closed.nodes.items (map (λ v. v.items) closed.logs.items) clients)
+    (λ other. (given : Config) → AreMade given (map begun_by threads) → AllHeard threads (nodes_of other) (logs_of other) clients)
+finished_heard threads clients stopped (Ok closed) heard nodes logs same = λ given made.
+    subst (λ (ns : List NodeOf). AllHeard threads ns (map (λ v. v.items) closed.logs.items) clients) (sym nodes)
+    (subst (λ (ls : List (List (ℕ × NodeEvent))). AllHeard threads (nodes_of stopped) ls clients) (sym logs) (heard given made))
+finished_heard threads clients stopped (Err other) heard nodes logs same = λ given made.
+    subst (λ (s : Stopped). AllHeard threads (nodes_of s) (logs_of s) clients) (sym same) (heard given made)
+
+-- and in what stopped
+pub stopped_heard : {K : Type 0} (threads : List (Thread K)) (rans : List (RanOf K)) (clients : List Client) (stopped : Stopped) → Joined threads rans
+    → AllPairs Meets clients (ports_ended rans) → nodes_of stopped ≡ map (λ ran. node_in ran.run) rans → logs_of stopped ≡ map (λ ran. log_in ran.run) rans
+    → (given : Config) → AreMade given (map begun_by threads) → AllHeard threads (nodes_of stopped) (logs_of stopped) clients
+stopped_heard {K} threads rans clients stopped joined meets nodes logs given made =
+    let unlogged : All (λ (thread : Thread K). log_in (begun_by thread) ≡ []) threads = λ i thread low.
+    let more : i < length (map begun_by threads) = let n = length-map threads begun_by in omega (arith, low, n) in
+    subst (λ (run : RunOf K). log_in run ≡ []) (get_or-map begun_by threads i thread (begun_by thread) low) (made.unlogged i (begun_by thread) more) in
+    subst (λ (ns : List NodeOf). AllHeard threads ns (logs_of stopped) clients) (sym nodes)
+    (subst (λ (ls : List (List (ℕ × NodeEvent))). AllHeard threads (map (λ ran. node_in ran.run) rans) ls clients) (sym logs)
+    (heard_all threads rans clients joined unlogged made.unused meets))
 
 -- it is one run
 pub finished_run : {K : Type 0}

@@ -1,10 +1,11 @@
 -- The rows of links, once all rings are made, and the nodes that have them.
-use Rattle.std.proofs.Common.{◌≡◌, ◌<◌, ◌≤◌, ◌+◌, ◌-◌, true, ℕ, List, [], ◌∷◌, length, map, get_or, refl, sym, ◌∙◌, ap, subst, arith, inl, inr}
+use Rattle.std.proofs.Common.{◌≡◌, ◌<◌, ◌≤◌, true, ℕ, List, [], ◌∷◌, length, map, get_or, sym, ◌∙◌, ap, subst, arith, inl, inr}
 use Rattle.std.specs.Prelude.{IfOk, Result, Ok, Err}
 use Rattle.std.specs.List.{All}
 use Rattle.std.proofs.lemmas.Bool.Decides.{leb_tells}
 use Rattle.std.proofs.lemmas.List.{get_or-map, length-map}
 use Rattle.pg_machine.specs.Places.{is_pair}
+use Rattle.pg_run.specs.Ports.{IsUnused}
 use Rattle.pg_step.specs.Config.{Config, IsConfig}
 use Rattle.pg_together.specs.Apart.{End}
 use Rattle.pg_world.proofs.Peering.{place_low, place_high}
@@ -14,9 +15,11 @@ use Rattle.pg_world.specs.Crossings.{idle_crossing}
 use Rattle.pg_world.specs.Views.{no_account, peer_place}
 use Rattle.pg_cluster.specs.declared.fault.StartFault.{StartFault}
 use Rattle.pg_cluster.specs.declared.runs.Made.{Made}
+use Rattle.pg_cluster.specs.Clients.{AllPairs, IsOpen}
 use Rattle.pg_cluster.specs.Ended.{Row, AreWired, row_at}
 use Rattle.pg_cluster.specs.Rows.{Wired, RowsWired}
-use Rattle.pg_cluster.specs.Threads.{AreMade, NodeOf, RunOf, node_in, row_in, log_in}
+use Rattle.pg_cluster.specs.Threads.{AreMade, NodeOf, node_in, row_in, log_in, ports_of_runs}
+use Rattle.pg_cluster.proofs.Paired.{pairs_right}
 
 abbrev lists : List Row → List (List End)
 lists rows = map (λ v. v.items) rows
@@ -63,14 +66,16 @@ are_wired n (row ∷ rows) wired = wired_by n (row ∷ rows) row wired
 pub are_made : {K : Type 0} (given : Config) (nodes : List NodeOf) (rows : List Row) (result : Result (Made K) StartFault)
     → IsConfig given → length nodes ≡ length given → BytesBegin given (idle_crossing nodes) no_account → RowsWired (length nodes) rows
     → IfOk result (λ made. map node_in made.runs.items ≡ nodes) → IfOk result (λ made. map row_in made.runs.items ≡ lists rows)
-    → IfOk result (λ made. All (λ run. log_in run ≡ []) made.runs.items) → IfOk result (λ made. AreMade given made.runs.items)
-are_made given nodes rows (Ok made) good count begins wired held rowed unlogged =
+    → IfOk result (λ made. All (λ run. log_in run ≡ []) made.runs.items) → IfOk result (λ made. AllPairs IsOpen made.clients.items (ports_of_runs made.runs.items))
+    → IfOk result (λ made. AreMade given made.runs.items)
+are_made given nodes rows (Ok made) good count begins wired held rowed unlogged clients =
     let size : length made.runs.items ≡ length nodes = sym (length-map made.runs.items node_in) ∙ ap length held in record {
       count = size ∙ count;
       some = let s = good.some in omega arith;
       few = good.few;
       begins = subst (λ (ns : List NodeOf). BytesBegin given (idle_crossing ns) no_account) (sym held) begins;
       unlogged = unlogged;
+      unused = pairs_right IsOpen IsUnused (λ client port both. both.1.1) made.clients.items (ports_of_runs made.runs.items) clients;
       wired = subst (λ (n : ℕ). AreWired n (map row_in made.runs.items)) (sym size) (subst (AreWired (length nodes)) (sym rowed) (are_wired (length nodes) rows wired));
     }
-are_made given nodes rows (Err fault) good count begins wired held rowed unlogged = tt
+are_made given nodes rows (Err fault) good count begins wired held rowed unlogged clients = tt

@@ -14,7 +14,6 @@ use Rattle.pg_opens.specs.contracts.opens.Opens as Opens
 use Rattle.pg_ring.specs.contracts.ring_in.RingIn as RingIn
 use Rattle.pg_ring.specs.contracts.ring_out.RingOut as RingOut
 use Rattle.pg_run.specs.contracts.linked.LinkedNode as LinkedNode
-use Rattle.pg_run.specs.contracts.linked.Peer as Peer
 use Rattle.pg_run.specs.contracts.log.NodeEvent as NodeEvent
 use Rattle.pg_run.specs.contracts.port.Asked as Asked
 use Rattle.pg_run.specs.contracts.port.Port as Port

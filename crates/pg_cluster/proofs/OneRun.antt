@@ -1,15 +1,13 @@
 -- A cluster that has ended, as one run of its configuration.
-use Rattle.std.proofs.Common.{◌≡◌, ◌<◌, ◌≤◌, ◌+◌, ◌-◌, ◌^◌, ℕ, Bool, true, false, cond, nat_lt, min, List, [], ◌∷◌, ◌++◌, length, map, take, drop, get_or, Option, Some, refl, sym, ◌∙◌, ap, subst, arith, inl, inr, ◌⊎◌}
+use Rattle.std.proofs.Common.{◌≡◌, ◌<◌, ◌≤◌, ◌+◌, ◌-◌, ◌^◌, ℕ, Bool, true, false, cond, nat_lt, min, List, [], ◌∷◌, ◌++◌, length, map, drop, get_or, Some, refl, sym, ◌∙◌, ap, subst, arith, inl, inr}
 use Rattle.std.specs.Prelude.{slice_get}
-use Rattle.std.specs.List.{All, AllByRecursion, flat_map}
-use Rattle.std.proofs.lemmas.Bool.{ltb-true}
+use Rattle.std.specs.List.{All, AllByRecursion}
 use Rattle.std.proofs.lemmas.Bool.Decides.{leb_tells}
 use Rattle.std.proofs.lemmas.List.{get_or-map, length-map, map-append, append-nil}
 use Rattle.std.proofs.lemmas.Option.{slice_get-get_or, slice_get_within, get_or_from_slice_get}
 use Rattle.pg_machine.specs.Machine.{Machine, Event, World, is_there, start_of}
-use Rattle.pg_machine.specs.Clocked.{plain}
 use Rattle.pg_machine.specs.Places.{is_pair, set_at}
-use Rattle.pg_machine.specs.Runs.{Leads, events_of}
+use Rattle.pg_machine.specs.Runs.{Leads}
 use Rattle.pg_machine.proofs.Steps.{happened}
 use Rattle.pg_index.specs.declared.index_table.IndexTable.{IndexTable}
 use Rattle.pg_index.specs.contracts.index_table.IndexTableGroupTable.TheImpl.{ghosts}
@@ -23,18 +21,17 @@ use Rattle.pg_run.specs.Follows.{Follows, node_of as node_at, log_of}
 use Rattle.pg_run.specs.Runs.{linked_of}
 use Rattle.pg_step.specs.Config.{Config}
 use Rattle.pg_step.specs.FrameMachine.{frame_machine}
-use Rattle.pg_step.specs.Step.{Action}
 use Rattle.pg_together.specs.Apart.{End, Linked as LinkedBy, Crossed, RanApart, RanTogether, event_at, events_in, end_of}
 use Rattle.pg_world.specs.declared.step.FrameStep.{FrameStep}
 use Rattle.pg_world.specs.declared.step.FrameStep.TheVariants as steps
 use Rattle.pg_world.specs.Crossings.{node_of}
-use Rattle.pg_world.specs.Views.{peer_place, place_of_peer}
+use Rattle.pg_world.specs.Views.{place_of_peer}
 use Rattle.pg_world.specs.Worlds.{ShowsNode, event_of}
 use Rattle.pg_world.proofs.Ordered.{ordered_length}
 use Rattle.pg_world.proofs.Turning.{pair_is}
-use Rattle.pg_cluster.specs.Ended.{row_at, end_at}
+use Rattle.pg_cluster.specs.Ended.{row_at}
 use Rattle.pg_cluster.specs.Schedule.{IsSchedule, node_of_peer, step_as, steps_of}
-use Rattle.pg_cluster.specs.Threads.{NodeOf, RunOf, RanOf, Thread, AreMade, EndedWith, begun_by, limit_of, node_in, row_in, log_in, rows_begun, rows_ended}
+use Rattle.pg_cluster.specs.Threads.{NodeOf, RunOf, RanOf, Thread, AreMade, EndedWith, begun_by, node_in, row_in, log_in, rows_begun, rows_ended}
 use Rattle.pg_cluster.specs.Together.{AreOneRun}
 
 abbrev pub Linked : Type 0
@@ -213,6 +210,7 @@ module _ {K : Type 0} (given : Config) (threads : List (Thread K)) (nodes : List
   one_run_by together = record {
     config = config;
     orders = made.begins.1;
+    apart = made.begins.2.traffic.nodes.apart;
     events = events_in end is.order;
     are = ap (map event_of) is.is ∙ schedule_is (length config) (length config) logs (λ i. log_of (end i)) (λ i. clocks_of (log_of (end i))) (λ i. 0) is.order few log_is merges
         (all_there (frame_machine config) (start_of (frame_machine config)) together.w (events_in end is.order) together.leads);

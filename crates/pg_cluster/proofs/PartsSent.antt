@@ -1,8 +1,6 @@
 -- What a node holds may cross threads.
-use denote.Hole.{as_row}
 use denote.Param.Send.{IsSend, sendable}
 use denote.Param.SendFields.{declared_send, variants_send, as_row_send}
-use denote.RattleType.{RattleType}
 use denote.Struct.Field.{u8-field, u32-field, u64-field}
 use Rattle.std.proofs.Crossing.{crosses, send as heap_send, frees}
 use Rattle.std.proofs.MapsCrossing.{crosses as maps}
@@ -23,7 +21,7 @@ use Rattle.pg_ends.specs.contracts.processes.Processes as Processes
 use Rattle.pg_term.specs.contracts.items.Items as Items
 use Rattle.pg_term.specs.contracts.pid.Pid as Pid
 use Rattle.pg_term.specs.contracts.term.Term as Term
-use Rattle.pg_cluster.proofs.TermsSent.{atom_send, pid_send, reference_send, items_send, fields_send, boxed_send, term_send, u8_send}
+use Rattle.pg_cluster.proofs.TermsSent.{atom_send, pid_send, reference_send, items_send, term_send, u8_send}
 
 pub opid_send : IsSend OpId.the_row
 opid_send = search (sendable, crosses) depth 30

@@ -4,7 +4,7 @@ use Rattle.std.proofs.lemmas.Bool.Decides.{eqb_tells}
 use Rattle.std.proofs.lemmas.List.{append-nil, get_or-set_same, get_or-set_other, get_or_default, length-set}
 use Rattle.pg_ring.specs.declared.ring_out.RingOut.{RingOut}
 use Rattle.pg_ring.specs.declared.ring_in.RingIn.{RingIn}
-use Rattle.pg_ring.specs.Ends.{AreEnds, Sends, Receives, bytes_sent, bytes_received}
+use Rattle.pg_ring.specs.Ends.{Sends, Receives, bytes_sent, bytes_received}
 use Rattle.pg_ring.specs.EndsLaws.{Sends-rests, Sends-composes, Receives-rests, Receives-composes, AreEnds-later}
 use Rattle.pg_together.specs.Apart.{End}
 use Rattle.pg_cluster.specs.Ended.{Arrived, SameEnd, SameRow, SameRows, AreEndsAt, ArrivedAt, Row}

@@ -1,5 +1,5 @@
 -- Lemmas on a list of threads that grows as the list of their nodes shrinks.
-use Rattle.std.proofs.Common.{◌≡◌, ◌≢◌, ◌<◌, ◌≤◌, ◌+◌, ℕ, List, [], ◌∷◌, ◌++◌, length, map, drop, get_or, refl, sym, ◌∙◌, ap, arith, inl, inr, length-append, length-drop, suc, add-one, add-zero, subst}
+use Rattle.std.proofs.Common.{◌≡◌, ◌<◌, ◌+◌, ℕ, List, [], ◌∷◌, ◌++◌, length, map, drop, get_or, sym, ◌∙◌, ap, arith, inl, inr, length-append, length-drop, suc, add-one, add-zero, subst}
 use Rattle.std.specs.List.{All}
 use Rattle.std.proofs.lemmas.List.{get_or-drop, get_or-map, get_or_push, length-map, nil_from_length}
 use lib.Seq.{ext_get_or}
@@ -7,9 +7,11 @@ use mathlib.Core.List.{append-nil, append_assoc, map-map}
 use Rattle.std.proofs.lemmas.Bool.Decides.{eqb_tells}
 use Rattle.std.proofs.Math.ListN.{get_or-append}
 use Rattle.std.proofs.Math.Seq.{get_or-append_seam, drop-cons}
+use Rattle.pg_run.specs.declared.port.Client.{Client}
 use Rattle.pg_step.specs.Config.{Config}
+use Rattle.pg_cluster.specs.Clients.{AllPairs, IsOpen, ports_begun}
 use Rattle.pg_cluster.specs.Ended.{AreWired}
-use Rattle.pg_cluster.specs.Threads.{AreMade, RunOf, Thread, StartedWith, begun_by, limit_of as turns_of, row_in, rows_begun}
+use Rattle.pg_cluster.specs.Threads.{AreMade, RunOf, Thread, StartedWith, begun_by, limit_of as turns_of, row_in, rows_begun, ports_of_runs}
 
 module _ {X : Type 0} where
   -- the first of what is left stands at the place where that begins
@@ -61,12 +63,27 @@ module _ {K : Type 0} where
       let same = started_runs runs limit threads started in
       subst (λ n. AreWired n (rows_begun threads)) (sym started.0) (subst (AreWired (length runs)) (ap (map row_in) (sym same) ∙ map-map row_in begun_by threads) made.wired)
 
+  -- and its clients
+  pub started_clients : (runs : List (RunOf K)) (limit : ℕ) (threads : List (Thread K)) (clients : List Client) → StartedWith runs limit threads
+      → AllPairs IsOpen clients (ports_of_runs runs) → AllPairs IsOpen clients (ports_begun threads)
+  started_clients runs limit threads clients started opened =
+      subst (λ (rs : List (RunOf K)). AllPairs IsOpen clients (ports_of_runs rs)) (sym (started_runs runs limit threads started)) opened
+
 -- ---- lists of which one moves to another
 
 module _ {X Y : Type 0} (f : X → Y) where
   -- the first of what is left goes behind what is there
   pub one_moves : (ys : List Y) (xs rest : List X) (x : X) (all : List Y) → x ∷ rest ≡ xs → ys ++ map f xs ≡ all → (ys ++ f x ∷ []) ++ map f rest ≡ all
   one_moves ys xs rest x all e same = append_assoc ys (f x ∷ []) (map f rest) ∙ (ap (λ (zs : List X). ys ++ map f zs) e ∙ same)
+
+  -- nothing has moved
+  pub none_moved : (ys : List Y) (xs all : List X) → ys ≡ [] → xs ≡ all → ys ++ map f xs ≡ map f all
+  none_moved ys xs all none same = ap (λ (zs : List Y). zs ++ map f xs) none ∙ ap (map f) same
+
+  -- the first of what is left was pushed
+  pub pushed_moves : (ys new : List Y) (y : Y) (xs rest : List X) (x : X) (all : List Y) → new ≡ ys ++ y ∷ [] → y ≡ f x → xs ≡ x ∷ rest → ys ++ map f xs ≡ all → new ++ map f rest ≡ all
+  pushed_moves ys new y xs rest x all pushed is first was =
+      ap (λ (zs : List Y). zs ++ map f rest) (pushed ∙ ap (λ z. ys ++ z ∷ []) is) ∙ one_moves ys xs rest x all (sym first) was
 
   -- all has moved
   pub all_moved : (ys : List Y) (xs : List X) (all : List Y) → xs ≡ [] → ys ++ map f xs ≡ all → ys ≡ all

@@ -1,15 +1,11 @@
 -- What a cluster that has ended is judged by.
-use Rattle.std.specs.Prelude.{◌≡◌, ℕ, Bool, true, false, not, ◌&&◌, List, Option, Some, None, is_none, is_some, slice_get}
+use Rattle.std.specs.Prelude.{◌≡◌, ℕ, Bool, true, false, not, ◌&&◌, List, Some, is_none, is_some, slice_get}
 use Rattle.std.specs.declared.vec.Vec.{Vec}
 use Rattle.std.specs.declared.alloc.Global.{Global}
 use Rattle.std.specs.List.{All, list_all, list_any}
 use Rattle.pg_term.specs.declared.pid.Pid.{Pid}
 use Rattle.pg_term.specs.declared.term.Term.{Term}
-use Rattle.pg_term.specs.Same.{same_term}
 use Rattle.pg_group.specs.declared.table.GroupTable.{Ghosts}
-use Rattle.pg_group.specs.Members.{IsMemberList}
-use Rattle.pg_group.specs.Scope.{anywhere}
-use Rattle.pg_group.specs.Value.{Value}
 use Rattle.pg_node.specs.declared.node.Node.{Node}
 use Rattle.pg_node.specs.Nodes.{held_by}
 use Rattle.pg_node.specs.States.{kept_by, left_of}
@@ -75,14 +71,3 @@ module _ {T : Type 0} {g : Ghosts T} where
   -- they do, where no end is pending
   abbrev pub Agree : List (Node T g) → List (Vec (ℕ × NodeEvent) Global) → Type 0
   Agree nodes logs = is_end_pending nodes logs ≡ false → AreOne nodes
-
--- what is told of a group: that there is none, or its members in order
-abbrev pub IsTold : Value → Option (Vec Pid Global) → Type 0
-IsTold value None = value ≡ None
-IsTold value (Some pids) = (is_some value ≡ true) × IsMemberList value anywhere pids.items
-
--- both are none, or both are these members
-abbrev pub AreSame : Option (Vec Pid Global) → Option (Vec Pid Global) → Type 0
-AreSame None None = Unit {0}
-AreSame (Some pids) (Some others) = pids.items ≡ others.items
-AreSame pids others = ⊥

@@ -1,4 +1,7 @@
+pub mod Clients
+pub mod ClientsLaws
 pub mod Closed
+pub mod Conversations
 pub mod Ended
 pub mod Fault
 pub mod Judges

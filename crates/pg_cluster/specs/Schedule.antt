@@ -1,5 +1,5 @@
 -- The schedule to which logs join.
-use Rattle.std.specs.Prelude.{◌≡◌, ℕ, ◌+◌, ◌-◌, ◌^◌, cond, nat_lt, min, map, List, [], ◌∷◌}
+use Rattle.std.specs.Prelude.{◌≡◌, ℕ, ◌+◌, ◌-◌, ◌^◌, cond, nat_lt, min, map, List}
 use Rattle.std.specs.List.{flat_map}
 use Rattle.pg_joining.specs.Merge.{Merges, clocks_in, log_at, entry_at}
 use Rattle.pg_run.specs.declared.log.NodeEvent.{NodeEvent}

@@ -1,6 +1,6 @@
 -- The threads of a cluster, and what comes back from them.
 use Rattle.std.specs.Prelude.{◌≡◌, ℕ, ◌<◌, ◌≤◌, List, [], length, map, slice_index_or}
-use Rattle.std.specs.List.{All}
+use Rattle.std.specs.List.{All, flat_map}
 use Rattle.std.specs.declared.thread.PromisedHandle.{PromisedHandle}
 use Rattle.pg_index.specs.declared.index_table.IndexTable.{IndexTable}
 use Rattle.pg_index.specs.contracts.index_table.IndexTableGroupTable.TheImpl.{ghosts}
@@ -8,10 +8,12 @@ use Rattle.pg_node.specs.declared.node.Node.{Node}
 use Rattle.pg_ring.specs.declared.ring_out.RingOut.{RingOut}
 use Rattle.pg_ring.specs.declared.ring_in.RingIn.{RingIn}
 use Rattle.pg_run.specs.declared.log.NodeEvent.{NodeEvent}
+use Rattle.pg_run.specs.declared.port.Port.{Port}
 use Rattle.pg_run.specs.declared.run.NodeRun.{NodeRun}
 use Rattle.pg_run.specs.declared.running.Ran.{Ran}
 use Rattle.pg_run.specs.Follows.{node_of, peers_of, log_of}
-use Rattle.pg_run.specs.Runs.{linked_of}
+use Rattle.pg_run.specs.Ports.{IsUnused}
+use Rattle.pg_run.specs.Runs.{linked_of, ports_at}
 use Rattle.pg_cluster.specs.declared.promise.RanFrom.{RanFrom}
 use Rattle.pg_step.specs.Config.{Config}
 use Rattle.pg_together.specs.Apart.{End}
@@ -46,13 +48,19 @@ module _ {K : Type 0} where
   abbrev pub log_in : RunOf K → List (ℕ × NodeEvent)
   log_in run = log_of (linked_of run)
 
-  -- These are the nodes of a configuration as they start, each with a log in which nothing stands, and with rings between each two.
+  -- the ports of these nodes, those of the first node first
+  abbrev pub ports_of_runs : List (RunOf K) → List Port
+  ports_of_runs runs = flat_map ports_at runs
+
+  -- These are the nodes of a configuration as they start, each with a log in which nothing stands and ports that were not used, and
+  -- with rings between each two.
   pub record AreMade (given : Config) (runs : List (RunOf K)) : Type 0 where
     pub count : length runs ≡ length given
     pub some : 0 < length given
     pub few : length given ≤ 16
     pub begins : BytesBegin given (idle_crossing (map node_in runs)) no_account
     pub unlogged : All (λ run. log_in run ≡ []) runs
+    pub unused : All IsUnused (ports_of_runs runs)
     pub wired : AreWired (length runs) (map row_in runs)
 
   -- ---- threads

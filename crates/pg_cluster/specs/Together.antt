@@ -1,12 +1,14 @@
 -- What a cluster that has ended did, as one run of its configuration.
 use Rattle.std.specs.Prelude.{◌≡◌, ℕ, ◌<◌, length, map, slice_get, List, Some}
+use Rattle.std.specs.List.{IsDistinct}
+use Rattle.pg_term.specs.Same.{same_atom}
 use Rattle.pg_machine.specs.Machine.{Event, start_of}
 use Rattle.pg_machine.specs.Clocked.{plain}
 use Rattle.pg_machine.specs.Runs.{Leads, events_of}
 use Rattle.pg_history.specs.Headline.{OneHistory}
 use Rattle.pg_joining.specs.Merge.{log_at}
 use Rattle.pg_run.specs.declared.log.NodeEvent.{NodeEvent}
-use Rattle.pg_step.specs.Config.{Config}
+use Rattle.pg_step.specs.Config.{Config, names_of}
 use Rattle.pg_step.specs.FrameMachine.{frame_machine}
 use Rattle.pg_step.specs.Step.{Action}
 use Rattle.pg_together.specs.Apart.{event_at}
@@ -22,6 +24,8 @@ pub record AreOneRun (given : Config) (nodes : List NodeOf) (logs : List (List (
   -- the configuration with the groups of each node in order
   pub config : Config
   pub orders : Orders given config
+  -- its nodes have different names
+  pub apart : IsDistinct same_atom (names_of config)
   pub events : List (Event Action)
   pub are : map event_of schedule ≡ map Some events
   pub w : TimedFrameWorld

@@ -1,13 +1,14 @@
 //! A cluster between its start and its end.
 
 ghost use Rattle.std.specs.Prelude.{◌≡◌, ◌≤◌, IfOk, MatchResult, length, map, vec_len, vec_capacity};
+ghost use Rattle.pg_cluster.specs.Clients.{ports_begun};
 ghost use Rattle.pg_cluster.specs.Ended.{AreWired};
 ghost use Rattle.pg_cluster.specs.Room.{HasRoom};
 ghost use Rattle.pg_cluster.specs.Threads.{rows_begun};
 
 use crate::closed::{Closed, Room, Stopped, stopped_of};
 use crate::fault::StartFault;
-use crate::laws::threads_are_one_run;
+use crate::laws::{nodes_of_one_run_agree, threads_are_one_run};
 use crate::promise::{NodeRan, NodeThread};
 use crate::runs::make;
 use crate::threads::{start_all, stop_all};
@@ -29,15 +30,18 @@ pub struct Cluster<K: Rng + Drop> {
     room: Room,
     alloc: Global,
     ghost rans_fit: { (vec_len rans ≡ 0) × (vec_len threads ≤ vec_capacity rans) },
-    ghost room_fits: { HasRoom room (vec_len threads) },
+    ghost room_fits: { HasRoom room (vec_len threads) (length (ports_begun threads.items)) },
     ghost wired: { AreWired (length threads.items) (rows_begun threads.items) },
 }
 
 impl<K: Rng + Drop + Send + 'static> Cluster<K> {
+    ghost use Rattle.pg_run.specs.Ports.{IsSilent};
+    ghost use Rattle.pg_cluster.specs.Clients.{AreClients, ClientsRest, AllHeard};
     ghost use Rattle.pg_cluster.specs.Closed.{threads_of, nodes_of, logs_of, clients_of};
     ghost use Rattle.std.specs.List.{All};
     ghost use Rattle.pg_cluster.specs.Threads.{AreMade, EndedWith, begun_by, limit_of};
     ghost use Rattle.pg_step.specs.Config.{Config as Configuration};
+    ghost use Rattle.pg_cluster.specs.Judges.{Agree};
     ghost use Rattle.pg_cluster.specs.Schedule.{IsSchedule};
     ghost use Rattle.pg_cluster.specs.Together.{AreOneRun};
 
@@ -57,12 +61,14 @@ impl<K: Rng + Drop + Send + 'static> Cluster<K> {
         requires generators { length generators.items ≡ length config.now.starts.items }
         ensures starts { IfOk result (λ started. AreMade config.now.starts.items (map begun_by (threads_of started.0))) }
         ensures limit { IfOk result (λ started. All (λ thread. limit_of thread ≡ limit) (threads_of started.0)) }
+        ensures clients { IfOk result (λ started. AreClients (threads_of started.0) started.1.items) }
+        ensures silent { IfOk result (λ started. All IsSilent started.1.items) }
     {
         let made = make(alloc, config, generators)?;
         let count = made.runs.len();
         let mut stops = made.stops;
         let rans = Vec::with_capacity(alloc, count)?;
-        let room = Room::with_capacity(alloc, count)?;
+        let room = Room::with_capacity(alloc, count, made.clients.len())?;
         let Ok(gate) = Arc::new(alloc, gate) else {
             return Err(StartFault::NoThread);
         };
@@ -78,17 +84,26 @@ impl<K: Rng + Drop + Send + 'static> Cluster<K> {
     }
 
     /// Stops the threads and joins them: the nodes as they ended, their logs, and the schedule to which these join, which is one run
-    /// of the configuration that was started. `clients`: those that `start` gave, in their order. It may wait for threads.
+    /// of the configuration that was started, and what of that which the clients said and heard is in it. `clients`: those that
+    /// `start` gave, in their order. It may wait for threads.
     ///
     /// Error: where there is no memory for the schedule, what stopped, of which `finish` tries again.
     pub fn close<R: Threads>(self, rt: &R, clients: Vec<Client>) -> Result<Closed, Stopped>
+        requires clients { AreClients (threads_of self) clients.items }
         ensures ended { MatchResult result
             (λ closed. EndedWith (threads_of self) closed.nodes.items (map (λ v. v.items) closed.logs.items))
             (λ stopped. EndedWith (threads_of self) (nodes_of stopped) (logs_of stopped)) }
         ensures one_run { IfOk result (λ closed. (given : Configuration) → AreMade given (map begun_by (threads_of self))
             → AreOneRun given closed.nodes.items (map (λ v. v.items) closed.logs.items) closed.schedule.items) }
+        ensures agree { IfOk result (λ closed. (given : Configuration) → AreMade given (map begun_by (threads_of self))
+            → Agree closed.nodes.items closed.logs.items) }
         ensures schedule { IfOk result (λ closed. IsSchedule (map (λ v. v.items) closed.logs.items) (length closed.logs.items) closed.schedule.items) }
-        ensures clients { MatchResult result (λ closed. closed.clients.items ≡ clients.items) (λ stopped. clients_of stopped ≡ clients.items) }
+        ensures heard { MatchResult result
+            (λ closed. (given : Configuration) → AreMade given (map begun_by (threads_of self))
+            → AllHeard (threads_of self) closed.nodes.items (map (λ v. v.items) closed.logs.items) clients.items)
+            (λ stopped. (given : Configuration) → AreMade given (map begun_by (threads_of self))
+            → AllHeard (threads_of self) (nodes_of stopped) (logs_of stopped) clients.items) }
+        ensures clients { MatchResult result (λ closed. ClientsRest clients.items closed.clients.items) (λ stopped. ClientsRest clients.items (clients_of stopped)) }
     {
         let Cluster {
             threads,
@@ -103,6 +118,7 @@ impl<K: Rng + Drop + Send + 'static> Cluster<K> {
         }
         let stopped = stopped_of(alloc, rans, room, clients);
         threads_are_one_run::<K>();
+        nodes_of_one_run_agree();
         stopped.finish()
     }
 }

@@ -2,6 +2,8 @@
 
 ghost use Rattle.std.specs.Prelude.{◌≡◌, IfOk, OnOk, length};
 ghost use Rattle.std.specs.Io.KnownBytes.{Appends};
+ghost use Rattle.pg_cluster.specs.Clients.{SameClients};
+ghost use Rattle.pg_cluster.specs.Conversations.{AreAsked, IsBare, TookPlace};
 ghost use Rattle.pg_cluster.specs.Outcomes.{is_good, outcome_lines, yes_or_no};
 
 use crate::cluster::Cluster;
@@ -36,13 +38,19 @@ pub struct Conversation {
 }
 
 impl Conversation {
+    ghost use Rattle.pg_cluster.specs.Conversations.{all_clients, all_commands};
+
     /// How many clients all nodes have.
-    fn all_clients(&self) -> u64 {
+    fn all_clients(&self) -> u64
+        ensures { result ≡ all_clients self.now }
+    {
         u64::from(self.nodes).saturating_mul(u64::from(self.clients))
     }
 
     /// How many commands are to be asked: the create, and of each client a make and its rounds.
-    fn commands(&self) -> u64 {
+    fn commands(&self) -> u64
+        ensures { result ≡ all_commands self.now }
+    {
         let each = u64::from(self.rounds).saturating_mul(2).saturating_add(1);
         self.all_clients().saturating_mul(each).saturating_add(1)
     }
@@ -110,7 +118,9 @@ pub fn run_threads<R: Threads>(
     rt: &R,
     alloc: Global,
     asked: Conversation,
-) -> Result<Outcome, StartFault> {
+) -> Result<Outcome, StartFault>
+    ensures { IfOk result (TookPlace asked) }
+{
     let config = config_of(alloc, asked)?;
     let generators = generators(alloc, config.starts.len(), asked.seed)?;
     let (cluster, mut clients) = Cluster::start(rt, alloc, &config, generators, Open, asked.turns)?;
@@ -131,7 +141,9 @@ pub fn run_threads<R: Threads>(
 }
 
 /// The nodes `n1`, `n2` and so on, with as many ports as clients.
-fn config_of(alloc: Global, asked: Conversation) -> Result<Config, StartFault> {
+fn config_of(alloc: Global, asked: Conversation) -> Result<Config, StartFault>
+    ensures { IfOk result (λ config. AreAsked asked config.starts.items) }
+{
     let mut starts = Vec::with_capacity(alloc, MAX_NODES)?;
     for place in 0..asked.nodes {
         starts.push(start_of(alloc, u32::from(place) + 1, asked.clients)?)?;
@@ -139,7 +151,9 @@ fn config_of(alloc: Global, asked: Conversation) -> Result<Config, StartFault> {
     Ok(Config { ring: RING, starts })
 }
 
-fn start_of(alloc: Global, number: u32, ports: u16) -> Result<Start, StartFault> {
+fn start_of(alloc: Global, number: u32, ports: u16) -> Result<Start, StartFault>
+    ensures { IfOk result (IsBare ports) }
+{
     let text = format!(in alloc; "n{number}")?;
     let Ok(name) = Atom::new(alloc, text.as_str()) else {
         return Err(StartFault::World(WorldFault::OutOfMemory));
@@ -168,7 +182,9 @@ fn converse(
     alloc: Global,
     clients: &mut Vec<Client>,
     asked: Conversation,
-) -> Result<u64, AllocError> {
+) -> Result<u64, AllocError>
+    ensures { SameClients clients.old.items clients.new.items }
+{
     let mut speakers = Vec::with_capacity(alloc, clients.len())?;
     for place in 0..clients.len() {
         speakers.push(if place == 0 {
@@ -194,7 +210,9 @@ fn speak_all(
     alloc: Global,
     clients: &mut Vec<Client>,
     speakers: &mut Vec<Speaker>,
-) -> Result<bool, AllocError> {
+) -> Result<bool, AllocError>
+    ensures { SameClients clients.old.items clients.new.items }
+{
     let mut moved = false;
     for place in 0..clients.len().min(speakers.len()) {
         let speaker = &mut speakers[place];

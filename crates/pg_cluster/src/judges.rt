@@ -8,10 +8,8 @@ ghost use Rattle.pg_cluster.specs.Judges.{
   AreShown as AreShownAll,
   AgreesWith,
   AreOne,
-  AreSame,
   HasAs,
   formed_in,
-  IsTold,
   is_pending_end,
   is_end_pending as is_some_pending,
   is_seen_free as is_free,
@@ -20,10 +18,10 @@ ghost use Rattle.pg_cluster.specs.Judges.{
 };
 
 use crate::closed::Closed;
-use pg_group::{GroupTable, one_member_list};
+use pg_group::GroupTable;
 use pg_index::IndexTable;
 use pg_node::Node;
-use pg_query::{QueryFault, members};
+use pg_query::same_group;
 use pg_run::{LogEntry, NodeEvent};
 use pg_step::Command;
 use pg_term::{Pid, Term};
@@ -228,34 +226,5 @@ fn has_as(
     if !other.state().formed() {
         return Ok(true);
     }
-    one_member_list();
-    let pids = members_of(alloc, one, name)?;
-    let others = members_of(alloc, other, name)?;
-    Ok(are_same(pids, others))
-}
-
-/// Whether two groups are both absent or have the same members.
-fn are_same(pids: Option<Vec<Pid>>, others: Option<Vec<Pid>>) -> bool
-    ensures { IsTrue result ↔ AreSame pids others }
-{
-    match (pids, others) {
-        (Some(pids), Some(others)) => pids == others,
-        (None, None) => true,
-        _ => false,
-    }
-}
-
-/// The members of a group at a node, in their order; none where there is no such group.
-fn members_of(
-    alloc: Global,
-    node: &Node<IndexTable>,
-    name: &Term,
-) -> Result<Option<Vec<Pid>>, AllocError>
-    ensures { IfOk result (IsTold ((state_in node.now).table name.now)) }
-{
-    match members(alloc, node.state().table(), name) {
-        Ok(pids) => Ok(Some(pids.into_vec())),
-        Err(QueryFault::NoSuchGroup) => Ok(None),
-        Err(_) => Err(AllocError),
-    }
+    same_group(alloc, one.state().table(), other.state().table(), name)
 }

@@ -1,11 +1,15 @@
 ghost use Rattle.std.specs.Prelude.{ℕ, List, length, map};
+ghost use Rattle.std.specs.declared.alloc.Global.{Global};
+ghost use Rattle.std.specs.declared.vec.Vec.{Vec};
 ghost use Rattle.pg_run.specs.declared.log.NodeEvent.{NodeEvent};
 ghost use Rattle.pg_step.specs.Config.{Config};
 ghost use Rattle.pg_world.specs.declared.step.FrameStep.{FrameStep};
+ghost use Rattle.pg_cluster.specs.Judges.{Agree};
 ghost use Rattle.pg_cluster.specs.Schedule.{IsSchedule};
 ghost use Rattle.pg_cluster.specs.Threads.{NodeOf, Thread, AreMade, EndedWith, begun_by};
 ghost use Rattle.pg_cluster.specs.Together.{AreOneRun};
 
+use pg_history::{ended_processes_were_finished, no_loss_is_seen};
 use pg_together::nodes_ran_together;
 
 /// The nodes of a configuration that ran as threads, with rings between them, made one run: their schedule is events that happen one
@@ -17,4 +21,13 @@ pub fn threads_are_one_run<K>()
         → AreOneRun given nodes logs schedule }
 {
     nodes_ran_together();
+}
+
+/// The nodes of one run agree.
+pub fn nodes_of_one_run_agree()
+    ensures { (given : Config) (nodes : List NodeOf) (logs : List (Vec (ℕ × NodeEvent) Global)) (schedule : List FrameStep)
+        → AreOneRun given nodes (map (λ v. v.items) logs) schedule → Agree nodes logs }
+{
+    ended_processes_were_finished();
+    no_loss_is_seen();
 }

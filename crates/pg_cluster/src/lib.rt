@@ -19,5 +19,5 @@ pub use closed::{Closed, Stopped};
 pub use cluster::Cluster;
 pub use conversation::{Conversation, Outcome, run_threads};
 pub use fault::StartFault;
-pub use laws::threads_are_one_run;
+pub use laws::{nodes_of_one_run_agree, threads_are_one_run};
 pub use pg_run::{Client, Gate, LogEntry, NodeEvent};

@@ -1,10 +1,13 @@
 //! Both ends of each ring in one hand, once the threads have ended.
 
-ghost use Rattle.std.specs.Prelude.{◌<◌, vec_len, length, map};
+ghost use Rattle.std.specs.Prelude.{◌≡◌, ◌<◌, ◌≤◌, ◌+◌, ◌++◌, vec_len, vec_capacity, length, map};
+ghost use Rattle.pg_run.specs.Ports.{ArePort, Meets};
+ghost use Rattle.pg_cluster.specs.Clients.{AllPairs, ClientsRest};
 ghost use Rattle.pg_cluster.specs.Ended.{AreJoined, AllArrived, AreEndsAt, ArrivedAt, AreLast, ArrivedLast, SameRow, SameRows};
 
 use crate::wires::Row;
 use pg_ring::together;
+use pg_run::{Client, Port, ports_together};
 
 /// Looks at both ends of each ring between nodes, whose links these are: what was received, and then what is left, is what was sent.
 pub(crate) fn settle_all(rows: Vec<Row>)
@@ -42,4 +45,26 @@ fn settle(low: &mut Row, p: usize, high: &mut Row, q: usize)
     let there = &mut high[q];
     together(&mut here.link, &mut there.inlet);
     together(&mut there.link, &mut here.inlet);
+}
+
+/// Looks at both ends of each of these ports: what came at the node is the first of what was submitted, and what was polled is the
+/// first of what was handed over.
+pub(crate) fn settle_ports(ports: &mut Vec<Port>, clients: &mut Vec<Client>)
+    requires { AllPairs ArePort clients.old.items ports.old.items }
+    ensures clients { ClientsRest clients.old.items clients.new.items }
+    ensures meets { AllPairs Meets clients.old.items ports.old.items }
+{
+    for place in 0..ports.len() {
+        ports_together(&mut clients[place], &mut ports[place]);
+    }
+}
+
+/// Moves ports behind others, for which there is room.
+pub(crate) fn move_ports(all: &mut Vec<Port>, ports: Vec<Port>)
+    requires room { vec_len all.old + vec_len ports ≤ vec_capacity all.old }
+    ensures items { all.new.items ≡ all.old.items ++ ports.items }
+    ensures capacity { vec_capacity all.old ≤ vec_capacity all.new }
+{
+    let mut ports = ports;
+    let _ = all.append(&mut ports);
 }

@@ -2,7 +2,8 @@
 
 ghost use Rattle.std.specs.Prelude.{◌≡◌, IfOk, [], length, map};
 ghost use Rattle.std.specs.List.{All as AllOf};
-ghost use Rattle.pg_cluster.specs.Threads.{AreMade, node_in as node_of_run, row_in as row_of_run, log_in as log_of_run};
+ghost use Rattle.pg_cluster.specs.Clients.{AllPairs as Pairs, IsOpen as IsOpened, OpensMore};
+ghost use Rattle.pg_cluster.specs.Threads.{AreMade, node_in as node_of_run, row_in as row_of_run, log_in as log_of_run, ports_of_runs as ports_in_runs};
 
 use crate::fault::StartFault;
 use crate::wires::{Row, wire_all};
@@ -34,6 +35,7 @@ pub(crate) fn make<K: Rng + Drop>(
     generators: Vec<K>,
 ) -> Result<Made<K>, StartFault>
     ensures made { IfOk result (λ made. AreMade config.now.starts.items made.runs.items) }
+    ensures clients { IfOk result (λ made. Pairs IsOpened made.clients.items (ports_in_runs made.runs.items)) }
 {
     let nodes = match starting_nodes(alloc, config) {
         Ok(nodes) => nodes,
@@ -56,6 +58,7 @@ fn make_all<K: Rng + Drop>(
     ensures nodes { IfOk result (λ made. map node_of_run made.runs.items ≡ nodes.items) }
     ensures rows { IfOk result (λ made. map row_of_run made.runs.items ≡ map (λ v. v.items) rows.items) }
     ensures unlogged { IfOk result (λ made. AllOf (λ run. log_of_run run ≡ []) made.runs.items) }
+    ensures clients { IfOk result (λ made. Pairs IsOpened made.clients.items (ports_in_runs made.runs.items)) }
 {
     let mut made = Made {
         runs: Vec::new(alloc),
@@ -76,7 +79,8 @@ fn make_all<K: Rng + Drop>(
 impl<K: Rng + Drop> Made<K> {
     ghost use Rattle.std.specs.Prelude.{◌≡◌, ◌++◌, ◌∷◌, [], OnOk, map};
     ghost use Rattle.std.specs.List.{All};
-    ghost use Rattle.pg_cluster.specs.Threads.{node_in, row_in, log_in};
+    ghost use Rattle.pg_cluster.specs.Clients.{AllPairs, IsOpen};
+    ghost use Rattle.pg_cluster.specs.Threads.{node_in, row_in, log_in, ports_of_runs};
 
     /// A further node, with its clients. It has as many links as the node has peers, else `BadConfig` is told.
     fn add(
@@ -89,6 +93,7 @@ impl<K: Rng + Drop> Made<K> {
         ensures nodes { OnOk result (map node_in self.new.runs.items ≡ map node_in self.old.runs.items ++ node ∷ []) }
         ensures rows { OnOk result (map row_in self.new.runs.items ≡ map row_in self.old.runs.items ++ row.items ∷ []) }
         ensures unlogged { OnOk result (All (λ run. log_in run ≡ []) self.old.runs.items → All (λ run. log_in run ≡ []) self.new.runs.items) }
+        ensures clients { OnOk result (AllPairs IsOpen self.old.clients.items (ports_of_runs self.old.runs.items) → AllPairs IsOpen self.new.clients.items (ports_of_runs self.new.runs.items)) }
     {
         if row.len() != node.state().peer_count() {
             return Err(StartFault::World(WorldFault::BadConfig));
@@ -113,7 +118,8 @@ fn open_ports(
     count: usize,
     clients: &mut Vec<Client>,
 ) -> Result<Vec<Port>, AllocError>
-    ensures { IfOk result (λ ports. length ports.items ≡ count) }
+    ensures count { IfOk result (λ ports. length ports.items ≡ count) }
+    ensures clients { IfOk result (λ ports. OpensMore clients.old.items clients.new.items ports.items) }
 {
     let mut ports = Vec::new(alloc);
     for _ in 0..count {

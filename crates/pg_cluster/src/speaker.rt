@@ -1,5 +1,7 @@
 //! What a client of a conversation says next.
 
+ghost use Rattle.pg_run.specs.Ports.{SameClient};
+
 use crate::Client;
 use pg_step::{Answer, Command, Reply};
 use pg_term::{Atom, Pid, Term};
@@ -72,7 +74,9 @@ impl Speaker {
     /// Polls an answer, or submits the next command; whether something moved.
     ///
     /// Error: `AllocError`.
-    pub(crate) fn speak(&mut self, alloc: Global, client: &mut Client) -> Result<bool, AllocError> {
+    pub(crate) fn speak(&mut self, alloc: Global, client: &mut Client) -> Result<bool, AllocError>
+        ensures { SameClient client.old client.new }
+    {
         if self.is_asked {
             match client.poll() {
                 Some(answer) => {
@@ -87,7 +91,9 @@ impl Speaker {
     }
 
     // Submits the command of the stage.
-    fn ask(&mut self, alloc: Global, client: &mut Client) -> Result<bool, AllocError> {
+    fn ask(&mut self, alloc: Global, client: &mut Client) -> Result<bool, AllocError>
+        ensures { SameClient client.old client.new }
+    {
         match self.command(alloc)? {
             Some(command) => {
                 self.is_asked = client.submit(command).is_ok();

@@ -1,7 +1,7 @@
 //! Gates that hold nodes, and what is seen through them.
 
-use crate::setting::{ask, client, cluster, config, group, is_well};
-use pg_cluster::{Client, Gate};
+use crate::setting::{Running, config, group, is_well};
+use pg_cluster::Gate;
 use pg_step::{Command, Reply};
 use std::alloc::Global;
 use std::sync::atomic::{AtomicU64, Ordering};
@@ -38,14 +38,14 @@ impl Gate for Held {
 }
 
 // Submits 64 commands, and one more: how many were taken, and whether the last was handed back.
-fn fill(alloc: Global, client: &mut Client) -> Result<(u64, bool), Fail> {
+fn fill(alloc: Global, running: &mut Running) -> Result<(u64, bool), Fail> {
     let mut taken: u64 = 0;
     for _ in 0..64 {
-        if client.submit(Command::WhichGroups).is_ok() {
+        if running.submit(0, Command::WhichGroups).is_ok() {
             taken = taken.saturating_add(1);
         }
     }
-    let back = client.submit(Command::Create(group(alloc)?));
+    let back = running.submit(0, Command::Create(group(alloc)?));
     Ok((taken, matches!(back, Err(Command::Create(_)))))
 }
 
@@ -58,10 +58,10 @@ fn full_port(rt: HostRuntime) -> Result<(), Fail> {
     let gate = Held {
         open: Arc::try_clone(&open)?,
     };
-    let (cluster, mut clients) = cluster(&rt, alloc, &config, gate, 1_000_000)?;
-    let (taken, is_back) = fill(alloc, client(&mut clients, 0)?)?;
+    let mut running = Running::start(&rt, alloc, &config, gate, 1_000_000)?;
+    let (taken, is_back) = fill(alloc, &mut running)?;
     open.store(1, Ordering::SeqCst);
-    let closed = cluster.close(&rt, clients).is_ok();
+    let closed = running.close(&rt).is_ok();
     assert!(rt; closed);
     assert_eq!(rt; taken, 64);
     assert!(rt; is_back);
@@ -96,8 +96,8 @@ fn nodes_run_at_once(rt: HostRuntime) -> Result<(), Fail> {
         here: Arc::try_clone(&here)?,
         missed: Arc::try_clone(&missed)?,
     };
-    let (cluster, clients) = cluster(&rt, alloc, &config, gate, 10)?;
-    let closed = cluster.close(&rt, clients).is_ok();
+    let running = Running::start(&rt, alloc, &config, gate, 10)?;
+    let closed = running.close(&rt).is_ok();
     assert!(rt; closed);
     assert_eq!(rt; missed.load(Ordering::SeqCst), 0);
     Ok(())
@@ -150,11 +150,11 @@ fn shared(
 fn is_created(
     rt: &impl Wait,
     alloc: Global,
-    clients: &mut [Client],
+    running: &mut Running,
     turns: &[Arc<AtomicU64, Global>],
 ) -> Result<bool, Fail> {
     let create = Command::Create(group(alloc)?);
-    let created = ask(rt, client(clients, 2)?, create);
+    let created = running.ask(rt, 2, create);
     let is_through = turns.iter().all(|turn| wait_for(turn, STEPS));
     Ok(is_through && created == Some(Reply::Ok))
 }
@@ -168,9 +168,9 @@ fn nodes_go_in_step(rt: HostRuntime) -> Result<(), Fail> {
     let gate = InStep {
         turns: shared(alloc, &turns)?,
     };
-    let (cluster, mut clients) = cluster(&rt, alloc, &config, gate, 1_000_000_000)?;
-    let is_created = is_created(&rt, alloc, &mut clients, &turns)?;
-    let Ok(closed) = cluster.close(&rt, clients) else {
+    let mut running = Running::start(&rt, alloc, &config, gate, 1_000_000_000)?;
+    let is_created = is_created(&rt, alloc, &mut running, &turns)?;
+    let Ok(closed) = running.close(&rt) else {
         return Err(Fail::new("no schedule"));
     };
     assert!(rt; is_created);

@@ -1,8 +1,10 @@
 //! Clusters that tests begin with.
 
 ghost use Rattle.std.specs.Prelude.{◌≡◌, IfOk, length};
+ghost use Rattle.pg_cluster.specs.Clients.{AreClients};
+ghost use Rattle.pg_cluster.specs.Closed.{threads_of};
 
-use pg_cluster::{Client, Closed, Cluster, Gate};
+use pg_cluster::{Client, Closed, Cluster, Gate, StartFault, Stopped};
 use pg_step::{Answer, Command, Reply, Start};
 use pg_term::{Atom, Items, Pid, Term, TermFault};
 use pg_world::Config;
@@ -51,16 +53,75 @@ pub fn generators(alloc: Global, count: usize) -> Result<Vec<Pcg32>, AllocError>
     Ok(all)
 }
 
-/// The nodes of a configuration as a cluster, and its clients.
-pub fn cluster<R: Threads, G: Gate + Drop + Send + Sync + 'static>(
-    rt: &R,
-    alloc: Global,
-    config: &Config,
-    gate: G,
-    limit: u64,
-) -> Result<(Cluster<Pcg32>, Vec<Client>), Fail> {
-    let generators = generators(alloc, config.starts.len())?;
-    Ok(Cluster::start(rt, alloc, config, generators, gate, limit)?)
+/// A cluster with its clients.
+#[derive(Drop)]
+pub struct Running {
+    cluster: Cluster<Pcg32>,
+    clients: Vec<Client>,
+    ghost own: { AreClients (threads_of cluster) clients.items },
+}
+
+impl Running {
+    /// The nodes of a configuration as a cluster, and its clients.
+    pub fn start<R: Threads, G: Gate + Drop + Send + Sync + 'static>(
+        rt: &R,
+        alloc: Global,
+        config: &Config,
+        gate: G,
+        limit: u64,
+    ) -> Result<Running, StartFault> {
+        let generators = generators(alloc, config.starts.len())?;
+        let (cluster, clients) = Cluster::start(rt, alloc, config, generators, gate, limit)?;
+        Ok(Running { cluster, clients })
+    }
+
+    /// How many clients it has.
+    pub fn client_count(&self) -> usize {
+        self.clients.len()
+    }
+
+    /// Submits a command at the client at a place, or hands it back.
+    pub fn submit(&mut self, place: usize, command: Command) -> Result<(), Command> {
+        if place >= self.clients.len() {
+            return Err(command);
+        }
+        self.clients[place].submit(command)
+    }
+
+    /// The next answer of the client at a place, if one is there.
+    pub fn poll(&mut self, place: usize) -> Option<Answer> {
+        if place >= self.clients.len() {
+            return None;
+        }
+        self.clients[place].poll()
+    }
+
+    /// The next answer, once it is there; none after very many looks.
+    pub fn answer(&mut self, rt: &impl Wait, place: usize) -> Option<Answer> {
+        for _ in 0..1_000_000_000u64 {
+            if let Some(answer) = self.poll(place) {
+                return Some(answer);
+            }
+            thread::yield_now();
+        }
+        None
+    }
+
+    /// Submits a command at the client at a place, and gives what it is answered.
+    pub fn ask(&mut self, rt: &impl Wait, place: usize, command: Command) -> Option<Reply> {
+        match self.submit(place, command) {
+            Ok(()) => match self.answer(rt, place) {
+                Some(answer) => Some(answer.reply),
+                None => None,
+            },
+            Err(_) => None,
+        }
+    }
+
+    /// Closes the cluster.
+    pub fn close<R: Threads>(self, rt: &R) -> Result<Closed, Stopped> {
+        self.cluster.close(rt, self.clients)
+    }
 }
 
 /// Whether nodes that ended agree, and their schedule leads to them.
@@ -68,37 +129,7 @@ pub fn is_well(alloc: Global, closed: &Closed, config: &Config) -> Result<bool, 
     Ok(closed.agrees(alloc)? && closed.replays(alloc, config)?)
 }
 
-/// The client at a place.
-pub fn client(clients: &mut [Client], place: usize) -> Result<&mut Client, Fail> {
-    match clients.get_mut(place) {
-        Some(client) => Ok(client),
-        None => Err(Fail::new("no such client")),
-    }
-}
-
 /// The name of the group.
 pub fn group(alloc: Global) -> Result<Term, TermFault> {
     Ok(Term::Atom(Atom::new(alloc, "g")?))
-}
-
-/// The next answer, once it is there; none after very many looks.
-pub fn answer(rt: &impl Wait, client: &mut Client) -> Option<Answer> {
-    for _ in 0..1_000_000_000u64 {
-        if let Some(answer) = client.poll() {
-            return Some(answer);
-        }
-        thread::yield_now();
-    }
-    None
-}
-
-/// Submits a command, and gives what it is answered.
-pub fn ask(rt: &impl Wait, client: &mut Client, command: Command) -> Option<Reply> {
-    match client.submit(command) {
-        Ok(()) => match answer(rt, client) {
-            Some(answer) => Some(answer.reply),
-            None => None,
-        },
-        Err(_) => None,
-    }
 }

@@ -1,5 +1,5 @@
 -- How a node goes on, phase by phase.
-use Rattle.std.proofs.Common.{◌≡◌, ◌≢◌, ◌<◌, ◌∙◌, ℕ, cond, get_or, length, List, [], ◌∷◌, ◌++◌, refl, ap, sym, subst, append-nil}
+use Rattle.std.proofs.Common.{◌≡◌, ◌≢◌, ◌<◌, ◌≤◌, ◌∙◌, ℕ, cond, get_or, length, List, [], ◌∷◌, ◌++◌, refl, ap, sym, subst, append-nil}
 use Rattle.std.specs.Prelude.{slice_set, Bool, true, false, Result, Ok, Err}
 use Rattle.std.proofs.lemmas.Bool.{eq-eqb, ne_eqb}
 use Rattle.std.proofs.lemmas.Grind.{flat_map-append}
@@ -18,7 +18,7 @@ use Rattle.pg_run.specs.declared.port.Asked.{Asked}
 use Rattle.pg_run.specs.Ports.{asked, handed, handed_count, kept_by, SamePort, Hands}
 use Rattle.pg_run.specs.Turns.{GoesOn, Serves, ServesPort, commands_at, command_at}
 use Rattle.pg_run.proofs.Following.{follows_itself, follows_on}
-use Rattle.pg_run.proofs.PortsGoing.{Grows, answers_grow, ports_wait, ports_follow_on, ports_set, port_gave_none, port_gave, port_kept, port_handed}
+use Rattle.pg_run.proofs.PortsGoing.{Grows, answers_in, answers_grow, ports_wait, ports_follow_on, ports_set, port_gave_none, port_gave, port_kept, port_handed}
 use Rattle.pg_step.specs.declared.command.OpId.{OpId}
 use Rattle.pg_step.specs.declared.command.Command.{Command}
 use Rattle.pg_step.specs.Step.{Action, Issue, Retry}
@@ -53,6 +53,10 @@ module _ {T L I : Type 0} {g : Ghosts T} (accepts : L → List ℕ → L → Typ
     pub goes_itself : (a : LinkedNode T L I g) → GoesOn accepts gives a a
     goes_itself a = goes_by_none a a (follows_itself accepts gives link_rests inlet_rests a)
 
+  grows_of : (acts : List Act) (a b : LinkedNode T L I g) → Follows accepts gives acts a b → (place : ℕ)
+      → Grows (answers_in place acts) (answers_of (held_by (node_of a)) place) (answers_of (held_by (node_of b)) place)
+  grows_of acts a b follows = answers_grow (names_of (held_by (node_of a))) (ports_of (held_by (node_of a))) (standing_of (node_of a)) acts (standing_of (node_of b)) follows.lead
+
   module _ (link_composes : (a b c : L) (xs ys : List ℕ) → accepts a xs b → accepts b ys c → accepts a (xs ++ ys) c)
       (inlet_composes : (a b c : I) (xs ys : List ℕ) → gives a xs b → gives b ys c → gives a (xs ++ ys) c) where
     pub goes_on : (a b c : LinkedNode T L I g) → GoesOn accepts gives a b → GoesOn accepts gives b c → GoesOn accepts gives a c
@@ -66,7 +70,7 @@ module _ {T L I : Type 0} {g : Ghosts T} (accepts : L → List ℕ → L → Typ
     serves_on a b c x y z h k = record {
       acts = h.acts ++ k.acts;
       follows = follows_on accepts gives link_composes inlet_composes h.acts k.acts a b c h.follows k.follows;
-      served = ports_follow_on h.acts k.acts (answers_of (held_by (node_of a))) (answers_of (held_by (node_of b))) (answers_of (held_by (node_of c))) x y z h.served k.served;
+      served = ports_follow_on h.acts k.acts (answers_of (held_by (node_of a))) (answers_of (held_by (node_of b))) (answers_of (held_by (node_of c))) x y z (grows_of h.acts a b h.follows) h.served k.served;
     }
 
   -- where no command came in, the ports wait
@@ -88,10 +92,6 @@ module _ {T L I : Type 0} {g : Ghosts T} (accepts : L → List ℕ → L → Typ
         (answers_grow (names_of (held_by (node_of a))) (ports_of (held_by (node_of a))) (standing_of (node_of a)) serves.acts (standing_of (node_of b)) serves.follows.lead);
   }
 
-  grows_of : (acts : List Act) (a b : LinkedNode T L I g) → Follows accepts gives acts a b → (place : ℕ)
-      → Grows (answers_of (held_by (node_of a)) place) (answers_of (held_by (node_of b)) place)
-  grows_of acts a b follows = answers_grow (names_of (held_by (node_of a))) (ports_of (held_by (node_of a))) (standing_of (node_of a)) acts (standing_of (node_of b)) follows.lead
-
   pub served_none : ((a : L) → accepts a [] a) → ((a : I) → gives a [] a) → (place : ℕ) (a : LinkedNode T L I g) (port port2 : Port) → SamePort port port2
       → ((before : List Asked) → asked port ≡ before ++ kept_by port → asked port2 ≡ before ++ kept_by port2) → handed port2 ≡ handed port
       → handed_count port2 ≡ handed_count port → ServesPort accepts gives place a port a port2
@@ -105,13 +105,13 @@ module _ {T L I : Type 0} {g : Ghosts T} (accepts : L → List ℕ → L → Typ
   -- what came of the command that a port gave
   pub served_command : (place : ℕ) (next : Asked) (r : Result (Unit {0}) (NodeFault × Command)) (a b : LinkedNode T L I g) (port m : Port)
       → SamePort port m → ((before : List Asked) → asked port ≡ before ++ kept_by port → asked m ≡ before ++ next ∷ []) → kept_by m ≡ []
-      → handed m ≡ handed port → handed_count m ≡ handed_count port → (done : Unit {0}) → r ≡ Ok done → Acted accepts gives (Issue place next.command) r a b
+      → handed m ≡ handed port → handed_count m ≡ handed_count port → next.polled ≤ handed_count m → (done : Unit {0}) → r ≡ Ok done → Acted accepts gives (Issue place next.command) r a b
       → ServesPort accepts gives place a port b m
-  served_command place next r a b port m same came none out count done ok acted =
+  served_command place next r a b port m same came none out count waited done ok acted =
       let acted2 : ActsOnce accepts gives (λ input. input ≡ Own (Issue place next.command)) a b = subst (λ x. Acted accepts gives (Issue place next.command) x a b) ok acted in record {
         acts = acted2.act ∷ [];
         follows = acted2.follows;
-        served = port_gave place acted2.act (answers_of (held_by (node_of a)) place) (answers_of (held_by (node_of b)) place) next port m same came none out count
+        served = port_gave place acted2.act (answers_of (held_by (node_of a)) place) (answers_of (held_by (node_of b)) place) next port m same came none out count waited
             (ap (λ input. command_at place input) acted2.wanted ∙ ap (λ b. cond b (next.command ∷ []) []) (eq-eqb place place refl))
             (grows_of (acted2.act ∷ []) a b acted2.follows place);
         quiet = λ other apart. append-nil (command_at other acted2.act.input) ∙ (ap (λ input. command_at other input) acted2.wanted

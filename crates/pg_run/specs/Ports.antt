@@ -1,5 +1,5 @@
 -- What a clause sees of the two ends of a port.
-use Rattle.std.specs.Prelude.{◌≡◌, ℕ, ◌≤◌, List, [], ◌∷◌, ◌++◌, Option, Some, None, length, take}
+use Rattle.std.specs.Prelude.{◌≡◌, ℕ, ◌≤◌, ◌-◌, ◌^◌, List, [], ◌∷◌, ◌++◌, Option, Some, None, length, min, take}
 use Rattle.pg_ring.specs.Slots.{given, taken, AreSlots, SameSlotOut, SameSlotIn}
 use Rattle.pg_run.specs.declared.port.Asked.{Asked}
 use Rattle.pg_run.specs.declared.port.Client.{Client}
@@ -16,9 +16,24 @@ submitted client = given client.commands
 abbrev pub polled : Client → List Answer
 polled client = taken client.answers
 
+-- how many these are, as a machine word counts them
+abbrev pub polled_count : Client → ℕ
+polled_count client = min (length (polled client)) (2 ^ 64 - 1)
+
 -- the same end of the same port
 abbrev pub SameClient : Client → Client → Type 0
 SameClient a b = SameSlotOut a.commands b.commands × SameSlotIn a.answers b.answers
+
+-- the same end, at which nothing was submitted or polled meanwhile
+pub record ClientRests (a b : Client) : Type 0 where
+  pub same : SameClient a b
+  pub submitted : submitted b ≡ submitted a
+  pub polled : polled b ≡ polled a
+
+-- nothing was ever submitted or polled
+pub record IsSilent (client : Client) : Type 0 where
+  pub submitted : submitted client ≡ []
+  pub polled : polled client ≡ []
 
 -- ---- the node's end
 
@@ -45,6 +60,21 @@ kept_by port = kept_in port.kept
 -- the same end of the same port
 abbrev pub SamePort : Port → Port → Type 0
 SamePort a b = SameSlotIn a.commands b.commands × SameSlotOut a.answers b.answers
+
+-- the same end, at which nothing came and nothing was handed over meanwhile
+pub record PortRests (a b : Port) : Type 0 where
+  pub same : SamePort a b
+  pub asked : asked b ≡ asked a
+  pub kept : kept_by b ≡ kept_by a
+  pub handed : handed b ≡ handed a
+  pub count : handed_count b ≡ handed_count a
+
+-- nothing ever came, and nothing was handed over
+pub record IsUnused (port : Port) : Type 0 where
+  pub asked : asked port ≡ []
+  pub kept : kept_by port ≡ []
+  pub handed : handed port ≡ []
+  pub count : handed_count port ≡ 0
 
 -- what was handed over is the first of these answers
 pub record HandedOver (answers : List Answer) (port : Port) : Type 0 where
@@ -73,11 +103,13 @@ pub record Hands (answers : List Answer) (a b : Port) : Type 0 where
 abbrev pub ArePort : Client → Port → Type 0
 ArePort client port = AreSlots client.commands port.commands × AreSlots port.answers client.answers
 
--- nothing was submitted, and nothing handed over
-pub record AreNew (client : Client) (port : Port) : Type 0 where
-  pub submitted : submitted client ≡ []
-  pub polled : polled client ≡ []
-  pub asked : asked port ≡ []
-  pub kept : kept_by port ≡ []
-  pub handed : handed port ≡ []
-  pub count : handed_count port ≡ 0
+-- nothing went over it
+abbrev pub AreNew : Client → Port → Type 0
+AreNew client port = IsSilent client × IsUnused port
+
+-- What came at the node is the first of what was submitted, and what was polled is the first of what was handed over.
+pub record Meets (client : Client) (port : Port) : Type 0 where
+  pub on_the_way : List Asked
+  pub asked : submitted client ≡ asked port ++ on_the_way
+  pub unpolled : List Answer
+  pub polled : handed port ≡ polled client ++ unpolled

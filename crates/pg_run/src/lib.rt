@@ -8,6 +8,7 @@ mod moves;
 mod pauses;
 mod phases;
 mod port;
+mod ports;
 mod retries;
 mod run;
 mod running;
@@ -15,6 +16,7 @@ mod serving;
 
 pub use linked::{LinkedNode, Peer};
 pub use log::{LogEntry, NodeEvent};
-pub use port::{Asked, Client, PORT_PLACES, Port, port_pair};
+pub use port::{Asked, Client, PORT_PLACES, Port};
+pub use ports::{port_pair, ports_together};
 pub use run::{NodeRun, Turned};
 pub use running::{Gate, Ran, run_node};

@@ -1,10 +1,11 @@
 //! A port, at which the commands of a client come in: the client's end, and the node's.
 
-ghost use Rattle.std.specs.Prelude.{◌≡◌, ◌<◌, ◌+◌, ◌^◌, [], ◌∷◌, ◌++◌, IsTrue, IsFalse, IfOk, IfErr, IfSome, IfNone, OnOk, OnErr};
+ghost use Rattle.std.specs.Prelude.{◌≡◌, ◌<◌, ◌≤◌, ◌+◌, ◌-◌, ◌^◌, [], ◌∷◌, ◌++◌, min, length, IsTrue, IsFalse, IfErr, IfSome, IfNone, OnOk, OnErr};
+ghost use Rattle.pg_ring.specs.Slots.{taken};
 
 use crate::pauses::Pauses;
 use crate::phases::Phase;
-use pg_ring::{SlotIn, SlotOut, slot_pair};
+use pg_ring::{SlotIn, SlotOut};
 use pg_step::{Answer, Command, OpId};
 use std::alloc::{AllocError, Global};
 
@@ -21,59 +22,33 @@ pub struct Asked {
 /// The end of a port where commands are submitted and answers polled.
 #[derive(Drop)]
 pub struct Client {
-    commands: SlotOut<Asked>,
-    answers: SlotIn<Answer>,
-    polled: u64,
+    pub(crate) commands: SlotOut<Asked>,
+    pub(crate) answers: SlotIn<Answer>,
+    // How many answers were polled.
+    pub(crate) polled: u64,
+    ghost counted: { polled ≡ min (length (taken answers)) (2 ^ 64 - 1) },
 }
 
 /// The end of a port at its node.
 #[derive(Drop)]
 pub struct Port {
-    commands: SlotIn<Asked>,
-    answers: SlotOut<Answer>,
+    pub(crate) commands: SlotIn<Asked>,
+    pub(crate) answers: SlotOut<Answer>,
     // A command that came and was not taken by the node.
-    kept: Option<Asked>,
+    pub(crate) kept: Option<Asked>,
     // How many answers were handed over.
-    handed: usize,
-}
-
-ghost use Rattle.pg_run.specs.Ports.{ArePort, AreNew};
-
-/// The two ends of a new port.
-///
-/// Error: `AllocError`.
-pub fn port_pair(alloc: Global) -> Result<(Client, Port), AllocError>
-    ensures { IfOk result (λ pair. ArePort pair.0 pair.1 × AreNew pair.0 pair.1) }
-{
-    let Ok((to_node, from_client)) = slot_pair(alloc, PORT_PLACES) else {
-        return Err(AllocError);
-    };
-    let Ok((to_client, from_node)) = slot_pair(alloc, PORT_PLACES) else {
-        return Err(AllocError);
-    };
-    let client = Client {
-        commands: to_node,
-        answers: from_node,
-        polled: 0,
-    };
-    let port = Port {
-        commands: from_client,
-        answers: to_client,
-        kept: None,
-        handed: 0,
-    };
-    Ok((client, port))
+    pub(crate) handed: usize,
 }
 
 impl Client {
-    ghost use Rattle.pg_run.specs.Ports.{SameClient, submitted, polled};
+    ghost use Rattle.pg_run.specs.Ports.{SameClient, submitted, polled, polled_count};
 
-    /// Submits a command, or hands it back where 64 are on their way; then nothing was submitted. It waits for nobody, and takes
-    /// no memory. O(1).
+    /// Submits a command, with the count of the answers that were polled before it, or hands it back where 64 are on their way;
+    /// then nothing was submitted. It waits for nobody, and takes no memory. O(1).
     pub fn submit(&mut self, command: Command) -> Result<(), Command>
         ensures same { SameClient self.old self.new }
         ensures polled { polled self.new ≡ polled self.old }
-        ensures ok { OnOk result (submitted self.new ≡ submitted self.old ++ record { command = command; polled = self.old.polled } ∷ []) }
+        ensures ok { OnOk result (submitted self.new ≡ submitted self.old ++ record { command = command; polled = polled_count self.old } ∷ []) }
         ensures back { IfErr result (λ back. back ≡ command) }
         ensures err { OnErr result (submitted self.new ≡ submitted self.old) }
     {
@@ -108,6 +83,7 @@ impl Port {
     pub(crate) fn next(&mut self) -> Option<Asked>
         ensures same { SamePort self.old self.new }
         ensures some { IfSome result (GivesNext self.old self.new) }
+        ensures waited { IfSome result (λ next. next.polled ≤ handed_count self.new) }
         ensures none { IfNone result (KeepsAll self.old self.new) }
         ensures handed { handed self.new ≡ handed self.old }
         ensures count { handed_count self.new ≡ handed_count self.old }

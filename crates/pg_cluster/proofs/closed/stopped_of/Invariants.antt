@@ -1,6 +1,7 @@
 use Rattle.std.proofs.Common.{◌≡◌, ◌≤◌, ◌+◌, ◌++◌, length, map}
 use Rattle.std.specs.Prelude.{vec_len, vec_capacity}
 use Rattle.std.specs.Vec.Iter.{into_iter_items, into_iter_len}
+use Rattle.pg_cluster.specs.Clients.{ports_ended}
 use Rattle.pg_cluster.specs.Threads.{node_in, log_in, row_in, rows_ended}
 use Rattle.pg_cluster.proofs.closed.stopped_of.Given as goal
 
@@ -15,3 +16,5 @@ invariant-loop-ran g l =
     × (map (λ v. v.items) l.rows.items ++ map (λ ran. row_in ran.run) (into_iter_items l.ran-iterator) ≡ rows_ended l.fn.rans.items)
     × (map (λ v. v.items) l.logs.items ++ map (λ ran. log_in ran.run) (into_iter_items l.ran-iterator) ≡ map (λ ran. log_in ran.run) l.fn.rans.items)
     × (length l.rows.items + into_iter_len l.ran-iterator ≡ length l.fn.rans.items)
+    × (vec_len l.ports + length (ports_ended (into_iter_items l.ran-iterator)) ≤ vec_capacity l.ports)
+    × (l.ports.items ++ ports_ended (into_iter_items l.ran-iterator) ≡ ports_ended l.fn.rans.items)

@@ -1,4 +1,4 @@
-use Rattle.std.proofs.Common.{◌≡◌, ◌∷◌, ◌++◌, [], length, subst, sym, arith, ◌+◌}
+use Rattle.std.proofs.Common.{length, subst, sym, ◌+◌}
 use Rattle.std.proofs.lemmas.List.{length_push}
 use Rattle.pg_cluster.proofs.Popping.{AreLeft, ArrivedFrom, are_last, left_less, arrived_less}
 use Rattle.pg_cluster.proofs.pairs.settle_all.Goals as goal

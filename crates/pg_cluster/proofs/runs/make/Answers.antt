@@ -8,4 +8,4 @@ returns-in-Ok-wire_all g c =
     let made = c.make_all.ensures in
     let size : c.len.result ≡ length c.in-Ok.nodes.items = search rules in
     let wired = subst (λ n. RowsWired n c.in-Ok-wire_all.rows.items) size c.in-Ok-wire_all.ensures in
-    record { made = are_made c.args.config.now.starts.items c.in-Ok.nodes.items c.in-Ok-wire_all.rows.items c.make_all.result c.in-Ok.ensures.good.0 c.in-Ok.ensures.count c.in-Ok.ensures.begins wired made.nodes made.rows made.unlogged }
+    record { made = are_made c.args.config.now.starts.items c.in-Ok.nodes.items c.in-Ok-wire_all.rows.items c.make_all.result c.in-Ok.ensures.good.0 c.in-Ok.ensures.count c.in-Ok.ensures.begins wired made.nodes made.rows made.unlogged made.clients; clients = made.clients }

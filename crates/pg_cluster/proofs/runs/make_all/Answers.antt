@@ -23,6 +23,7 @@ loop-node-preserved g c =
           let fewer = c.in-Some.ensures.steps.1 in
           let size = was.5 in
           omega arith),
+      added.clients was.6,
     )
 
 pub returns-clause-rows : goal.returns-clause-rows

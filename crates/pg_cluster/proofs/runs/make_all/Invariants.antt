@@ -1,7 +1,8 @@
 use Rattle.std.proofs.Common.{◌≡◌, ◌+◌, ◌++◌, [], length, map}
 use Rattle.std.specs.List.{All}
 use Rattle.std.specs.Vec.Iter.{into_iter_items, into_iter_len}
-use Rattle.pg_cluster.specs.Threads.{node_in, row_in, log_in}
+use Rattle.pg_cluster.specs.Clients.{AllPairs, IsOpen}
+use Rattle.pg_cluster.specs.Threads.{node_in, row_in, log_in, ports_of_runs}
 use Rattle.pg_cluster.proofs.runs.make_all.Given as goal
 
 abbrev pub invariant-loop-node : goal.invariant-loop-node
@@ -12,3 +13,4 @@ invariant-loop-node g l =
     × (map row_in l.made.runs.items ++ map (λ v. v.items) (into_iter_items l.rows) ≡ map (λ v. v.items) l.fn.rows.items)
     × All (λ run. log_in run ≡ []) l.made.runs.items
     × (length l.made.runs.items + into_iter_len l.node-iterator ≡ length l.fn.nodes.items)
+    × AllPairs IsOpen l.made.clients.items (ports_of_runs l.made.runs.items)

@@ -1,11 +1,10 @@
-use Rattle.std.proofs.Common.{rules, arith, ◌≡◌, ◌<◌, ◌≤◌, ℕ, ◌+◌, length, vec_len, get_or, drop, List, ◌∷◌, ap, sym, ◌∙◌, [], length-append}
+use Rattle.std.proofs.Common.{rules, arith, ◌≡◌, ◌+◌, length, ◌∷◌, ap, sym, ◌∙◌, [], length-append}
 use Rattle.pg_cluster.specs.Threads.{begun_by, limit_of}
 use Rattle.pg_cluster.proofs.NodesSent.{run_send, ran_send, ring_out_send, ring_in_send}
 use Rattle.pg_cluster.proofs.PartsSent.{index_send}
-use Rattle.pg_cluster.proofs.Starts.{next_at, next_below, rest_after, follows_more}
+use Rattle.pg_cluster.proofs.Starts.{rest_after, follows_more}
 use Rattle.std.proofs.Crossing.{crosses}
 use denote.Param.Send.{sendable}
-use denote.Param.SendFields.{as_row_send}
 use Rattle.pg_cluster.proofs.threads.start_all.Goals as goal
 
 -- what the thread gets and gives may cross

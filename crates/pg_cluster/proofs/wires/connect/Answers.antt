@@ -1,4 +1,4 @@
-use Rattle.std.proofs.Common.{rules, arith, ◌≡◌, ◌<◌, length}
+use Rattle.std.proofs.Common.{rules}
 use Rattle.pg_cluster.proofs.JoiningRows.{joined_here}
 use Rattle.pg_cluster.proofs.wires.connect.Goals as goal
 

@@ -1,6 +1,5 @@
-use Rattle.std.proofs.Common.{rules, arith, ◌≡◌, ◌<◌, length}
-use Rattle.pg_cluster.specs.Rows.{SoFar}
-use Rattle.pg_cluster.proofs.JoiningRows.{joined_more, next_row, first_row}
+use Rattle.std.proofs.Common.{rules, arith, ◌≡◌}
+use Rattle.pg_cluster.proofs.JoiningRows.{joined_more, next_row}
 use Rattle.pg_cluster.proofs.wires.wire_all.Goals as goal
 
 pub loop-i-preserved : goal.loop-i-preserved

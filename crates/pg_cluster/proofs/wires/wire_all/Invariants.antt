@@ -1,4 +1,4 @@
-use Rattle.std.proofs.Common.{◌≡◌, ◌<◌, ℕ, length, vec_len, get_or}
+use Rattle.std.proofs.Common.{◌≡◌, ◌<◌, ℕ, length, get_or}
 use Rattle.std.specs.Prelude.{vec_capacity}
 use Rattle.pg_cluster.specs.Ended.{Row}
 use Rattle.pg_cluster.specs.Rows.{SoFar}

@@ -15,7 +15,7 @@ returns-in-None g c =
 pub returns-in-Ok : goal.returns-in-Ok
 returns-in-Ok g c =
     served_command g.L.Link.accepts g.I.Inlet.gives c.args.place _ c.command.result c.args.linked.now c.command.new.self c.args.port.now c.next.new.self
-    c.next.ensures.same c.in-Some.ensures.some.came c.in-Some.ensures.some.none c.next.ensures.handed c.next.ensures.count _ c.in-Ok.is c.command.ensures.acted
+    c.next.ensures.same c.in-Some.ensures.some.came c.in-Some.ensures.some.none c.next.ensures.handed c.next.ensures.count c.in-Some.ensures.waited _ c.in-Ok.is c.command.ensures.acted
 
 pub returns-in-Err : goal.returns-in-Err
 returns-in-Err g c =

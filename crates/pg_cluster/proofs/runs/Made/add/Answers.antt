@@ -2,6 +2,7 @@ use Rattle.std.proofs.Common.{◌≡◌, [], sym, ap, ◌∙◌, subst}
 use Rattle.std.specs.List.{All}
 use Rattle.pg_run.specs.Follows.{log_of}
 use Rattle.pg_cluster.specs.Threads.{log_in}
+use Rattle.pg_cluster.proofs.Opening.{opened_more}
 use Rattle.pg_cluster.proofs.Starts.{all_push}
 use Rattle.pg_cluster.proofs.runs.Made.add.Goals as goal
 
@@ -9,3 +10,8 @@ pub returns-clause-unlogged : goal.returns-clause-unlogged
 returns-clause-unlogged g c = λ all.
     subst (All (λ run. log_in run ≡ [])) (sym c.in_ok-push-2.ensures.items)
     (all_push (λ run. log_in run ≡ []) c.args.self.now.runs.items c.new.result all (ap log_of c.new.ensures.linked ∙ c.new-linked.ensures.log))
+
+pub returns-clause-clients : goal.returns-clause-clients
+returns-clause-clients g c = λ all.
+    opened_more c.args.self.now.clients.items c.open_ports.new.clients.items c.args.self.now.runs.items _ c.new.result c.in_ok-ports.ports.items c.new.ensures.ports c.in_ok-push-2.ensures.items
+    c.in_ok-ports.ensures.clients all

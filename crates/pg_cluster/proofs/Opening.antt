@@ -1,0 +1,57 @@
+-- Lemmas on the clients of nodes that are made, one node after another.
+use Rattle.std.proofs.Common.{◌≡◌, ◌≤◌, ◌+◌, ℕ, List, [], ◌∷◌, ◌++◌, length, sym, ◌∙◌, ap, subst, arith, append_assoc, append-nil, length-append}
+use Rattle.std.proofs.lemmas.Grind.{flat_map-append}
+use Rattle.pg_run.specs.declared.port.Client.{Client}
+use Rattle.pg_run.specs.declared.port.Port.{Port}
+use Rattle.pg_run.specs.Runs.{ports_at}
+use Rattle.pg_cluster.specs.Clients.{AllPairs, IsOpen, OpensMore, ports_ended}
+use Rattle.pg_cluster.specs.Threads.{RunOf, RanOf, ports_of_runs}
+use Rattle.pg_cluster.proofs.Paired.{pairs_none, pairs_push}
+
+-- ---- ports that are opened
+
+pub opens_none : (clients : List Client) → OpensMore clients clients []
+opens_none clients = λ before all. subst (AllPairs IsOpen clients) (sym (append-nil before)) all
+
+pub opens_one : (old clients : List Client) (ports : List Port) (client : Client) (port : Port) → OpensMore old clients ports → IsOpen client port
+    → OpensMore old (clients ++ client ∷ []) (ports ++ port ∷ [])
+opens_one old clients ports client port opens here = λ before all.
+    subst (AllPairs IsOpen (clients ++ client ∷ [])) (append_assoc before ports (port ∷ []))
+    (pairs_push IsOpen clients (before ++ ports) client port (opens before all) here)
+
+module _ {K : Type 0} where
+  pub opened_none : (clients : List Client) (runs : List (RunOf K)) → clients ≡ [] → runs ≡ [] → AllPairs IsOpen clients (ports_of_runs runs)
+  opened_none clients runs no_client no_run =
+      subst (λ (cs : List Client). AllPairs IsOpen cs (ports_of_runs runs)) (sym no_client)
+      (subst (λ (rs : List (RunOf K)). AllPairs IsOpen [] (ports_of_runs rs)) (sym no_run) (pairs_none IsOpen))
+
+  pub opened_more : (old new : List Client) (runs runs2 : List (RunOf K)) (run : RunOf K) (ports : List Port) → ports_at run ≡ ports → runs2 ≡ runs ++ run ∷ [] → OpensMore old new ports
+      → AllPairs IsOpen old (ports_of_runs runs) → AllPairs IsOpen new (ports_of_runs runs2)
+  opened_more old new runs runs2 run ports at is opens all =
+      subst (AllPairs IsOpen new)
+      (ap (λ ps. ports_of_runs runs ++ ps) (sym at ∙ sym (append-nil (ports_at run)))
+      ∙ (sym (flat_map-append ports_at runs (run ∷ [])) ∙ ap (λ (rs : List (RunOf K)). ports_of_runs rs) (sym is)))
+      (opens (ports_of_runs runs) all)
+
+  -- ---- ports that come back
+
+  pub ports_moved : (all new own : List Port) (ran : RanOf K) (rest old : List (RanOf K)) (whole : List Port) → new ≡ all ++ own → own ≡ ports_at ran.run → old ≡ ran ∷ rest
+      → all ++ ports_ended old ≡ whole → new ++ ports_ended rest ≡ whole
+  ports_moved all new own ran rest old whole n o e was =
+      ap (λ ps. ps ++ ports_ended rest) (n ∙ ap (λ ps. all ++ ps) o)
+      ∙ (append_assoc all (ports_at ran.run) (ports_ended rest) ∙ (ap (λ (rs : List (RanOf K)). all ++ ports_ended rs) (sym e) ∙ was))
+
+  pub ports_none_moved : (all : List Port) (left whole : List (RanOf K)) → all ≡ [] → left ≡ whole → all ++ ports_ended left ≡ ports_ended whole
+  ports_none_moved all left whole none same = ap (λ (ps : List Port). ps ++ ports_ended left) none ∙ ap (λ (rs : List (RanOf K)). ports_ended rs) same
+
+  -- there is room for the ports of one, and then for those of the others
+  pub room_for_one : (own : List Port) (ran : RanOf K) (rest old : List (RanOf K)) (count room : ℕ) → own ≡ ports_at ran.run → old ≡ ran ∷ rest
+      → count + length (ports_ended old) ≤ room → count + length own + length (ports_ended rest) ≤ room
+  room_for_one own ran rest old count room o e was =
+      let a = ap (λ (rs : List (RanOf K)). length (ports_ended rs)) e in
+      let b = length-append (ports_at ran.run) (ports_ended rest) in
+      let d = ap length o in
+      omega (arith, was, a, b, d)
+
+  pub ports_all_moved : (all : List Port) (left : List (RanOf K)) (whole : List Port) → left ≡ [] → all ++ ports_ended left ≡ whole → all ≡ whole
+  ports_all_moved all left whole none was = sym (append-nil all) ∙ (ap (λ (rs : List (RanOf K)). all ++ ports_ended rs) (sym none) ∙ was)

@@ -1,0 +1,7 @@
+use Rattle.std.proofs.Common.{◌≡◌, length}
+use Rattle.std.specs.List.{All}
+use Rattle.pg_cluster.specs.Conversations.{IsBare}
+use Rattle.pg_cluster.proofs.conversation.config_of.Given as goal
+
+abbrev pub invariant-loop-place : goal.invariant-loop-place
+invariant-loop-place l = (length l.starts.items ≡ l.place) × All (IsBare l.fn.asked.clients) l.starts.items

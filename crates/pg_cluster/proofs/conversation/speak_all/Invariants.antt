@@ -1,0 +1,5 @@
+use Rattle.pg_cluster.specs.Clients.{SameClients}
+use Rattle.pg_cluster.proofs.conversation.speak_all.Given as goal
+
+abbrev pub invariant-loop-place : goal.invariant-loop-place
+invariant-loop-place l = SameClients l.fn.clients.items l.clients.items
