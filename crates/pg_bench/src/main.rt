@@ -1,17 +1,22 @@
 //! Figures: how fast terms and packets are read and written, how fast bytes cross a ring, how fast tables of groups are
-//! changed and asked, and how much memory they take. The first word says which: `codec`, `packets`, `rings`, `tables` or
-//! `memory`; with none, each but `memory` once and small. The figures go to standard error, since they differ from run to run.
+//! changed and asked, how much memory they take, and how fast nodes, worlds of nodes and clusters of threads are. The first word
+//! says which: `codec`, `packets`, `rings`, `cluster`, `tables`, `memory`, `nodes` or `worlds`; with none, each but `cluster` and
+//! `memory` once and small. The figures go to standard error, since they differ from run to run.
 #![tactic(auto)]
 
+mod changes;
+mod cluster;
 mod codec;
 mod fault;
 mod memory;
+mod nodes;
 mod packets;
 mod rates;
 mod rings;
 mod samples;
 mod tables;
 mod words;
+mod worlds;
 
 use fault::BenchFault;
 use std::env;
@@ -24,6 +29,8 @@ fn run(rt: &HostRuntime, words: &[String]) -> anyhow::Result<()> {
         "packets" => packets::run(rt, words),
         "tables" => tables::run(rt, words),
         "memory" => memory::run(rt, words),
+        "nodes" => nodes::run(rt, words),
+        "worlds" => worlds::run(rt, words),
         _ => Err(BenchFault::UnknownFigures.into()),
     }
 }
@@ -32,7 +39,9 @@ fn run(rt: &HostRuntime, words: &[String]) -> anyhow::Result<()> {
 fn run_each(rt: &HostRuntime) -> anyhow::Result<()> {
     codec::run(rt, &[])?;
     packets::run(rt, &[])?;
-    tables::run(rt, &[])
+    tables::run(rt, &[])?;
+    nodes::run(rt, &[])?;
+    worlds::run(rt, &[])
 }
 
 fn main(rt: HostRuntime) -> anyhow::Result<()> {
@@ -43,6 +52,7 @@ fn main(rt: HostRuntime) -> anyhow::Result<()> {
             run_each(&rt)
         }
         "rings" => Ok(rings::cross(&rt, 1)?),
+        "cluster" => cluster::run(&rt, &words),
         _ => run(&rt, &words),
     }
 }

@@ -22,3 +22,10 @@ pub fn report(
     eprintln!(rt; "  {what}: {calls} a second, {megabytes} MB a second")?;
     Ok(())
 }
+
+/// Prints how many a second.
+pub fn report_rate(rt: &HostRuntime, what: &str, count: u64, time: Duration) -> anyhow::Result<()> {
+    let events = rate(count, time);
+    eprintln!(rt; "  {what}: {events} a second")?;
+    Ok(())
+}

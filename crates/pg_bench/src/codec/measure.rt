@@ -61,11 +61,11 @@ fn tuple(items: Vec<Term>) -> Term {
 
 // {0, {call, Ref, {join, g, Pid}}}
 fn join_call(alloc: Global) -> Result<Term, TermFault> {
-    let member = Term::Pid(pid(alloc, 1)?);
+    let member = Term::Pid(pid(alloc, "a", 1)?);
     let join = vec![in alloc; atom(alloc, "join")?, atom(alloc, "g")?, member]?;
     let call = vec![in alloc;
         atom(alloc, "call")?,
-        Term::Ref(Boxed::new(alloc, reference(alloc)?)?),
+        Term::Ref(Boxed::new(alloc, reference(alloc, "a", 1)?)?),
         tuple(join),
     ]?;
     let whole = vec![in alloc; Term::Int(0), tuple(call)]?;
@@ -83,7 +83,7 @@ fn numbers(alloc: Global, count: u32) -> Result<Term, TermFault> {
 fn pids(alloc: Global, count: u32) -> Result<Term, TermFault> {
     let mut items = Vec::new(alloc);
     for id in 0..count {
-        items.push(Term::Pid(pid(alloc, id)?))?;
+        items.push(Term::Pid(pid(alloc, "a", id)?))?;
     }
     Ok(Term::List(Items::from_vec(items)))
 }

@@ -46,8 +46,8 @@ impl Measure {
 
 // {call, Ref, {join, g, Pid}}
 fn join_call(alloc: Global) -> Result<Message, MessageFault> {
-    let from = reference(alloc)?;
-    let member = pid(alloc, 1)?;
+    let from = reference(alloc, "a", 1)?;
+    let member = pid(alloc, "a", 1)?;
     let name = Term::Atom(Atom::new(alloc, "g")?);
     let join = Update::Join(name, member);
     Ok(Message::Call(from, Request::Change(join)))
@@ -56,7 +56,7 @@ fn join_call(alloc: Global) -> Result<Message, MessageFault> {
 fn pids(alloc: Global, count: u32) -> Result<Items<Pid>, MessageFault> {
     let mut pids = Vec::new(alloc);
     for id in 0..count {
-        pids.push(pid(alloc, id)?)?;
+        pids.push(pid(alloc, "a", id)?)?;
     }
     Ok(Items::from_vec(pids))
 }

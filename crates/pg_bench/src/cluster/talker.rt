@@ -1,0 +1,130 @@
+//! A client that joins a group and leaves it.
+
+use crate::changes::{Change, Groups};
+use crate::cluster::running::Running;
+use pg_step::{Answer, Command, Reply};
+use pg_term::Pid;
+use std::alloc::AllocError;
+use std::time::{Clock, Duration, Instant};
+
+// What a client asks for next.
+#[derive(Clone, Copy)]
+enum Stage {
+    Create,
+    Make,
+    Join,
+    Leave,
+}
+
+/// A client that makes a process, and then joins a group with it and leaves it. It may create the group first.
+#[derive(Drop)]
+pub struct Talker {
+    groups: Groups,
+    number: u32,
+    stage: Stage,
+    pid: Option<Pid>,
+    // How many commands are still to be asked.
+    left: u64,
+    // When the command was submitted that is not answered yet.
+    since: Option<Instant>,
+}
+
+impl Talker {
+    /// The client of this number. Where all have one group the first creates it.
+    pub fn new(groups: Groups, number: u32) -> Talker {
+        let (stage, left) = match groups {
+            Groups::One if number > 0 => (Stage::Make, 1),
+            _ => (Stage::Create, 2),
+        };
+        Talker {
+            groups,
+            number,
+            stage,
+            pid: None,
+            left,
+            since: None,
+        }
+    }
+
+    /// So many rounds of a join and a leave more.
+    pub fn go_on(&mut self, rounds: u64) {
+        self.left = self.left.saturating_add(rounds.saturating_mul(2));
+    }
+
+    /// Whether all was asked and answered.
+    pub fn is_silent(&self) -> bool {
+        self.left == 0 && self.since.is_none()
+    }
+
+    // The place of its client.
+    fn place(&self) -> usize {
+        self.number as usize
+    }
+
+    // What is asked for.
+    fn command(&self) -> Result<Command, AllocError> {
+        let group = self.groups.group(self.number);
+        Ok(match (self.stage, &self.pid) {
+            (Stage::Create, _) => Command::Create(group),
+            (Stage::Join, Some(pid)) => Change::Join.command(group, pid.copy()?),
+            (Stage::Leave, Some(pid)) => Change::Leave.command(group, pid.copy()?),
+            _ => Command::Make,
+        })
+    }
+
+    // Takes in an answer.
+    fn hear(&mut self, answer: Answer) {
+        self.since = None;
+        self.left = self.left.saturating_sub(1);
+        self.stage = match self.stage {
+            Stage::Create => Stage::Make,
+            Stage::Make | Stage::Leave => Stage::Join,
+            Stage::Join => Stage::Leave,
+        };
+        if let Reply::Made(pid) = answer.reply {
+            self.pid = Some(pid);
+        }
+    }
+
+    // Takes in the answer to what was asked then, if it is there, and keeps how long it took; whether it was there.
+    fn listen<R: Clock>(
+        &mut self,
+        rt: &R,
+        since: Instant,
+        running: &mut Running,
+        times: &mut Vec<Duration>,
+    ) -> anyhow::Result<bool> {
+        match running.poll(self.place()) {
+            Some(answer) => self.hear(answer),
+            None => return Ok(false),
+        }
+        times.push(since.elapsed(rt)?)?;
+        Ok(true)
+    }
+
+    // Submits what is asked for next at this time; whether it did.
+    fn ask(&mut self, now: Instant, running: &mut Running) -> Result<bool, AllocError> {
+        if self.left == 0 {
+            return Ok(false);
+        }
+        let command = self.command()?;
+        let is_asked = running.submit(self.place(), command);
+        if is_asked {
+            self.since = Some(now);
+        }
+        Ok(is_asked)
+    }
+
+    /// Takes in an answer, and keeps how long it took, or submits what comes next; whether something moved.
+    pub fn speak<R: Clock>(
+        &mut self,
+        rt: &R,
+        running: &mut Running,
+        times: &mut Vec<Duration>,
+    ) -> anyhow::Result<bool> {
+        match self.since {
+            Some(since) => self.listen(rt, since, running, times),
+            None => Ok(self.ask(Instant::now(rt)?, running)?),
+        }
+    }
+}

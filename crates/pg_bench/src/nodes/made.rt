@@ -1,0 +1,63 @@
+//! The node `a`, whose peers `b` and `c` are played.
+
+ghost use Rattle.std.specs.Prelude.{◌≡◌, false};
+ghost use Rattle.pg_term.specs.Same.{same_atom};
+
+use pg_index::IndexTable;
+use pg_message::Message;
+use pg_node::{Done, NodeConfig, NodeFault, NodeState};
+use pg_step::Refusal;
+use pg_term::{Atom, Reference, TermFault};
+use std::alloc::{AllocError, Global};
+
+/// What is told of a peer or a port that a node lacks.
+pub const NO_PLACE: NodeFault = NodeFault::Refused(Refusal::NoSuchPlace);
+
+/// The node, with one port, which has taken nothing yet.
+pub fn new_state(alloc: Global) -> Result<NodeState<IndexTable>, TermFault> {
+    let own = Atom::new(alloc, "a")?;
+    let one = Atom::new(alloc, "b")?;
+    let two = Atom::new(alloc, "c")?;
+    if own == one {
+        return Err(TermFault::BadAtom);
+    }
+    if own == two {
+        return Err(TermFault::BadAtom);
+    }
+    if one == two {
+        return Err(TermFault::BadAtom);
+    }
+    Ok(state_of(alloc, own, one, two)?)
+}
+
+fn state_of(
+    alloc: Global,
+    own: Atom,
+    one: Atom,
+    two: Atom,
+) -> Result<NodeState<IndexTable>, AllocError>
+    requires first { same_atom own one ≡ false }
+    requires second { same_atom own two ≡ false }
+    requires third { same_atom one two ≡ false }
+{
+    let peers = Vec::from_array(alloc, [one, two])?;
+    let config = NodeConfig {
+        own,
+        peers,
+        made: 1,
+        ports: 1,
+    };
+    let table = IndexTable::new(alloc);
+    NodeState::started(alloc, config, table)
+}
+
+/// The reference of the first call that is sent, if one is.
+pub fn first_call(done: &Done) -> Result<Option<Reference>, NodeFault> {
+    match done.sends.first() {
+        Some((_, packet)) => match &packet.message {
+            Message::Call(reference, _) => Ok(Some(reference.copy()?)),
+            _ => Ok(None),
+        },
+        None => Ok(None),
+    }
+}
