@@ -5,14 +5,21 @@ ghost use Rattle.pg_term.specs.Same.{same_atom};
 
 mod agree;
 mod damaged;
+mod faults;
 mod full;
+mod skips;
+mod three;
 
+use crate::events::{Did, seen};
+use crate::nodes::name;
 use pg_index::IndexTable;
-use pg_node::{Done, Node, NodeConfig, NodeFault};
-use pg_ring::MemRing;
+use pg_node::{Node, NodeConfig, NodeFault};
+use pg_ring::{Link, MemRing};
 use pg_step::{Command, Refusal};
 use pg_term::Atom;
 use std::alloc::{AllocError, Global};
+use std::process::Abort;
+use std::test::Fail;
 
 /// Two nodes, of which each is the other's only peer, and a ring each way.
 #[derive(Drop)]
@@ -52,13 +59,63 @@ fn moved(
     ring: &mut MemRing,
     to: &mut Node<IndexTable>,
 ) -> Result<(), NodeFault> {
-    if from.state().peer_count() == 1 && to.state().peer_count() == 1 {
-        from.put(0, ring, 7);
-        to.pull(0, ring, 7)?;
-        to.take(0)?;
-        Ok(())
+    put(from, 0, ring, 7);
+    pull(to, 0, ring, 7)?;
+    take(to, 0)
+}
+
+/// Puts so many bytes at most, of what goes out to a peer, on a link: how many.
+fn put<L: Link>(node: &mut Node<IndexTable>, peer: usize, link: &mut L, max: usize) -> usize {
+    if peer < node.state().peer_count() {
+        node.put(peer, link, max)
+    } else {
+        0
+    }
+}
+
+/// So many bytes at most of a ring come from a peer.
+fn pull(
+    node: &mut Node<IndexTable>,
+    peer: usize,
+    ring: &mut MemRing,
+    max: usize,
+) -> Result<(), NodeFault> {
+    if peer < node.state().peer_count() {
+        match node.pull(peer, ring, max) {
+            Ok(_) => Ok(()),
+            Err(fault) => Err(fault),
+        }
     } else {
         Err(NodeFault::Refused(Refusal::NoSuchPlace))
+    }
+}
+
+/// Takes the next packet of a peer, if it is whole.
+fn take(node: &mut Node<IndexTable>, peer: usize) -> Result<(), NodeFault> {
+    if peer < node.state().peer_count() {
+        match node.take(peer) {
+            Ok(_) => Ok(()),
+            Err(fault) => Err(fault),
+        }
+    } else {
+        Err(NodeFault::Refused(Refusal::NoSuchPlace))
+    }
+}
+
+/// The number of the fault, if there is one.
+fn fault_of(done: Result<(), NodeFault>) -> Option<u8> {
+    match done {
+        Ok(()) => None,
+        Err(fault) => Some(fault.number()),
+    }
+}
+
+/// How many bytes go out to the first peer and were not put.
+fn waiting_bytes(node: &Node<IndexTable>) -> usize {
+    if node.state().peer_count() > 0 {
+        node.outbox(0).len()
+    } else {
+        0
     }
 }
 
@@ -119,10 +176,41 @@ pub fn linked_pair(alloc: Global) -> Result<Pair, NodeFault> {
 }
 
 /// Gives a command at the port.
-pub fn given(node: &mut Node<IndexTable>, command: &Command) -> Result<Done, NodeFault> {
+fn given(node: &mut Node<IndexTable>, command: &Command) -> Result<Did, NodeFault> {
     if node.state().port_count() == 1 {
-        node.command(0, command)
+        match node.command(0, command) {
+            Ok(done) => Ok(seen(&done)),
+            Err(fault) => Err(fault),
+        }
     } else {
         Err(NodeFault::Refused(Refusal::NoSuchPlace))
     }
+}
+
+/// Makes the group at the port.
+fn create(node: &mut Node<IndexTable>) -> Result<Did, NodeFault> {
+    let create = Command::Create(name());
+    given(node, &create)
+}
+
+/// What happens to two nodes.
+#[derive(Clone, Copy)]
+enum Part<'a> {
+    Agree,
+    /// These bytes come in at `a`, of which the fault of this number is told.
+    Damage(&'a [u8], u8),
+    Full,
+}
+
+fn check_part(rt: &impl Abort, alloc: Global, pair: &mut Pair, part: Part<'_>) -> Result<(), Fail> {
+    match part {
+        Part::Agree => agree::check_agreed(rt, pair),
+        Part::Damage(bytes, number) => damaged::check_damage(rt, alloc, pair, bytes, number),
+        Part::Full => full::check_full(rt, pair),
+    }
+}
+
+fn check(rt: &impl Abort, alloc: Global, part: Part<'_>) -> Result<(), Fail> {
+    let mut pair = linked_pair(alloc)?;
+    check_part(rt, alloc, &mut pair, part)
 }

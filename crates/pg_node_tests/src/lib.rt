@@ -10,10 +10,16 @@ mod commands;
 #[cfg(test)]
 mod ends;
 #[cfg(test)]
+mod events;
+#[cfg(test)]
+mod memory;
+#[cfg(test)]
 mod nodes;
 #[cfg(test)]
 mod refused;
 #[cfg(test)]
 mod same;
+#[cfg(test)]
+mod twins;
 #[cfg(test)]
 mod worlds;

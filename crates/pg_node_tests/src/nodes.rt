@@ -1,14 +1,17 @@
 //! Nodes and packets that tests are made of.
 
-ghost use Rattle.std.specs.Prelude.{◌≡◌, ◌≤◌, false};
+ghost use Rattle.std.specs.Prelude.{◌≡◌, ◌∷◌, ◌≤◌, [], false, IfOk};
+ghost use Rattle.std.specs.List.{IsDistinct};
 ghost use Rattle.pg_term.specs.Same.{same_atom};
 
+use crate::events::{Event, Sent, happens};
+use pg_group::GroupTable;
 use pg_index::IndexTable;
-use pg_message::{Message, Packet, Request, Said};
+use pg_message::{Message, Packet};
 use pg_node::{Done, NodeConfig, NodeFault, NodeState};
 use pg_step::{Command, OpId, Refusal, Reply};
-use pg_term::{Atom, Items, Pid, Reference, Term, TermFault};
-use std::alloc::Global;
+use pg_term::{Atom, Pid, Term, TermFault};
+use std::alloc::{AllocError, Global};
 
 /// A group's name.
 pub fn name() -> Term {
@@ -25,6 +28,15 @@ pub fn pid(alloc: Global, node: &str, id: u32) -> Result<Pid, TermFault> {
     })
 }
 
+fn begun(alloc: Global, config: NodeConfig) -> Result<NodeState<IndexTable>, AllocError>
+    requires apart { IsDistinct same_atom (config.own ∷ config.peers.items) }
+    requires made { config.made ≤ 268435455 }
+{
+    let table = IndexTable::new(alloc);
+    let begun = NodeState::new(alloc, config, table)?;
+    Ok(begun.0)
+}
+
 /// A node of one port that has no peer.
 pub fn lone_node(alloc: Global) -> Result<NodeState<IndexTable>, TermFault> {
     lone_node_made(alloc, 0)
@@ -36,15 +48,19 @@ pub fn lone_node_made(alloc: Global, made: u32) -> Result<NodeState<IndexTable>,
 {
     let own = Atom::new(alloc, "a")?;
     let peers = Vec::new(alloc);
-    let table = IndexTable::new(alloc);
     let config = NodeConfig {
         own,
         peers,
         made,
         ports: 1,
     };
-    let begun = NodeState::new(alloc, config, table)?;
-    Ok(begun.0)
+    Ok(begun(alloc, config)?)
+}
+
+fn two_peers(alloc: Global, one: Atom, two: Atom) -> Result<Vec<Atom>, AllocError>
+    ensures { IfOk result (λ peers. peers.items ≡ one ∷ two ∷ []) }
+{
+    Ok(Vec::from_array(alloc, [one, two])?)
 }
 
 fn node_of_three(
@@ -52,21 +68,19 @@ fn node_of_three(
     own: Atom,
     one: Atom,
     two: Atom,
-) -> Result<NodeState<IndexTable>, TermFault>
+) -> Result<NodeState<IndexTable>, AllocError>
     requires first { same_atom own one ≡ false }
     requires second { same_atom own two ≡ false }
     requires third { same_atom one two ≡ false }
 {
-    let peers = Vec::from_array(alloc, [one, two])?;
+    let peers = two_peers(alloc, one, two)?;
     let config = NodeConfig {
         own,
         peers,
         made: 0,
         ports: 1,
     };
-    let table = IndexTable::new(alloc);
-    let begun = NodeState::new(alloc, config, table)?;
-    Ok(begun.0)
+    begun(alloc, config)
 }
 
 /// A node of one port with two peers, which is not formed.
@@ -88,7 +102,7 @@ pub fn new_node(
     if one == two {
         return Err(TermFault::BadAtom);
     }
-    node_of_three(alloc, own, one, two)
+    Ok(node_of_three(alloc, own, one, two)?)
 }
 
 /// Takes a packet that tells no group with a member.
@@ -124,19 +138,22 @@ pub fn formed_node(
     two: &str,
 ) -> Result<NodeState<IndexTable>, TermFault> {
     let mut node = new_node(alloc, own, one, two)?;
-    let names = [one, two];
-    for peer in 0..2 {
-        let message = Message::Exchange(
-            Atom::new(alloc, names[peer])?,
-            Items::from_vec(Vec::new(alloc)),
-        );
-        let packet = Packet { stamp: 0, message };
-        match taken(&mut node, peer, &packet) {
-            Ok(_) => {}
-            Err(_) => return Err(TermFault::OutOfMemory),
-        }
+    match form(alloc, &mut node, one, two) {
+        Ok(()) => Ok(node),
+        Err(_) => Err(TermFault::OutOfMemory),
     }
-    Ok(node)
+}
+
+// Both peers tell that they have no group.
+fn form(
+    alloc: Global,
+    node: &mut NodeState<IndexTable>,
+    one: &str,
+    two: &str,
+) -> Result<(), NodeFault> {
+    happens(alloc, node, Event::Take(0, 0, Sent::Exchange(one)))?;
+    happens(alloc, node, Event::Take(1, 0, Sent::Exchange(two)))?;
+    Ok(())
 }
 
 /// Gives a command at the port.
@@ -194,39 +211,27 @@ pub fn is_refused(node: &NodeState<IndexTable>, number: u32, fault: u8) -> bool 
     }
 }
 
-/// The peer that the only packet goes to.
-pub fn only_peer(done: &Done) -> Option<usize> {
-    if done.sends.len() == 1 {
-        Some(done.sends[0].0)
+/// Sees the loss of a peer, whose clock was this at last.
+pub fn lost(node: &mut NodeState<IndexTable>, peer: usize, last: u32) -> Result<Done, NodeFault> {
+    if peer < node.peer_count() {
+        node.see_loss(peer, last)
     } else {
-        None
+        Err(NodeFault::Refused(Refusal::NoSuchPlace))
     }
 }
 
-/// The reference of the first call that is sent.
-pub fn first_call(done: &Done) -> Result<Reference, TermFault> {
-    match done.sends.first() {
-        Some((_, packet)) => match &packet.message {
-            Message::Call(reference, _) => Ok(reference.copy()?),
-            _ => Err(TermFault::BadReference),
-        },
-        None => Err(TermFault::BadReference),
-    }
+/// Whether the node has the group.
+pub fn has_group(node: &NodeState<IndexTable>) -> bool {
+    node.table().has(&name())
 }
 
-/// Whether the first packet asks for the lock.
-pub fn asks_lock(done: &Done) -> bool {
-    match done.sends.first() {
-        Some((_, packet)) => match &packet.message {
-            Message::Call(_, Request::SetLock(_)) => true,
-            _ => false,
-        },
-        None => false,
-    }
+/// Whether a reference holds the lock of the group at the node.
+pub fn is_locked(node: &NodeState<IndexTable>) -> bool {
+    node.holder(&name()).is_some()
 }
 
-/// A reply.
-pub fn reply(stamp: u32, reference: &Reference, said: Said) -> Result<Packet, TermFault> {
-    let message = Message::Reply(reference.copy()?, said);
-    Ok(Packet { stamp, message })
+/// How many commands of the node wait for a retry.
+pub fn waiting_count(node: &NodeState<IndexTable>) -> Result<usize, AllocError> {
+    let ops = node.waiting()?;
+    Ok(ops.len())
 }

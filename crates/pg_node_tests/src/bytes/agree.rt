@@ -1,11 +1,9 @@
 //! Two nodes agree on what one of them was told.
 
-use crate::bytes::{Pair, given, linked_pair};
-use crate::nodes::{is_done, name};
-use pg_group::GroupTable;
-use pg_index::IndexTable;
-use pg_node::{Node, NodeFault};
-use pg_step::Command;
+use crate::bytes::{Pair, Part, check, create};
+use crate::nodes::{has_group, is_done, is_locked};
+use pg_node::NodeFault;
+use std::process::Abort;
 use std::test::Fail;
 
 fn are_formed(pair: &Pair) -> bool {
@@ -13,13 +11,12 @@ fn are_formed(pair: &Pair) -> bool {
 }
 
 fn have_group(pair: &Pair) -> bool {
-    let group = name();
-    pair.a.state().table().has(&group) && pair.b.state().table().has(&group)
+    has_group(pair.a.state()) && has_group(pair.b.state())
 }
 
-fn is_locked(pair: &Pair) -> bool {
-    let group = name();
-    pair.a.state().holder(&group).is_some() || pair.b.state().holder(&group).is_some()
+// Whether one of them has the lock of the group granted.
+fn are_locked(pair: &Pair) -> bool {
+    is_locked(pair.a.state()) || is_locked(pair.b.state())
 }
 
 // Both are formed once all has come that they tell each other.
@@ -29,11 +26,6 @@ fn form(pair: &mut Pair) -> Result<bool, NodeFault> {
     Ok(!before && are_formed(pair))
 }
 
-fn create(node: &mut Node<IndexTable>) -> Result<(), NodeFault> {
-    given(node, &Command::Create(name()))?;
-    Ok(())
-}
-
 // A group is created at a, and the command is answered.
 fn change(pair: &mut Pair) -> Result<bool, NodeFault> {
     create(&mut pair.a)?;
@@ -41,13 +33,16 @@ fn change(pair: &mut Pair) -> Result<bool, NodeFault> {
     Ok(is_done(pair.a.state(), 1))
 }
 
+pub fn check_agreed(rt: &impl Abort, pair: &mut Pair) -> Result<(), Fail> {
+    assert!(rt; form(pair)?);
+    assert!(rt; !have_group(pair));
+    assert!(rt; change(pair)?);
+    assert!(rt; have_group(pair));
+    assert!(rt; !are_locked(pair));
+    Ok(())
+}
+
 #[test]
 fn two_nodes_agree(rt: HostRuntime) -> Result<(), Fail> {
-    let mut pair = linked_pair(rt.alloc())?;
-    assert!(rt; form(&mut pair)?);
-    assert!(rt; !have_group(&pair));
-    assert!(rt; change(&mut pair)?);
-    assert!(rt; have_group(&pair));
-    assert!(rt; !is_locked(&pair));
-    Ok(())
+    check(&rt, rt.alloc(), Part::Agree)
 }

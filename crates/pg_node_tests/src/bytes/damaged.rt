@@ -1,36 +1,23 @@
 //! A fault of what comes in is told once, and damages the link for good; the other way goes on.
 
-use crate::bytes::{Pair, linked_pair, new_ring};
+use crate::bytes::{Pair, Part, check, fault_of, new_ring, pull, take};
 use pg_index::IndexTable;
 use pg_node::{Node, NodeFault};
-use pg_ring::{Link, MemRing};
+use pg_ring::Link;
 use std::alloc::Global;
+use std::process::Abort;
 use std::test::Fail;
 
 // The number of the fault that the next packet is refused by.
 fn told(node: &mut Node<IndexTable>) -> Option<u8> {
-    if node.state().peer_count() == 1 {
-        match node.take(0) {
-            Ok(_) => None,
-            Err(fault) => Some(fault.number()),
-        }
-    } else {
-        None
-    }
+    fault_of(take(node, 0))
 }
 
 // Gives these bytes to a node, and tells the number of the fault by which it refuses them.
 fn fed(alloc: Global, node: &mut Node<IndexTable>, bytes: &[u8]) -> Result<Option<u8>, NodeFault> {
     let mut ring = new_ring(alloc)?;
     ring.put(bytes);
-    if node.state().peer_count() == 1 {
-        match node.pull(0, &mut ring, 64) {
-            Ok(_) => Ok(None),
-            Err(fault) => Ok(Some(fault.number())),
-        }
-    } else {
-        Ok(None)
-    }
+    Ok(fault_of(pull(node, 0, &mut ring, 64)))
 }
 
 // These bytes come in at a: the fault of this number is told of them, and then that the link is damaged.
@@ -50,29 +37,32 @@ fn goes_on(pair: &mut Pair) -> Result<bool, NodeFault> {
     Ok(pair.b.state().formed() && !pair.a.state().formed())
 }
 
+pub fn check_damage(
+    rt: &impl Abort,
+    alloc: Global,
+    pair: &mut Pair,
+    bytes: &[u8],
+    number: u8,
+) -> Result<(), Fail> {
+    assert!(rt; damages_a(alloc, pair, bytes, number)?);
+    assert!(rt; goes_on(pair)?);
+    Ok(())
+}
+
 // A body that ends within its term.
 #[test]
 fn broken_term_damages_the_link(rt: HostRuntime) -> Result<(), Fail> {
-    let mut pair = linked_pair(rt.alloc())?;
-    assert!(rt; damages_a(rt.alloc(), &mut pair, &[0, 0, 0, 2, 131, 97], 1)?);
-    assert!(rt; goes_on(&mut pair)?);
-    Ok(())
+    check(&rt, rt.alloc(), Part::Damage(&[0, 0, 0, 2, 131, 97], 1))
 }
 
 // A term that is no packet.
 #[test]
 fn other_term_damages_the_link(rt: HostRuntime) -> Result<(), Fail> {
-    let mut pair = linked_pair(rt.alloc())?;
-    assert!(rt; damages_a(rt.alloc(), &mut pair, &[0, 0, 0, 3, 131, 97, 5], 12)?);
-    assert!(rt; goes_on(&mut pair)?);
-    Ok(())
+    check(&rt, rt.alloc(), Part::Damage(&[0, 0, 0, 3, 131, 97, 5], 12))
 }
 
 // A frame of 16,777,217 bytes.
 #[test]
 fn overlong_frame_damages_the_link(rt: HostRuntime) -> Result<(), Fail> {
-    let mut pair = linked_pair(rt.alloc())?;
-    assert!(rt; damages_a(rt.alloc(), &mut pair, &[1, 0, 0, 1], 11)?);
-    assert!(rt; goes_on(&mut pair)?);
-    Ok(())
+    check(&rt, rt.alloc(), Part::Damage(&[1, 0, 0, 1], 11))
 }

@@ -3,10 +3,11 @@
 ghost use Rattle.std.specs.Prelude.{◌≡◌};
 ghost use Rattle.pg_node_tests.specs.Full.{TakesNothing, nothing-rests, nothing-composes, nothing-agrees};
 
-use crate::bytes::linked_pair;
+use crate::bytes::{Pair, Part, check, put, waiting_bytes};
 use pg_index::IndexTable;
 use pg_node::Node;
 use pg_ring::Link;
+use std::process::Abort;
 use std::test::Fail;
 
 /// A link that takes nothing.
@@ -33,36 +34,29 @@ impl Link for Full {
     ghost agrees = { nothing-agrees };
 }
 
-// How many bytes go out to the peer.
-fn waiting_bytes(node: &Node<IndexTable>) -> usize {
-    if node.state().peer_count() == 1 {
-        node.outbox(0).len()
-    } else {
-        0
-    }
-}
-
-// How many bytes the link took.
-fn put(node: &mut Node<IndexTable>, link: &mut Full) -> usize {
-    if node.state().peer_count() == 1 {
-        node.put(0, link, 64)
-    } else {
-        0
-    }
-}
-
-#[test]
-fn full_link_takes_nothing(rt: HostRuntime) -> Result<(), Fail> {
-    let mut pair = linked_pair(rt.alloc())?;
+fn check_stays(rt: &impl Abort, node: &mut Node<IndexTable>) {
     let mut link = Full { offered: 0 };
-    let before = waiting_bytes(&pair.a);
+    let before = waiting_bytes(node);
     assert!(rt; before > 7);
-    assert_eq!(rt; put(&mut pair.a, &mut link), 0);
+    assert_eq!(rt; put(node, 0, &mut link, 64), 0);
     assert!(rt; link.offered > 0);
-    assert_eq!(rt; waiting_bytes(&pair.a), before);
-    // What was not taken goes out later.
+    assert_eq!(rt; waiting_bytes(node), before);
+}
+
+// What was not taken goes out later.
+fn check_later(rt: &impl Abort, pair: &mut Pair) -> Result<(), Fail> {
     pair.settle()?;
     assert_eq!(rt; waiting_bytes(&pair.a), 0);
     assert!(rt; pair.b.state().formed());
     Ok(())
+}
+
+pub fn check_full(rt: &impl Abort, pair: &mut Pair) -> Result<(), Fail> {
+    check_stays(rt, &mut pair.a);
+    check_later(rt, pair)
+}
+
+#[test]
+fn full_link_takes_nothing(rt: HostRuntime) -> Result<(), Fail> {
+    check(&rt, rt.alloc(), Part::Full)
 }

@@ -1,8 +1,5 @@
-use Rattle.pg_node_tests.proofs.Started.{three_apart, none_few}
+use Rattle.pg_node_tests.proofs.Started.{three_apart}
 use Rattle.pg_node_tests.proofs.nodes.node_of_three.Goals as goal
 
-pub new-requires-clause-apart : goal.new-requires-clause-apart
-new-requires-clause-apart c = three_apart c.args.own c.args.one c.args.two _ c.in_ok-peers.ensures.items c.requires.first c.requires.second c.requires.third
-
-pub new-requires-clause-few : goal.new-requires-clause-few
-new-requires-clause-few c = none_few _ c.new-table.ensures
+pub begun-requires-clause-apart : goal.begun-requires-clause-apart
+begun-requires-clause-apart c = three_apart c.args.own c.args.one c.args.two _ c.in_ok-peers.ensures c.requires.first c.requires.second c.requires.third
