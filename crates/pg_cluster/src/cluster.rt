@@ -14,7 +14,7 @@ use crate::runs::make;
 use crate::threads::{start_all, stop_all};
 use pg_ring::RingOut;
 use pg_run::{Client, Gate};
-use pg_world::Config;
+use pg_world::{Config, WorldFault};
 use rand_core::Rng;
 use std::alloc::Global;
 use std::sync::Arc;
@@ -70,7 +70,7 @@ impl<K: Rng + Drop + Send + 'static> Cluster<K> {
         let rans = Vec::with_capacity(alloc, count)?;
         let room = Room::with_capacity(alloc, count, made.clients.len())?;
         let Ok(gate) = Arc::new(alloc, gate) else {
-            return Err(StartFault::NoThread);
+            return Err(StartFault::World(WorldFault::OutOfMemory));
         };
         let threads = start_all(rt, alloc, made.runs, &mut stops, &gate, limit)?;
         let cluster = Cluster {
