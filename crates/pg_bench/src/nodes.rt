@@ -1,7 +1,7 @@
 //! How many events a second a node makes, over packets and over bytes, with two peers that are played here.
 
-mod bytes;
 mod made;
+mod over_bytes;
 mod packets;
 mod state;
 
@@ -24,10 +24,10 @@ pub fn run(rt: &HostRuntime, words: &[String]) -> anyhow::Result<()> {
     let only = word(words, 3);
     match word(words, 1) {
         "packets" => state::measure(rt, count, only),
-        "bytes" => bytes::measure(rt, count, only),
+        "bytes" => over_bytes::measure(rt, count, only),
         _ => {
             state::measure(rt, count, only)?;
-            bytes::measure(rt, count, only)
+            over_bytes::measure(rt, count, only)
         }
     }
 }
