@@ -223,3 +223,7 @@ module _ (ring : ℕ) (config slice : Config) (same : slice ≡ config) (none : 
 pub on_ok : {X : Type 0} {P : Type 0} (result : Result X WorldFault) → P → OnOk result P
 on_ok (Ok x) p = p
 on_ok (Err fault) p = tt
+
+pub few_so : {X : Type 0} (config slice : Config) → slice ≡ config → (result : Result X WorldFault) → OnOk result (have_few slice ≡ true) → OnOk result (have_few config ≡ true)
+few_so config slice same (Ok x) few = ap have_few (sym same) ∙ few
+few_so config slice same (Err fault) few = tt

@@ -65,6 +65,7 @@ pub(crate) fn ready(alloc: Global, config: &Config) -> Result<(), WorldFault>
     ensures good { OnOk result (IsConfig config.now.starts.items × IsCapacity config.now.ring) }
     ensures ready { OnOk result (AreReadyNodes config.now.starts.items) }
     ensures none { OnOk result (refusal_of config.now.ring config.now.starts.items ≡ None) }
+    ensures few { OnOk result (have_few config.now.starts.items ≡ true) }
     ensures fault { IfErr result (CantBeginWith config.now.ring config.now.starts.items) }
 {
     match config.check(alloc) {

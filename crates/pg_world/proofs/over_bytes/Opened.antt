@@ -300,3 +300,8 @@ pub made_count : {T E : Type 0} {g : Ghosts T} (given : Config) (result : Result
     → IfOk result (λ nodes. map node_of nodes.items ≡ firsts given (length given)) → IfOk result (λ nodes. length nodes.items ≡ length given)
 made_count given (Ok nodes) are = sym (length-map nodes.items node_of) ∙ (ap length are ∙ firsts_length given (length given))
 made_count given (Err fault) are = tt
+
+pub made_fit : {T E : Type 0} {g : Ghosts T} (given : Config) (result : Result (Vec (Node T g) Global) E)
+    → IfOk result (λ nodes. (i : ℕ) → i < length given → OpensLinks (length given - 1) (seen_first given i) (get_or (map links_of nodes.items) i no_links)) → IfOk result (λ nodes. AllFit given)
+made_fit given (Ok nodes) told_by = all_links_fit given (map links_of nodes.items) (length given - 1) told_by
+made_fit given (Err fault) told_by = tt

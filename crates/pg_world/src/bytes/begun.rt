@@ -1,6 +1,6 @@
 //! How a world of bytes begins.
 
-ghost use Rattle.std.specs.Prelude.{◌≡◌, [], ◌<◌, ◌-◌, ℕ, IfOk, IfErr, length, map, get_or};
+ghost use Rattle.std.specs.Prelude.{◌≡◌, [], true, ◌<◌, ◌-◌, ℕ, IfOk, IfErr, length, map, get_or};
 ghost use Rattle.pg_ring.specs.Capacity.{IsCapacity};
 ghost use Rattle.pg_step.specs.Config.{IsConfig};
 ghost use Rattle.pg_node.specs.Nodes.{links_of};
@@ -60,7 +60,7 @@ impl World<IndexTable> {
     }
 }
 
-ghost use Rattle.pg_world.specs.Openings.{CantBegin as CantBeginWith};
+ghost use Rattle.pg_world.specs.Openings.{AllFit as AllFitFrames, CantBegin as CantBeginWith, have_few};
 ghost use Rattle.pg_world.specs.BytesStart.{BytesBegin as BytesBeginOf};
 
 /// The nodes of a configuration as they start over bytes, by their places, for who moves the bytes between them: what each of them
@@ -70,6 +70,8 @@ ghost use Rattle.pg_world.specs.BytesStart.{BytesBegin as BytesBeginOf};
 pub fn starting_nodes(alloc: Global, config: &Config) -> Result<Vec<Node<IndexTable>>, WorldFault>
     ensures good { IfOk result (λ nodes. IsConfig config.now.starts.items × IsCapacity config.now.ring) }
     ensures count { IfOk result (λ nodes. length nodes.items ≡ length config.now.starts.items) }
+    ensures fits { IfOk result (λ nodes. AllFitFrames config.now.starts.items) }
+    ensures few { IfOk result (λ nodes. have_few config.now.starts.items ≡ true) }
     ensures begins { IfOk result (λ nodes. BytesBeginOf config.now.starts.items (idle_crossing nodes.items) no_account) }
     ensures fault { IfErr result (CantBeginWith config.now.ring config.now.starts.items) }
 {
