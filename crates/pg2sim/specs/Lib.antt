@@ -2,6 +2,7 @@ pub mod Bytes
 pub mod CommandLine
 pub mod Faults
 pub mod Inputs
+pub mod Progress
 pub mod Scripts
 pub mod Status
 pub mod Talks

@@ -6,6 +6,7 @@ mod fault;
 mod help;
 mod input;
 mod laws;
+mod progress;
 mod run;
 mod script;
 #[cfg(test)]
@@ -19,6 +20,7 @@ mod threads;
 mod words;
 
 use pg_node::{AnyReader, AnyWriter};
+use progress::Progress;
 use run::{OUT_OF_MEMORY, refuse, refuse_given, run_words};
 use std::io::BufWriter;
 use std::process::ExitCode;
@@ -50,6 +52,7 @@ fn status(rt: &HostRuntime, threads: &impl Threads, words: &[String]) -> io::Res
         rt,
         threads,
         begun: Instant::now(rt)?,
+        progress: Progress::new(rt.stderr(), rt),
     };
     Ok(run_words(
         rt.alloc(),

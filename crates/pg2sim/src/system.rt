@@ -5,8 +5,10 @@ ghost use Rattle.pg_cluster.specs.declared.conversation.Conversation.{Conversati
 ghost use Rattle.pg_cluster.specs.declared.conversation.Outcome.{Outcome};
 ghost use Rattle.pg_cluster.specs.declared.fault.StartFault.{StartFault};
 
+use crate::progress::Progress;
 use pg_cluster::{Conversation, Outcome, StartFault, run_threads};
 use std::alloc::Global;
+use std::io::Write;
 use std::thread::Threads;
 use std::time::Instant;
 use std::{fs, io};
@@ -35,16 +37,18 @@ pub(crate) trait System {
     fn microseconds(&mut self) -> u64;
 }
 
-/// The system that runs the program: a conversation that it tells of took place. No clause says when a file can't be made.
+/// The system that runs the program: a conversation that it tells of took place. While one goes on, its progress is shown on the
+/// terminal. No clause says when a file can't be made.
 #[derive(Drop)]
-pub(crate) struct HostSystem<'a, R> {
+pub(crate) struct HostSystem<'a, R, T> {
     pub(crate) alloc: Global,
     pub(crate) rt: &'a HostRuntime,
     pub(crate) threads: &'a R,
     pub(crate) begun: Instant,
+    pub(crate) progress: Progress<T, &'a HostRuntime>,
 }
 
-impl<R: Threads> System for HostSystem<'_, R> {
+impl<R: Threads, T: Write> System for HostSystem<'_, R, T> {
     ghost use Rattle.std.specs.Prelude.{IfOk};
     ghost use Rattle.pg_cluster.specs.Conversations.{TookPlace};
 
@@ -55,7 +59,9 @@ impl<R: Threads> System for HostSystem<'_, R> {
     }
 
     fn converse(&mut self, asked: Conversation) -> Result<Outcome, StartFault> {
-        run_threads(self.threads, self.alloc, asked)
+        let told = run_threads(self.threads, self.alloc, asked, &mut self.progress);
+        self.progress.end();
+        told
     }
 
     fn microseconds(&mut self) -> u64 {

@@ -28,6 +28,7 @@ use Rattle.pg_step.specs.declared.command.Command.TheVariants.{Finish}
 use Rattle.pg_together.specs.Apart.{event_at}
 use Rattle.pg_world.specs.declared.step.FrameStep.{FrameStep}
 use Rattle.pg_cluster.specs.Judges.{Agree, formed_in, is_end_pending, is_pending_end, is_taken_by_some, state_in}
+use Rattle.pg_cluster.specs.Notices.{NobodyLost}
 use Rattle.pg_cluster.specs.Threads.{NodeOf, Thread, AreMade, begun_by}
 use Rattle.pg_cluster.specs.Together.{AreOneRun}
 use Rattle.pg_cluster.specs.declared.closed.Closed.{Closed}
@@ -118,6 +119,7 @@ module _ (finished : EndedWereFinished) (unseen : NoLossIsSeen) (given : Config)
   finish_pends : (home port : ℕ) (pid : Pid) (event : NodeEvent) → is_taken_by_some nodes pid ≡ true → event_at home event ≡ Do home (Issue port (Finish pid)) → is_pending_end nodes event ≡ true
   finish_pends home port pid (entries.Take peer) taken is = absurd cc
   finish_pends home port pid (entries.Retry op) taken is = absurd cc
+  finish_pends home port pid (entries.SeeLoss peer) taken is = absurd cc
   finish_pends home port pid (entries.Command p command) taken is =
       let same : command ≡ Finish pid = cc in subst (λ c. is_pending_end nodes (entries.Command p c) ≡ true) (sym same) taken
 
@@ -189,8 +191,8 @@ module _ (finished : EndedWereFinished) (unseen : NoLossIsSeen) (given : Config)
 -- and those of a cluster that has ended
 pub closed_agree : {K : Type 0}
     → ((given : Config) (nodes : List NodeOf) (logs : List (Vec (ℕ × NodeEvent) Global)) (schedule : List FrameStep) → AreOneRun given nodes (map (λ v. v.items) logs) schedule → Agree nodes logs)
-    → (threads : List (Thread K)) (result : Result Closed Stopped)
-    → IfOk result (λ closed. (given : Config) → AreMade given (map begun_by threads) → AreOneRun given closed.nodes.items (map (λ v. v.items) closed.logs.items) closed.schedule.items)
-    → IfOk result (λ closed. (given : Config) → AreMade given (map begun_by threads) → Agree closed.nodes.items closed.logs.items)
-closed_agree law threads (Ok closed) run = λ given made. law given closed.nodes.items closed.logs.items closed.schedule.items (run given made)
-closed_agree law threads (Err stopped) run = tt
+    → (lost : List Bool) (threads : List (Thread K)) (result : Result Closed Stopped)
+    → IfOk result (λ closed. NobodyLost lost → (given : Config) → AreMade given (map begun_by threads) → AreOneRun given closed.nodes.items (map (λ v. v.items) closed.logs.items) closed.schedule.items)
+    → IfOk result (λ closed. NobodyLost lost → (given : Config) → AreMade given (map begun_by threads) → Agree closed.nodes.items closed.logs.items)
+closed_agree law lost threads (Ok closed) run = λ nobody given made. law given closed.nodes.items closed.logs.items closed.schedule.items (run nobody given made)
+closed_agree law lost threads (Err stopped) run = tt

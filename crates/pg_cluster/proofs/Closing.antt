@@ -25,13 +25,13 @@ module _ {K : Type 0} (threads : List (Thread K)) (rans : List (RanOf K)) (joine
     kept x low = joined.1 x thread ran (let e = joined.0 in omega arith)
 
     same_length : (x : ℕ) → x < length threads → length (row_at (rows_ended rans) x) ≡ length (row_at (rows_begun threads) x)
-    same_length x low = rw (begun_row x low, ended_row x low) ((kept x low).runs.follows.moved.len)
+    same_length x low = rw (begun_row x low, ended_row x low) ((kept x low).runs.serves.follows.moved.len)
 
     moved : (x place : ℕ) (none : End) → x < length threads → place < length (row_at (rows_begun threads) x)
         → (put given : List ℕ) × Sends (get_or (row_at (rows_begun threads) x) place none).link put (get_or (row_at (rows_ended rans) x) place none).link
         × Receives (get_or (row_at (rows_begun threads) x) place none).inlet given (get_or (row_at (rows_ended rans) x) place none).inlet
     moved x place none low within =
-        let m = (kept x low).runs.follows.moved.each place none (subst (λ (es : List End). place < length es) (begun_row x low) within) in
+        let m = (kept x low).runs.serves.follows.moved.each place none (subst (λ (es : List End). place < length es) (begun_row x low) within) in
         (m.put, m.given, rw (begun_row x low, ended_row x low) m.accepted, rw (begun_row x low, ended_row x low) m.gave)
 
     -- the ends of the ring from one node to another, as they began and as they ended

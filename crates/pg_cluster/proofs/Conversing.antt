@@ -1,11 +1,23 @@
--- A conversation that took place.
-use Rattle.std.proofs.Common.{◌≡◌, true, not, List, [], ◌∷◌, map, Some, refl, zero, suc, arith}
+-- A conversation that took place, and the answers that its clients count.
+use Rattle.std.proofs.Common.{◌≡◌, ◌≢◌, ◌⊎◌, ◌<◌, ◌+◌, ◌-◌, ◌^◌, ℕ, min, true, not, List, [], ◌∷◌, length, get_or, map, Some, set, inl, inr, refl, sym, ap, subst, ◌∙◌, zero, suc, arith, length-append}
+use Rattle.std.specs.List.{All, sum_by}
+use Rattle.std.proofs.Math.ListN.{get_or-map}
+use Rattle.std.proofs.lemmas.Bool.{cases_eq}
+use Rattle.std.proofs.lemmas.List.{length-map, length-set, get_or-set_same, get_or-set_other}
+use Rattle.std.proofs.lemmas.List.Sums.{sum_by-cons}
 use Rattle.pg_machine.specs.Machine.{Event}
+use Rattle.pg_run.specs.declared.port.Client.{Client}
+use Rattle.pg_run.specs.Ports.{IsSilent, polled, polled_count}
 use Rattle.pg_step.specs.Step.{Action}
 use Rattle.pg_world.specs.Runs.{LosesNone}
 use Rattle.pg_world.specs.Worlds.{event_of, is_loss}
 use Rattle.pg_world.specs.declared.step.FrameStep.{FrameStep}
 use Rattle.pg_world.specs.declared.step.FrameStep.TheVariants as steps
+use Rattle.pg_cluster.specs.Clients.{AllPairs}
+use Rattle.pg_cluster.specs.Conversations.{Counts, HasCounted, all_polled, saturated}
+use Rattle.pg_cluster.specs.declared.speaker.Speaker.{Speaker}
+
+-- ---- the schedule
 
 -- a step that is an event is no loss
 no_loss : (step : FrameStep) (e : Event Action) → event_of step ≡ Some e → not (is_loss step) ≡ true
@@ -21,3 +33,71 @@ none_lost [] events are i d low = absurd (omega (arith, low))
 none_lost (step ∷ schedule) [] are i d low = absurd cc
 none_lost (step ∷ schedule) (e ∷ events) are zero d low = no_loss step e (let first : event_of step ≡ Some e = cc in first)
 none_lost (step ∷ schedule) (e ∷ events) are (suc i) d low = none_lost schedule events (let rest : map event_of schedule ≡ map Some events = cc in rest) i d (omega (arith, low))
+
+-- ---- pairs
+
+-- in both lists the elements at one place are set to a pair
+pub pairs_set : {X Y : Type 0} (R : X → Y → Type 0) (xs : List X) (ys : List Y) (k : ℕ) (x2 : X) (y2 : Y) → k < length ys → R x2 y2 → AllPairs R xs ys
+    → AllPairs R (set xs k x2) (set ys k y2)
+pairs_set R xs ys k x2 y2 within pair all = record {
+  len = length-set xs k x2 ∙ all.len ∙ sym (length-set ys k y2);
+  each = λ i x y low. each i x y (omega (arith, length-set ys k y2)) (cases_eq i k);
+}
+  where
+    each : (i : ℕ) (x : _) (y : _) → i < length ys → (i ≡ k) ⊎ (i ≢ k) → R (get_or (set xs k x2) i x) (get_or (set ys k y2) i y)
+    each i x y low (inl e) =
+        subst (λ j. R (get_or (set xs k x2) j x) (get_or (set ys k y2) j y)) (sym e)
+        (rw (get_or-set_same xs k x2 x (omega (arith, all.len)), get_or-set_same ys k y2 y within) pair)
+    each i x y low (inr n) = rw (get_or-set_other xs k i x2 x n, get_or-set_other ys k i y2 y n) (all.each i x y low)
+
+-- numbers up to m are added up to m
+add_up_to : (m a b x y : ℕ) → a ≡ min b m → min x m ≡ min y m → min (a + x) m ≡ min (b + y) m
+add_up_to m a b x y p q = omega arith
+
+add_one_up_to : (m a n : ℕ) → a ≡ min n m → min (a + 1) m ≡ min (n + 1) m
+add_one_up_to m a n p = omega arith
+
+module _ {X Y : Type 0} (m : ℕ) (f : X → ℕ) (g : Y → ℕ) where
+  -- of pairs that have the same number up to m the sums are the same up to m
+  pub sums_up_to : (xs : List X) (ys : List Y) → AllPairs (λ x y. f x ≡ min (g y) m) xs ys → min (sum_by f xs) m ≡ min (sum_by g ys) m
+  sums_up_to [] [] all = refl
+  sums_up_to [] (y ∷ ys) all = absurd (omega (arith, all.len))
+  sums_up_to (x ∷ xs) [] all = absurd (omega (arith, all.len))
+  sums_up_to (x ∷ xs) (y ∷ ys) all =
+      let rest = sums_up_to xs ys (record { len = omega (arith, all.len); each = λ i u v low. all.each (suc i) u v (omega arith) }) in
+      let first : f x ≡ min (g y) m = all.each 0 x y (omega arith) in
+      rw (sum_by-cons f x xs, sum_by-cons g y ys) (add_up_to m (f x) (g y) (sum_by f xs) (sum_by g ys) first rest)
+
+  -- they are such pairs where the numbers of one list stay
+  pub pairs_stay : (xs xs2 : List X) (ys : List Y) → map f xs2 ≡ map f xs → AllPairs (λ x y. f x ≡ min (g y) m) xs ys → AllPairs (λ x y. f x ≡ min (g y) m) xs2 ys
+  pairs_stay xs xs2 ys same all =
+      let count : length xs2 ≡ length xs = sym (length-map xs2 f) ∙ ap length same ∙ length-map xs f in record {
+        len = count ∙ all.len;
+        each = λ i x y low. sym (get_or-map f xs2 i x) ∙ ap (λ ns. get_or ns i (f x)) same ∙ get_or-map f xs i x ∙ all.each i x y low;
+      }
+
+-- ---- what is counted
+
+-- all that the clients polled is what is counted
+pub all_counted : (speakers : List Speaker) (clients : List Client) → AllPairs HasCounted speakers clients
+    → saturated (sum_by (λ speaker. speaker.answered) speakers) ≡ saturated (all_polled clients)
+all_counted speakers clients all = sums_up_to (2 ^ 64 - 1) (λ speaker. speaker.answered) (λ client. length (polled client)) speakers clients all
+
+-- it stays so where the counts stay
+pub counted_stay : (speakers speakers2 : List Speaker) (clients : List Client) → map (λ speaker. speaker.answered) speakers2 ≡ map (λ speaker. speaker.answered) speakers
+    → AllPairs HasCounted speakers clients → AllPairs HasCounted speakers2 clients
+counted_stay speakers speakers2 clients same all = pairs_stay (2 ^ 64 - 1) (λ speaker. speaker.answered) (λ client. length (polled client)) speakers speakers2 clients same all
+
+-- nothing is counted where nothing was polled
+pub none_counted : (speakers : List Speaker) (clients : List Client) → length speakers ≡ length clients → All (λ speaker. speaker.answered ≡ 0) speakers
+    → All IsSilent clients → AllPairs HasCounted speakers clients
+none_counted speakers clients count zeros silent = record {
+  len = count;
+  each = λ i s c low. zeros i s (omega arith) ∙ sym (ap (λ answers. saturated (length answers)) (silent i c low).polled);
+}
+
+-- one more is counted where one more was polled
+pub counted_more : (count count2 : ℕ) (client client2 : Client) → Counts count count2 client client2 → count ≡ polled_count client → count2 ≡ polled_count client2
+counted_more count count2 client client2 (inl more) was =
+    more.2 ∙ add_one_up_to (2 ^ 64 - 1) count (length (polled client)) was ∙ sym (ap saturated (ap length more.1 ∙ length-append (polled client) (more.0 ∷ [])))
+counted_more count count2 client client2 (inr rest) was = rest.1 ∙ was ∙ sym (ap (λ answers. saturated (length answers)) rest.0)

@@ -1,6 +1,6 @@
 -- A cluster that is closed.
-use Rattle.std.proofs.Common.{◌≡◌, ◌<◌, ℕ, List, [], ◌∷◌, ◌++◌, length, map, get_or, refl, sym, subst, arith, inl, inr, length-append}
-use Rattle.std.specs.Prelude.{Result, Ok, Err, IfOk, IfErr, MatchResult}
+use Rattle.std.proofs.Common.{◌≡◌, ◌<◌, ℕ, List, [], ◌∷◌, ◌++◌, length, map, get_or, refl, sym, ◌∙◌, ap, subst, arith, inl, inr, length-append}
+use Rattle.std.specs.Prelude.{Bool, Result, Ok, Err, IfOk, IfErr, MatchResult}
 use Rattle.std.proofs.lemmas.Bool.Decides.{eqb_tells}
 use Rattle.std.specs.List.{All}
 use Rattle.std.proofs.lemmas.List.{length-map, get_or-map}
@@ -8,16 +8,18 @@ use Rattle.std.proofs.Math.ListN.{get_or-append}
 use Rattle.std.proofs.Math.Seq.{get_or-append_seam}
 use Rattle.pg_run.specs.declared.log.NodeEvent.{NodeEvent}
 use Rattle.pg_run.specs.declared.port.Client.{Client}
+use Rattle.pg_ring.specs.Slots.{taken}
 use Rattle.pg_run.specs.Ports.{Meets}
 use Rattle.pg_step.specs.Config.{Config}
 use Rattle.pg_world.specs.declared.step.FrameStep.{FrameStep}
 use Rattle.pg_cluster.specs.declared.closed.Closed.{Closed}
 use Rattle.pg_cluster.specs.declared.closed.Stopped.{Stopped}
 use Rattle.pg_cluster.specs.Clients.{AllPairs, AllHeard, ClientsRest, ports_ended}
-use Rattle.pg_cluster.specs.Closed.{nodes_of, logs_of, clients_of}
+use Rattle.pg_cluster.specs.Closed.{nodes_of, logs_of, losses_of, clients_of}
 use Rattle.pg_cluster.specs.Ended.{AreWired, AllArrived}
+use Rattle.pg_cluster.specs.Notices.{NobodyLost}
 use Rattle.pg_cluster.specs.Schedule.{IsSchedule}
-use Rattle.pg_cluster.specs.Threads.{NodeOf, RunOf, RanOf, Thread, AreMade, EndedWith, Joined, begun_by, node_in, log_in, rows_begun, rows_ended}
+use Rattle.pg_cluster.specs.Threads.{NodeOf, RunOf, RanOf, Thread, AreMade, EndedWith, Joined, begun_by, node_in, log_in, rows_begun, rows_ended, notices_ended}
 use Rattle.pg_cluster.specs.Together.{AreOneRun}
 use Rattle.pg_cluster.proofs.Closing.{crossed_after}
 use Rattle.pg_cluster.proofs.Hearing.{heard_all}
@@ -39,25 +41,27 @@ one_more_stands P hs rs x r at here all i h d low = elim (eqb_tells i (length rs
 ]
 
 -- what stopped is what the threads gave back
-pub stopped_ended : {K : Type 0} (threads : List (Thread K)) (rans : List (RanOf K)) (stopped : Stopped)
+pub stopped_ended : {K : Type 0} (lost : List Bool) (threads : List (Thread K)) (rans : List (RanOf K)) (stopped : Stopped)
     → AreWired (length threads) (rows_begun threads) → Joined threads rans → AllArrived (length threads) (rows_ended rans)
     → nodes_of stopped ≡ map (λ ran. node_in ran.run) rans → logs_of stopped ≡ map (λ ran. log_in ran.run) rans
-    → EndedWith threads (nodes_of stopped) (logs_of stopped)
-stopped_ended threads rans stopped wired joined arrived nodes logs = record {
+    → (NobodyLost lost → All (λ inlet. taken inlet ≡ []) (notices_ended rans))
+    → EndedWith lost threads (nodes_of stopped) (logs_of stopped)
+stopped_ended lost threads rans stopped wired joined arrived nodes logs untold = record {
   rans = rans;
   joined = joined;
   ended = nodes;
   logged = logs;
   crossed = crossed_after (length threads) threads rans refl wired joined arrived;
+  untold = untold;
 }
 
 -- and so it is of what is finished
-pub finished_ended : {K : Type 0} (threads : List (Thread K)) (stopped : Stopped) (result : Result Closed Stopped) → EndedWith threads (nodes_of stopped) (logs_of stopped)
+pub finished_ended : {K : Type 0} (lost : List Bool) (threads : List (Thread K)) (stopped : Stopped) (result : Result Closed Stopped) → EndedWith lost threads (nodes_of stopped) (logs_of stopped)
     → IfOk result (λ closed. closed.nodes.items ≡ nodes_of stopped) → IfOk result (λ closed. map (λ v. v.items) closed.logs.items ≡ logs_of stopped) → IfErr result (λ other. other ≡ stopped)
-    → MatchResult result (λ closed. EndedWith threads closed.nodes.items (map (λ v. v.items) closed.logs.items)) (λ other. EndedWith threads (nodes_of other) (logs_of other))
-finished_ended threads stopped (Ok closed) ended nodes logs same =
-    subst (λ ns. EndedWith threads ns (map (λ v. v.items) closed.logs.items)) (sym nodes) (subst (EndedWith threads (nodes_of stopped)) (sym logs) ended)
-finished_ended threads stopped (Err other) ended nodes logs same = subst (λ (s : Stopped). EndedWith threads (nodes_of s) (logs_of s)) (sym same) ended
+    → MatchResult result (λ closed. EndedWith lost threads closed.nodes.items (map (λ v. v.items) closed.logs.items)) (λ other. EndedWith lost threads (nodes_of other) (logs_of other))
+finished_ended lost threads stopped (Ok closed) ended nodes logs same =
+    subst (λ ns. EndedWith lost threads ns (map (λ v. v.items) closed.logs.items)) (sym nodes) (subst (EndedWith lost threads (nodes_of stopped)) (sym logs) ended)
+finished_ended lost threads stopped (Err other) ended nodes logs same = subst (λ (s : Stopped). EndedWith lost threads (nodes_of s) (logs_of s)) (sym same) ended
 
 -- the clients are the same
 pub finished_clients : (clients : List Client) (stopped : Stopped) (result : Result Closed Stopped) → ClientsRest clients (clients_of stopped)
@@ -66,18 +70,26 @@ pub finished_clients : (clients : List Client) (stopped : Stopped) (result : Res
 finished_clients clients stopped (Ok closed) rest same err = subst (ClientsRest clients) (sym same) rest
 finished_clients clients stopped (Err other) rest same err = subst (λ (s : Stopped). ClientsRest clients (clients_of s)) (sym err) rest
 
+-- merely so, where nodes may be lost
+pub ended_merely : {K : Type 0} (lost : List Bool) (threads : List (Thread K)) (stopped : Stopped) (result : Result Closed Stopped) → ∥ EndedWith lost threads (nodes_of stopped) (logs_of stopped) ∥₁
+    → IfOk result (λ closed. closed.nodes.items ≡ nodes_of stopped) → IfOk result (λ closed. map (λ v. v.items) closed.logs.items ≡ logs_of stopped) → IfErr result (λ other. other ≡ stopped)
+    → MatchResult result (λ closed. ∥ EndedWith lost threads closed.nodes.items (map (λ v. v.items) closed.logs.items) ∥₁) (λ other. ∥ EndedWith lost threads (nodes_of other) (logs_of other) ∥₁)
+ended_merely lost threads stopped (Ok closed) ended nodes logs same =
+    subst (λ ns. ∥ EndedWith lost threads ns (map (λ v. v.items) closed.logs.items) ∥₁) (sym nodes) (subst (λ ls. ∥ EndedWith lost threads (nodes_of stopped) ls ∥₁) (sym logs) ended)
+ended_merely lost threads stopped (Err other) ended nodes logs same = subst (λ (s : Stopped). ∥ EndedWith lost threads (nodes_of s) (logs_of s) ∥₁) (sym same) ended
+
 -- what they said and heard is in what is finished
-pub finished_heard : {K : Type 0} (threads : List (Thread K)) (clients : List Client) (stopped : Stopped) (result : Result Closed Stopped)
-    → ((given : Config) → AreMade given (map begun_by threads) → AllHeard threads (nodes_of stopped) (logs_of stopped) clients)
+pub heard_merely : {K : Type 0} (threads : List (Thread K)) (clients : List Client) (stopped : Stopped) (result : Result Closed Stopped)
+    → ((given : Config) → AreMade given (map begun_by threads) → ∥ AllHeard threads (nodes_of stopped) (logs_of stopped) clients ∥₁)
     → IfOk result (λ closed. closed.nodes.items ≡ nodes_of stopped) → IfOk result (λ closed. map (λ v. v.items) closed.logs.items ≡ logs_of stopped) → IfErr result (λ other. other ≡ stopped)
     → MatchResult result
-    (λ closed. (given : Config) → AreMade given (map begun_by threads) → AllHeard threads closed.nodes.items (map (λ v. v.items) closed.logs.items) clients)
-    (λ other. (given : Config) → AreMade given (map begun_by threads) → AllHeard threads (nodes_of other) (logs_of other) clients)
-finished_heard threads clients stopped (Ok closed) heard nodes logs same = λ given made.
-    subst (λ (ns : List NodeOf). AllHeard threads ns (map (λ v. v.items) closed.logs.items) clients) (sym nodes)
-    (subst (λ (ls : List (List (ℕ × NodeEvent))). AllHeard threads (nodes_of stopped) ls clients) (sym logs) (heard given made))
-finished_heard threads clients stopped (Err other) heard nodes logs same = λ given made.
-    subst (λ (s : Stopped). AllHeard threads (nodes_of s) (logs_of s) clients) (sym same) (heard given made)
+    (λ closed. (given : Config) → AreMade given (map begun_by threads) → ∥ AllHeard threads closed.nodes.items (map (λ v. v.items) closed.logs.items) clients ∥₁)
+    (λ other. (given : Config) → AreMade given (map begun_by threads) → ∥ AllHeard threads (nodes_of other) (logs_of other) clients ∥₁)
+heard_merely threads clients stopped (Ok closed) heard nodes logs same = λ given made.
+    subst (λ (ns : List NodeOf). ∥ AllHeard threads ns (map (λ v. v.items) closed.logs.items) clients ∥₁) (sym nodes)
+    (subst (λ (ls : List (List (ℕ × NodeEvent))). ∥ AllHeard threads (nodes_of stopped) ls clients ∥₁) (sym logs) (heard given made))
+heard_merely threads clients stopped (Err other) heard nodes logs same = λ given made.
+    subst (λ (s : Stopped). ∥ AllHeard threads (nodes_of s) (logs_of s) clients ∥₁) (sym same) (heard given made)
 
 -- and in what stopped
 pub stopped_heard : {K : Type 0} (threads : List (Thread K)) (rans : List (RanOf K)) (clients : List Client) (stopped : Stopped) → Joined threads rans
@@ -91,15 +103,29 @@ stopped_heard {K} threads rans clients stopped joined meets nodes logs given mad
     (subst (λ (ls : List (List (ℕ × NodeEvent))). AllHeard threads (map (λ ran. node_in ran.run) rans) ls clients) (sym logs)
     (heard_all threads rans clients joined unlogged made.unused meets))
 
+-- which were lost is the same
+pub finished_lost : (lost : List Bool) (stopped : Stopped) (result : Result Closed Stopped) → losses_of stopped ≡ lost → IfErr result (λ other. other ≡ stopped)
+    → IfErr result (λ other. losses_of other ≡ lost)
+finished_lost lost stopped (Ok closed) are same = tt
+finished_lost lost stopped (Err other) are same = ap losses_of same ∙ are
+
+-- the schedule, where none was lost
+pub finished_schedule : (lost : List Bool) (stopped : Stopped) (result : Result Closed Stopped) → losses_of stopped ≡ lost
+    → IfOk result (λ closed. NobodyLost (losses_of stopped) → IsSchedule (map (λ v. v.items) closed.logs.items) (length closed.logs.items) closed.schedule.items)
+    → IfOk result (λ closed. NobodyLost lost → IsSchedule (map (λ v. v.items) closed.logs.items) (length closed.logs.items) closed.schedule.items)
+finished_schedule lost stopped (Ok closed) are is = λ nobody. is (subst NobodyLost (sym are) nobody)
+finished_schedule lost stopped (Err other) are is = tt
+
 -- it is one run
 pub finished_run : {K : Type 0}
-    → ((given : Config) (threads : List (Thread K)) (nodes : List NodeOf) (logs : List (List (ℕ × NodeEvent))) (schedule : List FrameStep)
-    → AreMade given (map begun_by threads) → EndedWith threads nodes logs → IsSchedule logs (length logs) schedule → AreOneRun given nodes logs schedule)
-    → (threads : List (Thread K)) (result : Result Closed Stopped)
-    → MatchResult result (λ closed. EndedWith threads closed.nodes.items (map (λ v. v.items) closed.logs.items)) (λ other. EndedWith threads (nodes_of other) (logs_of other))
-    → IfOk result (λ closed. IsSchedule (map (λ v. v.items) closed.logs.items) (length closed.logs.items) closed.schedule.items)
-    → IfOk result (λ closed. (given : Config) → AreMade given (map begun_by threads) → AreOneRun given closed.nodes.items (map (λ v. v.items) closed.logs.items) closed.schedule.items)
-finished_run law threads (Ok closed) ended is = λ given made.
-    law given threads closed.nodes.items (map (λ v. v.items) closed.logs.items) closed.schedule.items made ended
-    (subst (λ n. IsSchedule (map (λ v. v.items) closed.logs.items) n closed.schedule.items) (sym (length-map closed.logs.items (λ v. v.items))) is)
-finished_run law threads (Err other) ended is = tt
+    → ((given : Config) (lost : List Bool) (threads : List (Thread K)) (nodes : List NodeOf) (logs : List (List (ℕ × NodeEvent))) (schedule : List FrameStep)
+    → NobodyLost lost → AreMade given (map begun_by threads) → EndedWith lost threads nodes logs → IsSchedule logs (length logs) schedule → AreOneRun given nodes logs schedule)
+    → (lost : List Bool) (threads : List (Thread K)) (result : Result Closed Stopped)
+    → (NobodyLost lost → MatchResult result (λ closed. EndedWith lost threads closed.nodes.items (map (λ v. v.items) closed.logs.items)) (λ other. EndedWith lost threads (nodes_of other) (logs_of other)))
+    → IfOk result (λ closed. NobodyLost lost → IsSchedule (map (λ v. v.items) closed.logs.items) (length closed.logs.items) closed.schedule.items)
+    → IfOk result (λ closed. NobodyLost lost → (given : Config) → AreMade given (map begun_by threads)
+    → AreOneRun given closed.nodes.items (map (λ v. v.items) closed.logs.items) closed.schedule.items)
+finished_run law lost threads (Ok closed) ended is = λ nobody given made.
+    law given lost threads closed.nodes.items (map (λ v. v.items) closed.logs.items) closed.schedule.items nobody made (ended nobody)
+    (subst (λ n. IsSchedule (map (λ v. v.items) closed.logs.items) n closed.schedule.items) (sym (length-map closed.logs.items (λ v. v.items))) (is nobody))
+finished_run law lost threads (Err other) ended is = tt

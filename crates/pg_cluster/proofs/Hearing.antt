@@ -2,14 +2,13 @@
 use Rattle.std.proofs.Common.{◌≡◌, ◌<◌, ℕ, suc, List, [], ◌∷◌, ◌++◌, length, map, take, drop, get_or, refl, sym, ◌∙◌, ap, subst, arith, append_assoc}
 use Rattle.std.specs.List.{All}
 use Rattle.std.proofs.lemmas.List.{get_or_default, nil_from_length, take-append-drop}
-use Rattle.pg_machine.specs.Machine.{Taken, Own}
 use Rattle.pg_node.specs.Nodes.{held_by}
 use Rattle.pg_node.specs.States.{answers_of}
 use Rattle.pg_ring.specs.Ends.{Sends, Receives}
 use Rattle.pg_run.specs.declared.log.NodeEvent.{NodeEvent}
 use Rattle.pg_run.specs.declared.port.Client.{Client}
 use Rattle.pg_run.specs.declared.port.Port.{Port}
-use Rattle.pg_run.specs.Acts.{Act, Given, entry_of, event_of}
+use Rattle.pg_run.specs.Acts.{Act, Given, Took, Saw, Did, entry_of, event_of}
 use Rattle.pg_run.specs.Ports.{ArePort, IsUnused, Meets, SamePort, HandedOver, handed_count, kept_by, polled}
 use Rattle.pg_run.specs.Runs.{Runs, ports_at}
 use Rattle.pg_run.specs.Turns.{PortFollows, command_at, commands_at}
@@ -24,9 +23,10 @@ use Rattle.pg_cluster.proofs.Paired.{pairs_none, pairs_append, pairs_first, pair
 -- ---- commands, as a log has them
 
 command_same : (place : ℕ) (input : Given) → command_at place input ≡ command_in place (event_of input)
-command_same place (Taken p x) = refl
-command_same place (Own (Issue port command)) = refl
-command_same place (Own (Retry op)) = refl
+command_same place (Took p x) = refl
+command_same place (Saw p last) = refl
+command_same place (Did (Issue port command)) = refl
+command_same place (Did (Retry op)) = refl
 
 commands_logged : (place : ℕ) (acts : List Act) → commands_at place acts ≡ commands_in place (map entry_of acts)
 commands_logged place [] = refl
@@ -55,34 +55,34 @@ module _ {K : Type 0} where
   node_heard : (begun ended : RunOf K) (clients : List Client) → Runs Sends Receives begun ended → log_in begun ≡ [] → All IsUnused (ports_at begun)
       → AllPairs Meets clients (ports_at ended) → NodeHeard begun (node_in ended) (log_in ended) clients
   node_heard begun ended clients runs unlogged unused meets =
-      let logged : log_in ended ≡ map entry_of runs.acts = runs.follows.log ∙ ap (λ w. w ++ map entry_of runs.acts) unlogged in record {
-        acts = runs.acts;
-        lead = runs.follows.lead;
+      let logged : log_in ended ≡ map entry_of runs.serves.acts = runs.serves.follows.log ∙ ap (λ w. w ++ map entry_of runs.serves.acts) unlogged in record {
+        acts = runs.serves.acts;
+        lead = runs.serves.follows.lead;
         logged = logged;
-        count = meets.len ∙ runs.served.len;
+        count = meets.len ∙ runs.serves.served.len;
         each = λ place none low.
             let pair = pair_at Meets clients (ports_at ended) meets place none low in
-            let within : place < length (ports_at begun) = let e = meets.len in let s = runs.served.len in omega (arith, low, e, s) in
-            port_heard place runs.acts (log_in ended) (answers_of (held_by (node_in begun)) place) (answers_of (held_by (node_in ended)) place)
+            let within : place < length (ports_at begun) = let e = meets.len in let s = runs.serves.served.len in omega (arith, low, e, s) in
+            port_heard place runs.serves.acts (log_in ended) (answers_of (held_by (node_in begun)) place) (answers_of (held_by (node_in ended)) place)
             (get_or (ports_at begun) place pair.0) (get_or (ports_at ended) place pair.0) (get_or clients place none)
-            (runs.served.each place pair.0 within) (unused place pair.0 within) pair.1 (commands_logged place runs.acts ∙ ap (commands_in place) (sym logged));
+            (runs.serves.served.each place pair.0 within) (unused place pair.0 within) pair.1 (commands_logged place runs.serves.acts ∙ ap (commands_in place) (sym logged));
       }
 
   same_node : (begun ended : RunOf K) → Runs Sends Receives begun ended → AllPairs SamePort (ports_at begun) (ports_at ended)
   same_node begun ended runs = record {
-    len = sym runs.served.len;
+    len = sym runs.serves.served.len;
     each = λ i x y low.
-        let within : i < length (ports_at begun) = let s = runs.served.len in omega (arith, low, s) in
-        subst (λ (z : Port). SamePort (get_or (ports_at begun) i x) z) (get_or_default (ports_at ended) i x y low) (runs.served.each i x within).same;
+        let within : i < length (ports_at begun) = let s = runs.serves.served.len in omega (arith, low, s) in
+        subst (λ (z : Port). SamePort (get_or (ports_at begun) i x) z) (get_or_default (ports_at ended) i x y low) (runs.serves.served.each i x within).same;
   }
 
   -- ---- all nodes
 
-  first_ran : (thread : Thread K) (threads : List (Thread K)) (ran : RanOf K) (rans : List (RanOf K)) → Joined (thread ∷ threads) (ran ∷ rans) → Runs Sends Receives (begun_by thread) ran.run
+  pub first_ran : (thread : Thread K) (threads : List (Thread K)) (ran : RanOf K) (rans : List (RanOf K)) → Joined (thread ∷ threads) (ran ∷ rans) → Runs Sends Receives (begun_by thread) ran.run
   first_ran thread threads ran rans joined =
       let some : 0 < length (ran ∷ rans) = omega arith in let kept : RanAs (begun_by thread) (limit_of thread) ran = joined.1 0 thread ran some in kept.runs
 
-  others_ran : (thread : Thread K) (threads : List (Thread K)) (ran : RanOf K) (rans : List (RanOf K)) → Joined (thread ∷ threads) (ran ∷ rans) → Joined threads rans
+  pub others_ran : (thread : Thread K) (threads : List (Thread K)) (ran : RanOf K) (rans : List (RanOf K)) → Joined (thread ∷ threads) (ran ∷ rans) → Joined threads rans
   others_ran thread threads ran rans joined = (
     let e : length (ran ∷ rans) ≡ length (thread ∷ threads) = joined.0 in omega (arith, e),
     λ i t r low. let less : suc i < length (ran ∷ rans) = omega (arith, low) in joined.1 (suc i) t r less,

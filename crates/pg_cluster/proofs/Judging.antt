@@ -5,6 +5,7 @@ use Rattle.pg_group.specs.declared.table.GroupTable.{Ghosts}
 use Rattle.pg_node.specs.declared.state.NodeState.{NodeState}
 use Rattle.pg_node.specs.Same.{AreSameNodes}
 use Rattle.pg_node.specs.declared.node.Node.{Node}
+use Rattle.pg_machine.proofs.Options.{some_is}
 use Rattle.pg_step.specs.Config.{Config}
 use Rattle.pg_world.specs.declared.step.FrameStep.{FrameStep}
 use Rattle.pg_world.specs.declared.world.FrameWorld.{FrameWorld}
@@ -14,20 +15,30 @@ use Rattle.pg_world.specs.Views.{Seen, seen_of}
 use Rattle.pg_world.specs.Worlds.{Shows, view_of}
 use Rattle.pg_cluster.specs.Judges.{AreShown, Replays}
 
+-- what holds of each answer
+pub of_ok : {X E : Type 0} {P : Type 0} (result : Result X E) → P → IfOk result (λ x. P)
+of_ok (Ok x) p = p
+of_ok (Err e) p = tt
+
 module _ {T : Type 0} {g : Ghosts T} where
   -- nodes that are the same are seen alike
   seen_same : (one other : NodeState T g) → AreSameNodes one other → seen_of one ≡ seen_of other
   seen_same one other same = λ j. record { names = same.names j; ports = same.ports j; state = same.state j; answers = same.answers j }
 
+  same_seen : (one other : NodeState T g) → seen_of one ≡ seen_of other → AreSameNodes one other
+  same_seen one other same =
+      record { names = ap (λ (s : Seen). s.names) same; state = ap (λ (s : Seen). s.state) same; ports = ap (λ (s : Seen). s.ports) same; answers = ap (λ (s : Seen). s.answers) same }
+
   pub shown_one : {E : Type 0} (result : Result Bool E) (one other : NodeState T g) (at : Option Seen) → Some (seen_of other) ≡ at
-      → IfOk result (λ same. IsTrue same ↔ AreSameNodes one other) → IfOk result (λ yes. IsTrue yes → at ≡ Some (seen_of one))
-  shown_one (Ok told) one other at there is = λ holds. sym there ∙ ap Some (sym (seen_same one other (is.0 holds)))
+      → IfOk result (λ same. IsTrue same ↔ AreSameNodes one other) → IfOk result (λ yes. IsTrue yes ↔ (at ≡ Some (seen_of one)))
+  shown_one (Ok told) one other at there is =
+      (λ holds. sym there ∙ ap Some (sym (seen_same one other (is.0 holds))), λ e. is.1 (same_seen one other (sym (some_is (there ∙ e)))))
   shown_one (Err e) one other at there is = tt
 
   -- a world that the schedule leads to, and that shows these nodes
   pub replays_so : {E : Type 0} (given : Config) (schedule : List FrameStep) (nodes : List (Node T g)) (world : FrameWorld T g) (numbers : List ℕ) (result : Result Bool E)
       → (LosesNone schedule → Ran over_packets given schedule numbers (λ config. Shows config (view_of world)))
-      → IfOk result (λ yes. IsTrue yes → AreShown (view_of world).traffic.nodes nodes)
+      → IfOk result (λ yes. IsTrue yes ↔ AreShown (view_of world).traffic.nodes nodes)
       → IfOk result (λ yes. IsTrue yes → LosesNone schedule → Replays given schedule nodes)
   replays_so given schedule nodes world numbers (Ok told) ran shown = λ holds none. let r = ran none in record {
     numbers = numbers;
@@ -37,7 +48,7 @@ module _ {T : Type 0} {g : Ghosts T} where
       events = r.events;
       w = r.w;
       runs = r.runs;
-      shows = λ i node at. r.shows.traffic.nodes.each i (node_of node) (shown holds i node at);
+      shows = λ i node at. r.shows.traffic.nodes.each i (node_of node) (shown.0 holds i node at);
       history = r.history;
     };
   }

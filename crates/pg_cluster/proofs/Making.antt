@@ -5,7 +5,9 @@ use Rattle.std.specs.List.{All}
 use Rattle.std.proofs.lemmas.Bool.Decides.{leb_tells}
 use Rattle.std.proofs.lemmas.List.{get_or-map, length-map}
 use Rattle.pg_machine.specs.Places.{is_pair}
+use Rattle.pg_run.specs.Notices.{IsUntold}
 use Rattle.pg_run.specs.Ports.{IsUnused}
+use Rattle.pg_run.specs.Runs.{notices_of}
 use Rattle.pg_step.specs.Config.{Config, IsConfig}
 use Rattle.pg_together.specs.Apart.{End}
 use Rattle.pg_world.proofs.Peering.{place_low, place_high}
@@ -66,16 +68,18 @@ are_wired n (row ∷ rows) wired = wired_by n (row ∷ rows) row wired
 pub are_made : {K : Type 0} (given : Config) (nodes : List NodeOf) (rows : List Row) (result : Result (Made K) StartFault)
     → IsConfig given → length nodes ≡ length given → BytesBegin given (idle_crossing nodes) no_account → RowsWired (length nodes) rows
     → IfOk result (λ made. map node_in made.runs.items ≡ nodes) → IfOk result (λ made. map row_in made.runs.items ≡ lists rows)
-    → IfOk result (λ made. All (λ run. log_in run ≡ []) made.runs.items) → IfOk result (λ made. AllPairs IsOpen made.clients.items (ports_of_runs made.runs.items))
+    → IfOk result (λ made. All (λ run. log_in run ≡ []) made.runs.items) → IfOk result (λ made. All (λ run. IsUntold (notices_of run)) made.runs.items)
+    → IfOk result (λ made. AllPairs IsOpen made.clients.items (ports_of_runs made.runs.items))
     → IfOk result (λ made. AreMade given made.runs.items)
-are_made given nodes rows (Ok made) good count begins wired held rowed unlogged clients =
+are_made given nodes rows (Ok made) good count begins wired held rowed unlogged untold clients =
     let size : length made.runs.items ≡ length nodes = sym (length-map made.runs.items node_in) ∙ ap length held in record {
       count = size ∙ count;
       some = let s = good.some in omega arith;
       few = good.few;
       begins = subst (λ (ns : List NodeOf). BytesBegin given (idle_crossing ns) no_account) (sym held) begins;
       unlogged = unlogged;
+      untold = untold;
       unused = pairs_right IsOpen IsUnused (λ client port both. both.1.1) made.clients.items (ports_of_runs made.runs.items) clients;
       wired = subst (λ (n : ℕ). AreWired n (map row_in made.runs.items)) (sym size) (subst (AreWired (length nodes)) (sym rowed) (are_wired (length nodes) rows wired));
     }
-are_made given nodes rows (Err fault) good count begins wired held rowed unlogged clients = tt
+are_made given nodes rows (Err fault) good count begins wired held rowed unlogged untold clients = tt

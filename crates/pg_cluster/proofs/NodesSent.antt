@@ -15,6 +15,8 @@ use Rattle.pg_ring.specs.contracts.ring_in.RingIn as RingIn
 use Rattle.pg_ring.specs.contracts.ring_out.RingOut as RingOut
 use Rattle.pg_run.specs.contracts.linked.LinkedNode as LinkedNode
 use Rattle.pg_run.specs.contracts.log.NodeEvent as NodeEvent
+use Rattle.pg_run.specs.contracts.notices.Notice as Notice
+use Rattle.pg_run.specs.contracts.notices.Notices as Notices
 use Rattle.pg_run.specs.contracts.port.Asked as Asked
 use Rattle.pg_run.specs.contracts.port.Port as Port
 use Rattle.pg_run.specs.contracts.run.NodeRun as NodeRun
@@ -77,7 +79,7 @@ ring_in_send = search (sendable, crosses, end_send) depth 30
 event_send : IsSend NodeEvent.the_row
 event_send = variants_send NodeEvent.enum (
   (search (sendable, crosses, as_row_send) depth 30, tt),
-  ((search (sendable, crosses, as_row_send) depth 30, (command_send, tt)), ((opid_send, tt), tt)),
+  ((search (sendable, crosses, as_row_send) depth 30, (command_send, tt)), ((opid_send, tt), ((search (sendable, crosses, as_row_send) depth 30, tt), tt))),
 )
 
 asked_send : IsSend Asked.the_row
@@ -90,6 +92,15 @@ port_send = declared_send Port.the_type (
     search (sendable, crosses, as_row_send, end_send, answer_send) depth 30,
     (search (sendable, crosses, as_row_send, asked_send) depth 30, (search (sendable, crosses, as_row_send) depth 30, tt)),
   ),
+)
+
+notice_send : IsSend Notice.the_row
+notice_send = search (sendable, crosses) depth 30
+
+notices_send : IsSend Notices.the_row
+notices_send = declared_send Notices.the_type (
+  search (sendable, crosses, as_row_send, end_send, notice_send) depth 30,
+  (search (sendable, crosses, as_row_send, notice_send) depth 30, tt),
 )
 
 linked_send : (T L I : RattleType) (g : Ghosts T.Denot) → IsSend T → IsSend L → IsSend I → IsSend (LinkedNode.the_row T L I g)
@@ -109,10 +120,13 @@ run_send T L I K g s l i k = declared_send (NodeRun.the_type T L I K g) (
     (
       search (sendable, crosses, as_row_send) depth 30,
       (
-        search (sendable, crosses, as_row_send) depth 30,
+        search (sendable, crosses, as_row_send, notices_send) depth 30,
         (
           search (sendable, crosses, as_row_send) depth 30,
-          (search (sendable, crosses, as_row_send) depth 30, (search (sendable, crosses, as_row_send, heap_send) depth 30, tt)),
+          (
+            search (sendable, crosses, as_row_send) depth 30,
+            (search (sendable, crosses, as_row_send) depth 30, (search (sendable, crosses, as_row_send, heap_send) depth 30, tt)),
+          ),
         ),
       ),
     ),

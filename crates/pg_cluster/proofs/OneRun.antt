@@ -1,5 +1,5 @@
 -- A cluster that has ended, as one run of its configuration.
-use Rattle.std.proofs.Common.{◌≡◌, ◌<◌, ◌≤◌, ◌+◌, ◌-◌, ◌^◌, ℕ, Bool, true, false, cond, nat_lt, min, List, [], ◌∷◌, ◌++◌, length, map, drop, get_or, Some, refl, sym, ◌∙◌, ap, subst, arith, inl, inr}
+use Rattle.std.proofs.Common.{◌≡◌, ◌<◌, ◌≤◌, ◌+◌, ◌-◌, ◌^◌, ℕ, Bool, true, false, cond, nat_lt, min, List, [], ◌∷◌, ◌++◌, length, map, drop, get_or, Some, zero, suc, refl, sym, ◌∙◌, ap, subst, arith, inl, inr}
 use Rattle.std.specs.Prelude.{slice_get}
 use Rattle.std.specs.List.{All, AllByRecursion}
 use Rattle.std.proofs.lemmas.Bool.Decides.{leb_tells}
@@ -16,11 +16,16 @@ use Rattle.pg_joining.proofs.Seen.{same_merge}
 use Rattle.pg_ring.specs.Ends.{Sends, Receives}
 use Rattle.pg_run.specs.declared.log.NodeEvent.{NodeEvent}
 use Rattle.pg_run.specs.declared.log.NodeEvent.TheVariants as entries
-use Rattle.pg_run.specs.Acts.{Act}
+use Rattle.pg_ring.specs.Slots.{taken}
+use Rattle.pg_run.specs.Acts.{Act, Given, Took, Saw, Did, SawNone, entry_of, event_of as entry_event}
 use Rattle.pg_run.specs.Follows.{Follows, node_of as node_at, log_of}
-use Rattle.pg_run.specs.Runs.{linked_of}
+use Rattle.pg_run.specs.Notices.{IsUntold}
+use Rattle.pg_run.specs.Runs.{linked_of, notices_at, notices_of}
+use Rattle.pg_run.proofs.GoingOn.{seen_none}
 use Rattle.pg_step.specs.Config.{Config}
 use Rattle.pg_step.specs.FrameMachine.{frame_machine}
+use Rattle.pg_step.specs.Step.{Issue, Retry}
+use Rattle.pg_together.proofs.Turns.{first_none, others_none, saw_none, SeesNone}
 use Rattle.pg_together.specs.Apart.{End, Linked as LinkedBy, Crossed, RanApart, RanTogether, event_at, events_in, end_of}
 use Rattle.pg_world.specs.declared.step.FrameStep.{FrameStep}
 use Rattle.pg_world.specs.declared.step.FrameStep.TheVariants as steps
@@ -30,9 +35,11 @@ use Rattle.pg_world.specs.Worlds.{ShowsNode, event_of}
 use Rattle.pg_world.proofs.Ordered.{ordered_length}
 use Rattle.pg_world.proofs.Turning.{pair_is}
 use Rattle.pg_cluster.specs.Ended.{row_at}
+use Rattle.pg_cluster.specs.Notices.{NobodyLost}
 use Rattle.pg_cluster.specs.Schedule.{IsSchedule, node_of_peer, step_as, steps_of}
-use Rattle.pg_cluster.specs.Threads.{NodeOf, RunOf, RanOf, Thread, AreMade, EndedWith, begun_by, node_in, row_in, log_in, rows_begun, rows_ended}
+use Rattle.pg_cluster.specs.Threads.{NodeOf, RunOf, RanOf, Thread, AreMade, EndedWith, begun_by, node_in, row_in, log_in, rows_begun, rows_ended, notices_ended}
 use Rattle.pg_cluster.specs.Together.{AreOneRun}
+use Rattle.pg_cluster.proofs.Telling.{none_seen}
 
 abbrev pub Linked : Type 0
 Linked = LinkedBy IndexTable ghosts
@@ -66,18 +73,47 @@ peer_within i peer low = go (nat_lt peer i) low
     go true l = refl
     go false l = omega (arith, l)
 
-step_is : (size i : ℕ) (e : NodeEvent) → size ≤ 16 → is_there size (event_at i e) ≡ true → event_of (step_as i e) ≡ Some (event_at i e)
-step_is size i (entries.Take peer) few there = ap (λ p. event_of (step_taken p)) (peer_within i peer (let p = pair_is size i (place_of_peer i peer) there in omega (arith, p.1, few)))
+-- an event is no sight of a loss
+abbrev IsPlain : NodeEvent → Type 0
+IsPlain (entries.SeeLoss peer) = ⊥
+IsPlain (entries.Take peer) = Unit {0}
+IsPlain (entries.Command port command) = Unit {0}
+IsPlain (entries.Retry op) = Unit {0}
+
+abbrev AllPlain : List (ℕ × NodeEvent) → Type 0
+AllPlain log = AllByRecursion (λ entry. IsPlain entry.1) log
+
+-- what stands at a place of a log of such events
+entry_plain : (log : List (ℕ × NodeEvent)) (place : ℕ) → AllPlain log → AllByRecursion IsPlain (entry_at log place)
+entry_plain [] zero all = tt
+entry_plain [] (suc place) all = tt
+entry_plain (x ∷ log) zero all = (all.0, tt)
+entry_plain (x ∷ log) (suc place) all = entry_plain log place all.1
+
+-- acts that saw no loss log such events
+input_plain : (input : Given) → SeesNone input → IsPlain (entry_event input)
+input_plain (Took p x) none = tt
+input_plain (Saw p last) none = saw_none p last none
+input_plain (Did (Issue port command)) none = tt
+input_plain (Did (Retry op)) none = tt
+
+acts_plain : (acts : List Act) → SawNone acts → AllPlain (map entry_of acts)
+acts_plain [] none = tt
+acts_plain (act ∷ acts) none = (input_plain act.input (first_none act acts none), acts_plain acts (others_none act acts none))
+
+step_is : (size i : ℕ) (e : NodeEvent) → IsPlain e → size ≤ 16 → is_there size (event_at i e) ≡ true → event_of (step_as i e) ≡ Some (event_at i e)
+step_is size i (entries.SeeLoss peer) plain few there = absurd plain
+step_is size i (entries.Take peer) plain few there = ap (λ p. event_of (step_taken p)) (peer_within i peer (let p = pair_is size i (place_of_peer i peer) there in omega (arith, p.1, few)))
   where
     step_taken : ℕ → FrameStep
     step_taken p = steps.Take i p
-step_is size i (entries.Command port command) few there = refl
-step_is size i (entries.Retry op) few there = refl
+step_is size i (entries.Command port command) plain few there = refl
+step_is size i (entries.Retry op) plain few there = refl
 
-steps_are : (size i : ℕ) (es : List NodeEvent) → size ≤ 16 → AllByRecursion (λ e. is_there size e ≡ true) (map (event_at i) es)
+steps_are : (size i : ℕ) (es : List NodeEvent) → AllByRecursion IsPlain es → size ≤ 16 → AllByRecursion (λ e. is_there size e ≡ true) (map (event_at i) es)
     → map event_of (map (step_as i) es) ≡ map Some (map (event_at i) es)
-steps_are size i [] few all = refl
-steps_are size i (e ∷ es) few all = (λ j. step_is size i e few all.0 j ∷ steps_are size i es few all.1 j)
+steps_are size i [] plain few all = refl
+steps_are size i (e ∷ es) plain few all = (λ j. step_is size i e plain.0 few all.0 j ∷ steps_are size i es plain.1 few all.1 j)
 
 first_all : {A : Type 0} (P : A → Type 0) (xs ys : List A) → AllByRecursion P (xs ++ ys) → AllByRecursion P xs × AllByRecursion P ys
 first_all P [] ys all = (tt, all)
@@ -90,17 +126,17 @@ all_there m w v (e ∷ events) leads = ((happened m w leads.0 e leads.1).there, 
 
 -- the steps of a merge are its events
 schedule_is : (size n : ℕ) (logs : List (List (ℕ × NodeEvent))) (at : ℕ → List (ℕ × NodeEvent)) (clocks : ℕ → List ℕ) (read : ℕ → ℕ) (order : List (ℕ × ℕ))
-    → size ≤ 16 → ((i : ℕ) → i < n → log_at logs i ≡ at i) → MergesRest n clocks read order
+    → size ≤ 16 → ((i : ℕ) → i < n → log_at logs i ≡ at i) → ((i : ℕ) → i < n → AllPlain (at i)) → MergesRest n clocks read order
     → AllByRecursion (λ e. is_there size e ≡ true) (merged (λ i. seen_log (event_at i) (at i)) order)
     → map event_of (steps_of logs order) ≡ map Some (merged (λ i. seen_log (event_at i) (at i)) order)
-schedule_is size n logs at clocks read [] few same merges all = refl
-schedule_is size n logs at clocks read (x ∷ order) few same merges all =
+schedule_is size n logs at clocks read [] few same plain merges all = refl
+schedule_is size n logs at clocks read (x ∷ order) few same plain merges all =
     let here : List NodeEvent = entry_at (at x.0) x.1 in
     let later = merged (λ i. seen_log (event_at i) (at i)) order in
     let seen = entry_seen (event_at x.0) (at x.0) x.1 in
     let parts = first_all (λ e. is_there size e ≡ true) (map (event_at x.0) here) later (subst (λ es. AllByRecursion (λ e. is_there size e ≡ true) (es ++ later)) seen all) in
-    let first = steps_are size x.0 here few parts.0 in
-    let rest = schedule_is size n logs at clocks (set_at read x.0 (x.1 + 1)) order few same merges.2 parts.1 in
+    let first = steps_are size x.0 here (entry_plain (at x.0) x.1 (plain x.0 merges.1.there)) few parts.0 in
+    let rest = schedule_is size n logs at clocks (set_at read x.0 (x.1 + 1)) order few same plain merges.2 parts.1 in
     map-append event_of (map (step_as x.0) (entry_at (log_at logs x.0) x.1)) (steps_of logs order)
     ∙ ((λ j. map event_of (map (step_as x.0) (entry_at (same x.0 merges.1.there j) x.1)) ++ rest j)
     ∙ (ap (λ es. es ++ map Some later) first
@@ -111,8 +147,8 @@ schedule_is size n logs at clocks read (x ∷ order) few same merges all =
 all_at : {A : Type 0} (P : A → Type 0) (xs : List A) (i : ℕ) (d : A) → All P xs → i < length xs → P (get_or xs i d)
 all_at P xs i d all low = all i d low
 
-module _ {K : Type 0} (given : Config) (threads : List (Thread K)) (nodes : List NodeOf) (logs : List (List (ℕ × NodeEvent))) (schedule : List FrameStep)
-    (made : AreMade given (map begun_by threads)) (ended : EndedWith threads nodes logs) (is : IsSchedule logs (length logs) schedule) (thread : Thread K) (ran : RanOf K) where
+module _ {K : Type 0} (given : Config) (lost : List Bool) (threads : List (Thread K)) (nodes : List NodeOf) (logs : List (List (ℕ × NodeEvent))) (schedule : List FrameStep)
+    (nobody : NobodyLost lost) (made : AreMade given (map begun_by threads)) (ended : EndedWith lost threads nodes logs) (is : IsSchedule logs (length logs) schedule) (thread : Thread K) (ran : RanOf K) where
   abbrev pub config : Config
   config = made.begins.0
 
@@ -177,11 +213,38 @@ module _ {K : Type 0} (given : Config) (threads : List (Thread K)) (nodes : List
       let r = ap length (made_row i low) in
       omega (arith, e, r, count, thread_count)
 
-  acts_and : (i : ℕ) → (acts : List Act) × (i < length config → Follows Sends Receives acts (begun i) (end i))
+  begun_untold : (i : ℕ) → i < length config → IsUntold (notices_of (begun_by (get_or threads i thread)))
+  begun_untold i low =
+      let count : length (map begun_by threads) ≡ length threads = length-map threads begun_by in
+      subst (λ (r : RunOf K). IsUntold (notices_of r)) (run_at i low)
+      (all_at (λ (r : RunOf K). IsUntold (notices_of r)) (map begun_by threads) i (begun_by thread) made.untold (omega (arith, low, thread_count, count)))
+
+  -- no notice came to it
+  untold : (i : ℕ) → i < length ended.rans → taken (notices_at (get_or ended.rans i ran).run) ≡ []
+  untold i low =
+      let count : length (notices_ended ended.rans) ≡ length ended.rans = length-map ended.rans (λ r. notices_at r.run) in
+      sym (ap taken (get_or-map (λ (r : RanOf K). notices_at r.run) ended.rans i ran (notices_at ran.run) low))
+      ∙ ended.untold nobody i (notices_at ran.run) (omega (arith, low, count))
+
+  -- what it did, without a sight of a loss
+  acts_and : (i : ℕ) → (acts : List Act) × (i < length config → Follows Sends Receives acts (begun i) (end i)) × (i < length config → SawNone acts)
   acts_and i = elim (leb_tells (length config) i) [
-    | inl t ↦ ([], λ low. absurd (omega (arith, low, t.1)))
-    | inr f ↦ let kept = ended.joined.1 i thread ran (omega (arith, f.1, ran_count)) in (kept.runs.acts, λ low. kept.runs.follows)
+    | inl t ↦ ([], λ low. absurd (omega (arith, low, t.1)), λ low. absurd (omega (arith, low, t.1)))
+    | inr f ↦
+        let low : i < length ended.rans = omega (arith, f.1, ran_count) in
+        let kept = ended.joined.1 i thread ran low in (
+          kept.runs.serves.acts,
+          λ within. kept.runs.serves.follows,
+          λ within.
+              seen_none kept.runs.serves.acts (kept.runs.serves.seen
+              ∙ none_seen kept.runs.losses (notices_of (begun_by (get_or threads i thread))) (notices_of (get_or ended.rans i ran).run) kept.runs.told (begun_untold i within) (untold i low)),
+        )
   ]
+
+  log_plain : (i : ℕ) → i < length config → AllPlain (log_of (end i))
+  log_plain i low =
+      let d = acts_and i in
+      subst AllPlain (sym ((d.1 low).log ∙ ap (λ w. w ++ map entry_of d.0) (unlogged i low))) (acts_plain d.0 (d.2 low))
 
   crossed : (x y : ℕ) (none : End) → is_pair (length config) x y ≡ true → Crossed (end_of (begun x) x y none) (end_of (begun y) y x none) (end_of (end x) x y none) (end_of (end y) y x none)
   crossed x y none pair =
@@ -196,6 +259,7 @@ module _ {K : Type 0} (given : Config) (threads : List (Thread K)) (nodes : List
     linked = linked;
     acts = λ i. (acts_and i).0;
     follows = λ i. (acts_and i).1;
+    unseen = λ i. (acts_and i).2;
     crossed = crossed;
   }
 
@@ -212,7 +276,7 @@ module _ {K : Type 0} (given : Config) (threads : List (Thread K)) (nodes : List
     orders = made.begins.1;
     apart = made.begins.2.traffic.nodes.apart;
     events = events_in end is.order;
-    are = ap (map event_of) is.is ∙ schedule_is (length config) (length config) logs (λ i. log_of (end i)) (λ i. clocks_of (log_of (end i))) (λ i. 0) is.order few log_is merges
+    are = ap (map event_of) is.is ∙ schedule_is (length config) (length config) logs (λ i. log_of (end i)) (λ i. clocks_of (log_of (end i))) (λ i. 0) is.order few log_is log_plain merges
         (all_there (frame_machine config) (start_of (frame_machine config)) together.w (events_in end is.order) together.leads);
     w = together.w;
     leads = together.leads;
@@ -235,13 +299,13 @@ first_of (t ∷ threads) (r ∷ rans) some e = (t, r)
 pub one_run : {K : Type 0}
     → ((config : Config) (begun_nodes : List NodeOf) (begun ended : ℕ → Linked) (order : List (ℕ × ℕ)) → RanApart config begun_nodes begun ended
     → Merges (length config) (λ i. clocks_of (log_of (ended i))) order → RanTogether config ended (events_in ended order))
-    → (given : Config) (threads : List (Thread K)) (nodes : List NodeOf) (logs : List (List (ℕ × NodeEvent))) (schedule : List FrameStep)
-    → AreMade given (map begun_by threads) → EndedWith threads nodes logs → IsSchedule logs (length logs) schedule → AreOneRun given nodes logs schedule
-one_run law given threads nodes logs schedule made ended is =
+    → (given : Config) (lost : List Bool) (threads : List (Thread K)) (nodes : List NodeOf) (logs : List (List (ℕ × NodeEvent))) (schedule : List FrameStep)
+    → NobodyLost lost → AreMade given (map begun_by threads) → EndedWith lost threads nodes logs → IsSchedule logs (length logs) schedule → AreOneRun given nodes logs schedule
+one_run law given lost threads nodes logs schedule nobody made ended is =
     let count = length-map threads begun_by in
     let s = made.some in
     let m = made.count in
     let first = first_of threads ended.rans (omega (arith, s, m, count)) ended.joined.0 in
-    one_run_by given threads nodes logs schedule made ended is first.0 first.1
-    (law (config given threads nodes logs schedule made ended is first.0 first.1) _ _ _ is.order
-    (apart given threads nodes logs schedule made ended is first.0 first.1) (merges given threads nodes logs schedule made ended is first.0 first.1))
+    one_run_by given lost threads nodes logs schedule nobody made ended is first.0 first.1
+    (law (config given lost threads nodes logs schedule nobody made ended is first.0 first.1) _ _ _ is.order
+    (apart given lost threads nodes logs schedule nobody made ended is first.0 first.1) (merges given lost threads nodes logs schedule nobody made ended is first.0 first.1))

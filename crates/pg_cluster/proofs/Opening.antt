@@ -1,9 +1,14 @@
 -- Lemmas on the clients of nodes that are made, one node after another.
-use Rattle.std.proofs.Common.{◌≡◌, ◌≤◌, ◌+◌, ℕ, List, [], ◌∷◌, ◌++◌, length, sym, ◌∙◌, ap, subst, arith, append_assoc, append-nil, length-append}
+use Rattle.std.proofs.lemmas.List.{map-append}
+use Rattle.std.proofs.Common.{◌≡◌, ◌≤◌, ◌+◌, ℕ, List, [], ◌∷◌, ◌++◌, length, map, sym, ◌∙◌, ap, subst, arith, append_assoc, append-nil, length-append}
 use Rattle.std.proofs.lemmas.Grind.{flat_map-append}
 use Rattle.pg_run.specs.declared.port.Client.{Client}
 use Rattle.pg_run.specs.declared.port.Port.{Port}
-use Rattle.pg_run.specs.Runs.{ports_at}
+use Rattle.pg_ring.specs.declared.slot_in.SlotIn.{SlotIn}
+use Rattle.pg_ring.specs.declared.slot_out.SlotOut.{SlotOut}
+use Rattle.pg_run.specs.declared.notices.Notice.{Notice}
+use Rattle.pg_run.specs.Runs.{ports_at, notices_at}
+use Rattle.pg_cluster.specs.Notices.{IsFresh}
 use Rattle.pg_cluster.specs.Clients.{AllPairs, IsOpen, OpensMore, ports_ended}
 use Rattle.pg_cluster.specs.Threads.{RunOf, RanOf, ports_of_runs}
 use Rattle.pg_cluster.proofs.Paired.{pairs_none, pairs_push}
@@ -32,6 +37,21 @@ module _ {K : Type 0} where
       (ap (λ ps. ports_of_runs runs ++ ps) (sym at ∙ sym (append-nil (ports_at run)))
       ∙ (sym (flat_map-append ports_at runs (run ∷ [])) ∙ ap (λ (rs : List (RunOf K)). ports_of_runs rs) (sym is)))
       (opens (ports_of_runs runs) all)
+
+  -- ---- where a further node is told of losses
+
+  pub fresh_none : (tellers : List (SlotOut Notice)) (runs : List (RunOf K)) → tellers ≡ [] → runs ≡ [] → AllPairs IsFresh tellers (map notices_at runs)
+  fresh_none tellers runs no_teller no_run =
+      subst (λ (ts : List (SlotOut Notice)). AllPairs IsFresh ts (map notices_at runs)) (sym no_teller)
+      (subst (λ (rs : List (RunOf K)). AllPairs IsFresh [] (map notices_at rs)) (sym no_run) (pairs_none IsFresh))
+
+  pub fresh_more : (tellers tellers2 : List (SlotOut Notice)) (runs runs2 : List (RunOf K)) (teller : SlotOut Notice) (run : RunOf K) (inlet : SlotIn Notice)
+      → tellers2 ≡ tellers ++ teller ∷ [] → runs2 ≡ runs ++ run ∷ [] → notices_at run ≡ inlet → IsFresh teller inlet
+      → AllPairs IsFresh tellers (map notices_at runs) → AllPairs IsFresh tellers2 (map notices_at runs2)
+  fresh_more tellers tellers2 runs runs2 teller run inlet one two at here all =
+      subst (λ (ts : List (SlotOut Notice)). AllPairs IsFresh ts (map notices_at runs2)) (sym one)
+      (subst (AllPairs IsFresh (tellers ++ teller ∷ [])) (sym (ap (map notices_at) two ∙ map-append notices_at runs (run ∷ [])))
+      (pairs_push IsFresh tellers (map notices_at runs) teller (notices_at run) all (subst (IsFresh teller) (sym at) here)))
 
   -- ---- ports that come back
 

@@ -1,17 +1,26 @@
 -- Lemmas on a list of threads that grows as the list of their nodes shrinks.
 use Rattle.std.proofs.Common.{◌≡◌, ◌<◌, ◌+◌, ℕ, List, [], ◌∷◌, ◌++◌, length, map, drop, get_or, sym, ◌∙◌, ap, arith, inl, inr, length-append, length-drop, suc, add-one, add-zero, subst}
 use Rattle.std.specs.List.{All}
+use Rattle.std.specs.Prelude.{false}
 use Rattle.std.proofs.lemmas.List.{get_or-drop, get_or-map, get_or_push, length-map, nil_from_length}
 use lib.Seq.{ext_get_or}
 use mathlib.Core.List.{append-nil, append_assoc, map-map}
 use Rattle.std.proofs.lemmas.Bool.Decides.{eqb_tells}
 use Rattle.std.proofs.Math.ListN.{get_or-append}
 use Rattle.std.proofs.Math.Seq.{get_or-append_seam, drop-cons}
+use Rattle.pg_ring.specs.declared.slot_in.SlotIn.{SlotIn}
+use Rattle.pg_ring.specs.declared.slot_out.SlotOut.{SlotOut}
+use Rattle.pg_run.specs.declared.notices.Notice.{Notice}
 use Rattle.pg_run.specs.declared.port.Client.{Client}
+use Rattle.pg_run.specs.Runs.{notices_at}
 use Rattle.pg_step.specs.Config.{Config}
 use Rattle.pg_cluster.specs.Clients.{AllPairs, IsOpen, ports_begun}
 use Rattle.pg_cluster.specs.Ended.{AreWired}
-use Rattle.pg_cluster.specs.Threads.{AreMade, RunOf, Thread, StartedWith, begun_by, limit_of as turns_of, row_in, rows_begun, ports_of_runs}
+use Rattle.pg_cluster.specs.declared.member.Member.{Member}
+use Rattle.pg_cluster.specs.Members.{is_lost, losses_in, thread_of, threads_in}
+use Rattle.pg_cluster.specs.Notices.{NobodyLost}
+use Rattle.pg_cluster.specs.Promises.{RanAs}
+use Rattle.pg_cluster.specs.Threads.{AreMade, RunOf, RanOf, Thread, StartedWith, Joined, begun_by, limit_of as turns_of, row_in, rows_begun, notices_begun, ports_of_runs}
 
 module _ {X : Type 0} where
   -- the first of what is left stands at the place where that begins
@@ -68,6 +77,58 @@ module _ {K : Type 0} where
       → AllPairs IsOpen clients (ports_of_runs runs) → AllPairs IsOpen clients (ports_begun threads)
   started_clients runs limit threads clients started opened =
       subst (λ (rs : List (RunOf K)). AllPairs IsOpen clients (ports_of_runs rs)) (sym (started_runs runs limit threads started)) opened
+
+  -- and is told of losses
+  pub started_notices : (R : SlotOut Notice → SlotIn Notice → Type 0) (runs : List (RunOf K)) (limit : ℕ) (threads : List (Thread K)) (tellers : List (SlotOut Notice))
+      → StartedWith runs limit threads → AllPairs R tellers (map notices_at runs) → AllPairs R tellers (notices_begun threads)
+  started_notices R runs limit threads tellers started all =
+      subst (AllPairs R tellers) (map-map notices_at begun_by threads)
+      (subst (λ (rs : List (RunOf K)). AllPairs R tellers (map notices_at rs)) (sym (started_runs runs limit threads started)) all)
+
+  -- ---- the nodes of a cluster, by their threads
+
+  -- each thread was started with the node at its place
+  pub started_members : (runs : List (RunOf K)) (limit : ℕ) (members : List (Member K)) → length members ≡ length runs
+      → ((i : ℕ) (d : RunOf K) (m : Member K) → i < length members
+      → (begun_by (thread_of (get_or members i m)) ≡ get_or runs i d) × (turns_of (thread_of (get_or members i m)) ≡ limit))
+      → StartedWith runs limit (threads_in members)
+  started_members runs limit [] count all = (count, λ i run thread low. absurd (omega (arith, low)))
+  started_members runs limit (m ∷ ms) count all = (
+    length-map (m ∷ ms) thread_of ∙ count,
+    λ i run thread low.
+        let less : i < length (m ∷ ms) = let n = length-map (m ∷ ms) thread_of in omega (arith, low, n) in
+        let at : get_or (threads_in (m ∷ ms)) i thread ≡ thread_of (get_or (m ∷ ms) i m) = get_or-map thread_of (m ∷ ms) i m thread less in
+        (ap begun_by at ∙ (all i run m less).0, ap turns_of at ∙ (all i run m less).1),
+  )
+
+  -- what a node gave back, and what the first of them did
+  abbrev pub GivesBack : Member K → RanOf K → Type 0
+  GivesBack member ran = RanAs (begun_by (thread_of member)) (turns_of (thread_of member)) ran
+
+  abbrev pub GiveBack : List (Member K) → List (RanOf K) → Type 0
+  GiveBack members rans = (i : ℕ) (m : Member K) (ran : RanOf K) → i < length rans → GivesBack (get_or members i m) (get_or rans i ran)
+
+  -- each gave back what its thread promised
+  pub joined_members : (members : List (Member K)) (rans : List (RanOf K)) → length rans ≡ length members → GiveBack members rans → Joined (threads_in members) rans
+  joined_members [] rans count all = (count, λ i thread ran low. absurd (omega (arith, low, count)))
+  joined_members (m ∷ ms) rans count all = (
+    count ∙ sym (length-map (m ∷ ms) thread_of),
+    λ i thread ran low.
+        let less : i < length (m ∷ ms) = omega (arith, low, count) in
+        let at : get_or (threads_in (m ∷ ms)) i thread ≡ thread_of (get_or (m ∷ ms) i m) = get_or-map thread_of (m ∷ ms) i m thread less in
+        subst (λ (t : Thread K). RanAs (begun_by t) (turns_of t) (get_or rans i ran)) (sym at) (all i m ran low),
+  )
+
+  -- none was lost
+  pub losses_none : (members : List (Member K)) → All (λ m. is_lost m ≡ false) members → NobodyLost (losses_in members)
+  losses_none [] all = λ i d low. absurd (omega (arith, low))
+  losses_none (m ∷ ms) all = λ i d low.
+      let less : i < length (m ∷ ms) = let n = length-map (m ∷ ms) is_lost in omega (arith, low, n) in get_or-map is_lost (m ∷ ms) i m d less ∙ all i m less
+
+  pub runs_still : (members : List (Member K)) (k : ℕ) (member : Member K) → ((m : Member K) → get_or members k m ≡ member) → k < length members
+      → NobodyLost (losses_in members) → is_lost member ≡ false
+  runs_still members k member at low nobody =
+      sym (ap is_lost (at member)) ∙ (sym (get_or-map is_lost members k member false low) ∙ nobody k false (let n = length-map members is_lost in omega (arith, low, n)))
 
 -- ---- lists of which one moves to another
 

@@ -63,6 +63,7 @@ abbrev pub command_in : ℕ → NodeEvent → List Command
 command_in place (events.Take peer) = []
 command_in place (events.Command port command) = cond (nat_eq port place) (command ∷ []) []
 command_in place (events.Retry op) = []
+command_in place (events.SeeLoss peer) = []
 
 -- the commands of a log that came in at the port at a place
 abbrev pub commands_in : ℕ → List (ℕ × NodeEvent) → List Command

@@ -1,15 +1,21 @@
 -- What a conversation of clients with a cluster came to.
-use Rattle.std.specs.Prelude.{◌≡◌, ℕ, ◌+◌, ◌*◌, ◌-◌, ◌^◌, min, true, List, [], length}
-use Rattle.std.specs.List.{All}
+use Rattle.std.specs.Prelude.{◌≡◌, ◌⊎◌, ℕ, ◌+◌, ◌*◌, ◌-◌, ◌^◌, min, true, List, [], ◌∷◌, ◌++◌, length, map}
+use Rattle.std.specs.List.{All, sum_by}
+use Rattle.pg_run.specs.Ports.{polled, polled_count}
 use Rattle.pg_run.specs.declared.log.NodeEvent.{NodeEvent}
+use Rattle.pg_run.specs.declared.port.Client.{Client}
+use Rattle.pg_step.specs.declared.answer.Answer.{Answer}
 use Rattle.pg_step.specs.Config.{Config}
 use Rattle.pg_step.specs.declared.start.Start.{Start}
 use Rattle.pg_world.specs.declared.step.FrameStep.{FrameStep}
+use Rattle.rand_pcg.specs.Lcg.{Lcg}
+use Rattle.pg_cluster.specs.Clients.{AllHeard}
 use Rattle.pg_cluster.specs.Judges.{Replays}
-use Rattle.pg_cluster.specs.Threads.{NodeOf}
+use Rattle.pg_cluster.specs.Threads.{NodeOf, Thread, AreMade, begun_by}
 use Rattle.pg_cluster.specs.Together.{AreOneRun}
 use Rattle.pg_cluster.specs.declared.conversation.Conversation.{Conversation}
 use Rattle.pg_cluster.specs.declared.conversation.Outcome.{Outcome}
+use Rattle.pg_cluster.specs.declared.speaker.Speaker.{Speaker}
 
 -- a node with so many ports, no group, and no process
 pub record IsBare (ports : ℕ) (start : Start) : Type 0 where
@@ -38,8 +44,22 @@ each_asks asked = saturated (saturated (asked.rounds * 2) + 1)
 abbrev pub all_commands : Conversation → ℕ
 all_commands asked = saturated (saturated (all_clients asked * each_asks asked) + 1)
 
+-- one more answer was polled, and it is counted; or none was, and none is
+abbrev pub Counts : ℕ → ℕ → Client → Client → Type 0
+Counts count count2 client client2 =
+    ((answer : Answer) × (polled client2 ≡ polled client ++ answer ∷ []) × (count2 ≡ saturated (count + 1))) ⊎ ((polled client2 ≡ polled client) × (count2 ≡ count))
+
+-- all that a client polled is counted
+abbrev pub HasCounted : Speaker → Client → Type 0
+HasCounted speaker client = speaker.answered ≡ polled_count client
+
+-- how many answers all clients polled
+abbrev pub all_polled : List Client → ℕ
+all_polled clients = sum_by (λ client. length (polled client)) clients
+
 -- The clients spoke with a cluster of the nodes that were asked for, and it was closed. It was one run, of which the headline holds;
--- its nodes agree; and where it is told so, the schedule replays.
+-- its nodes agree; and the schedule replays. Both are told so. What the clients said and heard is in it, and what is told to be
+-- answered is all that they heard.
 pub record TookPlace (asked : Conversation) (outcome : Outcome) : Type 0 where
   pub given : Config
   pub are : AreAsked asked given
@@ -47,8 +67,14 @@ pub record TookPlace (asked : Conversation) (outcome : Outcome) : Type 0 where
   pub logs : List (List (ℕ × NodeEvent))
   pub schedule : List FrameStep
   pub one_run : AreOneRun given nodes logs schedule
+  pub threads : List (Thread Lcg)
+  pub made : AreMade given (map begun_by threads)
+  pub clients : List Client
+  pub heard : ∥ AllHeard threads nodes logs clients ∥₁
   pub agree : outcome.agree ≡ true
-  pub replay : outcome.replay ≡ true → Replays given schedule nodes
+  pub replay : outcome.replay ≡ true
+  pub replays : Replays given schedule nodes
   pub nodes_told : outcome.nodes ≡ asked.nodes
   pub clients_told : outcome.clients ≡ all_clients asked
+  pub answered_told : outcome.answered ≡ saturated (all_polled clients)
   pub asked_told : outcome.asked ≡ all_commands asked

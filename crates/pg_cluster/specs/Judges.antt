@@ -1,5 +1,5 @@
 -- What a cluster that has ended is judged by.
-use Rattle.std.specs.Prelude.{◌≡◌, ℕ, Bool, true, false, not, ◌&&◌, List, Some, is_none, is_some, slice_get}
+use Rattle.std.specs.Prelude.{◌≡◌, ℕ, nat_eq, Bool, true, false, not, ◌&&◌, List, Some, is_none, is_some, slice_get}
 use Rattle.std.specs.declared.vec.Vec.{Vec}
 use Rattle.std.specs.declared.alloc.Global.{Global}
 use Rattle.std.specs.List.{All, list_all, list_any}
@@ -13,12 +13,26 @@ use Rattle.pg_run.specs.declared.log.NodeEvent.{NodeEvent}
 use Rattle.pg_run.specs.declared.log.NodeEvent.TheVariants as events
 use Rattle.pg_step.specs.declared.command.Command.TheVariants.{Finish}
 use Rattle.pg_step.specs.State.{State, formed}
-use Rattle.pg_step.specs.Config.{Config}
+use Rattle.pg_ring.specs.Capacity.{IsCapacity}
+use Rattle.pg_step.specs.Config.{Config, IsConfig}
 use Rattle.pg_world.specs.declared.step.FrameStep.{FrameStep}
 use Rattle.pg_world.specs.Crossings.{node_of}
+use Rattle.pg_world.specs.Openings.{AllFit, have_few}
 use Rattle.pg_world.specs.Runs.{Ran, over_packets}
 use Rattle.pg_world.specs.Views.{Seen}
 use Rattle.pg_world.specs.Worlds.{ShowsNode}
+
+-- A world of a configuration, whose rings have this capacity, can begin unless memory runs out: the configuration is one, and what each
+-- node tells of its groups fits into a frame, with at most 2^32 members of each group.
+pub record CanBegin (ring : ℕ) (given : Config) : Type 0 where
+  pub good : IsConfig given
+  pub capacity : IsCapacity ring
+  pub fits : AllFit given
+  pub few : have_few given ≡ true
+
+-- one of the steps that have these numbers was refused since memory ran out
+abbrev pub ran_out : List ℕ → Bool
+ran_out numbers = list_any (λ number. nat_eq number 10) numbers
 
 module _ {T : Type 0} {g : Ghosts T} where
   -- each node is seen as the one at its place

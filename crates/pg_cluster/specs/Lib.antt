@@ -5,6 +5,8 @@ pub mod Conversations
 pub mod Ended
 pub mod Fault
 pub mod Judges
+pub mod Members
+pub mod Notices
 pub mod Outcomes
 pub mod Promises
 pub mod Room

@@ -16,6 +16,7 @@ abbrev pub step_as : ℕ → NodeEvent → FrameStep
 step_as node (events.Take peer) = steps.Take node (node_of_peer node peer)
 step_as node (events.Command port command) = steps.Command node port command
 step_as node (events.Retry op) = steps.Retry node op
+step_as node (events.SeeLoss peer) = steps.SeeLoss node (node_of_peer node peer)
 
 -- the steps that the entries of these logs are, in this order
 abbrev pub steps_of : List (List (ℕ × NodeEvent)) → List (ℕ × ℕ) → List FrameStep

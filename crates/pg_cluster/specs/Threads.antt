@@ -1,5 +1,5 @@
 -- The threads of a cluster, and what comes back from them.
-use Rattle.std.specs.Prelude.{◌≡◌, ℕ, ◌<◌, ◌≤◌, List, [], length, map, slice_index_or}
+use Rattle.std.specs.Prelude.{◌≡◌, ℕ, ◌<◌, ◌≤◌, Bool, List, [], Option, Some, None, length, map, slice_index_or}
 use Rattle.std.specs.List.{All, flat_map}
 use Rattle.std.specs.declared.thread.PromisedHandle.{PromisedHandle}
 use Rattle.pg_index.specs.declared.index_table.IndexTable.{IndexTable}
@@ -7,13 +7,17 @@ use Rattle.pg_index.specs.contracts.index_table.IndexTableGroupTable.TheImpl.{gh
 use Rattle.pg_node.specs.declared.node.Node.{Node}
 use Rattle.pg_ring.specs.declared.ring_out.RingOut.{RingOut}
 use Rattle.pg_ring.specs.declared.ring_in.RingIn.{RingIn}
+use Rattle.pg_ring.specs.declared.slot_in.SlotIn.{SlotIn}
+use Rattle.pg_ring.specs.Slots.{taken}
 use Rattle.pg_run.specs.declared.log.NodeEvent.{NodeEvent}
+use Rattle.pg_run.specs.declared.notices.Notice.{Notice}
 use Rattle.pg_run.specs.declared.port.Port.{Port}
 use Rattle.pg_run.specs.declared.run.NodeRun.{NodeRun}
 use Rattle.pg_run.specs.declared.running.Ran.{Ran}
 use Rattle.pg_run.specs.Follows.{node_of, peers_of, log_of}
 use Rattle.pg_run.specs.Ports.{IsUnused}
-use Rattle.pg_run.specs.Runs.{linked_of, ports_at}
+use Rattle.pg_run.specs.Notices.{IsUntold}
+use Rattle.pg_run.specs.Runs.{linked_of, ports_at, notices_at, notices_of}
 use Rattle.pg_cluster.specs.declared.promise.RanFrom.{RanFrom}
 use Rattle.pg_step.specs.Config.{Config}
 use Rattle.pg_together.specs.Apart.{End}
@@ -21,6 +25,7 @@ use Rattle.pg_world.specs.BytesStart.{BytesBegin}
 use Rattle.pg_world.specs.Crossings.{idle_crossing}
 use Rattle.pg_world.specs.Views.{no_account}
 use Rattle.pg_cluster.specs.Ended.{AreWired, AllCrossed}
+use Rattle.pg_cluster.specs.Notices.{NobodyLost}
 use Rattle.pg_cluster.specs.Promises.{RanAs}
 
 abbrev pub NodeOf : Type 0
@@ -52,8 +57,8 @@ module _ {K : Type 0} where
   abbrev pub ports_of_runs : List (RunOf K) → List Port
   ports_of_runs runs = flat_map ports_at runs
 
-  -- These are the nodes of a configuration as they start, each with a log in which nothing stands and ports that were not used, and
-  -- with rings between each two.
+  -- These are the nodes of a configuration as they start, each with a log in which nothing stands and ports that were not used, told of
+  -- no loss, and with rings between each two.
   pub record AreMade (given : Config) (runs : List (RunOf K)) : Type 0 where
     pub count : length runs ≡ length given
     pub some : 0 < length given
@@ -61,6 +66,7 @@ module _ {K : Type 0} where
     pub begins : BytesBegin given (idle_crossing (map node_in runs)) no_account
     pub unlogged : All (λ run. log_in run ≡ []) runs
     pub unused : All IsUnused (ports_of_runs runs)
+    pub untold : All (λ run. IsUntold (notices_of run)) runs
     pub wired : AreWired (length runs) (map row_in runs)
 
   -- ---- threads
@@ -71,6 +77,17 @@ module _ {K : Type 0} where
 
   abbrev pub limit_of : Thread K → ℕ
   limit_of thread = thread.promise.limit
+
+  -- Where the thread runs no more it was joined, and gave back what it promised.
+  abbrev pub Holds : Thread K → Option (Thread K) → Option (RanOf K) → Type 0
+  Holds started (Some thread) ran = Unit {0}
+  Holds started None (Some ran) = RanAs (begun_by started) (limit_of started) ran
+  Holds started None None = ⊥
+
+  -- the thread that runs, or ran
+  abbrev pub thread_or : Thread K → Option (Thread K) → Thread K
+  thread_or started (Some thread) = thread
+  thread_or started None = started
 
   -- thread i runs node i
   abbrev pub StartedWith : List (RunOf K) → ℕ → List (Thread K) → Type 0
@@ -93,11 +110,19 @@ module _ {K : Type 0} where
   abbrev pub rows_ended : List (RanOf K) → List (List End)
   rows_ended rans = map (λ ran. row_in ran.run) rans
 
-  -- Each thread ran its node, from where it began, to one of these nodes, with one of these logs, and what crossed between each
-  -- two is what was sent.
-  pub record EndedWith (threads : List (Thread K)) (nodes : List NodeOf) (logs : List (List (ℕ × NodeEvent))) : Type 0 where
+  -- where the nodes are told of losses, as the threads began, and as they ended
+  abbrev pub notices_begun : List (Thread K) → List (SlotIn Notice)
+  notices_begun threads = map (λ thread. notices_at (begun_by thread)) threads
+
+  abbrev pub notices_ended : List (RanOf K) → List (SlotIn Notice)
+  notices_ended rans = map (λ ran. notices_at ran.run) rans
+
+  -- Each thread ran its node, from where it began, to one of these nodes, with one of these logs; what crossed between each two is
+  -- what was sent; and where no node was lost no notice of a loss came.
+  pub record EndedWith (lost : List Bool) (threads : List (Thread K)) (nodes : List NodeOf) (logs : List (List (ℕ × NodeEvent))) : Type 0 where
     pub rans : List (RanOf K)
     pub joined : Joined threads rans
     pub ended : nodes ≡ map (λ ran. node_in ran.run) rans
     pub logged : logs ≡ map (λ ran. log_in ran.run) rans
     pub crossed : AllCrossed (length threads) (rows_begun threads) (rows_ended rans)
+    pub untold : NobodyLost lost → All (λ inlet. taken inlet ≡ []) (notices_ended rans)

@@ -1,17 +1,20 @@
 //! A cluster whose threads have ended.
 
 ghost use Rattle.std.specs.Prelude.{◌≡◌, IfOk, IfErr, map, length};
+ghost use Rattle.pg_cluster.specs.Notices.{NobodyLost};
 ghost use Rattle.pg_cluster.specs.Room.{HasRoom};
 ghost use Rattle.pg_cluster.specs.Schedule.{IsSchedule};
 
+use crate::notices::{Teller, settle_notices};
 use crate::pairs::{move_ports, settle_all, settle_ports};
 use crate::promise::NodeRan;
-use crate::schedule::steps_in;
+use crate::schedule::{steps_in, steps_with_losses};
 use crate::wires::Row;
 use pg_index::IndexTable;
 use pg_joining::order_of_logs;
 use pg_node::Node;
-use pg_run::{Client, LogEntry, Port};
+use pg_ring::SlotIn;
+use pg_run::{Client, LogEntry, Notice, Port};
 use pg_world::FrameStep;
 use rand_core::Rng;
 use std::alloc::{AllocError, Global};
@@ -22,6 +25,8 @@ pub struct Stopped {
     nodes: Vec<Node<IndexTable>>,
     logs: Vec<Vec<LogEntry>>,
     clients: Vec<Client>,
+    // Which of the nodes were lost.
+    lost: Vec<bool>,
     alloc: Global,
 }
 
@@ -39,7 +44,7 @@ pub struct Closed {
 }
 
 impl Stopped {
-    ghost use Rattle.pg_cluster.specs.Closed.{nodes_of, logs_of, clients_of};
+    ghost use Rattle.pg_cluster.specs.Closed.{nodes_of, logs_of, losses_of, clients_of};
 
     /// A cluster whose threads have ended. It takes no memory.
     pub(crate) fn new(
@@ -47,30 +52,35 @@ impl Stopped {
         nodes: Vec<Node<IndexTable>>,
         logs: Vec<Vec<LogEntry>>,
         clients: Vec<Client>,
+        lost: Vec<bool>,
     ) -> Stopped
         ensures nodes { nodes_of result ≡ nodes.items }
         ensures logs { logs_of result ≡ map (λ v. v.items) logs.items }
         ensures clients { clients_of result ≡ clients.items }
+        ensures lost { losses_of result ≡ lost.items }
     {
         Stopped {
             nodes,
             logs,
             clients,
+            lost,
             alloc,
         }
     }
 
-    /// The nodes as they ended, their logs, and the schedule to which these join.
+    /// The nodes as they ended, their logs, and the schedule to which these join; the loss of each node that was lost stands behind
+    /// its last event.
     ///
     /// Error: where there is no memory for the schedule, what stopped, unchanged.
     pub fn finish(self) -> Result<Closed, Stopped>
         ensures nodes { IfOk result (λ closed. closed.nodes.items ≡ nodes_of self) }
         ensures logs { IfOk result (λ closed. map (λ v. v.items) closed.logs.items ≡ logs_of self) }
-        ensures schedule { IfOk result (λ closed. IsSchedule (map (λ v. v.items) closed.logs.items) (length closed.logs.items) closed.schedule.items) }
+        ensures schedule { IfOk result (λ closed. NobodyLost (losses_of self)
+            → IsSchedule (map (λ v. v.items) closed.logs.items) (length closed.logs.items) closed.schedule.items) }
         ensures clients { IfOk result (λ closed. closed.clients.items ≡ clients_of self) }
         ensures err { IfErr result (λ stopped. stopped ≡ self) }
     {
-        match schedule_of(self.alloc, self.logs.as_slice()) {
+        match schedule_of(self.alloc, self.logs.as_slice(), self.lost.as_slice()) {
             Ok(schedule) => Ok(Closed {
                 nodes: self.nodes,
                 logs: self.logs,
@@ -82,55 +92,73 @@ impl Stopped {
     }
 }
 
-// The steps of all logs, merged by clock and then by node.
-fn schedule_of(alloc: Global, logs: &[Vec<LogEntry>]) -> Result<Vec<FrameStep>, AllocError>
-    ensures { IfOk result (λ schedule. IsSchedule (map (λ v. v.items) logs.now) (length logs.now) schedule.items) }
+// The steps of all logs, merged by clock and then by node, with the losses of these nodes among them.
+fn schedule_of(
+    alloc: Global,
+    logs: &[Vec<LogEntry>],
+    lost: &[bool],
+) -> Result<Vec<FrameStep>, AllocError>
+    ensures { IfOk result (λ schedule. NobodyLost lost.now → IsSchedule (map (λ v. v.items) logs.now) (length logs.now) schedule.items) }
 {
     let order = order_of_logs(alloc, logs)?;
-    steps_in(alloc, logs, order.as_slice())
+    if lost.iter().any(|lost| *lost) {
+        steps_with_losses(alloc, logs, lost, order.as_slice())
+    } else {
+        steps_in(alloc, logs, order.as_slice())
+    }
 }
 
-ghost use Rattle.pg_cluster.specs.Closed.{nodes_of as nodes_with, logs_of as logs_with, clients_of as clients_with};
+ghost use Rattle.pg_ring.specs.Slots.{AreSlots};
+ghost use Rattle.pg_cluster.specs.Closed.{nodes_of as nodes_with, logs_of as logs_with, losses_of as losses_with, clients_of as clients_with};
 ghost use Rattle.pg_run.specs.Ports.{ArePort, Meets};
 ghost use Rattle.pg_cluster.specs.Clients.{AllPairs, ClientsRest, ports_ended};
 ghost use Rattle.pg_cluster.specs.Ended.{AreJoined, AllArrived};
-ghost use Rattle.pg_cluster.specs.Threads.{node_in, log_in, rows_ended};
+ghost use Rattle.pg_cluster.specs.Notices.{Untold};
+ghost use Rattle.pg_cluster.specs.Threads.{node_in, log_in, rows_ended, notices_ended};
 
-/// What stopped, of what the threads gave back: both ends of each ring and of each port are looked at before they go. There is room
-/// for its nodes, its links, its logs and its ports.
+/// What stopped, of what the threads gave back: both ends of each ring, of each port and of where each node was told of losses are
+/// looked at before they go. There is room for its nodes, its links, its logs, its ports and its notices.
 pub(crate) fn stopped_of<K: Rng + Drop>(
     alloc: Global,
     rans: Vec<NodeRan<K>>,
     room: Room,
+    tellers: Vec<Teller>,
     clients: Vec<Client>,
+    lost: Vec<bool>,
 ) -> Stopped
     requires room { HasRoom room (length rans.items) (length (ports_ended rans.items)) }
     requires joined { AreJoined (length rans.items) (rows_ended rans.items) }
     requires ports { AllPairs ArePort clients.items (ports_ended rans.items) }
+    requires notices { AllPairs AreSlots tellers.items (notices_ended rans.items) }
     ensures nodes { nodes_with result ≡ map (λ ran. node_in ran.run) rans.items }
     ensures logs { logs_with result ≡ map (λ ran. log_in ran.run) rans.items }
     ensures clients { ClientsRest clients.items (clients_with result) }
     ensures arrived { AllArrived (length rans.items) (rows_ended rans.items) }
     ensures meets { AllPairs Meets clients.items (ports_ended rans.items) }
+    ensures untold { AllPairs Untold tellers.items (notices_ended rans.items) }
+    ensures lost { losses_with result ≡ lost.items }
 {
     let Room {
         mut nodes,
         mut rows,
         mut logs,
         mut ports,
+        mut notices,
     } = room;
     for ran in rans {
-        let (linked, own, _) = ran.run.into_parts();
+        let (linked, own, _, inlet) = ran.run.into_parts();
         let (node, row, log) = linked.into_parts();
         nodes.push_reserved(node);
         rows.push_reserved(row);
         logs.push_reserved(log);
         move_ports(&mut ports, own);
+        notices.push_reserved(inlet);
     }
     settle_all(rows);
+    settle_notices(tellers, notices);
     let mut clients = clients;
     settle_ports(&mut ports, &mut clients);
-    Stopped::new(alloc, nodes, logs, clients)
+    Stopped::new(alloc, nodes, logs, clients, lost)
 }
 
 /// Where what the threads give back goes.
@@ -140,6 +168,7 @@ pub(crate) struct Room {
     pub rows: Vec<Row>,
     pub logs: Vec<Vec<LogEntry>>,
     pub ports: Vec<Port>,
+    pub notices: Vec<SlotIn<Notice>>,
 }
 
 impl Room {
@@ -156,11 +185,13 @@ impl Room {
         let rows = Vec::with_capacity(alloc, count)?;
         let logs = Vec::with_capacity(alloc, count)?;
         let ports = Vec::with_capacity(alloc, places)?;
+        let notices = Vec::with_capacity(alloc, count)?;
         Ok(Room {
             nodes,
             rows,
             logs,
             ports,
+            notices,
         })
     }
 }

@@ -1,47 +1,64 @@
 //! A cluster between its start and its end.
 
-ghost use Rattle.std.specs.Prelude.{◌≡◌, ◌≤◌, IfOk, MatchResult, length, map, vec_len, vec_capacity};
-ghost use Rattle.pg_cluster.specs.Clients.{ports_begun};
+ghost use Rattle.std.specs.Prelude.{◌≡◌, ◌↔◌, ◌⊎◌, ◌≤◌, true, Some, Err, IfOk, IfErr, OnOk, OnErr, MatchResult, length, map, slice_get, slice_set, vec_len, vec_capacity};
+ghost use Rattle.std.specs.List.{All as AllOf};
+ghost use Rattle.pg_ring.specs.Slots.{AreSlots};
+ghost use Rattle.pg_cluster.specs.Clients.{AllPairs, ports_begun};
 ghost use Rattle.pg_cluster.specs.Ended.{AreWired};
+ghost use Rattle.pg_cluster.specs.Members.{losses_in, threads_in};
+ghost use Rattle.pg_cluster.specs.Notices.{IsSilent as IsSilentTeller, NobodyLost as IsNobodyLost};
 ghost use Rattle.pg_cluster.specs.Room.{HasRoom};
-ghost use Rattle.pg_cluster.specs.Threads.{rows_begun};
+ghost use Rattle.pg_cluster.specs.Threads.{rows_begun, notices_begun};
 
 use crate::closed::{Closed, Room, Stopped, stopped_of};
 use crate::fault::StartFault;
 use crate::laws::{nodes_of_one_run_agree, threads_are_one_run};
-use crate::promise::{NodeRan, NodeThread};
+use crate::member::Member;
+use crate::notices::{Teller, tell_all};
+use crate::promise::NodeRan;
 use crate::runs::make;
-use crate::threads::{start_all, stop_all};
+use crate::threads::{start_all, stop_all, stop_one};
+use pg_node::NodeFault;
 use pg_ring::RingOut;
 use pg_run::{Client, Gate};
+use pg_step::Refusal;
 use pg_world::{Config, WorldFault};
 use rand_core::Rng;
 use std::alloc::Global;
 use std::sync::Arc;
 use std::thread::Threads;
 
-/// The nodes of a configuration, each in a thread of its own.
+/// The nodes of a configuration, each in a thread of its own until it is lost.
 #[derive(Drop)]
 pub struct Cluster<K: Rng + Drop> {
-    threads: Vec<NodeThread<K>>,
+    members: Vec<Member<K>>,
     stops: Vec<RingOut>,
-    // Where what the threads give back goes.
+    // Where each is told of losses.
+    tellers: Vec<Teller>,
+    // Where what the threads give back goes, and which nodes were lost.
     rans: Vec<NodeRan<K>>,
+    lost: Vec<bool>,
     room: Room,
     alloc: Global,
-    ghost rans_fit: { (vec_len rans ≡ 0) × (vec_len threads ≤ vec_capacity rans) },
-    ghost room_fits: { HasRoom room (vec_len threads) (length (ports_begun threads.items)) },
-    ghost wired: { AreWired (length threads.items) (rows_begun threads.items) },
+    ghost lost_fit: { (vec_len lost ≡ 0) × (vec_len members ≤ vec_capacity lost) },
+    ghost rans_fit: { (vec_len rans ≡ 0) × (vec_len members ≤ vec_capacity rans) },
+    ghost room_fits: { HasRoom room (vec_len members) (length (ports_begun (threads_in members.items))) },
+    ghost wired: { AreWired (length (threads_in members.items)) (rows_begun (threads_in members.items)) },
+    ghost told: { AllPairs AreSlots tellers.items (notices_begun (threads_in members.items)) },
+    ghost untold: { IsNobodyLost (losses_in members.items) → AllOf IsSilentTeller tellers.items },
 }
 
 impl<K: Rng + Drop + Send + 'static> Cluster<K> {
     ghost use Rattle.pg_run.specs.Ports.{IsSilent};
     ghost use Rattle.pg_cluster.specs.Clients.{AreClients, ClientsRest, AllHeard};
-    ghost use Rattle.pg_cluster.specs.Closed.{threads_of, nodes_of, logs_of, clients_of};
+    ghost use Rattle.pg_cluster.specs.Closed.{threads_of, lost_of, nodes_of, logs_of, losses_of, clients_of};
+    ghost use Rattle.pg_cluster.specs.Notices.{NobodyLost};
+    ghost use Rattle.pg_node.specs.declared.state.fault.NodeFault.TheVariants.{Refused};
+    ghost use Rattle.pg_step.specs.declared.refusal.Refusal.TheVariants.{NoSuchPlace, NodeLost};
     ghost use Rattle.std.specs.List.{All};
     ghost use Rattle.pg_cluster.specs.Threads.{AreMade, EndedWith, begun_by, limit_of};
     ghost use Rattle.pg_step.specs.Config.{Config as Configuration};
-    ghost use Rattle.pg_cluster.specs.Judges.{Agree};
+    ghost use Rattle.pg_cluster.specs.Judges.{Agree, CanBegin};
     ghost use Rattle.pg_cluster.specs.Schedule.{IsSchedule};
     ghost use Rattle.pg_cluster.specs.Together.{AreOneRun};
 
@@ -59,64 +76,100 @@ impl<K: Rng + Drop + Send + 'static> Cluster<K> {
         limit: u64,
     ) -> Result<(Cluster<K>, Vec<Client>), StartFault>
         requires generators { length generators.items ≡ length config.now.starts.items }
+        ensures can { IfOk result (λ started. CanBegin config.now.ring config.now.starts.items) }
         ensures starts { IfOk result (λ started. AreMade config.now.starts.items (map begun_by (threads_of started.0))) }
         ensures limit { IfOk result (λ started. All (λ thread. limit_of thread ≡ limit) (threads_of started.0)) }
         ensures clients { IfOk result (λ started. AreClients (threads_of started.0) started.1.items) }
         ensures silent { IfOk result (λ started. All IsSilent started.1.items) }
+        ensures lost { IfOk result (λ started. NobodyLost (lost_of started.0)) }
     {
         let made = make(alloc, config, generators)?;
         let count = made.runs.len();
         let mut stops = made.stops;
         let rans = Vec::with_capacity(alloc, count)?;
         let room = Room::with_capacity(alloc, count, made.clients.len())?;
+        let lost = Vec::with_capacity(alloc, count)?;
         let Ok(gate) = Arc::new(alloc, gate) else {
             return Err(StartFault::World(WorldFault::OutOfMemory));
         };
-        let threads = start_all(rt, alloc, made.runs, &mut stops, &gate, limit)?;
+        let members = start_all(rt, alloc, made.runs, &mut stops, &gate, limit)?;
         let cluster = Cluster {
-            threads,
+            members,
             stops,
+            tellers: made.tellers,
             rans,
+            lost,
             room,
             alloc,
         };
         Ok((cluster, made.clients))
     }
 
+    /// A node is lost for good: its thread is stopped and joined, and each other node is told of it, with the clock of the node at
+    /// last. `node`: its place. What it had sent and what had reached the others by then they still take. It waits for the thread.
+    ///
+    /// Faults, which change nothing: `Refused` by `NoSuchPlace` where there is no such node, and by `NodeLost` where it was lost
+    /// before.
+    pub fn lose<R: Threads>(&mut self, rt: &R, node: usize) -> Result<(), NodeFault>
+        ensures place { (result ≡ Err (Refused NoSuchPlace)) ↔ (length (lost_of self.old) ≤ node) }
+        ensures again { (result ≡ Err (Refused NodeLost)) ↔ (slice_get (lost_of self.old) node ≡ Some true) }
+        ensures fault { IfErr result (λ fault. (fault ≡ Refused NoSuchPlace) ⊎ (fault ≡ Refused NodeLost)) }
+        ensures lost { OnOk result (lost_of self.new ≡ slice_set (lost_of self.old) node true) }
+        ensures err { OnErr result (self.new ≡ self.old) }
+        ensures threads { threads_of self.new ≡ threads_of self.old }
+    {
+        if node >= self.members.len() {
+            return Err(NodeFault::Refused(Refusal::NoSuchPlace));
+        }
+        if self.members[node].is_lost() {
+            return Err(NodeFault::Refused(Refusal::NodeLost));
+        }
+        stop_one(&mut self.stops, node);
+        let member = &mut self.members[node];
+        let last = member.stop(rt);
+        tell_all(&mut self.tellers, node, last);
+        Ok(())
+    }
+
     /// Stops the threads and joins them: the nodes as they ended, their logs, and the schedule to which these join, which is one run
-    /// of the configuration that was started, and what of that which the clients said and heard is in it. `clients`: those that
-    /// `start` gave, in their order. It may wait for threads.
+    /// of the configuration that was started unless nodes were lost, and what of that which the clients said and heard is in it. The
+    /// loss of a node stands behind its last event, with as many packets kept for each other node as that takes later. `clients`:
+    /// those that `start` gave, in their order. It may wait for threads.
     ///
     /// Error: where there is no memory for the schedule, what stopped, of which `finish` tries again.
     pub fn close<R: Threads>(self, rt: &R, clients: Vec<Client>) -> Result<Closed, Stopped>
         requires clients { AreClients (threads_of self) clients.items }
         ensures ended { MatchResult result
-            (λ closed. EndedWith (threads_of self) closed.nodes.items (map (λ v. v.items) closed.logs.items))
-            (λ stopped. EndedWith (threads_of self) (nodes_of stopped) (logs_of stopped)) }
-        ensures one_run { IfOk result (λ closed. (given : Configuration) → AreMade given (map begun_by (threads_of self))
+            (λ closed. ∥ EndedWith (lost_of self) (threads_of self) closed.nodes.items (map (λ v. v.items) closed.logs.items) ∥₁)
+            (λ stopped. ∥ EndedWith (lost_of self) (threads_of self) (nodes_of stopped) (logs_of stopped) ∥₁) }
+        ensures one_run { IfOk result (λ closed. NobodyLost (lost_of self) → (given : Configuration) → AreMade given (map begun_by (threads_of self))
             → AreOneRun given closed.nodes.items (map (λ v. v.items) closed.logs.items) closed.schedule.items) }
-        ensures agree { IfOk result (λ closed. (given : Configuration) → AreMade given (map begun_by (threads_of self))
+        ensures agree { IfOk result (λ closed. NobodyLost (lost_of self) → (given : Configuration) → AreMade given (map begun_by (threads_of self))
             → Agree closed.nodes.items closed.logs.items) }
-        ensures schedule { IfOk result (λ closed. IsSchedule (map (λ v. v.items) closed.logs.items) (length closed.logs.items) closed.schedule.items) }
+        ensures schedule { IfOk result (λ closed. NobodyLost (lost_of self) → IsSchedule (map (λ v. v.items) closed.logs.items) (length closed.logs.items) closed.schedule.items) }
         ensures heard { MatchResult result
             (λ closed. (given : Configuration) → AreMade given (map begun_by (threads_of self))
-            → AllHeard (threads_of self) closed.nodes.items (map (λ v. v.items) closed.logs.items) clients.items)
+            → ∥ AllHeard (threads_of self) closed.nodes.items (map (λ v. v.items) closed.logs.items) clients.items ∥₁)
             (λ stopped. (given : Configuration) → AreMade given (map begun_by (threads_of self))
-            → AllHeard (threads_of self) (nodes_of stopped) (logs_of stopped) clients.items) }
+            → ∥ AllHeard (threads_of self) (nodes_of stopped) (logs_of stopped) clients.items ∥₁) }
+        ensures lost { IfErr result (λ stopped. losses_of stopped ≡ lost_of self) }
         ensures clients { MatchResult result (λ closed. ClientsRest clients.items closed.clients.items) (λ stopped. ClientsRest clients.items (clients_of stopped)) }
     {
         let Cluster {
-            threads,
+            members,
             mut stops,
+            tellers,
             mut rans,
+            mut lost,
             room,
             alloc,
         } = self;
         stop_all(&mut stops);
-        for thread in threads {
-            rans.push_reserved(thread.join(rt));
+        for member in members {
+            lost.push_reserved(member.is_lost());
+            rans.push_reserved(member.join(rt));
         }
-        let stopped = stopped_of(alloc, rans, room, clients);
+        let stopped = stopped_of(alloc, rans, room, tellers, clients, lost);
         threads_are_one_run::<K>();
         nodes_of_one_run_agree();
         stopped.finish()

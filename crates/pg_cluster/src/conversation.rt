@@ -1,13 +1,16 @@
 //! A conversation of clients with a cluster: what the program's `threads` does.
 
-ghost use Rattle.std.specs.Prelude.{◌≡◌, IfOk, OnOk, length};
+ghost use Rattle.std.specs.Prelude.{◌≡◌, IfOk, OnOk, length, map};
 ghost use Rattle.std.specs.Io.KnownBytes.{Appends};
-ghost use Rattle.pg_cluster.specs.Clients.{SameClients};
-ghost use Rattle.pg_cluster.specs.Conversations.{AreAsked, IsBare, TookPlace};
+ghost use Rattle.std.specs.List.{All, sum_by};
+ghost use Rattle.pg_run.specs.Ports.{IsSilent};
+ghost use Rattle.pg_cluster.specs.Clients.{AllPairs, SameClients};
+ghost use Rattle.pg_cluster.specs.Conversations.{AreAsked, HasCounted, IsBare, TookPlace, all_polled, saturated};
 ghost use Rattle.pg_cluster.specs.Outcomes.{is_good, outcome_lines, yes_or_no};
 
 use crate::cluster::Cluster;
 use crate::fault::StartFault;
+use crate::onlooker::Onlooker;
 use crate::speaker::Speaker;
 use crate::{Client, Gate};
 use pg_step::Start;
@@ -111,20 +114,22 @@ impl Gate for Open {
 
 /// Starts the cluster and lets its clients speak: the first client of the first node creates a group; once that is answered each
 /// client makes a process, and then joins the group and leaves it so many times, each command once the former is answered. The
-/// cluster is closed once all is answered, or after as many looks as there are turns. It may wait for threads.
+/// cluster is closed once all is answered, or after as many looks as there are turns. `onlooker`: who is told at each look how far
+/// they are. It may wait for threads.
 ///
 /// Faults: those of `Cluster::start`, where `BadConfig` is told of more than 16 nodes, or of none.
-pub fn run_threads<R: Threads>(
+pub fn run_threads<R: Threads, O: Onlooker>(
     rt: &R,
     alloc: Global,
     asked: Conversation,
+    onlooker: &mut O,
 ) -> Result<Outcome, StartFault>
     ensures { IfOk result (TookPlace asked) }
 {
     let config = config_of(alloc, asked)?;
     let generators = generators(alloc, config.starts.len(), asked.seed)?;
     let (cluster, mut clients) = Cluster::start(rt, alloc, &config, generators, Open, asked.turns)?;
-    let heard = converse(alloc, &mut clients, asked);
+    let heard = converse(alloc, &mut clients, asked, onlooker);
     let closed = match cluster.close(rt, clients) {
         Ok(closed) => closed,
         Err(_) => return Err(StartFault::World(WorldFault::OutOfMemory)),
@@ -178,23 +183,21 @@ fn generators(alloc: Global, count: usize, seed: u64) -> Result<Vec<Pcg32>, Allo
 }
 
 /// The clients speak until all is answered, or for so many looks; how many commands were answered.
-fn converse(
+fn converse<O: Onlooker>(
     alloc: Global,
     clients: &mut Vec<Client>,
     asked: Conversation,
+    onlooker: &mut O,
 ) -> Result<u64, AllocError>
-    ensures { SameClients clients.old.items clients.new.items }
+    requires silent { All IsSilent clients.old.items }
+    ensures same { SameClients clients.old.items clients.new.items }
+    ensures answered { IfOk result (λ answered. answered ≡ saturated (all_polled clients.new.items)) }
 {
-    let mut speakers = Vec::with_capacity(alloc, clients.len())?;
-    for place in 0..clients.len() {
-        speakers.push(if place == 0 {
-            Speaker::creating(asked.rounds)
-        } else {
-            Speaker::waiting(asked.rounds)
-        })?;
-    }
+    let mut speakers = speakers(alloc, clients.len(), asked.rounds)?;
+    let commands = asked.commands();
     for _ in 0..asked.turns {
         let moved = speak_all(alloc, clients, &mut speakers)?;
+        onlooker.look(answered_by(speakers.as_slice()), commands);
         if speakers.iter().all(|speaker| speaker.is_silent()) {
             break;
         }
@@ -205,13 +208,31 @@ fn converse(
     Ok(answered_by(speakers.as_slice()))
 }
 
+/// So many clients, of which the first creates the group.
+fn speakers(alloc: Global, count: usize, rounds: u32) -> Result<Vec<Speaker>, AllocError>
+    ensures count { IfOk result (λ speakers. length speakers.items ≡ count) }
+    ensures none { IfOk result (λ speakers. All (λ speaker. speaker.answered ≡ 0) speakers.items) }
+{
+    let mut speakers = Vec::with_capacity(alloc, count)?;
+    for place in 0..count {
+        speakers.push(if place == 0 {
+            Speaker::creating(rounds)
+        } else {
+            Speaker::waiting(rounds)
+        })?;
+    }
+    Ok(speakers)
+}
+
 /// Each client speaks once; whether something moved.
 fn speak_all(
     alloc: Global,
     clients: &mut Vec<Client>,
     speakers: &mut Vec<Speaker>,
 ) -> Result<bool, AllocError>
-    ensures { SameClients clients.old.items clients.new.items }
+    requires counted { AllPairs HasCounted speakers.old.items clients.old.items }
+    ensures same { SameClients clients.old.items clients.new.items }
+    ensures counted { OnOk result (AllPairs HasCounted speakers.new.items clients.new.items) }
 {
     let mut moved = false;
     for place in 0..clients.len().min(speakers.len()) {
@@ -221,15 +242,24 @@ fn speak_all(
         }
     }
     if speakers.first().is_some_and(|first| first.answered > 0) {
-        for speaker in speakers.iter_mut() {
-            speaker.begin();
-        }
+        begin_all(speakers);
     }
     Ok(moved)
 }
 
+/// The group is there.
+fn begin_all(speakers: &mut Vec<Speaker>)
+    ensures { map (λ speaker. speaker.answered) speakers.new.items ≡ map (λ speaker. speaker.answered) speakers.old.items }
+{
+    for place in 0..speakers.len() {
+        speakers[place].begin();
+    }
+}
+
 /// How many commands of these clients were answered.
-fn answered_by(speakers: &[Speaker]) -> u64 {
+fn answered_by(speakers: &[Speaker]) -> u64
+    ensures { result ≡ saturated (sum_by (λ speaker. speaker.answered) speakers.now) }
+{
     let mut answered: u64 = 0;
     for speaker in speakers {
         answered = answered.saturating_add(speaker.answered);

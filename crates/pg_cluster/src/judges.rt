@@ -1,6 +1,6 @@
 //! Whether a cluster that has ended came to what its schedule says, and to one opinion.
 
-ghost use Rattle.std.specs.Prelude.{◌≡◌, ◌↔◌, true, IsTrue, IfOk, Some, slice_get};
+ghost use Rattle.std.specs.Prelude.{◌≡◌, ◌≢◌, ◌↔◌, true, false, IsTrue, IfOk, Some, map, slice_get};
 ghost use Rattle.std.specs.List.{All, list_all, list_any};
 ghost use Rattle.pg_world.specs.Crossings.{node_of};
 ghost use Rattle.pg_world.specs.Worlds.{view_of as view_of_world};
@@ -14,6 +14,7 @@ ghost use Rattle.pg_cluster.specs.Judges.{
   is_end_pending as is_some_pending,
   is_seen_free as is_free,
   is_taken_by_some as is_taken,
+  ran_out as has_run_out,
   state_in,
 };
 
@@ -25,13 +26,14 @@ use pg_query::same_group;
 use pg_run::{LogEntry, NodeEvent};
 use pg_step::Command;
 use pg_term::{Pid, Term};
-use pg_world::{Config, FrameWorld, WorldFault, run_frames};
+use pg_world::{Config, FrameWorld, WorldFault, configs_are_decided, run_frames};
 use std::alloc::{AllocError, Global};
 
 impl Closed {
     ghost use Rattle.pg_world.specs.Worlds.{view_of};
     ghost use Rattle.pg_world.specs.Runs.{LosesNone};
-    ghost use Rattle.pg_cluster.specs.Judges.{Agree, AreShown, Replays};
+    ghost use Rattle.pg_cluster.specs.Judges.{Agree, AreShown, CanBegin, Replays, ran_out};
+    ghost use Rattle.pg_cluster.specs.Together.{AreOneRun};
 
     /// Whether the nodes agree: formed nodes have the same of each group whose lock one node sees free, or an end is pending that
     /// a log tells of. Its cost is that of the list of each group of each node, for each other node.
@@ -47,34 +49,57 @@ impl Closed {
         are_one(alloc, nodes)
     }
 
-    /// Whether the schedule, made step by step from the start of this configuration, comes to the same nodes. Its cost is that of
-    /// the steps, and of `NodeState::same` of each node.
+    /// Whether the schedule, made step by step from the start of this configuration, comes to the same nodes: never no of what
+    /// `Cluster::close` gives and the configuration that was started. Its cost is that of the steps, and of `NodeState::same` of
+    /// each node.
     ///
     /// Error: `AllocError`, also where a step was refused for memory.
     pub fn replays(&self, alloc: Global, config: &Config) -> Result<bool, AllocError>
-        ensures { IfOk result (λ yes. IsTrue yes → LosesNone self.now.schedule.items → Replays config.now.starts.items self.now.schedule.items self.now.nodes.items) }
+        ensures one_run { IfOk result (λ yes. CanBegin config.now.ring config.now.starts.items
+            → AreOneRun config.now.starts.items self.now.nodes.items (map (λ v. v.items) self.now.logs.items) self.now.schedule.items → yes ≡ true) }
+        ensures replays { IfOk result (λ yes. IsTrue yes → LosesNone self.now.schedule.items → Replays config.now.starts.items self.now.schedule.items self.now.nodes.items) }
     {
+        configs_are_decided();
         match run_frames(alloc, config, self.schedule.as_slice()) {
             Ok((world, numbers)) => self.is_shown(&world, numbers.as_slice()),
-            Err(WorldFault::OutOfMemory) => Err(AllocError),
-            Err(_) => Ok(false),
+            Err(fault) => unbegun(fault),
         }
     }
 
     /// Whether a world shows the nodes, where its steps had these numbers.
     fn is_shown(&self, world: &FrameWorld<IndexTable>, numbers: &[u8]) -> Result<bool, AllocError>
-        ensures { IfOk result (λ yes. IsTrue yes → AreShown (view_of world.now).traffic.nodes self.now.nodes.items) }
+        ensures shown { IfOk result (λ yes. IsTrue yes ↔ AreShown (view_of world.now).traffic.nodes self.now.nodes.items) }
+        ensures all_made { IfOk result (λ yes. ran_out numbers.now ≡ false) }
     {
-        if numbers.iter().any(|number| *number == 10) {
+        if ran_out(numbers) {
             return Err(AllocError);
         }
         shows_all(world, self.nodes.as_slice())
     }
 }
 
+/// What is told of a schedule where no world could begin: it does not replay.
+///
+/// Error: `AllocError`, where that was for memory.
+fn unbegun(fault: WorldFault) -> Result<bool, AllocError>
+    ensures { IfOk result (λ yes. (yes ≡ false) × (fault ≢ WorldFault.OutOfMemory)) }
+{
+    match fault {
+        WorldFault::OutOfMemory => Err(AllocError),
+        _ => Ok(false),
+    }
+}
+
+/// Whether a step was refused since memory ran out, by the numbers of all steps.
+fn ran_out(numbers: &[u8]) -> bool
+    ensures { result ≡ has_run_out numbers.now }
+{
+    numbers.iter().any(|number| *number == 10)
+}
+
 /// Whether a world shows these nodes.
 fn shows_all(world: &FrameWorld<IndexTable>, nodes: &[Node<IndexTable>]) -> Result<bool, AllocError>
-    ensures { IfOk result (λ yes. IsTrue yes → AreShownAll (view_of_world world.now).traffic.nodes nodes.now) }
+    ensures { IfOk result (λ yes. IsTrue yes ↔ AreShownAll (view_of_world world.now).traffic.nodes nodes.now) }
 {
     for place in 0..nodes.len() {
         if !shows_one(world, place, &nodes[place])? {
@@ -90,7 +115,7 @@ fn shows_one(
     place: usize,
     node: &Node<IndexTable>,
 ) -> Result<bool, AllocError>
-    ensures { IfOk result (λ yes. IsTrue yes → slice_get (view_of_world world.now).traffic.nodes place ≡ Some (node_of node.now)) }
+    ensures { IfOk result (λ yes. IsTrue yes ↔ (slice_get (view_of_world world.now).traffic.nodes place ≡ Some (node_of node.now))) }
 {
     match world.node(place) {
         Some(other) => node.state().same(other),

@@ -1,10 +1,11 @@
-ghost use Rattle.std.specs.Prelude.{ℕ, List, length, map};
+ghost use Rattle.std.specs.Prelude.{ℕ, Bool, List, length, map};
 ghost use Rattle.std.specs.declared.alloc.Global.{Global};
 ghost use Rattle.std.specs.declared.vec.Vec.{Vec};
 ghost use Rattle.pg_run.specs.declared.log.NodeEvent.{NodeEvent};
 ghost use Rattle.pg_step.specs.Config.{Config};
 ghost use Rattle.pg_world.specs.declared.step.FrameStep.{FrameStep};
-ghost use Rattle.pg_cluster.specs.Judges.{Agree};
+ghost use Rattle.pg_cluster.specs.Judges.{Agree, Replays};
+ghost use Rattle.pg_cluster.specs.Notices.{NobodyLost};
 ghost use Rattle.pg_cluster.specs.Schedule.{IsSchedule};
 ghost use Rattle.pg_cluster.specs.Threads.{NodeOf, Thread, AreMade, EndedWith, begun_by};
 ghost use Rattle.pg_cluster.specs.Together.{AreOneRun};
@@ -12,12 +13,12 @@ ghost use Rattle.pg_cluster.specs.Together.{AreOneRun};
 use pg_history::{ended_processes_were_finished, no_loss_is_seen};
 use pg_together::nodes_ran_together;
 
-/// The nodes of a configuration that ran as threads, with rings between them, made one run: their schedule is events that happen one
+/// The nodes of a configuration that ran as threads, with rings between them, and of which none was lost, made one run: their schedule is events that happen one
 /// after another from the start, each node does there what its log tells and comes to where it ended, and of the world to which
 /// they lead everything holds that `one_history` of pg_history says.
 pub fn threads_are_one_run<K>()
-    ensures { (given : Config) (threads : List (Thread K)) (nodes : List NodeOf) (logs : List (List (ℕ × NodeEvent))) (schedule : List FrameStep)
-        → AreMade given (map begun_by threads) → EndedWith threads nodes logs → IsSchedule logs (length logs) schedule
+    ensures { (given : Config) (lost : List Bool) (threads : List (Thread K)) (nodes : List NodeOf) (logs : List (List (ℕ × NodeEvent))) (schedule : List FrameStep)
+        → NobodyLost lost → AreMade given (map begun_by threads) → EndedWith lost threads nodes logs → IsSchedule logs (length logs) schedule
         → AreOneRun given nodes logs schedule }
 {
     nodes_ran_together();
@@ -31,3 +32,9 @@ pub fn nodes_of_one_run_agree()
     ended_processes_were_finished();
     no_loss_is_seen();
 }
+
+/// The schedule of one run replays: made again step by step, it leads to the nodes of the run.
+pub fn one_run_replays()
+    ensures { (given : Config) (nodes : List NodeOf) (logs : List (List (ℕ × NodeEvent))) (schedule : List FrameStep)
+        → AreOneRun given nodes logs schedule → Replays given schedule nodes }
+{}

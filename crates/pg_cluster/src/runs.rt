@@ -3,14 +3,19 @@
 ghost use Rattle.std.specs.Prelude.{◌≡◌, IfOk, [], length, map};
 ghost use Rattle.std.specs.List.{All as AllOf};
 ghost use Rattle.pg_cluster.specs.Clients.{AllPairs as Pairs, IsOpen as IsOpened, OpensMore};
+ghost use Rattle.pg_run.specs.Notices.{IsUntold as IsUntoldAt};
+ghost use Rattle.pg_run.specs.Runs.{notices_at as notices_of_run, notices_of as told_of_run};
+ghost use Rattle.pg_cluster.specs.Notices.{IsFresh as IsFreshPair};
+ghost use Rattle.pg_cluster.specs.Judges.{CanBegin};
 ghost use Rattle.pg_cluster.specs.Threads.{AreMade, node_in as node_of_run, row_in as row_of_run, log_in as log_of_run, ports_of_runs as ports_in_runs};
 
 use crate::fault::StartFault;
+use crate::notices::Teller;
 use crate::wires::{Row, wire_all};
 use pg_index::IndexTable;
 use pg_node::Node;
-use pg_ring::{RingIn, RingOut, ring_pair};
-use pg_run::{Client, LinkedNode, NodeRun, Port, port_pair};
+use pg_ring::{RingIn, RingOut, ring_pair, slot_pair};
+use pg_run::{Client, LinkedNode, NOTICE_PLACES, NodeRun, Port, port_pair};
 use pg_world::{Config, WorldFault, starting_nodes};
 use rand_core::Rng;
 use std::alloc::{AllocError, Global};
@@ -18,11 +23,12 @@ use std::alloc::{AllocError, Global};
 /// A node as its thread runs it.
 pub(crate) type Run<K> = NodeRun<IndexTable, RingOut, RingIn, K>;
 
-/// The nodes of a cluster, where each is stopped, and its clients.
+/// The nodes of a cluster, where each is stopped and told of losses, and its clients.
 #[derive(Drop)]
 pub(crate) struct Made<K: Drop> {
     pub runs: Vec<Run<K>>,
     pub stops: Vec<RingOut>,
+    pub tellers: Vec<Teller>,
     pub clients: Vec<Client>,
 }
 
@@ -34,8 +40,10 @@ pub(crate) fn make<K: Rng + Drop>(
     config: &Config,
     generators: Vec<K>,
 ) -> Result<Made<K>, StartFault>
+    ensures can { IfOk result (λ made. CanBegin config.now.ring config.now.starts.items) }
     ensures made { IfOk result (λ made. AreMade config.now.starts.items made.runs.items) }
     ensures clients { IfOk result (λ made. Pairs IsOpened made.clients.items (ports_in_runs made.runs.items)) }
+    ensures notices { IfOk result (λ made. Pairs IsFreshPair made.tellers.items (map notices_of_run made.runs.items)) }
 {
     let nodes = match starting_nodes(alloc, config) {
         Ok(nodes) => nodes,
@@ -58,11 +66,14 @@ fn make_all<K: Rng + Drop>(
     ensures nodes { IfOk result (λ made. map node_of_run made.runs.items ≡ nodes.items) }
     ensures rows { IfOk result (λ made. map row_of_run made.runs.items ≡ map (λ v. v.items) rows.items) }
     ensures unlogged { IfOk result (λ made. AllOf (λ run. log_of_run run ≡ []) made.runs.items) }
+    ensures untold { IfOk result (λ made. AllOf (λ run. IsUntoldAt (told_of_run run)) made.runs.items) }
     ensures clients { IfOk result (λ made. Pairs IsOpened made.clients.items (ports_in_runs made.runs.items)) }
+    ensures notices { IfOk result (λ made. Pairs IsFreshPair made.tellers.items (map notices_of_run made.runs.items)) }
 {
     let mut made = Made {
         runs: Vec::new(alloc),
         stops: Vec::new(alloc),
+        tellers: Vec::new(alloc),
         clients: Vec::new(alloc),
     };
     let mut rows = rows.into_iter();
@@ -80,6 +91,9 @@ impl<K: Rng + Drop> Made<K> {
     ghost use Rattle.std.specs.Prelude.{◌≡◌, ◌++◌, ◌∷◌, [], OnOk, map};
     ghost use Rattle.std.specs.List.{All};
     ghost use Rattle.pg_cluster.specs.Clients.{AllPairs, IsOpen};
+    ghost use Rattle.pg_run.specs.Notices.{IsUntold};
+    ghost use Rattle.pg_run.specs.Runs.{notices_at, notices_of};
+    ghost use Rattle.pg_cluster.specs.Notices.{IsFresh};
     ghost use Rattle.pg_cluster.specs.Threads.{node_in, row_in, log_in, ports_of_runs};
 
     /// A further node, with its clients. It has as many links as the node has peers, else `BadConfig` is told.
@@ -93,7 +107,9 @@ impl<K: Rng + Drop> Made<K> {
         ensures nodes { OnOk result (map node_in self.new.runs.items ≡ map node_in self.old.runs.items ++ node ∷ []) }
         ensures rows { OnOk result (map row_in self.new.runs.items ≡ map row_in self.old.runs.items ++ row.items ∷ []) }
         ensures unlogged { OnOk result (All (λ run. log_in run ≡ []) self.old.runs.items → All (λ run. log_in run ≡ []) self.new.runs.items) }
+        ensures untold { OnOk result (All (λ run. IsUntold (notices_of run)) self.old.runs.items → All (λ run. IsUntold (notices_of run)) self.new.runs.items) }
         ensures clients { OnOk result (AllPairs IsOpen self.old.clients.items (ports_of_runs self.old.runs.items) → AllPairs IsOpen self.new.clients.items (ports_of_runs self.new.runs.items)) }
+        ensures notices { OnOk result (AllPairs IsFresh self.old.tellers.items (map notices_at self.old.runs.items) → AllPairs IsFresh self.new.tellers.items (map notices_at self.new.runs.items)) }
     {
         if row.len() != node.state().peer_count() {
             return Err(StartFault::World(WorldFault::BadConfig));
@@ -101,11 +117,14 @@ impl<K: Rng + Drop> Made<K> {
         let Ok((stop, stopped)) = ring_pair(alloc, 1) else {
             return Err(StartFault::World(WorldFault::OutOfMemory));
         };
+        let Ok((teller, notices)) = slot_pair(alloc, NOTICE_PLACES) else {
+            return Err(StartFault::World(WorldFault::OutOfMemory));
+        };
         let ports = open_ports(alloc, node.state().port_count(), &mut self.clients)?;
         let linked = LinkedNode::new(alloc, node, row);
         self.stops.push(stop)?;
-        self.runs
-            .push(NodeRun::new(alloc, linked, ports, stopped, generator))?;
+        self.tellers.push(teller)?;
+        self.runs.push(NodeRun::new(alloc, linked, ports, stopped, notices, generator))?;
         Ok(())
     }
 }

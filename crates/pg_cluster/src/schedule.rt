@@ -57,6 +57,10 @@ fn step_of(alloc: Global, node: usize, event: &NodeEvent) -> Result<FrameStep, A
             command: copy_command(alloc, command)?,
         },
         NodeEvent::Retry(op) => FrameStep::Retry { node, op: *op },
+        NodeEvent::SeeLoss(peer) => FrameStep::SeeLoss {
+            node,
+            peer: node_of_peer(node, *peer),
+        },
     })
 }
 
@@ -96,4 +100,89 @@ fn add_step(
         }
     }
     Ok(())
+}
+
+/// The same where nodes were lost: the loss of each stands behind its last entry, and those of nodes that did nothing come first.
+///
+/// Error: `AllocError`.
+pub(crate) fn steps_with_losses(
+    alloc: Global,
+    logs: &[Vec<LogEntry>],
+    lost: &[bool],
+    order: &[(usize, usize)],
+) -> Result<Vec<FrameStep>, AllocError> {
+    let mut steps = Vec::new(alloc);
+    for node in 0..logs.len() {
+        if is_lost(lost, node) && entry_count(logs, node) == 0 {
+            steps.push(loss_of(alloc, logs, node)?)?;
+        }
+    }
+    for at in order {
+        add_step(alloc, logs, at.0, at.1, &mut steps)?;
+        if is_lost(lost, at.0) && at.1 >= entry_count(logs, at.0).saturating_sub(1) {
+            steps.push(loss_of(alloc, logs, at.0)?)?;
+        }
+    }
+    Ok(steps)
+}
+
+/// Whether the node at a place was lost.
+fn is_lost(lost: &[bool], node: usize) -> bool {
+    match lost.get(node) {
+        Some(lost) => *lost,
+        None => false,
+    }
+}
+
+/// How many entries the log of a node has.
+fn entry_count(logs: &[Vec<LogEntry>], node: usize) -> usize {
+    match logs.get(node) {
+        Some(log) => log.len(),
+        None => 0,
+    }
+}
+
+/// The loss of a node. Of what is on the way from it to each other node as many packets stay as that takes later.
+///
+/// Error: `AllocError`.
+fn loss_of(alloc: Global, logs: &[Vec<LogEntry>], node: usize) -> Result<FrameStep, AllocError> {
+    let last = last_clock(logs, node);
+    let mut keep = Vec::with_capacity(alloc, logs.len())?;
+    for other in 0..logs.len() {
+        if other != node {
+            keep.push(taken_later(logs[other].as_slice(), other, node, last))?;
+        }
+    }
+    Ok(FrameStep::Lose { node, keep })
+}
+
+/// The clock of a node at last; 0 where it did nothing.
+fn last_clock(logs: &[Vec<LogEntry>], node: usize) -> u32 {
+    match logs.get(node) {
+        Some(log) => match log.last() {
+            Some(entry) => entry.0,
+            None => 0,
+        },
+        None => 0,
+    }
+}
+
+/// How many packets of a lost node, whose clock was `last`, this log of another node takes behind the last entry of that.
+fn taken_later(log: &[LogEntry], other: usize, node: usize, last: u32) -> usize {
+    let mut count: usize = 0;
+    for entry in log {
+        let is_later = entry.0 > last || (entry.0 == last && other > node);
+        if is_later && is_packet_of(&entry.1, other, node) {
+            count = count.saturating_add(1);
+        }
+    }
+    count
+}
+
+/// Whether an event of a node is that it took a packet of another.
+fn is_packet_of(event: &NodeEvent, node: usize, other: usize) -> bool {
+    match event {
+        NodeEvent::Take(peer) => node_of_peer(node, *peer) == other,
+        _ => false,
+    }
 }

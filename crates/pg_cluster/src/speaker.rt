@@ -1,6 +1,8 @@
 //! What a client of a conversation says next.
 
-ghost use Rattle.pg_run.specs.Ports.{SameClient};
+ghost use Rattle.std.specs.Prelude.{◌≡◌, ◌+◌};
+ghost use Rattle.pg_run.specs.Ports.{SameClient, polled};
+ghost use Rattle.pg_cluster.specs.Conversations.{Counts, saturated};
 
 use crate::Client;
 use pg_step::{Answer, Command, Reply};
@@ -38,7 +40,9 @@ pub(crate) struct Speaker {
 
 impl Speaker {
     /// A client that creates the group first.
-    pub(crate) fn creating(rounds: u32) -> Speaker {
+    pub(crate) fn creating(rounds: u32) -> Speaker
+        ensures { result.answered ≡ 0 }
+    {
         Speaker {
             stage: Stage::Creating,
             is_asked: false,
@@ -49,7 +53,9 @@ impl Speaker {
     }
 
     /// A client that waits for the group.
-    pub(crate) fn waiting(rounds: u32) -> Speaker {
+    pub(crate) fn waiting(rounds: u32) -> Speaker
+        ensures { result.answered ≡ 0 }
+    {
         Speaker {
             stage: Stage::Waiting,
             is_asked: false,
@@ -60,7 +66,9 @@ impl Speaker {
     }
 
     /// The group is there.
-    pub(crate) fn begin(&mut self) {
+    pub(crate) fn begin(&mut self)
+        ensures { self.new.answered ≡ self.old.answered }
+    {
         if self.stage == Stage::Waiting {
             self.stage = Stage::Making;
         }
@@ -71,11 +79,12 @@ impl Speaker {
         matches!(self.stage, Stage::Silent)
     }
 
-    /// Polls an answer, or submits the next command; whether something moved.
+    /// Polls an answer, and counts it, or submits the next command; whether something moved.
     ///
     /// Error: `AllocError`.
     pub(crate) fn speak(&mut self, alloc: Global, client: &mut Client) -> Result<bool, AllocError>
-        ensures { SameClient client.old client.new }
+        ensures same { SameClient client.old client.new }
+        ensures counts { Counts self.old.answered self.new.answered client.old client.new }
     {
         if self.is_asked {
             match client.poll() {
@@ -92,7 +101,9 @@ impl Speaker {
 
     // Submits the command of the stage.
     fn ask(&mut self, alloc: Global, client: &mut Client) -> Result<bool, AllocError>
-        ensures { SameClient client.old client.new }
+        ensures same { SameClient client.old client.new }
+        ensures polled { polled client.new ≡ polled client.old }
+        ensures answered { self.new.answered ≡ self.old.answered }
     {
         match self.command(alloc)? {
             Some(command) => {
@@ -115,7 +126,9 @@ impl Speaker {
     }
 
     // Takes in the answer to the command of the stage.
-    fn hear(&mut self, answer: Answer) {
+    fn hear(&mut self, answer: Answer)
+        ensures { self.new.answered ≡ saturated (self.old.answered + 1) }
+    {
         self.answered = self.answered.saturating_add(1);
         self.is_asked = false;
         match answer.reply {

@@ -1,11 +1,14 @@
 //! How the threads of a cluster are started and stopped.
 
 ghost use Rattle.std.specs.Prelude.{◌≡◌, Err, IfOk};
+ghost use Rattle.pg_cluster.specs.Members.{losses_in, threads_in};
+ghost use Rattle.pg_cluster.specs.Notices.{NobodyLost};
 ghost use Rattle.pg_cluster.specs.Promises.{RanAs};
 ghost use Rattle.pg_cluster.specs.Threads.{StartedWith};
 
 use crate::fault::StartFault;
-use crate::promise::{NodeRan, NodeThread, RanFrom};
+use crate::member::Member;
+use crate::promise::{NodeRan, RanFrom};
 use crate::runs::Run;
 use pg_ring::{Link, RingOut};
 use pg_run::{Gate, run_node};
@@ -24,18 +27,25 @@ pub(crate) fn stop_all(stops: &mut Vec<RingOut>) {
     }
 }
 
+/// Writes the stop byte of one thread.
+pub(crate) fn stop_one(stops: &mut Vec<RingOut>, node: usize) {
+    if let Some(stop) = stops.get_mut(node) {
+        let _ = stop.put(&[1]);
+    }
+}
+
 /// Stops the threads and joins them, and gives back the fault.
 fn give_up<K: Rng + Drop + Send + 'static, R: Threads>(
     rt: &R,
-    threads: Vec<NodeThread<K>>,
+    members: Vec<Member<K>>,
     stops: &mut Vec<RingOut>,
     fault: StartFault,
-) -> Result<Vec<NodeThread<K>>, StartFault>
+) -> Result<Vec<Member<K>>, StartFault>
     ensures { result ≡ Err fault }
 {
     stop_all(stops);
-    for thread in threads {
-        thread.join(rt);
+    for member in members {
+        member.join(rt);
     }
     Err(fault)
 }
@@ -54,20 +64,21 @@ pub(crate) fn start_all<
     stops: &mut Vec<RingOut>,
     gate: &Arc<G, Global>,
     limit: u64,
-) -> Result<Vec<NodeThread<K>>, StartFault>
-    ensures { IfOk result (λ threads. StartedWith runs.items limit threads.items) }
+) -> Result<Vec<Member<K>>, StartFault>
+    ensures started { IfOk result (λ members. StartedWith runs.items limit (threads_in members.items)) }
+    ensures lost { IfOk result (λ members. NobodyLost (losses_in members.items)) }
 {
-    let mut threads: Vec<NodeThread<K>> = Vec::with_capacity(alloc, runs.len())?;
+    let mut members: Vec<Member<K>> = Vec::with_capacity(alloc, runs.len())?;
     for run in runs {
         let Ok(gate) = Arc::try_clone(gate) else {
             return give_up(
                 rt,
-                threads,
+                members,
                 stops,
                 StartFault::World(WorldFault::OutOfMemory),
             );
         };
-        let place = threads.len();
+        let place = members.len();
         let promise = RanFrom {
             run: Snapshot::of(&run),
             limit,
@@ -79,9 +90,9 @@ pub(crate) fn start_all<
                 ensures { RanAs run limit result }
             { run_node(place, run, &*gate, limit) },
         ) {
-            Ok(handle) => threads.push_reserved(handle),
-            Err(_) => return give_up(rt, threads, stops, StartFault::NoThread),
+            Ok(thread) => members.push_reserved(Member::new(thread)),
+            Err(_) => return give_up(rt, members, stops, StartFault::NoThread),
         }
     }
-    Ok(threads)
+    Ok(members)
 }

@@ -6,6 +6,8 @@ mod conversation;
 #[cfg(test)]
 mod gates;
 #[cfg(test)]
+mod losses;
+#[cfg(test)]
 mod memory;
 #[cfg(test)]
 mod programs;

@@ -1,6 +1,6 @@
 //! The conversation of the program.
 
-use pg_cluster::{Conversation, Outcome, run_threads};
+use pg_cluster::{Conversation, Outcome, Quiet, run_threads};
 use std::alloc::Global;
 use std::test::Fail;
 use std::thread::Threads;
@@ -15,7 +15,7 @@ const DEFAULTS: Conversation = Conversation {
 
 #[test]
 fn threads_default(rt: HostRuntime) -> Result<(), Fail> {
-    let Ok(outcome) = run_threads(&rt, rt.alloc(), DEFAULTS) else {
+    let Ok(outcome) = run_threads(&rt, rt.alloc(), DEFAULTS, &mut Quiet) else {
         return Err(Fail::new("refused"));
     };
     assert_eq!(rt; outcome.answered, 607);
@@ -24,7 +24,7 @@ fn threads_default(rt: HostRuntime) -> Result<(), Fail> {
 }
 
 fn heard(rt: &impl Threads, alloc: Global, asked: Conversation) -> Result<Outcome, Fail> {
-    match run_threads(rt, alloc, asked) {
+    match run_threads(rt, alloc, asked, &mut Quiet) {
         Ok(outcome) => Ok(outcome),
         Err(_) => Err(Fail::new("refused")),
     }

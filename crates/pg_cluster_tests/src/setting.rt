@@ -5,6 +5,7 @@ ghost use Rattle.pg_cluster.specs.Clients.{AreClients};
 ghost use Rattle.pg_cluster.specs.Closed.{threads_of};
 
 use pg_cluster::{Client, Closed, Cluster, Gate, StartFault, Stopped};
+use pg_node::NodeFault;
 use pg_step::{Answer, Command, Reply, Start};
 use pg_term::{Atom, Items, Pid, Term, TermFault};
 use pg_world::Config;
@@ -116,6 +117,11 @@ impl Running {
             },
             Err(_) => None,
         }
+    }
+
+    /// The node at a place is lost.
+    pub fn lose<R: Threads>(&mut self, rt: &R, node: usize) -> Result<(), NodeFault> {
+        self.cluster.lose(rt, node)
     }
 
     /// Closes the cluster.

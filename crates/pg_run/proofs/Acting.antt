@@ -12,9 +12,9 @@ use Rattle.pg_message.specs.declared.packet.Packet.{Packet}
 use Rattle.pg_node.specs.Bytes.{Tells, marked}
 use Rattle.pg_node.specs.Links.{Link, at_link, frames_to}
 use Rattle.pg_node.specs.Nodes.{held_by, links_of, taken_of, taken_as, ComesInRoom}
-use Rattle.pg_node.specs.States.{names_of, state_of, answers_of, stamped_of, Happens}
+use Rattle.pg_node.specs.States.{names_of, state_of, answers_of, stamped_of, Happens, Comes}
 use Rattle.pg_run.specs.declared.linked.LinkedNode.{LinkedNode}
-use Rattle.pg_run.specs.Acts.{Act, Standing, Leads, event_of, is_from}
+use Rattle.pg_run.specs.Acts.{Act, Standing, Leads, event_of, is_from, losses_of}
 use Rattle.pg_run.specs.Events.{IsRefusedAs, IsTold}
 use Rattle.pg_run.specs.Follows.{Follows, HaveMoved, node_of, peers_of, log_of, standing_of}
 use Rattle.pg_run.proofs.Moving.{act_moved, peers_kept, unmoved, link_there, link_else}
@@ -37,6 +37,15 @@ pub happened_by : (names : List Name) (told : Result TimedTurn Refusal) (done : 
     → ComesInRoom names told (Ok done) s before after → HappenedBy names told done s before after
 happened_by names (Ok turn) done s before after came = record { turn = turn; made = refl; happens = came }
 happened_by names (Err refusal) done s before after came = absurd (cc)
+
+-- where no room was made first it is no less
+pub in_room : (names : List Name) (told : Result TimedTurn Refusal) (fault : NodeFault) (s : Timed State) (before after : ℕ → List Answer)
+    → Comes names told (Err fault) s before after → ComesInRoom names told (Err fault) s before after
+in_room names told OutOfMemory s before after came = tt
+in_room names told (Refused other) s before after came = came
+in_room names told (Message other) s before after came = came
+in_room names told TooLong s before after came = came
+in_room names told Damaged s before after came = came
 
 pub refused_as : (names : List Name) (told : Result TimedTurn Refusal) (fault : NodeFault) (s : Timed State) (before after : ℕ → List Answer)
     → ComesInRoom names told (Err fault) s before after → IsRefusedAs told fault
@@ -133,7 +142,7 @@ module _ {T L I : Type 0} {g : Ghosts T} (accepts : L → List ℕ → L → Typ
       → names_of (held_by (node_of b)) ≡ names_of (held_by (node_of a)) → ports_of (held_by (node_of b)) ≡ ports_of (held_by (node_of a))
       → Leads (names_of (held_by (node_of a))) (ports_of (held_by (node_of a))) (standing_of (node_of a)) act (standing_of (node_of b))
       → log_of b ≡ log_of a ++ ((state_of (held_by (node_of b))).clock, event_of act.input) ∷ [] → peers_of b ≡ peers_of a
-      → ((place : ℕ) → (links_of (node_of b) place).outbox ≡ (links_of (node_of a) place).outbox ++ frames_to act.sends place)
+      → ((place : ℕ) → losses_of place (act ∷ []) ≡ [] → (links_of (node_of b) place).outbox ≡ (links_of (node_of a) place).outbox ++ frames_to act.sends place)
       → ((place : ℕ) → (links_of (node_of a) place).unread ≡ cond (is_from place act.input) act.came [] ++ (links_of (node_of b) place).unread)
       → Follows accepts gives (act ∷ []) a b
   acts_once a b act names ports leads log peers out came = record {
@@ -144,7 +153,7 @@ module _ {T L I : Type 0} {g : Ghosts T} (accepts : L → List ℕ → L → Typ
     moved = subst (λ ps. HaveMoved accepts gives (act ∷ []) (links_of (node_of a)) (links_of (node_of b)) (peers_of a) ps) (sym peers)
         (peers_kept accepts gives (act ∷ []) (links_of (node_of a)) (links_of (node_of b)) (peers_of a)
         (λ place other. act_moved accepts gives link_rests inlet_rests place act (links_of (node_of a) place) (links_of (node_of b) place) other
-        (out place ∙ ap (λ w. (links_of (node_of a) place).outbox ++ w) (sym (append-nil (frames_to act.sends place))))
+        (λ none. out place none ∙ ap (λ w. (links_of (node_of a) place).outbox ++ w) (sym (append-nil (frames_to act.sends place))))
         (came place ∙ ap (λ w. w ++ (links_of (node_of b) place).unread) (sym (append-nil (cond (is_from place act.input) act.came []))))));
   }
 

@@ -8,7 +8,7 @@ use Rattle.std.proofs.lemmas.Grind.{flat_map-append}
 use Rattle.pg_group.specs.Functions.{upd}
 use Rattle.pg_node.specs.Links.{Link, at_link, frames_to}
 use Rattle.pg_run.specs.declared.linked.Peer.{Peer}
-use Rattle.pg_run.specs.Acts.{Act, frames_sent, frames_taken, is_from}
+use Rattle.pg_run.specs.Acts.{Act, frames_sent, frames_taken, is_from, loss_of, losses_of}
 use Rattle.pg_run.specs.Follows.{HasMoved, HaveMoved}
 
 -- a link of a node where one changes
@@ -19,6 +19,25 @@ link_there k change links = ap (λ b. cond b (change (links k)) (links k)) (eq-e
 pub link_else : (k j : ℕ) (change : Link → Link) (links : ℕ → Link) → j ≢ k → at_link k change links j ≡ links j
 unfolding upd
 link_else k j change links n = ap (λ b. cond b (change (links k)) (links j)) (ne_eqb k j (λ e. n (sym e)))
+
+-- two lists of which nothing is one list
+pub nil_first : {A : Type 0} (xs ys : List A) → xs ++ ys ≡ [] → xs ≡ []
+nil_first [] ys none = refl
+nil_first (x ∷ xs) ys none = absurd (cc)
+
+pub nil_second : {A : Type 0} (xs ys : List A) → xs ++ ys ≡ [] → ys ≡ []
+nil_second [] ys none = none
+nil_second (x ∷ xs) ys none = absurd (cc)
+
+-- two stretches that saw no loss of the peer at a place are one
+pub losses_join : (place : ℕ) (first second : List Act) → losses_of place (first ++ second) ≡ losses_of place first ++ losses_of place second
+losses_join place first second = flat_map-append (λ (act : Act). loss_of place act.input) first second
+
+pub none_first : (place : ℕ) (first second : List Act) → losses_of place (first ++ second) ≡ [] → losses_of place first ≡ []
+none_first place first second none = nil_first (losses_of place first) (losses_of place second) (sym (losses_join place first second) ∙ none)
+
+pub none_second : (place : ℕ) (first second : List Act) → losses_of place (first ++ second) ≡ [] → losses_of place second ≡ []
+none_second place first second none = nil_second (losses_of place first) (losses_of place second) (sym (losses_join place first second) ∙ none)
 
 -- two equations of lists, one behind the other
 seam : (p b a f q c s : List ℕ) → p ++ b ≡ a ++ f → q ++ c ≡ b ++ s → (p ++ q) ++ c ≡ a ++ (f ++ s)
@@ -31,7 +50,7 @@ module _ {L I : Type 0} (accepts : L → List ℕ → L → Type 0) (gives : I �
   unmoved link_rests inlet_rests place bytes bytes2 peer out came = record {
     put = [];
     accepted = link_rests peer.link;
-    sent = out ∙ sym (append-nil bytes.outbox);
+    sent = λ none. out ∙ sym (append-nil bytes.outbox);
     given = [];
     gave = inlet_rests peer.inlet;
     taken = append-nil bytes.unread ∙ sym came;
@@ -44,7 +63,7 @@ module _ {L I : Type 0} (accepts : L → List ℕ → L → Type 0) (gives : I �
   put_moved inlet_rests place n bytes bytes2 peer peer2 accepted same out came = record {
     put = take n bytes.outbox;
     accepted = accepted;
-    sent = ap (λ w. take n bytes.outbox ++ w) out ∙ (take-append-drop n bytes.outbox ∙ sym (append-nil bytes.outbox));
+    sent = λ none. ap (λ w. take n bytes.outbox ++ w) out ∙ (take-append-drop n bytes.outbox ∙ sym (append-nil bytes.outbox));
     given = [];
     gave = subst (λ i. gives peer.inlet [] i) (sym same) (inlet_rests peer.inlet);
     taken = append-nil bytes.unread ∙ sym came;
@@ -57,15 +76,15 @@ module _ {L I : Type 0} (accepts : L → List ℕ → L → Type 0) (gives : I �
   pull_moved link_rests place piece bytes bytes2 peer peer2 gave same out came = record {
     put = [];
     accepted = subst (λ l. accepts peer.link [] l) (sym same) (link_rests peer.link);
-    sent = out ∙ sym (append-nil bytes.outbox);
+    sent = λ none. out ∙ sym (append-nil bytes.outbox);
     given = piece;
     gave = gave;
     taken = sym came;
   }
 
-  -- an act took a frame, or none, and sent frames
+  -- an act took a frame, or none, and sent frames, unless it saw a loss
   pub act_moved : (link_rests : (a : L) → accepts a [] a) (inlet_rests : (a : I) → gives a [] a) (place : ℕ) (act : Act) (bytes bytes2 : Link) (peer : Peer L I)
-      → bytes2.outbox ≡ bytes.outbox ++ frames_sent place (act ∷ []) → bytes.unread ≡ frames_taken place (act ∷ []) ++ bytes2.unread
+      → (losses_of place (act ∷ []) ≡ [] → bytes2.outbox ≡ bytes.outbox ++ frames_sent place (act ∷ [])) → bytes.unread ≡ frames_taken place (act ∷ []) ++ bytes2.unread
       → HasMoved accepts gives place (act ∷ []) bytes bytes2 peer peer
   act_moved link_rests inlet_rests place act bytes bytes2 peer out came = record {
     put = [];
@@ -114,7 +133,8 @@ module _ {L I : Type 0} (accepts : L → List ℕ → L → Type 0) (gives : I �
   moved_on link_composes inlet_composes place first second bytes bytes2 bytes3 peer peer2 peer3 h k = record {
     put = h.put ++ k.put;
     accepted = link_composes peer.link peer2.link peer3.link h.put k.put h.accepted k.accepted;
-    sent = seam h.put bytes2.outbox bytes.outbox (frames_sent place first) k.put bytes3.outbox (frames_sent place second) h.sent k.sent
+    sent = λ none. seam h.put bytes2.outbox bytes.outbox (frames_sent place first) k.put bytes3.outbox (frames_sent place second)
+        (h.sent (none_first place first second none)) (k.sent (none_second place first second none))
         ∙ ap (λ w. bytes.outbox ++ w) (sym (flat_map-append (λ (act : Act). frames_to act.sends place) first second));
     given = h.given ++ k.given;
     gave = inlet_composes peer.inlet peer2.inlet peer3.inlet h.given k.given h.gave k.gave;

@@ -44,7 +44,7 @@ module _ {L I : Type 0} (accepts : L → List ℕ → L → Type 0) (gives : I �
       (record {
         put = [];
         accepted = subst (λ l. accepts peer.link [] l) (sym same_link) (link_rests peer.link);
-        sent = (ap (λ (ls : ℕ → Link). (ls k).outbox) is) ∙ sym (append-nil (links k).outbox);
+        sent = λ none. (ap (λ (ls : ℕ → Link). (ls k).outbox) is) ∙ sym (append-nil (links k).outbox);
         given = [];
         gave = subst (λ i. gives peer.inlet [] i) (sym same_inlet) (inlet_rests peer.inlet);
         taken = append-nil (links k).unread ∙ sym (ap (λ (ls : ℕ → Link). (ls k).unread) is);

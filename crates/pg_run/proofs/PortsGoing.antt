@@ -1,12 +1,11 @@
 -- How ports go with their node, one stretch after another.
 use Rattle.std.proofs.Common.{◌≡◌, ◌≢◌, ◌<◌, ◌≤◌, ◌+◌, ◌∙◌, ◌⊎◌, ℕ, cond, get_or, take, length, map, List, [], ◌∷◌, ◌++◌, refl, sym, ap, subst, inl, inr, arith, append-nil, append_assoc, length-append}
-use Rattle.std.specs.Prelude.{slice_set, slice_get, nat_eq, Option, Some, None, Bool, true, false}
+use Rattle.std.specs.Prelude.{slice_set, slice_get, nat_eq, Option, Some, None}
 use Rattle.std.proofs.lemmas.Bool.{cases_eq, eq-eqb, ne_eqb}
 use Rattle.std.proofs.lemmas.Grind.{flat_map-append}
 use Rattle.std.proofs.lemmas.Option.{slice_get_within, get_or_from_slice_get}
 use Rattle.std.proofs.lemmas.List.{take_more, map-append, take-append-le, get_or-set_same, get_or-set_other, get_or_default, length-set}
 use Rattle.pg_group.specs.Functions.{upd}
-use Rattle.pg_machine.specs.Machine.{Taken, Own}
 use Rattle.pg_node.specs.States.{Gave}
 use Rattle.pg_opens.specs.Places.{name_at}
 use Rattle.pg_ring.specs.declared.slot_in.SlotIn.{SlotIn}
@@ -14,7 +13,7 @@ use Rattle.pg_ring.specs.declared.slot_out.SlotOut.{SlotOut}
 use Rattle.pg_ring.specs.Slots.{SameSlotIn, SameSlotOut}
 use Rattle.pg_run.specs.declared.port.Asked.{Asked}
 use Rattle.pg_run.specs.declared.port.Port.{Port}
-use Rattle.pg_run.specs.Acts.{Act, Given, Standing, AllLead}
+use Rattle.pg_run.specs.Acts.{Act, Standing, AllLead}
 use Rattle.pg_run.specs.Ports.{asked, handed, handed_count, kept_by, SamePort, HandedOver, Hands}
 use Rattle.pg_run.specs.Turns.{PortFollows, PortsFollow, commands_at, command_at, gave_at, answered_at, AreLater}
 use Rattle.pg_step.specs.declared.answer.Answer.{Answer}
@@ -28,7 +27,7 @@ use Rattle.pg_step.specs.State.{Response}
 pub same_port : (a : Port) → SamePort a a
 same_port a = (((refl, refl, refl, refl), refl), ((refl, refl, refl, refl), refl))
 
-slot_in_on : {T : Type 0} (a b c : SlotIn T) → SameSlotIn a b → SameSlotIn b c → SameSlotIn a c
+pub slot_in_on : {T : Type 0} (a b c : SlotIn T) → SameSlotIn a b → SameSlotIn b c → SameSlotIn a c
 slot_in_on a b c h k = ((k.0.0 ∙ h.0.0, k.0.1 ∙ h.0.1, k.0.2 ∙ h.0.2, k.0.3 ∙ h.0.3), k.1 ∙ h.1)
 
 slot_out_on : {T : Type 0} (a b c : SlotOut T) → SameSlotOut a b → SameSlotOut b c → SameSlotOut a c

@@ -1,11 +1,10 @@
 -- What a packet that is taken, and an action, make of a node with its links.
-use Rattle.std.proofs.Common.{◌≡◌, ◌≢◌, ◌<◌, ◌+◌, ◌∙◌, ◌⊎◌, ℕ, cond, take, length, List, [], ◌∷◌, ◌++◌, refl, sym, ap, subst, inl, inr}
-use Rattle.std.specs.Prelude.{if◌then◌else◌, nat_eq, Bool, true, false, Option, Some, None, Result, Ok, Err, IfErr}
+use Rattle.std.proofs.Common.{◌≡◌, ◌≢◌, ◌<◌, ◌+◌, ◌∙◌, ◌⊎◌, ℕ, cond, take, length, List, [], ◌∷◌, ◌++◌, refl, sym, ap, subst, inl, inr, append-nil}
+use Rattle.std.specs.Prelude.{if◌then◌else◌, max, nat_eq, nat_le, Bool, true, false, Option, Some, None, Result, Ok, Err, IfErr}
 use Rattle.std.proofs.lemmas.Bool.{cases_eq, eq-eqb, ne_eqb}
 use Rattle.pg_frame.specs.declared.fault.TooLong as frame
 use Rattle.pg_frame.specs.Frames.{front_of, after_front}
 use Rattle.pg_group.specs.declared.table.GroupTable.{Ghosts}
-use Rattle.pg_machine.specs.Machine.{Taken, Own}
 use Rattle.pg_message.specs.declared.fault.MessageFault.{MessageFault}
 use Rattle.pg_message.specs.declared.packet.Packet.{Packet}
 use Rattle.pg_message.specs.Reading.{packet_spelled}
@@ -13,23 +12,27 @@ use Rattle.pg_node.specs.declared.node.Node.{Node}
 use Rattle.pg_node.specs.declared.state.done.Done.{Done}
 use Rattle.pg_node.specs.declared.state.fault.NodeFault.{NodeFault}
 use Rattle.pg_node.specs.declared.state.fault.NodeFault.TheVariants.{Damaged}
-use Rattle.pg_node.specs.Bytes.{next_packet, packet_at, packet_in, passed}
+use Rattle.pg_node.specs.Bytes.{next_packet, packet_at, packet_in, passed, closed, is_drained}
 use Rattle.pg_node.specs.Issued.{ports_of}
-use Rattle.pg_node.specs.Links.{Link, at_link, frames_to, AreSmallFrames}
+use Rattle.pg_node.specs.Links.{Link, at_link, AreSmallFrames}
 use Rattle.pg_node.specs.Nodes.{held_by, links_of, sent_out, step_link, ComesInRoom}
 use Rattle.pg_node.specs.Sendable.{AreSendable}
-use Rattle.pg_node.specs.States.{names_of, nodes_of, kept_by, state_of, answers_of, stamped_of, Gave}
+use Rattle.pg_node.specs.States.{names_of, nodes_of, kept_by, state_of, answers_of, stamped_of, step_see_loss, Gave, Comes}
 use Rattle.pg_opens.specs.Places.{name_at}
 use Rattle.pg_run.specs.declared.linked.LinkedNode.{LinkedNode}
-use Rattle.pg_run.specs.Acts.{Act, event_of, is_from}
+use Rattle.pg_run.specs.Acts.{Act, Took, Saw, Did, event_of, is_from}
 use Rattle.pg_node.specs.declared.state.NodeState.{NodeState}
-use Rattle.pg_run.specs.Events.{ActsOnce, IsOfPeer, TookNext, IsTold, told_of_peer}
+use Rattle.pg_run.specs.Events.{ActsOnce, IsOfPeer, TookNext, IsTold, told_of_peer, told_of_loss}
 use Rattle.pg_run.proofs.Following.{follows_on}
-use Rattle.pg_run.specs.Follows.{Follows, node_of, peers_of, log_of, standing_of}
-use Rattle.pg_run.proofs.Acting.{HappenedBy, happened_by, acts_once}
+use Rattle.pg_run.specs.Follows.{Follows, node_of, peers_of, log_of}
+use Rattle.pg_run.proofs.Acting.{happened_by, acts_once}
 use Rattle.pg_run.proofs.Fronts.{front_alone, front_alone_len, front_taken}
 use Rattle.pg_run.proofs.Moving.{link_there, link_else}
-use Rattle.pg_step.specs.Step.{Action, TimedTurn, step_take, step_act}
+use Rattle.pg_step.specs.declared.refusal.Refusal.{Refusal}
+use Rattle.pg_step.specs.declared.refusal.Refusal.TheVariants.{NodeLost, NotDrained, ClockFull}
+use Rattle.pg_step.specs.Losses.{see_loss}
+use Rattle.pg_step.specs.Step.{Action, TimedTurn, CLOCK_LIMIT, at_clock, step_take, step_act, timed}
+use Rattle.pg_step.specs.Turns.{NodeTurn}
 
 -- ---- the next packet of a link
 
@@ -80,6 +83,37 @@ taken_unread k links links2 body same front place = go (cases_eq place k)
         ∙ (ap (λ (l : Link). l.unread) (sym (link_else k place passed links2 n))
         ∙ ap (λ b. cond b (take (4 + length body) (links k).unread) [] ++ (at_link k passed links2 place).unread) (sym (ne_eqb k place (λ e. n (sym e)))))
 
+-- ---- the loss of a peer
+
+-- the turn is one that is in time
+in_time : (few : Bool) (t turn : TimedTurn) → cond few (Ok t) (Err ClockFull) ≡ Ok turn → t ≡ turn
+in_time true t turn made = cc
+in_time false t turn made = absurd (cc)
+
+-- the turn of a loss
+loss_turn : (lost : Bool) (clock : ℕ) (t : NodeTurn) (turn : TimedTurn) → timed clock (cond lost (Err NodeLost) (Ok t)) ≡ Ok turn → at_clock clock t ≡ turn
+loss_turn true clock t turn made = absurd (cc)
+loss_turn false clock t turn made = in_time (nat_le clock CLOCK_LIMIT) (at_clock clock t) turn made
+
+-- where nothing is left of the peer, and its loss was not seen
+not_refused : (lost drained : Bool) (r : Result TimedTurn Refusal) (turn : TimedTurn) → cond lost (Err NodeLost) (cond drained r (Err NotDrained)) ≡ Ok turn → r ≡ Ok turn
+not_refused true drained r turn made = absurd (cc)
+not_refused false true r turn made = made
+not_refused false false r turn made = absurd (cc)
+
+-- a peer of which no loss is seen is another than that of which one is
+another : (place peer last : ℕ) → cond (nat_eq peer place) (last ∷ []) [] ++ [] ≡ [] → place ≢ peer
+another place peer last none same =
+    let there : (last ∷ []) ++ [] ≡ [] = ap (λ b. cond b (last ∷ []) [] ++ []) (sym (eq-eqb peer place (sym same))) ∙ none in
+    absurd (cc)
+
+closed_unread : (k : ℕ) (links : ℕ → Link) (place : ℕ) → (at_link k closed links place).unread ≡ (links place).unread
+closed_unread k links place = go (cases_eq place k)
+  where
+    go : (place ≡ k) ⊎ (place ≢ k) → (at_link k closed links place).unread ≡ (links place).unread
+    go (inl e) = subst (λ j. (at_link k closed links j).unread ≡ (links j).unread) (sym e) (ap (λ (l : Link). l.unread) (link_there k closed links))
+    go (inr n) = ap (λ (l : Link). l.unread) (link_else k place closed links n)
+
 module _ {T L I : Type 0} {g : Ghosts T} (accepts : L → List ℕ → L → Type 0) (gives : I → List ℕ → I → Type 0)
     (link_rests : (a : L) → accepts a [] a) (inlet_rests : (a : I) → gives a [] a) where
   abbrev Gives : LinkedNode T L I g → TimedTurn → Node T g → Type 0
@@ -93,7 +127,7 @@ module _ {T L I : Type 0} {g : Ghosts T} (accepts : L → List ℕ → L → Typ
       → AreSendable (names_of (held_by (node_of a))) done.sends.items → AreSmallFrames done.sends.items
       → ((place : ℕ) → links_of m place ≡ at_link peer passed (sent_out done.sends.items (links_of (node_of a))) place)
       → names_of (held_by m) ≡ names_of (held_by (node_of a)) → ports_of (held_by m) ≡ ports_of (held_by (node_of a))
-      → node_of b ≡ m → log_of b ≡ log_of a ++ ((state_of (held_by m)).clock, event_of (Taken peer (stamped_of packet))) ∷ [] → peers_of b ≡ peers_of a
+      → node_of b ≡ m → log_of b ≡ log_of a ++ ((state_of (held_by m)).clock, event_of (Took peer (stamped_of packet))) ∷ [] → peers_of b ≡ peers_of a
       → ActsOnce accepts gives (IsOfPeer peer) a b
   take_acts a b m peer packet done there next came fits small sent names ports node log peers =
       let links = links_of (node_of a) in
@@ -101,7 +135,7 @@ module _ {T L I : Type 0} {g : Ghosts T} (accepts : L → List ℕ → L → Typ
       (step_take (nodes_of (held_by (node_of a))) (name_at (names_of (held_by (node_of a))) (peer + 1)) (stamped_of packet) (state_of (held_by (node_of a))))
       done (state_of (held_by m)) (answers_of (held_by (node_of a))) (answers_of (held_by m)) came in
       let is = next_is (links peer) packet next in
-      let act : Act = record { input = Taken peer (stamped_of packet); turn = happened.turn; sends = done.sends.items; came = take (4 + length is.body) (links peer).unread } in
+      let act : Act = record { input = Took peer (stamped_of packet); turn = happened.turn; sends = done.sends.items; came = take (4 + length is.body) (links peer).unread } in
       let held = ap held_by node in record {
         act = act;
         wanted = refl;
@@ -123,11 +157,11 @@ module _ {T L I : Type 0} {g : Ghosts T} (accepts : L → List ℕ → L → Typ
                 is = refl;
               };
             })
-            (log ∙ ap (λ (n : Node T g). log_of a ++ ((state_of (held_by n)).clock, event_of (Taken peer (stamped_of packet))) ∷ []) (sym node)) peers
-            (λ place. ap (λ (n : Node T g). (links_of n place).outbox) node ∙ (ap (λ (l : Link). l.outbox) (sent place) ∙ passed_outbox peer (sent_out done.sends.items links) place))
+            (log ∙ ap (λ (n : Node T g). log_of a ++ ((state_of (held_by n)).clock, event_of (Took peer (stamped_of packet))) ∷ []) (sym node)) peers
+            (λ place none. ap (λ (n : Node T g). (links_of n place).outbox) node ∙ (ap (λ (l : Link). l.outbox) (sent place) ∙ passed_outbox peer (sent_out done.sends.items links) place))
             (λ place. taken_unread peer links (sent_out done.sends.items links) is.body (λ other. refl) is.front place
-            ∙ (ap (λ (l : Link). cond (is_from place (Taken peer (stamped_of packet))) (take (4 + length is.body) (links peer).unread) [] ++ l.unread) (sym (sent place))
-            ∙ ap (λ (n : Node T g). cond (is_from place (Taken peer (stamped_of packet))) (take (4 + length is.body) (links peer).unread) [] ++ (links_of n place).unread) (sym node)));
+            ∙ (ap (λ (l : Link). cond (is_from place (Took peer (stamped_of packet))) (take (4 + length is.body) (links peer).unread) [] ++ l.unread) (sym (sent place))
+            ∙ ap (λ (n : Node T g). cond (is_from place (Took peer (stamped_of packet))) (take (4 + length is.body) (links peer).unread) [] ++ (links_of n place).unread) (sym node)));
       }
 
   -- an action was made, and that was logged
@@ -138,13 +172,13 @@ module _ {T L I : Type 0} {g : Ghosts T} (accepts : L → List ℕ → L → Typ
       → AreSendable (names_of (held_by (node_of a))) done.sends.items → AreSmallFrames done.sends.items
       → ((place : ℕ) → links_of m place ≡ sent_out done.sends.items (links_of (node_of a)) place)
       → names_of (held_by m) ≡ names_of (held_by (node_of a)) → ports_of (held_by m) ≡ ports_of (held_by (node_of a))
-      → node_of b ≡ m → log_of b ≡ log_of a ++ ((state_of (held_by m)).clock, event_of (Own action)) ∷ [] → peers_of b ≡ peers_of a
-      → ActsOnce accepts gives (λ input. input ≡ Own action) a b
+      → node_of b ≡ m → log_of b ≡ log_of a ++ ((state_of (held_by m)).clock, event_of (Did action)) ∷ [] → peers_of b ≡ peers_of a
+      → ActsOnce accepts gives (λ input. input ≡ Did action) a b
   action_acts a b m action done came fits small sent names ports node log peers =
       let happened = happened_by (names_of (held_by (node_of a)))
       (step_act (nodes_of (held_by (node_of a))) (ports_of (held_by (node_of a))) action (state_of (held_by (node_of a))))
       done (state_of (held_by m)) (answers_of (held_by (node_of a))) (answers_of (held_by m)) came in
-      let act : Act = record { input = Own action; turn = happened.turn; sends = done.sends.items; came = [] } in
+      let act : Act = record { input = Did action; turn = happened.turn; sends = done.sends.items; came = [] } in
       let held = ap held_by node in record {
         act = act;
         wanted = refl;
@@ -159,9 +193,45 @@ module _ {T L I : Type 0} {g : Ghosts T} (accepts : L → List ℕ → L → Typ
               small = small;
               came = refl;
             })
-            (log ∙ ap (λ (n : Node T g). log_of a ++ ((state_of (held_by n)).clock, event_of (Own action)) ∷ []) (sym node)) peers
-            (λ place. ap (λ (n : Node T g). (links_of n place).outbox) node ∙ ap (λ (l : Link). l.outbox) (sent place))
+            (log ∙ ap (λ (n : Node T g). log_of a ++ ((state_of (held_by n)).clock, event_of (Did action)) ∷ []) (sym node)) peers
+            (λ place none. ap (λ (n : Node T g). (links_of n place).outbox) node ∙ ap (λ (l : Link). l.outbox) (sent place))
             (λ place. ap (λ (l : Link). l.unread) (sym (sent place)) ∙ ap (λ (n : Node T g). (links_of n place).unread) (sym node));
+      }
+
+  -- the loss of a peer was seen, and that was logged
+  pub loss_acts : (a b : LinkedNode T L I g) (m : Node T g) (peer last : ℕ) (done : Done) → peer + 1 < length (names_of (held_by (node_of a)))
+      → Comes (names_of (held_by (node_of a))) (told_of_loss (node_of a) peer last) (Ok done) (state_of (held_by m)) (answers_of (held_by (node_of a))) (answers_of (held_by m))
+      → links_of m ≡ at_link peer closed (links_of (node_of a))
+      → names_of (held_by m) ≡ names_of (held_by (node_of a)) → ports_of (held_by m) ≡ ports_of (held_by (node_of a))
+      → node_of b ≡ m → log_of b ≡ log_of a ++ ((state_of (held_by m)).clock, event_of (Saw peer last)) ∷ [] → peers_of b ≡ peers_of a
+      → ActsOnce accepts gives (λ input. input ≡ Saw peer last) a b
+  loss_acts a b m peer last done there came shut names ports node log peers =
+      let links = links_of (node_of a) in
+      let s = state_of (held_by (node_of a)) in
+      let p = name_at (names_of (held_by (node_of a))) (peer + 1) in
+      let happened = happened_by (names_of (held_by (node_of a))) (told_of_loss (node_of a) peer last) done (state_of (held_by m)) (answers_of (held_by (node_of a))) (answers_of (held_by m)) came in
+      let made : step_see_loss p last s ≡ Ok happened.turn = not_refused (s.state.lost p) (is_drained (links peer)) (step_see_loss p last s) happened.turn happened.made in
+      let is : at_clock (max s.clock last + 1) (see_loss p s.state) ≡ happened.turn = loss_turn (s.state.lost p) (max s.clock last + 1) (see_loss p s.state) happened.turn made in
+      let act : Act = record { input = Saw peer last; turn = happened.turn; sends = []; came = [] } in
+      let held = ap held_by node in record {
+        act = act;
+        wanted = refl;
+        follows = acts_once accepts gives link_rests inlet_rests a b act (ap names_of held ∙ names) (ap ports_of held ∙ ports)
+            (record {
+              there = there;
+              made = made;
+              state = ap state_of held ∙ happened.happens.state;
+              answers = subst (λ (n : Node T g). Gives a happened.turn n) (sym node) happened.happens.answers;
+              sends = ap (λ (t : TimedTurn). t.sends) is;
+              fits = record { each = tt; apart = tt };
+              small = tt;
+              came = refl;
+            })
+            (log ∙ ap (λ (n : Node T g). log_of a ++ ((state_of (held_by n)).clock, event_of (Saw peer last)) ∷ []) (sym node)) peers
+            (λ place none. ap (λ (n : Node T g). (links_of n place).outbox) node
+            ∙ (ap (λ (ls : ℕ → Link). (ls place).outbox) shut
+            ∙ (ap (λ (l : Link). l.outbox) (link_else peer place closed links (another place peer last none)) ∙ sym (append-nil (links place).outbox))))
+            (λ place. sym (ap (λ (n : Node T g). (links_of n place).unread) node ∙ (ap (λ (ls : ℕ → Link). (ls place).unread) shut ∙ closed_unread peer links place)));
       }
 
   -- what came of it, behind a stretch in which nothing happened

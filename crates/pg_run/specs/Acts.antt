@@ -3,15 +3,15 @@ use Rattle.std.specs.Prelude.{◌≡◌, ℕ, ◌+◌, ◌<◌, Bool, false, con
 use Rattle.std.specs.List.{flat_map}
 use Rattle.pg_frame.specs.Frames.{front_of}
 use Rattle.pg_machine.specs.Clocked.{Timed, Stamped}
-use Rattle.pg_machine.specs.Machine.{Input, Taken, Own}
 use Rattle.pg_message.specs.declared.message.Message.{Message}
 use Rattle.pg_message.specs.declared.packet.Packet.{Packet}
 use Rattle.pg_message.specs.Reading.{packet_spelled}
 use Rattle.pg_node.specs.Links.{frames_to, AreSmallFrames}
 use Rattle.pg_node.specs.Sendable.{AreSendable}
-use Rattle.pg_node.specs.States.{stamped_of, sends_in, Gave}
+use Rattle.pg_node.specs.States.{stamped_of, sends_in, step_see_loss, Gave}
 use Rattle.pg_opens.specs.Places.{name_at, whole_in}
 use Rattle.pg_run.specs.declared.log.NodeEvent.{NodeEvent}
+use Rattle.pg_run.specs.declared.notices.Notice.{Notice}
 use Rattle.pg_run.specs.declared.log.NodeEvent.TheVariants as events
 use Rattle.pg_step.specs.declared.answer.Answer.{Answer}
 use Rattle.pg_step.specs.declared.refusal.Refusal.{Refusal}
@@ -19,14 +19,18 @@ use Rattle.pg_step.specs.Nodes.{Node}
 use Rattle.pg_step.specs.State.{State}
 use Rattle.pg_step.specs.Step.{Action, Issue, Retry, TimedTurn, step_take, step_act}
 
--- what a node is given: a packet, by the place of the peer that sent it among the peers, or an action of its own
-abbrev pub Given : Type 0
-Given = Input (Stamped Message) Action
+-- what a node is given: a packet, by the place of the peer that sent it among the peers; the loss of the peer at a place, whose clock
+-- was this at last; or an action of its own
+pub data Given : Type 0 where
+  Took : (peer : ℕ) → Stamped Message → Given
+  Saw : (peer last : ℕ) → Given
+  Did : Action → Given
 
 -- the step of the node with these names, of which the own one is the first, and so many ports
 abbrev pub node_step : List Node → ℕ → Timed State → Given → Result TimedTurn Refusal
-node_step names ports s (Taken p x) = step_take (whole_in names) (name_at names (p + 1)) x s
-node_step names ports s (Own action) = step_act (whole_in names) ports action s
+node_step names ports s (Took p x) = step_take (whole_in names) (name_at names (p + 1)) x s
+node_step names ports s (Saw p last) = step_see_loss (name_at names (p + 1)) last s
+node_step names ports s (Did action) = step_act (whole_in names) ports action s
 
 -- what a node was given, the turn that its step made of it, the packets that it sent, by the places of the peers, and the bytes
 -- that it took out of what came in
@@ -45,15 +49,17 @@ pub record IsFrameOf (bytes : List ℕ) (x : Stamped Message) : Type 0 where
   pub spelled : packet_spelled body ≡ Ok packet
   pub is : stamped_of packet ≡ x
 
--- a packet was taken in its frame, and an action takes no bytes
+-- a packet was taken in its frame, and nothing else takes bytes
 abbrev pub Came : Given → List ℕ → Type 0
-Came (Taken p x) bytes = IsFrameOf bytes x
-Came (Own action) bytes = bytes ≡ []
+Came (Took p x) bytes = IsFrameOf bytes x
+Came (Saw p last) bytes = bytes ≡ []
+Came (Did action) bytes = bytes ≡ []
 
--- a packet is taken of a peer, by its place among the peers
+-- a packet is taken of a peer, and the loss of a peer is seen, by its place among the peers
 abbrev pub IsFromPeer : List Node → Given → Type 0
-IsFromPeer names (Taken p x) = p + 1 < length names
-IsFromPeer names (Own action) = Unit {0}
+IsFromPeer names (Took p x) = p + 1 < length names
+IsFromPeer names (Saw p last) = p + 1 < length names
+IsFromPeer names (Did action) = Unit {0}
 
 -- ---- one act after another
 
@@ -81,9 +87,10 @@ AllLead names ports a (act ∷ acts) b = (m : Standing) × Leads names ports a a
 -- ---- what a log keeps of them
 
 abbrev pub event_of : Given → NodeEvent
-event_of (Taken p x) = events.Take p
-event_of (Own (Issue port command)) = events.Command port command
-event_of (Own (Retry op)) = events.Retry op
+event_of (Took p x) = events.Take p
+event_of (Saw p last) = events.SeeLoss p
+event_of (Did (Issue port command)) = events.Command port command
+event_of (Did (Retry op)) = events.Retry op
 
 -- the clock that it set, and the event
 abbrev pub entry_of : Act → ℕ × NodeEvent
@@ -96,9 +103,35 @@ abbrev pub frames_sent : ℕ → List Act → List ℕ
 frames_sent place acts = flat_map (λ act. frames_to act.sends place) acts
 
 abbrev pub is_from : ℕ → Given → Bool
-is_from place (Taken p x) = nat_eq p place
-is_from place (Own action) = false
+is_from place (Took p x) = nat_eq p place
+is_from place (Saw p last) = false
+is_from place (Did action) = false
 
 -- the frames that were taken of the peer at a place
 abbrev pub frames_taken : ℕ → List Act → List ℕ
 frames_taken place acts = flat_map (λ act. cond (is_from place act.input) act.came []) acts
+
+-- ---- losses
+
+-- the last clock of the peer at a place, where its loss was seen
+abbrev pub loss_of : ℕ → Given → List ℕ
+loss_of place (Took p x) = []
+loss_of place (Saw p last) = cond (nat_eq p place) (last ∷ []) []
+loss_of place (Did action) = []
+
+abbrev pub losses_of : ℕ → List Act → List ℕ
+losses_of place acts = flat_map (λ act. loss_of place act.input) acts
+
+-- the loss that was seen, as a notice tells it
+abbrev pub seen_in : Given → List Notice
+seen_in (Took p x) = []
+seen_in (Saw p last) = record { peer = p; last = last } ∷ []
+seen_in (Did action) = []
+
+-- the losses that these acts saw, in their order
+abbrev pub seen_by : List Act → List Notice
+seen_by acts = flat_map (λ act. seen_in act.input) acts
+
+-- none of these acts saw a loss
+abbrev pub SawNone : List Act → Type 0
+SawNone acts = (place : ℕ) → losses_of place acts ≡ []

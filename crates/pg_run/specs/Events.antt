@@ -1,17 +1,16 @@
 -- What came of an event that a node with its links was to make.
 use Rattle.std.specs.Prelude.{◌≡◌, ◌+◌, ℕ, Bool, true, false, List, [], ◌∷◌, Option, Result, Ok, Err}
 use Rattle.pg_group.specs.declared.table.GroupTable.{Ghosts}
-use Rattle.pg_machine.specs.Machine.{Taken, Own}
 use Rattle.pg_node.specs.declared.node.Node.{Node}
 use Rattle.pg_node.specs.declared.state.fault.NodeFault.{NodeFault}
-use Rattle.pg_node.specs.declared.state.fault.NodeFault.TheVariants.{Refused, OutOfMemory, TooLong, Message, Damaged}
+use Rattle.pg_node.specs.declared.state.fault.NodeFault.TheVariants.{Refused, OutOfMemory}
 use Rattle.pg_node.specs.Issued.{ports_of}
-use Rattle.pg_node.specs.Nodes.{held_by, links_of, step_link}
+use Rattle.pg_node.specs.Nodes.{held_by, links_of, step_link, step_lose}
 use Rattle.pg_node.specs.States.{names_of, nodes_of, state_of}
 use Rattle.pg_opens.specs.Places.{name_at}
 use Rattle.pg_run.specs.declared.linked.LinkedNode.{LinkedNode}
-use Rattle.pg_run.specs.Acts.{Act, Given}
-use Rattle.pg_run.specs.Follows.{Follows, node_of}
+use Rattle.pg_run.specs.Acts.{Act, Given, Took, Saw, Did}
+use Rattle.pg_run.specs.Follows.{Follows}
 use Rattle.pg_step.specs.declared.refusal.Refusal.{Refusal}
 use Rattle.pg_step.specs.Step.{Action, TimedTurn, step_act}
 
@@ -37,12 +36,17 @@ abbrev pub told_of_peer : {T : Type 0} {g : Ghosts T} → Node T g → ℕ → R
 told_of_peer node peer =
     step_link (nodes_of (held_by node)) (name_at (names_of (held_by node)) (peer + 1)) (links_of node peer) (state_of (held_by node))
 
+-- what the step tells of the loss of the peer at a place, whose clock was this at last
+abbrev pub told_of_loss : {T : Type 0} {g : Ghosts T} → Node T g → ℕ → ℕ → Result TimedTurn Refusal
+told_of_loss node peer last = step_lose (name_at (names_of (held_by node)) (peer + 1)) last (links_of node peer) (state_of (held_by node))
+
 -- ---- what happened
 
 -- a packet of the peer at a place
 abbrev pub IsOfPeer : ℕ → Given → Type 0
-IsOfPeer peer (Taken p x) = p ≡ peer
-IsOfPeer peer (Own action) = ⊥
+IsOfPeer peer (Took p x) = p ≡ peer
+IsOfPeer peer (Saw p last) = ⊥
+IsOfPeer peer (Did action) = ⊥
 
 module _ {T L I : Type 0} {g : Ghosts T} (accepts : L → List ℕ → L → Type 0) (gives : I → List ℕ → I → Type 0) where
   -- one act with such an input
@@ -57,7 +61,7 @@ module _ {T L I : Type 0} {g : Ghosts T} (accepts : L → List ℕ → L → Typ
   TookNext peer (Ok false) a b = Follows accepts gives [] a b
   TookNext peer (Err fault) a b = Follows accepts gives [] a b
 
-  -- the action was made, or nothing happened
-  abbrev pub Acted : {E : Type 0} → Action → Result (Unit {0}) E → LinkedNode T L I g → LinkedNode T L I g → Type 0
-  Acted action (Ok done) a b = ActsOnce (λ input. input ≡ Own action) a b
-  Acted action (Err fault) a b = Follows accepts gives [] a b
+  -- what was given led to an act, or nothing happened
+  abbrev pub Acted : {E : Type 0} → Given → Result (Unit {0}) E → LinkedNode T L I g → LinkedNode T L I g → Type 0
+  Acted given (Ok done) a b = ActsOnce (λ input. input ≡ given) a b
+  Acted given (Err fault) a b = Follows accepts gives [] a b

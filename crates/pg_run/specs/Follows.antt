@@ -1,5 +1,5 @@
 -- A node that follows from another by its events, and by the bytes that its links moved.
-use Rattle.std.specs.Prelude.{◌≡◌, ℕ, ◌<◌, get_or, length, map, List, ◌++◌}
+use Rattle.std.specs.Prelude.{◌≡◌, ℕ, ◌<◌, get_or, length, map, List, [], ◌++◌}
 use Rattle.pg_group.specs.declared.table.GroupTable.{Ghosts}
 use Rattle.pg_node.specs.declared.node.Node.{Node}
 use Rattle.pg_node.specs.Issued.{ports_of}
@@ -9,7 +9,7 @@ use Rattle.pg_node.specs.States.{names_of, state_of, answers_of}
 use Rattle.pg_run.specs.declared.log.NodeEvent.{NodeEvent}
 use Rattle.pg_run.specs.declared.linked.LinkedNode.{LinkedNode}
 use Rattle.pg_run.specs.declared.linked.Peer.{Peer}
-use Rattle.pg_run.specs.Acts.{Act, Standing, AllLead, entry_of, frames_sent, frames_taken}
+use Rattle.pg_run.specs.Acts.{Act, Standing, AllLead, entry_of, frames_sent, frames_taken, losses_of}
 
 -- ---- a node as it is seen
 
@@ -31,12 +31,12 @@ standing_of node = record { state = state_of (held_by node); answers = answers_o
 
 module _ {L I : Type 0} (accepts : L → List ℕ → L → Type 0) (gives : I → List ℕ → I → Type 0) where
   -- What the links of a node to the peer at a place have moved in the course of these acts: what the link took in, and then what
-  -- waits, is what waited, and then the frames that the acts sent there; what was unread, and then what the inlet gave, is the
-  -- frames that the acts took from there, and then what is unread.
+  -- waits, is what waited, and then the frames that the acts sent there, unless they saw its loss, by which what waits is dropped;
+  -- what was unread, and then what the inlet gave, is the frames that the acts took from there, and then what is unread.
   pub record HasMoved (place : ℕ) (acts : List Act) (bytes bytes2 : Link) (peer peer2 : Peer L I) : Type 0 where
     pub put : List ℕ
     pub accepted : accepts peer.link put peer2.link
-    pub sent : put ++ bytes2.outbox ≡ bytes.outbox ++ frames_sent place acts
+    pub sent : losses_of place acts ≡ [] → put ++ bytes2.outbox ≡ bytes.outbox ++ frames_sent place acts
     pub given : List ℕ
     pub gave : gives peer.inlet given peer2.inlet
     pub taken : bytes.unread ++ given ≡ frames_taken place acts ++ bytes2.unread

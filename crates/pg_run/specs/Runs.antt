@@ -1,12 +1,16 @@
 -- What turns make of a node that runs.
 use Rattle.std.specs.Prelude.{◌≡◌, ◌⊎◌, ◌<◌, ℕ, List, [], ◌∷◌}
+use Rattle.pg_ring.specs.declared.slot_in.SlotIn.{SlotIn}
 use Rattle.pg_group.specs.declared.table.GroupTable.{Ghosts}
 use Rattle.pg_run.specs.declared.linked.LinkedNode.{LinkedNode}
+use Rattle.pg_run.specs.declared.notices.Notice.{Notice}
+use Rattle.pg_run.specs.declared.notices.Notices.{Notices}
 use Rattle.pg_run.specs.declared.port.Port.{Port}
 use Rattle.pg_run.specs.declared.run.NodeRun.{NodeRun}
 use Rattle.pg_run.specs.declared.run.Turned.{Turned}
 use Rattle.pg_run.specs.declared.run.Turned.TheVariants.{Whole, Short, Stopped}
-use Rattle.pg_run.specs.Turns.{Serves}
+use Rattle.pg_run.specs.Notices.{NoticesGo, inlet_of}
+use Rattle.pg_run.specs.Turns.{ServesSeeing}
 
 module _ {T L I K : Type 0} {g : Ghosts T} where
   -- the node with its links and its log
@@ -20,9 +24,18 @@ module _ {T L I K : Type 0} {g : Ghosts T} where
   abbrev pub stop_of : NodeRun T L I K g → I
   stop_of run = run.stop
 
-  -- turns led from the one to the other
-  abbrev pub Runs : (L → List ℕ → L → Type 0) → (I → List ℕ → I → Type 0) → NodeRun T L I K g → NodeRun T L I K g → Type 0
-  Runs accepts gives a b = Serves accepts gives (linked_of a) (ports_at a) (linked_of b) (ports_at b)
+  -- what it was told of losses, and where
+  abbrev pub notices_of : NodeRun T L I K g → Notices
+  notices_of run = run.notices
+
+  abbrev pub notices_at : NodeRun T L I K g → SlotIn Notice
+  notices_at run = inlet_of run.notices
+
+  -- Turns led from the one to the other. The losses that their acts saw are, in their order, the next of those that were told.
+  pub record Runs (accepts : L → List ℕ → L → Type 0) (gives : I → List ℕ → I → Type 0) (a b : NodeRun T L I K g) : Type 0 where
+    pub losses : List Notice
+    pub serves : ServesSeeing accepts gives losses (linked_of a) (ports_at a) (linked_of b) (ports_at b)
+    pub told : NoticesGo losses (notices_of a) (notices_of b)
 
 module _ {I : Type 0} (gives : I → List ℕ → I → Type 0) where
   -- a turn is stopped where a stop byte came, and else none did

@@ -1,15 +1,18 @@
 -- What the phases of a turn make of a node, its links and its ports.
-use Rattle.std.specs.Prelude.{◌≡◌, ◌≢◌, ℕ, ◌+◌, ◌<◌, ◌≤◌, cond, nat_eq, get_or, length, map, List, [], ◌∷◌, ◌++◌, Option, Some, None}
+use Rattle.std.specs.Prelude.{◌≡◌, ◌≢◌, ℕ, ◌+◌, ◌<◌, ◌≤◌, cond, nat_eq, get_or, length, map, List, [], ◌∷◌, ◌++◌, Option, Some, None, Bool, true, false, Result, Ok, Err}
 use Rattle.std.specs.List.{flat_map}
 use Rattle.pg_group.specs.declared.table.GroupTable.{Ghosts}
-use Rattle.pg_machine.specs.Machine.{Taken, Own}
+use Rattle.pg_node.specs.declared.state.fault.NodeFault.{NodeFault}
 use Rattle.pg_node.specs.Nodes.{held_by}
 use Rattle.pg_node.specs.States.{answers_of}
 use Rattle.pg_run.specs.declared.linked.LinkedNode.{LinkedNode}
 use Rattle.pg_run.specs.declared.port.Asked.{Asked}
 use Rattle.pg_run.specs.declared.port.Port.{Port}
-use Rattle.pg_run.specs.Acts.{Act, Given}
+use Rattle.pg_run.specs.declared.notices.Notice.{Notice}
+use Rattle.pg_run.specs.declared.notices.Notices.{Notices}
+use Rattle.pg_run.specs.Acts.{Act, Given, Took, Saw, Did, seen_by}
 use Rattle.pg_run.specs.Follows.{Follows, node_of}
+use Rattle.pg_run.specs.Notices.{NoticesGo}
 use Rattle.pg_run.specs.Ports.{asked, kept_by, SamePort, HandedOver}
 use Rattle.pg_step.specs.declared.answer.Answer.{Answer}
 use Rattle.pg_step.specs.declared.command.Command.{Command}
@@ -21,9 +24,10 @@ use Rattle.pg_step.specs.Step.{Issue, Retry}
 
 -- the command of an input, where it came in at the port at a place
 abbrev pub command_at : ℕ → Given → List Command
-command_at place (Taken p x) = []
-command_at place (Own (Issue port command)) = cond (nat_eq port place) (command ∷ []) []
-command_at place (Own (Retry op)) = []
+command_at place (Took p x) = []
+command_at place (Saw p last) = []
+command_at place (Did (Issue port command)) = cond (nat_eq port place) (command ∷ []) []
+command_at place (Did (Retry op)) = []
 
 -- the commands of these acts that came in at the port at a place
 abbrev pub commands_at : ℕ → List Act → List Command
@@ -71,17 +75,38 @@ pub record PortsFollow (acts : List Act) (answers answers2 : ℕ → List Answer
 -- ---- the node
 
 module _ {T L I : Type 0} {g : Ghosts T} (accepts : L → List ℕ → L → Type 0) (gives : I → List ℕ → I → Type 0) where
-  -- it came by acts, of which none is a command that came in
-  pub record GoesOn (a b : LinkedNode T L I g) : Type 0 where
+  -- it came by acts, of which none is a command that came in, and which saw these losses
+  pub record GoesOnSeeing (losses : List Notice) (a b : LinkedNode T L I g) : Type 0 where
     pub acts : List Act
     pub follows : Follows accepts gives acts a b
     pub quiet : (place : ℕ) → commands_at place acts ≡ []
+    pub seen : seen_by acts ≡ losses
 
-  -- it came by acts, and its ports with it
-  pub record Serves (a : LinkedNode T L I g) (ports : List Port) (b : LinkedNode T L I g) (ports2 : List Port) : Type 0 where
+  -- the same by acts that saw no loss
+  abbrev pub GoesOn : LinkedNode T L I g → LinkedNode T L I g → Type 0
+  GoesOn a b = GoesOnSeeing [] a b
+
+  -- the loss of which a notice tells was seen, or none
+  abbrev pub SeesOnce : Notice → Result Bool NodeFault → LinkedNode T L I g → LinkedNode T L I g → Type 0
+  SeesOnce notice (Ok true) a b = GoesOnSeeing (notice ∷ []) a b
+  SeesOnce notice (Ok false) a b = GoesOn a b
+  SeesOnce notice (Err fault) a b = GoesOn a b
+
+  -- it came by acts that saw losses of which it was told
+  pub record SeesTold (a : LinkedNode T L I g) (notices : Notices) (b : LinkedNode T L I g) (notices2 : Notices) : Type 0 where
+    pub losses : List Notice
+    pub going : GoesOnSeeing losses a b
+    pub told : NoticesGo losses notices notices2
+
+  -- it came by acts that saw these losses, and its ports with it
+  pub record ServesSeeing (losses : List Notice) (a : LinkedNode T L I g) (ports : List Port) (b : LinkedNode T L I g) (ports2 : List Port) : Type 0 where
     pub acts : List Act
     pub follows : Follows accepts gives acts a b
     pub served : PortsFollow acts (answers_of (held_by (node_of a))) (answers_of (held_by (node_of b))) ports ports2
+    pub seen : seen_by acts ≡ losses
+
+  abbrev pub Serves : LinkedNode T L I g → List Port → LinkedNode T L I g → List Port → Type 0
+  Serves a ports b ports2 = ServesSeeing [] a ports b ports2
 
   -- the same of the port at one place: no command came in at another
   pub record ServesPort (place : ℕ) (a : LinkedNode T L I g) (port : Port) (b : LinkedNode T L I g) (port2 : Port) : Type 0 where
@@ -89,3 +114,4 @@ module _ {T L I : Type 0} {g : Ghosts T} (accepts : L → List ℕ → L → Typ
     pub follows : Follows accepts gives acts a b
     pub served : PortFollows place acts (answers_of (held_by (node_of a)) place) (answers_of (held_by (node_of b)) place) port port2
     pub quiet : (other : ℕ) → other ≢ place → commands_at other acts ≡ []
+    pub seen : seen_by acts ≡ []

@@ -17,7 +17,8 @@ impl<T: GroupTable + Drop, L: Link + Drop, I: Inlet + Drop> LinkedNode<T, L, I> 
     ghost use Rattle.pg_node.specs.Nodes.{held_by, links_of};
     ghost use Rattle.pg_node.specs.States.{names_of, kept_by, state_of};
     ghost use Rattle.pg_opens.specs.Places.{name_at};
-    ghost use Rattle.pg_run.specs.Events.{TookNext, Acted, IsTold, IsRefusedAs, told_of_peer, told_of_action};
+    ghost use Rattle.pg_run.specs.Acts.{Saw, Did};
+    ghost use Rattle.pg_run.specs.Events.{TookNext, Acted, IsTold, IsRefusedAs, told_of_peer, told_of_action, told_of_loss};
     ghost use Rattle.pg_run.specs.Follows.{node_of, peers_of, log_of};
     ghost use Rattle.pg_step.specs.Step.{Issue, Retry};
 
@@ -86,7 +87,7 @@ impl<T: GroupTable + Drop, L: Link + Drop, I: Inlet + Drop> LinkedNode<T, L, I> 
     /// `OutOfMemory` may be told in the place of each.
     pub fn command(&mut self, port: u16, command: Command) -> Result<(), (NodeFault, Command)>
         requires place { port < ports_of (held_by (node_of self.old)) }
-        ensures acted { Acted L.accepts I.gives (Issue port command) result self.old self.new }
+        ensures acted { Acted L.accepts I.gives (Did (Issue port command)) result self.old self.new }
         ensures fault { IfErr result (λ back. IsRefusedAs (told_of_action (node_of self.old) (Issue port command)) back.0) }
         ensures back { IfErr result (λ back. back.1 ≡ command) }
     {
@@ -109,7 +110,7 @@ impl<T: GroupTable + Drop, L: Link + Drop, I: Inlet + Drop> LinkedNode<T, L, I> 
     /// of each.
     pub fn retry(&mut self, op: OpId) -> Result<(), NodeFault>
         requires place { op.port < ports_of (held_by (node_of self.old)) }
-        ensures acted { Acted L.accepts I.gives (Retry op) result self.old self.new }
+        ensures acted { Acted L.accepts I.gives (Did (Retry op)) result self.old self.new }
         ensures fault { IfErr result (λ fault. IsRefusedAs (told_of_action (node_of self.old) (Retry op)) fault) }
     {
         if self.log.reserve(1).is_err() {
@@ -119,6 +120,29 @@ impl<T: GroupTable + Drop, L: Link + Drop, I: Inlet + Drop> LinkedNode<T, L, I> 
             Ok(done) => {
                 drop(done);
                 self.keep(NodeEvent::Retry(op));
+                Ok(())
+            }
+            Err(fault) => Err(fault),
+        }
+    }
+
+    /// Sees the loss of a peer, and logs that; what waits for it is dropped. `peer`: its place among the peers. `last`: its clock
+    /// at last. The place in the log is got first.
+    ///
+    /// Faults, by which nothing happens and nothing is logged: those of `Node::see_loss`; `OutOfMemory` may be told in the place
+    /// of each.
+    pub fn see_loss(&mut self, peer: usize, last: u32) -> Result<(), NodeFault>
+        requires place { peer < length (peers_of self.old) }
+        ensures acted { Acted L.accepts I.gives (Saw peer last) result self.old self.new }
+        ensures fault { IfErr result (IsRefusedAs (told_of_loss (node_of self.old) peer last)) }
+    {
+        if self.log.reserve(1).is_err() {
+            return Err(NodeFault::OutOfMemory);
+        }
+        match self.node.see_loss(peer, last) {
+            Ok(done) => {
+                drop(done);
+                self.keep(NodeEvent::SeeLoss(peer));
                 Ok(())
             }
             Err(fault) => Err(fault),

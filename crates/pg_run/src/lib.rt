@@ -4,7 +4,9 @@
 mod events;
 mod linked;
 mod log;
+mod losses;
 mod moves;
+mod notices;
 mod pauses;
 mod phases;
 mod port;
@@ -16,6 +18,7 @@ mod serving;
 
 pub use linked::{LinkedNode, Peer};
 pub use log::{LogEntry, NodeEvent};
+pub use notices::{NOTICE_PLACES, Notice};
 pub use port::{Asked, Client, PORT_PLACES, Port};
 pub use ports::{port_pair, ports_together};
 pub use run::{NodeRun, Turned};

@@ -11,6 +11,8 @@ pub enum NodeEvent {
     Command(u16, Command),
     /// It tried a command again that waited.
     Retry(OpId),
+    /// It saw the loss of the peer at this place among its peers.
+    SeeLoss(usize),
 }
 
 /// The clock that an event set, and the event.

@@ -9,7 +9,7 @@ use pg_ring::{Inlet, Link};
 use pg_step::Refusal;
 
 /// How many bytes are pulled of a peer in one turn at most.
-const PULL_LEN: usize = 4096;
+pub(crate) const PULL_LEN: usize = 4096;
 
 /// How a part of a turn went.
 #[derive(Clone, Copy, Debug, PartialEq, Eq)]

@@ -12,11 +12,12 @@ use pg_step::OpId;
 use rand_core::Rng;
 use std::alloc::AllocError;
 
-/// Each command that waits is tried where its pause is over.
+/// Each command that waits is tried where its pause is over, or at once.
 pub(crate) fn retry_all<T: GroupTable + Drop, L: Link + Drop, I: Inlet + Drop, K: Rng>(
     linked: &mut LinkedNode<T, L, I>,
     pauses: &mut Pauses,
     generator: &mut K,
+    at_once: bool,
 ) -> Phase
     ensures { GoesOn L.accepts I.gives linked.old linked.new }
 {
@@ -24,36 +25,41 @@ pub(crate) fn retry_all<T: GroupTable + Drop, L: Link + Drop, I: Inlet + Drop, K
         return Phase::idle();
     }
     match linked.node().state().waiting() {
-        Ok(ops) => retry_each(linked, pauses, generator, ops.as_slice()),
+        Ok(ops) => retry_each(linked, pauses, generator, at_once, ops.as_slice()),
         Err(AllocError) => Phase::of(false, Some(NodeFault::OutOfMemory)),
     }
 }
 
-/// Each of these commands, which wait, is tried where its pause is over.
+/// Each of these commands, which wait, is tried where its pause is over, or at once.
 fn retry_each<T: GroupTable + Drop, L: Link + Drop, I: Inlet + Drop, K: Rng>(
     linked: &mut LinkedNode<T, L, I>,
     pauses: &mut Pauses,
     generator: &mut K,
+    at_once: bool,
     ops: &[OpId],
 ) -> Phase
     ensures { GoesOn L.accepts I.gives linked.old linked.new }
 {
     let mut phase = Phase::idle();
     for op in ops {
-        phase = phase.and(retry_when_due(linked, pauses, generator, *op));
+        phase = phase.and(retry_when_due(linked, pauses, generator, at_once, *op));
     }
     phase
 }
 
-/// A command that waits is tried where its pause is over.
+/// A command that waits is tried where its pause is over, or at once.
 fn retry_when_due<T: GroupTable + Drop, L: Link + Drop, I: Inlet + Drop, K: Rng>(
     linked: &mut LinkedNode<T, L, I>,
     pauses: &mut Pauses,
     generator: &mut K,
+    at_once: bool,
     op: OpId,
 ) -> Phase
     ensures { GoesOn L.accepts I.gives linked.old linked.new }
 {
+    if at_once {
+        return retry_of(linked, pauses, op);
+    }
     match pauses.pass(op, generator) {
         Ok(true) => retry_of(linked, pauses, op),
         Ok(false) => Phase::idle(),

@@ -6,12 +6,14 @@ ghost use Rattle.pg_node.specs.Nodes.{held_by};
 ghost use Rattle.pg_run.specs.Follows.{node_of};
 
 use crate::linked::LinkedNode;
+use crate::losses::see_next;
+use crate::notices::{Notice, Notices};
 use crate::pauses::Pauses;
 use crate::port::Port;
 use crate::retries::retry_all;
 use crate::serving::{command_all, hand_all};
 use pg_group::GroupTable;
-use pg_ring::{Inlet, Link};
+use pg_ring::{Inlet, Link, SlotIn};
 use rand_core::Rng;
 use std::alloc::Global;
 
@@ -26,12 +28,13 @@ pub enum Turned {
     Stopped,
 }
 
-/// A node with its links and its log, its ports, where the stop byte comes, and the generator of its pauses.
+/// A node with its links and its log, its ports, where the stop byte and notices of losses come, and the generator of its pauses.
 #[derive(Drop)]
 pub struct NodeRun<T: GroupTable, L: Drop, I: Drop, K: Drop> {
     pub(crate) linked: LinkedNode<T, L, I>,
     pub(crate) ports: Vec<Port>,
     pub(crate) stop: I,
+    pub(crate) notices: Notices,
     generator: K,
     pauses: Pauses,
     // Something moved or happened in the last turn.
@@ -41,7 +44,9 @@ pub struct NodeRun<T: GroupTable, L: Drop, I: Drop, K: Drop> {
 }
 
 impl<T: GroupTable + Drop, L: Link + Drop, I: Inlet + Drop, K: Rng + Drop> NodeRun<T, L, I, K> {
-    ghost use Rattle.pg_run.specs.Runs.{linked_of, ports_at, stop_of, Runs, TurnedTo};
+    ghost use Rattle.std.specs.Prelude.{[]};
+    ghost use Rattle.pg_run.specs.Notices.{kept_of};
+    ghost use Rattle.pg_run.specs.Runs.{linked_of, ports_at, stop_of, notices_at, notices_of, Runs, TurnedTo};
 
     /// A node that has made no turn. It takes no memory.
     pub fn new(
@@ -49,17 +54,21 @@ impl<T: GroupTable + Drop, L: Link + Drop, I: Inlet + Drop, K: Rng + Drop> NodeR
         linked: LinkedNode<T, L, I>,
         ports: Vec<Port>,
         stop: I,
+        notices: SlotIn<Notice>,
         generator: K,
     ) -> NodeRun<T, L, I, K>
         requires { length ports.items ≡ ports_of (held_by (node_of linked)) }
         ensures linked { linked_of result ≡ linked }
         ensures ports { ports_at result ≡ ports.items }
         ensures stop { stop_of result ≡ stop }
+        ensures notices { notices_at result ≡ notices }
+        ensures kept { kept_of (notices_of result) ≡ [] }
     {
         NodeRun {
             linked,
             ports,
             stop,
+            notices: Notices::new(notices),
             generator,
             pauses: Pauses::new(alloc),
             busy: false,
@@ -67,23 +76,31 @@ impl<T: GroupTable + Drop, L: Link + Drop, I: Inlet + Drop, K: Rng + Drop> NodeR
         }
     }
 
+    /// The node with its links and its log. It takes no memory.
+    pub fn linked(&self) -> &LinkedNode<T, L, I>
+        ensures { result.now ≡ linked_of self.now }
+    {
+        &self.linked
+    }
+
     /// Whether something moved or happened in the last turn. It takes no memory.
     pub fn is_busy(&self) -> bool {
         self.busy
     }
 
-    /// The node with its links and its log, its ports, and where the stop byte comes.
-    pub fn into_parts(self) -> (LinkedNode<T, L, I>, Vec<Port>, I)
+    /// The node with its links and its log, its ports, and where the stop byte and the notices come.
+    pub fn into_parts(self) -> (LinkedNode<T, L, I>, Vec<Port>, I, SlotIn<Notice>)
         ensures linked { result.0 ≡ linked_of self }
         ensures ports { result.1.items ≡ ports_at self }
         ensures stop { result.2 ≡ stop_of self }
+        ensures notices { result.3 ≡ notices_at self }
     {
-        (self.linked, self.ports, self.stop)
+        (self.linked, self.ports, self.stop, self.notices.inlet)
     }
 
-    /// One turn: a look for the stop byte; of each peer up to 4,096 bytes come in, and the next packet is taken; each port gives
-    /// a command at most; each command that waits is tried where its pause is over; what goes out is put; answers are handed
-    /// over.
+    /// One turn: a look for the stop byte; of each peer up to 4,096 bytes come in, and the next packet is taken; the loss of which
+    /// a notice tells is seen, once all that came of the lost peer is taken; each port gives a command at most; each command that
+    /// waits is tried where its pause is over, or at once where a loss was seen; what goes out is put; answers are handed over.
     pub fn turn(&mut self) -> Turned
         ensures runs { Runs L.accepts I.gives self.old self.new }
         ensures stop { TurnedTo I.gives (stop_of self.old) result (stop_of self.new) }
@@ -93,11 +110,22 @@ impl<T: GroupTable + Drop, L: Link + Drop, I: Inlet + Drop, K: Rng + Drop> NodeR
             return Turned::Stopped;
         }
         let took = self.linked.take_all();
+        let saw = see_next(&mut self.linked, &mut self.notices);
         let commanded = command_all(&mut self.linked, &mut self.ports);
-        let retried = retry_all(&mut self.linked, &mut self.pauses, &mut self.generator);
+        let retried = retry_all(
+            &mut self.linked,
+            &mut self.pauses,
+            &mut self.generator,
+            saw.busy,
+        );
         let put = self.linked.put_all();
         let handed = hand_all(self.alloc, &self.linked, &mut self.ports, &mut self.pauses);
-        let phase = took.and(commanded).and(retried).and(put).and(handed);
+        let phase = took
+            .and(saw)
+            .and(commanded)
+            .and(retried)
+            .and(put)
+            .and(handed);
         self.busy = phase.busy;
         if phase.whole {
             Turned::Whole

@@ -7,11 +7,10 @@ use Rattle.pg_frame.specs.Laws.{PiecesContinue, WrittenIsRead}
 use Rattle.pg_message.specs.declared.message.Message.{Message}
 use Rattle.pg_message.specs.declared.packet.Packet.{Packet}
 use Rattle.pg_message.specs.Reading.{packet_spelled}
-use Rattle.pg_machine.specs.Machine.{Taken, Own}
 use Rattle.pg_machine.specs.Clocked.{Stamped}
 use Rattle.pg_joining.specs.Logs.{packet_from, taken_from}
 use Rattle.pg_node.specs.States.{stamped_of}
-use Rattle.pg_run.specs.Acts.{Act, Given, Came, IsFrameOf, Standing, AllLead, is_from, frames_taken}
+use Rattle.pg_run.specs.Acts.{Act, Given, Took, Saw, Did, Came, IsFrameOf, Standing, AllLead, is_from, frames_taken}
 use Rattle.pg_step.specs.Config.{Config}
 use Rattle.pg_step.specs.Nodes.{Node}
 use Rattle.pg_together.proofs.Sent.{frames_on, CanAllCross}
@@ -22,8 +21,9 @@ use Rattle.pg_world.proofs.Peering.{same_place}
 
 -- the packet of an input, where it is one of the peer at a place
 abbrev pub packet_of_peer : ℕ → Given → List (Stamped Message)
-packet_of_peer place (Taken p x) = cond (nat_eq p place) (x ∷ []) []
-packet_of_peer place (Own action) = []
+packet_of_peer place (Took p x) = cond (nat_eq p place) (x ∷ []) []
+packet_of_peer place (Saw p last) = []
+packet_of_peer place (Did action) = []
 
 -- the packets that were taken of the peer at a place
 abbrev pub packets_taken : ℕ → List Act → List (Stamped Message)
@@ -72,8 +72,9 @@ module _ (more : PiecesContinue) (read : WrittenIsRead) where
   -- what an act took of the peer at a place
   one_act : (place : ℕ) (input : Given) (came rest : List ℕ) (packets : List (Stamped Message)) → Came input came → CanAllCross packets
       → cond (is_from place input) came [] ++ rest ≡ frames_on packets → Leaves packets (packet_of_peer place input) rest
-  one_act place (Own action) came rest packets is can e = record { left = packets; are = refl; bytes_are = e }
-  one_act place (Taken p x) came rest packets is can e = go (nat_eq p place) e
+  one_act place (Saw p last) came rest packets is can e = record { left = packets; are = refl; bytes_are = e }
+  one_act place (Did action) came rest packets is can e = record { left = packets; are = refl; bytes_are = e }
+  one_act place (Took p x) came rest packets is can e = go (nat_eq p place) e
     where
       go : (b : Bool) → cond b came [] ++ rest ≡ frames_on packets → Leaves packets (cond b (x ∷ []) []) rest
       go true e = one_frame came rest x packets is can e
@@ -101,8 +102,9 @@ one_taken : (config : Config) (x y : ℕ) → x ≢ y → (act : Act) → packet
 one_taken config x y other act = go act.input
   where
     go : (input : Given) → packet_from x (input_at y input) ≡ packet_of_peer (peer_place y x) input
-    go (Taken p z) = ap (λ b. cond b (z ∷ []) []) (same_place y x p other)
-    go (Own action) = refl
+    go (Took p z) = ap (λ b. cond b (z ∷ []) []) (same_place y x p other)
+    go (Saw p last) = refl
+    go (Did action) = refl
 
 pub taken_alike : (config : Config) (x y : ℕ) → x ≢ y → (acts : List Act) → taken_from x (map (act_at config y) acts) ≡ packets_taken (peer_place y x) acts
 taken_alike config x y other [] = refl

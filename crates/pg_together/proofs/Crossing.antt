@@ -72,7 +72,7 @@ module _ {T : Type 0} {g : Ghosts T} (config : Config) (nodes : List (Node T g))
           seam (links_of (node_of (begun y)) (peer_place y x)).unread (links_of (node_of (begun x)) (peer_place x y)).outbox
               (frames_on ((frame_machine config).opening x y)) (frames_sent (peer_place x y) (ran.acts x)) (frames_taken (peer_place y x) (ran.acts y))
               unread2 to.given ring.left from.put outbox2
-              (opened config nodes begun ended ran x y pair) from.sent to.taken
+              (opened config nodes begun ended ran x y pair) (from.sent (ran.unseen x p.0 (peer_place x y))) to.taken
               (ap (λ w. w ++ ring.left) (sym given) ∙ (ring.sent ∙ put)),
         )
 

@@ -3,7 +3,7 @@ use Rattle.std.proofs.Common.{◌≡◌, ◌<◌, ◌∙◌, ℕ, length, map, L
 use Rattle.std.proofs.lemmas.Simd.{map-map}
 use Rattle.pg_frame.specs.Laws.{PiecesContinue, WrittenIsRead}
 use Rattle.pg_group.specs.declared.table.GroupTable.{Ghosts}
-use Rattle.pg_machine.specs.Machine.{Event, Taken, Own}
+use Rattle.pg_machine.specs.Machine.{Event}
 use Rattle.pg_machine.specs.Clocked.{Timed, plain}
 use Rattle.pg_history.specs.Headline.{OneHistory}
 use Rattle.pg_history.specs.History.{all_reported, answers_by}
@@ -14,7 +14,7 @@ use Rattle.pg_node.specs.declared.node.Node.{Node}
 use Rattle.pg_node.specs.Nodes.{held_by}
 use Rattle.pg_node.specs.States.{answers_of, state_of}
 use Rattle.pg_run.specs.declared.log.NodeEvent.{NodeEvent}
-use Rattle.pg_run.specs.Acts.{Act, Given, entry_of, event_of}
+use Rattle.pg_run.specs.Acts.{Act, Given, Took, Saw, Did, SawNone, entry_of, event_of}
 use Rattle.pg_run.specs.Follows.{log_of, node_of, standing_of}
 use Rattle.pg_step.specs.Config.{Config, name_at, nodes_at, ports_at}
 use Rattle.pg_step.specs.FrameMachine.{frame_machine}
@@ -25,22 +25,23 @@ use Rattle.pg_together.specs.Apart.{Linked, RanApart, RanTogether, event_at, eve
 use Rattle.pg_together.proofs.Answered.{answers_on, answers_reported, given_at}
 use Rattle.pg_together.proofs.Begun.{leads, shown}
 use Rattle.pg_together.proofs.Crossing.{first_taken, left_on}
-use Rattle.pg_together.proofs.Turns.{act_at, input_at, leads_alike, PlacedAct}
+use Rattle.pg_together.proofs.Turns.{act_at, first_none, input_at, leads_alike, others_none, saw_none, PlacedAct, SeesNone}
 use Rattle.pg_world.specs.Crossings.{node_of as seen_node}
 use Rattle.pg_world.specs.Worlds.{AreAnswers, ShowsNode}
 use Rattle.pg_world.proofs.Turning.{is_pair_so}
 
 -- ---- entries
 
-one_event : (i : ℕ) (input : Given) → event_at i (event_of input) ≡ machine_event i (input_at i input)
-one_event i (Taken p x) = refl
-one_event i (Own (Issue port command)) = refl
-one_event i (Own (Retry op)) = refl
+one_event : (i : ℕ) (input : Given) → SeesNone input → event_at i (event_of input) ≡ machine_event i (input_at i input)
+one_event i (Took p x) none = refl
+one_event i (Saw p last) none = saw_none p last none
+one_event i (Did (Issue port command)) none = refl
+one_event i (Did (Retry op)) none = refl
 
 -- the entries of acts are those of the machine's turns
-entries_alike : (config : Config) (i : ℕ) (acts : List Act) → seen_log (event_at i) (map entry_of acts) ≡ map (machine_entry i) (map (act_at config i) acts)
-entries_alike config i [] = refl
-entries_alike config i (act ∷ acts) = λ j. (act.turn.state.clock, one_event i act.input j) ∷ entries_alike config i acts j
+entries_alike : (config : Config) (i : ℕ) (acts : List Act) → SawNone acts → seen_log (event_at i) (map entry_of acts) ≡ map (machine_entry i) (map (act_at config i) acts)
+entries_alike config i [] none = refl
+entries_alike config i (act ∷ acts) none = λ j. (act.turn.state.clock, one_event i act.input (first_none act acts none) j) ∷ entries_alike config i acts (others_none act acts none) j
 
 -- what a log is seen as has its clocks
 clocks_alike : {E F : Type 0} (view : E → F) (log : List (ℕ × E)) → clocks_of (seen_log view log) ≡ clocks_of log
@@ -60,12 +61,12 @@ module _ {T : Type 0} {g : Ghosts T} (config : Config) (nodes : List (Node T g))
   entries_on : (i : ℕ) → i < length config → logs_on i ≡ map (machine_entry i) (acts_on i)
   entries_on i within =
       ap (seen_log (event_at i)) ((ran.follows i within).log ∙ ap (λ w. w ++ map entry_of (ran.acts i)) (ran.unlogged i within))
-      ∙ entries_alike config i (ran.acts i)
+      ∙ entries_alike config i (ran.acts i) (ran.unseen i within)
 
   runs_on : (i : ℕ) → i < length config → NodeLeads (frame_machine config) i ((frame_machine config).first i) (acts_on i) (ends_on i)
   runs_on i within =
       subst (λ s. NodeLeads (frame_machine config) i s (acts_on i) (ends_on i)) (sym (shown config nodes begun ended ran i within).state)
-      (leads_alike config i within (standing_of (node_of (begun i))) (ran.acts i) (standing_of (node_of (ended i))) (leads config nodes begun ended ran i within))
+      (leads_alike config i within (standing_of (node_of (begun i))) (ran.acts i) (standing_of (node_of (ended i))) (ran.unseen i within) (leads config nodes begun ended ran i within))
 
   pub are_logs : PiecesContinue → WrittenIsRead → AreLogs (frame_machine config) logs_on acts_on ends_on (left_on config nodes begun ended ran)
   are_logs more read = record {

@@ -18,17 +18,18 @@ use Rattle.pg_run.specs.declared.linked.LinkedNode.{LinkedNode}
 use Rattle.pg_run.specs.declared.linked.Peer.{Peer}
 use Rattle.pg_run.specs.declared.log.NodeEvent.{NodeEvent}
 use Rattle.pg_run.specs.declared.log.NodeEvent.TheVariants as events
-use Rattle.pg_run.specs.Acts.{Act}
+use Rattle.pg_run.specs.Acts.{Act, SawNone}
 use Rattle.pg_run.specs.Follows.{Follows, node_of, peers_of, log_of}
 use Rattle.pg_world.specs.Crossings.{ShowsBytes, idle_crossing, node_of as seen_node}
 use Rattle.pg_world.specs.Views.{no_account, peer_place, place_of_peer}
 use Rattle.pg_world.specs.Worlds.{TimedFrameWorld, ShowsNode}
 
--- the event of all nodes that an entry in the log of node i tells
+-- the event of all nodes that an entry in the log of node i tells; a loss is seen as the last notice of the peer is taken
 abbrev pub event_at : ℕ → NodeEvent → Event Action
 event_at i (events.Take peer) = Take i (place_of_peer i peer)
 event_at i (events.Command port command) = Do i (Issue port command)
 event_at i (events.Retry op) = Do i (Retry op)
+event_at i (events.SeeLoss peer) = Take i (place_of_peer i peer)
 
 -- the two ends at one node of the rings between it and another
 abbrev pub End : Type 0
@@ -51,8 +52,8 @@ module _ {T : Type 0} {g : Ghosts T} where
   abbrev pub end_of : Linked T g → ℕ → ℕ → End → End
   end_of node x y none = get_or (peers_of node) (peer_place x y) none
 
-  -- Each of these nodes of a configuration ran, by acts of its own and by what its links moved, from its start to its end, and what
-  -- crossed between each two of them is what was sent.
+  -- Each of these nodes of a configuration ran, by acts of its own, of which none saw a loss, and by what its links moved, from its
+  -- start to its end, and what crossed between each two of them is what was sent.
   pub record RanApart (config : Config) (nodes : List (Node T g)) (begun ended : ℕ → Linked T g) : Type 0 where
     pub starts : ShowsBytes config (idle_crossing nodes) no_account (start_of (frame_machine config))
     pub held : (i : ℕ) → i < length config → slice_get nodes i ≡ Some (node_of (begun i))
@@ -60,6 +61,7 @@ module _ {T : Type 0} {g : Ghosts T} where
     pub linked : (i : ℕ) → i < length config → length (peers_of (begun i)) + 1 ≡ length config
     pub acts : ℕ → List Act
     pub follows : (i : ℕ) → i < length config → Follows Sends Receives (acts i) (begun i) (ended i)
+    pub unseen : (i : ℕ) → i < length config → SawNone (acts i)
     pub crossed : (x y : ℕ) (none : End) → is_pair (length config) x y ≡ true
         → Crossed (end_of (begun x) x y none) (end_of (begun y) y x none) (end_of (ended x) x y none) (end_of (ended y) y x none)
 

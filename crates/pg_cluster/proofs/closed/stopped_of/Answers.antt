@@ -2,13 +2,16 @@ use Rattle.std.proofs.Common.{rules, arith, ◌≡◌, ◌∷◌, [], length, ma
 use Rattle.std.specs.Prelude.{vec_capacity}
 use Rattle.std.specs.Vec.Iter.{into_iter_items}
 use Rattle.std.proofs.lemmas.List.{length-map, map-append, nil_from_length}
+use Rattle.pg_ring.specs.Slots.{AreSlots}
 use Rattle.pg_run.specs.Follows.{node_of, peers_of, log_of}
+use Rattle.pg_run.specs.Runs.{notices_at}
 use Rattle.pg_run.specs.Ports.{ArePort, Meets}
 use Rattle.pg_cluster.specs.Clients.{AllPairs, ports_ended}
 use Rattle.pg_cluster.specs.Ended.{AreJoined, AllArrived}
-use Rattle.pg_cluster.specs.Threads.{node_in, row_in, log_in, rows_ended}
+use Rattle.pg_cluster.specs.Notices.{Untold}
+use Rattle.pg_cluster.specs.Threads.{node_in, row_in, log_in, rows_ended, notices_ended}
 use Rattle.pg_cluster.proofs.Opening.{ports_none_moved, ports_moved, ports_all_moved, room_for_one}
-use Rattle.pg_cluster.proofs.Starts.{all_of_it, none_moved, pushed_moves}
+use Rattle.pg_cluster.proofs.Starts.{all_of_it, all_moved, none_moved, pushed_moves}
 use Rattle.pg_cluster.proofs.closed.stopped_of.Goals as goal
 
 pub loop-ran-init : goal.loop-ran-init
@@ -21,7 +24,8 @@ loop-ran-init g c =
     let no_node : room.nodes.items ≡ [] = nil_from_length room.nodes.items (sym room.nodes.ok.0 ∙ has.nodes.0) in
     let no_row : room.rows.items ≡ [] = nil_from_length room.rows.items (sym room.rows.ok.0 ∙ has.rows.0) in
     let no_log : room.logs.items ≡ [] = nil_from_length room.logs.items (sym room.logs.ok.0 ∙ has.logs.0) in
-    let no_port : room.ports.items ≡ [] = nil_from_length room.ports.items (sym room.ports.ok.0 ∙ has.ports.0) in (
+    let no_port : room.ports.items ≡ [] = nil_from_length room.ports.items (sym room.ports.ok.0 ∙ has.ports.0) in
+    let no_notice : room.notices.items ≡ [] = nil_from_length room.notices.items (sym room.notices.ok.0 ∙ has.notices.0) in (
       tt,
       tt,
       search rules,
@@ -33,6 +37,8 @@ loop-ran-init g c =
       search rules,
       search rules,
       ports_none_moved room.ports.items left rans no_port same,
+      search rules,
+      none_moved (λ ran. notices_at ran.run) room.notices.items left rans no_notice same,
     )
 
 pub loop-ran-preserved : goal.loop-ran-preserved
@@ -68,6 +74,9 @@ loop-ran-preserved g c =
           let d = c.move_ports.ensures.capacity in
           omega arith),
       ports_moved ports.items ports2.items own ran rest old (ports_ended c.args.rans.items) items at step was.10,
+      search rules,
+      pushed_moves (λ ran. notices_at ran.run) c.loop-ran.notices.items c.push_reserved-in-loop-ran-3.new.self.items c.into_parts-linked.result.3 old rest ran _ c.push_reserved-in-loop-ran-3.ensures.items
+          c.into_parts-linked.ensures.notices step was.12,
     )
 
 pub settle_all-requires : goal.settle_all-requires
@@ -107,3 +116,17 @@ returns-clause-meets g c =
     let none : left.items ≡ [] = nil_from_length left.items (sym left.ok.0 ∙ c.in-None.ensures.steps.0) in
     let are : c.loop-ran.ports.items ≡ ports_ended c.args.rans.items = ports_all_moved c.loop-ran.ports.items left.items (ports_ended c.args.rans.items) none c.loop-ran.invariant.10 in
     subst (AllPairs Meets c.args.clients.items) are c.settle_ports.ensures.meets
+
+pub settle_notices-requires : goal.settle_notices-requires
+settle_notices-requires g c =
+    let left = c.loop-ran.ran-iterator.rest in
+    let none : left.items ≡ [] = nil_from_length left.items (sym left.ok.0 ∙ c.in-None.ensures.steps.0) in
+    let are : c.loop-ran.notices.items ≡ notices_ended c.args.rans.items = all_moved (λ ran. notices_at ran.run) c.loop-ran.notices.items left.items (notices_ended c.args.rans.items) none c.loop-ran.invariant.12 in
+    subst (AllPairs AreSlots c.args.tellers.items) (sym are) c.requires.notices
+
+pub returns-clause-untold : goal.returns-clause-untold
+returns-clause-untold g c =
+    let left = c.loop-ran.ran-iterator.rest in
+    let none : left.items ≡ [] = nil_from_length left.items (sym left.ok.0 ∙ c.in-None.ensures.steps.0) in
+    let are : c.loop-ran.notices.items ≡ notices_ended c.args.rans.items = all_moved (λ ran. notices_at ran.run) c.loop-ran.notices.items left.items (notices_ended c.args.rans.items) none c.loop-ran.invariant.12 in
+    subst (AllPairs Untold c.args.tellers.items) are c.settle_notices.ensures

@@ -1,5 +1,6 @@
-use Rattle.pg_cluster.specs.Clients.{SameClients}
+use Rattle.pg_cluster.specs.Clients.{AllPairs, SameClients}
+use Rattle.pg_cluster.specs.Conversations.{HasCounted}
 use Rattle.pg_cluster.proofs.conversation.speak_all.Given as goal
 
 abbrev pub invariant-loop-place : goal.invariant-loop-place
-invariant-loop-place l = SameClients l.fn.clients.items l.clients.items
+invariant-loop-place l = SameClients l.fn.clients.items l.clients.items × AllPairs HasCounted l.speakers.items l.clients.items

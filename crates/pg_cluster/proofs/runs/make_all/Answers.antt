@@ -24,6 +24,8 @@ loop-node-preserved g c =
           let size = was.5 in
           omega arith),
       added.clients was.6,
+      added.notices was.7,
+      added.untold was.8,
     )
 
 pub returns-clause-rows : goal.returns-clause-rows

@@ -2,6 +2,9 @@ use Rattle.std.proofs.Common.{◌≡◌, ◌+◌, ◌++◌, [], length, map}
 use Rattle.std.specs.List.{All}
 use Rattle.std.specs.Vec.Iter.{into_iter_items, into_iter_len}
 use Rattle.pg_cluster.specs.Clients.{AllPairs, IsOpen}
+use Rattle.pg_run.specs.Notices.{IsUntold}
+use Rattle.pg_run.specs.Runs.{notices_at, notices_of}
+use Rattle.pg_cluster.specs.Notices.{IsFresh}
 use Rattle.pg_cluster.specs.Threads.{node_in, row_in, log_in, ports_of_runs}
 use Rattle.pg_cluster.proofs.runs.make_all.Given as goal
 
@@ -14,3 +17,5 @@ invariant-loop-node g l =
     × All (λ run. log_in run ≡ []) l.made.runs.items
     × (length l.made.runs.items + into_iter_len l.node-iterator ≡ length l.fn.nodes.items)
     × AllPairs IsOpen l.made.clients.items (ports_of_runs l.made.runs.items)
+    × AllPairs IsFresh l.made.tellers.items (map notices_at l.made.runs.items)
+    × All (λ run. IsUntold (notices_of run)) l.made.runs.items

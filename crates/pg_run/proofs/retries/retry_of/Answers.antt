@@ -1,4 +1,4 @@
-use Rattle.pg_run.proofs.GoingOn.{goes_itself, goes_by_retry}
+use Rattle.pg_run.proofs.GoingOn.{goes_itself}
 use Rattle.pg_run.proofs.retries.retry_of.Goals as goal
 
 pub returns-then-from-port_count : goal.returns-then-from-port_count

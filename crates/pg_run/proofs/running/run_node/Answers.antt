@@ -1,12 +1,21 @@
-use Rattle.std.proofs.Common.{rules, arith, ◌≡◌, ◌≤◌, ◌<◌, ◌+◌, [], ◌∷◌, inl, inr}
-use Rattle.pg_run.proofs.GoingOn.{goes_itself, serves_going, serves_on}
+use Rattle.std.proofs.Common.{rules, arith, ◌≤◌, ◌+◌, [], ◌∷◌, refl, inl, inr}
+use Rattle.pg_run.proofs.GoingOn.{goes_itself, serves_going, runs_on, notices_stay}
 use Rattle.pg_run.proofs.running.run_node.Goals as goal
 use Rattle.pg_run.proofs.running.run_node.Goals.{in-Whole, in-Short, else-loop-turn-test, then-loop-turn-test+in-Stopped}
 
 pub loop-turn-init : goal.loop-turn-init
 loop-turn-init g c =
     let a = c.args.run.linked in
-    (serves_going g.L.Link.accepts g.I.Inlet.gives a a c.args.run.ports.items (goes_itself g.L.Link.accepts g.I.Inlet.gives g.met.L.Link.rests g.met.I.Inlet.rests a), search rules, search rules, g.met.I.Inlet.rests c.args.run.stop)
+    let n = c.args.run.notices in (
+      record {
+        losses = [];
+        serves = serves_going g.L.Link.accepts g.I.Inlet.gives a a c.args.run.ports.items (goes_itself g.L.Link.accepts g.I.Inlet.gives g.met.L.Link.rests g.met.I.Inlet.rests a);
+        told = notices_stay n n refl refl;
+      },
+      search rules,
+      search rules,
+      g.met.I.Inlet.rests c.args.run.stop,
+    )
 
 pub loop-turn-preserved : goal.loop-turn-preserved
 loop-turn-preserved g c =
@@ -16,7 +25,7 @@ loop-turn-preserved g c =
       | in-Short w ↦ rw w.in-Short.is at c.turn.ensures.stop
     ] in
     let short : c.match-turn.short ≤ c.loop-turn.turn + 1 = elim c.match-turn.branch [ in-Whole w ↦ omega arith | in-Short w ↦ omega arith ] in (
-      serves_on g.L.Link.accepts g.I.Inlet.gives g.met.L.Link.composes g.met.I.Inlet.composes c.args.run.linked c.loop-turn.run.linked c.turn.new.self.linked c.args.run.ports.items c.loop-turn.run.ports.items c.turn.new.self.ports.items was.0 c.turn.ensures.runs,
+      runs_on g.L.Link.accepts g.I.Inlet.gives g.met.L.Link.composes g.met.I.Inlet.composes c.args.run c.loop-turn.run c.turn.new.self was.0 c.turn.ensures.runs,
       search rules,
       short,
       g.met.I.Inlet.composes c.args.run.stop c.loop-turn.run.stop c.turn.new.self.stop [] [] was.3 none,
@@ -28,7 +37,7 @@ returns-clause-runs g c =
     elim c.loop-turn-test.branch [
       | else-loop-turn-test w ↦ rw w.run-is was.0
       | then-loop-turn-test+in-Stopped w ↦ rw w.run-is
-          (serves_on g.L.Link.accepts g.I.Inlet.gives g.met.L.Link.composes g.met.I.Inlet.composes c.args.run.linked c.loop-turn.run.linked w.turn.new.self.linked c.args.run.ports.items c.loop-turn.run.ports.items w.turn.new.self.ports.items was.0 w.turn.ensures.runs)
+          (runs_on g.L.Link.accepts g.I.Inlet.gives g.met.L.Link.composes g.met.I.Inlet.composes c.args.run c.loop-turn.run w.turn.new.self was.0 w.turn.ensures.runs)
     ]
 
 pub returns-clause-ended : goal.returns-clause-ended

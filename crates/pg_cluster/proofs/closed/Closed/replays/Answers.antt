@@ -1,11 +1,27 @@
-use Rattle.std.proofs.Common.{subst}
+use Rattle.std.proofs.Common.{◌≡◌, false, map, subst}
+use Rattle.std.specs.Prelude.{IfOk}
 use Rattle.pg_world.specs.Runs.{Ran, LosesNone, over_packets}
 use Rattle.pg_world.specs.Worlds.{Shows, view_of}
+use Rattle.pg_cluster.specs.Judges.{ran_out}
 use Rattle.pg_cluster.proofs.Judging.{replays_so}
+use Rattle.pg_cluster.proofs.OrderedOnce.{only_memory}
+use Rattle.pg_cluster.proofs.Replaying.{never_no, unbegun_so}
 use Rattle.pg_cluster.proofs.closed.Closed.replays.Goals as goal
 
 pub returns-in-Ok : goal.returns-in-Ok
 returns-in-Ok c =
     let given = c.args.config.now.starts.items in
-    let ran = subst (λ steps. LosesNone steps → Ran over_packets given steps c.in-Ok.numbers.items (λ config. Shows config (view_of c.in-Ok.world))) c.as_slice.ensures.value c.in-Ok.ensures.ran in
-    replays_so given c.args.self.now.schedule.items c.args.self.now.nodes.items c.in-Ok.world c.in-Ok.numbers.items c.is_shown.result ran c.is_shown.ensures
+    let nodes = c.args.self.now.nodes.items in
+    let schedule = c.args.self.now.schedule.items in
+    let numbers = c.in-Ok.numbers.items in
+    let told = c.is_shown.ensures in
+    let ran = subst (λ steps. LosesNone steps → Ran over_packets given steps numbers (λ config. Shows config (view_of c.in-Ok.world))) c.as_slice.ensures.value c.in-Ok.ensures.ran in
+    let made = subst (λ ns. IfOk c.is_shown.result (λ yes. ran_out ns ≡ false)) c.as_slice-in-Ok.ensures.value told.all_made in record {
+      one_run = never_no c.args.config.now.ring given nodes (map (λ v. v.items) c.args.self.now.logs.items) schedule (view_of c.in-Ok.world) numbers c.is_shown.result ran told.shown made;
+      replays = replays_so given schedule nodes c.in-Ok.world numbers c.is_shown.result ran told.shown;
+    }
+
+pub returns-in-Err-clause-one_run : goal.returns-in-Err-clause-one_run
+returns-in-Err-clause-one_run c =
+    unbegun_so c.args.config.now.ring c.args.config.now.starts.items c.args.self.now.nodes.items (map (λ v. v.items) c.args.self.now.logs.items) c.args.self.now.schedule.items c.in-Err.fault c.unbegun.result
+    (only_memory c.configs_are_decided.ensures c.args.config.now.ring c.args.config.now.starts.items c.in-Err.fault) c.in-Err.ensures.fault c.unbegun.ensures

@@ -1,17 +1,19 @@
-use Rattle.std.proofs.Common.{◌≡◌, ◌<◌, ◌≤◌, ℕ, ◌+◌, length, slice_index_or}
+use Rattle.std.proofs.Common.{◌≡◌, ◌≤◌, ◌+◌, ◌++◌, length, map, vec_len}
 use Rattle.std.specs.Prelude.{vec_capacity, drop}
 use Rattle.std.specs.Vec.Iter.{into_iter_items, into_iter_len}
-use Rattle.pg_cluster.specs.Promises.{RanAs}
-use Rattle.pg_cluster.specs.Threads.{begun_by, limit_of}
+use Rattle.pg_cluster.specs.Members.{is_lost, losses_in}
+use Rattle.pg_cluster.specs.Notices.{NobodyLost}
+use Rattle.pg_cluster.proofs.Starts.{GiveBack}
 use Rattle.pg_cluster.proofs.cluster.Cluster.close.Given as goal
 
-abbrev pub invariant-loop-thread : goal.invariant-loop-thread
-invariant-loop-thread g l =
-    (goal.iterator-loop-thread g).can_next l.thread-iterator
-    × (goal.iterator-loop-thread g).is_finite l.thread-iterator
-    × (length l.fn.self.threads.items ≤ vec_capacity l.rans)
-    × (length l.rans.items + into_iter_len l.thread-iterator ≡ length l.fn.self.threads.items)
-    × (into_iter_items l.thread-iterator ≡ drop (length l.rans.items) l.fn.self.threads.items)
-    × ((i : ℕ) (h : _) (d : _)
-    → i < length l.rans.items
-    → RanAs (begun_by (slice_index_or l.fn.self.threads.items i h)) (limit_of (slice_index_or l.fn.self.threads.items i h)) (slice_index_or l.rans.items i d))
+abbrev pub invariant-loop-member : goal.invariant-loop-member
+invariant-loop-member g l =
+    (goal.iterator-loop-member g).can_next l.member-iterator
+    × (goal.iterator-loop-member g).is_finite l.member-iterator
+    × (length l.fn.self.members.items ≤ vec_capacity l.rans)
+    × (length l.rans.items + into_iter_len l.member-iterator ≡ length l.fn.self.members.items)
+    × (into_iter_items l.member-iterator ≡ drop (length l.rans.items) l.fn.self.members.items)
+    × (NobodyLost (losses_in l.fn.self.members.items) → GiveBack l.fn.self.members.items l.rans.items)
+    × ∥ GiveBack l.fn.self.members.items l.rans.items ∥₁
+    × (vec_len l.lost + into_iter_len l.member-iterator ≤ vec_capacity l.lost)
+    × (l.lost.items ++ map is_lost (into_iter_items l.member-iterator) ≡ losses_in l.fn.self.members.items)

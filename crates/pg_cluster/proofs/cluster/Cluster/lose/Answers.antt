@@ -1,0 +1,40 @@
+use Rattle.std.proofs.Common.{rules, arith, ◌<◌, length, vec_len, sym, subst}
+use Rattle.std.proofs.lemmas.List.{length-map}
+use Rattle.pg_ring.specs.Slots.{AreSlots}
+use Rattle.pg_cluster.specs.Clients.{AllPairs, ports_begun}
+use Rattle.pg_cluster.specs.Ended.{AreWired}
+use Rattle.pg_cluster.specs.Members.{is_lost, losses_in}
+use Rattle.pg_cluster.specs.Notices.{NobodyLost}
+use Rattle.pg_cluster.specs.Room.{HasRoom}
+use Rattle.pg_cluster.specs.Threads.{rows_begun, notices_begun}
+use Rattle.pg_cluster.proofs.Holding.{losses_set, not_lost_again, threads_set}
+use Rattle.pg_cluster.proofs.Telling.{somebody_lost, tellers_later}
+use Rattle.pg_cluster.proofs.cluster.Cluster.lose.Goals as goal
+
+pub invariant_of-self : goal.invariant_of-self
+invariant_of-self g c =
+    let self = c.args.self.now in
+    let members = self.members.items in
+    let low : c.args.node < length members = search rules in
+    let threads = threads_set members c.args.node c.index_mut-member.result.now c.stop-last.new.self low c.index_mut-member.ensures.value c.stop-last.ensures.thread in
+    let losses = losses_set members c.args.node c.stop-last.new.self low c.stop-last.ensures.lost in record {
+      lost_fit = self.lost_fit;
+      rans_fit = self.rans_fit;
+      room_fits = subst (λ ts. HasRoom self.room (vec_len self.members) (length (ports_begun ts))) (sym threads) self.room_fits;
+      wired = subst (λ ts. AreWired (length ts) (rows_begun ts)) (sym threads) self.wired;
+      told = tellers_later self.tellers.items c.tell_all.new.tellers.items _ (subst (λ ts. AllPairs AreSlots self.tellers.items (notices_begun ts)) (sym threads) self.told) c.tell_all.ensures;
+      untold = λ nobody. somebody_lost (losses_in members) c.args.node (let n = length-map members is_lost in omega (arith, low, n)) (subst NobodyLost losses nobody);
+    }
+
+pub returns-clause-again : goal.returns-clause-again
+returns-clause-again g c = (
+  λ is. absurd (cc),
+  λ gone. absurd (not_lost_again c.args.self.now.members.items c.args.node c.index.result.now (search rules) c.index.ensures (let no = c.if-is_lost.false in let told = c.is_lost.ensures in cc) gone),
+)
+
+pub returns-clause-lost : goal.returns-clause-lost
+returns-clause-lost g c = losses_set c.args.self.now.members.items c.args.node c.stop-last.new.self (search rules) c.stop-last.ensures.lost
+
+pub returns-clause-threads : goal.returns-clause-threads
+returns-clause-threads g c =
+    threads_set c.args.self.now.members.items c.args.node c.index_mut-member.result.now c.stop-last.new.self (search rules) c.index_mut-member.ensures.value c.stop-last.ensures.thread

@@ -1,0 +1,19 @@
+-- What the nodes of a cluster are seen as.
+use Rattle.std.specs.Prelude.{Bool, List, is_none, map}
+use Rattle.pg_cluster.specs.declared.member.Member.{Member}
+use Rattle.pg_cluster.specs.Threads.{Thread, thread_or}
+
+module _ {K : Type 0} where
+  -- the thread of a node, as it was started
+  abbrev pub thread_of : Member K → Thread K
+  thread_of member = thread_or member.joined.value member.thread
+
+  abbrev pub threads_in : List (Member K) → List (Thread K)
+  threads_in members = map thread_of members
+
+  -- whether a node was lost
+  abbrev pub is_lost : Member K → Bool
+  is_lost member = is_none member.thread
+
+  abbrev pub losses_in : List (Member K) → List Bool
+  losses_in members = map is_lost members

@@ -1,0 +1,31 @@
+use Rattle.std.proofs.Common.{ap, refl, arith}
+use Rattle.pg_node.specs.Nodes.{held_by}
+use Rattle.pg_node.specs.States.{names_of, state_of, answers_of}
+use Rattle.pg_run.specs.Events.{told_of_loss}
+use Rattle.pg_run.proofs.Acting.{nothing_done, nothing_held, refused_as, in_room, log_after}
+use Rattle.pg_run.proofs.Taking.{loss_acts}
+use Rattle.pg_run.proofs.linked.LinkedNode.see_loss.Goals as goal
+
+pub returns-then-is_err-clause-acted : goal.returns-then-is_err-clause-acted
+returns-then-is_err-clause-acted g c =
+    nothing_held g.L.Link.accepts g.I.Inlet.gives g.met.L.Link.rests g.met.I.Inlet.rests c.args.self.now _ refl c.reserve.ensures.items refl (λ place. refl) (λ place. refl)
+
+pub returns-in-Ok-clause-acted : goal.returns-in-Ok-clause-acted
+returns-in-Ok-clause-acted g c =
+    loss_acts g.L.Link.accepts g.I.Inlet.gives g.met.L.Link.rests g.met.I.Inlet.rests c.args.self.now c.keep.new.self c.see_loss.new.self c.args.peer c.args.last _
+    (omega (arith, c.requires.place, c.args.self.now.linked)) c.in-Ok.ensures.event c.in-Ok.ensures.closed c.see_loss.ensures.names c.see_loss.ensures.ports c.keep.ensures.node
+    (log_after _ _ _ _ c.keep.ensures.log c.reserve.ensures.items) c.keep.ensures.peers
+
+pub returns-in-Err-clause-acted : goal.returns-in-Err-clause-acted
+returns-in-Err-clause-acted g c =
+    nothing_done g.L.Link.accepts g.I.Inlet.gives g.met.L.Link.rests g.met.I.Inlet.rests c.args.self.now _ c.see_loss.ensures.names c.see_loss.ensures.ports c.in-Err.ensures.err c.in-Err.ensures.err_answers c.reserve.ensures.items refl
+    (λ place. ap (λ ls. (ls place).outbox) c.in-Err.ensures.kept) (λ place. ap (λ ls. (ls place).unread) c.in-Err.ensures.kept)
+
+pub returns-in-Err-clause-fault : goal.returns-in-Err-clause-fault
+returns-in-Err-clause-fault g c =
+    let n = c.args.self.now.node in
+    let told = told_of_loss n c.args.peer c.args.last in
+    let s = state_of (held_by c.see_loss.new.self) in
+    let after = answers_of (held_by c.see_loss.new.self) in
+    refused_as (names_of (held_by n)) told c.in-Err.fault s (answers_of (held_by n)) after
+    (in_room (names_of (held_by n)) told c.in-Err.fault s (answers_of (held_by n)) after c.in-Err.ensures.event)
