@@ -1,57 +1,116 @@
 //! Answers: that they are copied where there is memory. The test passes wherever an allocation is refused.
 
-use crate::samples::{again, pid};
+use crate::samples::pid;
 use pg_step::{Answer, Reply};
 use pg_term::{Items, Pid, Term, TermFault};
-use std::alloc::Global;
+use std::alloc::{AllocError, Global};
+use std::process::Abort;
 use std::test::Fail;
 
-/// One answer of each kind, numbered from 0.
+/// One answer of each kind, numbered from 0, made a second time where memory was refused.
 fn answers(alloc: Global) -> Result<Vec<Answer>, TermFault> {
-    let mut pids: Vec<Pid> = Vec::new(alloc);
-    let mut names = Vec::new(alloc);
-    for id in 0..3 {
-        pids.push(pid(alloc, id)?)?;
-        names.push(Term::Int(i64::from(id)))?;
+    match answers_once(alloc) {
+        Ok(answers) => Ok(answers),
+        Err(_) => answers_once(alloc),
     }
+}
+
+fn answers_once(alloc: Global) -> Result<Vec<Answer>, TermFault> {
     let mut answers = Vec::new(alloc);
-    for (number, reply) in [
-        (0, Reply::Ok),
-        (1, Reply::Made(pid(alloc, 1)?)),
-        (2, Reply::Pids(Items::from_vec(pids))),
-        (3, Reply::Closest(pid(alloc, 2)?)),
-        (4, Reply::Groups(Items::from_vec(names))),
-        (5, Reply::NoSuchGroup(Term::Int(5))),
-        (6, Reply::NoProcess(Term::Int(6))),
-        (7, Reply::Refused(22)),
-    ] {
+    for number in 0..8 {
+        let reply = reply(alloc, number)?;
         answers.push(Answer { number, reply })?;
     }
     Ok(answers)
 }
 
+// The reply of the answer of this number.
+fn reply(alloc: Global, number: u32) -> Result<Reply, TermFault> {
+    match number {
+        0 => Ok(Reply::Ok),
+        1 => Ok(Reply::Made(pid(alloc, 1)?)),
+        2 => Ok(Reply::Pids(Items::from_vec(pids(alloc)?))),
+        3 => Ok(Reply::Closest(pid(alloc, 2)?)),
+        4 => Ok(Reply::Groups(Items::from_vec(names(alloc)?))),
+        5 => Ok(Reply::NoSuchGroup(Term::Int(5))),
+        6 => Ok(Reply::NoProcess(Term::Int(6))),
+        _ => Ok(Reply::Refused(22)),
+    }
+}
+
+fn pids(alloc: Global) -> Result<Vec<Pid>, TermFault> {
+    let mut pids = Vec::new(alloc);
+    for id in 0..3 {
+        pids.push(pid(alloc, id)?)?;
+    }
+    Ok(pids)
+}
+
+fn names(alloc: Global) -> Result<Vec<Term>, AllocError> {
+    let mut names = Vec::new(alloc);
+    for number in 0..3 {
+        names.push(Term::Int(number))?;
+    }
+    Ok(names)
+}
+
 #[test]
 fn answers_are_told_apart(rt: HostRuntime) -> Result<(), Fail> {
-    let answers = again(|| answers(rt.alloc()))?;
-    for (i, one) in answers.iter().enumerate() {
-        for (j, other) in answers.iter().enumerate() {
-            assert_eq!(rt; one == other, i == j, "{i} and {j}");
-            assert_eq!(rt; one.reply == other.reply, i == j, "{i} and {j}");
+    let answers = answers(rt.alloc())?;
+    for one in &answers {
+        for other in &answers {
+            is_told_apart(&rt, one, other);
         }
     }
     Ok(())
 }
 
+// Answers are equal where they have one number, and replies with them.
+fn is_told_apart(rt: &impl Abort, one: &Answer, other: &Answer) {
+    let same = one.number == other.number;
+    assert!(rt; (one == other) == same);
+    assert!(rt; (one.reply == other.reply) == same);
+}
+
 #[test]
 fn answers_are_copied(rt: HostRuntime) -> Result<(), Fail> {
-    let alloc = rt.alloc();
-    for answer in &again(|| answers(alloc))? {
-        let copy = again(|| answer.copy(alloc))?;
-        assert!(rt; copy == *answer);
-        assert_eq!(rt;
-            again(|| format!(in alloc; "{copy:?}"))?,
-            again(|| format!(in alloc; "{answer:?}"))?
-        );
+    let answers = answers(rt.alloc())?;
+    for answer in &answers {
+        is_copied(&rt, rt.alloc(), answer)?;
     }
     Ok(())
+}
+
+// The copy of an answer is equal, and shows the same.
+fn is_copied(rt: &impl Abort, alloc: Global, answer: &Answer) -> Result<(), AllocError> {
+    let copy = copied(alloc, answer)?;
+    assert!(rt; copy == *answer);
+    assert!(rt; show_alike(alloc, &copy, answer)?);
+    Ok(())
+}
+
+fn show_alike(alloc: Global, one: &Answer, other: &Answer) -> Result<bool, AllocError> {
+    let first = shown(alloc, one)?;
+    let second = shown(alloc, other)?;
+    Ok(first == second)
+}
+
+// A copy, made a second time where memory was refused.
+fn copied(alloc: Global, answer: &Answer) -> Result<Answer, AllocError> {
+    match answer.copy(alloc) {
+        Ok(copy) => Ok(copy),
+        Err(_) => answer.copy(alloc),
+    }
+}
+
+// What an answer shows for debugging, written a second time where memory was refused.
+fn shown(alloc: Global, answer: &Answer) -> Result<String, AllocError> {
+    match shown_once(alloc, answer) {
+        Ok(text) => Ok(text),
+        Err(_) => shown_once(alloc, answer),
+    }
+}
+
+fn shown_once(alloc: Global, answer: &Answer) -> Result<String, AllocError> {
+    format!(in alloc; "{answer:?}")
 }

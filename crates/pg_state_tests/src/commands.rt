@@ -9,6 +9,7 @@ use pg_opens::{Asked, Gathering, Opens, Outlook, Standing};
 use pg_step::OpId;
 use pg_term::{Atom, Term, TermFault};
 use std::alloc::Global;
+use std::process::Abort;
 use std::test::Fail;
 
 fn opens_of(alloc: Global, a: Atom, b: Atom, c: Atom) -> Result<Opens, TermFault>
@@ -42,14 +43,18 @@ fn op(number: u32) -> OpId {
 }
 
 // Opens the command of this number, which creates a group, and tells whether it did.
-fn opened(alloc: Global, opens: &mut Opens, number: u32) -> Result<bool, TermFault> {
-    let room = opens.reserve(alloc)?;
-    let id = op(number);
-    if opens.is_closed(id) {
-        opens.add(id, Update::Create(Term::Int(1)), room);
-        return Ok(true);
+fn opened(alloc: Global, opens: &mut Opens, number: u32) -> bool {
+    match opens.reserve(alloc) {
+        Ok(room) => {
+            let id = op(number);
+            if opens.is_closed(id) {
+                opens.add(id, Update::Create(Term::Int(1)), room);
+                return true;
+            }
+            false
+        }
+        Err(_) => false,
     }
-    Ok(false)
 }
 
 // Begins an attempt, which asks the node at this place first.
@@ -226,167 +231,215 @@ fn op_at(opens: &Opens, place: usize) -> Option<OpId> {
 // Of a, b and c the last is the greatest, until it is lost.
 #[test]
 fn new_greatest(rt: HostRuntime) -> Result<(), Fail> {
-    let alloc = rt.alloc();
-    let mut opens = opens_of_a(alloc)?;
-    let c = Atom::new(alloc, "c")?;
-    let d = Atom::new(alloc, "d")?;
-    assert!(rt; name_is(&opens, 2, &c));
-    assert!(rt; !name_is(&opens, 1, &c));
-    assert!(rt; opens.place_of_name(&c) == Some(2));
-    assert!(rt; opens.place_of_name(&d) == None);
-    assert!(rt; !is_lost(&opens, 2));
-    assert!(rt; is_left(&opens, 2));
-    assert!(rt; !is_left(&opens, 0));
-    assert!(rt; opens.greatest() == 2);
-    assert!(rt; lost(&mut opens, 2));
-    assert!(rt; is_lost(&opens, 2));
-    assert!(rt; !is_left(&opens, 2));
-    assert!(rt; is_left(&opens, 1));
-    assert!(rt; opens.place_of_name(&c) == Some(2));
-    assert!(rt; opens.greatest() == 1);
+    let mut opens = opens_of_a(rt.alloc())?;
+    let c = Atom::new(rt.alloc(), "c")?;
+    let d = Atom::new(rt.alloc(), "d")?;
+    check_places(&rt, &opens, &c, &d);
+    check_greatest(&rt, &mut opens, &c);
     Ok(())
+}
+
+fn check_places(rt: &impl Abort, opens: &Opens, c: &Atom, d: &Atom) {
+    assert!(rt; name_is(opens, 2, c));
+    assert!(rt; !name_is(opens, 1, c));
+    assert!(rt; opens.place_of_name(c) == Some(2));
+    assert!(rt; opens.place_of_name(d) == None);
+    assert!(rt; !is_lost(opens, 2));
+    assert!(rt; is_left(opens, 2));
+    assert!(rt; !is_left(opens, 0));
+    assert!(rt; opens.greatest() == 2);
+}
+
+fn check_greatest(rt: &impl Abort, opens: &mut Opens, c: &Atom) {
+    assert!(rt; lost(opens, 2));
+    assert!(rt; is_lost(opens, 2));
+    assert!(rt; !is_left(opens, 2));
+    assert!(rt; is_left(opens, 1));
+    assert!(rt; opens.place_of_name(c) == Some(2));
+    assert!(rt; opens.greatest() == 1);
 }
 
 // Who is asked: first c alone, then the others, of whom b is lost.
 #[test]
 fn asked_place_by_place(rt: HostRuntime) -> Result<(), Fail> {
-    let alloc = rt.alloc();
-    let mut opens = opens_of_a(alloc)?;
-    assert!(rt; opened(alloc, &mut opens, 1)?);
-    assert!(rt; started(&mut opens, 1, 2));
-    assert!(rt; is_asked_alone(&opens, 1, 2, 2));
-    assert!(rt; !is_asked_alone(&opens, 1, 2, 1));
-    assert!(rt; asked_one(&mut opens, 1, 2, true));
-    assert!(rt; !is_asked_with_all(&opens, 1, 2));
-    assert!(rt; is_asked_with_all(&opens, 1, 1));
-    assert!(rt; is_asked_with_all(&opens, 1, 0));
-    assert!(rt; lost(&mut opens, 1));
-    assert!(rt; !is_asked_with_all(&opens, 1, 1));
+    let mut opens = opens_of_a(rt.alloc())?;
+    check_asked(&rt, rt.alloc(), &mut opens);
     Ok(())
+}
+
+fn check_asked(rt: &impl Abort, alloc: Global, opens: &mut Opens) {
+    assert!(rt; opened(alloc, opens, 1));
+    assert!(rt; started(opens, 1, 2));
+    assert!(rt; is_asked_alone(opens, 1, 2, 2));
+    assert!(rt; !is_asked_alone(opens, 1, 2, 1));
+    assert!(rt; asked_one(opens, 1, 2, true));
+    assert!(rt; !is_asked_with_all(opens, 1, 2));
+    assert!(rt; is_asked_with_all(opens, 1, 1));
+    assert!(rt; is_asked_with_all(opens, 1, 0));
+    assert!(rt; lost(opens, 1));
+    assert!(rt; !is_asked_with_all(opens, 1, 1));
 }
 
 // Commands that were opened in another order are the same ones, as long as they stand alike.
 #[test]
 fn same_in_another_order(rt: HostRuntime) -> Result<(), Fail> {
-    let alloc = rt.alloc();
-    let mut one = opens_of_a(alloc)?;
-    let mut other = opens_of_a(alloc)?;
-    assert!(rt; one.same(&other));
-    assert!(rt; opened(alloc, &mut one, 1)?);
-    assert!(rt; !one.same(&other));
-    assert!(rt; opened(alloc, &mut one, 2)?);
-    assert!(rt; opened(alloc, &mut other, 2)?);
-    assert!(rt; opened(alloc, &mut other, 1)?);
-    assert!(rt; op_at(&one, 0) == Some(op(1)));
-    assert!(rt; op_at(&other, 0) == Some(op(2)));
-    assert!(rt; op_at(&one, 2) == None);
-    assert!(rt; one.same(&other));
-    assert!(rt; started(&mut one, 1, 2));
-    assert!(rt; !one.same(&other));
-    assert!(rt; started(&mut other, 1, 2));
-    assert!(rt; one.same(&other));
-    assert!(rt; asked_all(&mut one, 1, true));
-    assert!(rt; !other.same(&one));
-    assert!(rt; asked_all(&mut other, 1, true));
-    assert!(rt; began(&mut one, 1));
-    assert!(rt; began(&mut other, 1));
-    assert!(rt; one.same(&other));
-    assert!(rt; replied(&mut one, 2, 1));
-    assert!(rt; !one.same(&other));
-    assert!(rt; lost(&mut one, 1));
-    assert!(rt; lost(&mut other, 1));
-    assert!(rt; other.same(&one));
+    let mut one = opens_of_a(rt.alloc())?;
+    let mut other = opens_of_a(rt.alloc())?;
+    check_opened(&rt, rt.alloc(), &mut one, &mut other);
+    check_started(&rt, &mut one, &mut other);
+    check_updated(&rt, &mut one, &mut other);
     Ok(())
+}
+
+// Both open the commands 1 and 2, in another order.
+fn check_opened(rt: &impl Abort, alloc: Global, one: &mut Opens, other: &mut Opens) {
+    assert!(rt; one.same(other));
+    assert!(rt; opened(alloc, one, 1));
+    assert!(rt; !one.same(other));
+    assert!(rt; opened(alloc, one, 2));
+    assert!(rt; opened(alloc, other, 2));
+    assert!(rt; opened(alloc, other, 1));
+    assert!(rt; op_at(one, 0) == Some(op(1)));
+    assert!(rt; op_at(other, 0) == Some(op(2)));
+    assert!(rt; op_at(one, 2) == None);
+    assert!(rt; one.same(other));
+}
+
+// Both start the command 1.
+fn check_started(rt: &impl Abort, one: &mut Opens, other: &mut Opens) {
+    assert!(rt; started(one, 1, 2));
+    assert!(rt; !one.same(other));
+    assert!(rt; started(other, 1, 2));
+    assert!(rt; one.same(other));
+    assert!(rt; asked_all(one, 1, true));
+    assert!(rt; !other.same(one));
+    assert!(rt; asked_all(other, 1, true));
+}
+
+// Both begin its update, of which one hears from a node that both lose.
+fn check_updated(rt: &impl Abort, one: &mut Opens, other: &mut Opens) {
+    assert!(rt; began(one, 1));
+    assert!(rt; began(other, 1));
+    assert!(rt; one.same(other));
+    assert!(rt; replied(one, 2, 1));
+    assert!(rt; !one.same(other));
+    assert!(rt; lost(one, 1));
+    assert!(rt; lost(other, 1));
+    assert!(rt; other.same(one));
 }
 
 // c is asked first, then a and b; the update goes out, and the command ends.
 #[test]
 fn gathered_replies(rt: HostRuntime) -> Result<(), Fail> {
-    let alloc = rt.alloc();
-    let mut opens = opens_of_a(alloc)?;
-    assert!(rt; opened(alloc, &mut opens, 1)?);
+    let mut opens = opens_of_a(rt.alloc())?;
+    check_first_asked(&rt, rt.alloc(), &mut opens);
+    check_granted(&rt, &mut opens);
+    check_replied(&rt, &mut opens);
+    Ok(())
+}
+
+fn check_first_asked(rt: &impl Abort, alloc: Global, opens: &mut Opens) {
+    assert!(rt; opened(alloc, opens, 1));
     assert!(rt; opens.open_count() == 1);
     assert!(rt; opens.waiting_update(op(1)).is_some());
-    assert!(rt; started(&mut opens, 1, 2));
+    assert!(rt; started(opens, 1, 2));
     assert!(rt; opens.standing(op(1)) == Standing::Asking(1));
-    assert!(rt; asked_one(&mut opens, 1, 2, true));
-    assert!(rt; outlook(&opens, 1, true) == Some(Outlook::Wait));
-    assert!(rt; heard(&opens, 1, 1) == Some(Taken::Stranger));
-    assert!(rt; answered(&mut opens, 1, 2, true));
-    assert!(rt; outlook(&opens, 1, true) == Some(Outlook::Ask));
-    assert!(rt; asked_all(&mut opens, 1, true));
-    assert!(rt; heard(&opens, 1, 2) == Some(Taken::Stranger));
-    assert!(rt; heard(&opens, 1, 1) == Some(Taken::Counted));
-    assert!(rt; answered(&mut opens, 1, 1, true));
-    assert!(rt; heard(&opens, 1, 1) == Some(Taken::Double));
-    assert!(rt; outlook(&opens, 1, true) == Some(Outlook::Begin));
-    assert!(rt; began(&mut opens, 1));
+    assert!(rt; asked_one(opens, 1, 2, true));
+    assert!(rt; outlook(opens, 1, true) == Some(Outlook::Wait));
+    assert!(rt; heard(opens, 1, 1) == Some(Taken::Stranger));
+}
+
+fn check_granted(rt: &impl Abort, opens: &mut Opens) {
+    assert!(rt; answered(opens, 1, 2, true));
+    assert!(rt; outlook(opens, 1, true) == Some(Outlook::Ask));
+    assert!(rt; asked_all(opens, 1, true));
+    assert!(rt; heard(opens, 1, 2) == Some(Taken::Stranger));
+    assert!(rt; heard(opens, 1, 1) == Some(Taken::Counted));
+    assert!(rt; answered(opens, 1, 1, true));
+    assert!(rt; heard(opens, 1, 1) == Some(Taken::Double));
+    assert!(rt; outlook(opens, 1, true) == Some(Outlook::Begin));
+}
+
+fn check_replied(rt: &impl Abort, opens: &mut Opens) {
+    assert!(rt; began(opens, 1));
     assert!(rt; opens.gathering(2) == Gathering::Update(op(1), 1));
     assert!(rt; opens.update(2).is_some());
-    assert!(rt; replied(&mut opens, 2, 1));
+    assert!(rt; replied(opens, 2, 1));
     assert!(rt; !opens.is_complete(2));
-    assert!(rt; replied(&mut opens, 2, 2));
+    assert!(rt; replied(opens, 2, 2));
     assert!(rt; opens.is_complete(2));
-    assert!(rt; finished(&mut opens, 2));
+    assert!(rt; finished(opens, 2));
     assert!(rt; opens.standing(op(1)) == Standing::Closed);
     assert!(rt; opens.open_count() == 0);
-    Ok(())
 }
 
 // A counted reply that is taken back is counted again.
 #[test]
 fn taken_back_replies(rt: HostRuntime) -> Result<(), Fail> {
-    let alloc = rt.alloc();
-    let mut opens = opens_of_a(alloc)?;
-    assert!(rt; opened(alloc, &mut opens, 1)?);
-    assert!(rt; started(&mut opens, 1, 2));
-    assert!(rt; asked_one(&mut opens, 1, 2, true));
-    assert!(rt; answered(&mut opens, 1, 2, true));
-    assert!(rt; taken_back(&mut opens, 1, 2));
-    assert!(rt; outlook(&opens, 1, true) == Some(Outlook::Wait));
-    assert!(rt; heard(&opens, 1, 2) == Some(Taken::Counted));
-    assert!(rt; answered(&mut opens, 1, 2, true));
-    assert!(rt; asked_all(&mut opens, 1, true));
-    assert!(rt; answered(&mut opens, 1, 1, true));
-    assert!(rt; began(&mut opens, 1));
-    assert!(rt; replied(&mut opens, 2, 1));
-    assert!(rt; replied(&mut opens, 2, 2));
-    assert!(rt; taken_back(&mut opens, 2, 1));
-    assert!(rt; !opens.is_complete(2));
-    assert!(rt; heard(&opens, 2, 1) == Some(Taken::Counted));
+    let mut opens = opens_of_a(rt.alloc())?;
+    check_answer_taken_back(&rt, rt.alloc(), &mut opens);
+    check_ok_taken_back(&rt, &mut opens);
     Ok(())
+}
+
+fn check_answer_taken_back(rt: &impl Abort, alloc: Global, opens: &mut Opens) {
+    assert!(rt; opened(alloc, opens, 1));
+    assert!(rt; started(opens, 1, 2));
+    assert!(rt; asked_one(opens, 1, 2, true));
+    assert!(rt; answered(opens, 1, 2, true));
+    assert!(rt; taken_back(opens, 1, 2));
+    assert!(rt; outlook(opens, 1, true) == Some(Outlook::Wait));
+    assert!(rt; heard(opens, 1, 2) == Some(Taken::Counted));
+    assert!(rt; answered(opens, 1, 2, true));
+}
+
+fn check_ok_taken_back(rt: &impl Abort, opens: &mut Opens) {
+    assert!(rt; asked_all(opens, 1, true));
+    assert!(rt; answered(opens, 1, 1, true));
+    assert!(rt; began(opens, 1));
+    assert!(rt; replied(opens, 2, 1));
+    assert!(rt; replied(opens, 2, 2));
+    assert!(rt; taken_back(opens, 2, 1));
+    assert!(rt; !opens.is_complete(2));
+    assert!(rt; heard(opens, 2, 1) == Some(Taken::Counted));
 }
 
 // One denies, and the command waits for its retry.
 #[test]
 fn denied(rt: HostRuntime) -> Result<(), Fail> {
-    let alloc = rt.alloc();
-    let mut opens = opens_of_a(alloc)?;
-    assert!(rt; opened(alloc, &mut opens, 1)?);
-    assert!(rt; started(&mut opens, 1, 2));
-    assert!(rt; asked_one(&mut opens, 1, 2, true));
-    assert!(rt; answered(&mut opens, 1, 2, false));
-    assert!(rt; outlook(&opens, 1, true) == Some(Outlook::GiveUp));
-    assert!(rt; given_up(&mut opens, 1));
+    let mut opens = opens_of_a(rt.alloc())?;
+    check_denied(&rt, rt.alloc(), &mut opens);
+    Ok(())
+}
+
+fn check_denied(rt: &impl Abort, alloc: Global, opens: &mut Opens) {
+    assert!(rt; opened(alloc, opens, 1));
+    assert!(rt; started(opens, 1, 2));
+    assert!(rt; asked_one(opens, 1, 2, true));
+    assert!(rt; answered(opens, 1, 2, false));
+    assert!(rt; outlook(opens, 1, true) == Some(Outlook::GiveUp));
+    assert!(rt; given_up(opens, 1));
     assert!(rt; opens.waits(op(1)));
     assert!(rt; opens.gathering(1) == Gathering::Nothing);
-    assert!(rt; started(&mut opens, 1, 2));
+    assert!(rt; started(opens, 1, 2));
     assert!(rt; opens.standing(op(1)) == Standing::Asking(2));
-    Ok(())
 }
 
 // Who waits for a lost node alone waits for its retry.
 #[test]
 fn ready_by_loss(rt: HostRuntime) -> Result<(), Fail> {
-    let alloc = rt.alloc();
-    let mut opens = opens_of_a(alloc)?;
-    assert!(rt; opened(alloc, &mut opens, 1)?);
-    assert!(rt; started(&mut opens, 1, 2));
-    assert!(rt; asked_one(&mut opens, 1, 2, true));
-    assert!(rt; !opens.waits(op(1)));
-    assert!(rt; lost(&mut opens, 2));
-    assert!(rt; opens.waits(op(1)));
-    assert!(rt; heard(&opens, 1, 2) == Some(Taken::Stranger));
-    assert!(rt; outlook(&opens, 1, false) == Some(Outlook::Ask));
+    let mut opens = opens_of_a(rt.alloc())?;
+    check_ready(&rt, rt.alloc(), &mut opens);
     Ok(())
+}
+
+fn check_ready(rt: &impl Abort, alloc: Global, opens: &mut Opens) {
+    assert!(rt; opened(alloc, opens, 1));
+    assert!(rt; started(opens, 1, 2));
+    assert!(rt; asked_one(opens, 1, 2, true));
+    assert!(rt; !opens.waits(op(1)));
+    assert!(rt; lost(opens, 2));
+    assert!(rt; opens.waits(op(1)));
+    assert!(rt; heard(opens, 1, 2) == Some(Taken::Stranger));
+    assert!(rt; outlook(opens, 1, false) == Some(Outlook::Ask));
 }

@@ -4,6 +4,7 @@ use crate::samples::reference;
 use pg_multicall::{Gather, Taken};
 use pg_term::{Atom, Reference, TermFault};
 use std::alloc::Global;
+use std::process::Abort;
 use std::test::Fail;
 
 mod many;
@@ -18,26 +19,49 @@ struct Asked {
 }
 
 fn asked_b_and_c(alloc: Global) -> Result<Asked, TermFault> {
-    let nodes = [Atom::new(alloc, "b")?, Atom::new(alloc, "c")?];
-    Ok(Asked {
-        b: Atom::new(alloc, "b")?,
-        c: Atom::new(alloc, "c")?,
-        call: reference(alloc, "a", 1)?,
-        gather: Gather::new(alloc, reference(alloc, "a", 1)?, &nodes)?,
-    })
+    let gather = gather_over_b_and_c(alloc)?;
+    let b = Atom::new(alloc, "b")?;
+    let c = Atom::new(alloc, "c")?;
+    let call = reference(alloc, "a", 1)?;
+    Ok(Asked { b, c, call, gather })
+}
+
+fn gather_over_b_and_c(alloc: Global) -> Result<Gather<bool>, TermFault> {
+    let b = Atom::new(alloc, "b")?;
+    let c = Atom::new(alloc, "c")?;
+    gather_of(alloc, &[b, c])
+}
+
+fn gather_of(alloc: Global, nodes: &[Atom]) -> Result<Gather<bool>, TermFault> {
+    let call = reference(alloc, "a", 1)?;
+    Ok(Gather::new(alloc, call, nodes)?)
+}
+
+// What a reply of b is to the call.
+fn b_says(asked: &mut Asked, reply: bool) -> Taken {
+    asked.gather.take(&asked.b, &asked.call, reply)
+}
+
+// What a reply of c is to the call.
+fn c_says(asked: &mut Asked, reply: bool) -> Taken {
+    asked.gather.take(&asked.c, &asked.call, reply)
 }
 
 #[test]
 fn gather_over_two(rt: HostRuntime) -> Result<(), Fail> {
     let mut asked = asked_b_and_c(rt.alloc())?;
     let other = reference(rt.alloc(), "a", 2)?;
-    assert!(rt; asked.gather.take(&asked.b, &asked.call, true) == Taken::Counted);
-    assert!(rt; asked.gather.take(&asked.b, &asked.call, true) == Taken::Double);
-    assert!(rt; asked.gather.take(&asked.c, &other, true) == Taken::Stranger);
-    assert!(rt; !asked.gather.complete());
-    assert!(rt; asked.gather.take(&asked.c, &asked.call, false) == Taken::Counted);
-    assert!(rt; asked.gather.complete());
+    check_two(&rt, &mut asked, &other);
     Ok(())
+}
+
+fn check_two(rt: &impl Abort, asked: &mut Asked, other: &Reference) {
+    assert!(rt; b_says(asked, true) == Taken::Counted);
+    assert!(rt; b_says(asked, true) == Taken::Double);
+    assert!(rt; asked.gather.take(&asked.c, other, true) == Taken::Stranger);
+    assert!(rt; !asked.gather.complete());
+    assert!(rt; c_says(asked, false) == Taken::Counted);
+    assert!(rt; asked.gather.complete());
 }
 
 /// A second reply of a node changes nothing, and neither does that of a node that was not asked.
@@ -45,19 +69,22 @@ fn gather_over_two(rt: HostRuntime) -> Result<(), Fail> {
 fn first_replies_stay(rt: HostRuntime) -> Result<(), Fail> {
     let mut asked = asked_b_and_c(rt.alloc())?;
     let d = Atom::new(rt.alloc(), "d")?;
-    asked.gather.take(&asked.b, &asked.call, true);
-    asked.gather.take(&asked.b, &asked.call, false);
-    assert!(rt; asked.gather.take(&d, &asked.call, true) == Taken::Stranger);
+    check_first(&rt, &mut asked, &d);
+    Ok(())
+}
+
+fn check_first(rt: &impl Abort, asked: &mut Asked, d: &Atom) {
+    b_says(asked, true);
+    b_says(asked, false);
+    assert!(rt; asked.gather.take(d, &asked.call, true) == Taken::Stranger);
     assert!(rt; asked.gather.replies().len() == 2);
     assert!(rt; asked.gather.replies().get(&asked.b) == Some(&Some(true)));
     assert!(rt; asked.gather.replies().get(&asked.c) == Some(&None));
-    Ok(())
 }
 
 #[test]
 fn nobody_asked(rt: HostRuntime) -> Result<(), Fail> {
-    let call = reference(rt.alloc(), "a", 1)?;
-    let gather: Gather<bool> = Gather::new(rt.alloc(), call, &[])?;
+    let gather = gather_of(rt.alloc(), &[])?;
     assert!(rt; gather.complete());
     Ok(())
 }
@@ -66,12 +93,16 @@ fn nobody_asked(rt: HostRuntime) -> Result<(), Fail> {
 #[test]
 fn lost_node_is_forgotten(rt: HostRuntime) -> Result<(), Fail> {
     let mut asked = asked_b_and_c(rt.alloc())?;
-    asked.gather.take(&asked.b, &asked.call, true);
+    check_lost(&rt, &mut asked);
+    Ok(())
+}
+
+fn check_lost(rt: &impl Abort, asked: &mut Asked) {
+    b_says(asked, true);
     asked.gather.forget(&asked.c);
     assert!(rt; asked.gather.complete());
-    assert!(rt; asked.gather.take(&asked.c, &asked.call, true) == Taken::Stranger);
+    assert!(rt; c_says(asked, true) == Taken::Stranger);
     asked.gather.forget(&asked.b);
     asked.gather.forget(&asked.b);
     assert!(rt; asked.gather.replies().len() == 0);
-    Ok(())
 }

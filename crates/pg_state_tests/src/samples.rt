@@ -1,36 +1,44 @@
-//! Small values that tests are made of.
+//! Small values that tests are made of. Where memory is refused once, each of `atom`, `pid` and `copy` is made all the same.
 
 use pg_term::{Atom, Pid, Reference, TermFault};
-use std::alloc::Global;
-
-/// Makes a value, a second time where memory was refused.
-pub fn again<V: Drop, E: Drop, F: Fn() -> Result<V, E>>(make: F) -> Result<V, E>
-    requires { F.IsAlwaysCallable make }
-{
-    match make() {
-        Ok(value) => Ok(value),
-        Err(_) => make(),
-    }
-}
+use std::alloc::{AllocError, Global};
 
 /// The name of a node, made a second time where memory was refused.
 pub fn atom(alloc: Global, name: &str) -> Result<Atom, TermFault> {
-    again(|| Atom::new(alloc, name))
+    match Atom::new(alloc, name) {
+        Ok(atom) => Ok(atom),
+        Err(_) => Atom::new(alloc, name),
+    }
 }
 
 /// The pid of this node with this id.
 pub fn pid_of(alloc: Global, node: &str, id: u32) -> Result<Pid, TermFault> {
-    Ok(Pid {
-        node: Atom::new(alloc, node)?,
+    match atom(alloc, node) {
+        Ok(node) => Ok(pid_at(node, id)),
+        Err(fault) => Err(fault),
+    }
+}
+
+fn pid_at(node: Atom, id: u32) -> Pid {
+    Pid {
+        node,
         serial: 0,
         id,
         creation: 1,
-    })
+    }
 }
 
 /// The pid of node a with this id.
 pub fn pid(alloc: Global, id: u32) -> Result<Pid, TermFault> {
     pid_of(alloc, "a", id)
+}
+
+/// A copy of a pid, made a second time where memory was refused.
+pub fn copy(pid: &Pid) -> Result<Pid, AllocError> {
+    match pid.copy() {
+        Ok(copy) => Ok(copy),
+        Err(_) => pid.copy(),
+    }
 }
 
 /// The pids 0 to 1000 of node a.
@@ -46,13 +54,18 @@ pub fn many_pids(alloc: Global) -> Result<Vec<Pid>, TermFault> {
 pub fn many_nodes(alloc: Global) -> Result<Vec<Atom>, TermFault> {
     let mut nodes = Vec::new(alloc);
     for number in 0..1001 {
-        let text = format!(in alloc; "n{number}")?;
-        nodes.push(Atom::new(alloc, text.as_str())?)?;
+        nodes.push(numbered(alloc, number)?)?;
     }
     Ok(nodes)
 }
 
+// The name of the node of this number.
+fn numbered(alloc: Global, number: u32) -> Result<Atom, TermFault> {
+    let text = format!(in alloc; "n{number}")?;
+    Atom::new(alloc, text.as_str())
+}
+
 /// The reference of this node with this word.
 pub fn reference(alloc: Global, node: &str, word: u32) -> Result<Reference, TermFault> {
-    Reference::new(Atom::new(alloc, node)?, 1, &[word])
+    Reference::new(atom(alloc, node)?, 1, &[word])
 }

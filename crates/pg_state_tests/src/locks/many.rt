@@ -1,8 +1,9 @@
 //! Locks that are many.
 
+use super::{ask, give_up, is_free, is_held};
 use crate::samples::reference;
 use pg_lock::LockTable;
-use pg_term::{Reference, Term};
+use pg_term::Reference;
 use std::alloc::AllocError;
 use std::process::Abort;
 use std::test::Fail;
@@ -16,10 +17,7 @@ fn takes(
     reference: &Reference,
 ) -> Result<(), AllocError> {
     for number in from..to {
-        assert!(rt;
-            locks.ask(true, &Term::Int(number), reference)?,
-            "at {number}"
-        );
+        assert!(rt; ask(locks, number, reference)?, "at {number}");
     }
     Ok(())
 }
@@ -31,10 +29,7 @@ fn is_denied(
     reference: &Reference,
 ) -> Result<(), AllocError> {
     for number in 501..1001 {
-        assert!(rt;
-            !locks.ask(true, &Term::Int(number), reference)?,
-            "at {number}"
-        );
+        assert!(rt; !ask(locks, number, reference)?, "at {number}");
     }
     Ok(())
 }
@@ -42,13 +37,12 @@ fn is_denied(
 /// The locks that the reference holds are given up, and no other stands.
 fn gives_up_all(rt: &impl Abort, locks: &mut LockTable, reference: &Reference) {
     for number in 501..1001 {
-        assert!(rt; locks.holder(&Term::Int(number)).is_none(), "at {number}");
+        assert!(rt; is_free(locks, number), "at {number}");
     }
     for number in 0..501 {
-        let name = Term::Int(number);
-        assert!(rt; locks.holder(&name) == Some(reference), "at {number}");
-        locks.give_up(&name, reference);
-        assert!(rt; locks.holder(&name).is_none(), "at {number}");
+        assert!(rt; is_held(locks, number, reference), "at {number}");
+        give_up(locks, number, reference);
+        assert!(rt; is_free(locks, number), "at {number}");
     }
 }
 

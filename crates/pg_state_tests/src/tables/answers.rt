@@ -37,28 +37,58 @@ fn answers_of_group<T: GroupTable>(
     side: Side,
 ) -> Result<bool, AllocError> {
     let name = cast.name(side);
-    let listed = match members(alloc, table, name) {
-        Ok(listed) => listed,
-        Err(QueryFault::NoSuchGroup) => return Ok(
+    match members(alloc, table, name) {
+        Ok(listed) => Ok(answers_there(table, cast, name, reading.group(side), &listed)),
+        Err(QueryFault::NoSuchGroup) => Ok(
             reading.group(side).is_none() && answers_nothing(table, cast, name),
         ),
-        Err(QueryFault::OutOfMemory) => return Err(AllocError),
+        Err(QueryFault::OutOfMemory) => Err(AllocError),
         Err(QueryFault::NoMember) => unreachable!(),
-    };
-    let Some((a, b)) = reading.group(side) else {
-        return Ok(false);
-    };
-    Ok(
-        table.has(name)
-            && table.count(name, cast.pid(Side::First)) == a
-            && table.count(name, cast.pid(Side::Second)) == b
-            && size(table, name, &listed, Scope::All) == Some(a.saturating_add(b))
-            && size(table, name, &listed, Scope::At(cast.node(Side::First))) == Some(a)
-            && size(table, name, &listed, Scope::At(cast.node(Side::Second))) == Some(b)
-            && is_list(&listed, cast, a, b)
-            && has_places(table, cast, name, Side::First, a)
-            && has_places(table, cast, name, Side::Second, b),
-    )
+    }
+}
+
+/// Whether a group whose members were listed is there, with so many of each pid.
+fn answers_there<T: GroupTable>(
+    table: &T,
+    cast: &Cast,
+    name: &Term,
+    counts: Option<(u64, u64)>,
+    listed: &Items<Pid>,
+) -> bool
+    requires { IsMemberList (T.contents table.now name.now) anywhere listed.now }
+{
+    match counts {
+        Some((a, b)) => {
+            table.has(name)
+                && has_counts(table, cast, name, a, b)
+                && has_sizes(table, cast, name, listed, a, b)
+                && is_list(listed, cast, a, b)
+                && has_places(table, cast, name, Side::First, a)
+                && has_places(table, cast, name, Side::Second, b)
+        }
+        None => false,
+    }
+}
+
+/// Whether each of the two pids is so often a member.
+fn has_counts<T: GroupTable>(table: &T, cast: &Cast, name: &Term, a: u64, b: u64) -> bool {
+    table.count(name, cast.pid(Side::First)) == a && table.count(name, cast.pid(Side::Second)) == b
+}
+
+/// Whether a group whose members were listed has so many of each pid, in all and on the node of each.
+fn has_sizes<T: GroupTable>(
+    table: &T,
+    cast: &Cast,
+    name: &Term,
+    listed: &Items<Pid>,
+    a: u64,
+    b: u64,
+) -> bool
+    requires { IsMemberList (T.contents table.now name.now) anywhere listed.now }
+{
+    size(table, name, listed, Scope::All) == Some(a.saturating_add(b))
+        && size(table, name, listed, Scope::At(cast.node(Side::First))) == Some(a)
+        && size(table, name, listed, Scope::At(cast.node(Side::Second))) == Some(b)
 }
 
 /// Whether an absent group has no member anywhere.

@@ -1,5 +1,5 @@
 use pg_term::{Atom, Pid, Term, TermFault};
-use std::alloc::Global;
+use std::alloc::{AllocError, Global};
 
 /// The names, pids and nodes that random changes are about.
 #[derive(Drop)]
@@ -12,26 +12,11 @@ pub struct Crowd {
 impl Crowd {
     /// Five names, and so many pids of each of three nodes.
     pub fn new(alloc: Global, pids_of_node: u32) -> Result<Crowd, TermFault> {
-        let mut crowd = Crowd {
-            names: Vec::new(alloc),
-            pids: Vec::new(alloc),
-            nodes: Vec::new(alloc),
-        };
-        for name in 0..5 {
-            crowd.names.push(Term::Int(name))?;
-        }
-        for node in ["a", "b@host", "c"] {
-            crowd.nodes.push(Atom::new(alloc, node)?)?;
-            for id in 0..pids_of_node {
-                crowd.pids.push(Pid {
-                    node: Atom::new(alloc, node)?,
-                    serial: id % 3,
-                    id,
-                    creation: 1,
-                })?;
-            }
-        }
-        Ok(crowd)
+        Ok(Crowd {
+            names: five_names(alloc)?,
+            pids: pids_of_three(alloc, pids_of_node)?,
+            nodes: three_nodes(alloc)?,
+        })
     }
 
     /// The name that a seed tells.
@@ -53,4 +38,41 @@ impl Crowd {
 fn at<V>(values: &Vec<V>, seed: u64) -> Option<&V> {
     let len = (values.len() as u64).max(1);
     values.get(usize::try_from(seed % len).unwrap_or(0))
+}
+
+const NODES: [&str; 3] = ["a", "b@host", "c"];
+
+fn five_names(alloc: Global) -> Result<Vec<Term>, AllocError> {
+    let mut names = Vec::new(alloc);
+    for name in 0..5 {
+        names.push(Term::Int(name))?;
+    }
+    Ok(names)
+}
+
+fn three_nodes(alloc: Global) -> Result<Vec<Atom>, TermFault> {
+    let mut nodes = Vec::new(alloc);
+    for node in NODES {
+        nodes.push(Atom::new(alloc, node)?)?;
+    }
+    Ok(nodes)
+}
+
+fn pids_of_three(alloc: Global, pids_of_node: u32) -> Result<Vec<Pid>, TermFault> {
+    let mut pids = Vec::new(alloc);
+    for node in NODES {
+        for id in 0..pids_of_node {
+            pids.push(pid_at(Atom::new(alloc, node)?, id))?;
+        }
+    }
+    Ok(pids)
+}
+
+fn pid_at(node: Atom, id: u32) -> Pid {
+    Pid {
+        node,
+        serial: id % 3,
+        id,
+        creation: 1,
+    }
 }

@@ -13,23 +13,35 @@ pub fn agrees_in_all_histories<T: GroupTable + Drop>(
     empty: &T,
 ) -> Result<bool, TermFault> {
     let cast = Cast::new(alloc)?;
-    let mut ended = Ended::new(alloc);
-    if !walk(
-        alloc,
-        &UPDATES,
-        empty,
-        &cast,
-        Reading::new(false),
-        &ended,
-        5,
-    )? || !walk(alloc, &MIXED, empty, &cast, Reading::new(false), &ended, 4)?
-    {
-        return Ok(false);
-    }
-    ended.add(cast.pid(Side::First).copy()?)?;
+    Ok(agrees_alive(alloc, empty, &cast)? && agrees_ended(alloc, empty, &cast)?)
+}
+
+/// The same where no process has ended.
+fn agrees_alive<T: GroupTable + Drop>(
+    alloc: Global,
+    empty: &T,
+    cast: &Cast,
+) -> Result<bool, AllocError> {
+    let ended = Ended::new(alloc);
+    let reading = Reading::new(false);
     Ok(
-        walk(alloc, &UPDATES, empty, &cast, Reading::new(true), &ended, 4)?
-            && walk(alloc, &MIXED, empty, &cast, Reading::new(true), &ended, 4)?,
+        walk(alloc, &UPDATES, empty, cast, reading, &ended, 5)?
+            && walk(alloc, &MIXED, empty, cast, reading, &ended, 4)?,
+    )
+}
+
+/// The same for histories of up to four calls, where the process of the first pid has ended.
+fn agrees_ended<T: GroupTable + Drop>(
+    alloc: Global,
+    empty: &T,
+    cast: &Cast,
+) -> Result<bool, AllocError> {
+    let mut ended = Ended::new(alloc);
+    ended.add(cast.pid(Side::First).copy()?)?;
+    let reading = Reading::new(true);
+    Ok(
+        walk(alloc, &UPDATES, empty, cast, reading, &ended, 4)?
+            && walk(alloc, &MIXED, empty, cast, reading, &ended, 4)?,
     )
 }
 

@@ -62,7 +62,7 @@ fn is_in_each<T: GroupTable>(rt: &impl Abort, table: &T, pid: &Pid, count: u64) 
     for number in 0..1001 {
         let name = Term::Int(number);
         assert!(rt; table.has(&name), "at {number}");
-        assert_eq!(rt; table.count(&name, pid), count, "at {number}");
+        assert!(rt; table.count(&name, pid) == count, "at {number}");
     }
 }
 
@@ -96,7 +96,7 @@ fn copy_keeps_many<T: GroupTable + Drop>(
     table.drop_pid(two);
     is_in_each(rt, table, two, 0);
     is_in_each(rt, table, one, 1);
-    assert_eq!(rt; copy.groups()?.len(), 1001);
+    assert!(rt; copy.groups()?.len() == 1001);
     is_in_each(rt, &copy, one, 1);
     is_in_each(rt, &copy, two, 2);
     Ok(())
@@ -130,7 +130,7 @@ fn keeps_many_groups<T: GroupTable + Drop>(
     copy_keeps_many(rt, table, &members[0], &members[1], ended)?;
     drops_all_of_a_node(rt, table, &members[0], &members[3]);
     delete_each(table, ended)?;
-    assert_eq!(rt; table.groups()?.len(), 0);
+    assert!(rt; table.groups()?.len() == 0);
     Ok(())
 }
 
@@ -169,7 +169,7 @@ fn joins_each<T: GroupTable>(
 fn has_each_twice<T: GroupTable>(rt: &impl Abort, table: &T, pids: &[Pid]) {
     let name = Term::Int(1);
     for pid in pids {
-        assert_eq!(rt; table.count(&name, pid), 2);
+        assert!(rt; table.count(&name, pid) == 2);
     }
     for place in 0..2002 {
         let pid = pids.get((place / 2) as usize);

@@ -1,9 +1,15 @@
 use crate::tables::answers::size;
 use crate::tables::pair::{Cast, Side};
+use crate::tables::step::put;
 use pg_group::{Ended, GroupTable, Scope, Update};
 use pg_query::{QueryFault, members};
 use pg_term::{Pid, Term, TermFault};
 use std::alloc::{AllocError, Global};
+
+/// How often the pid is in the group of this number.
+fn count<T: GroupTable>(table: &T, number: i64, pid: &Pid) -> u64 {
+    table.count(&Term::Int(number), pid)
+}
 
 /// The pid joins the group, where it is in it less than twice.
 fn joins<T: GroupTable>(
@@ -12,14 +18,12 @@ fn joins<T: GroupTable>(
     pid: &Pid,
     ended: &Ended,
 ) -> Result<bool, AllocError> {
-    let join = Update::Join(Term::Int(number), pid.copy()?);
-    if table.count(join.name(), pid) > 1 {
+    if count(table, number, pid) > 1 {
         return Ok(false);
     }
-    match table.apply(&join, ended) {
-        Ok(()) => Ok(true),
-        Err(AllocError) => Err(AllocError),
-    }
+    let pid = pid.copy()?;
+    put(table, Update::Join(Term::Int(number), pid), ended)?;
+    Ok(true)
 }
 
 /// A group is made.
@@ -37,7 +41,7 @@ fn joins_twice<T: GroupTable>(
     make(table, number, ended)?;
     let first = joins(table, number, pid, ended)?;
     let second = joins(table, number, pid, ended)?;
-    Ok(first && second && table.count(&Term::Int(number), pid) == 2)
+    Ok(first && second && count(table, number, pid) == 2)
 }
 
 /// The pid joins each of 300 groups twice.

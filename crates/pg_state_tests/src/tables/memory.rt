@@ -1,13 +1,29 @@
 //! Each growth of memory may be refused once: the call says so, the table is as it was, and the call is made again.
 
-use crate::samples::{again, pid};
+use crate::samples::{copy, pid};
 use crate::tables::step::has_room;
 use pg_group::{Ended, GroupTable, RowTable, Scope, Update};
 use pg_index::IndexTable;
-use pg_term::{Pid, Term};
+use pg_term::{Pid, Term, TermFault};
 use std::alloc::{AllocError, Global};
 use std::process::Abort;
 use std::test::Fail;
+
+/// How the group of an update is, and one of its members: whether it is there, and the count.
+fn seen<T: GroupTable>(table: &T, update: &Update, one: &Pid) -> (bool, u64) {
+    (table.has(update.name()), table.count(update.name(), one))
+}
+
+/// Applies an update that has room.
+fn apply<T: GroupTable>(
+    rt: &impl Abort,
+    table: &mut T,
+    update: &Update,
+    ended: &Ended,
+) -> Result<(), AllocError> {
+    assert!(rt; has_room(table, update));
+    table.apply(update, ended)
+}
 
 /// Applies an update. A refused one leaves the group and the count as they were.
 fn put<T: GroupTable>(
@@ -17,17 +33,48 @@ fn put<T: GroupTable>(
     one: &Pid,
     ended: &Ended,
 ) -> Result<(), AllocError> {
-    assert!(rt; has_room(table, update));
-    let before = (table.has(update.name()), table.count(update.name(), one));
-    if table.apply(update, ended).is_err() {
-        assert_eq!(rt;
-            (table.has(update.name()), table.count(update.name(), one)),
-            before
-        );
-        assert!(rt; has_room(table, update));
-        table.apply(update, ended)?;
+    let before = seen(table, update, one);
+    match apply(rt, table, update, ended) {
+        Ok(()) => Ok(()),
+        Err(_) => {
+            assert!(rt; seen(table, update, one) == before);
+            apply(rt, table, update, ended)
+        }
     }
-    Ok(())
+}
+
+/// The same for an update of its own.
+fn put_one<T: GroupTable>(
+    rt: &impl Abort,
+    table: &mut T,
+    update: Update,
+    one: &Pid,
+    ended: &Ended,
+) -> Result<(), AllocError> {
+    put(rt, table, &update, one, ended)
+}
+
+/// A copy of the pid joins the group.
+fn join<T: GroupTable>(
+    rt: &impl Abort,
+    table: &mut T,
+    one: &Pid,
+    ended: &Ended,
+) -> Result<(), AllocError> {
+    let pid = copy(one)?;
+    put_one(rt, table, Update::Join(Term::Int(7), pid), one, ended)
+}
+
+/// The pid with this id joins the group.
+fn join_by_id<T: GroupTable>(
+    rt: &impl Abort,
+    alloc: Global,
+    table: &mut T,
+    id: u32,
+    ended: &Ended,
+) -> Result<(), TermFault> {
+    let one = pid(alloc, id)?;
+    Ok(join(rt, table, &one, ended)?)
 }
 
 /// So many joins that a block of members is split.
@@ -36,13 +83,11 @@ fn fill<T: GroupTable>(
     alloc: Global,
     table: &mut T,
     ended: &Ended,
-) -> Result<(), Fail> {
-    let first = again(|| pid(alloc, 0))?;
-    put(rt, table, &Update::Create(Term::Int(7)), &first, ended)?;
+) -> Result<(), TermFault> {
+    let first = pid(alloc, 0)?;
+    put_one(rt, table, Update::Create(Term::Int(7)), &first, ended)?;
     for id in 0..70 {
-        let one = again(|| pid(alloc, id))?;
-        let join = Update::Join(Term::Int(7), again(|| one.copy())?);
-        put(rt, table, &join, &one, ended)?;
+        join_by_id(rt, alloc, table, id, ended)?;
     }
     Ok(())
 }
@@ -63,15 +108,51 @@ fn merge_one<T: GroupTable>(
     Ok(())
 }
 
+/// A copy of the table, made a second time where memory was refused.
+fn copy_of<T: GroupTable + Drop>(table: &T) -> Result<T, AllocError> {
+    match table.copy() {
+        Ok(copy) => Ok(copy),
+        Err(_) => table.copy(),
+    }
+}
+
+/// The members of the group, asked for a second time where memory was refused.
+fn listed<T: GroupTable>(alloc: Global, table: &T, name: &Term) -> Result<Vec<Pid>, AllocError> {
+    match table.list(alloc, name, Scope::All) {
+        Ok(listed) => Ok(listed),
+        Err(_) => table.list(alloc, name, Scope::All),
+    }
+}
+
+/// How many groups there are, asked a second time where memory was refused.
+fn group_count<T: GroupTable>(table: &T) -> Result<usize, AllocError> {
+    match table.groups() {
+        Ok(names) => Ok(names.len()),
+        Err(_) => Ok(table.groups()?.len()),
+    }
+}
+
+/// Whether these are the pids 0 to 70.
+fn are_all(pids: &[Pid]) -> bool {
+    for (pid, id) in pids.iter().zip(0..71) {
+        if pid.id != id {
+            return false;
+        }
+    }
+    pids.len() == 71
+}
+
 /// Whether the group lists the pids 0 to 70, each once, and the table has no other.
 fn has_all<T: GroupTable>(alloc: Global, table: &T, name: &Term) -> Result<bool, AllocError> {
-    let listed = again(|| table.list(alloc, name, Scope::All))?;
-    let names = again(|| table.groups())?;
-    Ok(
-        listed.len() == 71
-            && names.len() == 1
-            && listed.iter().zip(0..71).all(|(pid, id)| pid.id == id),
-    )
+    let listed = listed(alloc, table, name)?;
+    let count = group_count(table)?;
+    Ok(are_all(listed.as_slice()) && count == 1)
+}
+
+/// Whether a copy of the table has all.
+fn copy_has_all<T: GroupTable + Drop>(alloc: Global, table: &T) -> Result<bool, AllocError> {
+    let copy = copy_of(table)?;
+    has_all(alloc, &copy, &Term::Int(7))
 }
 
 fn is_whole_after_refusals<T: GroupTable + Drop>(
@@ -80,11 +161,9 @@ fn is_whole_after_refusals<T: GroupTable + Drop>(
     table: &mut T,
 ) -> Result<(), Fail> {
     let ended = Ended::new(alloc);
-    let name = Term::Int(7);
     fill(rt, alloc, table, &ended)?;
-    merge_one(rt, table, &name, again(|| pid(alloc, 70))?, &ended)?;
-    let copy = again(|| table.copy())?;
-    assert!(rt; has_all(alloc, &copy, &name)?);
+    merge_one(rt, table, &Term::Int(7), pid(alloc, 70)?, &ended)?;
+    assert!(rt; copy_has_all(alloc, table)?);
     Ok(())
 }
 

@@ -3,7 +3,7 @@ use pg_term::{Atom, Pid, Term, TermFault};
 use std::alloc::Global;
 
 /// One of the two groups, or of the two pids, of a history.
-#[derive(Clone, Copy, Debug)]
+#[derive(Clone, Copy)]
 pub enum Side {
     First,
     Second,
@@ -20,10 +20,12 @@ pub struct Cast {
 impl Cast {
     /// Two names and two pids.
     pub fn new(alloc: Global) -> Result<Cast, TermFault> {
+        let pids = two_pids(alloc)?;
+        let nodes = two_nodes(alloc)?;
         Ok(Cast {
             names: [Term::Int(1), Term::Int(2)],
-            pids: [pid_of(alloc, "a", 1)?, pid_of(alloc, "b", 1)?],
-            nodes: [Atom::new(alloc, "a")?, Atom::new(alloc, "b")?],
+            pids,
+            nodes,
         })
     }
 
@@ -50,4 +52,16 @@ impl Cast {
             Side::Second => &self.nodes[1],
         }
     }
+}
+
+fn two_pids(alloc: Global) -> Result<[Pid; 2], TermFault> {
+    let first = pid_of(alloc, "a", 1)?;
+    let second = pid_of(alloc, "b", 1)?;
+    Ok([first, second])
+}
+
+fn two_nodes(alloc: Global) -> Result<[Atom; 2], TermFault> {
+    let first = Atom::new(alloc, "a")?;
+    let second = Atom::new(alloc, "b")?;
+    Ok([first, second])
 }

@@ -1,9 +1,9 @@
 use crate::tables::answers::size;
 use crate::tables::crowd::Crowd;
-use crate::tables::step::has_room;
+use crate::tables::step::{join_of, leave_of, put};
 use pg_group::{Ended, GroupTable, Scope, Update};
 use pg_query::{local_members, members};
-use pg_term::{Pid, Term, TermFault};
+use pg_term::{Atom, Pid, Term, TermFault};
 use std::alloc::{AllocError, Global};
 
 /// Whether two empty tables answer alike after each thousand of so many thousands of random changes: mostly joins and
@@ -16,24 +16,44 @@ pub fn agree_in_random_changes<S: GroupTable, T: GroupTable>(
     pids_of_node: u32,
 ) -> Result<bool, TermFault> {
     let crowd = Crowd::new(alloc, pids_of_node)?;
+    let ended = tenth_ended(alloc, &crowd)?;
+    let mut seed = 1;
+    for _ in 0..thousands {
+        seed = change_both(alloc, one, other, &crowd, &ended, seed)?;
+        if !answer_alike(alloc, one, other, &crowd)? {
+            return Ok(false);
+        }
+    }
+    Ok(true)
+}
+
+/// Every tenth pid of each node has ended.
+fn tenth_ended(alloc: Global, crowd: &Crowd) -> Result<Ended, AllocError> {
     let mut ended = Ended::new(alloc);
     for pid in &crowd.pids {
         if pid.id % 10 == 9 {
             ended.add(pid.copy()?)?;
         }
     }
-    let mut seed = 1;
-    for _ in 0..thousands {
-        for _ in 0..1_000 {
-            seed = next(seed);
-            change(alloc, one, &crowd, &ended, seed)?;
-            change(alloc, other, &crowd, &ended, seed)?;
-        }
-        if !answer_alike(alloc, one, other, &crowd)? {
-            return Ok(false);
-        }
+    Ok(ended)
+}
+
+/// Makes a thousand changes of both tables, from a seed on: the last seed.
+fn change_both<S: GroupTable, T: GroupTable>(
+    alloc: Global,
+    one: &mut S,
+    other: &mut T,
+    crowd: &Crowd,
+    ended: &Ended,
+    first: u64,
+) -> Result<u64, AllocError> {
+    let mut seed = first;
+    for _ in 0..1_000 {
+        seed = next(seed);
+        change(alloc, one, crowd, ended, seed)?;
+        change(alloc, other, crowd, ended, seed)?;
     }
-    Ok(true)
+    Ok(seed)
 }
 
 /// The next of some numbers that look random.
@@ -54,25 +74,21 @@ fn change<T: GroupTable>(
     else {
         return Ok(());
     };
-    let update = match (seed >> 50) % 1_000 {
+    match (seed >> 50) % 1_000 {
         0 => {
             table.drop_node(node);
-            return Ok(());
+            Ok(())
         }
-        1 => Update::Delete(name.copy(alloc)?),
-        2..20 => Update::Create(name.copy(alloc)?),
+        1 => put(table, Update::Delete(name.copy(alloc)?), ended),
+        2..20 => put(table, Update::Create(name.copy(alloc)?), ended),
         20..40 => {
             table.drop_pid(pid);
-            return Ok(());
+            Ok(())
         }
-        40..60 => return merge(alloc, table, name, crowd, ended, seed),
-        60..350 => Update::Leave(name.copy(alloc)?, pid.copy()?),
-        _ => Update::Join(name.copy(alloc)?, pid.copy()?),
-    };
-    if has_room(table, &update) {
-        table.apply(&update, ended)?;
+        40..60 => merge(alloc, table, name, crowd, ended, seed),
+        60..350 => put(table, leave_of(alloc, name, pid)?, ended),
+        _ => put(table, join_of(alloc, name, pid)?, ended),
     }
-    Ok(())
 }
 
 /// Merges a few pids, some of them twice.
@@ -84,13 +100,18 @@ fn merge<T: GroupTable>(
     ended: &Ended,
     seed: u64,
 ) -> Result<(), AllocError> {
+    let pids = few_pids(alloc, crowd, seed)?;
+    table.merge(name, pids.as_slice(), ended)
+}
+
+fn few_pids(alloc: Global, crowd: &Crowd, seed: u64) -> Result<Vec<Pid>, AllocError> {
     let mut pids = Vec::new(alloc);
     for step in 0..6 {
         if let Some(pid) = crowd.pid(seed.wrapping_mul(step % 4)) {
             pids.push(pid.copy()?)?;
         }
     }
-    table.merge(name, pids.as_slice(), ended)
+    Ok(pids)
 }
 
 /// Whether two tables answer alike, in all that can be asked of these groups.
@@ -118,18 +139,30 @@ fn groups_alike<S: GroupTable, T: GroupTable>(
     if !one.has(name) {
         return Ok(!other.has(name));
     }
-    let Ok(first) = members(alloc, one, name) else {
-        return Err(AllocError);
-    };
-    let Ok(second) = members(alloc, other, name) else {
-        return Ok(false);
-    };
     Ok(
-        same_pids(first.as_slice(), second.as_slice())
-            && size(one, name, &first, Scope::All) == size(other, name, &second, Scope::All)
+        members_alike(alloc, one, other, name)?
             && counts_alike(one, other, crowd, name)
             && nodes_alike(alloc, one, other, crowd, name)?,
     )
+}
+
+/// Whether both list the same members of a group that is in one of them, and tell the same size.
+fn members_alike<S: GroupTable, T: GroupTable>(
+    alloc: Global,
+    one: &S,
+    other: &T,
+    name: &Term,
+) -> Result<bool, AllocError> {
+    let Ok(first) = members(alloc, one, name) else {
+        return Err(AllocError);
+    };
+    match members(alloc, other, name) {
+        Ok(second) => Ok(
+            same_pids(first.as_slice(), second.as_slice())
+                && size(one, name, &first, Scope::All) == size(other, name, &second, Scope::All),
+        ),
+        Err(_) => Ok(false),
+    }
 }
 
 fn counts_alike<S: GroupTable, T: GroupTable>(
@@ -154,17 +187,28 @@ fn nodes_alike<S: GroupTable, T: GroupTable>(
     name: &Term,
 ) -> Result<bool, AllocError> {
     for node in &crowd.nodes {
-        let Ok(first) = local_members(alloc, one, node, name) else {
-            return Err(AllocError);
-        };
-        let Ok(second) = local_members(alloc, other, node, name) else {
-            return Ok(false);
-        };
-        if !same_pids(first.as_slice(), second.as_slice()) {
+        if !node_alike(alloc, one, other, node, name)? {
             return Ok(false);
         }
     }
     Ok(true)
+}
+
+/// Whether both list the same members on a node, of a group that is in one of them.
+fn node_alike<S: GroupTable, T: GroupTable>(
+    alloc: Global,
+    one: &S,
+    other: &T,
+    node: &Atom,
+    name: &Term,
+) -> Result<bool, AllocError> {
+    let Ok(first) = local_members(alloc, one, node, name) else {
+        return Err(AllocError);
+    };
+    match local_members(alloc, other, node, name) {
+        Ok(second) => Ok(same_pids(first.as_slice(), second.as_slice())),
+        Err(_) => Ok(false),
+    }
 }
 
 fn same_pids(one: &[Pid], other: &[Pid]) -> bool {

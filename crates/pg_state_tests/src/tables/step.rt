@@ -3,10 +3,11 @@ ghost use Rattle.pg_group.specs.Table.{HasRoom};
 
 use crate::tables::pair::{Cast, Side};
 use pg_group::{Ended, GroupTable, Update};
+use pg_term::{Pid, Term};
 use std::alloc::{AllocError, Global};
 
 /// One call of a history.
-#[derive(Clone, Copy, Debug)]
+#[derive(Clone, Copy)]
 pub enum Step {
     Create(Side),
     Delete(Side),
@@ -63,6 +64,26 @@ pub fn has_room<T: GroupTable>(table: &T, update: &Update) -> bool
     }
 }
 
+/// Applies an update, where it has room.
+pub fn put<T: GroupTable>(table: &mut T, update: Update, ended: &Ended) -> Result<(), AllocError> {
+    if has_room(table, &update) {
+        return table.apply(&update, ended);
+    }
+    Ok(())
+}
+
+/// The update by which a copy of a pid joins a group.
+pub fn join_of(alloc: Global, name: &Term, pid: &Pid) -> Result<Update, AllocError> {
+    let pid = pid.copy()?;
+    Ok(Update::Join(name.copy(alloc)?, pid))
+}
+
+/// The update by which a copy of a pid leaves a group.
+pub fn leave_of(alloc: Global, name: &Term, pid: &Pid) -> Result<Update, AllocError> {
+    let pid = pid.copy()?;
+    Ok(Update::Leave(name.copy(alloc)?, pid))
+}
+
 impl Step {
     /// Makes the call.
     pub fn perform<T: GroupTable>(
@@ -72,38 +93,35 @@ impl Step {
         cast: &Cast,
         ended: &Ended,
     ) -> Result<(), AllocError> {
-        let update = match self {
-            Step::Create(group) => Update::Create(cast.name(group).copy(alloc)?),
-            Step::Delete(group) => Update::Delete(cast.name(group).copy(alloc)?),
-            Step::Join(group, pid) => Update::Join(
-                cast.name(group).copy(alloc)?,
-                cast.pid(pid).copy()?,
-            ),
-            Step::Leave(group, pid) => Update::Leave(
-                cast.name(group).copy(alloc)?,
-                cast.pid(pid).copy()?,
-            ),
-            Step::Merge(group, first, second) => return merge(
-                alloc,
-                table,
-                cast,
-                group,
-                (first, second),
-                ended,
-            ),
+        match self {
+            Step::Create(group) => {
+                let name = cast.name(group).copy(alloc)?;
+                put(table, Update::Create(name), ended)
+            }
+            Step::Delete(group) => {
+                let name = cast.name(group).copy(alloc)?;
+                put(table, Update::Delete(name), ended)
+            }
+            Step::Join(group, pid) => {
+                let join = join_of(alloc, cast.name(group), cast.pid(pid))?;
+                put(table, join, ended)
+            }
+            Step::Leave(group, pid) => {
+                let leave = leave_of(alloc, cast.name(group), cast.pid(pid))?;
+                put(table, leave, ended)
+            }
+            Step::Merge(group, first, second) => {
+                merge(alloc, table, cast, group, (first, second), ended)
+            }
             Step::Drop(pid) => {
                 table.drop_pid(cast.pid(pid));
-                return Ok(());
+                Ok(())
             }
             Step::DropNode(pid) => {
                 table.drop_node(cast.node(pid));
-                return Ok(());
+                Ok(())
             }
-        };
-        if has_room(table, &update) {
-            table.apply(&update, ended)?;
         }
-        Ok(())
     }
 }
 
@@ -116,6 +134,11 @@ fn merge<T: GroupTable>(
     told: (u8, u8),
     ended: &Ended,
 ) -> Result<(), AllocError> {
+    let pids = told_pids(alloc, cast, told)?;
+    table.merge(cast.name(group), pids.as_slice(), ended)
+}
+
+fn told_pids(alloc: Global, cast: &Cast, told: (u8, u8)) -> Result<Vec<Pid>, AllocError> {
     let mut pids = Vec::new(alloc);
     for _ in 0..told.1 {
         pids.push(cast.pid(Side::Second).copy()?)?;
@@ -123,5 +146,5 @@ fn merge<T: GroupTable>(
     for _ in 0..told.0 {
         pids.push(cast.pid(Side::First).copy()?)?;
     }
-    table.merge(cast.name(group), pids.as_slice(), ended)
+    Ok(pids)
 }
