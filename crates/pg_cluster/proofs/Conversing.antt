@@ -1,20 +1,25 @@
 -- A conversation that took place, and the answers that its clients count.
-use Rattle.std.proofs.Common.{◌≡◌, ◌≢◌, ◌⊎◌, ◌<◌, ◌+◌, ◌-◌, ◌^◌, ℕ, min, true, not, List, [], ◌∷◌, length, get_or, map, Some, set, inl, inr, refl, sym, ap, subst, ◌∙◌, zero, suc, arith, length-append}
+use Rattle.std.proofs.Common.{◌≡◌, ◌≢◌, ◌⊎◌, ◌<◌, ◌+◌, ◌-◌, ◌^◌, ℕ, min, true, not, List, [], ◌∷◌, ◌++◌, length, get_or, map, Some, set, inl, inr, refl, sym, ap, subst, ◌∙◌, zero, suc, arith, length-append}
 use Rattle.std.specs.List.{All, sum_by}
-use Rattle.std.proofs.Math.ListN.{get_or-map}
+use Rattle.std.specs.Prelude.{if◌then◌else◌, nat_lt, Bool, false, Ok, Err}
+use Rattle.std.proofs.Math.ListN.{get_or-append, get_or-map}
 use Rattle.std.proofs.lemmas.Bool.{cases_eq}
-use Rattle.std.proofs.lemmas.List.{length-map, length-set, get_or-set_same, get_or-set_other}
+use Rattle.std.proofs.lemmas.Bool.Decides.{eqb_tells}
+use Rattle.std.proofs.lemmas.List.{length-map, length-set, length_push, get_or_push, get_or-set_same, get_or-set_other}
 use Rattle.std.proofs.lemmas.List.Sums.{sum_by-cons}
 use Rattle.pg_machine.specs.Machine.{Event}
 use Rattle.pg_run.specs.declared.port.Client.{Client}
 use Rattle.pg_run.specs.Ports.{IsSilent, polled, polled_count}
+use Rattle.pg_step.specs.declared.start.Start.{Start}
 use Rattle.pg_step.specs.Step.{Action}
+use Rattle.pg_term.specs.declared.fault.TermFault.TheVariants.{BadAtom}
+use Rattle.pg_term.specs.Fault.{atom_of}
 use Rattle.pg_world.specs.Runs.{LosesNone}
 use Rattle.pg_world.specs.Worlds.{event_of, is_loss}
 use Rattle.pg_world.specs.declared.step.FrameStep.{FrameStep}
 use Rattle.pg_world.specs.declared.step.FrameStep.TheVariants as steps
 use Rattle.pg_cluster.specs.Clients.{AllPairs}
-use Rattle.pg_cluster.specs.Conversations.{Counts, HasCounted, all_polled, saturated}
+use Rattle.pg_cluster.specs.Conversations.{AreBare, Counts, HasCounted, IsBare, all_polled, saturated}
 use Rattle.pg_cluster.specs.declared.speaker.Speaker.{Speaker}
 
 -- ---- the schedule
@@ -101,3 +106,22 @@ pub counted_more : (count count2 : ℕ) (client client2 : Client) → Counts cou
 counted_more count count2 client client2 (inl more) was =
     more.2 ∙ add_one_up_to (2 ^ 64 - 1) count (length (polled client)) was ∙ sym (ap saturated (ap length more.1 ∙ length-append (polled client) (more.0 ∷ [])))
 counted_more count count2 client client2 (inr rest) was = rest.1 ∙ was ∙ sym (ap (λ answers. saturated (length answers)) rest.0)
+
+-- one node more, with the next number
+pub bare_push : (ports : ℕ) (starts : List Start) (start : Start) → AreBare ports starts → IsBare ports (length starts + 1) start → AreBare ports (starts ++ start ∷ [])
+bare_push ports starts start all here i none low = elim (eqb_tells i (length starts)) [
+  | inl t ↦
+      subst (λ x. IsBare ports (i + 1) x) (sym (get_or_push starts start none i (sym t.1)))
+      (subst (λ k. IsBare ports (k + 1) start) (sym t.1) here)
+  | inr f ↦
+      let less : i < length starts = let n = length_push starts start in omega (arith, f.1, n, low) in
+      subst (IsBare ports (i + 1)) (sym (get_or-append starts (start ∷ []) none i less)) (all i none less)
+]
+
+-- the atom of a text that has one
+pub atom_is : (text name : List ℕ) → atom_of text ≡ Ok name → name ≡ text
+atom_is text name is = go (nat_lt 255 (length text)) is
+  where
+    go : (b : Bool) → (if b then Err BadAtom else Ok text) ≡ Ok name → name ≡ text
+    go true e = absurd (cc)
+    go false e = cc

@@ -1,6 +1,6 @@
 -- What a conversation of clients with a cluster came to.
-use Rattle.std.specs.Prelude.{◌≡◌, ◌⊎◌, ℕ, ◌+◌, ◌*◌, ◌-◌, ◌^◌, min, true, List, [], ◌∷◌, ◌++◌, length, map}
-use Rattle.std.specs.List.{All, sum_by}
+use Rattle.std.specs.Prelude.{◌≡◌, ◌⊎◌, ℕ, ◌<◌, ◌+◌, ◌*◌, ◌-◌, ◌^◌, min, true, List, [], ◌∷◌, ◌++◌, chars, codes, decimal, get_or, length, map}
+use Rattle.std.specs.List.{sum_by}
 use Rattle.pg_run.specs.Ports.{polled, polled_count}
 use Rattle.pg_run.specs.declared.log.NodeEvent.{NodeEvent}
 use Rattle.pg_run.specs.declared.port.Client.{Client}
@@ -17,16 +17,25 @@ use Rattle.pg_cluster.specs.declared.conversation.Conversation.{Conversation}
 use Rattle.pg_cluster.specs.declared.conversation.Outcome.{Outcome}
 use Rattle.pg_cluster.specs.declared.speaker.Speaker.{Speaker}
 
--- a node with so many ports, no group, and no process
-pub record IsBare (ports : ℕ) (start : Start) : Type 0 where
+-- the name of the node of this number: `n1`, `n2` and so on
+abbrev pub node_name : ℕ → List ℕ
+node_name number = chars (codes "n" ++ decimal number)
+
+-- the node of this number, with so many ports, no group, and no process
+pub record IsBare (ports number : ℕ) (start : Start) : Type 0 where
+  pub named : start.name ≡ node_name number
   pub ports_are : start.ports ≡ ports
   pub no_process : start.made ≡ 0
   pub no_group : start.groups ≡ []
 
+-- nodes that are numbered from 1 on, each with so many ports
+abbrev pub AreBare : ℕ → List Start → Type 0
+AreBare ports starts = (i : ℕ) (none : Start) → i < length starts → IsBare ports (i + 1) (get_or starts i none)
+
 -- the nodes that are asked for: each has a port for each of its clients
 pub record AreAsked (asked : Conversation) (given : Config) : Type 0 where
   pub count : length given ≡ asked.nodes
-  pub each : All (IsBare asked.clients) given
+  pub each : AreBare asked.clients given
 
 -- a number of 64 bits at most
 abbrev pub saturated : ℕ → ℕ

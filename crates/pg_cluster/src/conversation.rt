@@ -157,7 +157,7 @@ fn config_of(alloc: Global, asked: Conversation) -> Result<Config, StartFault>
 }
 
 fn start_of(alloc: Global, number: u32, ports: u16) -> Result<Start, StartFault>
-    ensures { IfOk result (IsBare ports) }
+    ensures { IfOk result (IsBare ports number) }
 {
     let text = format!(in alloc; "n{number}")?;
     let Ok(name) = Atom::new(alloc, text.as_str()) else {

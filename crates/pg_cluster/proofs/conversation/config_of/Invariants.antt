@@ -1,7 +1,6 @@
 use Rattle.std.proofs.Common.{◌≡◌, length}
-use Rattle.std.specs.List.{All}
-use Rattle.pg_cluster.specs.Conversations.{IsBare}
+use Rattle.pg_cluster.specs.Conversations.{AreBare}
 use Rattle.pg_cluster.proofs.conversation.config_of.Given as goal
 
 abbrev pub invariant-loop-place : goal.invariant-loop-place
-invariant-loop-place l = (length l.starts.items ≡ l.place) × All (IsBare l.fn.asked.clients) l.starts.items
+invariant-loop-place l = (length l.starts.items ≡ l.place) × AreBare l.fn.asked.clients l.starts.items
