@@ -1,6 +1,6 @@
 //! The events of a node with its links, each of which is logged.
 
-ghost use Rattle.std.specs.Prelude.{◌≡◌, ◌<◌, ◌+◌, ◌^◌, ◌++◌, [], ◌∷◌, false, Ok, Some, IfErr, IfSome, length, vec_len, vec_capacity};
+ghost use Rattle.std.specs.Prelude.{◌≡◌, ◌<◌, ◌+◌, ◌^◌, ◌++◌, [], ◌∷◌, true, false, Ok, None, Some, IfOk, IfErr, IfSome, length, vec_len, vec_capacity};
 
 use crate::linked::LinkedNode;
 use crate::log::NodeEvent;
@@ -30,6 +30,7 @@ impl<T: GroupTable + Drop, L: Link + Drop, I: Inlet + Drop> LinkedNode<T, L, I> 
     pub fn take(&mut self, peer: usize) -> Result<bool, NodeFault>
         requires place { peer < length (peers_of self.old) }
         ensures took { TookNext L.accepts I.gives peer result self.old self.new }
+        ensures none { result ≡ Ok false → next_packet (links_of (node_of self.old) peer) ≡ Ok None }
         ensures fault { IfErr result (IsTold (told_of_peer (node_of self.old) peer)) }
     {
         if self.log.reserve(1).is_err() {
@@ -52,6 +53,7 @@ impl<T: GroupTable + Drop, L: Link + Drop, I: Inlet + Drop> LinkedNode<T, L, I> 
         requires here { (kept_by (held_by (node_of self.old))).lost (name_at (names_of (held_by (node_of self.old))) (peer + 1)) ≡ false }
         requires room { vec_len self.old.log < vec_capacity self.old.log }
         ensures took { TookNext L.accepts I.gives peer result self.old self.new }
+        ensures none { result ≡ Ok false → next.now ≡ None }
         ensures fault { IfErr result (λ fault. IsTold (told_of_peer (node_of self.old) peer) fault) }
     {
         match next {
@@ -68,6 +70,7 @@ impl<T: GroupTable + Drop, L: Link + Drop, I: Inlet + Drop> LinkedNode<T, L, I> 
         requires here { (kept_by (held_by (node_of self.old))).lost (name_at (names_of (held_by (node_of self.old))) (peer + 1)) ≡ false }
         requires room { vec_len self.old.log < vec_capacity self.old.log }
         ensures took { TookNext L.accepts I.gives peer result self.old self.new }
+        ensures done { IfOk result (λ took. took ≡ true) }
         ensures fault { IfErr result (λ fault. IsTold (told_of_peer (node_of self.old) peer) fault) }
     {
         match self.node.take_read(peer, packet) {
