@@ -6,3 +6,4 @@ pub mod Moving
 pub mod Passing
 pub mod PortsGoing
 pub mod Taking
+pub mod Trying

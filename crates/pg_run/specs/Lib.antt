@@ -4,4 +4,5 @@ pub mod Follows
 pub mod Notices
 pub mod Ports
 pub mod Runs
+pub mod Tries
 pub mod Turns

@@ -1,6 +1,7 @@
 //! The phases of a turn that are between a node and its peers.
 
-ghost use Rattle.std.specs.Prelude.{◌<◌, length};
+ghost use Rattle.std.specs.Prelude.{◌≡◌, ◌<◌, true, length, IfErr};
+ghost use Rattle.pg_run.specs.Tries.{IsNoWant};
 
 use crate::linked::LinkedNode;
 use pg_group::GroupTable;
@@ -41,8 +42,36 @@ impl Phase {
         }
     }
 
+    /// So many bytes came in, or this fault was told.
+    fn of_pull(pulled: Result<usize, NodeFault>) -> Phase {
+        match pulled {
+            Ok(count) => Phase::of(count > 0, None),
+            Err(fault) => Phase::of(false, Some(fault)),
+        }
+    }
+
+    /// A packet was taken, or none was there, or this fault was told.
+    fn of_take(taken: Result<bool, NodeFault>) -> Phase
+        ensures { result.whole ≡ true → IfErr taken IsNoWant }
+    {
+        match taken {
+            Ok(happened) => Phase {
+                whole: true,
+                busy: happened,
+            },
+            Err(NodeFault::OutOfMemory | NodeFault::Refused(Refusal::ClockFull)) => Phase {
+                whole: false,
+                busy: false,
+            },
+            Err(_) => Phase::idle(),
+        }
+    }
+
     /// Both parts.
-    pub(crate) fn and(self, other: Phase) -> Phase {
+    pub(crate) fn and(self, other: Phase) -> Phase
+        ensures first { result.whole ≡ true → self.whole ≡ true }
+        ensures second { result.whole ≡ true → other.whole ≡ true }
+    {
         Phase {
             whole: self.whole && other.whole,
             busy: self.busy || other.busy,
@@ -52,11 +81,13 @@ impl Phase {
 
 impl<T: GroupTable + Drop, L: Link + Drop, I: Inlet + Drop> LinkedNode<T, L, I> {
     ghost use Rattle.pg_run.specs.Follows.{peers_of};
+    ghost use Rattle.pg_run.specs.Tries.{HasTried, HasTriedAll};
     ghost use Rattle.pg_run.specs.Turns.{GoesOn};
 
     /// Of each peer up to 4,096 bytes come in, and the next packet is taken.
     pub(crate) fn take_all(&mut self) -> Phase
-        ensures { GoesOn L.accepts I.gives self.old self.new }
+        ensures goes { GoesOn L.accepts I.gives self.old self.new }
+        ensures tried { result.whole ≡ true → HasTriedAll L.accepts I.gives self.old self.new }
     {
         let mut phase = Phase::idle();
         for peer in 0..self.peer_count() {
@@ -68,17 +99,12 @@ impl<T: GroupTable + Drop, L: Link + Drop, I: Inlet + Drop> LinkedNode<T, L, I> 
     /// Of a peer up to 4,096 bytes come in, and the next packet is taken.
     fn pull_and_take(&mut self, peer: usize) -> Phase
         requires place { peer < length (peers_of self.old) }
-        ensures { GoesOn L.accepts I.gives self.old self.new }
+        ensures goes { GoesOn L.accepts I.gives self.old self.new }
+        ensures tried { result.whole ≡ true → HasTried L.accepts I.gives peer self.old self.new }
     {
-        let pulled = match self.pull(peer, PULL_LEN) {
-            Ok(count) => Phase::of(count > 0, None),
-            Err(fault) => Phase::of(false, Some(fault)),
-        };
-        let took = match self.take(peer) {
-            Ok(happened) => Phase::of(happened, None),
-            Err(fault) => Phase::of(false, Some(fault)),
-        };
-        pulled.and(took)
+        let pulled = Phase::of_pull(self.pull(peer, PULL_LEN));
+        let taken = self.take(peer);
+        pulled.and(Phase::of_take(taken))
     }
 
     /// What waits for each peer is put.

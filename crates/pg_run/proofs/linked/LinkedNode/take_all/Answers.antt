@@ -1,8 +1,21 @@
+use Rattle.std.proofs.Common.{arith}
 use Rattle.pg_run.proofs.GoingOn.{goes_itself, goes_on}
+use Rattle.pg_run.proofs.Trying.{going, tried_more}
 use Rattle.pg_run.proofs.linked.LinkedNode.take_all.Goals as goal
 
 pub loop-peer-init : goal.loop-peer-init
-loop-peer-init g c = goes_itself g.L.Link.accepts g.I.Inlet.gives g.met.L.Link.rests g.met.I.Inlet.rests c.args.self.now
+loop-peer-init g c = (
+  goes_itself g.L.Link.accepts g.I.Inlet.gives g.met.L.Link.rests g.met.I.Inlet.rests c.args.self.now,
+  λ whole peer low. absurd (omega (arith, low)),
+)
 
 pub loop-peer-preserved : goal.loop-peer-preserved
-loop-peer-preserved g c = goes_on g.L.Link.accepts g.I.Inlet.gives g.met.L.Link.composes g.met.I.Inlet.composes c.args.self.now c.loop-peer.self c.pull_and_take.new.self c.loop-peer.invariant c.pull_and_take.ensures
+loop-peer-preserved g c =
+    let was = c.loop-peer.invariant in
+    let a = c.args.self.now in
+    let b = c.loop-peer.self in
+    let d = c.pull_and_take.new.self in (
+      goes_on g.L.Link.accepts g.I.Inlet.gives g.met.L.Link.composes g.met.I.Inlet.composes a b d was.0 c.pull_and_take.ensures.goes,
+      λ whole. tried_more g.L.Link.accepts g.I.Inlet.gives g.met.L.Link.rests g.met.I.Inlet.rests g.met.L.Link.composes g.met.I.Inlet.composes c.loop-peer.peer a b d
+          (was.0.acts, was.0.follows) (c.pull_and_take.ensures.goes.acts, c.pull_and_take.ensures.goes.follows) (was.1 (c.and-phase.ensures.first whole)) (c.pull_and_take.ensures.tried (c.and-phase.ensures.second whole)),
+    )

@@ -1,5 +1,10 @@
+use Rattle.std.proofs.Common.{◌≡◌, ◌<◌, ℕ}
+use Rattle.std.specs.Prelude.{true}
+use Rattle.pg_run.specs.Tries.{HasTried}
 use Rattle.pg_run.specs.Turns.{GoesOn}
 use Rattle.pg_run.proofs.linked.LinkedNode.take_all.Given as goal
 
 abbrev pub invariant-loop-peer : goal.invariant-loop-peer
-invariant-loop-peer g l = GoesOn g.L.Link.accepts g.I.Inlet.gives l.initial.self l.self
+invariant-loop-peer g l =
+    GoesOn g.L.Link.accepts g.I.Inlet.gives l.initial.self l.self
+    × (l.phase.whole ≡ true → (peer : ℕ) → peer < l.peer → HasTried g.L.Link.accepts g.I.Inlet.gives peer l.initial.self l.self)

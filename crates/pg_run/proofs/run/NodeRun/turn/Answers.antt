@@ -1,5 +1,6 @@
 use Rattle.std.proofs.Common.{[], refl}
 use Rattle.pg_run.proofs.GoingOn.{goes_itself, serves_going, serves_turn, notices_stay}
+use Rattle.pg_run.proofs.Trying.{comes_four, tried_still}
 use Rattle.pg_run.proofs.run.NodeRun.turn.Goals as goal
 
 pub returns-then-take-gt0-clause-runs : goal.returns-then-take-gt0-clause-runs
@@ -16,7 +17,7 @@ returns-then-phase-clause-runs g c = record {
   losses = c.see_next-saw.ensures.losses;
   serves = serves_turn g.L.Link.accepts g.I.Inlet.gives g.met.L.Link.composes g.met.I.Inlet.composes c.see_next-saw.ensures.losses c.args.self.now.linked c.take_all-took.new.self
       c.see_next-saw.new.linked c.command_all-commanded.new.linked c.retry_all-retried.new.linked c.put_all-put.new.self c.args.self.now.ports.items c.command_all-commanded.new.ports.items
-      c.hand_all-handed.new.ports.items c.take_all-took.ensures c.see_next-saw.ensures.going c.command_all-commanded.ensures c.retry_all-retried.ensures c.put_all-put.ensures c.hand_all-handed.ensures;
+      c.hand_all-handed.new.ports.items c.take_all-took.ensures.goes c.see_next-saw.ensures.going c.command_all-commanded.ensures c.retry_all-retried.ensures c.put_all-put.ensures c.hand_all-handed.ensures;
   told = c.see_next-saw.ensures.told;
 }
 
@@ -25,6 +26,20 @@ returns-else-phase-clause-runs g c = record {
   losses = c.see_next-saw.ensures.losses;
   serves = serves_turn g.L.Link.accepts g.I.Inlet.gives g.met.L.Link.composes g.met.I.Inlet.composes c.see_next-saw.ensures.losses c.args.self.now.linked c.take_all-took.new.self
       c.see_next-saw.new.linked c.command_all-commanded.new.linked c.retry_all-retried.new.linked c.put_all-put.new.self c.args.self.now.ports.items c.command_all-commanded.new.ports.items
-      c.hand_all-handed.new.ports.items c.take_all-took.ensures c.see_next-saw.ensures.going c.command_all-commanded.ensures c.retry_all-retried.ensures c.put_all-put.ensures c.hand_all-handed.ensures;
+      c.hand_all-handed.new.ports.items c.take_all-took.ensures.goes c.see_next-saw.ensures.going c.command_all-commanded.ensures c.retry_all-retried.ensures c.put_all-put.ensures c.hand_all-handed.ensures;
   told = c.see_next-saw.ensures.told;
 }
+
+pub returns-then-phase-clause-tried : goal.returns-then-phase-clause-tried
+returns-then-phase-clause-tried g c =
+    let a = c.args.self.now.linked in
+    let b = c.take_all-took.new.self in
+    let d = c.see_next-saw.new.linked in
+    let e = c.command_all-commanded.new.linked in
+    let f = c.retry_all-retried.new.linked in
+    let h = c.put_all-put.new.self in
+    let whole = c.and.ensures.first (c.and-2.ensures.first (c.and-3.ensures.first (c.and-4.ensures.first (c.and-phase.ensures.first c.if-phase.true)))) in
+    tried_still g.L.Link.accepts g.I.Inlet.gives g.met.L.Link.rests g.met.I.Inlet.rests g.met.L.Link.composes g.met.I.Inlet.composes a b h (c.take_all-took.ensures.tried whole)
+    (comes_four g.L.Link.accepts g.I.Inlet.gives g.met.L.Link.rests g.met.I.Inlet.rests g.met.L.Link.composes g.met.I.Inlet.composes b d e f h
+    (c.see_next-saw.ensures.going.acts, c.see_next-saw.ensures.going.follows) (c.command_all-commanded.ensures.acts, c.command_all-commanded.ensures.follows)
+    (c.retry_all-retried.ensures.acts, c.retry_all-retried.ensures.follows) (c.put_all-put.ensures.acts, c.put_all-put.ensures.follows))
