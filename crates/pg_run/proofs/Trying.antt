@@ -1,6 +1,6 @@
 -- What a whole turn has tried, phase by phase.
-use Rattle.std.proofs.Common.{◌≡◌, ◌<◌, ◌+◌, ◌∙◌, ℕ, List, [], ◌++◌, length, sym, subst, arith, inl, inr}
-use Rattle.std.specs.Prelude.{Bool, true, false, Option, None, Result, Ok, IfErr}
+use Rattle.std.proofs.Common.{◌≡◌, ◌<◌, ◌+◌, ℕ, List, [], ◌∷◌, ◌++◌, refl, sym, subst, arith, inl, inr}
+use Rattle.std.specs.Prelude.{Bool, false, None, Result, Ok, IfErr}
 use Rattle.std.proofs.lemmas.Bool.Decides.{eqb_tells}
 use Rattle.pg_group.specs.declared.table.GroupTable.{Ghosts}
 use Rattle.pg_node.specs.declared.state.fault.NodeFault.{NodeFault}
@@ -9,11 +9,14 @@ use Rattle.pg_node.specs.Nodes.{links_of}
 use Rattle.pg_run.specs.declared.linked.LinkedNode.{LinkedNode}
 use Rattle.pg_run.specs.declared.notices.Notice.{Notice}
 use Rattle.pg_run.specs.declared.port.Port.{Port}
-use Rattle.pg_run.specs.Acts.{Act}
+use Rattle.pg_run.specs.declared.run.NodeRun.{NodeRun}
+use Rattle.pg_run.specs.declared.run.Turned.{Turned}
+use Rattle.pg_run.specs.declared.run.Turned.TheVariants.{Whole, Short, Stopped}
+use Rattle.pg_run.specs.Runs.{TurnMade, TurnsMade, shorts, wholes}
 use Rattle.pg_run.specs.Events.{TookNext, IsTold, told_of_peer}
-use Rattle.pg_run.specs.Follows.{Follows, node_of, peers_of}
+use Rattle.pg_run.specs.Follows.{Follows, node_of}
 use Rattle.pg_run.specs.Tries.{ComesTo, HasTried, HasTriedAll, IsNoWant}
-use Rattle.pg_run.specs.Turns.{GoesOnSeeing, GoesOn, ServesSeeing, Serves}
+use Rattle.pg_run.specs.Turns.{GoesOnSeeing, ServesSeeing}
 use Rattle.pg_run.proofs.Following.{follows_itself, follows_on}
 
 module _ {T L I : Type 0} {g : Ghosts T} (accepts : L → List ℕ → L → Type 0) (gives : I → List ℕ → I → Type 0)
@@ -76,3 +79,23 @@ module _ {T L I : Type 0} {g : Ghosts T} (accepts : L → List ℕ → L → Typ
 
   pub comes_four : (a b c d e : LinkedNode T L I g) → ComesTo accepts gives a b → ComesTo accepts gives b c → ComesTo accepts gives c d → ComesTo accepts gives d e → ComesTo accepts gives a e
   comes_four a b c d e h k l m = comes_on a b e h (comes_on b c e k (comes_on c d e l m))
+
+-- ---- turn by turn
+
+pub wholes_push : (turned : List Turned) (t : Turned) → wholes (turned ++ t ∷ []) ≡ wholes turned + wholes (t ∷ [])
+wholes_push [] t = omega (arith)
+wholes_push (Whole ∷ others) t = let e = wholes_push others t in omega (arith, e)
+wholes_push (Short ∷ others) t = wholes_push others t
+wholes_push (Stopped ∷ others) t = wholes_push others t
+
+pub shorts_push : (turned : List Turned) (t : Turned) → shorts (turned ++ t ∷ []) ≡ shorts turned + shorts (t ∷ [])
+shorts_push [] t = omega (arith)
+shorts_push (Whole ∷ others) t = shorts_push others t
+shorts_push (Short ∷ others) t = let e = shorts_push others t in omega (arith, e)
+shorts_push (Stopped ∷ others) t = shorts_push others t
+
+module _ {T L I K : Type 0} {g : Ghosts T} (accepts : L → List ℕ → L → Type 0) (gives : I → List ℕ → I → Type 0) where
+  pub turns_push : (turned : List Turned) (t : Turned) (a b c : NodeRun T L I K g) → TurnsMade accepts gives turned a b → TurnMade accepts gives t b c
+      → TurnsMade accepts gives (turned ++ t ∷ []) a c
+  turns_push [] t a b c same made = (c, subst (λ (x : NodeRun T L I K g). TurnMade accepts gives t x c) same made, refl)
+  turns_push (first ∷ others) t a b c (m, one, rest) made = (m, one, turns_push others t m b c rest made)

@@ -1,5 +1,5 @@
 -- What turns make of a node that runs.
-use Rattle.std.specs.Prelude.{◌≡◌, ◌⊎◌, ◌<◌, ℕ, List, [], ◌∷◌}
+use Rattle.std.specs.Prelude.{◌≡◌, ◌⊎◌, ◌<◌, ◌+◌, ℕ, length, List, [], ◌∷◌}
 use Rattle.pg_ring.specs.declared.slot_in.SlotIn.{SlotIn}
 use Rattle.pg_group.specs.declared.table.GroupTable.{Ghosts}
 use Rattle.pg_run.specs.declared.linked.LinkedNode.{LinkedNode}
@@ -9,7 +9,9 @@ use Rattle.pg_run.specs.declared.port.Port.{Port}
 use Rattle.pg_run.specs.declared.run.NodeRun.{NodeRun}
 use Rattle.pg_run.specs.declared.run.Turned.{Turned}
 use Rattle.pg_run.specs.declared.run.Turned.TheVariants.{Whole, Short, Stopped}
+use Rattle.pg_run.specs.declared.running.Ran.{Ran}
 use Rattle.pg_run.specs.Notices.{NoticesGo, inlet_of}
+use Rattle.pg_run.specs.Tries.{WholeTurn}
 use Rattle.pg_run.specs.Turns.{ServesSeeing}
 
 module _ {T L I K : Type 0} {g : Ghosts T} where
@@ -47,3 +49,41 @@ module _ {I : Type 0} (gives : I → List ℕ → I → Type 0) where
   -- all turns were made and no stop byte came, or it came
   abbrev pub Ended : I → I → ℕ → ℕ → Type 0
   Ended a b limit turns = ((turns ≡ limit) × gives a [] b) ⊎ ((turns < limit) × ((x : ℕ) × gives a (x ∷ []) b))
+
+-- ---- turn by turn
+
+-- how many of these turns were whole, and how many short
+abbrev pub wholes : List Turned → ℕ
+wholes [] = 0
+wholes (Whole ∷ others) = wholes others + 1
+wholes (Short ∷ others) = wholes others
+wholes (Stopped ∷ others) = wholes others
+
+abbrev pub shorts : List Turned → ℕ
+shorts [] = 0
+shorts (Whole ∷ others) = shorts others
+shorts (Short ∷ others) = shorts others + 1
+shorts (Stopped ∷ others) = shorts others
+
+module _ {T L I K : Type 0} {g : Ghosts T} (accepts : L → List ℕ → L → Type 0) (gives : I → List ℕ → I → Type 0) where
+  -- what a turn made of a node
+  pub record TurnMade (turned : Turned) (a b : NodeRun T L I K g) : Type 0 where
+    pub runs : Runs accepts gives a b
+    pub stop : TurnedTo gives (stop_of a) turned (stop_of b)
+    pub tried : WholeTurn accepts gives turned (linked_of a) (linked_of b)
+
+  -- these turns, one after another
+  abbrev pub TurnsMade : List Turned → NodeRun T L I K g → NodeRun T L I K g → Type 0
+  TurnsMade [] a b = b ≡ a
+  TurnsMade (turned ∷ others) a b = (m : NodeRun T L I K g) × TurnMade turned a m × TurnsMade others m b
+
+  -- A node ran: it made so many turns, of which so many were short and the others whole, and then, if it was stopped, one in which
+  -- nothing was done.
+  pub record RanBy (run : NodeRun T L I K g) (ran : Ran T L I K g) : Type 0 where
+    pub turned : List Turned
+    pub last : NodeRun T L I K g
+    pub made : TurnsMade turned run last
+    pub short : shorts turned ≡ ran.short
+    pub whole : wholes turned + ran.short ≡ ran.turns
+    pub count : length turned ≡ ran.turns
+    pub ends : (ran.run ≡ last) ⊎ TurnMade Stopped last ran.run

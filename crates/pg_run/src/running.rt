@@ -1,7 +1,7 @@
 //! The loop of a node's thread.
 
 ghost use Rattle.std.specs.Prelude.{◌≤◌};
-ghost use Rattle.pg_run.specs.Runs.{Runs, Ended, stop_of};
+ghost use Rattle.pg_run.specs.Runs.{Runs, RanBy, Ended, stop_of};
 
 use crate::run::{NodeRun, Turned};
 use pg_group::GroupTable;
@@ -36,6 +36,7 @@ pub fn run_node<T: GroupTable + Drop, L: Link + Drop, I: Inlet + Drop, K: Rng + 
     ensures runs { Runs L.accepts I.gives run result.run }
     ensures turns { result.turns ≤ limit }
     ensures short { result.short ≤ result.turns }
+    ensures made { RanBy L.accepts I.gives run result }
     ensures ended { Ended I.gives (stop_of run) (stop_of result.run) limit result.turns }
 {
     let mut run = run;

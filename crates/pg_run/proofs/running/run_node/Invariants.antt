@@ -1,5 +1,6 @@
-use Rattle.std.proofs.Common.{◌≡◌, ◌≤◌, []}
-use Rattle.pg_run.specs.Runs.{Runs, stop_of}
+use Rattle.std.proofs.Common.{◌≡◌, ◌≤◌, ◌+◌, List, [], length}
+use Rattle.pg_run.specs.declared.run.Turned.{Turned}
+use Rattle.pg_run.specs.Runs.{Runs, TurnsMade, shorts, stop_of, wholes}
 use Rattle.pg_run.proofs.running.run_node.Given as goal
 
 abbrev pub invariant-loop-turn : goal.invariant-loop-turn
@@ -8,3 +9,8 @@ invariant-loop-turn g l =
     × (l.turns ≡ l.turn)
     × (l.short ≤ l.turns)
     × g.I.Inlet.gives (stop_of l.fn.run) [] (stop_of l.run)
+    × ((turned : List Turned)
+    × TurnsMade g.L.Link.accepts g.I.Inlet.gives turned l.fn.run l.run
+    × (shorts turned ≡ l.short)
+    × (wholes turned + l.short ≡ l.turns)
+    × (length turned ≡ l.turns))

@@ -1,6 +1,6 @@
 use Rattle.std.proofs.Common.{arith}
 use Rattle.pg_run.proofs.GoingOn.{goes_itself, goes_on}
-use Rattle.pg_run.proofs.Trying.{going, tried_more}
+use Rattle.pg_run.proofs.Trying.{tried_more}
 use Rattle.pg_run.proofs.linked.LinkedNode.take_all.Goals as goal
 
 pub loop-peer-init : goal.loop-peer-init
