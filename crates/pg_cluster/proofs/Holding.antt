@@ -1,9 +1,9 @@
 -- What a node of a cluster holds, and lists of them of which one is lost.
-use Rattle.std.proofs.Common.{◌≡◌, ◌<◌, ℕ, zero, suc, List, [], ◌∷◌, length, get_or, set, sym, ◌∙◌, ap, subst, arith}
+use Rattle.std.proofs.Common.{◌≡◌, ◌<◌, ℕ, zero, suc, List, [], ◌∷◌, length, map, get_or, set, sym, ◌∙◌, ap, subst, arith}
 use Rattle.std.specs.Prelude.{true, false, Option, Some, None, option_map, slice_get}
 use Rattle.std.proofs.lemmas.Option.{slice_get-map, slice_get-get_or}
 use Rattle.pg_cluster.specs.declared.member.Member.{Member}
-use Rattle.pg_cluster.specs.Members.{is_lost, losses_in, thread_of, threads_in}
+use Rattle.pg_cluster.specs.Members.{is_lost, last_of, losses_in, thread_of, threads_in}
 use Rattle.pg_cluster.specs.Promises.{RanAs}
 use Rattle.pg_cluster.specs.Threads.{Holds, RanOf, Thread, begun_by, limit_of, thread_or}
 
@@ -58,3 +58,10 @@ module _ {K : Type 0} where
       let one : Some (is_lost member) ≡ Some true = sym (loss_at members k member low is) ∙ gone in
       let two : is_lost member ≡ true = cc in
       absurd (cc)
+
+  -- the clock of the node at a place
+  pub last_set : (members : List (Member K)) (k : ℕ) (member : Member K) (last : ℕ) → k < length members → last ≡ last_of member
+      → slice_get (map last_of (set members k member)) k ≡ Some last
+  last_set [] k member last low is = absurd (omega (arith, low))
+  last_set (m ∷ ms) zero member last low is = ap Some (sym is)
+  last_set (m ∷ ms) (suc k) member last low is = last_set ms k member last (omega (arith, low)) is

@@ -22,4 +22,5 @@ pub mod SettlingPorts
 pub mod ShownOnce
 pub mod Starts
 pub mod Telling
+pub mod TellingAll
 pub mod TermsSent

@@ -1,7 +1,9 @@
 -- What the nodes of a cluster are seen as.
-use Rattle.std.specs.Prelude.{Bool, List, is_none, map}
+use Rattle.std.specs.Prelude.{ℕ, Bool, List, Option, Some, None, is_none, map}
+use Rattle.pg_node.specs.Nodes.{held_by}
+use Rattle.pg_node.specs.States.{state_of}
 use Rattle.pg_cluster.specs.declared.member.Member.{Member}
-use Rattle.pg_cluster.specs.Threads.{Thread, thread_or}
+use Rattle.pg_cluster.specs.Threads.{RanOf, Thread, node_in, thread_or}
 
 module _ {K : Type 0} where
   -- the thread of a node, as it was started
@@ -17,3 +19,11 @@ module _ {K : Type 0} where
 
   abbrev pub losses_in : List (Member K) → List Bool
   losses_in members = map is_lost members
+
+  -- the clock of a node at last, once its thread was joined
+  abbrev pub last_in : Option (RanOf K) → ℕ
+  last_in None = 0
+  last_in (Some ran) = (state_of (held_by (node_in ran.run))).clock
+
+  abbrev pub last_of : Member K → ℕ
+  last_of member = last_in member.ran

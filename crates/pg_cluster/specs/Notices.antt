@@ -1,10 +1,11 @@
 -- Which nodes of a cluster were lost, and what the others were told of it.
-use Rattle.std.specs.Prelude.{◌≡◌, ℕ, Bool, false, List, [], get_or, length}
+use Rattle.std.specs.Prelude.{◌≡◌, ◌⊎◌, ◌<◌, ◌≤◌, ℕ, nat_eq, Bool, false, cond, List, [], ◌∷◌, ◌++◌, get_or, length}
 use Rattle.std.specs.List.{All}
 use Rattle.pg_ring.specs.declared.slot_in.SlotIn.{SlotIn}
 use Rattle.pg_ring.specs.declared.slot_out.SlotOut.{SlotOut}
-use Rattle.pg_ring.specs.Slots.{AreSlots, SameSlotOut, given, taken}
+use Rattle.pg_ring.specs.Slots.{AreSlots, SameSlotOut, given, slots_free, taken}
 use Rattle.pg_run.specs.declared.notices.Notice.{Notice}
+use Rattle.pg_world.specs.Views.{peer_place}
 
 -- none of these nodes was lost, each told by its place
 abbrev pub NobodyLost : List Bool → Type 0
@@ -26,3 +27,16 @@ Untold teller inlet = IsSilent teller → taken inlet ≡ []
 pub record SameTellers (a b : List (SlotOut Notice)) : Type 0 where
   pub len : length b ≡ length a
   pub each : (place : ℕ) (none : SlotOut Notice) → SameSlotOut (get_or a place none) (get_or b place none)
+
+-- what the node at a place is told of the loss of another, whose clock was this at last; the lost one is told nothing
+abbrev pub notice_for : (place node last : ℕ) → List Notice
+notice_for place node last = cond (nat_eq place node) [] (record { peer = peer_place place node; last = last } ∷ [])
+
+-- it was told so, or no room was left for that
+abbrev pub Told : (place node last : ℕ) → SlotOut Notice → SlotOut Notice → Type 0
+Told place node last a b = (given b ≡ given a ++ notice_for place node last) ⊎ ((given b ≡ given a) × (slots_free b ≡ 0))
+
+-- each node before a place was told so, and none behind it was told anything
+pub record ToldUpTo (node last place : ℕ) (a b : List (SlotOut Notice)) : Type 0 where
+  pub told : (i : ℕ) (none : SlotOut Notice) → i < place → Told i node last (get_or a i none) (get_or b i none)
+  pub rest : (i : ℕ) (none : SlotOut Notice) → place ≤ i → get_or b i none ≡ get_or a i none

@@ -6,11 +6,12 @@ use Rattle.pg_ring.specs.declared.ring_in.RingIn.{RingIn}
 use Rattle.pg_ring.specs.Ends.{Sends, Receives}
 use Rattle.pg_run.specs.declared.run.NodeRun.{NodeRun}
 use Rattle.pg_run.specs.declared.running.Ran.{Ran}
-use Rattle.pg_run.specs.Runs.{Runs, Ended, stop_of}
+use Rattle.pg_run.specs.Runs.{Runs, RanBy, Ended, stop_of}
 
 -- what a thread tells of the node that it was given
 pub record RanAs {T K : Type 0} {g : Ghosts T} (run : NodeRun T RingOut RingIn K g) (limit : ℕ) (ran : Ran T RingOut RingIn K g) : Type 0 where
   pub runs : Runs Sends Receives run ran.run
+  pub made : RanBy Sends Receives run ran
   pub turns : ran.turns ≤ limit
   pub short : ran.short ≤ ran.turns
   pub ended : Ended Receives (stop_of run) (stop_of ran.run) limit ran.turns

@@ -51,7 +51,7 @@ pub struct Cluster<K: Rng + Drop> {
 impl<K: Rng + Drop + Send + 'static> Cluster<K> {
     ghost use Rattle.pg_run.specs.Ports.{IsSilent};
     ghost use Rattle.pg_cluster.specs.Clients.{AreClients, ClientsRest, AllHeard};
-    ghost use Rattle.pg_cluster.specs.Closed.{threads_of, lost_of, nodes_of, logs_of, losses_of, clients_of};
+    ghost use Rattle.pg_cluster.specs.Closed.{AllTold, threads_of, lost_of, nodes_of, logs_of, losses_of, clients_of};
     ghost use Rattle.pg_cluster.specs.Notices.{NobodyLost};
     ghost use Rattle.pg_node.specs.declared.state.fault.NodeFault.TheVariants.{Refused};
     ghost use Rattle.pg_step.specs.declared.refusal.Refusal.TheVariants.{NoSuchPlace, NodeLost};
@@ -115,6 +115,7 @@ impl<K: Rng + Drop + Send + 'static> Cluster<K> {
         ensures again { (result ≡ Err (Refused NodeLost)) ↔ (slice_get (lost_of self.old) node ≡ Some true) }
         ensures fault { IfErr result (λ fault. (fault ≡ Refused NoSuchPlace) ⊎ (fault ≡ Refused NodeLost)) }
         ensures lost { OnOk result (lost_of self.new ≡ slice_set (lost_of self.old) node true) }
+        ensures told { OnOk result (AllTold node self.old self.new) }
         ensures err { OnErr result (self.new ≡ self.old) }
         ensures threads { threads_of self.new ≡ threads_of self.old }
     {

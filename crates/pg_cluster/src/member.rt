@@ -19,7 +19,7 @@ pub(crate) struct Member<K: Rng + Drop> {
 }
 
 impl<K: Rng + Drop + Send + 'static> Member<K> {
-    ghost use Rattle.pg_cluster.specs.Members.{thread_of, is_lost};
+    ghost use Rattle.pg_cluster.specs.Members.{thread_of, is_lost, last_of};
     ghost use Rattle.pg_cluster.specs.Promises.{RanAs};
     ghost use Rattle.pg_cluster.specs.Threads.{begun_by, limit_of};
 
@@ -47,6 +47,7 @@ impl<K: Rng + Drop + Send + 'static> Member<K> {
     pub fn stop<R: Threads>(&mut self, rt: &R) -> u32
         ensures thread { thread_of self.new ≡ thread_of self.old }
         ensures lost { is_lost self.new ≡ true }
+        ensures last { is_lost self.old ≡ false → result ≡ last_of self.new }
     {
         match self.thread.take() {
             Some(thread) => {

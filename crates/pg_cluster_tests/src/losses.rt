@@ -109,3 +109,18 @@ fn lost_once(rt: HostRuntime) -> Result<(), Fail> {
     assert!(rt; ends_well(&rt, alloc, running, &config, 1)?);
     Ok(())
 }
+
+// The lost node is ahead of the others, by commands of which it tells nobody: they see its loss behind its last event.
+#[test]
+fn node_ahead_lost(rt: HostRuntime) -> Result<(), Fail> {
+    let alloc = rt.alloc();
+    let config = three_nodes(alloc)?;
+    let mut running = Running::start(&rt, alloc, &config, Open, 100_000_000)?;
+    for _ in 0..100u8 {
+        assert!(rt; running.ask(&rt, 2, Command::Make).is_some());
+    }
+    assert!(rt; running.lose(&rt, 2).is_ok());
+    assert!(rt; others_create(&rt, alloc, &mut running)?);
+    assert!(rt; ends_well(&rt, alloc, running, &config, 1)?);
+    Ok(())
+}

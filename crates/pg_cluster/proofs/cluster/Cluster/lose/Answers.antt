@@ -1,4 +1,4 @@
-use Rattle.std.proofs.Common.{rules, arith, ◌<◌, length, vec_len, sym, subst}
+use Rattle.std.proofs.Common.{false, rules, arith, ◌≡◌, ◌<◌, ◌∙◌, length, vec_len, ap, sym, subst}
 use Rattle.std.proofs.lemmas.List.{length-map}
 use Rattle.pg_ring.specs.Slots.{AreSlots}
 use Rattle.pg_cluster.specs.Clients.{AllPairs, ports_begun}
@@ -7,7 +7,8 @@ use Rattle.pg_cluster.specs.Members.{is_lost, losses_in}
 use Rattle.pg_cluster.specs.Notices.{NobodyLost}
 use Rattle.pg_cluster.specs.Room.{HasRoom}
 use Rattle.pg_cluster.specs.Threads.{rows_begun, notices_begun}
-use Rattle.pg_cluster.proofs.Holding.{losses_set, not_lost_again, threads_set}
+use Rattle.std.proofs.lemmas.List.{get_or_default}
+use Rattle.pg_cluster.proofs.Holding.{last_set, losses_set, not_lost_again, threads_set}
 use Rattle.pg_cluster.proofs.Telling.{somebody_lost, tellers_later}
 use Rattle.pg_cluster.proofs.cluster.Cluster.lose.Goals as goal
 
@@ -22,7 +23,7 @@ invariant_of-self g c =
       rans_fit = self.rans_fit;
       room_fits = subst (λ ts. HasRoom self.room (vec_len self.members) (length (ports_begun ts))) (sym threads) self.room_fits;
       wired = subst (λ ts. AreWired (length ts) (rows_begun ts)) (sym threads) self.wired;
-      told = tellers_later self.tellers.items c.tell_all.new.tellers.items _ (subst (λ ts. AllPairs AreSlots self.tellers.items (notices_begun ts)) (sym threads) self.told) c.tell_all.ensures;
+      told = tellers_later self.tellers.items c.tell_all.new.tellers.items _ (subst (λ ts. AllPairs AreSlots self.tellers.items (notices_begun ts)) (sym threads) self.told) c.tell_all.ensures.same;
       untold = λ nobody. somebody_lost (losses_in members) c.args.node (let n = length-map members is_lost in omega (arith, low, n)) (subst NobodyLost losses nobody);
     }
 
@@ -38,3 +39,16 @@ returns-clause-lost g c = losses_set c.args.self.now.members.items c.args.node c
 pub returns-clause-threads : goal.returns-clause-threads
 returns-clause-threads g c =
     threads_set c.args.self.now.members.items c.args.node c.index_mut-member.result.now c.stop-last.new.self (search rules) c.index_mut-member.ensures.value c.stop-last.ensures.thread
+
+pub returns-clause-told : goal.returns-clause-told
+returns-clause-told g c =
+    let members = c.args.self.now.members.items in
+    let low : c.args.node < length members = search rules in
+    let runs : is_lost c.index_mut-member.result.now ≡ false =
+    let no = c.if-is_lost.false in
+    let told = c.is_lost.ensures in
+    ap is_lost (c.index_mut-member.ensures.value ∙ (get_or_default members c.args.node c.index_mut-member.result.now c.index.result.now low ∙ sym c.index.ensures)) ∙ cc in record {
+      last = c.stop-last.result;
+      clock = last_set members c.args.node c.stop-last.new.self c.stop-last.result low (c.stop-last.ensures.last runs);
+      told = c.tell_all.ensures.told;
+    }
