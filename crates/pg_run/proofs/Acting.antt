@@ -1,7 +1,7 @@
 -- What one event of a node makes of it and of its links.
 use Rattle.std.proofs.Common.{◌≡◌, ◌≢◌, ◌⊎◌, ◌∙◌, ℕ, cond, List, [], ◌∷◌, ◌++◌, refl, sym, ap, subst, inl, inr, append-nil}
 use Rattle.std.proofs.lemmas.Bool.{cases_eq}
-use Rattle.std.specs.Prelude.{Bool, true, false, Result, Ok, Err, Option, Some, None}
+use Rattle.std.specs.Prelude.{Bool, true, false, ◌||◌, Result, Ok, Err, Option, Some, None}
 use Rattle.pg_group.specs.declared.table.GroupTable.{Ghosts}
 use Rattle.pg_machine.specs.Clocked.{Timed}
 use Rattle.pg_node.specs.declared.state.done.Done.{Done}
@@ -9,7 +9,7 @@ use Rattle.pg_node.specs.declared.state.fault.NodeFault.{NodeFault}
 use Rattle.pg_node.specs.declared.state.fault.NodeFault.TheVariants.{Refused, OutOfMemory, TooLong, Message, Damaged}
 use Rattle.pg_node.specs.Issued.{ports_of}
 use Rattle.pg_message.specs.declared.packet.Packet.{Packet}
-use Rattle.pg_node.specs.Bytes.{Tells, marked}
+use Rattle.pg_node.specs.Bytes.{Tells, damages, marked}
 use Rattle.pg_node.specs.Links.{Link, at_link, frames_to}
 use Rattle.pg_node.specs.Nodes.{held_by, links_of, taken_of, taken_as, ComesInRoom}
 use Rattle.pg_node.specs.States.{names_of, state_of, answers_of, stamped_of, Happens, Comes}
@@ -17,7 +17,7 @@ use Rattle.pg_run.specs.declared.linked.LinkedNode.{LinkedNode}
 use Rattle.pg_run.specs.Acts.{Act, Standing, Leads, event_of, is_from, losses_of}
 use Rattle.pg_run.specs.Events.{IsRefusedAs, IsTold}
 use Rattle.pg_run.specs.Follows.{Follows, HaveMoved, node_of, peers_of, log_of, standing_of}
-use Rattle.pg_run.proofs.Moving.{act_moved, peers_kept, unmoved, link_there, link_else}
+use Rattle.pg_run.proofs.Moving.{act_moved, marks_kept, peers_kept, unmoved, link_there, link_else}
 use Rattle.pg_step.specs.declared.answer.Answer.{Answer}
 use Rattle.pg_step.specs.declared.refusal.Refusal.{Refusal}
 use Rattle.pg_step.specs.declared.refusal.Refusal.TheVariants.{NodeLost}
@@ -144,8 +144,9 @@ module _ {T L I : Type 0} {g : Ghosts T} (accepts : L → List ℕ → L → Typ
       → log_of b ≡ log_of a ++ ((state_of (held_by (node_of b))).clock, event_of act.input) ∷ [] → peers_of b ≡ peers_of a
       → ((place : ℕ) → losses_of place (act ∷ []) ≡ [] → (links_of (node_of b) place).outbox ≡ (links_of (node_of a) place).outbox ++ frames_to act.sends place)
       → ((place : ℕ) → (links_of (node_of a) place).unread ≡ cond (is_from place act.input) act.came [] ++ (links_of (node_of b) place).unread)
+      → ((place : ℕ) → (links_of (node_of a) place).damaged ≡ true → (links_of (node_of b) place).damaged ≡ true)
       → Follows accepts gives (act ∷ []) a b
-  acts_once a b act names ports leads log peers out came = record {
+  acts_once a b act names ports leads log peers out came lasts = record {
     names = names;
     ports = ports;
     lead = (standing_of (node_of b), leads, refl);
@@ -154,7 +155,7 @@ module _ {T L I : Type 0} {g : Ghosts T} (accepts : L → List ℕ → L → Typ
         (peers_kept accepts gives (act ∷ []) (links_of (node_of a)) (links_of (node_of b)) (peers_of a)
         (λ place other. act_moved accepts gives link_rests inlet_rests place act (links_of (node_of a) place) (links_of (node_of b) place) other
         (λ none. out place none ∙ ap (λ w. (links_of (node_of a) place).outbox ++ w) (sym (append-nil (frames_to act.sends place))))
-        (came place ∙ ap (λ w. w ++ (links_of (node_of b) place).unread) (sym (append-nil (cond (is_from place act.input) act.came []))))));
+        (came place ∙ ap (λ w. w ++ (links_of (node_of b) place).unread) (sym (append-nil (cond (is_from place act.input) act.came [])))) (lasts place)));
   }
 
   -- ---- no act
@@ -165,23 +166,25 @@ module _ {T L I : Type 0} {g : Ghosts T} (accepts : L → List ℕ → L → Typ
       → log_of b ≡ log_of a → peers_of b ≡ peers_of a
       → ((place : ℕ) → (links_of (node_of b) place).outbox ≡ (links_of (node_of a) place).outbox)
       → ((place : ℕ) → (links_of (node_of b) place).unread ≡ (links_of (node_of a) place).unread)
+      → ((place : ℕ) → (links_of (node_of a) place).damaged ≡ true → (links_of (node_of b) place).damaged ≡ true)
       → Follows accepts gives [] a b
-  nothing_done a b names ports state answers log peers out came = record {
+  nothing_done a b names ports state answers log peers out came lasts = record {
     names = names;
     ports = ports;
     lead = alike (state_of (held_by (node_of b))) (state_of (held_by (node_of a))) (answers_of (held_by (node_of b))) (answers_of (held_by (node_of a))) state answers;
     log = log ∙ sym (append-nil (log_of a));
     moved = subst (λ ps. HaveMoved accepts gives [] (links_of (node_of a)) (links_of (node_of b)) (peers_of a) ps) (sym peers)
         (peers_kept accepts gives [] (links_of (node_of a)) (links_of (node_of b)) (peers_of a)
-        (λ place other. unmoved accepts gives link_rests inlet_rests place (links_of (node_of a) place) (links_of (node_of b) place) other (out place) (came place)));
+        (λ place other. unmoved accepts gives link_rests inlet_rests place (links_of (node_of a) place) (links_of (node_of b) place) other (out place) (came place) (lasts place)));
   }
 
   -- the same where the node over packets is the same
   pub nothing_held : (a b : LinkedNode T L I g) → held_by (node_of b) ≡ held_by (node_of a) → log_of b ≡ log_of a → peers_of b ≡ peers_of a
       → ((place : ℕ) → (links_of (node_of b) place).outbox ≡ (links_of (node_of a) place).outbox)
       → ((place : ℕ) → (links_of (node_of b) place).unread ≡ (links_of (node_of a) place).unread)
+      → ((place : ℕ) → (links_of (node_of a) place).damaged ≡ true → (links_of (node_of b) place).damaged ≡ true)
       → Follows accepts gives [] a b
-  nothing_held a b held log peers out came = nothing_done a b (ap names_of held) (ap ports_of held) (ap state_of held) (ap answers_of held) log peers out came
+  nothing_held a b held log peers out came lasts = nothing_done a b (ap names_of held) (ap ports_of held) (ap state_of held) (ap answers_of held) log peers out came lasts
 
 -- a log that got room, and then an entry
 pub log_after : {E : Type 0} (l m r x : List E) → r ≡ m ++ x → m ≡ l → r ≡ l ++ x
@@ -202,3 +205,11 @@ marked_unread k fault links place = go (cases_eq place k)
     go : (place ≡ k) ⊎ (place ≢ k) → (at_link k (λ l. marked l fault) links place).unread ≡ (links place).unread
     go (inl e) = subst (λ j. (at_link k (λ l. marked l fault) links j).unread ≡ (links j).unread) (sym e) (ap (λ (l : Link). l.unread) (link_there k (λ l. marked l fault) links))
     go (inr n) = ap (λ (l : Link). l.unread) (link_else k place (λ l. marked l fault) links n)
+
+-- a mark lasts where another is made
+or_true : (b : Bool) → (b || true) ≡ true
+or_true true = refl
+or_true false = refl
+
+pub marked_lasts : (k : ℕ) (fault : NodeFault) (links : ℕ → Link) (place : ℕ) → (links place).damaged ≡ true → (at_link k (λ l. marked l fault) links place).damaged ≡ true
+marked_lasts k fault links place damaged = marks_kept k (λ l. marked l fault) (λ l d. ap (λ b. damages fault || b) d ∙ or_true (damages fault)) links place damaged

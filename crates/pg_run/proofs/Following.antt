@@ -25,7 +25,7 @@ module _ {T L I : Type 0} {g : Ghosts T} (accepts : L → List ℕ → L → Typ
     lead = refl;
     log = sym (append-nil (log_of a));
     moved = peers_kept accepts gives [] (links_of (node_of a)) (links_of (node_of a)) (peers_of a)
-        (λ place other. unmoved accepts gives link_rests inlet_rests place (links_of (node_of a) place) (links_of (node_of a) place) other refl refl);
+        (λ place other. unmoved accepts gives link_rests inlet_rests place (links_of (node_of a) place) (links_of (node_of a) place) other refl refl (λ d. d));
   }
 
   -- where only bytes moved

@@ -1,4 +1,5 @@
 -- What the links of a node have moved where one peer's change, and one stretch after another.
+use Rattle.std.specs.Prelude.{true}
 use Rattle.std.proofs.Common.{◌≡◌, ◌≢◌, ◌<◌, ◌∙◌, ◌⊎◌, ℕ, cond, get_or, take, drop, length, List, [], ◌∷◌, ◌++◌, refl, sym, ap, subst, inl, inr, append_assoc, append-nil}
 use Rattle.std.specs.Prelude.{slice_set}
 use Rattle.std.proofs.lemmas.Bool.{cases_eq, eq-eqb, ne_eqb}
@@ -19,6 +20,17 @@ link_there k change links = ap (λ b. cond b (change (links k)) (links k)) (eq-e
 pub link_else : (k j : ℕ) (change : Link → Link) (links : ℕ → Link) → j ≢ k → at_link k change links j ≡ links j
 unfolding upd
 link_else k j change links n = ap (λ b. cond b (change (links k)) (links j)) (ne_eqb k j (λ e. n (sym e)))
+
+-- what keeps a mark at each link keeps it where one changes
+pub marks_kept : (k : ℕ) (change : Link → Link) → ((link : Link) → link.damaged ≡ true → (change link).damaged ≡ true) → (links : ℕ → Link) (place : ℕ)
+    → (links place).damaged ≡ true → (at_link k change links place).damaged ≡ true
+marks_kept k change keeps links place damaged = go (cases_eq place k)
+  where
+    go : (place ≡ k) ⊎ (place ≢ k) → (at_link k change links place).damaged ≡ true
+    go (inl e) =
+        subst (λ j. (at_link k change links j).damaged ≡ true) (sym e)
+        (ap (λ (l : Link). l.damaged) (link_there k change links) ∙ keeps (links k) (subst (λ j. (links j).damaged ≡ true) e damaged))
+    go (inr n) = ap (λ (l : Link). l.damaged) (link_else k place change links n) ∙ damaged
 
 -- two lists of which nothing is one list
 pub nil_first : {A : Type 0} (xs ys : List A) → xs ++ ys ≡ [] → xs ≡ []
@@ -46,53 +58,57 @@ seam p b a f q c s one two = append_assoc p q c ∙ (ap (λ w. p ++ w) two ∙ (
 module _ {L I : Type 0} (accepts : L → List ℕ → L → Type 0) (gives : I → List ℕ → I → Type 0) where
   -- nothing has moved
   pub unmoved : (link_rests : (a : L) → accepts a [] a) (inlet_rests : (a : I) → gives a [] a) (place : ℕ) (bytes bytes2 : Link) (peer : Peer L I)
-      → bytes2.outbox ≡ bytes.outbox → bytes2.unread ≡ bytes.unread → HasMoved accepts gives place [] bytes bytes2 peer peer
-  unmoved link_rests inlet_rests place bytes bytes2 peer out came = record {
+      → bytes2.outbox ≡ bytes.outbox → bytes2.unread ≡ bytes.unread → (bytes.damaged ≡ true → bytes2.damaged ≡ true) → HasMoved accepts gives place [] bytes bytes2 peer peer
+  unmoved link_rests inlet_rests place bytes bytes2 peer out came lasts = record {
     put = [];
     accepted = link_rests peer.link;
     sent = λ none. out ∙ sym (append-nil bytes.outbox);
     given = [];
     gave = inlet_rests peer.inlet;
     taken = append-nil bytes.unread ∙ sym came;
+    lasts = lasts;
   }
 
   -- bytes went out
   pub put_moved : (inlet_rests : (a : I) → gives a [] a) (place n : ℕ) (bytes bytes2 : Link) (peer peer2 : Peer L I)
-      → accepts peer.link (take n bytes.outbox) peer2.link → peer2.inlet ≡ peer.inlet → bytes2.outbox ≡ drop n bytes.outbox → bytes2.unread ≡ bytes.unread
+      → accepts peer.link (take n bytes.outbox) peer2.link → peer2.inlet ≡ peer.inlet → bytes2.outbox ≡ drop n bytes.outbox → bytes2.unread ≡ bytes.unread → (bytes.damaged ≡ true → bytes2.damaged ≡ true)
       → HasMoved accepts gives place [] bytes bytes2 peer peer2
-  put_moved inlet_rests place n bytes bytes2 peer peer2 accepted same out came = record {
+  put_moved inlet_rests place n bytes bytes2 peer peer2 accepted same out came lasts = record {
     put = take n bytes.outbox;
     accepted = accepted;
     sent = λ none. ap (λ w. take n bytes.outbox ++ w) out ∙ (take-append-drop n bytes.outbox ∙ sym (append-nil bytes.outbox));
     given = [];
     gave = subst (λ i. gives peer.inlet [] i) (sym same) (inlet_rests peer.inlet);
     taken = append-nil bytes.unread ∙ sym came;
+    lasts = lasts;
   }
 
   -- bytes came in
   pub pull_moved : (link_rests : (a : L) → accepts a [] a) (place : ℕ) (piece : List ℕ) (bytes bytes2 : Link) (peer peer2 : Peer L I)
-      → gives peer.inlet piece peer2.inlet → peer2.link ≡ peer.link → bytes2.outbox ≡ bytes.outbox → bytes2.unread ≡ bytes.unread ++ piece
+      → gives peer.inlet piece peer2.inlet → peer2.link ≡ peer.link → bytes2.outbox ≡ bytes.outbox → bytes2.unread ≡ bytes.unread ++ piece → (bytes.damaged ≡ true → bytes2.damaged ≡ true)
       → HasMoved accepts gives place [] bytes bytes2 peer peer2
-  pull_moved link_rests place piece bytes bytes2 peer peer2 gave same out came = record {
+  pull_moved link_rests place piece bytes bytes2 peer peer2 gave same out came lasts = record {
     put = [];
     accepted = subst (λ l. accepts peer.link [] l) (sym same) (link_rests peer.link);
     sent = λ none. out ∙ sym (append-nil bytes.outbox);
     given = piece;
     gave = gave;
     taken = sym came;
+    lasts = lasts;
   }
 
   -- an act took a frame, or none, and sent frames, unless it saw a loss
   pub act_moved : (link_rests : (a : L) → accepts a [] a) (inlet_rests : (a : I) → gives a [] a) (place : ℕ) (act : Act) (bytes bytes2 : Link) (peer : Peer L I)
       → (losses_of place (act ∷ []) ≡ [] → bytes2.outbox ≡ bytes.outbox ++ frames_sent place (act ∷ [])) → bytes.unread ≡ frames_taken place (act ∷ []) ++ bytes2.unread
-      → HasMoved accepts gives place (act ∷ []) bytes bytes2 peer peer
-  act_moved link_rests inlet_rests place act bytes bytes2 peer out came = record {
+      → (bytes.damaged ≡ true → bytes2.damaged ≡ true) → HasMoved accepts gives place (act ∷ []) bytes bytes2 peer peer
+  act_moved link_rests inlet_rests place act bytes bytes2 peer out came lasts = record {
     put = [];
     accepted = link_rests peer.link;
     sent = out;
     given = [];
     gave = inlet_rests peer.inlet;
     taken = append-nil bytes.unread ∙ came;
+    lasts = lasts;
   }
 
   -- the links of the peer at one place change
@@ -140,6 +156,7 @@ module _ {L I : Type 0} (accepts : L → List ℕ → L → Type 0) (gives : I �
     gave = inlet_composes peer.inlet peer2.inlet peer3.inlet h.given k.given h.gave k.gave;
     taken = sym (seam (frames_taken place first) bytes2.unread bytes.unread h.given (frames_taken place second) bytes3.unread k.given (sym h.taken) (sym k.taken))
         ∙ ap (λ w. w ++ bytes3.unread) (sym (flat_map-append (λ (act : Act). cond (is_from place act.input) act.came []) first second));
+    lasts = λ damaged. k.lasts (h.lasts damaged);
   }
 
   pub have_moved_on : ((a b c : L) (xs ys : List ℕ) → accepts a xs b → accepts b ys c → accepts a (xs ++ ys) c)

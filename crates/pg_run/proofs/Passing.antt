@@ -21,20 +21,20 @@ module _ {L I : Type 0} (accepts : L → List ℕ → L → Type 0) (gives : I �
   have_put n peer peer2 within here is accepted same =
       let there : links2 k ≡ without_front (links k) n = ap (λ (ls : ℕ → Link). ls k) is ∙ link_there k (λ l. without_front l n) links in
       peer_set accepts gives [] links links2 peers k peer peer2 within here
-      (put_moved accepts gives inlet_rests k n (links k) (links2 k) peer peer2 accepted same (ap (λ (l : Link). l.outbox) there) (ap (λ (l : Link). l.unread) there))
+      (put_moved accepts gives inlet_rests k n (links k) (links2 k) peer peer2 accepted same (ap (λ (l : Link). l.outbox) there) (ap (λ (l : Link). l.unread) there) (λ d. ap (λ (l : Link). l.damaged) there ∙ d))
       (λ place other apart.
       let else : links2 place ≡ links place = ap (λ (ls : ℕ → Link). ls place) is ∙ link_else k place (λ l. without_front l n) links apart in
-      unmoved accepts gives link_rests inlet_rests place (links place) (links2 place) other (ap (λ (l : Link). l.outbox) else) (ap (λ (l : Link). l.unread) else))
+      unmoved accepts gives link_rests inlet_rests place (links place) (links2 place) other (ap (λ (l : Link). l.outbox) else) (ap (λ (l : Link). l.unread) else) (λ d. ap (λ (l : Link). l.damaged) else ∙ d))
 
   pub have_pulled : (piece : List ℕ) (peer peer2 : Peer L I) → k < length peers → peer ≡ get_or peers k peer → links2 ≡ at_link k (λ l. with_fed l piece) links
       → gives peer.inlet piece peer2.inlet → peer2.link ≡ peer.link → HaveMoved accepts gives [] links links2 peers (slice_set peers k peer2)
   have_pulled piece peer peer2 within here is gave same =
       let there : links2 k ≡ with_fed (links k) piece = ap (λ (ls : ℕ → Link). ls k) is ∙ link_there k (λ l. with_fed l piece) links in
       peer_set accepts gives [] links links2 peers k peer peer2 within here
-      (pull_moved accepts gives link_rests k piece (links k) (links2 k) peer peer2 gave same (ap (λ (l : Link). l.outbox) there) (ap (λ (l : Link). l.unread) there))
+      (pull_moved accepts gives link_rests k piece (links k) (links2 k) peer peer2 gave same (ap (λ (l : Link). l.outbox) there) (ap (λ (l : Link). l.unread) there) (λ d. ap (λ (l : Link). l.damaged) there ∙ d))
       (λ place other apart.
       let else : links2 place ≡ links place = ap (λ (ls : ℕ → Link). ls place) is ∙ link_else k place (λ l. with_fed l piece) links apart in
-      unmoved accepts gives link_rests inlet_rests place (links place) (links2 place) other (ap (λ (l : Link). l.outbox) else) (ap (λ (l : Link). l.unread) else))
+      unmoved accepts gives link_rests inlet_rests place (links place) (links2 place) other (ap (λ (l : Link). l.outbox) else) (ap (λ (l : Link). l.unread) else) (λ d. ap (λ (l : Link). l.damaged) else ∙ d))
 
   -- what stays, whatever the inlet is written back as
   pub have_stayed : (peer peer2 : Peer L I) → k < length peers → peer ≡ get_or peers k peer → links2 ≡ links → peer2.link ≡ peer.link → peer2.inlet ≡ peer.inlet
@@ -48,8 +48,9 @@ module _ {L I : Type 0} (accepts : L → List ℕ → L → Type 0) (gives : I �
         given = [];
         gave = subst (λ i. gives peer.inlet [] i) (sym same_inlet) (inlet_rests peer.inlet);
         taken = append-nil (links k).unread ∙ sym (ap (λ (ls : ℕ → Link). (ls k).unread) is);
+        lasts = λ d. ap (λ (ls : ℕ → Link). (ls k).damaged) is ∙ d;
       })
-      (λ place other apart. unmoved accepts gives link_rests inlet_rests place (links place) (links2 place) other (ap (λ (ls : ℕ → Link). (ls place).outbox) is) (ap (λ (ls : ℕ → Link). (ls place).unread) is))
+      (λ place other apart. unmoved accepts gives link_rests inlet_rests place (links place) (links2 place) other (ap (λ (ls : ℕ → Link). (ls place).outbox) is) (ap (λ (ls : ℕ → Link). (ls place).unread) is) (λ d. ap (λ (ls : ℕ → Link). (ls place).damaged) is ∙ d))
 
   -- what a pull has moved, if anything
   pub have_tried : (r : Result ℕ NodeFault) (peer peer2 : Peer L I) → k < length peers → peer ≡ get_or peers k peer → peer2.link ≡ peer.link

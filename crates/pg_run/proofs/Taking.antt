@@ -27,7 +27,7 @@ use Rattle.pg_run.proofs.Following.{follows_on}
 use Rattle.pg_run.specs.Follows.{Follows, node_of, peers_of, log_of}
 use Rattle.pg_run.proofs.Acting.{happened_by, acts_once}
 use Rattle.pg_run.proofs.Fronts.{front_alone, front_alone_len, front_taken}
-use Rattle.pg_run.proofs.Moving.{link_there, link_else}
+use Rattle.pg_run.proofs.Moving.{link_there, link_else, marks_kept}
 use Rattle.pg_step.specs.declared.refusal.Refusal.{Refusal}
 use Rattle.pg_step.specs.declared.refusal.Refusal.TheVariants.{NodeLost, NotDrained, ClockFull}
 use Rattle.pg_step.specs.Losses.{see_loss}
@@ -161,7 +161,9 @@ module _ {T L I : Type 0} {g : Ghosts T} (accepts : L → List ℕ → L → Typ
             (λ place none. ap (λ (n : Node T g). (links_of n place).outbox) node ∙ (ap (λ (l : Link). l.outbox) (sent place) ∙ passed_outbox peer (sent_out done.sends.items links) place))
             (λ place. taken_unread peer links (sent_out done.sends.items links) is.body (λ other. refl) is.front place
             ∙ (ap (λ (l : Link). cond (is_from place (Took peer (stamped_of packet))) (take (4 + length is.body) (links peer).unread) [] ++ l.unread) (sym (sent place))
-            ∙ ap (λ (n : Node T g). cond (is_from place (Took peer (stamped_of packet))) (take (4 + length is.body) (links peer).unread) [] ++ (links_of n place).unread) (sym node)));
+            ∙ ap (λ (n : Node T g). cond (is_from place (Took peer (stamped_of packet))) (take (4 + length is.body) (links peer).unread) [] ++ (links_of n place).unread) (sym node)))
+            (λ place d. ap (λ (n : Node T g). (links_of n place).damaged) node
+            ∙ (ap (λ (l : Link). l.damaged) (sent place) ∙ marks_kept peer passed (λ l e. e) (sent_out done.sends.items links) place d));
       }
 
   -- an action was made, and that was logged
@@ -195,7 +197,8 @@ module _ {T L I : Type 0} {g : Ghosts T} (accepts : L → List ℕ → L → Typ
             })
             (log ∙ ap (λ (n : Node T g). log_of a ++ ((state_of (held_by n)).clock, event_of (Did action)) ∷ []) (sym node)) peers
             (λ place none. ap (λ (n : Node T g). (links_of n place).outbox) node ∙ ap (λ (l : Link). l.outbox) (sent place))
-            (λ place. ap (λ (l : Link). l.unread) (sym (sent place)) ∙ ap (λ (n : Node T g). (links_of n place).unread) (sym node));
+            (λ place. ap (λ (l : Link). l.unread) (sym (sent place)) ∙ ap (λ (n : Node T g). (links_of n place).unread) (sym node))
+            (λ place d. ap (λ (n : Node T g). (links_of n place).damaged) node ∙ (ap (λ (l : Link). l.damaged) (sent place) ∙ d));
       }
 
   -- the loss of a peer was seen, and that was logged
@@ -231,7 +234,8 @@ module _ {T L I : Type 0} {g : Ghosts T} (accepts : L → List ℕ → L → Typ
             (λ place none. ap (λ (n : Node T g). (links_of n place).outbox) node
             ∙ (ap (λ (ls : ℕ → Link). (ls place).outbox) shut
             ∙ (ap (λ (l : Link). l.outbox) (link_else peer place closed links (another place peer last none)) ∙ sym (append-nil (links place).outbox))))
-            (λ place. sym (ap (λ (n : Node T g). (links_of n place).unread) node ∙ (ap (λ (ls : ℕ → Link). (ls place).unread) shut ∙ closed_unread peer links place)));
+            (λ place. sym (ap (λ (n : Node T g). (links_of n place).unread) node ∙ (ap (λ (ls : ℕ → Link). (ls place).unread) shut ∙ closed_unread peer links place)))
+            (λ place d. ap (λ (n : Node T g). (links_of n place).damaged) node ∙ (ap (λ (ls : ℕ → Link). (ls place).damaged) shut ∙ marks_kept peer closed (λ l e. e) links place d));
       }
 
   -- what came of it, behind a stretch in which nothing happened

@@ -1,5 +1,5 @@
 -- A node that follows from another by its events, and by the bytes that its links moved.
-use Rattle.std.specs.Prelude.{◌≡◌, ℕ, ◌<◌, get_or, length, map, List, [], ◌++◌}
+use Rattle.std.specs.Prelude.{◌≡◌, ℕ, ◌<◌, true, get_or, length, map, List, [], ◌++◌}
 use Rattle.pg_group.specs.declared.table.GroupTable.{Ghosts}
 use Rattle.pg_node.specs.declared.node.Node.{Node}
 use Rattle.pg_node.specs.Issued.{ports_of}
@@ -40,6 +40,8 @@ module _ {L I : Type 0} (accepts : L → List ℕ → L → Type 0) (gives : I �
     pub given : List ℕ
     pub gave : gives peer.inlet given peer2.inlet
     pub taken : bytes.unread ++ given ≡ frames_taken place acts ++ bytes2.unread
+    -- a mark of damage lasts
+    pub lasts : bytes.damaged ≡ true → bytes2.damaged ≡ true
 
   -- the same of all peers
   pub record HaveMoved (acts : List Act) (links links2 : ℕ → Link) (peers peers2 : List (Peer L I)) : Type 0 where

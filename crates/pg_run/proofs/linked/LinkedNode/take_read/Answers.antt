@@ -4,7 +4,7 @@ use Rattle.pg_node.specs.Nodes.{held_by, links_of}
 use Rattle.pg_node.specs.States.{names_of, nodes_of, kept_by, state_of, answers_of, stamped_of}
 use Rattle.pg_opens.specs.Places.{name_at}
 use Rattle.pg_step.specs.Step.{step_take}
-use Rattle.pg_run.proofs.Acting.{nothing_done, refused_as, told_read, marked_outbox, marked_unread}
+use Rattle.pg_run.proofs.Acting.{nothing_done, refused_as, told_read, marked_lasts, marked_outbox, marked_unread}
 use Rattle.pg_run.proofs.Taking.{take_acts}
 use Rattle.pg_run.proofs.linked.LinkedNode.take_read.Goals as goal
 
@@ -19,6 +19,7 @@ returns-in-Err-clause-took g c =
     nothing_done g.L.Link.accepts g.I.Inlet.gives g.met.L.Link.rests g.met.I.Inlet.rests c.args.self.now _ c.take_read.ensures.names c.take_read.ensures.ports c.in-Err.ensures.err c.in-Err.ensures.err_answers refl refl
     (λ place. ap (λ ls. (ls place).outbox) c.in-Err.ensures.marked ∙ marked_outbox c.args.peer c.in-Err.fault (links_of c.args.self.now.node) place)
     (λ place. ap (λ ls. (ls place).unread) c.in-Err.ensures.marked ∙ marked_unread c.args.peer c.in-Err.fault (links_of c.args.self.now.node) place)
+    (λ place d. ap (λ ls. (ls place).damaged) c.in-Err.ensures.marked ∙ marked_lasts c.args.peer c.in-Err.fault (links_of c.args.self.now.node) place d)
 
 pub returns-in-Err-clause-fault : goal.returns-in-Err-clause-fault
 returns-in-Err-clause-fault g c =
