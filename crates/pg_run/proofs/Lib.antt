@@ -4,6 +4,9 @@ pub mod Fronts
 pub mod GoingOn
 pub mod Moving
 pub mod Passing
+pub mod Pausing
 pub mod PortsGoing
+pub mod Retrying
+pub mod Served
 pub mod Taking
 pub mod Trying

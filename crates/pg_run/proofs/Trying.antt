@@ -23,7 +23,7 @@ module _ {T L I : Type 0} {g : Ghosts T} (accepts : L → List ℕ → L → Typ
     (link_rests : (a : L) → accepts a [] a) (inlet_rests : (a : I) → gives a [] a)
     (link_composes : (a b c : L) (xs ys : List ℕ) → accepts a xs b → accepts b ys c → accepts a (xs ++ ys) c)
     (inlet_composes : (a b c : I) (xs ys : List ℕ) → gives a xs b → gives b ys c → gives a (xs ++ ys) c) where
-  comes_on : (a b c : LinkedNode T L I g) → ComesTo accepts gives a b → ComesTo accepts gives b c → ComesTo accepts gives a c
+  pub comes_on : (a b c : LinkedNode T L I g) → ComesTo accepts gives a b → ComesTo accepts gives b c → ComesTo accepts gives a c
   comes_on a b c h k = (h.0 ++ k.0, follows_on accepts gives link_composes inlet_composes h.0 k.0 a b c h.1 k.1)
 
   pub going : (losses : List Notice) (a b : LinkedNode T L I g) → GoesOnSeeing accepts gives losses a b → ComesTo accepts gives a b
@@ -48,7 +48,7 @@ module _ {T L I : Type 0} {g : Ghosts T} (accepts : L → List ℕ → L → Typ
   }
 
   -- before it something happened, and behind it
-  tried_between : (peer : ℕ) (a b c d : LinkedNode T L I g) → ComesTo accepts gives a b → HasTried accepts gives peer b c → ComesTo accepts gives c d → HasTried accepts gives peer a d
+  pub tried_between : (peer : ℕ) (a b c d : LinkedNode T L I g) → ComesTo accepts gives a b → HasTried accepts gives peer b c → ComesTo accepts gives c d → HasTried accepts gives peer a d
   tried_between peer a b c d h tried k = record {
     before = tried.before;
     first = comes_on a b tried.before h tried.first;
@@ -61,7 +61,7 @@ module _ {T L I : Type 0} {g : Ghosts T} (accepts : L → List ℕ → L → Typ
     rest = comes_on tried.after c d tried.rest k;
   }
 
-  stays : (a : LinkedNode T L I g) → ComesTo accepts gives a a
+  pub stays : (a : LinkedNode T L I g) → ComesTo accepts gives a a
   stays a = ([], follows_itself accepts gives link_rests inlet_rests a)
 
   -- all peers below a place were, and then that one
@@ -76,9 +76,6 @@ module _ {T L I : Type 0} {g : Ghosts T} (accepts : L → List ℕ → L → Typ
   -- and what follows changes nothing of it
   pub tried_still : (a b c : LinkedNode T L I g) → HasTriedAll accepts gives a b → ComesTo accepts gives b c → HasTriedAll accepts gives a c
   tried_still a b c all k peer low = tried_between peer a a b c (stays a) (all peer low) k
-
-  pub comes_four : (a b c d e : LinkedNode T L I g) → ComesTo accepts gives a b → ComesTo accepts gives b c → ComesTo accepts gives c d → ComesTo accepts gives d e → ComesTo accepts gives a e
-  comes_four a b c d e h k l m = comes_on a b e h (comes_on b c e k (comes_on c d e l m))
 
 -- ---- turn by turn
 

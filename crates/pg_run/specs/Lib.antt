@@ -2,7 +2,9 @@ pub mod Acts
 pub mod Events
 pub mod Follows
 pub mod Notices
+pub mod Pauses
 pub mod Ports
 pub mod Runs
+pub mod Served
 pub mod Tries
 pub mod Turns

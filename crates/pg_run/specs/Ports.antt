@@ -1,5 +1,5 @@
 -- What a clause sees of the two ends of a port.
-use Rattle.std.specs.Prelude.{◌≡◌, ℕ, ◌≤◌, ◌-◌, ◌^◌, List, [], ◌∷◌, ◌++◌, Option, Some, None, length, min, take}
+use Rattle.std.specs.Prelude.{◌≡◌, ℕ, ◌<◌, ◌≤◌, ◌-◌, ◌^◌, List, [], ◌∷◌, ◌++◌, Option, Some, None, length, min, take}
 use Rattle.pg_ring.specs.Slots.{given, taken, AreSlots, SameSlotOut, SameSlotIn}
 use Rattle.pg_run.specs.declared.port.Asked.{Asked}
 use Rattle.pg_run.specs.declared.port.Client.{Client}
@@ -89,6 +89,10 @@ pub record GivesNext (a b : Port) (next : Asked) : Type 0 where
 -- what came is what was given before, and then what is kept
 abbrev pub KeepsAll : Port → Port → Type 0
 KeepsAll a b = (before : List Asked) → asked a ≡ before ++ kept_by a → asked b ≡ before ++ kept_by b
+
+-- It was served: what it keeps, if anything, is a command whose client had polled more answers than were handed over before.
+abbrev pub IsServed : Port → Port → Type 0
+IsServed a b = (next : Asked) → kept_by b ≡ next ∷ [] → handed_count a < next.polled
 
 -- some of these answers were handed over
 pub record Hands (answers : List Answer) (a b : Port) : Type 0 where

@@ -70,7 +70,7 @@ module _ {T L I K : Type 0} {g : Ghosts T} (accepts : L → List ℕ → L → T
   pub record TurnMade (turned : Turned) (a b : NodeRun T L I K g) : Type 0 where
     pub runs : Runs accepts gives a b
     pub stop : TurnedTo gives (stop_of a) turned (stop_of b)
-    pub tried : WholeTurn accepts gives turned (linked_of a) (linked_of b)
+    pub done : WholeTurn accepts gives turned a b
 
   -- these turns, one after another
   abbrev pub TurnsMade : List Turned → NodeRun T L I K g → NodeRun T L I K g → Type 0

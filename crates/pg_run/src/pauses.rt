@@ -1,6 +1,9 @@
 //! How long commands that were refused the lock wait until they are tried again.
 
-ghost use Rattle.std.specs.Prelude.{◌≤◌};
+ghost use Rattle.std.specs.Prelude.{◌≡◌, ◌≢◌, ◌<◌, ◌≤◌, ℕ, true, length, slice_get, Some, IfOk, IfSome, IfNone};
+ghost use Rattle.pg_run.specs.declared.pauses.Pause.{Pause};
+ghost use Rattle.pg_run.specs.Pauses.{IsOver, is_over};
+ghost use Rattle.pg_step.specs.declared.command.OpId.{OpId};
 
 use pg_step::OpId;
 use rand_core::Rng;
@@ -8,7 +11,7 @@ use std::alloc::{AllocError, Global};
 
 /// How a command waits.
 #[derive(Clone, Copy, Debug, PartialEq, Eq)]
-enum Wait {
+pub(crate) enum Wait {
     /// For so many turns.
     Turns(u32),
     /// It is due to be tried.
@@ -19,16 +22,16 @@ enum Wait {
 
 /// The pause of a command, and how often an attempt of it was refused.
 #[derive(Clone, Copy, Debug)]
-struct Pause {
-    op: OpId,
+pub(crate) struct Pause {
+    pub(crate) op: OpId,
     refused: u32,
-    wait: Wait,
+    pub(crate) wait: Wait,
 }
 
 /// The pauses of commands that were refused.
 #[derive(Debug, Drop)]
 pub(crate) struct Pauses {
-    entries: Vec<Pause>,
+    pub(crate) entries: Vec<Pause>,
 }
 
 /// How many turns a pause takes at most.
@@ -51,11 +54,14 @@ impl Pauses {
         }
     }
 
-    /// A turn passes for a command that waits; whether it is due to be tried.
+    /// A turn passes for a command that waits; whether it is due to be tried. It is where its pause is over by this turn.
     ///
     /// Error: `AllocError`, by which no turn passes.
-    pub(crate) fn pass<K: Rng>(&mut self, op: OpId, generator: &mut K) -> Result<bool, AllocError> {
-        match self.entries.iter().position(|pause| pause.op == op) {
+    pub(crate) fn pass<K: Rng>(&mut self, op: OpId, generator: &mut K) -> Result<bool, AllocError>
+        ensures due { IfOk result (λ due. IsOver op self.old → due ≡ true) }
+        ensures others { (other : OpId) → other ≢ op → IsOver other self.old → IsOver other self.new }
+    {
+        match self.place_of(op) {
             Some(place) => {
                 let pause = &mut self.entries[place];
                 Ok(pause.pass(generator))
@@ -73,23 +79,43 @@ impl Pauses {
     }
 
     /// A command was tried. It takes no memory.
-    pub(crate) fn tried(&mut self, op: OpId) {
-        if let Some(place) = self.entries.iter().position(|pause| pause.op == op) {
-            self.entries[place].wait = Wait::Tried;
+    pub(crate) fn tried(&mut self, op: OpId)
+        ensures { (other : OpId) → other ≢ op → IsOver other self.old → IsOver other self.new }
+    {
+        if let Some(place) = self.place_of(op) {
+            let pause = &mut self.entries[place];
+            pause.wait = Wait::Tried;
         }
     }
 
     /// A command was answered. It takes no memory.
     pub(crate) fn forget(&mut self, op: OpId) {
-        if let Some(place) = self.entries.iter().position(|pause| pause.op == op) {
+        if let Some(place) = self.place_of(op) {
             self.entries.swap_remove(place);
         }
+    }
+
+    /// The place of the pause of a command, if it has one.
+    fn place_of(&self, op: OpId) -> Option<usize>
+        ensures within { IfSome result (λ place. place < length self.now.entries.items) }
+        ensures some { IfSome result (λ place. IfSome (slice_get self.now.entries.items place) (λ pause. pause.op ≡ op)) }
+        ensures none { IfNone result ((k : ℕ) (pause : Pause) → slice_get self.now.entries.items k ≡ Some pause → pause.op ≢ op) }
+    {
+        for place in 0..self.entries.len() {
+            if self.entries[place].op == op {
+                return Some(place);
+            }
+        }
+        None
     }
 }
 
 impl Pause {
-    // A turn passes; whether the command is due.
-    fn pass<K: Rng>(&mut self, generator: &mut K) -> bool {
+    /// A turn passes; whether the command is due. It takes no memory.
+    fn pass<K: Rng>(&mut self, generator: &mut K) -> bool
+        ensures op { self.new.op ≡ self.old.op }
+        ensures over { is_over self.old.wait ≡ true → result ≡ true }
+    {
         match self.wait {
             Wait::Turns(left) if left > 1 => {
                 self.wait = Wait::Turns(left - 1);

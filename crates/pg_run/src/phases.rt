@@ -1,6 +1,6 @@
 //! The phases of a turn that are between a node and its peers.
 
-ghost use Rattle.std.specs.Prelude.{◌≡◌, ◌<◌, true, length, IfErr};
+ghost use Rattle.std.specs.Prelude.{◌≡◌, ◌<◌, true, length, IfErr, IfSome};
 ghost use Rattle.pg_run.specs.Tries.{IsNoWant};
 
 use crate::linked::LinkedNode;
@@ -31,14 +31,14 @@ impl Phase {
     }
 
     /// Something happened, or nothing was there to do, or this fault was told.
-    pub(crate) fn of(busy: bool, fault: Option<NodeFault>) -> Phase {
-        let short = matches!(
-            fault,
-            Some(NodeFault::OutOfMemory | NodeFault::Refused(Refusal::ClockFull))
-        );
-        Phase {
-            whole: !short,
-            busy,
+    pub(crate) fn of(busy: bool, fault: Option<NodeFault>) -> Phase
+        ensures { result.whole ≡ true → IfSome fault IsNoWant }
+    {
+        match fault {
+            Some(NodeFault::OutOfMemory | NodeFault::Refused(Refusal::ClockFull)) => {
+                Phase { whole: false, busy }
+            }
+            Some(_) | None => Phase { whole: true, busy },
         }
     }
 
@@ -84,7 +84,7 @@ impl<T: GroupTable + Drop, L: Link + Drop, I: Inlet + Drop> LinkedNode<T, L, I> 
     ghost use Rattle.pg_run.specs.Tries.{HasTried, HasTriedAll};
     ghost use Rattle.pg_run.specs.Turns.{GoesOn};
 
-    /// Of each peer up to 4,096 bytes come in, and the next packet is taken.
+    /// Of each peer up to 4,096 bytes come in, and the next packet is taken; what it makes the node send is put at once.
     pub(crate) fn take_all(&mut self) -> Phase
         ensures goes { GoesOn L.accepts I.gives self.old self.new }
         ensures tried { result.whole ≡ true → HasTriedAll L.accepts I.gives self.old self.new }
@@ -96,15 +96,18 @@ impl<T: GroupTable + Drop, L: Link + Drop, I: Inlet + Drop> LinkedNode<T, L, I> 
         phase
     }
 
-    /// Of a peer up to 4,096 bytes come in, and the next packet is taken.
+    /// Of a peer up to 4,096 bytes come in, and the next packet is taken; what it makes the node send is put at once.
     fn pull_and_take(&mut self, peer: usize) -> Phase
         requires place { peer < length (peers_of self.old) }
         ensures goes { GoesOn L.accepts I.gives self.old self.new }
         ensures tried { result.whole ≡ true → HasTried L.accepts I.gives peer self.old self.new }
     {
         let pulled = Phase::of_pull(self.pull(peer, PULL_LEN));
-        let taken = self.take(peer);
-        pulled.and(Phase::of_take(taken))
+        let taken = Phase::of_take(self.take(peer));
+        if taken.busy {
+            self.put_all();
+        }
+        pulled.and(taken)
     }
 
     /// What waits for each peer is put.

@@ -76,7 +76,7 @@ impl Client {
 }
 
 impl Port {
-    ghost use Rattle.pg_run.specs.Ports.{SamePort, Hands, GivesNext, KeepsAll, asked, handed, kept_by, handed_count};
+    ghost use Rattle.pg_run.specs.Ports.{SamePort, Hands, GivesNext, KeepsAll, IsServed, asked, handed, kept_by, handed_count};
 
     /// The next command, if one is there whose client had polled no more answers than were handed over; else it is kept, if there
     /// is one. It takes no memory.
@@ -85,6 +85,7 @@ impl Port {
         ensures some { IfSome result (GivesNext self.old self.new) }
         ensures waited { IfSome result (λ next. next.polled ≤ handed_count self.new) }
         ensures none { IfNone result (KeepsAll self.old self.new) }
+        ensures served { IfNone result (IsServed self.old self.new) }
         ensures handed { handed self.new ≡ handed self.old }
         ensures count { handed_count self.new ≡ handed_count self.old }
     {
@@ -102,6 +103,7 @@ impl Port {
         ensures same { SamePort self.old self.new }
         ensures some { IfSome result (GivesNext self.old self.new) }
         ensures none { IfNone result (KeepsAll self.old self.new) }
+        ensures kept { kept_by self.new ≡ [] }
         ensures handed { handed self.new ≡ handed self.old }
         ensures count { handed_count self.new ≡ handed_count self.old }
     {

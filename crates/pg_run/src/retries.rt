@@ -1,6 +1,10 @@
 //! The phase of a turn in which commands that wait are tried again.
 
+ghost use Rattle.std.specs.Prelude.{◌≡◌, ◌≢◌, true, ℕ, slice_get, Some, IfOk};
+ghost use Rattle.pg_run.specs.Pauses.{IsOver};
+ghost use Rattle.pg_run.specs.Tries.{HasRetried, HasRetriedAll};
 ghost use Rattle.pg_run.specs.Turns.{GoesOn};
+ghost use Rattle.pg_step.specs.declared.command.OpId.{OpId};
 
 use crate::linked::LinkedNode;
 use crate::pauses::Pauses;
@@ -19,11 +23,9 @@ pub(crate) fn retry_all<T: GroupTable + Drop, L: Link + Drop, I: Inlet + Drop, K
     generator: &mut K,
     at_once: bool,
 ) -> Phase
-    ensures { GoesOn L.accepts I.gives linked.old linked.new }
+    ensures goes { GoesOn L.accepts I.gives linked.old linked.new }
+    ensures tried { result.whole ≡ true → HasRetriedAll L.accepts I.gives pauses.old linked.old linked.new }
 {
-    if linked.node().state().open_count() == 0 {
-        return Phase::idle();
-    }
     match linked.node().state().waiting() {
         Ok(ops) => retry_each(linked, pauses, generator, at_once, ops.as_slice()),
         Err(AllocError) => Phase::of(false, Some(NodeFault::OutOfMemory)),
@@ -38,11 +40,14 @@ fn retry_each<T: GroupTable + Drop, L: Link + Drop, I: Inlet + Drop, K: Rng>(
     at_once: bool,
     ops: &[OpId],
 ) -> Phase
-    ensures { GoesOn L.accepts I.gives linked.old linked.new }
+    ensures goes { GoesOn L.accepts I.gives linked.old linked.new }
+    ensures tried { result.whole ≡ true → (k : ℕ) (op : OpId) → slice_get ops.now k ≡ Some op → IsOver op pauses.old
+        → HasRetried L.accepts I.gives op linked.old linked.new }
 {
     let mut phase = Phase::idle();
-    for op in ops {
-        phase = phase.and(retry_when_due(linked, pauses, generator, at_once, *op));
+    for place in 0..ops.len() {
+        let op = ops[place];
+        phase = phase.and(retry_when_due(linked, pauses, generator, at_once, op));
     }
     phase
 }
@@ -55,7 +60,9 @@ fn retry_when_due<T: GroupTable + Drop, L: Link + Drop, I: Inlet + Drop, K: Rng>
     at_once: bool,
     op: OpId,
 ) -> Phase
-    ensures { GoesOn L.accepts I.gives linked.old linked.new }
+    ensures goes { GoesOn L.accepts I.gives linked.old linked.new }
+    ensures tried { result.whole ≡ true → IsOver op pauses.old → HasRetried L.accepts I.gives op linked.old linked.new }
+    ensures others { (other : OpId) → other ≢ op → IsOver other pauses.old → IsOver other pauses.new }
 {
     if at_once {
         return retry_of(linked, pauses, op);
@@ -67,13 +74,15 @@ fn retry_when_due<T: GroupTable + Drop, L: Link + Drop, I: Inlet + Drop, K: Rng>
     }
 }
 
-/// A command is tried.
+/// A command is tried; what it makes the node send is put at once.
 fn retry_of<T: GroupTable + Drop, L: Link + Drop, I: Inlet + Drop>(
     linked: &mut LinkedNode<T, L, I>,
     pauses: &mut Pauses,
     op: OpId,
 ) -> Phase
-    ensures { GoesOn L.accepts I.gives linked.old linked.new }
+    ensures goes { GoesOn L.accepts I.gives linked.old linked.new }
+    ensures tried { result.whole ≡ true → HasRetried L.accepts I.gives op linked.old linked.new }
+    ensures others { (other : OpId) → other ≢ op → IsOver other pauses.old → IsOver other pauses.new }
 {
     if usize::from(op.port) >= linked.node().state().port_count() {
         return Phase::idle();
@@ -81,6 +90,7 @@ fn retry_of<T: GroupTable + Drop, L: Link + Drop, I: Inlet + Drop>(
     match linked.retry(op) {
         Ok(()) => {
             pauses.tried(op);
+            linked.put_all();
             Phase::of(true, None)
         }
         Err(fault) => Phase::of(false, Some(fault)),

@@ -36,7 +36,7 @@ pub struct NodeRun<T: GroupTable, L: Drop, I: Drop, K: Drop> {
     pub(crate) stop: I,
     pub(crate) notices: Notices,
     generator: K,
-    pauses: Pauses,
+    pub(crate) pauses: Pauses,
     // Something moved or happened in the last turn.
     busy: bool,
     alloc: Global,
@@ -101,11 +101,12 @@ impl<T: GroupTable + Drop, L: Link + Drop, I: Inlet + Drop, K: Rng + Drop> NodeR
 
     /// One turn: a look for the stop byte; of each peer up to 4,096 bytes come in, and the next packet is taken; the loss of which
     /// a notice tells is seen, once all that came of the lost peer is taken; each port gives a command at most; each command that
-    /// waits is tried where its pause is over, or at once where a loss was seen; what goes out is put; answers are handed over.
+    /// waits is tried where its pause is over, or at once where a loss was seen; answers are handed over. What an event makes the node
+    /// send is put at once, and what a link did not take then behind the retries.
     pub fn turn(&mut self) -> Turned
         ensures runs { Runs L.accepts I.gives self.old self.new }
         ensures stop { TurnedTo I.gives (stop_of self.old) result (stop_of self.new) }
-        ensures tried { WholeTurn L.accepts I.gives result (linked_of self.old) (linked_of self.new) }
+        ensures done { WholeTurn L.accepts I.gives result self.old self.new }
     {
         let mut stop = [0u8; 1];
         if self.stop.take(&mut stop) > 0 {

@@ -1,9 +1,11 @@
 //! The phases of a turn that are between a node and its clients.
 
-ghost use Rattle.std.specs.Prelude.{◌≡◌, ◌<◌, length};
+ghost use Rattle.std.specs.Prelude.{◌≡◌, ◌<◌, ◌^◌, true, length};
 ghost use Rattle.pg_node.specs.Issued.{ports_of};
 ghost use Rattle.pg_node.specs.Nodes.{held_by};
 ghost use Rattle.pg_run.specs.Follows.{node_of};
+ghost use Rattle.pg_run.specs.Ports.{IsServed};
+ghost use Rattle.pg_run.specs.Served.{AreServed, IsServedAt, StayBut, KeepTheSame};
 ghost use Rattle.pg_run.specs.Turns.{Serves, ServesPort};
 
 use crate::linked::LinkedNode;
@@ -20,7 +22,8 @@ pub(crate) fn command_all<T: GroupTable + Drop, L: Link + Drop, I: Inlet + Drop>
     ports: &mut Vec<Port>,
 ) -> Phase
     requires { length ports.old.items ≡ ports_of (held_by (node_of linked.old)) }
-    ensures { Serves L.accepts I.gives linked.old ports.old.items linked.new ports.new.items }
+    ensures serves { Serves L.accepts I.gives linked.old ports.old.items linked.new ports.new.items }
+    ensures served { result.whole ≡ true → AreServed ports.old.items ports.new.items }
 {
     let mut phase = Phase::idle();
     for port in 0..ports.len() {
@@ -37,7 +40,9 @@ fn command_of<T: GroupTable + Drop, L: Link + Drop, I: Inlet + Drop>(
 ) -> Phase
     requires ports { length ports.old.items ≡ ports_of (held_by (node_of linked.old)) }
     requires place { port < length ports.old.items }
-    ensures { Serves L.accepts I.gives linked.old ports.old.items linked.new ports.new.items }
+    ensures serves { Serves L.accepts I.gives linked.old ports.old.items linked.new ports.new.items }
+    ensures served { result.whole ≡ true → port < 2 ^ 16 → IsServedAt port ports.old.items ports.new.items }
+    ensures others { StayBut port ports.old.items ports.new.items }
 {
     match u16::try_from(port) {
         Ok(place) => command_at(linked, ports, place),
@@ -45,7 +50,7 @@ fn command_of<T: GroupTable + Drop, L: Link + Drop, I: Inlet + Drop>(
     }
 }
 
-/// The port of this number gives a command at most.
+/// The port of this number gives a command at most; what it makes the node send is put at once.
 fn command_at<T: GroupTable + Drop, L: Link + Drop, I: Inlet + Drop>(
     linked: &mut LinkedNode<T, L, I>,
     ports: &mut Vec<Port>,
@@ -53,10 +58,16 @@ fn command_at<T: GroupTable + Drop, L: Link + Drop, I: Inlet + Drop>(
 ) -> Phase
     requires ports { length ports.old.items ≡ ports_of (held_by (node_of linked.old)) }
     requires place { place < length ports.old.items }
-    ensures { Serves L.accepts I.gives linked.old ports.old.items linked.new ports.new.items }
+    ensures serves { Serves L.accepts I.gives linked.old ports.old.items linked.new ports.new.items }
+    ensures served { result.whole ≡ true → IsServedAt place ports.old.items ports.new.items }
+    ensures others { StayBut place ports.old.items ports.new.items }
 {
     let port = &mut ports[usize::from(place)];
-    serve(linked, port, place)
+    let phase = serve(linked, port, place);
+    if phase.busy {
+        linked.put_all();
+    }
+    phase
 }
 
 /// This port, which is at that place, gives a command at most.
@@ -66,7 +77,8 @@ fn serve<T: GroupTable + Drop, L: Link + Drop, I: Inlet + Drop>(
     place: u16,
 ) -> Phase
     requires { place < ports_of (held_by (node_of linked.old)) }
-    ensures { ServesPort L.accepts I.gives place linked.old port.old linked.new port.new }
+    ensures serves { ServesPort L.accepts I.gives place linked.old port.old linked.new port.new }
+    ensures served { result.whole ≡ true → IsServed port.old port.new }
 {
     match port.next() {
         Some(Asked { command, polled }) => match linked.command(place, command) {
@@ -88,7 +100,8 @@ pub(crate) fn hand_all<T: GroupTable + Drop, L: Link + Drop, I: Inlet + Drop>(
     pauses: &mut Pauses,
 ) -> Phase
     requires { length ports.old.items ≡ ports_of (held_by (node_of linked.now)) }
-    ensures { Serves L.accepts I.gives linked.now ports.old.items linked.now ports.new.items }
+    ensures serves { Serves L.accepts I.gives linked.now ports.old.items linked.now ports.new.items }
+    ensures kept { KeepTheSame ports.old.items ports.new.items }
 {
     let mut phase = Phase::idle();
     for port in 0..ports.len() {
@@ -107,7 +120,8 @@ fn hand_of<T: GroupTable + Drop, L: Link + Drop, I: Inlet + Drop>(
 ) -> Phase
     requires ports { length ports.old.items ≡ ports_of (held_by (node_of linked.now)) }
     requires place { port < length ports.old.items }
-    ensures { Serves L.accepts I.gives linked.now ports.old.items linked.now ports.new.items }
+    ensures serves { Serves L.accepts I.gives linked.now ports.old.items linked.now ports.new.items }
+    ensures kept { KeepTheSame ports.old.items ports.new.items }
 {
     match u16::try_from(port) {
         Ok(place) => hand_at(alloc, linked, ports, pauses, place),
@@ -125,7 +139,8 @@ fn hand_at<T: GroupTable + Drop, L: Link + Drop, I: Inlet + Drop>(
 ) -> Phase
     requires ports { length ports.old.items ≡ ports_of (held_by (node_of linked.now)) }
     requires place { place < length ports.old.items }
-    ensures { Serves L.accepts I.gives linked.now ports.old.items linked.now ports.new.items }
+    ensures serves { Serves L.accepts I.gives linked.now ports.old.items linked.now ports.new.items }
+    ensures kept { KeepTheSame ports.old.items ports.new.items }
 {
     let answers = linked.node().state().answers(place);
     let port = &mut ports[usize::from(place)];

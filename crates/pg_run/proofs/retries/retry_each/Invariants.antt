@@ -1,5 +1,5 @@
-use Rattle.pg_run.specs.Turns.{GoesOn}
+use Rattle.pg_run.proofs.Retrying.{RetriedBelow}
 use Rattle.pg_run.proofs.retries.retry_each.Given as goal
 
-abbrev pub invariant-loop-op : goal.invariant-loop-op
-invariant-loop-op g l = GoesOn g.L.Link.accepts g.I.Inlet.gives l.fn.linked l.linked
+abbrev pub invariant-loop-place : goal.invariant-loop-place
+invariant-loop-place g l = RetriedBelow g.L.Link.accepts g.I.Inlet.gives l.fn.ops l.place l.phase.whole l.fn.pauses l.pauses l.fn.linked l.linked

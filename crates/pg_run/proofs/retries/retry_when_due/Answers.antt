@@ -1,8 +1,14 @@
 use Rattle.pg_run.proofs.GoingOn.{goes_itself}
 use Rattle.pg_run.proofs.retries.retry_when_due.Goals as goal
 
-pub returns-in-Ok-false : goal.returns-in-Ok-false
-returns-in-Ok-false g c = goes_itself g.L.Link.accepts g.I.Inlet.gives g.met.L.Link.rests g.met.I.Inlet.rests c.args.linked.now
+pub returns-in-Ok-false-clause-goes : goal.returns-in-Ok-false-clause-goes
+returns-in-Ok-false-clause-goes g c = goes_itself g.L.Link.accepts g.I.Inlet.gives g.met.L.Link.rests g.met.I.Inlet.rests c.args.linked.now
 
-pub returns-in-Err : goal.returns-in-Err
-returns-in-Err g c = goes_itself g.L.Link.accepts g.I.Inlet.gives g.met.L.Link.rests g.met.I.Inlet.rests c.args.linked.now
+pub returns-in-Err-clause-goes : goal.returns-in-Err-clause-goes
+returns-in-Err-clause-goes g c = goes_itself g.L.Link.accepts g.I.Inlet.gives g.met.L.Link.rests g.met.I.Inlet.rests c.args.linked.now
+
+pub returns-then-at_once-clause-tried : goal.returns-then-at_once-clause-tried
+returns-then-at_once-clause-tried g c = λ whole over. c.retry_of.ensures.tried whole
+
+pub returns-in-Ok-true-clause-tried : goal.returns-in-Ok-true-clause-tried
+returns-in-Ok-true-clause-tried g c = λ whole over. c.retry_of-in-Ok-true.ensures.tried whole

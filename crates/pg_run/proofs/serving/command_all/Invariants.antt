@@ -1,5 +1,8 @@
 use Rattle.pg_run.specs.Turns.{Serves}
+use Rattle.pg_run.proofs.Served.{ServedBelow}
 use Rattle.pg_run.proofs.serving.command_all.Given as goal
 
 abbrev pub invariant-loop-port : goal.invariant-loop-port
-invariant-loop-port g l = Serves g.L.Link.accepts g.I.Inlet.gives l.fn.linked l.fn.ports.items l.linked l.ports.items
+invariant-loop-port g l =
+    Serves g.L.Link.accepts g.I.Inlet.gives l.fn.linked l.fn.ports.items l.linked l.ports.items
+    × ServedBelow l.port l.phase.whole l.fn.ports.items l.ports.items

@@ -1,5 +1,9 @@
+use Rattle.std.proofs.Common.{refl}
 use Rattle.pg_run.proofs.GoingOn.{goes_itself, serves_going}
 use Rattle.pg_run.proofs.serving.command_of.Goals as goal
 
-pub returns-in-Err : goal.returns-in-Err
-returns-in-Err g c = serves_going g.L.Link.accepts g.I.Inlet.gives c.args.linked.now c.args.linked.now c.args.ports.now.items (goes_itself g.L.Link.accepts g.I.Inlet.gives g.met.L.Link.rests g.met.I.Inlet.rests c.args.linked.now)
+pub returns-in-Err-clause-serves : goal.returns-in-Err-clause-serves
+returns-in-Err-clause-serves g c = serves_going g.L.Link.accepts g.I.Inlet.gives c.args.linked.now c.args.linked.now c.args.ports.now.items (goes_itself g.L.Link.accepts g.I.Inlet.gives g.met.L.Link.rests g.met.I.Inlet.rests c.args.linked.now)
+
+pub returns-in-Err-clause-others : goal.returns-in-Err-clause-others
+returns-in-Err-clause-others g c = λ other none apart. refl

@@ -1,14 +1,31 @@
+use Rattle.std.proofs.Common.{subst, sym}
+use Rattle.pg_run.specs.Tries.{HasTried}
+use Rattle.pg_run.specs.Turns.{GoesOn}
 use Rattle.pg_run.proofs.GoingOn.{goes_on, goes_by_none, goes_by_take}
-use Rattle.pg_run.proofs.Trying.{tried_one}
+use Rattle.pg_run.proofs.Trying.{stays, tried_between, tried_one}
 use Rattle.pg_run.proofs.linked.LinkedNode.pull_and_take.Goals as goal
+use Rattle.pg_run.proofs.linked.LinkedNode.pull_and_take.Goals.{then-taken, else-taken}
 
 pub returns-clause-goes : goal.returns-clause-goes
 returns-clause-goes g c =
-    goes_on g.L.Link.accepts g.I.Inlet.gives g.met.L.Link.composes g.met.I.Inlet.composes c.args.self.now c.pull.new.self c.take-taken.new.self
+    let taken : GoesOn g.L.Link.accepts g.I.Inlet.gives c.args.self.now c.take.new.self =
+    goes_on g.L.Link.accepts g.I.Inlet.gives g.met.L.Link.composes g.met.I.Inlet.composes c.args.self.now c.pull.new.self c.take.new.self
     (goes_by_none g.L.Link.accepts g.I.Inlet.gives c.args.self.now c.pull.new.self c.pull.ensures.follows)
-    (goes_by_take g.L.Link.accepts g.I.Inlet.gives c.args.peer c.take-taken.result c.pull.new.self c.take-taken.new.self c.take-taken.ensures.took)
+    (goes_by_take g.L.Link.accepts g.I.Inlet.gives c.args.peer c.take.result c.pull.new.self c.take.new.self c.take.ensures.took)
+    in
+    elim c.if-taken.branch [
+      | then-taken w ↦ subst (λ x. GoesOn g.L.Link.accepts g.I.Inlet.gives c.args.self.now x) (sym w.self-is) (goes_on g.L.Link.accepts g.I.Inlet.gives g.met.L.Link.composes g.met.I.Inlet.composes c.args.self.now c.take.new.self w.put_all.new.self taken w.put_all.ensures)
+      | else-taken w ↦ subst (λ x. GoesOn g.L.Link.accepts g.I.Inlet.gives c.args.self.now x) (sym w.self-is) taken
+    ]
 
 pub returns-clause-tried : goal.returns-clause-tried
 returns-clause-tried g c = λ whole.
-    tried_one g.L.Link.accepts g.I.Inlet.gives g.met.L.Link.rests g.met.I.Inlet.rests g.met.L.Link.composes g.met.I.Inlet.composes c.args.peer c.args.self.now c.pull.new.self c.take-taken.new.self c.take-taken.result
-    c.pull.ensures.follows c.take-taken.ensures.took c.take-taken.ensures.none c.take-taken.ensures.fault (c.of_take.ensures (c.and.ensures.second whole))
+    let tried : HasTried g.L.Link.accepts g.I.Inlet.gives c.args.peer c.args.self.now c.take.new.self =
+    tried_one g.L.Link.accepts g.I.Inlet.gives g.met.L.Link.rests g.met.I.Inlet.rests g.met.L.Link.composes g.met.I.Inlet.composes c.args.peer c.args.self.now c.pull.new.self c.take.new.self c.take.result
+    c.pull.ensures.follows c.take.ensures.took c.take.ensures.none c.take.ensures.fault (c.of_take-taken.ensures (c.and.ensures.second whole))
+    in
+    elim c.if-taken.branch [
+      | then-taken w ↦ subst (λ x. HasTried g.L.Link.accepts g.I.Inlet.gives c.args.peer c.args.self.now x) (sym w.self-is)
+          (tried_between g.L.Link.accepts g.I.Inlet.gives g.met.L.Link.rests g.met.I.Inlet.rests g.met.L.Link.composes g.met.I.Inlet.composes c.args.peer c.args.self.now c.args.self.now c.take.new.self w.put_all.new.self (stays g.L.Link.accepts g.I.Inlet.gives g.met.L.Link.rests g.met.I.Inlet.rests g.met.L.Link.composes g.met.I.Inlet.composes c.args.self.now) tried (w.put_all.ensures.acts, w.put_all.ensures.follows))
+      | else-taken w ↦ subst (λ x. HasTried g.L.Link.accepts g.I.Inlet.gives c.args.peer c.args.self.now x) (sym w.self-is) tried
+    ]

@@ -1,6 +1,9 @@
 use Rattle.std.proofs.Common.{[], refl}
+use Rattle.pg_run.specs.Tries.{ComesTo}
 use Rattle.pg_run.proofs.GoingOn.{goes_itself, serves_going, serves_turn, notices_stay}
-use Rattle.pg_run.proofs.Trying.{comes_four, tried_still}
+use Rattle.pg_run.proofs.Retrying.{retried_still}
+use Rattle.pg_run.proofs.Served.{served_kept_on}
+use Rattle.pg_run.proofs.Trying.{comes_on, tried_still}
 use Rattle.pg_run.proofs.run.NodeRun.turn.Goals as goal
 
 pub returns-then-take-gt0-clause-runs : goal.returns-then-take-gt0-clause-runs
@@ -17,7 +20,7 @@ returns-then-phase-clause-runs g c = record {
   losses = c.see_next-saw.ensures.losses;
   serves = serves_turn g.L.Link.accepts g.I.Inlet.gives g.met.L.Link.composes g.met.I.Inlet.composes c.see_next-saw.ensures.losses c.args.self.now.linked c.take_all-took.new.self
       c.see_next-saw.new.linked c.command_all-commanded.new.linked c.retry_all-retried.new.linked c.put_all-put.new.self c.args.self.now.ports.items c.command_all-commanded.new.ports.items
-      c.hand_all-handed.new.ports.items c.take_all-took.ensures.goes c.see_next-saw.ensures.going c.command_all-commanded.ensures c.retry_all-retried.ensures c.put_all-put.ensures c.hand_all-handed.ensures;
+      c.hand_all-handed.new.ports.items c.take_all-took.ensures.goes c.see_next-saw.ensures.going c.command_all-commanded.ensures.serves c.retry_all-retried.ensures.goes c.put_all-put.ensures c.hand_all-handed.ensures.serves;
   told = c.see_next-saw.ensures.told;
 }
 
@@ -26,20 +29,30 @@ returns-else-phase-clause-runs g c = record {
   losses = c.see_next-saw.ensures.losses;
   serves = serves_turn g.L.Link.accepts g.I.Inlet.gives g.met.L.Link.composes g.met.I.Inlet.composes c.see_next-saw.ensures.losses c.args.self.now.linked c.take_all-took.new.self
       c.see_next-saw.new.linked c.command_all-commanded.new.linked c.retry_all-retried.new.linked c.put_all-put.new.self c.args.self.now.ports.items c.command_all-commanded.new.ports.items
-      c.hand_all-handed.new.ports.items c.take_all-took.ensures.goes c.see_next-saw.ensures.going c.command_all-commanded.ensures c.retry_all-retried.ensures c.put_all-put.ensures c.hand_all-handed.ensures;
+      c.hand_all-handed.new.ports.items c.take_all-took.ensures.goes c.see_next-saw.ensures.going c.command_all-commanded.ensures.serves c.retry_all-retried.ensures.goes c.put_all-put.ensures c.hand_all-handed.ensures.serves;
   told = c.see_next-saw.ensures.told;
 }
 
-pub returns-then-phase-clause-tried : goal.returns-then-phase-clause-tried
-returns-then-phase-clause-tried g c =
+pub returns-then-phase-clause-done : goal.returns-then-phase-clause-done
+returns-then-phase-clause-done g c =
     let a = c.args.self.now.linked in
     let b = c.take_all-took.new.self in
     let d = c.see_next-saw.new.linked in
     let e = c.command_all-commanded.new.linked in
     let f = c.retry_all-retried.new.linked in
     let h = c.put_all-put.new.self in
-    let whole = c.and.ensures.first (c.and-2.ensures.first (c.and-3.ensures.first (c.and-4.ensures.first (c.and-phase.ensures.first c.if-phase.true)))) in
-    tried_still g.L.Link.accepts g.I.Inlet.gives g.met.L.Link.rests g.met.I.Inlet.rests g.met.L.Link.composes g.met.I.Inlet.composes a b h (c.take_all-took.ensures.tried whole)
-    (comes_four g.L.Link.accepts g.I.Inlet.gives g.met.L.Link.rests g.met.I.Inlet.rests g.met.L.Link.composes g.met.I.Inlet.composes b d e f h
-    (c.see_next-saw.ensures.going.acts, c.see_next-saw.ensures.going.follows) (c.command_all-commanded.ensures.acts, c.command_all-commanded.ensures.follows)
-    (c.retry_all-retried.ensures.acts, c.retry_all-retried.ensures.follows) (c.put_all-put.ensures.acts, c.put_all-put.ensures.follows))
+    let on = comes_on g.L.Link.accepts g.I.Inlet.gives g.met.L.Link.rests g.met.I.Inlet.rests g.met.L.Link.composes g.met.I.Inlet.composes in
+    let took : ComesTo g.L.Link.accepts g.I.Inlet.gives a b = (c.take_all-took.ensures.goes.acts, c.take_all-took.ensures.goes.follows) in
+    let saw : ComesTo g.L.Link.accepts g.I.Inlet.gives b d = (c.see_next-saw.ensures.going.acts, c.see_next-saw.ensures.going.follows) in
+    let commanded : ComesTo g.L.Link.accepts g.I.Inlet.gives d e = (c.command_all-commanded.ensures.serves.acts, c.command_all-commanded.ensures.serves.follows) in
+    let retried : ComesTo g.L.Link.accepts g.I.Inlet.gives e f = (c.retry_all-retried.ensures.goes.acts, c.retry_all-retried.ensures.goes.follows) in
+    let put : ComesTo g.L.Link.accepts g.I.Inlet.gives f h = (c.put_all-put.ensures.acts, c.put_all-put.ensures.follows) in
+    let fourth = c.and-3.ensures.first (c.and-4.ensures.first (c.and-phase.ensures.first c.if-phase.true)) in
+    record {
+      took = tried_still g.L.Link.accepts g.I.Inlet.gives g.met.L.Link.rests g.met.I.Inlet.rests g.met.L.Link.composes g.met.I.Inlet.composes a b h (c.take_all-took.ensures.tried (c.and.ensures.first (c.and-2.ensures.first fourth)))
+          (on b d h saw (on d e h commanded (on e f h retried put)));
+      served = served_kept_on c.args.self.now.ports.items c.command_all-commanded.new.ports.items c.hand_all-handed.new.ports.items
+          (c.command_all-commanded.ensures.served (c.and-2.ensures.second fourth)) c.hand_all-handed.ensures.kept;
+      retried = retried_still g.L.Link.accepts g.I.Inlet.gives g.met.L.Link.rests g.met.I.Inlet.rests g.met.L.Link.composes g.met.I.Inlet.composes c.args.self.now.pauses a e f h
+          (on a b e took (on b d e saw commanded)) (c.retry_all-retried.ensures.tried (c.and-3.ensures.second (c.and-4.ensures.first (c.and-phase.ensures.first c.if-phase.true)))) put;
+    }
