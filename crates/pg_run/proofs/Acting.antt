@@ -17,7 +17,7 @@ use Rattle.pg_run.specs.declared.linked.LinkedNode.{LinkedNode}
 use Rattle.pg_run.specs.Acts.{Act, Standing, Leads, event_of, is_from, losses_of}
 use Rattle.pg_opens.specs.Places.{name_at, whole_in}
 use Rattle.pg_run.specs.Events.{IsRefusedAs, IsTold, told_of_peer}
-use Rattle.pg_run.specs.Follows.{Follows, HaveMoved, WasMarked, sound_link, node_of, peers_of, log_of, standing_of}
+use Rattle.pg_run.specs.Follows.{Follows, HaveMoved, WasMarked, node_of, peers_of, log_of, standing_of}
 use Rattle.pg_run.proofs.Moving.{act_moved, peers_kept, unmoved, link_there, link_else}
 use Rattle.pg_step.specs.declared.answer.Answer.{Answer}
 use Rattle.pg_step.specs.declared.refusal.Refusal.{Refusal}

@@ -7,9 +7,8 @@ use Rattle.pg_node.specs.Issued.{ports_of}
 use Rattle.pg_node.specs.Nodes.{held_by, links_of}
 use Rattle.pg_node.specs.States.{names_of, state_of, answers_of}
 use Rattle.pg_run.specs.declared.linked.LinkedNode.{LinkedNode}
-use Rattle.pg_run.specs.declared.linked.Peer.{Peer}
 use Rattle.pg_run.specs.Acts.{Act, Standing, AllLead, entry_of, frames_taken}
-use Rattle.pg_run.specs.Follows.{HasMoved, HaveMoved, Follows, WasMarked, node_of, peers_of, log_of, standing_of}
+use Rattle.pg_run.specs.Follows.{HaveMoved, Follows, WasMarked, node_of, peers_of, log_of, standing_of}
 use Rattle.pg_run.proofs.Moving.{have_moved_on, peers_kept, taken_join, unmoved}
 use Rattle.pg_step.specs.Nodes.{Node as Name}
 

@@ -1,5 +1,5 @@
 -- What a put and a pull have moved.
-use Rattle.std.proofs.Common.{◌≡◌, ◌<◌, ◌≤◌, ◌+◌, ◌∙◌, ℕ, get_or, take, drop, length, List, [], sym, ap, subst, arith, length-drop, append-nil}
+use Rattle.std.proofs.Common.{◌≡◌, ◌<◌, ◌≤◌, ◌+◌, ◌∙◌, ℕ, get_or, take, drop, length, List, [], refl, sym, ap, subst, arith, length-drop, append-nil}
 use Rattle.std.specs.Prelude.{slice_set, Result, Ok, Err, IfOk, OnErr}
 use Rattle.pg_node.specs.declared.state.fault.NodeFault.{NodeFault}
 use Rattle.pg_node.specs.Links.{Link, at_link, without_front, with_fed}
