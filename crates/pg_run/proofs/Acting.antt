@@ -1,7 +1,7 @@
 -- What one event of a node makes of it and of its links.
 use Rattle.std.proofs.Common.{◌≡◌, ◌≢◌, ◌⊎◌, ◌∙◌, ℕ, cond, List, [], ◌∷◌, ◌++◌, refl, sym, ap, subst, inl, inr, append-nil}
 use Rattle.std.proofs.lemmas.Bool.{cases_eq}
-use Rattle.std.specs.Prelude.{Bool, true, false, ◌||◌, Result, Ok, Err, Option, Some, None}
+use Rattle.std.specs.Prelude.{Bool, true, false, ◌||◌, ◌+◌, Result, Ok, Err, Option, Some, None}
 use Rattle.pg_group.specs.declared.table.GroupTable.{Ghosts}
 use Rattle.pg_machine.specs.Clocked.{Timed}
 use Rattle.pg_node.specs.declared.state.done.Done.{Done}
@@ -11,13 +11,14 @@ use Rattle.pg_node.specs.Issued.{ports_of}
 use Rattle.pg_message.specs.declared.packet.Packet.{Packet}
 use Rattle.pg_node.specs.Bytes.{Tells, damages, marked}
 use Rattle.pg_node.specs.Links.{Link, at_link, frames_to}
-use Rattle.pg_node.specs.Nodes.{held_by, links_of, taken_of, taken_as, ComesInRoom}
+use Rattle.pg_node.specs.Nodes.{held_by, links_of, step_link, taken_of, taken_as, ComesInRoom}
 use Rattle.pg_node.specs.States.{names_of, state_of, answers_of, stamped_of, Happens, Comes}
 use Rattle.pg_run.specs.declared.linked.LinkedNode.{LinkedNode}
 use Rattle.pg_run.specs.Acts.{Act, Standing, Leads, event_of, is_from, losses_of}
-use Rattle.pg_run.specs.Events.{IsRefusedAs, IsTold}
-use Rattle.pg_run.specs.Follows.{Follows, HaveMoved, node_of, peers_of, log_of, standing_of}
-use Rattle.pg_run.proofs.Moving.{act_moved, marks_kept, peers_kept, unmoved, link_there, link_else}
+use Rattle.pg_opens.specs.Places.{name_at, whole_in}
+use Rattle.pg_run.specs.Events.{IsRefusedAs, IsTold, told_of_peer}
+use Rattle.pg_run.specs.Follows.{Follows, HaveMoved, WasMarked, node_of, peers_of, log_of, standing_of}
+use Rattle.pg_run.proofs.Moving.{act_moved, peers_kept, unmoved, link_there, link_else}
 use Rattle.pg_step.specs.declared.answer.Answer.{Answer}
 use Rattle.pg_step.specs.declared.refusal.Refusal.{Refusal}
 use Rattle.pg_step.specs.declared.refusal.Refusal.TheVariants.{NodeLost}
@@ -134,6 +135,84 @@ told_read lost m p s r packet fault here read refused =
 pub told_lost : (lost : Bool) (r : Result (Option TimedTurn) NodeFault) → lost ≡ true → cond lost (Err (Refused NodeLost)) r ≡ Err (Refused NodeLost)
 told_lost lost r gone = ap (λ b. cond b (Err (Refused NodeLost)) r) gone
 
+-- ---- a link that was marked
+
+marked_outbox : (k : ℕ) (fault : NodeFault) (links : ℕ → Link) (place : ℕ) → (at_link k (λ l. marked l fault) links place).outbox ≡ (links place).outbox
+marked_outbox k fault links place = go (cases_eq place k)
+  where
+    go : (place ≡ k) ⊎ (place ≢ k) → (at_link k (λ l. marked l fault) links place).outbox ≡ (links place).outbox
+    go (inl e) = subst (λ j. (at_link k (λ l. marked l fault) links j).outbox ≡ (links j).outbox) (sym e) (ap (λ (l : Link). l.outbox) (link_there k (λ l. marked l fault) links))
+    go (inr n) = ap (λ (l : Link). l.outbox) (link_else k place (λ l. marked l fault) links n)
+
+marked_unread : (k : ℕ) (fault : NodeFault) (links : ℕ → Link) (place : ℕ) → (at_link k (λ l. marked l fault) links place).unread ≡ (links place).unread
+marked_unread k fault links place = go (cases_eq place k)
+  where
+    go : (place ≡ k) ⊎ (place ≢ k) → (at_link k (λ l. marked l fault) links place).unread ≡ (links place).unread
+    go (inl e) = subst (λ j. (at_link k (λ l. marked l fault) links j).unread ≡ (links j).unread) (sym e) (ap (λ (l : Link). l.unread) (link_there k (λ l. marked l fault) links))
+    go (inr n) = ap (λ (l : Link). l.unread) (link_else k place (λ l. marked l fault) links n)
+
+or_true : (b : Bool) → (b || true) ≡ true
+or_true true = refl
+or_true false = refl
+
+or_false : (b : Bool) → (b || false) ≡ b
+or_false true = refl
+or_false false = refl
+
+-- a mark lasts where another is made
+marked_lasts : (k : ℕ) (fault : NodeFault) (links : ℕ → Link) (place : ℕ) → (links place).damaged ≡ true → (at_link k (λ l. marked l fault) links place).damaged ≡ true
+marked_lasts k fault links place damaged = go (cases_eq place k)
+  where
+    go : (place ≡ k) ⊎ (place ≢ k) → (at_link k (λ l. marked l fault) links place).damaged ≡ true
+    go (inl e) =
+        subst (λ j. (at_link k (λ l. marked l fault) links j).damaged ≡ true) (sym e)
+        (ap (λ (l : Link). l.damaged) (link_there k (λ l. marked l fault) links)
+        ∙ (ap (λ b. damages fault || b) (subst (λ j. (links j).damaged ≡ true) e damaged) ∙ or_true (damages fault)))
+    go (inr n) = ap (λ (l : Link). l.damaged) (link_else k place (λ l. marked l fault) links n) ∙ damaged
+
+-- a fault that damages the link is the one that the step tells
+fault_told : (told : Result (Option TimedTurn) NodeFault) (fault : NodeFault) → damages fault ≡ true → IsTold told fault → told ≡ Err fault
+fault_told told OutOfMemory harm is = absurd (cc)
+fault_told told (Refused other) harm is = is
+fault_told told (Message other) harm is = is
+fault_told told TooLong harm is = is
+fault_told told Damaged harm is = is
+
+-- a link at which a mark is made is damaged from before, or by the fault that was told
+marked_by : (names : List Name) (ports k : ℕ) (fault : NodeFault) (links : ℕ → Link) (a b : Standing) → b ≡ a
+    → IsTold (step_link (whole_in names) (name_at names (k + 1)) (links k) a.state) fault → (place : ℕ) → (at_link k (λ l. marked l fault) links place).damaged ≡ true
+    → ((links place).damaged ≡ true) ⊎ WasMarked names ports place [] a b (at_link k (λ l. marked l fault) links place).unread
+marked_by names ports k fault links a b same told place damaged = go (cases_eq place k)
+  where
+    by_it : (was : Bool) → (links k).damaged ≡ was → (at_link k (λ l. marked l fault) links k).damaged ≡ true
+        → ((links k).damaged ≡ true) ⊎ WasMarked names ports k [] a b (at_link k (λ l. marked l fault) links k).unread
+    by_it true is damaged = inl is
+    by_it false is damaged =
+        let harm : damages fault ≡ true =
+        sym (ap (λ (l : Link). l.damaged) (link_there k (λ l. marked l fault) links) ∙ (ap (λ b. damages fault || b) is ∙ or_false (damages fault))) ∙ damaged in
+        inr (record {
+          before = [];
+          after = [];
+          cut = refl;
+          middle = a;
+          led = refl;
+          rest = same;
+          untaken = refl;
+          left = (links k).unread;
+          later = [];
+          came = marked_unread k fault links k ∙ sym (append-nil (links k).unread);
+          fault = fault;
+          told = sym (ap (λ d. step_link (whole_in names) (name_at names (k + 1)) (record { unread = (links k).unread; outbox = []; damaged = d }) a.state) is)
+              ∙ fault_told (step_link (whole_in names) (name_at names (k + 1)) (links k) a.state) fault harm told;
+          marks = harm;
+        })
+
+    go : (place ≡ k) ⊎ (place ≢ k) → ((links place).damaged ≡ true) ⊎ WasMarked names ports place [] a b (at_link k (λ l. marked l fault) links place).unread
+    go (inl e) =
+        subst (λ j. ((links j).damaged ≡ true) ⊎ WasMarked names ports j [] a b (at_link k (λ l. marked l fault) links j).unread) (sym e)
+        (by_it (links k).damaged refl (subst (λ j. (at_link k (λ l. marked l fault) links j).damaged ≡ true) e damaged))
+    go (inr n) = inl (sym (ap (λ (l : Link). l.damaged) (link_else k place (λ l. marked l fault) links n)) ∙ damaged)
+
 -- ---- one act
 
 module _ {T L I : Type 0} {g : Ghosts T} (accepts : L → List ℕ → L → Type 0) (gives : I → List ℕ → I → Type 0)
@@ -144,9 +223,10 @@ module _ {T L I : Type 0} {g : Ghosts T} (accepts : L → List ℕ → L → Typ
       → log_of b ≡ log_of a ++ ((state_of (held_by (node_of b))).clock, event_of act.input) ∷ [] → peers_of b ≡ peers_of a
       → ((place : ℕ) → losses_of place (act ∷ []) ≡ [] → (links_of (node_of b) place).outbox ≡ (links_of (node_of a) place).outbox ++ frames_to act.sends place)
       → ((place : ℕ) → (links_of (node_of a) place).unread ≡ cond (is_from place act.input) act.came [] ++ (links_of (node_of b) place).unread)
-      → ((place : ℕ) → (links_of (node_of a) place).damaged ≡ true → (links_of (node_of b) place).damaged ≡ true)
+      → ((place : ℕ) → (links_of (node_of b) place).damaged ≡ (links_of (node_of a) place).damaged)
+      → ((place : ℕ) → (links_of (node_of a) place).damaged ≡ true → cond (is_from place act.input) act.came [] ≡ [])
       → Follows accepts gives (act ∷ []) a b
-  acts_once a b act names ports leads log peers out came lasts = record {
+  acts_once a b act names ports leads log peers out came marks still = record {
     names = names;
     ports = ports;
     lead = (standing_of (node_of b), leads, refl);
@@ -155,7 +235,9 @@ module _ {T L I : Type 0} {g : Ghosts T} (accepts : L → List ℕ → L → Typ
         (peers_kept accepts gives (act ∷ []) (links_of (node_of a)) (links_of (node_of b)) (peers_of a)
         (λ place other. act_moved accepts gives link_rests inlet_rests place act (links_of (node_of a) place) (links_of (node_of b) place) other
         (λ none. out place none ∙ ap (λ w. (links_of (node_of a) place).outbox ++ w) (sym (append-nil (frames_to act.sends place))))
-        (came place ∙ ap (λ w. w ++ (links_of (node_of b) place).unread) (sym (append-nil (cond (is_from place act.input) act.came [])))) (lasts place)));
+        (came place ∙ ap (λ w. w ++ (links_of (node_of b) place).unread) (sym (append-nil (cond (is_from place act.input) act.came []))))
+        (λ damaged. marks place ∙ damaged) (λ damaged. append-nil (cond (is_from place act.input) act.came []) ∙ still place damaged)));
+    marked = λ place low damaged. inl (sym (marks place) ∙ damaged);
   }
 
   -- ---- no act
@@ -163,53 +245,48 @@ module _ {T L I : Type 0} {g : Ghosts T} (accepts : L → List ℕ → L → Typ
   -- nothing is seen to have changed, whatever memory was got
   pub nothing_done : (a b : LinkedNode T L I g) → names_of (held_by (node_of b)) ≡ names_of (held_by (node_of a)) → ports_of (held_by (node_of b)) ≡ ports_of (held_by (node_of a))
       → state_of (held_by (node_of b)) ≡ state_of (held_by (node_of a)) → answers_of (held_by (node_of b)) ≡ answers_of (held_by (node_of a))
-      → log_of b ≡ log_of a → peers_of b ≡ peers_of a
-      → ((place : ℕ) → (links_of (node_of b) place).outbox ≡ (links_of (node_of a) place).outbox)
-      → ((place : ℕ) → (links_of (node_of b) place).unread ≡ (links_of (node_of a) place).unread)
-      → ((place : ℕ) → (links_of (node_of a) place).damaged ≡ true → (links_of (node_of b) place).damaged ≡ true)
-      → Follows accepts gives [] a b
-  nothing_done a b names ports state answers log peers out came lasts = record {
+      → log_of b ≡ log_of a → peers_of b ≡ peers_of a → links_of (node_of b) ≡ links_of (node_of a) → Follows accepts gives [] a b
+  nothing_done a b names ports state answers log peers links = record {
     names = names;
     ports = ports;
     lead = alike (state_of (held_by (node_of b))) (state_of (held_by (node_of a))) (answers_of (held_by (node_of b))) (answers_of (held_by (node_of a))) state answers;
     log = log ∙ sym (append-nil (log_of a));
     moved = subst (λ ps. HaveMoved accepts gives [] (links_of (node_of a)) (links_of (node_of b)) (peers_of a) ps) (sym peers)
         (peers_kept accepts gives [] (links_of (node_of a)) (links_of (node_of b)) (peers_of a)
-        (λ place other. unmoved accepts gives link_rests inlet_rests place (links_of (node_of a) place) (links_of (node_of b) place) other (out place) (came place) (lasts place)));
+        (λ place other. unmoved accepts gives link_rests inlet_rests place (links_of (node_of a) place) (links_of (node_of b) place) other
+        (ap (λ (ls : ℕ → Link). (ls place).outbox) links) (ap (λ (ls : ℕ → Link). (ls place).unread) links) (λ damaged. ap (λ (ls : ℕ → Link). (ls place).damaged) links ∙ damaged)));
+    marked = λ place low damaged. inl (sym (ap (λ (ls : ℕ → Link). (ls place).damaged) links) ∙ damaged);
   }
 
   -- the same where the node over packets is the same
   pub nothing_held : (a b : LinkedNode T L I g) → held_by (node_of b) ≡ held_by (node_of a) → log_of b ≡ log_of a → peers_of b ≡ peers_of a
-      → ((place : ℕ) → (links_of (node_of b) place).outbox ≡ (links_of (node_of a) place).outbox)
-      → ((place : ℕ) → (links_of (node_of b) place).unread ≡ (links_of (node_of a) place).unread)
-      → ((place : ℕ) → (links_of (node_of a) place).damaged ≡ true → (links_of (node_of b) place).damaged ≡ true)
+      → links_of (node_of b) ≡ links_of (node_of a) → Follows accepts gives [] a b
+  nothing_held a b held log peers links = nothing_done a b (ap names_of held) (ap ports_of held) (ap state_of held) (ap answers_of held) log peers links
+
+  -- nothing but a fault is seen, which was told of the peer at a place
+  pub fault_done : (a b : LinkedNode T L I g) (k : ℕ) (fault : NodeFault) → names_of (held_by (node_of b)) ≡ names_of (held_by (node_of a)) → ports_of (held_by (node_of b)) ≡ ports_of (held_by (node_of a))
+      → state_of (held_by (node_of b)) ≡ state_of (held_by (node_of a)) → answers_of (held_by (node_of b)) ≡ answers_of (held_by (node_of a))
+      → log_of b ≡ log_of a → peers_of b ≡ peers_of a → links_of (node_of b) ≡ at_link k (λ l. marked l fault) (links_of (node_of a)) → IsTold (told_of_peer (node_of a) k) fault
       → Follows accepts gives [] a b
-  nothing_held a b held log peers out came lasts = nothing_done a b (ap names_of held) (ap ports_of held) (ap state_of held) (ap answers_of held) log peers out came lasts
+  fault_done a b k fault names ports state answers log peers links told =
+      let same = alike (state_of (held_by (node_of b))) (state_of (held_by (node_of a))) (answers_of (held_by (node_of b))) (answers_of (held_by (node_of a))) state answers in record {
+        names = names;
+        ports = ports;
+        lead = same;
+        log = log ∙ sym (append-nil (log_of a));
+        moved = subst (λ ps. HaveMoved accepts gives [] (links_of (node_of a)) (links_of (node_of b)) (peers_of a) ps) (sym peers)
+            (peers_kept accepts gives [] (links_of (node_of a)) (links_of (node_of b)) (peers_of a)
+            (λ place other. unmoved accepts gives link_rests inlet_rests place (links_of (node_of a) place) (links_of (node_of b) place) other
+            (ap (λ (ls : ℕ → Link). (ls place).outbox) links ∙ marked_outbox k fault (links_of (node_of a)) place)
+            (ap (λ (ls : ℕ → Link). (ls place).unread) links ∙ marked_unread k fault (links_of (node_of a)) place)
+            (λ damaged. ap (λ (ls : ℕ → Link). (ls place).damaged) links ∙ marked_lasts k fault (links_of (node_of a)) place damaged)));
+        marked = λ place low.
+            subst
+            (λ (ls : ℕ → Link). (ls place).damaged ≡ true → ((links_of (node_of a) place).damaged ≡ true)
+            ⊎ WasMarked (names_of (held_by (node_of a))) (ports_of (held_by (node_of a))) place [] (standing_of (node_of a)) (standing_of (node_of b)) (ls place).unread) (sym links)
+            (marked_by (names_of (held_by (node_of a))) (ports_of (held_by (node_of a))) k fault (links_of (node_of a)) (standing_of (node_of a)) (standing_of (node_of b)) same told place);
+      }
 
 -- a log that got room, and then an entry
 pub log_after : {E : Type 0} (l m r x : List E) → r ≡ m ++ x → m ≡ l → r ≡ l ++ x
 log_after l m r x e f = e ∙ ap (λ w. w ++ x) f
-
--- ---- a link that was marked
-
-pub marked_outbox : (k : ℕ) (fault : NodeFault) (links : ℕ → Link) (place : ℕ) → (at_link k (λ l. marked l fault) links place).outbox ≡ (links place).outbox
-marked_outbox k fault links place = go (cases_eq place k)
-  where
-    go : (place ≡ k) ⊎ (place ≢ k) → (at_link k (λ l. marked l fault) links place).outbox ≡ (links place).outbox
-    go (inl e) = subst (λ j. (at_link k (λ l. marked l fault) links j).outbox ≡ (links j).outbox) (sym e) (ap (λ (l : Link). l.outbox) (link_there k (λ l. marked l fault) links))
-    go (inr n) = ap (λ (l : Link). l.outbox) (link_else k place (λ l. marked l fault) links n)
-
-pub marked_unread : (k : ℕ) (fault : NodeFault) (links : ℕ → Link) (place : ℕ) → (at_link k (λ l. marked l fault) links place).unread ≡ (links place).unread
-marked_unread k fault links place = go (cases_eq place k)
-  where
-    go : (place ≡ k) ⊎ (place ≢ k) → (at_link k (λ l. marked l fault) links place).unread ≡ (links place).unread
-    go (inl e) = subst (λ j. (at_link k (λ l. marked l fault) links j).unread ≡ (links j).unread) (sym e) (ap (λ (l : Link). l.unread) (link_there k (λ l. marked l fault) links))
-    go (inr n) = ap (λ (l : Link). l.unread) (link_else k place (λ l. marked l fault) links n)
-
--- a mark lasts where another is made
-or_true : (b : Bool) → (b || true) ≡ true
-or_true true = refl
-or_true false = refl
-
-pub marked_lasts : (k : ℕ) (fault : NodeFault) (links : ℕ → Link) (place : ℕ) → (links place).damaged ≡ true → (at_link k (λ l. marked l fault) links place).damaged ≡ true
-marked_lasts k fault links place damaged = marks_kept k (λ l. marked l fault) (λ l d. ap (λ b. damages fault || b) d ∙ or_true (damages fault)) links place damaged

@@ -21,16 +21,16 @@ pub link_else : (k j : ℕ) (change : Link → Link) (links : ℕ → Link) → 
 unfolding upd
 link_else k j change links n = ap (λ b. cond b (change (links k)) (links j)) (ne_eqb k j (λ e. n (sym e)))
 
--- what keeps a mark at each link keeps it where one changes
-pub marks_kept : (k : ℕ) (change : Link → Link) → ((link : Link) → link.damaged ≡ true → (change link).damaged ≡ true) → (links : ℕ → Link) (place : ℕ)
-    → (links place).damaged ≡ true → (at_link k change links place).damaged ≡ true
-marks_kept k change keeps links place damaged = go (cases_eq place k)
+-- where what changes makes no mark and takes none away, all marks are as they were
+pub marks_kept : (k : ℕ) (change : Link → Link) → ((link : Link) → (change link).damaged ≡ link.damaged) → (links : ℕ → Link) (place : ℕ)
+    → (at_link k change links place).damaged ≡ (links place).damaged
+marks_kept k change keeps links place = go (cases_eq place k)
   where
-    go : (place ≡ k) ⊎ (place ≢ k) → (at_link k change links place).damaged ≡ true
+    go : (place ≡ k) ⊎ (place ≢ k) → (at_link k change links place).damaged ≡ (links place).damaged
     go (inl e) =
-        subst (λ j. (at_link k change links j).damaged ≡ true) (sym e)
-        (ap (λ (l : Link). l.damaged) (link_there k change links) ∙ keeps (links k) (subst (λ j. (links j).damaged ≡ true) e damaged))
-    go (inr n) = ap (λ (l : Link). l.damaged) (link_else k place change links n) ∙ damaged
+        subst (λ j. (at_link k change links j).damaged ≡ (links j).damaged) (sym e)
+        (ap (λ (l : Link). l.damaged) (link_there k change links) ∙ keeps (links k))
+    go (inr n) = ap (λ (l : Link). l.damaged) (link_else k place change links n)
 
 -- two lists of which nothing is one list
 pub nil_first : {A : Type 0} (xs ys : List A) → xs ++ ys ≡ [] → xs ≡ []
@@ -51,6 +51,10 @@ none_first place first second none = nil_first (losses_of place first) (losses_o
 pub none_second : (place : ℕ) (first second : List Act) → losses_of place (first ++ second) ≡ [] → losses_of place second ≡ []
 none_second place first second none = nil_second (losses_of place first) (losses_of place second) (sym (losses_join place first second) ∙ none)
 
+-- what two stretches took, one behind the other
+pub taken_join : (place : ℕ) (first second : List Act) → frames_taken place (first ++ second) ≡ frames_taken place first ++ frames_taken place second
+taken_join place first second = flat_map-append (λ (act : Act). cond (is_from place act.input) act.came []) first second
+
 -- two equations of lists, one behind the other
 seam : (p b a f q c s : List ℕ) → p ++ b ≡ a ++ f → q ++ c ≡ b ++ s → (p ++ q) ++ c ≡ a ++ (f ++ s)
 seam p b a f q c s one two = append_assoc p q c ∙ (ap (λ w. p ++ w) two ∙ (sym (append_assoc p b s) ∙ (ap (λ w. w ++ s) one ∙ append_assoc a f s)))
@@ -67,6 +71,7 @@ module _ {L I : Type 0} (accepts : L → List ℕ → L → Type 0) (gives : I �
     gave = inlet_rests peer.inlet;
     taken = append-nil bytes.unread ∙ sym came;
     lasts = lasts;
+    still = λ damaged. refl;
   }
 
   -- bytes went out
@@ -81,6 +86,7 @@ module _ {L I : Type 0} (accepts : L → List ℕ → L → Type 0) (gives : I �
     gave = subst (λ i. gives peer.inlet [] i) (sym same) (inlet_rests peer.inlet);
     taken = append-nil bytes.unread ∙ sym came;
     lasts = lasts;
+    still = λ damaged. refl;
   }
 
   -- bytes came in
@@ -95,13 +101,14 @@ module _ {L I : Type 0} (accepts : L → List ℕ → L → Type 0) (gives : I �
     gave = gave;
     taken = sym came;
     lasts = lasts;
+    still = λ damaged. refl;
   }
 
   -- an act took a frame, or none, and sent frames, unless it saw a loss
   pub act_moved : (link_rests : (a : L) → accepts a [] a) (inlet_rests : (a : I) → gives a [] a) (place : ℕ) (act : Act) (bytes bytes2 : Link) (peer : Peer L I)
       → (losses_of place (act ∷ []) ≡ [] → bytes2.outbox ≡ bytes.outbox ++ frames_sent place (act ∷ [])) → bytes.unread ≡ frames_taken place (act ∷ []) ++ bytes2.unread
-      → (bytes.damaged ≡ true → bytes2.damaged ≡ true) → HasMoved accepts gives place (act ∷ []) bytes bytes2 peer peer
-  act_moved link_rests inlet_rests place act bytes bytes2 peer out came lasts = record {
+      → (bytes.damaged ≡ true → bytes2.damaged ≡ true) → (bytes.damaged ≡ true → frames_taken place (act ∷ []) ≡ []) → HasMoved accepts gives place (act ∷ []) bytes bytes2 peer peer
+  act_moved link_rests inlet_rests place act bytes bytes2 peer out came lasts still = record {
     put = [];
     accepted = link_rests peer.link;
     sent = out;
@@ -109,6 +116,7 @@ module _ {L I : Type 0} (accepts : L → List ℕ → L → Type 0) (gives : I �
     gave = inlet_rests peer.inlet;
     taken = append-nil bytes.unread ∙ came;
     lasts = lasts;
+    still = still;
   }
 
   -- the links of the peer at one place change
@@ -155,8 +163,9 @@ module _ {L I : Type 0} (accepts : L → List ℕ → L → Type 0) (gives : I �
     given = h.given ++ k.given;
     gave = inlet_composes peer.inlet peer2.inlet peer3.inlet h.given k.given h.gave k.gave;
     taken = sym (seam (frames_taken place first) bytes2.unread bytes.unread h.given (frames_taken place second) bytes3.unread k.given (sym h.taken) (sym k.taken))
-        ∙ ap (λ w. w ++ bytes3.unread) (sym (flat_map-append (λ (act : Act). cond (is_from place act.input) act.came []) first second));
+        ∙ ap (λ w. w ++ bytes3.unread) (sym (taken_join place first second));
     lasts = λ damaged. k.lasts (h.lasts damaged);
+    still = λ damaged. taken_join place first second ∙ (ap (λ w. w ++ frames_taken place second) (h.still damaged) ∙ k.still (h.lasts damaged));
   }
 
   pub have_moved_on : ((a b c : L) (xs ys : List ℕ) → accepts a xs b → accepts b ys c → accepts a (xs ++ ys) c)

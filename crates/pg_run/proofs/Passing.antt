@@ -1,11 +1,11 @@
 -- What a put and a pull have moved.
-use Rattle.std.proofs.Common.{◌≡◌, ◌<◌, ◌≤◌, ◌+◌, ◌∙◌, ℕ, get_or, take, drop, length, List, [], sym, ap, subst, arith, length-drop, append-nil}
+use Rattle.std.proofs.Common.{◌≡◌, ◌<◌, ◌≤◌, ◌+◌, ◌∙◌, ℕ, get_or, take, drop, length, List, [], refl, sym, ap, subst, arith, length-drop, append-nil}
 use Rattle.std.specs.Prelude.{slice_set, Result, Ok, Err, IfOk, OnErr}
 use Rattle.pg_node.specs.declared.state.fault.NodeFault.{NodeFault}
 use Rattle.pg_node.specs.Links.{Link, at_link, without_front, with_fed}
 use Rattle.pg_run.specs.declared.linked.Peer.{Peer}
 use Rattle.pg_run.specs.Follows.{HaveMoved}
-use Rattle.pg_run.proofs.Moving.{link_there, link_else, unmoved, put_moved, pull_moved, peer_set}
+use Rattle.pg_run.proofs.Moving.{link_there, link_else, marks_kept, unmoved, put_moved, pull_moved, peer_set}
 
 pub put_count : (links links2 : ℕ → Link) (k n : ℕ) → links2 ≡ at_link k (λ l. without_front l n) links → n ≤ length (links k).outbox
     → length (links2 k).outbox + n ≡ length (links k).outbox
@@ -13,6 +13,17 @@ put_count links links2 k n is some =
     let out : (links2 k).outbox ≡ drop n (links k).outbox = ap (λ (ls : ℕ → Link). (ls k).outbox) is ∙ ap (λ (l : Link). l.outbox) (link_there k (λ l. without_front l n) links) in
     let len = ap length out in
     omega (arith, len, some, length-drop n (links k).outbox)
+
+-- a put makes no mark, nor does a pull
+pub put_marks : (links links2 : ℕ → Link) (k n : ℕ) → links2 ≡ at_link k (λ l. without_front l n) links → (place : ℕ) → (links2 place).damaged ≡ (links place).damaged
+put_marks links links2 k n is place = ap (λ (ls : ℕ → Link). (ls place).damaged) is ∙ marks_kept k (λ l. without_front l n) (λ l. refl) links place
+
+pub pull_marks : {I : Type 0} (gives : I → List ℕ → I → Type 0) (links links2 : ℕ → Link) (k : ℕ) (r : Result ℕ NodeFault) (inlet inlet2 : I)
+    → IfOk r (λ count. (piece : List ℕ) × (length piece ≡ count) × gives inlet piece inlet2 × (links2 ≡ at_link k (λ l. with_fed l piece) links))
+    → OnErr r (links2 ≡ links) → (place : ℕ) → (links2 place).damaged ≡ (links place).damaged
+pull_marks gives links links2 k (Ok count) inlet inlet2 fed kept place =
+    ap (λ (ls : ℕ → Link). (ls place).damaged) fed.3 ∙ marks_kept k (λ l. with_fed l fed.0) (λ l. refl) links place
+pull_marks gives links links2 k (Err fault) inlet inlet2 fed kept place = ap (λ (ls : ℕ → Link). (ls place).damaged) kept
 
 module _ {L I : Type 0} (accepts : L → List ℕ → L → Type 0) (gives : I → List ℕ → I → Type 0) (link_rests : (a : L) → accepts a [] a) (inlet_rests : (a : I) → gives a [] a)
     (links links2 : ℕ → Link) (peers : List (Peer L I)) (k : ℕ) where
@@ -49,6 +60,7 @@ module _ {L I : Type 0} (accepts : L → List ℕ → L → Type 0) (gives : I �
         gave = subst (λ i. gives peer.inlet [] i) (sym same_inlet) (inlet_rests peer.inlet);
         taken = append-nil (links k).unread ∙ sym (ap (λ (ls : ℕ → Link). (ls k).unread) is);
         lasts = λ d. ap (λ (ls : ℕ → Link). (ls k).damaged) is ∙ d;
+        still = λ d. refl;
       })
       (λ place other apart. unmoved accepts gives link_rests inlet_rests place (links place) (links2 place) other (ap (λ (ls : ℕ → Link). (ls place).outbox) is) (ap (λ (ls : ℕ → Link). (ls place).unread) is) (λ d. ap (λ (ls : ℕ → Link). (ls place).damaged) is ∙ d))
 

@@ -41,6 +41,18 @@ pub record IsNext (link : Link) (packet : Packet) : Type 0 where
   pub front : front_of link.unread ≡ Ok (Some body)
   pub spelled : packet_spelled body ≡ Ok packet
 
+-- it is of a link that is not damaged
+untaken_of : (k : ℕ) (links : ℕ → Link) (packet : Packet) (came : List ℕ) (place : ℕ) → next_packet (links k) ≡ Ok (Some packet) → (links place).damaged ≡ true
+    → cond (nat_eq k place) came [] ≡ []
+untaken_of k links packet came place next damaged = go (cases_eq place k)
+  where
+    go : (place ≡ k) ⊎ (place ≢ k) → cond (nat_eq k place) came [] ≡ []
+    go (inl e) =
+        let none : Err Damaged ≡ Ok (Some packet) =
+        sym (ap (λ d. if d then Err Damaged else packet_at (front_of (links k).unread)) (subst (λ j. (links j).damaged ≡ true) e damaged)) ∙ next in
+        absurd (cc)
+    go (inr n) = ap (λ b. cond b came []) (ne_eqb k place (λ e. n (sym e)))
+
 undamaged : (d : Bool) (r : Result (Option Packet) NodeFault) (packet : Packet) → (if d then Err Damaged else r) ≡ Ok (Some packet) → r ≡ Ok (Some packet)
 undamaged true r packet e = absurd (cc)
 undamaged false r packet e = e
@@ -162,8 +174,9 @@ module _ {T L I : Type 0} {g : Ghosts T} (accepts : L → List ℕ → L → Typ
             (λ place. taken_unread peer links (sent_out done.sends.items links) is.body (λ other. refl) is.front place
             ∙ (ap (λ (l : Link). cond (is_from place (Took peer (stamped_of packet))) (take (4 + length is.body) (links peer).unread) [] ++ l.unread) (sym (sent place))
             ∙ ap (λ (n : Node T g). cond (is_from place (Took peer (stamped_of packet))) (take (4 + length is.body) (links peer).unread) [] ++ (links_of n place).unread) (sym node)))
-            (λ place d. ap (λ (n : Node T g). (links_of n place).damaged) node
-            ∙ (ap (λ (l : Link). l.damaged) (sent place) ∙ marks_kept peer passed (λ l e. e) (sent_out done.sends.items links) place d));
+            (λ place. ap (λ (n : Node T g). (links_of n place).damaged) node
+            ∙ (ap (λ (l : Link). l.damaged) (sent place) ∙ marks_kept peer passed (λ l. refl) (sent_out done.sends.items links) place))
+            (λ place. untaken_of peer links packet act.came place next);
       }
 
   -- an action was made, and that was logged
@@ -198,7 +211,7 @@ module _ {T L I : Type 0} {g : Ghosts T} (accepts : L → List ℕ → L → Typ
             (log ∙ ap (λ (n : Node T g). log_of a ++ ((state_of (held_by n)).clock, event_of (Did action)) ∷ []) (sym node)) peers
             (λ place none. ap (λ (n : Node T g). (links_of n place).outbox) node ∙ ap (λ (l : Link). l.outbox) (sent place))
             (λ place. ap (λ (l : Link). l.unread) (sym (sent place)) ∙ ap (λ (n : Node T g). (links_of n place).unread) (sym node))
-            (λ place d. ap (λ (n : Node T g). (links_of n place).damaged) node ∙ (ap (λ (l : Link). l.damaged) (sent place) ∙ d));
+            (λ place. ap (λ (n : Node T g). (links_of n place).damaged) node ∙ ap (λ (l : Link). l.damaged) (sent place)) (λ place damaged. refl);
       }
 
   -- the loss of a peer was seen, and that was logged
@@ -235,7 +248,8 @@ module _ {T L I : Type 0} {g : Ghosts T} (accepts : L → List ℕ → L → Typ
             ∙ (ap (λ (ls : ℕ → Link). (ls place).outbox) shut
             ∙ (ap (λ (l : Link). l.outbox) (link_else peer place closed links (another place peer last none)) ∙ sym (append-nil (links place).outbox))))
             (λ place. sym (ap (λ (n : Node T g). (links_of n place).unread) node ∙ (ap (λ (ls : ℕ → Link). (ls place).unread) shut ∙ closed_unread peer links place)))
-            (λ place d. ap (λ (n : Node T g). (links_of n place).damaged) node ∙ (ap (λ (ls : ℕ → Link). (ls place).damaged) shut ∙ marks_kept peer closed (λ l e. e) links place d));
+            (λ place. ap (λ (n : Node T g). (links_of n place).damaged) node ∙ (ap (λ (ls : ℕ → Link). (ls place).damaged) shut ∙ marks_kept peer closed (λ l. refl) links place))
+            (λ place damaged. refl);
       }
 
   -- what came of it, behind a stretch in which nothing happened

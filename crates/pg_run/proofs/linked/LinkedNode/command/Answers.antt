@@ -1,4 +1,4 @@
-use Rattle.std.proofs.Common.{ap, refl, ◌∙◌}
+use Rattle.std.proofs.Common.{refl}
 use Rattle.pg_run.proofs.Acting.{nothing_done, nothing_held, log_after}
 use Rattle.pg_run.proofs.Taking.{action_acts}
 use Rattle.pg_run.proofs.linked.LinkedNode.command.Goals as goal
@@ -6,7 +6,7 @@ use Rattle.pg_step.specs.Step.{Issue}
 
 pub returns-then-is_err-clause-acted : goal.returns-then-is_err-clause-acted
 returns-then-is_err-clause-acted g c =
-    nothing_held g.L.Link.accepts g.I.Inlet.gives g.met.L.Link.rests g.met.I.Inlet.rests c.args.self.now _ refl c.reserve.ensures.items refl (λ place. refl) (λ place. refl) (λ place d. d)
+    nothing_held g.L.Link.accepts g.I.Inlet.gives g.met.L.Link.rests g.met.I.Inlet.rests c.args.self.now _ refl c.reserve.ensures.items refl refl
 
 pub returns-in-Ok-clause-acted : goal.returns-in-Ok-clause-acted
 returns-in-Ok-clause-acted g c =
@@ -16,5 +16,4 @@ returns-in-Ok-clause-acted g c =
 
 pub returns-in-Err-clause-acted : goal.returns-in-Err-clause-acted
 returns-in-Err-clause-acted g c =
-    nothing_done g.L.Link.accepts g.I.Inlet.gives g.met.L.Link.rests g.met.I.Inlet.rests c.args.self.now _ c.command.ensures.names c.command.ensures.ports c.in-Err.ensures.err c.in-Err.ensures.err_answers c.reserve.ensures.items refl
-    (λ place. ap (λ ls. (ls place).outbox) c.in-Err.ensures.kept) (λ place. ap (λ ls. (ls place).unread) c.in-Err.ensures.kept) (λ place d. ap (λ ls. (ls place).damaged) c.in-Err.ensures.kept ∙ d)
+    nothing_done g.L.Link.accepts g.I.Inlet.gives g.met.L.Link.rests g.met.I.Inlet.rests c.args.self.now _ c.command.ensures.names c.command.ensures.ports c.in-Err.ensures.err c.in-Err.ensures.err_answers c.reserve.ensures.items refl c.in-Err.ensures.kept

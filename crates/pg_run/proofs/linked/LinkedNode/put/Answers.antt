@@ -1,13 +1,13 @@
 use Rattle.std.proofs.Common.{refl}
 use Rattle.pg_node.specs.Nodes.{links_of}
 use Rattle.pg_run.proofs.Following.{only_moved}
-use Rattle.pg_run.proofs.Passing.{have_put, put_count}
+use Rattle.pg_run.proofs.Passing.{have_put, put_count, put_marks}
 use Rattle.pg_run.proofs.linked.LinkedNode.put.Goals as goal
 
 pub returns-clause-follows : goal.returns-clause-follows
 returns-clause-follows g c =
     let run = c.args.self.now in
-    only_moved g.L.Link.accepts g.I.Inlet.gives run _ c.put.ensures.state refl
+    only_moved g.L.Link.accepts g.I.Inlet.gives run _ c.put.ensures.state refl (put_marks (links_of run.node) (links_of c.put.new.self) c.args.peer c.put.result c.put.ensures.rest)
     (have_put g.L.Link.accepts g.I.Inlet.gives g.met.L.Link.rests g.met.I.Inlet.rests (links_of run.node) (links_of c.put.new.self) run.peers.items c.args.peer c.put.result
     c.index_mut-links.result.now _ c.requires.place c.index_mut-links.ensures.value c.put.ensures.rest c.put.ensures.moved refl)
 

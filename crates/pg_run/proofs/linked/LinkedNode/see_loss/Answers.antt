@@ -1,4 +1,4 @@
-use Rattle.std.proofs.Common.{ap, refl, arith, ◌∙◌}
+use Rattle.std.proofs.Common.{refl, arith}
 use Rattle.pg_node.specs.Nodes.{held_by}
 use Rattle.pg_node.specs.States.{names_of, state_of, answers_of}
 use Rattle.pg_run.specs.Events.{told_of_loss}
@@ -8,7 +8,7 @@ use Rattle.pg_run.proofs.linked.LinkedNode.see_loss.Goals as goal
 
 pub returns-then-is_err-clause-acted : goal.returns-then-is_err-clause-acted
 returns-then-is_err-clause-acted g c =
-    nothing_held g.L.Link.accepts g.I.Inlet.gives g.met.L.Link.rests g.met.I.Inlet.rests c.args.self.now _ refl c.reserve.ensures.items refl (λ place. refl) (λ place. refl) (λ place d. d)
+    nothing_held g.L.Link.accepts g.I.Inlet.gives g.met.L.Link.rests g.met.I.Inlet.rests c.args.self.now _ refl c.reserve.ensures.items refl refl
 
 pub returns-in-Ok-clause-acted : goal.returns-in-Ok-clause-acted
 returns-in-Ok-clause-acted g c =
@@ -18,8 +18,7 @@ returns-in-Ok-clause-acted g c =
 
 pub returns-in-Err-clause-acted : goal.returns-in-Err-clause-acted
 returns-in-Err-clause-acted g c =
-    nothing_done g.L.Link.accepts g.I.Inlet.gives g.met.L.Link.rests g.met.I.Inlet.rests c.args.self.now _ c.see_loss.ensures.names c.see_loss.ensures.ports c.in-Err.ensures.err c.in-Err.ensures.err_answers c.reserve.ensures.items refl
-    (λ place. ap (λ ls. (ls place).outbox) c.in-Err.ensures.kept) (λ place. ap (λ ls. (ls place).unread) c.in-Err.ensures.kept) (λ place d. ap (λ ls. (ls place).damaged) c.in-Err.ensures.kept ∙ d)
+    nothing_done g.L.Link.accepts g.I.Inlet.gives g.met.L.Link.rests g.met.I.Inlet.rests c.args.self.now _ c.see_loss.ensures.names c.see_loss.ensures.ports c.in-Err.ensures.err c.in-Err.ensures.err_answers c.reserve.ensures.items refl c.in-Err.ensures.kept
 
 pub returns-in-Err-clause-fault : goal.returns-in-Err-clause-fault
 returns-in-Err-clause-fault g c =

@@ -1,24 +1,25 @@
 use Rattle.std.proofs.Common.{ap, refl, ◌∙◌, ◌+◌}
 use Rattle.pg_node.specs.Bytes.{next_packet}
-use Rattle.pg_node.specs.States.{names_of, nodes_of, kept_by, state_of}
+use Rattle.pg_node.specs.Issued.{ports_of}
+use Rattle.pg_node.specs.States.{names_of, nodes_of, kept_by, state_of, answers_of}
 use Rattle.pg_opens.specs.Places.{name_at}
 use Rattle.pg_node.specs.Nodes.{held_by, links_of}
-use Rattle.pg_run.proofs.Acting.{nothing_held, told_next, told_ok, marked_lasts, marked_outbox, marked_unread}
+use Rattle.pg_run.proofs.Acting.{nothing_held, fault_done, told_next, told_ok}
 use Rattle.pg_run.proofs.Taking.{took_from, told_err, lost_at}
 use Rattle.pg_run.proofs.linked.LinkedNode.take.Goals as goal
 
 pub returns-then-is_err-clause-took : goal.returns-then-is_err-clause-took
 returns-then-is_err-clause-took g c =
-    nothing_held g.L.Link.accepts g.I.Inlet.gives g.met.L.Link.rests g.met.I.Inlet.rests c.args.self.now _ refl c.reserve.ensures.items refl (λ place. refl) (λ place. refl) (λ place d. d)
+    nothing_held g.L.Link.accepts g.I.Inlet.gives g.met.L.Link.rests g.met.I.Inlet.rests c.args.self.now _ refl c.reserve.ensures.items refl refl
 
 pub returns-then-is_lost-clause-took : goal.returns-then-is_lost-clause-took
 returns-then-is_lost-clause-took g c =
-    nothing_held g.L.Link.accepts g.I.Inlet.gives g.met.L.Link.rests g.met.I.Inlet.rests c.args.self.now _ refl c.reserve.ensures.items refl (λ place. refl) (λ place. refl) (λ place d. d)
+    nothing_held g.L.Link.accepts g.I.Inlet.gives g.met.L.Link.rests g.met.I.Inlet.rests c.args.self.now _ refl c.reserve.ensures.items refl refl
 
 pub returns-in-Ok-clause-took : goal.returns-in-Ok-clause-took
 returns-in-Ok-clause-took g c =
     took_from g.L.Link.accepts g.I.Inlet.gives g.met.L.Link.rests g.met.I.Inlet.rests g.met.L.Link.composes g.met.I.Inlet.composes c.args.peer c.take_next.result c.args.self.now _ c.take_next.new.self
-    (nothing_held g.L.Link.accepts g.I.Inlet.gives g.met.L.Link.rests g.met.I.Inlet.rests c.args.self.now _ c.next.ensures.state c.reserve.ensures.items refl (λ place. ap (λ ls. (ls place).outbox) c.in-Ok.ensures.same) (λ place. ap (λ ls. (ls place).unread) c.in-Ok.ensures.same) (λ place d. ap (λ ls. (ls place).damaged) c.in-Ok.ensures.same ∙ d))
+    (nothing_held g.L.Link.accepts g.I.Inlet.gives g.met.L.Link.rests g.met.I.Inlet.rests c.args.self.now _ c.next.ensures.state c.reserve.ensures.items refl c.in-Ok.ensures.same)
     c.take_next.ensures.took
 
 pub returns-in-Ok-clause-fault : goal.returns-in-Ok-clause-fault
@@ -26,10 +27,13 @@ returns-in-Ok-clause-fault g c = told_err c.args.peer c.take_next.result c.args.
 
 pub returns-in-Err-clause-took : goal.returns-in-Err-clause-took
 returns-in-Err-clause-took g c =
-    nothing_held g.L.Link.accepts g.I.Inlet.gives g.met.L.Link.rests g.met.I.Inlet.rests c.args.self.now _ c.next.ensures.state c.reserve.ensures.items refl
-    (λ place. ap (λ ls. (ls place).outbox) c.in-Err.ensures.marked ∙ marked_outbox c.args.peer c.in-Err.fault (links_of c.args.self.now.node) place)
-    (λ place. ap (λ ls. (ls place).unread) c.in-Err.ensures.marked ∙ marked_unread c.args.peer c.in-Err.fault (links_of c.args.self.now.node) place)
-    (λ place d. ap (λ ls. (ls place).damaged) c.in-Err.ensures.marked ∙ marked_lasts c.args.peer c.in-Err.fault (links_of c.args.self.now.node) place d)
+    let n = c.args.self.now.node in
+    let held = c.next.ensures.state in
+    let p = name_at (names_of (held_by n)) (c.args.peer + 1) in
+    fault_done g.L.Link.accepts g.I.Inlet.gives g.met.L.Link.rests g.met.I.Inlet.rests c.args.self.now _ c.args.peer c.in-Err.fault (ap names_of held) (ap ports_of held) (ap state_of held) (ap answers_of held)
+    c.reserve.ensures.items refl c.in-Err.ensures.marked
+    (told_next ((kept_by (held_by n)).lost p) (nodes_of (held_by n)) p (state_of (held_by n)) (next_packet (links_of n c.args.peer)) c.in-Err.fault
+    (lost_at c.args.peer c.state.result.now (held_by n) c.state.ensures c.is_lost.result c.is_lost.ensures c.if-is_lost.false) c.in-Err.ensures.told)
 
 pub take_next-requires-clause-next : goal.take_next-requires-clause-next
 take_next-requires-clause-next g c =

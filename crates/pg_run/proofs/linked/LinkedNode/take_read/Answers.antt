@@ -1,10 +1,10 @@
-use Rattle.std.proofs.Common.{ap, refl, ◌∙◌, ◌+◌, arith}
+use Rattle.std.proofs.Common.{refl, ◌+◌, arith}
 use Rattle.pg_node.specs.Bytes.{next_packet}
 use Rattle.pg_node.specs.Nodes.{held_by, links_of}
 use Rattle.pg_node.specs.States.{names_of, nodes_of, kept_by, state_of, answers_of, stamped_of}
 use Rattle.pg_opens.specs.Places.{name_at}
 use Rattle.pg_step.specs.Step.{step_take}
-use Rattle.pg_run.proofs.Acting.{nothing_done, refused_as, told_read, marked_lasts, marked_outbox, marked_unread}
+use Rattle.pg_run.proofs.Acting.{fault_done, refused_as, told_read}
 use Rattle.pg_run.proofs.Taking.{take_acts}
 use Rattle.pg_run.proofs.linked.LinkedNode.take_read.Goals as goal
 
@@ -16,10 +16,14 @@ returns-in-Ok-clause-took g c =
 
 pub returns-in-Err-clause-took : goal.returns-in-Err-clause-took
 returns-in-Err-clause-took g c =
-    nothing_done g.L.Link.accepts g.I.Inlet.gives g.met.L.Link.rests g.met.I.Inlet.rests c.args.self.now _ c.take_read.ensures.names c.take_read.ensures.ports c.in-Err.ensures.err c.in-Err.ensures.err_answers refl refl
-    (λ place. ap (λ ls. (ls place).outbox) c.in-Err.ensures.marked ∙ marked_outbox c.args.peer c.in-Err.fault (links_of c.args.self.now.node) place)
-    (λ place. ap (λ ls. (ls place).unread) c.in-Err.ensures.marked ∙ marked_unread c.args.peer c.in-Err.fault (links_of c.args.self.now.node) place)
-    (λ place d. ap (λ ls. (ls place).damaged) c.in-Err.ensures.marked ∙ marked_lasts c.args.peer c.in-Err.fault (links_of c.args.self.now.node) place d)
+    let n = c.args.self.now.node in
+    let names = names_of (held_by n) in
+    let p = name_at names (c.args.peer + 1) in
+    fault_done g.L.Link.accepts g.I.Inlet.gives g.met.L.Link.rests g.met.I.Inlet.rests c.args.self.now _ c.args.peer c.in-Err.fault c.take_read.ensures.names c.take_read.ensures.ports c.in-Err.ensures.err
+    c.in-Err.ensures.err_answers refl refl c.in-Err.ensures.marked
+    (told_read ((kept_by (held_by n)).lost p) (nodes_of (held_by n)) p (state_of (held_by n)) (next_packet (links_of n c.args.peer)) c.args.packet.now c.in-Err.fault c.requires.here c.requires.next
+    (refused_as names (step_take (nodes_of (held_by n)) p (stamped_of c.args.packet.now) (state_of (held_by n))) c.in-Err.fault (state_of (held_by c.take_read.new.self)) (answers_of (held_by n))
+    (answers_of (held_by c.take_read.new.self)) c.in-Err.ensures.event))
 
 pub returns-in-Err-clause-fault : goal.returns-in-Err-clause-fault
 returns-in-Err-clause-fault g c =
