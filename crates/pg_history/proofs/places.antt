@@ -5,3 +5,4 @@ pub mod Located
 pub mod Prefixes
 pub mod Shown
 pub mod Unlocked
+pub mod Welcome

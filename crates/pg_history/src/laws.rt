@@ -1,4 +1,4 @@
-ghost use Rattle.std.specs.Prelude.{◌≡◌, ◌≢◌, ℕ, ◌+◌, ◌*◌, ◌≤◌, true, false, cond, take, length, List, [], ◌∷◌};
+ghost use Rattle.std.specs.Prelude.{◌≡◌, ◌≢◌, ℕ, ◌+◌, ◌*◌, ◌≤◌, true, false, cond, take, length, List, [], ◌∷◌, Err};
 ghost use Rattle.std.specs.List.{AllByRecursion, IsDistinct};
 ghost use Rattle.pg_term.specs.declared.pid.Pid.{Pid};
 ghost use Rattle.pg_term.specs.Same.{same_atom};
@@ -16,7 +16,8 @@ ghost use Rattle.pg_machine.specs.Runs.{Leads, run, ran};
 ghost use Rattle.pg_machine.specs.Places.{is_place, is_pair};
 ghost use Rattle.pg_step.specs.State.{State, left};
 ghost use Rattle.pg_step.specs.Turns.{Report};
-ghost use Rattle.pg_step.specs.Step.{Action};
+ghost use Rattle.pg_step.specs.Step.{Action, step_take};
+ghost use Rattle.pg_step.specs.declared.refusal.Refusal.TheVariants.{NotAMessage};
 ghost use Rattle.pg_step.specs.Config.{Config, names_of, name_at, nodes_at, groups_at};
 ghost use Rattle.pg_step.specs.FrameMachine.{node_step, frame_machine, losing_frame_machine, last_notice, sent_packet};
 ghost use Rattle.pg_history.specs.History.{LockFree, is_formed, history, updates_of, applied_count, applied_by};
@@ -146,6 +147,17 @@ pub fn exchanges_once()
         → IsDistinct same_atom (names_of config) → Reaches config events w
         → is_pair (length config) i p ≡ true → (plain w).wire p i ≡ x ∷ rest → is_reply x ≡ false
         → node_step config i ((plain w).node i) (Taken p x) ≢ None }
+{}
+
+/// The first packet on a way is none that its node would have refused as no message at any earlier time, before it had taken
+/// what it took since.
+pub fn first_packets_were_welcome()
+    ensures { (config : Config) (m w : TimedFrameWorld) (before events : List (Event Action)) (i p : ℕ)
+        (x : Stamped Message) (rest : List (Stamped Message))
+        → IsDistinct same_atom (names_of config) → Reaches config before m
+        → Leads (frame_machine config) m events w
+        → is_pair (length config) i p ≡ true → w.wire p i ≡ x ∷ rest
+        → step_take (nodes_at config i) (name_at config p) x (m.node i) ≢ Err NotAMessage }
 {}
 
 /// A process that has ended at a node is a member of no group there.

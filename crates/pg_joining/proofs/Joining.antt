@@ -1,10 +1,10 @@
 -- The merge of logs happens, one entry after another: it looks at what is still to come.
-use Rattle.std.proofs.Common.{◌≡◌, ◌≢◌, ℕ, ◌+◌, ◌<◌, ◌≤◌, cond, nat_eq, map, take, drop, List, [], ◌∷◌, ◌++◌, refl, ap, sym, ◌∙◌, subst, inl, inr, ◌⊎◌, arith}
+use Rattle.std.proofs.Common.{◌≡◌, ◌≢◌, ℕ, ◌+◌, ◌<◌, ◌≤◌, cond, nat_eq, map, take, drop, List, [], ◌∷◌, ◌++◌, Some, refl, ap, sym, ◌∙◌, subst, inl, inr, ◌⊎◌, arith}
 use Rattle.std.specs.List.{AllByRecursion}
 use Rattle.std.proofs.lemmas.Bool.{cases_eq, eq-eqb, ne_eqb}
 use Rattle.std.proofs.lemmas.List.{append-nil, append_assoc, append_cancel_left, drop-map}
 use Rattle.pg_machine.specs.Places.{set_at}
-use Rattle.pg_machine.specs.Machine.{Input, Machine, Event, Taken, Own, is_there, node_of, start_of}
+use Rattle.pg_machine.specs.Machine.{Input, Machine, Event, Taken, Own, is_there, node_of, start_of, happens}
 use Rattle.pg_machine.specs.Runs.{Leads, events_of, reported_by}
 use Rattle.pg_machine.specs.Clocked.{Timed, Stamped, TimedWorld}
 use Rattle.pg_machine.specs.Timely.{KeepsTime}
@@ -13,7 +13,7 @@ use Rattle.pg_machine.proofs.Sequences.{told_by_append}
 use Rattle.pg_machine.proofs.Steps.{pair_apart}
 use Rattle.pg_joining.specs.Logs.{Act, event_of, NodeLeads, sent_to, packet_from, taken_from, entry_of, reports_of, AreLogs}
 use Rattle.pg_joining.specs.Merge.{ComesFirst, IsNext, rest_of, MergesRest, Merges, clocks_of, entry_at, merged}
-use Rattle.pg_joining.specs.Joined.{Joined}
+use Rattle.pg_joining.specs.Joined.{Joined, Passes}
 use Rattle.pg_joining.proofs.Acts.{pair_places, drop_next, map_nil, map_cons, From, later_than_first, stamped_later}
 use Rattle.pg_joining.proofs.Moved.{Moved, own_moved, take_moved}
 
@@ -128,6 +128,15 @@ module _ {S P C O : Type 0} (limit : ℕ) (m : Machine (Timed S) (Stamped P) C O
     ways : (p q : ℕ) → p < m.size → q < m.size → p ≢ q → world.wire p q ≡ left p q
     reported : (i : ℕ) → i < m.size → reported_by i world.reported ≡ reported_by i w.reported ++ reports_of (rest i)
     events_of_each : (i : ℕ) → i < m.size → events_of i events ≡ map (λ a. event_of i a.input) (rest i)
+    passes : (i : ℕ) → i < m.size → (first others : List (Act (Timed S) (Stamped P) C O)) (s : Timed S) → rest i ≡ first ++ others → NodeLeads m i (w.node i) first s → Passes m w events world i s
+
+  -- the first world of a run
+  passes_first : (w v : TimedWorld S P O) (events : List (Event C)) (i : ℕ) (s : Timed S) → Leads m w events v → w.node i ≡ s → Passes m w events v i s
+  passes_first w v events i s l is = record { before = []; after = events; are = refl; world = w; led = refl; goes_on = l; state = is }
+
+  -- and one behind an event
+  passes_behind : (w u v : TimedWorld S P O) (e : Event C) (events : List (Event C)) (i : ℕ) (s : Timed S) → happens m w e ≡ Some u → Passes m u events v i s → Passes m w (e ∷ events) v i s
+  passes_behind w u v e events i s now p = record { before = e ∷ p.before; after = p.after; are = ap (λ es. e ∷ es) p.are; world = p.world; led = (u, now, p.led); goes_on = p.goes_on; state = p.state }
 
   reached_nothing : (w : TimedWorld S P O) (rest : ℕ → List (Act (Timed S) (Stamped P) C O)) → Ahead w rest → ((i : ℕ) → i < m.size → rest i ≡ []) → Reached w rest []
   reached_nothing w rest old none = record {
@@ -138,7 +147,12 @@ module _ {S P C O : Type 0} (limit : ℕ) (m : Machine (Timed S) (Stamped P) C O
         ∙ (old.ways p q lp lq apart ∙ ap (λ r. taken_from p r ++ left p q) (none q lq)));
     reported = λ i low. sym (append-nil (reported_by i w.reported)) ∙ ap (λ r. reported_by i w.reported ++ reports_of r) (sym (none i low));
     events_of_each = λ i low. ap (map (λ a. event_of i a.input)) (sym (none i low));
+    passes = λ i low first others s is run. no_turn i first others s (sym (none i low) ∙ is) run;
   }
+    where
+      no_turn : (i : ℕ) (first others : List (Act (Timed S) (Stamped P) C O)) (s : Timed S) → [] ≡ first ++ others → NodeLeads m i (w.node i) first s → Passes m w [] w i s
+      no_turn i [] others s is run = passes_first w w [] i s refl run
+      no_turn i (a ∷ first) others s is run = absurd (cc)
 
   whose : (i : ℕ) (input : Input (Stamped P) C) → node_of (event_of {P = Stamped P} {C = C} i input) ≡ i
   whose i (Taken p x) = refl
@@ -171,6 +185,20 @@ module _ {S P C O : Type 0} (limit : ℕ) (m : Machine (Timed S) (Stamped P) C O
         ap (λ b. cond b (event_of i a.input ∷ events_of j events) (events_of j events)) (ne_eqb (node_of (event_of {P = Stamped P} {C = C} i a.input)) j (λ e. apart (sym e ∙ whose i a.input)))
         ∙ (more.events_of_each j low ∙ ap (map (λ b. event_of j b.input)) (others j apart))
 
+    new_passes : (j : ℕ) → j < m.size → (first later : List (Act (Timed S) (Stamped P) C O)) (s : Timed S) → rest j ≡ first ++ later → NodeLeads m j (w.node j) first s
+        → (j ≡ i) ⊎ (j ≡ i → ⊥) → Passes m w (event_of i a.input ∷ events) more.world j s
+    new_passes j low [] later s is run _ = passes_first w more.world (event_of i a.input ∷ events) j s (h.world, h.moved.happens_, more.leads) run
+    new_passes j low (b ∷ first) later s is run (inl same) =
+        let all : a ∷ acts ≡ b ∷ (first ++ later) = sym here ∙ (ap rest (sym same) ∙ is) in
+        let turn : a ≡ b = cc in
+        let tail : acts ≡ first ++ later = cc in
+        let state : h.world.node j ≡ b.turn.state = ap h.world.node same ∙ (h.moved.state ∙ ap (λ (z : Act (Timed S) (Stamped P) C O). z.turn.state) turn) in
+        passes_behind w h.world more.world (event_of i a.input) events j s h.moved.happens_
+        (more.passes j low first later s (ap next same ∙ (then_ ∙ tail)) (subst (λ z. NodeLeads m j z first s) (sym state) run.2))
+    new_passes j low (b ∷ first) later s is run (inr apart) =
+        passes_behind w h.world more.world (event_of i a.input) events j s h.moved.happens_
+        (more.passes j low (b ∷ first) later s (others j apart ∙ is) (subst (λ z. NodeLeads m j z (b ∷ first) s) (sym (h.moved.states j apart)) run))
+
     reached_one : Reached w rest (event_of i a.input ∷ events)
     reached_one = record {
       world = more.world;
@@ -181,6 +209,7 @@ module _ {S P C O : Type 0} (limit : ℕ) (m : Machine (Timed S) (Stamped P) C O
           ∙ (append_assoc (reported_by j w.reported) (cond (nat_eq i j) (a.turn.reported ∷ []) []) (reports_of (next j))
           ∙ ap (λ xs. reported_by j w.reported ++ xs) (new_reports j (cases_eq j i))));
       events_of_each = λ j low. new_events j low (cases_eq j i);
+      passes = λ j low first later s is run. new_passes j low first later s is run (cases_eq j i);
     }
 
   abbrev clock_of : Act (Timed S) (Stamped P) C O → ℕ
@@ -256,4 +285,5 @@ joined limit m logs acts ends left order keeps are merges =
       ways = all.ways;
       reported = all.reported;
       logs_of = λ i low. all.events_of_each i low ∙ (events_seen limit m keeps ends left i (acts i) ∙ ap (map (λ x. x.1)) (sym (are.entries i low)));
+      passes = all.passes;
     }

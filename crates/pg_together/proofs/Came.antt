@@ -46,6 +46,11 @@ one_then_more packets first second middle rest one more = record {
 one_value : {E : Type 0} (r : Result Packet E) (a b : Packet) → r ≡ Ok a → r ≡ Ok b → a ≡ b
 one_value r a b e d = cc
 
+-- a link can carry what is left too
+pub left_can_cross : (first left : List (Stamped Message)) → CanAllCross (first ++ left) → CanAllCross left
+left_can_cross [] left can = can
+left_can_cross (x ∷ first) left can = left_can_cross first left can.1
+
 module _ (more : PiecesContinue) (read : WrittenIsRead) where
   -- A frame that came whole is that of the first packet.
   one_frame : (came rest : List ℕ) (x : Stamped Message) (packets : List (Stamped Message)) → IsFrameOf came x → CanAllCross packets
@@ -79,11 +84,6 @@ module _ (more : PiecesContinue) (read : WrittenIsRead) where
       go : (b : Bool) → cond b came [] ++ rest ≡ frames_on packets → Leaves packets (cond b (x ∷ []) []) rest
       go true e = one_frame came rest x packets is can e
       go false e = record { left = packets; are = refl; bytes_are = e }
-
-  -- a link can carry what is left too
-  left_can_cross : (first left : List (Stamped Message)) → CanAllCross (first ++ left) → CanAllCross left
-  left_can_cross [] left can = can
-  left_can_cross (x ∷ first) left can = left_can_cross first left can.1
 
   -- what acts took of the peer at a place
   pub all_acts : (names : List Node) (ports place : ℕ) (a : Standing) (acts : List Act) (b : Standing) (rest : List ℕ) (packets : List (Stamped Message)) → AllLead names ports a acts b

@@ -1,5 +1,5 @@
 -- What crossed between two nodes that ran apart: what the one took is the first of what the other had sent.
-use Rattle.std.proofs.Common.{◌≡◌, ◌<◌, ◌∙◌, ℕ, true, drop, length, map, List, [], ◌∷◌, ◌++◌, sym, ap, append_assoc, arith}
+use Rattle.std.proofs.Common.{◌≡◌, ◌<◌, ◌∙◌, ℕ, true, drop, length, map, List, [], ◌∷◌, ◌++◌, sym, ap, subst, append_assoc, arith}
 use Rattle.std.proofs.Math.Seq.{drop-append_seam}
 use Rattle.pg_frame.specs.Laws.{PiecesContinue, WrittenIsRead}
 use Rattle.pg_group.specs.declared.table.GroupTable.{Ghosts}
@@ -16,7 +16,7 @@ use Rattle.pg_step.specs.FrameMachine.{frame_machine}
 use Rattle.pg_step.specs.Nodes.{all_of}
 use Rattle.pg_together.specs.Apart.{End, Linked, RanApart}
 use Rattle.pg_together.proofs.Begun.{apart, leads, opened, place_there}
-use Rattle.pg_together.proofs.Came.{Leaves, all_acts, packets_taken, taken_alike}
+use Rattle.pg_together.proofs.Came.{Leaves, all_acts, left_can_cross, packets_taken, taken_alike}
 use Rattle.pg_together.proofs.Sent.{CanAllCross, cross_join, frames_are, frames_join, frames_on, packets_sent, sent_alike, sent_can_cross}
 use Rattle.pg_together.proofs.Turns.{act_at}
 use Rattle.pg_world.specs.Views.{peer_place}
@@ -55,7 +55,11 @@ module _ {T : Type 0} {g : Ghosts T} (config : Config) (nodes : List (Node T g))
   left_on x y = drop (length (taken_on x y)) (sent_on x y)
 
   module _ (x y : ℕ) (pair : is_pair (length config) x y ≡ true) where
-    bytes_cross : (rest : List ℕ) × (frames_taken (peer_place y x) (ran.acts y) ++ rest ≡ frames_on ((frame_machine config).opening x y) ++ frames_sent (peer_place x y) (ran.acts x))
+    -- what came to node y and was not taken
+    abbrev pub unread_on : List ℕ
+    unread_on = (links_of (node_of (ended y)) (peer_place y x)).unread
+
+    pub bytes_cross : (behind : List ℕ) × (frames_taken (peer_place y x) (ran.acts y) ++ (unread_on ++ behind) ≡ frames_on ((frame_machine config).opening x y) ++ frames_sent (peer_place x y) (ran.acts x))
     bytes_cross =
         let p = pair_is (length config) x y pair in
         let turned = pair_turned (length config) x y pair in
@@ -66,37 +70,53 @@ module _ {T : Type 0} {g : Ghosts T} (config : Config) (nodes : List (Node T g))
         let ring = ran.crossed x y none pair in
         let put = from.accepted.grown ∙ ap (λ w. w ++ from.put) ring.unsent in
         let given = to.gave.grown ∙ ap (λ w. w ++ to.given) ring.unreceived in
-        let unread2 = (links_of (node_of (ended y)) (peer_place y x)).unread in
         let outbox2 = (links_of (node_of (ended x)) (peer_place x y)).outbox in (
-          unread2 ++ (ring.left ++ outbox2),
+          ring.left ++ outbox2,
           seam (links_of (node_of (begun y)) (peer_place y x)).unread (links_of (node_of (begun x)) (peer_place x y)).outbox
               (frames_on ((frame_machine config).opening x y)) (frames_sent (peer_place x y) (ran.acts x)) (frames_taken (peer_place y x) (ran.acts y))
-              unread2 to.given ring.left from.put outbox2
+              unread_on to.given ring.left from.put outbox2
               (opened config nodes begun ended ran x y pair) (from.sent (ran.unseen x p.0 (peer_place x y))) to.taken
               (ap (λ w. w ++ ring.left) (sym given) ∙ (ring.sent ∙ put)),
         )
 
+    -- what node x sent can cross
+    abbrev packets_on : List (Stamped Message)
+    packets_on = (frame_machine config).opening x y ++ packets_sent (peer_place x y) (ran.acts x)
+
+    all_can_cross : CanAllCross packets_on
+    all_can_cross =
+        let p = pair_is (length config) x y pair in
+        cross_join ((frame_machine config).opening x y) (packets_sent (peer_place x y) (ran.acts x)) (ran.starts.traffic.cross x y pair)
+        (sent_can_cross (all_of (nodes_at config x)) (ports_at config x) (peer_place x y) (standing_of (node_of (begun x))) (ran.acts x) (standing_of (node_of (ended x)))
+        (leads config nodes begun ended ran x p.0))
+
     module _ (more : PiecesContinue) (read : WrittenIsRead) where
-      packets_cross : (rest : List ℕ) → frames_taken (peer_place y x) (ran.acts y) ++ rest ≡ frames_on ((frame_machine config).opening x y) ++ frames_sent (peer_place x y) (ran.acts x)
-          → Leaves ((frame_machine config).opening x y ++ packets_sent (peer_place x y) (ran.acts x)) (packets_taken (peer_place y x) (ran.acts y)) rest
-      packets_cross rest e =
+      packets_cross : Leaves packets_on (packets_taken (peer_place y x) (ran.acts y)) (unread_on ++ bytes_cross.0)
+      packets_cross =
           let p = pair_is (length config) x y pair in
           let opening = (frame_machine config).opening x y in
           let sent = packets_sent (peer_place x y) (ran.acts x) in
-          let can : CanAllCross (opening ++ sent) = cross_join opening sent (ran.starts.traffic.cross x y pair)
-          (sent_can_cross (all_of (nodes_at config x)) (ports_at config x) (peer_place x y) (standing_of (node_of (begun x))) (ran.acts x) (standing_of (node_of (ended x)))
-          (leads config nodes begun ended ran x p.0)) in
           all_acts more read (all_of (nodes_at config y)) (ports_at config y) (peer_place y x) (standing_of (node_of (begun y))) (ran.acts y) (standing_of (node_of (ended y)))
-          rest (opening ++ sent) (leads config nodes begun ended ran y p.1) can
-          (e ∙ (ap (λ w. frames_on opening ++ w) (frames_are (peer_place x y) (ran.acts x)) ∙ sym (frames_join opening sent)))
+          (unread_on ++ bytes_cross.0) packets_on (leads config nodes begun ended ran y p.1) all_can_cross
+          (bytes_cross.1 ∙ (ap (λ w. frames_on opening ++ w) (frames_are (peer_place x y) (ran.acts x)) ∙ sym (frames_join opening sent)))
+
+      split : sent_on x y ≡ taken_on x y ++ packets_cross.left
+      split =
+          let p = pair_is (length config) x y pair in
+          let sent = sent_alike config x y p.0 p.1 p.2 (apart config nodes begun ended ran) (standing_of (node_of (begun x))) (ran.acts x) (standing_of (node_of (ended x))) (leads config nodes begun ended ran x p.0) in
+          let taken = taken_alike config x y (λ e. p.2 (sym e)) (ran.acts y) in
+          ap (λ w. (frame_machine config).opening x y ++ w) sent ∙ (packets_cross.are ∙ ap (λ w. w ++ packets_cross.left) (sym taken))
 
       -- what was taken is the first of what was sent
       pub first_taken : sent_on x y ≡ taken_on x y ++ left_on x y
-      first_taken =
-          let p = pair_is (length config) x y pair in
-          let bytes = bytes_cross in
-          let packets = packets_cross bytes.0 bytes.1 in
-          let sent = sent_alike config x y p.0 p.1 p.2 (apart config nodes begun ended ran) (standing_of (node_of (begun x))) (ran.acts x) (standing_of (node_of (ended x))) (leads config nodes begun ended ran x p.0) in
-          let taken = taken_alike config x y (λ e. p.2 (sym e)) (ran.acts y) in
-          behind_first (sent_on x y) (taken_on x y) packets.left
-          (ap (λ w. (frame_machine config).opening x y ++ w) sent ∙ (packets.are ∙ ap (λ w. w ++ packets.left) (sym taken)))
+      first_taken = behind_first (sent_on x y) (taken_on x y) packets_cross.left split
+
+      left_is : packets_cross.left ≡ left_on x y
+      left_is = sym (ap (drop (length (taken_on x y))) split ∙ drop-append_seam (taken_on x y) packets_cross.left)
+
+      -- what was not taken can cross, and its frames begin with what came of them
+      pub left_crosses : CanAllCross (left_on x y)
+      left_crosses = subst CanAllCross left_is (left_can_cross (packets_taken (peer_place y x) (ran.acts y)) packets_cross.left (subst CanAllCross packets_cross.are all_can_cross))
+
+      pub left_frames : unread_on ++ bytes_cross.0 ≡ frames_on (left_on x y)
+      left_frames = packets_cross.bytes_are ∙ ap frames_on left_is

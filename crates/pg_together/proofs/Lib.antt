@@ -3,5 +3,7 @@ pub mod Begun
 pub mod Came
 pub mod Crossing
 pub mod Logged
+pub mod Next
 pub mod Sent
+pub mod Sound
 pub mod Turns

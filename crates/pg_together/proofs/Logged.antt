@@ -1,17 +1,18 @@
 -- The logs of nodes that ran apart join to one run.
-use Rattle.std.proofs.Common.{◌≡◌, ◌<◌, ◌∙◌, ℕ, length, map, List, [], ◌∷◌, ◌++◌, refl, sym, ap, subst}
+use Rattle.std.proofs.Common.{◌≡◌, ◌<◌, ◌∙◌, ℕ, true, false, length, map, List, [], ◌∷◌, ◌++◌, refl, sym, ap, subst}
 use Rattle.std.proofs.lemmas.Simd.{map-map}
 use Rattle.pg_frame.specs.Laws.{PiecesContinue, WrittenIsRead}
 use Rattle.pg_group.specs.declared.table.GroupTable.{Ghosts}
 use Rattle.pg_machine.specs.Machine.{Event}
 use Rattle.pg_machine.specs.Clocked.{Timed, plain}
+use Rattle.pg_machine.specs.Places.{is_pair}
 use Rattle.pg_history.specs.Headline.{OneHistory}
 use Rattle.pg_history.specs.History.{all_reported, answers_by}
 use Rattle.pg_joining.specs.Joined.{Joined}
 use Rattle.pg_joining.specs.Logs.{AreLogs, NodeLeads, event_of as machine_event, entry_of as machine_entry}
 use Rattle.pg_joining.specs.Merge.{Merges, clocks_of, merged, seen_log}
 use Rattle.pg_node.specs.declared.node.Node.{Node}
-use Rattle.pg_node.specs.Nodes.{held_by}
+use Rattle.pg_node.specs.Nodes.{held_by, links_of}
 use Rattle.pg_node.specs.States.{answers_of, state_of}
 use Rattle.pg_run.specs.declared.log.NodeEvent.{NodeEvent}
 use Rattle.pg_run.specs.Acts.{Act, Given, Took, Saw, Did, SawNone, entry_of, event_of}
@@ -27,6 +28,7 @@ use Rattle.pg_together.proofs.Begun.{leads, shown}
 use Rattle.pg_together.proofs.Crossing.{first_taken, left_on}
 use Rattle.pg_together.proofs.Turns.{act_at, first_none, input_at, leads_alike, others_none, saw_none, PlacedAct, SeesNone}
 use Rattle.pg_world.specs.Crossings.{node_of as seen_node}
+use Rattle.pg_world.specs.Views.{peer_place}
 use Rattle.pg_world.specs.Worlds.{AreAnswers, ShowsNode}
 use Rattle.pg_world.proofs.Turning.{is_pair_so}
 
@@ -98,11 +100,14 @@ module _ {T : Type 0} {g : Ghosts T} (config : Config) (nodes : List (Node T g))
       answers = answers_shown i within;
     }
 
-    pub ran_together : OneHistory config (merged logs_on order) (plain run.world) → RanTogether config ended (events_in ended order)
-    ran_together history = record {
+    pub ran_together : OneHistory config (merged logs_on order) (plain run.world)
+        → ((x y : ℕ) → is_pair (length config) x y ≡ true → (links_of (node_of (ended x)) (peer_place x y)).damaged ≡ false)
+        → RanTogether config ended (events_in ended order)
+    ran_together history sound = record {
       w = run.world;
       leads = run.leads;
       nodes = node_shown;
       logs = λ i within. run.logs_of i within ∙ map-map (λ (x : ℕ × Event Action). x.1) (λ (x : ℕ × NodeEvent). (x.0, event_at i x.1)) (log_of (ended i));
       history = history;
+      sound = sound;
     }

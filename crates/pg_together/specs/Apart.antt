@@ -1,5 +1,5 @@
 -- Nodes that ran apart, each with its own links, and the one run that they made together.
-use Rattle.std.specs.Prelude.{◌≡◌, ℕ, ◌+◌, ◌<◌, true, get_or, length, map, slice_get, List, [], ◌++◌, Some}
+use Rattle.std.specs.Prelude.{◌≡◌, ℕ, ◌+◌, ◌<◌, true, false, get_or, length, map, slice_get, List, [], ◌++◌, Some}
 use Rattle.pg_group.specs.declared.table.GroupTable.{Ghosts}
 use Rattle.pg_machine.specs.Machine.{Event, Take, Do, start_of}
 use Rattle.pg_machine.specs.Clocked.{plain}
@@ -11,6 +11,7 @@ use Rattle.pg_step.specs.Step.{Action, Issue, Retry}
 use Rattle.pg_history.specs.Headline.{OneHistory}
 use Rattle.pg_joining.specs.Merge.{merged, seen_log}
 use Rattle.pg_node.specs.declared.node.Node.{Node}
+use Rattle.pg_node.specs.Nodes.{links_of}
 use Rattle.pg_ring.specs.declared.ring_out.RingOut.{RingOut}
 use Rattle.pg_ring.specs.declared.ring_in.RingIn.{RingIn}
 use Rattle.pg_ring.specs.Ends.{Sends, Receives, bytes_sent, bytes_received}
@@ -70,10 +71,12 @@ module _ {T : Type 0} {g : Ghosts T} where
   events_in ended order = merged (λ i. seen_log (event_at i) (log_of (ended i))) order
 
   -- These events are one run of the configuration from its start, in which each node does what its log tells. It leads to a world that
-  -- shows each node as it ended, and of which the headline holds.
+  -- shows each node as it ended, and of which the headline holds. No node has told of what came to it a fault that damages a link.
   pub record RanTogether (config : Config) (ended : ℕ → Linked T g) (events : List (Event Action)) : Type 0 where
     pub w : TimedFrameWorld
     pub leads : Leads (frame_machine config) (start_of (frame_machine config)) events w
     pub nodes : (i : ℕ) → i < length config → ShowsNode config w i (seen_node (node_of (ended i)))
     pub logs : (i : ℕ) → i < length config → events_of i events ≡ map (λ entry. event_at i entry.1) (log_of (ended i))
     pub history : OneHistory config events (plain w)
+    -- no link is damaged
+    pub sound : (x y : ℕ) → is_pair (length config) x y ≡ true → (links_of (node_of (ended x)) (peer_place x y)).damaged ≡ false

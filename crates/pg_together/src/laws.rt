@@ -8,11 +8,13 @@ ghost use Rattle.pg_step.specs.Config.{Config};
 ghost use Rattle.pg_together.specs.Apart.{Linked, RanApart, RanTogether, events_in};
 
 use pg_frame::{pieces_continue, written_is_read};
+use pg_history::first_packets_were_welcome;
 use pg_joining::joined_history;
 
 /// Nodes of a configuration that ran apart, with rings between them, made one run together: their logs, merged by clock and then by
 /// node, are events that happen one after another from the start, and lead to a world that shows each node as it ended and of
-/// which everything holds that `one_history` of pg_history says.
+/// which everything holds that `one_history` of pg_history says. No link is damaged in the end: of what came to it no node has
+/// told a fault that marks a link for good.
 pub fn nodes_ran_together()
     ensures { (config : Config) (nodes : List (Node IndexTable ghosts)) (begun ended : ℕ → Linked IndexTable ghosts) (order : List (ℕ × ℕ))
         → RanApart config nodes begun ended → Merges (length config) (λ i. clocks_of (log_of (ended i))) order
@@ -21,4 +23,5 @@ pub fn nodes_ran_together()
     pieces_continue();
     written_is_read();
     joined_history();
+    first_packets_were_welcome();
 }

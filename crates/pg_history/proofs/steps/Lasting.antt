@@ -89,6 +89,12 @@ stay_taken config w v events i pid l is =
     kept (machine_of config) (λ u. (u.node i).ended pid ≡ true) (λ x y e h was. (event_lasts config x y e h i).ended pid was)
     events (plain w) (plain v) (plain_leads (machine_of config) CLOCK_LIMIT events w v l) is
 
+pub stay_merged : (config : Config) (w v : TimedFrameWorld) (events : List (Event Action)) (i : ℕ) (q : Node) → Leads (frame_machine config) w events v
+    → ((plain w).node i).merged q ≡ true → ((plain v).node i).merged q ≡ true
+stay_merged config w v events i q l is =
+    kept (machine_of config) (λ u. (u.node i).merged q ≡ true) (λ x y e h was. (event_lasts config x y e h i).merged q was)
+    events (plain w) (plain v) (plain_leads (machine_of config) CLOCK_LIMIT events w v l) is
+
 pub more_answers_later : (config : Config) (w v : TimedFrameWorld) (events : List (Event Action)) (i port : ℕ) → Leads (frame_machine config) w events v
     → (more : List (ℕ × Response)) × (answers_by i (plain v).reported port ≡ answers_by i (plain w).reported port ++ more)
 more_answers_later config w v events i port l =
