@@ -13,6 +13,7 @@ use Rattle.pg_index.specs.declared.index_table.IndexTable.{IndexTable}
 use Rattle.pg_index.specs.contracts.index_table.IndexTableGroupTable.TheImpl.{ghosts}
 use Rattle.pg_joining.specs.Merge.{Merges, MergesRest, IsNext, rest_of, clocks_of, clocks_in, log_at, entry_at, merged, seen_log}
 use Rattle.pg_joining.proofs.Seen.{same_merge}
+use Rattle.pg_node.specs.Nodes.{links_of}
 use Rattle.pg_ring.specs.Ends.{Sends, Receives}
 use Rattle.pg_run.specs.declared.log.NodeEvent.{NodeEvent}
 use Rattle.pg_run.specs.declared.log.NodeEvent.TheVariants as entries
@@ -30,7 +31,7 @@ use Rattle.pg_together.specs.Apart.{End, Linked as LinkedBy, Crossed, RanApart, 
 use Rattle.pg_world.specs.declared.step.FrameStep.{FrameStep}
 use Rattle.pg_world.specs.declared.step.FrameStep.TheVariants as steps
 use Rattle.pg_world.specs.Crossings.{node_of}
-use Rattle.pg_world.specs.Views.{place_of_peer}
+use Rattle.pg_world.specs.Views.{peer_place, place_of_peer}
 use Rattle.pg_world.specs.Worlds.{ShowsNode, event_of}
 use Rattle.pg_world.proofs.Ordered.{ordered_length}
 use Rattle.pg_world.proofs.Turning.{pair_is}
@@ -267,6 +268,15 @@ module _ {K : Type 0} (given : Config) (lost : List Bool) (threads : List (Threa
   merges = merges_alike (length config) (clocks_in logs) (λ i. clocks_of (log_of (end i))) is.order (λ i. 0) (λ i low. ap clocks_of (log_is i low))
       (subst (λ n. Merges n (clocks_in logs) is.order) log_count is.merges)
 
+  within : (i : ℕ) (node : NodeOf) → slice_get nodes i ≡ Some node → i < length config
+  within i node at = let l = slice_get_within nodes i node at in omega (arith, l, node_count)
+
+  -- a node that is closed is the one that ended at its place
+  is_node : (i : ℕ) (node : NodeOf) → slice_get nodes i ≡ Some node → node ≡ node_in (get_or ended.rans i ran).run
+  is_node i node at =
+      let low = within i node at in
+      sym (get_or_from_slice_get nodes i node node at) ∙ (ap (λ ns. get_or ns i node) ended.ended ∙ get_or-map (λ (r : RanOf K). node_in r.run) ended.rans i ran node (omega (arith, low, ran_count)))
+
   few : length config ≤ 16
   few = let f = made.few in omega (arith, f, size)
 
@@ -281,13 +291,10 @@ module _ {K : Type 0} (given : Config) (lost : List Bool) (threads : List (Threa
     w = together.w;
     leads = together.leads;
     size = node_count;
-    shown = λ i node at.
-        let low : i < length config = let l = slice_get_within nodes i node at in omega (arith, l, node_count) in
-        let is_node : node ≡ node_in (get_or ended.rans i ran).run =
-        sym (get_or_from_slice_get nodes i node node at) ∙ (ap (λ ns. get_or ns i node) ended.ended ∙ get_or-map (λ (r : RanOf K). node_in r.run) ended.rans i ran node (omega (arith, low, ran_count))) in
-        subst (λ (x : NodeOf). ShowsNode config together.w i (node_of x)) (sym is_node) (together.nodes i low);
+    shown = λ i node at. subst (λ (x : NodeOf). ShowsNode config together.w i (node_of x)) (sym (is_node i node at)) (together.nodes i (within i node at));
     logged = λ i low. together.logs i low ∙ ap (map (λ entry. event_at i entry.1)) (sym (log_is i low));
     history = together.history;
+    sound = λ i j node at pair. ap (λ (x : NodeOf). (links_of x (peer_place i j)).damaged) (is_node i node at) ∙ together.sound i j pair;
   }
 
 -- There is a first thread, and it has run.

@@ -44,7 +44,7 @@ module _ {T : Type 0} {g : Ghosts T} (config : Config) (nodes : List (Node T g))
 
   -- ---- links
 
-  links_there : (i : ℕ) → i < length config → get_or (map links_of nodes) i no_links ≡ links_of (node_of (begun i))
+  pub links_there : (i : ℕ) → i < length config → get_or (map links_of nodes) i no_links ≡ links_of (node_of (begun i))
   links_there i within =
       let n = node_of (begun i) in
       get_or-map links_of nodes i n no_links (slice_get_within nodes i n (ran.held i within)) ∙ ap links_of (get_or_from_slice_get nodes i n n (ran.held i within))

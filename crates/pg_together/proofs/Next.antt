@@ -2,7 +2,7 @@
 -- tells of it no fault that damages the link, unless it refuses that packet as no message.
 use Rattle.std.proofs.Common.{◌≡◌, ◌∙◌, ℕ, Bool, true, false, cond, List, [], ◌∷◌, ◌++◌, Option, Some, None, Result, Ok, Err, refl, sym, ap, subst}
 use Rattle.pg_frame.specs.declared.fault.TooLong as frame
-use Rattle.pg_frame.specs.Frames.{frame as framed, front_of, too_long}
+use Rattle.pg_frame.specs.Frames.{front_of, too_long}
 use Rattle.pg_frame.specs.Laws.{PiecesContinue, WrittenIsRead}
 use Rattle.pg_machine.specs.Clocked.{Stamped, Timed}
 use Rattle.pg_message.specs.declared.message.Message.{Message}

@@ -1,13 +1,13 @@
 -- No link is damaged: what a node told a fault of would begin with the frame of a packet that is next on its way in the run, and that
 -- packet was no message that the node refuses.
-use Rattle.std.proofs.Common.{◌≡◌, ◌≢◌, ◌<◌, ◌+◌, ◌∙◌, ℕ, Bool, true, false, length, map, List, [], ◌∷◌, ◌++◌, Err, refl, sym, ap, subst, inl, inr, ◌⊎◌, append_assoc}
+use Rattle.std.proofs.Common.{◌≡◌, ◌≢◌, ◌<◌, ◌+◌, ◌∙◌, ℕ, Bool, true, false, length, map, List, ◌∷◌, ◌++◌, Err, refl, sym, ap, subst, inl, inr, ◌⊎◌, append_assoc}
 use Rattle.std.proofs.lemmas.List.{map-append}
 use Rattle.pg_frame.specs.Laws.{PiecesContinue, WrittenIsRead}
 use Rattle.pg_group.specs.declared.table.GroupTable.{Ghosts}
 use Rattle.pg_history.specs.Reached.{TimedFrameWorld, Reaches}
 use Rattle.pg_joining.specs.Joined.{Joined, Passes}
 use Rattle.pg_joining.specs.Logs.{NodeLeads}
-use Rattle.pg_machine.specs.Clocked.{Stamped, Timed}
+use Rattle.pg_machine.specs.Clocked.{Stamped}
 use Rattle.pg_machine.specs.Machine.{Event, start_of}
 use Rattle.pg_machine.specs.Places.{is_pair}
 use Rattle.pg_machine.specs.Runs.{Leads}
@@ -18,13 +18,12 @@ use Rattle.pg_node.specs.Links.{Link}
 use Rattle.pg_node.specs.Nodes.{held_by, links_of}
 use Rattle.pg_node.specs.States.{names_of}
 use Rattle.pg_opens.specs.Places.{name_at as place_name}
-use Rattle.pg_run.specs.Acts.{Act, SawNone, Standing, losses_of}
+use Rattle.pg_run.specs.Acts.{SawNone, Standing, losses_of}
 use Rattle.pg_run.specs.Follows.{WasMarked, node_of, standing_of}
 use Rattle.pg_run.proofs.Moving.{none_first}
 use Rattle.pg_step.specs.Config.{Config, name_at, names_of as names_in, nodes_at, ports_at}
 use Rattle.pg_step.specs.FrameMachine.{frame_machine}
 use Rattle.pg_step.specs.Nodes.{Node as Name, all_of}
-use Rattle.pg_step.specs.State.{State}
 use Rattle.pg_step.specs.Step.{Action, step_take}
 use Rattle.pg_step.specs.declared.refusal.Refusal.TheVariants.{NotAMessage}
 use Rattle.pg_together.specs.Apart.{Linked, RanApart}
@@ -32,7 +31,7 @@ use Rattle.pg_together.proofs.Begun.{links_there, place_there, shown}
 use Rattle.pg_together.proofs.Crossing.{bytes_cross, left_crosses, left_frames, left_on, unread_on}
 use Rattle.pg_together.proofs.Logged.{acts_on, ends_on, logs_on}
 use Rattle.pg_together.proofs.Next.{refused_first}
-use Rattle.pg_together.proofs.Turns.{PlacedAct, act_at, leads_alike}
+use Rattle.pg_together.proofs.Turns.{act_at, leads_alike}
 use Rattle.pg_world.specs.Views.{peer_place}
 use Rattle.pg_world.proofs.Peering.{named, peer_name, there_and_back}
 use Rattle.pg_world.proofs.Turning.{pair_is, pair_turned}
