@@ -37,8 +37,8 @@ standing_of node = record { state = state_of (held_by node); answers = answers_o
 abbrev pub sound_link : List ℕ → Link
 sound_link unread = record { unread = unread; outbox = []; damaged = false }
 
--- The link to the peer at a place was marked in the course of these acts: behind the first of them, the node's step told of what was
--- left there a fault that damages the link. The rest took nothing there, and what came in since stands behind what was left.
+-- The link to the peer at a place was marked in the course of these acts: behind those before, the node's step told of what was left
+-- there a fault that damages the link. Those after took nothing there, and what came in since stands behind what was left.
 pub record WasMarked (names : List Name) (ports place : ℕ) (acts : List Act) (a b : Standing) (unread : List ℕ) : Type 0 where
   pub before : List Act
   pub after : List Act
