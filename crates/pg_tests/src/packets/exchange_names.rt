@@ -1,7 +1,7 @@
 //! The names of the groups that an exchange tells: in any order, each once, and each within the limits.
 
-use super::forms::replaced;
-use pg_message::{MessageFault, read_packet, write_packet};
+use super::forms::{is_read_as, replaced};
+use pg_message::{MessageFault, read_packet};
 use std::alloc::{AllocError, Global};
 use std::test::*;
 
@@ -53,12 +53,8 @@ fn in_large_tuple(alloc: Global, body: &[u8]) -> Result<Vec<u8>, MessageFault> {
 /// Whether an exchange of these names is read as it is written, and in another form.
 fn is_read(alloc: Global, names: &[&[u8]]) -> Result<bool, MessageFault> {
     let body = exchange(alloc, names)?;
-    let packet = read_packet(alloc, &body)?;
-    let other = read_packet(alloc, &in_large_tuple(alloc, &body)?)?;
-    Ok(
-        write_packet(alloc, &packet)?.as_slice() == body.as_slice()
-            && write_packet(alloc, &other)?.as_slice() == body.as_slice(),
-    )
+    let other = in_large_tuple(alloc, &body)?;
+    Ok(is_read_as(alloc, &body, &body)? && is_read_as(alloc, &other, &body)?)
 }
 
 /// Whether it is refused in both.
@@ -69,27 +65,37 @@ fn is_refused(alloc: Global, names: &[&[u8]]) -> Result<bool, MessageFault> {
     Ok(read_packet(alloc, &body).err() == fault && read_packet(alloc, &other).err() == fault)
 }
 
+const APART: [&[&[u8]]; 4] = [
+    &[ONE, G, H, TUPLE, LIST, BINARY],
+    &[BINARY, LIST, TUPLE, H, G, ONE],
+    &[H, TUPLE, ONE, BINARY, G],
+    &[H, G],
+];
+
 #[test]
 fn names_in_any_order(rt: HostRuntime) -> Result<(), Fail> {
-    let alloc = rt.alloc();
-    assert!(rt; is_read(alloc, &[ONE, G, H, TUPLE, LIST, BINARY])?);
-    assert!(rt; is_read(alloc, &[BINARY, LIST, TUPLE, H, G, ONE])?);
-    assert!(rt; is_read(alloc, &[H, TUPLE, ONE, BINARY, G])?);
-    assert!(rt; is_read(alloc, &[H, G])?);
+    for names in APART {
+        assert!(rt; is_read(rt.alloc(), names)?, "{names:?}");
+    }
     Ok(())
 }
 
+const TWICE: [&[&[u8]]; 8] = [
+    &[G, G],
+    &[G, H, G],
+    &[ONE, G, TUPLE, TUPLE],
+    &[BINARY, G, BINARY],
+    &[ONE, LONG_ONE],
+    &[LATIN_G, G],
+    &[G, H, LATIN_G],
+    &[LIST, TEXT],
+];
+
 #[test]
 fn names_that_stand_twice(rt: HostRuntime) -> Result<(), Fail> {
-    let alloc = rt.alloc();
-    assert!(rt; is_refused(alloc, &[G, G])?);
-    assert!(rt; is_refused(alloc, &[G, H, G])?);
-    assert!(rt; is_refused(alloc, &[ONE, G, TUPLE, TUPLE])?);
-    assert!(rt; is_refused(alloc, &[BINARY, G, BINARY])?);
-    assert!(rt; is_refused(alloc, &[ONE, LONG_ONE])?);
-    assert!(rt; is_refused(alloc, &[LATIN_G, G])?);
-    assert!(rt; is_refused(alloc, &[G, H, LATIN_G])?);
-    assert!(rt; is_refused(alloc, &[LIST, TEXT])?);
+    for names in TWICE {
+        assert!(rt; is_refused(rt.alloc(), names)?, "{names:?}");
+    }
     Ok(())
 }
 
@@ -102,13 +108,19 @@ fn text(alloc: Global, count: u8) -> Result<Vec<u8>, AllocError> {
     Ok(name)
 }
 
+// Whether an exchange is refused where a group has this name, wherever it stands.
+fn are_refused(alloc: Global, long: &[u8]) -> Result<bool, MessageFault> {
+    Ok(
+        is_refused(alloc, &[long])?
+            && is_refused(alloc, &[long, G])?
+            && is_refused(alloc, &[ONE, G, H, long])?,
+    )
+}
+
 // A text of 600 bytes is written as a list of more than 1,024.
 #[test]
 fn a_text_that_is_too_long(rt: HostRuntime) -> Result<(), Fail> {
-    let alloc = rt.alloc();
-    let long = text(alloc, 88)?;
-    assert!(rt; is_refused(alloc, &[long.as_slice()])?);
-    assert!(rt; is_refused(alloc, &[long.as_slice(), G])?);
-    assert!(rt; is_refused(alloc, &[ONE, G, H, long.as_slice()])?);
+    let long = text(rt.alloc(), 88)?;
+    assert!(rt; are_refused(rt.alloc(), &long)?);
     Ok(())
 }

@@ -8,18 +8,30 @@ use bytes::BytesMut;
 use pg_message::{
     MAX_STAMP, MessageFault, Packet, packet_len, read_packet, write_packet, write_packet_into,
 };
-use pg_term::{Term, TermFault};
+use pg_term::{Items, Term, TermFault};
 use pg_term_io::encode;
 use std::alloc::Global;
 use std::test::*;
 
+fn number_of_term(alloc: Global, term: &Term) -> Result<u8, TermFault> {
+    let body = encode(alloc, term)?;
+    Ok(
+        read_packet(alloc, body.as_slice())
+            .err()
+            .map_or(0, MessageFault::number),
+    )
+}
+
 // The number of the fault of what a term is read as, 0 for none.
 fn number_of(alloc: Global, term: Result<Term, TermFault>) -> Result<u8, TermFault> {
-    let body = encode(alloc, &term?)?;
-    Ok(match read_packet(alloc, body.as_slice()) {
-        Ok(_) => 0,
-        Err(fault) => fault.number(),
-    })
+    match term {
+        Ok(term) => {
+            let number = number_of_term(alloc, &term);
+            drop(term);
+            number
+        }
+        Err(fault) => Err(fault),
+    }
 }
 
 #[test]
@@ -88,10 +100,26 @@ fn is_refused(alloc: Global, packet: &Packet, fault: MessageFault) -> bool {
         && out.as_slice().is_empty()
 }
 
+// The same of a packet where it is made.
+fn is_made_refused(
+    alloc: Global,
+    packet: Result<Packet, TermFault>,
+    fault: MessageFault,
+) -> Result<bool, TermFault> {
+    match packet {
+        Ok(packet) => {
+            let is_refused = is_refused(alloc, &packet, fault);
+            drop(packet);
+            Ok(is_refused)
+        }
+        Err(fault) => Err(fault),
+    }
+}
+
 #[test]
 fn late_packet_not_written(rt: HostRuntime) -> Result<(), Fail> {
-    let late = create_packet(rt.alloc(), MAX_STAMP + 1, Term::Int(7))?;
-    assert!(rt; is_refused(rt.alloc(), &late, MessageFault::StampTooLarge));
+    let late = create_packet(rt.alloc(), MAX_STAMP + 1, Term::Int(7));
+    assert!(rt; is_made_refused(rt.alloc(), late, MessageFault::StampTooLarge)?);
     Ok(())
 }
 
@@ -109,18 +137,16 @@ fn long_name(alloc: Global, number: i64) -> Result<Term, TermFault> {
 fn large_exchange(alloc: Global, count: i64) -> Result<Packet, TermFault> {
     let mut groups = Vec::new(alloc);
     for number in 0..count {
-        groups.push((
-            long_name(alloc, number.saturating_add(65_536))?,
-            pids(alloc, 0)?,
-        ))?;
+        let none = Items::from_vec(Vec::new(alloc));
+        groups.push((long_name(alloc, number.saturating_add(65_536))?, none))?;
     }
     exchange_packet(alloc, 0, groups)
 }
 
 #[test]
 fn long_packet_not_written(rt: HostRuntime) -> Result<(), Fail> {
-    let long = large_exchange(rt.alloc(), 16_600)?;
-    assert!(rt; is_refused(rt.alloc(), &long, MessageFault::Term(TermFault::TooLong)));
+    let long = large_exchange(rt.alloc(), 16_600);
+    assert!(rt; is_made_refused(rt.alloc(), long, MessageFault::Term(TermFault::TooLong))?);
     Ok(())
 }
 
@@ -128,14 +154,15 @@ fn long_packet_not_written(rt: HostRuntime) -> Result<(), Fail> {
 fn exchange_naming_twice(alloc: Global) -> Result<Packet, TermFault> {
     let mut groups = Vec::new(alloc);
     for name in [7, 5, 6, 5] {
-        groups.push((Term::Int(name), pids(alloc, 1)?))?;
+        let pids = pids(alloc, 1)?;
+        groups.push((Term::Int(name), pids))?;
     }
     exchange_packet(alloc, MAX_STAMP + 1, groups)
 }
 
 #[test]
 fn group_named_twice(rt: HostRuntime) -> Result<(), Fail> {
-    let packet = exchange_naming_twice(rt.alloc())?;
-    assert!(rt; is_refused(rt.alloc(), &packet, MessageFault::NotAMessage));
+    let packet = exchange_naming_twice(rt.alloc());
+    assert!(rt; is_made_refused(rt.alloc(), packet, MessageFault::NotAMessage)?);
     Ok(())
 }

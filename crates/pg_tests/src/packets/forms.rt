@@ -38,7 +38,11 @@ pub fn is_written_as(alloc: Global, packet: &Packet, bytes: &[u8]) -> Result<boo
 /// Whether a body is read as the packet that is written so.
 pub fn is_read_as(alloc: Global, body: &[u8], written: &[u8]) -> Result<bool, MessageFault> {
     match read_packet(alloc, body) {
-        Ok(packet) => is_written_as(alloc, &packet, written),
+        Ok(packet) => {
+            let is_written = is_written_as(alloc, &packet, written);
+            drop(packet);
+            is_written
+        }
         Err(fault) => Err(fault),
     }
 }
@@ -153,7 +157,11 @@ fn is_fault_of_its_term(alloc: Global, body: &[u8], told: MessageFault) -> bool 
 // Whether a body spells the term.
 fn spells(alloc: Global, body: &[u8], term: &Term) -> Result<bool, MessageFault> {
     match decode(alloc, body) {
-        Ok(spelled) => Ok(spelled == *term),
+        Ok(spelled) => {
+            let is_same = spelled == *term;
+            drop(spelled);
+            Ok(is_same)
+        }
         Err(fault) => Err(MessageFault::Term(fault)),
     }
 }
@@ -161,8 +169,20 @@ fn spells(alloc: Global, body: &[u8], term: &Term) -> Result<bool, MessageFault>
 // Whether two bodies spell the same term.
 fn spell_the_same(alloc: Global, body: &[u8], other: &[u8]) -> Result<bool, MessageFault> {
     match decode(alloc, body) {
-        Ok(term) => spells(alloc, other, &term),
+        Ok(term) => {
+            let is_same = spells(alloc, other, &term);
+            drop(term);
+            is_same
+        }
         Err(fault) => Err(MessageFault::Term(fault)),
+    }
+}
+
+// Whether a packet is written so that it spells what a body does.
+fn is_written_like(alloc: Global, packet: &Packet, body: &[u8]) -> Result<bool, MessageFault> {
+    match write_packet(alloc, packet) {
+        Ok(written) => spell_the_same(alloc, body, &written),
+        Err(fault) => Err(fault),
     }
 }
 
@@ -170,7 +190,11 @@ fn spell_the_same(alloc: Global, body: &[u8], other: &[u8]) -> Result<bool, Mess
 fn is_read_as_its_term(alloc: Global, body: &[u8]) -> Result<bool, MessageFault> {
     match read_packet(alloc, body) {
         Err(told) => Ok(is_fault_of_its_term(alloc, body, told)),
-        Ok(packet) => spell_the_same(alloc, body, &write_packet(alloc, &packet)?),
+        Ok(packet) => {
+            let is_like = is_written_like(alloc, &packet, body);
+            drop(packet);
+            is_like
+        }
     }
 }
 

@@ -4,7 +4,7 @@ use super::forms::{is_read_as, is_read_the_same, replaced};
 use super::samples::{EXCHANGE, exchange_packet, pids};
 use crate::samples::nested;
 use pg_message::{MessageFault, Packet, read_packet, write_packet};
-use pg_term::{Term, TermFault};
+use pg_term::{Items, Term, TermFault};
 use std::alloc::Global;
 use std::test::*;
 
@@ -75,15 +75,23 @@ fn lists_that_are_none(rt: HostRuntime) -> Result<(), Fail> {
 fn large_exchange(alloc: Global, count: i64, members: u32) -> Result<Packet, TermFault> {
     let mut groups = Vec::new(alloc);
     for number in 0..count {
-        groups.push((Term::Int(number), pids(alloc, members)?))?;
+        let pids = pids(alloc, members)?;
+        groups.push((Term::Int(number), pids))?;
     }
-    groups.push((nested(alloc, 31, Term::Int(0))?, pids(alloc, 0)?))?;
+    let none = Items::from_vec(Vec::new(alloc));
+    groups.push((nested(alloc, 31, Term::Int(0))?, none))?;
     exchange_packet(alloc, 0, groups)
 }
 
 fn written_exchange(alloc: Global, count: i64, members: u32) -> Result<Vec<u8>, MessageFault> {
-    let packet = large_exchange(alloc, count, members)?;
-    write_packet(alloc, &packet)
+    match large_exchange(alloc, count, members) {
+        Ok(packet) => {
+            let written = write_packet(alloc, &packet);
+            drop(packet);
+            written
+        }
+        Err(fault) => Err(MessageFault::Term(fault)),
+    }
 }
 
 // Read as they are written, and so in another form.

@@ -6,31 +6,32 @@ use bytes::BytesMut;
 use pg_message::{MessageFault, Packet, read_packet, write_packet, write_packet_into};
 use pg_term::TermFault;
 use pg_term_io::encode;
-use std::alloc::Global;
+use std::alloc::{AllocError, Global};
 use std::test::*;
 
 const OUT_OF_MEMORY: MessageFault = MessageFault::Term(TermFault::OutOfMemory);
 
-// Makes a value, a second time where memory was refused.
-fn again<V: Drop, F: Fn() -> Result<V, MessageFault>>(make: F) -> Result<V, MessageFault>
-    requires { F.IsAlwaysCallable make }
-{
-    match make() {
-        Err(fault) if fault == OUT_OF_MEMORY => make(),
-        made => made,
+// Each of these makes a value, a second time where memory was refused.
+
+fn read(alloc: Global, bytes: &[u8]) -> Result<Packet, MessageFault> {
+    match read_packet(alloc, bytes) {
+        Err(OUT_OF_MEMORY) => read_packet(alloc, bytes),
+        read => read,
     }
 }
 
-fn read(alloc: Global, bytes: &[u8]) -> Result<Packet, MessageFault> {
-    again(|| read_packet(alloc, bytes))
-}
-
-fn copied(alloc: Global, packet: &Packet) -> Result<Packet, MessageFault> {
-    again(|| Ok(packet.copy(alloc)?))
+fn copied(alloc: Global, packet: &Packet) -> Result<Packet, AllocError> {
+    match packet.copy(alloc) {
+        Err(AllocError) => packet.copy(alloc),
+        copied => copied,
+    }
 }
 
 fn written(alloc: Global, packet: &Packet) -> Result<Vec<u8>, MessageFault> {
-    again(|| write_packet(alloc, packet))
+    match write_packet(alloc, packet) {
+        Err(OUT_OF_MEMORY) => write_packet(alloc, packet),
+        written => written,
+    }
 }
 
 // Writes the packet into a buffer without room, again where memory was refused and the buffer is as it was.
@@ -45,13 +46,49 @@ fn framed(alloc: Global, packet: &Packet) -> Result<BytesMut, MessageFault> {
     Ok(out)
 }
 
+// Whether the packet is written so.
+fn is_written_as(alloc: Global, packet: &Packet, bytes: &[u8]) -> Result<bool, MessageFault> {
+    match written(alloc, packet) {
+        Ok(body) => Ok(body.as_slice() == bytes),
+        Err(fault) => Err(fault),
+    }
+}
+
+// Whether it is written so in a frame.
+fn is_framed_as(alloc: Global, packet: &Packet, bytes: &[u8]) -> Result<bool, MessageFault> {
+    match framed(alloc, packet) {
+        Ok(frame) => Ok(frame.as_slice().ends_with(bytes)),
+        Err(fault) => Err(fault),
+    }
+}
+
+// Whether its copy is.
+fn is_copied_as(alloc: Global, packet: &Packet, bytes: &[u8]) -> Result<bool, MessageFault> {
+    match copied(alloc, packet) {
+        Ok(copy) => {
+            let is_framed = is_framed_as(alloc, &copy, bytes);
+            drop(copy);
+            is_framed
+        }
+        Err(AllocError) => Err(OUT_OF_MEMORY),
+    }
+}
+
+// Whether it is written as the bytes, and copied as them.
+fn is_kept(alloc: Global, packet: &Packet, bytes: &[u8]) -> Result<bool, MessageFault> {
+    Ok(is_copied_as(alloc, packet, bytes)? && is_written_as(alloc, packet, bytes)?)
+}
+
 // Whether the bytes are read, copied and written as they are.
 fn are_kept(alloc: Global, bytes: &[u8]) -> Result<bool, MessageFault> {
-    let packet = read(alloc, bytes)?;
-    let copy = copied(alloc, &packet)?;
-    let body = written(alloc, &packet)?;
-    let frame = framed(alloc, &copy)?;
-    Ok(body.as_slice() == bytes && frame.as_slice().ends_with(bytes))
+    match read(alloc, bytes) {
+        Ok(packet) => {
+            let is_kept = is_kept(alloc, &packet, bytes);
+            drop(packet);
+            is_kept
+        }
+        Err(fault) => Err(fault),
+    }
 }
 
 #[test]
@@ -89,18 +126,14 @@ fn join_in_large_tuple(alloc: Global) -> Result<Vec<u8>, MessageFault> {
     replaced(alloc, JOIN, 1, 2, &[105, 0, 0, 0, 2])
 }
 
-// Whether the packet is written so.
-fn is_written_as(alloc: Global, packet: &Packet, bytes: &[u8]) -> Result<bool, MessageFault> {
-    match written(alloc, packet) {
-        Ok(body) => Ok(body.as_slice() == bytes),
-        Err(fault) => Err(fault),
-    }
-}
-
 // Whether the body is read as the packet that is written so.
 fn is_read_as(alloc: Global, body: &[u8], bytes: &[u8]) -> Result<bool, MessageFault> {
     match read(alloc, body) {
-        Ok(packet) => is_written_as(alloc, &packet, bytes),
+        Ok(packet) => {
+            let is_written = is_written_as(alloc, &packet, bytes);
+            drop(packet);
+            is_written
+        }
         Err(fault) => Err(fault),
     }
 }
@@ -108,7 +141,10 @@ fn is_read_as(alloc: Global, body: &[u8], bytes: &[u8]) -> Result<bool, MessageF
 #[test]
 fn growths_refused_for_another_form(rt: HostRuntime) -> Result<(), Fail> {
     let alloc = rt.alloc();
-    let body = again(|| join_in_large_tuple(alloc))?;
+    let body = match join_in_large_tuple(alloc) {
+        Err(OUT_OF_MEMORY) => join_in_large_tuple(alloc)?,
+        made => made?,
+    };
     assert!(rt; is_read_as(alloc, &body, JOIN)?);
     Ok(())
 }
@@ -120,7 +156,10 @@ fn exchange_naming_twice(alloc: Global) -> Result<Vec<u8>, MessageFault> {
 #[test]
 fn growths_refused_for_a_group_named_twice(rt: HostRuntime) -> Result<(), Fail> {
     let alloc = rt.alloc();
-    let body = again(|| exchange_naming_twice(alloc))?;
+    let body = match exchange_naming_twice(alloc) {
+        Err(OUT_OF_MEMORY) => exchange_naming_twice(alloc)?,
+        made => made?,
+    };
     assert!(rt; read(alloc, &body).err() == Some(MessageFault::NotAMessage));
     Ok(())
 }

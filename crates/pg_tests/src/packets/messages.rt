@@ -78,7 +78,11 @@ fn is_copied_as(
     kind: &str,
 ) -> Result<bool, MessageFault> {
     match packet.copy(alloc) {
-        Ok(copy) => is_of_kind(alloc, &copy, bytes, kind),
+        Ok(copy) => {
+            let is_copied = is_of_kind(alloc, &copy, bytes, kind);
+            drop(copy);
+            is_copied
+        }
         Err(AllocError) => Err(MessageFault::Term(TermFault::OutOfMemory)),
     }
 }
@@ -86,7 +90,11 @@ fn is_copied_as(
 // Whether the bytes are a packet of this kind, whose copy is written as them.
 fn is_both_ways(alloc: Global, bytes: &[u8], kind: &str) -> Result<bool, MessageFault> {
     match read_packet(alloc, bytes) {
-        Ok(packet) => is_copied_as(alloc, &packet, bytes, kind),
+        Ok(packet) => {
+            let is_copied = is_copied_as(alloc, &packet, bytes, kind);
+            drop(packet);
+            is_copied
+        }
         Err(fault) => Err(fault),
     }
 }

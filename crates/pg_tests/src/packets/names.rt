@@ -10,16 +10,34 @@ use pg_term_io::{encode, encode_len};
 use std::alloc::Global;
 use std::test::*;
 
+// The body of a term where it is made.
+fn create_body(alloc: Global, term: Result<Term, TermFault>) -> Result<Vec<u8>, TermFault> {
+    match term {
+        Ok(term) => {
+            let body = encode(alloc, &term);
+            drop(term);
+            body
+        }
+        Err(fault) => Err(fault),
+    }
+}
+
 // The fault of what a create call of the name is read as, if any.
 fn reading_fault(alloc: Global, name: &Term) -> Result<Option<MessageFault>, TermFault> {
-    let body = encode(alloc, &create_term(alloc, 0, name.copy(alloc)?)?)?;
+    let body = create_body(alloc, create_term(alloc, 0, name.copy(alloc)?))?;
     Ok(read_packet(alloc, body.as_slice()).err())
 }
 
 // The fault of writing it, if any.
 fn writing_fault(alloc: Global, name: &Term) -> Result<Option<MessageFault>, TermFault> {
-    let packet = create_packet(alloc, 0, name.copy(alloc)?)?;
-    Ok(write_packet(alloc, &packet).err())
+    match create_packet(alloc, 0, name.copy(alloc)?) {
+        Ok(packet) => {
+            let fault = write_packet(alloc, &packet).err();
+            drop(packet);
+            Ok(fault)
+        }
+        Err(fault) => Err(fault),
+    }
 }
 
 // So many zeros in a list.

@@ -71,25 +71,72 @@ fn update_kind(update: &Update) -> &'static str {
 
 /// A packet that calls for a group of this name.
 pub fn create_packet(alloc: Global, stamp: u32, name: Term) -> Result<Packet, TermFault> {
-    let request = Request::Change(Update::Create(name));
-    Ok(Packet {
-        stamp,
-        message: Message::Call(reference(alloc, 1, &[1, 0, 0])?, request),
-    })
+    match reference(alloc, 1, &[1, 0, 0]) {
+        Ok(from) => Ok(Packet {
+            stamp,
+            message: Message::Call(from, Request::Change(Update::Create(name))),
+        }),
+        Err(fault) => {
+            drop(name);
+            Err(fault)
+        }
+    }
+}
+
+// {Word, Term}
+fn tagged(alloc: Global, word: &str, term: Term) -> Result<Term, TermFault> {
+    match atom(alloc, word) {
+        Ok(word) => pair(alloc, word, term),
+        Err(fault) => {
+            drop(term);
+            Err(fault)
+        }
+    }
+}
+
+// call, Ref
+fn call_head(alloc: Global) -> Result<Vec<Term>, TermFault> {
+    let mut items = Vec::new(alloc);
+    items.push(atom(alloc, "call")?)?;
+    items.push(reference_term(alloc, 1, &[1, 0, 0])?)?;
+    Ok(items)
+}
+
+// {call, Ref, Request}
+fn call_of(alloc: Global, request: Term) -> Result<Term, TermFault> {
+    match call_head(alloc) {
+        Ok(mut items) => {
+            items.push(request)?;
+            Ok(tuple(items))
+        }
+        Err(fault) => {
+            drop(request);
+            Err(fault)
+        }
+    }
 }
 
 /// The same as a term.
 pub fn create_term(alloc: Global, stamp: i64, name: Term) -> Result<Term, TermFault> {
-    let create = pair(alloc, atom(alloc, "create")?, name)?;
-    let from = reference_term(alloc, 1, &[1, 0, 0])?;
-    let call = tuple(vec![in alloc; atom(alloc, "call")?, from, create]?);
+    let create = tagged(alloc, "create", name)?;
+    let call = call_of(alloc, create)?;
     pair(alloc, Term::Int(stamp), call)
+}
+
+fn down_of(alloc: Global, word: &str) -> Result<Term, TermFault> {
+    let pid = pid(alloc, 1)?;
+    tagged(alloc, word, Term::Pid(pid))
 }
 
 /// {Stamp, {Word, <a.1.0>}} as a term: a process has ended, where the word is `down`.
 pub fn down_term(alloc: Global, stamp: Term, word: &str) -> Result<Term, TermFault> {
-    let down = pair(alloc, atom(alloc, word)?, Term::Pid(pid(alloc, 1)?))?;
-    pair(alloc, stamp, down)
+    match down_of(alloc, word) {
+        Ok(down) => pair(alloc, stamp, down),
+        Err(fault) => {
+            drop(stamp);
+            Err(fault)
+        }
+    }
 }
 
 /// So many pids.
@@ -107,11 +154,16 @@ pub fn exchange_packet(
     stamp: u32,
     groups: Vec<(Term, Items<Pid>)>,
 ) -> Result<Packet, TermFault> {
-    let node = Atom::new(alloc, "a")?;
-    Ok(Packet {
-        stamp,
-        message: Message::Exchange(node, Items::from_vec(groups)),
-    })
+    match Atom::new(alloc, "a") {
+        Ok(node) => Ok(Packet {
+            stamp,
+            message: Message::Exchange(node, Items::from_vec(groups)),
+        }),
+        Err(fault) => {
+            drop(groups);
+            Err(fault)
+        }
+    }
 }
 
 /// {Stamp, {cast, {exchange, a, [[Name, []], ..]}}} as a term, of groups that numbers name.

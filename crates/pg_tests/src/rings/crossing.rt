@@ -5,8 +5,8 @@ use crate::samples::atom;
 use bytes::BytesMut;
 use pg_frame::Deframer;
 use pg_message::{MessageFault, Packet, write_packet_into};
-use pg_ring::{Inlet, Link, ring_pair};
-use std::alloc::Global;
+use pg_ring::{Inlet, Link, RingIn, RingOut, ring_pair};
+use std::alloc::{AllocError, Global};
 use std::test::Fail;
 
 // A packet in a frame.
@@ -22,9 +22,50 @@ fn framed(alloc: Global, packet: &Packet) -> Result<BytesMut, MessageFault> {
 fn create_call(alloc: Global) -> Result<BytesMut, MessageFault> {
     let name = atom(alloc, "g")?;
     match create_packet(alloc, 0, name) {
-        Ok(packet) => framed(alloc, &packet),
+        Ok(packet) => {
+            let frame = framed(alloc, &packet);
+            drop(packet);
+            frame
+        }
         Err(fault) => Err(MessageFault::Term(fault)),
     }
+}
+
+// Whether a byte crosses the ring while no frame is whole.
+fn is_crossed(
+    out: &mut RingOut,
+    inlet: &mut RingIn,
+    deframer: &mut Deframer,
+    byte: u8,
+) -> Result<bool, AllocError> {
+    let mut place = [0u8; 1];
+    let is_open = deframer.front() == Ok(None) && deframer.next() == Ok(false);
+    let is_moved = out.put(&[byte, 0]) == 1 && inlet.take(&mut place) == 1;
+    deframer.feed(&place)?;
+    Ok(is_open && is_moved)
+}
+
+// Whether all bytes do.
+fn are_crossed(
+    out: &mut RingOut,
+    inlet: &mut RingIn,
+    deframer: &mut Deframer,
+    bytes: &[u8],
+) -> Result<bool, AllocError> {
+    for byte in bytes {
+        if !is_crossed(out, inlet, deframer, *byte)? {
+            return Ok(false);
+        }
+    }
+    Ok(true)
+}
+
+// Whether this frame is whole, and nothing is left behind it.
+fn is_whole(deframer: &mut Deframer, frame: &[u8]) -> bool {
+    deframer.rest_len() == frame.len()
+        && deframer.front() == Ok(frame.get(4..))
+        && deframer.next() == Ok(true)
+        && deframer.rest_len() == 0
 }
 
 #[test]
@@ -32,18 +73,15 @@ fn frame_byte_by_byte(rt: HostRuntime) -> Result<(), Fail> {
     let frame = create_call(rt.alloc())?;
     let (mut out, mut inlet) = ring_pair(rt.alloc(), 1)?;
     let mut deframer = Deframer::new(rt.alloc());
-    let mut place = [0u8; 1];
-    for byte in frame.as_slice() {
-        assert_eq!(rt; deframer.front(), Ok(None));
-        assert_eq!(rt; deframer.next(), Ok(false));
-        assert_eq!(rt; out.put(&[*byte, 0]), 1);
-        assert_eq!(rt; inlet.take(&mut place), 1);
-        deframer.feed(&place)?;
-    }
-    assert_eq!(rt; deframer.rest_len(), frame.as_slice().len());
-    assert_eq!(rt; deframer.front(), Ok(frame.as_slice().get(4..)));
-    assert_eq!(rt; deframer.next(), Ok(true));
-    assert_eq!(rt; deframer.rest_len(), 0);
-    assert_eq!(rt; inlet.take(&mut place), 0);
+    let are_crossed = are_crossed(&mut out, &mut inlet, &mut deframer, frame.as_slice());
+    let is_whole = is_whole(&mut deframer, frame.as_slice());
+    drop(deframer);
+    drop(frame);
+    let left = inlet.take(&mut [0u8; 1]);
+    drop(out);
+    drop(inlet);
+    assert!(rt; are_crossed?);
+    assert!(rt; is_whole);
+    assert!(rt; left == 0);
     Ok(())
 }

@@ -1,14 +1,14 @@
 //! Bytes that spell no term, and the first fault of them.
 
-use super::again;
+use super::decoded;
 use pg_term::TermFault;
-use pg_term_io::{check_term, decode};
+use pg_term_io::check_term;
 use std::alloc::Global;
 use std::test::*;
 
 // Whether the bytes have this fault, when they are read and when they are only looked at.
 fn have_fault(alloc: Global, bytes: &[u8], fault: Option<TermFault>) -> bool {
-    again(|| decode(alloc, bytes)).err() == fault && check_term(bytes).err() == fault
+    decoded(alloc, bytes).err() == fault && check_term(bytes).err() == fault
 }
 
 // Whether each of the rows has the fault.
@@ -96,13 +96,28 @@ fn long_atom(alloc: Global, tag: u8, count: u16) -> Result<Vec<u8>, TermFault> {
     Ok(bytes)
 }
 
+// Whether such an atom has the fault. Its bytes are made again where memory was refused.
+fn long_atom_has_fault(
+    alloc: Global,
+    tag: u8,
+    count: u16,
+    fault: Option<TermFault>,
+) -> Result<bool, TermFault> {
+    let bytes = match long_atom(alloc, tag, count) {
+        Err(TermFault::OutOfMemory) => long_atom(alloc, tag, count)?,
+        other => other?,
+    };
+    Ok(have_fault(alloc, &bytes, fault))
+}
+
 #[test]
 fn long_atoms_and_depth(rt: HostRuntime) -> Result<(), Fail> {
-    let alloc = rt.alloc();
     for tag in [118, 100] {
         for (count, fault) in [(255, None), (256, Some(TermFault::BadAtom))] {
-            let bytes = again(|| long_atom(alloc, tag, count))?;
-            assert!(rt; have_fault(alloc, &bytes, fault), "{tag} {count}");
+            assert!(rt;
+                long_atom_has_fault(rt.alloc(), tag, count, fault)?,
+                "{tag} {count}"
+            );
         }
     }
     Ok(())
@@ -119,23 +134,39 @@ fn nested_bytes(alloc: Global, levels: usize, end: &[u8]) -> Result<Vec<u8>, Ter
     Ok(bytes)
 }
 
+// Whether such bytes have the fault. They are made again where memory was refused.
+fn nested_have_fault(
+    alloc: Global,
+    levels: usize,
+    end: &[u8],
+    fault: Option<TermFault>,
+) -> Result<bool, TermFault> {
+    let bytes = match nested_bytes(alloc, levels, end) {
+        Err(TermFault::OutOfMemory) => nested_bytes(alloc, levels, end)?,
+        other => other?,
+    };
+    Ok(have_fault(alloc, &bytes, fault))
+}
+
+const DEPTHS: [(usize, &[u8], Option<TermFault>); 9] = [
+    (63, &[107, 0, 0], None),
+    (63, &[107, 0, 1, 7], Some(TermFault::TooDeep)),
+    (63, &[107, 0, 1], Some(TermFault::Truncated)),
+    (62, &[107, 0, 1, 7], None),
+    (63, &[97, 0], None),
+    (64, &[97, 0], Some(TermFault::TooDeep)),
+    (64, &[], Some(TermFault::Truncated)),
+    (63, &[108, 0, 0, 0, 0, 106], Some(TermFault::TooDeep)),
+    (62, &[108, 0, 0, 0, 0, 106], None),
+];
+
 #[test]
 fn depth(rt: HostRuntime) -> Result<(), Fail> {
-    let alloc = rt.alloc();
-    let rows: &[(usize, &[u8], Option<TermFault>)] = &[
-        (63, &[107, 0, 0], None),
-        (63, &[107, 0, 1, 7], Some(TermFault::TooDeep)),
-        (63, &[107, 0, 1], Some(TermFault::Truncated)),
-        (62, &[107, 0, 1, 7], None),
-        (63, &[97, 0], None),
-        (64, &[97, 0], Some(TermFault::TooDeep)),
-        (64, &[], Some(TermFault::Truncated)),
-        (63, &[108, 0, 0, 0, 0, 106], Some(TermFault::TooDeep)),
-        (62, &[108, 0, 0, 0, 0, 106], None),
-    ];
-    for (levels, end, fault) in rows {
-        let bytes = again(|| nested_bytes(alloc, *levels, end))?;
-        assert!(rt; have_fault(alloc, &bytes, *fault), "{levels}");
+    for (levels, end, fault) in DEPTHS {
+        assert!(rt;
+            nested_have_fault(rt.alloc(), levels, end, fault)?,
+            "{levels}"
+        );
     }
     Ok(())
 }

@@ -1,124 +1,117 @@
 //! Bytes from outside, and what they spell.
 
-use super::again;
-use crate::samples::{atom, integers, list, reference_term, tuple};
-use pg_term::{Term, TermFault};
-use pg_term_io::{check_term, decode};
+use super::decoded;
+use super::samples::{Sample, made};
+use super::writing::spells;
+use pg_term::TermFault;
+use pg_term_io::check_term;
 use std::alloc::Global;
+use std::process::Abort;
 use std::test::*;
 
 // Whether the bytes are read as the term, and found to be one before.
-fn is_read(alloc: Global, bytes: &[u8], wanted: &Term) -> Result<bool, TermFault> {
-    Ok(check_term(bytes).is_ok() && again(|| decode(alloc, bytes))? == *wanted)
+fn is_read(alloc: Global, bytes: &[u8], sample: Sample) -> Result<bool, TermFault> {
+    match made(alloc, sample) {
+        Ok(wanted) => {
+            let is_same = spells(alloc, bytes, &wanted);
+            drop(wanted);
+            Ok(is_same? && check_term(bytes).is_ok())
+        }
+        Err(fault) => Err(fault),
+    }
+}
+
+// The bytes of each row are read as its term.
+fn check_read(rt: &impl Abort, alloc: Global, rows: &[(&[u8], Sample)]) -> Result<(), Fail> {
+    for (bytes, sample) in rows {
+        assert!(rt; is_read(alloc, bytes, *sample)?, "{bytes:?}");
+    }
+    Ok(())
 }
 
 #[test]
 fn integers_and_atoms(rt: HostRuntime) -> Result<(), Fail> {
-    let rows: &[(&[u8], i64)] = &[
-        (&[131, 97, 255], 255),
-        (&[131, 98, 255, 255, 255, 255], -1),
-        (&[131, 98, 0, 1, 0, 2], 65_538),
+    const ROWS: &[(&[u8], Sample)] = &[
+        (&[131, 97, 255], Sample::Int(255)),
+        (&[131, 98, 255, 255, 255, 255], Sample::Int(-1)),
+        (&[131, 98, 0, 1, 0, 2], Sample::Int(65_538)),
     ];
-    for (bytes, number) in rows {
-        assert!(rt;
-            is_read(rt.alloc(), bytes, &Term::Int(*number))?,
-            "{number}"
-        );
-    }
-    Ok(())
-}
-
-// Whether the bytes are read as the atom of this name.
-fn is_atom(alloc: Global, bytes: &[u8], name: &str) -> Result<bool, TermFault> {
-    let wanted = again(|| atom(alloc, name))?;
-    is_read(alloc, bytes, &wanted)
+    check_read(&rt, rt.alloc(), ROWS)
 }
 
 #[test]
 fn atoms_of_each_form(rt: HostRuntime) -> Result<(), Fail> {
-    let rows: &[(&[u8], &str)] = &[
-        (&[131, 100, 0, 1, 233], "é"),
-        (&[131, 115, 2, 97, 223], "aß"),
-        (&[131, 118, 0, 2, 195, 169], "é"),
-        (&[131, 119, 3, 226, 130, 172], "€"),
-        (&[131, 119, 0], ""),
+    const ROWS: &[(&[u8], Sample)] = &[
+        (&[131, 100, 0, 1, 233], Sample::Atom("é")),
+        (&[131, 115, 2, 97, 223], Sample::Atom("aß")),
+        (&[131, 118, 0, 2, 195, 169], Sample::Atom("é")),
+        (&[131, 119, 3, 226, 130, 172], Sample::Atom("€")),
+        (&[131, 119, 0], Sample::Atom("")),
     ];
-    for (bytes, name) in rows {
-        assert!(rt; is_atom(rt.alloc(), bytes, name)?, "{name}");
-    }
-    Ok(())
-}
-
-// Whether the bytes are read as the list of these integers.
-fn is_list(alloc: Global, bytes: &[u8], numbers: &[i64]) -> Result<bool, TermFault> {
-    let wanted = list(again(|| integers(alloc, numbers))?);
-    is_read(alloc, bytes, &wanted)
+    check_read(&rt, rt.alloc(), ROWS)
 }
 
 #[test]
 fn lists_and_old_references(rt: HostRuntime) -> Result<(), Fail> {
-    let rows: &[(&[u8], &[i64])] = &[
-        (&[131, 107, 0, 2, 1, 2], &[1, 2]),
-        (&[131, 108, 0, 0, 0, 1, 97, 1, 107, 0, 1, 2], &[1, 2]),
-        (&[131, 108, 0, 0, 0, 2, 97, 1, 97, 2, 106], &[1, 2]),
-        (&[131, 108, 0, 0, 0, 0, 106], &[]),
-        (&[131, 106], &[]),
+    const ROWS: &[(&[u8], Sample)] = &[
+        (&[131, 107, 0, 2, 1, 2], Sample::Numbers(&[1, 2])),
+        (
+            &[131, 108, 0, 0, 0, 1, 97, 1, 107, 0, 1, 2],
+            Sample::Numbers(&[1, 2]),
+        ),
+        (
+            &[131, 108, 0, 0, 0, 2, 97, 1, 97, 2, 106],
+            Sample::Numbers(&[1, 2]),
+        ),
+        (&[131, 108, 0, 0, 0, 0, 106], Sample::Numbers(&[])),
+        (&[131, 106], Sample::Numbers(&[])),
     ];
-    for (bytes, numbers) in rows {
-        assert!(rt; is_list(rt.alloc(), bytes, numbers)?);
-    }
-    Ok(())
+    check_read(&rt, rt.alloc(), ROWS)
 }
 
 #[test]
 fn an_old_reference(rt: HostRuntime) -> Result<(), Fail> {
-    let alloc = rt.alloc();
-    let bytes = [131, 101, 100, 0, 1, 97, 0, 0, 0, 7, 2];
-    let wanted = again(|| reference_term(alloc, 2, &[7]))?;
-    assert!(rt; is_read(alloc, &bytes, &wanted)?);
-    Ok(())
+    const ROWS: &[(&[u8], Sample)] = &[(
+        &[131, 101, 100, 0, 1, 97, 0, 0, 0, 7, 2],
+        Sample::Reference(2, &[7]),
+    )];
+    check_read(&rt, rt.alloc(), ROWS)
 }
 
 #[test]
 fn a_large_tuple(rt: HostRuntime) -> Result<(), Fail> {
-    let alloc = rt.alloc();
-    let bytes = [131, 105, 0, 0, 0, 1, 97, 7];
-    let wanted = tuple(again(|| integers(alloc, &[7]))?);
-    assert!(rt; is_read(alloc, &bytes, &wanted)?);
-    Ok(())
+    const ROWS: &[(&[u8], Sample)] = &[(&[131, 105, 0, 0, 0, 1, 97, 7], Sample::Tuple(1))];
+    check_read(&rt, rt.alloc(), ROWS)
 }
 
 #[test]
 fn tuples_bigs_and_lists(rt: HostRuntime) -> Result<(), Fail> {
-    let rows: &[(&[u8], i64)] = &[
-        (&[131, 110, 1, 0, 5], 5),
-        (&[131, 110, 2, 7, 1, 2], -513),
-        (&[131, 110, 0, 1], 0),
-        (&[131, 110, 9, 0, 1, 0, 0, 0, 0, 0, 0, 0, 0], 1),
+    const ROWS: &[(&[u8], Sample)] = &[
+        (&[131, 110, 1, 0, 5], Sample::Int(5)),
+        (&[131, 110, 2, 7, 1, 2], Sample::Int(-513)),
+        (&[131, 110, 0, 1], Sample::Int(0)),
+        (&[131, 110, 9, 0, 1, 0, 0, 0, 0, 0, 0, 0, 0], Sample::Int(1)),
         (
             &[131, 110, 8, 0, 255, 255, 255, 255, 255, 255, 255, 127],
-            i64::MAX,
+            Sample::Int(i64::MAX),
         ),
-        (&[131, 110, 8, 1, 0, 0, 0, 0, 0, 0, 0, 128], i64::MIN),
+        (
+            &[131, 110, 8, 1, 0, 0, 0, 0, 0, 0, 0, 128],
+            Sample::Int(i64::MIN),
+        ),
     ];
-    for (bytes, number) in rows {
-        assert!(rt;
-            is_read(rt.alloc(), bytes, &Term::Int(*number))?,
-            "{number}"
-        );
-    }
-    Ok(())
+    check_read(&rt, rt.alloc(), ROWS)
 }
 
 /// Each kind of term that takes memory, in one.
+const EACH_KIND: &[u8] = &[
+    131, 104, 7, 109, 0, 0, 0, 2, 1, 2, 119, 1, 97, 107, 0, 2, 1, 2, 103, 100, 0, 1, 98, 0, 0, 0,
+    1, 0, 0, 0, 2, 3, 108, 0, 0, 0, 1, 115, 1, 99, 106, 114, 0, 2, 119, 1, 97, 2, 0, 0, 0, 7, 0, 0,
+    0, 8, 101, 100, 0, 1, 97, 0, 0, 0, 7, 2,
+];
+
 #[test]
 fn once_more(rt: HostRuntime) {
-    let alloc = rt.alloc();
-    let bytes = [
-        131, 104, 7, 109, 0, 0, 0, 2, 1, 2, 119, 1, 97, 107, 0, 2, 1, 2, 103, 100, 0, 1, 98, 0, 0,
-        0, 1, 0, 0, 0, 2, 3, 108, 0, 0, 0, 1, 115, 1, 99, 106, 114, 0, 2, 119, 1, 97, 2, 0, 0, 0,
-        7, 0, 0, 0, 8, 101, 100, 0, 1, 97, 0, 0, 0, 7, 2,
-    ];
-    assert!(rt; check_term(&bytes).is_ok());
-    assert!(rt; again(|| decode(alloc, &bytes)).is_ok());
+    assert!(rt; check_term(EACH_KIND).is_ok());
+    assert!(rt; decoded(rt.alloc(), EACH_KIND).is_ok());
 }

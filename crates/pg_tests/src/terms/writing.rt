@@ -1,215 +1,234 @@
 //! Terms, the bytes that are written for them, and that these are read as the terms.
 
-use super::again;
-use crate::samples::{atom, pid, reference_term, repeated};
+use super::samples::{Sample, made};
+use super::{decoded, encoded};
 use bytes::BytesMut;
-use pg_term::{Atom, Items, Pid, Term, TermFault};
-use pg_term_io::{decode, encode, encode_into, encode_len};
+use pg_term::{Term, TermFault};
+use pg_term_io::{encode_into, encode_len};
 use std::alloc::Global;
 use std::process::Abort;
 use std::test::*;
 
+/// Whether the bytes are read as the term.
+pub fn spells(alloc: Global, bytes: &[u8], term: &Term) -> Result<bool, TermFault> {
+    match decoded(alloc, bytes) {
+        Ok(read) => {
+            let is_same = read == *term;
+            drop(read);
+            Ok(is_same)
+        }
+        Err(fault) => Err(fault),
+    }
+}
+
 // Whether the term is written as so many bytes, which begin with these, and is read from them again.
-pub fn begins(alloc: Global, term: &Term, len: usize, front: &[u8]) -> Result<bool, TermFault> {
-    let written = again(|| encode(alloc, term))?;
+fn term_begins(alloc: Global, term: &Term, len: usize, front: &[u8]) -> Result<bool, TermFault> {
+    let written = encoded(alloc, term)?;
     Ok(
         written.len() == len
-            && encode_len(term)? == len
+            && encode_len(term) == Ok(len)
             && written.as_slice().starts_with(front)
-            && again(|| decode(alloc, written.as_slice()))? == *term,
+            && spells(alloc, written.as_slice(), term)?,
     )
 }
 
-// Whether it is written as these bytes, and read from them again.
-fn is_written(alloc: Global, term: &Term, bytes: &[u8]) -> Result<bool, TermFault> {
-    begins(alloc, term, bytes.len(), bytes)
+fn begins(alloc: Global, sample: Sample, len: usize, front: &[u8]) -> Result<bool, TermFault> {
+    match made(alloc, sample) {
+        Ok(term) => {
+            let begins = term_begins(alloc, &term, len, front);
+            drop(term);
+            begins
+        }
+        Err(fault) => Err(fault),
+    }
+}
+
+/// The term of each row is written as so many bytes, which begin with these, and is read from them again.
+pub fn check_written(
+    rt: &impl Abort,
+    alloc: Global,
+    rows: &[(Sample, usize, &[u8])],
+) -> Result<(), Fail> {
+    for (sample, len, front) in rows {
+        assert!(rt; begins(alloc, *sample, *len, front)?, "{front:?}");
+    }
+    Ok(())
 }
 
 #[test]
 fn integers(rt: HostRuntime) -> Result<(), Fail> {
-    let rows: [(i64, &[u8]); 11] = [
-        (0, &[131, 97, 0]),
-        (5, &[131, 97, 5]),
-        (255, &[131, 97, 255]),
-        (256, &[131, 98, 0, 0, 1, 0]),
-        (-1, &[131, 98, 255, 255, 255, 255]),
-        (-2147483648, &[131, 98, 128, 0, 0, 0]),
-        (2147483648, &[131, 110, 4, 0, 0, 0, 0, 128]),
-        (-2147483649, &[131, 110, 4, 1, 1, 0, 0, 128]),
-        (4294967296, &[131, 110, 5, 0, 0, 0, 0, 0, 1]),
+    const ROWS: &[(Sample, usize, &[u8])] = &[
+        (Sample::Int(0), 3, &[131, 97, 0]),
+        (Sample::Int(5), 3, &[131, 97, 5]),
+        (Sample::Int(255), 3, &[131, 97, 255]),
+        (Sample::Int(256), 6, &[131, 98, 0, 0, 1, 0]),
+        (Sample::Int(-1), 6, &[131, 98, 255, 255, 255, 255]),
+        (Sample::Int(-2147483648), 6, &[131, 98, 128, 0, 0, 0]),
+        (Sample::Int(2147483648), 8, &[131, 110, 4, 0, 0, 0, 0, 128]),
+        (Sample::Int(-2147483649), 8, &[131, 110, 4, 1, 1, 0, 0, 128]),
+        (Sample::Int(4294967296), 9, &[131, 110, 5, 0, 0, 0, 0, 0, 1]),
         (
-            i64::MAX,
+            Sample::Int(i64::MAX),
+            12,
             &[131, 110, 8, 0, 255, 255, 255, 255, 255, 255, 255, 127],
         ),
-        (i64::MIN, &[131, 110, 8, 1, 0, 0, 0, 0, 0, 0, 0, 128]),
+        (
+            Sample::Int(i64::MIN),
+            12,
+            &[131, 110, 8, 1, 0, 0, 0, 0, 0, 0, 0, 128],
+        ),
     ];
-    for (number, bytes) in rows {
-        assert!(rt;
-            is_written(rt.alloc(), &Term::Int(number), bytes)?,
-            "{number}"
-        );
-    }
-    Ok(())
+    check_written(&rt, rt.alloc(), ROWS)
 }
 
 #[test]
 fn tuples(rt: HostRuntime) -> Result<(), Fail> {
-    let alloc = rt.alloc();
-    let rows: [(usize, usize, &[u8]); 3] = [
-        (0, 3, &[131, 104, 0]),
-        (255, 513, &[131, 104, 255, 97, 7]),
-        (256, 518, &[131, 105, 0, 0, 1, 0, 97, 7]),
+    const ROWS: &[(Sample, usize, &[u8])] = &[
+        (Sample::Tuple(0), 3, &[131, 104, 0]),
+        (Sample::Tuple(255), 513, &[131, 104, 255, 97, 7]),
+        (Sample::Tuple(256), 518, &[131, 105, 0, 0, 1, 0, 97, 7]),
     ];
-    for (count, len, front) in rows {
-        let term = crate::samples::tuple(again(|| repeated(alloc, 7, count))?);
-        assert!(rt; begins(alloc, &term, len, front)?, "{count}");
-    }
-    Ok(())
+    check_written(&rt, rt.alloc(), ROWS)
 }
 
 #[test]
 fn lists(rt: HostRuntime) -> Result<(), Fail> {
-    let alloc = rt.alloc();
-    let rows: [(usize, &[u8]); 3] = [
-        (0, &[131, 106]),
-        (1, &[131, 108, 0, 0, 0, 1, 97, 7, 106]),
-        (2, &[131, 108, 0, 0, 0, 2, 97, 7, 97, 7, 106]),
+    const ROWS: &[(Sample, usize, &[u8])] = &[
+        (Sample::List(0), 2, &[131, 106]),
+        (Sample::List(1), 9, &[131, 108, 0, 0, 0, 1, 97, 7, 106]),
+        (
+            Sample::List(2),
+            11,
+            &[131, 108, 0, 0, 0, 2, 97, 7, 97, 7, 106],
+        ),
     ];
-    for (count, bytes) in rows {
-        let term = crate::samples::list(again(|| repeated(alloc, 7, count))?);
-        assert!(rt; is_written(alloc, &term, bytes)?, "{count}");
-    }
-    Ok(())
+    check_written(&rt, rt.alloc(), ROWS)
 }
 
 #[test]
 fn atoms(rt: HostRuntime) -> Result<(), Fail> {
-    let alloc = rt.alloc();
-    let rows: [(&str, &[u8]); 2] = [("", &[131, 119, 0]), ("\u{e9}", &[131, 119, 2, 195, 169])];
-    for (name, bytes) in rows {
-        let term = again(|| atom(alloc, name))?;
-        assert!(rt; is_written(alloc, &term, bytes)?, "{name}");
-    }
-    Ok(())
-}
-
-// 255 times the character.
-fn long_atom(alloc: Global, character: char) -> Result<Term, TermFault> {
-    let mut text = String::new(alloc);
-    for _ in 0..255 {
-        text.push(character)?;
-    }
-    atom(alloc, text.as_str())
+    const ROWS: &[(Sample, usize, &[u8])] = &[
+        (Sample::Atom(""), 3, &[131, 119, 0]),
+        (Sample::Atom("\u{e9}"), 5, &[131, 119, 2, 195, 169]),
+    ];
+    check_written(&rt, rt.alloc(), ROWS)
 }
 
 #[test]
 fn long_atoms(rt: HostRuntime) -> Result<(), Fail> {
-    let alloc = rt.alloc();
-    let rows: [(char, usize, &[u8]); 3] = [
-        ('a', 258, &[131, 119, 255, 97]),
-        ('\u{e9}', 514, &[131, 118, 1, 254, 195, 169]),
-        ('\u{1f600}', 1024, &[131, 118, 3, 252, 240]),
+    const ROWS: &[(Sample, usize, &[u8])] = &[
+        (Sample::LongAtom('a'), 258, &[131, 119, 255, 97]),
+        (
+            Sample::LongAtom('\u{e9}'),
+            514,
+            &[131, 118, 1, 254, 195, 169],
+        ),
+        (
+            Sample::LongAtom('\u{1f600}'),
+            1024,
+            &[131, 118, 3, 252, 240],
+        ),
     ];
-    for (character, len, front) in rows {
-        let term = again(|| long_atom(alloc, character))?;
-        assert!(rt; begins(alloc, &term, len, front)?, "{len}");
-    }
-    Ok(())
-}
-
-fn pid_of(alloc: Global, creation: u32) -> Result<Term, TermFault> {
-    Ok(Term::Pid(Pid {
-        serial: 258,
-        creation,
-        ..pid(alloc, 1)?
-    }))
+    check_written(&rt, rt.alloc(), ROWS)
 }
 
 #[test]
 fn pids(rt: HostRuntime) -> Result<(), Fail> {
-    let alloc = rt.alloc();
-    for creation in [3, 0, 255, 256, u32::MAX] {
-        let term = again(|| pid_of(alloc, creation))?;
-        let front = [131, 88, 119, 1, 97, 0, 0, 0, 1, 0, 0, 1, 2];
-        assert!(rt; begins(alloc, &term, 17, &front)?, "{creation}");
-    }
-    let term = again(|| pid_of(alloc, 3))?;
-    let bytes = [131, 88, 119, 1, 97, 0, 0, 0, 1, 0, 0, 1, 2, 0, 0, 0, 3];
-    assert!(rt; is_written(alloc, &term, &bytes)?);
-    Ok(())
+    const FRONT: &[u8] = &[131, 88, 119, 1, 97, 0, 0, 0, 1, 0, 0, 1, 2];
+    const ROWS: &[(Sample, usize, &[u8])] = &[
+        (Sample::Pid(258, 3), 17, FRONT),
+        (Sample::Pid(258, 0), 17, FRONT),
+        (Sample::Pid(258, 255), 17, FRONT),
+        (Sample::Pid(258, 256), 17, FRONT),
+        (Sample::Pid(258, u32::MAX), 17, FRONT),
+        (
+            Sample::Pid(258, 3),
+            17,
+            &[131, 88, 119, 1, 97, 0, 0, 0, 1, 0, 0, 1, 2, 0, 0, 0, 3],
+        ),
+    ];
+    check_written(&rt, rt.alloc(), ROWS)
 }
 
 #[test]
 fn references(rt: HostRuntime) -> Result<(), Fail> {
-    let alloc = rt.alloc();
-    let rows: [(&[u32], usize, &[u8]); 4] = [
+    const ROWS: &[(Sample, usize, &[u8])] = &[
         (
-            &[7],
+            Sample::Reference(2, &[7]),
             15,
             &[131, 90, 0, 1, 119, 1, 97, 0, 0, 0, 2, 0, 0, 0, 7],
         ),
-        (&[0], 15, &[131, 90, 0, 1, 119]),
-        (&[1, u32::MAX], 19, &[131, 90, 0, 2, 119]),
-        (&[1, 2, 3], 23, &[131, 90, 0, 3, 119]),
+        (Sample::Reference(2, &[0]), 15, &[131, 90, 0, 1, 119]),
+        (
+            Sample::Reference(2, &[1, u32::MAX]),
+            19,
+            &[131, 90, 0, 2, 119],
+        ),
+        (Sample::Reference(2, &[1, 2, 3]), 23, &[131, 90, 0, 3, 119]),
     ];
-    for (words, len, front) in rows {
-        let term = again(|| reference_term(alloc, 2, words))?;
-        assert!(rt; begins(alloc, &term, len, front)?, "{len}");
-    }
-    Ok(())
-}
-
-fn binary(alloc: Global, bytes: &[u8]) -> Result<Term, TermFault> {
-    Ok(Term::Binary(Items::from_vec(bytes.to_vec(alloc)?)))
+    check_written(&rt, rt.alloc(), ROWS)
 }
 
 #[test]
 fn binaries(rt: HostRuntime) -> Result<(), Fail> {
-    let alloc = rt.alloc();
-    let rows: [(&[u8], &[u8]); 3] = [
-        (&[], &[131, 109, 0, 0, 0, 0]),
-        (&[1, 2], &[131, 109, 0, 0, 0, 2, 1, 2]),
-        (&[131, 0, 255], &[131, 109, 0, 0, 0, 3, 131, 0, 255]),
+    const ROWS: &[(Sample, usize, &[u8])] = &[
+        (Sample::Binary(&[]), 6, &[131, 109, 0, 0, 0, 0]),
+        (Sample::Binary(&[1, 2]), 8, &[131, 109, 0, 0, 0, 2, 1, 2]),
+        (
+            Sample::Binary(&[131, 0, 255]),
+            9,
+            &[131, 109, 0, 0, 0, 3, 131, 0, 255],
+        ),
     ];
-    for (content, bytes) in rows {
-        let term = again(|| binary(alloc, content))?;
-        assert!(rt; is_written(alloc, &term, bytes)?);
-    }
-    Ok(())
+    check_written(&rt, rt.alloc(), ROWS)
 }
 
-// Reads the bytes, and writes what they spell.
-fn rewritten(alloc: Global, bytes: &[u8]) -> Result<Vec<u8>, TermFault> {
-    let term = again(|| decode(alloc, bytes))?;
-    again(|| encode(alloc, &term))
+fn is_written_as(alloc: Global, term: &Term, bytes: &[u8]) -> Result<bool, TermFault> {
+    match encoded(alloc, term) {
+        Ok(written) => Ok(written.as_slice() == bytes),
+        Err(fault) => Err(fault),
+    }
 }
+
+// Whether what the bytes spell is written so.
+fn are_rewritten(alloc: Global, bytes: &[u8], written: &[u8]) -> Result<bool, TermFault> {
+    match decoded(alloc, bytes) {
+        Ok(term) => {
+            let is_written = is_written_as(alloc, &term, written);
+            drop(term);
+            is_written
+        }
+        Err(fault) => Err(fault),
+    }
+}
+
+const WIDE: [(&[u8], &[u8]); 4] = [
+    (
+        &[
+            131, 88, 119, 1, 97, 0, 0, 0, 1, 0, 0, 0, 0, 255, 255, 255, 255,
+        ],
+        &[
+            131, 88, 119, 1, 97, 0, 0, 0, 1, 0, 0, 0, 0, 255, 255, 255, 255,
+        ],
+    ),
+    (
+        &[131, 103, 119, 1, 97, 0, 0, 0, 1, 0, 0, 0, 0, 1],
+        &[131, 88, 119, 1, 97, 0, 0, 0, 1, 0, 0, 0, 0, 0, 0, 0, 1],
+    ),
+    (
+        &[131, 101, 100, 0, 1, 97, 0, 0, 0, 7, 2],
+        &[131, 90, 0, 1, 119, 1, 97, 0, 0, 0, 2, 0, 0, 0, 7],
+    ),
+    (
+        &[131, 114, 0, 1, 119, 1, 97, 2, 0, 0, 0, 7],
+        &[131, 90, 0, 1, 119, 1, 97, 0, 0, 0, 2, 0, 0, 0, 7],
+    ),
+];
 
 #[test]
 fn wide_creations_and_binaries(rt: HostRuntime) -> Result<(), Fail> {
-    let rows: [(&[u8], &[u8]); 4] = [
-        (
-            &[
-                131, 88, 119, 1, 97, 0, 0, 0, 1, 0, 0, 0, 0, 255, 255, 255, 255,
-            ],
-            &[
-                131, 88, 119, 1, 97, 0, 0, 0, 1, 0, 0, 0, 0, 255, 255, 255, 255,
-            ],
-        ),
-        (
-            &[131, 103, 119, 1, 97, 0, 0, 0, 1, 0, 0, 0, 0, 1],
-            &[131, 88, 119, 1, 97, 0, 0, 0, 1, 0, 0, 0, 0, 0, 0, 0, 1],
-        ),
-        (
-            &[131, 101, 100, 0, 1, 97, 0, 0, 0, 7, 2],
-            &[131, 90, 0, 1, 119, 1, 97, 0, 0, 0, 2, 0, 0, 0, 7],
-        ),
-        (
-            &[131, 114, 0, 1, 119, 1, 97, 2, 0, 0, 0, 7],
-            &[131, 90, 0, 1, 119, 1, 97, 0, 0, 0, 2, 0, 0, 0, 7],
-        ),
-    ];
-    for (read, written) in rows {
-        assert!(rt; rewritten(rt.alloc(), read)?.as_slice() == written);
+    for (read, written) in WIDE {
+        assert!(rt; are_rewritten(rt.alloc(), read, written)?);
     }
     Ok(())
 }
@@ -219,7 +238,7 @@ fn put(rt: &impl Abort, term: &Term, out: &mut BytesMut) -> Result<(), TermFault
     let len = out.len();
     match encode_into(term, out) {
         Err(TermFault::OutOfMemory) => {
-            assert_eq!(rt; out.len(), len);
+            assert!(rt; out.len() == len);
             encode_into(term, out)
         }
         other => other,
