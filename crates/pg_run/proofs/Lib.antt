@@ -1,4 +1,5 @@
 pub mod Acting
+pub mod Commands
 pub mod Following
 pub mod Fronts
 pub mod GoingOn

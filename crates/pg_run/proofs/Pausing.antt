@@ -1,13 +1,15 @@
--- Pauses that are over, as turns pass.
-use Rattle.std.proofs.Common.{◌≡◌, ◌≢◌, ◌∙◌, ◌⊎◌, ℕ, List, [], ◌∷◌, ◌++◌, refl, sym, ap, subst, inl, inr}
-use Rattle.std.specs.Prelude.{zero, suc, true, slice_get, slice_set, Option, Some, None}
-use Rattle.std.proofs.lemmas.Bool.{cases_eq}
+-- How commands wait, as turns pass.
+use Rattle.std.proofs.Common.{◌≡◌, ◌≢◌, ◌<◌, ◌≤◌, ◌∙◌, ℕ, cond, get_or, length, List, [], ◌∷◌, ◌++◌, refl, sym, ap, subst, arith}
+use Rattle.std.specs.List.{remove}
+use Rattle.std.specs.Prelude.{zero, suc, Bool, true, false, slice_get, slice_set, Option, Some, None, IfSome}
+use Rattle.std.proofs.lemmas.Option.{slice_get_read, slice_get-get_or}
 use Rattle.pg_run.specs.declared.pauses.Pause.{Pause}
-use Rattle.pg_run.specs.declared.pauses.Pauses.{Pauses}
-use Rattle.pg_run.specs.Pauses.{IsOver, is_over}
+use Rattle.pg_run.specs.declared.pauses.Wait.{Wait}
+use Rattle.pg_run.specs.declared.pauses.Wait.TheVariants.{Turns, Due, Tried}
+use Rattle.pg_run.specs.Pauses.{Passed, is_over, wait_in}
+use Rattle.pg_run.proofs.Commands.{same_is, same_itself}
 use Rattle.pg_step.specs.declared.command.OpId.{OpId}
-
--- ---- reading a list that changes at a place, or grows
+use Rattle.pg_step.specs.Attempts.{same_op}
 
 some_of : {A : Type 0} (x y : A) → Some x ≡ Some y → x ≡ y
 some_of x y e = ap (either x) e
@@ -16,60 +18,117 @@ some_of x y e = ap (either x) e
     either none None = none
     either none (Some z) = z
 
-get_set_other : {A : Type 0} (xs : List A) (k j : ℕ) (v : A) → j ≢ k → slice_get (slice_set xs k v) j ≡ slice_get xs j
-get_set_other [] k j v apart = refl
-get_set_other (x ∷ xs) zero zero v apart = absurd (apart refl)
-get_set_other (x ∷ xs) zero (suc j) v apart = refl
-get_set_other (x ∷ xs) (suc k) zero v apart = refl
-get_set_other (x ∷ xs) (suc k) (suc j) v apart = get_set_other xs k j v (λ e. apart (ap suc e))
+-- one pause of a list
+here : (op : OpId) (pause : Pause) (others : List Pause) → pause.op ≡ op → wait_in op (pause ∷ others) ≡ Some pause.wait
+here op pause others is = ap (λ b. cond b (Some pause.wait) (wait_in op others)) (subst (λ o. same_op o op ≡ true) (sym is) (same_itself op))
 
-get_set_same : {A : Type 0} (xs : List A) (k : ℕ) (v w : A) → slice_get (slice_set xs k v) k ≡ Some w → w ≡ v
-get_set_same [] k v w there = absurd (cc)
-get_set_same (x ∷ xs) zero v w there = some_of w v (sym there)
-get_set_same (x ∷ xs) (suc k) v w there = get_set_same xs k v w there
+elsewhere : (op : OpId) (pause : Pause) (others : List Pause) → pause.op ≢ op → wait_in op (pause ∷ others) ≡ wait_in op others
+elsewhere op pause others apart = go (same_op pause.op op) refl
+  where
+    go : (b : Bool) → same_op pause.op op ≡ b → cond b (Some pause.wait) (wait_in op others) ≡ wait_in op others
+    go true same = absurd (apart (same_is pause.op op same))
+    go false same = refl
 
-get_more : {A : Type 0} (xs ys : List A) (k : ℕ) (x : A) → slice_get xs k ≡ Some x → slice_get (xs ++ ys) k ≡ Some x
-get_more [] ys k x there = absurd (cc)
-get_more (z ∷ xs) ys zero x there = there
-get_more (z ∷ xs) ys (suc k) x there = get_more xs ys k x there
+-- ---- the command at a place, which is the first of it
 
-get_last : {A : Type 0} (xs : List A) (y x : A) (k : ℕ) → slice_get (xs ++ y ∷ []) k ≡ Some x → (slice_get xs k ≡ Some x) ⊎ (x ≡ y)
-get_last [] y x zero there = inr (some_of x y (sym there))
-get_last [] y x (suc k) there = absurd (cc)
-get_last (z ∷ xs) y x zero there = inl there
-get_last (z ∷ xs) y x (suc k) there = get_last xs y x k there
+pub waits_here : (op : OpId) (entries : List Pause) (place : ℕ) (pause : Pause) → slice_get entries place ≡ Some pause → pause.op ≡ op
+    → ((k : ℕ) (p : Pause) → k < place → slice_get entries k ≡ Some p → p.op ≢ op) → wait_in op entries ≡ Some pause.wait
+waits_here op [] place pause there is first = absurd (cc)
+waits_here op (p ∷ entries) zero pause there is first = ap (λ (x : Pause). wait_in op (x ∷ entries)) (some_of p pause there) ∙ here op pause entries is
+waits_here op (p ∷ entries) (suc place) pause there is first =
+    elsewhere op p entries (first 0 p (omega arith) refl) ∙ waits_here op entries place pause there is (λ k q low at. first (suc k) q (omega (arith, low)) at)
 
--- ---- pauses of other commands
+pub waits_set : (op : OpId) (entries : List Pause) (place : ℕ) (pause next : Pause) → slice_get entries place ≡ Some pause → next.op ≡ op
+    → ((k : ℕ) (p : Pause) → k < place → slice_get entries k ≡ Some p → p.op ≢ op) → wait_in op (slice_set entries place next) ≡ Some next.wait
+waits_set op [] place pause next there is first = absurd (cc)
+waits_set op (p ∷ entries) zero pause next there is first = here op next entries is
+waits_set op (p ∷ entries) (suc place) pause next there is first =
+    elsewhere op p (slice_set entries place next) (first 0 p (omega arith) refl) ∙ waits_set op entries place pause next there is (λ k q low at. first (suc k) q (omega (arith, low)) at)
 
--- the pause of one command changes
-pub over_set : (op : OpId) (place : ℕ) (pause : Pause) (a b : Pauses) → Some pause ≡ slice_get a.entries.items place → (next : Pause) → pause.op ≡ op → next.op ≡ op
-    → b.entries.items ≡ slice_set a.entries.items place next → (other : OpId) → other ≢ op → IsOver other a → IsOver other b
-over_set op place pause a b there next was is set other apart over = record {
-  place = over.place;
-  pause = over.pause;
-  there = ap (λ xs. slice_get xs over.place) set ∙ (get_set_other a.entries.items place over.place next away ∙ over.there);
-  of = over.of;
-  each = λ k p here of. go k p (sym (ap (λ xs. slice_get xs k) set) ∙ here) of (cases_eq k place);
+-- ---- no command of it
+
+pub waits_none : (op : OpId) (entries : List Pause) → ((k : ℕ) (p : Pause) → slice_get entries k ≡ Some p → p.op ≢ op) → wait_in op entries ≡ None
+waits_none op [] none = refl
+waits_none op (p ∷ entries) none = elsewhere op p entries (none 0 p refl) ∙ waits_none op entries (λ k q at. none (suc k) q at)
+
+pub waits_pushed : (op : OpId) (entries : List Pause) (next : Pause) → next.op ≡ op → ((k : ℕ) (p : Pause) → slice_get entries k ≡ Some p → p.op ≢ op)
+    → wait_in op (entries ++ next ∷ []) ≡ Some next.wait
+waits_pushed op [] next is none = here op next [] is
+waits_pushed op (p ∷ entries) next is none = elsewhere op p (entries ++ next ∷ []) (none 0 p refl) ∙ waits_pushed op entries next is (λ k q at. none (suc k) q at)
+
+-- one begins
+pub begins_there : (op : OpId) (entries : List Pause) (next : Pause) (turns : ℕ) → next.op ≡ op → ((k : ℕ) (p : Pause) → slice_get entries k ≡ Some p → p.op ≢ op)
+    → next.wait ≡ Turns turns → 1 ≤ turns → turns ≤ 4096 → Passed (wait_in op entries) false (wait_in op (entries ++ next ∷ []))
+begins_there op entries next turns is none wait least most =
+    subst (λ w. Passed w false (wait_in op (entries ++ next ∷ []))) (sym (waits_none op entries none))
+    (record { turns = turns; least = least; most = most; waits = waits_pushed op entries next is none ∙ ap Some wait; later = refl })
+
+-- ---- other commands
+
+pub others_set : (other : OpId) (entries : List Pause) (place : ℕ) (pause next : Pause) → slice_get entries place ≡ Some pause → pause.op ≢ other → next.op ≢ other
+    → wait_in other (slice_set entries place next) ≡ wait_in other entries
+others_set other [] place pause next there was is = refl
+others_set other (p ∷ entries) zero pause next there was is =
+    elsewhere other next entries is ∙ sym (elsewhere other p entries (λ e. was (sym (ap (λ (x : Pause). x.op) (some_of p pause there)) ∙ e)))
+others_set other (p ∷ entries) (suc place) pause next there was is =
+    ap (λ w. cond (same_op p.op other) (Some p.wait) w) (others_set other entries place pause next there was is)
+
+pub others_pushed : (other : OpId) (entries : List Pause) (next : Pause) → next.op ≢ other → wait_in other (entries ++ next ∷ []) ≡ wait_in other entries
+others_pushed other [] next is = elsewhere other next [] is
+others_pushed other (p ∷ entries) next is = ap (λ w. cond (same_op p.op other) (Some p.wait) w) (others_pushed other entries next is)
+
+pub others_removed : (other : OpId) (entries : List Pause) (place : ℕ) (pause : Pause) → slice_get entries place ≡ Some pause → pause.op ≢ other → wait_in other (remove entries place) ≡ wait_in other entries
+others_removed other [] place pause there was = absurd (cc)
+others_removed other (p ∷ entries) zero pause there was = sym (elsewhere other p entries (λ e. was (sym (ap (λ (x : Pause). x.op) (some_of p pause there)) ∙ e)))
+others_removed other (p ∷ entries) (suc place) pause there was = ap (λ w. cond (same_op p.op other) (Some p.wait) w) (others_removed other entries place pause there was)
+
+-- the pause at a place changes
+pub record Changes (op : OpId) (entries entries2 : List Pause) (pause next : Pause) : Type 0 where
+  pub was : wait_in op entries ≡ Some pause.wait
+  pub is : wait_in op entries2 ≡ Some next.wait
+  pub others : (other : OpId) → other ≢ op → wait_in other entries2 ≡ wait_in other entries
+
+pub changes : (op : OpId) (entries : List Pause) (place : ℕ) (pause next : Pause) → place < length entries → pause ≡ get_or entries place pause → IfSome (slice_get entries place) (λ p. p.op ≡ op)
+    → next.op ≡ pause.op → ((k : ℕ) (p : Pause) → k < place → slice_get entries k ≡ Some p → p.op ≢ op) → Changes op entries (slice_set entries place next) pause next
+changes op entries place pause next within at some kept first = record {
+  was = waits_here op entries place pause there of first;
+  is = waits_set op entries place pause next there (kept ∙ of) first;
+  others = λ other apart. others_set other entries place pause next there (λ e. apart (sym e ∙ of)) (λ e. apart (sym e ∙ (kept ∙ of)));
 }
   where
-    away : over.place ≢ place
-    away e = apart (sym over.of ∙ (ap (λ (x : Pause). x.op) (some_of over.pause pause (sym over.there ∙ (ap (slice_get a.entries.items) e ∙ sym there))) ∙ was))
+    there : slice_get entries place ≡ Some pause
+    there = slice_get_read entries (length entries) place pause refl within at
 
-    go : (k : ℕ) (p : Pause) → slice_get (slice_set a.entries.items place next) k ≡ Some p → p.op ≡ other → (k ≡ place) ⊎ (k ≢ place) → is_over p.wait ≡ true
-    go k p here of (inl e) =
-        absurd (apart (sym of ∙ (ap (λ (x : Pause). x.op) (get_set_same a.entries.items place next p (subst (λ j. slice_get (slice_set a.entries.items place next) j ≡ Some p) e here)) ∙ is)))
-    go k p here of (inr far) = over.each k p (sym (get_set_other a.entries.items place k next far) ∙ here) of
+    of : pause.op ≡ op
+    of = subst {A = Option Pause} (λ o. IfSome o (λ p. p.op ≡ op)) there some
 
--- the pause of one more command begins
-pub over_push : (op : OpId) (next : Pause) (a b : Pauses) → next.op ≡ op → b.entries.items ≡ a.entries.items ++ next ∷ [] → (other : OpId) → other ≢ op → IsOver other a → IsOver other b
-over_push op next a b is more other apart over = record {
-  place = over.place;
-  pause = over.pause;
-  there = ap (λ xs. slice_get xs over.place) more ∙ get_more a.entries.items (next ∷ []) over.place over.pause over.there;
-  of = over.of;
-  each = λ k p here of. go k p of (get_last a.entries.items next p k (sym (ap (λ xs. slice_get xs k) more) ∙ here));
-}
-  where
-    go : (k : ℕ) (p : Pause) → p.op ≡ other → (slice_get a.entries.items k ≡ Some p) ⊎ (p ≡ next) → is_over p.wait ≡ true
-    go k p of (inl here) = over.each k p here of
-    go k p of (inr e) = absurd (apart (sym of ∙ (ap (λ (x : Pause). x.op) e ∙ is)))
+-- it goes
+pub forgets : (op : OpId) (entries : List Pause) (place : ℕ) → place < length entries → IfSome (slice_get entries place) (λ p. p.op ≡ op)
+    → (other : OpId) → other ≢ op → wait_in other (remove entries place) ≡ wait_in other entries
+forgets op [] place within some other apart = absurd (omega (arith, within))
+forgets op (p ∷ entries) place within some other apart =
+    let there = slice_get-get_or (p ∷ entries) place p within in
+    others_removed other (p ∷ entries) place _ there (λ e. apart (sym e ∙ subst {A = Option Pause} (λ o. IfSome o (λ q. q.op ≡ op)) there some))
+
+-- a command that is there waits
+pub waits_there : (op : OpId) (entries : List Pause) (place : ℕ) → place < length entries → IfSome (slice_get entries place) (λ p. p.op ≡ op)
+    → ((k : ℕ) (p : Pause) → k < place → slice_get entries k ≡ Some p → p.op ≢ op) → wait_in op entries ≡ None → ⊥
+waits_there op [] place within some first none = absurd (omega (arith, within))
+waits_there op (p ∷ entries) place within some first none =
+    let there = slice_get-get_or (p ∷ entries) place p within in
+    let waits = sym (waits_here op (p ∷ entries) place _ there (subst {A = Option Pause} (λ o. IfSome o (λ q. q.op ≡ op)) there some) first) ∙ none in
+    absurd (cc)
+
+pub passes_there : (op : OpId) (entries entries2 : List Pause) (pause next : Pause) (due : Bool) → Changes op entries entries2 pause next → Passed (Some pause.wait) due (Some next.wait)
+    → Passed (wait_in op entries) due (wait_in op entries2)
+passes_there op entries entries2 pause next due changed passed =
+    subst (λ w. Passed w due (wait_in op entries2)) (sym changed.was) (subst (λ w. Passed (Some pause.wait) due w) (sym changed.is) passed)
+
+-- ---- what passed
+
+-- a command whose pause is over is due
+pub due_when_over : (before : Option Wait) (due : Bool) (after : Option Wait) → Passed before due after → is_over before ≡ true → due ≡ true
+due_when_over (Some (Turns left)) due after passed over = passed.0 ∙ over
+due_when_over (Some Due) due after passed over = passed.0
+due_when_over (Some Tried) due after passed over = absurd (cc)
+due_when_over None due after passed over = absurd (cc)

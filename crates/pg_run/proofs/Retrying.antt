@@ -1,8 +1,8 @@
 -- Commands that wait, one tried after another.
 use Rattle.std.proofs.Common.{◌≡◌, ◌≢◌, ◌<◌, ◌≤◌, ◌+◌, ◌∙◌, ◌⊎◌, ℕ, cond, List, [], ◌∷◌, ◌++◌, refl, sym, ap, subst, inl, inr, arith}
-use Rattle.std.specs.Prelude.{suc, Bool, true, false, nat_eq, nat_lt, slice_get, Option, Some, None, Result, Ok, Err, IfErr, ◌||◌, ◌&&◌}
+use Rattle.std.specs.Prelude.{suc, Bool, true, false, nat_lt, slice_get, Option, Some, None, Result, Ok, Err, IfErr, ◌||◌}
 use Rattle.std.specs.List.{list_any}
-use Rattle.std.proofs.lemmas.Bool.{cases_eq, eqb-true, le-ltb}
+use Rattle.std.proofs.lemmas.Bool.{cases_eq, le-ltb}
 use Rattle.pg_group.specs.declared.table.GroupTable.{Ghosts}
 use Rattle.pg_node.specs.declared.state.fault.NodeFault.{NodeFault}
 use Rattle.pg_node.specs.declared.state.fault.NodeFault.TheVariants.{Refused}
@@ -13,9 +13,10 @@ use Rattle.pg_run.specs.declared.pauses.Pauses.{Pauses}
 use Rattle.pg_run.specs.Acts.{Did}
 use Rattle.pg_run.specs.Events.{Acted, IsRefusedAs, told_of_action}
 use Rattle.pg_run.specs.Follows.{node_of}
-use Rattle.pg_run.specs.Pauses.{IsOver}
+use Rattle.pg_run.specs.Pauses.{IsOver, is_over, wait_of}
 use Rattle.pg_run.specs.Tries.{ComesTo, HasRetried, HasRetriedAll, IsNoWant, waits_at}
 use Rattle.pg_run.specs.Turns.{GoesOn}
+use Rattle.pg_run.proofs.Commands.{same_is, one_or_other}
 use Rattle.pg_run.proofs.Following.{follows_itself}
 use Rattle.pg_run.proofs.Trying.{stays, comes_on}
 use Rattle.pg_step.specs.declared.command.OpId.{OpId}
@@ -24,30 +25,6 @@ use Rattle.pg_step.specs.declared.refusal.Refusal.TheVariants.{NoSuchPlace}
 use Rattle.pg_step.specs.Attempts.{same_op}
 use Rattle.pg_step.specs.Step.{Retry, timed}
 use Rattle.pg_step.specs.Turns.{NodeTurn}
-
--- ---- commands
-
-first_true : (b c : Bool) → (b && c) ≡ true → b ≡ true
-first_true true c e = refl
-first_true false c e = e
-
-second_true : (b c : Bool) → (b && c) ≡ true → c ≡ true
-second_true true c e = e
-second_true false c e = absurd (cc)
-
-same_is : (a b : OpId) → same_op a b ≡ true → a ≡ b
-same_is a b e = λ i. record {
-  port = eqb-true a.port b.port (first_true (nat_eq a.port b.port) (nat_eq a.number b.number) e) i;
-  number = eqb-true a.number b.number (second_true (nat_eq a.port b.port) (nat_eq a.number b.number) e) i;
-}
-
-one_or_other : (a b : OpId) → (a ≡ b) ⊎ (a ≢ b)
-one_or_other a b = go (cases_eq a.port b.port) (cases_eq a.number b.number)
-  where
-    go : (a.port ≡ b.port) ⊎ (a.port ≢ b.port) → (a.number ≡ b.number) ⊎ (a.number ≢ b.number) → (a ≡ b) ⊎ (a ≢ b)
-    go (inl p) (inl n) = inl (λ i. record { port = p i; number = n i })
-    go (inr p) n = inr (λ e. p (ap (λ (op : OpId). op.port) e))
-    go (inl p) (inr n) = inr (λ e. n (ap (λ (op : OpId). op.number) e))
 
 -- what is told where the port of a command is not there
 told_nowhere : (there : Bool) (clock : ℕ) (made : Result NodeTurn Refusal) → there ≡ false → IsRefusedAs (timed clock (cond there made (Err NoSuchPlace))) (Refused NoSuchPlace)
@@ -149,7 +126,7 @@ module _ {T L I : Type 0} {g : Ghosts T} (accepts : L → List ℕ → L → Typ
   pub retried_next : (ops : List OpId) (place : ℕ) (op : OpId) (before here both : Bool) (p q r : Pauses) (a b c : LinkedNode T L I g) → slice_get ops place ≡ Some op
       → (both ≡ true → before ≡ true) → (both ≡ true → here ≡ true) → RetriedBelow accepts gives ops place before p q a b
       → GoesOn accepts gives a c → GoesOn accepts gives b c → (here ≡ true → IsOver op q → HasRetried accepts gives op b c)
-      → ((other : OpId) → other ≢ op → IsOver other q → IsOver other r) → RetriedBelow accepts gives ops (place + 1) both p r a c
+      → ((other : OpId) → other ≢ op → wait_of r other ≡ wait_of q other) → RetriedBelow accepts gives ops (place + 1) both p r a c
   retried_next ops place op before here both p q r a b c at first second was goes step tried others = record {
     goes = goes;
     tried = λ is k o low there over. by_place is k o low there over (cases_eq k place);
@@ -175,7 +152,7 @@ module _ {T L I : Type 0} {g : Ghosts T} (accepts : L → List ℕ → L → Typ
 
       by_op : both ≡ true → (o : OpId) → IsOver o q ⊎ HasRetried accepts gives o a b → (o ≡ op) ⊎ (o ≢ op) → IsOver o r ⊎ HasRetried accepts gives o a c
       by_op is o (inr retried) same = inr (later o retried)
-      by_op is o (inl over) (inr apart) = inl (others o apart over)
+      by_op is o (inl over) (inr apart) = inl (ap is_over (others o apart) ∙ over)
       by_op is o (inl over) (inl same) = inr (subst (λ x. HasRetried accepts gives x a c) (sym same) (now is (inl (subst (λ x. IsOver x q) same over))))
 
   -- ---- all that wait

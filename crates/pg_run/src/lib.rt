@@ -19,6 +19,7 @@ mod serving;
 pub use linked::{LinkedNode, Peer};
 pub use log::{LogEntry, NodeEvent};
 pub use notices::{NOTICE_PLACES, Notice};
+pub use pauses::Pauses;
 pub use port::{Asked, Client, PORT_PLACES, Port};
 pub use ports::{port_pair, ports_together};
 pub use run::{NodeRun, Turned};

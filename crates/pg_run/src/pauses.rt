@@ -1,8 +1,9 @@
 //! How long commands that were refused the lock wait until they are tried again.
 
-ghost use Rattle.std.specs.Prelude.{◌≡◌, ◌≢◌, ◌<◌, ◌≤◌, ℕ, true, length, slice_get, Some, IfOk, IfSome, IfNone};
+ghost use Rattle.std.specs.Prelude.{◌≡◌, ◌≢◌, ◌<◌, ◌≤◌, ℕ, length, slice_get, Some, None, IfOk, IfSome, IfNone, OnErr};
 ghost use Rattle.pg_run.specs.declared.pauses.Pause.{Pause};
-ghost use Rattle.pg_run.specs.Pauses.{IsOver, is_over};
+ghost use Rattle.pg_run.specs.declared.pauses.Wait.TheVariants.{Tried};
+ghost use Rattle.pg_run.specs.Pauses.{Passed, wait_of};
 ghost use Rattle.pg_step.specs.declared.command.OpId.{OpId};
 
 use pg_step::OpId;
@@ -30,7 +31,7 @@ pub(crate) struct Pause {
 
 /// The pauses of commands that were refused.
 #[derive(Debug, Drop)]
-pub(crate) struct Pauses {
+pub struct Pauses {
     pub(crate) entries: Vec<Pause>,
 }
 
@@ -48,18 +49,22 @@ fn pause_after<K: Rng>(refused: u32, generator: &mut K) -> u32
 
 impl Pauses {
     /// No pause. It takes no memory.
-    pub(crate) fn new(alloc: Global) -> Pauses {
+    pub fn new(alloc: Global) -> Pauses
+        ensures { (op : OpId) → wait_of result op ≡ None }
+    {
         Pauses {
             entries: Vec::new(alloc),
         }
     }
 
-    /// A turn passes for a command that waits; whether it is due to be tried. It is where its pause is over by this turn.
+    /// A turn passes for a command that waits; whether it is due to be tried. Its pause is a turn shorter then, or over, by which it is
+    /// due; where it has none, as where it was tried since, one begins, of 1 to 4,096 turns.
     ///
     /// Error: `AllocError`, by which no turn passes.
-    pub(crate) fn pass<K: Rng>(&mut self, op: OpId, generator: &mut K) -> Result<bool, AllocError>
-        ensures due { IfOk result (λ due. IsOver op self.old → due ≡ true) }
-        ensures others { (other : OpId) → other ≢ op → IsOver other self.old → IsOver other self.new }
+    pub fn pass<K: Rng>(&mut self, op: OpId, generator: &mut K) -> Result<bool, AllocError>
+        ensures passed { IfOk result (λ due. Passed (wait_of self.old op) due (wait_of self.new op)) }
+        ensures err { OnErr result (wait_of self.new op ≡ wait_of self.old op) }
+        ensures others { (other : OpId) → other ≢ op → wait_of self.new other ≡ wait_of self.old other }
     {
         match self.place_of(op) {
             Some(place) => {
@@ -78,26 +83,38 @@ impl Pauses {
         }
     }
 
-    /// A command was tried. It takes no memory.
-    pub(crate) fn tried(&mut self, op: OpId)
-        ensures { (other : OpId) → other ≢ op → IsOver other self.old → IsOver other self.new }
+    /// A command was tried: where it had a pause it has none. It takes no memory.
+    pub fn tried(&mut self, op: OpId)
+        ensures tried { wait_of self.old op ≢ None → wait_of self.new op ≡ Some Tried }
+        ensures none { wait_of self.old op ≡ None → wait_of self.new op ≡ None }
+        ensures others { (other : OpId) → other ≢ op → wait_of self.new other ≡ wait_of self.old other }
     {
-        if let Some(place) = self.place_of(op) {
-            let pause = &mut self.entries[place];
-            pause.wait = Wait::Tried;
+        match self.place_of(op) {
+            Some(place) => {
+                let pause = &mut self.entries[place];
+                pause.wait = Wait::Tried;
+            }
+            None => {}
         }
     }
 
-    /// A command was answered. It takes no memory.
-    pub(crate) fn forget(&mut self, op: OpId) {
-        if let Some(place) = self.place_of(op) {
-            self.entries.swap_remove(place);
+    /// A command was answered. It takes no memory: O(n) in the commands that have a pause.
+    pub fn forget(&mut self, op: OpId)
+        ensures none { wait_of self.old op ≡ None → wait_of self.new op ≡ None }
+        ensures others { (other : OpId) → other ≢ op → wait_of self.new other ≡ wait_of self.old other }
+    {
+        match self.place_of(op) {
+            Some(place) => {
+                self.entries.remove(place);
+            }
+            None => {}
         }
     }
 
     /// The place of the pause of a command, if it has one.
     fn place_of(&self, op: OpId) -> Option<usize>
         ensures within { IfSome result (λ place. place < length self.now.entries.items) }
+        ensures first { IfSome result (λ place. (k : ℕ) (pause : Pause) → k < place → slice_get self.now.entries.items k ≡ Some pause → pause.op ≢ op) }
         ensures some { IfSome result (λ place. IfSome (slice_get self.now.entries.items place) (λ pause. pause.op ≡ op)) }
         ensures none { IfNone result ((k : ℕ) (pause : Pause) → slice_get self.now.entries.items k ≡ Some pause → pause.op ≢ op) }
     {
@@ -114,7 +131,7 @@ impl Pause {
     /// A turn passes; whether the command is due. It takes no memory.
     fn pass<K: Rng>(&mut self, generator: &mut K) -> bool
         ensures op { self.new.op ≡ self.old.op }
-        ensures over { is_over self.old.wait ≡ true → result ≡ true }
+        ensures passed { Passed (Some self.old.wait) result (Some self.new.wait) }
     {
         match self.wait {
             Wait::Turns(left) if left > 1 => {

@@ -1,7 +1,7 @@
 //! The phase of a turn in which commands that wait are tried again.
 
 ghost use Rattle.std.specs.Prelude.{◌≡◌, ◌≢◌, true, ℕ, slice_get, Some, IfOk};
-ghost use Rattle.pg_run.specs.Pauses.{IsOver};
+ghost use Rattle.pg_run.specs.Pauses.{IsOver, wait_of};
 ghost use Rattle.pg_run.specs.Tries.{HasRetried, HasRetriedAll};
 ghost use Rattle.pg_run.specs.Turns.{GoesOn};
 ghost use Rattle.pg_step.specs.declared.command.OpId.{OpId};
@@ -62,7 +62,7 @@ fn retry_when_due<T: GroupTable + Drop, L: Link + Drop, I: Inlet + Drop, K: Rng>
 ) -> Phase
     ensures goes { GoesOn L.accepts I.gives linked.old linked.new }
     ensures tried { result.whole ≡ true → IsOver op pauses.old → HasRetried L.accepts I.gives op linked.old linked.new }
-    ensures others { (other : OpId) → other ≢ op → IsOver other pauses.old → IsOver other pauses.new }
+    ensures others { (other : OpId) → other ≢ op → wait_of pauses.new other ≡ wait_of pauses.old other }
 {
     if at_once {
         return retry_of(linked, pauses, op);
@@ -82,7 +82,7 @@ fn retry_of<T: GroupTable + Drop, L: Link + Drop, I: Inlet + Drop>(
 ) -> Phase
     ensures goes { GoesOn L.accepts I.gives linked.old linked.new }
     ensures tried { result.whole ≡ true → HasRetried L.accepts I.gives op linked.old linked.new }
-    ensures others { (other : OpId) → other ≢ op → IsOver other pauses.old → IsOver other pauses.new }
+    ensures others { (other : OpId) → other ≢ op → wait_of pauses.new other ≡ wait_of pauses.old other }
 {
     if usize::from(op.port) >= linked.node().state().port_count() {
         return Phase::idle();
