@@ -1,6 +1,7 @@
 //! From the text of a script to the script.
 
 ghost use Rattle.std.specs.Prelude.{◌≡◌, ◌≢◌, ◌<◌, ◌∷◌, ◌++◌, [], List, ℕ, length, is_some, option_map, unwrap_or, true, false, Some, None, Ok, Err, IfOk, IfErr, OnOk, OnErr};
+ghost use Rattle.pg_lines.specs.declared.line.Line.TheVariants.{Pair, At};
 ghost use Rattle.pg_script.specs.declared.fault.LineFault.TheVariants.{BadLine, UnknownNode, LateDeclaration, OutOfMemory};
 ghost use Rattle.pg_script.specs.declared.reading.TheConstants.{DEFAULT_RING};
 ghost use Rattle.pg_script.specs.Scripts.{act_said, change_at, contents_of, draft_of, has_said, is_skipped, line_said, lines_in, lines_of_rest, node_said, pair_of, place_of, ring_said, script_of, text_said, with_group, IsPlaced};
@@ -8,7 +9,7 @@ ghost use Rattle.pg_script.specs.Scripts.{act_said, change_at, contents_of, draf
 use crate::act::{Act, node_act, pair_act};
 use crate::fault::{LineFault, ScriptFault};
 use crate::script::{Script, ScriptLine};
-use pg_lines::{Line, read_line};
+use pg_lines::{Line, NodeForm, PairForm, read_line};
 use pg_step::Start;
 use pg_term::{Atom, Items, Pid, Term};
 use pg_world::Config;
@@ -79,16 +80,43 @@ impl Reading {
                 first,
                 second,
                 form,
-            } => {
-                let (first, second) = self.pair(&first, &second)?;
-                self.add_act(number, pair_act(first, second, form))
-            }
-            Line::At { node, form } => {
-                let node = self.place(&node)?;
-                self.add_act(number, node_act(node, form))
-            }
+            } => self.add_pair(number, &first, &second, form),
+            Line::At { node, form } => self.add_at(number, &node, form),
             Line::Settle(rounds) => self.add_act(number, Act::Settle(rounds)),
             Line::History(group) => self.add_act(number, Act::History(group)),
+        }
+    }
+
+    /// Adds a line about two nodes.
+    fn add_pair(
+        &mut self,
+        number: usize,
+        first: &Atom,
+        second: &Atom,
+        form: PairForm,
+    ) -> Result<(), LineFault>
+        requires { IsPlaced self.old }
+        ensures ok { OnOk result (line_said (draft_of self.old) number (Pair first.now second.now form) ≡ Ok (draft_of self.new)) }
+        ensures err { IfErr result (λ fault. fault ≢ OutOfMemory → line_said (draft_of self.old) number (Pair first.now second.now form) ≡ Err fault) }
+        ensures placed { OnOk result (IsPlaced self.new) }
+    {
+        let (first, second) = self.pair(first, second)?;
+        self.add_act(number, pair_act(first, second, form))
+    }
+
+    /// Adds a line about one node.
+    fn add_at(&mut self, number: usize, node: &Atom, form: NodeForm) -> Result<(), LineFault>
+        requires { IsPlaced self.old }
+        ensures ok { OnOk result (line_said (draft_of self.old) number (At node.now form) ≡ Ok (draft_of self.new)) }
+        ensures err { IfErr result (λ fault. fault ≢ OutOfMemory → line_said (draft_of self.old) number (At node.now form) ≡ Err fault) }
+        ensures placed { OnOk result (IsPlaced self.new) }
+    {
+        match self.place(node) {
+            Ok(place) => self.add_act(number, node_act(place, form)),
+            Err(fault) => {
+                drop(form);
+                Err(fault)
+            }
         }
     }
 

@@ -18,7 +18,7 @@ use pg_lines::{print_answer, print_lock, print_outbox, print_refused};
 use pg_node::{NodeFault, Sink};
 use pg_step::{Answer, Start};
 use pg_term::{Atom, Term};
-use pg_trace::{Columns, Watch};
+use pg_trace::{Columns, Sight, Watch};
 use pg_world::World;
 use std::alloc::{AllocError, Global};
 
@@ -58,18 +58,22 @@ impl Run<'_> {
         match act {
             Act::Step(step) => Ok(self.stage.step(step, false)?.err()),
             Act::Settle(rounds) => self.settle(*rounds),
-            Act::Lock { node, group } => {
-                self.print_lock(*node, group)?;
+            other => {
+                self.print_own(other)?;
                 Ok(None)
             }
-            Act::Outbox { from, to } => {
-                self.print_outbox(*from, *to)?;
-                Ok(None)
-            }
+        }
+    }
+
+    /// What a line prints by itself.
+    fn print_own(&mut self, act: &Act) -> Result<(), AllocError> {
+        match act {
+            Act::Step(_) | Act::Settle(_) => Ok(()),
+            Act::Lock { node, group } => self.print_lock(*node, group),
+            Act::Outbox { from, to } => self.print_outbox(*from, *to),
             Act::History(group) => {
                 let (entries, last) = self.stage.world.history(group);
-                print_history(&mut self.out, entries, last)?;
-                Ok(None)
+                print_history(&mut self.out, entries, last)
             }
         }
     }
@@ -90,9 +94,7 @@ impl Run<'_> {
             return Ok(());
         };
         if let Some(new) = watch.sights.get(self.told..) {
-            for sight in new {
-                columns.print(&mut self.out, watch, sight)?;
-            }
+            print_seen(&mut self.out, columns, watch, new)?;
         }
         self.told = watch.sights.len();
         Ok(())
@@ -147,6 +149,19 @@ impl Run<'_> {
     }
 }
 
+/// Prints sights of a watch, one after another.
+fn print_seen(
+    out: &mut String,
+    columns: &Columns,
+    watch: &Watch,
+    sights: &[Sight],
+) -> Result<(), AllocError> {
+    for sight in sights {
+        columns.print(out, watch, sight)?;
+    }
+    Ok(())
+}
+
 /// Prints answers of a node, one after another.
 fn print_all(out: &mut String, node: &Atom, answers: &[Answer]) -> Result<(), AllocError>
     ensures { OnOk result (Adds (answer_lines node.now answers.now) (string_bytes out.old) (string_bytes out.new)) }
@@ -197,7 +212,9 @@ pub fn run_script<W: Sink>(alloc: Global, script: &Script, writer: &mut W) -> Re
     match begun(alloc, script) {
         Ok(begun) => {
             let mut run = begun;
-            run_lines(&mut run, script.lines.as_slice(), writer)
+            let ended = run_lines(&mut run, script.lines.as_slice(), writer);
+            drop(run);
+            ended
         }
         Err(fault) => Err(fault),
     }
@@ -221,7 +238,9 @@ pub fn watch_script<W: Sink>(
     match begun(alloc, script) {
         Ok(begun) => {
             let mut run = begun;
-            run_watched(&mut run, script.lines.as_slice(), is_told, writer)
+            let watched = run_watched(&mut run, script.lines.as_slice(), is_told, writer);
+            drop(run);
+            watched
         }
         Err(fault) => Err(fault),
     }
@@ -272,17 +291,29 @@ impl Run<'_> {
     /// Watches the run, which has these lines, from now on. `is_told`: what is seen is printed, that of the begin now.
     fn watch(&mut self, lines: &[ScriptLine], is_told: bool) -> Result<(), AllocError> {
         let watch = Watch::new(self.alloc, self.starts, &self.stage.world)?;
+        drop(self.stage.watch.replace(watch));
         if is_told {
-            let last_line = match lines.last() {
-                Some(line) => line.number,
-                None => 0,
-            };
-            let columns = Columns::new(self.alloc, &watch, last_line);
-            columns.print_head(&mut self.out)?;
-            self.columns = Some(columns);
+            self.print_head(lines)?;
         }
-        self.stage.watch = Some(watch);
         self.print_sights()
+    }
+
+    /// Prints the names of the columns, which are told from now on.
+    fn print_head(&mut self, lines: &[ScriptLine]) -> Result<(), AllocError> {
+        let Some(watch) = &self.stage.watch else {
+            return Ok(());
+        };
+        let columns = Columns::new(self.alloc, watch, last_line(lines));
+        self.columns = Some(columns);
+        columns.print_head(&mut self.out)
+    }
+}
+
+/// The number of the last of these lines.
+fn last_line(lines: &[ScriptLine]) -> usize {
+    match lines.last() {
+        Some(line) => line.number,
+        None => 0,
     }
 }
 
