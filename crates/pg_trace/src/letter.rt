@@ -6,7 +6,7 @@ ghost use Rattle.pg_trace.specs.Topics.{topic_of};
 use crate::texts::{reference_text, term_text};
 use pg_diagram::Topic;
 use pg_frame::Deframer;
-use pg_message::{Message, Request, Said, read_packet};
+use pg_message::{Message, Packet, Request, Said, read_packet};
 use pg_term::Term;
 use pg_term_io::decode;
 use pg_text::write_term;
@@ -64,19 +64,41 @@ fn asked_of(alloc: Global, message: &Message) -> Result<Option<Asked>, AllocErro
 
 /// The packet whose body this is, from one node to another.
 fn letter_of(alloc: Global, from: usize, to: usize, body: &[u8]) -> Result<Letter, AllocError> {
-    let text = message_text(alloc, body)?;
     match read_packet(alloc, body) {
-        Ok(packet) => Ok(Letter {
-            from,
-            to,
-            stamp: packet.stamp,
-            topic: topic_of(&packet.message),
-            text,
-            asks: asked_of(alloc, &packet.message)?,
-            denies: matches!(&packet.message, Message::Reply(_, Said::Denied)),
-        }),
+        Ok(packet) => {
+            let letter = letter_with(alloc, from, to, &packet, body);
+            // By a call: its forms are not written out here.
+            drop(packet);
+            letter
+        }
         Err(_) => Err(AllocError),
     }
+}
+
+/// The letter of a packet, whose body this is.
+fn letter_with(
+    alloc: Global,
+    from: usize,
+    to: usize,
+    packet: &Packet,
+    body: &[u8],
+) -> Result<Letter, AllocError> {
+    let text = message_text(alloc, body)?;
+    let asks = asked_of(alloc, &packet.message)?;
+    Ok(Letter {
+        from,
+        to,
+        stamp: packet.stamp,
+        topic: topic_of(&packet.message),
+        text,
+        asks,
+        denies: is_denial(&packet.message),
+    })
+}
+
+/// Whether a message denies a lock.
+fn is_denial(message: &Message) -> bool {
+    matches!(message, Message::Reply(_, Said::Denied))
 }
 
 /// The text of the message of the packet whose body this is: the second part of its tuple.
