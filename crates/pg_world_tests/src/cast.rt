@@ -80,18 +80,26 @@ fn groups(
 ) -> Result<Items<(Term, Items<Pid>)>, TermFault> {
     let mut told = Vec::new(alloc);
     for (group, processes) in groups {
-        told.push((group_name(*group), members(alloc, processes)?))?;
+        let members = members(alloc, processes)?;
+        told.push((group_name(*group), members))?;
     }
     Ok(Items::from_vec(told))
 }
 
 fn start(alloc: Global, place: usize, begun: &Begun<'_>) -> Result<Start, TermFault> {
-    Ok(Start {
-        name: Atom::new(alloc, node_name(place))?,
-        made: begun.0,
-        ports: 1,
-        groups: groups(alloc, begun.1)?,
-    })
+    let name = Atom::new(alloc, node_name(place))?;
+    match groups(alloc, begun.1) {
+        Ok(groups) => Ok(Start {
+            name,
+            made: begun.0,
+            ports: 1,
+            groups,
+        }),
+        Err(fault) => {
+            drop(name);
+            Err(fault)
+        }
+    }
 }
 
 /// The configuration of nodes of one port that start so, with rings of this capacity.

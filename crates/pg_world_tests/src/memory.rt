@@ -17,16 +17,6 @@ use std::alloc::{AllocError, Global};
 use std::process::Abort;
 use std::test::Fail;
 
-// Makes a value, a second time where memory was refused.
-fn again<V: Drop, E: Drop, F: Fn() -> Result<V, E>>(make: F) -> Result<V, E>
-    requires { F.IsAlwaysCallable make }
-{
-    match make() {
-        Ok(value) => Ok(value),
-        Err(_) => make(),
-    }
-}
-
 // Two worlds in which the same steps are made.
 #[derive(Drop)]
 struct Twins {
@@ -41,11 +31,24 @@ fn same(one: &NodeState<IndexTable>, other: &NodeState<IndexTable>) -> Result<bo
     }
 }
 
+// A world, made a second time where memory was refused.
+fn world_of(alloc: Global, config: &Config) -> Result<World<IndexTable>, Fail> {
+    match World::new(alloc, config) {
+        Ok(world) => Ok(world),
+        Err(_) => Ok(World::new(alloc, config)?),
+    }
+}
+
 impl Twins {
     fn new(alloc: Global, config: &Config) -> Result<Twins, Fail> {
-        let one = again(|| World::new(alloc, config))?;
-        let other = again(|| World::new(alloc, config))?;
-        Ok(Twins { one, other })
+        let one = world_of(alloc, config)?;
+        match world_of(alloc, config) {
+            Ok(other) => Ok(Twins { one, other }),
+            Err(fault) => {
+                drop(one);
+                Err(fault)
+            }
+        }
     }
 
     // Whether the nodes at a place are the same.
@@ -99,13 +102,36 @@ impl Twins {
 
 fn steps_of(alloc: Global, example: &Example<'_>) -> Result<Steps, TermFault> {
     let mut steps = Steps::new(alloc, example.nodes.len(), 5);
-    steps.add_all(example.ops)?;
-    Ok(steps)
+    match steps.add_all(example.ops) {
+        Ok(()) => Ok(steps),
+        Err(fault) => {
+            drop(steps);
+            Err(fault)
+        }
+    }
+}
+
+// The steps of an example, made a second time where memory was refused.
+fn steps_again(alloc: Global, example: &Example<'_>) -> Result<Steps, TermFault> {
+    match steps_of(alloc, example) {
+        Ok(steps) => Ok(steps),
+        Err(_) => steps_of(alloc, example),
+    }
+}
+
+// Its configuration, made a second time where memory was refused.
+fn config_again(alloc: Global, example: &Example<'_>) -> Result<Config, TermFault> {
+    match config(alloc, example.nodes, 4_096) {
+        Ok(config) => Ok(config),
+        Err(_) => config(alloc, example.nodes, 4_096),
+    }
 }
 
 fn check(rt: &impl Abort, alloc: Global, example: &Example<'_>) -> Result<(), Fail> {
-    let config = again(|| config(alloc, example.nodes, 4_096))?;
-    check_of(rt, alloc, &config, example)
+    let config = config_again(alloc, example)?;
+    let checked = check_of(rt, alloc, &config, example);
+    drop(config);
+    checked
 }
 
 fn check_of(
@@ -115,7 +141,9 @@ fn check_of(
     example: &Example<'_>,
 ) -> Result<(), Fail> {
     let mut twins = Twins::new(alloc, config)?;
-    check_twins(rt, alloc, example, &mut twins)
+    let checked = check_twins(rt, alloc, example, &mut twins);
+    drop(twins);
+    checked
 }
 
 fn check_twins(
@@ -124,8 +152,10 @@ fn check_twins(
     example: &Example<'_>,
     twins: &mut Twins,
 ) -> Result<(), Fail> {
-    let steps = again(|| steps_of(alloc, example))?;
-    step_all(rt, example, steps.steps.as_slice(), twins)
+    let steps = steps_again(alloc, example)?;
+    let checked = step_all(rt, example, steps.steps.as_slice(), twins);
+    drop(steps);
+    checked
 }
 
 // Makes the steps in both worlds.

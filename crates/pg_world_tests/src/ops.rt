@@ -54,10 +54,12 @@ impl Op {
             Op::Create(_, group) => Command::Create(group_name(group)),
             Op::Delete(_, group) => Command::Delete(group_name(group)),
             Op::Join(_, group, process) => {
-                Command::Join(group_name(group), pid_of(alloc, process)?)
+                let pid = pid_of(alloc, process)?;
+                Command::Join(group_name(group), pid)
             }
             Op::Leave(_, group, process) => {
-                Command::Leave(group_name(group), pid_of(alloc, process)?)
+                let pid = pid_of(alloc, process)?;
+                Command::Leave(group_name(group), pid)
             }
             Op::End(_, process) => Command::Finish(pid_of(alloc, process)?),
             Op::Members(_, group) => Command::Members(group_name(group)),

@@ -41,8 +41,9 @@ fn rounds_for(ring: usize) -> usize {
 
 /// The world after these steps.
 pub fn played(alloc: Global, config: &Config, steps: &[Step]) -> Result<World<IndexTable>, Fail> {
-    let ran = run(alloc, config, steps)?;
-    Ok(ran.0)
+    let (world, numbers) = run(alloc, config, steps)?;
+    drop(numbers);
+    Ok(world)
 }
 
 // The number by which the last step of a line is refused: 0 where it is not.
@@ -80,6 +81,23 @@ fn check_numbers(rt: &impl Abort, example: &Example<'_>, ends: &[usize], numbers
     assert_eq!(rt; line, example.ops.len());
 }
 
+// The steps of an example are run, each with its number, and the nodes answer.
+fn check_steps(
+    rt: &impl Abort,
+    alloc: Global,
+    config: &Config,
+    example: &Example<'_>,
+    steps: &mut Steps,
+) -> Result<(), Fail> {
+    steps.add_all(example.ops)?;
+    let (world, numbers) = run(alloc, config, steps.steps.as_slice())?;
+    check_numbers(rt, example, steps.ends.as_slice(), numbers.as_slice());
+    check_answers(rt, &world, example);
+    drop(world);
+    drop(numbers);
+    Ok(())
+}
+
 /// An example of these nodes is run over rings of this capacity.
 pub fn check_nodes(
     rt: &impl Abort,
@@ -90,11 +108,10 @@ pub fn check_nodes(
 ) -> Result<(), Fail> {
     let config = config(alloc, nodes, ring)?;
     let mut steps = Steps::new(alloc, nodes.len(), rounds_for(ring));
-    steps.add_all(example.ops)?;
-    let ran = run(alloc, &config, steps.steps.as_slice())?;
-    check_numbers(rt, example, steps.ends.as_slice(), ran.1.as_slice());
-    check_answers(rt, &ran.0, example);
-    Ok(())
+    let checked = check_steps(rt, alloc, &config, example, &mut steps);
+    drop(steps);
+    drop(config);
+    checked
 }
 
 /// An example is run over rings of this capacity.

@@ -1,11 +1,11 @@
 //! Random schedules of worlds over bytes, cut at random. Whatever moved when, packets that cross whole lead to the same nodes.
 
-use crate::cast::{Begun, Process, config};
+use crate::cast::{Begun, GROUPS, Process, config, group_name};
 use crate::ops::{Op, Steps};
-use crate::played::state_of;
+use crate::played::{played, state_of};
 use crate::slow::{Processes, asked_of, check_answered, check_headline};
 use pg_index::IndexTable;
-use pg_world::{Config, FrameStep, FrameWorld, Step, Stepped, World, run, run_frames};
+use pg_world::{Config, FrameStep, FrameWorld, Step, Stepped, World, run_frames};
 use rand_core::utils::NextWord;
 use rand_pcg::Pcg32;
 use std::alloc::Global;
@@ -144,8 +144,13 @@ fn made(
     steps: &[Step],
 ) -> Result<(World<IndexTable>, Vec<bool>), Fail> {
     let mut world = World::new(alloc, config)?;
-    let happened = told_of_all(rt, alloc, config, steps, &mut world)?;
-    Ok((world, happened))
+    match told_of_all(rt, alloc, config, steps, &mut world) {
+        Ok(happened) => Ok((world, happened)),
+        Err(fault) => {
+            drop(world);
+            Err(fault)
+        }
+    }
 }
 
 fn told_of_all(
@@ -155,9 +160,11 @@ fn told_of_all(
     steps: &[Step],
     world: &mut World<IndexTable>,
 ) -> Result<Vec<bool>, Fail> {
-    let processes = Processes::new(alloc, config.starts.len(), 4)?;
     let mut happened = Vec::with_capacity(alloc, steps.len())?;
-    tell_all(rt, alloc, config, steps, world, &processes, &mut happened)?;
+    let processes = Processes::new(alloc, config.starts.len(), 4)?;
+    let told = tell_all(rt, alloc, config, steps, world, &processes, &mut happened);
+    drop(processes);
+    told?;
     Ok(happened)
 }
 
@@ -184,14 +191,27 @@ fn happens(world: &mut World<IndexTable>, step: &Step) -> bool {
     matches!(world.step(step), Ok(Stepped::Happened))
 }
 
+// The event of a step, if it happened.
+fn event_of(step: Step, has_happened: bool) -> Option<FrameStep> {
+    match step {
+        Step::Event(event) => {
+            if has_happened {
+                Some(event)
+            } else {
+                drop(event);
+                None
+            }
+        }
+        _ => None,
+    }
+}
+
 // The events that happened.
 fn events_of(alloc: Global, steps: Vec<Step>, happened: &[bool]) -> Result<Vec<FrameStep>, Fail> {
     let mut events = Vec::new(alloc);
     for (place, step) in steps.into_iter().enumerate() {
-        if happened.get(place) == Some(&true) {
-            if let Step::Event(event) = step {
-                events.push(event)?;
-            }
+        if let Some(event) = event_of(step, happened.get(place) == Some(&true)) {
+            events.push(event)?;
         }
     }
     Ok(events)
@@ -234,15 +254,20 @@ fn are_same_over_packets(
     Ok(true)
 }
 
+// How many updates of a group were begun.
+fn begun_of(world: &World<IndexTable>, group: i64) -> usize {
+    let name = group_name(group);
+    let (some, last) = world.history(&name);
+    let count = some.len().saturating_add(usize::from(last.is_some()));
+    drop(name);
+    count
+}
+
 // How many updates of the groups were begun.
 fn begun(world: &World<IndexTable>) -> usize {
     let mut count = 0usize;
-    for group in crate::cast::GROUPS {
-        let (some, last) = world.history(&crate::cast::group_name(group));
-        count = count.saturating_add(some.len());
-        if last.is_some() {
-            count = count.saturating_add(1);
-        }
+    for group in GROUPS {
+        count = count.saturating_add(begun_of(world, group));
     }
     count
 }
@@ -250,17 +275,126 @@ fn begun(world: &World<IndexTable>) -> usize {
 fn check(rt: &impl Abort, alloc: Global, nodes: usize, seed: u64) -> Result<(), Fail> {
     let (some, _) = BEGUN.as_slice().split_at(nodes.min(5));
     let config = config(alloc, some, 150)?;
+    let checked = check_of(rt, alloc, nodes, seed, &config);
+    drop(config);
+    checked
+}
+
+fn check_of(
+    rt: &impl Abort,
+    alloc: Global,
+    nodes: usize,
+    seed: u64,
+    config: &Config,
+) -> Result<(), Fail> {
     let ops = ops_by_chance(alloc, nodes, seed)?;
-    let mut steps = Steps::new(alloc, nodes, 1);
-    steps.add_all(ops.as_slice())?;
-    let (world, happened) = made(rt, alloc, &config, steps.steps.as_slice())?;
-    let asked = asked_of(alloc, nodes, ops.as_slice())?;
-    check_answered(rt, alloc, &world, &asked)?;
-    assert!(rt; begun(&world) > 9, "{nodes} nodes: {}", begun(&world));
-    let ran = run(alloc, &config, steps.steps.as_slice())?;
-    assert!(rt; are_same(&world, &ran.0, nodes)?);
-    let events = events_of(alloc, steps.steps, happened.as_slice())?;
-    check_packets(rt, alloc, &config, &world, events.as_slice())
+    let steps = steps_of(alloc, nodes, ops.as_slice())?;
+    check_steps(rt, alloc, config, ops.as_slice(), steps)
+}
+
+fn steps_of(alloc: Global, nodes: usize, ops: &[Op]) -> Result<Vec<Step>, Fail> {
+    let mut made = Steps::new(alloc, nodes, 1);
+    let added = made.add_all(ops);
+    let Steps { steps, ends, .. } = made;
+    drop(ends);
+    added?;
+    Ok(steps)
+}
+
+fn check_steps(
+    rt: &impl Abort,
+    alloc: Global,
+    config: &Config,
+    ops: &[Op],
+    steps: Vec<Step>,
+) -> Result<(), Fail> {
+    match made(rt, alloc, config, steps.as_slice()) {
+        Ok((world, happened)) => {
+            let checked = check_made(rt, alloc, config, ops, steps, &world, happened.as_slice());
+            drop(world);
+            checked
+        }
+        Err(fault) => {
+            drop(steps);
+            Err(fault)
+        }
+    }
+}
+
+fn check_made(
+    rt: &impl Abort,
+    alloc: Global,
+    config: &Config,
+    ops: &[Op],
+    steps: Vec<Step>,
+    world: &World<IndexTable>,
+    happened: &[bool],
+) -> Result<(), Fail> {
+    match check_bytes(rt, alloc, config, ops, steps.as_slice(), world) {
+        Ok(()) => check_events(rt, alloc, config, world, events_of(alloc, steps, happened)),
+        Err(fault) => {
+            drop(steps);
+            Err(fault)
+        }
+    }
+}
+
+fn check_events(
+    rt: &impl Abort,
+    alloc: Global,
+    config: &Config,
+    world: &World<IndexTable>,
+    events: Result<Vec<FrameStep>, Fail>,
+) -> Result<(), Fail> {
+    match events {
+        Ok(events) => {
+            let checked = check_packets(rt, alloc, config, world, events.as_slice());
+            drop(events);
+            checked
+        }
+        Err(fault) => Err(fault),
+    }
+}
+
+// What was answered stands in the histories, and a run of all steps leads to the same nodes.
+fn check_bytes(
+    rt: &impl Abort,
+    alloc: Global,
+    config: &Config,
+    ops: &[Op],
+    steps: &[Step],
+    world: &World<IndexTable>,
+) -> Result<(), Fail> {
+    let nodes = config.starts.len();
+    check_asked(rt, alloc, nodes, ops, world)?;
+    assert!(rt; begun(world) > 9, "{nodes} nodes: {}", begun(world));
+    let other = played(alloc, config, steps)?;
+    let same = are_same(world, &other, nodes);
+    drop(other);
+    assert!(rt; same?);
+    Ok(())
+}
+
+fn check_asked(
+    rt: &impl Abort,
+    alloc: Global,
+    nodes: usize,
+    ops: &[Op],
+    world: &World<IndexTable>,
+) -> Result<(), Fail> {
+    let asked = asked_of(alloc, nodes, ops)?;
+    let checked = check_answered(rt, alloc, world, &asked);
+    drop(asked);
+    checked
+}
+
+fn are_none_refused(numbers: &[u8]) -> bool {
+    for number in numbers {
+        if *number != 0 {
+            return false;
+        }
+    }
+    true
 }
 
 // The events over packets all happen, and lead to the same nodes.
@@ -271,9 +405,11 @@ fn check_packets(
     world: &World<IndexTable>,
     events: &[FrameStep],
 ) -> Result<(), Fail> {
-    let ran = run_frames(alloc, config, events)?;
-    assert!(rt; ran.1.as_slice().iter().all(|number| *number == 0));
-    assert!(rt; are_same_over_packets(world, &ran.0, config.starts.len())?);
+    let (packets, numbers) = run_frames(alloc, config, events)?;
+    let same = are_same_over_packets(world, &packets, config.starts.len());
+    drop(packets);
+    assert!(rt; are_none_refused(numbers.as_slice()));
+    assert!(rt; same?);
     Ok(())
 }
 

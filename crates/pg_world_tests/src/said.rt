@@ -20,7 +20,8 @@ pub enum Said<'a> {
 /// The answers at one port: the number of each command, and what it is answered.
 pub type Answers<'a> = &'a [(u32, Said<'a>)];
 
-fn is_group(name: &Term, group: i64) -> bool {
+/// Whether this is the name of a group.
+pub fn is_group(name: &Term, group: i64) -> bool {
     match name {
         Term::Int(number) => *number == group,
         _ => false,
@@ -28,19 +29,21 @@ fn is_group(name: &Term, group: i64) -> bool {
 }
 
 fn are_pids(pids: &[Pid], processes: &[Process]) -> bool {
+    for (pid, process) in pids.iter().zip(processes) {
+        if process_of(pid) != *process {
+            return false;
+        }
+    }
     pids.len() == processes.len()
-        && pids
-            .iter()
-            .zip(processes)
-            .all(|(pid, process)| process_of(pid) == *process)
 }
 
 fn are_groups(names: &[Term], groups: &[i64]) -> bool {
+    for (name, group) in names.iter().zip(groups) {
+        if !is_group(name, *group) {
+            return false;
+        }
+    }
     names.len() == groups.len()
-        && names
-            .iter()
-            .zip(groups)
-            .all(|(name, group)| is_group(name, *group))
 }
 
 fn is_said(reply: &Reply, said: Said<'_>) -> bool {
@@ -59,7 +62,10 @@ fn is_said(reply: &Reply, said: Said<'_>) -> bool {
 
 /// Whether these are the answers, in this order.
 pub fn are_said(answers: &[Answer], said: Answers<'_>) -> bool {
+    for (answer, told) in answers.iter().zip(said) {
+        if answer.number != told.0 || !is_said(&answer.reply, told.1) {
+            return false;
+        }
+    }
     answers.len() == said.len()
-        && answers.iter().zip(said).all(|(answer, told)| answer.number == told.0
-            && is_said(&answer.reply, told.1))
 }

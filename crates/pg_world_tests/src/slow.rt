@@ -13,7 +13,7 @@ use pg_world::{Config, Entry, World};
 use std::alloc::Global;
 use std::process::Abort;
 use std::test::Fail;
-use value::{base, less, replayed, same_value, value_at};
+use value::{Value, base, less, replayed, same_value, value_at};
 
 /// A node of a world.
 type State = NodeState<IndexTable>;
@@ -50,10 +50,12 @@ impl Processes {
 
     // Whether no end is pending: what has ended at its home has ended everywhere.
     fn none_pending(&self, world: &World<IndexTable>, nodes: usize) -> bool {
-        self.pids
-            .as_slice()
-            .iter()
-            .all(|(process, pid)| is_settled(world, nodes, process.0, pid))
+        for (process, pid) in self.pids.as_slice() {
+            if !is_settled(world, nodes, process.0, pid) {
+                return false;
+            }
+        }
+        true
     }
 }
 
@@ -76,6 +78,14 @@ fn is_settled(world: &World<IndexTable>, nodes: usize, home: usize, pid: &Pid) -
 }
 
 /// The updates of a group in their order.
+fn history_at(alloc: Global, world: &World<IndexTable>, group: i64) -> Result<Vec<&Entry>, Fail> {
+    let name = group_name(group);
+    let entries = history_of(alloc, world, &name);
+    drop(name);
+    entries
+}
+
+/// The same by its name.
 fn history_of<'a>(
     alloc: Global,
     world: &'a World<IndexTable>,
@@ -102,16 +112,29 @@ fn check_group(
     group: i64,
 ) -> Result<(), Fail> {
     let name = group_name(group);
+    let checked = check_named(rt, alloc, config, world, processes, &name);
+    drop(name);
+    checked
+}
+
+fn check_named(
+    rt: &impl Abort,
+    alloc: Global,
+    config: &Config,
+    world: &World<IndexTable>,
+    processes: &Processes,
+    name: &Term,
+) -> Result<(), Fail> {
     let nodes = config.starts.len();
-    let entries = history_of(alloc, world, &name)?;
+    let entries = history_of(alloc, world, name)?;
     for place in 0..nodes {
-        check_applied(rt, world, place, &name, entries.len());
-        check_table(rt, alloc, config, world, processes, place, group)?;
+        check_applied(rt, world, place, name, entries.len());
+        check_table(rt, alloc, config, world, processes, place, name)?;
     }
-    if some_free(world, nodes, &name) {
-        check_free(rt, world, nodes, &name, entries.len());
+    if some_free(world, nodes, name) {
+        check_free(rt, world, nodes, name, entries.len());
         if processes.none_pending(world, nodes) {
-            check_agreed(rt, alloc, world, nodes, &name)?;
+            check_agreed(rt, alloc, world, nodes, name)?;
         }
     }
     Ok(())
@@ -142,24 +165,48 @@ fn check_table(
     world: &World<IndexTable>,
     processes: &Processes,
     place: usize,
-    group: i64,
+    name: &Term,
 ) -> Result<(), Fail> {
-    let name = group_name(group);
     let Some(node) = state_of(world, place) else {
         return Ok(());
     };
-    let entries = history_of(alloc, world, &name)?;
-    if !node.formed() {
-        assert_eq!(rt; entries.len(), 0);
-        return Ok(());
+    if node.formed() {
+        let wanted = wanted_at(alloc, config, world, processes, place, node, name)?;
+        let is = value_at(alloc, node.table(), name)?;
+        assert!(rt; same_value(&is, &wanted), "group {name:?} at node {place}");
+    } else {
+        let entries = history_of(alloc, world, name)?;
+        assert!(rt; entries.len() == 0);
     }
-    let first = base(alloc, config, &name)?;
-    let count = usize::try_from(world.applied(place, &name)).unwrap_or(0);
-    let value = replayed(alloc, first, entries.as_slice(), count)?;
-    let wanted = less(value, processes.ended(alloc, node)?.as_slice());
-    let is = value_at(alloc, node.table(), &name)?;
-    assert!(rt; same_value(&is, &wanted), "group {group} at node {place}");
     Ok(())
+}
+
+// What the updates that the node has applied make of what all began with, less the ended.
+fn wanted_at(
+    alloc: Global,
+    config: &Config,
+    world: &World<IndexTable>,
+    processes: &Processes,
+    place: usize,
+    node: &State,
+    name: &Term,
+) -> Result<Value, Fail> {
+    let ended = processes.ended(alloc, node)?;
+    let value = value_after(alloc, config, world, place, name)?;
+    Ok(less(value, ended.as_slice()))
+}
+
+fn value_after(
+    alloc: Global,
+    config: &Config,
+    world: &World<IndexTable>,
+    place: usize,
+    name: &Term,
+) -> Result<Value, Fail> {
+    let entries = history_of(alloc, world, name)?;
+    let first = base(alloc, config, name)?;
+    let count = usize::try_from(world.applied(place, name)).unwrap_or(0);
+    replayed(alloc, first, entries.as_slice(), count)
 }
 
 // Whether one node sees the lock of a group free.

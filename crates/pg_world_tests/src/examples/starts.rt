@@ -7,7 +7,8 @@ use crate::played::{check_both, played, state_of};
 use crate::said::Said;
 use pg_group::GroupTable;
 use pg_index::IndexTable;
-use pg_world::World;
+use pg_node::NodeState;
+use pg_world::{Config, World};
 use std::alloc::Global;
 use std::process::Abort;
 use std::test::Fail;
@@ -108,30 +109,58 @@ fn stands(
     place: usize,
 ) -> Result<Option<(bool, u64)>, Fail> {
     let pid = pid_of(alloc, P)?;
-    Ok(match state_of(world, place) {
-        Some(node) => Some((node.formed(), node.table().count(&group_name(1), &pid))),
+    let name = group_name(1);
+    let stands = match state_of(world, place) {
+        Some(node) => Some((node.formed(), node.table().count(&name, &pid))),
         None => None,
-    })
+    };
+    drop(name);
+    drop(pid);
+    Ok(stands)
 }
 
 fn world_after(alloc: Global, ops: &[Op]) -> Result<World<IndexTable>, Fail> {
     let config = config(alloc, FORMATION.nodes, 65_536)?;
-    let mut steps = Steps::new(alloc, 3, 12);
-    steps.add_all(ops)?;
-    played(alloc, &config, steps.steps.as_slice())
+    let world = world_of(alloc, &config, ops);
+    drop(config);
+    world
 }
+
+fn world_of(alloc: Global, config: &Config, ops: &[Op]) -> Result<World<IndexTable>, Fail> {
+    let mut steps = Steps::new(alloc, 3, 12);
+    let added = steps.add_all(ops);
+    let world = match added {
+        Ok(()) => played(alloc, config, steps.steps.as_slice()),
+        Err(fault) => Err(Fail::from(fault)),
+    };
+    drop(steps);
+    world
+}
+
+// How the process stands at a node after these lines.
+fn stands_after(alloc: Global, ops: &[Op], place: usize) -> Result<Option<(bool, u64)>, Fail> {
+    let world = world_after(alloc, ops)?;
+    let stands = stands(alloc, &world, place);
+    drop(world);
+    stands
+}
+
+const STANDS: [(&[Op], usize, (bool, u64)); 4] = [
+    (&[Op::Cross(1, 0)], 0, (false, 2)),
+    (&[Op::Cross(1, 0), Op::Cross(2, 0)], 0, (true, 2)),
+    (&[Op::Cross(1, 0), Op::Cross(2, 0)], 2, (false, 0)),
+    (&[Op::Cross(0, 2), Op::Cross(1, 2)], 2, (true, 2)),
+];
 
 // A node is formed once both others have told their groups.
 #[test]
 fn formed_by_the_last_exchange(rt: HostRuntime) -> Result<(), Fail> {
-    let alloc = rt.alloc();
-    let one = world_after(alloc, &[Op::Cross(1, 0)])?;
-    assert!(rt; stands(alloc, &one, 0)? == Some((false, 2)));
-    let both = world_after(alloc, &[Op::Cross(1, 0), Op::Cross(2, 0)])?;
-    assert!(rt; stands(alloc, &both, 0)? == Some((true, 2)));
-    assert!(rt; stands(alloc, &both, 2)? == Some((false, 0)));
-    let all = world_after(alloc, &[Op::Cross(0, 2), Op::Cross(1, 2)])?;
-    assert!(rt; stands(alloc, &all, 2)? == Some((true, 2)));
+    for (ops, place, wanted) in STANDS {
+        assert!(rt;
+            stands_after(rt.alloc(), ops, place)? == Some(wanted),
+            "{ops:?}"
+        );
+    }
     Ok(())
 }
 
@@ -148,8 +177,17 @@ fn unformed_node_denies(rt: HostRuntime) -> Result<(), Fail> {
         Op::Cross(2, 1),
     ];
     let world = world_after(alloc, ops)?;
-    assert!(rt; waits(&rt, &world));
+    let is_waiting = waits(&rt, &world);
+    drop(world);
+    assert!(rt; is_waiting);
     Ok(())
+}
+
+fn is_free(node: &NodeState<IndexTable>) -> bool {
+    let name = group_name(2);
+    let is_free = node.holder(&name).is_none();
+    drop(name);
+    is_free
 }
 
 // The command of `b` waits, and `c` holds no lock.
@@ -157,7 +195,7 @@ fn waits(rt: &impl Abort, world: &World<IndexTable>) -> bool {
     let Some(c) = state_of(world, 2) else {
         return false;
     };
-    assert!(rt; c.holder(&group_name(2)).is_none());
+    assert!(rt; is_free(c));
     match state_of(world, 1) {
         Some(b) => match b.waiting() {
             Ok(waiting) => waiting.len() == 1,

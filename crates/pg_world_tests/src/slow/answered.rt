@@ -1,9 +1,10 @@
 //! The updates that are answered stand in the history, each once.
 
-use super::history_of;
-use crate::cast::{GROUPS, group_name, process_of};
+use super::history_at;
+use crate::cast::{GROUPS, process_of};
 use crate::ops::Op;
 use crate::played::state_of;
+use crate::said::is_group;
 use pg_group::Update;
 use pg_index::IndexTable;
 use pg_step::{Answer, Reply};
@@ -41,13 +42,13 @@ fn locked_group(op: Op) -> Option<i64> {
 // Whether an update is the change that was asked for.
 fn is_update(op: Op, update: &Update) -> bool {
     match (op, update) {
-        (Op::Create(_, group), Update::Create(name)) => *name == group_name(group),
-        (Op::Delete(_, group), Update::Delete(name)) => *name == group_name(group),
+        (Op::Create(_, group), Update::Create(name)) => is_group(name, group),
+        (Op::Delete(_, group), Update::Delete(name)) => is_group(name, group),
         (Op::Join(_, group, process), Update::Join(name, pid)) => {
-            *name == group_name(group) && process_of(pid) == process
+            is_group(name, group) && process_of(pid) == process
         }
         (Op::Leave(_, group, process), Update::Leave(name, pid)) => {
-            *name == group_name(group) && process_of(pid) == process
+            is_group(name, group) && process_of(pid) == process
         }
         _ => false,
     }
@@ -62,16 +63,19 @@ fn op_of(asked: &Asked, entry: &Entry) -> Option<Op> {
 
 // How many entries are of that command of a node.
 fn times(entries: &[&Entry], node: usize, number: u32) -> usize {
-    entries
-        .iter()
-        .filter(|entry| entry.node == node && entry.op.number == number)
-        .count()
+    let mut times = 0usize;
+    for entry in entries {
+        if entry.node == node && entry.op.number == number {
+            times = times.saturating_add(1);
+        }
+    }
+    times
 }
 
 // Each entry is the change that its command asked for, and stands once.
 fn check_entries(rt: &impl Abort, asked: &Asked, entries: &[&Entry]) {
     for entry in entries {
-        assert_eq!(rt; times(entries, entry.node, entry.op.number), 1);
+        assert!(rt; times(entries, entry.node, entry.op.number) == 1);
         match op_of(asked, entry) {
             Some(op) => assert!(rt; is_update(op, &entry.update)),
             None => assert!(rt; false, "nobody asked for it"),
@@ -96,8 +100,8 @@ fn check_answer(
         .saturating_sub(1);
     let group = own.get(place).copied().and_then(locked_group);
     if let (Some(group), Reply::Ok) = (group, &answer.reply) {
-        let entries = history_of(alloc, world, &group_name(group))?;
-        assert_eq!(rt; times(entries.as_slice(), node, answer.number), 1);
+        let entries = history_at(alloc, world, group)?;
+        assert!(rt; times(entries.as_slice(), node, answer.number) == 1);
     }
     Ok(())
 }
@@ -110,7 +114,7 @@ pub fn check_answered(
     asked: &Asked,
 ) -> Result<(), Fail> {
     for group in GROUPS {
-        let entries = history_of(alloc, world, &group_name(group))?;
+        let entries = history_at(alloc, world, group)?;
         check_entries(rt, asked, entries.as_slice());
     }
     for node in 0..asked.len() {

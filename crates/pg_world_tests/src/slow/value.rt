@@ -11,7 +11,13 @@ use std::test::Fail;
 pub type Value = Option<Vec<Process>>;
 
 fn count(members: &[Process], process: Process) -> usize {
-    members.iter().filter(|member| **member == process).count()
+    let mut count = 0usize;
+    for member in members {
+        if *member == process {
+            count = count.saturating_add(1);
+        }
+    }
+    count
 }
 
 /// Whether two values have the same members, each as often.
@@ -24,10 +30,12 @@ pub fn same_value(value: &Value, other: &Value) -> bool {
 }
 
 fn are_same(members: &[Process], others: &[Process]) -> bool {
+    for member in members {
+        if count(members, *member) != count(others, *member) {
+            return false;
+        }
+    }
     members.len() == others.len()
-        && members
-            .iter()
-            .all(|member| count(members, *member) == count(others, *member))
 }
 
 // The first member that is the process is taken out.
