@@ -1,8 +1,10 @@
 pub mod Acting
 pub mod Commands
 pub mod Following
+pub mod Forgetting
 pub mod Fronts
 pub mod GoingOn
+pub mod Logging
 pub mod Moving
 pub mod Passing
 pub mod Pausing
@@ -11,3 +13,4 @@ pub mod Retrying
 pub mod Served
 pub mod Taking
 pub mod Trying
+pub mod Turning

@@ -1,12 +1,12 @@
 -- How commands wait, as turns pass.
-use Rattle.std.proofs.Common.{◌≡◌, ◌≢◌, ◌<◌, ◌≤◌, ◌∙◌, ℕ, cond, get_or, length, List, [], ◌∷◌, ◌++◌, refl, sym, ap, subst, arith}
-use Rattle.std.specs.List.{remove}
-use Rattle.std.specs.Prelude.{zero, suc, Bool, true, false, slice_get, slice_set, Option, Some, None, IfSome}
+use Rattle.std.proofs.Common.{◌≡◌, ◌≢◌, ◌<◌, ◌≤◌, ◌∙◌, ◌⊎◌, ℕ, cond, get_or, length, List, [], ◌∷◌, ◌++◌, refl, sym, ap, subst, inl, inr, arith}
+use Rattle.std.specs.List.{filter}
+use Rattle.std.specs.Prelude.{zero, suc, Bool, true, false, not, slice_get, slice_set, Option, Some, None, IfSome}
 use Rattle.std.proofs.lemmas.Option.{slice_get_read, slice_get-get_or}
 use Rattle.pg_run.specs.declared.pauses.Pause.{Pause}
 use Rattle.pg_run.specs.declared.pauses.Wait.{Wait}
 use Rattle.pg_run.specs.declared.pauses.Wait.TheVariants.{Turns, Due, Tried}
-use Rattle.pg_run.specs.Pauses.{Passed, is_over, wait_in}
+use Rattle.pg_run.specs.Pauses.{Passed, Waited, Waits, begins_next, is_due, is_over, wait_in}
 use Rattle.pg_run.proofs.Commands.{same_is, same_itself}
 use Rattle.pg_step.specs.declared.command.OpId.{OpId}
 use Rattle.pg_step.specs.Attempts.{same_op}
@@ -77,11 +77,6 @@ pub others_pushed : (other : OpId) (entries : List Pause) (next : Pause) → nex
 others_pushed other [] next is = elsewhere other next [] is
 others_pushed other (p ∷ entries) next is = ap (λ w. cond (same_op p.op other) (Some p.wait) w) (others_pushed other entries next is)
 
-pub others_removed : (other : OpId) (entries : List Pause) (place : ℕ) (pause : Pause) → slice_get entries place ≡ Some pause → pause.op ≢ other → wait_in other (remove entries place) ≡ wait_in other entries
-others_removed other [] place pause there was = absurd (cc)
-others_removed other (p ∷ entries) zero pause there was = sym (elsewhere other p entries (λ e. was (sym (ap (λ (x : Pause). x.op) (some_of p pause there)) ∙ e)))
-others_removed other (p ∷ entries) (suc place) pause there was = ap (λ w. cond (same_op p.op other) (Some p.wait) w) (others_removed other entries place pause there was)
-
 -- the pause at a place changes
 pub record Changes (op : OpId) (entries entries2 : List Pause) (pause next : Pause) : Type 0 where
   pub was : wait_in op entries ≡ Some pause.wait
@@ -103,12 +98,25 @@ changes op entries place pause next within at some kept first = record {
     of = subst {A = Option Pause} (λ o. IfSome o (λ p. p.op ≡ op)) there some
 
 -- it goes
-pub forgets : (op : OpId) (entries : List Pause) (place : ℕ) → place < length entries → IfSome (slice_get entries place) (λ p. p.op ≡ op)
-    → (other : OpId) → other ≢ op → wait_in other (remove entries place) ≡ wait_in other entries
-forgets op [] place within some other apart = absurd (omega (arith, within))
-forgets op (p ∷ entries) place within some other apart =
-    let there = slice_get-get_or (p ∷ entries) place p within in
-    others_removed other (p ∷ entries) place _ there (λ e. apart (sym e ∙ subst {A = Option Pause} (λ o. IfSome o (λ q. q.op ≡ op)) there some))
+abbrev pub is_off : OpId → Pause → Bool
+is_off op pause = not (same_op pause.op op)
+
+pub gone : (op : OpId) (entries : List Pause) → wait_in op (filter (is_off op) entries) ≡ None
+gone op [] = refl
+gone op (p ∷ entries) = go (same_op p.op op) refl (gone op entries)
+  where
+    go : (b : Bool) → same_op p.op op ≡ b → wait_in op (filter (is_off op) entries) ≡ None → wait_in op (cond (not b) (p ∷ filter (is_off op) entries) (filter (is_off op) entries)) ≡ None
+    go true same rest = rest
+    go false same rest = ap (λ b. cond b (Some p.wait) (wait_in op (filter (is_off op) entries))) same ∙ rest
+
+pub others_left : (op other : OpId) (entries : List Pause) → other ≢ op → wait_in other (filter (is_off op) entries) ≡ wait_in other entries
+others_left op other [] apart = refl
+others_left op other (p ∷ entries) apart = go (same_op p.op op) refl (others_left op other entries apart)
+  where
+    go : (b : Bool) → same_op p.op op ≡ b → wait_in other (filter (is_off op) entries) ≡ wait_in other entries
+        → wait_in other (cond (not b) (p ∷ filter (is_off op) entries) (filter (is_off op) entries)) ≡ wait_in other (p ∷ entries)
+    go true same rest = rest ∙ sym (elsewhere other p entries (λ e. apart (sym e ∙ same_is p.op op same)))
+    go false same rest = ap (λ w. cond (same_op p.op other) (Some p.wait) w) rest
 
 -- a command that is there waits
 pub waits_there : (op : OpId) (entries : List Pause) (place : ℕ) → place < length entries → IfSome (slice_get entries place) (λ p. p.op ≡ op)
@@ -126,9 +134,49 @@ passes_there op entries entries2 pause next due changed passed =
 
 -- ---- what passed
 
--- a command whose pause is over is due
-pub due_when_over : (before : Option Wait) (due : Bool) (after : Option Wait) → Passed before due after → is_over before ≡ true → due ≡ true
-due_when_over (Some (Turns left)) due after passed over = passed.0 ∙ over
-due_when_over (Some Due) due after passed over = passed.0
-due_when_over (Some Tried) due after passed over = absurd (cc)
-due_when_over None due after passed over = absurd (cc)
+-- a command is due exactly where its pause is over
+pub due_is_over : (before : Option Wait) (due : Bool) (after : Option Wait) → Passed before due after → due ≡ is_over before
+due_is_over (Some (Turns left)) due after passed = passed.0
+due_is_over (Some Due) due after passed = passed.0
+due_is_over (Some Tried) due after passed = passed.later
+due_is_over None due after passed = passed.later
+
+-- ---- in a turn
+
+pub due_as_passed : (lost : Bool) (before : Option Wait) (due : Bool) (after : Option Wait) → lost ≡ false → Passed before due after → is_due lost before ≡ due
+due_as_passed lost before due after same passed = ap (λ b. is_due b before) same ∙ sym (due_is_over before due after passed)
+
+pub waits_less : (lost strong weak : Bool) → (weak ≡ true → strong ≡ true) → (before after : Option Wait) → Waits lost strong before after → Waits lost weak before after
+waits_less true strong weak both before after h = h
+waits_less false true true both before after h = h
+waits_less false true false both before after h = inr h
+waits_less false false true both before after h = absurd (let e = both refl in cc)
+waits_less false false false both before after h = h
+
+-- nothing passed in a phase that was not whole
+pub waits_still : (lost whole : Bool) → (whole ≡ true → ⊥) → (before after : Option Wait) → after ≡ before → Waits lost whole before after
+waits_still true whole short before after same = inl same
+waits_still false true short before after same = absurd (short refl)
+waits_still false false short before after same = inl same
+
+pub waits_passed : (whole : Bool) (before after : Option Wait) → Waited before after → Waits false whole before after
+waits_passed true before after h = h
+waits_passed false before after h = inr h
+
+-- it was not due
+pub waited_not_due : (before after : Option Wait) → Passed before false after → Waited before after
+waited_not_due before after passed = record { due = false; passed = after; passes = passed; is = inl refl }
+
+-- it was due, and may have been tried
+pub waited_due : (before passed after : Option Wait) → Passed before true passed → (after ≡ passed) ⊎ (after ≡ Some Tried) → Waited before after
+waited_due before passed after passes (inl same) = record { due = true; passed = passed; passes = passes; is = inl same }
+waited_due before passed after passes (inr tried) = record { due = true; passed = passed; passes = passes; is = inr (refl, tried) }
+
+-- a command that was tried
+pub tried_or_none : (before after : Option Wait) → (before ≢ None → after ≡ Some Tried) → (before ≡ None → after ≡ None) → (after ≡ before) ⊎ (after ≡ Some Tried)
+tried_or_none None after some none = inl (none refl)
+tried_or_none (Some wait) after some none = inr (some (λ e. absurd (cc)))
+
+pub tried_begins : (before after : Option Wait) → (before ≢ None → after ≡ Some Tried) → (before ≡ None → after ≡ None) → begins_next after ≡ true
+tried_begins None after some none = ap begins_next (none refl)
+tried_begins (Some wait) after some none = ap begins_next (some (λ e. absurd (cc)))

@@ -1,23 +1,29 @@
 -- Commands that wait, one tried after another.
-use Rattle.std.proofs.Common.{◌≡◌, ◌≢◌, ◌<◌, ◌≤◌, ◌+◌, ◌∙◌, ◌⊎◌, ℕ, cond, List, [], ◌∷◌, ◌++◌, refl, sym, ap, subst, inl, inr, arith}
-use Rattle.std.specs.Prelude.{suc, Bool, true, false, nat_lt, slice_get, Option, Some, None, Result, Ok, Err, IfErr, ◌||◌}
-use Rattle.std.specs.List.{list_any}
+use Rattle.std.proofs.Common.{◌≡◌, ◌≢◌, ◌<◌, ◌≤◌, ◌+◌, ◌∙◌, ◌⊎◌, ℕ, cond, length, List, [], ◌∷◌, ◌++◌, refl, sym, ap, subst, inl, inr, arith, length-append}
+use Rattle.std.specs.Prelude.{zero, suc, Bool, true, false, nat_lt, slice_get, Option, Some, None, Result, Ok, Err, IfErr, ◌||◌}
+use Rattle.std.specs.List.{AllByRecursion, IsDistinct, list_any}
 use Rattle.std.proofs.lemmas.Bool.{cases_eq, le-ltb}
+use Rattle.std.proofs.lemmas.Map.Keys.{IsDistinct-head, IsDistinct-tail}
 use Rattle.pg_group.specs.declared.table.GroupTable.{Ghosts}
 use Rattle.pg_node.specs.declared.state.fault.NodeFault.{NodeFault}
 use Rattle.pg_node.specs.declared.state.fault.NodeFault.TheVariants.{Refused}
 use Rattle.pg_node.specs.Issued.{ports_of}
 use Rattle.pg_node.specs.Nodes.{held_by}
 use Rattle.pg_run.specs.declared.linked.LinkedNode.{LinkedNode}
+use Rattle.pg_run.specs.declared.log.NodeEvent.{NodeEvent}
+use Rattle.pg_run.specs.declared.log.NodeEvent.TheVariants as events
 use Rattle.pg_run.specs.declared.pauses.Pauses.{Pauses}
 use Rattle.pg_run.specs.Acts.{Did}
 use Rattle.pg_run.specs.Events.{Acted, IsRefusedAs, told_of_action}
-use Rattle.pg_run.specs.Follows.{node_of}
-use Rattle.pg_run.specs.Pauses.{IsOver, is_over, wait_of}
-use Rattle.pg_run.specs.Tries.{ComesTo, HasRetried, HasRetriedAll, IsNoWant, waits_at}
+use Rattle.pg_run.specs.Follows.{log_of, node_of}
+use Rattle.pg_run.specs.Logs.{IsDueRetry, LogsOnly, MayLogRetry}
+use Rattle.pg_run.specs.Pauses.{Waits, begins_next, is_due, wait_of}
+use Rattle.pg_run.specs.Tries.{ComesTo, HasRetried, IsNoWant, waits_at}
 use Rattle.pg_run.specs.Turns.{GoesOn}
-use Rattle.pg_run.proofs.Commands.{same_is, one_or_other}
+use Rattle.pg_run.proofs.Commands.{same_is, same_itself}
 use Rattle.pg_run.proofs.Following.{follows_itself}
+use Rattle.pg_run.proofs.Logging.{are_so, logs_on, logs_same}
+use Rattle.pg_run.proofs.Pausing.{waits_less}
 use Rattle.pg_run.proofs.Trying.{stays, comes_on}
 use Rattle.pg_step.specs.declared.command.OpId.{OpId}
 use Rattle.pg_step.specs.declared.refusal.Refusal.{Refusal}
@@ -44,12 +50,118 @@ is_at op (o ∷ ops) e = go (same_op o op) refl (λ any. is_at op ops any) e
     go true same later any = record { place = 0; there = ap Some (same_is o op same) }
     go false same later any = let behind = later any in record { place = suc behind.place; there = behind.there }
 
+pub none_at : (op : OpId) (ops : List OpId) → list_any (λ other. same_op other op) ops ≡ false → (k : ℕ) → slice_get ops k ≡ Some op → ⊥
+none_at op [] e k there = absurd (cc)
+none_at op (o ∷ ops) e k there = go (same_op o op) refl e k there (λ any j. none_at op ops any j)
+  where
+    first_of : Option OpId → OpId
+    first_of None = o
+    first_of (Some x) = x
+
+    go : (b : Bool) → same_op o op ≡ b → (b || list_any (λ other. same_op other op) ops) ≡ false → (k : ℕ) → slice_get (o ∷ ops) k ≡ Some op
+        → (list_any (λ other. same_op other op) ops ≡ false → (j : ℕ) → slice_get ops j ≡ Some op → ⊥) → ⊥
+    go true same any k there later = absurd (cc)
+    go false same any zero there later =
+        let differs : same_op op op ≡ false = subst (λ x. same_op x op ≡ false) (ap first_of there) same in
+        let is = same_itself op in
+        absurd (cc)
+    go false same any (suc k) there later = later any k there
+
+-- no command stands at two places
+apart_head : (o : OpId) (ops : List OpId) → AllByRecursion (λ other. same_op o other ≡ false) ops → (k : ℕ) → slice_get ops k ≡ Some o → ⊥
+apart_head o [] h k there = absurd (cc)
+apart_head o (x ∷ ops) h zero there =
+    let differs : same_op o o ≡ false = subst (λ y. same_op o y ≡ false) (some_op o x o there) h.0 in
+    let is = same_itself o in
+    absurd (cc)
+  where
+    some_op : (none x y : OpId) → Some x ≡ Some y → x ≡ y
+    some_op none x y e = ap (first_of none) e
+      where
+        first_of : OpId → Option OpId → OpId
+        first_of none None = none
+        first_of none (Some z) = z
+apart_head o (x ∷ ops) h (suc k) there = apart_head o ops h.1 k there
+
+pub apart_at : (ops : List OpId) → IsDistinct same_op ops → (j k : ℕ) (op : OpId) → j < k → slice_get ops j ≡ Some op → slice_get ops k ≡ Some op → ⊥
+apart_at [] once j k op low first second = absurd (cc)
+apart_at (o ∷ ops) once j zero op low first second = absurd (omega (arith, low))
+apart_at (o ∷ ops) once zero (suc k) op low first second = apart_head o ops (IsDistinct-head same_op o ops once) k (second ∙ sym first)
+apart_at (o ∷ ops) once (suc j) (suc k) op low first second = apart_at ops (IsDistinct-tail same_op o ops once) j k op (omega (arith, low)) first second
+
+-- ---- retries below a place
+
+-- one of these commands, below a place
+pub record IsBelow (op : OpId) (ops : List OpId) (place : ℕ) : Type 0 where
+  pub at : ℕ
+  pub low : at < place
+  pub there : slice_get ops at ≡ Some op
+
+abbrev pub IsRetryBelow : List OpId → ℕ → (lost : Bool) → Pauses → Pauses → NodeEvent → Type 0
+IsRetryBelow ops place lost p q (events.Take peer) = ⊥
+IsRetryBelow ops place lost p q (events.Command port command) = ⊥
+IsRetryBelow ops place lost p q (events.Retry op) = IsBelow op ops place × (is_due lost (wait_of p op) ≡ true) × (begins_next (wait_of q op) ≡ true)
+IsRetryBelow ops place lost p q (events.SeeLoss peer) = ⊥
+
+pub due_below : (ops : List OpId) (place : ℕ) (lost : Bool) (p q : Pauses) (event : NodeEvent) → IsRetryBelow ops place lost p q event → IsDueRetry lost p q event
+due_below ops place lost p q (events.Take peer) h = h
+due_below ops place lost p q (events.Command port command) h = h
+due_below ops place lost p q (events.Retry op) h = (h.1, h.2)
+due_below ops place lost p q (events.SeeLoss peer) h = h
+
+pub logs_due : (ops : List OpId) (place : ℕ) (lost : Bool) (p q : Pauses) (log log2 : List (ℕ × NodeEvent)) → LogsOnly (IsRetryBelow ops place lost p q) log log2 → LogsOnly (IsDueRetry lost p q) log log2
+logs_due ops place lost p q log log2 h = record {
+  more = h.more;
+  grew = h.grew;
+  each = are_so (IsRetryBelow ops place lost p q) (IsDueRetry lost p q) (due_below ops place lost p q) h.more h.each;
+}
+
+longer : (log : List (ℕ × NodeEvent)) (entry : ℕ × NodeEvent) → log ≡ log ++ entry ∷ [] → ⊥
+longer log entry e = absurd (let n = ap length e ∙ length-append log (entry ∷ []) in omega (arith, n))
+
+module _ (ops : List OpId) (once : IsDistinct same_op ops) (place : ℕ) (op : OpId) (at : slice_get ops place ≡ Some op) (lost : Bool) (p q r : Pauses)
+    (others : (other : OpId) → other ≢ op → wait_of r other ≡ wait_of q other) where
+  apart_below : (o : OpId) → IsBelow o ops place → o ≢ op
+  apart_below o below same = apart_at ops once below.at place op below.low (below.there ∙ ap Some same) at
+
+  one_further : (event : NodeEvent) → IsRetryBelow ops place lost p q event → IsRetryBelow ops (place + 1) lost p r event
+  one_further (events.Take peer) h = h
+  one_further (events.Command port command) h = h
+  one_further (events.Retry o) h = (
+    record { at = h.0.at; low = omega (arith, h.0.low); there = h.0.there },
+    h.1,
+    ap begins_next (others o (apart_below o h.0)) ∙ h.2,
+  )
+  one_further (events.SeeLoss peer) h = h
+
+  -- what one more logs
+  pub logs_one_more : (log log2 log3 : List (ℕ × NodeEvent)) → wait_of q op ≡ wait_of p op → LogsOnly (IsRetryBelow ops place lost p q) log log2 → MayLogRetry op r log2 log3
+      → (is_due lost (wait_of q op) ≡ false → log3 ≡ log2) → LogsOnly (IsRetryBelow ops (place + 1) lost p r) log log3
+  logs_one_more log log2 log3 same was (inl still) spared = record {
+    more = was.more;
+    grew = still ∙ was.grew;
+    each = are_so (IsRetryBelow ops place lost p q) (IsRetryBelow ops (place + 1) lost p r) one_further was.more was.each;
+  }
+  logs_one_more log log2 log3 same was (inr retry) spared = go (is_due lost (wait_of q op)) refl
+    where
+      go : (b : Bool) → is_due lost (wait_of q op) ≡ b → LogsOnly (IsRetryBelow ops (place + 1) lost p r) log log3
+      go false not_due = absurd (longer log2 (retry.clock, events.Retry op) (sym (spared not_due) ∙ retry.grew))
+      go true due = logs_on (IsRetryBelow ops (place + 1) lost p r) log log2 log3
+          (record { more = was.more; grew = was.grew; each = are_so (IsRetryBelow ops place lost p q) (IsRetryBelow ops (place + 1) lost p r) one_further was.more was.each })
+          (record {
+            more = (retry.clock, events.Retry op) ∷ [];
+            grew = retry.grew;
+            each = ((record { at = place; low = omega arith; there = at }, ap (is_due lost) (sym same) ∙ due, retry.begins), tt);
+          })
+
 module _ {T L I : Type 0} {g : Ghosts T} (accepts : L → List ℕ → L → Type 0) (gives : I → List ℕ → I → Type 0) where
-  -- Those below a place were tried whose pause was over; and of each command the pause is over still, or it was tried.
-  pub record RetriedBelow (ops : List OpId) (place : ℕ) (whole : Bool) (pauses pauses2 : Pauses) (a b : LinkedNode T L I g) : Type 0 where
+  -- Those below a place fared as they are to: each that was due was tried, a turn passed for each, and only due ones were tried.
+  pub record RetriedBelow (ops : List OpId) (place : ℕ) (lost whole : Bool) (pauses pauses2 : Pauses) (a b : LinkedNode T L I g) : Type 0 where
     pub goes : GoesOn accepts gives a b
-    pub tried : whole ≡ true → (k : ℕ) (op : OpId) → k < place → slice_get ops k ≡ Some op → IsOver op pauses → HasRetried accepts gives op a b
-    pub over : whole ≡ true → (op : OpId) → IsOver op pauses → IsOver op pauses2 ⊎ HasRetried accepts gives op a b
+    pub tried : whole ≡ true → (k : ℕ) (op : OpId) → k < place → slice_get ops k ≡ Some op → is_due lost (wait_of pauses op) ≡ true → HasRetried accepts gives op a b
+    pub waits : (k : ℕ) (op : OpId) → k < place → slice_get ops k ≡ Some op → Waits lost whole (wait_of pauses op) (wait_of pauses2 op)
+    pub others : (op : OpId) → ((k : ℕ) → k < place → slice_get ops k ≡ Some op → ⊥) → wait_of pauses2 op ≡ wait_of pauses op
+    pub logs : LogsOnly (IsRetryBelow ops place lost pauses pauses2) (log_of a) (log_of b)
 
 module _ {T L I : Type 0} {g : Ghosts T} (accepts : L → List ℕ → L → Type 0) (gives : I → List ℕ → I → Type 0)
     (link_rests : (a : L) → accepts a [] a) (inlet_rests : (a : I) → gives a [] a)
@@ -116,61 +228,62 @@ module _ {T L I : Type 0} {g : Ghosts T} (accepts : L → List ℕ → L → Typ
 
   -- ---- one after another
 
-  pub retried_first : (ops : List OpId) (whole : Bool) (pauses : Pauses) (a : LinkedNode T L I g) → GoesOn accepts gives a a → RetriedBelow accepts gives ops 0 whole pauses pauses a a
-  retried_first ops whole pauses a goes = record {
+  pub retried_first : (ops : List OpId) (lost whole : Bool) (pauses : Pauses) (a : LinkedNode T L I g) → GoesOn accepts gives a a → RetriedBelow accepts gives ops 0 lost whole pauses pauses a a
+  retried_first ops lost whole pauses a goes = record {
     goes = goes;
     tried = λ is k op low. absurd (omega (arith, low));
-    over = λ is op over. inl over;
+    waits = λ k op low. absurd (omega (arith, low));
+    others = λ op none. refl;
+    logs = logs_same (IsRetryBelow ops 0 lost pauses pauses) (log_of a) (log_of a) refl;
   }
 
-  pub retried_next : (ops : List OpId) (place : ℕ) (op : OpId) (before here both : Bool) (p q r : Pauses) (a b c : LinkedNode T L I g) → slice_get ops place ≡ Some op
-      → (both ≡ true → before ≡ true) → (both ≡ true → here ≡ true) → RetriedBelow accepts gives ops place before p q a b
-      → GoesOn accepts gives a c → GoesOn accepts gives b c → (here ≡ true → IsOver op q → HasRetried accepts gives op b c)
-      → ((other : OpId) → other ≢ op → wait_of r other ≡ wait_of q other) → RetriedBelow accepts gives ops (place + 1) both p r a c
-  retried_next ops place op before here both p q r a b c at first second was goes step tried others = record {
+  pub retried_next : (ops : List OpId) → IsDistinct same_op ops → (place : ℕ) (op : OpId) (lost before here both : Bool) (p q r : Pauses) (a b c : LinkedNode T L I g) → slice_get ops place ≡ Some op
+      → (both ≡ true → before ≡ true) → (both ≡ true → here ≡ true) → RetriedBelow accepts gives ops place lost before p q a b
+      → GoesOn accepts gives a c → GoesOn accepts gives b c → (here ≡ true → is_due lost (wait_of q op) ≡ true → HasRetried accepts gives op b c)
+      → Waits lost here (wait_of q op) (wait_of r op) → MayLogRetry op r (log_of b) (log_of c) → (is_due lost (wait_of q op) ≡ false → log_of c ≡ log_of b)
+      → ((other : OpId) → other ≢ op → wait_of r other ≡ wait_of q other) → RetriedBelow accepts gives ops (place + 1) lost both p r a c
+  retried_next ops once place op lost before here both p q r a b c at first second was goes step tried waits logged spared others = record {
     goes = goes;
-    tried = λ is k o low there over. by_place is k o low there over (cases_eq k place);
-    over = λ is o over. by_op is o (was.over (first is) o over) (one_or_other o op);
+    tried = λ is k o low there due. by_place is k o low there due (cases_eq k place);
+    waits = λ k o low there. waits_at_place k o low there (cases_eq k place);
+    others = λ o none. others o (λ e. none place (omega arith) (at ∙ ap Some (sym e))) ∙ was.others o (λ k low there. none k (omega (arith, low)) there);
+    logs = logs_one_more ops once place op at lost p q r others (log_of a) (log_of b) (log_of c) same was.logs logged spared;
   }
     where
       one_of : Option OpId → OpId
       one_of None = op
       one_of (Some o) = o
 
-      later : (o : OpId) → HasRetried accepts gives o a b → HasRetried accepts gives o a c
-      later o retried = retried_between o a a b c (stay a) retried (step.acts, step.follows)
+      -- it stands below no place, and so waits as it did
+      same : wait_of q op ≡ wait_of p op
+      same = was.others op (λ k low there. apart_at ops once k place op low there at)
 
-      now : both ≡ true → IsOver op q ⊎ HasRetried accepts gives op a b → HasRetried accepts gives op a c
-      now is (inl over) = retried_between op a b c c (was.goes.acts, was.goes.follows) (tried (second is) over) (stay c)
-      now is (inr retried) = later op retried
+      is_op : (k : ℕ) (o : OpId) → slice_get ops k ≡ Some o → k ≡ place → op ≡ o
+      is_op k o there e = ap one_of (sym at ∙ (ap (slice_get ops) (sym e) ∙ there))
 
-      by_place : both ≡ true → (k : ℕ) (o : OpId) → k < place + 1 → slice_get ops k ≡ Some o → IsOver o p → (k ≡ place) ⊎ (k ≢ place) → HasRetried accepts gives o a c
-      by_place is k o low there over (inl e) =
-          let same : op ≡ o = ap one_of (sym at ∙ (ap (slice_get ops) (sym e) ∙ there)) in
-          subst (λ x. HasRetried accepts gives x a c) same (now is (was.over (first is) op (subst (λ x. IsOver x p) (sym same) over)))
-      by_place is k o low there over (inr apart) = later o (was.tried (first is) k o (omega (arith, low, apart)) there over)
+      by_place : both ≡ true → (k : ℕ) (o : OpId) → k < place + 1 → slice_get ops k ≡ Some o → is_due lost (wait_of p o) ≡ true → (k ≡ place) ⊎ (k ≢ place) → HasRetried accepts gives o a c
+      by_place is k o low there due (inl e) =
+          let is_o : op ≡ o = is_op k o there e in
+          subst (λ x. HasRetried accepts gives x a c) is_o
+          (retried_between op a b c c (was.goes.acts, was.goes.follows) (tried (second is) (ap (is_due lost) same ∙ subst (λ x. is_due lost (wait_of p x) ≡ true) (sym is_o) due)) (stay c))
+      by_place is k o low there due (inr apart) = retried_between o a a b c (stay a) (was.tried (first is) k o (omega (arith, low, apart)) there due) (step.acts, step.follows)
 
-      by_op : both ≡ true → (o : OpId) → IsOver o q ⊎ HasRetried accepts gives o a b → (o ≡ op) ⊎ (o ≢ op) → IsOver o r ⊎ HasRetried accepts gives o a c
-      by_op is o (inr retried) same = inr (later o retried)
-      by_op is o (inl over) (inr apart) = inl (ap is_over (others o apart) ∙ over)
-      by_op is o (inl over) (inl same) = inr (subst (λ x. HasRetried accepts gives x a c) (sym same) (now is (inl (subst (λ x. IsOver x q) same over))))
+      waits_at_place : (k : ℕ) (o : OpId) → k < place + 1 → slice_get ops k ≡ Some o → (k ≡ place) ⊎ (k ≢ place) → Waits lost both (wait_of p o) (wait_of r o)
+      waits_at_place k o low there (inl e) =
+          subst (λ x. Waits lost both (wait_of p x) (wait_of r x)) (is_op k o there e) (subst (λ w. Waits lost both w (wait_of r op)) same (waits_less lost here both second _ _ waits))
+      waits_at_place k o low there (inr apart) =
+          let below : k < place = omega (arith, low, apart) in
+          subst (Waits lost both (wait_of p o)) (sym (others o (λ e. apart_at ops once k place op below (there ∙ ap Some e) at)))
+          (waits_less lost before both first _ _ (was.waits k o below there))
 
   -- ---- all that wait
 
-  pub retried_all : (pauses : Pauses) (ops : List OpId) (a b : LinkedNode T L I g) → ((op : OpId) → list_any (λ other. same_op other op) ops ≡ waits_at (node_of a) op)
-      → GoesOn accepts gives a b → ((k : ℕ) (op : OpId) → slice_get ops k ≡ Some op → IsOver op pauses → HasRetried accepts gives op a b) → HasRetriedAll accepts gives pauses a b
-  retried_all pauses ops a b each goes tried = record {
-    middle = a;
-    first = stay a;
-    each = λ op waits over. let at = is_at op ops (each op ∙ waits) in tried at.place op at.there over;
-    rest = (goes.acts, goes.follows);
-  }
+  pub tried_where_waits : (ops : List OpId) (lost : Bool) (pauses : Pauses) (a b : LinkedNode T L I g) → ((op : OpId) → list_any (λ other. same_op other op) ops ≡ waits_at (node_of a) op)
+      → ((k : ℕ) (op : OpId) → slice_get ops k ≡ Some op → is_due lost (wait_of pauses op) ≡ true → HasRetried accepts gives op a b)
+      → (op : OpId) → waits_at (node_of a) op ≡ true → is_due lost (wait_of pauses op) ≡ true → HasRetried accepts gives op a b
+  tried_where_waits ops lost pauses a b each tried op waits due = let at = is_at op ops (each op ∙ waits) in tried at.place op at.there due
 
-  -- something happened before, and behind it
-  pub retried_still : (pauses : Pauses) (a b c d : LinkedNode T L I g) → ComesTo accepts gives a b → HasRetriedAll accepts gives pauses b c → ComesTo accepts gives c d → HasRetriedAll accepts gives pauses a d
-  retried_still pauses a b c d h all k = record {
-    middle = all.middle;
-    first = on a b all.middle h all.first;
-    each = λ op waits over. retried_between op all.middle all.middle c d (stay all.middle) (all.each op waits over) k;
-    rest = on all.middle c d all.rest k;
-  }
+-- what is so of each of these commands is so of each that waits
+pub where_waits : (ops : List OpId) (lost whole : Bool) (p q : Pauses) (waits : OpId → Bool) → ((op : OpId) → list_any (λ other. same_op other op) ops ≡ waits op)
+    → ((k : ℕ) (op : OpId) → slice_get ops k ≡ Some op → Waits lost whole (wait_of p op) (wait_of q op)) → (op : OpId) → waits op ≡ true → Waits lost whole (wait_of p op) (wait_of q op)
+where_waits ops lost whole p q waits each so op is = let at = is_at op ops (each op ∙ is) in so at.place op at.there

@@ -1,6 +1,7 @@
 pub mod Acts
 pub mod Events
 pub mod Follows
+pub mod Logs
 pub mod Notices
 pub mod Pauses
 pub mod Ports

@@ -1,5 +1,5 @@
 -- What a clause sees of the pauses of commands that wait.
-use Rattle.std.specs.Prelude.{◌≡◌, ℕ, ◌-◌, ◌≤◌, Bool, true, false, cond, nat_le, List, [], ◌∷◌, Option, Some, None}
+use Rattle.std.specs.Prelude.{◌≡◌, ◌⊎◌, ℕ, ◌-◌, ◌≤◌, ◌||◌, Bool, true, false, cond, nat_le, List, [], ◌∷◌, Option, Some, None}
 use Rattle.pg_run.specs.declared.pauses.Pause.{Pause}
 use Rattle.pg_run.specs.declared.pauses.Pauses.{Pauses}
 use Rattle.pg_run.specs.declared.pauses.Wait.{Wait}
@@ -22,9 +22,16 @@ is_over (Some Due) = true
 is_over (Some Tried) = false
 is_over None = false
 
--- the pause of a command is over by the next turn
-abbrev pub IsOver : OpId → Pauses → Type 0
-IsOver op pauses = is_over (wait_of pauses op) ≡ true
+-- a turn tries a command whose pause is over by it, and where a loss was seen each one that waits
+abbrev pub is_due : Bool → Option Wait → Bool
+is_due lost wait = lost || is_over wait
+
+-- the next turn that passes begins a pause
+abbrev pub begins_next : Option Wait → Bool
+begins_next (Some (Turns left)) = false
+begins_next (Some Due) = false
+begins_next (Some Tried) = true
+begins_next None = true
 
 -- a pause begins, of 1 to 4,096 turns
 pub record Begins (due : Bool) (after : Option Wait) : Type 0 where
@@ -41,3 +48,19 @@ Passed (Some (Turns left)) due after = (due ≡ nat_le left 1) × (after ≡ Som
 Passed (Some Due) due after = (due ≡ true) × (after ≡ Some Due)
 Passed (Some Tried) due after = Begins due after
 Passed None due after = Begins due after
+
+-- ---- in a turn
+
+-- A turn passed for a command that waits, and where its pause was over then the command may have been tried.
+pub record Waited (before after : Option Wait) : Type 0 where
+  pub due : Bool
+  pub passed : Option Wait
+  pub passes : Passed before due passed
+  pub is : (after ≡ passed) ⊎ ((due ≡ true) × (after ≡ Some Tried))
+
+-- What a turn makes of how a command waits, by whether it saw a loss and whether it was whole: a whole one passes for it; where a loss
+-- was seen none passes, and it may have been tried.
+abbrev pub Waits : (lost whole : Bool) → Option Wait → Option Wait → Type 0
+Waits false true before after = Waited before after
+Waits false false before after = (after ≡ before) ⊎ Waited before after
+Waits true whole before after = (after ≡ before) ⊎ (after ≡ Some Tried)

@@ -1,10 +1,14 @@
 -- What a clause sees of the two ends of a port.
-use Rattle.std.specs.Prelude.{◌≡◌, ℕ, ◌<◌, ◌≤◌, ◌-◌, ◌^◌, List, [], ◌∷◌, ◌++◌, Option, Some, None, length, min, take}
+use Rattle.std.specs.Prelude.{◌≡◌, ℕ, ◌<◌, ◌≤◌, ◌-◌, ◌^◌, Bool, false, nat_eq, List, [], ◌∷◌, ◌++◌, Option, Some, None, length, min, take}
+use Rattle.std.specs.List.{list_any}
 use Rattle.pg_ring.specs.Slots.{given, taken, AreSlots, SameSlotOut, SameSlotIn}
+use Rattle.pg_run.specs.declared.pauses.Pauses.{Pauses}
 use Rattle.pg_run.specs.declared.port.Asked.{Asked}
 use Rattle.pg_run.specs.declared.port.Client.{Client}
 use Rattle.pg_run.specs.declared.port.Port.{Port}
+use Rattle.pg_run.specs.Pauses.{wait_of}
 use Rattle.pg_step.specs.declared.answer.Answer.{Answer}
+use Rattle.pg_step.specs.declared.command.OpId.{OpId}
 
 -- ---- the client's end
 
@@ -100,6 +104,24 @@ pub record Hands (answers : List Answer) (a b : Port) : Type 0 where
   pub asked : asked b ≡ asked a
   pub kept : kept_by b ≡ kept_by a
   pub handed : HandedOver answers a → HandedOver answers b
+
+-- an answer to a command of this number was handed over
+abbrev pub has_number : ℕ → List Answer → Bool
+has_number number answers = list_any (λ (answer : Answer). nat_eq answer.number number) answers
+
+-- an answer to this command was, if it is one of the port's
+abbrev pub was_handed : OpId → Port → Bool
+was_handed op port = has_number op.number (handed port)
+
+-- an answer of this number was handed over, or none
+abbrev pub HandsNext : Option ℕ → Port → Port → Type 0
+HandsNext (Some number) a b = (answer : Answer) × (answer.number ≡ number) × (handed b ≡ handed a ++ answer ∷ [])
+HandsNext None a b = handed b ≡ handed a
+
+-- Where answers were handed over at the port at a place: what was handed over is so still, and how any other command waits stays.
+pub record ForgetsHanded (place : ℕ) (a b : Port) (pauses pauses2 : Pauses) : Type 0 where
+  pub earlier : (op : OpId) → was_handed op b ≡ false → was_handed op a ≡ false
+  pub stays : (op : OpId) → (op.port ≡ place → was_handed op b ≡ false) → wait_of pauses2 op ≡ wait_of pauses op
 
 -- ---- both
 

@@ -11,7 +11,7 @@ use Rattle.pg_run.specs.declared.run.Turned.{Turned}
 use Rattle.pg_run.specs.declared.run.Turned.TheVariants.{Whole, Short, Stopped}
 use Rattle.pg_run.specs.declared.running.Ran.{Ran}
 use Rattle.pg_run.specs.Notices.{NoticesGo, inlet_of}
-use Rattle.pg_run.specs.Tries.{WholeTurn}
+use Rattle.pg_run.specs.Tries.{RetriedBy, WholeTurn}
 use Rattle.pg_run.specs.Turns.{ServesSeeing}
 
 module _ {T L I K : Type 0} {g : Ghosts T} where
@@ -71,6 +71,7 @@ module _ {T L I K : Type 0} {g : Ghosts T} (accepts : L → List ℕ → L → T
     pub runs : Runs accepts gives a b
     pub stop : TurnedTo gives (stop_of a) turned (stop_of b)
     pub done : WholeTurn accepts gives turned a b
+    pub retried : RetriedBy accepts gives turned a b
 
   -- these turns, one after another
   abbrev pub TurnsMade : List Turned → NodeRun T L I K g → NodeRun T L I K g → Type 0

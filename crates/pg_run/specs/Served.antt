@@ -1,7 +1,10 @@
 -- What a phase of a turn makes of each port.
-use Rattle.std.specs.Prelude.{◌≡◌, ◌≢◌, ◌<◌, ◌^◌, ℕ, get_or, length, List}
+use Rattle.std.specs.Prelude.{◌≡◌, ◌≢◌, ◌<◌, ◌^◌, ℕ, false, get_or, length, List}
+use Rattle.pg_run.specs.declared.pauses.Pauses.{Pauses}
 use Rattle.pg_run.specs.declared.port.Port.{Port}
-use Rattle.pg_run.specs.Ports.{IsServed, kept_by}
+use Rattle.pg_run.specs.Pauses.{wait_of}
+use Rattle.pg_run.specs.Ports.{IsServed, kept_by, was_handed}
+use Rattle.pg_step.specs.declared.command.OpId.{OpId}
 
 -- the port at a place was served
 abbrev pub IsServedAt : ℕ → List Port → List Port → Type 0
@@ -18,3 +21,8 @@ StayBut place ports ports2 = (other : ℕ) (none : Port) → other ≢ place →
 -- each port keeps the command that it kept
 abbrev pub KeepTheSame : List Port → List Port → Type 0
 KeepTheSame ports ports2 = (place : ℕ) (none : Port) → kept_by (get_or ports2 place none) ≡ kept_by (get_or ports place none)
+
+-- Of all ports: what was handed over at one is so still, and how a command waits of which no answer was handed over stays.
+pub record AllForgetHanded (ports ports2 : List Port) (pauses pauses2 : Pauses) : Type 0 where
+  pub earlier : (op : OpId) (none : Port) → was_handed op (get_or ports2 op.port none) ≡ false → was_handed op (get_or ports op.port none) ≡ false
+  pub stays : (op : OpId) (none : Port) → was_handed op (get_or ports2 op.port none) ≡ false → wait_of pauses2 op ≡ wait_of pauses op

@@ -1,6 +1,8 @@
 //! The phase of a turn in which a loss is seen.
 
 ghost use Rattle.std.specs.Prelude.{◌<◌, length};
+ghost use Rattle.pg_run.specs.Follows.{log_of};
+ghost use Rattle.pg_run.specs.Logs.{LogsLoss};
 ghost use Rattle.pg_run.specs.Turns.{SeesTold};
 
 use crate::linked::LinkedNode;
@@ -15,7 +17,8 @@ pub(crate) fn see_next<T: GroupTable + Drop, L: Link + Drop, I: Inlet + Drop>(
     linked: &mut LinkedNode<T, L, I>,
     notices: &mut Notices,
 ) -> Phase
-    ensures { SeesTold L.accepts I.gives linked.old notices.old linked.new notices.new }
+    ensures sees { SeesTold L.accepts I.gives linked.old notices.old linked.new notices.new }
+    ensures logs { LogsLoss result.busy (log_of linked.old) (log_of linked.new) }
 {
     let Some(notice) = notices.next() else {
         return Phase::idle();
@@ -34,7 +37,8 @@ pub(crate) fn see_next<T: GroupTable + Drop, L: Link + Drop, I: Inlet + Drop>(
 }
 
 impl<T: GroupTable + Drop, L: Link + Drop, I: Inlet + Drop> LinkedNode<T, L, I> {
-    ghost use Rattle.pg_run.specs.Follows.{peers_of};
+    ghost use Rattle.pg_run.specs.Follows.{log_of, peers_of};
+    ghost use Rattle.pg_run.specs.Logs.{LogsLoss, has_seen};
     ghost use Rattle.pg_run.specs.Turns.{SeesOnce};
 
     /// The loss of which a notice tells is seen where nothing more comes in of the peer and no whole frame of it is left; whether it
@@ -43,7 +47,8 @@ impl<T: GroupTable + Drop, L: Link + Drop, I: Inlet + Drop> LinkedNode<T, L, I> 
     /// Faults: those of `pull` and `see_loss`, by which it is not seen.
     fn see_when_taken(&mut self, notice: Notice) -> Result<bool, NodeFault>
         requires place { notice.peer < length (peers_of self.old) }
-        ensures { SeesOnce L.accepts I.gives notice result self.old self.new }
+        ensures sees { SeesOnce L.accepts I.gives notice result self.old self.new }
+        ensures logs { LogsLoss (has_seen result) (log_of self.old) (log_of self.new) }
     {
         match self.pull(notice.peer, PULL_LEN) {
             Ok(0) | Err(NodeFault::Damaged) => self.see(notice),
@@ -57,7 +62,8 @@ impl<T: GroupTable + Drop, L: Link + Drop, I: Inlet + Drop> LinkedNode<T, L, I> 
     /// Faults: those of `see_loss`.
     fn see(&mut self, notice: Notice) -> Result<bool, NodeFault>
         requires place { notice.peer < length (peers_of self.old) }
-        ensures { SeesOnce L.accepts I.gives notice result self.old self.new }
+        ensures sees { SeesOnce L.accepts I.gives notice result self.old self.new }
+        ensures logs { LogsLoss (has_seen result) (log_of self.old) (log_of self.new) }
     {
         match self.see_loss(notice.peer, notice.last) {
             Ok(()) => Ok(true),

@@ -1,10 +1,11 @@
 //! How long commands that were refused the lock wait until they are tried again.
 
-ghost use Rattle.std.specs.Prelude.{◌≡◌, ◌≢◌, ◌<◌, ◌≤◌, ℕ, length, slice_get, Some, None, IfOk, IfSome, IfNone, OnErr};
+ghost use Rattle.std.specs.Prelude.{◌≡◌, ◌≢◌, ◌<◌, ◌≤◌, ℕ, length, not, slice_get, Some, None, IfOk, IfSome, IfNone, OnErr};
 ghost use Rattle.pg_run.specs.declared.pauses.Pause.{Pause};
 ghost use Rattle.pg_run.specs.declared.pauses.Wait.TheVariants.{Tried};
 ghost use Rattle.pg_run.specs.Pauses.{Passed, wait_of};
 ghost use Rattle.pg_step.specs.declared.command.OpId.{OpId};
+ghost use Rattle.pg_step.specs.Attempts.{same_op};
 
 use pg_step::OpId;
 use rand_core::Rng;
@@ -45,6 +46,13 @@ fn pause_after<K: Rng>(refused: u32, generator: &mut K) -> u32
 {
     let bits = refused.saturating_add(3).min(12);
     1 + (generator.next_u32() % (1 << bits)).min(LONGEST_PAUSE - 1)
+}
+
+/// Whether a pause is that of another command.
+fn is_of_another(pause: &Pause, op: OpId) -> bool
+    ensures { result ≡ not (same_op pause.now.op op) }
+{
+    !(pause.op == op)
 }
 
 impl Pauses {
@@ -98,17 +106,12 @@ impl Pauses {
         }
     }
 
-    /// A command was answered. It takes no memory: O(n) in the commands that have a pause.
+    /// A command was answered: it has no pause then. It takes no memory: O(n) in the commands that have a pause.
     pub fn forget(&mut self, op: OpId)
-        ensures none { wait_of self.old op ≡ None → wait_of self.new op ≡ None }
+        ensures forgotten { wait_of self.new op ≡ None }
         ensures others { (other : OpId) → other ≢ op → wait_of self.new other ≡ wait_of self.old other }
     {
-        match self.place_of(op) {
-            Some(place) => {
-                self.entries.remove(place);
-            }
-            None => {}
-        }
+        self.entries.retain(|pause| is_of_another(pause, op));
     }
 
     /// The place of the pause of a command, if it has one.

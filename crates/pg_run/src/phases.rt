@@ -1,6 +1,6 @@
 //! The phases of a turn that are between a node and its peers.
 
-ghost use Rattle.std.specs.Prelude.{◌≡◌, ◌<◌, true, length, IfErr, IfSome};
+ghost use Rattle.std.specs.Prelude.{◌≡◌, ◌<◌, true, false, length, IfErr, IfSome};
 ghost use Rattle.pg_run.specs.Tries.{IsNoWant};
 
 use crate::linked::LinkedNode;
@@ -23,7 +23,10 @@ pub(crate) struct Phase {
 
 impl Phase {
     /// Nothing was there to be done.
-    pub(crate) fn idle() -> Phase {
+    pub(crate) fn idle() -> Phase
+        ensures whole { result.whole ≡ true }
+        ensures busy { result.busy ≡ false }
+    {
         Phase {
             whole: true,
             busy: false,
@@ -32,7 +35,8 @@ impl Phase {
 
     /// Something happened, or nothing was there to do, or this fault was told.
     pub(crate) fn of(busy: bool, fault: Option<NodeFault>) -> Phase
-        ensures { result.whole ≡ true → IfSome fault IsNoWant }
+        ensures no_want { result.whole ≡ true → IfSome fault IsNoWant }
+        ensures busy { result.busy ≡ busy }
     {
         match fault {
             Some(NodeFault::OutOfMemory | NodeFault::Refused(Refusal::ClockFull)) => {
@@ -80,7 +84,8 @@ impl Phase {
 }
 
 impl<T: GroupTable + Drop, L: Link + Drop, I: Inlet + Drop> LinkedNode<T, L, I> {
-    ghost use Rattle.pg_run.specs.Follows.{peers_of};
+    ghost use Rattle.pg_run.specs.Follows.{log_of, peers_of};
+    ghost use Rattle.pg_run.specs.Logs.{IsTake, LogsOnly};
     ghost use Rattle.pg_run.specs.Tries.{HasTried, HasTriedAll};
     ghost use Rattle.pg_run.specs.Turns.{GoesOn};
 
@@ -88,6 +93,7 @@ impl<T: GroupTable + Drop, L: Link + Drop, I: Inlet + Drop> LinkedNode<T, L, I> 
     pub(crate) fn take_all(&mut self) -> Phase
         ensures goes { GoesOn L.accepts I.gives self.old self.new }
         ensures tried { result.whole ≡ true → HasTriedAll L.accepts I.gives self.old self.new }
+        ensures logs { LogsOnly IsTake (log_of self.old) (log_of self.new) }
     {
         let mut phase = Phase::idle();
         for peer in 0..self.peer_count() {
@@ -101,6 +107,7 @@ impl<T: GroupTable + Drop, L: Link + Drop, I: Inlet + Drop> LinkedNode<T, L, I> 
         requires place { peer < length (peers_of self.old) }
         ensures goes { GoesOn L.accepts I.gives self.old self.new }
         ensures tried { result.whole ≡ true → HasTried L.accepts I.gives peer self.old self.new }
+        ensures logs { LogsOnly IsTake (log_of self.old) (log_of self.new) }
     {
         let pulled = Phase::of_pull(self.pull(peer, PULL_LEN));
         let taken = Phase::of_take(self.take(peer));
@@ -112,7 +119,8 @@ impl<T: GroupTable + Drop, L: Link + Drop, I: Inlet + Drop> LinkedNode<T, L, I> 
 
     /// What waits for each peer is put.
     pub(crate) fn put_all(&mut self) -> Phase
-        ensures { GoesOn L.accepts I.gives self.old self.new }
+        ensures goes { GoesOn L.accepts I.gives self.old self.new }
+        ensures log { log_of self.new ≡ log_of self.old }
     {
         let mut phase = Phase::idle();
         for peer in 0..self.peer_count() {

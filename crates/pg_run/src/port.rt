@@ -1,6 +1,6 @@
 //! A port, at which the commands of a client come in: the client's end, and the node's.
 
-ghost use Rattle.std.specs.Prelude.{◌≡◌, ◌<◌, ◌≤◌, ◌+◌, ◌-◌, ◌^◌, [], ◌∷◌, ◌++◌, min, length, IsTrue, IsFalse, IfErr, IfSome, IfNone, OnOk, OnErr};
+ghost use Rattle.std.specs.Prelude.{◌≡◌, ◌<◌, ◌≤◌, ◌+◌, ◌-◌, ◌^◌, [], ◌∷◌, ◌++◌, min, length, IsTrue, IsFalse, IfOk, IfErr, IfSome, IfNone, OnOk, OnErr};
 ghost use Rattle.pg_ring.specs.Slots.{taken};
 
 use crate::pauses::Pauses;
@@ -76,7 +76,7 @@ impl Client {
 }
 
 impl Port {
-    ghost use Rattle.pg_run.specs.Ports.{SamePort, Hands, GivesNext, KeepsAll, IsServed, asked, handed, kept_by, handed_count};
+    ghost use Rattle.pg_run.specs.Ports.{SamePort, ForgetsHanded, Hands, HandsNext, GivesNext, KeepsAll, IsServed, asked, handed, kept_by, handed_count};
 
     /// The next command, if one is there whose client had polled no more answers than were handed over; else it is kept, if there
     /// is one. It takes no memory.
@@ -128,7 +128,9 @@ impl Port {
     ///
     /// Error: `AllocError`, which hands over nothing.
     fn hand(&mut self, alloc: Global, answers: &[Answer]) -> Result<Option<u32>, AllocError>
-        ensures { Hands answers.now self.old self.new }
+        ensures hands { Hands answers.now self.old self.new }
+        ensures number { IfOk result (λ number. HandsNext number self.old self.new) }
+        ensures err { OnErr result (handed self.new ≡ handed self.old) }
     {
         let Some(answer) = answers.get(self.handed) else {
             return Ok(None);
@@ -169,7 +171,8 @@ impl Port {
         place: u16,
         pauses: &mut Pauses,
     ) -> Phase
-        ensures { Hands answers.now self.old self.new }
+        ensures hands { Hands answers.now self.old self.new }
+        ensures forgets { ForgetsHanded place self.old self.new pauses.old pauses.new }
     {
         let mut phase = Phase::idle();
         for _ in 0..PORT_PLACES {

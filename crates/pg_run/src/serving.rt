@@ -3,9 +3,10 @@
 ghost use Rattle.std.specs.Prelude.{◌≡◌, ◌<◌, ◌^◌, true, length};
 ghost use Rattle.pg_node.specs.Issued.{ports_of};
 ghost use Rattle.pg_node.specs.Nodes.{held_by};
-ghost use Rattle.pg_run.specs.Follows.{node_of};
+ghost use Rattle.pg_run.specs.Follows.{log_of, node_of};
+ghost use Rattle.pg_run.specs.Logs.{IsCommand, LogsOnly};
 ghost use Rattle.pg_run.specs.Ports.{IsServed};
-ghost use Rattle.pg_run.specs.Served.{AreServed, IsServedAt, StayBut, KeepTheSame};
+ghost use Rattle.pg_run.specs.Served.{AllForgetHanded, AreServed, IsServedAt, StayBut, KeepTheSame};
 ghost use Rattle.pg_run.specs.Turns.{Serves, ServesPort};
 
 use crate::linked::LinkedNode;
@@ -24,6 +25,7 @@ pub(crate) fn command_all<T: GroupTable + Drop, L: Link + Drop, I: Inlet + Drop>
     requires { length ports.old.items ≡ ports_of (held_by (node_of linked.old)) }
     ensures serves { Serves L.accepts I.gives linked.old ports.old.items linked.new ports.new.items }
     ensures served { result.whole ≡ true → AreServed ports.old.items ports.new.items }
+    ensures logs { LogsOnly IsCommand (log_of linked.old) (log_of linked.new) }
 {
     let mut phase = Phase::idle();
     for port in 0..ports.len() {
@@ -43,6 +45,7 @@ fn command_of<T: GroupTable + Drop, L: Link + Drop, I: Inlet + Drop>(
     ensures serves { Serves L.accepts I.gives linked.old ports.old.items linked.new ports.new.items }
     ensures served { result.whole ≡ true → port < 2 ^ 16 → IsServedAt port ports.old.items ports.new.items }
     ensures others { StayBut port ports.old.items ports.new.items }
+    ensures logs { LogsOnly IsCommand (log_of linked.old) (log_of linked.new) }
 {
     match u16::try_from(port) {
         Ok(place) => command_at(linked, ports, place),
@@ -61,6 +64,7 @@ fn command_at<T: GroupTable + Drop, L: Link + Drop, I: Inlet + Drop>(
     ensures serves { Serves L.accepts I.gives linked.old ports.old.items linked.new ports.new.items }
     ensures served { result.whole ≡ true → IsServedAt place ports.old.items ports.new.items }
     ensures others { StayBut place ports.old.items ports.new.items }
+    ensures logs { LogsOnly IsCommand (log_of linked.old) (log_of linked.new) }
 {
     let port = &mut ports[usize::from(place)];
     let phase = serve(linked, port, place);
@@ -79,6 +83,7 @@ fn serve<T: GroupTable + Drop, L: Link + Drop, I: Inlet + Drop>(
     requires { place < ports_of (held_by (node_of linked.old)) }
     ensures serves { ServesPort L.accepts I.gives place linked.old port.old linked.new port.new }
     ensures served { result.whole ≡ true → IsServed port.old port.new }
+    ensures logs { LogsOnly IsCommand (log_of linked.old) (log_of linked.new) }
 {
     match port.next() {
         Some(Asked { command, polled }) => match linked.command(place, command) {
@@ -102,6 +107,7 @@ pub(crate) fn hand_all<T: GroupTable + Drop, L: Link + Drop, I: Inlet + Drop>(
     requires { length ports.old.items ≡ ports_of (held_by (node_of linked.now)) }
     ensures serves { Serves L.accepts I.gives linked.now ports.old.items linked.now ports.new.items }
     ensures kept { KeepTheSame ports.old.items ports.new.items }
+    ensures forgets { AllForgetHanded ports.old.items ports.new.items pauses.old pauses.new }
 {
     let mut phase = Phase::idle();
     for port in 0..ports.len() {
@@ -122,6 +128,7 @@ fn hand_of<T: GroupTable + Drop, L: Link + Drop, I: Inlet + Drop>(
     requires place { port < length ports.old.items }
     ensures serves { Serves L.accepts I.gives linked.now ports.old.items linked.now ports.new.items }
     ensures kept { KeepTheSame ports.old.items ports.new.items }
+    ensures forgets { AllForgetHanded ports.old.items ports.new.items pauses.old pauses.new }
 {
     match u16::try_from(port) {
         Ok(place) => hand_at(alloc, linked, ports, pauses, place),
@@ -141,6 +148,7 @@ fn hand_at<T: GroupTable + Drop, L: Link + Drop, I: Inlet + Drop>(
     requires place { place < length ports.old.items }
     ensures serves { Serves L.accepts I.gives linked.now ports.old.items linked.now ports.new.items }
     ensures kept { KeepTheSame ports.old.items ports.new.items }
+    ensures forgets { AllForgetHanded ports.old.items ports.new.items pauses.old pauses.new }
 {
     let answers = linked.node().state().answers(place);
     let port = &mut ports[usize::from(place)];

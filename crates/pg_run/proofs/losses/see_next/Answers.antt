@@ -2,15 +2,15 @@ use Rattle.std.proofs.Common.{[]}
 use Rattle.pg_run.proofs.GoingOn.{goes_itself}
 use Rattle.pg_run.proofs.losses.see_next.Goals as goal
 
-pub returns-in_default : goal.returns-in_default
-returns-in_default g c = record {
+pub returns-in_default-clause-sees : goal.returns-in_default-clause-sees
+returns-in_default-clause-sees g c = record {
   losses = [];
   going = goes_itself g.L.Link.accepts g.I.Inlet.gives g.met.L.Link.rests g.met.I.Inlet.rests c.args.linked.now;
   told = c.next.ensures.goes;
 }
 
-pub returns-then-notice-peer_count : goal.returns-then-notice-peer_count
-returns-then-notice-peer_count g c = record {
+pub returns-then-notice-peer_count-clause-sees : goal.returns-then-notice-peer_count-clause-sees
+returns-then-notice-peer_count-clause-sees g c = record {
   losses = [];
   going = goes_itself g.L.Link.accepts g.I.Inlet.gives g.met.L.Link.rests g.met.I.Inlet.rests c.args.linked.now;
   told = c.next.ensures.goes;

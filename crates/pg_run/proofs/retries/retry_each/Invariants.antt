@@ -2,4 +2,4 @@ use Rattle.pg_run.proofs.Retrying.{RetriedBelow}
 use Rattle.pg_run.proofs.retries.retry_each.Given as goal
 
 abbrev pub invariant-loop-place : goal.invariant-loop-place
-invariant-loop-place g l = RetriedBelow g.L.Link.accepts g.I.Inlet.gives l.fn.ops l.place l.phase.whole l.fn.pauses l.pauses l.fn.linked l.linked
+invariant-loop-place g l = RetriedBelow g.L.Link.accepts g.I.Inlet.gives l.fn.ops l.place l.fn.at_once l.phase.whole l.fn.pauses l.pauses l.fn.linked l.linked

@@ -41,7 +41,7 @@ loop-turn-preserved g c =
           let h = was.4.4 in (
             ts ++ Whole ∷ [],
             turns_push g.L.Link.accepts g.I.Inlet.gives ts Whole c.args.run c.loop-turn.run c.turn.new.self was.4.1
-                (record { runs = c.turn.ensures.runs; stop = rw w.in-Whole.is at c.turn.ensures.stop; done = rw w.in-Whole.is at c.turn.ensures.done }),
+                (record { runs = c.turn.ensures.runs; stop = rw w.in-Whole.is at c.turn.ensures.stop; done = rw w.in-Whole.is at c.turn.ensures.done; retried = rw w.in-Whole.is at c.turn.ensures.retried }),
             omega arith,
             omega arith,
             omega arith,
@@ -55,7 +55,7 @@ loop-turn-preserved g c =
           let h = was.4.4 in (
             ts ++ Short ∷ [],
             turns_push g.L.Link.accepts g.I.Inlet.gives ts Short c.args.run c.loop-turn.run c.turn.new.self was.4.1
-                (record { runs = c.turn.ensures.runs; stop = rw w.in-Short.is at c.turn.ensures.stop; done = rw w.in-Short.is at c.turn.ensures.done }),
+                (record { runs = c.turn.ensures.runs; stop = rw w.in-Short.is at c.turn.ensures.stop; done = rw w.in-Short.is at c.turn.ensures.done; retried = rw w.in-Short.is at c.turn.ensures.retried }),
             omega arith,
             omega arith,
             omega arith,
@@ -100,6 +100,6 @@ returns-clause-made g c =
         short = was.4.2;
         whole = was.4.3;
         count = was.4.4;
-        ends = inr (rw w.run-is (record { runs = w.turn.ensures.runs; stop = rw w.in-Stopped.is at w.turn.ensures.stop; done = rw w.in-Stopped.is at w.turn.ensures.done }));
+        ends = inr (rw w.run-is (record { runs = w.turn.ensures.runs; stop = rw w.in-Stopped.is at w.turn.ensures.stop; done = rw w.in-Stopped.is at w.turn.ensures.done; retried = rw w.in-Stopped.is at w.turn.ensures.retried }));
       }
     ]

@@ -1,3 +1,7 @@
+use Rattle.std.proofs.Common.{refl}
+use Rattle.pg_run.specs.Follows.{log_of}
+use Rattle.pg_run.specs.Logs.{IsCommand}
+use Rattle.pg_run.proofs.Logging.{logs_on, logs_same}
 use Rattle.pg_run.proofs.GoingOn.{goes_itself, serves_going, serves_on}
 use Rattle.pg_run.proofs.Served.{served_first, served_next}
 use Rattle.pg_run.proofs.serving.command_all.Goals as goal
@@ -6,10 +10,12 @@ pub loop-port-init : goal.loop-port-init
 loop-port-init g c = (
   serves_going g.L.Link.accepts g.I.Inlet.gives c.args.linked.now c.args.linked.now c.args.ports.now.items (goes_itself g.L.Link.accepts g.I.Inlet.gives g.met.L.Link.rests g.met.I.Inlet.rests c.args.linked.now),
   served_first _ c.args.ports.now.items,
+  logs_same IsCommand (log_of c.args.linked.now) (log_of c.args.linked.now) refl,
 )
 
 pub loop-port-preserved : goal.loop-port-preserved
 loop-port-preserved g c = (
   serves_on g.L.Link.accepts g.I.Inlet.gives g.met.L.Link.composes g.met.I.Inlet.composes c.args.linked.now c.loop-port.linked c.command_of.new.linked c.args.ports.now.items c.loop-port.ports.items c.command_of.new.ports.items c.loop-port.invariant.0 c.command_of.ensures.serves,
   served_next c.loop-port.port _ _ _ c.args.ports.now.items c.loop-port.ports.items c.command_of.new.ports.items c.and-phase.ensures.first c.and-phase.ensures.second c.loop-port.invariant.1 c.command_of.ensures.served c.command_of.ensures.others,
+  logs_on IsCommand (log_of c.args.linked.now) (log_of c.loop-port.linked) (log_of c.command_of.new.linked) c.loop-port.invariant.2 c.command_of.ensures.logs,
 )

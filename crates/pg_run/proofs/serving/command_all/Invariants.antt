@@ -1,3 +1,5 @@
+use Rattle.pg_run.specs.Follows.{log_of}
+use Rattle.pg_run.specs.Logs.{IsCommand, LogsOnly}
 use Rattle.pg_run.specs.Turns.{Serves}
 use Rattle.pg_run.proofs.Served.{ServedBelow}
 use Rattle.pg_run.proofs.serving.command_all.Given as goal
@@ -6,3 +8,4 @@ abbrev pub invariant-loop-port : goal.invariant-loop-port
 invariant-loop-port g l =
     Serves g.L.Link.accepts g.I.Inlet.gives l.fn.linked l.fn.ports.items l.linked l.ports.items
     × ServedBelow l.port l.phase.whole l.fn.ports.items l.ports.items
+    × LogsOnly IsCommand (log_of l.fn.linked) (log_of l.linked)

@@ -1,4 +1,7 @@
 use Rattle.std.proofs.Common.{refl}
+use Rattle.pg_run.specs.Follows.{log_of}
+use Rattle.pg_run.specs.Logs.{IsCommand}
+use Rattle.pg_run.proofs.Logging.{logs_same}
 use Rattle.pg_run.proofs.GoingOn.{goes_itself, serves_going}
 use Rattle.pg_run.proofs.serving.command_of.Goals as goal
 
@@ -7,3 +10,6 @@ returns-in-Err-clause-serves g c = serves_going g.L.Link.accepts g.I.Inlet.gives
 
 pub returns-in-Err-clause-others : goal.returns-in-Err-clause-others
 returns-in-Err-clause-others g c = λ other none apart. refl
+
+pub returns-in-Err-clause-logs : goal.returns-in-Err-clause-logs
+returns-in-Err-clause-logs g c = logs_same IsCommand (log_of c.args.linked.now) (log_of c.args.linked.now) refl

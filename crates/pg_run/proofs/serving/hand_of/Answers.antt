@@ -1,3 +1,4 @@
+use Rattle.pg_run.proofs.Forgetting.{all_forget_none}
 use Rattle.pg_run.proofs.GoingOn.{goes_itself, serves_going}
 use Rattle.pg_run.proofs.Served.{keep_themselves}
 use Rattle.pg_run.proofs.serving.hand_of.Goals as goal
@@ -7,3 +8,6 @@ returns-in-Err-clause-serves g c = serves_going g.L.Link.accepts g.I.Inlet.gives
 
 pub returns-in-Err-clause-kept : goal.returns-in-Err-clause-kept
 returns-in-Err-clause-kept g c = keep_themselves c.args.ports.now.items
+
+pub returns-in-Err-clause-forgets : goal.returns-in-Err-clause-forgets
+returns-in-Err-clause-forgets g c = all_forget_none c.args.ports.now.items c.args.pauses.now

@@ -1,6 +1,9 @@
-use Rattle.std.proofs.Common.{◌∙◌, List, [], ◌∷◌, ap}
+use Rattle.std.proofs.Common.{◌∙◌, List, [], ◌∷◌, ap, refl}
 use Rattle.pg_run.specs.declared.port.Asked.{Asked}
 use Rattle.pg_step.specs.declared.command.Command.{Command}
+use Rattle.pg_run.specs.Follows.{log_of}
+use Rattle.pg_run.specs.Logs.{IsCommand}
+use Rattle.pg_run.proofs.Logging.{logs_command, logs_same}
 use Rattle.pg_run.proofs.GoingOn.{served_none, served_command, served_kept}
 use Rattle.pg_run.proofs.Served.{serves_all, no_command_refused}
 use Rattle.pg_run.proofs.serving.serve.Goals as goal
@@ -31,4 +34,13 @@ returns-in-Err-clause-serves g c =
     c.keep.ensures.same c.keep.ensures.asked (c.keep.ensures.kept ∙ ap (again c.in-Some.field-0) c.in-Err.ensures.back) c.keep.ensures.handed c.keep.ensures.count
 
 pub returns-in-Err-clause-served : goal.returns-in-Err-clause-served
-returns-in-Err-clause-served g c = λ whole. absurd (no_command_refused c.args.linked.now.node c.args.place _ _ c.requires c.in-Err.ensures.fault (c.of-in-Err.ensures whole))
+returns-in-Err-clause-served g c = λ whole. absurd (no_command_refused c.args.linked.now.node c.args.place _ _ c.requires c.in-Err.ensures.fault (c.of-in-Err.ensures.no_want whole))
+
+pub returns-in-None-clause-logs : goal.returns-in-None-clause-logs
+returns-in-None-clause-logs g c = logs_same IsCommand (log_of c.args.linked.now) (log_of c.args.linked.now) refl
+
+pub returns-in-Ok-clause-logs : goal.returns-in-Ok-clause-logs
+returns-in-Ok-clause-logs g c = logs_command g.L.Link.accepts g.I.Inlet.gives c.args.place _ c.command.result c.args.linked.now c.command.new.self c.command.ensures.acted
+
+pub returns-in-Err-clause-logs : goal.returns-in-Err-clause-logs
+returns-in-Err-clause-logs g c = logs_command g.L.Link.accepts g.I.Inlet.gives c.args.place _ c.command.result c.args.linked.now c.command.new.self c.command.ensures.acted

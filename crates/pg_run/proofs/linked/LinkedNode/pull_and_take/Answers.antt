@@ -2,6 +2,9 @@ use Rattle.std.proofs.Common.{subst, sym}
 use Rattle.pg_run.specs.Tries.{HasTried}
 use Rattle.pg_run.specs.Turns.{GoesOn}
 use Rattle.pg_run.proofs.GoingOn.{goes_on, goes_by_none, goes_by_take}
+use Rattle.pg_run.specs.Follows.{log_of}
+use Rattle.pg_run.specs.Logs.{IsTake, LogsOnly}
+use Rattle.pg_run.proofs.Logging.{logs_after, logs_none, logs_still, logs_take}
 use Rattle.pg_run.proofs.Trying.{stays, tried_between, tried_one}
 use Rattle.pg_run.proofs.linked.LinkedNode.pull_and_take.Goals as goal
 use Rattle.pg_run.proofs.linked.LinkedNode.pull_and_take.Goals.{then-taken, else-taken}
@@ -14,7 +17,7 @@ returns-clause-goes g c =
     (goes_by_take g.L.Link.accepts g.I.Inlet.gives c.args.peer c.take.result c.pull.new.self c.take.new.self c.take.ensures.took)
     in
     elim c.if-taken.branch [
-      | then-taken w ↦ subst (λ x. GoesOn g.L.Link.accepts g.I.Inlet.gives c.args.self.now x) (sym w.self-is) (goes_on g.L.Link.accepts g.I.Inlet.gives g.met.L.Link.composes g.met.I.Inlet.composes c.args.self.now c.take.new.self w.put_all.new.self taken w.put_all.ensures)
+      | then-taken w ↦ subst (λ x. GoesOn g.L.Link.accepts g.I.Inlet.gives c.args.self.now x) (sym w.self-is) (goes_on g.L.Link.accepts g.I.Inlet.gives g.met.L.Link.composes g.met.I.Inlet.composes c.args.self.now c.take.new.self w.put_all.new.self taken w.put_all.ensures.goes)
       | else-taken w ↦ subst (λ x. GoesOn g.L.Link.accepts g.I.Inlet.gives c.args.self.now x) (sym w.self-is) taken
     ]
 
@@ -26,6 +29,19 @@ returns-clause-tried g c = λ whole.
     in
     elim c.if-taken.branch [
       | then-taken w ↦ subst (λ x. HasTried g.L.Link.accepts g.I.Inlet.gives c.args.peer c.args.self.now x) (sym w.self-is)
-          (tried_between g.L.Link.accepts g.I.Inlet.gives g.met.L.Link.rests g.met.I.Inlet.rests g.met.L.Link.composes g.met.I.Inlet.composes c.args.peer c.args.self.now c.args.self.now c.take.new.self w.put_all.new.self (stays g.L.Link.accepts g.I.Inlet.gives g.met.L.Link.rests g.met.I.Inlet.rests g.met.L.Link.composes g.met.I.Inlet.composes c.args.self.now) tried (w.put_all.ensures.acts, w.put_all.ensures.follows))
+          (tried_between g.L.Link.accepts g.I.Inlet.gives g.met.L.Link.rests g.met.I.Inlet.rests g.met.L.Link.composes g.met.I.Inlet.composes c.args.peer c.args.self.now c.args.self.now c.take.new.self w.put_all.new.self (stays g.L.Link.accepts g.I.Inlet.gives g.met.L.Link.rests g.met.I.Inlet.rests g.met.L.Link.composes g.met.I.Inlet.composes c.args.self.now) tried (w.put_all.ensures.goes.acts, w.put_all.ensures.goes.follows))
       | else-taken w ↦ subst (λ x. HasTried g.L.Link.accepts g.I.Inlet.gives c.args.peer c.args.self.now x) (sym w.self-is) tried
+    ]
+
+pub returns-clause-logs : goal.returns-clause-logs
+returns-clause-logs g c =
+    let a = c.args.self.now in
+    let b = c.pull.new.self in
+    let d = c.take.new.self in
+    let taken : LogsOnly IsTake (log_of a) (log_of d) = logs_after IsTake (log_of a) (log_of b) (log_of d) (logs_none g.L.Link.accepts g.I.Inlet.gives a b c.pull.ensures.follows)
+    (logs_take g.L.Link.accepts g.I.Inlet.gives c.args.peer c.take.result b d c.take.ensures.took)
+    in
+    elim c.if-taken.branch [
+      | then-taken w ↦ logs_still IsTake (log_of a) (log_of d) _ taken (rw w.self-is w.put_all.ensures.log)
+      | else-taken w ↦ rw w.self-is taken
     ]

@@ -1,5 +1,7 @@
+use Rattle.std.proofs.Common.{◌≡◌}
+use Rattle.pg_run.specs.Follows.{log_of}
 use Rattle.pg_run.specs.Turns.{GoesOn}
 use Rattle.pg_run.proofs.linked.LinkedNode.put_all.Given as goal
 
 abbrev pub invariant-loop-peer : goal.invariant-loop-peer
-invariant-loop-peer g l = GoesOn g.L.Link.accepts g.I.Inlet.gives l.initial.self l.self
+invariant-loop-peer g l = GoesOn g.L.Link.accepts g.I.Inlet.gives l.initial.self l.self × (log_of l.self ≡ log_of l.initial.self)

@@ -1,11 +1,16 @@
-use Rattle.std.proofs.Common.{◌∙◌, ap}
+use Rattle.std.proofs.Common.{◌≡◌, ◌∙◌, ap, rules}
+use Rattle.std.specs.List.{filter}
+use Rattle.std.proofs.lemmas.Fn.{filter_same}
 use Rattle.pg_run.specs.Pauses.{wait_in}
-use Rattle.pg_run.proofs.Pausing.{forgets, waits_there}
+use Rattle.pg_run.proofs.Pausing.{gone, is_off, others_left}
 use Rattle.pg_run.proofs.pauses.Pauses.forget.Goals as goal
 
-pub returns-in-Some-clause-none : goal.returns-in-Some-clause-none
-returns-in-Some-clause-none c = λ none. absurd (waits_there c.args.op c.args.self.now.entries.items c.in-Some.place c.in-Some.ensures.within c.in-Some.ensures.some c.in-Some.ensures.first none)
+pub returns-clause-forgotten : goal.returns-clause-forgotten
+returns-clause-forgotten c =
+    let left : c.retain.new.self.items ≡ filter (is_off c.args.op) c.args.self.now.entries.items = filter_same _ _ _ (λ x b f' k. search rules) _ _ c.retain.ensures.filtered in
+    ap (wait_in c.args.op) left ∙ gone c.args.op c.args.self.now.entries.items
 
-pub returns-in-Some-clause-others : goal.returns-in-Some-clause-others
-returns-in-Some-clause-others c = λ other apart.
-    ap (wait_in other) c.remove.ensures.items ∙ forgets c.args.op c.args.self.now.entries.items c.in-Some.place c.in-Some.ensures.within c.in-Some.ensures.some other apart
+pub returns-clause-others : goal.returns-clause-others
+returns-clause-others c = λ other apart.
+    let left : c.retain.new.self.items ≡ filter (is_off c.args.op) c.args.self.now.entries.items = filter_same _ _ _ (λ x b f' k. search rules) _ _ c.retain.ensures.filtered in
+    ap (wait_in other) left ∙ others_left c.args.op other c.args.self.now.entries.items apart

@@ -1,0 +1,54 @@
+-- How commands fare in a turn, of its phases.
+use Rattle.std.proofs.Common.{◌≡◌, ℕ, get_or, List, [], ◌++◌}
+use Rattle.std.specs.Prelude.{Bool, true, false}
+use Rattle.pg_group.specs.declared.table.GroupTable.{Ghosts}
+use Rattle.pg_run.specs.declared.linked.LinkedNode.{LinkedNode}
+use Rattle.pg_run.specs.declared.log.NodeEvent.{NodeEvent}
+use Rattle.pg_run.specs.declared.pauses.Pauses.{Pauses}
+use Rattle.pg_run.specs.declared.port.Port.{Port}
+use Rattle.pg_run.specs.declared.run.NodeRun.{NodeRun}
+use Rattle.pg_run.specs.Follows.{log_of, node_of}
+use Rattle.pg_run.specs.Logs.{IsCommand, IsDueRetry, IsTake, LogsLoss, LogsOnly}
+use Rattle.pg_run.specs.Pauses.{Waits, is_due, wait_of}
+use Rattle.pg_run.specs.Ports.{was_handed}
+use Rattle.pg_run.specs.Tries.{ComesTo, HasRetried, HasRetriedDue, waits_at}
+use Rattle.pg_run.proofs.Logging.{logs_still}
+use Rattle.pg_run.proofs.Pausing.{waits_less}
+use Rattle.pg_run.proofs.Retrying.{retried_between}
+use Rattle.pg_run.proofs.Trying.{comes_on, stays}
+use Rattle.pg_step.specs.declared.command.OpId.{OpId}
+
+module _ {T L I K : Type 0} {g : Ghosts T} (accepts : L → List ℕ → L → Type 0) (gives : I → List ℕ → I → Type 0)
+    (link_rests : (a : L) → accepts a [] a) (inlet_rests : (a : I) → gives a [] a)
+    (link_composes : (a b c : L) (xs ys : List ℕ) → accepts a xs b → accepts b ys c → accepts a (xs ++ ys) c)
+    (inlet_composes : (a b c : I) (xs ys : List ℕ) → gives a xs b → gives b ys c → gives a (xs ++ ys) c) where
+  -- From the node m on commands are tried, by n all are, and then bytes are put.
+  pub retried_due : (whole phase lost : Bool) (a b : NodeRun T L I K g) (m n : LinkedNode T L I g) (between : Pauses) (taken seen : List (ℕ × NodeEvent)) → (whole ≡ true → phase ≡ true)
+      → ComesTo accepts gives a.linked m → ComesTo accepts gives m n → ComesTo accepts gives n b.linked
+      → (phase ≡ true → (op : OpId) → waits_at (node_of m) op ≡ true → is_due lost (wait_of a.pauses op) ≡ true → HasRetried accepts gives op m n)
+      → ((op : OpId) → waits_at (node_of m) op ≡ true → Waits lost phase (wait_of a.pauses op) (wait_of between op))
+      → ((op : OpId) → waits_at (node_of m) op ≡ false → wait_of between op ≡ wait_of a.pauses op)
+      → LogsOnly IsTake (log_of a.linked) taken → LogsLoss lost taken seen → LogsOnly IsCommand seen (log_of m) → LogsOnly (IsDueRetry lost a.pauses between) (log_of m) (log_of n)
+      → log_of b.linked ≡ log_of n → ((op : OpId) (none : Port) → was_handed op (get_or b.ports.items op.port none) ≡ false → wait_of b.pauses op ≡ wait_of between op)
+      → HasRetriedDue accepts gives whole a b
+  retried_due whole phase lost a b m n between taken seen is first retries put tried waits others takes sees commands retried still forgot = record {
+    lost = lost;
+    middle = m;
+    first = first;
+    rest = comes_on accepts gives link_rests inlet_rests link_composes inlet_composes m n b.linked retries put;
+    tried = λ all op waiting due.
+        retried_between accepts gives link_rests inlet_rests link_composes inlet_composes op m m n b.linked
+        (stays accepts gives link_rests inlet_rests link_composes inlet_composes m) (tried (is all) op waiting due) put;
+    between = between;
+    waits = λ op waiting. waits_less lost phase whole is _ _ (waits op waiting);
+    others = others;
+    logs = record {
+      taken = taken;
+      takes = takes;
+      seen = seen;
+      sees = sees;
+      commands = commands;
+      retries = logs_still (IsDueRetry lost a.pauses between) (log_of m) (log_of n) (log_of b.linked) retried still;
+    };
+    forgot = forgot;
+  }
