@@ -17,6 +17,7 @@ pub mod Paired
 pub mod PartsSent
 pub mod Popping
 pub mod Replaying
+pub mod Scheduling
 pub mod Settling
 pub mod SettlingPorts
 pub mod ShownOnce

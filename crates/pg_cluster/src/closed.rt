@@ -3,7 +3,7 @@
 ghost use Rattle.std.specs.Prelude.{◌≡◌, IfOk, IfErr, map, length};
 ghost use Rattle.pg_cluster.specs.Notices.{NobodyLost};
 ghost use Rattle.pg_cluster.specs.Room.{HasRoom};
-ghost use Rattle.pg_cluster.specs.Schedule.{IsSchedule};
+ghost use Rattle.pg_cluster.specs.Schedule.{IsSchedule, but_losses};
 
 use crate::notices::{Teller, settle_notices};
 use crate::pairs::{move_ports, settle_all, settle_ports};
@@ -77,6 +77,7 @@ impl Stopped {
         ensures logs { IfOk result (λ closed. map (λ v. v.items) closed.logs.items ≡ logs_of self) }
         ensures schedule { IfOk result (λ closed. NobodyLost (losses_of self)
             → IsSchedule (map (λ v. v.items) closed.logs.items) (length closed.logs.items) closed.schedule.items) }
+        ensures events { IfOk result (λ closed. IsSchedule (map (λ v. v.items) closed.logs.items) (length closed.logs.items) (but_losses closed.schedule.items)) }
         ensures clients { IfOk result (λ closed. closed.clients.items ≡ clients_of self) }
         ensures err { IfErr result (λ stopped. stopped ≡ self) }
     {
@@ -98,7 +99,8 @@ fn schedule_of(
     logs: &[Vec<LogEntry>],
     lost: &[bool],
 ) -> Result<Vec<FrameStep>, AllocError>
-    ensures { IfOk result (λ schedule. NobodyLost lost.now → IsSchedule (map (λ v. v.items) logs.now) (length logs.now) schedule.items) }
+    ensures schedule { IfOk result (λ schedule. NobodyLost lost.now → IsSchedule (map (λ v. v.items) logs.now) (length logs.now) schedule.items) }
+    ensures events { IfOk result (λ schedule. IsSchedule (map (λ v. v.items) logs.now) (length logs.now) (but_losses schedule.items)) }
 {
     let order = order_of_logs(alloc, logs)?;
     if lost.iter().any(|lost| *lost) {

@@ -59,7 +59,7 @@ impl<K: Rng + Drop + Send + 'static> Cluster<K> {
     ghost use Rattle.pg_cluster.specs.Threads.{AreMade, EndedWith, begun_by, limit_of};
     ghost use Rattle.pg_step.specs.Config.{Config as Configuration};
     ghost use Rattle.pg_cluster.specs.Judges.{Agree, CanBegin};
-    ghost use Rattle.pg_cluster.specs.Schedule.{IsSchedule};
+    ghost use Rattle.pg_cluster.specs.Schedule.{IsSchedule, but_losses};
     ghost use Rattle.pg_cluster.specs.Together.{AreOneRun};
 
     /// Starts a thread for each node of a configuration, with rings of so many bytes between them: the cluster, and a client for
@@ -148,6 +148,7 @@ impl<K: Rng + Drop + Send + 'static> Cluster<K> {
         ensures agree { IfOk result (λ closed. NobodyLost (lost_of self) → (given : Configuration) → AreMade given (map begun_by (threads_of self))
             → Agree closed.nodes.items closed.logs.items) }
         ensures schedule { IfOk result (λ closed. NobodyLost (lost_of self) → IsSchedule (map (λ v. v.items) closed.logs.items) (length closed.logs.items) closed.schedule.items) }
+        ensures events { IfOk result (λ closed. IsSchedule (map (λ v. v.items) closed.logs.items) (length closed.logs.items) (but_losses closed.schedule.items)) }
         ensures heard { MatchResult result
             (λ closed. (given : Configuration) → AreMade given (map begun_by (threads_of self))
             → ∥ AllHeard (threads_of self) closed.nodes.items (map (λ v. v.items) closed.logs.items) clients.items ∥₁)

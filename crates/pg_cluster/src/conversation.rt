@@ -1,12 +1,12 @@
 //! A conversation of clients with a cluster: what the program's `threads` does.
 
-ghost use Rattle.std.specs.Prelude.{◌≡◌, IfOk, OnOk, length, map};
+ghost use Rattle.std.specs.Prelude.{◌≡◌, ◌++◌, IfOk, OnOk, length, map};
 ghost use Rattle.std.specs.Io.KnownBytes.{Appends};
 ghost use Rattle.std.specs.List.{All, sum_by};
 ghost use Rattle.pg_run.specs.Ports.{IsSilent};
 ghost use Rattle.pg_cluster.specs.Clients.{AllPairs, SameClients};
 ghost use Rattle.pg_cluster.specs.Conversations.{AreAsked, HasCounted, IsBare, TookPlace, all_polled, saturated};
-ghost use Rattle.pg_cluster.specs.Outcomes.{is_good, outcome_lines, yes_or_no};
+ghost use Rattle.pg_cluster.specs.Outcomes.{agree_line, answered_line, is_good, nodes_line, outcome_lines, replay_line, yes_or_no};
 
 use crate::cluster::Cluster;
 use crate::fault::StartFault;
@@ -90,11 +90,46 @@ impl Outcome {
     pub fn write<W: Write>(&self, out: &mut W) -> io::Result<()>
         ensures { OnOk result (Appends (W.contents out.old) (W.contents out.new) (outcome_lines self.now)) }
     {
-        writeln!(out, "nodes {} clients {}", self.nodes, self.clients)?;
-        writeln!(out, "answered {} of {}", self.answered, self.asked)?;
-        writeln!(out, "agree {}", yes_or_no(self.agree))?;
-        writeln!(out, "replay {}", yes_or_no(self.replay))?;
-        Ok(())
+        self.write_counts(out)?;
+        self.write_verdicts(out)
+    }
+
+    fn write_counts<W: Write>(&self, out: &mut W) -> io::Result<()>
+        ensures { OnOk result (Appends (W.contents out.old) (W.contents out.new) (nodes_line self.now ++ answered_line self.now)) }
+    {
+        self.write_size(out)?;
+        self.write_answered(out)
+    }
+
+    fn write_verdicts<W: Write>(&self, out: &mut W) -> io::Result<()>
+        ensures { OnOk result (Appends (W.contents out.old) (W.contents out.new) (agree_line self.now ++ replay_line self.now)) }
+    {
+        self.write_agree(out)?;
+        self.write_replay(out)
+    }
+
+    fn write_size<W: Write>(&self, out: &mut W) -> io::Result<()>
+        ensures { OnOk result (Appends (W.contents out.old) (W.contents out.new) (nodes_line self.now)) }
+    {
+        writeln!(out, "nodes {} clients {}", self.nodes, self.clients)
+    }
+
+    fn write_answered<W: Write>(&self, out: &mut W) -> io::Result<()>
+        ensures { OnOk result (Appends (W.contents out.old) (W.contents out.new) (answered_line self.now)) }
+    {
+        writeln!(out, "answered {} of {}", self.answered, self.asked)
+    }
+
+    fn write_agree<W: Write>(&self, out: &mut W) -> io::Result<()>
+        ensures { OnOk result (Appends (W.contents out.old) (W.contents out.new) (agree_line self.now)) }
+    {
+        writeln!(out, "agree {}", yes_or_no(self.agree))
+    }
+
+    fn write_replay<W: Write>(&self, out: &mut W) -> io::Result<()>
+        ensures { OnOk result (Appends (W.contents out.old) (W.contents out.new) (replay_line self.now)) }
+    {
+        writeln!(out, "replay {}", yes_or_no(self.replay))
     }
 }
 

@@ -1,8 +1,8 @@
 //! The schedule to which logs join.
 
-ghost use Rattle.std.specs.Prelude.{◌≡◌, ◌++◌, IfOk, OnOk, map};
+ghost use Rattle.std.specs.Prelude.{◌≡◌, ◌++◌, true, IfOk, OnOk, map};
 ghost use Rattle.pg_joining.specs.Merge.{log_at, entry_at};
-ghost use Rattle.pg_cluster.specs.Schedule.{node_of_peer, step_as, steps_of};
+ghost use Rattle.pg_cluster.specs.Schedule.{but_losses, is_loss, node_of_peer, step_as, steps_of};
 
 use pg_run::{LogEntry, NodeEvent};
 use pg_step::Command;
@@ -110,20 +110,38 @@ pub(crate) fn steps_with_losses(
     logs: &[Vec<LogEntry>],
     lost: &[bool],
     order: &[(usize, usize)],
-) -> Result<Vec<FrameStep>, AllocError> {
+) -> Result<Vec<FrameStep>, AllocError>
+    ensures { IfOk result (λ steps. but_losses steps.items ≡ steps_of (map (λ v. v.items) logs.now) order.now) }
+{
     let mut steps = Vec::new(alloc);
     for node in 0..logs.len() {
         if is_lost(lost, node) && entry_count(logs, node) == 0 {
-            steps.push(loss_of(alloc, logs, node)?)?;
+            add_loss(alloc, logs, node, &mut steps)?;
         }
     }
     for at in order {
         add_step(alloc, logs, at.0, at.1, &mut steps)?;
         if is_lost(lost, at.0) && at.1 >= entry_count(logs, at.0).saturating_sub(1) {
-            steps.push(loss_of(alloc, logs, at.0)?)?;
+            add_loss(alloc, logs, at.0, &mut steps)?;
         }
     }
     Ok(steps)
+}
+
+/// Adds the loss of a node.
+///
+/// Error: `AllocError`.
+fn add_loss(
+    alloc: Global,
+    logs: &[Vec<LogEntry>],
+    node: usize,
+    steps: &mut Vec<FrameStep>,
+) -> Result<(), AllocError>
+    ensures { OnOk result (but_losses steps.new.items ≡ but_losses steps.old.items) }
+{
+    let loss = loss_of(alloc, logs, node)?;
+    steps.push(loss)?;
+    Ok(())
 }
 
 /// Whether the node at a place was lost.
@@ -145,7 +163,9 @@ fn entry_count(logs: &[Vec<LogEntry>], node: usize) -> usize {
 /// The loss of a node. Of what is on the way from it to each other node as many packets stay as that takes later.
 ///
 /// Error: `AllocError`.
-fn loss_of(alloc: Global, logs: &[Vec<LogEntry>], node: usize) -> Result<FrameStep, AllocError> {
+fn loss_of(alloc: Global, logs: &[Vec<LogEntry>], node: usize) -> Result<FrameStep, AllocError>
+    ensures { IfOk result (λ step. is_loss step ≡ true) }
+{
     let last = last_clock(logs, node);
     let mut keep = Vec::with_capacity(alloc, logs.len())?;
     for other in 0..logs.len() {
