@@ -1,7 +1,6 @@
 -- The steps of a schedule that are no losses.
-use Rattle.std.proofs.Common.{◌≡◌, ◌∙◌, ◌++◌, ℕ, List, [], ◌∷◌, cond, map, append-nil, refl, sym, ap}
-use Rattle.std.specs.Prelude.{Bool, true, false, not, Result, Ok, Err, IfOk}
-use Rattle.std.specs.List.{filter, flat_map}
+use Rattle.std.proofs.Common.{◌≡◌, ◌∙◌, ◌++◌, ℕ, List, [], ◌∷◌, cond, map, append-nil, refl, ap}
+use Rattle.std.specs.Prelude.{true, false, not, Result, Ok, Err, IfOk}
 use Rattle.std.proofs.lemmas.List.Elements.{filter-append}
 use Rattle.pg_joining.specs.Merge.{Merges, clocks_in, entry_at, log_at}
 use Rattle.pg_run.specs.declared.log.NodeEvent.{NodeEvent}

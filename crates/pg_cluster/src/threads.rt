@@ -1,10 +1,10 @@
 //! How the threads of a cluster are started and stopped.
 
-ghost use Rattle.std.specs.Prelude.{◌≡◌, Err, IfOk};
-ghost use Rattle.pg_cluster.specs.Members.{losses_in, threads_in};
+ghost use Rattle.std.specs.Prelude.{◌≡◌, false, Err, IfOk};
+ghost use Rattle.pg_cluster.specs.Members.{is_lost, losses_in, thread_of, threads_in};
 ghost use Rattle.pg_cluster.specs.Notices.{NobodyLost};
 ghost use Rattle.pg_cluster.specs.Promises.{RanAs};
-ghost use Rattle.pg_cluster.specs.Threads.{StartedWith};
+ghost use Rattle.pg_cluster.specs.Threads.{StartedWith, begun_by, limit_of};
 
 use crate::fault::StartFault;
 use crate::member::Member;
@@ -70,29 +70,43 @@ pub(crate) fn start_all<
 {
     let mut members: Vec<Member<K>> = Vec::with_capacity(alloc, runs.len())?;
     for run in runs {
-        let Ok(gate) = Arc::try_clone(gate) else {
-            return give_up(
-                rt,
-                members,
-                stops,
-                StartFault::World(WorldFault::OutOfMemory),
-            );
-        };
-        let place = members.len();
-        let promise = RanFrom {
-            run: Snapshot::of(&run),
-            limit,
-        };
-        match thread::spawn_with(
-            rt,
-            promise,
-            move || -> NodeRan<K>
-                ensures { RanAs run limit result }
-            { run_node(place, run, &*gate, limit) },
-        ) {
-            Ok(thread) => members.push_reserved(Member::new(thread)),
-            Err(_) => return give_up(rt, members, stops, StartFault::NoThread),
+        match start_one(rt, run, members.len(), gate, limit) {
+            Ok(member) => members.push_reserved(member),
+            Err(fault) => return give_up(rt, members, stops, fault),
         }
     }
     Ok(members)
+}
+
+/// Starts the thread of the node at a place.
+///
+/// Faults: `NoThread`; `World` of `OutOfMemory`.
+fn start_one<K: Rng + Drop + Send + 'static, G: Gate + Drop + Send + Sync + 'static, R: Threads>(
+    rt: &R,
+    run: Run<K>,
+    place: usize,
+    gate: &Arc<G, Global>,
+    limit: u64,
+) -> Result<Member<K>, StartFault>
+    ensures begun { IfOk result (λ member. begun_by (thread_of member) ≡ run) }
+    ensures limit { IfOk result (λ member. limit_of (thread_of member) ≡ limit) }
+    ensures lost { IfOk result (λ member. is_lost member ≡ false) }
+{
+    let Ok(gate) = Arc::try_clone(gate) else {
+        return Err(StartFault::World(WorldFault::OutOfMemory));
+    };
+    let promise = RanFrom {
+        run: Snapshot::of(&run),
+        limit,
+    };
+    match thread::spawn_with(
+        rt,
+        promise,
+        move || -> NodeRan<K>
+            ensures { RanAs run limit result }
+        { run_node(place, run, &*gate, limit) },
+    ) {
+        Ok(thread) => Ok(Member::new(thread)),
+        Err(_) => Err(StartFault::NoThread),
+    }
 }
