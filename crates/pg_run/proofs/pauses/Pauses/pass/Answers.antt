@@ -1,4 +1,4 @@
-use Rattle.std.proofs.Common.{◌≡◌, ◌∙◌, [], ◌∷◌, ◌++◌, sym, refl, ap, subst}
+use Rattle.std.proofs.Common.{◌≡◌, ◌∙◌, List, [], ◌∷◌, ◌++◌, sym, refl, ap, subst}
 use Rattle.std.specs.Prelude.{false}
 use Rattle.pg_run.specs.declared.pauses.Pause.{Pause}
 use Rattle.pg_run.specs.declared.pauses.Wait.TheVariants.{Turns}
@@ -19,12 +19,12 @@ returns-in-Some-clause-others g c = λ other apart.
 pub returns-in_ok-reserve-in-None-clause-passed : goal.returns-in_ok-reserve-in-None-clause-passed
 returns-in_ok-reserve-in-None-clause-passed g c =
     let next : Pause = record { op = c.args.op; refused = 1; wait = Turns c.pause_after.result } in
-    let more : c.push_reserved.new.self.items ≡ c.args.self.now.entries.items ++ next ∷ [] = c.push_reserved.ensures.items ∙ ap (λ xs. xs ++ next ∷ []) c.reserve.ensures.items in
+    let more : c.push_reserved.new.self.items ≡ c.args.self.now.entries.items ++ next ∷ [] = ◌∙◌ {A = List Pause} c.push_reserved.ensures.items (ap (λ xs. xs ++ next ∷ []) c.reserve.ensures.items) in
     subst (λ xs. Passed (wait_of c.args.self.now c.args.op) false (wait_in c.args.op xs)) (sym more)
     (begins_there c.args.op c.args.self.now.entries.items next c.pause_after.result refl c.in-None.ensures.none refl c.pause_after.ensures.least c.pause_after.ensures.most)
 
 pub returns-in_ok-reserve-in-None-clause-others : goal.returns-in_ok-reserve-in-None-clause-others
 returns-in_ok-reserve-in-None-clause-others g c = λ other apart.
     let next : Pause = record { op = c.args.op; refused = 1; wait = Turns c.pause_after.result } in
-    let more : c.push_reserved.new.self.items ≡ c.args.self.now.entries.items ++ next ∷ [] = c.push_reserved.ensures.items ∙ ap (λ xs. xs ++ next ∷ []) c.reserve.ensures.items in
+    let more : c.push_reserved.new.self.items ≡ c.args.self.now.entries.items ++ next ∷ [] = ◌∙◌ {A = List Pause} c.push_reserved.ensures.items (ap (λ xs. xs ++ next ∷ []) c.reserve.ensures.items) in
     ap (wait_in other) more ∙ others_pushed other c.args.self.now.entries.items next (λ e. apart (sym e))
