@@ -1,5 +1,5 @@
 -- How commands fare in a turn, of its phases.
-use Rattle.std.proofs.Common.{◌≡◌, ℕ, get_or, List, [], ◌++◌}
+use Rattle.std.proofs.Common.{◌≡◌, ℕ, get_or, List, [], ◌++◌, refl, cond, subst, sym}
 use Rattle.std.specs.Prelude.{Bool, true, false}
 use Rattle.pg_group.specs.declared.table.GroupTable.{Ghosts}
 use Rattle.pg_run.specs.declared.linked.LinkedNode.{LinkedNode}
@@ -11,7 +11,10 @@ use Rattle.pg_run.specs.Follows.{log_of, node_of}
 use Rattle.pg_run.specs.Logs.{IsCommand, IsDueRetry, IsTake, LogsLoss, LogsOnly}
 use Rattle.pg_run.specs.Pauses.{Waits, is_due, wait_of}
 use Rattle.pg_run.specs.Ports.{was_handed}
-use Rattle.pg_run.specs.Tries.{ComesTo, HasRetried, HasRetriedDue, waits_at}
+use Rattle.pg_run.specs.Runs.{TurnedTo}
+use Rattle.pg_run.specs.Tries.{ComesTo, HasDone, HasRetried, HasRetriedDue, RetriedBy, WholeTurn, waits_at}
+use Rattle.pg_run.specs.declared.run.Turned.{Turned}
+use Rattle.pg_run.specs.declared.run.Turned.TheVariants.{Whole, Short}
 use Rattle.pg_run.proofs.Logging.{logs_still}
 use Rattle.pg_run.proofs.Pausing.{waits_less}
 use Rattle.pg_run.proofs.Retrying.{retried_between}
@@ -52,3 +55,28 @@ module _ {T L I K : Type 0} {g : Ghosts T} (accepts : L → List ℕ → L → T
     };
     forgot = forgot;
   }
+
+module _ {T L I K : Type 0} {g : Ghosts T} (accepts : L → List ℕ → L → Type 0) (gives : I → List ℕ → I → Type 0) where
+  -- ---- by how it went
+
+  pub whole_turn : (turned : Turned) (phase : Bool) (a b : NodeRun T L I K g) → turned ≡ cond phase Whole Short → (phase ≡ true → HasDone accepts gives a b) → WholeTurn accepts gives turned a b
+  whole_turn turned phase a b is done = subst (λ t. WholeTurn accepts gives t a b) (sym is) (go phase done)
+    where
+      go : (w : Bool) → (w ≡ true → HasDone accepts gives a b) → WholeTurn accepts gives (cond w Whole Short) a b
+      go true done = done refl
+      go false done = tt
+
+  pub retried_by : (turned : Turned) (phase : Bool) (a b : NodeRun T L I K g) → turned ≡ cond phase Whole Short
+      → ((whole : Bool) → (whole ≡ true → phase ≡ true) → HasRetriedDue accepts gives whole a b) → RetriedBy accepts gives turned a b
+  retried_by turned phase a b is retried = subst (λ t. RetriedBy accepts gives t a b) (sym is) (go phase retried)
+    where
+      go : (w : Bool) → ((whole : Bool) → (whole ≡ true → w ≡ true) → HasRetriedDue accepts gives whole a b) → RetriedBy accepts gives (cond w Whole Short) a b
+      go true retried = retried true (λ all. refl)
+      go false retried = retried false (λ all. absurd (cc))
+
+pub turned_on : {I : Type 0} (gives : I → List ℕ → I → Type 0) (turned : Turned) (phase : Bool) (a b : I) → turned ≡ cond phase Whole Short → gives a [] b → TurnedTo gives a turned b
+turned_on gives turned phase a b is gave = subst (λ t. TurnedTo gives a t b) (sym is) (go phase)
+  where
+    go : (w : Bool) → TurnedTo gives a (cond w Whole Short) b
+    go true = gave
+    go false = gave

@@ -1,14 +1,16 @@
 //! A node as its thread runs it, and one turn of it.
 
-ghost use Rattle.std.specs.Prelude.{◌≡◌, length};
+ghost use Rattle.std.specs.Prelude.{◌≡◌, cond, length};
 ghost use Rattle.pg_node.specs.Issued.{ports_of};
 ghost use Rattle.pg_node.specs.Nodes.{held_by};
 ghost use Rattle.pg_run.specs.Follows.{node_of};
+ghost use Rattle.pg_run.specs.declared.run.Turned.TheVariants as Turned;
 
 use crate::linked::LinkedNode;
 use crate::losses::see_next;
 use crate::notices::{Notice, Notices};
 use crate::pauses::Pauses;
+use crate::phases::Phase;
 use crate::port::Port;
 use crate::retries::retry_all;
 use crate::serving::{command_all, hand_all};
@@ -26,6 +28,17 @@ pub enum Turned {
     Short,
     /// The stop byte came, and nothing was done.
     Stopped,
+}
+
+/// How a turn went that was not stopped.
+fn turned_by(phase: Phase) -> Turned
+    ensures { result ≡ cond phase.whole Turned.Whole Turned.Short }
+{
+    if phase.whole {
+        Turned::Whole
+    } else {
+        Turned::Short
+    }
 }
 
 /// A node with its links and its log, its ports, where the stop byte and notices of losses come, and the generator of its pauses.
@@ -131,10 +144,6 @@ impl<T: GroupTable + Drop, L: Link + Drop, I: Inlet + Drop, K: Rng + Drop> NodeR
             .and(put)
             .and(handed);
         self.busy = phase.busy;
-        if phase.whole {
-            Turned::Whole
-        } else {
-            Turned::Short
-        }
+        turned_by(phase)
     }
 }

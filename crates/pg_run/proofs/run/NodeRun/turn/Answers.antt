@@ -1,10 +1,10 @@
-use Rattle.std.proofs.Common.{[], refl}
-use Rattle.std.specs.Prelude.{true, false}
+use Rattle.std.proofs.Common.{◌≡◌, [], refl, rules}
+use Rattle.std.specs.Prelude.{true}
 use Rattle.pg_run.specs.Tries.{ComesTo}
 use Rattle.pg_run.proofs.GoingOn.{goes_itself, serves_going, serves_turn, notices_stay}
 use Rattle.pg_run.proofs.Served.{served_kept_on}
 use Rattle.pg_run.proofs.Trying.{comes_on, tried_still}
-use Rattle.pg_run.proofs.Turning.{retried_due}
+use Rattle.pg_run.proofs.Turning.{retried_by, retried_due, turned_on, whole_turn}
 use Rattle.pg_run.specs.Follows.{log_of}
 use Rattle.pg_run.proofs.run.NodeRun.turn.Goals as goal
 
@@ -17,8 +17,8 @@ returns-then-take-gt0-clause-runs g c =
       told = notices_stay n n refl refl;
     }
 
-pub returns-then-phase-clause-runs : goal.returns-then-phase-clause-runs
-returns-then-phase-clause-runs g c = record {
+pub returns-clause-runs : goal.returns-clause-runs
+returns-clause-runs g c = record {
   losses = c.see_next-saw.ensures.sees.losses;
   serves = serves_turn g.L.Link.accepts g.I.Inlet.gives g.met.L.Link.composes g.met.I.Inlet.composes c.see_next-saw.ensures.sees.losses c.args.self.now.linked c.take_all-took.new.self
       c.see_next-saw.new.linked c.command_all-commanded.new.linked c.retry_all-retried.new.linked c.put_all-put.new.self c.args.self.now.ports.items c.command_all-commanded.new.ports.items
@@ -26,17 +26,13 @@ returns-then-phase-clause-runs g c = record {
   told = c.see_next-saw.ensures.sees.told;
 }
 
-pub returns-else-phase-clause-runs : goal.returns-else-phase-clause-runs
-returns-else-phase-clause-runs g c = record {
-  losses = c.see_next-saw.ensures.sees.losses;
-  serves = serves_turn g.L.Link.accepts g.I.Inlet.gives g.met.L.Link.composes g.met.I.Inlet.composes c.see_next-saw.ensures.sees.losses c.args.self.now.linked c.take_all-took.new.self
-      c.see_next-saw.new.linked c.command_all-commanded.new.linked c.retry_all-retried.new.linked c.put_all-put.new.self c.args.self.now.ports.items c.command_all-commanded.new.ports.items
-      c.hand_all-handed.new.ports.items c.take_all-took.ensures.goes c.see_next-saw.ensures.sees.going c.command_all-commanded.ensures.serves c.retry_all-retried.ensures.goes c.put_all-put.ensures.goes c.hand_all-handed.ensures.serves;
-  told = c.see_next-saw.ensures.sees.told;
-}
+pub returns-clause-stop : goal.returns-clause-stop
+returns-clause-stop g c =
+    let gave : g.I.Inlet.gives c.args.self.now.stop [] c.take.new.self = search rules in
+    turned_on g.I.Inlet.gives c.turned_by.result c.and-phase.result.whole c.args.self.now.stop c.take.new.self c.turned_by.ensures gave
 
-pub returns-then-phase-clause-done : goal.returns-then-phase-clause-done
-returns-then-phase-clause-done g c =
+pub returns-clause-done : goal.returns-clause-done
+returns-clause-done g c =
     let a = c.args.self.now.linked in
     let b = c.take_all-took.new.self in
     let d = c.see_next-saw.new.linked in
@@ -49,16 +45,16 @@ returns-then-phase-clause-done g c =
     let commanded : ComesTo g.L.Link.accepts g.I.Inlet.gives d e = (c.command_all-commanded.ensures.serves.acts, c.command_all-commanded.ensures.serves.follows) in
     let retried : ComesTo g.L.Link.accepts g.I.Inlet.gives e f = (c.retry_all-retried.ensures.goes.acts, c.retry_all-retried.ensures.goes.follows) in
     let put : ComesTo g.L.Link.accepts g.I.Inlet.gives f h = (c.put_all-put.ensures.goes.acts, c.put_all-put.ensures.goes.follows) in
-    let fourth = c.and-3.ensures.first (c.and-4.ensures.first (c.and-phase.ensures.first c.if-phase.true)) in
-    record {
-      took = tried_still g.L.Link.accepts g.I.Inlet.gives g.met.L.Link.rests g.met.I.Inlet.rests g.met.L.Link.composes g.met.I.Inlet.composes a b h (c.take_all-took.ensures.tried (c.and.ensures.first (c.and-2.ensures.first fourth)))
+    let fourth : c.and-phase.result.whole ≡ true → c.and-2.result.whole ≡ true = λ whole. c.and-3.ensures.first (c.and-4.ensures.first (c.and-phase.ensures.first whole)) in
+    whole_turn g.L.Link.accepts g.I.Inlet.gives c.turned_by.result c.and-phase.result.whole c.args.self.now _ c.turned_by.ensures (λ whole. record {
+      took = tried_still g.L.Link.accepts g.I.Inlet.gives g.met.L.Link.rests g.met.I.Inlet.rests g.met.L.Link.composes g.met.I.Inlet.composes a b h (c.take_all-took.ensures.tried (c.and.ensures.first (c.and-2.ensures.first (fourth whole))))
           (on b d h saw (on d e h commanded (on e f h retried put)));
       served = served_kept_on c.args.self.now.ports.items c.command_all-commanded.new.ports.items c.hand_all-handed.new.ports.items
-          (c.command_all-commanded.ensures.served (c.and-2.ensures.second fourth)) c.hand_all-handed.ensures.kept;
-    }
+          (c.command_all-commanded.ensures.served (c.and-2.ensures.second (fourth whole))) c.hand_all-handed.ensures.kept;
+    })
 
-pub returns-then-phase-clause-retried : goal.returns-then-phase-clause-retried
-returns-then-phase-clause-retried g c =
+pub returns-clause-retried : goal.returns-clause-retried
+returns-clause-retried g c =
     let a = c.args.self.now.linked in
     let b = c.take_all-took.new.self in
     let d = c.see_next-saw.new.linked in
@@ -68,25 +64,9 @@ returns-then-phase-clause-retried g c =
     let took : ComesTo g.L.Link.accepts g.I.Inlet.gives a b = (c.take_all-took.ensures.goes.acts, c.take_all-took.ensures.goes.follows) in
     let saw : ComesTo g.L.Link.accepts g.I.Inlet.gives b d = (c.see_next-saw.ensures.sees.going.acts, c.see_next-saw.ensures.sees.going.follows) in
     let commanded : ComesTo g.L.Link.accepts g.I.Inlet.gives d e = (c.command_all-commanded.ensures.serves.acts, c.command_all-commanded.ensures.serves.follows) in
-    retried_due g.L.Link.accepts g.I.Inlet.gives g.met.L.Link.rests g.met.I.Inlet.rests g.met.L.Link.composes g.met.I.Inlet.composes true c.retry_all-retried.result.whole c.see_next-saw.result.busy
-    c.args.self.now _ e f c.retry_all-retried.new.pauses (log_of b) (log_of d) (λ all. c.and-3.ensures.second (c.and-4.ensures.first (c.and-phase.ensures.first c.if-phase.true)))
+    retried_by g.L.Link.accepts g.I.Inlet.gives c.turned_by.result c.and-phase.result.whole c.args.self.now _ c.turned_by.ensures (λ whole is.
+    retried_due g.L.Link.accepts g.I.Inlet.gives g.met.L.Link.rests g.met.I.Inlet.rests g.met.L.Link.composes g.met.I.Inlet.composes whole c.retry_all-retried.result.whole c.see_next-saw.result.busy
+    c.args.self.now _ e f c.retry_all-retried.new.pauses (log_of b) (log_of d) (λ all. c.and-3.ensures.second (c.and-4.ensures.first (c.and-phase.ensures.first (is all))))
     (on a b e took (on b d e saw commanded)) (c.retry_all-retried.ensures.goes.acts, c.retry_all-retried.ensures.goes.follows) (c.put_all-put.ensures.goes.acts, c.put_all-put.ensures.goes.follows)
     c.retry_all-retried.ensures.tried c.retry_all-retried.ensures.waits c.retry_all-retried.ensures.others c.take_all-took.ensures.logs c.see_next-saw.ensures.logs c.command_all-commanded.ensures.logs
-    c.retry_all-retried.ensures.logs c.put_all-put.ensures.log c.hand_all-handed.ensures.forgets.stays
-
-pub returns-else-phase-clause-retried : goal.returns-else-phase-clause-retried
-returns-else-phase-clause-retried g c =
-    let a = c.args.self.now.linked in
-    let b = c.take_all-took.new.self in
-    let d = c.see_next-saw.new.linked in
-    let e = c.command_all-commanded.new.linked in
-    let f = c.retry_all-retried.new.linked in
-    let on = comes_on g.L.Link.accepts g.I.Inlet.gives g.met.L.Link.rests g.met.I.Inlet.rests g.met.L.Link.composes g.met.I.Inlet.composes in
-    let took : ComesTo g.L.Link.accepts g.I.Inlet.gives a b = (c.take_all-took.ensures.goes.acts, c.take_all-took.ensures.goes.follows) in
-    let saw : ComesTo g.L.Link.accepts g.I.Inlet.gives b d = (c.see_next-saw.ensures.sees.going.acts, c.see_next-saw.ensures.sees.going.follows) in
-    let commanded : ComesTo g.L.Link.accepts g.I.Inlet.gives d e = (c.command_all-commanded.ensures.serves.acts, c.command_all-commanded.ensures.serves.follows) in
-    retried_due g.L.Link.accepts g.I.Inlet.gives g.met.L.Link.rests g.met.I.Inlet.rests g.met.L.Link.composes g.met.I.Inlet.composes false c.retry_all-retried.result.whole c.see_next-saw.result.busy
-    c.args.self.now _ e f c.retry_all-retried.new.pauses (log_of b) (log_of d) (λ all. absurd (cc))
-    (on a b e took (on b d e saw commanded)) (c.retry_all-retried.ensures.goes.acts, c.retry_all-retried.ensures.goes.follows) (c.put_all-put.ensures.goes.acts, c.put_all-put.ensures.goes.follows)
-    c.retry_all-retried.ensures.tried c.retry_all-retried.ensures.waits c.retry_all-retried.ensures.others c.take_all-took.ensures.logs c.see_next-saw.ensures.logs c.command_all-commanded.ensures.logs
-    c.retry_all-retried.ensures.logs c.put_all-put.ensures.log c.hand_all-handed.ensures.forgets.stays
+    c.retry_all-retried.ensures.logs c.put_all-put.ensures.log c.hand_all-handed.ensures.forgets.stays)
