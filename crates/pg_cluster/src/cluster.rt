@@ -157,6 +157,22 @@ impl<K: Rng + Drop + Send + 'static> Cluster<K> {
         ensures lost { IfErr result (λ stopped. losses_of stopped ≡ lost_of self) }
         ensures clients { MatchResult result (λ closed. ClientsRest clients.items closed.clients.items) (λ stopped. ClientsRest clients.items (clients_of stopped)) }
     {
+        let stopped = self.stop(rt, clients);
+        threads_are_one_run::<K>();
+        nodes_of_one_run_agree();
+        stopped.finish()
+    }
+
+    /// Stops the threads and joins them: what stopped. It may wait for threads.
+    fn stop<R: Threads>(self, rt: &R, clients: Vec<Client>) -> Stopped
+        requires clients { AreClients (threads_of self) clients.items }
+        ensures ended { ∥ EndedWith (lost_of self) (threads_of self) (nodes_of result) (logs_of result) ∥₁ }
+        ensures alone { NobodyLost (lost_of self) → EndedWith (lost_of self) (threads_of self) (nodes_of result) (logs_of result) }
+        ensures heard { (given : Configuration) → AreMade given (map begun_by (threads_of self))
+            → ∥ AllHeard (threads_of self) (nodes_of result) (logs_of result) clients.items ∥₁ }
+        ensures lost { losses_of result ≡ lost_of self }
+        ensures clients { ClientsRest clients.items (clients_of result) }
+    {
         let Cluster {
             members,
             mut stops,
@@ -171,9 +187,6 @@ impl<K: Rng + Drop + Send + 'static> Cluster<K> {
             lost.push_reserved(member.is_lost());
             rans.push_reserved(member.join(rt));
         }
-        let stopped = stopped_of(alloc, rans, room, tellers, clients, lost);
-        threads_are_one_run::<K>();
-        nodes_of_one_run_agree();
-        stopped.finish()
+        stopped_of(alloc, rans, room, tellers, clients, lost)
     }
 }

@@ -1,230 +1,38 @@
-use Rattle.std.proofs.Common.{rules, arith, ◌≡◌, ◌+◌, ◌∷◌, [], length, vec_len, ap, sym, ◌∙◌, subst, length-append}
-use Rattle.std.specs.List.{All}
-use Rattle.std.specs.Vec.Iter.{into_iter_items}
-use Rattle.std.proofs.Props.{props}
-use Rattle.std.proofs.lemmas.List.{nil_from_length}
-use mathlib.Core.Logic.{∥∥₁_elim, ∥∥₁_map, ∥∥₁_map₂}
-use Rattle.pg_ring.specs.Slots.{taken}
-use Rattle.pg_cluster.specs.Clients.{ports_begun, ports_ended}
-use Rattle.pg_cluster.specs.Closed.{losses_of, logs_of, nodes_of}
-use Rattle.pg_cluster.specs.Ended.{AreWired, AllArrived}
-use Rattle.pg_cluster.specs.Members.{is_lost, losses_in, threads_in}
-use Rattle.pg_cluster.specs.Notices.{NobodyLost}
-use Rattle.pg_cluster.specs.Room.{HasRoom}
-use Rattle.pg_cluster.specs.Threads.{EndedWith, Joined, rows_begun, rows_ended, notices_ended}
+use Rattle.pg_cluster.specs.Closed.{lost_of, threads_of}
 use Rattle.pg_cluster.proofs.Agreed.{closed_agree}
-use Rattle.pg_cluster.proofs.Closing.{joined_after}
-use Rattle.pg_cluster.proofs.Finishing.{one_more_stands, stopped_ended, stopped_heard, finished_ended, finished_run, finished_clients, finished_lost, finished_schedule, ended_merely, heard_merely}
-use Rattle.pg_cluster.proofs.Hearing.{same_ports, clients_still}
-use Rattle.pg_cluster.proofs.Starts.{GiveBack, GivesBack, all_moved, next_at, next_below, none_moved, pushed_moves, rest_after, runs_still, joined_members}
-use Rattle.pg_cluster.proofs.Telling.{notices_still, nothing_came}
+use Rattle.pg_cluster.proofs.Finishing.{finished_ended, finished_run, finished_clients, finished_lost, finished_schedule, ended_merely, heard_merely}
 use Rattle.pg_cluster.proofs.cluster.Cluster.close.Goals as goal
-
-pub loop-member-init : goal.loop-member-init
-loop-member-init g c =
-    let members = c.args.self.members.items in
-    let left = into_iter_items c.into_iter-member-iterator.result in
-    let same : left ≡ members = search rules in
-    let no_ran : c.args.self.rans.items ≡ [] = nil_from_length c.args.self.rans.items (sym c.args.self.rans.ok.0 ∙ c.args.self.rans_fit.0) in
-    let no_mark : c.args.self.lost.items ≡ [] = nil_from_length c.args.self.lost.items (sym c.args.self.lost.ok.0 ∙ c.args.self.lost_fit.0) in
-    let nothing : GiveBack members c.args.self.rans.items = λ i m d low. absurd (let e = ap length no_ran in omega (arith, low, e)) in (
-      tt,
-      tt,
-      search rules,
-      search rules,
-      search rules,
-      λ nobody. nothing,
-      ∣ nothing ∣₁,
-      search rules,
-      none_moved is_lost c.args.self.lost.items left members no_mark same,
-    )
-
-pub loop-member-preserved : goal.loop-member-preserved
-loop-member-preserved g c =
-    let was = c.loop-member.invariant in
-    let members = c.args.self.members.items in
-    let rans = c.loop-member.rans.items in
-    let member = c.in-Some.member in
-    let step = sym c.in-Some.ensures.steps.0 ∙ was.4 in
-    let items = c.push_reserved-in-loop-member.ensures.items in
-    let here = next_below members _ member (length rans) step in
-    let more : length c.push_reserved-in-loop-member.new.self.items ≡ length rans + 1 = ap length items ∙ length-append rans (c.join.result ∷ []) in (
-      search rules,
-      search rules,
-      search rules,
-      (let fewer = c.in-Some.ensures.steps.1 in let size = was.3 in omega arith),
-      rw more (rest_after members _ member (length rans) step),
-      (λ nobody. rw items (one_more_stands GivesBack members rans member c.join.result (λ m. next_at members _ member (length rans) m step) (c.join.ensures.alone (runs_still members (length rans) member (λ m. next_at members _ member (length rans) m step) here nobody)) (was.5 nobody))),
-      rw items (∥∥₁_map₂ was.6 c.join.ensures.ran (λ all one. one_more_stands GivesBack members rans member c.join.result (λ m. next_at members _ member (length rans) m step) one all)),
-      search rules,
-      pushed_moves is_lost c.loop-member.lost.items c.push_reserved.new.self.items _ (into_iter_items c.loop-member.member-iterator) (into_iter_items c.next.new.self) member _ c.push_reserved.ensures.items
-          c.is_lost.ensures c.in-Some.ensures.steps.0 was.8,
-    )
-
-pub stopped_of-stopped-requires-clause-joined : goal.stopped_of-stopped-requires-clause-joined
-stopped_of-stopped-requires-clause-joined g c =
-    let was = c.loop-member.invariant in
-    let members = c.args.self.members.items in
-    let threads = threads_in members in
-    let rans = c.loop-member.rans.items in
-    let none = c.in-None.ensures.steps.0 in
-    let size = was.3 in
-    let whole : length rans ≡ length members = omega arith in
-    let joined : ∥ Joined threads rans ∥₁ = ∥∥₁_map was.6 (λ all. joined_members members rans whole all) in
-    ∥∥₁_elim joined (hlevel props) (λ j. joined_after (length rans) threads rans (sym j.0) (subst (λ n. AreWired n (rows_begun threads)) (sym j.0) c.args.self.wired) j)
-
-pub stopped_of-stopped-requires-clause-room : goal.stopped_of-stopped-requires-clause-room
-stopped_of-stopped-requires-clause-room g c =
-    let was = c.loop-member.invariant in
-    let members = c.args.self.members.items in
-    let threads = threads_in members in
-    let rans = c.loop-member.rans.items in
-    let none = c.in-None.ensures.steps.0 in
-    let size = was.3 in
-    let whole : length rans ≡ length members = omega arith in
-    let joined : ∥ Joined threads rans ∥₁ = ∥∥₁_map was.6 (λ all. joined_members members rans whole all) in
-    let places : length (ports_begun threads) ≡ length (ports_ended rans) = ∥∥₁_elim joined (hlevel props) (λ j. (same_ports threads rans j).len) in
-    let count : vec_len c.args.self.members ≡ length rans = search rules in
-    subst (λ n. HasRoom c.args.self.room n (length (ports_ended rans))) count (subst (HasRoom c.args.self.room (vec_len c.args.self.members)) places c.args.self.room_fits)
-
-pub stopped_of-stopped-requires-clause-ports : goal.stopped_of-stopped-requires-clause-ports
-stopped_of-stopped-requires-clause-ports g c =
-    let was = c.loop-member.invariant in
-    let members = c.args.self.members.items in
-    let threads = threads_in members in
-    let rans = c.loop-member.rans.items in
-    let none = c.in-None.ensures.steps.0 in
-    let size = was.3 in
-    let whole : length rans ≡ length members = omega arith in
-    let joined : ∥ Joined threads rans ∥₁ = ∥∥₁_map was.6 (λ all. joined_members members rans whole all) in
-    ∥∥₁_elim joined (hlevel props) (λ j. clients_still threads rans c.args.clients.items j c.requires.clients)
-
-pub stopped_of-stopped-requires-clause-notices : goal.stopped_of-stopped-requires-clause-notices
-stopped_of-stopped-requires-clause-notices g c =
-    let was = c.loop-member.invariant in
-    let members = c.args.self.members.items in
-    let threads = threads_in members in
-    let rans = c.loop-member.rans.items in
-    let none = c.in-None.ensures.steps.0 in
-    let size = was.3 in
-    let whole : length rans ≡ length members = omega arith in
-    let joined : ∥ Joined threads rans ∥₁ = ∥∥₁_map was.6 (λ all. joined_members members rans whole all) in
-    ∥∥₁_elim joined (hlevel props) (λ j. notices_still threads rans c.args.self.tellers.items j c.args.self.told)
 
 pub returns-clause-ended : goal.returns-clause-ended
 returns-clause-ended g c =
-    let was = c.loop-member.invariant in
-    let members = c.args.self.members.items in
-    let threads = threads_in members in
-    let rans = c.loop-member.rans.items in
-    let none = c.in-None.ensures.steps.0 in
-    let size = was.3 in
-    let whole : length rans ≡ length members = omega arith in
-    let joined : ∥ Joined threads rans ∥₁ = ∥∥₁_map was.6 (λ all. joined_members members rans whole all) in
-    let left = c.loop-member.member-iterator.rest in
-    let no_more : left.items ≡ [] = nil_from_length left.items (sym left.ok.0 ∙ none) in
-    let lost = losses_in members in
-    let marks : c.loop-member.lost.items ≡ lost = all_moved is_lost c.loop-member.lost.items left.items lost no_more was.8 in
-    let told : losses_of c.stopped_of-stopped.result ≡ lost = c.stopped_of-stopped.ensures.lost ∙ marks in
-    let stopped = c.stopped_of-stopped.ensures in
-    let untold : NobodyLost lost → All (λ inlet. taken inlet ≡ []) (notices_ended rans) = λ nobody. nothing_came c.args.self.tellers.items (notices_ended rans) (c.args.self.untold nobody) stopped.untold in
-    let ended : Joined threads rans → EndedWith lost threads (nodes_of c.stopped_of-stopped.result) (logs_of c.stopped_of-stopped.result) = λ joined.
-    stopped_ended lost threads rans c.stopped_of-stopped.result c.args.self.wired joined (subst (λ n. AllArrived n (rows_ended rans)) joined.0 stopped.arrived) stopped.nodes stopped.logs untold in
-    ended_merely lost threads c.stopped_of-stopped.result c.finish.result (∥∥₁_map joined ended) c.finish.ensures.nodes c.finish.ensures.logs c.finish.ensures.err
+    ended_merely (lost_of c.args.self) (threads_of c.args.self) c.stop-stopped.result c.finish.result c.stop-stopped.ensures.ended c.finish.ensures.nodes c.finish.ensures.logs c.finish.ensures.err
 
 pub returns-clause-one_run : goal.returns-clause-one_run
 returns-clause-one_run g c =
-    let was = c.loop-member.invariant in
-    let members = c.args.self.members.items in
-    let threads = threads_in members in
-    let rans = c.loop-member.rans.items in
-    let none = c.in-None.ensures.steps.0 in
-    let size = was.3 in
-    let whole : length rans ≡ length members = omega arith in
-    let left = c.loop-member.member-iterator.rest in
-    let no_more : left.items ≡ [] = nil_from_length left.items (sym left.ok.0 ∙ none) in
-    let lost = losses_in members in
-    let marks : c.loop-member.lost.items ≡ lost = all_moved is_lost c.loop-member.lost.items left.items lost no_more was.8 in
-    let told : losses_of c.stopped_of-stopped.result ≡ lost = c.stopped_of-stopped.ensures.lost ∙ marks in
-    let stopped = c.stopped_of-stopped.ensures in
-    let untold : NobodyLost lost → All (λ inlet. taken inlet ≡ []) (notices_ended rans) = λ nobody. nothing_came c.args.self.tellers.items (notices_ended rans) (c.args.self.untold nobody) stopped.untold in
-    let ended : Joined threads rans → EndedWith lost threads (nodes_of c.stopped_of-stopped.result) (logs_of c.stopped_of-stopped.result) = λ joined.
-    stopped_ended lost threads rans c.stopped_of-stopped.result c.args.self.wired joined (subst (λ n. AllArrived n (rows_ended rans)) joined.0 stopped.arrived) stopped.nodes stopped.logs untold in
-    let finished = λ (nobody : NobodyLost lost). finished_ended lost threads c.stopped_of-stopped.result c.finish.result (ended (joined_members members rans whole (was.5 nobody)))
-    c.finish.ensures.nodes c.finish.ensures.logs c.finish.ensures.err in
-    let schedule = finished_schedule lost c.stopped_of-stopped.result c.finish.result told c.finish.ensures.schedule in
-    finished_run c.threads_are_one_run.ensures lost threads c.finish.result finished schedule
+    let lost = lost_of c.args.self in
+    let threads = threads_of c.args.self in
+    finished_run c.threads_are_one_run.ensures lost threads c.finish.result
+    (λ nobody. finished_ended lost threads c.stop-stopped.result c.finish.result (c.stop-stopped.ensures.alone nobody) c.finish.ensures.nodes c.finish.ensures.logs c.finish.ensures.err)
+    (finished_schedule lost c.stop-stopped.result c.finish.result c.stop-stopped.ensures.lost c.finish.ensures.schedule)
 
 pub returns-clause-agree : goal.returns-clause-agree
 returns-clause-agree g c =
-    let was = c.loop-member.invariant in
-    let members = c.args.self.members.items in
-    let threads = threads_in members in
-    let rans = c.loop-member.rans.items in
-    let none = c.in-None.ensures.steps.0 in
-    let size = was.3 in
-    let whole : length rans ≡ length members = omega arith in
-    let left = c.loop-member.member-iterator.rest in
-    let no_more : left.items ≡ [] = nil_from_length left.items (sym left.ok.0 ∙ none) in
-    let lost = losses_in members in
-    let marks : c.loop-member.lost.items ≡ lost = all_moved is_lost c.loop-member.lost.items left.items lost no_more was.8 in
-    let told : losses_of c.stopped_of-stopped.result ≡ lost = c.stopped_of-stopped.ensures.lost ∙ marks in
-    let stopped = c.stopped_of-stopped.ensures in
-    let untold : NobodyLost lost → All (λ inlet. taken inlet ≡ []) (notices_ended rans) = λ nobody. nothing_came c.args.self.tellers.items (notices_ended rans) (c.args.self.untold nobody) stopped.untold in
-    let ended : Joined threads rans → EndedWith lost threads (nodes_of c.stopped_of-stopped.result) (logs_of c.stopped_of-stopped.result) = λ joined.
-    stopped_ended lost threads rans c.stopped_of-stopped.result c.args.self.wired joined (subst (λ n. AllArrived n (rows_ended rans)) joined.0 stopped.arrived) stopped.nodes stopped.logs untold in
-    let finished = λ (nobody : NobodyLost lost). finished_ended lost threads c.stopped_of-stopped.result c.finish.result (ended (joined_members members rans whole (was.5 nobody)))
-    c.finish.ensures.nodes c.finish.ensures.logs c.finish.ensures.err in
-    let schedule = finished_schedule lost c.stopped_of-stopped.result c.finish.result told c.finish.ensures.schedule in
-    closed_agree c.nodes_of_one_run_agree.ensures lost threads c.finish.result (finished_run c.threads_are_one_run.ensures lost threads c.finish.result finished schedule)
+    let lost = lost_of c.args.self in
+    let threads = threads_of c.args.self in
+    closed_agree c.nodes_of_one_run_agree.ensures lost threads c.finish.result
+    (finished_run c.threads_are_one_run.ensures lost threads c.finish.result
+    (λ nobody. finished_ended lost threads c.stop-stopped.result c.finish.result (c.stop-stopped.ensures.alone nobody) c.finish.ensures.nodes c.finish.ensures.logs c.finish.ensures.err)
+    (finished_schedule lost c.stop-stopped.result c.finish.result c.stop-stopped.ensures.lost c.finish.ensures.schedule))
 
 pub returns-clause-heard : goal.returns-clause-heard
 returns-clause-heard g c =
-    let was = c.loop-member.invariant in
-    let members = c.args.self.members.items in
-    let threads = threads_in members in
-    let rans = c.loop-member.rans.items in
-    let none = c.in-None.ensures.steps.0 in
-    let size = was.3 in
-    let whole : length rans ≡ length members = omega arith in
-    let joined : ∥ Joined threads rans ∥₁ = ∥∥₁_map was.6 (λ all. joined_members members rans whole all) in
-    let stopped = c.stopped_of-stopped.ensures in
-    heard_merely threads c.args.clients.items c.stopped_of-stopped.result c.finish.result
-    (λ given made. ∥∥₁_map joined (λ j. stopped_heard threads rans c.args.clients.items c.stopped_of-stopped.result j stopped.meets stopped.nodes stopped.logs given made))
-    c.finish.ensures.nodes c.finish.ensures.logs c.finish.ensures.err
+    heard_merely (threads_of c.args.self) c.args.clients.items c.stop-stopped.result c.finish.result c.stop-stopped.ensures.heard c.finish.ensures.nodes c.finish.ensures.logs c.finish.ensures.err
 
 pub returns-clause-schedule : goal.returns-clause-schedule
-returns-clause-schedule g c =
-    let was = c.loop-member.invariant in
-    let members = c.args.self.members.items in
-    let threads = threads_in members in
-    let rans = c.loop-member.rans.items in
-    let none = c.in-None.ensures.steps.0 in
-    let size = was.3 in
-    let whole : length rans ≡ length members = omega arith in
-    let left = c.loop-member.member-iterator.rest in
-    let no_more : left.items ≡ [] = nil_from_length left.items (sym left.ok.0 ∙ none) in
-    let lost = losses_in members in
-    let marks : c.loop-member.lost.items ≡ lost = all_moved is_lost c.loop-member.lost.items left.items lost no_more was.8 in
-    let told : losses_of c.stopped_of-stopped.result ≡ lost = c.stopped_of-stopped.ensures.lost ∙ marks in
-    finished_schedule lost c.stopped_of-stopped.result c.finish.result told c.finish.ensures.schedule
+returns-clause-schedule g c = finished_schedule (lost_of c.args.self) c.stop-stopped.result c.finish.result c.stop-stopped.ensures.lost c.finish.ensures.schedule
 
 pub returns-clause-lost : goal.returns-clause-lost
-returns-clause-lost g c =
-    let was = c.loop-member.invariant in
-    let members = c.args.self.members.items in
-    let threads = threads_in members in
-    let rans = c.loop-member.rans.items in
-    let none = c.in-None.ensures.steps.0 in
-    let size = was.3 in
-    let whole : length rans ≡ length members = omega arith in
-    let left = c.loop-member.member-iterator.rest in
-    let no_more : left.items ≡ [] = nil_from_length left.items (sym left.ok.0 ∙ none) in
-    let lost = losses_in members in
-    let marks : c.loop-member.lost.items ≡ lost = all_moved is_lost c.loop-member.lost.items left.items lost no_more was.8 in
-    let told : losses_of c.stopped_of-stopped.result ≡ lost = c.stopped_of-stopped.ensures.lost ∙ marks in
-    finished_lost lost c.stopped_of-stopped.result c.finish.result told c.finish.ensures.err
+returns-clause-lost g c = finished_lost (lost_of c.args.self) c.stop-stopped.result c.finish.result c.stop-stopped.ensures.lost c.finish.ensures.err
 
 pub returns-clause-clients : goal.returns-clause-clients
-returns-clause-clients g c =
-    finished_clients c.args.clients.items c.stopped_of-stopped.result c.finish.result c.stopped_of-stopped.ensures.clients c.finish.ensures.clients c.finish.ensures.err
+returns-clause-clients g c = finished_clients c.args.clients.items c.stop-stopped.result c.finish.result c.stop-stopped.ensures.clients c.finish.ensures.clients c.finish.ensures.err

@@ -4,7 +4,7 @@ use Rattle.std.specs.Vec.Iter.{into_iter_items, into_iter_len}
 use Rattle.pg_cluster.specs.Members.{is_lost, losses_in}
 use Rattle.pg_cluster.specs.Notices.{NobodyLost}
 use Rattle.pg_cluster.proofs.Starts.{GiveBack}
-use Rattle.pg_cluster.proofs.cluster.Cluster.close.Given as goal
+use Rattle.pg_cluster.proofs.cluster.Cluster.stop.Given as goal
 
 abbrev pub invariant-loop-member : goal.invariant-loop-member
 invariant-loop-member g l =
