@@ -4,7 +4,7 @@ use crate::data::{Diagram, Event, Topic};
 use std::alloc::{AllocError, Global};
 
 /// A packet: from where it was sent to where it was taken.
-#[derive(Clone, Copy, Debug)]
+#[derive(Clone, Copy)]
 pub(crate) struct Arrow {
     pub(crate) from: usize,
     pub(crate) to: usize,

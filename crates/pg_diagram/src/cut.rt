@@ -1,7 +1,6 @@
 //! Labels of a limited width.
 
-use crate::escape::{add_escaped, add_escaped_char};
-use std::alloc::AllocError;
+use crate::pen::Pen;
 
 /// How many cells of a label's font a character takes at most.
 fn cells_of(character: char) -> usize {
@@ -18,17 +17,23 @@ pub(crate) fn cells(text: &str) -> usize {
 }
 
 /// Appends a text, escaped. One that takes more cells than `most` is cut, and ends with an ellipsis.
-pub(crate) fn add_cut(out: &mut String, text: &str, most: usize) -> Result<(), AllocError> {
+pub(crate) fn add_cut(pen: &mut Pen, text: &str, most: usize) {
     if cells(text) <= most {
-        return add_escaped(out, text);
+        pen.add_escaped(text);
+    } else {
+        add_front(pen, text, most);
     }
+}
+
+/// Appends as much of a text as leaves room for the ellipsis behind it.
+fn add_front(pen: &mut Pen, text: &str, most: usize) {
     let mut count = 1usize;
     for character in text.chars() {
         count = count.saturating_add(cells_of(character));
         if count > most {
             break;
         }
-        add_escaped_char(out, character)?;
+        pen.add_escaped_char(character);
     }
-    out.push('…')
+    pen.add_char('…');
 }

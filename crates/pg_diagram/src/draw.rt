@@ -2,8 +2,10 @@
 
 use crate::arrows::{Arrow, arrows_of};
 use crate::data::{Diagram, Event};
+use crate::head::add_head;
 use crate::layout::{Layout, ROWS_UNDER_NAMES};
-use crate::legend::{COLOURS, add_legend, class_of, legend_height};
+use crate::legend::{add_legend, legend_height};
+use crate::pen::Pen;
 use crate::shapes::{
     Point, add_arrow, add_break, add_label, add_lifeline, add_name, add_note, add_rule, add_way,
 };
@@ -17,7 +19,7 @@ struct Picture<'a> {
     diagram: &'a Diagram,
     layout: Layout,
     arrows: Vec<Arrow>,
-    out: String,
+    pen: Pen,
 }
 
 /// Draws a diagram as SVG, which is XML. Rows go down with the events; a label is cut where it would reach the next lifeline.
@@ -35,10 +37,10 @@ pub fn svg_of(alloc: Global, diagram: &Diagram) -> Result<String, AllocError> {
         diagram,
         layout,
         arrows,
-        out: String::new(alloc),
+        pen: Pen::new(alloc),
     };
-    picture.draw()?;
-    Ok(picture.out)
+    picture.draw();
+    picture.pen.finish()
 }
 
 /// Draws a diagram as SVG, and writes it.
@@ -62,53 +64,17 @@ fn way_count(arrows: &[Arrow]) -> usize {
 }
 
 impl Picture<'_> {
-    fn draw(&mut self) -> Result<(), AllocError> {
-        self.add_head()?;
-        add_legend(&mut self.out, self.layout.width())?;
-        self.add_lifelines()?;
-        self.add_rules()?;
-        self.add_arrows()?;
-        self.add_labels()?;
-        self.add_names()?;
-        write!(self.out, "</svg>\n")
-    }
-
-    /// What stands before the shapes: the size, the colours and the fonts.
-    fn add_head(&mut self) -> Result<(), AllocError> {
+    fn draw(&mut self) {
         let width = self.layout.width();
-        let height = self.height();
-        let out = &mut self.out;
-        write!(out, "<?xml version=\"1.0\" encoding=\"UTF-8\"?>\n")?;
-        write!(
-            out,
-            "<svg xmlns=\"http://www.w3.org/2000/svg\" width=\"{width}\" height=\"{height}\" viewBox=\"0 0 {width} {height}\">\n"
-        )?;
-        write!(out, "<title>Packets between nodes</title>\n")?;
-        write!(out, "<style>\n{STYLE}")?;
-        for (topic, colour) in COLOURS {
-            write!(
-                out,
-                ".{}{{stroke:{colour};stroke-width:1.6}}\n",
-                class_of(topic)
-            )?;
-        }
-        write!(out, "</style>\n<defs>\n")?;
-        for (topic, colour) in COLOURS {
-            write!(
-                out,
-                "<marker id=\"{}\" markerUnits=\"userSpaceOnUse\" markerWidth=\"10\" markerHeight=\"8\" refX=\"9\" refY=\"4\" orient=\"auto\"><path d=\"M0,0 L10,4 L0,8 z\" fill=\"{colour}\"/></marker>\n",
-                class_of(topic)
-            )?;
-        }
-        write!(
-            out,
-            "</defs>\n<rect class=\"page\" width=\"{width}\" height=\"{height}\"/>\n"
-        )
-    }
-
-    /// How high the picture is.
-    fn height(&self) -> u128 {
-        self.layout.bottom().saturating_add(44)
+        let height = self.layout.bottom().saturating_add(44);
+        add_head(&mut self.pen, width, height);
+        add_legend(&mut self.pen, width);
+        self.add_lifelines();
+        self.add_rules();
+        self.add_arrows();
+        self.add_labels();
+        self.add_names();
+        self.pen.add("</svg>\n");
     }
 
     /// The row in which a node was lost, or the last.
@@ -123,7 +89,7 @@ impl Picture<'_> {
         None
     }
 
-    fn add_lifelines(&mut self) -> Result<(), AllocError> {
+    fn add_lifelines(&mut self) {
         for node in 0..self.layout.nodes {
             let top = Point {
                 x: self.layout.x_of(node),
@@ -132,13 +98,12 @@ impl Picture<'_> {
             match self.end_of(node) {
                 Some(row) => {
                     let end = self.point(node, row);
-                    add_lifeline(&mut self.out, top, end.y)?;
-                    add_break(&mut self.out, end)?;
+                    add_lifeline(&mut self.pen, top, end.y);
+                    add_break(&mut self.pen, end);
                 }
-                None => add_lifeline(&mut self.out, top, self.layout.bottom())?,
+                None => add_lifeline(&mut self.pen, top, self.layout.bottom()),
             }
         }
-        Ok(())
     }
 
     /// Where a row meets a lifeline.
@@ -149,17 +114,16 @@ impl Picture<'_> {
         }
     }
 
-    fn add_rules(&mut self) -> Result<(), AllocError> {
+    fn add_rules(&mut self) {
         for (row, event) in self.diagram.events.iter().enumerate() {
             if let Event::Line(line) = event {
                 let y = self.layout.y_of(row).saturating_sub(9);
-                add_rule(&mut self.out, y, self.layout.width(), *line)?;
+                add_rule(&mut self.pen, y, self.layout.width(), *line);
             }
         }
-        Ok(())
     }
 
-    fn add_arrows(&mut self) -> Result<(), AllocError> {
+    fn add_arrows(&mut self) {
         // Packets that were not taken end in rows of their own, below all others.
         let mut last = self.diagram.events.len();
         for place in 0..self.arrows.len() {
@@ -172,13 +136,12 @@ impl Picture<'_> {
                 let start = self.point(arrow.from, arrow.start);
                 let tip = self.point(arrow.to, end);
                 if arrow.end.is_some() {
-                    add_arrow(&mut self.out, &arrow, start, tip)?;
+                    add_arrow(&mut self.pen, &arrow, start, tip);
                 } else {
-                    add_way(&mut self.out, &arrow, start, tip)?;
+                    add_way(&mut self.pen, &arrow, start, tip);
                 }
             }
         }
-        Ok(())
     }
 
     /// Whether these are two nodes that are there.
@@ -186,46 +149,62 @@ impl Picture<'_> {
         from < self.layout.nodes && to < self.layout.nodes && from != to
     }
 
-    fn add_labels(&mut self) -> Result<(), AllocError> {
+    fn add_labels(&mut self) {
         for (row, event) in self.diagram.events.iter().enumerate() {
-            match event {
-                Event::Sent {
-                    from,
-                    to,
-                    topic: _,
-                    label,
-                } if self.is_drawn(*from, *to) => {
-                    let at = self.point(*from, row);
-                    add_label(&mut self.out, at, *from < *to, "label", label.as_str())?;
-                }
-                Event::Note { node, label } if *node < self.layout.nodes => {
-                    let at = self.point(*node, row);
-                    add_note(&mut self.out, at, label.as_str())?;
-                }
-                Event::Lost { node } if *node < self.layout.nodes => {
-                    let at = self.point(*node, row);
-                    add_label(&mut self.out, at, true, "lost", "lost")?;
-                }
-                _ => {}
-            }
+            self.add_label_of(row, event);
         }
-        Ok(())
+    }
+
+    /// The label of the event of a row, if it has one.
+    fn add_label_of(&mut self, row: usize, event: &Event) {
+        match event {
+            Event::Sent {
+                from,
+                to,
+                topic: _,
+                label,
+            } => self.add_packet_label(row, *from, *to, label.as_str()),
+            Event::Note { node, label } => self.add_note_at(row, *node, label.as_str()),
+            Event::Lost { node } => self.add_loss_at(row, *node),
+            Event::Line(_) | Event::Taken { .. } => {}
+        }
+    }
+
+    fn add_packet_label(&mut self, row: usize, from: usize, to: usize, label: &str) {
+        if self.is_drawn(from, to) {
+            let at = self.point(from, row);
+            add_label(&mut self.pen, at, from < to, "label", label);
+        }
+    }
+
+    fn add_note_at(&mut self, row: usize, node: usize, label: &str) {
+        if node < self.layout.nodes {
+            let at = self.point(node, row);
+            add_note(&mut self.pen, at, label);
+        }
+    }
+
+    fn add_loss_at(&mut self, row: usize, node: usize) {
+        if node < self.layout.nodes {
+            let at = self.point(node, row);
+            add_label(&mut self.pen, at, true, "lost", "lost");
+        }
     }
 
     /// The names of the nodes, above each so many rows and below all.
-    fn add_names(&mut self) -> Result<(), AllocError> {
+    fn add_names(&mut self) {
         let lines = self.layout.rows / ROWS_UNDER_NAMES;
         for line in 0..=lines {
             let row = line.saturating_mul(ROWS_UNDER_NAMES);
             let y = self.layout.y_of(row).saturating_sub(46);
-            self.add_names_at(row, y)?;
+            self.add_names_at(row, y);
         }
         let bottom = self.layout.bottom();
-        self.add_names_at(self.layout.rows, bottom)
+        self.add_names_at(self.layout.rows, bottom);
     }
 
     /// The names of the nodes that are not lost before this row.
-    fn add_names_at(&mut self, row: usize, y: u128) -> Result<(), AllocError> {
+    fn add_names_at(&mut self, row: usize, y: u128) {
         for node in 0..self.layout.nodes {
             let is_there = match self.end_of(node) {
                 Some(end) => row <= end,
@@ -233,10 +212,9 @@ impl Picture<'_> {
             };
             if is_there {
                 let x = self.layout.x_of(node);
-                add_name(&mut self.out, Point { x, y }, name_of(self.diagram, node))?;
+                add_name(&mut self.pen, Point { x, y }, name_of(self.diagram, node));
             }
         }
-        Ok(())
     }
 }
 
@@ -247,22 +225,3 @@ fn name_of(diagram: &Diagram, node: usize) -> &str {
         None => "",
     }
 }
-
-/// The looks of the shapes.
-const STYLE: &str =
-    "text{font-family:ui-monospace,'DejaVu Sans Mono',Menlo,Consolas,'Liberation Mono',monospace;font-size:12px}
-.page{fill:#ffffff}
-.back{fill:#ffffff;fill-opacity:0.88}
-.life{stroke:#b9c0cc;stroke-width:1.5}
-.rule{stroke:#e6e9ef;stroke-width:1}
-.line{fill:#8b93a3;font-size:11px}
-.label{fill:#2b303b}
-.note{fill:#2b303b;font-weight:bold}
-.lost{fill:#b23a48;font-weight:bold}
-.legend{fill:#4a5160;font-size:12px}
-.mark{fill:#2b303b}
-.break{fill:none;stroke:#b23a48;stroke-width:2}
-rect.name{fill:#f3f5f9;stroke:#9aa3b2}
-text.name{fill:#1d222b;font-weight:bold;text-anchor:middle}
-.way{stroke-dasharray:4 4}
-";

@@ -28,7 +28,7 @@ pub(crate) const MAX_NAME_CELLS: usize = 24;
 const MIN_CELLS: usize = 14;
 
 /// The widths of a diagram, and where its rows begin.
-#[derive(Clone, Copy, Debug)]
+#[derive(Clone, Copy)]
 pub(crate) struct Layout {
     /// From one lifeline to the next.
     pub(crate) gap: u128,

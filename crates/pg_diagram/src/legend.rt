@@ -3,8 +3,9 @@
 ghost use Rattle.std.specs.Prelude.{◌<◌};
 
 use crate::data::Topic;
-use crate::shapes::Point;
-use std::alloc::AllocError;
+use crate::pen::Pen;
+use crate::shapes::{Point, add_break};
+use crate::tags::{add_arrow_line, add_dashed_line, add_line, add_mark, begin_text};
 
 /// How wide an entry is.
 const ENTRY_WIDTH: u128 = 172;
@@ -30,14 +31,14 @@ pub(crate) fn class_of(topic: Topic) -> &'static str {
     }
 }
 
-/// Each topic with its colour.
-pub(crate) const COLOURS: [(Topic, &str); 6] = [
-    (Topic::Lock, "#2563a8"),
-    (Topic::Update, "#2a7f4f"),
-    (Topic::Reply, "#7b8190"),
-    (Topic::Free, "#b7791f"),
-    (Topic::End, "#b23a48"),
-    (Topic::Exchange, "#7a5ba6"),
+/// All topics, as the legend has them.
+pub(crate) const TOPICS: [Topic; 6] = [
+    Topic::Lock,
+    Topic::Update,
+    Topic::Reply,
+    Topic::Free,
+    Topic::End,
+    Topic::Exchange,
 ];
 
 /// What the topics mean, in the legend.
@@ -76,74 +77,45 @@ fn entry_at(width: u128, number: u128) -> Point {
 }
 
 /// Draws the legend.
-pub(crate) fn add_legend(out: &mut String, width: u128) -> Result<(), AllocError> {
+pub(crate) fn add_legend(pen: &mut Pen, width: u128) {
     let mut number = 0u128;
-    for (topic, _) in COLOURS {
-        let class = class_of(topic);
-        add_line_entry(out, entry_at(width, number), class, meaning_of(topic))?;
+    for topic in &TOPICS {
+        add_topic_entry(pen, entry_at(width, number), *topic);
         number = number.saturating_add(1);
     }
-    add_way_entry(out, entry_at(width, 6))?;
-    add_note_entry(out, entry_at(width, 7))?;
-    add_lost_entry(out, entry_at(width, 8))
+    add_way_entry(pen, entry_at(width, 6));
+    add_note_entry(pen, entry_at(width, 7));
+    add_lost_entry(pen, entry_at(width, 8));
 }
 
 /// An arrow, and what it means.
-fn add_line_entry(
-    out: &mut String,
-    at: Point,
-    class: &str,
-    meaning: &str,
-) -> Result<(), AllocError> {
-    let Point { x, y } = at;
-    let end = x.saturating_add(30);
-    write!(
-        out,
-        "<line class=\"{class}\" x1=\"{x}\" y1=\"{y}\" x2=\"{end}\" y2=\"{y}\" marker-end=\"url(#{class})\"/>\n"
-    )?;
-    add_meaning(out, at, meaning)
+fn add_topic_entry(pen: &mut Pen, at: Point, topic: Topic) {
+    add_arrow_line(pen, class_of(topic), at, at.right(30));
+    add_meaning(pen, at, meaning_of(topic));
 }
 
 /// An arrow that ends dashed.
-fn add_way_entry(out: &mut String, at: Point) -> Result<(), AllocError> {
-    let Point { x, y } = at;
-    let mid = x.saturating_add(14);
-    let end = x.saturating_add(30);
-    write!(
-        out,
-        "<line class=\"lock\" x1=\"{x}\" y1=\"{y}\" x2=\"{mid}\" y2=\"{y}\"/>\n"
-    )?;
-    write!(
-        out,
-        "<line class=\"lock way\" x1=\"{mid}\" y1=\"{y}\" x2=\"{end}\" y2=\"{y}\"/>\n"
-    )?;
-    add_meaning(out, at, "not taken at end")
+fn add_way_entry(pen: &mut Pen, at: Point) {
+    let mid = at.right(14);
+    add_line(pen, "lock", at, mid);
+    add_dashed_line(pen, "lock", mid, at.right(30));
+    add_meaning(pen, at, "not taken at end");
 }
 
 /// A mark on a lifeline.
-fn add_note_entry(out: &mut String, at: Point) -> Result<(), AllocError> {
-    let Point { x, y } = at;
-    let mid = x.saturating_add(15);
-    write!(
-        out,
-        "<circle class=\"mark\" cx=\"{mid}\" cy=\"{y}\" r=\"3.5\"/>\n"
-    )?;
-    add_meaning(out, at, "command or answer")
+fn add_note_entry(pen: &mut Pen, at: Point) {
+    add_mark(pen, at.right(15));
+    add_meaning(pen, at, "command or answer");
 }
 
 /// A lifeline that ends broken.
-fn add_lost_entry(out: &mut String, at: Point) -> Result<(), AllocError> {
-    let mid = at.x.saturating_add(15);
-    crate::shapes::add_break(out, Point { x: mid, y: at.y })?;
-    add_meaning(out, at, "the node is lost")
+fn add_lost_entry(pen: &mut Pen, at: Point) {
+    add_break(pen, at.right(15));
+    add_meaning(pen, at, "the node is lost");
 }
 
 /// The text of an entry.
-fn add_meaning(out: &mut String, at: Point, meaning: &str) -> Result<(), AllocError> {
-    let x = at.x.saturating_add(40);
-    let y = at.y.saturating_add(4);
-    write!(
-        out,
-        "<text class=\"legend\" x=\"{x}\" y=\"{y}\">{meaning}</text>\n"
-    )
+fn add_meaning(pen: &mut Pen, at: Point, meaning: &str) {
+    begin_text(pen, "legend", at.right(40).below(4));
+    write!(pen, ">{meaning}</text>\n");
 }

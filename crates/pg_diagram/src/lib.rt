@@ -7,10 +7,13 @@ mod cut;
 mod data;
 mod draw;
 mod escape;
+mod head;
 mod laws;
 mod layout;
 mod legend;
+mod pen;
 mod shapes;
+mod tags;
 
 pub use data::{Diagram, Event, Topic};
 pub use draw::{svg_of, write_svg};

@@ -4,10 +4,13 @@ use crate::arrows::Arrow;
 use crate::cut::{add_cut, cells};
 use crate::layout::{MAX_CELLS, MAX_NAME_CELLS, text_width};
 use crate::legend::class_of;
-use std::alloc::AllocError;
+use crate::pen::Pen;
+use crate::tags::{
+    add_arrow_line, add_dashed_line, add_line, add_mark, add_stroke, begin_box, begin_text,
+};
 
 /// A place in the picture, in pixels from the left and from above.
-#[derive(Clone, Copy, Debug)]
+#[derive(Clone, Copy)]
 pub(crate) struct Point {
     pub(crate) x: u128,
     pub(crate) y: u128,
@@ -23,76 +26,73 @@ impl Point {
     }
 
     /// So far to the right of it.
-    fn right(self, by: u128) -> Point {
+    pub(crate) fn right(self, by: u128) -> Point {
         Point {
             x: self.x.saturating_add(by),
             y: self.y,
         }
     }
+
+    /// So far above it.
+    fn above(self, by: u128) -> Point {
+        Point {
+            x: self.x,
+            y: self.y.saturating_sub(by),
+        }
+    }
+
+    /// So far below it.
+    pub(crate) fn below(self, by: u128) -> Point {
+        Point {
+            x: self.x,
+            y: self.y.saturating_add(by),
+        }
+    }
 }
 
 /// The mark of a lifeline that ends here: it is broken.
-pub(crate) fn add_break(out: &mut String, at: Point) -> Result<(), AllocError> {
-    let Point { x, y } = at;
-    let left = x.saturating_sub(10);
-    let right = x.saturating_add(10);
-    let near = x.saturating_sub(3);
-    let far = x.saturating_add(3);
-    let above = y.saturating_sub(6);
-    let below = y.saturating_add(6);
-    write!(
-        out,
-        "<polyline class=\"break\" points=\"{left},{y} {near},{above} {far},{below} {right},{y}\"/>\n"
-    )
+pub(crate) fn add_break(pen: &mut Pen, at: Point) {
+    pen.add("<polyline class=\"break\" points=\"");
+    add_stroke(pen, at.left(10), at.left(3).above(6));
+    pen.add(" ");
+    add_stroke(pen, at.right(3).below(6), at.right(10));
+    pen.add("\"/>\n");
 }
 
 /// A lifeline.
-pub(crate) fn add_lifeline(out: &mut String, at: Point, end: u128) -> Result<(), AllocError> {
-    let Point { x, y } = at;
-    write!(
-        out,
-        "<line class=\"life\" x1=\"{x}\" y1=\"{y}\" x2=\"{x}\" y2=\"{end}\"/>\n"
-    )
+pub(crate) fn add_lifeline(pen: &mut Pen, at: Point, end: u128) {
+    add_line(pen, "life", at, Point { x: at.x, y: end });
 }
 
 /// The name of a node, in a box around its lifeline. `at`: the middle of its upper side.
-pub(crate) fn add_name(out: &mut String, at: Point, name: &str) -> Result<(), AllocError> {
+pub(crate) fn add_name(pen: &mut Pen, at: Point, name: &str) {
     let width = text_width(cells(name).min(MAX_NAME_CELLS)).saturating_add(24);
-    let x = at.x.saturating_sub(width / 2);
-    let Point { x: middle, y } = at;
-    let base = y.saturating_add(16);
-    write!(
-        out,
-        "<rect class=\"name\" x=\"{x}\" y=\"{y}\" width=\"{width}\" height=\"24\" rx=\"4\"/>\n"
-    )?;
-    write!(out, "<text class=\"name\" x=\"{middle}\" y=\"{base}\">")?;
-    add_cut(out, name, MAX_NAME_CELLS)?;
-    write!(out, "</text>\n")
+    begin_box(pen, "name", at.left(width / 2), width, 24);
+    pen.add(" rx=\"4\"/>\n");
+    begin_text(pen, "name", at.below(16));
+    pen.add(">");
+    add_cut(pen, name, MAX_NAME_CELLS);
+    pen.add("</text>\n");
 }
 
 /// The begin of a line of the script: a rule, and its number.
-pub(crate) fn add_rule(
-    out: &mut String,
-    y: u128,
-    width: u128,
-    line: usize,
-) -> Result<(), AllocError> {
-    let base = y.saturating_add(4);
-    let end = width.saturating_sub(10);
-    write!(
-        out,
-        "<line class=\"rule\" x1=\"10\" y1=\"{y}\" x2=\"{end}\" y2=\"{y}\"/>\n"
-    )?;
-    write!(
-        out,
-        "<rect class=\"back\" x=\"10\" y=\"{}\" width=\"{}\" height=\"16\"/>\n",
-        y.saturating_sub(8),
-        text_width(line_cells(line))
-    )?;
-    write!(
-        out,
-        "<text class=\"line\" x=\"10\" y=\"{base}\">line {line}</text>\n"
-    )
+pub(crate) fn add_rule(pen: &mut Pen, y: u128, width: u128, line: usize) {
+    let start = Point { x: 10, y };
+    let end = Point {
+        x: width.saturating_sub(10),
+        y,
+    };
+    add_line(pen, "rule", start, end);
+    add_line_number(pen, start, line);
+}
+
+/// The number of a line of the script. `at`: the begin of its rule.
+fn add_line_number(pen: &mut Pen, at: Point, line: usize) {
+    let width = text_width(line_cells(line));
+    begin_box(pen, "back", at.above(8), width, 16);
+    pen.add("/>\n");
+    begin_text(pen, "line", at.below(4));
+    write!(pen, ">line {line}</text>\n");
 }
 
 /// How many cells `line N` takes.
@@ -111,50 +111,21 @@ fn line_cells(line: usize) -> usize {
 }
 
 /// An arrow from one place to another, where its packet was taken.
-pub(crate) fn add_arrow(
-    out: &mut String,
-    arrow: &Arrow,
-    start: Point,
-    end: Point,
-) -> Result<(), AllocError> {
-    let class = class_of(arrow.topic);
+pub(crate) fn add_arrow(pen: &mut Pen, arrow: &Arrow, start: Point, end: Point) {
     let tip = if start.x < end.x {
         end.left(2)
     } else {
         end.right(2)
     };
-    let Point { x, y } = start;
-    let Point { x: tip_x, y: tip_y } = tip;
-    write!(
-        out,
-        "<line class=\"{class}\" x1=\"{x}\" y1=\"{y}\" x2=\"{tip_x}\" y2=\"{tip_y}\" marker-end=\"url(#{class})\"/>\n"
-    )
+    add_arrow_line(pen, class_of(arrow.topic), start, tip);
 }
 
 /// An arrow whose packet was not taken: it ends dashed, before it is there.
-pub(crate) fn add_way(
-    out: &mut String,
-    arrow: &Arrow,
-    start: Point,
-    end: Point,
-) -> Result<(), AllocError> {
+pub(crate) fn add_way(pen: &mut Pen, arrow: &Arrow, start: Point, end: Point) {
     let class = class_of(arrow.topic);
     let mid = between(start, end, 1);
-    let last = between(start, end, 2);
-    let Point { x, y } = start;
-    let Point { x: mid_x, y: mid_y } = mid;
-    let Point {
-        x: last_x,
-        y: last_y,
-    } = last;
-    write!(
-        out,
-        "<line class=\"{class}\" x1=\"{x}\" y1=\"{y}\" x2=\"{mid_x}\" y2=\"{mid_y}\"/>\n"
-    )?;
-    write!(
-        out,
-        "<line class=\"{class} way\" x1=\"{mid_x}\" y1=\"{mid_y}\" x2=\"{last_x}\" y2=\"{last_y}\"/>\n"
-    )
+    add_line(pen, class, start, mid);
+    add_dashed_line(pen, class, mid, between(start, end, 2));
 }
 
 /// The place so many thirds of the way.
@@ -175,40 +146,34 @@ fn part(start: u128, end: u128, thirds: u128) -> u128 {
 }
 
 /// A label on the right of a lifeline, or on its left.
-pub(crate) fn add_label(
-    out: &mut String,
-    at: Point,
-    is_right: bool,
-    class: &str,
-    label: &str,
-) -> Result<(), AllocError> {
-    let width = text_width(cells(label).min(MAX_CELLS));
+pub(crate) fn add_label(pen: &mut Pen, at: Point, is_right: bool, class: &str, label: &str) {
     let near = if is_right { at.right(9) } else { at.left(9) };
+    add_back(pen, near, is_right, cells(label).min(MAX_CELLS));
+    begin_text(pen, class, near.above(5));
+    pen.add(anchor_of(is_right));
+    add_cut(pen, label, MAX_CELLS);
+    pen.add("</text>\n");
+}
+
+/// What stands behind a label of so many cells that begins here, or ends here.
+fn add_back(pen: &mut Pen, near: Point, is_right: bool, cells: usize) {
+    let width = text_width(cells);
     let corner = if is_right { near } else { near.left(width) };
-    let Point { x, y } = near;
-    let top = y.saturating_sub(16);
-    let base = y.saturating_sub(5);
-    let anchor = if is_right { "start" } else { "end" };
-    write!(
-        out,
-        "<rect class=\"back\" x=\"{}\" y=\"{top}\" width=\"{width}\" height=\"15\"/>\n",
-        corner.x
-    )?;
-    write!(
-        out,
-        "<text class=\"{class}\" x=\"{x}\" y=\"{base}\" text-anchor=\"{anchor}\">"
-    )?;
-    add_cut(out, label, MAX_CELLS)?;
-    write!(out, "</text>\n")
+    begin_box(pen, "back", corner.above(16), width, 15);
+    pen.add("/>\n");
+}
+
+/// The end of the tag of a label: at which of its ends it stands where it stands.
+fn anchor_of(is_right: bool) -> &'static str {
+    if is_right {
+        " text-anchor=\"start\">"
+    } else {
+        " text-anchor=\"end\">"
+    }
 }
 
 /// A mark on a lifeline, with its label.
-pub(crate) fn add_note(out: &mut String, at: Point, label: &str) -> Result<(), AllocError> {
-    let Point { x, y } = at;
-    let mid = y.saturating_sub(9);
-    write!(
-        out,
-        "<circle class=\"mark\" cx=\"{x}\" cy=\"{mid}\" r=\"3.5\"/>\n"
-    )?;
-    add_label(out, at, true, "note", label)
+pub(crate) fn add_note(pen: &mut Pen, at: Point, label: &str) {
+    add_mark(pen, at.above(9));
+    add_label(pen, at, true, "note", label);
 }
