@@ -1,6 +1,7 @@
 //! The forms of lines.
 
 ghost use Rattle.std.specs.Prelude.{◌≡◌, ◌≢◌, [], Some, None, IfOk, IfErr, OnErr, OnOk};
+ghost use Rattle.pg_lines.specs.declared.keyword.NodeKeyword.TheVariants.{Join, Leave, Closest};
 ghost use Rattle.pg_text.specs.declared.fault.TextFault.TheVariants.{BadText};
 ghost use Rattle.pg_lines.specs.Words.{words_left};
 ghost use Rattle.pg_lines.specs.Forms.{atom_in, term_in, pid_in, pids_in, number_in, number_or, keyword_in, made_in, node_line, has_line, settle_line, pair_form, pair_line, node_form, at_line, line_in, line_of};
@@ -30,9 +31,17 @@ pub fn read_line(alloc: Global, text: &str) -> Result<Line, TextFault>
         alloc,
         words: Words::new(text),
     };
-    let line = words.line()?;
-    words.end()?;
-    Ok(line)
+    match words.line() {
+        Ok(line) => match words.end() {
+            Ok(()) => Ok(line),
+            Err(fault) => {
+                // By a call: its forms are not written out here.
+                drop(line);
+                Err(fault)
+            }
+        },
+        Err(fault) => Err(fault),
+    }
 }
 
 /// The words of a line that are left to be read.
@@ -96,12 +105,17 @@ impl LineWords<'_> {
     {
         let node = self.atom()?;
         let group = self.term()?;
-        let members = self.pids()?;
-        Ok(Line::Has {
-            node,
-            group,
-            members,
-        })
+        match self.pids() {
+            Ok(members) => Ok(Line::Has {
+                node,
+                group,
+                members,
+            }),
+            Err(fault) => {
+                drop(group);
+                Err(fault)
+            }
+        }
     }
 
     fn settle_line(&mut self) -> Result<Line, TextFault>
@@ -158,19 +172,62 @@ impl LineWords<'_> {
         match keyword {
             NodeKeyword::Create => Ok(NodeForm::Command(Command::Create(self.term()?))),
             NodeKeyword::Delete => Ok(NodeForm::Command(Command::Delete(self.term()?))),
-            NodeKeyword::Join => Ok(NodeForm::Command(Command::Join(self.term()?, self.pid()?))),
-            NodeKeyword::Leave => Ok(NodeForm::Command(Command::Leave(self.term()?, self.pid()?))),
+            NodeKeyword::Join => self.join_form(),
+            NodeKeyword::Leave => self.leave_form(),
             NodeKeyword::Make => Ok(NodeForm::Command(Command::Make)),
             NodeKeyword::End => Ok(NodeForm::Command(Command::Finish(self.pid()?))),
             NodeKeyword::Members => Ok(NodeForm::Command(Command::Members(self.term()?))),
             NodeKeyword::Local => Ok(NodeForm::Command(Command::LocalMembers(self.term()?))),
             NodeKeyword::Groups => Ok(NodeForm::Command(Command::WhichGroups)),
-            NodeKeyword::Closest => {
-                Ok(NodeForm::Command(Command::Closest(self.term()?, self.number()?)))
-            }
+            NodeKeyword::Closest => self.closest_form(),
             NodeKeyword::Retry => Ok(NodeForm::Retry(self.number()?)),
             NodeKeyword::Lock => Ok(NodeForm::Lock(self.term()?)),
             NodeKeyword::Lose => Ok(NodeForm::Lose),
+        }
+    }
+
+    /// `TERM PID` of a join.
+    fn join_form(&mut self) -> Result<NodeForm, TextFault>
+        ensures ok { IfOk result (λ read. node_form Join (words_left self.old.words) ≡ Some (read, words_left self.new.words)) }
+        ensures err { IfErr result (λ fault. fault ≡ BadText → node_form Join (words_left self.old.words) ≡ None) }
+    {
+        let group = self.term()?;
+        match self.pid() {
+            Ok(pid) => Ok(NodeForm::Command(Command::Join(group, pid))),
+            Err(fault) => {
+                drop(group);
+                Err(fault)
+            }
+        }
+    }
+
+    /// `TERM PID` of a leave.
+    fn leave_form(&mut self) -> Result<NodeForm, TextFault>
+        ensures ok { IfOk result (λ read. node_form Leave (words_left self.old.words) ≡ Some (read, words_left self.new.words)) }
+        ensures err { IfErr result (λ fault. fault ≡ BadText → node_form Leave (words_left self.old.words) ≡ None) }
+    {
+        let group = self.term()?;
+        match self.pid() {
+            Ok(pid) => Ok(NodeForm::Command(Command::Leave(group, pid))),
+            Err(fault) => {
+                drop(group);
+                Err(fault)
+            }
+        }
+    }
+
+    /// `TERM N` of a choice.
+    fn closest_form(&mut self) -> Result<NodeForm, TextFault>
+        ensures ok { IfOk result (λ read. node_form Closest (words_left self.old.words) ≡ Some (read, words_left self.new.words)) }
+        ensures err { IfErr result (λ fault. fault ≡ BadText → node_form Closest (words_left self.old.words) ≡ None) }
+    {
+        let group = self.term()?;
+        match self.number() {
+            Ok(number) => Ok(NodeForm::Command(Command::Closest(group, number))),
+            Err(fault) => {
+                drop(group);
+                Err(fault)
+            }
         }
     }
 

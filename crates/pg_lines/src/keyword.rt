@@ -4,7 +4,7 @@ ghost use Rattle.std.specs.Prelude.{◌≡◌, IfSome};
 ghost use Rattle.pg_lines.specs.Keywords.{keyword_of, node_keyword_of};
 
 /// What kind of line it is.
-#[derive(Clone, Copy, Debug, PartialEq, Eq)]
+#[derive(Clone, Copy)]
 pub(crate) enum Keyword {
     Ring,
     Node,
@@ -18,7 +18,7 @@ pub(crate) enum Keyword {
 }
 
 /// What kind of line about two nodes.
-#[derive(Clone, Copy, Debug, PartialEq, Eq)]
+#[derive(Clone, Copy)]
 pub(crate) enum PairKeyword {
     Put,
     Pull,
@@ -28,7 +28,7 @@ pub(crate) enum PairKeyword {
 }
 
 /// What kind of line about one node.
-#[derive(Clone, Copy, Debug, PartialEq, Eq)]
+#[derive(Clone, Copy)]
 pub(crate) enum NodeKeyword {
     Create,
     Delete,

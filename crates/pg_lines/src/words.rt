@@ -5,7 +5,7 @@ ghost use Rattle.pg_lines.specs.declared.words.Stand.TheVariants.{Bare, Quoted};
 ghost use Rattle.pg_lines.specs.Words.{after, ends_word, word_len, words_in, words_left, words_of_rest, TakesWord};
 
 /// Where a walk over a line stands.
-#[derive(Clone, Copy, Debug, PartialEq, Eq)]
+#[derive(Clone, Copy)]
 pub(crate) enum Stand {
     /// Outside of single quotes.
     Bare,
@@ -82,7 +82,7 @@ fn first_word(text: &str) -> (&str, Option<&str>)
 }
 
 /// What is left of a line: words that single spaces part; a space within single quotes belongs to its word.
-#[derive(Debug, Drop)]
+#[derive(Drop)]
 pub(crate) struct Words<'a> {
     // Nothing behind the last word; else what follows, which may be an empty word.
     rest: Option<&'a str>,
