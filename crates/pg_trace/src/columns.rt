@@ -36,15 +36,9 @@ impl Columns {
     ///
     /// Error: `AllocError`; some of it stands there then.
     pub fn print_head(&self, out: &mut String) -> Result<(), AllocError> {
-        let row = Row {
-            line: self.text("line")?,
-            node: self.text("node")?,
-            clock: self.text("clock")?,
-            event: self.text("event")?,
-            way: self.text("with")?,
-            what: self.text("what")?,
-        };
-        print_row(out, self.widths, &row)
+        let mut row = empty_row(self.alloc);
+        let filled = fill_head(&mut row);
+        self.print_filled(out, row, filled)
     }
 
     /// Appends the line of a sight of this watch. One that the run tells by itself, an answer, has none.
@@ -54,106 +48,155 @@ impl Columns {
         if let Seen::Answered { .. } = &sight.seen {
             return Ok(());
         }
-        let row = self.row(watch, sight)?;
-        print_row(out, self.widths, &row)
+        let mut row = empty_row(self.alloc);
+        let filled = fill(&mut row, watch, sight);
+        self.print_filled(out, row, filled)
     }
 
-    fn text(&self, text: &str) -> Result<String, AllocError> {
-        String::from_str(self.alloc, text)
+    /// Appends the line of a row, where it could be filled.
+    fn print_filled(
+        &self,
+        out: &mut String,
+        row: Row,
+        filled: Result<(), AllocError>,
+    ) -> Result<(), AllocError> {
+        let printed = match filled {
+            Ok(()) => print_row(out, self.widths, &row),
+            Err(error) => Err(error),
+        };
+        drop(row);
+        printed
     }
+}
 
-    fn name(&self, watch: &Watch, node: usize) -> Result<String, AllocError> {
-        match watch.names.get(node) {
-            Some(name) => self.text(name.as_str()),
-            None => self.text("?"),
+/// A row of empty cells.
+fn empty_row(alloc: Global) -> Row {
+    Row {
+        line: String::new(alloc),
+        node: String::new(alloc),
+        clock: String::new(alloc),
+        event: String::new(alloc),
+        way: String::new(alloc),
+        what: String::new(alloc),
+    }
+}
+
+/// Writes the names of the columns into their cells.
+fn fill_head(row: &mut Row) -> Result<(), AllocError> {
+    row.line.push_str("line")?;
+    row.node.push_str("node")?;
+    row.clock.push_str("clock")?;
+    row.event.push_str("event")?;
+    row.way.push_str("with")?;
+    row.what.push_str("what")
+}
+
+/// Writes what a sight tells into the cells.
+fn fill(row: &mut Row, watch: &Watch, sight: &Sight) -> Result<(), AllocError> {
+    let seen = &sight.seen;
+    write!(row.line, "{}", sight.line)?;
+    add_place(&mut row.node, watch, seen)?;
+    add_clock(&mut row.clock, watch, seen)?;
+    row.event.push_str(event_of(seen))?;
+    add_way(&mut row.way, watch, seen)?;
+    add_what(&mut row.what, watch, seen)
+}
+
+/// Appends the name of a node.
+fn add_name(out: &mut String, watch: &Watch, node: usize) -> Result<(), AllocError> {
+    match watch.names.get(node) {
+        Some(name) => out.push_str(name.as_str()),
+        None => out.push('?'),
+    }
+}
+
+/// Appends the name of the node of a sight.
+fn add_place(out: &mut String, watch: &Watch, seen: &Seen) -> Result<(), AllocError> {
+    match place_of(watch, seen) {
+        Some(node) => add_name(out, watch, node),
+        None => Ok(()),
+    }
+}
+
+/// Appends the clock of a sight.
+fn add_clock(out: &mut String, watch: &Watch, seen: &Seen) -> Result<(), AllocError> {
+    match clock_of(watch, seen) {
+        Some(clock) => write!(out, "{clock}"),
+        None => Ok(()),
+    }
+}
+
+/// Appends the other node of a sight behind a word.
+fn add_way(out: &mut String, watch: &Watch, seen: &Seen) -> Result<(), AllocError> {
+    match way_of(watch, seen) {
+        Some((word, node)) => {
+            out.push_str(word)?;
+            add_name(out, watch, node)
         }
+        None => Ok(()),
     }
+}
 
-    /// A word, and the name of a node.
-    fn way(&self, watch: &Watch, word: &str, node: usize) -> Result<String, AllocError> {
-        let mut text = self.text(word)?;
-        text.push(' ')?;
-        let name = self.name(watch, node)?;
-        text.push_str(name.as_str())?;
-        Ok(text)
+/// The other node of a sight, and the word before it.
+fn way_of(watch: &Watch, seen: &Seen) -> Option<(&'static str, usize)> {
+    match seen {
+        Seen::Put { to, .. } => Some(("to ", *to)),
+        Seen::Pulled { from, .. } => Some(("from ", *from)),
+        Seen::NotThere { peer, .. } => Some(("from ", *peer)),
+        Seen::Taken { packet, .. } => match watch.letters.get(*packet) {
+            Some(letter) => Some(("from ", letter.from)),
+            None => None,
+        },
+        Seen::Sent { packet } => match watch.letters.get(*packet) {
+            Some(letter) => Some(("to ", letter.to)),
+            None => None,
+        },
+        Seen::LossSeen { peer, .. } => Some(("of ", *peer)),
+        _ => None,
     }
+}
 
-    fn row(&self, watch: &Watch, sight: &Sight) -> Result<Row, AllocError> {
-        let place = place_of(watch, &sight.seen);
-        Ok(Row {
-            line: self.number(sight.line)?,
-            node: match place {
-                Some(node) => self.name(watch, node)?,
-                None => String::new(self.alloc),
-            },
-            clock: match clock_of(watch, &sight.seen) {
-                Some(clock) => self.number(clock as usize)?,
-                None => String::new(self.alloc),
-            },
-            event: self.text(event_of(&sight.seen))?,
-            way: self.way_of(watch, &sight.seen)?,
-            what: self.what_of(watch, &sight.seen)?,
-        })
+/// Appends what a sight tells beside.
+fn add_what(out: &mut String, watch: &Watch, seen: &Seen) -> Result<(), AllocError> {
+    match seen {
+        Seen::Put { count, .. } | Seen::Pulled { count, .. } => write!(out, "{count} bytes"),
+        Seen::NotThere { .. } => out.push_str("no whole packet"),
+        Seen::Taken { packet, .. } | Seen::Sent { packet } => add_message(out, watch, *packet),
+        Seen::Came { number, text, .. } => add_command(out, *number, ": ", text.as_str()),
+        Seen::Tried { number, .. } => add_command(out, *number, " again", ""),
+        Seen::Waits { number, .. } => add_command(out, *number, " waits for a retry", ""),
+        Seen::Granted { name, to, .. } => add_lock(out, name.as_str(), " granted to ", to.as_str()),
+        Seen::Freed { name, by, .. } => add_lock(out, name.as_str(), " freed by ", by.as_str()),
+        Seen::Denied { name, to, .. } => add_lock(out, name.as_str(), " denied to ", to.as_str()),
+        Seen::Answered { text, .. } => out.push_str(text.as_str()),
+        Seen::LossSeen { .. } => out.push_str("the loss is seen"),
+        Seen::Lost { .. } => out.push_str("the node is lost"),
     }
+}
 
-    fn number(&self, number: usize) -> Result<String, AllocError> {
-        format!(in self.alloc; "{number}")
+/// Appends the text of a packet's message.
+fn add_message(out: &mut String, watch: &Watch, packet: usize) -> Result<(), AllocError> {
+    match watch.letters.get(packet) {
+        Some(letter) => out.push_str(letter.text.as_str()),
+        None => Ok(()),
     }
+}
 
-    /// The other node of a sight.
-    fn way_of(&self, watch: &Watch, seen: &Seen) -> Result<String, AllocError> {
-        match seen {
-            Seen::Put { to, .. } => self.way(watch, "to", *to),
-            Seen::Pulled { from, .. } => self.way(watch, "from", *from),
-            Seen::NotThere { peer, .. } => self.way(watch, "from", *peer),
-            Seen::Taken { packet, .. } => match watch.letters.get(*packet) {
-                Some(letter) => self.way(watch, "from", letter.from),
-                None => Ok(String::new(self.alloc)),
-            },
-            Seen::Sent { packet } => match watch.letters.get(*packet) {
-                Some(letter) => self.way(watch, "to", letter.to),
-                None => Ok(String::new(self.alloc)),
-            },
-            Seen::LossSeen { peer, .. } => self.way(watch, "of", *peer),
-            _ => Ok(String::new(self.alloc)),
-        }
-    }
+/// Appends what happened to a command. `text`: its own text, where that is told.
+fn add_command(
+    out: &mut String,
+    number: u32,
+    happened: &str,
+    text: &str,
+) -> Result<(), AllocError> {
+    write!(out, "command {number}{happened}{text}")
+}
 
-    /// What a sight tells beside.
-    fn what_of(&self, watch: &Watch, seen: &Seen) -> Result<String, AllocError> {
-        let alloc = self.alloc;
-        match seen {
-            Seen::Put { count, .. } => format!(in alloc; "{count} bytes"),
-            Seen::Pulled { count, .. } => format!(in alloc; "{count} bytes"),
-            Seen::NotThere { .. } => self.text("no whole packet"),
-            Seen::Taken { packet, .. } => self.message(watch, *packet),
-            Seen::Sent { packet } => self.message(watch, *packet),
-            Seen::Came { number, text, .. } => {
-                let text = text.as_str();
-                format!(in alloc; "command {number}: {text}")
-            }
-            Seen::Tried { number, .. } => format!(in alloc; "command {number} again"),
-            Seen::Granted { name, to, .. } => self.lock(name.as_str(), "granted to", to.as_str()),
-            Seen::Freed { name, by, .. } => self.lock(name.as_str(), "freed by", by.as_str()),
-            Seen::Denied { name, to, .. } => self.lock(name.as_str(), "denied to", to.as_str()),
-            Seen::Waits { number, .. } => format!(in alloc; "command {number} waits for a retry"),
-            Seen::Answered { text, .. } => self.text(text.as_str()),
-            Seen::LossSeen { .. } => self.text("the loss is seen"),
-            Seen::Lost { .. } => self.text("the node is lost"),
-        }
-    }
-
-    fn message(&self, watch: &Watch, packet: usize) -> Result<String, AllocError> {
-        match watch.letters.get(packet) {
-            Some(letter) => self.text(letter.text.as_str()),
-            None => Ok(String::new(self.alloc)),
-        }
-    }
-
-    fn lock(&self, name: &str, done: &str, reference: &str) -> Result<String, AllocError> {
-        let alloc = self.alloc;
-        format!(in alloc; "{name} {done} {reference}")
-    }
+/// Appends what a reference did with a lock.
+fn add_lock(out: &mut String, name: &str, done: &str, reference: &str) -> Result<(), AllocError> {
+    out.push_str(name)?;
+    out.push_str(done)?;
+    out.push_str(reference)
 }
 
 /// How many digits a number has.

@@ -9,7 +9,6 @@ use pg_frame::Deframer;
 use pg_message::{Message, Packet, Request, Said, read_packet};
 use pg_term::Term;
 use pg_term_io::decode;
-use pg_text::write_term;
 use std::alloc::{AllocError, Global};
 
 /// A packet that was sent.
@@ -103,16 +102,27 @@ fn is_denial(message: &Message) -> bool {
 
 /// The text of the message of the packet whose body this is: the second part of its tuple.
 fn message_text(alloc: Global, body: &[u8]) -> Result<String, AllocError> {
-    let mut text = String::new(alloc);
     match decode(alloc, body) {
-        Ok(Term::Tuple(parts)) => {
-            if let [_, message] = parts.as_slice() {
-                write_term(message, &mut text)?;
-            }
-            Ok(text)
+        Ok(term) => {
+            let text = match second_part(&term) {
+                Some(message) => term_text(alloc, message),
+                None => Ok(String::new(alloc)),
+            };
+            drop(term);
+            text
         }
-        Ok(_) => Ok(text),
         Err(_) => Err(AllocError),
+    }
+}
+
+/// The second part of a tuple of two.
+fn second_part(term: &Term) -> Option<&Term> {
+    match term {
+        Term::Tuple(parts) => match parts.as_slice() {
+            [_, second] => Some(second),
+            _ => None,
+        },
+        _ => None,
     }
 }
 
@@ -127,8 +137,24 @@ pub(crate) fn add_letters(
     letters: &mut Vec<Letter>,
 ) -> Result<(), AllocError> {
     let mut frames = Deframer::new(alloc);
-    frames.feed(bytes)?;
-    for _ in 0..bytes.len() {
+    let added = match frames.feed(bytes) {
+        Ok(()) => add_frames(alloc, from, to, &mut frames, bytes.len(), letters),
+        Err(error) => Err(error),
+    };
+    drop(frames);
+    added
+}
+
+/// Appends the packets of these frames, so many at most.
+fn add_frames(
+    alloc: Global,
+    from: usize,
+    to: usize,
+    frames: &mut Deframer,
+    most: usize,
+    letters: &mut Vec<Letter>,
+) -> Result<(), AllocError> {
+    for _ in 0..most {
         match frames.front() {
             Ok(Some(body)) => letters.push(letter_of(alloc, from, to, body)?)?,
             _ => return Ok(()),

@@ -8,7 +8,7 @@ use crate::letter::Letter;
 use crate::seen::{Seen, Sight};
 use crate::texts::{atom_text, changed_by, command_text};
 use crate::watch::locks::Locks;
-use crate::watch::ways::{Ways, outbox_lens};
+use crate::watch::ways::{Ways, outbox, peer_count};
 use pg_group::GroupTable;
 use pg_lines::print_reply;
 use pg_node::NodeFault;
@@ -35,6 +35,8 @@ pub struct Watch {
     // How many commands came in at each node, and which of them wait.
     came: Vec<u32>,
     waiting: Vec<Vec<u32>>,
+    // How many bytes stood in each outbox of the node of a step before it.
+    lens: Vec<usize>,
 }
 
 impl Watch {
@@ -46,27 +48,48 @@ impl Watch {
         starts: &[Start],
         world: &World<T>,
     ) -> Result<Watch, AllocError> {
-        let mut names = Vec::with_capacity(alloc, starts.len())?;
-        let mut waiting = Vec::with_capacity(alloc, starts.len())?;
-        for start in starts {
-            names.push(atom_text(alloc, &start.name)?)?;
-            waiting.push(Vec::new(alloc))?;
-        }
         let mut watch = Watch {
             alloc,
-            names,
+            names: Vec::new(alloc),
             letters: Vec::new(alloc),
             sights: Vec::new(alloc),
             line: 0,
-            ways: Ways::new(alloc, starts.len())?,
+            ways: Ways::new(alloc),
             locks: Locks::new(alloc, starts.len()),
-            came: Vec::from_elem(alloc, 0, starts.len())?,
-            waiting,
+            came: Vec::new(alloc),
+            waiting: Vec::new(alloc),
+            lens: Vec::new(alloc),
         };
-        for node in 0..starts.len() {
-            watch.see_begin(world, node)?;
+        match watch.see_nodes(starts, world) {
+            Ok(()) => Ok(watch),
+            Err(error) => {
+                drop(watch);
+                Err(error)
+            }
         }
-        Ok(watch)
+    }
+
+    /// The nodes of a world that begins.
+    fn see_nodes<T: GroupTable + Drop>(
+        &mut self,
+        starts: &[Start],
+        world: &World<T>,
+    ) -> Result<(), AllocError> {
+        for start in starts {
+            self.add_node(start, starts.len())?;
+        }
+        for node in 0..starts.len() {
+            self.see_begin(world, node)?;
+        }
+        Ok(())
+    }
+
+    /// One node more, of so many.
+    fn add_node(&mut self, start: &Start, nodes: usize) -> Result<(), AllocError> {
+        self.names.push(atom_text(self.alloc, &start.name)?)?;
+        self.waiting.push(Vec::new(self.alloc))?;
+        self.came.push(0)?;
+        self.ways.add_node(self.alloc, nodes)
     }
 
     /// What is seen from now on belongs to this line.
@@ -97,19 +120,30 @@ impl Watch {
         step: &Step,
         is_quiet: bool,
     ) -> Result<Result<Stepped, NodeFault>, AllocError> {
-        let lens = match node_of(step) {
-            Some(node) => outbox_lens(self.alloc, world, node)?,
-            None => Vec::new(self.alloc),
-        };
+        self.measure(world, step)?;
         match world.step(step) {
-            Ok(stepped) => {
-                if !(is_quiet && is_nothing(stepped)) {
-                    self.see(world, step, stepped, lens.as_slice())?;
-                }
-                Ok(Ok(stepped))
-            }
+            Ok(stepped) => match self.see(world, step, stepped, is_quiet) {
+                Ok(()) => Ok(Ok(stepped)),
+                Err(error) => Err(error),
+            },
             Err(fault) => Ok(Err(fault)),
         }
+    }
+
+    /// How many bytes stand in each outbox of the node of a step.
+    fn measure<T: GroupTable + Drop>(
+        &mut self,
+        world: &World<T>,
+        step: &Step,
+    ) -> Result<(), AllocError> {
+        self.lens.clear();
+        let Some(node) = node_of(step) else {
+            return Ok(());
+        };
+        for peer in 0..peer_count(world, node) {
+            self.lens.push(outbox(world, node, peer).len())?;
+        }
+        Ok(())
     }
 
     fn add(&mut self, seen: Seen) -> Result<(), AllocError> {
@@ -127,30 +161,51 @@ impl Watch {
         world: &World<T>,
         step: &Step,
         stepped: Stepped,
-        lens: &[usize],
+        is_quiet: bool,
     ) -> Result<(), AllocError> {
-        match (step, stepped) {
-            (Step::Put { from, to, max: _ }, Stepped::Moved(count)) => self.add(Seen::Put {
+        match stepped {
+            Stepped::Moved(count) if count > 0 || !is_quiet => self.see_move(step, count),
+            Stepped::Nothing if !is_quiet => self.see_nothing(step),
+            Stepped::Happened => self.see_event(world, step),
+            Stepped::Gone => self.see_lost(step),
+            _ => Ok(()),
+        }
+    }
+
+    /// So many bytes moved.
+    fn see_move(&mut self, step: &Step, count: usize) -> Result<(), AllocError> {
+        match step {
+            Step::Put { from, to, max: _ } => self.add(Seen::Put {
                 from: *from,
                 to: *to,
                 count,
             }),
-            (Step::Pull { to, from, max: _ }, Stepped::Moved(count)) => self.add(Seen::Pulled {
+            Step::Pull { to, from, max: _ } => self.add(Seen::Pulled {
                 to: *to,
                 from: *from,
                 count,
             }),
-            (Step::Event(FrameStep::Take { node, peer }), Stepped::Nothing) => {
-                self.add(Seen::NotThere {
-                    node: *node,
-                    peer: *peer,
-                })
-            }
-            (Step::Event(event), Stepped::Happened) => self.see_event(world, event, lens),
-            (Step::Event(FrameStep::Lose { node, keep: _ }), Stepped::Gone) => {
+            _ => Ok(()),
+        }
+    }
+
+    /// Nothing happened, as no whole packet was there.
+    fn see_nothing(&mut self, step: &Step) -> Result<(), AllocError> {
+        match step {
+            Step::Event(FrameStep::Take { node, peer }) => self.add(Seen::NotThere {
+                node: *node,
+                peer: *peer,
+            }),
+            _ => Ok(()),
+        }
+    }
+
+    /// A node is lost.
+    fn see_lost(&mut self, step: &Step) -> Result<(), AllocError> {
+        match step {
+            Step::Event(FrameStep::Lose { node, keep: _ }) | Step::Lose { node } => {
                 self.add(Seen::Lost { node: *node })
             }
-            (Step::Lose { node }, Stepped::Gone) => self.add(Seen::Lost { node: *node }),
             _ => Ok(()),
         }
     }
@@ -159,57 +214,82 @@ impl Watch {
     fn see_event<T: GroupTable + Drop>(
         &mut self,
         world: &World<T>,
-        event: &FrameStep,
-        lens: &[usize],
+        step: &Step,
     ) -> Result<(), AllocError> {
-        match event {
-            FrameStep::Take { node, peer } => self.see_take(world, *node, *peer, lens),
-            FrameStep::Command {
-                node,
-                port: _,
-                command,
-            } => {
-                self.see_command(world, *node, command)?;
-                self.see_effects(world, *node, None, lens)
-            }
-            FrameStep::Retry { node, op } => {
-                self.add(Seen::Tried {
-                    node: *node,
-                    number: op.number,
-                    clock: clock_of(world, *node),
-                })?;
-                self.forget_waiting(*node, op.number);
-                self.see_effects(world, *node, None, lens)
-            }
-            FrameStep::SeeLoss { node, peer } => {
-                self.add(Seen::LossSeen {
-                    node: *node,
-                    peer: *peer,
-                    clock: clock_of(world, *node),
-                })?;
-                self.see_effects(world, *node, None, lens)
-            }
-            FrameStep::Lose { .. } => Ok(()),
+        let Some(node) = node_of(step) else {
+            return Ok(());
+        };
+        let taken = taken_by(&mut self.ways, step);
+        self.see_cause(world, step, taken)?;
+        self.see_effects(world, node, taken)
+    }
+
+    /// What happened at a node, which took this packet.
+    fn see_cause<T: GroupTable + Drop>(
+        &mut self,
+        world: &World<T>,
+        step: &Step,
+        taken: Option<usize>,
+    ) -> Result<(), AllocError> {
+        match step {
+            Step::Event(FrameStep::Take { node, peer: _ }) => self.see_take(world, *node, taken),
+            Step::Event(
+                FrameStep::Command {
+                    node,
+                    port: _,
+                    command,
+                },
+            ) => self.see_command(world, *node, command),
+            Step::Event(FrameStep::Retry { node, op }) => self.see_retry(world, *node, op.number),
+            Step::Event(FrameStep::SeeLoss { node, peer }) => self.see_loss(world, *node, *peer),
+            _ => Ok(()),
         }
     }
 
-    /// A node took the first packet on the way from a peer.
+    /// A node took this packet.
     fn see_take<T: GroupTable + Drop>(
         &mut self,
         world: &World<T>,
         node: usize,
-        peer: usize,
-        lens: &[usize],
+        taken: Option<usize>,
     ) -> Result<(), AllocError> {
-        let packet = self.ways.pass(peer, node);
-        if let Some(packet) = packet {
-            self.add(Seen::Taken {
+        match taken {
+            Some(packet) => self.add(Seen::Taken {
                 node,
                 packet,
                 clock: clock_of(world, node),
-            })?;
+            }),
+            None => Ok(()),
         }
-        self.see_effects(world, node, packet, lens)
+    }
+
+    /// A node tried a command again.
+    fn see_retry<T: GroupTable + Drop>(
+        &mut self,
+        world: &World<T>,
+        node: usize,
+        number: u32,
+    ) -> Result<(), AllocError> {
+        self.forget_waiting(node, number);
+        self.add(Seen::Tried {
+            node,
+            number,
+            clock: clock_of(world, node),
+        })
+    }
+
+    /// A node saw the loss of a peer.
+    fn see_loss<T: GroupTable + Drop>(
+        &mut self,
+        world: &World<T>,
+        node: usize,
+        peer: usize,
+    ) -> Result<(), AllocError> {
+        self.add(Seen::LossSeen {
+            node,
+            peer,
+            clock: clock_of(world, node),
+        })
     }
 
     /// A command came in at a node.
@@ -219,13 +299,7 @@ impl Watch {
         node: usize,
         command: &Command,
     ) -> Result<(), AllocError> {
-        let number = match self.came.get_mut(node) {
-            Some(count) => {
-                *count = count.saturating_add(1);
-                *count
-            }
-            None => 0,
-        };
+        let number = next_number(self.came.get_mut(node));
         if let Some(name) = changed_by(command) {
             self.locks.know(self.alloc, name)?;
         }
@@ -236,6 +310,25 @@ impl Watch {
             text,
             clock: clock_of(world, node),
         })
+    }
+}
+
+/// The number of the next command of a node, of which so many came in.
+fn next_number(came: Option<&mut u32>) -> u32 {
+    match came {
+        Some(count) => {
+            *count = count.saturating_add(1);
+            *count
+        }
+        None => 0,
+    }
+}
+
+/// The packet that a step takes: the first on its way.
+fn taken_by(ways: &mut Ways, step: &Step) -> Option<usize> {
+    match step {
+        Step::Event(FrameStep::Take { node, peer }) => ways.pass(*peer, *node),
+        _ => None,
     }
 }
 
@@ -254,11 +347,6 @@ fn node_of(step: &Step) -> Option<usize> {
         Step::Event(FrameStep::SeeLoss { node, peer: _ }) => Some(*node),
         _ => None,
     }
-}
-
-/// Nothing moved, and no packet was taken.
-fn is_nothing(stepped: Stepped) -> bool {
-    matches!(stepped, Stepped::Nothing | Stepped::Moved(0))
 }
 
 /// The clock of a node.

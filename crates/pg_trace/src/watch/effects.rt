@@ -1,29 +1,30 @@
 //! What an event did beside: locks, packets that were sent, and commands that wait.
 
-use crate::letter::{Letter, add_letters};
+use crate::letter::{Asked, Letter, add_letters};
 use crate::seen::Seen;
 use crate::texts::reference_text;
 use crate::watch::Watch;
-use crate::watch::locks::Change;
+use crate::watch::locks::is_same;
 use crate::watch::ways::{node_at, outbox, peer_count};
 use pg_group::GroupTable;
+use pg_step::OpId;
 use pg_term::{Reference, Term};
 use pg_world::World;
 use std::alloc::AllocError;
 
 impl Watch {
-    /// What an event of a node did, by which it took this packet. `lens`: how many bytes stood in each outbox before.
+    /// What an event of a node did, by which it took this packet.
     pub(crate) fn see_effects<T: GroupTable + Drop>(
         &mut self,
         world: &World<T>,
         node: usize,
         taken: Option<usize>,
-        lens: &[usize],
     ) -> Result<(), AllocError> {
         self.see_locks(world, node)?;
-        let letters = self.new_letters(world, node, lens)?;
-        self.see_denial(node, taken, letters.as_slice())?;
-        self.send_all(letters)?;
+        let first = self.letters.len();
+        self.read_letters(world, node)?;
+        self.see_denial(node, taken, first)?;
+        self.see_sent(first)?;
         self.see_waiting(world, node)
     }
 
@@ -50,58 +51,66 @@ impl Watch {
             Some(lock) => holder_at(world, node, &lock.term),
             None => None,
         };
-        let Some(change) = self.locks.change(place, node, holder)? else {
+        if is_same(self.locks.holder(place, node), holder) {
+            return Ok(());
+        }
+        self.see_freed(node, place)?;
+        self.see_granted(node, place, holder)?;
+        self.locks.set_holder(place, node, holder)
+    }
+
+    /// A lock is freed at a node, if it was held there.
+    fn see_freed(&mut self, node: usize, place: usize) -> Result<(), AllocError> {
+        let Some(before) = self.locks.holder(place, node) else {
             return Ok(());
         };
-        match self.locks.names.get(place) {
-            Some(lock) => {
-                let name = lock.text.clone()?;
-                self.see_change(node, name, &change)
-            }
-            None => Ok(()),
-        }
+        let by = reference_text(self.alloc, before)?;
+        let name = String::from_str(self.alloc, self.locks.text(place))?;
+        self.add(Seen::Freed { node, name, by })
     }
 
-    /// A lock changed at a node.
-    fn see_change(&mut self, node: usize, name: String, change: &Change) -> Result<(), AllocError> {
-        if let Some(before) = &change.before {
-            let by = reference_text(self.alloc, before)?;
-            let name = name.clone()?;
-            self.add(Seen::Freed { node, name, by })?;
-        }
-        match &change.after {
-            Some(after) => {
-                let to = reference_text(self.alloc, after)?;
-                self.add(Seen::Granted { node, name, to })
-            }
-            None => Ok(()),
-        }
+    /// A lock is granted at a node, if it is held there now.
+    fn see_granted(
+        &mut self,
+        node: usize,
+        place: usize,
+        holder: Option<&Reference>,
+    ) -> Result<(), AllocError> {
+        let Some(after) = holder else {
+            return Ok(());
+        };
+        let to = reference_text(self.alloc, after)?;
+        let name = String::from_str(self.alloc, self.locks.text(place))?;
+        self.add(Seen::Granted { node, name, to })
     }
 
-    /// The packets that a node has sent: what stands in its outboxes behind so many bytes.
-    fn new_letters<T: GroupTable + Drop>(
-        &self,
+    /// Reads the packets that a node has sent: what stands in its outboxes behind what stood there before.
+    fn read_letters<T: GroupTable + Drop>(
+        &mut self,
         world: &World<T>,
         node: usize,
-        lens: &[usize],
-    ) -> Result<Vec<Letter>, AllocError> {
-        let mut letters = Vec::new(self.alloc);
+    ) -> Result<(), AllocError> {
         for peer in 0..peer_count(world, node) {
-            let before = lens.get(peer).copied().unwrap_or(0);
-            let bytes = outbox(world, node, peer);
-            if let Some(new) = bytes.get(before..) {
-                add_letters(self.alloc, node, node_at(node, peer), new, &mut letters)?;
+            let before = self.lens.get(peer).copied().unwrap_or(0);
+            if let Some(new) = outbox(world, node, peer).get(before..) {
+                add_letters(
+                    self.alloc,
+                    node,
+                    node_at(node, peer),
+                    new,
+                    &mut self.letters,
+                )?;
             }
         }
-        Ok(letters)
+        Ok(())
     }
 
-    /// These packets are sent.
-    fn send_all(&mut self, letters: Vec<Letter>) -> Result<(), AllocError> {
-        for letter in letters {
-            let packet = self.letters.len();
-            self.ways.send(letter.from, letter.to, packet)?;
-            self.letters.push(letter)?;
+    /// The packets from this one on are sent.
+    fn see_sent(&mut self, first: usize) -> Result<(), AllocError> {
+        for packet in first..self.letters.len() {
+            if let Some(letter) = self.letters.get(packet) {
+                self.ways.send(letter.from, letter.to, packet)?;
+            }
             self.add(Seen::Sent { packet })?;
         }
         Ok(())
@@ -113,29 +122,25 @@ impl Watch {
         world: &World<T>,
         node: usize,
     ) -> Result<(), AllocError> {
-        let letters = self.new_letters(world, node, &[])?;
-        self.send_all(letters)
+        let first = self.letters.len();
+        self.read_letters(world, node)?;
+        self.see_sent(first)
     }
 
-    /// Whether the packet that was taken asked for a lock, and was denied it by one of those that are sent.
+    /// Whether the packet that was taken asked for a lock, and was denied it by one of those from the first new one on.
     fn see_denial(
         &mut self,
         node: usize,
         taken: Option<usize>,
-        letters: &[Letter],
+        first: usize,
     ) -> Result<(), AllocError> {
-        let Some(packet) = taken else {
-            return Ok(());
-        };
-        let Some(letter) = self.letters.get(packet) else {
-            return Ok(());
-        };
-        let Some(asked) = &letter.asks else {
-            return Ok(());
-        };
-        if !letters.iter().any(|letter| letter.denies) {
+        let letters = self.letters.as_slice();
+        if !is_denied(letters, first) {
             return Ok(());
         }
+        let Some(asked) = asked_by(letters, taken) else {
+            return Ok(());
+        };
         let name = asked.name.clone()?;
         let to = asked.by.clone()?;
         self.add(Seen::Denied { node, name, to })
@@ -151,20 +156,39 @@ impl Watch {
             return Ok(());
         };
         let ops = over.state().waiting()?;
-        let mut numbers = Vec::with_capacity(self.alloc, ops.len())?;
+        let seen = self.see_ops(node, ops.as_slice());
+        drop(ops);
+        seen
+    }
+
+    /// These commands of a node wait.
+    fn see_ops(&mut self, node: usize, ops: &[OpId]) -> Result<(), AllocError> {
         for op in ops {
-            numbers.push(op.number)?;
+            if !self.is_waiting(node, op.number) {
+                self.add(Seen::Waits {
+                    node,
+                    number: op.number,
+                })?;
+            }
         }
+        self.set_waiting(node, ops)
+    }
+
+    /// Whether a command of a node waited, as it was seen last.
+    fn is_waiting(&self, node: usize, number: u32) -> bool {
+        match self.waiting.get(node) {
+            Some(numbers) => numbers.as_slice().contains(&number),
+            None => false,
+        }
+    }
+
+    fn set_waiting(&mut self, node: usize, ops: &[OpId]) -> Result<(), AllocError> {
         let Some(waiting) = self.waiting.get_mut(node) else {
             return Ok(());
         };
-        let before = std::mem::replace(waiting, numbers);
-        for place in 0..ops_len(&self.waiting, node) {
-            if let Some(number) = number_at(&self.waiting, node, place) {
-                if !before.as_slice().contains(&number) {
-                    self.add(Seen::Waits { node, number })?;
-                }
-            }
+        waiting.clear();
+        for op in ops {
+            waiting.push(op.number)?;
         }
         Ok(())
     }
@@ -177,6 +201,21 @@ impl Watch {
     }
 }
 
+/// Whether one of the packets from this one on denies a lock.
+fn is_denied(letters: &[Letter], first: usize) -> bool {
+    for packet in first..letters.len() {
+        if letters[packet].denies {
+            return true;
+        }
+    }
+    false
+}
+
+/// The lock for which the packet that was taken asked.
+fn asked_by(letters: &[Letter], taken: Option<usize>) -> Option<&Asked> {
+    letters.get(taken?)?.asks.as_ref()
+}
+
 /// Who holds the lock of a name at a node.
 fn holder_at<'a, T: GroupTable + Drop>(
     world: &'a World<T>,
@@ -185,20 +224,6 @@ fn holder_at<'a, T: GroupTable + Drop>(
 ) -> Option<&'a Reference> {
     match world.node(node) {
         Some(over) => over.state().holder(name),
-        None => None,
-    }
-}
-
-fn ops_len(waiting: &[Vec<u32>], node: usize) -> usize {
-    match waiting.get(node) {
-        Some(numbers) => numbers.len(),
-        None => 0,
-    }
-}
-
-fn number_at(waiting: &[Vec<u32>], node: usize, place: usize) -> Option<u32> {
-    match waiting.get(node) {
-        Some(numbers) => numbers.get(place).copied(),
         None => None,
     }
 }

@@ -20,13 +20,6 @@ pub(crate) struct Locks {
     nodes: usize,
 }
 
-/// How a lock changed at a node: who held it, and who holds it.
-#[derive(Debug, Drop)]
-pub(crate) struct Change {
-    pub(crate) before: Option<Reference>,
-    pub(crate) after: Option<Reference>,
-}
-
 impl Locks {
     /// No lock of so many nodes is known.
     pub(crate) fn new(alloc: Global, nodes: usize) -> Locks {
@@ -39,52 +32,72 @@ impl Locks {
 
     /// The lock of this name may be held from now on.
     pub(crate) fn know(&mut self, alloc: Global, name: &Term) -> Result<(), AllocError> {
+        if self.is_known(name) {
+            return Ok(());
+        }
+        self.add_holders(alloc)?;
+        let text = term_text(alloc, name)?;
+        let term = name.copy(alloc)?;
+        Ok(self.names.push(Name { term, text })?)
+    }
+
+    fn is_known(&self, name: &Term) -> bool {
         for known in self.names.iter() {
             if known.term == *name {
-                return Ok(());
+                return true;
             }
         }
+        false
+    }
+
+    /// One lock more, which no node has granted.
+    fn add_holders(&mut self, alloc: Global) -> Result<(), AllocError> {
         let mut holders = Vec::with_capacity(alloc, self.nodes)?;
         for _ in 0..self.nodes {
             holders.push(None)?;
         }
-        self.holders.push(holders)?;
-        Ok(
-            self.names.push(Name {
-                term: name.copy(alloc)?,
-                text: term_text(alloc, name)?,
-            })?,
-        )
+        Ok(self.holders.push(holders)?)
     }
 
-    /// Who holds the lock of the name at a place, at a node, is this; and how that changed, if it did.
-    pub(crate) fn change(
+    /// The text of the name at a place.
+    pub(crate) fn text(&self, place: usize) -> &str {
+        match self.names.get(place) {
+            Some(name) => name.text.as_str(),
+            None => "",
+        }
+    }
+
+    /// Who holds the lock of the name at a place, at a node, as it was seen last.
+    pub(crate) fn holder(&self, place: usize, node: usize) -> Option<&Reference> {
+        self.holders.get(place)?.get(node)?.as_ref()
+    }
+
+    /// Who holds the lock of the name at a place, at a node, is this.
+    pub(crate) fn set_holder(
         &mut self,
         place: usize,
         node: usize,
         holder: Option<&Reference>,
-    ) -> Result<Option<Change>, AllocError> {
+    ) -> Result<(), AllocError> {
         let Some(row) = self.holders.get_mut(place) else {
-            return Ok(None);
+            return Ok(());
         };
         let Some(held) = row.get_mut(node) else {
-            return Ok(None);
+            return Ok(());
         };
-        if is_same(held, holder) {
-            return Ok(None);
-        }
-        let after = copied(holder)?;
-        let before = std::mem::replace(held, copied(holder)?);
-        Ok(Some(Change { before, after }))
+        *held = copied(holder)?;
+        Ok(())
     }
 }
 
-/// Whether a holder is this one.
-fn is_same(held: &Option<Reference>, holder: Option<&Reference>) -> bool {
-    match (held, holder) {
-        (Some(held), Some(holder)) => *held == *holder,
-        (None, None) => true,
-        _ => false,
+/// Whether two holders are the same.
+pub(crate) fn is_same(one: Option<&Reference>, other: Option<&Reference>) -> bool {
+    match one {
+        Some(one) => match other {
+            Some(other) => *one == *other,
+            None => false,
+        },
+        None => other.is_none(),
     }
 }
 

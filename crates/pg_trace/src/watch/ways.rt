@@ -13,17 +13,20 @@ pub(crate) struct Ways {
 }
 
 impl Ways {
-    /// Nothing is on the way between so many nodes.
-    pub(crate) fn new(alloc: Global, nodes: usize) -> Result<Ways, AllocError> {
-        let mut ways = Vec::with_capacity(alloc, nodes)?;
-        for _ in 0..nodes {
-            let mut row = Vec::with_capacity(alloc, nodes)?;
-            for _ in 0..nodes {
-                row.push(VecDeque::new(alloc))?;
-            }
-            ways.push(row)?;
+    /// Nothing is on the way, and no node is there.
+    pub(crate) fn new(alloc: Global) -> Ways {
+        Ways {
+            ways: Vec::new(alloc),
         }
-        Ok(Ways { ways })
+    }
+
+    /// One node more, of so many: nothing is on the way from it.
+    pub(crate) fn add_node(&mut self, alloc: Global, nodes: usize) -> Result<(), AllocError> {
+        let mut row = Vec::with_capacity(alloc, nodes)?;
+        for _ in 0..nodes {
+            row.push(VecDeque::new(alloc))?;
+        }
+        Ok(self.ways.push(row)?)
     }
 
     /// A packet is on the way.
@@ -67,17 +70,4 @@ pub(crate) fn peer_count<T: GroupTable + Drop>(world: &World<T>, node: usize) ->
         Some(node) => node.state().peer_count(),
         None => 0,
     }
-}
-
-/// How many bytes wait at a node to go to each of its peers.
-pub(crate) fn outbox_lens<T: GroupTable + Drop>(
-    alloc: Global,
-    world: &World<T>,
-    node: usize,
-) -> Result<Vec<usize>, AllocError> {
-    let mut lens = Vec::new(alloc);
-    for peer in 0..peer_count(world, node) {
-        lens.push(outbox(world, node, peer).len())?;
-    }
-    Ok(lens)
 }
