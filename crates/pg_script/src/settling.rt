@@ -10,7 +10,7 @@ use std::alloc::AllocError;
 const MAX_MOVED: usize = 65_536;
 
 /// Why rounds end early.
-#[derive(Debug, Drop)]
+#[derive(Clone, Copy)]
 pub(crate) enum Halt {
     /// A step was refused.
     Refused(NodeFault),
@@ -56,29 +56,25 @@ fn round(stage: &mut Stage, count: usize) -> Result<bool, Halt> {
 
 /// The steps of one pair in a round.
 fn pass(stage: &mut Stage, from: usize, to: usize) -> Result<bool, Halt> {
-    let put = Step::Put {
-        from,
-        to,
-        max: MAX_MOVED,
-    };
-    let pull = Step::Pull {
-        to,
-        from,
-        max: MAX_MOVED,
-    };
-    let take = Step::Event(FrameStep::Take {
-        node: to,
-        peer: from,
-    });
-    let was_put = moves(stage, &put)?;
-    let was_pulled = moves(stage, &pull)?;
-    let was_taken = moves(stage, &take)?;
+    let max = MAX_MOVED;
+    let was_put = moves(stage, Step::Put { from, to, max })?;
+    let was_pulled = moves(stage, Step::Pull { to, from, max })?;
+    let was_taken = moves(
+        stage,
+        Step::Event(FrameStep::Take {
+            node: to,
+            peer: from,
+        }),
+    )?;
     Ok(was_put || was_pulled || was_taken)
 }
 
 /// Makes a step; whether a byte moved or an event happened.
-fn moves(stage: &mut Stage, step: &Step) -> Result<bool, Halt> {
-    match stage.step(step, true)? {
+fn moves(stage: &mut Stage, step: Step) -> Result<bool, Halt> {
+    let stepped = stage.step(&step, true);
+    // By a call: its forms are not written out here.
+    drop(step);
+    match stepped? {
         Ok(Stepped::Nothing) | Ok(Stepped::Moved(0)) => Ok(false),
         Ok(_) => Ok(true),
         Err(NodeFault::Refused(Refusal::NodeLost)) => Ok(false),
