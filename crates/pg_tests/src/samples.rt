@@ -1,7 +1,35 @@
-//! Small values that tests are made of.
+//! Small values that tests are made of, and how a test ends that finds another.
 
 use pg_term::{Atom, Boxed, Fields, Items, Pid, Reference, Term, TermFault};
 use std::alloc::Global;
+use std::fmt::Debug;
+use std::process::Abort;
+
+/// Ends the test where something does not hold, and tells of it.
+pub fn holds(rt: &impl Abort, holds: bool, said: &str) {
+    assert!(rt; holds, "{said}");
+}
+
+/// Ends the test where a row of a table does not hold.
+pub fn row_holds(rt: &impl Abort, holds: bool, row: usize) {
+    assert!(rt; holds, "at {row}");
+}
+
+/// The same, or where there was a fault.
+pub fn row_passes<E: Debug + Drop>(rt: &impl Abort, told: Result<bool, E>, row: usize) {
+    match told {
+        Ok(holds) => assert!(rt; holds, "at {row}"),
+        Err(fault) => panic!(rt; "at {row}: {fault:?}"),
+    }
+}
+
+/// Ends the test where what it is about does not hold, or there was a fault.
+pub fn passes<E: Debug + Drop>(rt: &impl Abort, told: Result<bool, E>) {
+    match told {
+        Ok(holds) => assert!(rt; holds),
+        Err(fault) => panic!(rt; "{fault:?}"),
+    }
+}
 
 /// The pid of node a with this id.
 pub fn pid(alloc: Global, id: u32) -> Result<Pid, TermFault> {

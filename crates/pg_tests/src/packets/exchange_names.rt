@@ -1,7 +1,9 @@
 //! The names of the groups that an exchange tells: in any order, each once, and each within the limits.
 
-use super::forms::{is_read_as, replaced};
-use pg_message::{MessageFault, read_packet};
+use super::forms::{has_fault, has_fault_with, is_read_in_both_forms};
+use crate::samples::{passes, row_passes};
+use pg_message::MessageFault;
+use pg_term::TermFault;
 use std::alloc::{AllocError, Global};
 use std::test::*;
 
@@ -31,41 +33,66 @@ const LATIN_G: &[u8] = &[115, 1, 103];
 
 const TEXT: &[u8] = &[107, 0, 1, 1];
 
-/// An exchange of groups with these names and no members.
-fn exchange(alloc: Global, names: &[&[u8]]) -> Result<Vec<u8>, AllocError> {
-    let mut body = Vec::from_slice(alloc, HEAD)?;
+/// A group with this name and no members.
+fn put_group(body: &mut Vec<u8>, name: &[u8]) -> Result<(), AllocError> {
+    body.extend_from_slice(&[108, 0, 0, 0, 2])?;
+    body.extend_from_slice(name)?;
+    body.extend_from_slice(&[106, 106])
+}
+
+fn put_groups(body: &mut Vec<u8>, names: &[&[u8]]) -> Result<(), AllocError> {
     let count = u32::try_from(names.len()).unwrap_or(u32::MAX);
     body.extend_from_slice(&count.to_be_bytes())?;
     for name in names {
-        body.extend_from_slice(&[108, 0, 0, 0, 2])?;
-        body.extend_from_slice(name)?;
-        body.extend_from_slice(&[106, 106])?;
+        put_group(body, name)?;
     }
-    body.extend_from_slice(&[106])?;
+    body.extend_from_slice(&[106])
+}
+
+/// An exchange of groups with these names and no members.
+fn exchange(alloc: Global, names: &[&[u8]]) -> Result<Vec<u8>, AllocError> {
+    let mut body = Vec::from_slice(alloc, HEAD)?;
+    put_groups(&mut body, names)?;
     Ok(body)
 }
 
-/// The body with its outer tuple as a LARGE_TUPLE_EXT.
-fn in_large_tuple(alloc: Global, body: &[u8]) -> Result<Vec<u8>, MessageFault> {
-    replaced(alloc, body, 1, 2, &[105, 0, 0, 0, 2])
-}
+const OUT_OF_MEMORY: MessageFault = MessageFault::Term(TermFault::OutOfMemory);
 
 /// Whether an exchange of these names is read as it is written, and in another form.
 fn is_read(alloc: Global, names: &[&[u8]]) -> Result<bool, MessageFault> {
-    let body = exchange(alloc, names)?;
-    let other = in_large_tuple(alloc, &body)?;
-    Ok(is_read_as(alloc, &body, &body)? && is_read_as(alloc, &other, &body)?)
+    match exchange(alloc, names) {
+        Ok(body) => {
+            let is_read = is_read_in_both_forms(alloc, &body);
+            drop(body);
+            is_read
+        }
+        Err(AllocError) => Err(OUT_OF_MEMORY),
+    }
 }
 
-/// Whether it is refused in both.
+/// Whether a body is no message, nor with its outer tuple as a LARGE_TUPLE_EXT.
+fn is_no_message(alloc: Global, body: &[u8]) -> Result<bool, MessageFault> {
+    let fault = MessageFault::NotAMessage;
+    if has_fault(alloc, body, fault) {
+        has_fault_with(alloc, body, 1, 2, &[105, 0, 0, 0, 2], fault)
+    } else {
+        Ok(false)
+    }
+}
+
+/// Whether an exchange of these names is refused in both forms.
 fn is_refused(alloc: Global, names: &[&[u8]]) -> Result<bool, MessageFault> {
-    let body = exchange(alloc, names)?;
-    let other = in_large_tuple(alloc, &body)?;
-    let fault = Some(MessageFault::NotAMessage);
-    Ok(read_packet(alloc, &body).err() == fault && read_packet(alloc, &other).err() == fault)
+    match exchange(alloc, names) {
+        Ok(body) => {
+            let is_refused = is_no_message(alloc, &body);
+            drop(body);
+            is_refused
+        }
+        Err(AllocError) => Err(OUT_OF_MEMORY),
+    }
 }
 
-const APART: [&[&[u8]]; 4] = [
+const APART: &[&[&[u8]]] = &[
     &[ONE, G, H, TUPLE, LIST, BINARY],
     &[BINARY, LIST, TUPLE, H, G, ONE],
     &[H, TUPLE, ONE, BINARY, G],
@@ -73,14 +100,13 @@ const APART: [&[&[u8]]; 4] = [
 ];
 
 #[test]
-fn names_in_any_order(rt: HostRuntime) -> Result<(), Fail> {
-    for names in APART {
-        assert!(rt; is_read(rt.alloc(), names)?, "{names:?}");
+fn names_in_any_order(rt: HostRuntime) {
+    for (row, names) in APART.iter().enumerate() {
+        row_passes(&rt, is_read(rt.alloc(), names), row);
     }
-    Ok(())
 }
 
-const TWICE: [&[&[u8]]; 8] = [
+const TWICE: &[&[&[u8]]] = &[
     &[G, G],
     &[G, H, G],
     &[ONE, G, TUPLE, TUPLE],
@@ -92,11 +118,10 @@ const TWICE: [&[&[u8]]; 8] = [
 ];
 
 #[test]
-fn names_that_stand_twice(rt: HostRuntime) -> Result<(), Fail> {
-    for names in TWICE {
-        assert!(rt; is_refused(rt.alloc(), names)?, "{names:?}");
+fn names_that_stand_twice(rt: HostRuntime) {
+    for (row, names) in TWICE.iter().enumerate() {
+        row_passes(&rt, is_refused(rt.alloc(), names), row);
     }
-    Ok(())
 }
 
 /// A text of so many zeros.
@@ -121,6 +146,6 @@ fn are_refused(alloc: Global, long: &[u8]) -> Result<bool, MessageFault> {
 #[test]
 fn a_text_that_is_too_long(rt: HostRuntime) -> Result<(), Fail> {
     let long = text(rt.alloc(), 88)?;
-    assert!(rt; are_refused(rt.alloc(), &long)?);
+    passes(&rt, are_refused(rt.alloc(), &long));
     Ok(())
 }

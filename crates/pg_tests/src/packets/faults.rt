@@ -1,93 +1,129 @@
 //! Which fault a body has, and why a packet is not written.
 
+use super::forms::has_fault;
 use super::samples::{
-    APPLIED, CREATE, EXCHANGE, create_packet, down_term, exchange_packet, exchange_term, pids,
+    APPLIED, CREATE, EXCHANGE, Group, create_packet, down_term, exchange_packet, exchange_term,
+    put_group,
 };
-use crate::samples::{atom, list, pair};
+use crate::samples::{atom, list, pair, passes, row_holds, row_passes};
 use bytes::BytesMut;
 use pg_message::{
     MAX_STAMP, MessageFault, Packet, packet_len, read_packet, write_packet, write_packet_into,
 };
-use pg_term::{Items, Term, TermFault};
+use pg_term::{Term, TermFault};
 use pg_term_io::encode;
 use std::alloc::Global;
 use std::test::*;
 
-fn number_of_term(alloc: Global, term: &Term) -> Result<u8, TermFault> {
-    let body = encode(alloc, term)?;
-    Ok(
-        read_packet(alloc, body.as_slice())
-            .err()
-            .map_or(0, MessageFault::number),
-    )
+// Whether the number of the body's fault is this, 0 for none.
+fn is_numbered(alloc: Global, body: &[u8], number: u8) -> bool {
+    match read_packet(alloc, body).err() {
+        Some(fault) => fault.number() == number,
+        None => number == 0,
+    }
 }
 
-// The number of the fault of what a term is read as, 0 for none.
-fn number_of(alloc: Global, term: Result<Term, TermFault>) -> Result<u8, TermFault> {
-    match term {
-        Ok(term) => {
-            let number = number_of_term(alloc, &term);
-            drop(term);
-            number
+// The same of a term's body.
+fn is_term_numbered(alloc: Global, term: &Term, number: u8) -> Result<bool, TermFault> {
+    match encode(alloc, term) {
+        Ok(body) => {
+            let is_numbered = is_numbered(alloc, body.as_slice(), number);
+            drop(body);
+            Ok(is_numbered)
         }
         Err(fault) => Err(fault),
     }
 }
 
-#[test]
-fn stamp_edges(rt: HostRuntime) -> Result<(), Fail> {
-    let alloc = rt.alloc();
-    for (stamp, number) in [
-        (0, 0),
-        (1_073_741_824, 0),
-        (1_073_741_825, 13),
-        (4_294_967_296, 13),
-        (-1, 12),
-    ] {
-        let read = number_of(alloc, down_term(alloc, Term::Int(stamp), "down"))?;
-        assert_eq!(rt; read, number, "{stamp}");
+// The same of a term where it is made.
+fn is_made_numbered(
+    alloc: Global,
+    term: Result<Term, TermFault>,
+    number: u8,
+) -> Result<bool, TermFault> {
+    match term {
+        Ok(term) => {
+            let is_numbered = is_term_numbered(alloc, &term, number);
+            drop(term);
+            is_numbered
+        }
+        Err(fault) => Err(fault),
     }
-    Ok(())
+}
+
+// Whether {Stamp, {Word, <a.1.0>}} has the fault of this number.
+fn is_down_numbered(alloc: Global, stamp: i64, word: &str, number: u8) -> Result<bool, TermFault> {
+    is_made_numbered(alloc, down_term(alloc, Term::Int(stamp), word), number)
+}
+
+const STAMPS: &[(i64, u8)] = &[
+    (0, 0),
+    (1_073_741_824, 0),
+    (1_073_741_825, 13),
+    (4_294_967_296, 13),
+    (-1, 12),
+];
+
+#[test]
+fn stamp_edges(rt: HostRuntime) {
+    for (row, (stamp, number)) in STAMPS.iter().enumerate() {
+        row_passes(
+            &rt,
+            is_down_numbered(rt.alloc(), *stamp, "down", *number),
+            row,
+        );
+    }
 }
 
 #[test]
-fn stamp_that_is_no_number(rt: HostRuntime) -> Result<(), Fail> {
-    let alloc = rt.alloc();
-    let stamp = list(Vec::new(alloc));
-    assert_eq!(rt; number_of(alloc, down_term(alloc, stamp, "down"))?, 12);
-    Ok(())
+fn stamp_that_is_no_number(rt: HostRuntime) {
+    let stamp = list(Vec::new(rt.alloc()));
+    let term = down_term(rt.alloc(), stamp, "down");
+    passes(&rt, is_made_numbered(rt.alloc(), term, 12));
+}
+
+// Whether an exchange that names a group twice has the fault of this number.
+fn is_twice_numbered(alloc: Global, stamp: i64, number: u8) -> Result<bool, TermFault> {
+    is_made_numbered(alloc, exchange_term(alloc, stamp, &[7, 8, 7]), number)
 }
 
 // What is no message is told before a stamp that is too large.
 #[test]
-fn no_message_at_any_stamp(rt: HostRuntime) -> Result<(), Fail> {
-    let alloc = rt.alloc();
-    for stamp in [0, 1_073_741_825] {
-        let strange = down_term(alloc, Term::Int(stamp), "downs");
-        assert_eq!(rt; number_of(alloc, strange)?, 12);
-        let twice = exchange_term(alloc, stamp, &[7, 8, 7]);
-        assert_eq!(rt; number_of(alloc, twice)?, 12);
+fn no_message_at_any_stamp(rt: HostRuntime) {
+    for stamp in &[0, 1_073_741_825] {
+        passes(&rt, is_down_numbered(rt.alloc(), *stamp, "downs", 12));
+        passes(&rt, is_twice_numbered(rt.alloc(), *stamp, 12));
     }
-    Ok(())
 }
 
-// Whether the body has this fault.
-fn has_fault(alloc: Global, body: &[u8], fault: MessageFault) -> bool {
-    read_packet(alloc, body).err() == Some(fault)
+const CUT: MessageFault = MessageFault::Term(TermFault::Truncated);
+
+const BROKEN: &[(&[u8], MessageFault)] = &[
+    (&[], CUT),
+    (&[131, 104, 2, 97, 0, 97], CUT),
+    (&[130], MessageFault::Term(TermFault::BadVersion)),
+    (&[131, 97, 5], MessageFault::NotAMessage),
+    (
+        &[131, 97, 5, 0],
+        MessageFault::Term(TermFault::TrailingBytes),
+    ),
+];
+
+// Whether a body without its last byte is cut.
+fn is_cut(alloc: Global, body: &[u8]) -> bool {
+    match body.split_last() {
+        Some((_, front)) => has_fault(alloc, front, CUT),
+        None => false,
+    }
 }
 
 #[test]
 fn broken_bodies(rt: HostRuntime) {
-    let alloc = rt.alloc();
-    let cut = MessageFault::Term(TermFault::Truncated);
-    assert!(rt; has_fault(alloc, &[], cut));
-    assert!(rt; has_fault(alloc, &[131, 104, 2, 97, 0, 97], cut));
-    assert!(rt; has_fault(alloc, &[130], MessageFault::Term(TermFault::BadVersion)));
-    assert!(rt; has_fault(alloc, &[131, 97, 5], MessageFault::NotAMessage));
-    let more = MessageFault::Term(TermFault::TrailingBytes);
-    assert!(rt; has_fault(alloc, &[131, 97, 5, 0], more));
-    for body in [CREATE, APPLIED, EXCHANGE] {
-        assert!(rt; has_fault(alloc, &body[..body.len() - 1], cut));
+    for (row, (body, fault)) in BROKEN.iter().enumerate() {
+        row_holds(&rt, has_fault(rt.alloc(), body, *fault), row);
+    }
+    for body in &[CREATE, APPLIED, EXCHANGE] {
+        row_holds(&rt, is_cut(rt.alloc(), body), body.len());
     }
 }
 
@@ -117,10 +153,10 @@ fn is_made_refused(
 }
 
 #[test]
-fn late_packet_not_written(rt: HostRuntime) -> Result<(), Fail> {
+fn late_packet_not_written(rt: HostRuntime) {
     let late = create_packet(rt.alloc(), MAX_STAMP + 1, Term::Int(7));
-    assert!(rt; is_made_refused(rt.alloc(), late, MessageFault::StampTooLarge)?);
-    Ok(())
+    let fault = MessageFault::StampTooLarge;
+    passes(&rt, is_made_refused(rt.alloc(), late, fault));
 }
 
 // A name that takes 1,010 bytes.
@@ -133,36 +169,43 @@ fn long_name(alloc: Global, number: i64) -> Result<Term, TermFault> {
     pair(alloc, Term::Int(number), word)
 }
 
+fn put_long(alloc: Global, groups: &mut Vec<Group>, number: i64) -> Result<(), TermFault> {
+    match long_name(alloc, number) {
+        Ok(name) => put_group(alloc, groups, name, 0),
+        Err(fault) => Err(fault),
+    }
+}
+
 // So many groups with such names.
 fn large_exchange(alloc: Global, count: i64) -> Result<Packet, TermFault> {
     let mut groups = Vec::new(alloc);
     for number in 0..count {
-        let none = Items::from_vec(Vec::new(alloc));
-        groups.push((long_name(alloc, number.saturating_add(65_536))?, none))?;
+        put_long(alloc, &mut groups, number.saturating_add(65_536))?;
     }
     exchange_packet(alloc, 0, groups)
 }
 
 #[test]
-fn long_packet_not_written(rt: HostRuntime) -> Result<(), Fail> {
+fn long_packet_not_written(rt: HostRuntime) {
     let long = large_exchange(rt.alloc(), 16_600);
-    assert!(rt; is_made_refused(rt.alloc(), long, MessageFault::Term(TermFault::TooLong))?);
-    Ok(())
+    let fault = MessageFault::Term(TermFault::TooLong);
+    passes(&rt, is_made_refused(rt.alloc(), long, fault));
 }
 
 // An exchange of groups in no order, one of them named again in the end.
 fn exchange_naming_twice(alloc: Global) -> Result<Packet, TermFault> {
     let mut groups = Vec::new(alloc);
-    for name in [7, 5, 6, 5] {
-        let pids = pids(alloc, 1)?;
-        groups.push((Term::Int(name), pids))?;
+    for name in &[7, 5, 6, 5] {
+        put_group(alloc, &mut groups, Term::Int(*name), 1)?;
     }
     exchange_packet(alloc, MAX_STAMP + 1, groups)
 }
 
 #[test]
-fn group_named_twice(rt: HostRuntime) -> Result<(), Fail> {
+fn group_named_twice(rt: HostRuntime) {
     let packet = exchange_naming_twice(rt.alloc());
-    assert!(rt; is_made_refused(rt.alloc(), packet, MessageFault::NotAMessage)?);
-    Ok(())
+    passes(
+        &rt,
+        is_made_refused(rt.alloc(), packet, MessageFault::NotAMessage),
+    );
 }

@@ -1,10 +1,12 @@
 //! Bodies in other forms than they are written in, cut, and with a byte changed: each is read as its term is.
 
 use super::samples::{APPLIED, CREATE, DEL_LOCK, DOWN, EXCHANGE, JOIN};
+use crate::samples::{row_holds, row_passes};
 use pg_message::{MessageFault, Packet, read_packet, write_packet};
 use pg_term::Term;
 use pg_term_io::decode;
 use std::alloc::Global;
+use std::process::Abort;
 use std::test::*;
 
 /// The bytes with so many of them, from one place on, replaced.
@@ -15,16 +17,37 @@ pub fn replaced(
     len: usize,
     with: &[u8],
 ) -> Result<Vec<u8>, MessageFault> {
+    let front = bytes.get(..at).unwrap_or(bytes);
+    let rest = bytes.get(at.saturating_add(len)..).unwrap_or(&[]);
     let mut new = Vec::new(alloc);
-    for (place, byte) in bytes.iter().enumerate() {
-        if place == at {
-            new.extend_from_slice(with)?;
-        }
-        if place < at || place - at >= len {
-            new.push(*byte)?;
-        }
-    }
+    new.extend_from_slice(front)?;
+    new.extend_from_slice(with)?;
+    new.extend_from_slice(rest)?;
     Ok(new)
+}
+
+/// Whether the body has this fault.
+pub fn has_fault(alloc: Global, body: &[u8], fault: MessageFault) -> bool {
+    read_packet(alloc, body).err() == Some(fault)
+}
+
+/// Whether the bytes, with a part of them replaced, have this fault.
+pub fn has_fault_with(
+    alloc: Global,
+    bytes: &[u8],
+    at: usize,
+    len: usize,
+    with: &[u8],
+    fault: MessageFault,
+) -> Result<bool, MessageFault> {
+    match replaced(alloc, bytes, at, len, with) {
+        Ok(new) => {
+            let has_fault = has_fault(alloc, &new, fault);
+            drop(new);
+            Ok(has_fault)
+        }
+        Err(fault) => Err(fault),
+    }
 }
 
 /// Whether a packet is written so.
@@ -55,14 +78,28 @@ pub fn is_read_the_same(
     len: usize,
     with: &[u8],
 ) -> Result<bool, MessageFault> {
-    let new = replaced(alloc, bytes, at, len, with)?;
-    is_read_as(alloc, &new, bytes)
+    match replaced(alloc, bytes, at, len, with) {
+        Ok(new) => {
+            let is_read = is_read_as(alloc, &new, bytes);
+            drop(new);
+            is_read
+        }
+        Err(fault) => Err(fault),
+    }
+}
+
+/// Whether a body is read as it is written, and so with its outer tuple as a LARGE_TUPLE_EXT.
+pub fn is_read_in_both_forms(alloc: Global, body: &[u8]) -> Result<bool, MessageFault> {
+    match is_read_as(alloc, body, body) {
+        Ok(true) => is_read_the_same(alloc, body, 1, 2, &[105, 0, 0, 0, 2]),
+        other => other,
+    }
 }
 
 // A place, how many bytes are replaced there, and by which.
 type Part = (usize, usize, &'static [u8]);
 
-const PARTS_OF_JOIN: [Part; 24] = [
+const PARTS_OF_JOIN: &[Part] = &[
     (1, 2, &[105, 0, 0, 0, 2]),
     (3, 2, &[98, 0, 0, 0, 0]),
     (3, 2, &[110, 0, 0]),
@@ -89,7 +126,7 @@ const PARTS_OF_JOIN: [Part; 24] = [
     (39, 2, &[100, 0, 1]),
 ];
 
-const PARTS_OF_EXCHANGE: [Part; 18] = [
+const PARTS_OF_EXCHANGE: &[Part] = &[
     (5, 2, &[105, 0, 0, 0, 2]),
     (7, 2, &[118, 0, 4]),
     (13, 2, &[105, 0, 0, 0, 3]),
@@ -111,38 +148,43 @@ const PARTS_OF_EXCHANGE: [Part; 18] = [
 ];
 
 // The pid in its old form.
-const PARTS_OF_DOWN: [Part; 1] = [(13, 16, &[103, 119, 1, 97, 0, 0, 0, 1, 0, 0, 0, 0, 1])];
+const PARTS_OF_DOWN: &[Part] = &[(13, 16, &[103, 119, 1, 97, 0, 0, 0, 1, 0, 0, 0, 0, 1])];
 
-#[test]
-fn each_part_in_other_forms(rt: HostRuntime) -> Result<(), Fail> {
-    for (at, len, with) in PARTS_OF_JOIN {
-        assert!(rt; is_read_the_same(rt.alloc(), JOIN, at, len, with)?, "{at}");
+// The bytes are read as the same packet, whichever of the parts is replaced.
+fn check_parts(rt: &impl Abort, alloc: Global, bytes: &[u8], parts: &[Part]) {
+    for (at, len, with) in parts {
+        row_passes(rt, is_read_the_same(alloc, bytes, *at, *len, with), *at);
     }
-    for (at, len, with) in PARTS_OF_DOWN {
-        assert!(rt; is_read_the_same(rt.alloc(), DOWN, at, len, with)?, "{at}");
-    }
-    Ok(())
 }
 
 #[test]
-fn each_part_of_an_exchange_in_other_forms(rt: HostRuntime) -> Result<(), Fail> {
-    for (at, len, with) in PARTS_OF_EXCHANGE {
-        assert!(rt;
-            is_read_the_same(rt.alloc(), EXCHANGE, at, len, with)?,
-            "{at}"
-        );
-    }
-    Ok(())
+fn each_part_in_other_forms(rt: HostRuntime) {
+    check_parts(&rt, rt.alloc(), JOIN, PARTS_OF_JOIN);
+    check_parts(&rt, rt.alloc(), DOWN, PARTS_OF_DOWN);
 }
 
-// {join, [1, 2], <a.1.0>}, the name as a list and as a string of bytes.
+#[test]
+fn each_part_of_an_exchange_in_other_forms(rt: HostRuntime) {
+    check_parts(&rt, rt.alloc(), EXCHANGE, PARTS_OF_EXCHANGE);
+}
+
+// The name [1, 2] as a list, as a string of bytes, and as a list in two parts.
+const NAME: &[u8] = &[108, 0, 0, 0, 2, 97, 1, 97, 2, 106];
+
+const OTHER_NAMES: &[Part] = &[
+    (35, 10, &[107, 0, 2, 1, 2]),
+    (
+        35,
+        10,
+        &[108, 0, 0, 0, 1, 97, 1, 108, 0, 0, 0, 1, 97, 2, 106],
+    ),
+];
+
+// {join, [1, 2], <a.1.0>}
 #[test]
 fn names_that_are_strings(rt: HostRuntime) -> Result<(), Fail> {
-    let alloc = rt.alloc();
-    let body = replaced(alloc, JOIN, 35, 3, &[108, 0, 0, 0, 2, 97, 1, 97, 2, 106])?;
-    assert!(rt; is_read_the_same(alloc, &body, 35, 10, &[107, 0, 2, 1, 2])?);
-    let in_two_parts = [108, 0, 0, 0, 1, 97, 1, 108, 0, 0, 0, 1, 97, 2, 106];
-    assert!(rt; is_read_the_same(alloc, &body, 35, 10, &in_two_parts)?);
+    let body = replaced(rt.alloc(), JOIN, 35, 3, NAME)?;
+    check_parts(&rt, rt.alloc(), &body, OTHER_NAMES);
     Ok(())
 }
 
@@ -181,7 +223,11 @@ fn spell_the_same(alloc: Global, body: &[u8], other: &[u8]) -> Result<bool, Mess
 // Whether a packet is written so that it spells what a body does.
 fn is_written_like(alloc: Global, packet: &Packet, body: &[u8]) -> Result<bool, MessageFault> {
     match write_packet(alloc, packet) {
-        Ok(written) => spell_the_same(alloc, body, &written),
+        Ok(written) => {
+            let is_same = spell_the_same(alloc, body, &written);
+            drop(written);
+            is_same
+        }
         Err(fault) => Err(fault),
     }
 }
@@ -206,34 +252,54 @@ fn is_refused_as_its_term(alloc: Global, body: &[u8]) -> bool {
     }
 }
 
+const BODIES: &[&[u8]] = &[CREATE, JOIN, APPLIED, DEL_LOCK, EXCHANGE];
+
+// The body is refused as its term is, wherever it is cut.
+fn check_cut(rt: &impl Abort, alloc: Global, body: &[u8]) {
+    for len in 0..body.len() {
+        row_holds(rt, is_refused_as_its_term(alloc, &body[..len]), len);
+    }
+}
+
 #[test]
-fn bodies_cut(rt: HostRuntime) -> Result<(), Fail> {
-    for body in [CREATE, JOIN, APPLIED, DEL_LOCK, EXCHANGE] {
-        for len in 0..body.len() {
-            assert!(rt; is_refused_as_its_term(rt.alloc(), &body[..len]), "{len}");
+fn bodies_cut(rt: HostRuntime) {
+    for body in BODIES {
+        check_cut(&rt, rt.alloc(), body);
+    }
+}
+
+// Whether a body is refused as its term is, with one byte more.
+fn is_long_refused(alloc: Global, body: &[u8]) -> Result<bool, MessageFault> {
+    match replaced(alloc, body, body.len(), 0, &[0]) {
+        Ok(long) => {
+            let is_refused = is_refused_as_its_term(alloc, &long);
+            drop(long);
+            Ok(is_refused)
         }
+        Err(fault) => Err(fault),
     }
-    Ok(())
-}
-
-// The bytes, and one more.
-fn with_one_more(alloc: Global, bytes: &[u8]) -> Result<Vec<u8>, MessageFault> {
-    let mut long = Vec::new(alloc);
-    long.extend_from_slice(bytes)?;
-    long.push(0)?;
-    Ok(long)
 }
 
 #[test]
-fn bodies_too_long(rt: HostRuntime) -> Result<(), Fail> {
-    for body in [CREATE, JOIN, APPLIED, DEL_LOCK, EXCHANGE] {
-        let long = with_one_more(rt.alloc(), body)?;
-        assert!(rt; is_refused_as_its_term(rt.alloc(), &long));
+fn bodies_too_long(rt: HostRuntime) {
+    for body in BODIES {
+        row_passes(&rt, is_long_refused(rt.alloc(), body), body.len());
     }
-    Ok(())
 }
 
-// Whether, with the byte at this place changed to each of the tags in turn, the body is read as its term is.
+// Whether, with the byte at this place changed to a tag, the body is read as its term is.
+fn is_read_with(alloc: Global, body: &[u8], at: usize, tag: u8) -> Result<bool, MessageFault> {
+    match replaced(alloc, body, at, 1, &[tag]) {
+        Ok(new) => {
+            let is_read = is_read_as_its_term(alloc, &new);
+            drop(new);
+            is_read
+        }
+        Err(fault) => Err(fault),
+    }
+}
+
+// The same of each of the tags in turn.
 fn is_read_with_each(
     alloc: Global,
     body: &[u8],
@@ -241,9 +307,9 @@ fn is_read_with_each(
     tags: &[u8],
 ) -> Result<bool, MessageFault> {
     for tag in tags {
-        let new = replaced(alloc, body, at, 1, &[*tag])?;
-        if !is_read_as_its_term(alloc, &new)? {
-            return Ok(false);
+        match is_read_with(alloc, body, at, *tag) {
+            Ok(true) => (),
+            other => return other,
         }
     }
     Ok(true)
@@ -254,12 +320,16 @@ const TAGS: &[u8] = &[
     255,
 ];
 
-#[test]
-fn bodies_with_a_byte_changed(rt: HostRuntime) -> Result<(), Fail> {
-    for body in [CREATE, JOIN, APPLIED, DEL_LOCK, EXCHANGE] {
-        for at in 0..body.len() {
-            assert!(rt; is_read_with_each(rt.alloc(), body, at, TAGS)?, "{at}");
-        }
+// The same at each of its places.
+fn check_changed(rt: &impl Abort, alloc: Global, body: &[u8]) {
+    for at in 0..body.len() {
+        row_passes(rt, is_read_with_each(alloc, body, at, TAGS), at);
     }
-    Ok(())
+}
+
+#[test]
+fn bodies_with_a_byte_changed(rt: HostRuntime) {
+    for body in BODIES {
+        check_changed(&rt, rt.alloc(), body);
+    }
 }

@@ -1,7 +1,8 @@
 //! Each growth of memory refused in turn: the call tells so, and succeeds when it is made again.
 
-use super::forms::replaced;
+use super::forms::{has_fault, replaced};
 use super::samples::{APPLIED, CREATE, DEL_LOCK, EXCHANGE, JOIN, exchange_term};
+use crate::samples::{holds, passes, row_holds};
 use bytes::BytesMut;
 use pg_message::{MessageFault, Packet, read_packet, write_packet, write_packet_into};
 use pg_term::TermFault;
@@ -34,32 +35,36 @@ fn written(alloc: Global, packet: &Packet) -> Result<Vec<u8>, MessageFault> {
     }
 }
 
-// Writes the packet into a buffer without room, again where memory was refused and the buffer is as it was.
-fn framed(alloc: Global, packet: &Packet) -> Result<BytesMut, MessageFault> {
-    let mut out = BytesMut::new(alloc);
-    match write_packet_into(packet, &mut out) {
-        Err(fault) if fault == OUT_OF_MEMORY && out.as_slice().is_empty() => {
-            write_packet_into(packet, &mut out)?;
-        }
-        written => written?,
+// Writes the packet into an empty buffer, again where memory was refused and the buffer is as it was.
+fn frame(packet: &Packet, out: &mut BytesMut) -> Result<(), MessageFault> {
+    let told = write_packet_into(packet, out);
+    if told == Err(OUT_OF_MEMORY) && out.as_slice().is_empty() {
+        write_packet_into(packet, out)
+    } else {
+        told
     }
-    Ok(out)
 }
 
 // Whether the packet is written so.
 fn is_written_as(alloc: Global, packet: &Packet, bytes: &[u8]) -> Result<bool, MessageFault> {
     match written(alloc, packet) {
-        Ok(body) => Ok(body.as_slice() == bytes),
+        Ok(body) => {
+            let is_same = body.as_slice() == bytes;
+            drop(body);
+            Ok(is_same)
+        }
         Err(fault) => Err(fault),
     }
 }
 
 // Whether it is written so in a frame.
 fn is_framed_as(alloc: Global, packet: &Packet, bytes: &[u8]) -> Result<bool, MessageFault> {
-    match framed(alloc, packet) {
-        Ok(frame) => Ok(frame.as_slice().ends_with(bytes)),
-        Err(fault) => Err(fault),
-    }
+    let mut out = BytesMut::new(alloc);
+    let told = frame(packet, &mut out);
+    let is_same = out.as_slice().ends_with(bytes);
+    drop(out);
+    told?;
+    Ok(is_same)
 }
 
 // Whether its copy is.
@@ -92,38 +97,40 @@ fn are_kept(alloc: Global, bytes: &[u8]) -> Result<bool, MessageFault> {
 }
 
 #[test]
-fn growths_refused_for_a_call(rt: HostRuntime) -> Result<(), Fail> {
-    assert!(rt; are_kept(rt.alloc(), CREATE)?);
-    Ok(())
+fn growths_refused_for_a_call(rt: HostRuntime) {
+    passes(&rt, are_kept(rt.alloc(), CREATE));
 }
 
 #[test]
-fn growths_refused_for_a_join(rt: HostRuntime) -> Result<(), Fail> {
-    assert!(rt; are_kept(rt.alloc(), JOIN)?);
-    Ok(())
+fn growths_refused_for_a_join(rt: HostRuntime) {
+    passes(&rt, are_kept(rt.alloc(), JOIN));
 }
 
 #[test]
-fn growths_refused_for_a_reply(rt: HostRuntime) -> Result<(), Fail> {
-    assert!(rt; are_kept(rt.alloc(), APPLIED)?);
-    Ok(())
+fn growths_refused_for_a_reply(rt: HostRuntime) {
+    passes(&rt, are_kept(rt.alloc(), APPLIED));
 }
 
 #[test]
-fn growths_refused_for_a_freed_lock(rt: HostRuntime) -> Result<(), Fail> {
-    assert!(rt; are_kept(rt.alloc(), DEL_LOCK)?);
-    Ok(())
+fn growths_refused_for_a_freed_lock(rt: HostRuntime) {
+    passes(&rt, are_kept(rt.alloc(), DEL_LOCK));
 }
 
 #[test]
-fn growths_refused_for_an_exchange(rt: HostRuntime) -> Result<(), Fail> {
-    assert!(rt; are_kept(rt.alloc(), EXCHANGE)?);
-    Ok(())
+fn growths_refused_for_an_exchange(rt: HostRuntime) {
+    passes(&rt, are_kept(rt.alloc(), EXCHANGE));
 }
 
 // The join call again, its outer tuple as a LARGE_TUPLE_EXT.
-fn join_in_large_tuple(alloc: Global) -> Result<Vec<u8>, MessageFault> {
+fn join_in_large_tuple_once(alloc: Global) -> Result<Vec<u8>, MessageFault> {
     replaced(alloc, JOIN, 1, 2, &[105, 0, 0, 0, 2])
+}
+
+fn join_in_large_tuple(alloc: Global) -> Result<Vec<u8>, MessageFault> {
+    match join_in_large_tuple_once(alloc) {
+        Err(OUT_OF_MEMORY) => join_in_large_tuple_once(alloc),
+        made => made,
+    }
 }
 
 // Whether the body is read as the packet that is written so.
@@ -140,32 +147,40 @@ fn is_read_as(alloc: Global, body: &[u8], bytes: &[u8]) -> Result<bool, MessageF
 
 #[test]
 fn growths_refused_for_another_form(rt: HostRuntime) -> Result<(), Fail> {
-    let alloc = rt.alloc();
-    let body = match join_in_large_tuple(alloc) {
-        Err(OUT_OF_MEMORY) => join_in_large_tuple(alloc)?,
-        made => made?,
-    };
-    assert!(rt; is_read_as(alloc, &body, JOIN)?);
+    let body = join_in_large_tuple(rt.alloc())?;
+    passes(&rt, is_read_as(rt.alloc(), &body, JOIN));
     Ok(())
 }
 
-fn exchange_naming_twice(alloc: Global) -> Result<Vec<u8>, MessageFault> {
-    Ok(encode(alloc, &exchange_term(alloc, 0, &[7, 7])?)?)
+fn exchange_naming_twice_once(alloc: Global) -> Result<Vec<u8>, TermFault> {
+    match exchange_term(alloc, 0, &[7, 7]) {
+        Ok(term) => {
+            let body = encode(alloc, &term);
+            drop(term);
+            body
+        }
+        Err(fault) => Err(fault),
+    }
+}
+
+fn exchange_naming_twice(alloc: Global) -> Result<Vec<u8>, TermFault> {
+    match exchange_naming_twice_once(alloc) {
+        Err(TermFault::OutOfMemory) => exchange_naming_twice_once(alloc),
+        made => made,
+    }
 }
 
 #[test]
 fn growths_refused_for_a_group_named_twice(rt: HostRuntime) -> Result<(), Fail> {
-    let alloc = rt.alloc();
-    let body = match exchange_naming_twice(alloc) {
-        Err(OUT_OF_MEMORY) => exchange_naming_twice(alloc)?,
-        made => made?,
-    };
-    assert!(rt; read(alloc, &body).err() == Some(MessageFault::NotAMessage));
+    let body = exchange_naming_twice(rt.alloc())?;
+    let fault = read(rt.alloc(), &body).err();
+    let is_refused = fault == Some(MessageFault::NotAMessage);
+    holds(&rt, is_refused, "it is no message");
     Ok(())
 }
 
 // Terms that are no packets.
-const NO_PACKETS: [&[u8]; 7] = [
+const NO_PACKETS: &[&[u8]] = &[
     // [1, 2]
     &[131, 107, 0, 2, 1, 2],
     // <<1, 2>>
@@ -190,8 +205,8 @@ const NO_PACKETS: [&[u8]; 7] = [
 // Nothing is built of them: no refused growth is ever told.
 #[test]
 fn what_is_no_packet_takes_no_memory(rt: HostRuntime) {
-    for body in NO_PACKETS {
-        let read = read_packet(rt.alloc(), body);
-        assert!(rt; read.err() == Some(MessageFault::NotAMessage));
+    for (row, body) in NO_PACKETS.iter().enumerate() {
+        let is_refused = has_fault(rt.alloc(), body, MessageFault::NotAMessage);
+        row_holds(&rt, is_refused, row);
     }
 }

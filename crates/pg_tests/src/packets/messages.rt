@@ -1,6 +1,7 @@
 //! Each message of the table, read from its bytes and written as them.
 
 use super::samples::{APPLIED, CREATE, DEL_LOCK, DOWN, EXCHANGE, JOIN, kind_of};
+use crate::samples::row_passes;
 use bytes::BytesMut;
 use pg_message::{MessageFault, Packet, packet_len, read_packet, write_packet, write_packet_into};
 use pg_term::TermFault;
@@ -38,26 +39,34 @@ const NOTHING_TOLD: &[u8] = &[
     110, 103, 101, 119, 1, 97, 106,
 ];
 
+// Whether the bytes stand behind their length in four bytes.
+fn is_frame(framed: &[u8], bytes: &[u8]) -> bool {
+    let len = u32::try_from(bytes.len()).unwrap_or(u32::MAX);
+    framed.ends_with(bytes)
+        && framed.starts_with(&len.to_be_bytes())
+        && framed.len() == bytes.len() + 4
+}
+
 // Whether a packet is written as these bytes in a frame.
 fn is_framed_as(alloc: Global, packet: &Packet, bytes: &[u8]) -> Result<bool, MessageFault> {
     let mut frame = BytesMut::new(alloc);
-    write_packet_into(packet, &mut frame)?;
-    let framed = frame.as_slice();
-    Ok(
-        framed.ends_with(bytes)
-            && framed.starts_with(&(bytes.len() as u32).to_be_bytes())
-            && framed.len() == bytes.len() + 4,
-    )
+    let told = write_packet_into(packet, &mut frame);
+    let is_frame = is_frame(frame.as_slice(), bytes);
+    drop(frame);
+    told?;
+    Ok(is_frame)
 }
 
-// Whether a packet is written as these bytes, whole and in a frame.
+// Whether a packet is written as these bytes, and in a frame.
 fn is_written_as(alloc: Global, packet: &Packet, bytes: &[u8]) -> Result<bool, MessageFault> {
-    let body = write_packet(alloc, packet)?;
-    Ok(
-        body.as_slice() == bytes
-            && packet_len(packet)? == bytes.len()
-            && is_framed_as(alloc, packet, bytes)?,
-    )
+    match write_packet(alloc, packet) {
+        Ok(body) => {
+            let is_same = body.as_slice() == bytes && packet_len(packet) == Ok(bytes.len());
+            drop(body);
+            Ok(is_framed_as(alloc, packet, bytes)? && is_same)
+        }
+        Err(fault) => Err(fault),
+    }
 }
 
 // Whether a packet is of this kind, and written as these bytes.
@@ -67,7 +76,8 @@ fn is_of_kind(
     bytes: &[u8],
     kind: &str,
 ) -> Result<bool, MessageFault> {
-    Ok(kind_of(packet) == kind && is_written_as(alloc, packet, bytes)?)
+    let is_of_kind = kind_of(packet) == kind;
+    Ok(is_written_as(alloc, packet, bytes)? && is_of_kind)
 }
 
 // Whether a packet's copy is of this kind, and written as these bytes.
@@ -99,25 +109,25 @@ fn is_both_ways(alloc: Global, bytes: &[u8], kind: &str) -> Result<bool, Message
     }
 }
 
+const MESSAGES: &[(&[u8], &str)] = &[
+    (CREATE, "create"),
+    (DELETE, "delete"),
+    (SET_LOCK, "set_lock"),
+    (JOIN, "join"),
+    (LEAVE, "leave"),
+    (GRANTED, "true"),
+    (DENIED, "false"),
+    (APPLIED, "ok"),
+    (DEL_LOCK, "del_lock"),
+    // Members in no order, and one that joined twice.
+    (EXCHANGE, "exchange"),
+    (NOTHING_TOLD, "exchange"),
+    (DOWN, "down"),
+];
+
 #[test]
-fn each_message_both_ways(rt: HostRuntime) -> Result<(), Fail> {
-    let table: &[(&[u8], &str)] = &[
-        (CREATE, "create"),
-        (DELETE, "delete"),
-        (SET_LOCK, "set_lock"),
-        (JOIN, "join"),
-        (LEAVE, "leave"),
-        (GRANTED, "true"),
-        (DENIED, "false"),
-        (APPLIED, "ok"),
-        (DEL_LOCK, "del_lock"),
-        // Members in no order, and one that joined twice.
-        (EXCHANGE, "exchange"),
-        (NOTHING_TOLD, "exchange"),
-        (DOWN, "down"),
-    ];
-    for (bytes, kind) in table {
-        assert!(rt; is_both_ways(rt.alloc(), bytes, kind)?, "{kind}");
+fn each_message_both_ways(rt: HostRuntime) {
+    for (row, (bytes, kind)) in MESSAGES.iter().enumerate() {
+        row_passes(&rt, is_both_ways(rt.alloc(), bytes, kind), row);
     }
-    Ok(())
 }

@@ -1,7 +1,7 @@
 //! What may name a group.
 
 use super::samples::{create_packet, create_term};
-use crate::samples::{list, nested, pid, repeated};
+use crate::samples::{holds, list, nested, passes, pid, repeated};
 use pg_message::{
     MAX_NAME_DEPTH, MAX_NAME_LEN, MessageFault, check_name, read_packet, write_packet,
 };
@@ -22,19 +22,35 @@ fn create_body(alloc: Global, term: Result<Term, TermFault>) -> Result<Vec<u8>, 
     }
 }
 
-// The fault of what a create call of the name is read as, if any.
-fn reading_fault(alloc: Global, name: &Term) -> Result<Option<MessageFault>, TermFault> {
-    let body = create_body(alloc, create_term(alloc, 0, name.copy(alloc)?))?;
-    Ok(read_packet(alloc, body.as_slice()).err())
+// Whether a create call of the name is read with this fault, or with none.
+fn is_read_with(
+    alloc: Global,
+    name: &Term,
+    fault: Option<MessageFault>,
+) -> Result<bool, TermFault> {
+    let copy = name.copy(alloc)?;
+    match create_body(alloc, create_term(alloc, 0, copy)) {
+        Ok(body) => {
+            let is_read = read_packet(alloc, body.as_slice()).err() == fault;
+            drop(body);
+            Ok(is_read)
+        }
+        Err(fault) => Err(fault),
+    }
 }
 
-// The fault of writing it, if any.
-fn writing_fault(alloc: Global, name: &Term) -> Result<Option<MessageFault>, TermFault> {
-    match create_packet(alloc, 0, name.copy(alloc)?) {
+// Whether it is written with it.
+fn is_written_with(
+    alloc: Global,
+    name: &Term,
+    fault: Option<MessageFault>,
+) -> Result<bool, TermFault> {
+    let copy = name.copy(alloc)?;
+    match create_packet(alloc, 0, copy) {
         Ok(packet) => {
-            let fault = write_packet(alloc, &packet).err();
+            let is_written = write_packet(alloc, &packet).err() == fault;
             drop(packet);
-            Ok(fault)
+            Ok(is_written)
         }
         Err(fault) => Err(fault),
     }
@@ -57,43 +73,72 @@ fn deep(alloc: Global, levels: usize) -> Result<Term, TermFault> {
     nested(alloc, levels, Term::Int(0))
 }
 
+// Whether a name is checked with this fault, and its create call is read and written with that one, or with none.
+fn has_faults(
+    alloc: Global,
+    name: &Term,
+    checked: Result<(), MessageFault>,
+    told: Option<MessageFault>,
+) -> Result<bool, TermFault> {
+    let is_checked = check_name(name) == checked;
+    let is_read = is_read_with(alloc, name, told)?;
+    let is_written = is_written_with(alloc, name, told)?;
+    Ok(is_checked && is_read && is_written)
+}
+
 // Whether a name is within the limits.
 fn is_taken(alloc: Global, name: Result<Term, TermFault>) -> Result<bool, TermFault> {
-    let name = name?;
-    Ok(
-        check_name(&name) == Ok(())
-            && reading_fault(alloc, &name)?.is_none()
-            && writing_fault(alloc, &name)?.is_none(),
-    )
+    match name {
+        Ok(name) => {
+            let is_taken = has_faults(alloc, &name, Ok(()), None);
+            drop(name);
+            is_taken
+        }
+        Err(fault) => Err(fault),
+    }
 }
 
 // Whether a name is beyond them.
 fn is_refused(alloc: Global, name: Result<Term, TermFault>) -> Result<bool, TermFault> {
-    let name = name?;
-    Ok(
-        check_name(&name) == Err(MessageFault::NameTooLarge)
-            && reading_fault(alloc, &name)? == Some(MessageFault::NotAMessage)
-            && writing_fault(alloc, &name)? == Some(MessageFault::NotAMessage),
-    )
+    match name {
+        Ok(name) => {
+            let large = Err(MessageFault::NameTooLarge);
+            let is_refused = has_faults(alloc, &name, large, Some(MessageFault::NotAMessage));
+            drop(name);
+            is_refused
+        }
+        Err(fault) => Err(fault),
+    }
+}
+
+// Whether a name is written as 1,023 bytes.
+fn is_long(name: Result<Term, TermFault>) -> Result<bool, TermFault> {
+    match name {
+        Ok(name) => {
+            let len = encode_len(&name);
+            drop(name);
+            Ok(len? == 1023)
+        }
+        Err(fault) => Err(fault),
+    }
 }
 
 #[test]
-fn name_limits(rt: HostRuntime) -> Result<(), Fail> {
+fn name_limits(rt: HostRuntime) {
     let alloc = rt.alloc();
-    assert_eq!(rt; (MAX_NAME_LEN, MAX_NAME_DEPTH), (1024, 32));
-    assert_eq!(rt; encode_len(&zeros(alloc, 508)?)?, 1023);
-    assert_eq!(rt; encode_len(&zeros_and_pid(alloc, 500)?)?, 1023);
-    assert!(rt; is_taken(alloc, zeros(alloc, 508))?);
-    assert!(rt; is_taken(alloc, zeros_and_pid(alloc, 500))?);
-    assert!(rt; is_taken(alloc, deep(alloc, 31))?);
-    Ok(())
+    holds(&rt, MAX_NAME_LEN == 1024, "the length of a name");
+    holds(&rt, MAX_NAME_DEPTH == 32, "the depth of a name");
+    passes(&rt, is_long(zeros(alloc, 508)));
+    passes(&rt, is_long(zeros_and_pid(alloc, 500)));
+    passes(&rt, is_taken(alloc, zeros(alloc, 508)));
+    passes(&rt, is_taken(alloc, zeros_and_pid(alloc, 500)));
+    passes(&rt, is_taken(alloc, deep(alloc, 31)));
 }
 
 #[test]
-fn names_beyond_the_limits(rt: HostRuntime) -> Result<(), Fail> {
+fn names_beyond_the_limits(rt: HostRuntime) {
     let alloc = rt.alloc();
-    assert!(rt; is_refused(alloc, zeros(alloc, 509))?);
-    assert!(rt; is_refused(alloc, zeros_and_pid(alloc, 501))?);
-    assert!(rt; is_refused(alloc, deep(alloc, 32))?);
-    Ok(())
+    passes(&rt, is_refused(alloc, zeros(alloc, 509)));
+    passes(&rt, is_refused(alloc, zeros_and_pid(alloc, 501)));
+    passes(&rt, is_refused(alloc, deep(alloc, 32)));
 }

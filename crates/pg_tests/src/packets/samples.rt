@@ -94,6 +94,20 @@ fn tagged(alloc: Global, word: &str, term: Term) -> Result<Term, TermFault> {
     }
 }
 
+// A tuple of some terms and a last one.
+fn with_last(head: Result<Vec<Term>, TermFault>, last: Term) -> Result<Term, TermFault> {
+    match head {
+        Ok(mut items) => {
+            items.push(last)?;
+            Ok(tuple(items))
+        }
+        Err(fault) => {
+            drop(last);
+            Err(fault)
+        }
+    }
+}
+
 // call, Ref
 fn call_head(alloc: Global) -> Result<Vec<Term>, TermFault> {
     let mut items = Vec::new(alloc);
@@ -102,24 +116,10 @@ fn call_head(alloc: Global) -> Result<Vec<Term>, TermFault> {
     Ok(items)
 }
 
-// {call, Ref, Request}
-fn call_of(alloc: Global, request: Term) -> Result<Term, TermFault> {
-    match call_head(alloc) {
-        Ok(mut items) => {
-            items.push(request)?;
-            Ok(tuple(items))
-        }
-        Err(fault) => {
-            drop(request);
-            Err(fault)
-        }
-    }
-}
-
 /// The same as a term.
 pub fn create_term(alloc: Global, stamp: i64, name: Term) -> Result<Term, TermFault> {
     let create = tagged(alloc, "create", name)?;
-    let call = call_of(alloc, create)?;
+    let call = with_last(call_head(alloc), create)?;
     pair(alloc, Term::Int(stamp), call)
 }
 
@@ -148,12 +148,30 @@ pub fn pids(alloc: Global, count: u32) -> Result<Items<Pid>, TermFault> {
     Ok(Items::from_vec(pids))
 }
 
-/// A packet in which node a tells of these groups.
-pub fn exchange_packet(
+/// A group with its members.
+pub type Group = (Term, Items<Pid>);
+
+/// A group of so many members is put behind the others.
+pub fn put_group(
     alloc: Global,
-    stamp: u32,
-    groups: Vec<(Term, Items<Pid>)>,
-) -> Result<Packet, TermFault> {
+    groups: &mut Vec<Group>,
+    name: Term,
+    members: u32,
+) -> Result<(), TermFault> {
+    match pids(alloc, members) {
+        Ok(pids) => {
+            groups.push((name, pids))?;
+            Ok(())
+        }
+        Err(fault) => {
+            drop(name);
+            Err(fault)
+        }
+    }
+}
+
+/// A packet in which node a tells of these groups.
+pub fn exchange_packet(alloc: Global, stamp: u32, groups: Vec<Group>) -> Result<Packet, TermFault> {
     match Atom::new(alloc, "a") {
         Ok(node) => Ok(Packet {
             stamp,
@@ -166,22 +184,32 @@ pub fn exchange_packet(
     }
 }
 
-/// {Stamp, {cast, {exchange, a, [[Name, []], ..]}}} as a term, of groups that numbers name.
-pub fn exchange_term(alloc: Global, stamp: i64, names: &[i64]) -> Result<Term, TermFault> {
-    let mut groups = Vec::new(alloc);
-    for name in names {
-        groups.push(empty_group(alloc, *name)?)?;
-    }
-    let node = atom(alloc, "a")?;
-    let told = tuple(vec![in alloc; atom(alloc, "exchange")?, node, list(groups)]?);
-    pair(
-        alloc,
-        Term::Int(stamp),
-        pair(alloc, atom(alloc, "cast")?, told)?,
-    )
+// exchange, a
+fn exchange_head(alloc: Global) -> Result<Vec<Term>, TermFault> {
+    let mut items = Vec::new(alloc);
+    items.push(atom(alloc, "exchange")?)?;
+    items.push(atom(alloc, "a")?)?;
+    Ok(items)
 }
 
 /// [Name, []]
 fn empty_group(alloc: Global, name: i64) -> Result<Term, TermFault> {
     Ok(list(vec![in alloc; Term::Int(name), list(Vec::new(alloc))]?))
+}
+
+// [[Name, []], ..]
+fn empty_groups(alloc: Global, names: &[i64]) -> Result<Term, TermFault> {
+    let mut groups = Vec::new(alloc);
+    for name in names {
+        groups.push(empty_group(alloc, *name)?)?;
+    }
+    Ok(list(groups))
+}
+
+/// {Stamp, {cast, {exchange, a, [[Name, []], ..]}}} as a term, of groups that numbers name.
+pub fn exchange_term(alloc: Global, stamp: i64, names: &[i64]) -> Result<Term, TermFault> {
+    let groups = empty_groups(alloc, names)?;
+    let told = with_last(exchange_head(alloc), groups)?;
+    let cast = tagged(alloc, "cast", told)?;
+    pair(alloc, Term::Int(stamp), cast)
 }

@@ -1,6 +1,8 @@
 //! What is no packet for what stands in the groups of its exchange is refused before anything of it is built.
 
-use pg_message::{MessageFault, read_packet};
+use super::forms::has_fault;
+use crate::samples::{holds, row_holds};
+use pg_message::MessageFault;
 use pg_term_io::{NextElement, next_element, skip_item};
 use std::alloc::{AllocError, Global};
 use std::test::*;
@@ -48,45 +50,63 @@ fn exchange(alloc: Global, count: u32, each: &[u8], last: &[u8]) -> Result<Vec<u
 // Nothing is built of it: where a growth is refused, it is one of the body's own.
 fn is_refused(alloc: Global, count: u32, each: &[u8], last: &[u8]) -> bool {
     match exchange(alloc, count, each, last) {
-        Ok(body) => read_packet(alloc, body.as_slice()).err() == Some(MessageFault::NotAMessage),
+        Ok(body) => {
+            let is_refused = has_fault(alloc, &body, MessageFault::NotAMessage);
+            drop(body);
+            is_refused
+        }
         Err(_) => true,
     }
 }
 
 #[test]
 fn integers_for_groups_take_no_memory(rt: HostRuntime) {
-    assert!(rt; is_refused(rt.alloc(), 100_000, &[97, 1], &[97, 1]));
+    let is_refused = is_refused(rt.alloc(), 100_000, &[97, 1], &[97, 1]);
+    holds(&rt, is_refused, "it is no message");
 }
+
+const WRONG: &[&[u8]] = &[
+    WRONG_MEMBER,
+    WRONG_IN_PARTS,
+    TEXT_IN_PARTS,
+    THREE,
+    &[107, 0, 1, 49],
+];
 
 #[test]
 fn a_wrong_last_group_takes_no_memory(rt: HostRuntime) {
-    for last in [
-        WRONG_MEMBER,
-        WRONG_IN_PARTS,
-        TEXT_IN_PARTS,
-        THREE,
-        &[107, 0, 1, 49],
-    ] {
-        assert!(rt; is_refused(rt.alloc(), 1000, GROUP, last));
+    for (row, last) in WRONG.iter().enumerate() {
+        row_holds(&rt, is_refused(rt.alloc(), 1000, GROUP, last), row);
     }
 }
 
 // [1 | [2 | ""]]
 const IN_PARTS: &[u8] = &[108, 0, 0, 0, 1, 97, 1, 108, 0, 0, 0, 1, 97, 2, 107, 0, 0];
 
+// What follows an element that is this small integer: it may nest so many levels, and is the last before the tail.
+fn behind(next: NextElement<'_>, deep: u8, number: u8) -> Option<&[u8]> {
+    let NextElement::Item(levels, count, bytes) = next else {
+        return None;
+    };
+    if levels == deep && count == 0 && bytes.starts_with(&[97, number]) {
+        skip_item(levels, bytes).ok()
+    } else {
+        None
+    }
+}
+
+// Whether the elements are 1 and 2.
+fn are_two(bytes: &[u8]) -> bool {
+    let Some(tail) = behind(next_element(3, 0, bytes), 2, 1) else {
+        return false;
+    };
+    let Some(end) = behind(next_element(2, 0, tail), 1, 2) else {
+        return false;
+    };
+    matches!(next_element(1, 0, end), NextElement::End(_))
+}
+
 #[test]
 fn elements_stand_in_tails(rt: HostRuntime) {
-    let NextElement::Item(levels, count, first) = next_element(3, 0, IN_PARTS) else {
-        assert!(rt; false);
-        return;
-    };
-    assert!(rt; levels == 2 && count == 0 && first.starts_with(&[97, 1]));
-    let behind = skip_item(levels, first).unwrap_or(&[]);
-    let NextElement::Item(levels, count, second) = next_element(levels, count, behind) else {
-        assert!(rt; false);
-        return;
-    };
-    assert!(rt; levels == 1 && count == 0 && second.starts_with(&[97, 2]));
-    let behind = skip_item(levels, second).unwrap_or(&[]);
-    assert!(rt; matches!(next_element(levels, count, behind), NextElement::End(_)));
+    holds(&rt, are_two(IN_PARTS), "the elements are 1 and 2");
 }

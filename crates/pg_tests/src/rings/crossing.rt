@@ -1,7 +1,7 @@
 //! A frame that crosses a ring.
 
 use crate::packets::samples::create_packet;
-use crate::samples::atom;
+use crate::samples::{atom, passes};
 use bytes::BytesMut;
 use pg_frame::Deframer;
 use pg_message::{MessageFault, Packet, write_packet_into};
@@ -14,7 +14,10 @@ fn framed(alloc: Global, packet: &Packet) -> Result<BytesMut, MessageFault> {
     let mut frame = BytesMut::new(alloc);
     match write_packet_into(packet, &mut frame) {
         Ok(()) => Ok(frame),
-        Err(fault) => Err(fault),
+        Err(fault) => {
+            drop(frame);
+            Err(fault)
+        }
     }
 }
 
@@ -53,8 +56,9 @@ fn are_crossed(
     bytes: &[u8],
 ) -> Result<bool, AllocError> {
     for byte in bytes {
-        if !is_crossed(out, inlet, deframer, *byte)? {
-            return Ok(false);
+        match is_crossed(out, inlet, deframer, *byte) {
+            Ok(true) => (),
+            other => return other,
         }
     }
     Ok(true)
@@ -68,20 +72,39 @@ fn is_whole(deframer: &mut Deframer, frame: &[u8]) -> bool {
         && deframer.rest_len() == 0
 }
 
+// Whether a frame crosses a ring byte by byte, is whole then, and nothing is left in the ring.
+fn is_crossing(
+    alloc: Global,
+    out: &mut RingOut,
+    inlet: &mut RingIn,
+    frame: &[u8],
+) -> Result<bool, AllocError> {
+    let mut deframer = Deframer::new(alloc);
+    let are_crossed = are_crossed(out, inlet, &mut deframer, frame);
+    let is_whole = is_whole(&mut deframer, frame);
+    drop(deframer);
+    let left = inlet.take(&mut [0u8; 1]);
+    Ok(are_crossed? && is_whole && left == 0)
+}
+
+// The same of a ring of one byte.
+fn is_crossing_one(alloc: Global, frame: &[u8]) -> Result<bool, AllocError> {
+    match ring_pair(alloc, 1) {
+        Ok((mut out, mut inlet)) => {
+            let is_crossing = is_crossing(alloc, &mut out, &mut inlet, frame);
+            drop(out);
+            drop(inlet);
+            is_crossing
+        }
+        Err(_) => Err(AllocError),
+    }
+}
+
 #[test]
 fn frame_byte_by_byte(rt: HostRuntime) -> Result<(), Fail> {
     let frame = create_call(rt.alloc())?;
-    let (mut out, mut inlet) = ring_pair(rt.alloc(), 1)?;
-    let mut deframer = Deframer::new(rt.alloc());
-    let are_crossed = are_crossed(&mut out, &mut inlet, &mut deframer, frame.as_slice());
-    let is_whole = is_whole(&mut deframer, frame.as_slice());
-    drop(deframer);
+    let is_crossing = is_crossing_one(rt.alloc(), frame.as_slice());
     drop(frame);
-    let left = inlet.take(&mut [0u8; 1]);
-    drop(out);
-    drop(inlet);
-    assert!(rt; are_crossed?);
-    assert!(rt; is_whole);
-    assert!(rt; left == 0);
+    passes(&rt, is_crossing);
     Ok(())
 }

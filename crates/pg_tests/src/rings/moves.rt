@@ -4,6 +4,7 @@ ghost use Rattle.std.specs.Prelude.{IfOk};
 ghost use Rattle.pg_ring.specs.Ends.{AreEnds, SameRingIn};
 ghost use Rattle.pg_ring.specs.Slots.{AreSlots};
 
+use crate::samples::{holds, passes, row_holds};
 use pg_ring::{
     Inlet, Link, MAX_CAPACITY, MemRing, RingFault, RingIn, RingOut, SlotIn, SlotOut, ring_pair,
     slot_pair, slots_together, together,
@@ -48,89 +49,96 @@ fn relay<I: Inlet, L: Link>(from: &mut I, to: &mut L, buffer: &mut [u8]) -> (usi
     (taken, to.put(&buffer[..taken]))
 }
 
-// What a ring of three accepts and gives back.
-fn ring_played(alloc: Global) -> Result<([usize; 6], [u8; 2], [u8; 8]), RingFault> {
-    let mut ring = mem_ring(alloc, 3)?;
+// Whether a ring of three accepts and gives back what it should.
+fn is_ring_played(ring: &mut MemRing) -> bool {
     let mut two = [0u8; 2];
     let mut eight = [0u8; 8];
-    let counts = [
-        ring.put(&[1, 2, 3, 4, 5]),
-        ring.put(&[4, 5]),
-        ring.take(&mut two),
-        ring.put(&[4, 5]),
-        ring.take(&mut eight),
-        ring.take(&mut eight),
-    ];
-    Ok((counts, two, eight))
+    ring.put(&[1, 2, 3, 4, 5]) == 3
+        && ring.put(&[4, 5]) == 0
+        && ring.take(&mut two) == 2
+        && ring.put(&[4, 5]) == 2
+        && ring.take(&mut eight) == 3
+        && ring.take(&mut eight) == 0
+        && two == [1, 2]
+        && eight == [3, 4, 5, 0, 0, 0, 0, 0]
 }
 
-// What the ends of a ring of two accept and give back.
-fn ends_played(alloc: Global) -> Result<([usize; 3], [u8; 4]), RingFault> {
-    let (mut out, mut inlet) = ends(alloc, 2)?;
-    let mut four = [9u8; 4];
-    let counts = [
-        out.put(&[1, 2, 3]),
-        inlet.take(&mut four),
-        inlet.take(&mut four),
-    ];
-    Ok((counts, four))
-}
-
-#[test]
-fn ring_moves(rt: HostRuntime) -> Result<(), Fail> {
-    let moved = ([3, 0, 2, 2, 3, 0], [1, 2], [3, 4, 5, 0, 0, 0, 0, 0]);
-    assert!(rt; ring_played(rt.alloc())? == moved);
-    assert!(rt; ends_played(rt.alloc())? == ([2, 2, 0], [1, 2, 9, 9]));
-    Ok(())
-}
-
-// The faults of rings with so many places.
-fn faults(alloc: Global, cap: usize) -> [Option<RingFault>; 3] {
-    [
-        mem_ring(alloc, cap).err(),
-        ends(alloc, cap).err(),
-        text_slots(alloc, cap).err(),
-    ]
-}
-
-#[test]
-fn capacities(rt: HostRuntime) -> Result<(), Fail> {
-    for cap in [0, MAX_CAPACITY + 1, usize::MAX] {
-        let bad = Some(RingFault::BadCapacity);
-        assert!(rt; faults(rt.alloc(), cap) == [bad; 3], "at {cap}");
+fn is_ring_of_three_played(alloc: Global) -> Result<bool, RingFault> {
+    match mem_ring(alloc, 3) {
+        Ok(mut ring) => {
+            let is_played = is_ring_played(&mut ring);
+            drop(ring);
+            Ok(is_played)
+        }
+        Err(fault) => Err(fault),
     }
-    assert!(rt; faults(rt.alloc(), MAX_CAPACITY) == [None; 3]);
-    assert_eq!(rt;
-        [
-            RingFault::BadCapacity.number(),
-            RingFault::OutOfMemory.number()
-        ],
-        [18, 10]
-    );
-    Ok(())
 }
 
-// Takes what a buffer of five holds: how many bytes, and the buffer then.
-fn taken<I: Inlet>(from: &mut I, buffer: &mut [u8; 5]) -> (usize, [u8; 5]) {
-    (from.take(buffer), *buffer)
+// Whether the ends of a ring of two do.
+fn are_ends_played(out: &mut RingOut, inlet: &mut RingIn) -> bool {
+    let mut four = [9u8; 4];
+    out.put(&[1, 2, 3]) == 2
+        && inlet.take(&mut four) == 2
+        && inlet.take(&mut four) == 0
+        && four == [1, 2, 9, 9]
 }
 
-// Relays over the ends what comes from one ring, into another that is smaller.
-fn relayed(
+fn are_ends_of_two_played(alloc: Global) -> Result<bool, RingFault> {
+    match ends(alloc, 2) {
+        Ok((mut out, mut inlet)) => {
+            let are_played = are_ends_played(&mut out, &mut inlet);
+            drop(out);
+            drop(inlet);
+            Ok(are_played)
+        }
+        Err(fault) => Err(fault),
+    }
+}
+
+#[test]
+fn ring_moves(rt: HostRuntime) {
+    passes(&rt, is_ring_of_three_played(rt.alloc()));
+    passes(&rt, are_ends_of_two_played(rt.alloc()));
+}
+
+// Whether rings with so many places have this fault, or none.
+fn have_fault(alloc: Global, cap: usize, fault: Option<RingFault>) -> bool {
+    mem_ring(alloc, cap).err() == fault
+        && ends(alloc, cap).err() == fault
+        && text_slots(alloc, cap).err() == fault
+}
+
+#[test]
+fn capacities(rt: HostRuntime) {
+    for cap in &[0, MAX_CAPACITY + 1, usize::MAX] {
+        let bad = Some(RingFault::BadCapacity);
+        row_holds(&rt, have_fault(rt.alloc(), *cap, bad), *cap);
+    }
+    let is_made = have_fault(rt.alloc(), MAX_CAPACITY, None);
+    holds(&rt, is_made, "the largest are made");
+    let bad = RingFault::BadCapacity.number();
+    holds(&rt, bad == 18, "the number of a bad capacity");
+    let refused = RingFault::OutOfMemory.number();
+    holds(&rt, refused == 10, "the number of refused memory");
+}
+
+// Whether so many bytes are taken, and the buffer of five is this one then.
+fn takes<I: Inlet>(from: &mut I, buffer: &mut [u8; 5], count: usize, wanted: [u8; 5]) -> bool {
+    from.take(buffer) == count && *buffer == wanted
+}
+
+// Whether the bytes of one ring move over the ends into another that is smaller.
+fn move_over_ends(
     source: &mut MemRing,
     out: &mut RingOut,
     inlet: &mut RingIn,
     sink: &mut MemRing,
     buffer: &mut [u8; 5],
-) -> (usize, [(usize, usize); 3]) {
-    (
-        source.put(&[1, 2, 3, 4, 5, 6, 7, 8, 9]),
-        [
-            relay(source, out, buffer),
-            relay(inlet, sink, buffer),
-            relay(source, out, buffer),
-        ],
-    )
+) -> bool {
+    source.put(&[1, 2, 3, 4, 5, 6, 7, 8, 9]) == 8
+        && relay(source, out, buffer) == (5, 4)
+        && relay(inlet, sink, buffer) == (4, 3)
+        && relay(source, out, buffer) == (3, 3)
 }
 
 // Whether the bytes move so, and what is left of them comes out of both.
@@ -141,9 +149,9 @@ fn are_relayed(
     sink: &mut MemRing,
 ) -> bool {
     let mut buffer = [0u8; 5];
-    let moved = relayed(source, out, inlet, sink, &mut buffer);
-    let left = [taken(sink, &mut buffer), taken(inlet, &mut buffer)];
-    moved == (8, [(5, 4), (4, 3), (3, 3)]) && left == [(3, [1, 2, 3, 4, 5]), (3, [6, 7, 8, 4, 5])]
+    move_over_ends(source, out, inlet, sink, &mut buffer)
+        && takes(sink, &mut buffer, 3, [1, 2, 3, 4, 5])
+        && takes(inlet, &mut buffer, 3, [6, 7, 8, 4, 5])
 }
 
 // The same over the ends of a ring of four.
@@ -152,57 +160,70 @@ fn are_relayed_over_ends(
     source: &mut MemRing,
     sink: &mut MemRing,
 ) -> Result<bool, RingFault> {
-    let (mut out, mut inlet) = ends(alloc, 4)?;
-    let are_relayed = are_relayed(source, &mut out, &mut inlet, sink);
-    drop(out);
-    drop(inlet);
-    Ok(are_relayed)
+    match ends(alloc, 4) {
+        Ok((mut out, mut inlet)) => {
+            let are_relayed = are_relayed(source, &mut out, &mut inlet, sink);
+            drop(out);
+            drop(inlet);
+            Ok(are_relayed)
+        }
+        Err(fault) => Err(fault),
+    }
+}
+
+// The same into a ring of three.
+fn are_relayed_into_three(alloc: Global, source: &mut MemRing) -> Result<bool, RingFault> {
+    match mem_ring(alloc, 3) {
+        Ok(mut sink) => {
+            let are_relayed = are_relayed_over_ends(alloc, source, &mut sink);
+            drop(sink);
+            are_relayed
+        }
+        Err(fault) => Err(fault),
+    }
 }
 
 #[test]
 fn both_kinds_of_link(rt: HostRuntime) -> Result<(), Fail> {
     let mut source = mem_ring(rt.alloc(), 8)?;
-    let mut sink = mem_ring(rt.alloc(), 3)?;
-    let are_relayed = are_relayed_over_ends(rt.alloc(), &mut source, &mut sink);
+    let are_relayed = are_relayed_into_three(rt.alloc(), &mut source);
     drop(source);
-    drop(sink);
-    assert!(rt; are_relayed?);
+    passes(&rt, are_relayed);
     Ok(())
 }
 
-// Takes what a buffer of two holds: how many bytes, and the buffer then.
-fn two_taken(inlet: &mut RingIn, two: &mut [u8; 2]) -> (usize, [u8; 2])
+// Whether so many bytes are taken, and the buffer of two is this one then.
+fn takes_two(inlet: &mut RingIn, two: &mut [u8; 2], count: usize, wanted: [u8; 2]) -> bool
     ensures { SameRingIn inlet.old inlet.new }
 {
-    (inlet.take(two), *two)
+    inlet.take(two) == count && *two == wanted
 }
 
-// What the ends of a ring of four give back, looked at together.
-fn left(out: &mut RingOut, inlet: &mut RingIn) -> ([usize; 3], [(usize, [u8; 2]); 4])
+// Whether the ends of a ring of four give back what they should, looked at together.
+fn is_left(out: &mut RingOut, inlet: &mut RingIn) -> bool
     requires { AreEnds out.old inlet.old }
 {
     let mut two = [0u8; 2];
     let three = out.put(&[1, 2, 3]);
     together(out, inlet);
     let one = out.put(&[4, 5]);
-    let first = two_taken(inlet, &mut two);
+    let first = takes_two(inlet, &mut two, 2, [1, 2]);
     // The third byte was known, and the fourth is found by a look.
-    let second = two_taken(inlet, &mut two);
+    let second = takes_two(inlet, &mut two, 2, [3, 4]);
     together(out, inlet);
-    let none = two_taken(inlet, &mut two);
+    let none = takes_two(inlet, &mut two, 0, [3, 4]);
     let last = out.put(&[6]);
-    let sixth = two_taken(inlet, &mut two);
-    ([three, one, last], [first, second, none, sixth])
+    let sixth = takes_two(inlet, &mut two, 1, [6, 4]);
+    three == 3 && one == 1 && last == 1 && first && second && none && sixth
 }
 
 #[test]
 fn what_is_left(rt: HostRuntime) -> Result<(), Fail> {
     let (mut out, mut inlet) = ends(rt.alloc(), 4)?;
-    let left = left(&mut out, &mut inlet);
+    let is_left = is_left(&mut out, &mut inlet);
     drop(out);
     drop(inlet);
-    let wanted = [(2, [1, 2]), (2, [3, 4]), (0, [3, 4]), (1, [6, 4])];
-    assert!(rt; left == ([3, 1, 1], wanted));
+    holds(&rt, is_left, "what is left");
     Ok(())
 }
 
@@ -236,6 +257,6 @@ fn slots(rt: HostRuntime) -> Result<(), Fail> {
     drop(inlet);
     let taken = [None, Some("one"), Some("two"), Some("three"), None];
     let given = [Ok(()), Ok(()), Err("three"), Ok(())];
-    assert!(rt; texts == (taken, given));
+    holds(&rt, texts == (taken, given), "the texts");
     Ok(())
 }

@@ -1,6 +1,7 @@
 ghost use Rattle.std.specs.Prelude.{◌≡◌, length};
 ghost use Rattle.pg_ring.specs.Ends.{SameRingOut, SameRingIn};
 
+use crate::samples::holds;
 use pg_ring::{Inlet, Link, RingIn, RingOut, ring_pair, together};
 use std::snapshot::Snapshot;
 use std::sync::Wait;
@@ -110,7 +111,7 @@ fn a_million_bytes_between_threads(rt: HostRuntime) -> Result<(), Fail> {
         { send_pieces(&rt, out) },
     );
     let Ok(sending) = sending else {
-        assert!(rt; false, "no thread was started");
+        holds(&rt, false, "no thread was started");
         return Ok(());
     };
     let sum = receive(&rt, &mut inlet, PIECES * PIECE);
@@ -118,10 +119,10 @@ fn a_million_bytes_between_threads(rt: HostRuntime) -> Result<(), Fail> {
         mut out,
         sum: sent_sum,
     } = sending.join(&rt);
-    assert_eq!(rt; sum, sent_sum);
-    assert_eq!(rt; sum, 14102120543434856496);
+    holds(&rt, sum == sent_sum, "what is sent is received");
+    holds(&rt, sum == 14102120543434856496, "the sum of the bytes");
     together(&mut out, &mut inlet);
-    let mut buffer = [0u8; 8];
-    assert_eq!(rt; inlet.take(&mut buffer), 0);
+    let left = inlet.take(&mut [0u8; 8]);
+    holds(&rt, left == 0, "nothing is left");
     Ok(())
 }

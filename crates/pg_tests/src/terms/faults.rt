@@ -1,9 +1,10 @@
 //! Bytes that spell no term, and the first fault of them.
 
 use super::decoded;
+use crate::samples::row_passes;
 use pg_term::TermFault;
 use pg_term_io::check_term;
-use std::alloc::Global;
+use std::alloc::{AllocError, Global};
 use std::test::*;
 
 // Whether the bytes have this fault, when they are read and when they are only looked at.
@@ -21,21 +22,23 @@ fn all_have_fault(alloc: Global, rows: &[&[u8]], fault: TermFault) -> bool {
     true
 }
 
-const TRUNCATED: [&[u8]; 11] = [
-    &[],
-    &[131, 97],
-    &[131, 110, 3, 0, 1, 2],
-    &[131, 108, 255, 255, 255, 255, 106],
-    &[131, 105, 255, 255, 255, 255],
-    &[131, 90, 0],
-    &[131, 90, 0, 1, 119, 1, 97, 0, 0, 0, 2, 0, 0, 0],
-    &[131, 88, 119, 1, 97, 0, 0, 0, 1, 0, 0, 0, 0, 255, 255, 255],
-    &[131, 109, 0, 0, 0],
-    &[131, 109, 0, 0, 0, 3, 1, 2],
-    &[131, 109, 255, 255, 255, 255, 1, 2],
-];
-
-const OTHER_FAULTS: [(&[&[u8]], TermFault); 7] = [
+const FAULTS: &[(&[&[u8]], TermFault)] = &[
+    (
+        &[
+            &[],
+            &[131, 97],
+            &[131, 110, 3, 0, 1, 2],
+            &[131, 108, 255, 255, 255, 255, 106],
+            &[131, 105, 255, 255, 255, 255],
+            &[131, 90, 0],
+            &[131, 90, 0, 1, 119, 1, 97, 0, 0, 0, 2, 0, 0, 0],
+            &[131, 88, 119, 1, 97, 0, 0, 0, 1, 0, 0, 0, 0, 255, 255, 255],
+            &[131, 109, 0, 0, 0],
+            &[131, 109, 0, 0, 0, 3, 1, 2],
+            &[131, 109, 255, 255, 255, 255, 1, 2],
+        ],
+        TermFault::Truncated,
+    ),
     (&[&[130, 97, 1]], TermFault::BadVersion),
     (&[&[131, 70]], TermFault::UnknownTag),
     (
@@ -79,76 +82,80 @@ const OTHER_FAULTS: [(&[&[u8]], TermFault); 7] = [
 
 #[test]
 fn decode_faults(rt: HostRuntime) {
-    assert!(rt; all_have_fault(rt.alloc(), &TRUNCATED, TermFault::Truncated));
-    for (rows, fault) in OTHER_FAULTS {
-        assert!(rt; all_have_fault(rt.alloc(), rows, fault), "{fault}");
+    for (rows, fault) in FAULTS {
+        assert!(rt; all_have_fault(rt.alloc(), rows, *fault), "{fault}");
     }
 }
 
-// The byte 131, and an atom of so many letters, its length in two bytes.
-fn long_atom(alloc: Global, tag: u8, count: u16) -> Result<Vec<u8>, TermFault> {
-    let mut bytes = Vec::new(alloc);
-    bytes.extend_from_slice(&[131, tag])?;
-    bytes.extend_from_slice(&u16::to_be_bytes(count))?;
-    for _ in 0..count {
-        bytes.push(97)?;
-    }
-    Ok(bytes)
-}
-
-// Whether such an atom has the fault. Its bytes are made again where memory was refused.
-fn long_atom_has_fault(
+// These bytes, then so many times the others, and an end.
+fn long_bytes(
     alloc: Global,
-    tag: u8,
-    count: u16,
-    fault: Option<TermFault>,
-) -> Result<bool, TermFault> {
-    let bytes = match long_atom(alloc, tag, count) {
-        Err(TermFault::OutOfMemory) => long_atom(alloc, tag, count)?,
-        other => other?,
-    };
-    Ok(have_fault(alloc, &bytes, fault))
-}
-
-#[test]
-fn long_atoms_and_depth(rt: HostRuntime) -> Result<(), Fail> {
-    for tag in [118, 100] {
-        for (count, fault) in [(255, None), (256, Some(TermFault::BadAtom))] {
-            assert!(rt;
-                long_atom_has_fault(rt.alloc(), tag, count, fault)?,
-                "{tag} {count}"
-            );
-        }
-    }
-    Ok(())
-}
-
-/// The byte 131, so many tuples of one element, one in the other, and these bytes.
-fn nested_bytes(alloc: Global, levels: usize, end: &[u8]) -> Result<Vec<u8>, TermFault> {
+    front: &[u8],
+    count: usize,
+    each: &[u8],
+    end: &[u8],
+) -> Result<Vec<u8>, AllocError> {
     let mut bytes = Vec::new(alloc);
-    bytes.push(131)?;
-    for _ in 0..levels {
-        bytes.extend_from_slice(&[104, 1])?;
+    bytes.extend_from_slice(front)?;
+    for _ in 0..count {
+        bytes.extend_from_slice(each)?;
     }
     bytes.extend_from_slice(end)?;
     Ok(bytes)
 }
 
-// Whether such bytes have the fault. They are made again where memory was refused.
-fn nested_have_fault(
+// Whether such bytes have the fault.
+fn long_have_fault_once(
     alloc: Global,
-    levels: usize,
+    front: &[u8],
+    count: usize,
+    each: &[u8],
     end: &[u8],
     fault: Option<TermFault>,
-) -> Result<bool, TermFault> {
-    let bytes = match nested_bytes(alloc, levels, end) {
-        Err(TermFault::OutOfMemory) => nested_bytes(alloc, levels, end)?,
-        other => other?,
-    };
-    Ok(have_fault(alloc, &bytes, fault))
+) -> Result<bool, AllocError> {
+    match long_bytes(alloc, front, count, each, end) {
+        Ok(bytes) => {
+            let have_fault = have_fault(alloc, &bytes, fault);
+            drop(bytes);
+            Ok(have_fault)
+        }
+        Err(error) => Err(error),
+    }
 }
 
-const DEPTHS: [(usize, &[u8], Option<TermFault>); 9] = [
+// The same. They are made again where memory was refused.
+fn long_have_fault(
+    alloc: Global,
+    front: &[u8],
+    count: usize,
+    each: &[u8],
+    end: &[u8],
+    fault: Option<TermFault>,
+) -> Result<bool, AllocError> {
+    match long_have_fault_once(alloc, front, count, each, end, fault) {
+        Err(AllocError) => long_have_fault_once(alloc, front, count, each, end, fault),
+        told => told,
+    }
+}
+
+// Atoms of so many letters, their length in two bytes.
+const LONG_ATOMS: &[(&[u8], usize, Option<TermFault>)] = &[
+    (&[131, 118, 0, 255], 255, None),
+    (&[131, 118, 1, 0], 256, Some(TermFault::BadAtom)),
+    (&[131, 100, 0, 255], 255, None),
+    (&[131, 100, 1, 0], 256, Some(TermFault::BadAtom)),
+];
+
+#[test]
+fn long_atoms_and_depth(rt: HostRuntime) {
+    for (front, count, fault) in LONG_ATOMS {
+        let told = long_have_fault(rt.alloc(), front, *count, &[97], &[], *fault);
+        row_passes(&rt, told, *count);
+    }
+}
+
+// So many tuples of one element, one in the other, and these bytes.
+const DEPTHS: &[(usize, &[u8], Option<TermFault>)] = &[
     (63, &[107, 0, 0], None),
     (63, &[107, 0, 1, 7], Some(TermFault::TooDeep)),
     (63, &[107, 0, 1], Some(TermFault::Truncated)),
@@ -161,12 +168,9 @@ const DEPTHS: [(usize, &[u8], Option<TermFault>); 9] = [
 ];
 
 #[test]
-fn depth(rt: HostRuntime) -> Result<(), Fail> {
+fn depth(rt: HostRuntime) {
     for (levels, end, fault) in DEPTHS {
-        assert!(rt;
-            nested_have_fault(rt.alloc(), levels, end, fault)?,
-            "{levels}"
-        );
+        let told = long_have_fault(rt.alloc(), &[131], *levels, &[104, 1], end, *fault);
+        row_passes(&rt, told, *levels);
     }
-    Ok(())
 }

@@ -3,6 +3,7 @@
 use super::encoded;
 use super::samples::{Sample, made};
 use super::writing::check_written;
+use crate::samples::passes;
 use bytes::BytesMut;
 use pg_term::{Term, TermFault};
 use pg_term_io::{encode_into, encode_len};
@@ -10,8 +11,8 @@ use std::alloc::Global;
 use std::test::*;
 
 #[test]
-fn deepest(rt: HostRuntime) -> Result<(), Fail> {
-    check_written(&rt, rt.alloc(), &[(Sample::Deep(63), 129, &[131, 104, 1])])
+fn deepest(rt: HostRuntime) {
+    check_written(&rt, rt.alloc(), &[(Sample::Deep(63), 129, &[131, 104, 1])]);
 }
 
 // Whether the term is neither measured nor written, for this fault, and nothing is appended.
@@ -35,52 +36,58 @@ fn is_refused(alloc: Global, sample: Sample, fault: TermFault) -> Result<bool, T
 }
 
 #[test]
-fn too_deep(rt: HostRuntime) -> Result<(), Fail> {
-    assert!(rt; is_refused(rt.alloc(), Sample::Deep(64), TermFault::TooDeep)?);
-    Ok(())
-}
-
-#[test]
-fn longest(rt: HostRuntime) -> Result<(), Fail> {
-    let front = &[131, 105, 0, 23, 69, 209, 110, 8, 0, 255];
-    check_written(
+fn too_deep(rt: HostRuntime) {
+    passes(
         &rt,
-        rt.alloc(),
-        &[(Sample::Long("8_bytes_"), 16_777_216, front)],
-    )
+        is_refused(rt.alloc(), Sample::Deep(64), TermFault::TooDeep),
+    );
 }
 
 #[test]
-fn too_long(rt: HostRuntime) -> Result<(), Fail> {
-    assert!(rt; is_refused(rt.alloc(), Sample::Long("nine_here"), TermFault::TooLong)?);
-    Ok(())
+fn longest(rt: HostRuntime) {
+    const ROWS: &[(Sample, usize, &[u8])] = &[(
+        Sample::Long("8_bytes_"),
+        16_777_216,
+        &[131, 105, 0, 23, 69, 209, 110, 8, 0, 255],
+    )];
+    check_written(&rt, rt.alloc(), ROWS);
 }
 
-// Why a sample is not measured.
-fn fault_of_len(alloc: Global, sample: Sample) -> Result<Option<TermFault>, TermFault> {
+#[test]
+fn too_long(rt: HostRuntime) {
+    let long = Sample::Long("nine_here");
+    passes(&rt, is_refused(rt.alloc(), long, TermFault::TooLong));
+}
+
+// Whether a sample is not measured, for this fault.
+fn is_unmeasured(alloc: Global, sample: Sample, fault: TermFault) -> Result<bool, TermFault> {
     match made(alloc, sample) {
         Ok(term) => {
-            let fault = encode_len(&term).err();
+            let is_unmeasured = encode_len(&term) == Err(fault);
             drop(term);
-            Ok(fault)
+            Ok(is_unmeasured)
         }
         Err(fault) => Err(fault),
     }
 }
 
 #[test]
-fn too_deep_comes_first(rt: HostRuntime) -> Result<(), Fail> {
-    let fault = fault_of_len(rt.alloc(), Sample::DeepAndLong)?;
-    assert!(rt; fault == Some(TermFault::TooDeep));
-    Ok(())
+fn too_deep_comes_first(rt: HostRuntime) {
+    passes(
+        &rt,
+        is_unmeasured(rt.alloc(), Sample::DeepAndLong, TermFault::TooDeep),
+    );
 }
 
 // Appends the bytes of 5, again where memory was refused.
 fn append_five(out: &mut BytesMut) -> Result<(), TermFault> {
-    if encode_into(&Term::Int(5), out).is_err() {
-        encode_into(&Term::Int(5), out)?;
+    let five = Term::Int(5);
+    let mut told = encode_into(&five, out);
+    if told.is_err() {
+        told = encode_into(&five, out);
     }
-    Ok(())
+    drop(five);
+    told
 }
 
 // Whether the bytes of 5 alone are kept where a term is refused behind them.
@@ -92,13 +99,22 @@ fn is_five_kept(out: &mut BytesMut, term: &Term) -> Result<bool, TermFault> {
     )
 }
 
+// The same of a sample that is refused.
+fn is_five_kept_before(alloc: Global, sample: Sample) -> Result<bool, TermFault> {
+    match made(alloc, sample) {
+        Ok(term) => {
+            let mut out = BytesMut::new(alloc);
+            let is_kept = is_five_kept(&mut out, &term);
+            drop(out);
+            drop(term);
+            is_kept
+        }
+        Err(fault) => Err(fault),
+    }
+}
+
 // The buffer keeps what it has where a term is refused.
 #[test]
-fn too_deep_appends_nothing(rt: HostRuntime) -> Result<(), Fail> {
-    let term = made(rt.alloc(), Sample::Deep(64))?;
-    let mut out = BytesMut::new(rt.alloc());
-    let is_kept = is_five_kept(&mut out, &term);
-    drop(term);
-    assert!(rt; is_kept?);
-    Ok(())
+fn too_deep_appends_nothing(rt: HostRuntime) {
+    passes(&rt, is_five_kept_before(rt.alloc(), Sample::Deep(64)));
 }

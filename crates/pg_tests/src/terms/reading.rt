@@ -3,44 +3,45 @@
 use super::decoded;
 use super::samples::{Sample, made};
 use super::writing::spells;
+use crate::samples::{holds, row_passes};
 use pg_term::TermFault;
 use pg_term_io::check_term;
 use std::alloc::Global;
 use std::process::Abort;
 use std::test::*;
 
-// Whether the bytes are read as the term, and found to be one before.
+// Whether the bytes are read as the term.
 fn is_read(alloc: Global, bytes: &[u8], sample: Sample) -> Result<bool, TermFault> {
     match made(alloc, sample) {
         Ok(wanted) => {
             let is_same = spells(alloc, bytes, &wanted);
             drop(wanted);
-            Ok(is_same? && check_term(bytes).is_ok())
+            is_same
         }
         Err(fault) => Err(fault),
     }
 }
 
-// The bytes of each row are read as its term.
-fn check_read(rt: &impl Abort, alloc: Global, rows: &[(&[u8], Sample)]) -> Result<(), Fail> {
-    for (bytes, sample) in rows {
-        assert!(rt; is_read(alloc, bytes, *sample)?, "{bytes:?}");
+// The bytes of each row are read as its term, and found to be one before.
+fn check_read(rt: &impl Abort, alloc: Global, rows: &[(&[u8], Sample)]) {
+    for (row, (bytes, sample)) in rows.iter().enumerate() {
+        holds(rt, check_term(bytes).is_ok(), "the bytes are a term");
+        row_passes(rt, is_read(alloc, bytes, *sample), row);
     }
-    Ok(())
 }
 
 #[test]
-fn integers_and_atoms(rt: HostRuntime) -> Result<(), Fail> {
+fn integers_and_atoms(rt: HostRuntime) {
     const ROWS: &[(&[u8], Sample)] = &[
         (&[131, 97, 255], Sample::Int(255)),
         (&[131, 98, 255, 255, 255, 255], Sample::Int(-1)),
         (&[131, 98, 0, 1, 0, 2], Sample::Int(65_538)),
     ];
-    check_read(&rt, rt.alloc(), ROWS)
+    check_read(&rt, rt.alloc(), ROWS);
 }
 
 #[test]
-fn atoms_of_each_form(rt: HostRuntime) -> Result<(), Fail> {
+fn atoms_of_each_form(rt: HostRuntime) {
     const ROWS: &[(&[u8], Sample)] = &[
         (&[131, 100, 0, 1, 233], Sample::Atom("é")),
         (&[131, 115, 2, 97, 223], Sample::Atom("aß")),
@@ -48,11 +49,11 @@ fn atoms_of_each_form(rt: HostRuntime) -> Result<(), Fail> {
         (&[131, 119, 3, 226, 130, 172], Sample::Atom("€")),
         (&[131, 119, 0], Sample::Atom("")),
     ];
-    check_read(&rt, rt.alloc(), ROWS)
+    check_read(&rt, rt.alloc(), ROWS);
 }
 
 #[test]
-fn lists_and_old_references(rt: HostRuntime) -> Result<(), Fail> {
+fn lists_and_old_references(rt: HostRuntime) {
     const ROWS: &[(&[u8], Sample)] = &[
         (&[131, 107, 0, 2, 1, 2], Sample::Numbers(&[1, 2])),
         (
@@ -66,26 +67,26 @@ fn lists_and_old_references(rt: HostRuntime) -> Result<(), Fail> {
         (&[131, 108, 0, 0, 0, 0, 106], Sample::Numbers(&[])),
         (&[131, 106], Sample::Numbers(&[])),
     ];
-    check_read(&rt, rt.alloc(), ROWS)
+    check_read(&rt, rt.alloc(), ROWS);
 }
 
 #[test]
-fn an_old_reference(rt: HostRuntime) -> Result<(), Fail> {
+fn an_old_reference(rt: HostRuntime) {
     const ROWS: &[(&[u8], Sample)] = &[(
         &[131, 101, 100, 0, 1, 97, 0, 0, 0, 7, 2],
         Sample::Reference(2, &[7]),
     )];
-    check_read(&rt, rt.alloc(), ROWS)
+    check_read(&rt, rt.alloc(), ROWS);
 }
 
 #[test]
-fn a_large_tuple(rt: HostRuntime) -> Result<(), Fail> {
+fn a_large_tuple(rt: HostRuntime) {
     const ROWS: &[(&[u8], Sample)] = &[(&[131, 105, 0, 0, 0, 1, 97, 7], Sample::Tuple(1))];
-    check_read(&rt, rt.alloc(), ROWS)
+    check_read(&rt, rt.alloc(), ROWS);
 }
 
 #[test]
-fn tuples_bigs_and_lists(rt: HostRuntime) -> Result<(), Fail> {
+fn tuples_bigs_and_lists(rt: HostRuntime) {
     const ROWS: &[(&[u8], Sample)] = &[
         (&[131, 110, 1, 0, 5], Sample::Int(5)),
         (&[131, 110, 2, 7, 1, 2], Sample::Int(-513)),
@@ -100,7 +101,7 @@ fn tuples_bigs_and_lists(rt: HostRuntime) -> Result<(), Fail> {
             Sample::Int(i64::MIN),
         ),
     ];
-    check_read(&rt, rt.alloc(), ROWS)
+    check_read(&rt, rt.alloc(), ROWS);
 }
 
 /// Each kind of term that takes memory, in one.
@@ -112,6 +113,7 @@ const EACH_KIND: &[u8] = &[
 
 #[test]
 fn once_more(rt: HostRuntime) {
-    assert!(rt; check_term(EACH_KIND).is_ok());
-    assert!(rt; decoded(rt.alloc(), EACH_KIND).is_ok());
+    holds(&rt, check_term(EACH_KIND).is_ok(), "the bytes are a term");
+    let fault = decoded(rt.alloc(), EACH_KIND).err();
+    holds(&rt, fault.is_none(), "it is read");
 }

@@ -67,17 +67,27 @@ fn deep(alloc: Global, levels: usize) -> Result<Term, TermFault> {
 }
 
 fn long_tuple(alloc: Global, last: &str) -> Result<Term, TermFault> {
-    let mut items = Vec::with_capacity(alloc, 1_525_201)?;
-    for _ in 0..1_525_200 {
-        items.push(Term::Int(i64::MAX))?;
-    }
+    let mut items = repeated(alloc, i64::MAX, 1_525_200)?;
     items.push(atom(alloc, last)?)?;
     Ok(tuple(items))
 }
 
 fn deep_and_long(alloc: Global) -> Result<Term, TermFault> {
-    let long = long_tuple(alloc, "nine_here")?;
-    pair(alloc, long, deep(alloc, 63)?)
+    match long_tuple(alloc, "nine_here") {
+        Ok(long) => with_deep(alloc, long),
+        Err(fault) => Err(fault),
+    }
+}
+
+// A pair of the term and a deep one.
+fn with_deep(alloc: Global, term: Term) -> Result<Term, TermFault> {
+    match deep(alloc, 63) {
+        Ok(deep) => pair(alloc, term, deep),
+        Err(fault) => {
+            drop(term);
+            Err(fault)
+        }
+    }
 }
 
 /// The term.

@@ -1,7 +1,7 @@
 //! Terms as values: their order, their copies, and what is no atom and no reference.
 
 use super::samples::{Sample, made, term_of};
-use crate::samples::{reference, tuple};
+use crate::samples::{holds, passes, reference, row_holds, tuple};
 use pg_term::{Term, TermFault};
 use std::alloc::{AllocError, Global};
 use std::cmp::Ordering;
@@ -9,7 +9,7 @@ use std::process::Abort;
 use std::test::Fail;
 
 /// Terms of every kind, in rising order.
-const RISING: [Sample; 16] = [
+const RISING: &[Sample] = &[
     Sample::Int(1),
     Sample::Atom("a"),
     Sample::Reference(1, &[0]),
@@ -31,7 +31,7 @@ const RISING: [Sample; 16] = [
 fn rising(alloc: Global) -> Result<Vec<Term>, TermFault> {
     let mut terms = Vec::with_capacity(alloc, RISING.len())?;
     for sample in RISING {
-        terms.push(term_of(alloc, sample)?)?;
+        terms.push(term_of(alloc, *sample)?)?;
     }
     Ok(terms)
 }
@@ -44,18 +44,25 @@ fn rising_again(alloc: Global) -> Result<Vec<Term>, TermFault> {
     }
 }
 
-// Two terms stand as their places do, and are equal where these are.
-fn check_order(rt: &impl Abort, x: &Term, y: &Term, wanted: Ordering) {
-    let is_same = wanted == Ordering::Equal;
-    assert_eq!(rt; (x.cmp(y), x.is(y)), (wanted, is_same), "{x:?} and {y:?}");
+// Whether two terms stand as their places do, and are equal where these are.
+fn are_ordered(x: &Term, y: &Term, wanted: Ordering) -> bool {
+    x.cmp(y) == wanted && x.is(y) == (wanted == Ordering::Equal)
+}
+
+// Whether each of the terms stands to one as its place does.
+fn stand_around(terms: &[Term], y: &Term, j: usize) -> bool {
+    for (i, x) in terms.iter().enumerate() {
+        if !are_ordered(x, y, i.cmp(&j)) {
+            return false;
+        }
+    }
+    true
 }
 
 // Each of the terms stands as its place does.
 fn check_rising(rt: &impl Abort, terms: &[Term]) {
-    for (i, x) in terms.iter().enumerate() {
-        for (j, y) in terms.iter().enumerate() {
-            check_order(rt, x, y, i.cmp(&j));
-        }
+    for (j, y) in terms.iter().enumerate() {
+        row_holds(rt, stand_around(terms, y, j), j);
     }
 }
 
@@ -74,13 +81,13 @@ fn copied(alloc: Global, term: &Term) -> Result<Term, AllocError> {
     }
 }
 
-// Whether a copy of the term is equal to it, and how deep the copy is.
-fn copy_of(alloc: Global, term: &Term) -> Result<(bool, u64), AllocError> {
+// Whether a copy of the term is equal to it, and so deep.
+fn is_copied(alloc: Global, term: &Term, depth: u64) -> Result<bool, AllocError> {
     match copied(alloc, term) {
         Ok(copy) => {
-            let told = (copy.is(term), copy.depth());
+            let is_same = copy.is(term) && copy.depth() == depth;
             drop(copy);
-            Ok(told)
+            Ok(is_same)
         }
         Err(error) => Err(error),
     }
@@ -89,9 +96,9 @@ fn copy_of(alloc: Global, term: &Term) -> Result<(bool, u64), AllocError> {
 #[test]
 fn copies(rt: HostRuntime) -> Result<(), Fail> {
     let term = tuple(rising_again(rt.alloc())?);
-    let copy = copy_of(rt.alloc(), &term);
+    let is_copied = is_copied(rt.alloc(), &term, 3);
     drop(term);
-    assert_eq!(rt; copy?, (true, 3), "a copy is equal");
+    passes(&rt, is_copied);
     Ok(())
 }
 
@@ -102,8 +109,10 @@ fn fault_of_atom(alloc: Global, count: u32) -> Option<TermFault> {
 
 #[test]
 fn atoms_of_many_characters(rt: HostRuntime) {
-    assert!(rt; fault_of_atom(rt.alloc(), 255) == None);
-    assert!(rt; fault_of_atom(rt.alloc(), 256) == Some(TermFault::BadAtom));
+    let none = fault_of_atom(rt.alloc(), 255);
+    holds(&rt, none == None, "255 characters");
+    let fault = fault_of_atom(rt.alloc(), 256);
+    holds(&rt, fault == Some(TermFault::BadAtom), "256 characters");
 }
 
 // Whether there is a reference of these words. It is made again where memory was refused.
@@ -114,14 +123,16 @@ fn is_reference(alloc: Global, words: &[u32]) -> bool {
     }
 }
 
+const WORDS: &[(&[u32], bool)] = &[
+    (&[], false),
+    (&[7], true),
+    (&[1, 2, 3], true),
+    (&[1, 2, 3, 4], false),
+];
+
 #[test]
 fn words_of_references(rt: HostRuntime) {
-    for (words, taken) in [
-        (&[][..], false),
-        (&[7][..], true),
-        (&[1, 2, 3][..], true),
-        (&[1, 2, 3, 4][..], false),
-    ] {
-        assert!(rt; is_reference(rt.alloc(), words) == taken, "{words:?}");
+    for (words, taken) in WORDS {
+        assert!(rt; is_reference(rt.alloc(), words) == *taken, "{words:?}");
     }
 }

@@ -2,6 +2,7 @@
 
 use super::samples::{Sample, made};
 use super::{decoded, encoded};
+use crate::samples::{holds, passes, row_passes};
 use bytes::BytesMut;
 use pg_term::{Term, TermFault};
 use pg_term_io::{encode_into, encode_len};
@@ -21,15 +22,31 @@ pub fn spells(alloc: Global, bytes: &[u8], term: &Term) -> Result<bool, TermFaul
     }
 }
 
+// Whether the bytes are so many, begin with these, and are read as the term.
+fn are_its_bytes(
+    alloc: Global,
+    bytes: &[u8],
+    term: &Term,
+    front: &[u8],
+) -> Result<bool, TermFault> {
+    if encode_len(term) == Ok(bytes.len()) && bytes.starts_with(front) {
+        spells(alloc, bytes, term)
+    } else {
+        Ok(false)
+    }
+}
+
 // Whether the term is written as so many bytes, which begin with these, and is read from them again.
 fn term_begins(alloc: Global, term: &Term, len: usize, front: &[u8]) -> Result<bool, TermFault> {
-    let written = encoded(alloc, term)?;
-    Ok(
-        written.len() == len
-            && encode_len(term) == Ok(len)
-            && written.as_slice().starts_with(front)
-            && spells(alloc, written.as_slice(), term)?,
-    )
+    match encoded(alloc, term) {
+        Ok(written) => {
+            let is_long = written.len() == len;
+            let are_its = are_its_bytes(alloc, written.as_slice(), term, front);
+            drop(written);
+            Ok(are_its? && is_long)
+        }
+        Err(fault) => Err(fault),
+    }
 }
 
 fn begins(alloc: Global, sample: Sample, len: usize, front: &[u8]) -> Result<bool, TermFault> {
@@ -44,19 +61,14 @@ fn begins(alloc: Global, sample: Sample, len: usize, front: &[u8]) -> Result<boo
 }
 
 /// The term of each row is written as so many bytes, which begin with these, and is read from them again.
-pub fn check_written(
-    rt: &impl Abort,
-    alloc: Global,
-    rows: &[(Sample, usize, &[u8])],
-) -> Result<(), Fail> {
-    for (sample, len, front) in rows {
-        assert!(rt; begins(alloc, *sample, *len, front)?, "{front:?}");
+pub fn check_written(rt: &impl Abort, alloc: Global, rows: &[(Sample, usize, &[u8])]) {
+    for (row, (sample, len, front)) in rows.iter().enumerate() {
+        row_passes(rt, begins(alloc, *sample, *len, front), row);
     }
-    Ok(())
 }
 
 #[test]
-fn integers(rt: HostRuntime) -> Result<(), Fail> {
+fn integers(rt: HostRuntime) {
     const ROWS: &[(Sample, usize, &[u8])] = &[
         (Sample::Int(0), 3, &[131, 97, 0]),
         (Sample::Int(5), 3, &[131, 97, 5]),
@@ -78,21 +90,21 @@ fn integers(rt: HostRuntime) -> Result<(), Fail> {
             &[131, 110, 8, 1, 0, 0, 0, 0, 0, 0, 0, 128],
         ),
     ];
-    check_written(&rt, rt.alloc(), ROWS)
+    check_written(&rt, rt.alloc(), ROWS);
 }
 
 #[test]
-fn tuples(rt: HostRuntime) -> Result<(), Fail> {
+fn tuples(rt: HostRuntime) {
     const ROWS: &[(Sample, usize, &[u8])] = &[
         (Sample::Tuple(0), 3, &[131, 104, 0]),
         (Sample::Tuple(255), 513, &[131, 104, 255, 97, 7]),
         (Sample::Tuple(256), 518, &[131, 105, 0, 0, 1, 0, 97, 7]),
     ];
-    check_written(&rt, rt.alloc(), ROWS)
+    check_written(&rt, rt.alloc(), ROWS);
 }
 
 #[test]
-fn lists(rt: HostRuntime) -> Result<(), Fail> {
+fn lists(rt: HostRuntime) {
     const ROWS: &[(Sample, usize, &[u8])] = &[
         (Sample::List(0), 2, &[131, 106]),
         (Sample::List(1), 9, &[131, 108, 0, 0, 0, 1, 97, 7, 106]),
@@ -102,20 +114,20 @@ fn lists(rt: HostRuntime) -> Result<(), Fail> {
             &[131, 108, 0, 0, 0, 2, 97, 7, 97, 7, 106],
         ),
     ];
-    check_written(&rt, rt.alloc(), ROWS)
+    check_written(&rt, rt.alloc(), ROWS);
 }
 
 #[test]
-fn atoms(rt: HostRuntime) -> Result<(), Fail> {
+fn atoms(rt: HostRuntime) {
     const ROWS: &[(Sample, usize, &[u8])] = &[
         (Sample::Atom(""), 3, &[131, 119, 0]),
         (Sample::Atom("\u{e9}"), 5, &[131, 119, 2, 195, 169]),
     ];
-    check_written(&rt, rt.alloc(), ROWS)
+    check_written(&rt, rt.alloc(), ROWS);
 }
 
 #[test]
-fn long_atoms(rt: HostRuntime) -> Result<(), Fail> {
+fn long_atoms(rt: HostRuntime) {
     const ROWS: &[(Sample, usize, &[u8])] = &[
         (Sample::LongAtom('a'), 258, &[131, 119, 255, 97]),
         (
@@ -129,11 +141,11 @@ fn long_atoms(rt: HostRuntime) -> Result<(), Fail> {
             &[131, 118, 3, 252, 240],
         ),
     ];
-    check_written(&rt, rt.alloc(), ROWS)
+    check_written(&rt, rt.alloc(), ROWS);
 }
 
 #[test]
-fn pids(rt: HostRuntime) -> Result<(), Fail> {
+fn pids(rt: HostRuntime) {
     const FRONT: &[u8] = &[131, 88, 119, 1, 97, 0, 0, 0, 1, 0, 0, 1, 2];
     const ROWS: &[(Sample, usize, &[u8])] = &[
         (Sample::Pid(258, 3), 17, FRONT),
@@ -147,11 +159,11 @@ fn pids(rt: HostRuntime) -> Result<(), Fail> {
             &[131, 88, 119, 1, 97, 0, 0, 0, 1, 0, 0, 1, 2, 0, 0, 0, 3],
         ),
     ];
-    check_written(&rt, rt.alloc(), ROWS)
+    check_written(&rt, rt.alloc(), ROWS);
 }
 
 #[test]
-fn references(rt: HostRuntime) -> Result<(), Fail> {
+fn references(rt: HostRuntime) {
     const ROWS: &[(Sample, usize, &[u8])] = &[
         (
             Sample::Reference(2, &[7]),
@@ -166,11 +178,11 @@ fn references(rt: HostRuntime) -> Result<(), Fail> {
         ),
         (Sample::Reference(2, &[1, 2, 3]), 23, &[131, 90, 0, 3, 119]),
     ];
-    check_written(&rt, rt.alloc(), ROWS)
+    check_written(&rt, rt.alloc(), ROWS);
 }
 
 #[test]
-fn binaries(rt: HostRuntime) -> Result<(), Fail> {
+fn binaries(rt: HostRuntime) {
     const ROWS: &[(Sample, usize, &[u8])] = &[
         (Sample::Binary(&[]), 6, &[131, 109, 0, 0, 0, 0]),
         (Sample::Binary(&[1, 2]), 8, &[131, 109, 0, 0, 0, 2, 1, 2]),
@@ -180,7 +192,7 @@ fn binaries(rt: HostRuntime) -> Result<(), Fail> {
             &[131, 109, 0, 0, 0, 3, 131, 0, 255],
         ),
     ];
-    check_written(&rt, rt.alloc(), ROWS)
+    check_written(&rt, rt.alloc(), ROWS);
 }
 
 fn is_written_as(alloc: Global, term: &Term, bytes: &[u8]) -> Result<bool, TermFault> {
@@ -202,7 +214,7 @@ fn are_rewritten(alloc: Global, bytes: &[u8], written: &[u8]) -> Result<bool, Te
     }
 }
 
-const WIDE: [(&[u8], &[u8]); 4] = [
+const WIDE: &[(&[u8], &[u8])] = &[
     (
         &[
             131, 88, 119, 1, 97, 0, 0, 0, 1, 0, 0, 0, 0, 255, 255, 255, 255,
@@ -226,30 +238,41 @@ const WIDE: [(&[u8], &[u8]); 4] = [
 ];
 
 #[test]
-fn wide_creations_and_binaries(rt: HostRuntime) -> Result<(), Fail> {
-    for (read, written) in WIDE {
-        assert!(rt; are_rewritten(rt.alloc(), read, written)?);
+fn wide_creations_and_binaries(rt: HostRuntime) {
+    for (row, (read, written)) in WIDE.iter().enumerate() {
+        row_passes(&rt, are_rewritten(rt.alloc(), read, written), row);
     }
-    Ok(())
 }
 
 // Writes a term behind what the buffer has. A refused growth leaves the buffer as it was.
 fn put(rt: &impl Abort, term: &Term, out: &mut BytesMut) -> Result<(), TermFault> {
     let len = out.len();
-    match encode_into(term, out) {
-        Err(TermFault::OutOfMemory) => {
-            assert!(rt; out.len() == len);
-            encode_into(term, out)
-        }
-        other => other,
+    let told = encode_into(term, out);
+    if told != Err(TermFault::OutOfMemory) {
+        return told;
     }
+    holds(rt, out.len() == len, "a refused growth appends nothing");
+    encode_into(term, out)
+}
+
+fn put_number(rt: &impl Abort, number: i64, out: &mut BytesMut) -> Result<(), TermFault> {
+    let term = Term::Int(number);
+    let told = put(rt, &term, out);
+    drop(term);
+    told
+}
+
+// Whether two numbers stand behind each other.
+fn are_appended(rt: &impl Abort, out: &mut BytesMut) -> Result<bool, TermFault> {
+    put_number(rt, 5, out)?;
+    put_number(rt, -1, out)?;
+    Ok(out.as_slice() == [131, 97, 5, 131, 98, 255, 255, 255, 255].as_slice())
 }
 
 #[test]
-fn appends(rt: HostRuntime) -> Result<(), Fail> {
+fn appends(rt: HostRuntime) {
     let mut out = BytesMut::new(rt.alloc());
-    put(&rt, &Term::Int(5), &mut out)?;
-    put(&rt, &Term::Int(-1), &mut out)?;
-    assert!(rt; out.as_slice() == [131, 97, 5, 131, 98, 255, 255, 255, 255].as_slice());
-    Ok(())
+    let are_appended = are_appended(&rt, &mut out);
+    drop(out);
+    passes(&rt, are_appended);
 }
