@@ -161,15 +161,31 @@ impl Reading {
         ensures err { IfErr result (λ fault. fault ≢ OutOfMemory → has_said (draft_of self.old) node.now group members ≡ Err fault) }
         ensures placed { OnOk result (IsPlaced self.new) }
     {
+        match self.declared_place(node) {
+            Ok(place) => give_group(
+                self.alloc,
+                self.starts.as_mut_slice(),
+                place,
+                group,
+                members,
+            ),
+            Err(fault) => {
+                // By a call: their forms are not written out here.
+                drop(group);
+                drop(members);
+                Err(fault)
+            }
+        }
+    }
+
+    /// The place of a node that was declared, where a declaration may stand.
+    fn declared_place(&self, node: &Atom) -> Result<usize, LineFault>
+        requires { IsPlaced self.now }
+        ensures ok { IfOk result (λ place. (length self.now.lines.items ≡ 0) × (place_of node.now self.now.starts.items ≡ Some place)) }
+        ensures err { IfErr result (λ fault. (fault ≢ OutOfMemory) × ((group : Term) → (members : List Pid) → has_said (draft_of self.now) node.now group members ≡ Err fault)) }
+    {
         self.declares()?;
-        let place = self.place(node)?;
-        give_group(
-            self.alloc,
-            self.starts.as_mut_slice(),
-            place,
-            group,
-            members,
-        )
+        self.place(node)
     }
 
     fn add_act(&mut self, number: usize, act: Act) -> Result<(), LineFault>
