@@ -70,6 +70,7 @@ fn whole_term(alloc: Global, bytes: &[u8]) -> Result<Term, TermFault>
         [131, rest @ ..] => {
             let (term, rest) = item(alloc, MAX_DEPTH, 0, rest)?;
             if !rest.is_empty() {
+                drop(term);
                 return Err(TermFault::TrailingBytes);
             }
             Ok(term)

@@ -110,7 +110,6 @@ fn three_words(bytes: &[u8]) -> Result<([u32; 3], &[u8]), TermFault>
     Ok(([first, second, third], rest))
 }
 
-#[tactic(auto, unfolding(crate::specs::Reading::words_at, crate::specs::Reading::items_at))]
 fn reference_words(
     node: Atom,
     creation: u32,
@@ -122,18 +121,50 @@ fn reference_words(
     ensures { Gives (λ x. (x.0, x.1.now)) result (words_at node creation count bytes.now) }
 {
     match count {
-        1 => {
-            let (word, rest) = u32_at(bytes)?;
-            Ok((Reference::new(node, creation, &[word])?, rest))
-        }
-        2 => {
-            let (words, rest) = two_words(bytes)?;
-            Ok((Reference::new(node, creation, &words)?, rest))
-        }
-        3 => {
-            let (words, rest) = three_words(bytes)?;
-            Ok((Reference::new(node, creation, &words)?, rest))
-        }
+        1 => of_one_word(node, creation, bytes),
+        2 => of_two_words(node, creation, bytes),
+        3 => of_three_words(node, creation, bytes),
         _ => unreachable!(),
     }
+}
+
+#[tactic(auto, unfolding(crate::specs::Reading::words_at, crate::specs::Reading::items_at))]
+fn of_one_word(node: Atom, creation: u32, bytes: &[u8]) -> Result<(Reference, &[u8]), TermFault>
+    ensures { Gives (λ x. (x.0, x.1.now)) result (words_at node creation 1 bytes.now) }
+{
+    match u32_at(bytes) {
+        Ok((word, rest)) => Ok((Reference::new(node, creation, &[word])?, rest)),
+        Err(fault) => {
+            drop(node);
+            Err(fault)
+        }
+    }
+}
+
+#[tactic(auto, unfolding(crate::specs::Reading::words_at))]
+fn of_two_words(node: Atom, creation: u32, bytes: &[u8]) -> Result<(Reference, &[u8]), TermFault>
+    ensures { Gives (λ x. (x.0, x.1.now)) result (words_at node creation 2 bytes.now) }
+{
+    let (words, rest) = match two_words(bytes) {
+        Ok(read) => read,
+        Err(fault) => {
+            drop(node);
+            return Err(fault);
+        }
+    };
+    Ok((Reference::new(node, creation, &words)?, rest))
+}
+
+#[tactic(auto, unfolding(crate::specs::Reading::words_at))]
+fn of_three_words(node: Atom, creation: u32, bytes: &[u8]) -> Result<(Reference, &[u8]), TermFault>
+    ensures { Gives (λ x. (x.0, x.1.now)) result (words_at node creation 3 bytes.now) }
+{
+    let (words, rest) = match three_words(bytes) {
+        Ok(read) => read,
+        Err(fault) => {
+            drop(node);
+            return Err(fault);
+        }
+    };
+    Ok((Reference::new(node, creation, &words)?, rest))
 }

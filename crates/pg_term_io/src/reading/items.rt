@@ -1,19 +1,19 @@
 //! Items, and the lists that stand as tails. `room` is how many more levels of terms may nest, and `due` how many items are
 //! still to come behind what is read, each of which takes a byte at least.
 
-ghost use Rattle.std.specs.Prelude.{◌≡◌, ◌++◌, map, IfOk, OnOk};
-ghost use Rattle.std.specs.Int.{w32, cast_signed};
-ghost use Rattle.pg_term.specs.declared.term.Term.TheVariants.{Int};
+ghost use Rattle.std.specs.Prelude.{◌≡◌, ◌++◌, ◌∷◌, [], map, OnOk};
+ghost use Rattle.std.specs.Int.{w8, w32, cast_signed};
+ghost use Rattle.pg_term.specs.declared.term.Term.TheVariants.{Int, Atom, Pid, Ref, Binary};
 ghost use Rattle.pg_term.specs.Fault.{Gives};
 ghost use Rattle.pg_term_io.specs.Numbers.{int_of};
-ghost use Rattle.pg_term_io.specs.Reading.{number_at, as_term, string_at, binary_at, with_front, items_at, item_at, tail_at, readers, list_at, elements_behind, item_behind, leaf_behind};
+ghost use Rattle.pg_term_io.specs.Reading.{byte_at, number_at, big_at, atom_behind, pid_at, old_reference_at, new_reference_at, as_term, string_at, binary_at, with_front, items_at, item_at, tail_at, readers, list_at, elements_behind, item_behind, leaf_behind};
 
 use crate::reading::atoms::atom_behind;
 use crate::reading::identifiers::{
     decode_pid, decode_reference, new_reference_at, old_reference_at, pid_at,
 };
 use crate::reading::numbers::{big_at, some_bytes, u8_at, u16_at, u32_at};
-use pg_term::{Boxed, Fields, Items, Reference, Term, TermFault};
+use pg_term::{Boxed, Fields, Items, Term, TermFault};
 use std::alloc::{AllocError, Global};
 
 fn int_at(bytes: &[u8]) -> Result<(Term, &[u8]), TermFault>
@@ -44,8 +44,17 @@ fn push_bytes(terms: &mut Vec<Term>, bytes: &[u8]) -> Result<(), AllocError>
 {
     terms.reserve_exact(bytes.len())?;
     for byte in bytes {
-        terms.push(Term::Int(i64::from(*byte)))?;
+        push(terms, small(*byte))?;
     }
+    Ok(())
+}
+
+/// One term more.
+#[inline]
+fn push(terms: &mut Vec<Term>, term: Term) -> Result<(), AllocError>
+    ensures items { OnOk result (terms.new.items ≡ terms.old.items ++ term ∷ []) }
+{
+    terms.push(term)?;
     Ok(())
 }
 
@@ -65,13 +74,6 @@ fn binary_at(alloc: Global, bytes: &[u8]) -> Result<(Items<u8>, &[u8]), TermFaul
     let (count, rest) = u32_at(bytes)?;
     let (content, rest) = some_bytes(count as usize, rest)?;
     Ok((Items::from_vec(content.to_vec(alloc)?), rest))
-}
-
-/// A reference as a term.
-fn boxed(alloc: Global, reference: Reference) -> Result<Term, AllocError>
-    ensures { IfOk result (λ term. term ≡ Term.Ref reference) }
-{
-    Ok(Term::Ref(Boxed::new(alloc, reference)?))
 }
 
 /// So many items, at the end of the terms.
@@ -95,28 +97,28 @@ fn items<'a>(
         rest = match rest {
             // A small integer at once, with no call.
             [tag, number, after @ ..] if *tag == 97 && room > 0 => {
-                terms.push(small(*number))?;
+                push(terms, small(*number))?;
                 after
             }
             // A tuple, an atom and a pid in their places, with no move of a whole result.
             [tag, arity, after @ ..] if *tag == 104 && room > 0 => {
                 let (inner, after) = fields(alloc, room - 1, behind, u32::from(*arity), after)?;
-                terms.push(Term::Tuple(Fields::from_vec(inner)))?;
+                push(terms, Term::Tuple(Fields::from_vec(inner)))?;
                 after
             }
             [tag, after @ ..] if *tag == 119 && room > 0 => {
                 let (atom, after) = atom_behind(alloc, 119, after)?;
-                terms.push(Term::Atom(atom))?;
+                push(terms, Term::Atom(atom))?;
                 after
             }
             [tag, after @ ..] if *tag == 88 && room > 0 => {
                 let (pid, after) = decode_pid(alloc, after)?;
-                terms.push(Term::Pid(pid))?;
+                push(terms, Term::Pid(pid))?;
                 after
             }
             _ => {
                 let (term, after) = item(alloc, room, behind, rest)?;
-                terms.push(term)?;
+                push(terms, term)?;
                 after
             }
         };
@@ -277,43 +279,82 @@ fn leaf(alloc: Global, tag: u8, bytes: &[u8]) -> Result<(Term, &[u8]), TermFault
     ensures { Gives (λ x. (x.0, x.1.now)) result (leaf_behind tag bytes.now) }
 {
     match tag {
-        97 => {
-            let (n, rest) = u8_at(bytes)?;
-            Ok((Term::Int(i64::from(n)), rest))
-        }
+        97 => byte_int(bytes),
         98 => int_at(bytes),
-        110 => {
-            let (n, rest) = big_at(bytes)?;
-            Ok((Term::Int(n), rest))
-        }
-        100 | 115 | 118 | 119 => {
-            let (atom, rest) = atom_behind(alloc, tag, bytes)?;
-            Ok((Term::Atom(atom), rest))
-        }
-        103 => {
-            let (pid, rest) = pid_at(alloc, bytes)?;
-            Ok((Term::Pid(pid), rest))
-        }
-        88 => {
-            let (pid, rest) = decode_pid(alloc, bytes)?;
-            Ok((Term::Pid(pid), rest))
-        }
-        101 => {
-            let (reference, rest) = old_reference_at(alloc, bytes)?;
-            Ok((boxed(alloc, reference)?, rest))
-        }
-        114 => {
-            let (reference, rest) = new_reference_at(alloc, bytes)?;
-            Ok((boxed(alloc, reference)?, rest))
-        }
-        90 => {
-            let (reference, rest) = decode_reference(alloc, bytes)?;
-            Ok((boxed(alloc, reference)?, rest))
-        }
-        109 => {
-            let (content, rest) = binary_at(alloc, bytes)?;
-            Ok((Term::Binary(content), rest))
-        }
+        110 => big_int(bytes),
+        100 | 115 | 118 | 119 => atom_term(alloc, tag, bytes),
+        103 => old_pid_term(alloc, bytes),
+        88 => pid_term(alloc, bytes),
+        101 => old_reference_term(alloc, bytes),
+        114 => new_reference_term(alloc, bytes),
+        90 => reference_term(alloc, bytes),
+        109 => binary_term(alloc, bytes),
         _ => Err(TermFault::UnknownTag),
     }
+}
+
+fn byte_int(bytes: &[u8]) -> Result<(Term, &[u8]), TermFault>
+    ensures { Gives (λ x. (x.0, x.1.now)) result (as_term int_of (byte_at bytes.now)) }
+{
+    let (n, rest) = u8_at(bytes)?;
+    Ok((Term::Int(i64::from(n)), rest))
+}
+
+fn big_int(bytes: &[u8]) -> Result<(Term, &[u8]), TermFault>
+    ensures { Gives (λ x. (x.0, x.1.now)) result (as_term Int (big_at bytes.now)) }
+{
+    let (n, rest) = big_at(bytes)?;
+    Ok((Term::Int(n), rest))
+}
+
+fn atom_term(alloc: Global, tag: u8, bytes: &[u8]) -> Result<(Term, &[u8]), TermFault>
+    ensures { Gives (λ x. (x.0, x.1.now)) result (as_term Atom (atom_behind tag bytes.now)) }
+{
+    let (atom, rest) = atom_behind(alloc, tag, bytes)?;
+    Ok((Term::Atom(atom), rest))
+}
+
+/// A pid with a creation of one byte, as a term.
+fn old_pid_term(alloc: Global, bytes: &[u8]) -> Result<(Term, &[u8]), TermFault>
+    ensures { Gives (λ x. (x.0, x.1.now)) result (as_term Pid (pid_at w8 bytes.now)) }
+{
+    let (pid, rest) = pid_at(alloc, bytes)?;
+    Ok((Term::Pid(pid), rest))
+}
+
+fn pid_term(alloc: Global, bytes: &[u8]) -> Result<(Term, &[u8]), TermFault>
+    ensures { Gives (λ x. (x.0, x.1.now)) result (as_term Pid (pid_at w32 bytes.now)) }
+{
+    let (pid, rest) = decode_pid(alloc, bytes)?;
+    Ok((Term::Pid(pid), rest))
+}
+
+/// A reference of one word, as a term.
+fn old_reference_term(alloc: Global, bytes: &[u8]) -> Result<(Term, &[u8]), TermFault>
+    ensures { Gives (λ x. (x.0, x.1.now)) result (as_term Ref (old_reference_at bytes.now)) }
+{
+    let (reference, rest) = old_reference_at(alloc, bytes)?;
+    Ok((Term::Ref(Boxed::new(alloc, reference)?), rest))
+}
+
+/// A reference with a creation of one byte, as a term.
+fn new_reference_term(alloc: Global, bytes: &[u8]) -> Result<(Term, &[u8]), TermFault>
+    ensures { Gives (λ x. (x.0, x.1.now)) result (as_term Ref (new_reference_at w8 bytes.now)) }
+{
+    let (reference, rest) = new_reference_at(alloc, bytes)?;
+    Ok((Term::Ref(Boxed::new(alloc, reference)?), rest))
+}
+
+fn reference_term(alloc: Global, bytes: &[u8]) -> Result<(Term, &[u8]), TermFault>
+    ensures { Gives (λ x. (x.0, x.1.now)) result (as_term Ref (new_reference_at w32 bytes.now)) }
+{
+    let (reference, rest) = decode_reference(alloc, bytes)?;
+    Ok((Term::Ref(Boxed::new(alloc, reference)?), rest))
+}
+
+fn binary_term(alloc: Global, bytes: &[u8]) -> Result<(Term, &[u8]), TermFault>
+    ensures { Gives (λ x. (x.0, x.1.now)) result (as_term Binary (binary_at bytes.now)) }
+{
+    let (content, rest) = binary_at(alloc, bytes)?;
+    Ok((Term::Binary(content), rest))
 }
