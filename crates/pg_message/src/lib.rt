@@ -16,5 +16,5 @@ pub use laws::read_back;
 pub use message::{Message, Request, Said};
 pub use name::{MAX_NAME_DEPTH, MAX_NAME_LEN, check_name};
 pub use packet::{MAX_STAMP, Packet};
-pub use reading::read_packet;
+pub use reading::{is_read_directly, read_packet};
 pub use writing::{MAX_SMALL_LEN, packet_len, write_packet, write_packet_into, write_reply_into};

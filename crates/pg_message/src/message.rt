@@ -1,4 +1,5 @@
 ghost use Rattle.std.specs.Prelude.{◌≡◌, IfOk};
+ghost use Rattle.pg_message.specs.declared.message.Message.TheVariants as messages;
 
 use pg_group::Update;
 use pg_term::{Atom, Items, Pid, Reference, Term};
@@ -25,21 +26,42 @@ impl Message {
     pub fn copy(&self, alloc: Global) -> Result<Message, AllocError>
         ensures { IfOk result (λ message. message ≡ self.now) }
     {
-        Ok(match self {
-            Message::Call(reference, request) => {
-                Message::Call(reference.copy()?, request.copy(alloc)?)
-            }
-            Message::Reply(reference, said) => Message::Reply(reference.copy()?, *said),
-            Message::DelLock(name, reference) => {
-                Message::DelLock(name.copy(alloc)?, reference.copy()?)
-            }
-            Message::Exchange(node, groups) => {
-                let groups = copy_groups(alloc, groups.as_slice())?;
-                Message::Exchange(node.copy()?, Items::from_vec(groups))
-            }
-            Message::Down(pid) => Message::Down(pid.copy()?),
-        })
+        match self {
+            Message::Call(reference, request) => copy_call(alloc, reference, request),
+            Message::Reply(reference, said) => Ok(Message::Reply(reference.copy()?, *said)),
+            Message::DelLock(name, reference) => copy_del_lock(alloc, name, reference),
+            Message::Exchange(node, groups) => copy_exchange(alloc, node, groups.as_slice()),
+            Message::Down(pid) => Ok(Message::Down(pid.copy()?)),
+        }
     }
+}
+
+fn copy_call(alloc: Global, reference: &Reference, request: &Request) -> Result<Message, AllocError>
+    ensures { IfOk result (λ message. message ≡ messages.Call reference.now request.now) }
+{
+    let reference = reference.copy()?;
+    let request = request.copy(alloc)?;
+    Ok(Message::Call(reference, request))
+}
+
+fn copy_del_lock(alloc: Global, name: &Term, reference: &Reference) -> Result<Message, AllocError>
+    ensures { IfOk result (λ message. message ≡ messages.DelLock name.now reference.now) }
+{
+    let reference = reference.copy()?;
+    let name = name.copy(alloc)?;
+    Ok(Message::DelLock(name, reference))
+}
+
+fn copy_exchange(
+    alloc: Global,
+    node: &Atom,
+    groups: &[(Term, Items<Pid>)],
+) -> Result<Message, AllocError>
+    ensures { IfOk result (λ message. message ≡ messages.Exchange node.now groups.now) }
+{
+    let node = node.copy()?;
+    let groups = copy_groups(alloc, groups)?;
+    Ok(Message::Exchange(node, Items::from_vec(groups)))
 }
 
 fn copy_groups(
@@ -50,10 +72,17 @@ fn copy_groups(
 {
     let mut copies = Vec::with_capacity(alloc, groups.len())?;
     for (name, members) in groups {
-        let pids = copy_pids(alloc, members.as_slice())?;
-        copies.push((name.copy(alloc)?, Items::from_vec(pids)))?;
+        copies.push(copy_group(alloc, name, members.as_slice())?)?;
     }
     Ok(copies)
+}
+
+fn copy_group(alloc: Global, name: &Term, members: &[Pid]) -> Result<(Term, Items<Pid>), AllocError>
+    ensures { IfOk result (λ group. group ≡ (name.now, members.now)) }
+{
+    let pids = copy_pids(alloc, members)?;
+    let name = name.copy(alloc)?;
+    Ok((name, Items::from_vec(pids)))
 }
 
 fn copy_pids(alloc: Global, pids: &[Pid]) -> Result<Vec<Pid>, AllocError>

@@ -1,6 +1,6 @@
 //! Terms and bytes to packets.
 
-ghost use Rattle.std.specs.Prelude.{◌≡◌, ◌∷◌, [], length, Some, None, IfOk, Ok, if◌then◌else◌};
+ghost use Rattle.std.specs.Prelude.{◌≡◌, ◌∷◌, [], length, true, Some, None, IfOk, IsOk, Ok, if◌then◌else◌};
 ghost use Rattle.std.specs.Option.{option_and_then};
 ghost use Rattle.pg_term.specs.declared.term.Term.{Term};
 ghost use Rattle.pg_term_io.specs.Spelling.{Spells};
@@ -8,15 +8,13 @@ ghost use Rattle.pg_message.specs.Fault.{Gives};
 ghost use Rattle.pg_message.specs.Members.{IsShort};
 ghost use Rattle.pg_message.specs.Name.{is_name};
 ghost use Rattle.pg_message.specs.Parts.{pid_of};
-ghost use Rattle.pg_message.specs.Reading.{stamp_of, message_of, unreferred, referred, cast_of, freed, exchanged, request_of, request_on, membership_of, said_of, packet_of, packet_spelled, SpellsPacket};
+ghost use Rattle.pg_message.specs.Reading.{stamp_of, message_in, message_of, unreferred, referred, cast_in, cast_of, freed, exchanged, request_in, request_of, request_on, membership_of, said_of, stamped, packet_in, packet_of, packet_spelled, SpellsPacket};
 ghost use Rattle.pg_message.specs.declared.packet.Packet.{Packet};
 
 mod direct;
 mod exchange;
 mod parts;
 mod shape;
-#[cfg(test)]
-mod tests;
 
 use crate::fault::MessageFault;
 use crate::message::{Message, Request, Said};
@@ -24,7 +22,7 @@ use crate::name::is_name;
 use crate::packet::{MAX_STAMP, Packet};
 use crate::reading::direct::{Detour, direct_packet};
 use crate::reading::exchange::groups;
-use crate::reading::parts::{atom, elements, is_word, pid, reference};
+use crate::reading::parts::{atom, elements, is_word, pid, reference, three, two};
 use crate::reading::shape::may_be_packet;
 use pg_group::Update;
 use pg_term::{Reference, Term, TermFault};
@@ -56,6 +54,24 @@ pub fn read_packet(alloc: Global, body: &[u8]) -> Result<Packet, MessageFault>
     whole_packet(alloc, body)
 }
 
+/// Whether a body is read straight off its bytes: `read_packet` makes no detour over the term that it spells. It takes the
+/// time and the memory of reading it so.
+///
+/// Error: `AllocError`.
+pub fn is_read_directly(alloc: Global, body: &[u8]) -> Result<bool, AllocError>
+    // What is read so spells a packet.
+    ensures { result ≡ Ok true → IsOk (packet_spelled body.now) }
+{
+    match direct_packet(alloc, body) {
+        Ok(packet) => {
+            drop(packet);
+            Ok(true)
+        }
+        Err(Detour::OutOfMemory) => Err(AllocError),
+        Err(Detour::OtherForm) => Ok(false),
+    }
+}
+
 // Its clauses are proved of one; those of the call above follow from it.
 fn whole_packet(alloc: Global, body: &[u8]) -> Result<Packet, MessageFault>
     ensures { Gives (λ packet. packet) result (packet_spelled body.now) }
@@ -78,19 +94,46 @@ fn whole_packet(alloc: Global, body: &[u8]) -> Result<Packet, MessageFault>
 fn packet(alloc: Global, term: Term) -> Result<Packet, MessageFault>
     ensures { Gives (λ packet. packet) result (packet_of term) }
 {
-    let Some(mut parts) = elements(term) else {
-        return Err(MessageFault::NotAMessage);
-    };
+    match elements(term) {
+        Some(parts) => packet_in(alloc, parts),
+        None => Err(MessageFault::NotAMessage),
+    }
+}
+
+// {Stamp, Message}
+fn packet_in(alloc: Global, parts: Vec<Term>) -> Result<Packet, MessageFault>
+    ensures { Gives (λ packet. packet) result (packet_in (Some parts.items)) }
+{
     if parts.len() != 2 {
+        drop(parts);
         return Err(MessageFault::NotAMessage);
     }
-    let said = parts.pop().unwrap();
-    let first = parts.pop().unwrap();
-    let Some(message) = message(alloc, said)? else {
+    let (first, said) = two(parts);
+    let stamp = stamp(&first);
+    drop(first);
+    match message(alloc, said) {
+        Ok(message) => stamped(message, stamp),
+        Err(AllocError) => Err(MessageFault::Term(TermFault::OutOfMemory)),
+    }
+}
+
+// What is wrong with the stamp is told only where all else is right.
+fn stamped(
+    message: Option<Message>,
+    stamp: Result<u32, MessageFault>,
+) -> Result<Packet, MessageFault>
+    ensures { Gives (λ packet. packet) result (stamped message stamp) }
+{
+    let Some(message) = message else {
         return Err(MessageFault::NotAMessage);
     };
-    let stamp = stamp(&first)?;
-    Ok(Packet { stamp, message })
+    match stamp {
+        Ok(stamp) => Ok(Packet { stamp, message }),
+        Err(fault) => {
+            drop(message);
+            Err(fault)
+        }
+    }
 }
 
 fn stamp(term: &Term) -> Result<u32, MessageFault>
@@ -109,25 +152,27 @@ fn stamp(term: &Term) -> Result<u32, MessageFault>
 fn message(alloc: Global, term: Term) -> Result<Option<Message>, AllocError>
     ensures { IfOk result (λ message. message ≡ message_of term) }
 {
-    let Some(mut parts) = elements(term) else {
-        return Ok(None);
-    };
+    match elements(term) {
+        Some(parts) => message_in(alloc, parts),
+        None => Ok(None),
+    }
+}
+
+fn message_in(alloc: Global, parts: Vec<Term>) -> Result<Option<Message>, AllocError>
+    ensures { IfOk result (λ message. message ≡ message_in parts.items) }
+{
     match parts.len() {
         2 => {
-            let said = parts.pop().unwrap();
-            let word = parts.pop().unwrap();
-            unreferred(alloc, &word, said)
+            let (word, said) = two(parts);
+            let message = unreferred(alloc, &word, said);
+            drop(word);
+            message
         }
-        3 => {
-            let said = parts.pop().unwrap();
-            let second = parts.pop().unwrap();
-            let word = parts.pop().unwrap();
-            let Some(reference) = reference(second) else {
-                return Ok(None);
-            };
-            Ok(referred(&word, reference, said))
+        3 => Ok(referred_in(parts)),
+        _ => {
+            drop(parts);
+            Ok(None)
         }
-        _ => Ok(None),
     }
 }
 
@@ -144,17 +189,48 @@ fn unreferred(alloc: Global, word: &Term, said: Term) -> Result<Option<Message>,
     }
 }
 
+// {Word, Ref, Said}
+fn referred_in(parts: Vec<Term>) -> Option<Message>
+    requires { length parts.items ≡ 3 }
+    ensures { result ≡ message_in parts.items }
+{
+    let (word, second, said) = three(parts);
+    let message = match reference(second) {
+        Some(reference) => referred(&word, reference, said),
+        None => {
+            drop(said);
+            None
+        }
+    };
+    drop(word);
+    message
+}
+
 // {call, Ref, Request} or {reply, Ref, Said}
 fn referred(word: &Term, reference: Reference, said: Term) -> Option<Message>
     ensures { result ≡ referred word.now reference said }
 {
     if is_word(word, "call") {
-        let request = request(said)?;
-        Some(Message::Call(reference, request))
+        match request(said) {
+            Some(request) => Some(Message::Call(reference, request)),
+            None => {
+                drop(reference);
+                None
+            }
+        }
     } else if is_word(word, "reply") {
-        let said = answer(&said)?;
-        Some(Message::Reply(reference, said))
+        let answer = answer(&said);
+        drop(said);
+        match answer {
+            Some(said) => Some(Message::Reply(reference, said)),
+            None => {
+                drop(reference);
+                None
+            }
+        }
     } else {
+        drop(reference);
+        drop(said);
         None
     }
 }
@@ -162,20 +238,40 @@ fn referred(word: &Term, reference: Reference, said: Term) -> Option<Message>
 fn cast(alloc: Global, term: Term) -> Result<Option<Message>, AllocError>
     ensures { IfOk result (λ message. message ≡ cast_of term) }
 {
-    let Some(mut parts) = elements(term) else {
-        return Ok(None);
-    };
+    match elements(term) {
+        Some(parts) => cast_in(alloc, parts),
+        None => Ok(None),
+    }
+}
+
+fn cast_in(alloc: Global, parts: Vec<Term>) -> Result<Option<Message>, AllocError>
+    ensures { IfOk result (λ message. message ≡ cast_in parts.items) }
+{
     if parts.len() != 3 {
+        drop(parts);
         return Ok(None);
     }
-    let second = parts.pop().unwrap();
-    let first = parts.pop().unwrap();
-    let word = parts.pop().unwrap();
-    if is_word(&word, "del_lock") {
+    let (word, first, second) = three(parts);
+    let message = casting(alloc, &word, first, second);
+    drop(word);
+    message
+}
+
+fn casting(
+    alloc: Global,
+    word: &Term,
+    first: Term,
+    second: Term,
+) -> Result<Option<Message>, AllocError>
+    ensures { IfOk result (λ message. message ≡ cast_in (word.now ∷ first ∷ second ∷ [])) }
+{
+    if is_word(word, "del_lock") {
         Ok(freed(first, second))
-    } else if is_word(&word, "exchange") {
+    } else if is_word(word, "exchange") {
         exchanged(alloc, first, second)
     } else {
+        drop(first);
+        drop(second);
         Ok(None)
     }
 }
@@ -185,10 +281,17 @@ fn freed(name: Term, second: Term) -> Option<Message>
     ensures { result ≡ freed name second }
 {
     if !is_name(&name) {
+        drop(name);
+        drop(second);
         return None;
     }
-    let reference = reference(second)?;
-    Some(Message::DelLock(name, reference))
+    match reference(second) {
+        Some(reference) => Some(Message::DelLock(name, reference)),
+        None => {
+            drop(name);
+            None
+        }
+    }
 }
 
 // {exchange, Node, Groups}
@@ -196,31 +299,45 @@ fn exchanged(alloc: Global, first: Term, second: Term) -> Result<Option<Message>
     ensures { IfOk result (λ message. message ≡ exchanged first second) }
 {
     let Some(node) = atom(first) else {
+        drop(second);
         return Ok(None);
     };
-    let Some(groups) = groups(alloc, second)? else {
-        return Ok(None);
-    };
-    Ok(Some(Message::Exchange(node, groups)))
+    match groups(alloc, second) {
+        Ok(Some(groups)) => Ok(Some(Message::Exchange(node, groups))),
+        Ok(None) => Ok(None),
+        Err(AllocError) => Err(AllocError),
+    }
 }
 
 fn request(term: Term) -> Option<Request>
     ensures { result ≡ request_of term }
 {
-    let mut parts = elements(term)?;
+    match elements(term) {
+        Some(parts) => request_in(parts),
+        None => None,
+    }
+}
+
+fn request_in(parts: Vec<Term>) -> Option<Request>
+    ensures { result ≡ request_in parts.items }
+{
     match parts.len() {
         2 => {
-            let name = parts.pop().unwrap();
-            let word = parts.pop().unwrap();
-            request_on(&word, name)
+            let (word, name) = two(parts);
+            let request = request_on(&word, name);
+            drop(word);
+            request
         }
         3 => {
-            let member = parts.pop().unwrap();
-            let name = parts.pop().unwrap();
-            let word = parts.pop().unwrap();
-            membership(&word, name, member)
+            let (word, name, member) = three(parts);
+            let request = membership(&word, name, member);
+            drop(word);
+            request
         }
-        _ => None,
+        _ => {
+            drop(parts);
+            None
+        }
     }
 }
 
@@ -229,6 +346,7 @@ fn request_on(word: &Term, name: Term) -> Option<Request>
     ensures { result ≡ (if is_name name then request_on word.now name else None) }
 {
     if !is_name(&name) {
+        drop(name);
         None
     } else if is_word(word, "set_lock") {
         Some(Request::SetLock(name))
@@ -237,6 +355,7 @@ fn request_on(word: &Term, name: Term) -> Option<Request>
     } else if is_word(word, "delete") {
         Some(Request::Change(Update::Delete(name)))
     } else {
+        drop(name);
         None
     }
 }
@@ -247,14 +366,21 @@ fn membership(word: &Term, name: Term, member: Term) -> Option<Request>
         then option_and_then (membership_of word.now name) (pid_of member) else None) }
 {
     if !is_name(&name) {
+        drop(name);
+        drop(member);
         return None;
     }
-    let pid = pid(member)?;
+    let Some(pid) = pid(member) else {
+        drop(name);
+        return None;
+    };
     if is_word(word, "join") {
         Some(Request::Change(Update::Join(name, pid)))
     } else if is_word(word, "leave") {
         Some(Request::Change(Update::Leave(name, pid)))
     } else {
+        drop(name);
+        drop(pid);
         None
     }
 }

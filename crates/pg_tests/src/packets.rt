@@ -1,6 +1,7 @@
 //! Tests of packets with what stands beneath them: their bytes, their faults, names, memory that runs out, and what is
 //! refused unbuilt.
 
+mod directly;
 mod exchange_names;
 mod faults;
 mod forms;

@@ -1,6 +1,6 @@
 //! Packets that are spelled as they are written, read straight off their bytes: no tuple and no word is built.
 
-ghost use Rattle.std.specs.Prelude.{◌≡◌, ◌≤◌, ◌++◌, ℕ, pos, true, length, IfOk, Ok};
+ghost use Rattle.std.specs.Prelude.{◌≡◌, ◌≤◌, ◌++◌, ℕ, List, pos, codes, true, length, IfOk, Ok};
 ghost use Rattle.pg_term.specs.RefParts.{RefParts};
 ghost use Rattle.pg_term.specs.declared.term.Term.TheVariants as terms;
 ghost use Rattle.pg_term_io.specs.Reading.{item_at};
@@ -66,6 +66,7 @@ pub(crate) fn direct_packet(alloc: Global, body: &[u8]) -> Result<Packet, Detour
     let (stamp, rest) = stamp_at(rest)?;
     let (message, rest) = message_at(alloc, rest)?;
     if !rest.is_empty() {
+        drop(message);
         return Err(Detour::OtherForm);
     }
     Ok(Packet { stamp, message })
@@ -113,16 +114,25 @@ fn stamp_at(bytes: &[u8]) -> Result<(u32, &[u8]), Detour>
         };
         Ok((u32::from(*stamp), rest))
     } else {
-        let rest = behind(bytes, &[98])?;
-        let Some((digits, rest)) = rest.split_first_chunk::<4>() else {
-            return Err(Detour::OtherForm);
-        };
-        let stamp = u32::from_be_bytes(*digits);
-        if stamp > MAX_STAMP {
-            return Err(Detour::OtherForm);
-        }
-        Ok((stamp, rest))
+        large_stamp_at(bytes)
     }
+}
+
+/// A stamp that is written in four bytes.
+fn large_stamp_at(bytes: &[u8]) -> Result<(u32, &[u8]), Detour>
+    ensures term { (room : ℕ) → IfOk result (λ x.
+        Stands room (terms.Int (pos x.0)) bytes.now x.1.now) }
+    ensures in_time { IfOk result (λ x. x.0 ≤ MAX_STAMP) }
+{
+    let rest = behind(bytes, &[98])?;
+    let Some((digits, rest)) = rest.split_first_chunk::<4>() else {
+        return Err(Detour::OtherForm);
+    };
+    let stamp = u32::from_be_bytes(*digits);
+    if stamp > MAX_STAMP {
+        return Err(Detour::OtherForm);
+    }
+    Ok((stamp, rest))
 }
 
 fn reference_at(alloc: Global, bytes: &[u8]) -> Result<(Reference, &[u8]), Detour>
@@ -144,18 +154,25 @@ fn name_at(alloc: Global, levels: u8, bytes: &[u8]) -> Result<(Term, &[u8]), Det
     ensures term { IfOk result (λ x. item_at levels bytes.now ≡ Ok (x.0, x.1.now)) }
     ensures name { IfOk result (λ x. is_name x.0 ≡ true) }
 {
-    // What takes more bytes than a name as it is written is left unbuilt. An atom never does.
-    if kind_at(bytes) != Some(Kind::Atom) {
-        let behind = skip_item(levels, bytes)?;
-        if bytes.len().saturating_sub(behind.len()) >= MAX_NAME_LEN {
-            return Err(Detour::OtherForm);
-        }
-    }
+    check_name_len(levels, bytes)?;
     let (name, rest) = decode_item(alloc, levels, bytes)?;
     if !is_name(&name) {
+        drop(name);
         return Err(Detour::OtherForm);
     }
     Ok((name, rest))
+}
+
+/// Whether a part takes no more bytes than a name as it is written: what takes more is left unbuilt. An atom never does.
+fn check_name_len(levels: u8, bytes: &[u8]) -> Result<(), Detour> {
+    if kind_at(bytes) == Some(Kind::Atom) {
+        return Ok(());
+    }
+    let behind = skip_item(levels, bytes)?;
+    if bytes.len().saturating_sub(behind.len()) >= MAX_NAME_LEN {
+        return Err(Detour::OtherForm);
+    }
+    Ok(())
 }
 
 fn node_at(alloc: Global, bytes: &[u8]) -> Result<(Atom, &[u8]), Detour>
@@ -185,31 +202,93 @@ fn message_at(alloc: Global, bytes: &[u8]) -> Result<(Message, &[u8]), Detour>
     ensures sayable { IfOk result (λ x. is_sayable x.0 ≡ true) }
 {
     if let Ok(rest) = opened(bytes, 3, "call") {
-        let (reference, rest) = reference_at(alloc, rest)?;
-        let (request, rest) = request_at(alloc, rest)?;
-        Ok((Message::Call(reference, request), rest))
+        call_at(alloc, rest)
     } else if let Ok(rest) = opened(bytes, 3, "reply") {
-        let (reference, rest) = reference_at(alloc, rest)?;
-        let (said, rest) = said_at(rest)?;
-        Ok((Message::Reply(reference, said), rest))
+        reply_at(alloc, rest)
     } else if let Ok(rest) = opened(bytes, 2, "cast") {
-        if let Ok(rest) = opened(rest, 3, "del_lock") {
-            let (name, rest) = name_at(alloc, NAME_LEVELS, rest)?;
-            let (reference, rest) = reference_at(alloc, rest)?;
-            Ok((Message::DelLock(name, reference), rest))
-        } else {
-            let rest = opened(rest, 3, "exchange")?;
-            check_exchange(alloc, rest)?;
-            let (node, rest) = node_at(alloc, rest)?;
-            let (groups, rest) = groups_at(alloc, rest)?;
-            Ok((Message::Exchange(node, groups), rest))
-        }
+        cast_at(alloc, rest)
     } else if let Ok(rest) = opened(bytes, 2, "down") {
-        let (pid, rest) = pid_at(alloc, rest)?;
-        Ok((Message::Down(pid), rest))
+        down_at(alloc, rest)
     } else {
         Err(Detour::OtherForm)
     }
+}
+
+// Ref, Request}
+fn call_at(alloc: Global, bytes: &[u8]) -> Result<(Message, &[u8]), Detour>
+    ensures term { (front : List ℕ) → Opens 3 (codes "call") front bytes.now → IfOk result (λ x.
+        Stands 62 (message_term x.0) front x.1.now) }
+    ensures sayable { IfOk result (λ x. is_sayable x.0 ≡ true) }
+{
+    let (reference, rest) = reference_at(alloc, bytes)?;
+    let (request, rest) = request_at(alloc, rest)?;
+    Ok((Message::Call(reference, request), rest))
+}
+
+// Ref, Said}
+fn reply_at(alloc: Global, bytes: &[u8]) -> Result<(Message, &[u8]), Detour>
+    ensures term { (front : List ℕ) → Opens 3 (codes "reply") front bytes.now → IfOk result (λ x.
+        Stands 62 (message_term x.0) front x.1.now) }
+    ensures sayable { IfOk result (λ x. is_sayable x.0 ≡ true) }
+{
+    let (reference, rest) = reference_at(alloc, bytes)?;
+    let (said, rest) = said_at(rest)?;
+    Ok((Message::Reply(reference, said), rest))
+}
+
+// {del_lock, Name, Ref}} or {exchange, Node, Groups}}
+fn cast_at(alloc: Global, bytes: &[u8]) -> Result<(Message, &[u8]), Detour>
+    ensures term { (front : List ℕ) → Opens 2 (codes "cast") front bytes.now → IfOk result (λ x.
+        Stands 62 (message_term x.0) front x.1.now) }
+    ensures sayable { IfOk result (λ x. is_sayable x.0 ≡ true) }
+{
+    if let Ok(rest) = opened(bytes, 3, "del_lock") {
+        del_lock_at(alloc, rest)
+    } else if let Ok(rest) = opened(bytes, 3, "exchange") {
+        exchange_at(alloc, rest)
+    } else {
+        Err(Detour::OtherForm)
+    }
+}
+
+// Name, Ref}}
+fn del_lock_at(alloc: Global, bytes: &[u8]) -> Result<(Message, &[u8]), Detour>
+    ensures term { (front inner : List ℕ) → Opens 2 (codes "cast") front inner
+        → Opens 3 (codes "del_lock") inner bytes.now → IfOk result (λ x.
+        Stands 62 (message_term x.0) front x.1.now) }
+    ensures sayable { IfOk result (λ x. is_sayable x.0 ≡ true) }
+{
+    let (name, rest) = name_at(alloc, NAME_LEVELS, bytes)?;
+    match reference_at(alloc, rest) {
+        Ok((reference, rest)) => Ok((Message::DelLock(name, reference), rest)),
+        Err(detour) => {
+            drop(name);
+            Err(detour)
+        }
+    }
+}
+
+// Node, Groups}}
+fn exchange_at(alloc: Global, bytes: &[u8]) -> Result<(Message, &[u8]), Detour>
+    ensures term { (front inner : List ℕ) → Opens 2 (codes "cast") front inner
+        → Opens 3 (codes "exchange") inner bytes.now → IfOk result (λ x.
+        Stands 62 (message_term x.0) front x.1.now) }
+    ensures sayable { IfOk result (λ x. is_sayable x.0 ≡ true) }
+{
+    check_exchange(alloc, bytes)?;
+    let (node, rest) = node_at(alloc, bytes)?;
+    let (groups, rest) = groups_at(alloc, rest)?;
+    Ok((Message::Exchange(node, groups), rest))
+}
+
+// Pid}
+fn down_at(alloc: Global, bytes: &[u8]) -> Result<(Message, &[u8]), Detour>
+    ensures term { (front : List ℕ) → Opens 2 (codes "down") front bytes.now → IfOk result (λ x.
+        Stands 62 (message_term x.0) front x.1.now) }
+    ensures sayable { IfOk result (λ x. is_sayable x.0 ≡ true) }
+{
+    let (pid, rest) = pid_at(alloc, bytes)?;
+    Ok((Message::Down(pid), rest))
 }
 
 fn request_at(alloc: Global, bytes: &[u8]) -> Result<(Request, &[u8]), Detour>
@@ -218,25 +297,89 @@ fn request_at(alloc: Global, bytes: &[u8]) -> Result<(Request, &[u8]), Detour>
         is_sayable (messages.Call reference x.0) ≡ true) }
 {
     if let Ok(rest) = opened(bytes, 3, "join") {
-        let (name, rest) = name_at(alloc, NAME_LEVELS, rest)?;
-        let (pid, rest) = pid_at(alloc, rest)?;
-        Ok((Request::Change(Update::Join(name, pid)), rest))
+        join_at(alloc, rest)
     } else if let Ok(rest) = opened(bytes, 3, "leave") {
-        let (name, rest) = name_at(alloc, NAME_LEVELS, rest)?;
-        let (pid, rest) = pid_at(alloc, rest)?;
-        Ok((Request::Change(Update::Leave(name, pid)), rest))
+        leave_at(alloc, rest)
     } else if let Ok(rest) = opened(bytes, 2, "create") {
-        let (name, rest) = name_at(alloc, NAME_LEVELS, rest)?;
-        Ok((Request::Change(Update::Create(name)), rest))
+        create_at(alloc, rest)
     } else if let Ok(rest) = opened(bytes, 2, "delete") {
-        let (name, rest) = name_at(alloc, NAME_LEVELS, rest)?;
-        Ok((Request::Change(Update::Delete(name)), rest))
+        delete_at(alloc, rest)
     } else if let Ok(rest) = opened(bytes, 2, "set_lock") {
-        let (name, rest) = name_at(alloc, NAME_LEVELS, rest)?;
-        Ok((Request::SetLock(name), rest))
+        set_lock_at(alloc, rest)
     } else {
         Err(Detour::OtherForm)
     }
+}
+
+/// A name, and a pid behind it.
+fn named_pid_at(alloc: Global, bytes: &[u8]) -> Result<(Term, Pid, &[u8]), Detour>
+    ensures terms { IfOk result (λ x. (mid : List ℕ)
+        × Stands 60 x.0 bytes.now mid × Stands 60 (terms.Pid x.1) mid x.2.now) }
+    ensures name { IfOk result (λ x. is_name x.0 ≡ true) }
+{
+    let (name, rest) = name_at(alloc, NAME_LEVELS, bytes)?;
+    match pid_at(alloc, rest) {
+        Ok((pid, rest)) => Ok((name, pid, rest)),
+        Err(detour) => {
+            drop(name);
+            Err(detour)
+        }
+    }
+}
+
+// Name, Pid}
+fn join_at(alloc: Global, bytes: &[u8]) -> Result<(Request, &[u8]), Detour>
+    ensures term { (front : List ℕ) → Opens 3 (codes "join") front bytes.now → IfOk result (λ x.
+        Stands 61 (request_term x.0) front x.1.now) }
+    ensures sayable { (reference : RefParts) → IfOk result (λ x.
+        is_sayable (messages.Call reference x.0) ≡ true) }
+{
+    let (name, pid, rest) = named_pid_at(alloc, bytes)?;
+    Ok((Request::Change(Update::Join(name, pid)), rest))
+}
+
+// Name, Pid}
+fn leave_at(alloc: Global, bytes: &[u8]) -> Result<(Request, &[u8]), Detour>
+    ensures term { (front : List ℕ) → Opens 3 (codes "leave") front bytes.now → IfOk result (λ x.
+        Stands 61 (request_term x.0) front x.1.now) }
+    ensures sayable { (reference : RefParts) → IfOk result (λ x.
+        is_sayable (messages.Call reference x.0) ≡ true) }
+{
+    let (name, pid, rest) = named_pid_at(alloc, bytes)?;
+    Ok((Request::Change(Update::Leave(name, pid)), rest))
+}
+
+// Name}
+fn create_at(alloc: Global, bytes: &[u8]) -> Result<(Request, &[u8]), Detour>
+    ensures term { (front : List ℕ) → Opens 2 (codes "create") front bytes.now → IfOk result (λ x.
+        Stands 61 (request_term x.0) front x.1.now) }
+    ensures sayable { (reference : RefParts) → IfOk result (λ x.
+        is_sayable (messages.Call reference x.0) ≡ true) }
+{
+    let (name, rest) = name_at(alloc, NAME_LEVELS, bytes)?;
+    Ok((Request::Change(Update::Create(name)), rest))
+}
+
+// Name}
+fn delete_at(alloc: Global, bytes: &[u8]) -> Result<(Request, &[u8]), Detour>
+    ensures term { (front : List ℕ) → Opens 2 (codes "delete") front bytes.now → IfOk result (λ x.
+        Stands 61 (request_term x.0) front x.1.now) }
+    ensures sayable { (reference : RefParts) → IfOk result (λ x.
+        is_sayable (messages.Call reference x.0) ≡ true) }
+{
+    let (name, rest) = name_at(alloc, NAME_LEVELS, bytes)?;
+    Ok((Request::Change(Update::Delete(name)), rest))
+}
+
+// Name}
+fn set_lock_at(alloc: Global, bytes: &[u8]) -> Result<(Request, &[u8]), Detour>
+    ensures term { (front : List ℕ) → Opens 2 (codes "set_lock") front bytes.now → IfOk result (λ x.
+        Stands 61 (request_term x.0) front x.1.now) }
+    ensures sayable { (reference : RefParts) → IfOk result (λ x.
+        is_sayable (messages.Call reference x.0) ≡ true) }
+{
+    let (name, rest) = name_at(alloc, NAME_LEVELS, bytes)?;
+    Ok((Request::SetLock(name), rest))
 }
 
 fn said_at(bytes: &[u8]) -> Result<(Said, &[u8]), Detour>

@@ -1,13 +1,13 @@
 //! What an exchange tells: groups with their members.
 
 ghost use Rattle.std.specs.Prelude.{◌≡◌, IfOk};
-ghost use Rattle.std.specs.Option.{option_map};
-ghost use Rattle.pg_message.specs.Parts.{pid_of};
-ghost use Rattle.pg_message.specs.Reading.{all_of, group_of, groups_of};
+ghost use Rattle.std.specs.Option.{option_and_then, option_map};
+ghost use Rattle.pg_message.specs.Parts.{items_of, pid_of};
+ghost use Rattle.pg_message.specs.Reading.{all_of, group_in, group_of, groups_of};
 
 use crate::groups::are_told_once;
 use crate::name::is_name;
-use crate::reading::parts::{items, pid};
+use crate::reading::parts::{items, pid, two};
 use pg_term::{Items, Pid, Term};
 use std::alloc::{AllocError, Global};
 
@@ -51,24 +51,49 @@ fn all_groups(
 fn group(alloc: Global, term: Term) -> Result<Option<(Term, Items<Pid>)>, AllocError>
     ensures { IfOk result (λ group. group ≡ group_of term) }
 {
-    let Some(mut parts) = items(term) else {
-        return Ok(None);
-    };
+    match items(term) {
+        Some(parts) => group_in(alloc, parts),
+        None => Ok(None),
+    }
+}
+
+// [Name, Members]
+fn group_in(alloc: Global, parts: Vec<Term>) -> Result<Option<(Term, Items<Pid>)>, AllocError>
+    ensures { IfOk result (λ group. group ≡ group_in parts.items) }
+{
     if parts.len() != 2 {
+        drop(parts);
         return Ok(None);
     }
-    let members = parts.pop().unwrap();
-    let name = parts.pop().unwrap();
+    let (name, second) = two(parts);
     if !is_name(&name) {
+        drop(name);
+        drop(second);
         return Ok(None);
     }
-    let Some(terms) = items(members) else {
+    match members(alloc, second) {
+        Ok(Some(members)) => Ok(Some((name, members))),
+        Ok(None) => {
+            drop(name);
+            Ok(None)
+        }
+        Err(AllocError) => {
+            drop(name);
+            Err(AllocError)
+        }
+    }
+}
+
+fn members(alloc: Global, term: Term) -> Result<Option<Items<Pid>>, AllocError>
+    ensures { IfOk result (λ pids. pids ≡ option_and_then (all_of pid_of) (items_of term)) }
+{
+    let Some(terms) = items(term) else {
         return Ok(None);
     };
     let Some(pids) = all_pids(alloc, terms)? else {
         return Ok(None);
     };
-    Ok(Some((name, Items::from_vec(pids))))
+    Ok(Some(Items::from_vec(pids)))
 }
 
 fn all_pids(alloc: Global, terms: Vec<Term>) -> Result<Option<Vec<Pid>>, AllocError>

@@ -1,6 +1,6 @@
 //! What a term is: the parts that messages are made of, each moved out of its term.
 
-ghost use Rattle.std.specs.Prelude.{◌≡◌};
+ghost use Rattle.std.specs.Prelude.{◌≡◌, ◌∷◌, [], length};
 ghost use Rattle.std.specs.Option.{option_map};
 ghost use Rattle.pg_message.specs.Parts.{elements_of, items_of, is_word, atom_of, reference_of, pid_of};
 
@@ -24,6 +24,31 @@ pub(crate) fn items(term: Term) -> Option<Vec<Term>>
         Term::List(items) => Some(items.into_vec()),
         _ => None,
     }
+}
+
+/// Two parts, in their order.
+pub(crate) fn two(parts: Vec<Term>) -> (Term, Term)
+    requires { length parts.items ≡ 2 }
+    ensures { parts.items ≡ result.0 ∷ result.1 ∷ [] }
+{
+    let mut rest = parts;
+    let second = rest.pop().unwrap();
+    let first = rest.pop().unwrap();
+    drop(rest);
+    (first, second)
+}
+
+/// Three parts, in their order.
+pub(crate) fn three(parts: Vec<Term>) -> (Term, Term, Term)
+    requires { length parts.items ≡ 3 }
+    ensures { parts.items ≡ result.0 ∷ result.1 ∷ result.2 ∷ [] }
+{
+    let mut rest = parts;
+    let third = rest.pop().unwrap();
+    let second = rest.pop().unwrap();
+    let first = rest.pop().unwrap();
+    drop(rest);
+    (first, second, third)
 }
 
 /// Whether a term is the atom of this text.

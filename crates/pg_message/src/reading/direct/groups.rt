@@ -1,11 +1,12 @@
 //! The groups that an exchange tells, read straight off their bytes: no list of terms is built.
 
-ghost use Rattle.std.specs.Prelude.{◌≡◌, ◌<◌, ℕ, suc, List, true, map, IfOk, Ok};
+ghost use Rattle.std.specs.Prelude.{◌≡◌, ◌<◌, ◌∷◌, ℕ, suc, List, true, map, IfOk, Ok};
 ghost use Rattle.std.specs.List.{list_all};
 ghost use Rattle.pg_term.specs.declared.term.Term.{List as Listed};
 ghost use Rattle.pg_term.specs.declared.term.Term.TheVariants as terms;
 ghost use Rattle.pg_term_io.specs.Reading.{items_at, item_at};
 ghost use Rattle.pg_message.specs.Name.{is_name};
+ghost use Rattle.pg_message.specs.Reading.{is_named_once};
 ghost use Rattle.pg_message.specs.Standing.{Stands, Counts};
 ghost use Rattle.pg_message.specs.Writing.{group_term, is_sayable};
 ghost use Rattle.pg_message.specs.declared.message.Message.TheVariants as messages;
@@ -38,11 +39,29 @@ pub(crate) fn groups_at(
     }
     let (count, rest) = count_at(bytes, LEAST_GROUP)?;
     let (groups, end) = all_groups_at(alloc, count, rest)?;
-    let rest = behind(end, &[106])?;
-    if !are_told_once(alloc, groups.as_slice())? {
+    match past_told(alloc, groups.as_slice(), end) {
+        Ok(rest) => Ok((Items::from_vec(groups), rest)),
+        Err(detour) => {
+            drop(groups);
+            Err(detour)
+        }
+    }
+}
+
+/// What follows the end of a list of these groups, none of them named twice.
+fn past_told<'a>(
+    alloc: Global,
+    groups: &[(Term, Items<Pid>)],
+    bytes: &'a [u8],
+) -> Result<&'a [u8], Detour>
+    ensures end { IfOk result (λ rest. bytes.now ≡ 106 ∷ rest.now) }
+    ensures once { IfOk result (λ rest. is_named_once groups.now ≡ true) }
+{
+    let rest = behind(bytes, &[106])?;
+    if !are_told_once(alloc, groups)? {
         return Err(Detour::OtherForm);
     }
-    Ok((Items::from_vec(groups), rest))
+    Ok(rest)
 }
 
 /// How many elements a list has, each of which takes so many bytes at least, and what follows its head. No more than
@@ -89,9 +108,28 @@ fn group_at(alloc: Global, bytes: &[u8]) -> Result<((Term, Items<Pid>), &[u8]), 
 {
     let rest = behind(bytes, &[108, 0, 0, 0, 2])?;
     let (name, rest) = name_at(alloc, GROUP_NAME_LEVELS, rest)?;
-    let (members, end) = members_at(alloc, rest)?;
-    let rest = behind(end, &[106])?;
-    Ok(((name, members), rest))
+    match last_members_at(alloc, rest) {
+        Ok((members, rest)) => Ok(((name, members), rest)),
+        Err(detour) => {
+            drop(name);
+            Err(detour)
+        }
+    }
+}
+
+/// A list of pids, and what follows the end of a list behind it.
+fn last_members_at(alloc: Global, bytes: &[u8]) -> Result<(Items<Pid>, &[u8]), Detour>
+    ensures { IfOk result (λ x. (end : List ℕ)
+        × Stands 58 (Listed (map terms.Pid x.0)) bytes.now end × (end ≡ 106 ∷ x.1.now)) }
+{
+    let (members, end) = members_at(alloc, bytes)?;
+    match behind(end, &[106]) {
+        Ok(rest) => Ok((members, rest)),
+        Err(detour) => {
+            drop(members);
+            Err(detour)
+        }
+    }
 }
 
 /// A list of pids, and what follows.
@@ -104,8 +142,13 @@ fn members_at(alloc: Global, bytes: &[u8]) -> Result<(Items<Pid>, &[u8]), Detour
     }
     let (count, rest) = count_at(bytes, LEAST_PID)?;
     let (pids, end) = all_pids_at(alloc, count, rest)?;
-    let rest = behind(end, &[106])?;
-    Ok((Items::from_vec(pids), rest))
+    match behind(end, &[106]) {
+        Ok(rest) => Ok((Items::from_vec(pids), rest)),
+        Err(detour) => {
+            drop(pids);
+            Err(detour)
+        }
+    }
 }
 
 /// So many pids, one after the other.

@@ -97,7 +97,10 @@ fn past_group(
     };
     match past_members(room, more, behind) {
         Some(rest) => Ok(Some((name, rest))),
-        None => Ok(None),
+        None => {
+            drop(name);
+            Ok(None)
+        }
     }
 }
 

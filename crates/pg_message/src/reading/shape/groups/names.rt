@@ -32,7 +32,7 @@ impl<'a> Name<'a> {
             Some(last) => last.is_below(&self),
             None => true,
         };
-        *last = Some(self);
+        drop(last.replace(self));
         greater
     }
 
@@ -93,6 +93,7 @@ fn built_name(alloc: Global, levels: u8, bytes: &[u8]) -> Result<Option<Term>, A
             if is_name(&name) {
                 Ok(Some(name))
             } else {
+                drop(name);
                 Ok(None)
             }
         }
@@ -167,6 +168,9 @@ fn group_name(alloc: Global, levels: u8, bytes: &[u8]) -> Result<Option<(Term, &
     };
     match past_members(room, more, behind) {
         Some(rest) => Ok(Some((name, rest))),
-        None => Ok(None),
+        None => {
+            drop(name);
+            Ok(None)
+        }
     }
 }

@@ -11,7 +11,8 @@ returns-in-Ok-clause-term c =
     let none : c.from_vec.result ≡ [] = c.from_vec.ensures ∙ c.new.ensures.items in
     subst (λ (groups : Groups). Stands 60 (Listed (map group_term groups)) c.args.bytes.now c.in-Ok.rest.now) (sym none) (nil_stands 60 c.args.bytes.now c.in-Ok.rest.now c.in-Ok.ensures)
 
-pub returns-clause-term : goal.returns-clause-term
-returns-clause-term c =
-    subst (λ (groups : Groups). Stands 60 (Listed (map group_term groups)) c.args.bytes.now c.in_ok-rest.rest.now) (sym c.from_vec-2.ensures)
-    (list_stands 59 (map group_term c.in_ok-groups.groups.items) c.in_ok-count.count c.args.bytes.now c.in_ok-count.rest.now c.in_ok-groups.end.now c.in_ok-rest.rest.now c.in_ok-count.ensures c.in_ok-groups.ensures.terms c.in_ok-rest.ensures)
+pub returns-in-Ok-past_told-clause-term : goal.returns-in-Ok-past_told-clause-term
+returns-in-Ok-past_told-clause-term c =
+    let rest = c.in-Ok-past_told in
+    subst (λ (groups : Groups). Stands 60 (Listed (map group_term groups)) c.args.bytes.now rest.rest.now) (sym c.from_vec-in-Ok-past_told.ensures)
+    (list_stands 59 (map group_term c.in_ok-groups.groups.items) c.in_ok-count.count c.args.bytes.now c.in_ok-count.rest.now c.in_ok-groups.end.now rest.rest.now c.in_ok-count.ensures c.in_ok-groups.ensures.terms rest.ensures.end)

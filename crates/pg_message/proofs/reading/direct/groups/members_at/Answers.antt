@@ -11,7 +11,8 @@ returns-in-Ok c = λ room.
     let none : c.from_vec.result ≡ [] = c.from_vec.ensures ∙ c.new.ensures.items in
     subst (λ (pids : List Pid). Stands (suc room) (Listed (map Process pids)) c.args.bytes.now c.in-Ok.rest.now) (sym none) (nil_stands (suc room) c.args.bytes.now c.in-Ok.rest.now c.in-Ok.ensures)
 
-pub returns : goal.returns
-returns c = λ room.
-    subst (λ (pids : List Pid). Stands (suc room) (Listed (map Process pids)) c.args.bytes.now c.in_ok-rest.rest.now) (sym c.from_vec-2.ensures)
-    (list_stands room (map Process c.in_ok-pids.pids.items) c.in_ok-count.count c.args.bytes.now c.in_ok-count.rest.now c.in_ok-pids.end.now c.in_ok-rest.rest.now c.in_ok-count.ensures (c.in_ok-pids.ensures room) c.in_ok-rest.ensures)
+pub returns-in-Ok-behind : goal.returns-in-Ok-behind
+returns-in-Ok-behind c = λ room.
+    let rest = c.in-Ok-behind in
+    subst (λ (pids : List Pid). Stands (suc room) (Listed (map Process pids)) c.args.bytes.now rest.rest.now) (sym c.from_vec-in-Ok-behind.ensures)
+    (list_stands room (map Process c.in_ok-pids.pids.items) c.in_ok-count.count c.args.bytes.now c.in_ok-count.rest.now c.in_ok-pids.end.now rest.rest.now c.in_ok-count.ensures (c.in_ok-pids.ensures room) rest.ensures)

@@ -27,8 +27,8 @@ returns-in-Some-past_members-clause-group c t rest e =
     let ends = at_some c.in_ok-name.field-0 (c.in-Some.name, c.in-Some.behind) (is_name goes.first ≡ false) (λ x. goes.behind ≡ x.1.now) c.in-Some.is (c.in_ok-name.ensures.name goes.first goes.behind goes.here) in
     c.in-Some-past_members.ensures.group goes.first goes.others rest (subst (λ (bytes : List ℕ). list_from c.in-Item.room c.in-Item.more bytes ≡ Ok (goes.others, rest)) ends goes.after)
 
-pub returns-clause-group : goal.returns-clause-group
-returns-clause-group c t rest e =
+pub returns-in-None-clause-group : goal.returns-in-None-clause-group
+returns-in-None-clause-group c t rest e =
     let list = group_is c.args.levels c.args.bytes.now t rest e (c.if-not-is_list.ensures.yes c.args.levels t rest refl e) in
     let goes = c.in-Item.ensures.next list.elements rest list.read in
     let ends = at_some c.in_ok-name.field-0 (c.in-Some.name, c.in-Some.behind) (is_name goes.first ≡ false) (λ x. goes.behind ≡ x.1.now) c.in-Some.is (c.in_ok-name.ensures.name goes.first goes.behind goes.here) in

@@ -1,25 +1,13 @@
 //! What is spelled as it is written is read straight off its bytes.
 
-use crate::reading::direct::{Detour, direct_packet};
+use super::samples::{APPLIED, CREATE, DEL_LOCK, DOWN, JOIN};
+use pg_message::is_read_directly;
 use std::test::*;
-
-// {0, {call, Ref, {create, g}}}
-const CREATE: &[u8] = &[
-    131, 104, 2, 97, 0, 104, 3, 119, 4, 99, 97, 108, 108, 90, 0, 1, 119, 1, 97, 0, 0, 0, 0, 0, 0,
-    0, 7, 104, 2, 119, 6, 99, 114, 101, 97, 116, 101, 119, 1, 103,
-];
 
 // {0, {call, Ref, {delete, g}}}
 const DELETE: &[u8] = &[
     131, 104, 2, 97, 0, 104, 3, 119, 4, 99, 97, 108, 108, 90, 0, 1, 119, 1, 97, 0, 0, 0, 0, 0, 0,
     0, 7, 104, 2, 119, 6, 100, 101, 108, 101, 116, 101, 119, 1, 103,
-];
-
-// {0, {call, Ref, {join, g, <a.1.0>}}}
-const JOIN: &[u8] = &[
-    131, 104, 2, 97, 0, 104, 3, 119, 4, 99, 97, 108, 108, 90, 0, 1, 119, 1, 97, 0, 0, 0, 0, 0, 0,
-    0, 7, 104, 3, 119, 4, 106, 111, 105, 110, 119, 1, 103, 88, 119, 1, 97, 0, 0, 0, 1, 0, 0, 0, 0,
-    0, 0, 0, 1,
 ];
 
 // {0, {call, Ref, {leave, g, <a.1.0>}}}
@@ -47,18 +35,6 @@ const DENIED: &[u8] = &[
     0, 0, 0, 7, 119, 5, 102, 97, 108, 115, 101,
 ];
 
-// {0, {reply, Ref, ok}}
-const APPLIED: &[u8] = &[
-    131, 104, 2, 97, 0, 104, 3, 119, 5, 114, 101, 112, 108, 121, 90, 0, 1, 119, 1, 97, 0, 0, 0, 0,
-    0, 0, 0, 7, 119, 2, 111, 107,
-];
-
-// {0, {cast, {del_lock, g, Ref}}}
-const DEL_LOCK: &[u8] = &[
-    131, 104, 2, 97, 0, 104, 2, 119, 4, 99, 97, 115, 116, 104, 3, 119, 8, 100, 101, 108, 95, 108,
-    111, 99, 107, 119, 1, 103, 90, 0, 1, 119, 1, 97, 0, 0, 0, 0, 0, 0, 0, 7,
-];
-
 // {0, {cast, {exchange, a, [[g, []], [h, [<a.1.0>, <a.2.0>]]]}}}
 const EXCHANGE: &[u8] = &[
     131, 104, 2, 97, 0, 104, 2, 119, 4, 99, 97, 115, 116, 104, 3, 119, 8, 101, 120, 99, 104, 97,
@@ -67,19 +43,13 @@ const EXCHANGE: &[u8] = &[
     119, 1, 97, 0, 0, 0, 2, 0, 0, 0, 0, 0, 0, 0, 1, 106, 106, 106,
 ];
 
-// {0, {down, <a.1.0>}}
-const DOWN: &[u8] = &[
-    131, 104, 2, 97, 0, 104, 2, 119, 4, 100, 111, 119, 110, 88, 119, 1, 97, 0, 0, 0, 1, 0, 0, 0, 0,
-    0, 0, 0, 1,
-];
-
 #[test]
 fn written_forms_take_no_detour(rt: HostRuntime) -> Result<(), Fail> {
     let bodies = [
         CREATE, DELETE, JOIN, LEAVE, SET_LOCK, GRANTED, DENIED, APPLIED, DEL_LOCK, EXCHANGE, DOWN,
     ];
     for body in bodies {
-        assert!(rt; direct_packet(rt.alloc(), body).is_ok());
+        assert!(rt; is_read_directly(rt.alloc(), body)?);
     }
     Ok(())
 }
@@ -99,8 +69,7 @@ const DOWN_OF_OLD_PID: &[u8] = &[
 #[test]
 fn another_form_takes_one(rt: HostRuntime) -> Result<(), Fail> {
     for body in [DOWN_IN_LARGE_TUPLE, DOWN_OF_OLD_PID] {
-        let read = direct_packet(rt.alloc(), body);
-        assert!(rt; read.err() == Some(Detour::OtherForm));
+        assert!(rt; !is_read_directly(rt.alloc(), body)?);
     }
     Ok(())
 }
