@@ -1,6 +1,6 @@
 //! Answers: that they are copied where there is memory. The test passes wherever an allocation is refused.
 
-use crate::samples::pid;
+use crate::samples::{pid, row_holds, row_passes};
 use pg_step::{Answer, Reply};
 use pg_term::{Items, Pid, Term, TermFault};
 use std::alloc::{AllocError, Global};
@@ -18,10 +18,15 @@ fn answers(alloc: Global) -> Result<Vec<Answer>, TermFault> {
 fn answers_once(alloc: Global) -> Result<Vec<Answer>, TermFault> {
     let mut answers = Vec::new(alloc);
     for number in 0..8 {
-        let reply = reply(alloc, number)?;
-        answers.push(Answer { number, reply })?;
+        put_answer(alloc, &mut answers, number)?;
     }
     Ok(answers)
+}
+
+fn put_answer(alloc: Global, answers: &mut Vec<Answer>, number: u32) -> Result<(), TermFault> {
+    let reply = reply(alloc, number)?;
+    answers.push(Answer { number, reply })?;
+    Ok(())
 }
 
 // The reply of the answer of this number.
@@ -57,36 +62,50 @@ fn names(alloc: Global) -> Result<Vec<Term>, AllocError> {
 #[test]
 fn answers_are_told_apart(rt: HostRuntime) -> Result<(), Fail> {
     let answers = answers(rt.alloc())?;
-    for one in &answers {
-        for other in &answers {
-            is_told_apart(&rt, one, other);
-        }
-    }
+    check_apart(&rt, &answers);
+    drop(answers);
     Ok(())
 }
 
+fn check_apart(rt: &impl Abort, answers: &[Answer]) {
+    for one in answers {
+        for other in answers {
+            row_holds(rt, is_told_apart(one, other), one.number);
+        }
+    }
+}
+
 // Answers are equal where they have one number, and replies with them.
-fn is_told_apart(rt: &impl Abort, one: &Answer, other: &Answer) {
+fn is_told_apart(one: &Answer, other: &Answer) -> bool {
     let same = one.number == other.number;
-    assert!(rt; (one == other) == same);
-    assert!(rt; (one.reply == other.reply) == same);
+    (one == other) == same && (one.reply == other.reply) == same
 }
 
 #[test]
 fn answers_are_copied(rt: HostRuntime) -> Result<(), Fail> {
     let answers = answers(rt.alloc())?;
-    for answer in &answers {
-        is_copied(&rt, rt.alloc(), answer)?;
-    }
+    check_copied(&rt, rt.alloc(), &answers);
+    drop(answers);
     Ok(())
 }
 
-// The copy of an answer is equal, and shows the same.
-fn is_copied(rt: &impl Abort, alloc: Global, answer: &Answer) -> Result<(), AllocError> {
-    let copy = copied(alloc, answer)?;
-    assert!(rt; copy == *answer);
-    assert!(rt; show_alike(alloc, &copy, answer)?);
-    Ok(())
+fn check_copied(rt: &impl Abort, alloc: Global, answers: &[Answer]) {
+    for answer in answers {
+        row_passes(rt, is_copied(alloc, answer), answer.number);
+    }
+}
+
+// Whether the copy of an answer is equal, and shows the same.
+fn is_copied(alloc: Global, answer: &Answer) -> Result<bool, AllocError> {
+    match copied(alloc, answer) {
+        Ok(copy) => {
+            let is_same = copy == *answer;
+            let alike = show_alike(alloc, &copy, answer);
+            drop(copy);
+            Ok(alike? && is_same)
+        }
+        Err(error) => Err(error),
+    }
 }
 
 fn show_alike(alloc: Global, one: &Answer, other: &Answer) -> Result<bool, AllocError> {

@@ -26,13 +26,7 @@ fn opens_of_a(alloc: Global) -> Result<Opens, TermFault> {
     let a = Atom::new(alloc, "a")?;
     let b = Atom::new(alloc, "b")?;
     let c = Atom::new(alloc, "c")?;
-    if a == b {
-        return Err(TermFault::BadAtom);
-    }
-    if a == c {
-        return Err(TermFault::BadAtom);
-    }
-    if b == c {
+    if a == b || a == c || b == c {
         return Err(TermFault::BadAtom);
     }
     opens_of(alloc, a, b, c)
@@ -232,31 +226,40 @@ fn op_at(opens: &Opens, place: usize) -> Option<OpId> {
 #[test]
 fn new_greatest(rt: HostRuntime) -> Result<(), Fail> {
     let mut opens = opens_of_a(rt.alloc())?;
-    let c = Atom::new(rt.alloc(), "c")?;
-    let d = Atom::new(rt.alloc(), "d")?;
-    check_places(&rt, &opens, &c, &d);
-    check_greatest(&rt, &mut opens, &c);
+    let told = check_names(&rt, rt.alloc(), &mut opens);
+    drop(opens);
+    told?;
+    Ok(())
+}
+
+fn check_names(rt: &impl Abort, alloc: Global, opens: &mut Opens) -> Result<(), TermFault> {
+    let c = Atom::new(alloc, "c")?;
+    let d = Atom::new(alloc, "d")?;
+    check_places(rt, opens, &c, &d);
+    check_greatest(rt, opens, &c);
+    drop(c);
+    drop(d);
     Ok(())
 }
 
 fn check_places(rt: &impl Abort, opens: &Opens, c: &Atom, d: &Atom) {
-    assert!(rt; name_is(opens, 2, c));
-    assert!(rt; !name_is(opens, 1, c));
-    assert!(rt; opens.place_of_name(c) == Some(2));
-    assert!(rt; opens.place_of_name(d) == None);
-    assert!(rt; !is_lost(opens, 2));
-    assert!(rt; is_left(opens, 2));
-    assert!(rt; !is_left(opens, 0));
-    assert!(rt; opens.greatest() == 2);
+    check!(rt; name_is(opens, 2, c));
+    check!(rt; !name_is(opens, 1, c));
+    check!(rt; opens.place_of_name(c) == Some(2));
+    check!(rt; opens.place_of_name(d) == None);
+    check!(rt; !is_lost(opens, 2));
+    check!(rt; is_left(opens, 2));
+    check!(rt; !is_left(opens, 0));
+    check!(rt; opens.greatest() == 2);
 }
 
 fn check_greatest(rt: &impl Abort, opens: &mut Opens, c: &Atom) {
-    assert!(rt; lost(opens, 2));
-    assert!(rt; is_lost(opens, 2));
-    assert!(rt; !is_left(opens, 2));
-    assert!(rt; is_left(opens, 1));
-    assert!(rt; opens.place_of_name(c) == Some(2));
-    assert!(rt; opens.greatest() == 1);
+    check!(rt; lost(opens, 2));
+    check!(rt; is_lost(opens, 2));
+    check!(rt; !is_left(opens, 2));
+    check!(rt; is_left(opens, 1));
+    check!(rt; opens.place_of_name(c) == Some(2));
+    check!(rt; opens.greatest() == 1);
 }
 
 // Who is asked: first c alone, then the others, of whom b is lost.
@@ -264,68 +267,77 @@ fn check_greatest(rt: &impl Abort, opens: &mut Opens, c: &Atom) {
 fn asked_place_by_place(rt: HostRuntime) -> Result<(), Fail> {
     let mut opens = opens_of_a(rt.alloc())?;
     check_asked(&rt, rt.alloc(), &mut opens);
+    drop(opens);
     Ok(())
 }
 
 fn check_asked(rt: &impl Abort, alloc: Global, opens: &mut Opens) {
-    assert!(rt; opened(alloc, opens, 1));
-    assert!(rt; started(opens, 1, 2));
-    assert!(rt; is_asked_alone(opens, 1, 2, 2));
-    assert!(rt; !is_asked_alone(opens, 1, 2, 1));
-    assert!(rt; asked_one(opens, 1, 2, true));
-    assert!(rt; !is_asked_with_all(opens, 1, 2));
-    assert!(rt; is_asked_with_all(opens, 1, 1));
-    assert!(rt; is_asked_with_all(opens, 1, 0));
-    assert!(rt; lost(opens, 1));
-    assert!(rt; !is_asked_with_all(opens, 1, 1));
+    check!(rt; opened(alloc, opens, 1));
+    check!(rt; started(opens, 1, 2));
+    check!(rt; is_asked_alone(opens, 1, 2, 2));
+    check!(rt; !is_asked_alone(opens, 1, 2, 1));
+    check!(rt; asked_one(opens, 1, 2, true));
+    check!(rt; !is_asked_with_all(opens, 1, 2));
+    check!(rt; is_asked_with_all(opens, 1, 1));
+    check!(rt; is_asked_with_all(opens, 1, 0));
+    check!(rt; lost(opens, 1));
+    check!(rt; !is_asked_with_all(opens, 1, 1));
 }
 
 // Commands that were opened in another order are the same ones, as long as they stand alike.
 #[test]
 fn same_in_another_order(rt: HostRuntime) -> Result<(), Fail> {
     let mut one = opens_of_a(rt.alloc())?;
-    let mut other = opens_of_a(rt.alloc())?;
-    check_opened(&rt, rt.alloc(), &mut one, &mut other);
-    check_started(&rt, &mut one, &mut other);
-    check_updated(&rt, &mut one, &mut other);
+    let told = check_both(&rt, rt.alloc(), &mut one);
+    drop(one);
+    told?;
+    Ok(())
+}
+
+fn check_both(rt: &impl Abort, alloc: Global, one: &mut Opens) -> Result<(), TermFault> {
+    let mut other = opens_of_a(alloc)?;
+    check_opened(rt, alloc, one, &mut other);
+    check_started(rt, one, &mut other);
+    check_updated(rt, one, &mut other);
+    drop(other);
     Ok(())
 }
 
 // Both open the commands 1 and 2, in another order.
 fn check_opened(rt: &impl Abort, alloc: Global, one: &mut Opens, other: &mut Opens) {
-    assert!(rt; one.same(other));
-    assert!(rt; opened(alloc, one, 1));
-    assert!(rt; !one.same(other));
-    assert!(rt; opened(alloc, one, 2));
-    assert!(rt; opened(alloc, other, 2));
-    assert!(rt; opened(alloc, other, 1));
-    assert!(rt; op_at(one, 0) == Some(op(1)));
-    assert!(rt; op_at(other, 0) == Some(op(2)));
-    assert!(rt; op_at(one, 2) == None);
-    assert!(rt; one.same(other));
+    check!(rt; one.same(other));
+    check!(rt; opened(alloc, one, 1));
+    check!(rt; !one.same(other));
+    check!(rt; opened(alloc, one, 2));
+    check!(rt; opened(alloc, other, 2));
+    check!(rt; opened(alloc, other, 1));
+    check!(rt; op_at(one, 0) == Some(op(1)));
+    check!(rt; op_at(other, 0) == Some(op(2)));
+    check!(rt; op_at(one, 2) == None);
+    check!(rt; one.same(other));
 }
 
 // Both start the command 1.
 fn check_started(rt: &impl Abort, one: &mut Opens, other: &mut Opens) {
-    assert!(rt; started(one, 1, 2));
-    assert!(rt; !one.same(other));
-    assert!(rt; started(other, 1, 2));
-    assert!(rt; one.same(other));
-    assert!(rt; asked_all(one, 1, true));
-    assert!(rt; !other.same(one));
-    assert!(rt; asked_all(other, 1, true));
+    check!(rt; started(one, 1, 2));
+    check!(rt; !one.same(other));
+    check!(rt; started(other, 1, 2));
+    check!(rt; one.same(other));
+    check!(rt; asked_all(one, 1, true));
+    check!(rt; !other.same(one));
+    check!(rt; asked_all(other, 1, true));
 }
 
 // Both begin its update, of which one hears from a node that both lose.
 fn check_updated(rt: &impl Abort, one: &mut Opens, other: &mut Opens) {
-    assert!(rt; began(one, 1));
-    assert!(rt; began(other, 1));
-    assert!(rt; one.same(other));
-    assert!(rt; replied(one, 2, 1));
-    assert!(rt; !one.same(other));
-    assert!(rt; lost(one, 1));
-    assert!(rt; lost(other, 1));
-    assert!(rt; other.same(one));
+    check!(rt; began(one, 1));
+    check!(rt; began(other, 1));
+    check!(rt; one.same(other));
+    check!(rt; replied(one, 2, 1));
+    check!(rt; !one.same(other));
+    check!(rt; lost(one, 1));
+    check!(rt; lost(other, 1));
+    check!(rt; other.same(one));
 }
 
 // c is asked first, then a and b; the update goes out, and the command ends.
@@ -335,42 +347,43 @@ fn gathered_replies(rt: HostRuntime) -> Result<(), Fail> {
     check_first_asked(&rt, rt.alloc(), &mut opens);
     check_granted(&rt, &mut opens);
     check_replied(&rt, &mut opens);
+    drop(opens);
     Ok(())
 }
 
 fn check_first_asked(rt: &impl Abort, alloc: Global, opens: &mut Opens) {
-    assert!(rt; opened(alloc, opens, 1));
-    assert!(rt; opens.open_count() == 1);
-    assert!(rt; opens.waiting_update(op(1)).is_some());
-    assert!(rt; started(opens, 1, 2));
-    assert!(rt; opens.standing(op(1)) == Standing::Asking(1));
-    assert!(rt; asked_one(opens, 1, 2, true));
-    assert!(rt; outlook(opens, 1, true) == Some(Outlook::Wait));
-    assert!(rt; heard(opens, 1, 1) == Some(Taken::Stranger));
+    check!(rt; opened(alloc, opens, 1));
+    check!(rt; opens.open_count() == 1);
+    check!(rt; opens.waiting_update(op(1)).is_some());
+    check!(rt; started(opens, 1, 2));
+    check!(rt; opens.standing(op(1)) == Standing::Asking(1));
+    check!(rt; asked_one(opens, 1, 2, true));
+    check!(rt; outlook(opens, 1, true) == Some(Outlook::Wait));
+    check!(rt; heard(opens, 1, 1) == Some(Taken::Stranger));
 }
 
 fn check_granted(rt: &impl Abort, opens: &mut Opens) {
-    assert!(rt; answered(opens, 1, 2, true));
-    assert!(rt; outlook(opens, 1, true) == Some(Outlook::Ask));
-    assert!(rt; asked_all(opens, 1, true));
-    assert!(rt; heard(opens, 1, 2) == Some(Taken::Stranger));
-    assert!(rt; heard(opens, 1, 1) == Some(Taken::Counted));
-    assert!(rt; answered(opens, 1, 1, true));
-    assert!(rt; heard(opens, 1, 1) == Some(Taken::Double));
-    assert!(rt; outlook(opens, 1, true) == Some(Outlook::Begin));
+    check!(rt; answered(opens, 1, 2, true));
+    check!(rt; outlook(opens, 1, true) == Some(Outlook::Ask));
+    check!(rt; asked_all(opens, 1, true));
+    check!(rt; heard(opens, 1, 2) == Some(Taken::Stranger));
+    check!(rt; heard(opens, 1, 1) == Some(Taken::Counted));
+    check!(rt; answered(opens, 1, 1, true));
+    check!(rt; heard(opens, 1, 1) == Some(Taken::Double));
+    check!(rt; outlook(opens, 1, true) == Some(Outlook::Begin));
 }
 
 fn check_replied(rt: &impl Abort, opens: &mut Opens) {
-    assert!(rt; began(opens, 1));
-    assert!(rt; opens.gathering(2) == Gathering::Update(op(1), 1));
-    assert!(rt; opens.update(2).is_some());
-    assert!(rt; replied(opens, 2, 1));
-    assert!(rt; !opens.is_complete(2));
-    assert!(rt; replied(opens, 2, 2));
-    assert!(rt; opens.is_complete(2));
-    assert!(rt; finished(opens, 2));
-    assert!(rt; opens.standing(op(1)) == Standing::Closed);
-    assert!(rt; opens.open_count() == 0);
+    check!(rt; began(opens, 1));
+    check!(rt; opens.gathering(2) == Gathering::Update(op(1), 1));
+    check!(rt; opens.update(2).is_some());
+    check!(rt; replied(opens, 2, 1));
+    check!(rt; !opens.is_complete(2));
+    check!(rt; replied(opens, 2, 2));
+    check!(rt; opens.is_complete(2));
+    check!(rt; finished(opens, 2));
+    check!(rt; opens.standing(op(1)) == Standing::Closed);
+    check!(rt; opens.open_count() == 0);
 }
 
 // A counted reply that is taken back is counted again.
@@ -379,29 +392,30 @@ fn taken_back_replies(rt: HostRuntime) -> Result<(), Fail> {
     let mut opens = opens_of_a(rt.alloc())?;
     check_answer_taken_back(&rt, rt.alloc(), &mut opens);
     check_ok_taken_back(&rt, &mut opens);
+    drop(opens);
     Ok(())
 }
 
 fn check_answer_taken_back(rt: &impl Abort, alloc: Global, opens: &mut Opens) {
-    assert!(rt; opened(alloc, opens, 1));
-    assert!(rt; started(opens, 1, 2));
-    assert!(rt; asked_one(opens, 1, 2, true));
-    assert!(rt; answered(opens, 1, 2, true));
-    assert!(rt; taken_back(opens, 1, 2));
-    assert!(rt; outlook(opens, 1, true) == Some(Outlook::Wait));
-    assert!(rt; heard(opens, 1, 2) == Some(Taken::Counted));
-    assert!(rt; answered(opens, 1, 2, true));
+    check!(rt; opened(alloc, opens, 1));
+    check!(rt; started(opens, 1, 2));
+    check!(rt; asked_one(opens, 1, 2, true));
+    check!(rt; answered(opens, 1, 2, true));
+    check!(rt; taken_back(opens, 1, 2));
+    check!(rt; outlook(opens, 1, true) == Some(Outlook::Wait));
+    check!(rt; heard(opens, 1, 2) == Some(Taken::Counted));
+    check!(rt; answered(opens, 1, 2, true));
 }
 
 fn check_ok_taken_back(rt: &impl Abort, opens: &mut Opens) {
-    assert!(rt; asked_all(opens, 1, true));
-    assert!(rt; answered(opens, 1, 1, true));
-    assert!(rt; began(opens, 1));
-    assert!(rt; replied(opens, 2, 1));
-    assert!(rt; replied(opens, 2, 2));
-    assert!(rt; taken_back(opens, 2, 1));
-    assert!(rt; !opens.is_complete(2));
-    assert!(rt; heard(opens, 2, 1) == Some(Taken::Counted));
+    check!(rt; asked_all(opens, 1, true));
+    check!(rt; answered(opens, 1, 1, true));
+    check!(rt; began(opens, 1));
+    check!(rt; replied(opens, 2, 1));
+    check!(rt; replied(opens, 2, 2));
+    check!(rt; taken_back(opens, 2, 1));
+    check!(rt; !opens.is_complete(2));
+    check!(rt; heard(opens, 2, 1) == Some(Taken::Counted));
 }
 
 // One denies, and the command waits for its retry.
@@ -409,20 +423,21 @@ fn check_ok_taken_back(rt: &impl Abort, opens: &mut Opens) {
 fn denied(rt: HostRuntime) -> Result<(), Fail> {
     let mut opens = opens_of_a(rt.alloc())?;
     check_denied(&rt, rt.alloc(), &mut opens);
+    drop(opens);
     Ok(())
 }
 
 fn check_denied(rt: &impl Abort, alloc: Global, opens: &mut Opens) {
-    assert!(rt; opened(alloc, opens, 1));
-    assert!(rt; started(opens, 1, 2));
-    assert!(rt; asked_one(opens, 1, 2, true));
-    assert!(rt; answered(opens, 1, 2, false));
-    assert!(rt; outlook(opens, 1, true) == Some(Outlook::GiveUp));
-    assert!(rt; given_up(opens, 1));
-    assert!(rt; opens.waits(op(1)));
-    assert!(rt; opens.gathering(1) == Gathering::Nothing);
-    assert!(rt; started(opens, 1, 2));
-    assert!(rt; opens.standing(op(1)) == Standing::Asking(2));
+    check!(rt; opened(alloc, opens, 1));
+    check!(rt; started(opens, 1, 2));
+    check!(rt; asked_one(opens, 1, 2, true));
+    check!(rt; answered(opens, 1, 2, false));
+    check!(rt; outlook(opens, 1, true) == Some(Outlook::GiveUp));
+    check!(rt; given_up(opens, 1));
+    check!(rt; opens.waits(op(1)));
+    check!(rt; opens.gathering(1) == Gathering::Nothing);
+    check!(rt; started(opens, 1, 2));
+    check!(rt; opens.standing(op(1)) == Standing::Asking(2));
 }
 
 // Who waits for a lost node alone waits for its retry.
@@ -430,16 +445,17 @@ fn check_denied(rt: &impl Abort, alloc: Global, opens: &mut Opens) {
 fn ready_by_loss(rt: HostRuntime) -> Result<(), Fail> {
     let mut opens = opens_of_a(rt.alloc())?;
     check_ready(&rt, rt.alloc(), &mut opens);
+    drop(opens);
     Ok(())
 }
 
 fn check_ready(rt: &impl Abort, alloc: Global, opens: &mut Opens) {
-    assert!(rt; opened(alloc, opens, 1));
-    assert!(rt; started(opens, 1, 2));
-    assert!(rt; asked_one(opens, 1, 2, true));
-    assert!(rt; !opens.waits(op(1)));
-    assert!(rt; lost(opens, 2));
-    assert!(rt; opens.waits(op(1)));
-    assert!(rt; heard(opens, 1, 2) == Some(Taken::Stranger));
-    assert!(rt; outlook(opens, 1, false) == Some(Outlook::Ask));
+    check!(rt; opened(alloc, opens, 1));
+    check!(rt; started(opens, 1, 2));
+    check!(rt; asked_one(opens, 1, 2, true));
+    check!(rt; !opens.waits(op(1)));
+    check!(rt; lost(opens, 2));
+    check!(rt; opens.waits(op(1)));
+    check!(rt; heard(opens, 1, 2) == Some(Taken::Stranger));
+    check!(rt; outlook(opens, 1, false) == Some(Outlook::Ask));
 }

@@ -1,8 +1,8 @@
 //! Updates and ended processes: that calls succeed where there is memory. Each test passes wherever an allocation is refused.
 
-use crate::samples::{copy, pid, pid_of};
+use crate::samples::{copy, holds, passes, pid, pid_of};
 use pg_group::{Ended, Update};
-use pg_term::{Pid, Term};
+use pg_term::{Pid, Term, TermFault};
 use std::alloc::{AllocError, Global};
 use std::process::Abort;
 use std::test::Fail;
@@ -10,28 +10,39 @@ use std::test::Fail;
 mod many;
 
 #[test]
-fn copies_are_equal(rt: HostRuntime) -> Result<(), Fail> {
-    let one = pid(rt.alloc(), 1)?;
-    assert!(rt; is_copied(rt.alloc(), Update::Create(Term::Int(1)))?);
-    assert!(rt; is_copied(rt.alloc(), Update::Delete(Term::Int(2)))?);
-    assert!(rt; join_is_copied(rt.alloc(), &one)?);
-    assert!(rt; is_copied(rt.alloc(), Update::Leave(Term::Int(4), one))?);
-    Ok(())
+fn copies_are_equal(rt: HostRuntime) {
+    passes(&rt, is_copied(rt.alloc(), Update::Create(Term::Int(1))));
+    passes(&rt, is_copied(rt.alloc(), Update::Delete(Term::Int(2))));
+    passes(&rt, join_is_copied(rt.alloc()));
+    passes(&rt, leave_is_copied(rt.alloc()));
 }
 
-fn join_is_copied(alloc: Global, one: &Pid) -> Result<bool, AllocError> {
-    let pid = copy(one)?;
-    is_copied(alloc, Update::Join(Term::Int(3), pid))
+fn join_is_copied(alloc: Global) -> Result<bool, TermFault> {
+    let one = pid(alloc, 1)?;
+    Ok(is_copied(alloc, Update::Join(Term::Int(3), one))?)
+}
+
+fn leave_is_copied(alloc: Global) -> Result<bool, TermFault> {
+    let one = pid(alloc, 1)?;
+    Ok(is_copied(alloc, Update::Leave(Term::Int(4), one))?)
 }
 
 fn is_copied(alloc: Global, update: Update) -> Result<bool, AllocError> {
-    copy_is_alike(alloc, &update)
+    let is_alike = copy_is_alike(alloc, &update);
+    drop(update);
+    is_alike
 }
 
 /// Whether the copy of an update shows the same, and names the same group.
 fn copy_is_alike(alloc: Global, update: &Update) -> Result<bool, AllocError> {
-    let copy = copied(alloc, update)?;
-    are_alike(alloc, &copy, update)
+    match copied(alloc, update) {
+        Ok(copy) => {
+            let alike = are_alike(alloc, &copy, update);
+            drop(copy);
+            alike
+        }
+        Err(error) => Err(error),
+    }
 }
 
 fn are_alike(alloc: Global, one: &Update, other: &Update) -> Result<bool, AllocError> {
@@ -65,43 +76,79 @@ fn shown_once(alloc: Global, update: &Update) -> Result<String, AllocError> {
     format!(in alloc; "{update:?}")
 }
 
+/// Whether the pid of this node with this id has ended.
+fn has(alloc: Global, ended: &Ended, node: &str, id: u32) -> Result<bool, TermFault> {
+    match pid_of(alloc, node, id) {
+        Ok(pid) => {
+            let has = ended.has(&pid);
+            drop(pid);
+            Ok(has)
+        }
+        Err(fault) => Err(fault),
+    }
+}
+
+/// Adds a copy of the pid.
+fn add(ended: &mut Ended, pid: &Pid) -> Result<(), AllocError> {
+    let pid = copy(pid)?;
+    ended.add(pid)
+}
+
 #[test]
 fn one_has_ended(rt: HostRuntime) -> Result<(), Fail> {
     let one = pid(rt.alloc(), 1)?;
-    let mut ended = Ended::new(rt.alloc());
-    end_one(&rt, &mut ended, &one)?;
-    let other = pid(rt.alloc(), 2)?;
-    assert!(rt; !ended.has(&other));
+    let ends_alone = ends_alone(&rt, rt.alloc(), &one);
+    drop(one);
+    passes(&rt, ends_alone);
     Ok(())
+}
+
+// Whether the pid ends, and no other of its node.
+fn ends_alone(rt: &impl Abort, alloc: Global, one: &Pid) -> Result<bool, TermFault> {
+    let mut ended = Ended::new(alloc);
+    let told = end_one(rt, &mut ended, one);
+    let has_other = has(alloc, &ended, "a", 2);
+    drop(ended);
+    told?;
+    Ok(!has_other?)
 }
 
 /// The pid has ended once it is put in. A refused end is none.
 fn end_one(rt: &impl Abort, ended: &mut Ended, one: &Pid) -> Result<(), AllocError> {
-    if ended.add(copy(one)?).is_err() {
-        assert!(rt; !ended.has(one), "a refused end is none");
-        ended.add(copy(one)?)?;
+    if add(ended, one).is_err() {
+        holds(rt, !ended.has(one), "a refused end is none");
+        add(ended, one)?;
     }
-    assert!(rt; ended.has(one));
+    holds(rt, ended.has(one), "the pid has ended");
     Ok(())
 }
 
 #[test]
 fn lost_nodes_have_ended(rt: HostRuntime) -> Result<(), Fail> {
     let one = pid(rt.alloc(), 1)?;
-    let mut ended = Ended::new(rt.alloc());
-    lose_one(&rt, &mut ended, &one)?;
-    let other = pid_of(rt.alloc(), "b", 1)?;
-    assert!(rt; !ended.has(&other));
+    let is_lost_alone = is_lost_alone(&rt, rt.alloc(), &one);
+    drop(one);
+    passes(&rt, is_lost_alone);
     Ok(())
+}
+
+// Whether the node of the pid is lost, and no other.
+fn is_lost_alone(rt: &impl Abort, alloc: Global, one: &Pid) -> Result<bool, TermFault> {
+    let mut ended = Ended::new(alloc);
+    let told = lose_one(rt, &mut ended, one);
+    let has_other = has(alloc, &ended, "b", 1);
+    drop(ended);
+    told?;
+    Ok(!has_other?)
 }
 
 /// The pid has ended once its node is lost. A refused loss is none.
 fn lose_one(rt: &impl Abort, ended: &mut Ended, one: &Pid) -> Result<(), AllocError> {
     if ended.add_node(&one.node).is_err() {
-        assert!(rt; !ended.has(one), "a refused loss is none");
+        holds(rt, !ended.has(one), "a refused loss is none");
         ended.add_node(&one.node)?;
     }
-    assert!(rt; ended.has(one));
+    holds(rt, ended.has(one), "the pid has ended");
     Ok(())
 }
 
@@ -109,19 +156,63 @@ fn lose_one(rt: &impl Abort, ended: &mut Ended, one: &Pid) -> Result<(), AllocEr
 #[test]
 fn same_have_ended(rt: HostRuntime) -> Result<(), Fail> {
     let one = pid(rt.alloc(), 1)?;
-    let two = pid_of(rt.alloc(), "b", 2)?;
-    check_same(&rt, rt.alloc(), &one, &two)?;
+    let told = check_same(&rt, rt.alloc(), &one);
+    drop(one);
+    told?;
     Ok(())
 }
 
-fn check_same(rt: &impl Abort, alloc: Global, one: &Pid, two: &Pid) -> Result<(), AllocError> {
+fn check_same(rt: &impl Abort, alloc: Global, one: &Pid) -> Result<(), TermFault> {
+    let two = pid_of(alloc, "b", 2)?;
+    let told = check_pids(rt, alloc, one, &two);
+    drop(two);
+    Ok(told?)
+}
+
+fn check_pids(rt: &impl Abort, alloc: Global, one: &Pid, two: &Pid) -> Result<(), AllocError> {
     let mut first = Ended::new(alloc);
+    let told = check_ended(rt, alloc, &mut first, one, two);
+    drop(first);
+    told
+}
+
+fn check_ended(
+    rt: &impl Abort,
+    alloc: Global,
+    first: &mut Ended,
+    one: &Pid,
+    two: &Pid,
+) -> Result<(), AllocError> {
     let mut second = Ended::new(alloc);
-    same_alone(rt, &mut first, &mut second, one, two)?;
-    same_lost(rt, &mut first, &mut second, one)?;
-    let third = other_and_lost(alloc, two, one)?;
-    assert!(rt; third.same(&first), "a pid of a lost node counts once");
+    let told = check_two(rt, first, &mut second, one, two);
+    drop(second);
+    told?;
+    let is_same = is_third_same(alloc, first, one, two)?;
+    holds(rt, is_same, "a pid of a lost node counts once");
     Ok(())
+}
+
+fn check_two(
+    rt: &impl Abort,
+    first: &mut Ended,
+    second: &mut Ended,
+    one: &Pid,
+    two: &Pid,
+) -> Result<(), AllocError> {
+    same_alone(rt, first, second, one, two)?;
+    same_lost(rt, first, second, one)
+}
+
+// Whether the ended are a pid, and each of the node of another.
+fn is_third_same(alloc: Global, first: &Ended, one: &Pid, two: &Pid) -> Result<bool, AllocError> {
+    match other_and_lost(alloc, two, one) {
+        Ok(third) => {
+            let is_same = third.same(first);
+            drop(third);
+            Ok(is_same)
+        }
+        Err(error) => Err(error),
+    }
 }
 
 // A pid has ended, and each of the node of another.
@@ -140,14 +231,14 @@ fn same_alone(
     one: &Pid,
     two: &Pid,
 ) -> Result<(), AllocError> {
-    assert!(rt; first.same(second));
+    holds(rt, first.same(second), "none has ended");
     put(first, one)?;
     put(first, two)?;
     put(second, two)?;
-    assert!(rt; !first.same(second), "one is missing");
-    assert!(rt; !second.same(first), "there is one more");
+    holds(rt, !first.same(second), "one is missing");
+    holds(rt, !second.same(first), "there is one more");
     put(second, one)?;
-    assert!(rt; first.same(second), "in another order");
+    holds(rt, first.same(second), "in another order");
     Ok(())
 }
 
@@ -159,20 +250,20 @@ fn same_lost(
     one: &Pid,
 ) -> Result<(), AllocError> {
     if first.add_node(&one.node).is_err() {
-        assert!(rt; first.same(second), "a refused loss is none");
+        holds(rt, first.same(second), "a refused loss is none");
         first.add_node(&one.node)?;
     }
-    assert!(rt; !first.same(second), "the other pids of the node");
+    holds(rt, !first.same(second), "the other pids of the node");
     lose(second, one)?;
-    assert!(rt; second.same(first));
+    holds(rt, second.same(first), "the node is lost to both");
     Ok(())
 }
 
 /// Puts a copy of a pid in, a second time where memory was refused.
 fn put(ended: &mut Ended, pid: &Pid) -> Result<(), AllocError> {
-    match ended.add(copy(pid)?) {
+    match add(ended, pid) {
         Ok(()) => Ok(()),
-        Err(_) => ended.add(copy(pid)?),
+        Err(_) => add(ended, pid),
     }
 }
 

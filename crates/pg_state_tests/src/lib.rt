@@ -2,6 +2,14 @@
 //! open commands and answers.
 #![tactic(auto)]
 
+/// Ends the test where something does not hold, and tells what. A call of a function, which is proved once.
+#[cfg(test)]
+macro_rules! check {
+    ($rt:expr; $holds:expr) => {
+        crate::samples::holds($rt, $holds, stringify!($holds))
+    };
+}
+
 #[cfg(test)]
 mod answers;
 #[cfg(test)]

@@ -1,6 +1,6 @@
 //! The locks of a node, and the rounds of an attempt.
 
-use crate::samples::reference;
+use crate::samples::{holds, reference};
 use pg_lock::{Attempt, LockTable};
 use pg_term::{Reference, Term, TermFault};
 use std::alloc::{AllocError, Global};
@@ -9,32 +9,58 @@ use std::test::Fail;
 
 mod many;
 
-/// Asks a formed node for the lock of the name of this number.
+/// Asks a node for the lock of the name of this number.
+fn ask_node(
+    locks: &mut LockTable,
+    has_formed: bool,
+    number: i64,
+    reference: &Reference,
+) -> Result<bool, AllocError> {
+    let name = Term::Int(number);
+    let told = locks.ask(has_formed, &name, reference);
+    drop(name);
+    told
+}
+
+/// The same of a formed node.
 fn ask(locks: &mut LockTable, number: i64, reference: &Reference) -> Result<bool, AllocError> {
-    locks.ask(true, &Term::Int(number), reference)
+    ask_node(locks, true, number, reference)
 }
 
 fn give_up(locks: &mut LockTable, number: i64, reference: &Reference) {
-    locks.give_up(&Term::Int(number), reference);
+    let name = Term::Int(number);
+    locks.give_up(&name, reference);
+    drop(name);
 }
 
 /// Whether the reference holds the lock of a name.
 fn is_held(locks: &LockTable, number: i64, reference: &Reference) -> bool {
-    locks.holder(&Term::Int(number)) == Some(reference)
+    let name = Term::Int(number);
+    let is_held = locks.holder(&name) == Some(reference);
+    drop(name);
+    is_held
 }
 
 fn is_free(locks: &LockTable, number: i64) -> bool {
-    locks.holder(&Term::Int(number)).is_none()
+    let name = Term::Int(number);
+    let is_free = locks.holder(&name).is_none();
+    drop(name);
+    is_free
 }
 
 /// A node that has not formed grants nothing; then the first to ask for a name holds it, and frees it alone.
 #[test]
 fn one_holder(rt: HostRuntime) -> Result<(), Fail> {
-    let first = reference(rt.alloc(), "a", 1)?;
-    let second = reference(rt.alloc(), "a", 2)?;
-    let mut locks = LockTable::new(rt.alloc());
-    check_asks(&rt, &mut locks, &first, &second)?;
-    check_holder(&rt, &mut locks, &first, &second);
+    let mut tables = empty_tables(rt.alloc())?;
+    let told = check_one(&rt, &mut tables);
+    drop(tables);
+    told?;
+    Ok(())
+}
+
+fn check_one(rt: &impl Abort, tables: &mut Tables) -> Result<(), AllocError> {
+    check_asks(rt, &mut tables.one, &tables.first, &tables.second)?;
+    check_holder(rt, &mut tables.one, &tables.first, &tables.second);
     Ok(())
 }
 
@@ -44,19 +70,19 @@ fn check_asks(
     first: &Reference,
     second: &Reference,
 ) -> Result<(), AllocError> {
-    assert!(rt; !locks.ask(false, &Term::Int(1), first)?);
-    assert!(rt; is_free(locks, 1));
-    assert!(rt; ask(locks, 1, first)?);
-    assert!(rt; !ask(locks, 1, second)?);
-    assert!(rt; ask(locks, 2, second)?);
+    check!(rt; !ask_node(locks, false, 1, first)?);
+    check!(rt; is_free(locks, 1));
+    check!(rt; ask(locks, 1, first)?);
+    check!(rt; !ask(locks, 1, second)?);
+    check!(rt; ask(locks, 2, second)?);
     Ok(())
 }
 
 fn check_holder(rt: &impl Abort, locks: &mut LockTable, first: &Reference, second: &Reference) {
     give_up(locks, 1, second);
-    assert!(rt; is_held(locks, 1, first));
+    check!(rt; is_held(locks, 1, first));
     give_up(locks, 1, first);
-    assert!(rt; is_free(locks, 1));
+    check!(rt; is_free(locks, 1));
 }
 
 /// Two tables, and two references that ask them.
@@ -93,35 +119,44 @@ fn seem_same(tables: &Tables) -> bool {
 #[test]
 fn same_holders(rt: HostRuntime) -> Result<(), Fail> {
     let mut tables = empty_tables(rt.alloc())?;
-    check_same(&rt, &mut tables)?;
+    let told = check_same(&rt, &mut tables);
+    drop(tables);
+    told?;
     Ok(())
 }
 
 fn check_same(rt: &impl Abort, tables: &mut Tables) -> Result<(), AllocError> {
-    assert!(rt; are_same(tables));
-    assert!(rt; ask(&mut tables.one, 1, &tables.first)?);
-    assert!(rt; ask(&mut tables.one, 2, &tables.second)?);
-    assert!(rt; ask(&mut tables.other, 2, &tables.second)?);
-    assert!(rt; !seem_same(tables), "one is missing");
-    assert!(rt; ask(&mut tables.other, 1, &tables.second)?);
-    assert!(rt; !seem_same(tables), "another holds it");
+    check!(rt; are_same(tables));
+    check!(rt; ask(&mut tables.one, 1, &tables.first)?);
+    check!(rt; ask(&mut tables.one, 2, &tables.second)?);
+    check!(rt; ask(&mut tables.other, 2, &tables.second)?);
+    holds(rt, !seem_same(tables), "one is missing");
+    check!(rt; ask(&mut tables.other, 1, &tables.second)?);
+    holds(rt, !seem_same(tables), "another holds it");
     give_up(&mut tables.other, 1, &tables.second);
-    assert!(rt; ask(&mut tables.other, 1, &tables.first)?);
-    assert!(rt; are_same(tables));
+    check!(rt; ask(&mut tables.other, 1, &tables.first)?);
+    check!(rt; are_same(tables));
     Ok(())
 }
 
 #[test]
 fn two_rounds(rt: HostRuntime) {
-    let first = Attempt::new();
-    assert!(rt; first == Attempt::AskingFirst);
-    assert!(rt; first.after_round(false) == Attempt::Waiting);
+    check_rounds(&rt, Attempt::new());
+    check_ends(&rt);
+}
+
+fn check_rounds(rt: &impl Abort, first: Attempt) {
+    check!(rt; first == Attempt::AskingFirst);
+    check!(rt; first.after_round(false) == Attempt::Waiting);
     let rest = first.after_round(true);
-    assert!(rt; rest == Attempt::AskingRest);
-    assert!(rt; rest.after_round(false) == Attempt::Waiting);
-    assert!(rt; rest.after_round(true) == Attempt::Held);
-    assert!(rt; Attempt::Held.after_round(false) == Attempt::Held);
-    assert!(rt; Attempt::Waiting.after_round(true) == Attempt::Waiting);
-    assert!(rt; Attempt::Waiting.retried() == Some(Attempt::AskingFirst));
-    assert!(rt; Attempt::Held.retried() == None);
+    check!(rt; rest == Attempt::AskingRest);
+    check!(rt; rest.after_round(false) == Attempt::Waiting);
+    check!(rt; rest.after_round(true) == Attempt::Held);
+}
+
+fn check_ends(rt: &impl Abort) {
+    check!(rt; Attempt::Held.after_round(false) == Attempt::Held);
+    check!(rt; Attempt::Waiting.after_round(true) == Attempt::Waiting);
+    check!(rt; Attempt::Waiting.retried() == Some(Attempt::AskingFirst));
+    check!(rt; Attempt::Held.retried() == None);
 }

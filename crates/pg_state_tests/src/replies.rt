@@ -50,42 +50,60 @@ fn c_says(asked: &mut Asked, reply: bool) -> Taken {
 #[test]
 fn gather_over_two(rt: HostRuntime) -> Result<(), Fail> {
     let mut asked = asked_b_and_c(rt.alloc())?;
-    let other = reference(rt.alloc(), "a", 2)?;
-    check_two(&rt, &mut asked, &other);
+    let told = check_another(&rt, rt.alloc(), &mut asked);
+    drop(asked);
+    told?;
+    Ok(())
+}
+
+fn check_another(rt: &impl Abort, alloc: Global, asked: &mut Asked) -> Result<(), TermFault> {
+    let other = reference(alloc, "a", 2)?;
+    check_two(rt, asked, &other);
+    drop(other);
     Ok(())
 }
 
 fn check_two(rt: &impl Abort, asked: &mut Asked, other: &Reference) {
-    assert!(rt; b_says(asked, true) == Taken::Counted);
-    assert!(rt; b_says(asked, true) == Taken::Double);
-    assert!(rt; asked.gather.take(&asked.c, other, true) == Taken::Stranger);
-    assert!(rt; !asked.gather.complete());
-    assert!(rt; c_says(asked, false) == Taken::Counted);
-    assert!(rt; asked.gather.complete());
+    check!(rt; b_says(asked, true) == Taken::Counted);
+    check!(rt; b_says(asked, true) == Taken::Double);
+    check!(rt; asked.gather.take(&asked.c, other, true) == Taken::Stranger);
+    check!(rt; !asked.gather.complete());
+    check!(rt; c_says(asked, false) == Taken::Counted);
+    check!(rt; asked.gather.complete());
 }
 
 /// A second reply of a node changes nothing, and neither does that of a node that was not asked.
 #[test]
 fn first_replies_stay(rt: HostRuntime) -> Result<(), Fail> {
     let mut asked = asked_b_and_c(rt.alloc())?;
-    let d = Atom::new(rt.alloc(), "d")?;
-    check_first(&rt, &mut asked, &d);
+    let told = check_stranger(&rt, rt.alloc(), &mut asked);
+    drop(asked);
+    told?;
+    Ok(())
+}
+
+fn check_stranger(rt: &impl Abort, alloc: Global, asked: &mut Asked) -> Result<(), TermFault> {
+    let d = Atom::new(alloc, "d")?;
+    check_first(rt, asked, &d);
+    drop(d);
     Ok(())
 }
 
 fn check_first(rt: &impl Abort, asked: &mut Asked, d: &Atom) {
     b_says(asked, true);
     b_says(asked, false);
-    assert!(rt; asked.gather.take(d, &asked.call, true) == Taken::Stranger);
-    assert!(rt; asked.gather.replies().len() == 2);
-    assert!(rt; asked.gather.replies().get(&asked.b) == Some(&Some(true)));
-    assert!(rt; asked.gather.replies().get(&asked.c) == Some(&None));
+    check!(rt; asked.gather.take(d, &asked.call, true) == Taken::Stranger);
+    check!(rt; asked.gather.replies().len() == 2);
+    check!(rt; asked.gather.replies().get(&asked.b) == Some(&Some(true)));
+    check!(rt; asked.gather.replies().get(&asked.c) == Some(&None));
 }
 
 #[test]
 fn nobody_asked(rt: HostRuntime) -> Result<(), Fail> {
     let gather = gather_of(rt.alloc(), &[])?;
-    assert!(rt; gather.complete());
+    let is_complete = gather.complete();
+    drop(gather);
+    check!(&rt; is_complete);
     Ok(())
 }
 
@@ -94,15 +112,16 @@ fn nobody_asked(rt: HostRuntime) -> Result<(), Fail> {
 fn lost_node_is_forgotten(rt: HostRuntime) -> Result<(), Fail> {
     let mut asked = asked_b_and_c(rt.alloc())?;
     check_lost(&rt, &mut asked);
+    drop(asked);
     Ok(())
 }
 
 fn check_lost(rt: &impl Abort, asked: &mut Asked) {
     b_says(asked, true);
     asked.gather.forget(&asked.c);
-    assert!(rt; asked.gather.complete());
-    assert!(rt; c_says(asked, true) == Taken::Stranger);
+    check!(rt; asked.gather.complete());
+    check!(rt; c_says(asked, true) == Taken::Stranger);
     asked.gather.forget(&asked.b);
     asked.gather.forget(&asked.b);
-    assert!(rt; asked.gather.replies().len() == 0);
+    check!(rt; asked.gather.replies().len() == 0);
 }

@@ -1,7 +1,36 @@
-//! Small values that tests are made of. Where memory is refused once, each of `atom`, `pid` and `copy` is made all the same.
+//! Small values that tests are made of, and how a test ends that finds another. Where memory is refused once, each of `atom`,
+//! `pid` and `copy` is made all the same.
 
 use pg_term::{Atom, Pid, Reference, TermFault};
 use std::alloc::{AllocError, Global};
+use std::fmt::Debug;
+use std::process::Abort;
+
+/// Ends the test where something does not hold, and tells of it.
+pub fn holds(rt: &impl Abort, holds: bool, said: &str) {
+    assert!(rt; holds, "{said}");
+}
+
+/// Ends the test where a row of a table does not hold.
+pub fn row_holds(rt: &impl Abort, holds: bool, row: u32) {
+    assert!(rt; holds, "at {row}");
+}
+
+/// The same, or where there was a fault.
+pub fn row_passes<E: Debug + Drop>(rt: &impl Abort, told: Result<bool, E>, row: u32) {
+    match told {
+        Ok(holds) => assert!(rt; holds, "at {row}"),
+        Err(fault) => panic!(rt; "at {row}: {fault:?}"),
+    }
+}
+
+/// Ends the test where what it is about does not hold, or there was a fault.
+pub fn passes<E: Debug + Drop>(rt: &impl Abort, told: Result<bool, E>) {
+    match told {
+        Ok(holds) => assert!(rt; holds),
+        Err(fault) => panic!(rt; "{fault:?}"),
+    }
+}
 
 /// The name of a node, made a second time where memory was refused.
 pub fn atom(alloc: Global, name: &str) -> Result<Atom, TermFault> {
@@ -19,7 +48,8 @@ pub fn pid_of(alloc: Global, node: &str, id: u32) -> Result<Pid, TermFault> {
     }
 }
 
-fn pid_at(node: Atom, id: u32) -> Pid {
+/// The pid of this node with this id.
+pub fn pid_at(node: Atom, id: u32) -> Pid {
     Pid {
         node,
         serial: 0,

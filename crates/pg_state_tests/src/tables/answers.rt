@@ -20,13 +20,40 @@ pub fn answers_as<T: GroupTable>(
             return Ok(false);
         }
     }
-    let names = table.groups()?;
-    for name in &names {
+    has_groups(table, reading.group_count())
+}
+
+/// Whether a table names so many groups, and has each of them.
+fn has_groups<T: GroupTable>(table: &T, count: usize) -> Result<bool, AllocError> {
+    match table.groups() {
+        Ok(names) => {
+            let has_groups = names.len() == count && has_all(table, &names);
+            drop(names);
+            Ok(has_groups)
+        }
+        Err(error) => Err(error),
+    }
+}
+
+fn has_all<T: GroupTable>(table: &T, names: &[Term]) -> bool {
+    for name in names {
         if !table.has(name) {
-            return Ok(false);
+            return false;
         }
     }
-    Ok(names.len() == reading.group_count())
+    true
+}
+
+/// How many groups a table names.
+pub fn group_count<T: GroupTable>(table: &T) -> Result<usize, AllocError> {
+    match table.groups() {
+        Ok(names) => {
+            let count = names.len();
+            drop(names);
+            Ok(count)
+        }
+        Err(error) => Err(error),
+    }
 }
 
 fn answers_of_group<T: GroupTable>(
@@ -38,7 +65,11 @@ fn answers_of_group<T: GroupTable>(
 ) -> Result<bool, AllocError> {
     let name = cast.name(side);
     match members(alloc, table, name) {
-        Ok(listed) => Ok(answers_there(table, cast, name, reading.group(side), &listed)),
+        Ok(listed) => {
+            let told = answers_there(table, cast, name, reading.group(side), &listed);
+            drop(listed);
+            Ok(told)
+        }
         Err(QueryFault::NoSuchGroup) => Ok(
             reading.group(side).is_none() && answers_nothing(table, cast, name),
         ),

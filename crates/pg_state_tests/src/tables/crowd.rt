@@ -40,7 +40,7 @@ fn at<V>(values: &Vec<V>, seed: u64) -> Option<&V> {
     values.get(usize::try_from(seed % len).unwrap_or(0))
 }
 
-const NODES: [&str; 3] = ["a", "b@host", "c"];
+const NODES: &[&str] = &["a", "b@host", "c"];
 
 fn five_names(alloc: Global) -> Result<Vec<Term>, AllocError> {
     let mut names = Vec::new(alloc);
@@ -61,11 +61,21 @@ fn three_nodes(alloc: Global) -> Result<Vec<Atom>, TermFault> {
 fn pids_of_three(alloc: Global, pids_of_node: u32) -> Result<Vec<Pid>, TermFault> {
     let mut pids = Vec::new(alloc);
     for node in NODES {
-        for id in 0..pids_of_node {
-            pids.push(pid_at(Atom::new(alloc, node)?, id))?;
-        }
+        put_pids(alloc, &mut pids, node, pids_of_node)?;
     }
     Ok(pids)
+}
+
+fn put_pids(
+    alloc: Global,
+    pids: &mut Vec<Pid>,
+    node: &str,
+    pids_of_node: u32,
+) -> Result<(), TermFault> {
+    for id in 0..pids_of_node {
+        pids.push(pid_at(Atom::new(alloc, node)?, id))?;
+    }
+    Ok(())
 }
 
 fn pid_at(node: Atom, id: u32) -> Pid {

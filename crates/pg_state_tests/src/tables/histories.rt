@@ -12,8 +12,15 @@ pub fn agrees_in_all_histories<T: GroupTable + Drop>(
     alloc: Global,
     empty: &T,
 ) -> Result<bool, TermFault> {
-    let cast = Cast::new(alloc)?;
-    Ok(agrees_alive(alloc, empty, &cast)? && agrees_ended(alloc, empty, &cast)?)
+    match Cast::new(alloc) {
+        Ok(cast) => {
+            let alive = agrees_alive(alloc, empty, &cast);
+            let ended = agrees_ended(alloc, empty, &cast);
+            drop(cast);
+            Ok(alive? && ended?)
+        }
+        Err(fault) => Err(fault),
+    }
 }
 
 /// The same where no process has ended.
@@ -24,10 +31,10 @@ fn agrees_alive<T: GroupTable + Drop>(
 ) -> Result<bool, AllocError> {
     let ended = Ended::new(alloc);
     let reading = Reading::new(false);
-    Ok(
-        walk(alloc, &UPDATES, empty, cast, reading, &ended, 5)?
-            && walk(alloc, &MIXED, empty, cast, reading, &ended, 4)?,
-    )
+    let updates = walk(alloc, &UPDATES, empty, cast, reading, &ended, 5);
+    let mixed = walk(alloc, &MIXED, empty, cast, reading, &ended, 4);
+    drop(ended);
+    Ok(updates? && mixed?)
 }
 
 /// The same for histories of up to four calls, where the process of the first pid has ended.
@@ -36,13 +43,15 @@ fn agrees_ended<T: GroupTable + Drop>(
     empty: &T,
     cast: &Cast,
 ) -> Result<bool, AllocError> {
+    let pid = cast.pid(Side::First).copy()?;
     let mut ended = Ended::new(alloc);
-    ended.add(cast.pid(Side::First).copy()?)?;
+    let added = ended.add(pid);
     let reading = Reading::new(true);
-    Ok(
-        walk(alloc, &UPDATES, empty, cast, reading, &ended, 4)?
-            && walk(alloc, &MIXED, empty, cast, reading, &ended, 4)?,
-    )
+    let updates = walk(alloc, &UPDATES, empty, cast, reading, &ended, 4);
+    let mixed = walk(alloc, &MIXED, empty, cast, reading, &ended, 4);
+    drop(ended);
+    added?;
+    Ok(updates? && mixed?)
 }
 
 /// Whether the table agrees, and after each way to go on by at most `left` steps.

@@ -1,4 +1,4 @@
-use crate::tables::answers::size;
+use crate::tables::answers::{group_count, size};
 use crate::tables::pair::{Cast, Side};
 use crate::tables::step::put;
 use pg_group::{Ended, GroupTable, Scope, Update};
@@ -8,7 +8,10 @@ use std::alloc::{AllocError, Global};
 
 /// How often the pid is in the group of this number.
 fn count<T: GroupTable>(table: &T, number: i64, pid: &Pid) -> u64 {
-    table.count(&Term::Int(number), pid)
+    let name = Term::Int(number);
+    let count = table.count(&name, pid);
+    drop(name);
+    count
 }
 
 /// The pid joins the group, where it is in it less than twice.
@@ -28,7 +31,10 @@ fn joins<T: GroupTable>(
 
 /// A group is made.
 fn make<T: GroupTable>(table: &mut T, number: i64, ended: &Ended) -> Result<(), AllocError> {
-    table.merge(&Term::Int(number), &[], ended)
+    let name = Term::Int(number);
+    let made = table.merge(&name, &[], ended);
+    drop(name);
+    made
 }
 
 /// A group is made, and the pid joins it twice.
@@ -61,8 +67,18 @@ fn joins_each_twice<T: GroupTable>(
 /// Whether the group is there, and has no member.
 fn is_empty<T: GroupTable>(alloc: Global, table: &T, number: i64) -> Result<bool, AllocError> {
     let name = Term::Int(number);
-    match members(alloc, table, &name) {
-        Ok(listed) => Ok(size(table, &name, &listed, Scope::All) == Some(0)),
+    let is_empty = has_none(alloc, table, &name);
+    drop(name);
+    is_empty
+}
+
+fn has_none<T: GroupTable>(alloc: Global, table: &T, name: &Term) -> Result<bool, AllocError> {
+    match members(alloc, table, name) {
+        Ok(listed) => {
+            let size = size(table, name, &listed, Scope::All);
+            drop(listed);
+            Ok(size == Some(0))
+        }
         Err(QueryFault::OutOfMemory) => Err(AllocError),
         Err(QueryFault::NoSuchGroup) | Err(QueryFault::NoMember) => Ok(false),
     }
@@ -75,7 +91,7 @@ fn are_empty<T: GroupTable>(alloc: Global, table: &T) -> Result<bool, AllocError
             return Ok(false);
         }
     }
-    Ok(table.groups()?.len() == 300)
+    Ok(group_count(table)? == 300)
 }
 
 /// Whether an empty table keeps 300 groups, of size 0, when the pid is dropped that joined each of them twice.
@@ -83,12 +99,24 @@ pub fn keeps_groups_of_dropped_pid<T: GroupTable>(
     alloc: Global,
     table: &mut T,
 ) -> Result<bool, TermFault> {
-    let cast = Cast::new(alloc)?;
-    let ended = Ended::new(alloc);
-    let pid = cast.pid(Side::First);
-    if !joins_each_twice(table, pid, &ended)? {
-        return Ok(false);
+    match Cast::new(alloc) {
+        Ok(cast) => {
+            let told = are_kept_without(alloc, table, cast.pid(Side::First));
+            drop(cast);
+            Ok(told?)
+        }
+        Err(fault) => Err(fault),
     }
+}
+
+fn are_kept_without<T: GroupTable>(
+    alloc: Global,
+    table: &mut T,
+    pid: &Pid,
+) -> Result<bool, AllocError> {
+    let ended = Ended::new(alloc);
+    let joins = joins_each_twice(table, pid, &ended);
+    drop(ended);
     table.drop_pid(pid);
-    Ok(are_empty(alloc, table)?)
+    Ok(joins? && are_empty(alloc, table)?)
 }

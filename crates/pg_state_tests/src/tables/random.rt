@@ -1,4 +1,4 @@
-use crate::tables::answers::size;
+use crate::tables::answers::{group_count, size};
 use crate::tables::crowd::Crowd;
 use crate::tables::step::{join_of, leave_of, put};
 use pg_group::{Ended, GroupTable, Scope, Update};
@@ -15,12 +15,46 @@ pub fn agree_in_random_changes<S: GroupTable, T: GroupTable>(
     thousands: u32,
     pids_of_node: u32,
 ) -> Result<bool, TermFault> {
-    let crowd = Crowd::new(alloc, pids_of_node)?;
-    let ended = tenth_ended(alloc, &crowd)?;
+    match Crowd::new(alloc, pids_of_node) {
+        Ok(crowd) => {
+            let told = agree_about(alloc, one, other, &crowd, thousands);
+            drop(crowd);
+            Ok(told?)
+        }
+        Err(fault) => Err(fault),
+    }
+}
+
+/// The same of changes that are about a crowd.
+fn agree_about<S: GroupTable, T: GroupTable>(
+    alloc: Global,
+    one: &mut S,
+    other: &mut T,
+    crowd: &Crowd,
+    thousands: u32,
+) -> Result<bool, AllocError> {
+    match tenth_ended(alloc, crowd) {
+        Ok(ended) => {
+            let told = agree_after_each(alloc, one, other, crowd, &ended, thousands);
+            drop(ended);
+            told
+        }
+        Err(error) => Err(error),
+    }
+}
+
+fn agree_after_each<S: GroupTable, T: GroupTable>(
+    alloc: Global,
+    one: &mut S,
+    other: &mut T,
+    crowd: &Crowd,
+    ended: &Ended,
+    thousands: u32,
+) -> Result<bool, AllocError> {
     let mut seed = 1;
     for _ in 0..thousands {
-        seed = change_both(alloc, one, other, &crowd, &ended, seed)?;
-        if !answer_alike(alloc, one, other, &crowd)? {
+        seed = change_both(alloc, one, other, crowd, ended, seed)?;
+        if !answer_alike(alloc, one, other, crowd)? {
             return Ok(false);
         }
     }
@@ -30,12 +64,17 @@ pub fn agree_in_random_changes<S: GroupTable, T: GroupTable>(
 /// Every tenth pid of each node has ended.
 fn tenth_ended(alloc: Global, crowd: &Crowd) -> Result<Ended, AllocError> {
     let mut ended = Ended::new(alloc);
-    for pid in &crowd.pids {
+    end_tenth(&mut ended, &crowd.pids)?;
+    Ok(ended)
+}
+
+fn end_tenth(ended: &mut Ended, pids: &[Pid]) -> Result<(), AllocError> {
+    for pid in pids {
         if pid.id % 10 == 9 {
             ended.add(pid.copy()?)?;
         }
     }
-    Ok(ended)
+    Ok(())
 }
 
 /// Makes a thousand changes of both tables, from a seed on: the last seed.
@@ -100,8 +139,14 @@ fn merge<T: GroupTable>(
     ended: &Ended,
     seed: u64,
 ) -> Result<(), AllocError> {
-    let pids = few_pids(alloc, crowd, seed)?;
-    table.merge(name, pids.as_slice(), ended)
+    match few_pids(alloc, crowd, seed) {
+        Ok(pids) => {
+            let merged = table.merge(name, pids.as_slice(), ended);
+            drop(pids);
+            merged
+        }
+        Err(error) => Err(error),
+    }
 }
 
 fn few_pids(alloc: Global, crowd: &Crowd, seed: u64) -> Result<Vec<Pid>, AllocError> {
@@ -126,7 +171,7 @@ fn answer_alike<S: GroupTable, T: GroupTable>(
             return Ok(false);
         }
     }
-    Ok(one.groups()?.len() == other.groups()?.len())
+    Ok(group_count(one)? == group_count(other)?)
 }
 
 fn groups_alike<S: GroupTable, T: GroupTable>(
@@ -153,15 +198,33 @@ fn members_alike<S: GroupTable, T: GroupTable>(
     other: &T,
     name: &Term,
 ) -> Result<bool, AllocError> {
-    let Ok(first) = members(alloc, one, name) else {
-        return Err(AllocError);
-    };
-    match members(alloc, other, name) {
-        Ok(second) => Ok(
-            same_pids(first.as_slice(), second.as_slice())
-                && size(one, name, &first, Scope::All) == size(other, name, &second, Scope::All),
-        ),
-        Err(_) => Ok(false),
+    match members(alloc, one, name) {
+        Ok(first) => {
+            let size = size(one, name, &first, Scope::All);
+            let alike = lists_so(alloc, other, name, first.as_slice(), size);
+            drop(first);
+            Ok(alike)
+        }
+        Err(_) => Err(AllocError),
+    }
+}
+
+/// Whether a table lists these members of a group, and tells this size.
+fn lists_so<T: GroupTable>(
+    alloc: Global,
+    table: &T,
+    name: &Term,
+    wanted: &[Pid],
+    wanted_size: Option<u64>,
+) -> bool {
+    match members(alloc, table, name) {
+        Ok(listed) => {
+            let lists_so = listed.as_slice() == wanted
+                && size(table, name, &listed, Scope::All) == wanted_size;
+            drop(listed);
+            lists_so
+        }
+        Err(_) => false,
     }
 }
 
@@ -202,15 +265,30 @@ fn node_alike<S: GroupTable, T: GroupTable>(
     node: &Atom,
     name: &Term,
 ) -> Result<bool, AllocError> {
-    let Ok(first) = local_members(alloc, one, node, name) else {
-        return Err(AllocError);
-    };
-    match local_members(alloc, other, node, name) {
-        Ok(second) => Ok(same_pids(first.as_slice(), second.as_slice())),
-        Err(_) => Ok(false),
+    match local_members(alloc, one, node, name) {
+        Ok(first) => {
+            let alike = lists_there(alloc, other, node, name, first.as_slice());
+            drop(first);
+            Ok(alike)
+        }
+        Err(_) => Err(AllocError),
     }
 }
 
-fn same_pids(one: &[Pid], other: &[Pid]) -> bool {
-    one == other
+/// Whether a table lists these members of a group on a node.
+fn lists_there<T: GroupTable>(
+    alloc: Global,
+    table: &T,
+    node: &Atom,
+    name: &Term,
+    wanted: &[Pid],
+) -> bool {
+    match local_members(alloc, table, node, name) {
+        Ok(listed) => {
+            let lists_so = listed.as_slice() == wanted;
+            drop(listed);
+            lists_so
+        }
+        Err(_) => false,
+    }
 }

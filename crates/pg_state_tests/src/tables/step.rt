@@ -66,10 +66,13 @@ pub fn has_room<T: GroupTable>(table: &T, update: &Update) -> bool
 
 /// Applies an update, where it has room.
 pub fn put<T: GroupTable>(table: &mut T, update: Update, ended: &Ended) -> Result<(), AllocError> {
-    if has_room(table, &update) {
-        return table.apply(&update, ended);
-    }
-    Ok(())
+    let told = if has_room(table, &update) {
+        table.apply(&update, ended)
+    } else {
+        Ok(())
+    };
+    drop(update);
+    told
 }
 
 /// The update by which a copy of a pid joins a group.
@@ -134,17 +137,27 @@ fn merge<T: GroupTable>(
     told: (u8, u8),
     ended: &Ended,
 ) -> Result<(), AllocError> {
-    let pids = told_pids(alloc, cast, told)?;
-    table.merge(cast.name(group), pids.as_slice(), ended)
+    match told_pids(alloc, cast, told) {
+        Ok(pids) => {
+            let merged = table.merge(cast.name(group), pids.as_slice(), ended);
+            drop(pids);
+            merged
+        }
+        Err(error) => Err(error),
+    }
 }
 
 fn told_pids(alloc: Global, cast: &Cast, told: (u8, u8)) -> Result<Vec<Pid>, AllocError> {
     let mut pids = Vec::new(alloc);
-    for _ in 0..told.1 {
-        pids.push(cast.pid(Side::Second).copy()?)?;
-    }
-    for _ in 0..told.0 {
-        pids.push(cast.pid(Side::First).copy()?)?;
-    }
+    put_copies(&mut pids, cast.pid(Side::Second), told.1)?;
+    put_copies(&mut pids, cast.pid(Side::First), told.0)?;
     Ok(pids)
+}
+
+/// Puts so many copies of a pid behind the others.
+fn put_copies(pids: &mut Vec<Pid>, pid: &Pid, count: u8) -> Result<(), AllocError> {
+    for _ in 0..count {
+        pids.push(pid.copy()?)?;
+    }
+    Ok(())
 }
