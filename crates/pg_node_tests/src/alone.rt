@@ -1,118 +1,61 @@
 //! A node that has no peer carries its commands out at once.
 
-use crate::events::{Asked, ask};
-use crate::nodes::{has_group, is_done, is_locked, is_refused, last_answer, lone_node, name, pid};
-use pg_index::IndexTable;
-use pg_node::NodeState;
-use pg_step::Reply;
-use pg_term::TermFault;
-use std::alloc::Global;
-use std::process::Abort;
-use std::test::Fail;
+use crate::events::{Asked, Event};
+use crate::rows::{Answered, Deed, Row, Sight, check};
+use crate::twins::Kind;
+
+const CHANGES: &[Row] = &[
+    Row::Seen(Sight::Formed),
+    Row::Told(Event::Command(Asked::Create)),
+    Row::Did(Deed::Sends(0)),
+    Row::Did(Deed::Began(true)),
+    Row::Answered(1, Answered::Done),
+    Row::Seen(Sight::Group(true)),
+    Row::Seen(Sight::Open(0)),
+    Row::Seen(Sight::Locked(false)),
+    Row::Told(Event::Command(Asked::Delete)),
+    Row::Answered(2, Answered::Done),
+    Row::Seen(Sight::Group(false)),
+    Row::Seen(Sight::Clock(2)),
+];
 
 #[test]
-fn lone_node_changes_at_once(rt: HostRuntime) -> Result<(), Fail> {
-    let mut node = lone_node(rt.alloc())?;
-    check_changes(&rt, rt.alloc(), &mut node)
-}
-
-fn check_changes(
-    rt: &impl Abort,
-    alloc: Global,
-    node: &mut NodeState<IndexTable>,
-) -> Result<(), Fail> {
-    assert!(rt; node.formed());
-    let create = ask(alloc, node, Asked::Create)?;
-    assert_eq!(rt; create.sends, 0);
-    assert!(rt; create.began);
-    assert!(rt; is_done(node, 1));
-    assert!(rt; has_group(node));
-    assert_eq!(rt; node.open_count(), 0);
-    assert!(rt; !is_locked(node));
-    ask(alloc, node, Asked::Delete)?;
-    assert!(rt; is_done(node, 2));
-    assert!(rt; !has_group(node));
-    assert_eq!(rt; node.clock(), 2);
-    Ok(())
-}
-
-#[test]
-fn lone_node_looks_first(rt: HostRuntime) -> Result<(), Fail> {
-    let mut node = lone_node(rt.alloc())?;
-    check_looks(&rt, rt.alloc(), &mut node)
+fn lone_node_changes_at_once(rt: HostRuntime) {
+    check(&rt, rt.alloc(), Kind::Lone, CHANGES);
 }
 
 // A look answers a create of a group that is there, and a leave of one that is not.
-fn check_looks(
-    rt: &impl Abort,
-    alloc: Global,
-    node: &mut NodeState<IndexTable>,
-) -> Result<(), Fail> {
-    ask(alloc, node, Asked::Leave)?;
-    assert!(rt; has_no_group(node, 1));
-    ask(alloc, node, Asked::Create)?;
-    let again = ask(alloc, node, Asked::Create)?;
-    assert!(rt; !again.began);
-    assert!(rt; is_done(node, 3));
-    Ok(())
-}
-
-// Whether the command of this number was answered last, by that the group is not there.
-fn has_no_group(node: &NodeState<IndexTable>, number: u32) -> bool {
-    match last_answer(node) {
-        Some((last, Reply::NoSuchGroup(group))) => last == number && *group == name(),
-        _ => false,
-    }
-}
+const LOOKS: &[Row] = &[
+    Row::Told(Event::Command(Asked::Leave("a"))),
+    Row::Answered(1, Answered::NoSuchGroup),
+    Row::Told(Event::Command(Asked::Create)),
+    Row::Told(Event::Command(Asked::Create)),
+    Row::Did(Deed::Began(false)),
+    Row::Answered(3, Answered::Done),
+];
 
 #[test]
-fn lone_node_lists_its_process(rt: HostRuntime) -> Result<(), Fail> {
-    let mut node = lone_node(rt.alloc())?;
-    check_process(&rt, rt.alloc(), &mut node)
+fn lone_node_looks_first(rt: HostRuntime) {
+    check(&rt, rt.alloc(), Kind::Lone, LOOKS);
 }
 
-fn check_process(
-    rt: &impl Abort,
-    alloc: Global,
-    node: &mut NodeState<IndexTable>,
-) -> Result<(), Fail> {
-    ask(alloc, node, Asked::Create)?;
-    ask(alloc, node, Asked::Make)?;
-    assert!(rt; has_made(alloc, node, 2)?);
-    ask(alloc, node, Asked::Join)?;
-    assert!(rt; is_done(node, 3));
-    ask(alloc, node, Asked::Members)?;
-    assert!(rt; has_listed(node, 4) == Some(1));
-    ask(alloc, node, Asked::Finish)?;
-    assert!(rt; is_done(node, 5));
-    ask(alloc, node, Asked::Closest(4))?;
-    assert!(rt; has_no_process(node, 6));
-    ask(alloc, node, Asked::Finish)?;
-    assert!(rt; is_refused(node, 7, 27));
-    Ok(())
-}
+const PROCESS: &[Row] = &[
+    Row::Told(Event::Command(Asked::Create)),
+    Row::Told(Event::Command(Asked::Make)),
+    Row::Answered(2, Answered::MadeFirst),
+    Row::Told(Event::Command(Asked::Join("a"))),
+    Row::Answered(3, Answered::Done),
+    Row::Told(Event::Command(Asked::Members)),
+    Row::Answered(4, Answered::Listed(1)),
+    Row::Told(Event::Command(Asked::Finish("a"))),
+    Row::Answered(5, Answered::Done),
+    Row::Told(Event::Command(Asked::Closest(4))),
+    Row::Answered(6, Answered::NoProcess),
+    Row::Told(Event::Command(Asked::Finish("a"))),
+    Row::Answered(7, Answered::Refused(27)),
+];
 
-// Whether the command of this number was answered last, by the first process.
-fn has_made(alloc: Global, node: &NodeState<IndexTable>, number: u32) -> Result<bool, TermFault> {
-    let process = pid(alloc, "a", 1)?;
-    match last_answer(node) {
-        Some((last, Reply::Made(made))) => Ok(last == number && *made == process),
-        _ => Ok(false),
-    }
-}
-
-// How many pids the last answer lists, which is to the command of this number.
-fn has_listed(node: &NodeState<IndexTable>, number: u32) -> Option<usize> {
-    match last_answer(node) {
-        Some((last, Reply::Pids(pids))) if last == number => Some(pids.len()),
-        _ => None,
-    }
-}
-
-// Whether the command of this number was answered last, by that the group has no process.
-fn has_no_process(node: &NodeState<IndexTable>, number: u32) -> bool {
-    match last_answer(node) {
-        Some((last, Reply::NoProcess(group))) => last == number && *group == name(),
-        _ => false,
-    }
+#[test]
+fn lone_node_lists_its_process(rt: HostRuntime) {
+    check(&rt, rt.alloc(), Kind::Lone, PROCESS);
 }

@@ -10,8 +10,9 @@ mod full;
 mod skips;
 mod three;
 
-use crate::events::{Did, seen};
-use crate::nodes::name;
+use crate::events::{Did, told};
+use crate::nodes::{atom, name};
+use crate::verdicts::passes;
 use pg_index::IndexTable;
 use pg_node::{Node, NodeConfig, NodeFault};
 use pg_ring::{Link, MemRing};
@@ -19,7 +20,6 @@ use pg_step::{Command, Refusal};
 use pg_term::Atom;
 use std::alloc::{AllocError, Global};
 use std::process::Abort;
-use std::test::Fail;
 
 /// Two nodes, of which each is the other's only peer, and a ring each way.
 #[derive(Drop)]
@@ -33,35 +33,53 @@ pub struct Pair {
 }
 
 impl Pair {
-    /// Moves the bytes of both nodes, some at a time, until nothing is on the way.
-    pub fn settle(&mut self) -> Result<(), NodeFault> {
+    /// Moves the bytes of both nodes, some at a time, until nothing is on the way. Whether no fault is told.
+    pub fn settle(&mut self) -> bool {
         for _ in 0..200 {
-            self.go_there()?;
-            self.go_back()?;
+            if !self.go_there() || !self.go_back() {
+                return false;
+            }
         }
-        Ok(())
+        true
     }
 
-    /// Moves some bytes of a to b.
-    pub fn go_there(&mut self) -> Result<(), NodeFault> {
-        moved(&mut self.a, &mut self.there, &mut self.b)
+    /// Moves some bytes of a to b. Whether no fault is told.
+    pub fn go_there(&mut self) -> bool {
+        moves(&mut self.a, &mut self.there, &mut self.b)
     }
 
-    /// Moves some bytes of b to a.
-    pub fn go_back(&mut self) -> Result<(), NodeFault> {
-        moved(&mut self.b, &mut self.back, &mut self.a)
+    /// Moves some bytes of b to a. Whether no fault is told.
+    pub fn go_back(&mut self) -> bool {
+        moves(&mut self.b, &mut self.back, &mut self.a)
     }
 }
 
-/// Moves at most 7 bytes from one node to the other, which takes the packet that is whole then.
-fn moved(
-    from: &mut Node<IndexTable>,
-    ring: &mut MemRing,
-    to: &mut Node<IndexTable>,
-) -> Result<(), NodeFault> {
+/// Moves at most 7 bytes from one node to the other, which takes the packet that is whole then. Whether no fault is told.
+fn moves(from: &mut Node<IndexTable>, ring: &mut MemRing, to: &mut Node<IndexTable>) -> bool {
     put(from, 0, ring, 7);
-    pull(to, 0, ring, 7)?;
-    take(to, 0)
+    heard(to, 0, ring, 7) == None
+}
+
+/// So many bytes at most of a ring come from a peer, and the packet is taken that is whole then: the number of the fault, if
+/// there is one.
+fn heard(node: &mut Node<IndexTable>, peer: usize, ring: &mut MemRing, max: usize) -> Option<u8> {
+    match pull(node, peer, ring, max) {
+        None => take(node, peer),
+        fault => fault,
+    }
+}
+
+/// These bytes, at most 64, come from a peer: the number of the fault by which they are refused, if they are.
+fn fed(alloc: Global, node: &mut Node<IndexTable>, peer: usize, bytes: &[u8]) -> Option<u8> {
+    match new_ring(alloc) {
+        Ok(mut ring) => {
+            ring.put(bytes);
+            let fault = pull(node, peer, &mut ring, 64);
+            drop(ring);
+            fault
+        }
+        Err(fault) => Some(fault.number()),
+    }
 }
 
 /// Puts so many bytes at most, of what goes out to a peer, on a link: how many.
@@ -73,40 +91,30 @@ fn put<L: Link>(node: &mut Node<IndexTable>, peer: usize, link: &mut L, max: usi
     }
 }
 
-/// So many bytes at most of a ring come from a peer.
-fn pull(
-    node: &mut Node<IndexTable>,
-    peer: usize,
-    ring: &mut MemRing,
-    max: usize,
-) -> Result<(), NodeFault> {
+/// So many bytes at most of a ring come from a peer: the number of the fault, if there is one.
+fn pull(node: &mut Node<IndexTable>, peer: usize, ring: &mut MemRing, max: usize) -> Option<u8> {
     if peer < node.state().peer_count() {
         match node.pull(peer, ring, max) {
-            Ok(_) => Ok(()),
-            Err(fault) => Err(fault),
+            Ok(_) => None,
+            Err(fault) => Some(fault.number()),
         }
     } else {
-        Err(NodeFault::Refused(Refusal::NoSuchPlace))
+        Some(Refusal::NoSuchPlace.number())
     }
 }
 
-/// Takes the next packet of a peer, if it is whole.
-fn take(node: &mut Node<IndexTable>, peer: usize) -> Result<(), NodeFault> {
+/// Takes the next packet of a peer, if it is whole: the number of the fault, if there is one.
+fn take(node: &mut Node<IndexTable>, peer: usize) -> Option<u8> {
     if peer < node.state().peer_count() {
         match node.take(peer) {
-            Ok(_) => Ok(()),
-            Err(fault) => Err(fault),
+            Ok(done) => {
+                drop(done);
+                None
+            }
+            Err(fault) => Some(fault.number()),
         }
     } else {
-        Err(NodeFault::Refused(Refusal::NoSuchPlace))
-    }
-}
-
-/// The number of the fault, if there is one.
-fn fault_of(done: Result<(), NodeFault>) -> Option<u8> {
-    match done {
-        Ok(()) => None,
-        Err(fault) => Some(fault.number()),
+        Some(Refusal::NoSuchPlace.number())
     }
 }
 
@@ -142,19 +150,33 @@ fn linked_node(alloc: Global, own: Atom, peer: Atom) -> Result<Node<IndexTable>,
 
 /// The same by the texts of its names.
 fn new_linked_node(alloc: Global, own: &str, peer: &str) -> Result<Node<IndexTable>, NodeFault> {
-    let own = atom(alloc, own)?;
-    let peer = atom(alloc, peer)?;
-    if own == peer {
-        Err(NodeFault::Refused(Refusal::NoSuchPlace))
-    } else {
-        linked_node(alloc, own, peer)
+    match atom(alloc, own) {
+        Ok(own) => linked_to(alloc, own, atom(alloc, peer)),
+        Err(fault) => Err(fault),
     }
 }
 
-fn atom(alloc: Global, text: &str) -> Result<Atom, NodeFault> {
-    match Atom::new(alloc, text) {
-        Ok(atom) => Ok(atom),
-        Err(_) => Err(NodeFault::OutOfMemory),
+fn linked_to(
+    alloc: Global,
+    own: Atom,
+    peer: Result<Atom, NodeFault>,
+) -> Result<Node<IndexTable>, NodeFault> {
+    match peer {
+        Ok(peer) => linked_where_apart(alloc, own, peer),
+        Err(fault) => {
+            drop(own);
+            Err(fault)
+        }
+    }
+}
+
+fn linked_where_apart(alloc: Global, own: Atom, peer: Atom) -> Result<Node<IndexTable>, NodeFault> {
+    if own == peer {
+        drop(own);
+        drop(peer);
+        Err(NodeFault::Refused(Refusal::NoSuchPlace))
+    } else {
+        linked_node(alloc, own, peer)
     }
 }
 
@@ -167,30 +189,54 @@ pub fn new_ring(alloc: Global) -> Result<MemRing, NodeFault> {
 }
 
 /// The nodes `a` and `b`, which have told each other nothing yet.
+fn new_nodes(alloc: Global) -> Result<(Node<IndexTable>, Node<IndexTable>), NodeFault> {
+    match new_linked_node(alloc, "a", "b") {
+        Ok(a) => with_other(a, new_linked_node(alloc, "b", "a")),
+        Err(fault) => Err(fault),
+    }
+}
+
+fn with_other(
+    a: Node<IndexTable>,
+    b: Result<Node<IndexTable>, NodeFault>,
+) -> Result<(Node<IndexTable>, Node<IndexTable>), NodeFault> {
+    match b {
+        Ok(b) => Ok((a, b)),
+        Err(fault) => {
+            drop(a);
+            Err(fault)
+        }
+    }
+}
+
+/// The same with a ring each way.
 pub fn linked_pair(alloc: Global) -> Result<Pair, NodeFault> {
     let there = new_ring(alloc)?;
     let back = new_ring(alloc)?;
-    let a = new_linked_node(alloc, "a", "b")?;
-    let b = new_linked_node(alloc, "b", "a")?;
-    Ok(Pair { a, b, there, back })
+    match new_nodes(alloc) {
+        Ok((a, b)) => Ok(Pair { a, b, there, back }),
+        Err(fault) => Err(fault),
+    }
 }
 
 /// Gives a command at the port.
 fn given(node: &mut Node<IndexTable>, command: &Command) -> Result<Did, NodeFault> {
     if node.state().port_count() == 1 {
-        match node.command(0, command) {
-            Ok(done) => Ok(seen(&done)),
-            Err(fault) => Err(fault),
-        }
+        told(node.command(0, command))
     } else {
         Err(NodeFault::Refused(Refusal::NoSuchPlace))
     }
 }
 
-/// Makes the group at the port.
-fn create(node: &mut Node<IndexTable>) -> Result<Did, NodeFault> {
+/// Makes the group at the port: the number of the call that the node makes, or none where there is a fault.
+fn create(node: &mut Node<IndexTable>) -> Option<u32> {
     let create = Command::Create(name());
-    given(node, &create)
+    let did = given(node, &create);
+    drop(create);
+    match did {
+        Ok(did) => Some(did.call),
+        Err(_) => None,
+    }
 }
 
 /// What happens to two nodes.
@@ -202,15 +248,25 @@ enum Part<'a> {
     Full,
 }
 
-fn check_part(rt: &impl Abort, alloc: Global, pair: &mut Pair, part: Part<'_>) -> Result<(), Fail> {
+fn holds(alloc: Global, pair: &mut Pair, part: Part<'_>) -> bool {
     match part {
-        Part::Agree => agree::check_agreed(rt, pair),
-        Part::Damage(bytes, number) => damaged::check_damage(rt, alloc, pair, bytes, number),
-        Part::Full => full::check_full(rt, pair),
+        Part::Agree => agree::agrees(pair),
+        Part::Damage(bytes, number) => damaged::is_damaged_alone(alloc, pair, bytes, number),
+        Part::Full => full::goes_later(pair),
     }
 }
 
-fn check(rt: &impl Abort, alloc: Global, part: Part<'_>) -> Result<(), Fail> {
-    let mut pair = linked_pair(alloc)?;
-    check_part(rt, alloc, &mut pair, part)
+fn holds_at_pair(alloc: Global, part: Part<'_>) -> Result<bool, NodeFault> {
+    match linked_pair(alloc) {
+        Ok(mut pair) => {
+            let told = holds(alloc, &mut pair, part);
+            drop(pair);
+            Ok(told)
+        }
+        Err(fault) => Err(fault),
+    }
+}
+
+fn check(rt: &impl Abort, alloc: Global, part: Part<'_>) {
+    passes(rt, holds_at_pair(alloc, part));
 }

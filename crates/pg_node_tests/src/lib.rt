@@ -18,8 +18,12 @@ mod nodes;
 #[cfg(test)]
 mod refused;
 #[cfg(test)]
+mod rows;
+#[cfg(test)]
 mod same;
 #[cfg(test)]
 mod twins;
+#[cfg(test)]
+mod verdicts;
 #[cfg(test)]
 mod worlds;

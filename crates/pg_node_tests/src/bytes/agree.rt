@@ -2,9 +2,6 @@
 
 use crate::bytes::{Pair, Part, check, create};
 use crate::nodes::{has_group, is_done, is_locked};
-use pg_node::NodeFault;
-use std::process::Abort;
-use std::test::Fail;
 
 fn are_formed(pair: &Pair) -> bool {
     pair.a.state().formed() && pair.b.state().formed()
@@ -19,30 +16,22 @@ fn are_locked(pair: &Pair) -> bool {
     is_locked(pair.a.state()) || is_locked(pair.b.state())
 }
 
-// Both are formed once all has come that they tell each other.
-fn form(pair: &mut Pair) -> Result<bool, NodeFault> {
-    let before = are_formed(pair);
-    pair.settle()?;
-    Ok(!before && are_formed(pair))
+// Whether both are formed once all has come that they tell each other, and not before.
+fn forms(pair: &mut Pair) -> bool {
+    !are_formed(pair) && pair.settle() && are_formed(pair)
 }
 
-// A group is created at a, and the command is answered.
-fn change(pair: &mut Pair) -> Result<bool, NodeFault> {
-    create(&mut pair.a)?;
-    pair.settle()?;
-    Ok(is_done(pair.a.state(), 1))
+// Whether a create of the group at a is answered.
+fn is_changed(pair: &mut Pair) -> bool {
+    create(&mut pair.a).is_some() && pair.settle() && is_done(pair.a.state(), 1)
 }
 
-pub fn check_agreed(rt: &impl Abort, pair: &mut Pair) -> Result<(), Fail> {
-    assert!(rt; form(pair)?);
-    assert!(rt; !have_group(pair));
-    assert!(rt; change(pair)?);
-    assert!(rt; have_group(pair));
-    assert!(rt; !are_locked(pair));
-    Ok(())
+/// Whether both agree on a group once one of them was told to create it, and neither has its lock then.
+pub fn agrees(pair: &mut Pair) -> bool {
+    forms(pair) && !have_group(pair) && is_changed(pair) && have_group(pair) && !are_locked(pair)
 }
 
 #[test]
-fn two_nodes_agree(rt: HostRuntime) -> Result<(), Fail> {
-    check(&rt, rt.alloc(), Part::Agree)
+fn two_nodes_agree(rt: HostRuntime) {
+    check(&rt, rt.alloc(), Part::Agree);
 }

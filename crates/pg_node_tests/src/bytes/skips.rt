@@ -4,14 +4,13 @@ ghost use Rattle.std.specs.Prelude.{◌≤◌};
 ghost use Rattle.pg_ring.specs.MemRing.{Grows};
 ghost use Rattle.pg_ring.specs.MemRingLaws.{Grows-rests, Grows-composes, Grows-agrees};
 
-use super::{create, new_linked_node, new_ring, pull, put, take, waiting_bytes};
+use super::{create, heard, new_linked_node, new_ring, put, waiting_bytes};
 use crate::nodes::{has_group, is_done, is_locked};
+use crate::verdicts::row_passes;
 use pg_index::IndexTable;
 use pg_node::{Node, NodeFault};
 use pg_ring::{Link, MemRing};
 use std::alloc::Global;
-use std::process::Abort;
-use std::test::Fail;
 
 /// A ring of which one put moves nothing.
 #[derive(Drop)]
@@ -51,34 +50,37 @@ struct End {
     link: Skips,
 }
 
-fn new_link(alloc: Global, skipped: u32) -> Result<Skips, NodeFault> {
-    let ring = new_ring(alloc)?;
-    Ok(Skips {
+fn link_over(ring: MemRing, skipped: u32) -> Skips {
+    Skips {
         ring,
         puts: 0,
         skipped,
-    })
+    }
 }
 
 fn new_end(alloc: Global, own: &str, peer: &str, skipped: u32) -> Result<End, NodeFault> {
-    let link = new_link(alloc, skipped)?;
-    let node = new_linked_node(alloc, own, peer)?;
-    Ok(End { node, link })
+    let ring = new_ring(alloc)?;
+    match new_linked_node(alloc, own, peer) {
+        Ok(node) => Ok(End {
+            node,
+            link: link_over(ring, skipped),
+        }),
+        Err(fault) => Err(fault),
+    }
 }
 
 impl End {
-    // At most 7 bytes go out, and what was not put stays.
-    fn send(&mut self, rt: &impl Abort) {
+    // At most 7 bytes go out. Whether what was not put stays, and nothing is put where the put is skipped.
+    fn sends(&mut self) -> bool {
         let before = waiting_bytes(&self.node);
         let count = put(&mut self.node, 0, &mut self.link, 7);
-        assert!(rt; before.checked_sub(count) == Some(waiting_bytes(&self.node)));
-        assert!(rt; self.link.puts != self.link.skipped || count == 0);
+        before.checked_sub(count) == Some(waiting_bytes(&self.node))
+            && (self.link.puts != self.link.skipped || count == 0)
     }
 
-    // What is on the link of the other comes here, and a packet of it is taken.
-    fn hear(&mut self, link: &mut Skips) -> Result<(), NodeFault> {
-        pull(&mut self.node, 0, &mut link.ring, 7)?;
-        take(&mut self.node, 0)
+    // What is on the link of the other comes here, and a packet of it is taken. Whether no fault is told.
+    fn hears(&mut self, link: &mut Skips) -> bool {
+        heard(&mut self.node, 0, &mut link.ring, 7) == None
     }
 }
 
@@ -90,30 +92,57 @@ struct Ends {
 }
 
 fn new_ends(alloc: Global, skipped: u32) -> Result<Ends, NodeFault> {
-    let a = new_end(alloc, "a", "b", skipped)?;
-    let b = new_end(alloc, "b", "a", skipped)?;
-    Ok(Ends { a, b })
+    match new_end(alloc, "a", "b", skipped) {
+        Ok(a) => with_other(a, new_end(alloc, "b", "a", skipped)),
+        Err(fault) => Err(fault),
+    }
+}
+
+fn with_other(a: End, b: Result<End, NodeFault>) -> Result<Ends, NodeFault> {
+    match b {
+        Ok(b) => Ok(Ends { a, b }),
+        Err(fault) => {
+            drop(a);
+            Err(fault)
+        }
+    }
 }
 
 impl Ends {
-    // Bytes move both ways.
-    fn go_on(&mut self, rt: &impl Abort) -> Result<(), NodeFault> {
-        self.a.send(rt);
-        self.b.hear(&mut self.a.link)?;
-        self.b.send(rt);
-        self.a.hear(&mut self.b.link)
+    // Bytes move both ways. Whether what was not put stays.
+    fn go_on(&mut self) -> bool {
+        self.a.sends()
+            && self.b.hears(&mut self.a.link)
+            && self.b.sends()
+            && self.a.hears(&mut self.b.link)
     }
 
-    fn settle(&mut self, rt: &impl Abort) -> Result<(), NodeFault> {
+    fn settle(&mut self) -> bool {
         for _ in 0..60 {
-            self.go_on(rt)?;
+            if !self.go_on() {
+                return false;
+            }
         }
-        Ok(())
+        true
     }
 
     // Both have the group, and neither holds its lock.
     fn agree(&self) -> bool {
         has_free_group(&self.a.node) && has_free_group(&self.b.node)
+    }
+
+    // Both nodes agree, and nothing of them waits.
+    fn are_done(&self) -> bool {
+        self.agree()
+            && is_done(self.a.node.state(), 1)
+            && waiting_bytes(&self.a.node) == 0
+            && waiting_bytes(&self.b.node) == 0
+            && self.a.link.puts == 120
+    }
+
+    // Groups are told both ways, and then the group is made at `a`.
+    fn come_to_one(&mut self) -> bool {
+        self.settle() && create(&mut self.a.node).is_some() && self.settle() && self.are_done()
     }
 }
 
@@ -121,34 +150,21 @@ fn has_free_group(node: &Node<IndexTable>) -> bool {
     has_group(node.state()) && !is_locked(node.state())
 }
 
-// Both nodes agree, and nothing of them waits.
-fn check_end(rt: &impl Abort, ends: &Ends, skipped: u32) {
-    assert!(rt; ends.agree(), "{skipped}");
-    assert!(rt; is_done(ends.a.node.state(), 1), "{skipped}");
-    assert_eq!(rt; waiting_bytes(&ends.a.node), 0);
-    assert_eq!(rt; waiting_bytes(&ends.b.node), 0);
-    assert_eq!(rt; ends.a.link.puts, 120);
-}
-
-// Groups are told both ways, and then the group is made at `a`.
-fn check_ends(rt: &impl Abort, ends: &mut Ends, skipped: u32) -> Result<(), Fail> {
-    ends.settle(rt)?;
-    create(&mut ends.a.node)?;
-    ends.settle(rt)?;
-    check_end(rt, ends, skipped);
-    Ok(())
-}
-
 // The same where this put of each node moves nothing.
-fn check(rt: &impl Abort, alloc: Global, skipped: u32) -> Result<(), Fail> {
-    let mut ends = new_ends(alloc, skipped)?;
-    check_ends(rt, &mut ends, skipped)
+fn come_to_one(alloc: Global, skipped: u32) -> Result<bool, NodeFault> {
+    match new_ends(alloc, skipped) {
+        Ok(mut ends) => {
+            let told = ends.come_to_one();
+            drop(ends);
+            Ok(told)
+        }
+        Err(fault) => Err(fault),
+    }
 }
 
 #[test]
-fn each_put_skipped_once(rt: HostRuntime) -> Result<(), Fail> {
-    for skipped in 1..=120 {
-        check(&rt, rt.alloc(), skipped)?;
+fn each_put_skipped_once(rt: HostRuntime) {
+    for skipped in 1..=120u32 {
+        row_passes(&rt, come_to_one(rt.alloc(), skipped), skipped as usize);
     }
-    Ok(())
 }

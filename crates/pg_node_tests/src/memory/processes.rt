@@ -1,47 +1,38 @@
 //! Processes that are made and end, and what is asked.
 
-use super::{Part, check};
 use crate::events::{Asked, Event};
-use crate::nodes::{answer_count, is_done};
-use crate::twins::Twins;
-use std::alloc::Global;
-use std::process::Abort;
-use std::test::Fail;
+use crate::rows::{Answered, Deed, Row, Sight, check};
+use crate::twins::Kind;
 
-// A command is told, by which so many packets are sent.
-fn sends(rt: &impl Abort, alloc: Global, twins: &mut Twins, asked: Asked) -> Result<usize, Fail> {
-    let did = twins.tell(rt, alloc, Event::Command(asked))?;
-    Ok(did.sends)
-}
-
-#[test]
-fn processes_are_whole(rt: HostRuntime) -> Result<(), Fail> {
-    check(&rt, rt.alloc(), Part::Processes)
-}
-
-pub fn check_processes(rt: &impl Abort, alloc: Global, twins: &mut Twins) -> Result<(), Fail> {
-    assert_eq!(rt; sends(rt, alloc, twins, Asked::Make)?, 0);
-    assert_eq!(rt; sends(rt, alloc, twins, Asked::Finish)?, 2);
-    assert!(rt; is_done(&twins.one, 2));
-    assert_eq!(rt; sends(rt, alloc, twins, Asked::Finish)?, 0);
-    assert_eq!(rt; answer_count(&twins.one), 3);
-    Ok(())
-}
+const PROCESSES: &[Row] = &[
+    Row::Told(Event::Command(Asked::Make)),
+    Row::Did(Deed::Sends(0)),
+    Row::Told(Event::Command(Asked::Finish("a"))),
+    Row::Did(Deed::Sends(2)),
+    Row::Answered(2, Answered::Done),
+    Row::Told(Event::Command(Asked::Finish("a"))),
+    Row::Did(Deed::Sends(0)),
+    Row::Seen(Sight::Answers(3)),
+];
 
 #[test]
-fn queries_are_whole(rt: HostRuntime) -> Result<(), Fail> {
-    check(&rt, rt.alloc(), Part::Queries)
+fn processes_are_whole(rt: HostRuntime) {
+    check(&rt, rt.alloc(), Kind::Formed("a", "b", "c"), PROCESSES);
 }
 
-pub fn check_queries(rt: &impl Abort, alloc: Global, twins: &mut Twins) -> Result<(), Fail> {
-    for query in [
-        Asked::Members,
-        Asked::LocalMembers,
-        Asked::Closest(5),
-        Asked::WhichGroups,
-    ] {
-        assert_eq!(rt; sends(rt, alloc, twins, query)?, 0);
-    }
-    assert_eq!(rt; answer_count(&twins.one), 4);
-    Ok(())
+const QUERIES: &[Row] = &[
+    Row::Told(Event::Command(Asked::Members)),
+    Row::Did(Deed::Sends(0)),
+    Row::Told(Event::Command(Asked::LocalMembers)),
+    Row::Did(Deed::Sends(0)),
+    Row::Told(Event::Command(Asked::Closest(5))),
+    Row::Did(Deed::Sends(0)),
+    Row::Told(Event::Command(Asked::WhichGroups)),
+    Row::Did(Deed::Sends(0)),
+    Row::Seen(Sight::Answers(4)),
+];
+
+#[test]
+fn queries_are_whole(rt: HostRuntime) {
+    check(&rt, rt.alloc(), Kind::Formed("a", "b", "c"), QUERIES);
 }
