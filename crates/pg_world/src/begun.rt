@@ -93,13 +93,21 @@ const MAX_MEMBERS: usize = 4_294_967_296;
 fn have_few(starts: &[Start]) -> bool
     ensures { result ≡ have_few starts.now }
 {
-    starts.iter().all(|start| are_few(start.groups.as_slice()))
+    for start in starts {
+        if !are_few(start.groups.as_slice()) {
+            return false;
+        }
+    }
+    true
 }
 
 fn are_few(groups: &[(Term, Items<Pid>)]) -> bool
     ensures { result ≡ are_few groups.now }
 {
-    groups
-        .iter()
-        .all(|group| group.1.as_slice().len() <= MAX_MEMBERS)
+    for group in groups {
+        if group.1.as_slice().len() > MAX_MEMBERS {
+            return false;
+        }
+    }
+    true
 }

@@ -318,7 +318,11 @@ impl<T: GroupTable + Drop> World<T> {
         front_is_first_of_cut::<Packet>();
         let taker = &mut self.nodes[node];
         match taker.next(peer_place(node, peer)) {
-            Ok(next) => self.take_next(node, peer, &next),
+            Ok(next) => {
+                let taken = self.take_next(node, peer, &next);
+                drop(next);
+                taken
+            }
             Err(fault) => Err(fault),
         }
     }

@@ -81,7 +81,12 @@ fn are_apart(starts: &[Start]) -> bool
 fn has_node(name: &Atom, starts: &[Start]) -> bool
     ensures { result ≡ list_any (λ start. same_atom name.now start.name) starts.now }
 {
-    starts.iter().any(|start| *name == start.name)
+    for start in starts {
+        if *name == start.name {
+            return true;
+        }
+    }
+    false
 }
 
 /// Whether each node is as one may start, but for the size of names.
@@ -114,21 +119,34 @@ fn is_start(alloc: Global, starts: &[Start], start: &Start) -> Result<bool, Allo
 fn are_made(starts: &[Start], groups: &[(Term, Items<Pid>)]) -> bool
     ensures { result ≡ are_made starts.now groups.now }
 {
-    groups
-        .iter()
-        .all(|group| all_made(starts, group.1.as_slice()))
+    for group in groups {
+        if !all_made(starts, group.1.as_slice()) {
+            return false;
+        }
+    }
+    true
 }
 
 fn all_made(starts: &[Start], members: &[Pid]) -> bool
     ensures { result ≡ list_all (was_made starts.now) members.now }
 {
-    members.iter().all(|pid| was_made(starts, pid))
+    for pid in members {
+        if !was_made(starts, pid) {
+            return false;
+        }
+    }
+    true
 }
 
 fn was_made(starts: &[Start], pid: &Pid) -> bool
     ensures { result ≡ was_made starts.now pid.now }
 {
-    starts.iter().any(|start| pid.node == start.name && is_among(start.made, pid))
+    for start in starts {
+        if pid.node == start.name && is_among(start.made, pid) {
+            return true;
+        }
+    }
+    false
 }
 
 /// Whether a pid is that of one of the first processes of its node.
@@ -145,13 +163,21 @@ fn is_among(made: u32, pid: &Pid) -> bool
 fn have_names(starts: &[Start]) -> bool
     ensures { result ≡ have_names starts.now }
 {
-    starts
-        .iter()
-        .all(|start| are_names(start.groups.as_slice()))
+    for start in starts {
+        if !are_names(start.groups.as_slice()) {
+            return false;
+        }
+    }
+    true
 }
 
 fn are_names(groups: &[(Term, Items<Pid>)]) -> bool
     ensures { result ≡ are_names groups.now }
 {
-    groups.iter().all(|group| check_name(&group.0).is_ok())
+    for group in groups {
+        if check_name(&group.0).is_err() {
+            return false;
+        }
+    }
+    true
 }

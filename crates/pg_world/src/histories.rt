@@ -123,7 +123,7 @@ impl Histories {
             ≡ applied_in self.old i name + one_of node i name (begun_by began) }
     {
         if let Some((op, update)) = began {
-            self.last = Some(Entry { node, op, update });
+            drop(self.last.replace(Entry { node, op, update }));
         }
     }
 

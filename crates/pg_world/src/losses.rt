@@ -27,7 +27,7 @@ impl Losses {
     pub(crate) fn has(&self, node: usize) -> bool
         ensures { result ≡ is_lost (lost_in self.now) node }
     {
-        self.places.iter().any(|place| *place == node)
+        self.places.as_slice().contains(&node)
     }
 
     /// A node is lost.

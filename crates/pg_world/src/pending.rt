@@ -59,7 +59,12 @@ fn is_pending<T: GroupTable + Drop>(pid: &Pid, home: &NodeState<T>, left: &[&Nod
 fn is_untaken<T: GroupTable + Drop>(pid: &Pid, left: &[&NodeState<T>]) -> bool
     ensures { result ≡ list_any (λ node. not ((kept_by node.now).ended pid.now)) left.now }
 {
-    left.iter().any(|node| !node.ended(pid))
+    for node in left {
+        if !node.ended(pid) {
+            return true;
+        }
+    }
+    false
 }
 
 /// The pid of the first process of a node.

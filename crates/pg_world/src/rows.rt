@@ -77,7 +77,7 @@ pub(crate) fn begin(rows: &mut Rows, entry: Entry)
 {
     match rows.get_mut(entry.update.name()) {
         Some(row) => row.begin(entry),
-        None => {}
+        None => drop(entry),
     }
 }
 

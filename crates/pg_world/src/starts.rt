@@ -139,7 +139,11 @@ fn opening<T: GroupTable + Drop>(
     ensures fault { IfErr result (CantOpen (seen_of node.now)) }
 {
     match node.announcement() {
-        Ok(packet) => opened(alloc, peers, &packet),
+        Ok(packet) => {
+            let outgoing = opened(alloc, peers, &packet);
+            drop(packet);
+            outgoing
+        }
         Err(AllocError) => Err(WorldFault::OutOfMemory),
     }
 }

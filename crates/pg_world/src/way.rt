@@ -88,6 +88,6 @@ impl Way {
     pub(crate) fn pass(&mut self)
         ensures { packets_of self.new ≡ drop 1 (packets_of self.old) }
     {
-        self.packets.pop_front();
+        drop(self.packets.pop_front());
     }
 }

@@ -14,8 +14,8 @@ use Rattle.pg_world.proofs.Passing.{tells_ok, readable, only_memory, unread_err,
 use Rattle.pg_world.proofs.Past.{reads_first, reads_lawful}
 use Rattle.pg_world.proofs.bytes.World.take.Goals as goal
 
-pub take_next-requires-clause-front : goal.take_next-requires-clause-front
-take_next-requires-clause-front g c =
+pub take_next-taken-requires-clause-front : goal.take_next-taken-requires-clause-front
+take_next-taken-requires-clause-front g c =
     let nodes = c.args.self.now.nodes.items in
     let rings = c.args.self.now.rings.items in
     let i = c.args.node in
@@ -34,7 +34,7 @@ returns-in-Ok g c = record {
       let node2 = c.next.new.self in
       let l = first_there nodes rings i c.args.peer c.requires.pair c.args.self.now.rows in
       let same = node_same nodes rings i node node2 l c.index_mut-taker.ensures.value (ap seen_of c.in-Ok.ensures.state) c.in-Ok.ensures.same in
-      c.take_next.ensures.event config lost w stays welcome (subst (λ (crossing : Crossing). ShowsBytesPast config lost crossing (account_of c.args.self.now.histories) w) (sym same) shows);
+      c.take_next-taken.ensures.event config lost w stays welcome (subst (λ (crossing : Crossing). ShowsBytesPast config lost crossing (account_of c.args.self.now.histories) w) (sym same) shows);
   changes =
       let nodes = c.args.self.now.nodes.items in
       let rings = c.args.self.now.rings.items in
@@ -42,8 +42,8 @@ returns-in-Ok g c = record {
       let node = c.index_mut-taker.result.now in
       let l = first_there nodes rings i c.args.peer c.requires.pair c.args.self.now.rows in
       let same = node_same nodes rings i node c.next.new.self l c.index_mut-taker.ensures.value (ap seen_of c.in-Ok.ensures.state) c.in-Ok.ensures.same in
-      subst (λ (crossing : Crossing). EventChanges crossing (crossing_of c.take_next.new.self) (Take i c.args.peer) c.take_next.result) same c.take_next.ensures.changes;
-  lost = c.take_next.ensures.lost;
+      subst (λ (crossing : Crossing). EventChanges crossing (crossing_of c.take_next-taken.new.self) (Take i c.args.peer) c.take_next-taken.result) same c.take_next-taken.ensures.changes;
+  lost = c.take_next-taken.ensures.lost;
 }
 
 pub returns-in-Err : goal.returns-in-Err
