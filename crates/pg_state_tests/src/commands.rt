@@ -3,6 +3,7 @@
 ghost use Rattle.std.specs.Prelude.{◌≡◌, false};
 ghost use Rattle.pg_term.specs.Same.{same_atom};
 
+use crate::samples::atom;
 use pg_group::Update;
 use pg_multicall::Taken;
 use pg_opens::{Asked, Gathering, Opens, Outlook, Standing};
@@ -21,11 +22,18 @@ fn opens_of(alloc: Global, a: Atom, b: Atom, c: Atom) -> Result<Opens, TermFault
     Ok(Opens::new(alloc, names)?)
 }
 
-// The open commands of node a, whose peers are b and c.
+// The open commands of node a, whose peers are b and c. A refused growth is asked for once more.
 fn opens_of_a(alloc: Global) -> Result<Opens, TermFault> {
-    let a = Atom::new(alloc, "a")?;
-    let b = Atom::new(alloc, "b")?;
-    let c = Atom::new(alloc, "c")?;
+    match opens_of_a_once(alloc) {
+        Err(TermFault::OutOfMemory) => opens_of_a_once(alloc),
+        made => made,
+    }
+}
+
+fn opens_of_a_once(alloc: Global) -> Result<Opens, TermFault> {
+    let a = atom(alloc, "a")?;
+    let b = atom(alloc, "b")?;
+    let c = atom(alloc, "c")?;
     if a == b || a == c || b == c {
         return Err(TermFault::BadAtom);
     }
@@ -36,8 +44,12 @@ fn op(number: u32) -> OpId {
     OpId { port: 0, number }
 }
 
-// Opens the command of this number, which creates a group, and tells whether it did.
+// Opens the command of this number, which creates a group, and tells whether it did. A refused growth is asked for once more.
 fn opened(alloc: Global, opens: &mut Opens, number: u32) -> bool {
+    opened_once(alloc, opens, number) || opened_once(alloc, opens, number)
+}
+
+fn opened_once(alloc: Global, opens: &mut Opens, number: u32) -> bool {
     match opens.reserve(alloc) {
         Ok(room) => {
             let id = op(number);
@@ -233,8 +245,8 @@ fn new_greatest(rt: HostRuntime) -> Result<(), Fail> {
 }
 
 fn check_names(rt: &impl Abort, alloc: Global, opens: &mut Opens) -> Result<(), TermFault> {
-    let c = Atom::new(alloc, "c")?;
-    let d = Atom::new(alloc, "d")?;
+    let c = atom(alloc, "c")?;
+    let d = atom(alloc, "d")?;
     check_places(rt, opens, &c, &d);
     check_greatest(rt, opens, &c);
     drop(c);
