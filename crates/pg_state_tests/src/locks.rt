@@ -9,7 +9,7 @@ use std::test::Fail;
 
 mod many;
 
-/// Asks a node for the lock of the name of this number.
+/// Asks a node for the lock of the name of this number. Where a growth is refused it asks once more.
 fn ask_node(
     locks: &mut LockTable,
     has_formed: bool,
@@ -17,7 +17,10 @@ fn ask_node(
     reference: &Reference,
 ) -> Result<bool, AllocError> {
     let name = Term::Int(number);
-    let told = locks.ask(has_formed, &name, reference);
+    let told = match locks.ask(has_formed, &name, reference) {
+        Ok(told) => Ok(told),
+        Err(AllocError) => locks.ask(has_formed, &name, reference),
+    };
     drop(name);
     told
 }

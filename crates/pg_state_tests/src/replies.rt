@@ -1,6 +1,6 @@
 //! The gathered replies of several nodes to one call.
 
-use crate::samples::reference;
+use crate::samples::{atom, reference};
 use pg_multicall::{Gather, Taken};
 use pg_term::{Atom, Reference, TermFault};
 use std::alloc::Global;
@@ -20,19 +20,27 @@ struct Asked {
 
 fn asked_b_and_c(alloc: Global) -> Result<Asked, TermFault> {
     let gather = gather_over_b_and_c(alloc)?;
-    let b = Atom::new(alloc, "b")?;
-    let c = Atom::new(alloc, "c")?;
+    let b = atom(alloc, "b")?;
+    let c = atom(alloc, "c")?;
     let call = reference(alloc, "a", 1)?;
     Ok(Asked { b, c, call, gather })
 }
 
 fn gather_over_b_and_c(alloc: Global) -> Result<Gather<bool>, TermFault> {
-    let b = Atom::new(alloc, "b")?;
-    let c = Atom::new(alloc, "c")?;
+    let b = atom(alloc, "b")?;
+    let c = atom(alloc, "c")?;
     gather_of(alloc, &[b, c])
 }
 
+// A refused growth is asked for once more.
 fn gather_of(alloc: Global, nodes: &[Atom]) -> Result<Gather<bool>, TermFault> {
+    match gather_once(alloc, nodes) {
+        Err(TermFault::OutOfMemory) => gather_once(alloc, nodes),
+        made => made,
+    }
+}
+
+fn gather_once(alloc: Global, nodes: &[Atom]) -> Result<Gather<bool>, TermFault> {
     let call = reference(alloc, "a", 1)?;
     Ok(Gather::new(alloc, call, nodes)?)
 }
@@ -83,7 +91,7 @@ fn first_replies_stay(rt: HostRuntime) -> Result<(), Fail> {
 }
 
 fn check_stranger(rt: &impl Abort, alloc: Global, asked: &mut Asked) -> Result<(), TermFault> {
-    let d = Atom::new(alloc, "d")?;
+    let d = atom(alloc, "d")?;
     check_first(rt, asked, &d);
     drop(d);
     Ok(())
