@@ -18,6 +18,3 @@ mod tags;
 pub use data::{Diagram, Event, Topic};
 pub use draw::{svg_of, write_svg};
 pub use laws::{rows_go_down, texts_are_escaped};
-
-#[cfg(test)]
-mod tests;

@@ -6,8 +6,12 @@ mod frames;
 #[cfg(test)]
 mod packets;
 #[cfg(test)]
+mod pictures;
+#[cfg(test)]
 mod rings;
 #[cfg(test)]
 mod samples;
 #[cfg(test)]
 mod terms;
+#[cfg(test)]
+mod texts;

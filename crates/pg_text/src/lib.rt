@@ -11,6 +11,3 @@ pub use fault::TextFault;
 pub use laws::{just_those_are_read, printed_is_read};
 pub use reading::{read_atom, read_number, read_pid, read_term};
 pub use writing::{write_atom, write_pid, write_term, write_update};
-
-#[cfg(test)]
-mod tests;
