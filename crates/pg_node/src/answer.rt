@@ -38,7 +38,9 @@ pub(crate) fn answer<T: GroupTable + Drop>(
     ensures names { names_of node.new ≡ names_of node.old }
 {
     let packet = read_packet(alloc, body)?;
-    answer_packet(node, &packet, out)
+    let answered = answer_packet(node, &packet, out);
+    drop(packet);
+    answered
 }
 
 /// Takes a packet of the one peer. A fault, of the node's step or `OutOfMemory`, changes nothing.
@@ -61,6 +63,7 @@ fn answer_packet<T: GroupTable + Drop>(
     match node.take(0, packet) {
         Ok(done) => {
             write_sent(done.sends.as_slice(), out);
+            drop(done);
             Ok(())
         }
         Err(fault) => Err(untaken(fault)),

@@ -193,7 +193,9 @@ pub fn serve<R: Source, W: Sink>(
     ensures flushed { LeavesFlushed W.flushed writer.old writer.new result }
 {
     let mut server = idle_server(alloc, own, peer)?;
-    server.run(reader, writer)
+    let served = server.run(reader, writer);
+    drop(server);
+    served
 }
 
 /// A server that has read nothing.

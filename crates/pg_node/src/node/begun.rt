@@ -90,7 +90,11 @@ fn opening_wires<T: GroupTable + Drop>(
     ensures fault { IfErr result (λ fault. CantBegin (kept_by state.now).table (name_at (names_known state.now) 0) fault) }
 {
     match state.announcement() {
-        Ok(packet) => opened_wires(alloc, state.peer_count(), &packet),
+        Ok(packet) => {
+            let wires = opened_wires(alloc, state.peer_count(), &packet);
+            drop(packet);
+            wires
+        }
         Err(AllocError) => Err(NodeFault::OutOfMemory),
     }
 }

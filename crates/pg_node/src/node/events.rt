@@ -48,7 +48,11 @@ impl<T: GroupTable + Drop> Node<T> {
         }
         let wire = &mut self.wires[peer];
         match wire.next(self.alloc) {
-            Ok(next) => self.take_next(peer, &next),
+            Ok(next) => {
+                let taken = self.take_next(peer, &next);
+                drop(next);
+                taken
+            }
             Err(fault) => Err(fault),
         }
     }

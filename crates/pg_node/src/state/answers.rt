@@ -32,9 +32,16 @@ impl<T: GroupTable + Drop> NodeState<T> {
         ensures ports { ports_of self.new ≡ ports_of self.old }
         ensures fits { IfOk result (λ done. AreSendable (names_of self.old) done.sends.items) }
     {
-        reserve_answer(&mut self.ports, port)?;
-        give(&mut self.ports, port, reply);
-        self.clock = clock;
-        Ok(Done::nothing(self.alloc))
+        match reserve_answer(&mut self.ports, port) {
+            Ok(()) => {
+                give(&mut self.ports, port, reply);
+                self.clock = clock;
+                Ok(Done::nothing(self.alloc))
+            }
+            Err(fault) => {
+                drop(reply);
+                Err(fault)
+            }
+        }
     }
 }

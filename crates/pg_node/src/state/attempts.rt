@@ -136,12 +136,19 @@ impl<T: GroupTable + Drop> NodeState<T> {
         let calls = all_asked(self.alloc, clock, &self.opens, op)?;
         let number = self.opens.references() + 1;
         let name = waiting_under(&self.opens, op).name();
-        ask_own(&mut self.locks, true, name, &calls.lock)?;
-        ask_first(&mut self.opens, op, 0, true);
-        // The own node was asked, so that it does not matter what it would answer now: it holds the lock.
-        self.opens.ask(number, Asked::All, false);
-        self.clock = clock;
-        Ok(calls.done)
+        match ask_own(&mut self.locks, true, name, &calls.lock) {
+            Ok(()) => {
+                ask_first(&mut self.opens, op, 0, true);
+                // The own node was asked, so that it does not matter what it would answer now: it holds the lock.
+                self.opens.ask(number, Asked::All, false);
+                self.clock = clock;
+                Ok(calls.done)
+            }
+            Err(fault) => {
+                drop(calls);
+                Err(fault)
+            }
+        }
     }
 
     /// The own node grants the lock, and no peer counts: the update is applied, and the command ends.
@@ -163,14 +170,21 @@ impl<T: GroupTable + Drop> NodeState<T> {
         ensures ports { ports_of self.new ≡ ports_of self.old }
         ensures fits { IfOk result (λ done. AreSendable (names_of self.old) done.sends.items) }
     {
-        let done = began_alone(self.alloc, &self.opens, op)?;
         reserve_answer(&mut self.ports, op.port)?;
+        let done = began_alone(self.alloc, &self.opens, op)?;
         let update = waiting_under(&self.opens, op);
-        self.table.apply(update, &self.ended)?;
-        end_alone(&mut self.opens, op);
-        keep_reserved(&mut self.ports, op, Reply::Ok);
-        self.clock = clock;
-        Ok(done)
+        match self.table.apply(update, &self.ended) {
+            Ok(()) => {
+                end_alone(&mut self.opens, op);
+                keep_reserved(&mut self.ports, op, Reply::Ok);
+                self.clock = clock;
+                Ok(done)
+            }
+            Err(fault) => {
+                drop(done);
+                Err(fault)
+            }
+        }
     }
 
     /// Whether the own node would grant the lock to a command that waits.

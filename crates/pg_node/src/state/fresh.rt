@@ -47,8 +47,14 @@ fn update_of(alloc: Global, command: &Command) -> Result<Update, AllocError>
     Ok(match command {
         Command::Create(name) => Update::Create(name.copy(alloc)?),
         Command::Delete(name) => Update::Delete(name.copy(alloc)?),
-        Command::Join(name, pid) => Update::Join(name.copy(alloc)?, pid.copy()?),
-        Command::Leave(name, pid) => Update::Leave(name.copy(alloc)?, pid.copy()?),
+        Command::Join(name, pid) => {
+            let pid = pid.copy()?;
+            Update::Join(name.copy(alloc)?, pid)
+        }
+        Command::Leave(name, pid) => {
+            let pid = pid.copy()?;
+            Update::Leave(name.copy(alloc)?, pid)
+        }
         _ => unreachable!(),
     })
 }

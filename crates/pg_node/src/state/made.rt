@@ -65,8 +65,13 @@ impl<T: GroupTable + Drop> NodeState<T> {
         ensures sends { IfOk result (λ begun. Announces (T.contents table) (nodes_of begun.0) (sends_in (names_of begun.0) begun.1.items)) }
     {
         let node = started(alloc, config, table)?;
-        let sends = opening(alloc, &node.opens, &node.table)?;
-        Ok((node, sends))
+        match opening(alloc, &node.opens, &node.table) {
+            Ok(sends) => Ok((node, sends)),
+            Err(fault) => {
+                drop(node);
+                Err(fault)
+            }
+        }
     }
 
     /// The same node, before it sends anything; what `new` sends to each peer is its `announcement`. Its cost is that of the

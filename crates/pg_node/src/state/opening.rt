@@ -25,7 +25,9 @@ pub(crate) fn opening<T: GroupTable>(
     ensures { IfOk result (λ sends. Announces (T.contents table.now) (left_of opens.now) (sends_in (names_of opens.now) sends.items)) }
 {
     let packet = announced(alloc, opens, table)?;
-    copies_to_left(alloc, &packet, opens)
+    let sends = copies_to_left(alloc, &packet, opens);
+    drop(packet);
+    sends
 }
 
 /// What a node tells each peer as it begins: all groups of a table, at time 0.

@@ -31,7 +31,8 @@ impl Order<'_> {
                 Message::Call(reference.copy()?, Request::SetLock(name.copy(alloc)?))
             }
             Order::Free(name, reference) => {
-                Message::DelLock(name.copy(alloc)?, reference.copy()?)
+                let reference = reference.copy()?;
+                Message::DelLock(name.copy(alloc)?, reference)
             }
             Order::Change(update, reference) => {
                 Message::Call(reference.copy()?, Request::Change(update.copy(alloc)?))

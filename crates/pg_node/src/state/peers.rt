@@ -48,9 +48,16 @@ impl<T: GroupTable + Drop> NodeState<T> {
         let formed = self.formation.formed();
         let granted = self.locks.grants(formed, name);
         let done = reply(self.alloc, clock, peer, reference, verdict(granted))?;
-        self.locks.ask(formed, name, reference)?;
-        self.clock = clock;
-        Ok(done)
+        match self.locks.ask(formed, name, reference) {
+            Ok(_) => {
+                self.clock = clock;
+                Ok(done)
+            }
+            Err(fault) => {
+                drop(done);
+                Err(fault)
+            }
+        }
     }
 
     /// Applies an update for a peer.
@@ -75,9 +82,16 @@ impl<T: GroupTable + Drop> NodeState<T> {
         ensures answers { answers_of self.new ≡ answers_of self.old }
     {
         let done = reply(self.alloc, clock, peer, reference, Said::Applied)?;
-        self.table.apply(update, &self.ended)?;
-        self.clock = clock;
-        Ok(done)
+        match self.table.apply(update, &self.ended) {
+            Ok(()) => {
+                self.clock = clock;
+                Ok(done)
+            }
+            Err(fault) => {
+                drop(done);
+                Err(fault)
+            }
+        }
     }
 
     /// Frees a lock that a peer gives up.
@@ -211,13 +225,13 @@ fn reply(
     ensures odd { IfOk result (λ done. done.odd ≡ None) }
     ensures fits { (names : List Node) → peer + 1 < length names → IfOk result (λ done. AreSendable names done.sends.items) }
 {
-    let message = Message::Reply(reference.copy()?, said);
+    let reference = reference.copy()?;
+    let mut sends = Vec::with_capacity(alloc, 1)?;
     let packet = Packet {
         stamp: clock,
-        message,
+        message: Message::Reply(reference, said),
     };
-    let mut sends = Vec::with_capacity(alloc, 1)?;
-    sends.push((peer, packet))?;
+    sends.push_reserved((peer, packet));
     Ok(Done {
         sends,
         began: None,

@@ -14,22 +14,6 @@ ghost use Rattle.pg_group.specs.Functions.{upd};
 ghost use Rattle.pg_node.specs.Issued.{counted_at, HasRoomAt};
 ghost use Rattle.pg_node.specs.Ports.{counts_in, answers_in};
 
-/// Keeps the answer to a command at its port. One allocation at most.
-///
-/// Error: `AllocError`, which changes nothing.
-pub(crate) fn keep_answer(ports: &mut Vec<Port>, op: OpId, reply: Reply) -> Result<(), AllocError>
-    requires place { op.port < length ports.old.items }
-    ensures ok { OnOk result (answers_in ports.new.items ≡ upd nat_eq (answers_in ports.old.items) op.port
-        (answers_in ports.old.items op.port ++ record { number = op.number; reply = reply } ∷ [])) }
-    ensures counts { counts_in ports.new.items ≡ counts_in ports.old.items }
-    ensures len { length ports.new.items ≡ length ports.old.items }
-    ensures err { OnErr result (answers_in ports.new.items ≡ answers_in ports.old.items) }
-{
-    reserve_answer(ports, op.port)?;
-    keep_reserved(ports, op, reply);
-    Ok(())
-}
-
 /// Makes room for one more answer at a port.
 ///
 /// Error: `AllocError`, by which nothing changes either.

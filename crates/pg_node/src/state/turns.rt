@@ -15,7 +15,7 @@ ghost use Rattle.pg_step.specs.State.Use.{Locking, Updating};
 
 use crate::state::calls::{asked, begun, ended, freed, has_peer, update_under};
 use crate::state::own::{apply_own, ask_own, free_own};
-use crate::state::port::{keep_answer, keep_reserved, reserve_answer};
+use crate::state::port::{keep_reserved, reserve_answer};
 use crate::state::{Done, NodeState};
 use pg_group::GroupTable;
 use pg_opens::{Asked, Outlook, steps_go_by_outlook};
@@ -76,10 +76,17 @@ impl<T: GroupTable + Drop> NodeState<T> {
         let granted = self.would_grant(number);
         let asks = self.opens.is_asked_by(number, Asked::All, 0) & granted;
         let name = update_under(&self.opens, number).name();
-        ask_own(&mut self.locks, asks, name, &calls.lock)?;
-        self.opens.ask(number, Asked::All, granted);
-        self.clock = clock;
-        Ok(calls.done)
+        match ask_own(&mut self.locks, asks, name, &calls.lock) {
+            Ok(()) => {
+                self.opens.ask(number, Asked::All, granted);
+                self.clock = clock;
+                Ok(calls.done)
+            }
+            Err(fault) => {
+                drop(calls);
+                Err(fault)
+            }
+        }
     }
 
     /// Begins the update of a command that all have granted, once the rest was asked: it has a new reference, changes the own
@@ -102,18 +109,25 @@ impl<T: GroupTable + Drop> NodeState<T> {
         let granted = self.would_grant(number);
         let asks = self.opens.is_asked_by(number, Asked::All, 0) & granted;
         let update = update_under(&self.opens, number);
-        apply_own(
+        match apply_own(
             &mut self.locks,
             &mut self.table,
             &self.ended,
             asks,
             update,
             &calls.lock,
-        )?;
-        self.opens.ask(number, Asked::All, granted);
-        self.opens.begin(number);
-        self.clock = clock;
-        Ok(calls.done)
+        ) {
+            Ok(()) => {
+                self.opens.ask(number, Asked::All, granted);
+                self.opens.begin(number);
+                self.clock = clock;
+                Ok(calls.done)
+            }
+            Err(fault) => {
+                drop(calls);
+                Err(fault)
+            }
+        }
     }
 
     /// Ends a command whose update every node has applied: frees the lock everywhere, and answers ok. `number`: the one of
@@ -138,8 +152,9 @@ impl<T: GroupTable + Drop> NodeState<T> {
         ensures ports { ports_of self.new ≡ ports_of self.old }
         ensures fits { IfOk result (λ done. AreSendable (names_of self.old) done.sends.items) }
     {
+        reserve_answer(&mut self.ports, op.port)?;
         let calls = ended(self.alloc, clock, &self.opens, number, lock)?;
-        keep_answer(&mut self.ports, op, Reply::Ok)?;
+        keep_reserved(&mut self.ports, op, Reply::Ok);
         let name = update_under(&self.opens, number).name();
         self.locks.give_up(name, &calls.lock);
         self.opens.finish(number);
@@ -163,20 +178,27 @@ impl<T: GroupTable + Drop> NodeState<T> {
         ensures ports { ports_of self.new ≡ ports_of self.old }
         ensures fits { IfOk result (λ done. AreSendable (names_of self.old) done.sends.items) }
     {
+        reserve_answer(&mut self.ports, op.port)?;
         let calls = begun(self.alloc, clock, &self.opens, number, op)?;
         let granted = self.would_grant(number);
         let changing = self.opens.references() + 1;
-        reserve_answer(&mut self.ports, op.port)?;
         let update = update_under(&self.opens, number);
-        self.table.apply(update, &self.ended)?;
-        equality();
-        self.locks.give_up(update.name(), &calls.lock);
-        self.opens.ask(number, Asked::All, granted);
-        self.opens.begin(number);
-        self.opens.finish(changing);
-        keep_reserved(&mut self.ports, op, Reply::Ok);
-        self.clock = clock;
-        Ok(calls.done)
+        match self.table.apply(update, &self.ended) {
+            Ok(()) => {
+                equality();
+                self.locks.give_up(update.name(), &calls.lock);
+                self.opens.ask(number, Asked::All, granted);
+                self.opens.begin(number);
+                self.opens.finish(changing);
+                keep_reserved(&mut self.ports, op, Reply::Ok);
+                self.clock = clock;
+                Ok(calls.done)
+            }
+            Err(fault) => {
+                drop(calls);
+                Err(fault)
+            }
+        }
     }
 
     /// What follows once the answers to a request for the lock are in. `number`: the one of its reference.

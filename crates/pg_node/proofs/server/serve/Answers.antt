@@ -26,10 +26,10 @@ returns-in_err-server-clause-flushed g c =
 
 pub returns-clause-known : goal.returns-clause-known
 returns-clause-known g c =
-    serves_any (pair_of c.in_ok-server.server.node) c.args.own.now c.args.peer.now (g.R.Source.remaining c.args.reader.now) (g.W.Sink.contents c.args.writer.now) (g.W.Sink.contents c.run.new.writer) c.run.result
-    c.in_ok-server.ensures.peer c.run.ensures.known
+    serves_any (pair_of c.in_ok-server.server.node) c.args.own.now c.args.peer.now (g.R.Source.remaining c.args.reader.now) (g.W.Sink.contents c.args.writer.now) (g.W.Sink.contents c.run-served.new.writer) c.run-served.result
+    c.in_ok-server.ensures.peer c.run-served.ensures.known
 
 pub returns-clause-cause : goal.returns-clause-cause
 returns-clause-cause g c =
-    cause_any _ g.R.Source.gives g.R.Source.fails c.args.reader.now c.run.new.reader (pair_of c.in_ok-server.server.node) c.args.own.now c.args.peer.now (g.W.Sink.contents c.args.writer.now) (g.W.Sink.contents c.run.new.writer) c.run.result
-    c.in_ok-server.ensures.peer c.run.ensures.cause
+    cause_any _ g.R.Source.gives g.R.Source.fails c.args.reader.now c.run-served.new.reader (pair_of c.in_ok-server.server.node) c.args.own.now c.args.peer.now (g.W.Sink.contents c.args.writer.now) (g.W.Sink.contents c.run-served.new.writer) c.run-served.result
+    c.in_ok-server.ensures.peer c.run-served.ensures.cause

@@ -5,8 +5,8 @@ use Rattle.pg_node.specs.States.{names_of, kept_by, sends_in}
 use Rattle.pg_node.proofs.Answered.{counts_within, given_later, given_still, counts_still, answered_on}
 use Rattle.pg_node.proofs.state.NodeState.answer.Goals as goal
 
-pub invariant_of-self : goal.invariant_of-self
-invariant_of-self g c =
+pub invariant_of-self-in-Err-1 : goal.invariant_of-self-in-Err-1
+invariant_of-self-in-Err-1 g c =
     let old = c.args.self.now in
     record {
       peers = old.peers;
@@ -24,8 +24,8 @@ give-requires-clause-few g c =
     let old = c.args.self.now in
     omega (arith, counts_still old.ports.items c.reserve_answer.new.ports.items c.reserve_answer.ensures.len c.reserve_answer.ensures.counts old.clock old.counted c.args.port, old.within)
 
-pub invariant_of-self-2 : goal.invariant_of-self-2
-invariant_of-self-2 g c =
+pub invariant_of-self : goal.invariant_of-self
+invariant_of-self g c =
     let old = c.args.self.now in
     let same = c.give.ensures.len ∙ c.reserve_answer.ensures.len in
     let counted = c.give.ensures.counts ∙ ap (λ (f : ℕ → ℕ). counted_at c.args.port f) c.reserve_answer.ensures.counts in
@@ -40,8 +40,8 @@ invariant_of-self-2 g c =
       few = λ name pid. omega (arith, old.few name pid, c.requires.later);
     }
 
-pub returns-clause-happens : goal.returns-clause-happens
-returns-clause-happens g c response fits =
+pub returns-in-Ok-clause-happens : goal.returns-in-Ok-clause-happens
+returns-in-Ok-clause-happens g c response fits =
     let old = c.args.self.now in
     let counted = c.give.ensures.counts ∙ ap (λ (f : ℕ → ℕ). counted_at c.args.port f) c.reserve_answer.ensures.counts in
     record {

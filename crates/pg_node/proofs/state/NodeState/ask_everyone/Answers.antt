@@ -46,8 +46,8 @@ ask-requires g c =
       who = refl;
     }
 
-pub invariant_of-self-2 : goal.invariant_of-self-2
-invariant_of-self-2 g c =
+pub invariant_of-self-in-Ok : goal.invariant_of-self-in-Ok
+invariant_of-self-in-Ok g c =
     let old = c.args.self.now in
     let m : Nodes = left_of old in
     let op = c.args.op in
@@ -82,8 +82,8 @@ invariant_of-self-2 g c =
       few = λ name pid. omega (arith, c.requires.few name pid);
     }
 
-pub returns-clause-happens : goal.returns-clause-happens
-returns-clause-happens g c = λ update is.
+pub returns-in-Ok-clause-happens : goal.returns-in-Ok-clause-happens
+returns-in-Ok-clause-happens g c = λ update is.
     let old = c.args.self.now in
     let m : Nodes = left_of old in
     let op = c.args.op in
@@ -105,7 +105,7 @@ returns-clause-happens g c = λ update is.
     (λ e. c.ask.ensures.turned op update (greatest m) st e s1 asked (ap (λ (n : Nodes). would_grant n s1 (name_of update)) same ∙ no_more)) used) in
     let nodes = c.ask.ensures.nodes ∙ c.ask_first.ensures.nodes in
     let name = c.name-name.ensures ∙ ap name_of (same_update c.waiting_under.result.now update (sym c.waiting_under.ensures ∙ is)) in
-    let held = c.in_ok-ask_own.ensures.ok ∙ (λ i. after_ask true (locks_of old.locks) (name i) (c.in_ok-calls.ensures.lock i)) in
+    let held = c.in-Ok.ensures.ok ∙ (λ i. after_ask true (locks_of old.locks) (name i) (c.in_ok-calls.ensures.lock i)) in
     happens_as (names_of old) (names_of old) c.args.clock (attempt m op update (kept_by old)) (rest_turn m op update (kept_by old) own apart) _ _ _ _ refl
     (sym (attempt_asks m op update (kept_by old) own apart granting c.requires.some.0 c.requires.some.1)) (record {
       told = record {

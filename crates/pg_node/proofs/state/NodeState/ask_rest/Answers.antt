@@ -16,8 +16,8 @@ use Rattle.pg_step.specs.State.Use.{Locking}
 use Rattle.pg_node.proofs.Given.{given_use, of_lock, locking_came, gathered_named}
 use Rattle.pg_node.proofs.state.NodeState.ask_rest.Goals as goal
 
-pub invariant_of-self-2 : goal.invariant_of-self-2
-invariant_of-self-2 g c =
+pub invariant_of-self-in-Ok : goal.invariant_of-self-in-Ok
+invariant_of-self-in-Ok g c =
     let old = c.args.self.now in
     let parts : LockParts ((kept_by old).uses c.args.number) = parts_by ((kept_by old).uses c.args.number) c.requires.locking in
     let s : State = (ask (left_of old) (λ q. true) c.args.number parts.op parts.update parts.first parts.st (kept_by old)).state in
@@ -37,8 +37,8 @@ invariant_of-self-2 g c =
       few = λ name pid. omega (arith, old.few name pid, c.requires.later);
     }
 
-pub returns-clause-happens : goal.returns-clause-happens
-returns-clause-happens g c = λ op update first st is.
+pub returns-in-Ok-clause-happens : goal.returns-in-Ok-clause-happens
+returns-in-Ok-clause-happens g c = λ op update first st is.
     let old = c.args.self.now in
     let new = c.ask.new.self in
     let t : State = (ask (left_of old) (λ q. true) c.args.number op update first st (kept_by old)).state in
@@ -50,7 +50,7 @@ returns-clause-happens g c = λ op update first st is.
     record {
       told = record { sends = c.in_ok-calls.ensures.sends op update first st is; began = c.in_ok-calls.ensures.began; odd = c.in_ok-calls.ensures.odd };
       state = assembled c.args.clock t new ((kept_by old).table) ((kept_by old).ended) (locks_of c.ask_own.new.locks) (merged_in (opens_names new) old.formation) ((kept_by old).processes) ((kept_by old).counts)
-          turned refl refl (c.in_ok-ask_own.ensures.ok ∙ (λ i. after_ask (asked i && would i) (locks_of old.locks) (name i) (lock i)))
+          turned refl refl (c.in-Ok.ensures.ok ∙ (λ i. after_ask (asked i && would i) (locks_of old.locks) (name i) (lock i)))
           (merged_stay old.opens new t turned c.ask.ensures.nodes old.formation) refl refl;
       answers = refl;
     }

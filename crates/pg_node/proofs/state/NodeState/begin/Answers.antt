@@ -43,8 +43,8 @@ begin-requires g c =
       next = omega (arith, sym asked.references, old.made, c.requires.later, c.requires.within);
     }
 
-pub invariant_of-self-2 : goal.invariant_of-self-2
-invariant_of-self-2 g c =
+pub invariant_of-self-in-Ok : goal.invariant_of-self-in-Ok
+invariant_of-self-in-Ok g c =
     let old = c.args.self.now in
     let parts : LockOf ((kept_by old).uses c.args.number) c.args.op = locks_by ((kept_by old).uses c.args.number) c.args.op c.requires.locking in
     let st : Node → Status = with_asked (left_of old) (λ q. true) parts.st (would_grant (left_of old) (kept_by old) (name_of parts.update)) in
@@ -72,11 +72,11 @@ invariant_of-self-2 g c =
           (given_use c.args.number (Locking c.args.op parts.update parts.first st) (of_lock c.args.op parts.update parts.first st came)
           (given_stage c.args.op (Changing ((kept_by old).references + 1)) (of_any came) old.given))));
       few = few_changed (2 ^ 32 + old.clock) (2 ^ 32 + c.args.clock) (g.T.GroupTable.contents old.table) (g.T.GroupTable.contents c.apply_own.new.table) c.update_under-update.result.now (ended_of old.ended)
-          (omega (arith, c.requires.later)) old.few c.in_ok-apply_own.ensures.table;
+          (omega (arith, c.requires.later)) old.few c.in-Ok.ensures.table;
     }
 
-pub returns-clause-happens : goal.returns-clause-happens
-returns-clause-happens g c = λ update first st is.
+pub returns-in-Ok-clause-happens : goal.returns-in-Ok-clause-happens
+returns-in-Ok-clause-happens g c = λ update first st is.
     let old = c.args.self.now in
     let op = c.args.op in
     let would = c.would_grant-granted.ensures op update first st is in
@@ -95,8 +95,8 @@ returns-clause-happens g c = λ update first st is.
     record {
       told = record { sends = c.in_ok-calls.ensures.sends op update first st is; began = c.in_ok-calls.ensures.began update (ap update_of is); odd = c.in_ok-calls.ensures.odd };
       state = assembled c.args.clock t new (g.T.GroupTable.contents c.apply_own.new.table) ((kept_by old).ended) (locks_of c.apply_own.new.locks) (merged_in (opens_names new) old.formation) ((kept_by old).processes) ((kept_by old).counts)
-          turned (c.in_ok-apply_own.ensures.table ∙ ap (λ (u : Change). changed (g.T.GroupTable.contents old.table) u (ended_of old.ended)) changes) refl
-          (c.in_ok-apply_own.ensures.locks ∙ (λ i. after_ask (asks i && would i) (locks_of old.locks) (name_of (changes i)) (lock i)))
+          turned (c.in-Ok.ensures.table ∙ ap (λ (u : Change). changed (g.T.GroupTable.contents old.table) u (ended_of old.ended)) changes) refl
+          (c.in-Ok.ensures.locks ∙ (λ i. after_ask (asks i && would i) (locks_of old.locks) (name_of (changes i)) (lock i)))
           (merged_stay old.opens new t turned (c.begin.ensures.nodes ∙ c.ask.ensures.nodes) old.formation) refl refl;
       answers = refl;
     }

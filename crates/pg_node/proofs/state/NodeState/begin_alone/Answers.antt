@@ -110,8 +110,8 @@ keep_reserved-requires g c =
       room = c.in_ok-reserve_answer.ensures.ok;
     }
 
-pub invariant_of-self-in-Break-branch-2 : goal.invariant_of-self-in-Break-branch-2
-invariant_of-self-in-Break-branch-2 g c =
+pub invariant_of-self : goal.invariant_of-self
+invariant_of-self g c =
     let old = c.args.self.now in
     record {
       peers = old.peers;
@@ -124,8 +124,8 @@ invariant_of-self-in-Break-branch-2 g c =
       few = old.few;
     }
 
-pub invariant_of-self-in-Break-branch-3 : goal.invariant_of-self-in-Break-branch-3
-invariant_of-self-in-Break-branch-3 g c =
+pub invariant_of-self-2 : goal.invariant_of-self-2
+invariant_of-self-2 g c =
     let old = c.args.self.now in
     record {
       peers = old.peers;
@@ -135,11 +135,25 @@ invariant_of-self-in-Break-branch-3 g c =
       made = old.made;
       counted = λ port. subst (λ (f : ℕ → ℕ). f port ≤ old.clock) (sym c.reserve_answer.ensures.counts) (old.counted port);
       given = given_ports (length old.ports.items) (length c.reserve_answer.new.ports.items) (counts_in old.ports.items) (counts_in c.reserve_answer.new.ports.items) c.reserve_answer.ensures.len c.reserve_answer.ensures.counts old.given;
-      few = λ name pid. subst (λ (t : Table). count_in (t name) pid ≤ 2 ^ 32 + old.clock) (sym c.in_err-apply.ensures.err) (old.few name pid);
+      few = old.few;
     }
 
-pub invariant_of-self-2 : goal.invariant_of-self-2
-invariant_of-self-2 g c =
+pub invariant_of-self-in-Err-1 : goal.invariant_of-self-in-Err-1
+invariant_of-self-in-Err-1 g c =
+    let old = c.args.self.now in
+    record {
+      peers = old.peers;
+      own = old.own;
+      forgotten = old.forgotten;
+      within = old.within;
+      made = old.made;
+      counted = λ port. subst (λ (f : ℕ → ℕ). f port ≤ old.clock) (sym c.reserve_answer.ensures.counts) (old.counted port);
+      given = given_ports (length old.ports.items) (length c.reserve_answer.new.ports.items) (counts_in old.ports.items) (counts_in c.reserve_answer.new.ports.items) c.reserve_answer.ensures.len c.reserve_answer.ensures.counts old.given;
+      few = λ name pid. subst (λ (t : Table). count_in (t name) pid ≤ 2 ^ 32 + old.clock) (sym c.in-Err.ensures.err) (old.few name pid);
+    }
+
+pub invariant_of-self-in-Ok : goal.invariant_of-self-in-Ok
+invariant_of-self-in-Ok g c =
     let old = c.args.self.now in
     let number : ℕ = c.args.number in
     let op : OpId = c.args.op in
@@ -184,11 +198,11 @@ invariant_of-self-2 g c =
           (given_use number (Locking op update parts.first st) (of_lock op update parts.first st came)
           (given_stage op Closed (of_any came) (given_stage op (Changing changing) (of_any came) old.given))))))));
       few = few_changed (2 ^ 32 + old.clock) (2 ^ 32 + c.args.clock) (g.T.GroupTable.contents old.table) (g.T.GroupTable.contents c.apply.new.self) c.update_under-update.result.now (ended_of old.ended)
-          (omega (arith, c.requires.later)) old.few c.in_ok-apply.ensures.ok;
+          (omega (arith, c.requires.later)) old.few c.in-Ok.ensures.ok;
     }
 
-pub returns-clause-happens : goal.returns-clause-happens
-returns-clause-happens g c = λ update first st0 is.
+pub returns-in-Ok-clause-happens : goal.returns-in-Ok-clause-happens
+returns-in-Ok-clause-happens g c = λ update first st0 is.
     let old = c.args.self.now in
     let number : ℕ = c.args.number in
     let op : OpId = c.args.op in
@@ -235,7 +249,7 @@ returns-clause-happens g c = λ update first st0 is.
         odd = c.in_ok-calls.ensures.odd ∙ sym (ap (λ (t : NodeTurn). t.reported.odd) whole);
       };
       state = assembled clock s3 new (contents c.apply.new.self) ((kept_by old).ended) (locks_of c.give_up.new.self) (merged_in (opens_names new) old.formation) ((kept_by old).processes) (counts_in c.keep_reserved.new.ports.items)
-          turned (c.in_ok-apply.ensures.ok ∙ ap (λ (u : Change). changed (contents old.table) u (ended_of old.ended)) changes) refl freed
+          turned (c.in-Ok.ensures.ok ∙ ap (λ (u : Change). changed (contents old.table) u (ended_of old.ended)) changes) refl freed
           (merged_stay old.opens new s3 turned nodes old.formation) refl (c.keep_reserved.ensures.counts ∙ c.reserve_answer.ensures.counts)
           ∙ sym (ap (λ (t : NodeTurn). at_time clock t.state) whole);
       answers = subst (λ (gave : Option (OpId × Response)). Gave (name_at (names_of old) 0) gave (answers_in old.ports.items) (answers_in c.keep_reserved.new.ports.items)) (sym (ap (λ (t : NodeTurn). t.reported.gave) whole))

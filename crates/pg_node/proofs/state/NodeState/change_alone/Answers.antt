@@ -55,8 +55,8 @@ invariant_of-self g c =
       few = old.few;
     }
 
-pub invariant_of-self-in-Break-branch-3 : goal.invariant_of-self-in-Break-branch-3
-invariant_of-self-in-Break-branch-3 g c =
+pub invariant_of-self-in-Break-branch-2 : goal.invariant_of-self-in-Break-branch-2
+invariant_of-self-in-Break-branch-2 g c =
     let old = c.args.self.now in
     record {
       peers = old.peers;
@@ -66,11 +66,25 @@ invariant_of-self-in-Break-branch-3 g c =
       made = old.made;
       counted = λ port. subst (λ (f : ℕ → ℕ). f port ≤ old.clock) (sym c.reserve_answer.ensures.counts) (old.counted port);
       given = given_ports (length old.ports.items) (length c.reserve_answer.new.ports.items) (counts_in old.ports.items) (counts_in c.reserve_answer.new.ports.items) c.reserve_answer.ensures.len c.reserve_answer.ensures.counts old.given;
-      few = λ name pid. subst (λ (t : Table). count_in (t name) pid ≤ 2 ^ 32 + old.clock) (sym c.in_err-apply.ensures.err) (old.few name pid);
+      few = old.few;
     }
 
-pub invariant_of-self-2 : goal.invariant_of-self-2
-invariant_of-self-2 g c =
+pub invariant_of-self-in-Err-1 : goal.invariant_of-self-in-Err-1
+invariant_of-self-in-Err-1 g c =
+    let old = c.args.self.now in
+    record {
+      peers = old.peers;
+      own = old.own;
+      forgotten = old.forgotten;
+      within = old.within;
+      made = old.made;
+      counted = λ port. subst (λ (f : ℕ → ℕ). f port ≤ old.clock) (sym c.reserve_answer.ensures.counts) (old.counted port);
+      given = given_ports (length old.ports.items) (length c.reserve_answer.new.ports.items) (counts_in old.ports.items) (counts_in c.reserve_answer.new.ports.items) c.reserve_answer.ensures.len c.reserve_answer.ensures.counts old.given;
+      few = λ name pid. subst (λ (t : Table). count_in (t name) pid ≤ 2 ^ 32 + old.clock) (sym c.in-Err.ensures.err) (old.few name pid);
+    }
+
+pub invariant_of-self-in-Ok : goal.invariant_of-self-in-Ok
+invariant_of-self-in-Ok g c =
     let old = c.args.self.now in
     let m : Nodes = left_of old in
     let op = c.args.op in
@@ -96,11 +110,11 @@ invariant_of-self-2 g c =
       given = given_ports (length old.ports.items) (length c.keep_reserved.new.ports.items) (counts_in old.ports.items) (counts_in c.keep_reserved.new.ports.items) len counts
           (given_stay old.opens new s turned nodes (alone_given m op update (kept_by old) own apart (waiting_came op update old.given waiting.is) old.given));
       few = few_changed (2 ^ 32 + c.args.clock - 1) (2 ^ 32 + c.args.clock) (g.T.GroupTable.contents old.table) (g.T.GroupTable.contents c.apply.new.self) c.waiting_under-update.result.now (ended_of old.ended)
-          (omega arith) (λ name pid. omega (arith, c.requires.few name pid)) c.in_ok-apply.ensures.ok;
+          (omega arith) (λ name pid. omega (arith, c.requires.few name pid)) c.in-Ok.ensures.ok;
     }
 
-pub returns-clause-happens : goal.returns-clause-happens
-returns-clause-happens g c = λ update is.
+pub returns-in-Ok-clause-happens : goal.returns-in-Ok-clause-happens
+returns-in-Ok-clause-happens g c = λ update is.
     let old = c.args.self.now in
     let m : Nodes = left_of old in
     let op = c.args.op in
@@ -121,7 +135,7 @@ returns-clause-happens g c = λ update is.
         odd = c.in_ok-done.ensures.odd;
       };
       state = assembled c.args.clock s new (contents c.apply.new.self) ((kept_by old).ended) (locks_of old.locks) (merged_in (opens_names new) old.formation) ((kept_by old).processes) (counts_in c.keep_reserved.new.ports.items)
-          turned (c.in_ok-apply.ensures.ok ∙ ap (λ (u : Change). changed (contents old.table) u (ended_of old.ended)) changes) refl (sym (lone_locks m op update (kept_by old) own apart grants))
+          turned (c.in-Ok.ensures.ok ∙ ap (λ (u : Change). changed (contents old.table) u (ended_of old.ended)) changes) refl (sym (lone_locks m op update (kept_by old) own apart grants))
           (merged_stay old.opens new s turned c.end_alone.ensures.nodes old.formation) refl (c.keep_reserved.ensures.counts ∙ c.reserve_answer.ensures.counts);
       answers = (reply.Ok, refl, c.keep_reserved.ensures.kept ∙ (λ i. upd nat_eq (answers i) op.port (answers i op.port ++ record { number = op.number; reply = reply.Ok } ∷ [])));
     })

@@ -8,10 +8,10 @@ use Rattle.pg_node.specs.States.{names_of, nodes_of, sends_in}
 use Rattle.pg_node.proofs.Announced.{none_lost}
 use Rattle.pg_node.proofs.state.NodeState.new.Goals as goal
 
-pub returns-clause-sends : goal.returns-clause-sends
-returns-clause-sends g c =
+pub returns-in-Ok-clause-sends : goal.returns-in-Ok-clause-sends
+returns-in-Ok-clause-sends g c =
     let node = c.in_ok-node.node in
-    let sends = sends_in (names_of node) c.in_ok-sends.sends.items in
+    let sends = sends_in (names_of node) c.in-Ok.sends.items in
     let started = c.in_ok-node.ensures.state in
     subst (λ (table : Table). Announces table (nodes_of node) sends) (ap (λ (s : Timed State). s.state.table) started)
-    (subst (λ (m : Nodes). Announces (g.T.GroupTable.contents node.table) m sends) (none_lost node.opens (ap (λ (s : Timed State). s.state.lost) started)) c.in_ok-sends.ensures)
+    (subst (λ (m : Nodes). Announces (g.T.GroupTable.contents node.table) m sends) (none_lost node.opens (ap (λ (s : Timed State). s.state.lost) started)) c.in-Ok.ensures)

@@ -12,17 +12,17 @@ use Rattle.pg_node.specs.States.{names_of, kept_by}
 use Rattle.pg_node.proofs.Formed.{formed_is}
 use Rattle.pg_node.proofs.state.NodeState.serve_lock.Goals as goal
 
-pub returns-clause-state : goal.returns-clause-state
-returns-clause-state g c =
+pub returns-in-Ok-clause-state : goal.returns-in-Ok-clause-state
+returns-in-Ok-clause-state g c =
     let old = c.args.self.now in
     let locks = locks_of old.locks in
     let formed = c.formed-formed.ensures ∙ formed_is (names_of old) (lost_of old.opens) old.formation old.opens.apart old.peers old.forgotten in
-    let granted = c.in_ok-ask.ensures.granted ∙ ap (λ (b : Bool). grants b locks c.args.name.now) formed in
-    let after = c.in_ok-ask.ensures.after ∙ ap (λ (b : Bool). after_ask b locks c.args.name.now c.args.reference.now) granted in
+    let granted = c.in-Ok.ensures.granted ∙ ap (λ (b : Bool). grants b locks c.args.name.now) formed in
+    let after = c.in-Ok.ensures.after ∙ ap (λ (b : Bool). after_ask b locks c.args.name.now c.args.reference.now) granted in
     ap (λ (held : Locks). record { clock = c.args.clock; state = record (kept_by old) { locks = held } }) after
 
-pub returns-clause-told : goal.returns-clause-told
-returns-clause-told g c =
+pub returns-in-Ok-clause-told : goal.returns-in-Ok-clause-told
+returns-in-Ok-clause-told g c =
     let old = c.args.self.now in
     let formed = c.formed-formed.ensures ∙ formed_is (names_of old) (lost_of old.opens) old.formation old.opens.apart old.peers old.forgotten in
     let replied : Said → Node → List (Stamped Message) = λ s q. stamped c.args.clock (to_one (name_at (names_of old) (c.args.peer + 1)) (Reply c.args.reference.now s) q) in

@@ -5,4 +5,4 @@ use Rattle.pg_node.proofs.state.opening.opening.Goals as goal
 
 pub returns : goal.returns
 returns g c =
-    announced c.copies_to_left.result (λ sends. sends_in (names_of c.args.opens.now) sends.items) (g.T.GroupTable.contents c.args.table.now) (left_of c.args.opens.now) c.in_ok-packet.packet c.in_ok-packet.ensures c.copies_to_left.ensures
+    announced c.copies_to_left-sends.result (λ sends. sends_in (names_of c.args.opens.now) sends.items) (g.T.GroupTable.contents c.args.table.now) (left_of c.args.opens.now) c.in_ok-packet.packet c.in_ok-packet.ensures c.copies_to_left-sends.ensures
