@@ -167,16 +167,23 @@ pub fn run_threads<R: Threads, O: Onlooker>(
     let heard = converse(alloc, &mut clients, asked, onlooker);
     let closed = match cluster.close(rt, clients) {
         Ok(closed) => closed,
-        Err(_) => return Err(StartFault::World(WorldFault::OutOfMemory)),
+        Err(stopped) => {
+            drop(stopped);
+            drop(config);
+            return Err(StartFault::World(WorldFault::OutOfMemory));
+        }
     };
-    let answered = heard?;
+    let agree = closed.agrees(alloc);
+    let replay = closed.replays(alloc, &config);
+    drop(closed);
+    drop(config);
     Ok(Outcome {
         nodes: asked.nodes,
         clients: asked.all_clients(),
-        answered,
+        answered: heard?,
         asked: asked.commands(),
-        agree: closed.agrees(alloc)?,
-        replay: closed.replays(alloc, &config)?,
+        agree: agree?,
+        replay: replay?,
     })
 }
 

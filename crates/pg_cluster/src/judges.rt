@@ -61,7 +61,12 @@ impl Closed {
     {
         configs_are_decided();
         match run_frames(alloc, config, self.schedule.as_slice()) {
-            Ok((world, numbers)) => self.is_shown(&world, numbers.as_slice()),
+            Ok((world, numbers)) => {
+                let told = self.is_shown(&world, numbers.as_slice());
+                drop(world);
+                drop(numbers);
+                told
+            }
             Err(fault) => unbegun(fault),
         }
     }

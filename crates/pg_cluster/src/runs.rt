@@ -142,9 +142,11 @@ fn open_ports(
 {
     let mut ports = Vec::new(alloc);
     for _ in 0..count {
+        clients.reserve(1)?;
+        ports.reserve(1)?;
         let (client, port) = port_pair(alloc)?;
-        clients.push(client)?;
-        ports.push(port)?;
+        clients.push_reserved(client);
+        ports.push_reserved(port);
     }
     Ok(ports)
 }

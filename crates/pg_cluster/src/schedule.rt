@@ -18,8 +18,14 @@ fn copy_command(alloc: Global, command: &Command) -> Result<Command, AllocError>
     Ok(match command {
         Command::Create(name) => Command::Create(name.copy(alloc)?),
         Command::Delete(name) => Command::Delete(name.copy(alloc)?),
-        Command::Join(name, pid) => Command::Join(name.copy(alloc)?, pid.copy()?),
-        Command::Leave(name, pid) => Command::Leave(name.copy(alloc)?, pid.copy()?),
+        Command::Join(name, pid) => {
+            let pid = pid.copy()?;
+            Command::Join(name.copy(alloc)?, pid)
+        }
+        Command::Leave(name, pid) => {
+            let pid = pid.copy()?;
+            Command::Leave(name.copy(alloc)?, pid)
+        }
         Command::Make => Command::Make,
         Command::Finish(pid) => Command::Finish(pid.copy()?),
         Command::Members(name) => Command::Members(name.copy(alloc)?),

@@ -107,7 +107,13 @@ impl Speaker {
     {
         match self.command(alloc)? {
             Some(command) => {
-                self.is_asked = client.submit(command).is_ok();
+                self.is_asked = match client.submit(command) {
+                    Ok(()) => true,
+                    Err(command) => {
+                        drop(command);
+                        false
+                    }
+                };
                 Ok(self.is_asked)
             }
             None => Ok(false),
@@ -119,8 +125,14 @@ impl Speaker {
         Ok(match (self.stage, &self.pid) {
             (Stage::Creating, _) => Some(Command::Create(group(alloc)?)),
             (Stage::Making, _) => Some(Command::Make),
-            (Stage::Joining, Some(pid)) => Some(Command::Join(group(alloc)?, pid.copy()?)),
-            (Stage::Leaving, Some(pid)) => Some(Command::Leave(group(alloc)?, pid.copy()?)),
+            (Stage::Joining, Some(pid)) => {
+                let pid = pid.copy()?;
+                Some(Command::Join(group(alloc)?, pid))
+            }
+            (Stage::Leaving, Some(pid)) => {
+                let pid = pid.copy()?;
+                Some(Command::Leave(group(alloc)?, pid))
+            }
             _ => None,
         })
     }

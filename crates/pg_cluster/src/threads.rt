@@ -45,7 +45,7 @@ fn give_up<K: Rng + Drop + Send + 'static, R: Threads>(
 {
     stop_all(stops);
     for member in members {
-        member.join(rt);
+        drop(member.join(rt));
     }
     Err(fault)
 }

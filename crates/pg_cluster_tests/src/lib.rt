@@ -2,6 +2,8 @@
 #![tactic(auto)]
 
 #[cfg(test)]
+mod asks;
+#[cfg(test)]
 mod conversation;
 #[cfg(test)]
 mod gates;
@@ -15,3 +17,5 @@ mod programs;
 mod rings;
 #[cfg(test)]
 mod setting;
+#[cfg(test)]
+mod verdicts;

@@ -1,126 +1,160 @@
 //! Clusters of which nodes are lost: the others go on, and the schedule replays.
 
-use crate::setting::{Open, Running, config, group};
-use pg_cluster::Closed;
+use crate::asks::{Asked, asks, command};
+use crate::setting::{End, Open, Running, Setting, end_of, start};
+use crate::verdicts::{holds, holds_at};
 use pg_node::NodeFault;
-use pg_step::{Command, Refusal, Reply};
-use pg_term::{Atom, Term, TermFault};
-use pg_world::{Config, FrameStep};
-use std::alloc::{AllocError, Global};
+use pg_step::Refusal;
+use std::alloc::Global;
+use std::process::Abort;
 use std::sync::Wait;
-use std::test::Fail;
 use std::thread::Threads;
 
+/// What happens in a cluster.
+#[derive(Clone, Copy)]
+enum Row<'a> {
+    /// The client at this place creates the group of this name.
+    Create(usize, &'a str),
+    /// The client at this place asks for it, and waits for no answer.
+    Submit(usize, &'a str),
+    /// The client at this place makes so many processes.
+    Make(usize, u8),
+    /// The node is lost.
+    Lose(usize),
+    /// The loss of the node is refused.
+    NoLoss(usize, Refusal),
+}
+
 // Three nodes with a client each.
-fn three_nodes(alloc: Global) -> Result<Config, TermFault> {
-    config(alloc, &["a", "b", "c"], 1, 65536)
+const THREE: Setting = Setting {
+    names: &["a", "b", "c"],
+    ports: 1,
+    ring: 65536,
+    limit: 100_000_000,
+};
+
+fn is_refused(lost: Result<(), NodeFault>, wanted: Refusal) -> bool {
+    match lost {
+        Err(NodeFault::Refused(refusal)) => refusal == wanted,
+        _ => false,
+    }
 }
 
-fn another_group(alloc: Global) -> Result<Term, TermFault> {
-    Ok(Term::Atom(Atom::new(alloc, "h")?))
+// Whether the client takes the command.
+fn takes(alloc: Global, running: &mut Running, place: usize, name: &str) -> bool {
+    match command(alloc, Asked::Create(name)) {
+        Ok(command) => running.takes(place, command),
+        Err(_) => false,
+    }
 }
 
-// Whether the client at a place creates a group.
-fn creates(rt: &impl Wait, running: &mut Running, place: usize, name: Term) -> bool {
-    running.ask(rt, place, Command::Create(name)) == Some(Reply::Ok)
-}
-
-// Whether the client of the first node, and that of the second, create a group.
-fn others_create(rt: &impl Wait, alloc: Global, running: &mut Running) -> Result<bool, TermFault> {
-    Ok(creates(rt, running, 0, group(alloc)?) && creates(rt, running, 1, another_group(alloc)?))
-}
-
-fn is_refused(lost: Result<(), NodeFault>, refusal: Refusal) -> bool {
-    lost == Err(NodeFault::Refused(refusal))
-}
-
-// How many losses of nodes the schedule has.
-fn loss_count(closed: &Closed) -> usize {
-    let mut count: usize = 0;
-    for step in closed.schedule.iter() {
-        if matches!(step, FrameStep::Lose { .. }) {
-            count = count.saturating_add(1);
+fn makes(rt: &impl Wait, alloc: Global, running: &mut Running, place: usize, count: u8) -> bool {
+    for _ in 0..count {
+        if !asks(rt, alloc, running, place, Asked::Make) {
+            return false;
         }
     }
-    count
+    true
 }
 
-// Whether the cluster that is closed has so many losses, and its schedule leads to its nodes.
-fn ends_well<R: Threads>(
-    rt: &R,
+fn holds_in(
+    rt: &(impl Threads + Wait),
     alloc: Global,
-    running: Running,
-    config: &Config,
-    losses: usize,
-) -> Result<bool, AllocError> {
-    match running.close(rt) {
-        Ok(closed) => Ok(loss_count(&closed) == losses && closed.replays(alloc, config)?),
-        Err(_) => Ok(false),
+    running: &mut Running,
+    row: &Row<'_>,
+) -> bool {
+    match row {
+        Row::Create(place, name) => asks(rt, alloc, running, *place, Asked::Create(name)),
+        Row::Submit(place, name) => takes(alloc, running, *place, name),
+        Row::Make(place, count) => makes(rt, alloc, running, *place, *count),
+        Row::Lose(node) => running.lose(rt, *node).is_ok(),
+        Row::NoLoss(node, refusal) => is_refused(running.lose(rt, *node), *refusal),
     }
 }
 
-// The third node of three is lost; its client had asked for something if `asked`.
-fn one_of_three(rt: &(impl Threads + Wait), alloc: Global, asked: bool) -> Result<bool, Fail> {
-    let config = three_nodes(alloc)?;
-    let mut running = Running::start(rt, alloc, &config, Open, 100_000_000)?;
-    if asked {
-        let _ = running.submit(2, Command::Create(group(alloc)?));
+// Each row of the table holds, one after another.
+fn play(
+    rt: &(impl Threads + Wait + Abort),
+    alloc: Global,
+    running: &mut Running,
+    rows: &[Row<'_>],
+) {
+    let mut place: u64 = 0;
+    for row in rows {
+        holds_at(rt, holds_in(rt, alloc, running, row), "row", place);
+        place = place.saturating_add(1);
     }
-    let lost = running.lose(rt, 2).is_ok();
-    let created = others_create(rt, alloc, &mut running)?;
-    Ok(lost && created && ends_well(rt, alloc, running, &config, 1)?)
 }
+
+// Whether there were so many losses, and the schedule leads to the nodes.
+fn is_end(end: Option<End>, losses: usize) -> bool {
+    match end {
+        Some(end) => end.losses == losses && end.replays,
+        None => false,
+    }
+}
+
+// Each row holds in three nodes, of which so many are lost then, and their schedule leads to them.
+fn check(rt: &(impl Threads + Wait + Abort), alloc: Global, rows: &[Row<'_>], losses: usize) {
+    match start(rt, alloc, THREE, Open) {
+        Ok(mut started) => {
+            play(rt, alloc, &mut started.running, rows);
+            let end = end_of(rt, alloc, started);
+            holds(rt, is_end(end, losses), "the end");
+        }
+        Err(_) => holds(rt, false, "it starts"),
+    }
+}
+
+const ONE: &[Row] = &[Row::Lose(2), Row::Create(0, "g"), Row::Create(1, "h")];
 
 #[test]
-fn others_go_on(rt: HostRuntime) -> Result<(), Fail> {
-    assert!(rt; one_of_three(&rt, rt.alloc(), false)?);
-    Ok(())
+fn others_go_on(rt: HostRuntime) {
+    check(&rt, rt.alloc(), ONE, 1);
 }
+
+const AT_WORK: &[Row] = &[
+    Row::Submit(2, "g"),
+    Row::Lose(2),
+    Row::Create(0, "g"),
+    Row::Create(1, "h"),
+];
 
 // The lost node may hold locks, and others may wait for its replies.
 #[test]
-fn node_lost_at_work(rt: HostRuntime) -> Result<(), Fail> {
+fn node_lost_at_work(rt: HostRuntime) {
     for _ in 0..20u8 {
-        assert!(rt; one_of_three(&rt, rt.alloc(), true)?);
+        check(&rt, rt.alloc(), AT_WORK, 1);
     }
-    Ok(())
 }
 
-#[test]
-fn two_of_three(rt: HostRuntime) -> Result<(), Fail> {
-    let alloc = rt.alloc();
-    let config = three_nodes(alloc)?;
-    let mut running = Running::start(&rt, alloc, &config, Open, 100_000_000)?;
-    assert!(rt; running.lose(&rt, 0).is_ok());
-    assert!(rt; running.lose(&rt, 2).is_ok());
-    assert!(rt; creates(&rt, &mut running, 1, group(alloc)?));
-    assert!(rt; ends_well(&rt, alloc, running, &config, 2)?);
-    Ok(())
-}
+const TWO: &[Row] = &[Row::Lose(0), Row::Lose(2), Row::Create(1, "g")];
 
 #[test]
-fn lost_once(rt: HostRuntime) -> Result<(), Fail> {
-    let alloc = rt.alloc();
-    let config = three_nodes(alloc)?;
-    let mut running = Running::start(&rt, alloc, &config, Open, 100_000_000)?;
-    assert!(rt; is_refused(running.lose(&rt, 3), Refusal::NoSuchPlace));
-    assert!(rt; running.lose(&rt, 1).is_ok());
-    assert!(rt; is_refused(running.lose(&rt, 1), Refusal::NodeLost));
-    assert!(rt; ends_well(&rt, alloc, running, &config, 1)?);
-    Ok(())
+fn two_of_three(rt: HostRuntime) {
+    check(&rt, rt.alloc(), TWO, 2);
+}
+
+const ONCE: &[Row] = &[
+    Row::NoLoss(3, Refusal::NoSuchPlace),
+    Row::Lose(1),
+    Row::NoLoss(1, Refusal::NodeLost),
+];
+
+#[test]
+fn lost_once(rt: HostRuntime) {
+    check(&rt, rt.alloc(), ONCE, 1);
 }
 
 // The lost node is ahead of the others, by commands of which it tells nobody: they see its loss behind its last event.
+const AHEAD: &[Row] = &[
+    Row::Make(2, 100),
+    Row::Lose(2),
+    Row::Create(0, "g"),
+    Row::Create(1, "h"),
+];
+
 #[test]
-fn node_ahead_lost(rt: HostRuntime) -> Result<(), Fail> {
-    let alloc = rt.alloc();
-    let config = three_nodes(alloc)?;
-    let mut running = Running::start(&rt, alloc, &config, Open, 100_000_000)?;
-    for _ in 0..100u8 {
-        assert!(rt; running.ask(&rt, 2, Command::Make).is_some());
-    }
-    assert!(rt; running.lose(&rt, 2).is_ok());
-    assert!(rt; others_create(&rt, alloc, &mut running)?);
-    assert!(rt; ends_well(&rt, alloc, running, &config, 1)?);
-    Ok(())
+fn node_ahead_lost(rt: HostRuntime) {
+    check(&rt, rt.alloc(), AHEAD, 1);
 }

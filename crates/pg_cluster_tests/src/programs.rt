@@ -1,8 +1,9 @@
 //! The conversation of the program.
 
+use crate::verdicts::{holds, holds_at};
 use pg_cluster::{Conversation, Outcome, Quiet, run_threads};
 use std::alloc::Global;
-use std::test::Fail;
+use std::process::Abort;
 use std::thread::Threads;
 
 const DEFAULTS: Conversation = Conversation {
@@ -13,60 +14,61 @@ const DEFAULTS: Conversation = Conversation {
     turns: 100_000_000,
 };
 
-#[test]
-fn threads_default(rt: HostRuntime) -> Result<(), Fail> {
-    let Ok(outcome) = run_threads(&rt, rt.alloc(), DEFAULTS, &mut Quiet) else {
-        return Err(Fail::new("refused"));
-    };
-    assert_eq!(rt; outcome.answered, 607);
-    assert!(rt; outcome.is_good());
-    Ok(())
+// So many commands are answered, of so many, and all is well where all are.
+fn check_outcome(rt: &impl Abort, outcome: &Outcome, answered: u64, asked: u64) {
+    holds_at(
+        rt,
+        outcome.answered == answered,
+        "answers:",
+        outcome.answered,
+    );
+    holds_at(rt, outcome.asked == asked, "commands:", outcome.asked);
+    holds(rt, outcome.agree && outcome.replay, "they agree");
+    holds(rt, outcome.is_good() == (answered == asked), "all is well");
 }
 
-fn heard(rt: &impl Threads, alloc: Global, asked: Conversation) -> Result<Outcome, Fail> {
+fn check(rt: &(impl Threads + Abort), alloc: Global, asked: Conversation, answers: u64, all: u64) {
     match run_threads(rt, alloc, asked, &mut Quiet) {
-        Ok(outcome) => Ok(outcome),
-        Err(_) => Err(Fail::new("refused")),
+        Ok(outcome) => check_outcome(rt, &outcome, answers, all),
+        Err(_) => holds(rt, false, "refused"),
     }
 }
 
 #[test]
-fn one_lonely_node(rt: HostRuntime) -> Result<(), Fail> {
-    let asked = Conversation {
-        nodes: 1,
-        clients: 1,
-        rounds: 0,
-        ..DEFAULTS
-    };
-    let outcome = heard(&rt, rt.alloc(), asked)?;
-    assert_eq!(rt; outcome.answered, 2);
-    assert!(rt; outcome.is_good());
-    Ok(())
+fn threads_default(rt: HostRuntime) {
+    check(&rt, rt.alloc(), DEFAULTS, 607, 607);
 }
 
-#[test]
-fn no_turns(rt: HostRuntime) -> Result<(), Fail> {
-    let asked = Conversation {
-        turns: 0,
-        ..DEFAULTS
-    };
-    let outcome = heard(&rt, rt.alloc(), asked)?;
-    assert_eq!(rt; outcome.answered, 0);
-    assert_eq!(rt; outcome.asked, 607);
-    assert!(rt; outcome.agree && outcome.replay && !outcome.is_good());
-    Ok(())
-}
+const LONELY: Conversation = Conversation {
+    nodes: 1,
+    clients: 1,
+    rounds: 0,
+    ..DEFAULTS
+};
 
 #[test]
-fn sixteen_nodes(rt: HostRuntime) -> Result<(), Fail> {
-    let asked = Conversation {
-        nodes: 16,
-        clients: 2,
-        rounds: 2,
-        ..DEFAULTS
-    };
-    let outcome = heard(&rt, rt.alloc(), asked)?;
-    assert_eq!(rt; outcome.answered, 161);
-    assert!(rt; outcome.is_good());
-    Ok(())
+fn one_lonely_node(rt: HostRuntime) {
+    check(&rt, rt.alloc(), LONELY, 2, 2);
+}
+
+const NO_TURNS: Conversation = Conversation {
+    turns: 0,
+    ..DEFAULTS
+};
+
+#[test]
+fn no_turns(rt: HostRuntime) {
+    check(&rt, rt.alloc(), NO_TURNS, 0, 607);
+}
+
+const SIXTEEN: Conversation = Conversation {
+    nodes: 16,
+    clients: 2,
+    rounds: 2,
+    ..DEFAULTS
+};
+
+#[test]
+fn sixteen_nodes(rt: HostRuntime) {
+    check(&rt, rt.alloc(), SIXTEEN, 161, 161);
 }

@@ -1,93 +1,93 @@
 //! Rings in which one byte has room.
 
-use crate::setting::{Open, Running, config, group, is_well};
-use pg_step::{Command, Reply};
-use pg_term::{Pid, Term};
+use crate::asks::{Asked, asks, made};
+use crate::setting::{End, Open, Running, Setting, end_of, start};
+use crate::verdicts::holds;
+use pg_term::Pid;
 use std::alloc::Global;
 use std::sync::Wait;
-use std::test::Fail;
+use std::thread::Threads;
 
-// A client makes a process.
-fn made(rt: &impl Wait, running: &mut Running, place: usize) -> Result<Pid, Fail> {
-    match running.ask(rt, place, Command::Make) {
-        Some(Reply::Made(pid)) => Ok(pid),
-        _ => Err(Fail::new("no process")),
-    }
-}
-
-// Whether a client is answered ok.
-fn is_ok(rt: &impl Wait, running: &mut Running, place: usize, command: Command) -> bool {
-    matches!(running.ask(rt, place, command), Some(Reply::Ok))
-}
-
-// A client joins the group with its process, or leaves it; whether it was answered ok.
-fn change(
-    rt: &impl Wait,
-    running: &mut Running,
-    place: usize,
-    pid: &Pid,
-    group: &Term,
-    alloc: Global,
-    is_join: bool,
-) -> Result<bool, Fail> {
-    let name = group.copy(alloc)?;
-    let pid = pid.copy()?;
-    let command = if is_join {
-        Command::Join(name, pid)
-    } else {
-        Command::Leave(name, pid)
-    };
-    Ok(is_ok(rt, running, place, command))
-}
-
-// The same of each client.
-fn change_all(
-    rt: &impl Wait,
-    running: &mut Running,
-    pids: &[Pid],
-    group: &Term,
-    alloc: Global,
-    is_join: bool,
-) -> Result<bool, Fail> {
+// Each client joins the group with its process; whether all were answered ok.
+fn join_all(rt: &impl Wait, alloc: Global, running: &mut Running, pids: &[Pid]) -> bool {
     let mut all = true;
     for (place, pid) in pids.iter().enumerate() {
-        all = all && change(rt, running, place, pid, group, alloc, is_join)?;
+        all = all && asks(rt, alloc, running, place, Asked::Join(pid));
     }
-    Ok(all)
+    all
+}
+
+// The same of leaving it.
+fn leave_all(rt: &impl Wait, alloc: Global, running: &mut Running, pids: &[Pid]) -> bool {
+    let mut all = true;
+    for (place, pid) in pids.iter().enumerate() {
+        all = all && asks(rt, alloc, running, place, Asked::Leave(pid));
+    }
+    all
+}
+
+fn change_all(rt: &impl Wait, alloc: Global, running: &mut Running, pids: &[Pid]) -> bool {
+    let mut all = true;
+    for _ in 0..10 {
+        all = all && join_all(rt, alloc, running, pids);
+        all = all && leave_all(rt, alloc, running, pids);
+    }
+    all
+}
+
+// Whether the client at a place makes a process, which comes behind the others.
+fn makes(rt: &impl Wait, running: &mut Running, place: usize, pids: &mut Vec<Pid>) -> bool {
+    match made(rt, running, place) {
+        Some(pid) => pids.push(pid).is_ok(),
+        None => false,
+    }
+}
+
+// Whether each client makes a process.
+fn make_all(rt: &impl Wait, running: &mut Running, pids: &mut Vec<Pid>) -> bool {
+    let mut all = true;
+    for place in 0..running.client_count() {
+        all = all && makes(rt, running, place, pids);
+    }
+    all
 }
 
 // The first client creates the group, and all join it and leave it ten times; whether all was answered ok.
-fn speak(rt: &impl Wait, alloc: Global, running: &mut Running) -> Result<bool, Fail> {
-    let group = group(alloc)?;
-    let create = Command::Create(group.copy(alloc)?);
-    let mut all = is_ok(rt, running, 0, create);
-    let pids = made_all(rt, alloc, running)?;
-    for _ in 0..10 {
-        all = all && change_all(rt, running, &pids, &group, alloc, true)?;
-        all = all && change_all(rt, running, &pids, &group, alloc, false)?;
-    }
-    Ok(all)
+fn speak(rt: &impl Wait, alloc: Global, running: &mut Running) -> bool {
+    let is_created = asks(rt, alloc, running, 0, Asked::Create("g"));
+    let mut pids = Vec::new(alloc);
+    let are_made = make_all(rt, running, &mut pids);
+    let are_changed = change_all(rt, alloc, running, pids.as_slice());
+    drop(pids);
+    is_created && are_made && are_changed
 }
 
-// Each client makes a process.
-fn made_all(rt: &impl Wait, alloc: Global, running: &mut Running) -> Result<Vec<Pid>, Fail> {
-    let mut pids = Vec::new(alloc);
-    for place in 0..running.client_count() {
-        pids.push(made(rt, running, place)?)?;
+const THREE: Setting = Setting {
+    names: &["a", "b", "c"],
+    ports: 1,
+    ring: 1,
+    limit: 1_000_000_000,
+};
+
+fn is_well(end: Option<End>) -> bool {
+    match end {
+        Some(end) => end.is_well(),
+        None => false,
     }
-    Ok(pids)
+}
+
+fn are_heard(rt: &(impl Threads + Wait), alloc: Global) -> bool {
+    match start(rt, alloc, THREE, Open) {
+        Ok(mut started) => {
+            let all = speak(rt, alloc, &mut started.running);
+            let end = end_of(rt, alloc, started);
+            all && is_well(end)
+        }
+        Err(_) => false,
+    }
 }
 
 #[test]
-fn rings_of_one_byte(rt: HostRuntime) -> Result<(), Fail> {
-    let alloc = rt.alloc();
-    let config = config(alloc, &["a", "b", "c"], 1, 1)?;
-    let mut running = Running::start(&rt, alloc, &config, Open, 1_000_000_000)?;
-    let all = speak(&rt, alloc, &mut running)?;
-    let Ok(closed) = running.close(&rt) else {
-        return Err(Fail::new("no schedule"));
-    };
-    assert!(rt; all);
-    assert!(rt; is_well(alloc, &closed, &config)?);
-    Ok(())
+fn rings_of_one_byte(rt: HostRuntime) {
+    holds(&rt, are_heard(&rt, rt.alloc()), "all are heard");
 }

@@ -1,4 +1,4 @@
-//! Clusters that tests begin with.
+//! Clusters that tests begin with, and how they end.
 
 ghost use Rattle.std.specs.Prelude.{◌≡◌, IfOk, length};
 ghost use Rattle.pg_cluster.specs.Clients.{AreClients};
@@ -7,12 +7,11 @@ ghost use Rattle.pg_cluster.specs.Closed.{threads_of};
 use pg_cluster::{Client, Closed, Cluster, Gate, StartFault, Stopped};
 use pg_node::NodeFault;
 use pg_step::{Answer, Command, Reply, Start};
-use pg_term::{Atom, Items, Pid, Term, TermFault};
-use pg_world::Config;
+use pg_term::{Atom, Items, Term, TermFault};
+use pg_world::{Config, FrameStep, WorldFault};
 use rand_pcg::Pcg32;
 use std::alloc::{AllocError, Global};
 use std::sync::Wait;
-use std::test::Fail;
 use std::thread;
 use std::thread::Threads;
 
@@ -24,23 +23,80 @@ impl Gate for Open {
     fn pass(&self, _node: usize, _turn: u64) {}
 }
 
-/// A node of this name that has no group.
-fn start(alloc: Global, name: &str, ports: u16) -> Result<Start, TermFault> {
-    Ok(Start {
-        name: Atom::new(alloc, name)?,
-        made: 0,
-        ports,
-        groups: Items::from_vec(Vec::new(alloc)),
-    })
+/// An atom.
+pub fn name_of(alloc: Global, name: &str) -> Result<Term, TermFault> {
+    match Atom::new(alloc, name) {
+        Ok(name) => Ok(Term::Atom(name)),
+        Err(fault) => Err(fault),
+    }
 }
 
-/// Nodes of these names.
-pub fn config(alloc: Global, names: &[&str], ports: u16, ring: usize) -> Result<Config, TermFault> {
-    let mut starts = Vec::new(alloc);
-    for name in names {
-        starts.push(start(alloc, name, ports)?)?;
+/// A node of this name that has no group.
+fn start_node(alloc: Global, name: &str, ports: u16) -> Result<Start, TermFault> {
+    match Atom::new(alloc, name) {
+        Ok(name) => Ok(Start {
+            name,
+            made: 0,
+            ports,
+            groups: Items::from_vec(Vec::new(alloc)),
+        }),
+        Err(fault) => Err(fault),
     }
-    Ok(Config { ring, starts })
+}
+
+fn put_node(starts: &mut Vec<Start>, start: Start) -> Result<(), TermFault> {
+    match starts.push(start) {
+        Ok(()) => Ok(()),
+        Err(_) => Err(TermFault::OutOfMemory),
+    }
+}
+
+fn put_name(
+    alloc: Global,
+    starts: &mut Vec<Start>,
+    name: &str,
+    ports: u16,
+) -> Result<(), TermFault> {
+    match start_node(alloc, name, ports) {
+        Ok(start) => put_node(starts, start),
+        Err(fault) => Err(fault),
+    }
+}
+
+fn put_names(
+    alloc: Global,
+    starts: &mut Vec<Start>,
+    names: &[&str],
+    ports: u16,
+) -> Result<(), TermFault> {
+    for name in names {
+        put_name(alloc, starts, name, ports)?;
+    }
+    Ok(())
+}
+
+/// What a cluster begins with: nodes of these names, of which each has so many ports, rings of so many bytes, and at most so many
+/// turns of each node.
+#[derive(Clone, Copy)]
+pub struct Setting<'a> {
+    pub names: &'a [&'a str],
+    pub ports: u16,
+    pub ring: usize,
+    pub limit: u64,
+}
+
+fn config(alloc: Global, setting: Setting<'_>) -> Result<Config, TermFault> {
+    let mut starts = Vec::new(alloc);
+    match put_names(alloc, &mut starts, setting.names, setting.ports) {
+        Ok(()) => Ok(Config {
+            ring: setting.ring,
+            starts,
+        }),
+        Err(fault) => {
+            drop(starts);
+            Err(fault)
+        }
+    }
 }
 
 /// So many generators.
@@ -64,16 +120,20 @@ pub struct Running {
 
 impl Running {
     /// The nodes of a configuration as a cluster, and its clients.
-    pub fn start<R: Threads, G: Gate + Drop + Send + Sync + 'static>(
+    fn start<R: Threads, G: Gate + Drop + Send + Sync + 'static>(
         rt: &R,
         alloc: Global,
         config: &Config,
         gate: G,
         limit: u64,
     ) -> Result<Running, StartFault> {
-        let generators = generators(alloc, config.starts.len())?;
-        let (cluster, clients) = Cluster::start(rt, alloc, config, generators, gate, limit)?;
-        Ok(Running { cluster, clients })
+        match generators(alloc, config.starts.len()) {
+            Ok(generators) => match Cluster::start(rt, alloc, config, generators, gate, limit) {
+                Ok((cluster, clients)) => Ok(Running { cluster, clients }),
+                Err(fault) => Err(fault),
+            },
+            Err(AllocError) => Err(StartFault::World(WorldFault::OutOfMemory)),
+        }
     }
 
     /// How many clients it has.
@@ -89,19 +149,30 @@ impl Running {
         self.clients[place].submit(command)
     }
 
+    /// Whether the client at a place takes a command.
+    pub fn takes(&mut self, place: usize, command: Command) -> bool {
+        match self.submit(place, command) {
+            Ok(()) => true,
+            Err(command) => {
+                drop(command);
+                false
+            }
+        }
+    }
+
     /// The next answer of the client at a place, if one is there.
-    pub fn poll(&mut self, place: usize) -> Option<Answer> {
+    fn poll(&mut self, place: usize) -> Option<Answer> {
         if place >= self.clients.len() {
             return None;
         }
         self.clients[place].poll()
     }
 
-    /// The next answer, once it is there; none after very many looks.
-    pub fn answer(&mut self, rt: &impl Wait, place: usize) -> Option<Answer> {
+    /// The next reply, once it is there; none after very many looks.
+    fn reply(&mut self, rt: &impl Wait, place: usize) -> Option<Reply> {
         for _ in 0..1_000_000_000u64 {
             if let Some(answer) = self.poll(place) {
-                return Some(answer);
+                return Some(answer.reply);
             }
             thread::yield_now();
         }
@@ -110,12 +181,10 @@ impl Running {
 
     /// Submits a command at the client at a place, and gives what it is answered.
     pub fn ask(&mut self, rt: &impl Wait, place: usize, command: Command) -> Option<Reply> {
-        match self.submit(place, command) {
-            Ok(()) => match self.answer(rt, place) {
-                Some(answer) => Some(answer.reply),
-                None => None,
-            },
-            Err(_) => None,
+        if self.takes(place, command) {
+            self.reply(rt, place)
+        } else {
+            None
         }
     }
 
@@ -130,12 +199,133 @@ impl Running {
     }
 }
 
-/// Whether nodes that ended agree, and their schedule leads to them.
-pub fn is_well(alloc: Global, closed: &Closed, config: &Config) -> Result<bool, AllocError> {
-    Ok(closed.agrees(alloc)? && closed.replays(alloc, config)?)
+/// A cluster that runs, and what it began with.
+#[derive(Drop)]
+pub struct Started {
+    pub running: Running,
+    pub config: Config,
 }
 
-/// The name of the group.
-pub fn group(alloc: Global) -> Result<Term, TermFault> {
-    Ok(Term::Atom(Atom::new(alloc, "g")?))
+fn start_config<R: Threads, G: Gate + Drop + Send + Sync + 'static>(
+    rt: &R,
+    alloc: Global,
+    config: Config,
+    gate: G,
+    limit: u64,
+) -> Result<Started, StartFault> {
+    match Running::start(rt, alloc, &config, gate, limit) {
+        Ok(running) => Ok(Started { running, config }),
+        Err(fault) => {
+            drop(config);
+            Err(fault)
+        }
+    }
+}
+
+/// The nodes of a setting as a cluster.
+pub fn start<R: Threads, G: Gate + Drop + Send + Sync + 'static>(
+    rt: &R,
+    alloc: Global,
+    setting: Setting<'_>,
+    gate: G,
+) -> Result<Started, StartFault> {
+    match config(alloc, setting) {
+        Ok(config) => start_config(rt, alloc, config, gate, setting.limit),
+        Err(_) => Err(StartFault::World(WorldFault::OutOfMemory)),
+    }
+}
+
+/// How a cluster ended.
+#[derive(Clone, Copy)]
+pub struct End {
+    /// How many nodes, steps, and losses among these, there were.
+    pub nodes: usize,
+    pub events: usize,
+    pub losses: usize,
+    /// Whether the nodes agree, and the schedule leads to them.
+    pub agrees: bool,
+    pub replays: bool,
+}
+
+impl End {
+    /// Whether the nodes agree, and the schedule leads to them.
+    pub fn is_well(self) -> bool {
+        self.agrees && self.replays
+    }
+}
+
+/// How many losses of nodes a schedule has.
+fn loss_count(schedule: &[FrameStep]) -> usize {
+    let mut count: usize = 0;
+    for step in schedule {
+        if matches!(step, FrameStep::Lose { .. }) {
+            count = count.saturating_add(1);
+        }
+    }
+    count
+}
+
+// The answer to a question, which is asked a second time where memory was refused.
+fn agrees(alloc: Global, closed: &Closed) -> bool {
+    match closed.agrees(alloc) {
+        Ok(agrees) => agrees,
+        Err(AllocError) => closed.agrees(alloc).unwrap_or(false),
+    }
+}
+
+fn replays(alloc: Global, closed: &Closed, config: &Config) -> bool {
+    match closed.replays(alloc, config) {
+        Ok(replays) => replays,
+        Err(AllocError) => closed.replays(alloc, config).unwrap_or(false),
+    }
+}
+
+/// How a cluster ended that is closed.
+pub fn end_of_closed(alloc: Global, closed: &Closed, config: &Config) -> End {
+    End {
+        nodes: closed.nodes.len(),
+        events: closed.schedule.len(),
+        losses: loss_count(closed.schedule.as_slice()),
+        agrees: agrees(alloc, closed),
+        replays: replays(alloc, closed, config),
+    }
+}
+
+fn end_of_running<R: Threads>(
+    rt: &R,
+    alloc: Global,
+    running: Running,
+    config: &Config,
+) -> Option<End> {
+    match running.close(rt) {
+        Ok(closed) => {
+            let end = end_of_closed(alloc, &closed, config);
+            drop(closed);
+            Some(end)
+        }
+        Err(stopped) => end_of_stopped(alloc, stopped, config),
+    }
+}
+
+// What stopped is finished a second time where memory was refused.
+fn end_of_stopped(alloc: Global, stopped: Stopped, config: &Config) -> Option<End> {
+    match stopped.finish() {
+        Ok(closed) => {
+            let end = end_of_closed(alloc, &closed, config);
+            drop(closed);
+            Some(end)
+        }
+        Err(stopped) => {
+            drop(stopped);
+            None
+        }
+    }
+}
+
+/// Closes the cluster: how it ended; none where there is no schedule.
+pub fn end_of<R: Threads>(rt: &R, alloc: Global, started: Started) -> Option<End> {
+    let Started { running, config } = started;
+    let end = end_of_running(rt, alloc, running, &config);
+    drop(config);
+    end
 }

@@ -40,7 +40,11 @@ impl<T: GroupTable + Drop, L: Link + Drop, I: Inlet + Drop> LinkedNode<T, L, I> 
             return Err(NodeFault::Refused(Refusal::NodeLost));
         }
         match self.node.next(peer) {
-            Ok(next) => self.take_next(peer, &next),
+            Ok(next) => {
+                let took = self.take_next(peer, &next);
+                drop(next);
+                took
+            }
             Err(fault) => Err(fault),
         }
     }

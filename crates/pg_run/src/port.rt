@@ -121,7 +121,7 @@ impl Port {
         ensures handed { handed self.new ≡ handed self.old }
         ensures count { handed_count self.new ≡ handed_count self.old }
     {
-        self.kept = Some(next);
+        drop(self.kept.replace(next));
     }
 
     /// Hands over the next of these answers, if one is left and there is a place; the number of its command, if it did.
@@ -158,7 +158,10 @@ impl Port {
                 self.handed += 1;
                 true
             }
-            Err(_) => false,
+            Err(answer) => {
+                drop(answer);
+                false
+            }
         }
     }
 

@@ -1,10 +1,11 @@
 // Faulty lines, each behind two nodes.
-use crate::played::fault_of;
-use std::alloc::Global;
+use crate::played::{fault_of, holds, is_same, joined};
+use std::alloc::{AllocError, Global};
+use std::process::Abort;
 use std::test::*;
 
 // Lines that have no form.
-const BAD: [&str; 64] = [
+const BAD: &[&str] = &[
     "ring",
     "ring x",
     "ring 1 2",
@@ -72,7 +73,7 @@ const BAD: [&str; 64] = [
 ];
 
 // Lines with signs that are none of a line, and texts of terms that are none.
-const STRANGE: [&str; 18] = [
+const STRANGE: &[&str] = &[
     " settle",
     "settle ",
     "settle\r",
@@ -94,7 +95,7 @@ const STRANGE: [&str; 18] = [
 ];
 
 // Lines that name a node that was not declared, or one node as a pair.
-const UNKNOWN: [&str; 16] = [
+const UNKNOWN: &[&str] = &[
     "put a c",
     "put c a",
     "put a a",
@@ -113,33 +114,37 @@ const UNKNOWN: [&str; 16] = [
     "lock 'A' g",
 ];
 
-// The fault of a script whose third line this is.
-fn third(alloc: Global, line: &str) -> Result<Option<(usize, u8)>, Fail> {
-    let text = format!(in alloc; "node a\nnode b\n{line}\nsettle\n")?;
-    Ok(fault_of(alloc, text.as_str()))
+// Whether a script whose third line this is has this fault there.
+fn is_third(alloc: Global, line: &str, number: u8) -> bool {
+    match joined(alloc, &["node a\nnode b\n", line, "\nsettle\n"]) {
+        Ok(text) => {
+            let fault = fault_of(alloc, text.as_str());
+            drop(text);
+            is_same(fault, Some((3, number)))
+        }
+        Err(AllocError) => false,
+    }
+}
+
+fn check(rt: &impl Abort, alloc: Global, lines: &[&str], number: u8) {
+    for line in lines {
+        holds(rt, is_third(alloc, line, number), line);
+    }
 }
 
 #[test]
-fn lines_without_form(rt: HostRuntime) -> Result<(), Fail> {
-    for line in BAD {
-        assert!(rt; third(rt.alloc(), line)? == Some((3, 40)), "{line}");
-    }
-    for line in STRANGE {
-        assert!(rt; third(rt.alloc(), line)? == Some((3, 40)), "{line}");
-    }
-    Ok(())
+fn lines_without_form(rt: HostRuntime) {
+    check(&rt, rt.alloc(), BAD, 40);
+    check(&rt, rt.alloc(), STRANGE, 40);
 }
 
 #[test]
-fn unknown_nodes(rt: HostRuntime) -> Result<(), Fail> {
-    for line in UNKNOWN {
-        assert!(rt; third(rt.alloc(), line)? == Some((3, 41)), "{line}");
-    }
-    Ok(())
+fn unknown_nodes(rt: HostRuntime) {
+    check(&rt, rt.alloc(), UNKNOWN, 41);
 }
 
 // Texts whose faults come in their order.
-const TEXTS: [(&str, Option<(usize, u8)>); 12] = [
+const TEXTS: &[(&str, Option<(usize, u8)>)] = &[
     ("", None),
     ("%\n\n%x\nnode a", None),
     ("node a\nnode a", Some((2, 15))),
@@ -155,9 +160,8 @@ const TEXTS: [(&str, Option<(usize, u8)>); 12] = [
 ];
 
 #[test]
-fn order_of_faults(rt: HostRuntime) -> Result<(), Fail> {
+fn order_of_faults(rt: HostRuntime) {
     for (text, fault) in TEXTS {
-        assert!(rt; fault_of(rt.alloc(), text) == fault, "{text}");
+        holds(&rt, is_same(fault_of(rt.alloc(), text), *fault), text);
     }
-    Ok(())
 }

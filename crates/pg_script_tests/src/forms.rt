@@ -1,5 +1,6 @@
 // Scripts that run: names in quotes, and rings of one byte.
-use crate::played::{fault_of, printed};
+use crate::played::{fault_of, holds, holds_at, joined, prints};
+use std::alloc::{AllocError, Global};
 use std::test::*;
 
 const NAMES: &str = "node 'a b' made 1
@@ -23,27 +24,31 @@ lock '\\\\' {'A',1} free
 ";
 
 #[test]
-fn names_in_quotes(rt: HostRuntime) -> Result<(), Fail> {
-    let got = printed(rt.alloc(), NAMES)?;
-    assert!(rt; got.as_slice() == NAMED);
-    Ok(())
+fn names_in_quotes(rt: HostRuntime) {
+    holds(&rt, prints(rt.alloc(), NAMES, NAMED), "names in quotes");
 }
 
-// Each prefix is read, or its last line is told to be faulty.
-#[test]
-fn cut_anywhere(rt: HostRuntime) -> Result<(), Fail> {
-    for len in 0..=NAMES.len() {
-        if let Some((text, _)) = NAMES.split_at_checked(len) {
-            let lines = text.split('\n').count();
-            let fault = fault_of(rt.alloc(), text);
-            let told = match fault {
-                Some((line, _)) => line == lines,
-                None => true,
-            };
-            assert!(rt; told, "{len} bytes");
-        }
+// Whether a text is read, or its last line is told to be faulty.
+fn is_last_told(alloc: Global, text: &str) -> bool {
+    match fault_of(alloc, text) {
+        Some((line, _)) => line == text.split('\n').count(),
+        None => true,
     }
-    Ok(())
+}
+
+// The same of the first so many bytes, if they are a text.
+fn is_told(alloc: Global, len: usize) -> bool {
+    match NAMES.split_at_checked(len) {
+        Some((text, _)) => is_last_told(alloc, text),
+        None => true,
+    }
+}
+
+#[test]
+fn cut_anywhere(rt: HostRuntime) {
+    for len in 0..=NAMES.len() {
+        holds_at(&rt, is_told(rt.alloc(), len), "bytes:", len);
+    }
 }
 
 const LOCKS: &str = "node a
@@ -70,13 +75,24 @@ history [{create,g},{create,g},{delete,g}]
 c 2 []
 ";
 
+// Whether the locks are printed behind this line.
+fn are_locked(alloc: Global, ring: &str) -> bool {
+    match joined(alloc, &[ring, LOCKS]) {
+        Ok(text) => {
+            let are_printed = prints(alloc, text.as_str(), LOCKED);
+            drop(text);
+            are_printed
+        }
+        Err(AllocError) => false,
+    }
+}
+
+const RINGS: &[&str] = &["", "ring 1\n", "ring 7\n"];
+
 // Bytes that cross one at a time print the same.
 #[test]
-fn rings_of_one(rt: HostRuntime) -> Result<(), Fail> {
-    for ring in ["", "ring 1\n", "ring 7\n"] {
-        let text = format!(in rt.alloc(); "{ring}{LOCKS}")?;
-        let got = printed(rt.alloc(), text.as_str())?;
-        assert!(rt; got.as_slice() == LOCKED, "{ring}");
+fn rings_of_one(rt: HostRuntime) {
+    for ring in RINGS {
+        holds(&rt, are_locked(rt.alloc(), ring), ring);
     }
-    Ok(())
 }

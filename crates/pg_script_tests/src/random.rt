@@ -1,5 +1,5 @@
 // Random lines: the reader tells one fault of a text, always.
-use crate::played::fault_of;
+use crate::played::{fault_of, holds_at, is_same};
 use std::alloc::{AllocError, Global};
 use std::test::*;
 
@@ -58,20 +58,50 @@ fn random_line(alloc: Global, word: u64) -> Result<String, AllocError> {
     Ok(line)
 }
 
+// What the reader tells of a text.
+#[derive(Clone, Copy)]
+enum Verdict {
+    Read,
+    Fault,
+    /// Another fault, where it is read again.
+    Unlike,
+}
+
+fn told_of(alloc: Global, text: &str) -> Verdict {
+    let first = fault_of(alloc, text);
+    if !is_same(first, fault_of(alloc, text)) {
+        return Verdict::Unlike;
+    }
+    match first {
+        Some(_) => Verdict::Fault,
+        None => Verdict::Read,
+    }
+}
+
+// What it tells of the line of a word; none where there is no memory for it.
+fn told(alloc: Global, word: u64) -> Option<Verdict> {
+    match random_line(alloc, word) {
+        Ok(line) => {
+            let told = told_of(alloc, line.as_str());
+            drop(line);
+            Some(told)
+        }
+        Err(AllocError) => None,
+    }
+}
+
 #[test]
-fn random_lines(rt: HostRuntime) -> Result<(), Fail> {
+fn random_lines(rt: HostRuntime) {
     let mut word = 20261124u64;
-    let mut good = 0u32;
+    let mut good: usize = 0;
     for at in 0..10000 {
         word = next_word(word);
-        let line = random_line(rt.alloc(), word)?;
-        let first = fault_of(rt.alloc(), line.as_str());
-        assert!(rt; first == fault_of(rt.alloc(), line.as_str()), "line {at}");
-        if first.is_none() {
-            good = good.saturating_add(1);
+        match told(rt.alloc(), word) {
+            Some(Verdict::Read) => good = good.saturating_add(1),
+            Some(Verdict::Fault) => {}
+            Some(Verdict::Unlike) | None => holds_at(&rt, false, "line", at),
         }
     }
     // Some of them have a form.
-    assert!(rt; good > 100, "{good}");
-    Ok(())
+    holds_at(&rt, good > 100, "lines with a form:", good);
 }

@@ -1,4 +1,4 @@
-use Rattle.std.proofs.Common.{rules, ◌∷◌, ◌++◌, [], sym, subst}
+use Rattle.std.proofs.Common.{rules, ◌∷◌, ◌++◌, ◌∙◌, [], ap, sym, subst}
 use Rattle.pg_cluster.specs.Clients.{OpensMore}
 use Rattle.pg_cluster.proofs.Opening.{opens_none, opens_one}
 use Rattle.pg_cluster.proofs.runs.open_ports.Goals as goal
@@ -12,8 +12,10 @@ loop-preserved c =
     let clients = c.loop.clients.items in
     let ports = c.loop.ports.items in
     let client = c.in_ok-client.client in
-    let port = c.in_ok-client.port in (
+    let port = c.in_ok-client.port in
+    let more = c.push_reserved.ensures.items ∙ ap (λ cs. cs ++ client ∷ []) c.reserve.ensures.items in
+    let others = c.push_reserved-in-loop.ensures.items ∙ ap (λ ps. ps ++ port ∷ []) c.reserve-in-loop.ensures.items in (
       search rules,
-      subst (λ cs. OpensMore old cs c.push-in-loop.new.self.items) (sym c.in_ok-push.ensures.items)
-          (subst (OpensMore old (clients ++ client ∷ [])) (sym c.in_ok-push-2.ensures.items) (opens_one old clients ports client port c.loop.invariant.1 c.in_ok-client.ensures)),
+      subst (λ cs. OpensMore old cs c.push_reserved-in-loop.new.self.items) (sym more)
+          (subst (OpensMore old (clients ++ client ∷ [])) (sym others) (opens_one old clients ports client port c.loop.invariant.1 c.in_ok-client.ensures)),
     )

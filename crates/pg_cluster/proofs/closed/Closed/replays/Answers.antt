@@ -14,11 +14,11 @@ returns-in-Ok c =
     let nodes = c.args.self.now.nodes.items in
     let schedule = c.args.self.now.schedule.items in
     let numbers = c.in-Ok.numbers.items in
-    let told = c.is_shown.ensures in
+    let told = c.is_shown-told.ensures in
     let ran = subst (λ steps. LosesNone steps → Ran over_packets given steps numbers (λ config. Shows config (view_of c.in-Ok.world))) c.as_slice.ensures.value c.in-Ok.ensures.ran in
-    let made = subst (λ ns. IfOk c.is_shown.result (λ yes. ran_out ns ≡ false)) c.as_slice-in-Ok.ensures.value told.all_made in record {
-      one_run = never_no c.args.config.now.ring given nodes (map (λ v. v.items) c.args.self.now.logs.items) schedule (view_of c.in-Ok.world) numbers c.is_shown.result ran told.shown made;
-      replays = replays_so given schedule nodes c.in-Ok.world numbers c.is_shown.result ran told.shown;
+    let made = subst (λ ns. IfOk c.is_shown-told.result (λ yes. ran_out ns ≡ false)) c.as_slice-in-Ok.ensures.value told.all_made in record {
+      one_run = never_no c.args.config.now.ring given nodes (map (λ v. v.items) c.args.self.now.logs.items) schedule (view_of c.in-Ok.world) numbers c.is_shown-told.result ran told.shown made;
+      replays = replays_so given schedule nodes c.in-Ok.world numbers c.is_shown-told.result ran told.shown;
     }
 
 pub returns-in-Err-clause-one_run : goal.returns-in-Err-clause-one_run

@@ -18,12 +18,12 @@ returns-then-is_lost-clause-took g c =
 
 pub returns-in-Ok-clause-took : goal.returns-in-Ok-clause-took
 returns-in-Ok-clause-took g c =
-    took_from g.L.Link.accepts g.I.Inlet.gives g.met.L.Link.rests g.met.I.Inlet.rests g.met.L.Link.composes g.met.I.Inlet.composes c.args.peer c.take_next.result c.args.self.now _ c.take_next.new.self
+    took_from g.L.Link.accepts g.I.Inlet.gives g.met.L.Link.rests g.met.I.Inlet.rests g.met.L.Link.composes g.met.I.Inlet.composes c.args.peer c.take_next-took.result c.args.self.now _ c.take_next-took.new.self
     (nothing_held g.L.Link.accepts g.I.Inlet.gives g.met.L.Link.rests g.met.I.Inlet.rests c.args.self.now _ c.next.ensures.state c.reserve.ensures.items refl c.in-Ok.ensures.same)
-    c.take_next.ensures.took
+    c.take_next-took.ensures.took
 
 pub returns-in-Ok-clause-fault : goal.returns-in-Ok-clause-fault
-returns-in-Ok-clause-fault g c = told_err c.args.peer c.take_next.result c.args.self.now.node c.next.new.self c.next.ensures.state c.in-Ok.ensures.same c.take_next.ensures.fault
+returns-in-Ok-clause-fault g c = told_err c.args.peer c.take_next-took.result c.args.self.now.node c.next.new.self c.next.ensures.state c.in-Ok.ensures.same c.take_next-took.ensures.fault
 
 pub returns-in-Err-clause-took : goal.returns-in-Err-clause-took
 returns-in-Err-clause-took g c =
@@ -35,8 +35,8 @@ returns-in-Err-clause-took g c =
     (told_next ((kept_by (held_by n)).lost p) (nodes_of (held_by n)) p (state_of (held_by n)) (next_packet (links_of n c.args.peer)) c.in-Err.fault
     (lost_at c.args.peer c.state.result.now (held_by n) c.state.ensures c.is_lost.result c.is_lost.ensures c.if-is_lost.false) c.in-Err.ensures.told)
 
-pub take_next-requires-clause-next : goal.take_next-requires-clause-next
-take_next-requires-clause-next g c =
+pub take_next-took-requires-clause-next : goal.take_next-took-requires-clause-next
+take_next-took-requires-clause-next g c =
     ap (λ ls. next_packet (ls c.args.peer)) c.in-Ok.ensures.same ∙ told_ok (next_packet (links_of c.args.self.now.node c.args.peer)) c.in-Ok.next c.in-Ok.ensures.told
 
 pub returns-in-Err-clause-fault : goal.returns-in-Err-clause-fault
