@@ -5,7 +5,7 @@ mod block;
 mod play;
 
 use anyhow::Result;
-use block::next_example;
+use block::{Example, next_example};
 use play::{drawn, played, traced};
 use std::rt::{Env, Files};
 use std::{env, fs, vec};
@@ -13,7 +13,14 @@ use std::{env, fs, vec};
 /// Runs each example of a page, and tells those that print something else than the page says.
 fn run_page(rt: &HostRuntime, name: &str) -> Result<()> {
     let page = fs::read_to_string(rt, name)?;
-    let mut rest = page.as_str();
+    let count = run_examples(rt, name, page.as_str())?;
+    println!(rt; "{name}: {count} examples")?;
+    Ok(())
+}
+
+/// The same, but for the line that tells how many there are.
+fn run_examples(rt: &HostRuntime, name: &str, page: &str) -> Result<u32> {
+    let mut rest = page;
     let mut count = 0u32;
     for _ in 0..page.len() {
         let Some((example, behind)) = next_example(rest) else {
@@ -21,13 +28,18 @@ fn run_page(rt: &HostRuntime, name: &str) -> Result<()> {
         };
         rest = behind;
         count = count.saturating_add(1);
-        let printed = played(rt.alloc(), example.script)?;
-        if printed.as_str() != example.output {
-            println!(rt; "example {count} of {name} prints:")?;
-            print!(rt; "{printed}")?;
-        }
+        run_example(rt, name, count, example)?;
     }
-    println!(rt; "{name}: {count} examples")?;
+    Ok(count)
+}
+
+/// Runs an example of a page. `count`: which it is, from 1 on.
+fn run_example(rt: &HostRuntime, name: &str, count: u32, example: Example<'_>) -> Result<()> {
+    let printed = played(rt.alloc(), example.script)?;
+    if printed.as_str() != example.output {
+        println!(rt; "example {count} of {name} prints:")?;
+        print!(rt; "{printed}")?;
+    }
     Ok(())
 }
 

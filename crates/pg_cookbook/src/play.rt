@@ -1,66 +1,90 @@
 //! What a script prints.
 
 use anyhow::Result;
-use pg_diagram::svg_of;
+use pg_diagram::{Diagram, svg_of};
 use pg_node::AnyWriter;
-use pg_script::{RunFault, ScriptFault, read_script, run_script, watch_script};
+use pg_script::{RunFault, Script, ScriptFault, read_script, run_script, watch_script};
 use pg_trace::diagram_of;
 use std::alloc::Global;
 
 /// What `pg2sim script` prints for a script: on standard output, and then on standard error.
 pub(crate) fn played(alloc: Global, text: &str) -> Result<String> {
-    let mut printed = Vec::new(alloc);
-    let fault = match read_script(alloc, text) {
+    match read_script(alloc, text) {
         Ok(script) => {
-            let mut writer = AnyWriter {
-                writer: &mut printed,
-            };
-            match run_script(alloc, &script, &mut writer) {
-                Ok(()) => None,
-                Err(fault) => Some(refusal(alloc, fault)?),
-            }
+            let told = ran(alloc, &script);
+            drop(script);
+            told
         }
-        Err(fault) => Some(faulty(alloc, fault)?),
-    };
-    let mut out = String::from_utf8(printed)?;
-    if let Some(line) = fault {
-        out.push_str(line.as_str())?;
+        Err(fault) => faulty(alloc, fault),
     }
-    Ok(out)
 }
 
 /// What `pg2sim script --trace` prints for a script that runs.
 pub(crate) fn traced(alloc: Global, text: &str) -> Result<String> {
     let script = read_script(alloc, text)?;
-    let mut printed = Vec::new(alloc);
-    let mut writer = AnyWriter {
-        writer: &mut printed,
-    };
-    watch_script(alloc, &script, true, &mut writer)?;
-    Ok(String::from_utf8(printed)?)
+    let told = trace_of(alloc, &script);
+    drop(script);
+    told
 }
 
 /// The picture that `pg2sim script --diagram` makes for a script that runs.
 pub(crate) fn drawn(alloc: Global, text: &str) -> Result<String> {
     let script = read_script(alloc, text)?;
+    let watched = watched(alloc, &script);
+    drop(script);
+    let diagram = watched?;
+    let picture = svg_of(alloc, &diagram);
+    drop(diagram);
+    Ok(picture?)
+}
+
+/// What a script prints that can be read, and behind it the line that tells a refused run.
+fn ran(alloc: Global, script: &Script) -> Result<String> {
     let mut printed = Vec::new(alloc);
     let mut writer = AnyWriter {
         writer: &mut printed,
     };
-    let watch = watch_script(alloc, &script, false, &mut writer)?;
-    let diagram = diagram_of(alloc, &watch)?;
-    Ok(svg_of(alloc, &diagram)?)
+    let ended = run_script(alloc, script, &mut writer);
+    let out = String::from_utf8(printed)?;
+    match ended {
+        Ok(()) => Ok(out),
+        Err(fault) => refused(alloc, out, fault),
+    }
 }
 
-/// The line that tells a refused run.
-fn refusal(alloc: Global, fault: RunFault) -> Result<String> {
+/// What a script prints that runs, with its trace.
+fn trace_of(alloc: Global, script: &Script) -> Result<String> {
+    let mut printed = Vec::new(alloc);
+    let mut writer = AnyWriter {
+        writer: &mut printed,
+    };
+    drop(watch_script(alloc, script, true, &mut writer)?);
+    Ok(String::from_utf8(printed)?)
+}
+
+/// The diagram of a script that runs.
+fn watched(alloc: Global, script: &Script) -> Result<Diagram> {
+    let mut printed = Vec::new(alloc);
+    let mut writer = AnyWriter {
+        writer: &mut printed,
+    };
+    let watch = watch_script(alloc, script, false, &mut writer)?;
+    let diagram = diagram_of(alloc, &watch);
+    drop(watch);
+    Ok(diagram?)
+}
+
+/// What was printed, and behind it the line that tells a refused run.
+fn refused(alloc: Global, printed: String, fault: RunFault) -> Result<String> {
     let number = fault.number();
-    Ok(format!(in alloc; "refused {number}\n")?)
+    drop(fault);
+    Ok(format!(in alloc; "{printed}refused {number}\n")?)
 }
 
 /// The line that tells a faulty line.
 fn faulty(alloc: Global, fault: ScriptFault) -> Result<String> {
     let line = fault.line;
     let number = fault.fault.number();
+    drop(fault);
     Ok(format!(in alloc; "line {line} refused {number}\n")?)
 }
