@@ -1,8 +1,9 @@
 //! Nodes, processes and groups by numbers.
 
+use crate::lists::{put, whole};
 use pg_step::Start;
-use pg_term::{Atom, Items, Pid, Term, TermFault};
-use pg_world::Config;
+use pg_term::{Atom, Items, Pid, Term};
+use pg_world::{Config, WorldFault};
 use std::alloc::Global;
 
 /// A process: the place of its node, and its number there.
@@ -28,25 +29,32 @@ fn node_name(place: usize) -> &'static str {
     }
 }
 
+/// The place of the node of a name: 5 of a name that no node has.
 fn place_of(name: &str) -> usize {
-    match name {
-        "a" => 0,
-        "b" => 1,
-        "c" => 2,
-        "d" => 3,
-        "e" => 4,
+    match name.as_bytes() {
+        [letter] => usize::from(letter.wrapping_sub(97)).min(5),
         _ => 5,
     }
 }
 
+fn atom(alloc: Global, place: usize) -> Result<Atom, WorldFault> {
+    match Atom::new(alloc, node_name(place)) {
+        Ok(atom) => Ok(atom),
+        Err(_) => Err(WorldFault::OutOfMemory),
+    }
+}
+
 /// The pid of a process of a low number.
-pub fn pid_of(alloc: Global, process: Process) -> Result<Pid, TermFault> {
-    Ok(Pid {
-        node: Atom::new(alloc, node_name(process.0))?,
-        serial: 0,
-        id: process.1,
-        creation: 1,
-    })
+pub fn pid_of(alloc: Global, process: Process) -> Result<Pid, WorldFault> {
+    match atom(alloc, process.0) {
+        Ok(node) => Ok(Pid {
+            node,
+            serial: 0,
+            id: process.1,
+            creation: 1,
+        }),
+        Err(fault) => Err(fault),
+    }
 }
 
 /// The process of a pid of a low number.
@@ -54,59 +62,98 @@ pub fn process_of(pid: &Pid) -> Process {
     (place_of(pid.node.as_str()), pid.id)
 }
 
-/// The processes of some pids.
-pub fn processes_of(alloc: Global, pids: &[Pid]) -> Result<Vec<Process>, TermFault> {
-    let mut processes = Vec::new(alloc);
+/// How often a process is in a list.
+pub fn count_in(pids: &[Pid], process: Process) -> usize {
+    let mut count = 0usize;
     for pid in pids {
-        processes.push(process_of(pid))?;
+        if process_of(pid) == process {
+            count = count.saturating_add(1);
+        }
     }
-    Ok(processes)
+    count
 }
 
 /// How a node starts: how many processes it has made, and its groups with their members.
 pub type Begun<'a> = (u32, &'a [(i64, &'a [Process])]);
 
-fn members(alloc: Global, processes: &[Process]) -> Result<Items<Pid>, TermFault> {
-    let mut pids = Vec::new(alloc);
+fn put_pids(alloc: Global, pids: &mut Vec<Pid>, processes: &[Process]) -> Result<(), WorldFault> {
     for process in processes {
-        pids.push(pid_of(alloc, *process)?)?;
+        put(pids, pid_of(alloc, *process))?;
     }
-    Ok(Items::from_vec(pids))
+    Ok(())
 }
 
-fn groups(
+// A group with its members.
+fn group(
     alloc: Global,
-    groups: &[(i64, &[Process])],
-) -> Result<Items<(Term, Items<Pid>)>, TermFault> {
-    let mut told = Vec::new(alloc);
-    for (group, processes) in groups {
-        let members = members(alloc, processes)?;
-        told.push((group_name(*group), members))?;
+    group: i64,
+    processes: &[Process],
+) -> Result<(Term, Items<Pid>), WorldFault> {
+    let mut pids = Vec::new(alloc);
+    let told = put_pids(alloc, &mut pids, processes);
+    match whole(pids, told) {
+        Ok(pids) => Ok((group_name(group), Items::from_vec(pids))),
+        Err(fault) => Err(fault),
     }
-    Ok(Items::from_vec(told))
 }
 
-fn start(alloc: Global, place: usize, begun: &Begun<'_>) -> Result<Start, TermFault> {
-    let name = Atom::new(alloc, node_name(place))?;
-    match groups(alloc, begun.1) {
-        Ok(groups) => Ok(Start {
+fn put_groups(
+    alloc: Global,
+    groups: &mut Vec<(Term, Items<Pid>)>,
+    begun: &Begun<'_>,
+) -> Result<(), WorldFault> {
+    for (name, processes) in begun.1 {
+        put(groups, group(alloc, *name, processes))?;
+    }
+    Ok(())
+}
+
+fn start(alloc: Global, place: usize, begun: &Begun<'_>) -> Result<Start, WorldFault> {
+    let mut groups = Vec::new(alloc);
+    let told = put_groups(alloc, &mut groups, begun);
+    match whole(groups, told) {
+        Ok(groups) => start_of(atom(alloc, place), begun.0, groups),
+        Err(fault) => Err(fault),
+    }
+}
+
+// How a node of this name starts.
+fn start_of(
+    name: Result<Atom, WorldFault>,
+    made: u32,
+    groups: Vec<(Term, Items<Pid>)>,
+) -> Result<Start, WorldFault> {
+    match name {
+        Ok(name) => Ok(Start {
             name,
-            made: begun.0,
+            made,
             ports: 1,
-            groups,
+            groups: Items::from_vec(groups),
         }),
         Err(fault) => {
-            drop(name);
+            drop(groups);
             Err(fault)
         }
     }
 }
 
-/// The configuration of nodes of one port that start so, with rings of this capacity.
-pub fn config(alloc: Global, nodes: &[Begun<'_>], ring: usize) -> Result<Config, TermFault> {
-    let mut starts = Vec::new(alloc);
+fn put_starts(
+    alloc: Global,
+    starts: &mut Vec<Start>,
+    nodes: &[Begun<'_>],
+) -> Result<(), WorldFault> {
     for (place, begun) in nodes.iter().enumerate() {
-        starts.push(start(alloc, place, begun)?)?;
+        put(starts, start(alloc, place, begun))?;
     }
-    Ok(Config { ring, starts })
+    Ok(())
+}
+
+/// The configuration of nodes of one port that start so, with rings of this capacity.
+pub fn config(alloc: Global, nodes: &[Begun<'_>], ring: usize) -> Result<Config, WorldFault> {
+    let mut starts = Vec::new(alloc);
+    let told = put_starts(alloc, &mut starts, nodes);
+    match whole(starts, told) {
+        Ok(starts) => Ok(Config { ring, starts }),
+        Err(fault) => Err(fault),
+    }
 }

@@ -6,6 +6,8 @@ mod cast;
 #[cfg(test)]
 mod examples;
 #[cfg(test)]
+mod lists;
+#[cfg(test)]
 mod memory;
 #[cfg(test)]
 mod ops;
@@ -19,3 +21,5 @@ mod random;
 mod said;
 #[cfg(test)]
 mod slow;
+#[cfg(test)]
+mod verdicts;

@@ -1,225 +1,173 @@
 //! Each growth of memory may be refused once in an example: the step says so, every node is as it was, and the step is made
 //! again. Each test passes whichever growth is refused.
 
-use crate::cast::config;
 use crate::examples::{
     CLOSEST_MEMBER, DELETE_BETWEEN_LOOK_AND_LOCK, END_BEATS_LATE_JOIN, Example, FORMATION,
     INITIAL_TABLES, JOIN_TWICE_LEAVE_ONCE, LOSS_DROPS_MEMBERS, LOSS_FREES_LOCK, NEW_GREATEST,
     TWO_CREATORS,
 };
-use crate::ops::Steps;
-use crate::played::{check_answers, state_of};
+use crate::played::{Play, are_same_worlds, check, check_answers};
+use crate::verdicts::holds;
 use pg_index::IndexTable;
-use pg_node::{NodeFault, NodeState};
-use pg_term::TermFault;
-use pg_world::{Config, Step, Stepped, World};
-use std::alloc::{AllocError, Global};
+use pg_node::NodeFault;
+use pg_world::{Config, Step, Stepped, World, WorldFault};
+use std::alloc::Global;
 use std::process::Abort;
-use std::test::Fail;
 
 // Two worlds in which the same steps are made.
 #[derive(Drop)]
 struct Twins {
     one: World<IndexTable>,
     other: World<IndexTable>,
-}
-
-fn same(one: &NodeState<IndexTable>, other: &NodeState<IndexTable>) -> Result<bool, AllocError> {
-    match one.same(other) {
-        Ok(same) => Ok(same),
-        Err(_) => one.same(other),
-    }
+    // How many nodes each has.
+    nodes: usize,
 }
 
 // A world, made a second time where memory was refused.
-fn world_of(alloc: Global, config: &Config) -> Result<World<IndexTable>, Fail> {
+fn world_of(alloc: Global, config: &Config) -> Result<World<IndexTable>, WorldFault> {
     match World::new(alloc, config) {
         Ok(world) => Ok(world),
-        Err(_) => Ok(World::new(alloc, config)?),
+        Err(_) => World::new(alloc, config),
     }
 }
 
-impl Twins {
-    fn new(alloc: Global, config: &Config) -> Result<Twins, Fail> {
-        let one = world_of(alloc, config)?;
-        match world_of(alloc, config) {
-            Ok(other) => Ok(Twins { one, other }),
-            Err(fault) => {
-                drop(one);
-                Err(fault)
-            }
-        }
-    }
-
-    // Whether the nodes at a place are the same.
-    fn are_same_at(&self, place: usize) -> Result<bool, AllocError> {
-        match (state_of(&self.one, place), state_of(&self.other, place)) {
-            (Some(one), Some(other)) => same(one, other),
-            _ => Ok(false),
-        }
-    }
-
-    fn are_same(&self, nodes: usize) -> Result<bool, AllocError> {
-        for place in 0..nodes {
-            if !self.are_same_at(place)? {
-                return Ok(false);
-            }
-        }
-        Ok(true)
-    }
-
-    fn step(&mut self, rt: &impl Abort, nodes: usize, step: &Step) -> Result<(), Fail> {
-        let one = self.step_one(rt, nodes, step)?;
-        let other = self.step_other(step);
-        assert!(rt; one == other);
-        Ok(())
-    }
-
-    fn step_one(
-        &mut self,
-        rt: &impl Abort,
-        nodes: usize,
-        step: &Step,
-    ) -> Result<Result<Stepped, NodeFault>, Fail> {
-        let stepped = self.one.step(step);
-        if stepped == Err(NodeFault::OutOfMemory) {
-            assert!(rt; self.are_same(nodes)?);
-            Ok(self.one.step(step))
-        } else {
-            Ok(stepped)
-        }
-    }
-
-    fn step_other(&mut self, step: &Step) -> Result<Stepped, NodeFault> {
-        let stepped = self.other.step(step);
-        if stepped == Err(NodeFault::OutOfMemory) {
-            self.other.step(step)
-        } else {
-            stepped
-        }
-    }
-}
-
-fn steps_of(alloc: Global, example: &Example<'_>) -> Result<Steps, TermFault> {
-    let mut steps = Steps::new(alloc, example.nodes.len(), 5);
-    match steps.add_all(example.ops) {
-        Ok(()) => Ok(steps),
+fn with_other(
+    one: World<IndexTable>,
+    other: Result<World<IndexTable>, WorldFault>,
+    nodes: usize,
+) -> Result<Twins, WorldFault> {
+    match other {
+        Ok(other) => Ok(Twins { one, other, nodes }),
         Err(fault) => {
-            drop(steps);
+            drop(one);
             Err(fault)
         }
     }
 }
 
-// The steps of an example, made a second time where memory was refused.
-fn steps_again(alloc: Global, example: &Example<'_>) -> Result<Steps, TermFault> {
-    match steps_of(alloc, example) {
-        Ok(steps) => Ok(steps),
-        Err(_) => steps_of(alloc, example),
+fn new_twins(alloc: Global, config: &Config) -> Result<Twins, WorldFault> {
+    match world_of(alloc, config) {
+        Ok(one) => with_other(one, world_of(alloc, config), config.starts.len()),
+        Err(fault) => Err(fault),
     }
 }
 
-// Its configuration, made a second time where memory was refused.
-fn config_again(alloc: Global, example: &Example<'_>) -> Result<Config, TermFault> {
-    match config(alloc, example.nodes, 4_096) {
-        Ok(config) => Ok(config),
-        Err(_) => config(alloc, example.nodes, 4_096),
+fn is_out_of_memory(stepped: &Result<Stepped, NodeFault>) -> bool {
+    match stepped {
+        Err(NodeFault::OutOfMemory) => true,
+        _ => false,
     }
 }
 
-fn check(rt: &impl Abort, alloc: Global, example: &Example<'_>) -> Result<(), Fail> {
-    let config = config_again(alloc, example)?;
-    let checked = check_of(rt, alloc, &config, example);
-    drop(config);
-    checked
+impl Twins {
+    fn are_same(&self) -> bool {
+        are_same_worlds(&self.one, &self.other, self.nodes)
+    }
+
+    // Makes a step in one world, and again where memory was refused: all nodes were as in the other, then.
+    fn step_one(
+        &mut self,
+        rt: &impl Abort,
+        step: &Step,
+        number: usize,
+    ) -> Result<Stepped, NodeFault> {
+        let stepped = self.one.step(step);
+        if is_out_of_memory(&stepped) {
+            holds(rt, self.are_same(), "nothing is changed by step", number);
+            self.one.step(step)
+        } else {
+            stepped
+        }
+    }
+
+    fn step_other(&mut self, step: &Step) -> Result<Stepped, NodeFault> {
+        let stepped = self.other.step(step);
+        if is_out_of_memory(&stepped) {
+            self.other.step(step)
+        } else {
+            stepped
+        }
+    }
+
+    // Whether a step does the same in both.
+    fn does_same(&mut self, rt: &impl Abort, step: &Step, number: usize) -> bool {
+        self.step_one(rt, step, number) == self.step_other(step)
+    }
+
+    // Makes the steps in both worlds.
+    fn step_all(&mut self, rt: &impl Abort, steps: &[Step]) {
+        for (number, step) in steps.iter().enumerate() {
+            holds(rt, self.does_same(rt, step, number), "step", number);
+        }
+    }
 }
 
-fn check_of(
+/// The steps of an example are made in two worlds, where each growth may be refused.
+pub fn check_twice(
     rt: &impl Abort,
     alloc: Global,
     config: &Config,
     example: &Example<'_>,
-) -> Result<(), Fail> {
-    let mut twins = Twins::new(alloc, config)?;
-    let checked = check_twins(rt, alloc, example, &mut twins);
-    drop(twins);
-    checked
-}
-
-fn check_twins(
-    rt: &impl Abort,
-    alloc: Global,
-    example: &Example<'_>,
-    twins: &mut Twins,
-) -> Result<(), Fail> {
-    let steps = steps_again(alloc, example)?;
-    let checked = step_all(rt, example, steps.steps.as_slice(), twins);
-    drop(steps);
-    checked
-}
-
-// Makes the steps in both worlds.
-fn step_all(
-    rt: &impl Abort,
-    example: &Example<'_>,
     steps: &[Step],
-    twins: &mut Twins,
-) -> Result<(), Fail> {
-    let nodes = example.nodes.len();
-    for step in steps {
-        twins.step(rt, nodes, step)?;
+) -> Result<(), WorldFault> {
+    match new_twins(alloc, config) {
+        Ok(mut twins) => {
+            twins.step_all(rt, steps);
+            holds(rt, twins.are_same(), "same nodes:", twins.nodes);
+            check_answers(rt, &twins.one, example);
+            drop(twins);
+            Ok(())
+        }
+        Err(fault) => Err(fault),
     }
-    assert!(rt; twins.are_same(nodes)?);
-    check_answers(rt, &twins.one, example);
-    Ok(())
 }
 
 #[test]
-fn join_twice_leave_once(rt: HostRuntime) -> Result<(), Fail> {
-    check(&rt, rt.alloc(), &JOIN_TWICE_LEAVE_ONCE)
+fn join_twice_leave_once(rt: HostRuntime) {
+    check(&rt, rt.alloc(), Play::Twice, &JOIN_TWICE_LEAVE_ONCE);
 }
 
 #[test]
-fn delete_between_look_and_lock(rt: HostRuntime) -> Result<(), Fail> {
-    check(&rt, rt.alloc(), &DELETE_BETWEEN_LOOK_AND_LOCK)
+fn delete_between_look_and_lock(rt: HostRuntime) {
+    check(&rt, rt.alloc(), Play::Twice, &DELETE_BETWEEN_LOOK_AND_LOCK);
 }
 
 #[test]
-fn two_creators(rt: HostRuntime) -> Result<(), Fail> {
-    check(&rt, rt.alloc(), &TWO_CREATORS)
+fn two_creators(rt: HostRuntime) {
+    check(&rt, rt.alloc(), Play::Twice, &TWO_CREATORS);
 }
 
 #[test]
-fn initial_tables(rt: HostRuntime) -> Result<(), Fail> {
-    check(&rt, rt.alloc(), &INITIAL_TABLES)
+fn initial_tables(rt: HostRuntime) {
+    check(&rt, rt.alloc(), Play::Twice, &INITIAL_TABLES);
 }
 
 #[test]
-fn end_beats_late_join(rt: HostRuntime) -> Result<(), Fail> {
-    check(&rt, rt.alloc(), &END_BEATS_LATE_JOIN)
+fn end_beats_late_join(rt: HostRuntime) {
+    check(&rt, rt.alloc(), Play::Twice, &END_BEATS_LATE_JOIN);
 }
 
 #[test]
-fn closest_member(rt: HostRuntime) -> Result<(), Fail> {
-    check(&rt, rt.alloc(), &CLOSEST_MEMBER)
+fn closest_member(rt: HostRuntime) {
+    check(&rt, rt.alloc(), Play::Twice, &CLOSEST_MEMBER);
 }
 
 #[test]
-fn formation_of_three(rt: HostRuntime) -> Result<(), Fail> {
-    check(&rt, rt.alloc(), &FORMATION)
+fn formation_of_three(rt: HostRuntime) {
+    check(&rt, rt.alloc(), Play::Twice, &FORMATION);
 }
 
 #[test]
-fn loss_drops_members(rt: HostRuntime) -> Result<(), Fail> {
-    check(&rt, rt.alloc(), &LOSS_DROPS_MEMBERS)
+fn loss_drops_members(rt: HostRuntime) {
+    check(&rt, rt.alloc(), Play::Twice, &LOSS_DROPS_MEMBERS);
 }
 
 #[test]
-fn loss_frees_lock(rt: HostRuntime) -> Result<(), Fail> {
-    check(&rt, rt.alloc(), &LOSS_FREES_LOCK)
+fn loss_frees_lock(rt: HostRuntime) {
+    check(&rt, rt.alloc(), Play::Twice, &LOSS_FREES_LOCK);
 }
 
 #[test]
-fn new_greatest(rt: HostRuntime) -> Result<(), Fail> {
-    check(&rt, rt.alloc(), &NEW_GREATEST)
+fn new_greatest(rt: HostRuntime) {
+    check(&rt, rt.alloc(), Play::Twice, &NEW_GREATEST);
 }

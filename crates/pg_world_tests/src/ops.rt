@@ -1,13 +1,14 @@
 //! Lines of a schedule, and the steps of each.
 
 use crate::cast::{Process, group_name, pid_of};
+use crate::lists::put;
 use pg_step::{Command, OpId};
-use pg_term::TermFault;
-use pg_world::{FrameStep, Step};
-use std::alloc::{AllocError, Global};
+use pg_term::Pid;
+use pg_world::{FrameStep, Step, WorldFault};
+use std::alloc::Global;
 
 /// A line of a schedule. Nodes are named by their places; commands come in at the only port.
-#[derive(Clone, Copy, Debug)]
+#[derive(Clone, Copy)]
 pub enum Op {
     /// Bytes move between all nodes, and packets are taken, so often that nothing is left to do.
     Settle,
@@ -49,24 +50,89 @@ impl Op {
         }
     }
 
-    fn command(self, alloc: Global) -> Result<Command, TermFault> {
-        Ok(match self {
+    // The process that a command is about, if there is one.
+    fn process(self) -> Option<Process> {
+        match self {
+            Op::Join(_, _, process) | Op::Leave(_, _, process) => Some(process),
+            Op::End(_, process) => Some(process),
+            _ => None,
+        }
+    }
+
+    fn command_of(self, pid: Pid) -> Command {
+        match self {
+            Op::Join(_, group, _) => Command::Join(group_name(group), pid),
+            Op::Leave(_, group, _) => Command::Leave(group_name(group), pid),
+            _ => Command::Finish(pid),
+        }
+    }
+
+    fn command_of_none(self) -> Command {
+        match self {
             Op::Create(_, group) => Command::Create(group_name(group)),
             Op::Delete(_, group) => Command::Delete(group_name(group)),
-            Op::Join(_, group, process) => {
-                let pid = pid_of(alloc, process)?;
-                Command::Join(group_name(group), pid)
-            }
-            Op::Leave(_, group, process) => {
-                let pid = pid_of(alloc, process)?;
-                Command::Leave(group_name(group), pid)
-            }
-            Op::End(_, process) => Command::Finish(pid_of(alloc, process)?),
             Op::Members(_, group) => Command::Members(group_name(group)),
             Op::Closest(_, group, word) => Command::Closest(group_name(group), word),
             Op::Groups(_) => Command::WhichGroups,
             _ => Command::Make,
-        })
+        }
+    }
+
+    fn command(self, alloc: Global) -> Result<Command, WorldFault> {
+        match self.process() {
+            Some(process) => match pid_of(alloc, process) {
+                Ok(pid) => Ok(self.command_of(pid)),
+                Err(fault) => Err(fault),
+            },
+            None => Ok(self.command_of_none()),
+        }
+    }
+
+    // The event at a node that is given a command.
+    fn given(self, alloc: Global, node: usize) -> Result<FrameStep, WorldFault> {
+        match self.command(alloc) {
+            Ok(command) => Ok(FrameStep::Command {
+                node,
+                port: 0,
+                command,
+            }),
+            Err(fault) => Err(fault),
+        }
+    }
+
+    // Any other event.
+    fn other_event(self) -> FrameStep {
+        match self {
+            Op::Retry(node, number) => FrameStep::Retry {
+                node,
+                op: OpId { port: 0, number },
+            },
+            Op::SeeLoss(node, peer) => FrameStep::SeeLoss { node, peer },
+            Op::Take(node, peer) => FrameStep::Take { node, peer },
+            // No other line is an event: there is no such peer.
+            _ => FrameStep::Take { node: 0, peer: 0 },
+        }
+    }
+
+    /// The event of a line that is one.
+    pub fn event(self, alloc: Global) -> Result<FrameStep, WorldFault> {
+        match self.asked() {
+            Some(node) => self.given(alloc, node),
+            None => Ok(self.other_event()),
+        }
+    }
+
+    // The step of a line that is one.
+    fn step(self, alloc: Global) -> Result<Step, WorldFault> {
+        match self {
+            Op::Put(from, to, max) => Ok(Step::Put { from, to, max }),
+            Op::Pull(to, from, max) => Ok(Step::Pull { to, from, max }),
+            Op::Lose(node) => Ok(Step::Lose { node }),
+            _ => match self.event(alloc) {
+                Ok(event) => Ok(Step::Event(event)),
+                Err(fault) => Err(fault),
+            },
+        }
     }
 }
 
@@ -84,6 +150,7 @@ pub struct Steps {
 }
 
 impl Steps {
+    /// The steps of no line, in a world of so many nodes.
     pub fn new(alloc: Global, nodes: usize, rounds: usize) -> Steps {
         Steps {
             alloc,
@@ -95,104 +162,100 @@ impl Steps {
     }
 
     /// Adds the steps of some lines.
-    pub fn add_all(&mut self, ops: &[Op]) -> Result<(), TermFault> {
+    pub fn add_lines(&mut self, ops: &[Op]) -> Result<(), WorldFault> {
         for op in ops {
-            self.add(*op)?;
-            self.ends.push(self.steps.len())?;
+            self.add_line(*op)?;
         }
         Ok(())
     }
 
-    fn add(&mut self, op: Op) -> Result<(), TermFault> {
+    fn add_line(&mut self, op: Op) -> Result<(), WorldFault> {
+        match self.add(op) {
+            Ok(()) => put(&mut self.ends, Ok(self.steps.len())),
+            Err(fault) => Err(fault),
+        }
+    }
+
+    fn add(&mut self, op: Op) -> Result<(), WorldFault> {
         match op {
-            Op::Settle => Ok(self.settle()?),
-            Op::Cross(from, to) => Ok(self.cross(from, to)?),
-            Op::Move(from, to) => Ok(self.move_all(from, to)?),
-            Op::Put(from, to, max) => Ok(self.put(from, to, max)?),
-            Op::Pull(to, from, max) => Ok(self.pull(to, from, max)?),
-            Op::Take(node, peer) => Ok(self.take(node, peer)?),
-            Op::Retry(node, number) => Ok(self.retry(node, number)?),
-            Op::Lose(node) => Ok(self.steps.push(Step::Lose { node })?),
-            Op::SeeLoss(node, peer) => Ok(self.see_loss(node, peer)?),
-            op => self.ask(op),
+            Op::Settle => self.settle(),
+            Op::Cross(from, to) => self.cross(from, to),
+            Op::Move(from, to) => self.move_all(from, to),
+            _ => put(&mut self.steps, op.step(self.alloc)),
         }
     }
 
-    fn put(&mut self, from: usize, to: usize, max: usize) -> Result<(), AllocError> {
-        self.steps.push(Step::Put { from, to, max })?;
-        Ok(())
-    }
-
-    fn pull(&mut self, to: usize, from: usize, max: usize) -> Result<(), AllocError> {
-        self.steps.push(Step::Pull { to, from, max })?;
-        Ok(())
-    }
-
-    fn event(&mut self, event: FrameStep) -> Result<(), AllocError> {
-        self.steps.push(Step::Event(event))?;
-        Ok(())
-    }
-
-    fn take(&mut self, node: usize, peer: usize) -> Result<(), AllocError> {
-        self.event(FrameStep::Take { node, peer })
-    }
-
-    fn see_loss(&mut self, node: usize, peer: usize) -> Result<(), AllocError> {
-        self.event(FrameStep::SeeLoss { node, peer })
-    }
-
-    fn retry(&mut self, node: usize, number: u32) -> Result<(), AllocError> {
-        let op = OpId { port: 0, number };
-        self.event(FrameStep::Retry { node, op })
-    }
-
-    fn ask(&mut self, op: Op) -> Result<(), TermFault> {
-        if let Some(node) = op.asked() {
-            let command = op.command(self.alloc)?;
-            self.event(FrameStep::Command {
-                node,
-                port: 0,
-                command,
-            })?;
+    // Lines of one step each.
+    fn add_some(&mut self, ops: &[Op]) -> Result<(), WorldFault> {
+        for op in ops {
+            put(&mut self.steps, op.step(self.alloc))?;
         }
         Ok(())
     }
 
-    fn move_once(&mut self, from: usize, to: usize) -> Result<(), AllocError> {
-        self.put(from, to, 65_536)?;
-        self.pull(to, from, 65_536)
-    }
-
-    fn move_all(&mut self, from: usize, to: usize) -> Result<(), AllocError> {
+    fn move_all(&mut self, from: usize, to: usize) -> Result<(), WorldFault> {
         for _ in 0..self.rounds {
-            self.move_once(from, to)?;
+            self.add_some(&[Op::Put(from, to, 65_536), Op::Pull(to, from, 65_536)])?;
         }
         Ok(())
     }
 
-    fn cross(&mut self, from: usize, to: usize) -> Result<(), AllocError> {
-        self.move_all(from, to)?;
-        self.take(to, from)
+    fn cross(&mut self, from: usize, to: usize) -> Result<(), WorldFault> {
+        match self.move_all(from, to) {
+            Ok(()) => self.add_some(&[Op::Take(to, from)]),
+            Err(fault) => Err(fault),
+        }
     }
 
-    // What each node sends comes to the others, as far as there is room, and each takes up to two packets of each.
-    fn settle_once(&mut self) -> Result<(), AllocError> {
+    // What a node sends comes to another, as far as there is room, which takes up to two packets of it.
+    fn settle_between(&mut self, from: usize, to: usize) -> Result<(), WorldFault> {
+        if from == to {
+            return Ok(());
+        }
+        self.add_some(&[
+            Op::Put(from, to, 65_536),
+            Op::Pull(to, from, 65_536),
+            Op::Take(to, from),
+            Op::Take(to, from),
+        ])
+    }
+
+    fn settle_from(&mut self, from: usize) -> Result<(), WorldFault> {
+        for to in 0..self.nodes {
+            self.settle_between(from, to)?;
+        }
+        Ok(())
+    }
+
+    // What each node sends comes so to the others.
+    fn settle_once(&mut self) -> Result<(), WorldFault> {
         for from in 0..self.nodes {
-            for to in 0..self.nodes {
-                if from != to {
-                    self.move_once(from, to)?;
-                    self.take(to, from)?;
-                    self.take(to, from)?;
-                }
-            }
+            self.settle_from(from)?;
         }
         Ok(())
     }
 
-    fn settle(&mut self) -> Result<(), AllocError> {
+    fn settle(&mut self) -> Result<(), WorldFault> {
         for _ in 0..self.rounds {
             self.settle_once()?;
         }
         Ok(())
+    }
+}
+
+/// The steps of some lines.
+pub fn steps_of(
+    alloc: Global,
+    nodes: usize,
+    rounds: usize,
+    ops: &[Op],
+) -> Result<Steps, WorldFault> {
+    let mut steps = Steps::new(alloc, nodes, rounds);
+    match steps.add_lines(ops) {
+        Ok(()) => Ok(steps),
+        Err(fault) => {
+            drop(steps);
+            Err(fault)
+        }
     }
 }

@@ -1,16 +1,17 @@
 //! Random schedules of worlds over bytes, cut at random. Whatever moved when, packets that cross whole lead to the same nodes.
 
 use crate::cast::{Begun, GROUPS, Process, config, group_name};
+use crate::lists::{put, whole};
 use crate::ops::{Op, Steps};
-use crate::played::{played, state_of};
-use crate::slow::{Processes, asked_of, check_answered, check_headline};
+use crate::played::{are_same, are_same_worlds, played, state_of};
+use crate::slow::{Known, check_answered, check_headline, len_of, put_processes};
+use crate::verdicts::{holds, passes};
 use pg_index::IndexTable;
-use pg_world::{Config, FrameStep, FrameWorld, Step, Stepped, World, run_frames};
+use pg_world::{Config, FrameStep, FrameWorld, Step, Stepped, World, WorldFault, run_frames};
 use rand_core::utils::NextWord;
 use rand_pcg::Pcg32;
 use std::alloc::Global;
 use std::process::Abort;
-use std::test::Fail;
 
 /// How many steps a schedule has.
 const STEPS: usize = 10_000;
@@ -20,7 +21,7 @@ const P: Process = (0, 1);
 const Q: Process = (1, 1);
 
 // How the nodes start: two of them with groups.
-const BEGUN: [Begun<'_>; 5] = [
+static BEGUN: [Begun<'static>; 5] = [
     (2, &[(1, &[P, P, Q]), (3, &[])]),
     (2, &[(1, &[P, Q, Q])]),
     (2, &[]),
@@ -32,7 +33,8 @@ const BEGUN: [Begun<'_>; 5] = [
 #[derive(Drop)]
 struct Chance {
     words: Pcg32,
-    nodes: usize,
+    // How many nodes there are, at least 1.
+    nodes: u32,
     // How many commands there were at all nodes.
     asked: u32,
 }
@@ -44,8 +46,7 @@ impl Chance {
     }
 
     fn place(&mut self) -> usize {
-        let nodes = u32::try_from(self.nodes).unwrap_or(1);
-        self.below(nodes) as usize
+        self.below(self.nodes) as usize
     }
 
     // Two nodes, apart from each other but for a time in twenty.
@@ -54,7 +55,7 @@ impl Chance {
         let other = self.place();
         if one == other && self.below(20) > 0 {
             let next = one.saturating_add(1);
-            (one, if next < self.nodes { next } else { 0 })
+            (one, if next < self.nodes as usize { next } else { 0 })
         } else {
             (one, other)
         }
@@ -66,8 +67,7 @@ impl Chance {
 
     // One of the last commands of a node, if each had as many.
     fn number(&mut self) -> u32 {
-        let nodes = u32::try_from(self.nodes).unwrap_or(1);
-        let last = self.asked / nodes.max(1);
+        let last = self.asked / self.nodes.max(1);
         last.saturating_sub(self.below(30)).saturating_add(1)
     }
 
@@ -123,67 +123,77 @@ impl Chance {
     }
 }
 
-fn ops_by_chance(alloc: Global, nodes: usize, seed: u64) -> Result<Vec<Op>, Fail> {
-    let mut chance = Chance {
-        words: Pcg32::new(seed, 1),
-        nodes,
-        asked: 0,
-    };
-    let mut ops = Vec::new(alloc);
+fn put_ops(ops: &mut Vec<Op>, chance: &mut Chance) -> Result<(), WorldFault> {
     for _ in 0..STEPS {
-        ops.push(chance.op())?;
+        put(ops, Ok(chance.op()))?;
     }
-    Ok(ops)
+    Ok(())
 }
 
-// Makes the steps one by one, and tells of each whether it was an event that happened. Now and then the headline is read.
-fn made(
-    rt: &impl Abort,
+/// A schedule of a world.
+#[derive(Drop)]
+struct Schedule {
+    config: Config,
+    ops: Vec<Op>,
+    // A step for each line.
+    steps: Steps,
+    // The processes that it speaks of.
+    processes: Vec<Known>,
+}
+
+impl Schedule {
+    fn nodes(&self) -> usize {
+        self.config.starts.len()
+    }
+
+    fn steps(&self) -> &[Step] {
+        self.steps.steps.as_slice()
+    }
+
+    // Lines by chance, and their steps.
+    fn fill(&mut self, alloc: Global, nodes: u32, seed: u64) -> Result<(), WorldFault> {
+        let mut chance = Chance {
+            words: Pcg32::new(seed, 1),
+            nodes,
+            asked: 0,
+        };
+        put_ops(&mut self.ops, &mut chance)?;
+        put_processes(alloc, &mut self.processes, nodes as usize, 4)?;
+        self.steps.add_lines(self.ops.as_slice())
+    }
+}
+
+fn filled(
     alloc: Global,
-    config: &Config,
-    steps: &[Step],
-) -> Result<(World<IndexTable>, Vec<bool>), Fail> {
-    let mut world = World::new(alloc, config)?;
-    match told_of_all(rt, alloc, config, steps, &mut world) {
-        Ok(happened) => Ok((world, happened)),
+    schedule: Schedule,
+    nodes: u32,
+    seed: u64,
+) -> Result<Schedule, WorldFault> {
+    let mut schedule = schedule;
+    match schedule.fill(alloc, nodes, seed) {
+        Ok(()) => Ok(schedule),
         Err(fault) => {
-            drop(world);
+            drop(schedule);
             Err(fault)
         }
     }
 }
 
-fn told_of_all(
-    rt: &impl Abort,
-    alloc: Global,
-    config: &Config,
-    steps: &[Step],
-    world: &mut World<IndexTable>,
-) -> Result<Vec<bool>, Fail> {
-    let mut happened = Vec::with_capacity(alloc, steps.len())?;
-    let processes = Processes::new(alloc, config.starts.len(), 4)?;
-    let told = tell_all(rt, alloc, config, steps, world, &processes, &mut happened);
-    drop(processes);
-    told?;
-    Ok(happened)
-}
-
-fn tell_all(
-    rt: &impl Abort,
-    alloc: Global,
-    config: &Config,
-    steps: &[Step],
-    world: &mut World<IndexTable>,
-    processes: &Processes,
-    happened: &mut Vec<bool>,
-) -> Result<(), Fail> {
-    for (number, step) in steps.iter().enumerate() {
-        happened.push(happens(world, step))?;
-        if number % 50 == 0 {
-            check_headline(rt, alloc, config, world, processes)?;
+fn schedule_of(alloc: Global, nodes: u32, seed: u64) -> Result<Schedule, WorldFault> {
+    let count = nodes as usize;
+    let (some, _) = BEGUN.as_slice().split_at(count.min(5));
+    match config(alloc, some, 150) {
+        Ok(config) => {
+            let empty = Schedule {
+                config,
+                ops: Vec::new(alloc),
+                steps: Steps::new(alloc, count, 1),
+                processes: Vec::new(alloc),
+            };
+            filled(alloc, empty, nodes, seed)
         }
+        Err(fault) => Err(fault),
     }
-    check_headline(rt, alloc, config, world, processes)
 }
 
 // Whether a step is an event that happens.
@@ -191,74 +201,47 @@ fn happens(world: &mut World<IndexTable>, step: &Step) -> bool {
     matches!(world.step(step), Ok(Stepped::Happened))
 }
 
-// The event of a step, if it happened.
-fn event_of(step: Step, has_happened: bool) -> Option<FrameStep> {
-    match step {
-        Step::Event(event) => {
-            if has_happened {
-                Some(event)
-            } else {
-                drop(event);
-                None
-            }
-        }
-        _ => None,
-    }
+fn check_now(rt: &impl Abort, alloc: Global, schedule: &Schedule, world: &World<IndexTable>) {
+    let processes = schedule.processes.as_slice();
+    check_headline(rt, alloc, &schedule.config, world, processes);
 }
 
-// The events that happened.
-fn events_of(alloc: Global, steps: Vec<Step>, happened: &[bool]) -> Result<Vec<FrameStep>, Fail> {
-    let mut events = Vec::new(alloc);
-    for (place, step) in steps.into_iter().enumerate() {
-        if let Some(event) = event_of(step, happened.get(place) == Some(&true)) {
-            events.push(event)?;
+// Makes the steps one by one, and keeps the events that happened. Now and then the headline is read.
+fn step_all(
+    rt: &impl Abort,
+    alloc: Global,
+    schedule: &Schedule,
+    world: &mut World<IndexTable>,
+    events: &mut Vec<FrameStep>,
+) -> Result<(), WorldFault> {
+    for (number, (op, step)) in schedule.ops.iter().zip(schedule.steps()).enumerate() {
+        if happens(world, step) {
+            put(events, op.event(alloc))?;
+        }
+        if number % 50 == 0 {
+            check_now(rt, alloc, schedule, world);
         }
     }
-    Ok(events)
-}
-
-// Whether both worlds end in the same nodes.
-fn are_same(
-    one: &World<IndexTable>,
-    other: &World<IndexTable>,
-    nodes: usize,
-) -> Result<bool, Fail> {
-    for place in 0..nodes {
-        match (state_of(one, place), state_of(other, place)) {
-            (Some(node), Some(peer)) => {
-                if !node.same(peer)? {
-                    return Ok(false);
-                }
-            }
-            _ => return Ok(false),
-        }
-    }
-    Ok(true)
+    Ok(())
 }
 
 fn are_same_over_packets(
     bytes: &World<IndexTable>,
     packets: &FrameWorld<IndexTable>,
     nodes: usize,
-) -> Result<bool, Fail> {
+) -> bool {
     for place in 0..nodes {
-        match (state_of(bytes, place), packets.node(place)) {
-            (Some(node), Some(peer)) => {
-                if !node.same(peer)? {
-                    return Ok(false);
-                }
-            }
-            _ => return Ok(false),
+        if !are_same(state_of(bytes, place), packets.node(place)) {
+            return false;
         }
     }
-    Ok(true)
+    true
 }
 
 // How many updates of a group were begun.
 fn begun_of(world: &World<IndexTable>, group: i64) -> usize {
     let name = group_name(group);
-    let (some, last) = world.history(&name);
-    let count = some.len().saturating_add(usize::from(last.is_some()));
+    let count = len_of(world.history(&name));
     drop(name);
     count
 }
@@ -272,120 +255,16 @@ fn begun(world: &World<IndexTable>) -> usize {
     count
 }
 
-fn check(rt: &impl Abort, alloc: Global, nodes: usize, seed: u64) -> Result<(), Fail> {
-    let (some, _) = BEGUN.as_slice().split_at(nodes.min(5));
-    let config = config(alloc, some, 150)?;
-    let checked = check_of(rt, alloc, nodes, seed, &config);
-    drop(config);
-    checked
-}
-
-fn check_of(
-    rt: &impl Abort,
-    alloc: Global,
-    nodes: usize,
-    seed: u64,
-    config: &Config,
-) -> Result<(), Fail> {
-    let ops = ops_by_chance(alloc, nodes, seed)?;
-    let steps = steps_of(alloc, nodes, ops.as_slice())?;
-    check_steps(rt, alloc, config, ops.as_slice(), steps)
-}
-
-fn steps_of(alloc: Global, nodes: usize, ops: &[Op]) -> Result<Vec<Step>, Fail> {
-    let mut made = Steps::new(alloc, nodes, 1);
-    let added = made.add_all(ops);
-    let Steps { steps, ends, .. } = made;
-    drop(ends);
-    added?;
-    Ok(steps)
-}
-
-fn check_steps(
-    rt: &impl Abort,
-    alloc: Global,
-    config: &Config,
-    ops: &[Op],
-    steps: Vec<Step>,
-) -> Result<(), Fail> {
-    match made(rt, alloc, config, steps.as_slice()) {
-        Ok((world, happened)) => {
-            let checked = check_made(rt, alloc, config, ops, steps, &world, happened.as_slice());
-            drop(world);
-            checked
+// Whether a run of all steps leads to the same nodes.
+fn is_run(alloc: Global, schedule: &Schedule, world: &World<IndexTable>) -> bool {
+    match played(alloc, &schedule.config, schedule.steps()) {
+        Ok(other) => {
+            let are_same = are_same_worlds(world, &other, schedule.nodes());
+            drop(other);
+            are_same
         }
-        Err(fault) => {
-            drop(steps);
-            Err(fault)
-        }
+        Err(_) => false,
     }
-}
-
-fn check_made(
-    rt: &impl Abort,
-    alloc: Global,
-    config: &Config,
-    ops: &[Op],
-    steps: Vec<Step>,
-    world: &World<IndexTable>,
-    happened: &[bool],
-) -> Result<(), Fail> {
-    match check_bytes(rt, alloc, config, ops, steps.as_slice(), world) {
-        Ok(()) => check_events(rt, alloc, config, world, events_of(alloc, steps, happened)),
-        Err(fault) => {
-            drop(steps);
-            Err(fault)
-        }
-    }
-}
-
-fn check_events(
-    rt: &impl Abort,
-    alloc: Global,
-    config: &Config,
-    world: &World<IndexTable>,
-    events: Result<Vec<FrameStep>, Fail>,
-) -> Result<(), Fail> {
-    match events {
-        Ok(events) => {
-            let checked = check_packets(rt, alloc, config, world, events.as_slice());
-            drop(events);
-            checked
-        }
-        Err(fault) => Err(fault),
-    }
-}
-
-// What was answered stands in the histories, and a run of all steps leads to the same nodes.
-fn check_bytes(
-    rt: &impl Abort,
-    alloc: Global,
-    config: &Config,
-    ops: &[Op],
-    steps: &[Step],
-    world: &World<IndexTable>,
-) -> Result<(), Fail> {
-    let nodes = config.starts.len();
-    check_asked(rt, alloc, nodes, ops, world)?;
-    assert!(rt; begun(world) > 9, "{nodes} nodes: {}", begun(world));
-    let other = played(alloc, config, steps)?;
-    let same = are_same(world, &other, nodes);
-    drop(other);
-    assert!(rt; same?);
-    Ok(())
-}
-
-fn check_asked(
-    rt: &impl Abort,
-    alloc: Global,
-    nodes: usize,
-    ops: &[Op],
-    world: &World<IndexTable>,
-) -> Result<(), Fail> {
-    let asked = asked_of(alloc, nodes, ops)?;
-    let checked = check_answered(rt, alloc, world, &asked);
-    drop(asked);
-    checked
 }
 
 fn are_none_refused(numbers: &[u8]) -> bool {
@@ -401,34 +280,103 @@ fn are_none_refused(numbers: &[u8]) -> bool {
 fn check_packets(
     rt: &impl Abort,
     alloc: Global,
-    config: &Config,
+    schedule: &Schedule,
     world: &World<IndexTable>,
     events: &[FrameStep],
-) -> Result<(), Fail> {
-    let (packets, numbers) = run_frames(alloc, config, events)?;
-    let same = are_same_over_packets(world, &packets, config.starts.len());
-    drop(packets);
-    assert!(rt; are_none_refused(numbers.as_slice()));
-    assert!(rt; same?);
-    Ok(())
+) -> Result<(), WorldFault> {
+    match run_frames(alloc, &schedule.config, events) {
+        Ok((packets, numbers)) => {
+            let nodes = schedule.nodes();
+            let are_same = are_same_over_packets(world, &packets, nodes);
+            let all_happen = are_none_refused(numbers.as_slice());
+            drop(packets);
+            drop(numbers);
+            holds(rt, all_happen, "events over packets happen, nodes:", nodes);
+            holds(rt, are_same, "same over packets, nodes:", nodes);
+            Ok(())
+        }
+        Err(fault) => Err(fault),
+    }
+}
+
+// What was answered stands in the histories, and a run of all steps leads to the same nodes.
+fn check_bytes(rt: &impl Abort, alloc: Global, schedule: &Schedule, world: &World<IndexTable>) {
+    check_now(rt, alloc, schedule, world);
+    check_answered(rt, world, schedule.nodes(), schedule.ops.as_slice());
+    let begun = begun(world);
+    holds(rt, begun > 9, "updates begun:", begun);
+    let is_run = is_run(alloc, schedule, world);
+    holds(rt, is_run, "same by a run, nodes:", schedule.nodes());
+}
+
+fn check_world(
+    rt: &impl Abort,
+    alloc: Global,
+    schedule: &Schedule,
+    world: &mut World<IndexTable>,
+) -> Result<(), WorldFault> {
+    let mut events = Vec::new(alloc);
+    let told = step_all(rt, alloc, schedule, world, &mut events);
+    match whole(events, told) {
+        Ok(events) => {
+            check_bytes(rt, alloc, schedule, world);
+            let told = check_packets(rt, alloc, schedule, world, events.as_slice());
+            drop(events);
+            told
+        }
+        Err(fault) => Err(fault),
+    }
+}
+
+fn check_schedule(rt: &impl Abort, alloc: Global, schedule: &Schedule) -> Result<(), WorldFault> {
+    let lines = schedule.ops.len();
+    holds(
+        rt,
+        schedule.steps().len() == lines,
+        "a step for each line:",
+        lines,
+    );
+    match World::new(alloc, &schedule.config) {
+        Ok(mut world) => {
+            let told = check_world(rt, alloc, schedule, &mut world);
+            drop(world);
+            told
+        }
+        Err(fault) => Err(fault),
+    }
+}
+
+fn run_by_chance(rt: &impl Abort, alloc: Global, nodes: u32, seed: u64) -> Result<(), WorldFault> {
+    match schedule_of(alloc, nodes, seed) {
+        Ok(schedule) => {
+            let told = check_schedule(rt, alloc, &schedule);
+            drop(schedule);
+            told
+        }
+        Err(fault) => Err(fault),
+    }
+}
+
+fn check(rt: &impl Abort, alloc: Global, nodes: u32, seed: u64) {
+    passes(rt, run_by_chance(rt, alloc, nodes, seed));
 }
 
 #[test]
-fn two_nodes(rt: HostRuntime) -> Result<(), Fail> {
-    check(&rt, rt.alloc(), 2, 20_261_125)
+fn two_nodes(rt: HostRuntime) {
+    check(&rt, rt.alloc(), 2, 20_261_125);
 }
 
 #[test]
-fn three_nodes(rt: HostRuntime) -> Result<(), Fail> {
-    check(&rt, rt.alloc(), 3, 20_261_126)
+fn three_nodes(rt: HostRuntime) {
+    check(&rt, rt.alloc(), 3, 20_261_126);
 }
 
 #[test]
-fn four_nodes(rt: HostRuntime) -> Result<(), Fail> {
-    check(&rt, rt.alloc(), 4, 20_261_127)
+fn four_nodes(rt: HostRuntime) {
+    check(&rt, rt.alloc(), 4, 20_261_127);
 }
 
 #[test]
-fn five_nodes(rt: HostRuntime) -> Result<(), Fail> {
-    check(&rt, rt.alloc(), 5, 20_261_128)
+fn five_nodes(rt: HostRuntime) {
+    check(&rt, rt.alloc(), 5, 20_261_128);
 }

@@ -5,7 +5,7 @@ use pg_step::{Answer, Reply};
 use pg_term::{Pid, Term};
 
 /// What a command is answered.
-#[derive(Clone, Copy, Debug)]
+#[derive(Clone, Copy)]
 pub enum Said<'a> {
     Ok,
     Made(Process),

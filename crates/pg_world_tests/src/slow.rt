@@ -1,266 +1,350 @@
 //! The headline, read slowly off a world: what each node's table should be, by the history of each group.
 
 mod answered;
+mod history;
 mod value;
 
-use crate::cast::{GROUPS, Process, group_name, pid_of};
+use crate::cast::{GROUPS, Process, count_in, group_name, pid_of, process_of};
+use crate::lists::{put, whole};
 use crate::played::state_of;
-pub use answered::{Asked, asked_of, check_answered};
+use crate::verdicts::holds_of;
+pub use answered::check_answered;
+pub use history::len_of;
+use pg_group::{GroupTable, Scope};
 use pg_index::IndexTable;
 use pg_node::NodeState;
 use pg_term::{Pid, Term};
-use pg_world::{Config, Entry, World};
+use pg_world::{Config, World, WorldFault};
 use std::alloc::Global;
 use std::process::Abort;
-use std::test::Fail;
-use value::{Value, base, less, replayed, same_value, value_at};
+use value::Value;
 
 /// A node of a world.
 type State = NodeState<IndexTable>;
 
-/// The processes that tests speak of: the first ones of each node.
-#[derive(Drop)]
-pub struct Processes {
-    pids: Vec<(Process, Pid)>,
-}
+/// A process that tests speak of, and its pid.
+pub type Known = (Process, Pid);
 
-impl Processes {
-    /// The first so many processes of so many nodes.
-    pub fn new(alloc: Global, nodes: usize, count: u32) -> Result<Processes, Fail> {
-        let mut pids = Vec::new(alloc);
-        for node in 0..nodes {
-            for number in 1..=count {
-                let process = (node, number);
-                pids.push((process, pid_of(alloc, process)?))?;
-            }
-        }
-        Ok(Processes { pids })
-    }
-
-    // Those that have ended, as far as a node knows.
-    fn ended(&self, alloc: Global, node: &State) -> Result<Vec<Process>, Fail> {
-        let mut ended = Vec::new(alloc);
-        for (process, pid) in self.pids.as_slice() {
-            if node.ended(pid) {
-                ended.push(*process)?;
-            }
-        }
-        Ok(ended)
-    }
-
-    // Whether no end is pending: what has ended at its home has ended everywhere.
-    fn none_pending(&self, world: &World<IndexTable>, nodes: usize) -> bool {
-        for (process, pid) in self.pids.as_slice() {
-            if !is_settled(world, nodes, process.0, pid) {
-                return false;
-            }
-        }
-        true
+fn known_of(alloc: Global, process: Process) -> Result<Known, WorldFault> {
+    match pid_of(alloc, process) {
+        Ok(pid) => Ok((process, pid)),
+        Err(fault) => Err(fault),
     }
 }
 
-// Whether a process has ended nowhere, as far as its home knows, or everywhere.
-fn is_settled(world: &World<IndexTable>, nodes: usize, home: usize, pid: &Pid) -> bool {
-    let Some(at_home) = state_of(world, home) else {
-        return true;
-    };
-    if !at_home.ended(pid) {
-        return true;
-    }
-    for place in 0..nodes {
-        if let Some(node) = state_of(world, place) {
-            if !node.ended(pid) {
-                return false;
-            }
-        }
-    }
-    true
-}
-
-/// The updates of a group in their order.
-fn history_at(alloc: Global, world: &World<IndexTable>, group: i64) -> Result<Vec<&Entry>, Fail> {
-    let name = group_name(group);
-    let entries = history_of(alloc, world, &name);
-    drop(name);
-    entries
-}
-
-/// The same by its name.
-fn history_of<'a>(
+// The first so many processes of a node.
+fn put_first(
     alloc: Global,
-    world: &'a World<IndexTable>,
-    name: &Term,
-) -> Result<Vec<&'a Entry>, Fail> {
-    let mut entries = Vec::new(alloc);
-    let (some, last) = world.history(name);
-    for entry in some {
-        entries.push(entry)?;
-    }
-    if let Some(entry) = last {
-        entries.push(entry)?;
-    }
-    Ok(entries)
-}
-
-// One group at all nodes.
-fn check_group(
-    rt: &impl Abort,
-    alloc: Global,
-    config: &Config,
-    world: &World<IndexTable>,
-    processes: &Processes,
-    group: i64,
-) -> Result<(), Fail> {
-    let name = group_name(group);
-    let checked = check_named(rt, alloc, config, world, processes, &name);
-    drop(name);
-    checked
-}
-
-fn check_named(
-    rt: &impl Abort,
-    alloc: Global,
-    config: &Config,
-    world: &World<IndexTable>,
-    processes: &Processes,
-    name: &Term,
-) -> Result<(), Fail> {
-    let nodes = config.starts.len();
-    let entries = history_of(alloc, world, name)?;
-    for place in 0..nodes {
-        check_applied(rt, world, place, name, entries.len());
-        check_table(rt, alloc, config, world, processes, place, name)?;
-    }
-    if some_free(world, nodes, name) {
-        check_free(rt, world, nodes, name, entries.len());
-        if processes.none_pending(world, nodes) {
-            check_agreed(rt, alloc, world, nodes, name)?;
-        }
+    processes: &mut Vec<Known>,
+    node: usize,
+    count: u32,
+) -> Result<(), WorldFault> {
+    for number in 1..=count {
+        put(processes, known_of(alloc, (node, number)))?;
     }
     Ok(())
 }
 
-// A node has applied all of the history, or all but the last.
-fn check_applied(
-    rt: &impl Abort,
-    world: &World<IndexTable>,
-    place: usize,
-    name: &Term,
-    len: usize,
-) {
-    let applied = world.applied(place, name);
-    let len = len as u128;
-    assert!(rt;
-        applied == len || applied.saturating_add(1) == len,
-        "node {place}"
-    );
-}
-
-// A formed node's table is what the updates that it has applied make of what all began with, less the ended; while a node is
-// not formed there is no update.
-fn check_table(
-    rt: &impl Abort,
+/// Puts the first so many processes of each of so many nodes.
+pub fn put_processes(
     alloc: Global,
-    config: &Config,
-    world: &World<IndexTable>,
-    processes: &Processes,
-    place: usize,
-    name: &Term,
-) -> Result<(), Fail> {
-    let Some(node) = state_of(world, place) else {
-        return Ok(());
-    };
-    if node.formed() {
-        let wanted = wanted_at(alloc, config, world, processes, place, node, name)?;
-        let is = value_at(alloc, node.table(), name)?;
-        assert!(rt; same_value(&is, &wanted), "group {name:?} at node {place}");
-    } else {
-        let entries = history_of(alloc, world, name)?;
-        assert!(rt; entries.len() == 0);
+    processes: &mut Vec<Known>,
+    nodes: usize,
+    count: u32,
+) -> Result<(), WorldFault> {
+    for node in 0..nodes {
+        put_first(alloc, processes, node, count)?;
     }
     Ok(())
 }
 
-// What the updates that the node has applied make of what all began with, less the ended.
-fn wanted_at(
-    alloc: Global,
-    config: &Config,
-    world: &World<IndexTable>,
-    processes: &Processes,
-    place: usize,
-    node: &State,
-    name: &Term,
-) -> Result<Value, Fail> {
-    let ended = processes.ended(alloc, node)?;
-    let value = value_after(alloc, config, world, place, name)?;
-    Ok(less(value, ended.as_slice()))
+/// The first so many processes of each of so many nodes.
+pub fn first_processes(alloc: Global, nodes: usize, count: u32) -> Result<Vec<Known>, WorldFault> {
+    let mut processes = Vec::new(alloc);
+    let told = put_processes(alloc, &mut processes, nodes, count);
+    whole(processes, told)
 }
 
-fn value_after(
-    alloc: Global,
-    config: &Config,
-    world: &World<IndexTable>,
-    place: usize,
-    name: &Term,
-) -> Result<Value, Fail> {
-    let entries = history_of(alloc, world, name)?;
-    let first = base(alloc, config, name)?;
-    let count = usize::try_from(world.applied(place, name)).unwrap_or(0);
-    replayed(alloc, first, entries.as_slice(), count)
-}
-
-// Whether one node sees the lock of a group free.
-fn some_free(world: &World<IndexTable>, nodes: usize, name: &Term) -> bool {
-    for place in 0..nodes {
-        if let Some(node) = state_of(world, place) {
-            if node.holder(name).is_none() {
-                return true;
-            }
+// Whether a process has ended, as far as a node knows.
+fn has_ended(processes: &[Known], node: &State, process: Process) -> bool {
+    for (other, pid) in processes {
+        if *other == process {
+            return node.ended(pid);
         }
     }
     false
 }
 
-// Every node has applied all.
-fn check_free(rt: &impl Abort, world: &World<IndexTable>, nodes: usize, name: &Term, len: usize) {
-    for place in 0..nodes {
-        assert!(rt; world.applied(place, name) == len as u128, "node {place}");
+// Whether the node at a place is there, and knows that a process has ended, or that it has not.
+fn has_told(world: &World<IndexTable>, place: usize, pid: &Pid, ended: bool) -> bool {
+    match state_of(world, place) {
+        Some(node) => node.ended(pid) == ended,
+        None => false,
     }
 }
 
-// The formed nodes have the same members.
+// Whether a node does not know that a process has ended.
+fn is_alive_at_one(world: &World<IndexTable>, nodes: usize, pid: &Pid) -> bool {
+    for place in 0..nodes {
+        if has_told(world, place, pid, false) {
+            return true;
+        }
+    }
+    false
+}
+
+// Whether no end is pending: what has ended at its home has ended everywhere.
+fn none_pending(world: &World<IndexTable>, nodes: usize, processes: &[Known]) -> bool {
+    for (process, pid) in processes {
+        if has_told(world, process.0, pid, true) && is_alive_at_one(world, nodes, pid) {
+            return false;
+        }
+    }
+    true
+}
+
+// Whether a node has applied all of the history, or all but the last.
+fn has_applied(world: &World<IndexTable>, place: usize, name: &Term) -> bool {
+    let applied = world.applied(place, name);
+    let len = len_of(world.history(name)) as u128;
+    applied == len || applied.saturating_add(1) == len
+}
+
+// Whether a node has applied all of the history.
+fn has_applied_all(world: &World<IndexTable>, place: usize, name: &Term) -> bool {
+    world.applied(place, name) == len_of(world.history(name)) as u128
+}
+
+// Whether a process is in a list of a node as often as in a value, less the processes that the node knows to have ended.
+fn is_as_often(
+    node: &State,
+    processes: &[Known],
+    wanted: &Value,
+    pids: &[Pid],
+    process: Process,
+) -> bool {
+    let count = if has_ended(processes, node, process) {
+        0
+    } else {
+        wanted.count(process)
+    };
+    count_in(pids, process) == count
+}
+
+// Whether a list of a node has the members of a value, less the processes that the node knows to have ended, each as often.
+fn are_left(node: &State, processes: &[Known], wanted: &Value, pids: &[Pid]) -> bool {
+    for pid in pids {
+        if !is_as_often(node, processes, wanted, pids, process_of(pid)) {
+            return false;
+        }
+    }
+    for process in wanted.members() {
+        if !is_as_often(node, processes, wanted, pids, *process) {
+            return false;
+        }
+    }
+    true
+}
+
+// Whether the table of a node has a value, less the processes that the node knows to have ended.
+fn has_left(alloc: Global, node: &State, name: &Term, processes: &[Known], wanted: &Value) -> bool {
+    if node.table().has(name) != wanted.is_there() {
+        return false;
+    }
+    match node.table().list(alloc, name, Scope::All) {
+        Ok(pids) => {
+            let are_left = are_left(node, processes, wanted, pids.as_slice());
+            drop(pids);
+            are_left
+        }
+        Err(_) => false,
+    }
+}
+
+// What the updates that a node has applied make of what all began with.
+fn work_out(
+    wanted: &mut Value,
+    config: &Config,
+    world: &World<IndexTable>,
+    place: usize,
+    name: &Term,
+) -> Result<(), WorldFault> {
+    match wanted.begin(config, name) {
+        Ok(()) => wanted.replay(world.history(name), world.applied(place, name)),
+        Err(fault) => Err(fault),
+    }
+}
+
+// Whether the table of a formed node is what the updates that it has applied make of what all began with, less the ended.
+fn is_worked_out(
+    alloc: Global,
+    config: &Config,
+    world: &World<IndexTable>,
+    processes: &[Known],
+    place: usize,
+    node: &State,
+    name: &Term,
+) -> bool {
+    let mut wanted = Value::absent(alloc);
+    let told = work_out(&mut wanted, config, world, place, name);
+    let has_left = has_left(alloc, node, name, processes, &wanted);
+    drop(wanted);
+    told.is_ok() && has_left
+}
+
+// Whether the table of a node is as it should be, if the node is there: while it is not formed there is no update.
+fn is_table_right(
+    alloc: Global,
+    config: &Config,
+    world: &World<IndexTable>,
+    processes: &[Known],
+    place: usize,
+    name: &Term,
+) -> bool {
+    match state_of(world, place) {
+        Some(node) => {
+            if node.formed() {
+                is_worked_out(alloc, config, world, processes, place, node, name)
+            } else {
+                len_of(world.history(name)) == 0
+            }
+        }
+        None => true,
+    }
+}
+
+// Whether one node sees the lock of a group free.
+fn some_free(world: &World<IndexTable>, nodes: usize, name: &Term) -> bool {
+    for place in 0..nodes {
+        if is_free_at(world, place, name) {
+            return true;
+        }
+    }
+    false
+}
+
+fn is_free_at(world: &World<IndexTable>, place: usize, name: &Term) -> bool {
+    match state_of(world, place) {
+        Some(node) => node.holder(name).is_none(),
+        None => false,
+    }
+}
+
+// The first node that is formed, if one is.
+fn first_formed(world: &World<IndexTable>, nodes: usize) -> Option<&State> {
+    for place in 0..nodes {
+        if let Some(node) = state_of(world, place) {
+            if node.formed() {
+                return Some(node);
+            }
+        }
+    }
+    None
+}
+
+// Whether the table of a node has these members, if the node is there and formed.
+fn agrees(
+    alloc: Global,
+    world: &World<IndexTable>,
+    place: usize,
+    name: &Term,
+    value: &Value,
+) -> bool {
+    match state_of(world, place) {
+        Some(node) => !node.formed() || has_left(alloc, node, name, &[], value),
+        None => true,
+    }
+}
+
+// The value of a group in the table of a node.
+fn read(alloc: Global, value: &mut Value, node: &State, name: &Term) -> Result<(), WorldFault> {
+    match node.table().list(alloc, name, Scope::All) {
+        Ok(pids) => {
+            let told = value.take(node.table().has(name), pids.as_slice());
+            drop(pids);
+            told
+        }
+        Err(_) => Err(WorldFault::OutOfMemory),
+    }
+}
+
+// The formed nodes have the same members as the first of them.
 fn check_agreed(
     rt: &impl Abort,
     alloc: Global,
     world: &World<IndexTable>,
     nodes: usize,
+    group: i64,
     name: &Term,
-) -> Result<(), Fail> {
-    let mut first = None;
-    for place in 0..nodes {
-        if let Some(node) = state_of(world, place) {
-            if node.formed() {
-                let value = value_at(alloc, node.table(), name)?;
-                match &first {
-                    None => first = Some(value),
-                    Some(other) => assert!(rt; same_value(&value, other), "node {place}"),
-                }
-            }
+) {
+    if let Some(first) = first_formed(world, nodes) {
+        let mut value = Value::absent(alloc);
+        let told = read(alloc, &mut value, first, name);
+        holds_of(rt, told.is_ok(), "the first table is read", group, 0);
+        for place in 0..nodes {
+            let agrees = agrees(alloc, world, place, name, &value);
+            holds_of(rt, agrees, "the tables agree", group, place);
         }
+        drop(value);
     }
-    Ok(())
 }
 
-/// What the headline says of each group and node of a world.
+// One group at each node.
+fn check_nodes(
+    rt: &impl Abort,
+    alloc: Global,
+    config: &Config,
+    world: &World<IndexTable>,
+    processes: &[Known],
+    group: i64,
+    name: &Term,
+) {
+    for place in 0..config.starts.len() {
+        let has_applied = has_applied(world, place, name);
+        holds_of(rt, has_applied, "all is applied but the last", group, place);
+        let is_right = is_table_right(alloc, config, world, processes, place, name);
+        holds_of(rt, is_right, "the table is right", group, place);
+    }
+}
+
+// Every node has applied all.
+fn check_free(rt: &impl Abort, world: &World<IndexTable>, nodes: usize, group: i64, name: &Term) {
+    for place in 0..nodes {
+        let has_applied = has_applied_all(world, place, name);
+        holds_of(rt, has_applied, "all is applied", group, place);
+    }
+}
+
+fn check_group(
+    rt: &impl Abort,
+    alloc: Global,
+    config: &Config,
+    world: &World<IndexTable>,
+    processes: &[Known],
+    group: i64,
+    name: &Term,
+) {
+    let nodes = config.starts.len();
+    check_nodes(rt, alloc, config, world, processes, group, name);
+    if some_free(world, nodes, name) {
+        check_free(rt, world, nodes, group, name);
+        if none_pending(world, nodes, processes) {
+            check_agreed(rt, alloc, world, nodes, group, name);
+        }
+    }
+}
+
+/// What the headline says of each group and node of a world, where tests speak of these processes.
 pub fn check_headline(
     rt: &impl Abort,
     alloc: Global,
     config: &Config,
     world: &World<IndexTable>,
-    processes: &Processes,
-) -> Result<(), Fail> {
+    processes: &[Known],
+) {
     for group in GROUPS {
-        check_group(rt, alloc, config, world, processes, group)?;
+        let name = group_name(group);
+        check_group(rt, alloc, config, world, processes, group, &name);
+        drop(name);
     }
-    Ok(())
 }

@@ -3,14 +3,13 @@
 use super::Example;
 use crate::cast::Begun;
 use crate::ops::Op;
-use crate::played::{check, check_both, check_nodes};
+use crate::played::{Play, check, check_both, check_nodes};
 use crate::said::Said;
-use std::test::Fail;
 
 const P: (usize, u32) = (0, 1);
 
 // A process of `a` joins twice at `b`, and leaves once.
-pub const JOIN_TWICE_LEAVE_ONCE: Example<'_> = Example {
+pub static JOIN_TWICE_LEAVE_ONCE: Example<'static> = Example {
     nodes: &[(0, &[]), (0, &[])],
     ops: &[
         Op::Settle,
@@ -47,24 +46,23 @@ pub const JOIN_TWICE_LEAVE_ONCE: Example<'_> = Example {
 };
 
 #[test]
-fn join_twice_leave_once(rt: HostRuntime) -> Result<(), Fail> {
-    check_both(&rt, rt.alloc(), &JOIN_TWICE_LEAVE_ONCE)
+fn join_twice_leave_once(rt: HostRuntime) {
+    check_both(&rt, rt.alloc(), &JOIN_TWICE_LEAVE_ONCE);
 }
 
-const THREE: [Begun<'_>; 3] = [(0, &[]), (0, &[]), (0, &[])];
+static THREE: [Begun<'static>; 3] = [(0, &[]), (0, &[]), (0, &[])];
 
 // The same of three nodes.
 #[test]
-fn ring_of_one(rt: HostRuntime) -> Result<(), Fail> {
-    let alloc = rt.alloc();
+fn ring_of_one(rt: HostRuntime) {
     for ring in [65_536, 1] {
-        check_nodes(&rt, alloc, THREE.as_slice(), &JOIN_TWICE_LEAVE_ONCE, ring)?;
+        let play = Play::Once(ring);
+        check_nodes(&rt, rt.alloc(), play, &THREE, &JOIN_TWICE_LEAVE_ONCE);
     }
-    Ok(())
 }
 
 // A join of a group that is not there, and a create of one that is, are answered by the look; a create asks the peer.
-const LOOK_BEFORE_LOCK: Example<'_> = Example {
+static LOOK_BEFORE_LOCK: Example<'static> = Example {
     nodes: &[(0, &[]), (0, &[])],
     ops: &[
         Op::Settle,
@@ -81,12 +79,12 @@ const LOOK_BEFORE_LOCK: Example<'_> = Example {
 };
 
 #[test]
-fn look_before_lock(rt: HostRuntime) -> Result<(), Fail> {
-    check_both(&rt, rt.alloc(), &LOOK_BEFORE_LOCK)
+fn look_before_lock(rt: HostRuntime) {
+    check_both(&rt, rt.alloc(), &LOOK_BEFORE_LOCK);
 }
 
 // A delete at `b` comes between the look and the lock of a join at `a`, which is answered and adds nothing.
-pub const DELETE_BETWEEN_LOOK_AND_LOCK: Example<'_> = Example {
+pub static DELETE_BETWEEN_LOOK_AND_LOCK: Example<'static> = Example {
     nodes: &[(1, &[]), (0, &[])],
     ops: &[
         Op::Settle,
@@ -108,12 +106,12 @@ pub const DELETE_BETWEEN_LOOK_AND_LOCK: Example<'_> = Example {
 };
 
 #[test]
-fn delete_between_look_and_lock(rt: HostRuntime) -> Result<(), Fail> {
-    check_both(&rt, rt.alloc(), &DELETE_BETWEEN_LOOK_AND_LOCK)
+fn delete_between_look_and_lock(rt: HostRuntime) {
+    check_both(&rt, rt.alloc(), &DELETE_BETWEEN_LOOK_AND_LOCK);
 }
 
 // Both nodes make the group; the greatest comes first.
-pub const TWO_CREATORS: Example<'_> = Example {
+pub static TWO_CREATORS: Example<'static> = Example {
     nodes: &[(0, &[]), (0, &[])],
     ops: &[
         Op::Settle,
@@ -129,12 +127,12 @@ pub const TWO_CREATORS: Example<'_> = Example {
 };
 
 #[test]
-fn two_creators(rt: HostRuntime) -> Result<(), Fail> {
-    check_both(&rt, rt.alloc(), &TWO_CREATORS)
+fn two_creators(rt: HostRuntime) {
+    check_both(&rt, rt.alloc(), &TWO_CREATORS);
 }
 
 // A retry of what does not wait is refused.
-const NOT_WAITING: Example<'_> = Example {
+static NOT_WAITING: Example<'static> = Example {
     nodes: &[(0, &[])],
     ops: &[Op::Create(0, 1), Op::Groups(0), Op::Retry(0, 1)],
     refused: &[(2, 17)],
@@ -142,6 +140,6 @@ const NOT_WAITING: Example<'_> = Example {
 };
 
 #[test]
-fn retry_of_what_is_done(rt: HostRuntime) -> Result<(), Fail> {
-    check(&rt, rt.alloc(), &NOT_WAITING, 65_536)
+fn retry_of_what_is_done(rt: HostRuntime) {
+    check(&rt, rt.alloc(), Play::Once(65_536), &NOT_WAITING);
 }

@@ -2,14 +2,13 @@
 
 use super::Example;
 use crate::ops::Op;
-use crate::played::{check, check_both};
+use crate::played::{Play, check, check_both};
 use crate::said::Said;
-use std::test::Fail;
 
 const P: (usize, u32) = (0, 1);
 
 // A process ends while a join of it is on the way: it is no member when all is done.
-pub const END_BEATS_LATE_JOIN: Example<'_> = Example {
+pub static END_BEATS_LATE_JOIN: Example<'static> = Example {
     nodes: &[(1, &[(1, &[P])]), (0, &[])],
     ops: &[
         Op::Settle,
@@ -35,12 +34,12 @@ pub const END_BEATS_LATE_JOIN: Example<'_> = Example {
 };
 
 #[test]
-fn end_beats_late_join(rt: HostRuntime) -> Result<(), Fail> {
-    check_both(&rt, rt.alloc(), &END_BEATS_LATE_JOIN)
+fn end_beats_late_join(rt: HostRuntime) {
+    check_both(&rt, rt.alloc(), &END_BEATS_LATE_JOIN);
 }
 
 // No process ends at a node that is not formed, none twice, none that was never made, and none of another node.
-const REFUSED_ENDS: Example<'_> = Example {
+static REFUSED_ENDS: Example<'static> = Example {
     nodes: &[(1, &[]), (0, &[])],
     ops: &[
         Op::End(0, P),
@@ -64,12 +63,12 @@ const REFUSED_ENDS: Example<'_> = Example {
 };
 
 #[test]
-fn refused_ends(rt: HostRuntime) -> Result<(), Fail> {
-    check_both(&rt, rt.alloc(), &REFUSED_ENDS)
+fn refused_ends(rt: HostRuntime) {
+    check_both(&rt, rt.alloc(), &REFUSED_ENDS);
 }
 
 // An end that `b` was not told yet: the process is listed there, and a later join of it does not count.
-const PENDING_END: Example<'_> = Example {
+static PENDING_END: Example<'static> = Example {
     nodes: &[(1, &[(1, &[P])]), (0, &[])],
     ops: &[
         Op::Settle,
@@ -89,12 +88,12 @@ const PENDING_END: Example<'_> = Example {
 };
 
 #[test]
-fn pending_end(rt: HostRuntime) -> Result<(), Fail> {
-    check_both(&rt, rt.alloc(), &PENDING_END)
+fn pending_end(rt: HostRuntime) {
+    check_both(&rt, rt.alloc(), &PENDING_END);
 }
 
 // The process of a node that makes its last.
-const PROCESS_LIMIT: Example<'_> = Example {
+static PROCESS_LIMIT: Example<'static> = Example {
     nodes: &[(268_435_455, &[])],
     ops: &[Op::Make(0)],
     refused: &[],
@@ -102,6 +101,6 @@ const PROCESS_LIMIT: Example<'_> = Example {
 };
 
 #[test]
-fn process_limit(rt: HostRuntime) -> Result<(), Fail> {
-    check(&rt, rt.alloc(), &PROCESS_LIMIT, 65_536)
+fn process_limit(rt: HostRuntime) {
+    check(&rt, rt.alloc(), Play::Once(65_536), &PROCESS_LIMIT);
 }

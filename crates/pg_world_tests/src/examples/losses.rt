@@ -2,16 +2,15 @@
 
 use super::Example;
 use crate::ops::Op;
-use crate::played::{check, check_both};
+use crate::played::{Play, check, check_both};
 use crate::said::Said;
-use std::test::Fail;
 
 const P: (usize, u32) = (0, 1);
 
 const Q: (usize, u32) = (1, 1);
 
 // Where the loss is seen the processes of the lost node leave each group, and join none later.
-pub const LOSS_DROPS_MEMBERS: Example<'_> = Example {
+pub static LOSS_DROPS_MEMBERS: Example<'static> = Example {
     nodes: &[(1, &[(1, &[P])]), (1, &[(1, &[Q])])],
     ops: &[
         Op::Settle,
@@ -35,12 +34,12 @@ pub const LOSS_DROPS_MEMBERS: Example<'_> = Example {
 };
 
 #[test]
-fn loss_drops_members(rt: HostRuntime) -> Result<(), Fail> {
-    check_both(&rt, rt.alloc(), &LOSS_DROPS_MEMBERS)
+fn loss_drops_members(rt: HostRuntime) {
+    check_both(&rt, rt.alloc(), &LOSS_DROPS_MEMBERS);
 }
 
 // The lock of a lost node is free where its loss is seen; it is seen once.
-pub const LOSS_FREES_LOCK: Example<'_> = Example {
+pub static LOSS_FREES_LOCK: Example<'static> = Example {
     nodes: &[(0, &[]), (0, &[]), (0, &[])],
     ops: &[
         Op::Settle,
@@ -64,12 +63,12 @@ pub const LOSS_FREES_LOCK: Example<'_> = Example {
 };
 
 #[test]
-fn loss_frees_lock(rt: HostRuntime) -> Result<(), Fail> {
-    check_both(&rt, rt.alloc(), &LOSS_FREES_LOCK)
+fn loss_frees_lock(rt: HostRuntime) {
+    check_both(&rt, rt.alloc(), &LOSS_FREES_LOCK);
 }
 
 // A loss is not seen before all is taken that came of the node; its update reaches one of the two that are left.
-const NOT_DRAINED: Example<'_> = Example {
+static NOT_DRAINED: Example<'static> = Example {
     nodes: &[(0, &[]), (0, &[]), (0, &[])],
     ops: &[
         Op::Settle,
@@ -94,11 +93,11 @@ const NOT_DRAINED: Example<'_> = Example {
 
 // What is on a ring of one byte is no whole frame, so this one is run over wide rings alone.
 #[test]
-fn not_drained(rt: HostRuntime) -> Result<(), Fail> {
-    check(&rt, rt.alloc(), &NOT_DRAINED, 65_536)
+fn not_drained(rt: HostRuntime) {
+    check(&rt, rt.alloc(), Play::Once(65_536), &NOT_DRAINED);
 }
 
-const NOT_LOST: Example<'_> = Example {
+static NOT_LOST: Example<'static> = Example {
     nodes: &[(0, &[]), (0, &[])],
     ops: &[Op::SeeLoss(0, 1)],
     refused: &[(0, 33)],
@@ -106,12 +105,12 @@ const NOT_LOST: Example<'_> = Example {
 };
 
 #[test]
-fn not_lost(rt: HostRuntime) -> Result<(), Fail> {
-    check_both(&rt, rt.alloc(), &NOT_LOST)
+fn not_lost(rt: HostRuntime) {
+    check_both(&rt, rt.alloc(), &NOT_LOST);
 }
 
 // The greatest node is lost while it is asked: the command waits, and its retry asks the next.
-pub const NEW_GREATEST: Example<'_> = Example {
+pub static NEW_GREATEST: Example<'static> = Example {
     nodes: &[(0, &[]), (0, &[]), (0, &[])],
     ops: &[
         Op::Settle,
@@ -128,6 +127,6 @@ pub const NEW_GREATEST: Example<'_> = Example {
 };
 
 #[test]
-fn new_greatest(rt: HostRuntime) -> Result<(), Fail> {
-    check_both(&rt, rt.alloc(), &NEW_GREATEST)
+fn new_greatest(rt: HostRuntime) {
+    check_both(&rt, rt.alloc(), &NEW_GREATEST);
 }

@@ -1,42 +1,29 @@
 //! The updates that are answered stand in the history, each once.
 
-use super::history_at;
-use crate::cast::{GROUPS, process_of};
+use super::history::History;
+use crate::cast::{GROUPS, group_name, process_of};
 use crate::ops::Op;
 use crate::played::state_of;
 use crate::said::is_group;
+use crate::verdicts::{holds, holds_of};
 use pg_group::Update;
 use pg_index::IndexTable;
 use pg_step::{Answer, Reply};
 use pg_world::{Entry, World};
-use std::alloc::Global;
 use std::process::Abort;
-use std::test::Fail;
 
-/// The commands of each node in their order.
-pub type Asked = Vec<Vec<Op>>;
-
-/// The commands that come in at each of so many nodes.
-pub fn asked_of(alloc: Global, nodes: usize, ops: &[Op]) -> Result<Asked, Fail> {
-    let mut asked = Vec::new(alloc);
-    for node in 0..nodes {
-        let mut own = Vec::new(alloc);
-        for op in ops {
-            if op.asked() == Some(node) {
-                own.push(*op)?;
+// The command of this number of a node, if these lines ask for as many.
+fn op_of(ops: &[Op], node: usize, number: u32) -> Option<Op> {
+    let mut count = 0u32;
+    for op in ops {
+        if op.asked() == Some(node) {
+            count = count.saturating_add(1);
+            if count == number {
+                return Some(*op);
             }
         }
-        asked.push(own)?;
     }
-    Ok(asked)
-}
-
-// The group of a change that is always answered behind its lock where the answer is ok.
-fn locked_group(op: Op) -> Option<i64> {
-    match op {
-        Op::Delete(_, group) | Op::Join(_, group, _) | Op::Leave(_, group, _) => Some(group),
-        _ => None,
-    }
+    None
 }
 
 // Whether an update is the change that was asked for.
@@ -54,77 +41,117 @@ fn is_update(op: Op, update: &Update) -> bool {
     }
 }
 
-// The command of an entry, by what was asked of each node.
-fn op_of(asked: &Asked, entry: &Entry) -> Option<Op> {
-    let own = asked.get(entry.node)?;
-    let place = usize::try_from(entry.op.number.checked_sub(1)?).ok()?;
-    own.get(place).copied()
+fn is_of(entry: &Entry, node: usize, number: u32) -> bool {
+    entry.node == node && entry.op.number == number
 }
 
-// How many entries are of that command of a node.
-fn times(entries: &[&Entry], node: usize, number: u32) -> usize {
+// How many entries are of the command of this number of a node.
+fn times(history: History<'_>, node: usize, number: u32) -> usize {
     let mut times = 0usize;
-    for entry in entries {
-        if entry.node == node && entry.op.number == number {
+    for entry in history.0 {
+        if is_of(entry, node, number) {
             times = times.saturating_add(1);
         }
     }
+    match history.1 {
+        Some(entry) if is_of(entry, node, number) => times.saturating_add(1),
+        _ => times,
+    }
+}
+
+// Whether an entry is the change that its command asked for, and stands once.
+fn is_asked_once(ops: &[Op], history: History<'_>, entry: &Entry) -> bool {
+    match op_of(ops, entry.node, entry.op.number) {
+        Some(op) => {
+            is_update(op, &entry.update) && times(history, entry.node, entry.op.number) == 1
+        }
+        None => false,
+    }
+}
+
+fn check_entries(rt: &impl Abort, ops: &[Op], history: History<'_>, group: i64) {
+    for entry in history.0 {
+        let is_asked = is_asked_once(ops, history, entry);
+        holds_of(
+            rt,
+            is_asked,
+            "an entry was asked for, once",
+            group,
+            entry.node,
+        );
+    }
+    if let Some(entry) = history.1 {
+        let is_asked = is_asked_once(ops, history, entry);
+        holds_of(
+            rt,
+            is_asked,
+            "the last entry was asked for, once",
+            group,
+            entry.node,
+        );
+    }
+}
+
+// The entries of each group.
+fn check_groups(rt: &impl Abort, world: &World<IndexTable>, ops: &[Op]) {
+    for group in GROUPS {
+        let name = group_name(group);
+        check_entries(rt, ops, world.history(&name), group);
+        drop(name);
+    }
+}
+
+// How many entries of a group are of the command of this number of a node.
+fn times_in(world: &World<IndexTable>, group: i64, node: usize, number: u32) -> usize {
+    let name = group_name(group);
+    let times = times(world.history(&name), node, number);
+    drop(name);
     times
 }
 
-// Each entry is the change that its command asked for, and stands once.
-fn check_entries(rt: &impl Abort, asked: &Asked, entries: &[&Entry]) {
-    for entry in entries {
-        assert!(rt; times(entries, entry.node, entry.op.number) == 1);
-        match op_of(asked, entry) {
-            Some(op) => assert!(rt; is_update(op, &entry.update)),
-            None => assert!(rt; false, "nobody asked for it"),
-        }
+// The group whose history holds a command of this form that is answered ok: always behind its lock.
+fn locked_group(op: Op) -> Option<i64> {
+    match op {
+        Op::Delete(_, group) => Some(group),
+        Op::Join(_, group, _) => Some(group),
+        Op::Leave(_, group, _) => Some(group),
+        _ => None,
     }
 }
 
-// A change that is answered ok behind its lock stands in the history.
-fn check_answer(
-    rt: &impl Abort,
-    alloc: Global,
-    world: &World<IndexTable>,
-    asked: &Asked,
-    node: usize,
-    answer: &Answer,
-) -> Result<(), Fail> {
-    let Some(own) = asked.get(node) else {
-        return Ok(());
-    };
-    let place = usize::try_from(answer.number)
-        .unwrap_or(0)
-        .saturating_sub(1);
-    let group = own.get(place).copied().and_then(locked_group);
-    if let (Some(group), Reply::Ok) = (group, &answer.reply) {
-        let entries = history_at(alloc, world, group)?;
-        assert!(rt; times(entries.as_slice(), node, answer.number) == 1);
+// Whether what was answered ok stands in the history, where that is always behind its lock.
+fn stands(world: &World<IndexTable>, op: Op, node: usize, number: u32) -> bool {
+    match locked_group(op) {
+        Some(group) => times_in(world, group, node, number) == 1,
+        None => true,
     }
-    Ok(())
 }
 
-/// What the history of each group holds, by what was asked and answered.
-pub fn check_answered(
-    rt: &impl Abort,
-    alloc: Global,
-    world: &World<IndexTable>,
-    asked: &Asked,
-) -> Result<(), Fail> {
-    for group in GROUPS {
-        let entries = history_at(alloc, world, group)?;
-        check_entries(rt, asked, entries.as_slice());
+// Whether a change that is answered ok stands in the history, and each answer is to a command.
+fn is_answer_right(world: &World<IndexTable>, ops: &[Op], node: usize, answer: &Answer) -> bool {
+    match (op_of(ops, node, answer.number), &answer.reply) {
+        (Some(op), Reply::Ok) => stands(world, op, node, answer.number),
+        (Some(_), _) => true,
+        (None, _) => false,
     }
-    for node in 0..asked.len() {
-        if let Some(state) = state_of(world, node) {
-            if state.port_count() == 1 {
-                for answer in state.answers(0) {
-                    check_answer(rt, alloc, world, asked, node, answer)?;
-                }
+}
+
+// The answers of a node.
+fn check_answers(rt: &impl Abort, world: &World<IndexTable>, ops: &[Op], node: usize) {
+    if let Some(state) = state_of(world, node) {
+        if state.port_count() == 1 {
+            for answer in state.answers(0) {
+                let is_right = is_answer_right(world, ops, node, answer);
+                holds(rt, is_right, "what was answered stands, at node", node);
             }
         }
     }
-    Ok(())
+}
+
+/// What the history of each group holds, by what these lines asked of so many nodes, and by what is answered there.
+pub fn check_answered(rt: &impl Abort, world: &World<IndexTable>, nodes: usize, ops: &[Op]) {
+    check_groups(rt, world, ops);
+    for node in 0..nodes {
+        check_answers(rt, world, ops, node);
+    }
 }

@@ -1,131 +1,139 @@
 //! The value of a group, as a list: absent, or its members, each as often as it joined.
 
-use crate::cast::{Process, processes_of};
-use pg_group::{GroupTable, Scope, Update};
+use super::history::History;
+use crate::cast::{Process, count_in, process_of};
+use crate::lists::put;
+use pg_group::Update;
+use pg_step::Start;
 use pg_term::{Pid, Term};
-use pg_world::{Config, Entry};
+use pg_world::{Config, WorldFault};
 use std::alloc::Global;
-use std::test::Fail;
 
-/// The members of a group; `None` where it is absent.
-pub type Value = Option<Vec<Process>>;
+/// The value of a group.
+#[derive(Drop)]
+pub struct Value {
+    is_there: bool,
+    // None where it is absent.
+    members: Vec<Process>,
+}
 
-fn count(members: &[Process], process: Process) -> usize {
-    let mut count = 0usize;
-    for member in members {
-        if *member == process {
-            count = count.saturating_add(1);
+impl Value {
+    /// The value of an absent group.
+    pub fn absent(alloc: Global) -> Value {
+        Value {
+            is_there: false,
+            members: Vec::new(alloc),
         }
     }
-    count
-}
 
-/// Whether two values have the same members, each as often.
-pub fn same_value(value: &Value, other: &Value) -> bool {
-    match (value, other) {
-        (None, None) => true,
-        (Some(members), Some(others)) => are_same(members.as_slice(), others.as_slice()),
-        _ => false,
+    pub fn is_there(&self) -> bool {
+        self.is_there
     }
-}
 
-fn are_same(members: &[Process], others: &[Process]) -> bool {
-    for member in members {
-        if count(members, *member) != count(others, *member) {
-            return false;
-        }
+    pub fn members(&self) -> &[Process] {
+        self.members.as_slice()
     }
-    members.len() == others.len()
-}
 
-// The first member that is the process is taken out.
-fn leave(members: &mut Vec<Process>, process: Process) {
-    if let Some(place) = members.iter().position(|member| *member == process) {
-        members.remove(place);
-    }
-}
-
-/// What an update makes of a value.
-fn applied(alloc: Global, value: Value, update: &Update) -> Result<Value, Fail> {
-    let mut value = value;
-    match update {
-        Update::Create(_) => {
-            if value.is_none() {
-                value = Some(Vec::new(alloc));
+    /// How often a process is a member.
+    pub fn count(&self, process: Process) -> usize {
+        let mut count = 0usize;
+        for member in self.members() {
+            if *member == process {
+                count = count.saturating_add(1);
             }
         }
-        Update::Delete(_) => value = None,
-        Update::Join(_, pid) => {
-            if let Some(members) = &mut value {
-                members.push(crate::cast::process_of(pid))?;
+        count
+    }
+
+    fn join(&mut self, process: Process) -> Result<(), WorldFault> {
+        if self.is_there {
+            put(&mut self.members, Ok(process))
+        } else {
+            Ok(())
+        }
+    }
+
+    // The place of a member: that behind the last where there is none.
+    fn place_of(&self, process: Process) -> usize {
+        for (place, member) in self.members().iter().enumerate() {
+            if *member == process {
+                return place;
             }
         }
-        Update::Leave(_, pid) => {
-            if let Some(members) = &mut value {
-                leave(members, crate::cast::process_of(pid));
+        self.members.len()
+    }
+
+    // The first member that is the process is taken out.
+    fn leave(&mut self, process: Process) {
+        let place = self.place_of(process);
+        if place < self.members.len() {
+            self.members.remove(place);
+        }
+    }
+
+    fn delete(&mut self) {
+        self.is_there = false;
+        self.members.clear();
+    }
+
+    // What an update makes of it.
+    fn apply(&mut self, update: &Update) -> Result<(), WorldFault> {
+        match update {
+            Update::Create(_) => self.is_there = true,
+            Update::Delete(_) => self.delete(),
+            Update::Leave(_, pid) => self.leave(process_of(pid)),
+            Update::Join(_, pid) => return self.join(process_of(pid)),
+        }
+        Ok(())
+    }
+
+    /// What the first so many updates of a history make of it.
+    pub fn replay(&mut self, history: History<'_>, count: u128) -> Result<(), WorldFault> {
+        let count = usize::try_from(count).unwrap_or(0);
+        for entry in history.0.iter().take(count) {
+            self.apply(&entry.update)?;
+        }
+        match history.1 {
+            Some(entry) if count > history.0.len() => self.apply(&entry.update),
+            _ => Ok(()),
+        }
+    }
+
+    // What two nodes that start make of a group: each process as often as at the one where it is more often.
+    fn merge(&mut self, told: &[Pid]) -> Result<(), WorldFault> {
+        self.is_there = true;
+        for pid in told {
+            if self.count(process_of(pid)) < count_in(told, process_of(pid)) {
+                self.join(process_of(pid))?;
             }
         }
+        Ok(())
     }
-    Ok(value)
-}
 
-/// What the first so many updates make of a value.
-pub fn replayed(
-    alloc: Global,
-    value: Value,
-    entries: &[&Entry],
-    first: usize,
-) -> Result<Value, Fail> {
-    let mut value = value;
-    for entry in entries.iter().take(first) {
-        value = applied(alloc, value, &entry.update)?;
-    }
-    Ok(value)
-}
-
-/// A value without these processes.
-pub fn less(value: Value, ended: &[Process]) -> Value {
-    let mut value = value;
-    if let Some(members) = &mut value {
-        members.retain(|member| !ended.contains(member));
-    }
-    value
-}
-
-// What two nodes that start make of a group: each process as often as at the one where it is more often.
-fn merge(alloc: Global, value: Value, told: &[Pid]) -> Result<Value, Fail> {
-    let mut members = match value {
-        Some(members) => members,
-        None => Vec::new(alloc),
-    };
-    let others = processes_of(alloc, told)?;
-    for other in others.as_slice() {
-        if count(members.as_slice(), *other) < count(others.as_slice(), *other) {
-            members.push(*other)?;
-        }
-    }
-    Ok(Some(members))
-}
-
-/// What all nodes of a configuration begin with.
-pub fn base(alloc: Global, config: &Config, name: &Term) -> Result<Value, Fail> {
-    let mut value = None;
-    for start in config.starts.as_slice() {
+    // What a node that starts makes of it.
+    fn merge_groups(&mut self, start: &Start, name: &Term) -> Result<(), WorldFault> {
         for (group, members) in start.groups.as_slice() {
             if group == name {
-                value = merge(alloc, value, members.as_slice())?;
+                self.merge(members.as_slice())?;
             }
         }
+        Ok(())
     }
-    Ok(value)
-}
 
-/// The value of a group in a table.
-pub fn value_at<T: GroupTable>(alloc: Global, table: &T, name: &Term) -> Result<Value, Fail> {
-    if table.has(name) {
-        let pids = table.list(alloc, name, Scope::All)?;
-        Ok(Some(processes_of(alloc, pids.as_slice())?))
-    } else {
-        Ok(None)
+    /// What all nodes of a configuration begin with.
+    pub fn begin(&mut self, config: &Config, name: &Term) -> Result<(), WorldFault> {
+        for start in config.starts.as_slice() {
+            self.merge_groups(start, name)?;
+        }
+        Ok(())
+    }
+
+    /// The value that a table has, by its list, of a group that is there or not.
+    pub fn take(&mut self, is_there: bool, pids: &[Pid]) -> Result<(), WorldFault> {
+        self.is_there = is_there;
+        for pid in pids {
+            put(&mut self.members, Ok(process_of(pid)))?;
+        }
+        Ok(())
     }
 }
