@@ -3,11 +3,15 @@
 
 mod bytes;
 mod fault;
+#[cfg(test)]
+mod frames;
 mod help;
 mod input;
 mod laws;
 mod progress;
 mod run;
+#[cfg(test)]
+mod runs;
 mod script;
 #[cfg(test)]
 mod streams;

@@ -1,26 +1,21 @@
 // What `threads` prints, and what it shows on a terminal meanwhile.
 use crate::progress::Progress;
+use crate::runs::{NoSystem, Wanted, holds, holds_at, prints_with, refuses_words};
 use crate::system::{HostSystem, System};
-use crate::tests::{NoSystem, run_with};
 use pg_cluster::{Conversation, Onlooker, Outcome, StartFault};
 use std::alloc::Global;
 use std::cell::Cell;
 use std::io;
 use std::io::{IsTerminal, Write};
+use std::process::Abort;
 use std::test::*;
+use std::thread::Threads;
 use std::time::{Clock, Duration, Instant};
 
-// Words of `threads`, what it prints, its line on standard error, its status.
-type Speech<'a> = (&'a [&'a str], &'a str, &'a str, u8);
-
-fn talks<D: System>(alloc: Global, system: &mut D, talk: Speech<'_>) -> Result<bool, Fail> {
-    let (given, output, faults, status) = talk;
-    let printed = run_with(alloc, given, b"", system)?;
-    Ok(
-        printed.output.as_slice() == output.as_bytes()
-            && printed.faults.as_slice() == faults.as_bytes()
-            && printed.status == status,
-    )
+// Whether `threads` with these words prints this.
+fn talks<D: System>(alloc: Global, system: &mut D, given: &[&str], wanted: Wanted<'_>) -> bool {
+    let mut reader: &[u8] = &[];
+    prints_with(alloc, given, &mut reader, system, wanted)
 }
 
 // Holds what is written, and may be a terminal.
@@ -73,76 +68,118 @@ impl Clock for Hand {
 }
 
 // When many looks tell so many answered commands, and what they write.
-type Looks<'a> = (u64, u64, &'a str);
+const LOOKS: &[(u64, u64, &[u8])] = &[
+    (0, 0, b"\ranswered 0 of 12"),
+    (999, 3, b""),
+    (1_000, 8, b"\ranswered 8 of 12"),
+    (1_999, 9, b""),
+    (3_500, 10, b"\ranswered 10 of 12"),
+];
+
+// Whether this is what the screen shows behind so many bytes.
+fn shows_behind(screen: &Screen, len: usize, text: &[u8]) -> bool {
+    match screen.text.as_slice().get(len..) {
+        Some(written) => written == text,
+        None => false,
+    }
+}
+
+// Whether many looks write this.
+fn looks(progress: &mut Progress<Screen, &Hand>, answered: u64, line: &[u8]) -> bool {
+    let len = progress.terminal.text.len();
+    for _ in 0..10_000 {
+        progress.look(answered, 12);
+    }
+    shows_behind(&progress.terminal, len, line)
+}
+
+// Whether an end writes this, and another nothing more.
+fn ends(progress: &mut Progress<Screen, &Hand>, line: &[u8]) -> bool {
+    let len = progress.terminal.text.len();
+    for _ in 0..2 {
+        progress.end();
+    }
+    shows_behind(&progress.terminal, len, line)
+}
+
+fn check_shown(rt: &impl Abort, hand: &Hand, shown: &mut Progress<Screen, &Hand>) {
+    for (place, (milliseconds, answered, line)) in LOOKS.iter().enumerate() {
+        hand.milliseconds.set(*milliseconds);
+        holds_at(rt, looks(shown, *answered, line), "row", place);
+    }
+    holds(rt, ends(shown, b"\r\x1b[K"), "the line is wiped");
+}
+
+fn check_silent(rt: &impl Abort, hand: &Hand, silent: &mut Progress<Screen, &Hand>) {
+    for (place, (milliseconds, answered, _)) in LOOKS.iter().enumerate() {
+        hand.milliseconds.set(*milliseconds);
+        holds_at(rt, looks(silent, *answered, b""), "silent at row", place);
+    }
+    holds(rt, ends(silent, b""), "nothing is wiped");
+    holds(rt, silent.terminal.text.is_empty(), "nothing is shown");
+}
 
 #[test]
-fn progress_lines(rt: HostRuntime) -> Result<(), Fail> {
-    let rows: [Looks<'_>; 5] = [
-        (0, 0, "\ranswered 0 of 12"),
-        (999, 3, ""),
-        (1_000, 8, "\ranswered 8 of 12"),
-        (1_999, 9, ""),
-        (3_500, 10, "\ranswered 10 of 12"),
-    ];
+fn progress_lines(rt: HostRuntime) {
     let hand = Hand {
         milliseconds: Cell::new(0),
     };
     let mut shown = Progress::new(blank_screen(rt.alloc(), true), &hand);
+    check_shown(&rt, &hand, &mut shown);
     let mut silent = Progress::new(blank_screen(rt.alloc(), false), &hand);
-    let mut wanted = Vec::new(rt.alloc());
-    for (milliseconds, answered, line) in rows {
-        hand.milliseconds.set(milliseconds);
-        for _ in 0..10_000 {
-            shown.look(answered, 12);
-            silent.look(answered, 12);
-        }
-        wanted.extend_from_slice(line.as_bytes())?;
-        assert!(rt;
-            shown.terminal.text.as_slice() == wanted.as_slice(),
-            "after {milliseconds}"
-        );
-    }
-    for _ in 0..2 {
-        shown.end();
-        silent.end();
-    }
-    wanted.extend_from_slice(b"\r\x1b[K")?;
-    assert!(rt; shown.terminal.text.as_slice() == wanted.as_slice());
-    assert!(rt; silent.terminal.text.is_empty());
-    Ok(())
+    check_silent(&rt, &hand, &mut silent);
+}
+
+const LONELY: &[&str] = &["threads", "--nodes", "1", "--clients", "1", "--rounds", "0"];
+
+const ALONE: Wanted = (
+    b"nodes 1 clients 1\nanswered 2 of 2\nagree yes\nreplay yes\n",
+    "",
+    0,
+);
+
+const STOPPED: Wanted = (
+    b"nodes 3 clients 6\nanswered 0 of 607\nagree yes\nreplay yes\n",
+    "",
+    1,
+);
+
+const MANY: &[&str] = &["threads", "--nodes", "17"];
+
+fn is_shown(screen: &Screen) -> bool {
+    let shown = screen.text.as_slice();
+    shown.starts_with(b"\ranswered 0 of 2") && shown.ends_with(b" of 2\r\x1b[K")
+}
+
+fn check_clusters(rt: &HostRuntime, threads: &(impl Threads + Abort), begun: Instant) {
+    let mut system = HostSystem {
+        alloc: rt.alloc(),
+        rt,
+        threads,
+        begun,
+        progress: Progress::new(blank_screen(rt.alloc(), true), rt),
+    };
+    let is_alone = talks(rt.alloc(), &mut system, LONELY, ALONE);
+    holds(threads, is_alone, "one node");
+    let is_shown = is_shown(&system.progress.terminal);
+    holds(threads, is_shown, "what is shown");
+    let stopped = &["threads", "--turns", "0"];
+    let is_stopped = talks(rt.alloc(), &mut system, stopped, STOPPED);
+    holds(threads, is_stopped, "no turns");
 }
 
 #[test]
-fn clusters(rt: HostRuntime) -> Result<(), Fail> {
-    let alloc = rt.alloc();
-    let mut system = HostSystem {
-        alloc,
-        rt: &rt,
-        threads: &rt,
-        begun: Instant::now(&rt)?,
-        progress: Progress::new(blank_screen(alloc, true), &rt),
-    };
-    let lonely: Speech<'_> = (
-        &["threads", "--nodes", "1", "--clients", "1", "--rounds", "0"],
-        "nodes 1 clients 1\nanswered 2 of 2\nagree yes\nreplay yes\n",
-        "",
-        0,
-    );
-    assert!(rt; talks(alloc, &mut system, lonely)?);
-    let shown = system.progress.terminal.text.as_slice();
-    assert!(rt; shown.starts_with(b"\ranswered 0 of 2") && shown.ends_with(b" of 2\r\x1b[K"));
-    let stopped: Speech<'_> = (
-        &["threads", "--turns", "0"],
-        "nodes 3 clients 6\nanswered 0 of 607\nagree yes\nreplay yes\n",
-        "",
-        1,
-    );
-    assert!(rt; talks(alloc, &mut system, stopped)?);
-    let refused: Speech<'_> = (&["threads"], "", "refused 34\n", 1);
-    assert!(rt; talks(alloc, &mut NoSystem, refused)?);
-    let many = run_with(alloc, &["threads", "--nodes", "17"], b"", &mut NoSystem)?;
-    assert!(rt; many.status == 2 && many.output.is_empty() && !many.faults.is_empty());
-    Ok(())
+fn clusters(rt: HostRuntime) {
+    match Instant::now(&rt) {
+        Ok(begun) => check_clusters(&rt, &rt, begun),
+        Err(_) => holds(&rt, false, "no clock"),
+    }
+    let refused = (b"".as_slice(), "refused 34\n", 1);
+    let is_refused = talks(rt.alloc(), &mut NoSystem, &["threads"], refused);
+    holds(&rt, is_refused, "no threads");
+    let mut reader: &[u8] = &[];
+    let are_many = refuses_words(rt.alloc(), MANY, &mut reader);
+    holds(&rt, are_many, "17 nodes");
 }
 
 // Answers of all commands but one.
@@ -173,23 +210,31 @@ impl System for Slack {
     }
 }
 
-#[test]
-fn outcomes(rt: HostRuntime) -> Result<(), Fail> {
-    let alloc = rt.alloc();
-    let mut system = Slack { microseconds: 1 };
-    let lines: Speech<'_> = (
+// Words of `threads`, and what they print.
+const OUTCOMES: &[(&[&str], Wanted)] = &[
+    (
         &["threads"],
-        "nodes 3 clients 6\nanswered 606 of 607\nagree yes\nreplay no\n",
-        "",
-        1,
-    );
-    assert!(rt; talks(alloc, &mut system, lines)?);
-    let json: Speech<'_> = (
+        (
+            b"nodes 3 clients 6\nanswered 606 of 607\nagree yes\nreplay no\n",
+            "",
+            1,
+        ),
+    ),
+    (
         &["threads", "--json"],
-        "{\"nodes\":3,\"clients\":6,\"answered\":606,\"asked\":607,\"agree\":true,\"replay\":false,\"microseconds\":41}\n",
-        "",
-        1,
-    );
-    assert!(rt; talks(alloc, &mut system, json)?);
-    Ok(())
+        (
+            b"{\"nodes\":3,\"clients\":6,\"answered\":606,\"asked\":607,\"agree\":true,\"replay\":false,\"microseconds\":41}\n",
+            "",
+            1,
+        ),
+    ),
+];
+
+#[test]
+fn outcomes(rt: HostRuntime) {
+    let mut system = Slack { microseconds: 1 };
+    for (place, (given, wanted)) in OUTCOMES.iter().enumerate() {
+        let is_told = talks(rt.alloc(), &mut system, given, *wanted);
+        holds_at(&rt, is_told, "row", place);
+    }
 }

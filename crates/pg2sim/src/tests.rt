@@ -1,255 +1,147 @@
 // The worked examples as bytes, and what no clause says: texts, readers and writers that fail.
+use crate::frames::{
+    CREATE, CREATED, CUT, DENIED, EXCHANGE, FULL_STAMP, GRANTED, LARGE_STAMP, LAST_REPLY,
+    LAST_STAMP, SET_LOCK, WIDE_CALL, WIDE_REPLY,
+};
 use crate::input::MAX_SCRIPT_LEN;
-use crate::run::{refuse_given, run_words};
+use crate::run::refuse_given;
+use crate::runs::{
+    NoSystem, Wanted, ends_with, holds, holds_at, joined, prints_with, refuses_words, run_given,
+};
 use crate::system::System;
 use pg_cluster::{Conversation, Outcome, StartFault};
 use pg_node::{AnyReader, AnyWriter, Source, serve};
 use pg_term::Atom;
-use std::alloc::Global;
+use std::alloc::{AllocError, Global};
 use std::io;
 use std::io::{Read, Write};
+use std::process::Abort;
 use std::test::*;
 
-// A call of `create g` by node a with stamp 0, framed, and the framed reply.
-const CREATE: [u8; 49] = [
-    0, 0, 0, 45, 131, 104, 2, 97, 0, 104, 3, 119, 4, 99, 97, 108, 108, 114, 0, 3, 119, 1, 97, 1, 0,
-    0, 0, 1, 0, 0, 0, 0, 0, 0, 0, 0, 104, 2, 119, 6, 99, 114, 101, 97, 116, 101, 119, 1, 103,
-];
+// Its name, the parts of its input, and what a run on it prints.
+type Row<'a> = (&'a str, &'a [&'a [u8]], Wanted<'a>);
 
-const CREATED: [u8; 44] = [
-    0, 0, 0, 40, 131, 104, 2, 97, 1, 104, 3, 119, 5, 114, 101, 112, 108, 121, 90, 0, 3, 119, 1, 97,
-    0, 0, 0, 1, 0, 0, 0, 1, 0, 0, 0, 0, 0, 0, 0, 0, 119, 2, 111, 107,
-];
+// Whether a run with this word prints this.
+fn prints<R: Source>(alloc: Global, word: &str, reader: &mut R, wanted: Wanted<'_>) -> bool {
+    prints_with(alloc, &[word], reader, &mut NoSystem, wanted)
+}
 
-// The same call with the stamp 1,073,741,823, and its reply; then with 1,073,741,824, which no clock passes.
-const LAST_STAMP: [u8; 52] = [
-    0, 0, 0, 48, 131, 104, 2, 98, 63, 255, 255, 255, 104, 3, 119, 4, 99, 97, 108, 108, 114, 0, 3,
-    119, 1, 97, 1, 0, 0, 0, 1, 0, 0, 0, 0, 0, 0, 0, 0, 104, 2, 119, 6, 99, 114, 101, 97, 116, 101,
-    119, 1, 103,
-];
+fn prints_of(alloc: Global, word: &str, input: &[u8], wanted: Wanted<'_>) -> bool {
+    let mut reader = input;
+    prints(alloc, word, &mut reader, wanted)
+}
 
-const LAST_REPLY: [u8; 47] = [
-    0, 0, 0, 43, 131, 104, 2, 98, 64, 0, 0, 0, 104, 3, 119, 5, 114, 101, 112, 108, 121, 90, 0, 3,
-    119, 1, 97, 0, 0, 0, 1, 0, 0, 0, 1, 0, 0, 0, 0, 0, 0, 0, 0, 119, 2, 111, 107,
-];
-
-const FULL_STAMP: [u8; 52] = [
-    0, 0, 0, 48, 131, 104, 2, 98, 64, 0, 0, 0, 104, 3, 119, 4, 99, 97, 108, 108, 114, 0, 3, 119, 1,
-    97, 1, 0, 0, 0, 1, 0, 0, 0, 0, 0, 0, 0, 0, 104, 2, 119, 6, 99, 114, 101, 97, 116, 101, 119, 1,
-    103,
-];
-
-// A process that ended, with the stamp 1,073,741,825.
-const LARGE_STAMP: [u8; 33] = [
-    0, 0, 0, 29, 131, 104, 2, 98, 64, 0, 0, 1, 104, 2, 119, 4, 100, 111, 119, 110, 103, 119, 1, 97,
-    0, 0, 0, 1, 0, 0, 0, 0, 1,
-];
-
-// The exchange of node a, which has no group, and its request for the lock of g.
-const EXCHANGE: [u8; 33] = [
-    0, 0, 0, 29, 131, 104, 2, 97, 0, 104, 2, 119, 4, 99, 97, 115, 116, 104, 3, 119, 8, 101, 120,
-    99, 104, 97, 110, 103, 101, 119, 1, 97, 106,
-];
-
-const SET_LOCK: [u8; 51] = [
-    0, 0, 0, 47, 131, 104, 2, 97, 1, 104, 3, 119, 4, 99, 97, 108, 108, 114, 0, 3, 119, 1, 97, 1, 0,
-    0, 0, 1, 0, 0, 0, 0, 0, 0, 0, 0, 104, 2, 119, 8, 115, 101, 116, 95, 108, 111, 99, 107, 119, 1,
-    103,
-];
-
-const GRANTED: [u8; 46] = [
-    0, 0, 0, 42, 131, 104, 2, 97, 2, 104, 3, 119, 5, 114, 101, 112, 108, 121, 90, 0, 3, 119, 1, 97,
-    0, 0, 0, 1, 0, 0, 0, 1, 0, 0, 0, 0, 0, 0, 0, 0, 119, 4, 116, 114, 117, 101,
-];
-
-const DENIED: [u8; 47] = [
-    0, 0, 0, 43, 131, 104, 2, 97, 2, 104, 3, 119, 5, 114, 101, 112, 108, 121, 90, 0, 3, 119, 1, 97,
-    0, 0, 0, 1, 0, 0, 0, 1, 0, 0, 0, 0, 0, 0, 0, 0, 119, 5, 102, 97, 108, 115, 101,
-];
-
-// The call with a reference as it is written, of the greatest creation, and its reply.
-const WIDE_CALL: [u8; 52] = [
-    0, 0, 0, 48, 131, 104, 2, 97, 0, 104, 3, 119, 4, 99, 97, 108, 108, 90, 0, 3, 119, 1, 97, 255,
-    255, 255, 255, 0, 0, 0, 1, 0, 0, 0, 0, 0, 0, 0, 0, 104, 2, 119, 6, 99, 114, 101, 97, 116, 101,
-    119, 1, 103,
-];
-
-const WIDE_REPLY: [u8; 44] = [
-    0, 0, 0, 40, 131, 104, 2, 97, 1, 104, 3, 119, 5, 114, 101, 112, 108, 121, 90, 0, 3, 119, 1, 97,
-    255, 255, 255, 255, 0, 0, 0, 1, 0, 0, 0, 0, 0, 0, 0, 0, 119, 2, 111, 107,
-];
-
-// Makes no file, and runs no thread.
-#[derive(Drop)]
-pub(crate) struct NoSystem;
-
-impl System for NoSystem {
-    fn put(&mut self, _name: &str, _bytes: &[u8]) -> io::Result<()> {
-        Err(io::Error::from(io::ErrorKind::PermissionDenied))
-    }
-
-    fn converse(&mut self, _asked: Conversation) -> Result<Outcome, StartFault> {
-        Err(StartFault::NoThread)
-    }
-
-    fn microseconds(&mut self) -> u64 {
-        0
+fn prints_of_parts(alloc: Global, word: &str, parts: &[&[u8]], wanted: Wanted<'_>) -> bool {
+    match joined(alloc, parts) {
+        Ok(input) => {
+            let prints = prints_of(alloc, word, input.as_slice(), wanted);
+            drop(input);
+            prints
+        }
+        Err(AllocError) => false,
     }
 }
 
-// What a run printed, and its status.
-#[derive(Drop)]
-pub(crate) struct Printed {
-    pub(crate) output: Vec<u8>,
-    pub(crate) faults: Vec<u8>,
-    pub(crate) status: u8,
+fn check(rt: &impl Abort, alloc: Global, word: &str, rows: &[Row<'_>]) {
+    for (name, parts, wanted) in rows {
+        holds(rt, prints_of_parts(alloc, word, parts, *wanted), name);
+    }
 }
 
-fn run<R: Source>(alloc: Global, word: &str, reader: &mut R) -> Result<Printed, Fail> {
-    let mut words = Vec::new(alloc);
-    words.push(String::from_str(alloc, word)?)?;
-    let mut output = AnyWriter {
-        writer: Vec::new(alloc),
-    };
-    let mut faults = AnyWriter {
-        writer: Vec::new(alloc),
-    };
-    let status = run_words(
-        alloc,
-        words.as_slice(),
-        reader,
-        &mut output,
-        &mut NoSystem,
-        &mut faults,
-    );
-    Ok(Printed {
-        output: output.writer,
-        faults: faults.writer,
-        status,
-    })
+const CALLS_AND_FRAMES: &[Row] = &[
+    ("create_call", &[CREATE], (CREATED, "", 0)),
+    ("wide_creations", &[WIDE_CALL], (WIDE_REPLY, "", 0)),
+    ("empty_input", &[], (&[], "", 0)),
+    ("cut_input", &[CUT], (&[], "refused 1\n", 1)),
+    ("frame_too_long", &[&[1, 0, 0, 1]], (&[], "refused 11\n", 1)),
+];
+
+#[test]
+fn calls_and_frames(rt: HostRuntime) {
+    check(&rt, rt.alloc(), "bytes", CALLS_AND_FRAMES);
 }
 
-// An input, and what a run on it prints: the output, the line on standard error, the status.
-type Row<'a> = (&'a [u8], &'a [u8], &'a str, u8);
+const STAMPS: &[Row] = &[
+    ("the last", &[LAST_STAMP], (LAST_REPLY, "", 0)),
+    ("full", &[FULL_STAMP], (&[], "refused 30\n", 1)),
+    ("stamp_too_large", &[LARGE_STAMP], (&[], "refused 13\n", 1)),
+];
 
-fn prints(alloc: Global, word: &str, row: Row<'_>) -> Result<bool, Fail> {
-    let (mut reader, output, faults, status) = row;
-    let printed = run(alloc, word, &mut reader)?;
-    Ok(
-        printed.output.as_slice() == output
-            && printed.faults.as_slice() == faults.as_bytes()
-            && printed.status == status,
-    )
+#[test]
+fn stamps(rt: HostRuntime) {
+    check(&rt, rt.alloc(), "bytes", STAMPS);
+}
+
+const BROKEN_BODIES: &[Row] = &[
+    ("empty", &[&[0, 0, 0, 0]], (&[], "refused 1\n", 1)),
+    ("5", &[&[0, 0, 0, 3, 131, 97, 5]], (&[], "refused 12\n", 1)),
+    (
+        "behind a call",
+        &[CREATE, &[0, 0, 0, 1, 130]],
+        (CREATED, "refused 2\n", 1),
+    ),
+];
+
+#[test]
+fn broken_bodies(rt: HostRuntime) {
+    check(&rt, rt.alloc(), "bytes", BROKEN_BODIES);
+}
+
+const EXCHANGE_THEN_LOCK: &[Row] = &[
+    (
+        "the lock behind the exchange",
+        &[EXCHANGE, SET_LOCK],
+        (GRANTED, "", 0),
+    ),
+    ("the lock alone", &[SET_LOCK], (DENIED, "", 0)),
+    (
+        "a second exchange",
+        &[EXCHANGE, EXCHANGE],
+        (&[], "refused 12\n", 1),
+    ),
+];
+
+#[test]
+fn exchange_then_lock(rt: HostRuntime) {
+    check(&rt, rt.alloc(), "bytes", EXCHANGE_THEN_LOCK);
 }
 
 #[test]
-fn calls_and_frames(rt: HostRuntime) -> Result<(), Fail> {
-    let rows: [(&str, Row<'_>); 5] = [
-        ("create_call", (&CREATE, &CREATED, "", 0)),
-        ("wide_creations", (&WIDE_CALL, &WIDE_REPLY, "", 0)),
-        ("empty_input", (&[], &[], "", 0)),
-        ("cut_input", (&CREATE[..30], &[], "refused 1\n", 1)),
-        ("frame_too_long", (&[1, 0, 0, 1], &[], "refused 11\n", 1)),
-    ];
-    for (name, row) in rows {
-        assert!(rt; prints(rt.alloc(), "bytes", row)?, "{name}");
-    }
-    Ok(())
+fn other_words(rt: HostRuntime) {
+    let mut reader = CREATE;
+    let is_refused = refuses_words(rt.alloc(), &["byte"], &mut reader);
+    holds(&rt, is_refused, "the word is refused");
+    holds(&rt, reader.len() == 49, "nothing is read");
 }
 
-#[test]
-fn stamps(rt: HostRuntime) -> Result<(), Fail> {
-    let rows: [(&str, Row<'_>); 3] = [
-        ("the last", (&LAST_STAMP, &LAST_REPLY, "", 0)),
-        ("full", (&FULL_STAMP, &[], "refused 30\n", 1)),
-        ("stamp_too_large", (&LARGE_STAMP, &[], "refused 13\n", 1)),
-    ];
-    for (name, row) in rows {
-        assert!(rt; prints(rt.alloc(), "bytes", row)?, "{name}");
-    }
-    Ok(())
-}
+const SCRIPTS: &[Row] = &[
+    (
+        "answers",
+        &[b"node a\ncreate a g\ngroups a\n"],
+        (b"a 1 ok\na 2 [g]\n", "", 0),
+    ),
+    (
+        "a refused step",
+        &[b"node a\nretry a 1"],
+        (b"line 2 refused 17\n", "", 0),
+    ),
+    ("no node", &[b"settle\n"], (&[], "refused 15\n", 2)),
+    (
+        "a bad ring",
+        &[b"ring 0\nnode a\n"],
+        (&[], "refused 18\n", 2),
+    ),
+    (
+        "a faulty line",
+        &[b"node a\ntake a b\n"],
+        (&[], "line 2 refused 41\n", 2),
+    ),
+    ("no text", &[b"node \xff\n"], (&[], "refused 40\n", 2)),
+];
 
 #[test]
-fn broken_bodies(rt: HostRuntime) -> Result<(), Fail> {
-    let mut bad_version = CREATE.to_vec(rt.alloc())?;
-    bad_version.extend_from_slice(&[0, 0, 0, 1, 130])?;
-    let rows: [(&str, Row<'_>); 3] = [
-        ("empty", (&[0, 0, 0, 0], &[], "refused 1\n", 1)),
-        ("5", (&[0, 0, 0, 3, 131, 97, 5], &[], "refused 12\n", 1)),
-        (
-            "behind a call",
-            (bad_version.as_slice(), &CREATED, "refused 2\n", 1),
-        ),
-    ];
-    for (name, row) in rows {
-        assert!(rt; prints(rt.alloc(), "bytes", row)?, "{name}");
-    }
-    Ok(())
-}
-
-#[test]
-fn exchange_then_lock(rt: HostRuntime) -> Result<(), Fail> {
-    let mut formed = EXCHANGE.to_vec(rt.alloc())?;
-    formed.extend_from_slice(&SET_LOCK)?;
-    let mut again = EXCHANGE.to_vec(rt.alloc())?;
-    again.extend_from_slice(&EXCHANGE)?;
-    let rows: [(&str, Row<'_>); 3] = [
-        (
-            "the lock behind the exchange",
-            (formed.as_slice(), &GRANTED, "", 0),
-        ),
-        ("the lock alone", (&SET_LOCK, &DENIED, "", 0)),
-        (
-            "a second exchange",
-            (again.as_slice(), &[], "refused 12\n", 1),
-        ),
-    ];
-    for (name, row) in rows {
-        assert!(rt; prints(rt.alloc(), "bytes", row)?, "{name}");
-    }
-    Ok(())
-}
-
-#[test]
-fn other_words(rt: HostRuntime) -> Result<(), Fail> {
-    let mut reader: &[u8] = &CREATE;
-    let printed = run(rt.alloc(), "byte", &mut reader)?;
-    assert_eq!(rt; printed.status, 2);
-    assert!(rt; printed.output.is_empty());
-    assert!(rt; printed.faults.as_slice().starts_with(b"error: "));
-    assert_eq!(rt; reader.len(), 49, "nothing is read");
-    Ok(())
-}
-
-#[test]
-fn scripts(rt: HostRuntime) -> Result<(), Fail> {
-    let rows: [(&str, Row<'_>); 6] = [
-        (
-            "answers",
-            (
-                b"node a\ncreate a g\ngroups a\n",
-                b"a 1 ok\na 2 [g]\n",
-                "",
-                0,
-            ),
-        ),
-        (
-            "a refused step",
-            (b"node a\nretry a 1", b"line 2 refused 17\n", "", 0),
-        ),
-        ("no node", (b"settle\n", &[], "refused 15\n", 2)),
-        ("a bad ring", (b"ring 0\nnode a\n", &[], "refused 18\n", 2)),
-        (
-            "a faulty line",
-            (b"node a\ntake a b\n", &[], "line 2 refused 41\n", 2),
-        ),
-        ("no text", (b"node \xff\n", &[], "refused 40\n", 2)),
-    ];
-    for (name, row) in rows {
-        assert!(rt; prints(rt.alloc(), "script", row)?, "{name}");
-    }
-    Ok(())
+fn scripts(rt: HostRuntime) {
+    check(&rt, rt.alloc(), "script", SCRIPTS);
 }
 
 // Gives signs for ever.
@@ -263,73 +155,97 @@ impl Read for Endless {
     }
 }
 
+const TOO_LONG: Wanted = (&[], "refused 11\n", 2);
+
 #[test]
-fn long_script(rt: HostRuntime) -> Result<(), Fail> {
+fn long_script(rt: HostRuntime) {
     let mut reader = AnyReader { reader: Endless };
-    let printed = run(rt.alloc(), "script", &mut reader)?;
-    assert!(rt; printed.faults.as_slice() == b"refused 11\n".as_slice());
-    assert_eq!(rt; printed.status, 2);
-    Ok(())
+    let is_refused = prints(rt.alloc(), "script", &mut reader, TOO_LONG);
+    holds(&rt, is_refused, "it has no end");
 }
 
-// Gives its text in a piece of `first` bytes and then the rest, and fails at the end where `fails` is set.
+// Gives its text in a piece of `first` bytes and then in pieces of `next`, and at the end fails by this fault, if there is one.
 #[derive(Drop)]
 struct Pieces<'a> {
     text: &'a [u8],
     first: usize,
-    fails: bool,
+    next: usize,
+    fault: Option<io::ErrorKind>,
 }
 
 impl<'a> Read for Pieces<'a> {
     fn read(&mut self, buf: &mut [u8]) -> io::Result<usize> {
-        if self.text.is_empty() && self.fails {
-            return Err(io::Error::from(io::ErrorKind::BrokenPipe));
+        if self.text.is_empty() {
+            return match self.fault {
+                Some(fault) => Err(io::Error::from(fault)),
+                None => Ok(0),
+            };
         }
         let count = self.text.len().min(buf.len()).min(self.first);
         let (piece, rest) = self.text.split_at(count);
         buf[..count].copy_from_slice(piece);
         self.text = rest;
-        self.first = usize::MAX;
+        self.first = self.next;
         Ok(count)
     }
 }
 
-#[test]
-fn input_in_pieces(rt: HostRuntime) -> Result<(), Fail> {
-    for first in 1..49 {
-        let mut reader = AnyReader {
-            reader: Pieces {
-                text: &CREATE,
-                first,
-                fails: false,
-            },
-        };
-        let printed = run(rt.alloc(), "bytes", &mut reader)?;
-        assert!(rt;
-            printed.output.as_slice() == CREATED.as_slice(),
-            "cut after {first} bytes"
-        );
-        assert_eq!(rt; printed.status, 0);
-    }
-    Ok(())
+// Whether a call is answered that comes in a piece of so many bytes and the rest.
+fn is_answered_in_pieces(alloc: Global, first: usize) -> bool {
+    let mut reader = AnyReader {
+        reader: Pieces {
+            text: CREATE,
+            first,
+            next: usize::MAX,
+            fault: None,
+        },
+    };
+    prints(alloc, "bytes", &mut reader, (CREATED, "", 0))
 }
 
 #[test]
-fn read_fails(rt: HostRuntime) -> Result<(), Fail> {
-    for (length, output) in [(0, &[][..]), (48, &[][..]), (49, &CREATED[..])] {
-        let mut reader = AnyReader {
-            reader: Pieces {
-                text: &CREATE[..length],
-                first: usize::MAX,
-                fails: true,
-            },
-        };
-        let printed = run(rt.alloc(), "bytes", &mut reader)?;
-        assert!(rt; printed.output.as_slice() == output, "after {length} bytes");
-        assert!(rt; printed.faults.as_slice() == b"refused 31\n".as_slice());
-        assert_eq!(rt; printed.status, 1);
+fn input_in_pieces(rt: HostRuntime) {
+    for first in 1..49 {
+        let is_answered = is_answered_in_pieces(rt.alloc(), first);
+        holds_at(&rt, is_answered, "bytes before the cut:", first);
     }
-    Ok(())
+}
+
+// Whether a run on this text, behind which a read fails, prints this, and that it failed.
+fn tells_fault(
+    alloc: Global,
+    word: &str,
+    text: &[u8],
+    fault: io::ErrorKind,
+    output: &[u8],
+) -> bool {
+    let mut reader = AnyReader {
+        reader: Pieces {
+            text,
+            first: usize::MAX,
+            next: usize::MAX,
+            fault: Some(fault),
+        },
+    };
+    prints(alloc, word, &mut reader, (output, "refused 31\n", 1))
+}
+
+// How many bytes of the call are read, and what is answered.
+const READ: &[(usize, &[u8])] = &[(0, &[]), (48, &[]), (49, CREATED)];
+
+fn tells_fault_behind(alloc: Global, len: usize, output: &[u8]) -> bool {
+    match CREATE.get(..len) {
+        Some(text) => tells_fault(alloc, "bytes", text, io::ErrorKind::BrokenPipe, output),
+        None => false,
+    }
+}
+
+#[test]
+fn read_fails(rt: HostRuntime) {
+    for (len, output) in READ {
+        let is_told = tells_fault_behind(rt.alloc(), *len, output);
+        holds_at(&rt, is_told, "bytes that are read:", *len);
+    }
 }
 
 // Takes at most `piece` bytes a write, and fails once it holds `limit`.
@@ -355,91 +271,121 @@ impl Write for Narrow {
     }
 }
 
+// What a writer takes, which holds as much then, and how the run ends.
+const WRITERS: &[(usize, &str, u8)] = &[
+    (0, "refused 32\n", 1),
+    (40, "refused 32\n", 1),
+    (44, "", 0),
+];
+
+fn is_held(alloc: Global, limit: usize, line: &str, status: u8) -> bool {
+    let mut reader = CREATE;
+    let mut writer = AnyWriter {
+        writer: Narrow {
+            held: 0,
+            piece: 5,
+            limit,
+        },
+    };
+    let ends = ends_with(
+        alloc,
+        &["bytes"],
+        &mut reader,
+        &mut writer,
+        &mut NoSystem,
+        line,
+        status,
+    );
+    ends && writer.writer.held == limit
+}
+
 #[test]
-fn write_fails(rt: HostRuntime) -> Result<(), Fail> {
-    for (limit, held, status) in [(0, 0, 1), (40, 40, 1), (44, 44, 0)] {
-        let mut reader: &[u8] = &CREATE;
-        let mut words = Vec::new(rt.alloc());
-        words.push(String::from_str(rt.alloc(), "bytes")?)?;
-        let mut writer = AnyWriter {
-            writer: Narrow {
-                held: 0,
-                piece: 5,
-                limit,
-            },
-        };
-        let mut faults = AnyWriter {
-            writer: Vec::new(rt.alloc()),
-        };
-        let got = run_words(
-            rt.alloc(),
-            words.as_slice(),
-            &mut reader,
-            &mut writer,
-            &mut NoSystem,
-            &mut faults,
-        );
-        assert_eq!(rt; got, status, "a writer that takes {limit} bytes");
-        assert_eq!(rt;
-            writer.writer.held,
-            held,
-            "a writer that takes {limit} bytes"
-        );
-        assert_eq!(rt; faults.writer.is_empty(), status == 0);
+fn write_fails(rt: HostRuntime) {
+    for (limit, line, status) in WRITERS {
+        let is_held = is_held(rt.alloc(), *limit, line, *status);
+        holds_at(&rt, is_held, "bytes that a writer takes:", *limit);
     }
-    Ok(())
+}
+
+// Whether nothing or all of a reply is written, as the status tells.
+fn is_whole(alloc: Global) -> bool {
+    let mut reader = CREATE;
+    let mut output = [0; 44];
+    let mut writer = AnyWriter {
+        writer: &mut output[..],
+    };
+    let mut faults = [0; 11];
+    let mut line = AnyWriter {
+        writer: &mut faults[..],
+    };
+    let status = run_given(
+        alloc,
+        &["bytes"],
+        &mut reader,
+        &mut writer,
+        &mut NoSystem,
+        &mut line,
+    );
+    let left = writer.writer.len();
+    match status {
+        Some(0) => left == 0,
+        Some(1) => left == 44,
+        Some(_) => false,
+        None => left == 44,
+    }
 }
 
 // Passes wherever an allocation is refused: nothing or all of a reply was written, and the same run succeeds.
 #[test]
-fn refused_growth(rt: HostRuntime) -> Result<(), Fail> {
-    let mut words = Vec::new(rt.alloc());
-    if words.push(String::from_str(rt.alloc(), "bytes")?).is_err() {
-        return Ok(());
+fn refused_growth(rt: HostRuntime) {
+    holds(&rt, is_whole(rt.alloc()), "the first run");
+    holds(&rt, is_whole(rt.alloc()), "the second run");
+}
+
+fn is_answered_alike(alloc: Global, name: &Atom, input: &[u8], output: &[u8]) -> bool {
+    let mut reader = input;
+    let mut writer = AnyWriter {
+        writer: Vec::new(alloc),
+    };
+    let is_served = serve(alloc, name, name, &mut reader, &mut writer).is_ok();
+    let is_written = writer.writer.as_slice() == output;
+    drop(writer);
+    is_served && is_written
+}
+
+fn is_named_alike(alloc: Global, name: &str, input: &[u8], output: &[u8]) -> bool {
+    match Atom::new(alloc, name) {
+        Ok(name) => {
+            let is_answered = is_answered_alike(alloc, &name, input, output);
+            drop(name);
+            is_answered
+        }
+        Err(_) => false,
     }
-    for _ in 0..2 {
-        let mut reader: &[u8] = &CREATE;
-        let mut output = [0; 44];
-        let mut writer = AnyWriter {
-            writer: &mut output[..],
-        };
-        let mut faults = [0; 11];
-        let mut line = AnyWriter {
-            writer: &mut faults[..],
-        };
-        let status = run_words(
-            rt.alloc(),
-            words.as_slice(),
-            &mut reader,
-            &mut writer,
-            &mut NoSystem,
-            &mut line,
-        );
-        let left = writer.writer.len();
-        assert!(rt; status == 0 && left == 0 || status == 1 && left == 44);
+}
+
+// The name of both, the parts of the input, and the output.
+const NAMED: &[(&str, &[&[u8]], &[u8])] = &[
+    ("a", &[EXCHANGE, SET_LOCK], GRANTED),
+    ("", &[CREATE], CREATED),
+];
+
+fn serves_alike(alloc: Global, name: &str, parts: &[&[u8]], output: &[u8]) -> bool {
+    match joined(alloc, parts) {
+        Ok(input) => {
+            let is_named = is_named_alike(alloc, name, input.as_slice(), output);
+            drop(input);
+            is_named
+        }
+        Err(AllocError) => false,
     }
-    Ok(())
 }
 
 #[test]
-fn names_alike(rt: HostRuntime) -> Result<(), Fail> {
-    let peer = Atom::new(rt.alloc(), "a")?;
-    let mut input = EXCHANGE.to_vec(rt.alloc())?;
-    input.extend_from_slice(&SET_LOCK)?;
-    let mut reader = input.as_slice();
-    let mut output = AnyWriter {
-        writer: Vec::new(rt.alloc()),
-    };
-    assert!(rt; serve(rt.alloc(), &peer, &peer, &mut reader, &mut output).is_ok());
-    assert!(rt; output.writer.as_slice() == GRANTED.as_slice());
-    let nameless = Atom::new(rt.alloc(), "")?;
-    let mut call: &[u8] = &CREATE;
-    let mut reply = AnyWriter {
-        writer: Vec::new(rt.alloc()),
-    };
-    assert!(rt; serve(rt.alloc(), &nameless, &nameless, &mut call, &mut reply).is_ok());
-    assert!(rt; reply.writer.as_slice() == CREATED.as_slice());
-    Ok(())
+fn names_alike(rt: HostRuntime) {
+    for (name, parts, output) in NAMED {
+        holds(&rt, serves_alike(rt.alloc(), name, parts, output), name);
+    }
 }
 
 // One file, which can't be made where `fails` is set; it runs no thread.
@@ -477,39 +423,9 @@ fn empty_shelf(alloc: Global, fails: bool) -> Shelf {
     }
 }
 
-pub(crate) fn run_with<D: System>(
-    alloc: Global,
-    given: &[&str],
-    text: &[u8],
-    system: &mut D,
-) -> Result<Printed, Fail> {
-    let mut words = Vec::new(alloc);
-    for word in given {
-        words.push(String::from_str(alloc, word)?)?;
-    }
-    let mut reader = text;
-    let mut output = AnyWriter {
-        writer: Vec::new(alloc),
-    };
-    let mut faults = AnyWriter {
-        writer: Vec::new(alloc),
-    };
-    let status = run_words(
-        alloc,
-        words.as_slice(),
-        &mut reader,
-        &mut output,
-        system,
-        &mut faults,
-    );
-    Ok(Printed {
-        output: output.writer,
-        faults: faults.writer,
-        status,
-    })
-}
-
 const ALONE: &[u8] = b"node 'a<b'\ncreate 'a<b' g\nlose 'a<b'\n";
+
+const PLAIN: &[u8] = b"'a<b' 1 ok\n";
 
 const TRACE: &[u8] = b"% line  node   clock  event  with        what
 %    2  'a<b'      1  do                 command 1: create g
@@ -517,45 +433,64 @@ const TRACE: &[u8] = b"% line  node   clock  event  with        what
 %    3  'a<b'         lose               the node is lost
 ";
 
-#[test]
-fn aids(rt: HostRuntime) -> Result<(), Fail> {
-    let alloc = rt.alloc();
-    let mut files = empty_shelf(alloc, false);
-    let plain = run_with(alloc, &["script"], ALONE, &mut files)?;
-    assert!(rt; plain.output.as_slice() == b"'a<b' 1 ok\n".as_slice());
-    let traced = run_with(alloc, &["script", "--trace"], ALONE, &mut files)?;
-    assert!(rt; traced.output.as_slice() == TRACE);
-    assert!(rt; files.name.is_empty());
-    let drawn = run_with(alloc, &["script", "--diagram", "x.svg"], ALONE, &mut files)?;
-    assert_eq!(rt; drawn.status, 0);
-    assert!(rt; drawn.output.as_slice() == plain.output.as_slice());
-    assert!(rt; files.name.as_slice() == b"x.svg".as_slice());
-    let picture = str::from_utf8(files.bytes.as_slice())?;
-    for shown in [
-        ">&#39;a&lt;b&#39;</text>",
-        ">1: create g</text>",
-        ">1: ok</text>",
-        ">lost</text>",
-    ] {
-        assert!(rt; picture.contains(shown), "{shown}");
+// A text in the picture.
+const SHOWN: &[&str] = &[
+    ">&#39;a&lt;b&#39;</text>",
+    ">1: create g</text>",
+    ">1: ok</text>",
+    ">lost</text>",
+];
+
+fn check_picture(rt: &impl Abort, bytes: &[u8]) {
+    match str::from_utf8(bytes) {
+        Ok(picture) => {
+            for shown in SHOWN {
+                holds(rt, picture.contains(*shown), shown);
+            }
+        }
+        Err(_) => holds(rt, false, "the picture is a text"),
     }
-    Ok(())
+}
+
+// Whether the script prints this with these words.
+fn prints_alone(alloc: Global, files: &mut Shelf, given: &[&str], wanted: Wanted<'_>) -> bool {
+    let mut reader = ALONE;
+    prints_with(alloc, given, &mut reader, files, wanted)
+}
+
+fn check_aids(rt: &impl Abort, alloc: Global, files: &mut Shelf) {
+    let plain = prints_alone(alloc, files, &["script"], (PLAIN, "", 0));
+    holds(rt, plain, "plain");
+    let traced = prints_alone(alloc, files, &["script", "--trace"], (TRACE, "", 0));
+    holds(rt, traced, "traced");
+    holds(rt, files.name.is_empty(), "no file is made");
+    let asked = &["script", "--diagram", "x.svg"];
+    holds(
+        rt,
+        prints_alone(alloc, files, asked, (PLAIN, "", 0)),
+        "drawn",
+    );
+    let is_named = files.name.as_slice() == b"x.svg".as_slice();
+    holds(rt, is_named, "the file's name");
+    check_picture(rt, files.bytes.as_slice());
 }
 
 #[test]
-fn no_file_can_be_made(rt: HostRuntime) -> Result<(), Fail> {
-    let alloc = rt.alloc();
-    let mut files = empty_shelf(alloc, true);
-    let both = run_with(
-        alloc,
-        &["script", "--trace", "--diagram", "x"],
-        ALONE,
+fn aids(rt: HostRuntime) {
+    let mut files = empty_shelf(rt.alloc(), false);
+    check_aids(&rt, rt.alloc(), &mut files);
+}
+
+#[test]
+fn no_file_can_be_made(rt: HostRuntime) {
+    let mut files = empty_shelf(rt.alloc(), true);
+    let both = prints_alone(
+        rt.alloc(),
         &mut files,
-    )?;
-    assert!(rt; both.output.as_slice() == TRACE);
-    assert!(rt; both.faults.as_slice() == b"refused 32\n".as_slice());
-    assert_eq!(rt; both.status, 1);
-    Ok(())
+        &["script", "--trace", "--diagram", "x"],
+        (TRACE, "refused 32\n", 1),
+    );
+    holds(&rt, both, "the trace alone");
 }
 
 // Takes what is written, and fails where it is flushed; or takes nothing.
@@ -577,126 +512,159 @@ impl Write for Shut {
     }
 }
 
+// A word, an input, and whether nothing can be written.
+const SHUT_OUTPUTS: &[(&str, &[u8], bool)] = &[
+    ("bytes", CREATE, false),
+    ("bytes", CREATE, true),
+    ("script", ALONE, false),
+    ("script", ALONE, true),
+];
+
+fn is_shut(alloc: Global, word: &str, input: &[u8], is_closed: bool) -> bool {
+    let mut reader = input;
+    let mut writer = AnyWriter {
+        writer: Shut { is_closed },
+    };
+    ends_with(
+        alloc,
+        &[word],
+        &mut reader,
+        &mut writer,
+        &mut NoSystem,
+        "refused 32\n",
+        1,
+    )
+}
+
 #[test]
-fn output_is_shut(rt: HostRuntime) -> Result<(), Fail> {
-    for (word, input) in [("bytes", &CREATE[..]), ("script", ALONE)] {
-        for is_closed in [false, true] {
-            let mut words = Vec::new(rt.alloc());
-            words.push(String::from_str(rt.alloc(), word)?)?;
-            let mut reader = input;
-            let mut writer = AnyWriter {
-                writer: Shut { is_closed },
-            };
-            let mut faults = AnyWriter {
-                writer: Vec::new(rt.alloc()),
-            };
-            let status = run_words(
-                rt.alloc(),
-                words.as_slice(),
-                &mut reader,
-                &mut writer,
-                &mut NoSystem,
-                &mut faults,
-            );
-            assert_eq!(rt; status, 1, "{word}");
-            assert!(rt;
-                faults.writer.as_slice() == b"refused 32\n".as_slice(),
-                "{word}"
-            );
-        }
+fn output_is_shut(rt: HostRuntime) {
+    for (word, input, is_closed) in SHUT_OUTPUTS {
+        holds(&rt, is_shut(rt.alloc(), word, input, *is_closed), word);
+    }
+}
+
+// Its bytes can't be read.
+#[test]
+fn a_directory_is_no_script(rt: HostRuntime) {
+    let fault = io::ErrorKind::IsADirectory;
+    let is_told = tells_fault(rt.alloc(), "script", &[], fault, &[]);
+    holds(&rt, is_told, "it is told");
+}
+
+const QUERIES: u32 = 200;
+
+fn put_queries(text: &mut Vec<u8>) -> Result<(), AllocError> {
+    text.extend_from_slice(b"node a\n")?;
+    for _ in 0..QUERIES {
+        text.extend_from_slice(b"groups a\n")?;
     }
     Ok(())
 }
 
-// A directory, whose bytes can't be read.
-#[derive(Drop)]
-struct Directory;
-
-impl Read for Directory {
-    fn read(&mut self, _buf: &mut [u8]) -> io::Result<usize> {
-        Err(io::Error::from(io::ErrorKind::IsADirectory))
+fn put_answers(answers: &mut Vec<u8>) -> io::Result<()> {
+    for number in 1..=QUERIES {
+        writeln!(answers, "a {number} []")?;
     }
-}
-
-#[test]
-fn a_directory_is_no_script(rt: HostRuntime) -> Result<(), Fail> {
-    let mut reader = AnyReader { reader: Directory };
-    let printed = run(rt.alloc(), "script", &mut reader)?;
-    assert!(rt; printed.output.is_empty());
-    assert!(rt; printed.faults.as_slice() == b"refused 31\n".as_slice());
-    assert_eq!(rt; printed.status, 1);
     Ok(())
 }
 
-// Gives a byte a read.
-#[derive(Drop)]
-struct Slow<'a> {
-    text: &'a [u8],
+// Whether a script that comes a byte a read is answered so.
+fn is_answered_slowly(alloc: Global, text: &[u8], answers: &[u8]) -> bool {
+    let mut reader = AnyReader {
+        reader: Pieces {
+            text,
+            first: 1,
+            next: 1,
+            fault: None,
+        },
+    };
+    prints(alloc, "script", &mut reader, (answers, "", 0))
 }
 
-impl<'a> Read for Slow<'a> {
-    fn read(&mut self, buf: &mut [u8]) -> io::Result<usize> {
-        let count = self.text.len().min(buf.len()).min(1);
-        let (piece, rest) = self.text.split_at(count);
-        buf[..count].copy_from_slice(piece);
-        self.text = rest;
-        Ok(count)
-    }
+fn are_answered(alloc: Global) -> bool {
+    let mut text = Vec::new(alloc);
+    let mut answers = Vec::new(alloc);
+    let is_put = put_queries(&mut text).is_ok() && put_answers(&mut answers).is_ok();
+    let is_answered = is_put && is_answered_slowly(alloc, text.as_slice(), answers.as_slice());
+    drop(text);
+    drop(answers);
+    is_answered
 }
 
 // More reads than anything that counts them would be likely to have room for.
 #[test]
-fn many_reads(rt: HostRuntime) -> Result<(), Fail> {
-    let mut text = Vec::new(rt.alloc());
-    text.extend_from_slice(b"node a\n")?;
-    let mut answers = Vec::new(rt.alloc());
-    for number in 1..=200u32 {
-        text.extend_from_slice(b"groups a\n")?;
-        answers.extend_from_slice(format!(in rt.alloc(); "a {number} []\n")?.as_bytes())?;
-    }
-    let mut reader = AnyReader {
-        reader: Slow {
-            text: text.as_slice(),
-        },
+fn many_reads(rt: HostRuntime) {
+    holds(&rt, are_answered(rt.alloc()), "a byte a read");
+}
+
+// How words that can't be had end, the begin of what is told, and whether that is all.
+const NOT_THERE: &[(io::ErrorKind, u8, &[u8], bool)] = &[
+    (
+        io::ErrorKind::InvalidData,
+        2,
+        b"error: invalid UTF-8",
+        false,
+    ),
+    (io::ErrorKind::OutOfMemory, 1, b"refused 10\n", true),
+    (io::ErrorKind::Other, 1, b"refused 10\n", true),
+];
+
+fn refuses_given(
+    alloc: Global,
+    kind: io::ErrorKind,
+    status: u8,
+    begin: &[u8],
+    is_all: bool,
+) -> bool {
+    let mut faults = AnyWriter {
+        writer: Vec::new(alloc),
     };
-    let printed = run(rt.alloc(), "script", &mut reader)?;
-    assert_eq!(rt; printed.status, 0);
-    assert!(rt; printed.output.as_slice() == answers.as_slice());
-    Ok(())
+    let error = io::Error::from(kind);
+    let got = refuse_given(&mut faults, &error);
+    drop(error);
+    let told = faults.writer.as_slice();
+    let is_told = told.starts_with(begin) && (told.len() == begin.len()) == is_all;
+    drop(faults);
+    is_told && got == status
 }
 
 // A word that is no text is refused as other words are; else there was no memory for the words.
 #[test]
-fn words_that_are_not_there(rt: HostRuntime) -> Result<(), Fail> {
-    for (kind, status) in [
-        (io::ErrorKind::InvalidData, 2),
-        (io::ErrorKind::OutOfMemory, 1),
-        (io::ErrorKind::Other, 1),
-    ] {
-        let mut faults = AnyWriter {
-            writer: Vec::new(rt.alloc()),
-        };
-        let got = refuse_given(&mut faults, &io::Error::from(kind));
-        let told = faults.writer.as_slice();
-        assert_eq!(rt; got, status);
-        assert_eq!(rt; told.starts_with(b"error: invalid UTF-8"), status == 2);
-        assert_eq!(rt; told == b"refused 10\n".as_slice(), status == 1);
+fn words_that_are_not_there(rt: HostRuntime) {
+    for (place, (kind, status, begin, is_all)) in NOT_THERE.iter().enumerate() {
+        let is_refused = refuses_given(rt.alloc(), *kind, *status, begin, *is_all);
+        holds_at(&rt, is_refused, "row", place);
     }
-    Ok(())
+}
+
+// A byte more than a script may have.
+fn longer_script(alloc: Global) -> Result<Vec<u8>, AllocError> {
+    let mut text = Vec::from_elem(alloc, b'%', MAX_SCRIPT_LEN - 7)?;
+    text.extend_from_slice(b"\nnode a\n")?;
+    Ok(text)
+}
+
+fn is_cut_at_longest(alloc: Global, text: &[u8]) -> bool {
+    match text.get(..MAX_SCRIPT_LEN) {
+        Some(fits) => prints_of(alloc, "script", fits, (&[], "", 0)),
+        None => false,
+    }
+}
+
+fn is_longest(alloc: Global) -> bool {
+    match longer_script(alloc) {
+        Ok(text) => {
+            let fits = is_cut_at_longest(alloc, text.as_slice());
+            let is_refused = prints_of(alloc, "script", text.as_slice(), TOO_LONG);
+            drop(text);
+            fits && is_refused
+        }
+        Err(AllocError) => false,
+    }
 }
 
 // A script of just as many bytes as it may have is read, and one of a byte more is not.
 #[test]
-fn longest_script(rt: HostRuntime) -> Result<(), Fail> {
-    let mut text = Vec::from_elem(rt.alloc(), b'%', MAX_SCRIPT_LEN - 7)?;
-    text.extend_from_slice(b"\nnode a")?;
-    let mut reader = text.as_slice();
-    let fits = run(rt.alloc(), "script", &mut reader)?;
-    assert_eq!(rt; fits.status, 0);
-    text.push(b'\n')?;
-    let mut longer = text.as_slice();
-    let long = run(rt.alloc(), "script", &mut longer)?;
-    assert!(rt; long.faults.as_slice() == b"refused 11\n".as_slice());
-    assert_eq!(rt; long.status, 2);
-    Ok(())
+fn longest_script(rt: HostRuntime) {
+    holds(&rt, is_longest(rt.alloc()), "the longest");
 }
