@@ -1,6 +1,5 @@
 //! Changes of groups that figures are about.
 
-use crate::fault::BenchFault;
 use pg_group::Update;
 use pg_step::Command;
 use pg_term::{Pid, Term};
@@ -56,11 +55,11 @@ pub enum Groups {
 
 impl Groups {
     /// The groups that a word names: `one`, as where there is none, or `own`.
-    pub fn of(word: &str) -> Result<Groups, BenchFault> {
+    pub fn of(word: &str) -> anyhow::Result<Groups> {
         match word {
             "" | "one" => Ok(Groups::One),
             "own" => Ok(Groups::Own),
-            _ => Err(BenchFault::UnknownGroups),
+            _ => anyhow::bail!("the groups are one and own"),
         }
     }
 

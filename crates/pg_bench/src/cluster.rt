@@ -36,6 +36,12 @@ impl Setting {
         })
     }
 
+    // The cluster with its clients.
+    fn running<R: Threads + AllocGlobal>(self, rt: &R) -> anyhow::Result<Running> {
+        let config = config(rt.alloc(), self.nodes, self.clients)?;
+        Running::start(rt, rt.alloc(), &config)
+    }
+
     // One for each client.
     fn talkers(self, alloc: Global) -> Result<Vec<Talker>, AllocError> {
         let mut talkers = Vec::new(alloc);
@@ -82,11 +88,19 @@ fn speak<R: Clock>(
 // The time within which so many of a hundred were answered, in microseconds.
 fn part(times: &[Duration], hundredths: usize) -> u128 {
     let place = times.len().saturating_mul(hundredths) / 100;
-    times.get(place).map_or(0, |time| time.as_micros())
+    match times.get(place) {
+        Some(time) => time.as_micros(),
+        None => 0,
+    }
 }
 
 // Prints how many answers a second, and how long they took.
-fn report<R: Eprint>(rt: &R, times: &mut Vec<Duration>, time: Duration) -> anyhow::Result<()> {
+fn report<R: Clock + Eprint>(
+    rt: &R,
+    times: &mut Vec<Duration>,
+    start: Instant,
+) -> anyhow::Result<()> {
+    let time = start.elapsed(rt)?;
     times.sort_unstable();
     let answered = rate(times.len() as u64, time);
     eprintln!(rt;
@@ -98,6 +112,18 @@ fn report<R: Eprint>(rt: &R, times: &mut Vec<Duration>, time: Duration) -> anyho
     Ok(())
 }
 
+// All speak, which is measured.
+fn measure_rounds<R: Clock + Eprint>(
+    rt: &R,
+    alloc: Global,
+    running: &mut Running,
+    talkers: &mut [Talker],
+) -> anyhow::Result<()> {
+    let start = Instant::now(rt)?;
+    let mut times = speak(rt, alloc, running, talkers)?;
+    report(rt, &mut times, start)
+}
+
 // The clients make their processes and groups; then they join and leave, which is measured.
 fn measure<R: Clock + Eprint>(
     rt: &R,
@@ -106,13 +132,11 @@ fn measure<R: Clock + Eprint>(
     setting: Setting,
 ) -> anyhow::Result<()> {
     let mut talkers = setting.talkers(alloc)?;
-    speak(rt, alloc, running, &mut talkers)?;
+    drop(speak(rt, alloc, running, &mut talkers)?);
     for talker in &mut talkers {
         talker.go_on(setting.rounds);
     }
-    let start = Instant::now(rt)?;
-    let mut times = speak(rt, alloc, running, &mut talkers)?;
-    report(rt, &mut times, start.elapsed(rt)?)
+    measure_rounds(rt, alloc, running, &mut talkers)
 }
 
 /// The words behind `cluster`: `one`, where all clients change one group, or `own`, where each has its own; how many nodes (3),
@@ -122,8 +146,7 @@ pub fn run<R: Threads + Clock + Eprint + AllocGlobal>(
     words: &[String],
 ) -> anyhow::Result<()> {
     let setting = Setting::of(words)?;
-    let config = config(rt.alloc(), setting.nodes, setting.clients)?;
-    let mut running = Running::start(rt, rt.alloc(), &config)?;
+    let mut running = setting.running(rt)?;
     let measured = measure(rt, rt.alloc(), &mut running, setting);
     running.close(rt);
     measured

@@ -2,49 +2,62 @@
 
 mod measure;
 
-use crate::rates::report;
+use crate::rates::{head, report};
 use crate::words::{number, word};
 use bytes::BytesMut;
-use measure::Measure;
+use measure::{MEASURES, Measure};
 use pg_term::{Term, TermFault};
 use pg_term_io::{decode, encode, encode_into};
-use std::alloc::Global;
+use std::alloc::{AllocError, Global};
 use std::time::Instant;
 
-// Reads the bytes so many times.
-fn read(alloc: Global, bytes: &[u8], rounds: u64) -> Result<(), TermFault> {
+// Reads the bytes so many times, timed.
+fn read(rt: &HostRuntime, bytes: &[u8], rounds: u64) -> anyhow::Result<()> {
+    let alloc = rt.alloc();
+    let start = Instant::now(rt)?;
     for _ in 0..rounds {
-        decode(alloc, bytes)?;
+        drop(decode(alloc, bytes)?);
     }
-    Ok(())
+    report(rt, "decode", rounds, bytes.len(), start)
 }
 
-// Writes the term so many times, into one buffer.
-fn write(term: &Term, buffer: &mut BytesMut, rounds: u64) -> Result<(), TermFault> {
+// Writes the term so many times, into one buffer, timed.
+fn write(
+    rt: &HostRuntime,
+    term: &Term,
+    buffer: &mut BytesMut,
+    len: usize,
+    rounds: u64,
+) -> anyhow::Result<()> {
+    let start = Instant::now(rt)?;
     for _ in 0..rounds {
         buffer.clear();
         encode_into(term, buffer)?;
     }
-    Ok(())
+    report(rt, "encode_into", rounds, len, start)
 }
 
-// Writes the term so many times, each time into new bytes.
-fn write_new(alloc: Global, term: &Term, rounds: u64) -> Result<(), TermFault> {
+// Writes the term so many times, each time into new bytes, timed.
+fn write_new(rt: &HostRuntime, term: &Term, len: usize, rounds: u64) -> anyhow::Result<()> {
+    let alloc = rt.alloc();
+    let start = Instant::now(rt)?;
     for _ in 0..rounds {
-        encode(alloc, term)?;
+        drop(encode(alloc, term)?);
     }
-    Ok(())
+    report(rt, "encode", rounds, len, start)
 }
 
-// Copies the term so many times.
-fn copy(alloc: Global, term: &Term, rounds: u64) -> Result<(), TermFault> {
+// Copies the term so many times, timed.
+fn copy(rt: &HostRuntime, term: &Term, rounds: u64) -> anyhow::Result<()> {
+    let alloc = rt.alloc();
+    let start = Instant::now(rt)?;
     for _ in 0..rounds {
-        term.copy(alloc)?;
+        drop(term.copy(alloc)?);
     }
-    Ok(())
+    report(rt, "copy_and_drop", rounds, 1_000_000, start)
 }
 
-// Compares two terms so many times.
+// Compares two terms so many times; how often they were the same.
 fn compare(terms: &[Term], rounds: u64) -> u64 {
     let mut same = 0_u64;
     for round in 0..rounds {
@@ -58,68 +71,71 @@ fn compare(terms: &[Term], rounds: u64) -> u64 {
     same
 }
 
-fn reading(rt: &HostRuntime, bytes: &[u8], rounds: u64) -> anyhow::Result<()> {
+fn compared(rt: &HostRuntime, pair: &[Term], rounds: u64) -> anyhow::Result<()> {
     let start = Instant::now(rt)?;
-    read(rt.alloc(), bytes, rounds)?;
-    report(rt, "decode", rounds, bytes.len(), start.elapsed(rt)?)
+    let same = compare(pair, rounds);
+    report(rt, "compare", same, 1_000_000, start)
 }
 
-fn writing(rt: &HostRuntime, term: &Term, len: usize, rounds: u64) -> anyhow::Result<()> {
+// Writes the term in both ways.
+fn written(rt: &HostRuntime, term: &Term, len: usize, rounds: u64) -> anyhow::Result<()> {
     let mut buffer = BytesMut::with_capacity(rt.alloc(), len)?;
-    let start = Instant::now(rt)?;
-    write(term, &mut buffer, rounds)?;
-    report(rt, "encode_into", rounds, len, start.elapsed(rt)?)?;
-    let start = Instant::now(rt)?;
-    write_new(rt.alloc(), term, rounds)?;
-    report(rt, "encode", rounds, len, start.elapsed(rt)?)
+    write(rt, term, &mut buffer, len, rounds)?;
+    write_new(rt, term, len, rounds)
 }
 
 fn encoded(alloc: Global, measure: Measure) -> Result<Vec<u8>, TermFault> {
-    encode(alloc, &measure.term(alloc)?)
+    let term = measure.term(alloc)?;
+    let bytes = encode(alloc, &term);
+    drop(term);
+    bytes
+}
+
+// Writes the term, which is built for it, in both ways.
+fn writing(rt: &HostRuntime, measure: Measure, len: usize, rounds: u64) -> anyhow::Result<()> {
+    let term = measure.term(rt.alloc())?;
+    let written = written(rt, &term, len, rounds);
+    drop(term);
+    written
 }
 
 fn both_ways(rt: &HostRuntime, measure: Measure, rounds: u64) -> anyhow::Result<()> {
     let bytes = encoded(rt.alloc(), measure)?;
-    let len = bytes.len();
-    eprintln!(rt; "{}: {len} bytes, {rounds} times", measure.name())?;
-    reading(rt, bytes.as_slice(), rounds)?;
-    writing(rt, &measure.term(rt.alloc())?, len, rounds)
+    head(rt, measure.name, bytes.len(), rounds)?;
+    read(rt, &bytes, rounds)?;
+    writing(rt, measure, bytes.len(), rounds)
 }
 
 // The term and a copy of it.
-fn twice(alloc: Global, measure: Measure) -> Result<Vec<Term>, TermFault> {
-    let term = measure.term(alloc)?;
-    let other = term.copy(alloc)?;
-    Ok(vec![in alloc; term, other]?)
+fn with_copy(alloc: Global, term: Term) -> Result<Vec<Term>, TermFault> {
+    match term.copy(alloc) {
+        Ok(other) => Ok(vec![in alloc; term, other]?),
+        Err(AllocError) => {
+            drop(term);
+            Err(TermFault::OutOfMemory)
+        }
+    }
 }
 
-fn copying(rt: &HostRuntime, term: &Term, rounds: u64) -> anyhow::Result<()> {
-    let start = Instant::now(rt)?;
-    copy(rt.alloc(), term, rounds)?;
-    report(rt, "copy_and_drop", rounds, 1_000_000, start.elapsed(rt)?)
-}
-
-fn comparing(rt: &HostRuntime, pair: &[Term], rounds: u64) -> anyhow::Result<()> {
-    let start = Instant::now(rt)?;
-    let same = compare(pair, rounds);
-    let time = start.elapsed(rt)?;
-    report(rt, "compare", same, 1_000_000, time)
+// Copies the first term, and compares both.
+fn pair_values(rt: &HostRuntime, pair: &[Term], rounds: u64) -> anyhow::Result<()> {
+    if let Some(term) = pair.first() {
+        copy(rt, term, rounds)?;
+    }
+    compared(rt, pair, rounds)
 }
 
 fn values(rt: &HostRuntime, measure: Measure, rounds: u64) -> anyhow::Result<()> {
-    let pair = twice(rt.alloc(), measure)?;
-    if let Some(term) = pair.first() {
-        copying(rt, term, rounds)?;
-    }
-    comparing(rt, pair.as_slice(), rounds)
+    let pair = with_copy(rt.alloc(), measure.term(rt.alloc())?)?;
+    pair_values(rt, &pair, rounds)
 }
 
 // Each term once, read and written.
 fn each_once(rt: &HostRuntime) -> anyhow::Result<()> {
-    both_ways(rt, Measure::Join, 1)?;
-    both_ways(rt, Measure::Numbers, 1)?;
-    both_ways(rt, Measure::Pids, 1)?;
-    both_ways(rt, Measure::Deep, 1)
+    for measure in &MEASURES {
+        both_ways(rt, *measure, 1)?;
+    }
+    Ok(())
 }
 
 /// The words behind `codec`: which term (`join`, `numbers`, `pids` or `deep`), and how many times; with none, each term once.

@@ -7,7 +7,6 @@
 mod changes;
 mod cluster;
 mod codec;
-mod fault;
 mod memory;
 mod nodes;
 mod packets;
@@ -18,7 +17,6 @@ mod tables;
 mod words;
 mod worlds;
 
-use fault::BenchFault;
 use std::env;
 use words::word;
 
@@ -31,7 +29,9 @@ fn run(rt: &HostRuntime, words: &[String]) -> anyhow::Result<()> {
         "memory" => memory::run(rt, words),
         "nodes" => nodes::run(rt, words),
         "worlds" => worlds::run(rt, words),
-        _ => Err(BenchFault::UnknownFigures.into()),
+        _ => anyhow::bail!(
+            "the figures are codec, packets, rings, cluster, tables, memory, nodes and worlds"
+        ),
     }
 }
 
@@ -51,7 +51,7 @@ fn main(rt: HostRuntime) -> anyhow::Result<()> {
             rings::cross(&rt, 100)?;
             run_each(&rt)
         }
-        "rings" => Ok(rings::cross(&rt, 1)?),
+        "rings" => rings::cross(&rt, 1),
         "cluster" => cluster::run(&rt, &words),
         _ => run(&rt, &words),
     }

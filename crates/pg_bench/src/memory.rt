@@ -1,7 +1,6 @@
 //! How much memory a table takes for each membership, from group to pid and from pid to group: the growth of the program's
 //! own peak, as Linux tells it in the status of the process.
 
-use crate::fault::BenchFault;
 use crate::tables::calls::only_built;
 use crate::words::{number, word};
 use pg_group::{GroupTable, RowTable};
@@ -25,18 +24,18 @@ fn peak(rt: &HostRuntime) -> anyhow::Result<u64> {
             return Ok(count.saturating_mul(1024));
         }
     }
-    Err(BenchFault::NoPeak.into())
+    anyhow::bail!("the peak of the program's memory is not told")
 }
 
 // Makes a group of so many members, of so many nodes, in an empty table, and prints what a membership took.
-fn measure<T: GroupTable + Drop>(
+fn measure<T: GroupTable>(
     rt: &HostRuntime,
-    mut table: T,
+    table: &mut T,
     count: u64,
     nodes: u64,
 ) -> anyhow::Result<()> {
     let before = peak(rt)?;
-    only_built(rt, &mut table, count, nodes)?;
+    only_built(rt, table, count, nodes)?;
     let bytes = peak(rt)?.saturating_sub(before) / count.max(1);
     eprintln!(rt; "{count} members: {bytes} bytes a membership")?;
     Ok(())
@@ -47,7 +46,7 @@ pub fn run(rt: &HostRuntime, words: &[String]) -> anyhow::Result<()> {
     let count = number(words, 1, 1_000_000)?;
     let nodes = number(words, 2, 3)?;
     match word(words, 3) {
-        "rows" => measure(rt, RowTable::new(rt.alloc()), count, nodes),
-        _ => measure(rt, IndexTable::new(rt.alloc()), count, nodes),
+        "rows" => measure(rt, &mut RowTable::new(rt.alloc()), count, nodes),
+        _ => measure(rt, &mut IndexTable::new(rt.alloc()), count, nodes),
     }
 }

@@ -76,8 +76,8 @@ fn time_of<R: Threads + Wait + Clock + AllocGlobal + Copy + Send + 'static>(
 pub fn cross<R: Threads + Wait + Clock + Eprint + AllocGlobal + Copy + Send + 'static>(
     rt: &R,
     parts: usize,
-) -> io::Result<()> {
-    for (size, all) in ROUNDS {
+) -> anyhow::Result<()> {
+    for &(size, all) in &ROUNDS {
         let pieces = all / parts.max(1);
         let time = time_of(rt, size, pieces)?;
         let megabytes = rate(size.saturating_mul(pieces) as u64, time) / 1_000_000;

@@ -9,7 +9,7 @@ use pg_node::NodeFault;
 use pg_term::TermFault;
 use pg_world::{FrameStep, Step, Stepped, World};
 use std::alloc::Global;
-use std::time::{Duration, Instant};
+use std::time::Instant;
 
 /// A world of so many nodes, and how many steps it made, of which some were events.
 #[derive(Drop)]
@@ -43,7 +43,9 @@ impl Measured {
 
     // The same of a step that is made once.
     fn make(&mut self, step: Step) -> Result<bool, NodeFault> {
-        self.step(&step)
+        let made = self.step(&step);
+        drop(step);
+        made
     }
 
     // What one node sends goes to another.
@@ -106,8 +108,8 @@ impl Measured {
 
 // The command by which a node changes its own group; what joins and leaves is the process of the first node.
 fn command(alloc: Global, node: u16, change: Change) -> Result<Step, TermFault> {
-    let group = Groups::Own.group(u32::from(node));
-    let command = change.command(group, pid(alloc, "n0", 1)?);
+    let process = pid(alloc, "n0", 1)?;
+    let command = change.command(Groups::Own.group(u32::from(node)), process);
     Ok(Step::Event(FrameStep::Command {
         node: usize::from(node),
         port: 0,
@@ -126,20 +128,11 @@ fn change_of(round: u64) -> Change {
     }
 }
 
-// Rounds, until so many steps were made.
-fn make_rounds(alloc: Global, measured: &mut Measured, steps: u64) -> anyhow::Result<()> {
-    for round in 0..steps {
-        if measured.steps >= steps {
-            break;
-        }
-        measured.round(alloc, change_of(round))?;
-    }
-    Ok(())
-}
-
 // Prints how many of its steps, and of those that were events, the world made a second.
-fn report(rt: &HostRuntime, measured: &Measured, time: Duration) -> anyhow::Result<()> {
-    let (steps, events) = (rate(measured.steps, time), rate(measured.events, time));
+fn report(rt: &HostRuntime, measured: &Measured, start: Instant) -> anyhow::Result<()> {
+    let time = start.elapsed(rt)?;
+    let steps = rate(measured.steps, time);
+    let events = rate(measured.events, time);
     eprintln!(rt;
         "a world of {} nodes, {} steps of which {} are events: {steps} steps a second, {events} events",
         measured.nodes, measured.steps, measured.events
@@ -149,15 +142,23 @@ fn report(rt: &HostRuntime, measured: &Measured, time: Duration) -> anyhow::Resu
 
 // The same of rounds until so many steps were made.
 fn measure_rounds(rt: &HostRuntime, measured: &mut Measured, steps: u64) -> anyhow::Result<()> {
+    let alloc = rt.alloc();
     let start = Instant::now(rt)?;
-    make_rounds(rt.alloc(), measured, steps)?;
-    report(rt, measured, start.elapsed(rt)?)
+    for round in 0..steps {
+        if measured.steps >= steps {
+            break;
+        }
+        measured.round(alloc, change_of(round))?;
+    }
+    report(rt, measured, start)
 }
 
 // The same of a world of so many nodes.
 fn measure(rt: &HostRuntime, nodes: u16, steps: u64) -> anyhow::Result<()> {
     let mut measured = Measured::new(rt.alloc(), nodes)?;
-    measure_rounds(rt, &mut measured, steps)
+    let told = measure_rounds(rt, &mut measured, steps);
+    drop(measured);
+    told
 }
 
 /// The word behind `worlds`: how many steps (300).

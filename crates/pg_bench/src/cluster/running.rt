@@ -37,7 +37,18 @@ impl Running {
 
     /// Submits a command at the client at a place; whether it did.
     pub fn submit(&mut self, place: usize, command: Command) -> bool {
-        place < self.clients.len() && self.clients[place].submit(command).is_ok()
+        if place < self.clients.len() {
+            match self.clients[place].submit(command) {
+                Ok(()) => true,
+                Err(command) => {
+                    drop(command);
+                    false
+                }
+            }
+        } else {
+            drop(command);
+            false
+        }
     }
 
     /// The next answer of the client at a place, if one is there.

@@ -3,7 +3,7 @@
 use crate::changes::{Change, Groups};
 use crate::cluster::running::Running;
 use pg_step::{Answer, Command, Reply};
-use pg_term::Pid;
+use pg_term::{Pid, Term};
 use std::alloc::AllocError;
 use std::time::{Clock, Duration, Instant};
 
@@ -61,15 +61,25 @@ impl Talker {
         self.number as usize
     }
 
+    // The group that it changes.
+    fn group(&self) -> Term {
+        self.groups.group(self.number)
+    }
+
+    // The command by which this process changes the group.
+    fn change(&self, change: Change, pid: &Pid) -> Result<Command, AllocError> {
+        let pid = pid.copy()?;
+        Ok(change.command(self.group(), pid))
+    }
+
     // What is asked for.
     fn command(&self) -> Result<Command, AllocError> {
-        let group = self.groups.group(self.number);
-        Ok(match (self.stage, &self.pid) {
-            (Stage::Create, _) => Command::Create(group),
-            (Stage::Join, Some(pid)) => Change::Join.command(group, pid.copy()?),
-            (Stage::Leave, Some(pid)) => Change::Leave.command(group, pid.copy()?),
-            _ => Command::Make,
-        })
+        match (self.stage, &self.pid) {
+            (Stage::Create, _) => Ok(Command::Create(self.group())),
+            (Stage::Join, Some(pid)) => self.change(Change::Join, pid),
+            (Stage::Leave, Some(pid)) => self.change(Change::Leave, pid),
+            _ => Ok(Command::Make),
+        }
     }
 
     // Takes in an answer.
@@ -81,8 +91,9 @@ impl Talker {
             Stage::Make | Stage::Leave => Stage::Join,
             Stage::Join => Stage::Leave,
         };
-        if let Reply::Made(pid) = answer.reply {
-            self.pid = Some(pid);
+        match answer.reply {
+            Reply::Made(pid) => self.pid = Some(pid),
+            other => drop(other),
         }
     }
 

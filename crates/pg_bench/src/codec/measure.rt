@@ -1,75 +1,74 @@
 //! What is measured: which term, and its bytes.
 
-use crate::fault::BenchFault;
-use crate::samples::{pid, reference};
-use pg_term::{Atom, Boxed, Fields, Items, Term, TermFault};
+use crate::samples::{JOIN_CALL, pid};
+use pg_term::{Fields, Items, Term, TermFault};
+use pg_term_io::decode;
 use std::alloc::Global;
 
-/// The term that is read and written.
+// Which term it is.
 #[derive(Clone, Copy)]
-pub enum Measure {
-    /// The call by which a node's group server is asked to join a process to a group.
+enum Kind {
     Join,
-    /// A list of 1,000,000 integers below 256.
     Numbers,
-    /// A list of 10,000 pids.
     Pids,
-    /// A tuple in a tuple, 60 levels deep.
     Deep,
 }
 
-impl Measure {
-    /// The measure of this name: `join`, `numbers`, `pids` or `deep`.
-    pub fn of(name: &str) -> Result<Measure, BenchFault> {
-        match name {
-            "join" => Ok(Measure::Join),
-            "numbers" => Ok(Measure::Numbers),
-            "pids" => Ok(Measure::Pids),
-            "deep" => Ok(Measure::Deep),
-            _ => Err(BenchFault::UnknownTerm),
-        }
-    }
-
+/// The term that is read and written.
+#[derive(Clone, Copy)]
+pub struct Measure {
+    // The word that names it.
+    word: &'static str,
     /// What the figures are headed by.
-    pub fn name(self) -> &'static str {
-        match self {
-            Measure::Join => "join call",
-            Measure::Numbers => "1,000,000 integers",
-            Measure::Pids => "10,000 pids",
-            Measure::Deep => "60 levels",
+    pub name: &'static str,
+    kind: Kind,
+}
+
+/// The call by which a node's group server is asked to join a process to a group; a list of 1,000,000 integers below 256; a list
+/// of 10,000 pids; and a tuple in a tuple, 60 levels deep.
+pub const MEASURES: [Measure; 4] = [
+    Measure {
+        word: "join",
+        name: "join call",
+        kind: Kind::Join,
+    },
+    Measure {
+        word: "numbers",
+        name: "1,000,000 integers",
+        kind: Kind::Numbers,
+    },
+    Measure {
+        word: "pids",
+        name: "10,000 pids",
+        kind: Kind::Pids,
+    },
+    Measure {
+        word: "deep",
+        name: "60 levels",
+        kind: Kind::Deep,
+    },
+];
+
+impl Measure {
+    /// The measure that a word names: `join`, `numbers`, `pids` or `deep`.
+    pub fn of(word: &str) -> anyhow::Result<Measure> {
+        for measure in &MEASURES {
+            if measure.word == word {
+                return Ok(*measure);
+            }
         }
+        anyhow::bail!("the terms are join, numbers, pids and deep")
     }
 
     /// The term.
     pub fn term(self, alloc: Global) -> Result<Term, TermFault> {
-        match self {
-            Measure::Join => join_call(alloc),
-            Measure::Numbers => numbers(alloc, 1_000_000),
-            Measure::Pids => pids(alloc, 10_000),
-            Measure::Deep => deep(alloc, 60),
+        match self.kind {
+            Kind::Join => decode(alloc, &JOIN_CALL),
+            Kind::Numbers => numbers(alloc, 1_000_000),
+            Kind::Pids => pids(alloc, 10_000),
+            Kind::Deep => deep(alloc, 60),
         }
     }
-}
-
-fn atom(alloc: Global, name: &str) -> Result<Term, TermFault> {
-    Ok(Term::Atom(Atom::new(alloc, name)?))
-}
-
-fn tuple(items: Vec<Term>) -> Term {
-    Term::Tuple(Fields::from_vec(items))
-}
-
-// {0, {call, Ref, {join, g, Pid}}}
-fn join_call(alloc: Global) -> Result<Term, TermFault> {
-    let member = Term::Pid(pid(alloc, "a", 1)?);
-    let join = vec![in alloc; atom(alloc, "join")?, atom(alloc, "g")?, member]?;
-    let call = vec![in alloc;
-        atom(alloc, "call")?,
-        Term::Ref(Boxed::new(alloc, reference(alloc, "a", 1)?)?),
-        tuple(join),
-    ]?;
-    let whole = vec![in alloc; Term::Int(0), tuple(call)]?;
-    Ok(tuple(whole))
 }
 
 fn numbers(alloc: Global, count: u32) -> Result<Term, TermFault> {
@@ -86,6 +85,10 @@ fn pids(alloc: Global, count: u32) -> Result<Term, TermFault> {
         items.push(Term::Pid(pid(alloc, "a", id)?))?;
     }
     Ok(Term::List(Items::from_vec(items)))
+}
+
+fn tuple(items: Vec<Term>) -> Term {
+    Term::Tuple(Fields::from_vec(items))
 }
 
 fn deep(alloc: Global, levels: u32) -> Result<Term, TermFault> {

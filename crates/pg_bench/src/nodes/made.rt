@@ -1,6 +1,6 @@
 //! The node `a`, whose peers `b` and `c` are played.
 
-ghost use Rattle.std.specs.Prelude.{◌≡◌, false};
+ghost use Rattle.std.specs.Prelude.{◌≡◌, IsTrue, false};
 ghost use Rattle.pg_term.specs.Same.{same_atom};
 
 use pg_index::IndexTable;
@@ -13,21 +13,25 @@ use std::alloc::{AllocError, Global};
 /// What is told of a peer or a port that a node lacks.
 pub const NO_PLACE: NodeFault = NodeFault::Refused(Refusal::NoSuchPlace);
 
+// Whether the three names differ.
+fn are_apart(own: &Atom, one: &Atom, two: &Atom) -> bool
+    ensures first { IsTrue result → same_atom own.now one.now ≡ false }
+    ensures second { IsTrue result → same_atom own.now two.now ≡ false }
+    ensures third { IsTrue result → same_atom one.now two.now ≡ false }
+{
+    own != one && own != two && one != two
+}
+
 /// The node, with one port, which has taken nothing yet.
 pub fn new_state(alloc: Global) -> Result<NodeState<IndexTable>, TermFault> {
     let own = Atom::new(alloc, "a")?;
     let one = Atom::new(alloc, "b")?;
     let two = Atom::new(alloc, "c")?;
-    if own == one {
-        return Err(TermFault::BadAtom);
+    if are_apart(&own, &one, &two) {
+        Ok(state_of(alloc, own, one, two)?)
+    } else {
+        Err(TermFault::BadAtom)
     }
-    if own == two {
-        return Err(TermFault::BadAtom);
-    }
-    if one == two {
-        return Err(TermFault::BadAtom);
-    }
-    Ok(state_of(alloc, own, one, two)?)
 }
 
 fn state_of(

@@ -43,7 +43,7 @@ fn feed(
     packets: &[Packet],
 ) -> Result<(), NodeFault> {
     let bytes = frames(alloc, packets)?;
-    played.feed(peer, bytes.as_slice())?;
+    drop(played.feed(peer, bytes.as_slice())?);
     Ok(())
 }
 
@@ -61,6 +61,19 @@ fn formed(alloc: Global) -> anyhow::Result<Played> {
     Ok(played)
 }
 
+// The frames of so many calls of b are taken, timed.
+fn feed_timed(
+    rt: &HostRuntime,
+    played: &mut Played,
+    what: &str,
+    bytes: &[u8],
+    count: u32,
+) -> anyhow::Result<()> {
+    let start = Instant::now(rt)?;
+    drop(played.feed(0, bytes)?);
+    report_rate(rt, what, u64::from(count), start)
+}
+
 // Updates that b asks for are taken, and replied to.
 fn updated(
     rt: &HostRuntime,
@@ -76,9 +89,7 @@ fn updated(
         groups.name(),
         bytes.len()
     )?;
-    let start = Instant::now(rt)?;
-    played.feed(0, bytes.as_slice())?;
-    report_rate(rt, change.name(), u64::from(count), start.elapsed(rt)?)?;
+    feed_timed(rt, played, change.name(), bytes.as_slice(), count)?;
     let out = played.out.saturating_sub(before);
     eprintln!(rt; "  {out} bytes replied")?;
     Ok(())
@@ -86,7 +97,7 @@ fn updated(
 
 fn updates(rt: &HostRuntime, count: u32) -> anyhow::Result<()> {
     let mut played = formed(rt.alloc())?;
-    for (change, groups) in UPDATES {
+    for &(change, groups) in &UPDATES {
         updated(rt, &mut played, change, groups, count)?;
     }
     Ok(())
@@ -101,6 +112,11 @@ fn replies(alloc: Global, calls: &[Reference], said: Said) -> Result<Vec<Packet>
     Ok(packets)
 }
 
+fn framed_replies(alloc: Global, calls: &[Reference], said: Said) -> Result<BytesMut, NodeFault> {
+    let packets = replies(alloc, calls, said)?;
+    Ok(frames(alloc, &packets)?)
+}
+
 // Both peers say this to each of these calls, the greatest first; the calls that follow.
 fn replied(
     alloc: Global,
@@ -108,9 +124,8 @@ fn replied(
     calls: &[Reference],
     said: Said,
 ) -> Result<Vec<Reference>, NodeFault> {
-    let packets = replies(alloc, calls, said)?;
-    let bytes = frames(alloc, &packets)?;
-    played.feed(1, bytes.as_slice())?;
+    let bytes = framed_replies(alloc, calls, said)?;
+    drop(played.feed(1, bytes.as_slice())?);
     played.feed(0, bytes.as_slice())
 }
 
@@ -126,7 +141,8 @@ fn changed(alloc: Global, played: &mut Played, commands: &[Command]) -> Result<u
 fn commands(alloc: Global, change: Change, count: u32) -> Result<Vec<Command>, TermFault> {
     let mut commands = Vec::new(alloc);
     for number in 0..count {
-        commands.push(change.command(Groups::Own.group(number), pid(alloc, "a", 1)?))?;
+        let process = pid(alloc, "a", 1)?;
+        commands.push(change.command(Groups::Own.group(number), process))?;
     }
     Ok(commands)
 }
@@ -158,7 +174,7 @@ fn changes(rt: &HostRuntime, played: &mut Played, count: u32, open: u32) -> anyh
     eprintln!(rt; "{count} own changes, {open} open at once, of five events each")?;
     let start = Instant::now(rt)?;
     let made = change_all(rt.alloc(), played, count / open.max(1), open)?;
-    report_rate(rt, "own changes", made, start.elapsed(rt)?)
+    report_rate(rt, "own changes", made, start)
 }
 
 fn create(alloc: Global, played: &mut Played, count: u32) -> anyhow::Result<()> {

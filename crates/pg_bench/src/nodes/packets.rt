@@ -8,8 +8,8 @@ use std::alloc::{AllocError, Global};
 
 /// What a peer of this name tells at first: it has no group.
 pub fn no_groups(alloc: Global, name: &str) -> Result<Packet, TermFault> {
-    let groups = Items::from_vec(Vec::new(alloc));
-    let message = Message::Exchange(Atom::new(alloc, name)?, groups);
+    let node = Atom::new(alloc, name)?;
+    let message = Message::Exchange(node, Items::from_vec(Vec::new(alloc)));
     Ok(Packet { stamp: 0, message })
 }
 
@@ -24,8 +24,9 @@ fn process(groups: Groups, number: u32) -> u32 {
 // The call of b of this number.
 fn call(alloc: Global, change: Change, groups: Groups, number: u32) -> Result<Packet, TermFault> {
     let process = pid(alloc, "a", process(groups, number))?;
+    let from = reference(alloc, "b", number)?;
     let update = change.update(groups.group(number), process);
-    let message = Message::Call(reference(alloc, "b", number)?, Request::Change(update));
+    let message = Message::Call(from, Request::Change(update));
     Ok(Packet { stamp: 0, message })
 }
 

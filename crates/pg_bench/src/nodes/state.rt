@@ -7,9 +7,9 @@ use super::made::{NO_PLACE, first_call, new_state};
 use super::packets::{calls, no_groups, reply};
 use super::{UPDATES, is_wanted};
 use crate::changes::{Change, Groups};
-use crate::fault::BenchFault;
 use crate::rates::report_rate;
 use crate::samples::pid;
+use anyhow::Context;
 use pg_index::IndexTable;
 use pg_message::{Message, Packet, Said};
 use pg_node::{Done, NodeFault, NodeState};
@@ -51,15 +51,18 @@ fn given(node: &mut State, command: &Command) -> Result<Done, NodeFault> {
 // Packets of a peer are taken.
 fn take_all(node: &mut State, peer: usize, packets: &[Packet]) -> Result<(), NodeFault> {
     for packet in packets {
-        taken(node, peer, packet)?;
+        drop(taken(node, peer, packet)?);
     }
     Ok(())
 }
 
 // A peer of this name tells that it has no group.
 fn form(alloc: Global, node: &mut State, peer: usize, name: &str) -> anyhow::Result<()> {
-    let told = [no_groups(alloc, name)?];
-    Ok(take_all(node, peer, &told)?)
+    let told = no_groups(alloc, name)?;
+    let done = taken(node, peer, &told);
+    drop(told);
+    drop(done?);
+    Ok(())
 }
 
 fn form_both(alloc: Global, node: &mut State) -> anyhow::Result<()> {
@@ -74,6 +77,18 @@ fn formed(alloc: Global) -> anyhow::Result<State> {
     Ok(node)
 }
 
+// Packets of b are taken, timed.
+fn take_timed(
+    rt: &HostRuntime,
+    node: &mut State,
+    what: &str,
+    packets: &[Packet],
+) -> anyhow::Result<()> {
+    let start = Instant::now(rt)?;
+    take_all(node, 0, packets)?;
+    report_rate(rt, what, packets.len() as u64, start)
+}
+
 // Updates that b asks for are taken, and replied to.
 fn updated(
     rt: &HostRuntime,
@@ -84,25 +99,21 @@ fn updated(
 ) -> anyhow::Result<()> {
     let packets = calls(rt.alloc(), change, groups, count)?;
     eprintln!(rt; "{count} calls of b, {}", groups.name())?;
-    let start = Instant::now(rt)?;
-    take_all(node, 0, &packets)?;
-    report_rate(rt, change.name(), u64::from(count), start.elapsed(rt)?)
+    take_timed(rt, node, change.name(), &packets)
+}
+
+fn updated_each(rt: &HostRuntime, node: &mut State, count: u32) -> anyhow::Result<()> {
+    for &(change, groups) in &UPDATES {
+        updated(rt, node, change, groups, count)?;
+    }
+    Ok(())
 }
 
 fn updates(rt: &HostRuntime, count: u32) -> anyhow::Result<()> {
     let mut node = formed(rt.alloc())?;
-    for (change, groups) in UPDATES {
-        updated(rt, &mut node, change, groups, count)?;
-    }
-    Ok(())
-}
-
-// Gives a command so many times.
-fn give_all(node: &mut State, command: &Command, count: u32) -> Result<(), NodeFault> {
-    for _ in 0..count {
-        given(node, command)?;
-    }
-    Ok(())
+    let told = updated_each(rt, &mut node, count);
+    drop(node);
+    told
 }
 
 // A query, so many times.
@@ -114,8 +125,23 @@ fn query(
     count: u32,
 ) -> anyhow::Result<()> {
     let start = Instant::now(rt)?;
-    give_all(node, command, count)?;
-    report_rate(rt, what, u64::from(count), start.elapsed(rt)?)
+    for _ in 0..count {
+        drop(given(node, command)?);
+    }
+    report_rate(rt, what, u64::from(count), start)
+}
+
+// A query that is made for it.
+fn query_made(
+    rt: &HostRuntime,
+    node: &mut State,
+    what: &str,
+    command: Command,
+    count: u32,
+) -> anyhow::Result<()> {
+    let asked = query(rt, node, what, &command, count);
+    drop(command);
+    asked
 }
 
 // Calls of b about the one group are taken.
@@ -131,56 +157,55 @@ fn with_group(alloc: Global) -> anyhow::Result<State> {
     Ok(node)
 }
 
-fn ask_members(rt: &HostRuntime, node: &mut State, count: u32) -> anyhow::Result<()> {
+// Queries of a group of 10 members, and then of 1,000 more.
+fn query_both(rt: &HostRuntime, node: &mut State, count: u32) -> anyhow::Result<()> {
     change_group(rt.alloc(), node, Change::Join, 10)?;
     let members = Command::Members(Term::Int(0));
-    query(rt, node, "members of 10", &members, count)
-}
-
-fn ask_closest(rt: &HostRuntime, node: &mut State, count: u32) -> anyhow::Result<()> {
+    query_made(rt, node, "members of 10", members, count)?;
     change_group(rt.alloc(), node, Change::Join, 1_000)?;
     let closest = Command::Closest(Term::Int(0), 700);
-    query(rt, node, "closest of 1,010", &closest, count)
+    query_made(rt, node, "closest of 1,010", closest, count)
 }
 
-// Queries of a group of 10 members, and then of 1,000 more.
 fn queries(rt: &HostRuntime, count: u32) -> anyhow::Result<()> {
     let mut node = with_group(rt.alloc())?;
-    ask_members(rt, &mut node, count)?;
-    ask_closest(rt, &mut node, count)
+    query_both(rt, &mut node, count)
 }
 
 // Both peers send the same, the greatest first; the first call that follows, if one does.
 fn taken_of_both(node: &mut State, packet: &Packet) -> Result<Option<Reference>, NodeFault> {
-    taken(node, 1, packet)?;
+    drop(taken(node, 1, packet)?);
     let done = taken(node, 0, packet)?;
-    first_call(&done)
+    let call = first_call(&done);
+    drop(done);
+    call
 }
 
 // Both peers say this to a call; the first call that follows, if one does.
 fn replied(node: &mut State, call: &Reference, said: Said) -> Result<Option<Reference>, NodeFault> {
     let packet = reply(call, said)?;
-    taken_of_both(node, &packet)
+    let call = taken_of_both(node, &packet);
+    drop(packet);
+    call
 }
 
 // The node is given a command; the first call that follows, if one does.
 fn asked(node: &mut State, command: &Command) -> Result<Option<Reference>, NodeFault> {
     let done = given(node, command)?;
-    first_call(&done)
+    let call = first_call(&done);
+    drop(done);
+    call
 }
 
 // The call that a change of the node sends next.
-fn due(call: Option<Reference>) -> Result<Reference, BenchFault> {
-    match call {
-        Some(call) => Ok(call),
-        None => Err(BenchFault::NoCall),
-    }
+fn due(call: Result<Option<Reference>, NodeFault>) -> anyhow::Result<Reference> {
+    call?.context("a node sends no call")
 }
 
 // A change of the node: its command, and what both peers reply, five events.
 fn changed(node: &mut State, command: &Command) -> anyhow::Result<()> {
-    let lock = due(asked(node, command)?)?;
-    let update = due(replied(node, &lock, Said::Granted)?)?;
+    let lock = due(asked(node, command))?;
+    let update = due(replied(node, &lock, Said::Granted))?;
     replied(node, &update, Said::Applied)?;
     Ok(())
 }
@@ -200,20 +225,30 @@ fn change_in_turn(
 
 // The command that asks for the change of the group.
 fn command(alloc: Global, change: Change) -> Result<Command, TermFault> {
-    Ok(change.command(Term::Int(0), pid(alloc, "a", 1)?))
+    let process = pid(alloc, "a", 1)?;
+    Ok(change.command(Term::Int(0), process))
+}
+
+// Joins by this command and leaves in turn, so many in all.
+fn change_after(alloc: Global, node: &mut State, join: &Command, count: u32) -> anyhow::Result<()> {
+    let leave = command(alloc, Change::Leave)?;
+    let changed = change_in_turn(node, join, &leave, count);
+    drop(leave);
+    changed
 }
 
 fn change_all(alloc: Global, node: &mut State, count: u32) -> anyhow::Result<()> {
     let join = command(alloc, Change::Join)?;
-    let leave = command(alloc, Change::Leave)?;
-    change_in_turn(node, &join, &leave, count)
+    let changed = change_after(alloc, node, &join, count);
+    drop(join);
+    changed
 }
 
 fn measure_changes(rt: &HostRuntime, node: &mut State, count: u32) -> anyhow::Result<()> {
     eprintln!(rt; "{count} own changes, of five events each")?;
     let start = Instant::now(rt)?;
     change_all(rt.alloc(), node, count)?;
-    report_rate(rt, "own changes", u64::from(count), start.elapsed(rt)?)
+    report_rate(rt, "own changes", u64::from(count), start)
 }
 
 fn changes(rt: &HostRuntime, count: u32) -> anyhow::Result<()> {

@@ -1,56 +1,60 @@
 //! What is measured: which packet.
 
-use crate::fault::BenchFault;
-use crate::samples::{pid, reference};
-use pg_group::Update;
-use pg_message::{Message, MessageFault, Packet, Request};
+use crate::samples::{JOIN_CALL, pid};
+use pg_message::{Message, MessageFault, Packet, read_packet};
 use pg_term::{Atom, Items, Pid, Term};
 use std::alloc::Global;
 
-/// The packet that is read and written.
+// Which packet it is.
 #[derive(Clone, Copy)]
-pub enum Measure {
-    /// The call by which a peer is asked to join a process to a group.
+enum Kind {
     Join,
-    /// What a node with 1,000 groups of 10 members each tells a peer.
     Exchange,
 }
 
-impl Measure {
-    /// The measure of this name: `join` or `exchange`.
-    pub fn of(name: &str) -> Result<Measure, BenchFault> {
-        match name {
-            "join" => Ok(Measure::Join),
-            "exchange" => Ok(Measure::Exchange),
-            _ => Err(BenchFault::UnknownPacket),
-        }
-    }
-
+/// The packet that is read and written.
+#[derive(Clone, Copy)]
+pub struct Measure {
+    // The word that names it.
+    word: &'static str,
     /// What the figures are headed by.
-    pub fn name(self) -> &'static str {
-        match self {
-            Measure::Join => "join call",
-            Measure::Exchange => "exchange of 1,000 groups of 10",
+    pub name: &'static str,
+    kind: Kind,
+}
+
+/// The call by which a peer is asked to join a process to a group, and what a node with 1,000 groups of 10 members each tells a
+/// peer.
+pub const MEASURES: [Measure; 2] = [
+    Measure {
+        word: "join",
+        name: "join call",
+        kind: Kind::Join,
+    },
+    Measure {
+        word: "exchange",
+        name: "exchange of 1,000 groups of 10",
+        kind: Kind::Exchange,
+    },
+];
+
+impl Measure {
+    /// The measure that a word names: `join` or `exchange`.
+    pub fn of(word: &str) -> anyhow::Result<Measure> {
+        for measure in &MEASURES {
+            if measure.word == word {
+                return Ok(*measure);
+            }
         }
+        anyhow::bail!("the packets are join and exchange")
     }
 
     /// The packet.
     pub fn packet(self, alloc: Global) -> Result<Packet, MessageFault> {
-        let message = match self {
-            Measure::Join => join_call(alloc)?,
-            Measure::Exchange => exchange(alloc, 1_000, 10)?,
-        };
-        Ok(Packet { stamp: 0, message })
+        match self.kind {
+            Kind::Join => read_packet(alloc, &JOIN_CALL),
+            Kind::Exchange => exchange(alloc, 1_000, 10),
+        }
     }
-}
-
-// {call, Ref, {join, g, Pid}}
-fn join_call(alloc: Global) -> Result<Message, MessageFault> {
-    let from = reference(alloc, "a", 1)?;
-    let member = pid(alloc, "a", 1)?;
-    let name = Term::Atom(Atom::new(alloc, "g")?);
-    let join = Update::Join(name, member);
-    Ok(Message::Call(from, Request::Change(join)))
 }
 
 fn pids(alloc: Global, count: u32) -> Result<Items<Pid>, MessageFault> {
@@ -62,10 +66,21 @@ fn pids(alloc: Global, count: u32) -> Result<Items<Pid>, MessageFault> {
 }
 
 // So many groups, named by numbers, with so many members each.
-fn exchange(alloc: Global, groups: i64, members: u32) -> Result<Message, MessageFault> {
-    let mut told = Vec::new(alloc);
-    for number in 0..groups {
-        told.push((Term::Int(number), pids(alloc, members)?))?;
+fn groups(
+    alloc: Global,
+    count: i64,
+    members: u32,
+) -> Result<Items<(Term, Items<Pid>)>, MessageFault> {
+    let mut groups = Vec::new(alloc);
+    for number in 0..count {
+        let pids = pids(alloc, members)?;
+        groups.push((Term::Int(number), pids))?;
     }
-    Ok(Message::Exchange(Atom::new(alloc, "a")?, Items::from_vec(told)))
+    Ok(Items::from_vec(groups))
+}
+
+fn exchange(alloc: Global, count: i64, members: u32) -> Result<Packet, MessageFault> {
+    let node = Atom::new(alloc, "a")?;
+    let message = Message::Exchange(node, groups(alloc, count, members)?);
+    Ok(Packet { stamp: 0, message })
 }

@@ -3,12 +3,14 @@ ghost use Rattle.pg_group.specs.Table.{HasRoom};
 ghost use Rattle.pg_group.specs.Scope.{anywhere};
 ghost use Rattle.pg_group.specs.Members.{IsMemberList};
 
-use crate::tables::crowd::{names, next, node_of, pids};
+use crate::changes::Change;
+use crate::tables::Sizes;
+use crate::tables::crowd::{crowd, names, next, node_of, pid_of, pids};
 use pg_group::{Ended, GroupTable, Scope, Update, one_member_list};
 use pg_query::{closest, members};
 use pg_term::{Atom, Items, Pid, Term};
 use std::alloc::{AllocError, Global};
-use std::time::{Duration, Instant};
+use std::time::Instant;
 
 /// Whether the count that the update raises is below the greatest that is told.
 fn has_room<T: GroupTable>(table: &T, update: &Update) -> bool
@@ -27,41 +29,71 @@ fn apply<T: GroupTable>(table: &mut T, update: &Update, ended: &Ended) -> Result
     Ok(())
 }
 
-fn updates(alloc: Global, pids: &[Pid], joins: bool) -> Result<Vec<Update>, AllocError> {
-    let mut updates = Vec::new(alloc);
-    for pid in pids {
-        let pid = pid.copy()?;
-        updates.push(if joins {
-            Update::Join(Term::Int(1), pid)
-        } else {
-            Update::Leave(Term::Int(1), pid)
-        })?;
-    }
-    Ok(updates)
-}
-
-fn apply_all<T: GroupTable>(
+// Applies an update that is made for it.
+fn apply_once<T: GroupTable>(
     table: &mut T,
-    updates: &[Update],
+    update: Update,
     ended: &Ended,
 ) -> Result<(), AllocError> {
-    for update in updates {
-        apply(table, update, ended)?;
-    }
-    Ok(())
+    let applied = apply(table, &update, ended);
+    drop(update);
+    applied
 }
 
 fn report(
     rt: &HostRuntime,
     what: &str,
     times: u64,
-    time: Duration,
+    start: Instant,
     check: u64,
 ) -> anyhow::Result<()> {
-    let nanos = u64::try_from(time.as_nanos()).unwrap_or(u64::MAX);
-    let each = nanos / times.max(1);
+    let nanos = start.elapsed(rt)?.as_nanos();
+    let each = nanos / u128::from(times.max(1));
     eprintln!(rt; "  {what}: {each} ns ({check})")?;
     Ok(())
+}
+
+/// Updates, timed.
+fn applied<T: GroupTable>(
+    rt: &HostRuntime,
+    table: &mut T,
+    what: &str,
+    updates: &[Update],
+    times: u64,
+) -> anyhow::Result<()> {
+    let ended = Ended::new(rt.alloc());
+    let start = Instant::now(rt)?;
+    for update in updates {
+        apply(table, update, &ended)?;
+    }
+    report(rt, what, times, start, 0)
+}
+
+// Updates of the group by each of these pids.
+fn updates(alloc: Global, pids: &[Pid], change: Change) -> Result<Vec<Update>, AllocError> {
+    let mut updates = Vec::new(alloc);
+    for pid in pids {
+        let pid = pid.copy()?;
+        updates.push(change.update(Term::Int(1), pid))?;
+    }
+    Ok(updates)
+}
+
+/// Updates of the group, timed.
+fn updated<T: GroupTable>(
+    rt: &HostRuntime,
+    table: &mut T,
+    what: &str,
+    pids: &[Pid],
+    change: Change,
+) -> anyhow::Result<()> {
+    let updates = updates(rt.alloc(), pids, change)?;
+    applied(rt, table, what, &updates, pids.len() as u64)
+}
+
+fn create<T: GroupTable>(alloc: Global, table: &mut T) -> Result<(), AllocError> {
+    let ended = Ended::new(alloc);
+    apply_once(table, Update::Create(Term::Int(1)), &ended)
 }
 
 /// A group of so many members.
@@ -71,60 +103,73 @@ fn built<T: GroupTable>(
     names: &[Atom],
     count: u64,
 ) -> anyhow::Result<()> {
-    let alloc = rt.alloc();
-    let ended = Ended::new(alloc);
-    apply(table, &Update::Create(Term::Int(1)), &ended)?;
-    let first = pids(alloc, names, 1, count)?;
-    let joins = updates(alloc, &first, true)?;
-    let start = Instant::now(rt)?;
-    apply_all(table, &joins, &ended)?;
-    report(rt, "join, while it grows", count, start.elapsed(rt)?, 0)
-}
-
-/// Updates of the group, timed.
-fn updated<T: GroupTable>(
-    rt: &HostRuntime,
-    table: &mut T,
-    what: &str,
-    pids: &[Pid],
-    joins: bool,
-) -> anyhow::Result<()> {
-    let alloc = rt.alloc();
-    let ended = Ended::new(alloc);
-    let all = updates(alloc, pids, joins)?;
-    let start = Instant::now(rt)?;
-    apply_all(table, &all, &ended)?;
-    report(rt, what, all.len() as u64, start.elapsed(rt)?, 0)
-}
-
-fn count_all<T: GroupTable>(table: &T, pids: &[Pid]) -> u64 {
-    let name = Term::Int(1);
-    let mut sum = 0_u64;
-    for pid in pids {
-        sum = sum.wrapping_add(table.count(&name, pid));
-    }
-    sum
+    create(rt.alloc(), table)?;
+    let pids = pids(rt.alloc(), names, 1, count)?;
+    updated(rt, table, "join, while it grows", &pids, Change::Join)
 }
 
 /// One group of so many members, and each call on it.
 pub fn many_members<T: GroupTable>(
     rt: &HostRuntime,
     table: &mut T,
-    count: u64,
-    nodes: u64,
-    times: u64,
+    sizes: Sizes,
 ) -> anyhow::Result<()> {
-    let alloc = rt.alloc();
-    let names = names(alloc, nodes)?;
-    built(rt, table, &names, count)?;
-    let more = pids(alloc, &names, 2, times)?;
-    updated(rt, table, "join", &more, true)?;
+    let names = names(rt.alloc(), sizes.nodes)?;
+    built(rt, table, &names, sizes.count)?;
+    let pids = pids(rt.alloc(), &names, 2, sizes.times)?;
+    each_call(rt, table, &names, &pids, sizes)
+}
+
+/// So many pids join the group, and leave it after the calls that only read; then it goes.
+fn each_call<T: GroupTable>(
+    rt: &HostRuntime,
+    table: &mut T,
+    names: &[Atom],
+    pids: &[Pid],
+    sizes: Sizes,
+) -> anyhow::Result<()> {
+    updated(rt, table, "join", pids, Change::Join)?;
+    read(rt, table, names, pids)?;
+    updated(rt, table, "leave", pids, Change::Leave)?;
+    dropped(rt, table, names, sizes)
+}
+
+/// The calls that only read.
+fn read<T: GroupTable>(
+    rt: &HostRuntime,
+    table: &T,
+    names: &[Atom],
+    pids: &[Pid],
+) -> anyhow::Result<()> {
+    let name = Term::Int(1);
+    let read = read_group(rt, table, &name, names, pids);
+    drop(name);
+    read
+}
+
+fn read_group<T: GroupTable>(
+    rt: &HostRuntime,
+    table: &T,
+    name: &Term,
+    names: &[Atom],
+    pids: &[Pid],
+) -> anyhow::Result<()> {
+    counted(rt, table, name, pids)?;
+    listed(rt, table, name, names, pids.len() as u64)
+}
+
+fn counted<T: GroupTable>(
+    rt: &HostRuntime,
+    table: &T,
+    name: &Term,
+    pids: &[Pid],
+) -> anyhow::Result<()> {
     let start = Instant::now(rt)?;
-    let sum = count_all(table, &more);
-    report(rt, "count", times, start.elapsed(rt)?, sum)?;
-    listed(rt, table, &names, times)?;
-    updated(rt, table, "leave", &more, false)?;
-    dropped(rt, table, &names, count, nodes)
+    let mut sum = 0_u64;
+    for pid in pids {
+        sum = sum.wrapping_add(table.count(name, pid));
+    }
+    report(rt, "count", pids.len() as u64, start, sum)
 }
 
 /// A node that is dropped, and the group that is deleted.
@@ -132,45 +177,62 @@ fn dropped<T: GroupTable>(
     rt: &HostRuntime,
     table: &mut T,
     names: &[Atom],
-    count: u64,
-    nodes: u64,
+    sizes: Sizes,
 ) -> anyhow::Result<()> {
     if let Some(node) = names.last() {
+        let share = sizes.count / sizes.nodes.max(1);
         let start = Instant::now(rt)?;
         table.drop_node(node);
-        let time = start.elapsed(rt)?;
-        report(rt, "drop_node, a member", count / nodes.max(1), time, 0)?;
+        report(rt, "drop_node, a member", share, start, 0)?;
     }
-    let ended = Ended::new(rt.alloc());
-    let start = Instant::now(rt)?;
-    apply(table, &Update::Delete(Term::Int(1)), &ended)?;
-    report(rt, "delete, a member", count, start.elapsed(rt)?, 0)
+    deleted(rt, table, sizes.count)
 }
 
-/// The list of the members, and the calls that only read.
+fn deleted<T: GroupTable>(rt: &HostRuntime, table: &mut T, count: u64) -> anyhow::Result<()> {
+    let ended = Ended::new(rt.alloc());
+    let start = Instant::now(rt)?;
+    apply_once(table, Update::Delete(Term::Int(1)), &ended)?;
+    report(rt, "delete, a member", count, start, 0)
+}
+
+/// The list of the members, and the calls that ask for some of them.
 fn listed<T: GroupTable>(
     rt: &HostRuntime,
     table: &T,
+    name: &Term,
     names: &[Atom],
     times: u64,
 ) -> anyhow::Result<()> {
-    let alloc = rt.alloc();
-    let name = Term::Int(1);
     let start = Instant::now(rt)?;
-    if let Ok(pids) = members(alloc, table, &name) {
-        let len = pids.len() as u64;
-        report(rt, "members, a member", len, start.elapsed(rt)?, len)?;
-        let start = Instant::now(rt)?;
-        let found = closest_all(table, &name, &pids, names, times);
-        report(rt, "closest", times, start.elapsed(rt)?, found)?;
-        let start = Instant::now(rt)?;
-        let found = sizes(table, &name, &pids, names, times);
-        report(rt, "size of a node", times, start.elapsed(rt)?, found)?;
-        let start = Instant::now(rt)?;
-        let found = places(table, &name, len, times);
-        report(rt, "member at a place", times, start.elapsed(rt)?, found)?;
+    match members(rt.alloc(), table, name) {
+        Ok(pids) => {
+            let len = pids.len() as u64;
+            report(rt, "members, a member", len, start, len)?;
+            asked(rt, table, name, &pids, names, times)
+        }
+        Err(_) => Ok(()),
     }
-    Ok(())
+}
+
+fn asked<T: GroupTable>(
+    rt: &HostRuntime,
+    table: &T,
+    name: &Term,
+    listed: &Items<Pid>,
+    names: &[Atom],
+    times: u64,
+) -> anyhow::Result<()>
+    requires { IsMemberList (T.contents table.now name.now) anywhere listed.now }
+{
+    let start = Instant::now(rt)?;
+    let found = closest_all(table, name, listed, names, times);
+    report(rt, "closest", times, start, found)?;
+    let start = Instant::now(rt)?;
+    let found = sizes(table, name, listed, names, times);
+    report(rt, "size of a node", times, start, found)?;
+    let start = Instant::now(rt)?;
+    let found = places(table, name, listed.len() as u64, times);
+    report(rt, "member at a place", times, start, found)
 }
 
 /// The id of the closest member of a group whose members were listed.
@@ -258,8 +320,9 @@ fn pairs(alloc: Global, pids: &[Pid]) -> Result<Vec<Update>, AllocError> {
     let mut updates = Vec::new(alloc);
     let mut number = 0;
     for pid in pids {
+        let pid = pid.copy()?;
         updates.push(Update::Create(Term::Int(number)))?;
-        updates.push(join_of(number, pid)?)?;
+        updates.push(Update::Join(Term::Int(number), pid))?;
         number = number.wrapping_add(1);
     }
     Ok(updates)
@@ -271,14 +334,13 @@ pub fn many_groups<T: GroupTable>(
     table: &mut T,
     count: u64,
 ) -> anyhow::Result<()> {
-    let alloc = rt.alloc();
-    let names = names(alloc, 3)?;
-    let ended = Ended::new(alloc);
-    let pids = pids(alloc, &names, 1, count)?;
-    let updates = pairs(alloc, &pids)?;
-    let start = Instant::now(rt)?;
-    apply_all(table, &updates, &ended)?;
-    report(rt, "create and join", count, start.elapsed(rt)?, 0)
+    let pids = crowd(rt.alloc(), 3, 1, count)?;
+    grouped(rt, table, &pids)
+}
+
+fn grouped<T: GroupTable>(rt: &HostRuntime, table: &mut T, pids: &[Pid]) -> anyhow::Result<()> {
+    let updates = pairs(rt.alloc(), pids)?;
+    applied(rt, table, "create and join", &updates, pids.len() as u64)
 }
 
 /// So many groups; each pid joins the first 300.
@@ -291,7 +353,7 @@ fn joined_in_many<T: GroupTable>(
     let ended = Ended::new(alloc);
     let mut number = 0;
     for _ in 0..count {
-        apply(table, &Update::Create(Term::Int(number)), &ended)?;
+        apply_once(table, Update::Create(Term::Int(number)), &ended)?;
         number = number.wrapping_add(1);
     }
     for pid in pids {
@@ -302,32 +364,24 @@ fn joined_in_many<T: GroupTable>(
 
 fn join_300<T: GroupTable>(table: &mut T, pid: &Pid, ended: &Ended) -> Result<(), AllocError> {
     for number in 0..300 {
-        join_one(table, number, pid, ended)?;
+        let pid = pid.copy()?;
+        apply_once(table, Update::Join(Term::Int(number), pid), ended)?;
     }
     Ok(())
 }
 
-fn join_one<T: GroupTable>(
+/// The end of each of these pids, timed.
+fn drop_all<T: GroupTable>(
+    rt: &HostRuntime,
     table: &mut T,
-    number: i64,
-    pid: &Pid,
-    ended: &Ended,
-) -> Result<(), AllocError> {
-    match join_of(number, pid) {
-        Ok(join) => apply(table, &join, ended),
-        Err(AllocError) => Err(AllocError),
-    }
-}
-
-fn join_of(number: i64, pid: &Pid) -> Result<Update, AllocError> {
-    let pid = pid.copy()?;
-    Ok(Update::Join(Term::Int(number), pid))
-}
-
-fn drop_all<T: GroupTable>(table: &mut T, pids: &[Pid]) {
+    what: &str,
+    pids: &[Pid],
+) -> anyhow::Result<()> {
+    let start = Instant::now(rt)?;
     for pid in pids {
         table.drop_pid(pid);
     }
+    report(rt, what, pids.len() as u64, start, 0)
 }
 
 /// The end of a pid that is in 300 of so many groups, and of one that is in none.
@@ -337,28 +391,20 @@ pub fn many_ends<T: GroupTable>(
     count: u64,
     times: u64,
 ) -> anyhow::Result<()> {
-    let alloc = rt.alloc();
-    let names = names(alloc, 3)?;
-    let pids = pids(alloc, &names, 1, times)?;
-    joined_in_many(table, alloc, &pids, count)?;
-    let start = Instant::now(rt)?;
-    drop_all(table, &pids);
-    report(
-        rt,
-        "the end of a pid in 300 groups",
-        times,
-        start.elapsed(rt)?,
-        0,
-    )?;
-    let start = Instant::now(rt)?;
-    drop_all(table, &pids);
-    report(
-        rt,
-        "the end of a pid in no group",
-        times,
-        start.elapsed(rt)?,
-        0,
-    )
+    let pids = crowd(rt.alloc(), 3, 1, times)?;
+    joined_in_many(table, rt.alloc(), &pids, count)?;
+    drop_all(rt, table, "the end of a pid in 300 groups", &pids)?;
+    drop_all(rt, table, "the end of a pid in no group", &pids)
+}
+
+fn join_seeded<T: GroupTable>(
+    table: &mut T,
+    names: &[Atom],
+    seed: u64,
+    ended: &Ended,
+) -> Result<(), AllocError> {
+    let pid = pid_of(names, seed)?;
+    apply_once(table, Update::Join(Term::Int(1), pid), ended)
 }
 
 /// One group that so many pids join one after the other; nothing else is kept.
@@ -368,16 +414,22 @@ pub fn only_built<T: GroupTable>(
     count: u64,
     nodes: u64,
 ) -> anyhow::Result<()> {
-    let alloc = rt.alloc();
-    let names = names(alloc, nodes)?;
+    let names = names(rt.alloc(), nodes)?;
+    Ok(build(rt.alloc(), table, &names, count)?)
+}
+
+fn build<T: GroupTable>(
+    alloc: Global,
+    table: &mut T,
+    names: &[Atom],
+    count: u64,
+) -> Result<(), AllocError> {
     let ended = Ended::new(alloc);
-    apply(table, &Update::Create(Term::Int(1)), &ended)?;
+    apply_once(table, Update::Create(Term::Int(1)), &ended)?;
     let mut seed = 1;
     for _ in 0..count {
         seed = next(seed);
-        let one = pids(alloc, &names, seed, 1)?;
-        let joins = updates(alloc, &one, true)?;
-        apply_all(table, &joins, &ended)?;
+        join_seeded(table, names, next(seed), &ended)?;
     }
     Ok(())
 }

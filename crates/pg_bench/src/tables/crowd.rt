@@ -1,4 +1,4 @@
-use pg_term::{Atom, Pid};
+use pg_term::{Atom, Pid, TermFault};
 use std::alloc::{AllocError, Global};
 
 /// The next of some numbers that look random.
@@ -7,12 +7,17 @@ pub fn next(seed: u64) -> u64 {
         .wrapping_add(1_442_695_040_888_963_407)
 }
 
+// The name of the node of this number.
+fn name(alloc: Global, node: u64) -> Result<Atom, TermFault> {
+    let text = format!(in alloc; "n{node}@example.org")?;
+    Atom::new(alloc, text.as_str())
+}
+
 /// The names of some nodes.
-pub fn names(alloc: Global, nodes: u64) -> anyhow::Result<Vec<Atom>> {
+pub fn names(alloc: Global, nodes: u64) -> Result<Vec<Atom>, TermFault> {
     let mut names = Vec::new(alloc);
     for node in 0..nodes {
-        let text = format!(in alloc; "n{node}@example.org")?;
-        names.push(Atom::new(alloc, text.as_str())?)?;
+        names.push(name(alloc, node)?)?;
     }
     Ok(names)
 }
@@ -25,7 +30,7 @@ pub fn node_of(names: &[Atom], seed: u64) -> Option<&Atom> {
 }
 
 /// The pid that a seed tells.
-fn pid_of(names: &[Atom], seed: u64) -> Result<Pid, AllocError> {
+pub fn pid_of(names: &[Atom], seed: u64) -> Result<Pid, AllocError> {
     let Some(node) = node_of(names, seed) else {
         return Err(AllocError);
     };
@@ -46,4 +51,10 @@ pub fn pids(alloc: Global, names: &[Atom], first: u64, count: u64) -> Result<Vec
         pids.push(pid_of(names, seed)?)?;
     }
     Ok(pids)
+}
+
+/// So many pids of so many nodes, from a first seed on.
+pub fn crowd(alloc: Global, nodes: u64, first: u64, count: u64) -> Result<Vec<Pid>, TermFault> {
+    let names = names(alloc, nodes)?;
+    Ok(pids(alloc, &names, first, count)?)
 }

@@ -77,7 +77,9 @@ impl Played {
     fn take_one(&mut self, peer: usize, calls: &mut Vec<Reference>) -> Result<bool, NodeFault> {
         match self.take(peer)? {
             Some(done) => {
-                keep_call(&done, calls)?;
+                let kept = keep_call(&done, calls);
+                drop(done);
+                kept?;
                 Ok(true)
             }
             None => Ok(false),
@@ -94,15 +96,25 @@ impl Played {
         Ok(())
     }
 
+    // A piece comes from a peer, and what it leads to goes out.
+    fn feed_piece(
+        &mut self,
+        peer: usize,
+        piece: &[u8],
+        calls: &mut Vec<Reference>,
+    ) -> Result<(), NodeFault> {
+        self.to.put(piece);
+        self.pull(peer)?;
+        self.take_all(peer, calls)?;
+        self.drain(0)?;
+        self.drain(1)
+    }
+
     /// Bytes come from a peer, a ring half full at a time, and what they lead to goes out: the first call that is sent for each frame.
     pub fn feed(&mut self, peer: usize, bytes: &[u8]) -> Result<Vec<Reference>, NodeFault> {
         let mut calls = Vec::new(self.alloc);
         for piece in bytes.chunks(RING / 2) {
-            self.to.put(piece);
-            self.pull(peer)?;
-            self.take_all(peer, &mut calls)?;
-            self.drain(0)?;
-            self.drain(1)?;
+            self.feed_piece(peer, piece, &mut calls)?;
         }
         Ok(calls)
     }
@@ -119,7 +131,9 @@ impl Played {
     // The same, and keeps the first call that is sent.
     fn ask_one(&mut self, command: &Command, calls: &mut Vec<Reference>) -> Result<(), NodeFault> {
         let done = self.given(command)?;
-        keep_call(&done, calls)
+        let kept = keep_call(&done, calls);
+        drop(done);
+        kept
     }
 
     /// Gives commands at the port, and what they lead to goes out: the first call that is sent for each.
