@@ -54,7 +54,7 @@ impl<K: Rng + Drop + Send + 'static> Member<K> {
                 self.joined = Snapshot::of(&thread);
                 let ran = thread.join(rt);
                 let last = ran.run.linked().node().state().clock();
-                self.ran = Some(ran);
+                drop(self.ran.replace(ran));
                 last
             }
             None => 0,

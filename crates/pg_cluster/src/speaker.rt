@@ -144,8 +144,8 @@ impl Speaker {
         self.answered = self.answered.saturating_add(1);
         self.is_asked = false;
         match answer.reply {
-            Reply::Made(pid) => self.pid = Some(pid),
-            _other => {}
+            Reply::Made(pid) => drop(self.pid.replace(pid)),
+            other => drop(other),
         }
         self.stage = match self.stage {
             Stage::Waiting | Stage::Creating => Stage::Making,

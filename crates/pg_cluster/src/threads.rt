@@ -93,6 +93,7 @@ fn start_one<K: Rng + Drop + Send + 'static, G: Gate + Drop + Send + Sync + 'sta
     ensures lost { IfOk result (λ member. is_lost member ≡ false) }
 {
     let Ok(gate) = Arc::try_clone(gate) else {
+        drop(run);
         return Err(StartFault::World(WorldFault::OutOfMemory));
     };
     let promise = RanFrom {
