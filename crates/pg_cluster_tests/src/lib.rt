@@ -1,4 +1,4 @@
-//! What is only run of clusters: that commands are answered, that nodes run at once.
+//! What is only run of clusters: that commands are answered, that nodes run at once, are lost, go on where memory is refused.
 #![tactic(auto)]
 
 #[cfg(test)]

@@ -1,4 +1,4 @@
-//! What is only run of terms, frames, packets and rings: their bytes, their faults, memory that runs out, and threads.
+//! What is only run of terms, their texts, frames, packets, diagrams and rings: bytes, faults, memory that runs out, and threads.
 #![tactic(auto)]
 
 #[cfg(test)]
