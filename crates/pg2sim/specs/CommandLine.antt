@@ -37,18 +37,23 @@ script_line = with_rule (with_rule (new_app (codes "script")) (flag_rule (codes 
 abbrev pub number_rule : Text → Text → ℕ → ℕ → Rule
 number_rule id default least most = record (new_rule id) { long = Some id; value_names = 1; defaults = default ∷ []; parser = Some (Unsigned least most) }
 
--- `threads [--nodes N] [--clients N] [--rounds N] [--seed N] [--turns N] [--json]`
+-- `threads [--nodes N] [--clients N] [--rounds N]`
+abbrev pub cluster_line : App
+cluster_line = with_rule (with_rule (with_rule (new_app (codes "threads")) (number_rule (codes "nodes") (codes "3") 1 16))
+    (number_rule (codes "clients") (codes "2") 1 16)) (number_rule (codes "rounds") (codes "50") 0 1000)
+
+-- and `[--seed N] [--turns N] [--json]`
 abbrev pub threads_line : App
-threads_line = with_rule (with_rule (with_rule (with_rule (with_rule (with_rule (new_app (codes "threads"))
-    (number_rule (codes "nodes") (codes "3") 1 16)) (number_rule (codes "clients") (codes "2") 1 16))
-    (number_rule (codes "rounds") (codes "50") 0 1000)) (number_rule (codes "seed") (codes "1") 0 (2 ^ 64 - 1)))
+threads_line = with_rule (with_rule (with_rule cluster_line (number_rule (codes "seed") (codes "1") 0 (2 ^ 64 - 1)))
     (number_rule (codes "turns") (codes "100000000") 0 (2 ^ 64 - 1))) (flag_rule (codes "json"))
+
+-- the program, without its commands
+abbrev pub top_line : App
+top_line = on_top (λ top. record top { no_binary_name = true; subcommand_required = true; disable_help_subcommand = true }) (new_app (codes "pg2sim"))
 
 -- one of the three
 abbrev pub command_line : App
-command_line = with_subcommand (with_subcommand (with_subcommand
-    (on_top (λ top. record top { no_binary_name = true; subcommand_required = true; disable_help_subcommand = true }) (new_app (codes "pg2sim")))
-    bytes_line.top) script_line.top) threads_line.top
+command_line = with_subcommand (with_subcommand (with_subcommand top_line bytes_line.top) script_line.top) threads_line.top
 
 -- the name that was given, or this one
 abbrev pub given_name : Text → Text → List Row → Text

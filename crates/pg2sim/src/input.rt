@@ -26,7 +26,7 @@ const PIECE_LEN: usize = 65_536;
 
 /// Reads the input to its end, but for what follows `MAX_SCRIPT_LEN` bytes.
 ///
-/// Faults: where a read fails, where the input is longer, or for want of memory.
+/// Faults: where a read fails, where the input is longer, or where there is no memory.
 pub(crate) fn read_input<R: Source>(alloc: Global, reader: &mut R) -> Result<Vec<u8>, Fault>
     ensures bytes { IfOk result (λ bytes. IsInput R.remaining R.gives reader.old reader.new bytes.items
         × (length bytes.items ≤ MAX_SCRIPT_LEN)) }

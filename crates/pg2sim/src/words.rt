@@ -1,9 +1,9 @@
 //! What the words of a command line ask for.
 
 ghost use Rattle.std.specs.Prelude.{◌≡◌, false, IfOk, IfErr, codes, map, option_map, string_bytes};
-ghost use Rattle.clap.specs.Words.{rule_of, subcommand_rows_of, app_of, kind_of, found_of, rows_of, first_of, one_of, fault_of, subcommand_of, FailsBy};
+ghost use Rattle.clap.specs.Words.{rule_of, subcommand_rows_of, app_of, new_app, with_subcommand, kind_of, found_of, rows_of, first_of, one_of, fault_of, subcommand_of, FailsBy};
 ghost use Rattle.clap.specs.declared.builder.Command.TheViews.{out-Command};
-ghost use Rattle.pg2sim.specs.CommandLine.{name_rule, bytes_line, script_line, flag_rule, diagram_rule, number_rule, threads_line, command_line, given_name, is_flag, AsksAids, AsksTalk, GivesNumber, IsAsked};
+ghost use Rattle.pg2sim.specs.CommandLine.{name_rule, bytes_line, script_line, flag_rule, diagram_rule, number_rule, cluster_line, threads_line, top_line, command_line, given_name, is_flag, AsksAids, AsksTalk, GivesNumber, IsAsked};
 
 use crate::help::{
     ABOUT, BYTES_ABOUT, CLIENTS_HELP, DIAGRAM_HELP, JSON_HELP, NODE_HELP, NODES_HELP, PEER_HELP,
@@ -45,7 +45,7 @@ pub(crate) struct Aids<'a> {
 
 /// Reads the words, without the name of the program.
 ///
-/// Error: that of `clap`, with its text: refused words, and a request for help; of the kind `OutOfMemory` for want of memory.
+/// Error: that of `clap`, with its text: refused words, and a request for help; of the kind `OutOfMemory` where there is no memory.
 pub(crate) fn read_words<'a>(alloc: Global, words: &'a [String]) -> Result<Task<'a>, Error>
     ensures asked { IfOk result (IsAsked (subcommand_of command_line (map string_bytes words.entry.now))) }
     ensures refused { FailsBy (fault_of command_line (map string_bytes words.entry.now)) result }
@@ -162,28 +162,63 @@ fn command<'a>(alloc: Global) -> Result<Command<'a>, AllocError>
     ensures { IfOk result (λ command. app_of command ≡ command_line) }
 {
     let bytes = bytes_command(alloc)?;
-    let script = script_command(alloc)?;
-    let threads = threads_command(alloc)?;
+    let command = top_command(alloc).subcommand(bytes)?;
+    let command = with_script(alloc, command)?;
+    with_threads(alloc, command)
+}
+
+/// The program, without its commands.
+fn top_command<'a>(alloc: Global) -> Command<'a>
+    ensures { app_of result ≡ top_line }
+{
     Command::new(alloc, "pg2sim")
         .about(ABOUT)
         .no_binary_name(true)
         .subcommand_required(true)
         .disable_help_subcommand(true)
-        .subcommand(bytes)?
-        .subcommand(script)?
-        .subcommand(threads)
+}
+
+/// With the command `script`, too.
+fn with_script<'a>(alloc: Global, command: Command<'a>) -> Result<Command<'a>, AllocError>
+    ensures { IfOk result (λ made. app_of made ≡ with_subcommand (app_of command.entry) script_line.top) }
+{
+    match script_command(alloc) {
+        Ok(script) => command.subcommand(script),
+        Err(error) => {
+            drop(command);
+            Err(error)
+        }
+    }
+}
+
+/// With the command `threads`, too.
+fn with_threads<'a>(alloc: Global, command: Command<'a>) -> Result<Command<'a>, AllocError>
+    ensures { IfOk result (λ made. app_of made ≡ with_subcommand (app_of command.entry) threads_line.top) }
+{
+    match threads_command(alloc) {
+        Ok(threads) => command.subcommand(threads),
+        Err(error) => {
+            drop(command);
+            Err(error)
+        }
+    }
 }
 
 fn bytes_command<'a>(alloc: Global) -> Result<Command<'a>, AllocError>
     ensures app { IfOk result (λ command. app_of command ≡ bytes_line) }
     ensures local { IfOk result (λ command. (out-Command command).has_globals ≡ false) }
 {
-    let node = name_option(alloc, "node", "b", NODE_HELP);
-    let peer = name_option(alloc, "peer", "a", PEER_HELP);
-    Command::new(alloc, "bytes")
-        .about(BYTES_ABOUT)
-        .arg(node)?
-        .arg(peer)
+    let command = new_command(alloc, "bytes", BYTES_ABOUT);
+    let command = command.arg(name_option(alloc, "node", "b", NODE_HELP))?;
+    command.arg(name_option(alloc, "peer", "a", PEER_HELP))
+}
+
+/// A command, without its options.
+fn new_command<'a>(alloc: Global, name: &'a str, about: &'a str) -> Command<'a>
+    ensures app { app_of result ≡ new_app name.entry.now }
+    ensures local { (out-Command result).has_globals ≡ false }
+{
+    Command::new(alloc, name).about(about)
 }
 
 /// An option that gives a name.
@@ -202,13 +237,10 @@ fn script_command<'a>(alloc: Global) -> Result<Command<'a>, AllocError>
     ensures app { IfOk result (λ command. app_of command ≡ script_line) }
     ensures local { IfOk result (λ command. (out-Command command).has_globals ≡ false) }
 {
-    let trace = flag(alloc, "trace", TRACE_HELP);
-    let diagram = diagram_option(alloc);
-    Command::new(alloc, "script")
-        .about(SCRIPT_ABOUT)
-        .after_help(SCRIPT_FORMS)
-        .arg(trace)?
-        .arg(diagram)
+    let command = new_command(alloc, "script", SCRIPT_ABOUT);
+    let command = command.arg(flag(alloc, "trace", TRACE_HELP))?;
+    let command = command.after_help(SCRIPT_FORMS);
+    command.arg(diagram_option(alloc))
 }
 
 /// A flag.
@@ -237,21 +269,22 @@ fn threads_command<'a>(alloc: Global) -> Result<Command<'a>, AllocError>
     ensures app { IfOk result (λ command. app_of command ≡ threads_line) }
     ensures local { IfOk result (λ command. (out-Command command).has_globals ≡ false) }
 {
-    let nodes = number_option(alloc, "nodes", "3", 1, 16, NODES_HELP);
-    let clients = number_option(alloc, "clients", "2", 1, 16, CLIENTS_HELP);
-    let rounds = number_option(alloc, "rounds", "50", 0, 1000, ROUNDS_HELP);
-    let seed = number_option(alloc, "seed", "1", 0, u64::MAX, SEED_HELP);
-    let turns = number_option(alloc, "turns", "100000000", 0, u64::MAX, TURNS_HELP);
-    let json = flag(alloc, "json", JSON_HELP);
-    Command::new(alloc, "threads")
-        .about(THREADS_ABOUT)
-        .after_help(THREADS_LINES)
-        .arg(nodes)?
-        .arg(clients)?
-        .arg(rounds)?
-        .arg(seed)?
-        .arg(turns)?
-        .arg(json)
+    let command = cluster_command(alloc)?;
+    let command = command.arg(number_option(alloc, "seed", "1", 0, u64::MAX, SEED_HELP))?;
+    let command = command.arg(number_option(alloc, "turns", "100000000", 0, u64::MAX, TURNS_HELP))?;
+    let command = command.after_help(THREADS_LINES);
+    command.arg(flag(alloc, "json", JSON_HELP))
+}
+
+/// The command `threads` with the options of the cluster and its clients alone.
+fn cluster_command<'a>(alloc: Global) -> Result<Command<'a>, AllocError>
+    ensures app { IfOk result (λ command. app_of command ≡ cluster_line) }
+    ensures local { IfOk result (λ command. (out-Command command).has_globals ≡ false) }
+{
+    let command = new_command(alloc, "threads", THREADS_ABOUT);
+    let command = command.arg(number_option(alloc, "nodes", "3", 1, 16, NODES_HELP))?;
+    let command = command.arg(number_option(alloc, "clients", "2", 1, 16, CLIENTS_HELP))?;
+    command.arg(number_option(alloc, "rounds", "50", 0, 1000, ROUNDS_HELP))
 }
 
 /// An option that gives a number within bounds.
