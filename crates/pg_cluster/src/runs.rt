@@ -14,8 +14,8 @@ use crate::notices::Teller;
 use crate::wires::{Row, wire_all};
 use pg_index::IndexTable;
 use pg_node::Node;
-use pg_ring::{RingIn, RingOut, ring_pair, slot_pair};
-use pg_run::{Client, LinkedNode, NOTICE_PLACES, NodeRun, Port, port_pair};
+use pg_ring::{RingIn, RingOut, SlotIn, ring_pair, slot_pair};
+use pg_run::{Client, LinkedNode, NOTICE_PLACES, NodeRun, Notice, Port, port_pair};
 use pg_world::{Config, WorldFault, starting_nodes};
 use rand_core::Rng;
 use std::alloc::{AllocError, Global};
@@ -88,9 +88,10 @@ fn make_all<K: Rng + Drop>(
 }
 
 impl<K: Rng + Drop> Made<K> {
-    ghost use Rattle.std.specs.Prelude.{◌≡◌, ◌++◌, ◌∷◌, [], OnOk, map};
+    ghost use Rattle.std.specs.Prelude.{◌≡◌, ◌<◌, ◌++◌, ◌∷◌, [], IfOk, OnOk, length, map, vec_capacity, vec_len};
     ghost use Rattle.std.specs.List.{All};
-    ghost use Rattle.pg_cluster.specs.Clients.{AllPairs, IsOpen};
+    ghost use Rattle.pg_cluster.specs.Clients.{AllPairs, IsOpen, OpensMore};
+    ghost use Rattle.pg_ring.specs.Slots.{taken};
     ghost use Rattle.pg_run.specs.Notices.{IsUntold};
     ghost use Rattle.pg_run.specs.Runs.{notices_at, notices_of};
     ghost use Rattle.pg_cluster.specs.Notices.{IsFresh};
@@ -112,21 +113,73 @@ impl<K: Rng + Drop> Made<K> {
         ensures notices { OnOk result (AllPairs IsFresh self.old.tellers.items (map notices_at self.old.runs.items) → AllPairs IsFresh self.new.tellers.items (map notices_at self.new.runs.items)) }
     {
         if row.len() != node.state().peer_count() {
+            drop(node);
+            drop(row);
+            drop(generator);
             return Err(StartFault::World(WorldFault::BadConfig));
         }
+        match self.open(alloc, node.state().port_count()) {
+            Ok(
+                Ends {
+                    ports,
+                    stopped,
+                    notices,
+                },
+            ) => {
+                let linked = LinkedNode::new(alloc, node, row);
+                let run = NodeRun::new(alloc, linked, ports, stopped, notices, generator);
+                self.runs.push_reserved(run);
+                Ok(())
+            }
+            Err(fault) => {
+                drop(node);
+                drop(row);
+                drop(generator);
+                Err(fault)
+            }
+        }
+    }
+
+    /// Room for a further node, and what it is run with beside its links. Its clients, and where it is stopped and told of losses,
+    /// come behind the others.
+    fn open(&mut self, alloc: Global, ports: usize) -> Result<Ends, StartFault>
+        ensures runs { self.new.runs.items ≡ self.old.runs.items }
+        ensures room { OnOk result (vec_len self.new.runs < vec_capacity self.new.runs) }
+        ensures count { IfOk result (λ ends. length ends.ports.items ≡ ports) }
+        ensures clients { IfOk result (λ ends. OpensMore self.old.clients.items self.new.clients.items ends.ports.items) }
+        ensures tellers { IfOk result (λ ends. (teller : _) × (self.new.tellers.items ≡ self.old.tellers.items ++ teller ∷ []) × IsFresh teller ends.notices) }
+        ensures untaken { IfOk result (λ ends. taken ends.notices ≡ []) }
+    {
+        self.runs.reserve(1)?;
+        self.stops.reserve(1)?;
+        self.tellers.reserve(1)?;
+        let ports = open_ports(alloc, ports, &mut self.clients)?;
         let Ok((stop, stopped)) = ring_pair(alloc, 1) else {
+            drop(ports);
             return Err(StartFault::World(WorldFault::OutOfMemory));
         };
         let Ok((teller, notices)) = slot_pair(alloc, NOTICE_PLACES) else {
+            drop(ports);
+            drop(stop);
+            drop(stopped);
             return Err(StartFault::World(WorldFault::OutOfMemory));
         };
-        let ports = open_ports(alloc, node.state().port_count(), &mut self.clients)?;
-        let linked = LinkedNode::new(alloc, node, row);
-        self.stops.push(stop)?;
-        self.tellers.push(teller)?;
-        self.runs.push(NodeRun::new(alloc, linked, ports, stopped, notices, generator))?;
-        Ok(())
+        self.stops.push_reserved(stop);
+        self.tellers.push_reserved(teller);
+        Ok(Ends {
+            ports,
+            stopped,
+            notices,
+        })
     }
+}
+
+/// What a node is run with beside its links: its ports, and where it is stopped and told of losses.
+#[derive(Drop)]
+struct Ends {
+    ports: Vec<Port>,
+    stopped: RingIn,
+    notices: SlotIn<Notice>,
 }
 
 /// So many ports; their clients come behind the others.

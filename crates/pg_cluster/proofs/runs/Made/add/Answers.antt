@@ -1,4 +1,4 @@
-use Rattle.std.proofs.Common.{◌≡◌, [], sym, ap, ◌∙◌, subst}
+use Rattle.std.proofs.Common.{◌≡◌, ◌++◌, ◌∷◌, [], sym, ap, ◌∙◌, subst}
 use Rattle.std.specs.List.{All}
 use Rattle.pg_ring.specs.Slots.{taken}
 use Rattle.pg_run.specs.Follows.{log_of}
@@ -9,23 +9,28 @@ use Rattle.pg_cluster.proofs.Opening.{opened_more, fresh_more}
 use Rattle.pg_cluster.proofs.Starts.{all_push}
 use Rattle.pg_cluster.proofs.runs.Made.add.Goals as goal
 
-pub returns-clause-unlogged : goal.returns-clause-unlogged
-returns-clause-unlogged g c = λ all.
-    subst (All (λ run. log_in run ≡ [])) (sym c.in_ok-push-3.ensures.items)
-    (all_push (λ run. log_in run ≡ []) c.args.self.now.runs.items c.new.result all (ap log_of c.new.ensures.linked ∙ c.new-linked.ensures.log))
+pub returns-in-Ok-clause-unlogged : goal.returns-in-Ok-clause-unlogged
+returns-in-Ok-clause-unlogged g c = λ all.
+    let items = c.push_reserved.ensures.items ∙ ap (λ runs. runs ++ c.new-run.result ∷ []) c.open.ensures.runs in
+    subst (All (λ run. log_in run ≡ [])) (sym items)
+    (all_push (λ run. log_in run ≡ []) c.args.self.now.runs.items c.new-run.result all (ap log_of c.new-run.ensures.linked ∙ c.new-linked.ensures.log))
 
-pub returns-clause-clients : goal.returns-clause-clients
-returns-clause-clients g c = λ all.
-    opened_more c.args.self.now.clients.items c.open_ports.new.clients.items c.args.self.now.runs.items _ c.new.result c.in_ok-ports.ports.items c.new.ensures.ports c.in_ok-push-3.ensures.items
-    c.in_ok-ports.ensures.clients all
+pub returns-in-Ok-clause-clients : goal.returns-in-Ok-clause-clients
+returns-in-Ok-clause-clients g c = λ all.
+    let items = c.push_reserved.ensures.items ∙ ap (λ runs. runs ++ c.new-run.result ∷ []) c.open.ensures.runs in
+    opened_more c.args.self.now.clients.items c.open.new.self.clients.items c.args.self.now.runs.items _ c.new-run.result c.in-Ok.field-0.ports.items c.new-run.ensures.ports items
+    c.in-Ok.ensures.clients all
 
-pub returns-clause-notices : goal.returns-clause-notices
-returns-clause-notices g c = λ all.
-    fresh_more c.args.self.now.tellers.items _ c.args.self.now.runs.items _ c.in-Ok-slot_pair.teller c.new.result c.in-Ok-slot_pair.notices c.in_ok-push-2.ensures.items c.in_ok-push-3.ensures.items
-    c.new.ensures.notices (c.in-Ok-slot_pair.ensures.slots, c.in-Ok-slot_pair.ensures.ungiven) all
+pub returns-in-Ok-clause-notices : goal.returns-in-Ok-clause-notices
+returns-in-Ok-clause-notices g c = λ all.
+    let items = c.push_reserved.ensures.items ∙ ap (λ runs. runs ++ c.new-run.result ∷ []) c.open.ensures.runs in
+    let told = c.in-Ok.ensures.tellers in
+    fresh_more c.args.self.now.tellers.items _ c.args.self.now.runs.items _ told.0 c.new-run.result c.in-Ok.field-0.notices told.1 items
+    c.new-run.ensures.notices told.2 all
 
-pub returns-clause-untold : goal.returns-clause-untold
-returns-clause-untold g c = λ all.
-    subst (All (λ run. IsUntold (notices_of run))) (sym c.in_ok-push-3.ensures.items)
-    (all_push (λ run. IsUntold (notices_of run)) c.args.self.now.runs.items c.new.result all
-    (record { came = ap taken c.new.ensures.notices ∙ c.in-Ok-slot_pair.ensures.untaken; kept = c.new.ensures.kept }))
+pub returns-in-Ok-clause-untold : goal.returns-in-Ok-clause-untold
+returns-in-Ok-clause-untold g c = λ all.
+    let items = c.push_reserved.ensures.items ∙ ap (λ runs. runs ++ c.new-run.result ∷ []) c.open.ensures.runs in
+    subst (All (λ run. IsUntold (notices_of run))) (sym items)
+    (all_push (λ run. IsUntold (notices_of run)) c.args.self.now.runs.items c.new-run.result all
+    (record { came = ap taken c.new-run.ensures.notices ∙ c.in-Ok.ensures.untaken; kept = c.new-run.ensures.kept }))
