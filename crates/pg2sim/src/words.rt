@@ -161,21 +161,34 @@ fn name_or<'a>(names: &ArgMatches<'a>, id: &str, default: &'a str) -> &'a str
 fn command<'a>(alloc: Global) -> Result<Command<'a>, AllocError>
     ensures { IfOk result (λ command. app_of command ≡ command_line) }
 {
-    let bytes = bytes_command(alloc)?;
-    let command = top_command(alloc).subcommand(bytes)?;
+    let command = with_bytes(alloc, top_command(alloc)?)?;
     let command = with_script(alloc, command)?;
     with_threads(alloc, command)
 }
 
 /// The program, without its commands.
-fn top_command<'a>(alloc: Global) -> Command<'a>
-    ensures { app_of result ≡ top_line }
+fn top_command<'a>(alloc: Global) -> Result<Command<'a>, AllocError>
+    ensures { IfOk result (λ command. app_of command ≡ top_line) }
 {
     Command::new(alloc, "pg2sim")
         .about(ABOUT)
         .no_binary_name(true)
         .subcommand_required(true)
         .disable_help_subcommand(true)
+        .bin_name("pg2sim")
+}
+
+/// With the command `bytes`, too.
+fn with_bytes<'a>(alloc: Global, command: Command<'a>) -> Result<Command<'a>, AllocError>
+    ensures { IfOk result (λ made. app_of made ≡ with_subcommand (app_of command.entry) bytes_line.top) }
+{
+    match bytes_command(alloc) {
+        Ok(bytes) => command.subcommand(bytes),
+        Err(error) => {
+            drop(command);
+            Err(error)
+        }
+    }
 }
 
 /// With the command `script`, too.
