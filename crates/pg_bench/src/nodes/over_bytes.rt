@@ -53,12 +53,22 @@ fn form(alloc: Global, played: &mut Played, peer: usize, name: &str) -> anyhow::
     Ok(feed(alloc, played, peer, &told)?)
 }
 
-// The node, formed: both peers have told that they have no group.
+// Both peers tell that they have no group.
+fn form_both(alloc: Global, played: &mut Played) -> anyhow::Result<()> {
+    form(alloc, played, 0, "b")?;
+    form(alloc, played, 1, "c")
+}
+
+// The node, formed.
 fn formed(alloc: Global) -> anyhow::Result<Played> {
     let mut played = Played::new(alloc)?;
-    form(alloc, &mut played, 0, "b")?;
-    form(alloc, &mut played, 1, "c")?;
-    Ok(played)
+    match form_both(alloc, &mut played) {
+        Ok(()) => Ok(played),
+        Err(error) => {
+            drop(played);
+            Err(error)
+        }
+    }
 }
 
 // The frames of so many calls of b are taken, timed.
@@ -95,12 +105,18 @@ fn updated(
     Ok(())
 }
 
-fn updates(rt: &HostRuntime, count: u32) -> anyhow::Result<()> {
-    let mut played = formed(rt.alloc())?;
+fn each_updated(rt: &HostRuntime, played: &mut Played, count: u32) -> anyhow::Result<()> {
     for &(change, groups) in &UPDATES {
-        updated(rt, &mut played, change, groups, count)?;
+        updated(rt, played, change, groups, count)?;
     }
     Ok(())
+}
+
+fn updates(rt: &HostRuntime, count: u32) -> anyhow::Result<()> {
+    let mut played = formed(rt.alloc())?;
+    let told = each_updated(rt, &mut played, count);
+    drop(played);
+    told
 }
 
 // A reply to each of these calls.
@@ -185,8 +201,26 @@ fn create(alloc: Global, played: &mut Played, count: u32) -> anyhow::Result<()> 
 // The node, with so many groups.
 fn with_groups(alloc: Global, count: u32) -> anyhow::Result<Played> {
     let mut played = formed(alloc)?;
-    create(alloc, &mut played, count)?;
-    Ok(played)
+    match create(alloc, &mut played, count) {
+        Ok(()) => Ok(played),
+        Err(error) => {
+            drop(played);
+            Err(error)
+        }
+    }
+}
+
+// Changes, one and many open at once.
+fn few_and_many(rt: &HostRuntime, played: &mut Played, count: u32) -> anyhow::Result<()> {
+    changes(rt, played, count, 1)?;
+    changes(rt, played, count, 64)
+}
+
+fn all_changes(rt: &HostRuntime, count: u32) -> anyhow::Result<()> {
+    let mut played = with_groups(rt.alloc(), 64)?;
+    let told = few_and_many(rt, &mut played, count);
+    drop(played);
+    told
 }
 
 /// Prints how many events a second, so many of each kind.
@@ -196,9 +230,7 @@ pub fn measure(rt: &HostRuntime, count: u32, only: &str) -> anyhow::Result<()> {
         updates(rt, count)?;
     }
     if is_wanted(only, "changes") {
-        let mut played = with_groups(rt.alloc(), 64)?;
-        changes(rt, &mut played, count, 1)?;
-        changes(rt, &mut played, count, 64)?;
+        all_changes(rt, count)?;
     }
     Ok(())
 }

@@ -26,11 +26,16 @@ pub struct Played {
 impl Played {
     /// The node, which has taken nothing yet.
     pub fn new(alloc: Global) -> anyhow::Result<Played> {
+        let to = MemRing::new(alloc, RING)?;
+        let from = MemRing::new(alloc, RING)?;
+        let piece = Vec::from_elem(alloc, 0, RING)?;
+        // The node last: nothing can fail while it is alive.
+        let node = Node::opened(alloc, new_state(alloc)?)?;
         Ok(Played {
-            node: Node::opened(alloc, new_state(alloc)?)?,
-            to: MemRing::new(alloc, RING)?,
-            from: MemRing::new(alloc, RING)?,
-            piece: Vec::from_elem(alloc, 0, RING)?,
+            node,
+            to,
+            from,
+            piece,
             out: 0,
             alloc,
         })
