@@ -1,7 +1,7 @@
 //! What the words of a command line ask for.
 
 ghost use Rattle.std.specs.Prelude.{◌≡◌, false, IfOk, IfErr, codes, map, option_map, string_bytes};
-ghost use Rattle.clap.specs.Words.{rule_of, subcommand_rows_of, app_of, new_app, with_subcommand, kind_of, found_of, rows_of, first_of, one_of, fault_of, subcommand_of, FailsBy};
+ghost use Rattle.clap.specs.Words.{rule_of, subcommand_rows_of, app_of, new_app, kind_of, found_of, rows_of, first_of, one_of, fault_of, subcommand_of, FailsBy};
 ghost use Rattle.clap.specs.declared.builder.Command.TheViews.{out-Command};
 ghost use Rattle.pg2sim.specs.CommandLine.{name_rule, bytes_line, script_line, flag_rule, diagram_rule, number_rule, cluster_line, threads_line, top_line, command_line, given_name, is_flag, AsksAids, AsksTalk, GivesNumber, IsAsked};
 
@@ -161,9 +161,13 @@ fn name_or<'a>(names: &ArgMatches<'a>, id: &str, default: &'a str) -> &'a str
 fn command<'a>(alloc: Global) -> Result<Command<'a>, AllocError>
     ensures { IfOk result (λ command. app_of command ≡ command_line) }
 {
-    let command = with_bytes(alloc, top_command(alloc)?)?;
-    let command = with_script(alloc, command)?;
-    with_threads(alloc, command)
+    let command = top_command(alloc)?;
+    let bytes = bytes_command(alloc)?;
+    let command = command.subcommand(bytes)?;
+    let script = script_command(alloc)?;
+    let command = command.subcommand(script)?;
+    let threads = threads_command(alloc)?;
+    command.subcommand(threads)
 }
 
 /// The program, without its commands.
@@ -176,45 +180,6 @@ fn top_command<'a>(alloc: Global) -> Result<Command<'a>, AllocError>
         .subcommand_required(true)
         .disable_help_subcommand(true)
         .bin_name("pg2sim")
-}
-
-/// With the command `bytes`, too.
-fn with_bytes<'a>(alloc: Global, command: Command<'a>) -> Result<Command<'a>, AllocError>
-    ensures { IfOk result (λ made. app_of made ≡ with_subcommand (app_of command.entry) bytes_line.top) }
-{
-    match bytes_command(alloc) {
-        Ok(bytes) => command.subcommand(bytes),
-        Err(error) => {
-            drop(command);
-            Err(error)
-        }
-    }
-}
-
-/// With the command `script`, too.
-fn with_script<'a>(alloc: Global, command: Command<'a>) -> Result<Command<'a>, AllocError>
-    ensures { IfOk result (λ made. app_of made ≡ with_subcommand (app_of command.entry) script_line.top) }
-{
-    match script_command(alloc) {
-        Ok(script) => command.subcommand(script),
-        Err(error) => {
-            drop(command);
-            Err(error)
-        }
-    }
-}
-
-/// With the command `threads`, too.
-fn with_threads<'a>(alloc: Global, command: Command<'a>) -> Result<Command<'a>, AllocError>
-    ensures { IfOk result (λ made. app_of made ≡ with_subcommand (app_of command.entry) threads_line.top) }
-{
-    match threads_command(alloc) {
-        Ok(threads) => command.subcommand(threads),
-        Err(error) => {
-            drop(command);
-            Err(error)
-        }
-    }
 }
 
 fn bytes_command<'a>(alloc: Global) -> Result<Command<'a>, AllocError>

@@ -1,0 +1,14 @@
+use Rattle.std.proofs.Common.{ap, ap₂, ◌∙◌}
+use Rattle.std.proofs.lemmas.Result.{IfOk-weaker}
+use Rattle.clap.specs.Words.{App, with_subcommand}
+use Rattle.pg2sim.proofs.words.command.Goals as goal
+
+-- one command behind the others
+pub returns : goal.returns
+returns c =
+    let bytes_is = ap (λ (a : App). a.top) c.in_ok-bytes.ensures.app in
+    let script_is = ap (λ (a : App). a.top) c.in_ok-script.ensures.app in
+    let threads_is = ap (λ (a : App). a.top) c.in_ok-threads.ensures.app in
+    let first_is = c.in_ok-command-2.ensures.shape c.in_ok-bytes.ensures.local ∙ ap₂ with_subcommand c.in_ok-command.ensures bytes_is in
+    let second_is = c.in_ok-command-3.ensures.shape c.in_ok-script.ensures.local ∙ ap₂ with_subcommand first_is script_is in
+    IfOk-weaker c.subcommand-3.result _ _ (λ m h. h.shape c.in_ok-threads.ensures.local ∙ ap₂ with_subcommand second_is threads_is) c.subcommand-3.ensures
