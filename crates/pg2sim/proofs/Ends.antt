@@ -12,7 +12,7 @@ use Rattle.pg_node.specs.declared.fault.ServeFault.TheVariants.{Message}
 use Rattle.pg2sim.specs.declared.bytes.BytesFault.{BytesFault}
 use Rattle.pg2sim.specs.declared.bytes.BytesFault.TheVariants.{Serve}
 use Rattle.pg2sim.specs.Bytes.{BytesCause, ServesAs}
-use Rattle.pg2sim.specs.CommandLine.{IsBytes, IsOther, IsScript, IsScriptWord, IsThreads}
+use Rattle.pg2sim.specs.CommandLine.{AsksBytes, IsOther, IsScript, IsScriptWord, IsThreads}
 use Rattle.pg2sim.specs.Scripts.{ScriptEnd}
 use Rattle.pg2sim.specs.Status.{BytesEnd, Ends, end_of_bytes, end_status}
 use Rattle.pg2sim.specs.Talks.{EndsTalk, OrNoMemory}
@@ -57,7 +57,7 @@ pub spoken : (unchanged : Type 0) (E : Result Bool Fault → Type 0) (T : End �
 spoken unchanged E T status h = record { end = h.end; is = inr h.is; told = h.told; status_is = h.status_is }
 
 -- the words of a command are no others
-pub script_no_bytes : (m : Option (Text × List Row)) (own peer : List ℕ) → IsScriptWord m → IsBytes m own peer → ⊥
+pub script_no_bytes : (m : Option (Text × List Row)) (own peer : List ℕ) → IsScriptWord m → AsksBytes m own peer → ⊥
 script_no_bytes None own peer h k = h
 script_no_bytes (Some p) own peer h k = let bad = ap length (sym h ∙ k.0) in absurd (omega (arith, bad))
 
@@ -65,7 +65,7 @@ pub script_no_threads : (m : Option (Text × List Row)) (talk : Talk) → IsScri
 script_no_threads None talk h k = h
 script_no_threads (Some p) talk h k = let bad = ap length (sym h ∙ k.0) in absurd (omega (arith, bad))
 
-pub threads_no_bytes : (m : Option (Text × List Row)) (talk : Talk) (own peer : List ℕ) → IsThreads m talk → IsBytes m own peer → ⊥
+pub threads_no_bytes : (m : Option (Text × List Row)) (talk : Talk) (own peer : List ℕ) → IsThreads m talk → AsksBytes m own peer → ⊥
 threads_no_bytes None talk own peer h k = h
 threads_no_bytes (Some p) talk own peer h k = let bad = ap length (sym h.0 ∙ k.0) in absurd (omega (arith, bad))
 
@@ -73,11 +73,11 @@ pub threads_no_script : (m : Option (Text × List Row)) (talk : Talk) (aids : Ai
 threads_no_script None talk aids h k = h
 threads_no_script (Some p) talk aids h k = k.0 h.0
 
-pub same_names : (m : Option (Text × List Row)) (own peer own2 peer2 : List ℕ) → IsBytes m own peer → IsBytes m own2 peer2 → (own ≡ own2) × (peer ≡ peer2)
+pub same_names : (m : Option (Text × List Row)) (own peer own2 peer2 : List ℕ) → AsksBytes m own peer → AsksBytes m own2 peer2 → (own ≡ own2) × (peer ≡ peer2)
 same_names None own peer own2 peer2 h k = absurd h
 same_names (Some p) own peer own2 peer2 h k = (h.1 ∙ sym k.1, h.2 ∙ sym k.2)
 
-pub not_other : (m : Option (Text × List Row)) (own peer : List ℕ) → IsBytes m own peer → IsOther m → ⊥
+pub not_other : (m : Option (Text × List Row)) (own peer : List ℕ) → AsksBytes m own peer → IsOther m → ⊥
 not_other None own peer h k = h
 not_other (Some p) own peer h k = k h.0
 

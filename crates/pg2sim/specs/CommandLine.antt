@@ -60,9 +60,9 @@ abbrev pub given_name : Text → Text → List Row → Text
 given_name id default rows = unwrap_or (first_of id rows) default
 
 -- the command is `bytes`, with these names
-abbrev pub IsBytes : Option (Text × List Row) → Text → Text → Type 0
-IsBytes (Some p) own peer = (p.0 ≡ codes "bytes") × (own ≡ given_name (codes "node") (codes "b") p.1) × (peer ≡ given_name (codes "peer") (codes "a") p.1)
-IsBytes None own peer = ⊥
+abbrev pub AsksBytes : Option (Text × List Row) → Text → Text → Type 0
+AsksBytes (Some p) own peer = (p.0 ≡ codes "bytes") × (own ≡ given_name (codes "node") (codes "b") p.1) × (peer ≡ given_name (codes "peer") (codes "a") p.1)
+AsksBytes None own peer = ⊥
 
 -- the command is another
 abbrev pub IsOther : Option (Text × List Row) → Type 0
@@ -113,6 +113,6 @@ IsScriptWord None = ⊥
 
 -- what a command and its matches ask for
 abbrev pub IsAsked : Option (Text × List Row) → Task → Type 0
-IsAsked matches (Bytes own peer) = IsBytes matches own.now peer.now
+IsAsked matches (Bytes own peer) = AsksBytes matches own.now peer.now
 IsAsked matches (Script aids) = IsOther matches × IsScript matches aids
 IsAsked matches (Threads talk) = IsOther matches × IsThreads matches talk

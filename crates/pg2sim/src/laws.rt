@@ -2,10 +2,10 @@
 
 ghost use Rattle.std.specs.Prelude.{◌≡◌, [], ◌∷◌, codes};
 ghost use Rattle.clap.specs.Words.{fault_of, subcommand_of};
-ghost use Rattle.pg2sim.specs.CommandLine.{command_line, IsBytes};
+ghost use Rattle.pg2sim.specs.CommandLine.{command_line, AsksBytes};
 
 /// The word `bytes` alone is taken, and asks for the node `b` with the peer `a`.
 pub(crate) fn bytes_alone()
     ensures taken { fault_of command_line (codes "bytes" ∷ []) ≡ [] }
-    ensures names { IsBytes (subcommand_of command_line (codes "bytes" ∷ [])) (codes "b") (codes "a") }
+    ensures names { AsksBytes (subcommand_of command_line (codes "bytes" ∷ [])) (codes "b") (codes "a") }
 {}

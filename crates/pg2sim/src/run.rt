@@ -7,7 +7,7 @@ ghost use Rattle.std.specs.declared.io.ErrorKind.TheVariants.{InvalidData};
 ghost use Rattle.clap.specs.Words.{fault_of, kind_of, subcommand_of};
 ghost use Rattle.pg_node.specs.Causes.{AllAnswered, FailedAt, Unread};
 ghost use Rattle.pg2sim.specs.Bytes.{BytesCause, pair_of_texts};
-ghost use Rattle.pg2sim.specs.CommandLine.{command_line, IsBytes, IsScriptWord, IsThreads};
+ghost use Rattle.pg2sim.specs.CommandLine.{command_line, AsksBytes, IsScriptWord, IsThreads};
 ghost use Rattle.pg2sim.specs.Inputs.{IsInput, IsUnread};
 ghost use Rattle.pg2sim.specs.Scripts.{ScriptEnd};
 ghost use Rattle.pg2sim.specs.Status.{BytesEnd, Ends, ToldEnd, WordsEnd, end_of_bytes, end_status};
@@ -58,7 +58,7 @@ pub fn run_words<R: Source, W: Sink, D: System, F: Sink>(
     ensures refused { fault_of command_line (map string_bytes words.now) ≢ [] → WordsEnd (ToldEnd F.fails F.contents faults.old faults.new) result
         × (reader.new ≡ reader.old) × (writer.new ≡ writer.old) × (system.new ≡ system.old) }
     ensures bytes { (own peer : List ℕ) → fault_of command_line (map string_bytes words.now) ≡ []
-        → IsBytes (subcommand_of command_line (map string_bytes words.now)) own peer
+        → AsksBytes (subcommand_of command_line (map string_bytes words.now)) own peer
         → IfSome (R.remaining reader.old) (λ input. BytesEnd own peer
         (BytesCause (Unread R.gives R.fails reader.old reader.new
         (AllAnswered (pair_of_texts (chars own) (chars peer)) (W.contents writer.old) (W.contents writer.new)))

@@ -7,7 +7,7 @@ use Rattle.pg_run.specs.declared.port.Client.{Client}
 use Rattle.pg_cluster.specs.declared.closed.Stopped.{Stopped}
 use Rattle.pg_cluster.specs.declared.cluster.Cluster.{Cluster}
 use Rattle.pg_cluster.specs.Members.{last_of, threads_in, losses_in}
-use Rattle.pg_cluster.specs.Notices.{ToldUpTo}
+use Rattle.pg_cluster.specs.Notices.{NotifiedUpTo}
 use Rattle.pg_cluster.specs.Threads.{NodeOf, Thread}
 
 -- the threads of a cluster, by the places of their nodes
@@ -25,7 +25,7 @@ lasts_of cluster = map last_of cluster.members.items
 pub record AllTold {K : Type 0} (node : ℕ) (a b : Cluster K) : Type 0 where
   pub last : ℕ
   pub clock : slice_get (lasts_of b) node ≡ Some last
-  pub told : ToldUpTo node last (length (tellers_of a)) (tellers_of a) (tellers_of b)
+  pub told : NotifiedUpTo node last (length (tellers_of a)) (tellers_of a) (tellers_of b)
 
 -- which of its nodes were lost, by their places
 abbrev pub lost_of : {K : Type 0} → Cluster K → List Bool

@@ -33,10 +33,10 @@ abbrev pub notice_for : (place node last : ℕ) → List Notice
 notice_for place node last = cond (nat_eq place node) [] (record { peer = peer_place place node; last = last } ∷ [])
 
 -- it was told so, or no room was left for that
-abbrev pub Told : (place node last : ℕ) → SlotOut Notice → SlotOut Notice → Type 0
-Told place node last a b = (given b ≡ given a ++ notice_for place node last) ⊎ ((given b ≡ given a) × (slots_free b ≡ 0))
+abbrev pub Notified : (place node last : ℕ) → SlotOut Notice → SlotOut Notice → Type 0
+Notified place node last a b = (given b ≡ given a ++ notice_for place node last) ⊎ ((given b ≡ given a) × (slots_free b ≡ 0))
 
 -- each node before a place was told so, and none behind it was told anything
-pub record ToldUpTo (node last place : ℕ) (a b : List (SlotOut Notice)) : Type 0 where
-  pub told : (i : ℕ) (none : SlotOut Notice) → i < place → Told i node last (get_or a i none) (get_or b i none)
+pub record NotifiedUpTo (node last place : ℕ) (a b : List (SlotOut Notice)) : Type 0 where
+  pub told : (i : ℕ) (none : SlotOut Notice) → i < place → Notified i node last (get_or a i none) (get_or b i none)
   pub rest : (i : ℕ) (none : SlotOut Notice) → place ≤ i → get_or b i none ≡ get_or a i none

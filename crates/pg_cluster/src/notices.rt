@@ -4,7 +4,7 @@ ghost use Rattle.std.specs.Prelude.{◌≡◌, length};
 ghost use Rattle.pg_world.specs.Views.{peer_place};
 ghost use Rattle.pg_ring.specs.Slots.{AreSlots, SameSlotOut};
 ghost use Rattle.pg_cluster.specs.Clients.{AllPairs};
-ghost use Rattle.pg_cluster.specs.Notices.{SameTellers, Told, ToldUpTo, Untold};
+ghost use Rattle.pg_cluster.specs.Notices.{SameTellers, Notified, NotifiedUpTo, Untold};
 
 use pg_ring::{SlotIn, SlotOut, slots_together};
 use pg_run::Notice;
@@ -26,7 +26,7 @@ fn place_among(other: usize, node: usize) -> usize
 /// Tells each other node that a node was lost, whose clock was this at last.
 pub(crate) fn tell_all(tellers: &mut Vec<Teller>, node: usize, last: u32)
     ensures same { SameTellers tellers.old.items tellers.new.items }
-    ensures told { ToldUpTo node last (length tellers.old.items) tellers.old.items tellers.new.items }
+    ensures told { NotifiedUpTo node last (length tellers.old.items) tellers.old.items tellers.new.items }
 {
     for place in 0..tellers.len() {
         tell(&mut tellers[place], place, node, last);
@@ -36,7 +36,7 @@ pub(crate) fn tell_all(tellers: &mut Vec<Teller>, node: usize, last: u32)
 /// Tells the node at a place of the loss of another.
 fn tell(teller: &mut Teller, place: usize, node: usize, last: u32)
     ensures same { SameSlotOut teller.old teller.new }
-    ensures told { Told place node last teller.old teller.new }
+    ensures told { Notified place node last teller.old teller.new }
 {
     if place != node {
         let peer = place_among(place, node);

@@ -45,7 +45,7 @@ pub fn svg_of(alloc: Global, diagram: &Diagram) -> Result<String, AllocError> {
 
 /// Draws a diagram as SVG, and writes it.
 ///
-/// Error: of the kind `OutOfMemory` for want of memory; else that of the writer.
+/// Error: of the kind `OutOfMemory` where memory runs out; else that of the writer.
 pub fn write_svg<W: Write>(alloc: Global, diagram: &Diagram, writer: &mut W) -> io::Result<()> {
     let text = svg_of(alloc, diagram)?;
     writer.write_all(text.as_bytes())?;

@@ -43,7 +43,7 @@ impl Deframer {
     /// Makes room for `n` bytes: from now on pieces of together at most `n` bytes can be fed with no
     /// further memory, whatever frames are taken meanwhile. The unread bytes stay.
     ///
-    /// Fails for want of memory alone, only where the room was missing, and then changes at most the
+    /// Fails only where memory runs out: where the room was missing, and then changes at most the
     /// room, which never shrinks. Costs at most O(`n` + unread bytes).
     pub fn make_room(&mut self, n: usize) -> Result<(), AllocError>
         ensures unread { self.new.unread ≡ self.old.unread }
@@ -54,7 +54,7 @@ impl Deframer {
 
     /// Adds the next piece of the stream at the end of the unread bytes.
     ///
-    /// Fails for want of memory alone, only where room for the piece was missing, and then changes at
+    /// Fails only where memory runs out: where room for the piece was missing, and then changes at
     /// most the room. Feeding n bytes in pieces of any size costs O(n) over the deframer's life.
     pub fn feed(&mut self, piece: &[u8]) -> Result<(), AllocError>
         ensures ok { OnOk result (self.new.unread ≡ self.old.unread ++ piece.now) }

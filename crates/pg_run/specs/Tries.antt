@@ -41,7 +41,7 @@ module _ {T L I : Type 0} {g : Ghosts T} (accepts : L → List ℕ → L → Typ
   ComesTo a b = (acts : List Act) × Follows accepts gives acts a b
 
   -- At some time in between the next packet of the peer at a place was to be taken: it was, as its step tells; or none was whole; or the
-  -- fault was told that its step tells, for no want of memory or of the clock.
+  -- fault was told that its step tells, and it is neither a lack of memory nor of clock values.
   pub record HasTried (peer : ℕ) (a b : LinkedNode T L I g) : Type 0 where
     pub before : LinkedNode T L I g
     pub first : ComesTo a before
@@ -58,7 +58,7 @@ module _ {T L I : Type 0} {g : Ghosts T} (accepts : L → List ℕ → L → Typ
   HasTriedAll a b = (peer : ℕ) → peer < length (peers_of a) → HasTried peer a b
 
   -- At some time in between a command that waits was to be tried again: it was, as its step tells; or the refusal was told that its step
-  -- tells, for no want of memory or of the clock.
+  -- tells, and it is neither a lack of memory nor of clock values.
   pub record HasRetried (op : OpId) (a b : LinkedNode T L I g) : Type 0 where
     pub before : LinkedNode T L I g
     pub first : ComesTo a before

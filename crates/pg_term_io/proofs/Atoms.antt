@@ -14,11 +14,11 @@ use Rattle.pg_term_io.specs.Spelling.{IsAtom}
 use Rattle.pg_term_io.specs.Spelling as s
 use Rattle.pg_term_io.specs.Faults.{BreaksAtom, BreaksNode, IsSmallAtomTag, IsLargeAtomTag}
 use Rattle.pg_term_io.specs.Faults as f
-use Rattle.pg_term_io.proofs.Outcomes.{IsBytes, Right, Cut, IsByte, IsHalf, IsText, right_if, right_then, right_pure, byte_right, half_right, text_right}
+use Rattle.pg_term_io.proofs.Outcomes.{EachByte, Right, Cut, IsByte, IsHalf, IsText, right_if, right_then, right_pure, byte_right, half_right, text_right}
 
 -- the text of an atom, which `name` reads
 abbrev IsName : (List ℕ → Result (List ℕ) TermFault) → ℕ → List ℕ → List ℕ → Type 0
-IsName name n a b = (length b ≡ n) × (name b ≡ Ok a) × IsBytes b
+IsName name n a b = (length b ≡ n) × (name b ≡ Ok a) × EachByte b
 
 record Refused (name : List ℕ → Result (List ℕ) TermFault) (n : ℕ) (e : TermFault) (b : List ℕ) : Type 0 where
   text : List ℕ
@@ -30,7 +30,7 @@ record Refused (name : List ℕ → Result (List ℕ) TermFault) (n : ℕ) (e : 
 abbrev NoName : (List ℕ → Result (List ℕ) TermFault) → ℕ → TermFault → List ℕ → Type 0
 NoName name n e b = Cut n e b ⊎ Refused name n e b
 
-named_right : (name : List ℕ → Result (List ℕ) TermFault) (n : ℕ) (bytes : List ℕ) → IsBytes bytes → Right (IsName name n) (NoName name n) bytes (named_at name n bytes)
+named_right : (name : List ℕ → Result (List ℕ) TermFault) (n : ℕ) (bytes : List ℕ) → EachByte bytes → Right (IsName name n) (NoName name n) bytes (named_at name n bytes)
 unfolding named_at
 named_right name n bytes fits =
     right_then (IsText n) (Cut n) (λ text a y. (y ≡ []) × (name text ≡ Ok a)) (λ text e y. name text ≡ Err e) (IsName name n) (NoName name n)
@@ -39,7 +39,7 @@ named_right name n bytes fits =
     (λ text rest fit. right_pure (name text) rest fit)
     (λ text a x y h k.
     let same : x ++ y ≡ text = ap (λ (t : List ℕ). x ++ t) k.0 ∙ append-nil x ∙ h.1 in
-    (ap length same ∙ h.0, ap name same ∙ k.1, subst IsBytes (sym same) h.2))
+    (ap length same ∙ h.0, ap name same ∙ k.1, subst EachByte (sym same) h.2))
     (λ text e x y h k. inr (record { text = text; rest = y; whole = ap (λ (t : List ℕ). t ++ y) h.1; size = h.0; is = k }))
     (λ e h. inl h)
 
@@ -52,21 +52,21 @@ abbrev NoAtomText : TermFault → List ℕ → Type 0
 NoAtomText e text = (IsUtf8 text → 255 < length (chars text)) × (e ≡ BadAtom)
 
 -- an answer of a list of characters
-abbrev Told : (List ℕ → Type 0) → (TermFault → Type 0) → Result (List ℕ) TermFault → Type 0
-Told P Q (Ok a) = P a
-Told P Q (Err e) = Q e
+abbrev OneOf : (List ℕ → Type 0) → (TermFault → Type 0) → Result (List ℕ) TermFault → Type 0
+OneOf P Q (Ok a) = P a
+OneOf P Q (Err e) = Q e
 
-told_if : (P : List ℕ → Type 0) (Q : TermFault → Type 0) (b : Bool) (x y : Result (List ℕ) TermFault) → (b ≡ true → Told P Q x) → (b ≡ false → Told P Q y) → Told P Q (cond b x y)
+told_if : (P : List ℕ → Type 0) (Q : TermFault → Type 0) (b : Bool) (x y : Result (List ℕ) TermFault) → (b ≡ true → OneOf P Q x) → (b ≡ false → OneOf P Q y) → OneOf P Q (cond b x y)
 told_if P Q true x y h k = h refl
 told_if P Q false x y h k = k refl
 
-told_ok : (P : List ℕ → Type 0) (Q : TermFault → Type 0) (r : Result (List ℕ) TermFault) (a : List ℕ) → Told P Q r → r ≡ Ok a → P a
-told_ok P Q r a h e = subst (Told P Q) e h
+told_ok : (P : List ℕ → Type 0) (Q : TermFault → Type 0) (r : Result (List ℕ) TermFault) (a : List ℕ) → OneOf P Q r → r ≡ Ok a → P a
+told_ok P Q r a h e = subst (OneOf P Q) e h
 
-told_err : (P : List ℕ → Type 0) (Q : TermFault → Type 0) (r : Result (List ℕ) TermFault) (d : TermFault) → Told P Q r → r ≡ Err d → Q d
-told_err P Q r d h e = subst (Told P Q) e h
+told_err : (P : List ℕ → Type 0) (Q : TermFault → Type 0) (r : Result (List ℕ) TermFault) (d : TermFault) → OneOf P Q r → r ≡ Err d → Q d
+told_err P Q r d h e = subst (OneOf P Q) e h
 
-utf8_told : (text : List ℕ) → Told (IsAtomText text) (λ e. NoAtomText e text) (utf8_atom text)
+utf8_told : (text : List ℕ) → OneOf (IsAtomText text) (λ e. NoAtomText e text) (utf8_atom text)
 utf8_told text =
     told_if (IsAtomText text) (λ e. NoAtomText e text) (is_utf8 text) (cond (ltb 255 (length (chars text))) (Err BadAtom) (Ok (chars text))) (Err BadAtom)
     (λ u. told_if (IsAtomText text) (λ e. NoAtomText e text) (ltb 255 (length (chars text))) (Err BadAtom) (Ok (chars text))
@@ -80,10 +80,10 @@ IsLatinText text a = (length text ≤ 255) × (text ≡ a)
 abbrev NoLatinText : TermFault → List ℕ → Type 0
 NoLatinText e text = (255 < length text) × (e ≡ BadAtom)
 
-latin_told : (text : List ℕ) → Told (IsLatinText text) (λ e. NoLatinText e text) (latin_atom text)
+latin_told : (text : List ℕ) → OneOf (IsLatinText text) (λ e. NoLatinText e text) (latin_atom text)
 latin_told text = told_if (IsLatinText text) (λ e. NoLatinText e text) (ltb 255 (length text)) (Err BadAtom) (Ok text) (λ long. (ltb-true 255 (length text) long, refl)) (λ short. (ltb-false 255 (length text) short, refl))
 
-pub all_fit : (text : List ℕ) → IsBytes text → AllByRecursion (λ b. b < 256) text
+pub all_fit : (text : List ℕ) → EachByte text → AllByRecursion (λ b. b < 256) text
 all_fit [] h = tt
 all_fit (b ∷ text) h = (h 0, all_fit text (λ i. h (suc i)))
 
@@ -101,9 +101,9 @@ fault_is P e d h k = subst P (sym h) k
 
 -- the length in one byte
 small_right : (tag : ℕ) (name : List ℕ → Result (List ℕ) TermFault) → IsSmallAtomTag tag
-    → ((a text : List ℕ) → length text < 256 → IsBytes text → name text ≡ Ok a → IsAtom a (tag ∷ length text ∷ text))
+    → ((a text : List ℕ) → length text < 256 → EachByte text → name text ≡ Ok a → IsAtom a (tag ∷ length text ∷ text))
     → ((e : TermFault) (text rest : List ℕ) → length text < 256 → name text ≡ Err e → BreaksAtom e (tag ∷ length text ∷ (text ++ rest)))
-    → (bytes : List ℕ) → IsBytes bytes → Right (AtomBehind tag) (NoAtom tag) bytes (byte_at bytes >>= λ n. named_at name n.0 n.1)
+    → (bytes : List ℕ) → EachByte bytes → Right (AtomBehind tag) (NoAtom tag) bytes (byte_at bytes >>= λ n. named_at name n.0 n.1)
 small_right tag name is spells refuses bytes fits =
     right_then IsByte (Cut 1) (IsName name) (NoName name) (AtomBehind tag) (NoAtom tag) bytes (byte_at bytes) (λ n. named_at name n.0 n.1)
     (byte_right bytes fits)
@@ -121,9 +121,9 @@ small_right tag name is spells refuses bytes fits =
 
 -- the length in two bytes
 large_right : (tag : ℕ) (name : List ℕ → Result (List ℕ) TermFault) → IsLargeAtomTag tag
-    → ((a text : List ℕ) → length text < 2 ^ 16 → IsBytes text → name text ≡ Ok a → IsAtom a (tag ∷ to_be_bytes w16 (length text) ++ text))
+    → ((a text : List ℕ) → length text < 2 ^ 16 → EachByte text → name text ≡ Ok a → IsAtom a (tag ∷ to_be_bytes w16 (length text) ++ text))
     → ((e : TermFault) (text rest : List ℕ) → length text < 2 ^ 16 → name text ≡ Err e → BreaksAtom e (tag ∷ to_be_bytes w16 (length text) ++ (text ++ rest)))
-    → (bytes : List ℕ) → IsBytes bytes → Right (AtomBehind tag) (NoAtom tag) bytes (number_at w16 bytes >>= λ n. named_at name n.0 n.1)
+    → (bytes : List ℕ) → EachByte bytes → Right (AtomBehind tag) (NoAtom tag) bytes (number_at w16 bytes >>= λ n. named_at name n.0 n.1)
 large_right tag name is spells refuses bytes fits =
     right_then IsHalf (Cut 2) (IsName name) (NoName name) (AtomBehind tag) (NoAtom tag) bytes (number_at w16 bytes) (λ n. named_at name n.0 n.1)
     (half_right bytes fits)
@@ -135,27 +135,27 @@ large_right tag name is spells refuses bytes fits =
     ]))
     (λ e h. inl (fault_is (λ (d : TermFault). BreaksAtom d (tag ∷ bytes)) e Truncated h.0 (f.BreaksAtom.length_cut tag bytes is h.1)))
 
-utf8_small : (bytes : List ℕ) → IsBytes bytes → Right (AtomBehind 119) (NoAtom 119) bytes (byte_at bytes >>= λ n. named_at utf8_atom n.0 n.1)
+utf8_small : (bytes : List ℕ) → EachByte bytes → Right (AtomBehind 119) (NoAtom 119) bytes (byte_at bytes >>= λ n. named_at utf8_atom n.0 n.1)
 utf8_small = small_right 119 utf8_atom (inr refl)
     (λ a text lt fit e. let k = told_ok (IsAtomText text) (λ d. NoAtomText d text) (utf8_atom text) a (utf8_told text) e in subst (λ (z : List ℕ). IsAtom z (119 ∷ length text ∷ text)) k.2 (s.IsAtom.small text lt k.0 k.1))
     (λ e text rest lt h. let k = told_err (IsAtomText text) (λ d. NoAtomText d text) (utf8_atom text) e (utf8_told text) h in fault_is (λ (d : TermFault). BreaksAtom d (119 ∷ length text ∷ (text ++ rest))) e BadAtom k.1 (f.BreaksAtom.small_bad text rest lt k.0))
 
-utf8_large : (bytes : List ℕ) → IsBytes bytes → Right (AtomBehind 118) (NoAtom 118) bytes (number_at w16 bytes >>= λ n. named_at utf8_atom n.0 n.1)
+utf8_large : (bytes : List ℕ) → EachByte bytes → Right (AtomBehind 118) (NoAtom 118) bytes (number_at w16 bytes >>= λ n. named_at utf8_atom n.0 n.1)
 utf8_large = large_right 118 utf8_atom (inr refl)
     (λ a text lt fit e. let k = told_ok (IsAtomText text) (λ d. NoAtomText d text) (utf8_atom text) a (utf8_told text) e in subst (λ (z : List ℕ). IsAtom z (118 ∷ to_be_bytes w16 (length text) ++ text)) k.2 (s.IsAtom.large text lt k.0 k.1))
     (λ e text rest lt h. let k = told_err (IsAtomText text) (λ d. NoAtomText d text) (utf8_atom text) e (utf8_told text) h in fault_is (λ (d : TermFault). BreaksAtom d (118 ∷ to_be_bytes w16 (length text) ++ (text ++ rest))) e BadAtom k.1 (f.BreaksAtom.bad text rest lt k.0))
 
-latin_small : (bytes : List ℕ) → IsBytes bytes → Right (AtomBehind 115) (NoAtom 115) bytes (byte_at bytes >>= λ n. named_at latin_atom n.0 n.1)
+latin_small : (bytes : List ℕ) → EachByte bytes → Right (AtomBehind 115) (NoAtom 115) bytes (byte_at bytes >>= λ n. named_at latin_atom n.0 n.1)
 latin_small = small_right 115 latin_atom (inl refl)
     (λ a text lt fit e. let k = told_ok (IsLatinText text) (λ d. NoLatinText d text) (latin_atom text) a (latin_told text) e in subst (λ (z : List ℕ). IsAtom z (115 ∷ length text ∷ text)) k.1 (s.IsAtom.small_latin text k.0 (all_fit text fit)))
     (λ e text rest lt h. let k = told_err (IsLatinText text) (λ d. NoLatinText d text) (latin_atom text) e (latin_told text) h in absurd (omega (arith, k.0)))
 
-latin_large : (bytes : List ℕ) → IsBytes bytes → Right (AtomBehind 100) (NoAtom 100) bytes (number_at w16 bytes >>= λ n. named_at latin_atom n.0 n.1)
+latin_large : (bytes : List ℕ) → EachByte bytes → Right (AtomBehind 100) (NoAtom 100) bytes (number_at w16 bytes >>= λ n. named_at latin_atom n.0 n.1)
 latin_large = large_right 100 latin_atom (inl refl)
     (λ a text lt fit e. let k = told_ok (IsLatinText text) (λ d. NoLatinText d text) (latin_atom text) a (latin_told text) e in subst (λ (z : List ℕ). IsAtom z (100 ∷ to_be_bytes w16 (length text) ++ text)) k.1 (s.IsAtom.latin text k.0 (all_fit text fit)))
     (λ e text rest lt h. let k = told_err (IsLatinText text) (λ d. NoLatinText d text) (latin_atom text) e (latin_told text) h in fault_is (λ (d : TermFault). BreaksAtom d (100 ∷ to_be_bytes w16 (length text) ++ (text ++ rest))) e BadAtom k.1 (f.BreaksAtom.latin_bad text rest lt k.0))
 
-pub atom_behind_right : (tag : ℕ) (bytes : List ℕ) → IsBytes bytes → Right (AtomBehind tag) (NoAtom tag) bytes (atom_behind tag bytes)
+pub atom_behind_right : (tag : ℕ) (bytes : List ℕ) → EachByte bytes → Right (AtomBehind tag) (NoAtom tag) bytes (atom_behind tag bytes)
 unfolding atom_behind
 atom_behind_right tag bytes fits =
     let r100 : Read (List ℕ) = number_at w16 bytes >>= λ n. named_at latin_atom n.0 n.1 in
@@ -175,7 +175,7 @@ atom_behind_right tag bytes fits =
     (λ n100. let other : is_atom_tag tag ≡ false = rw (n100, n115, n118, n119) refl in inr (other, refl)))))
 
 -- an atom in its place
-pub atom_right : (bytes : List ℕ) → IsBytes bytes → Right IsAtom BreaksNode bytes (atom_at bytes)
+pub atom_right : (bytes : List ℕ) → EachByte bytes → Right IsAtom BreaksNode bytes (atom_at bytes)
 unfolding atom_at
 atom_right [] fits = f.BreaksNode.missing
 atom_right (tag ∷ bytes) fits = tagged (atom_behind tag bytes) (atom_behind_right tag bytes (λ i. fits (suc i)))

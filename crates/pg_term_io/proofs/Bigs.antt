@@ -12,7 +12,7 @@ use Rattle.pg_term_io.specs.Spelling.{Item}
 use Rattle.pg_term_io.specs.Spelling as s
 use Rattle.pg_term_io.specs.Faults.{BreaksItem}
 use Rattle.pg_term_io.specs.Faults as f
-use Rattle.pg_term_io.proofs.Outcomes.{IsBytes, Right, Cut, cut_first, cut_behind, IsByte, IsText, right_then, right_pure, byte_right, text_right, length_byte}
+use Rattle.pg_term_io.proofs.Outcomes.{EachByte, Right, Cut, cut_first, cut_behind, IsByte, IsText, right_then, right_pure, byte_right, text_right, length_byte}
 use Rattle.pg_term_io.proofs.Atoms.{all_fit}
 
 pub is_i64-fits : (z : ℤ) → is_i64 z ≡ true → FitsSigned w64 z
@@ -34,7 +34,7 @@ i64_err false z d e = (cc, λ h. absurd cc)
 -- from the last part to the first: the digits, and then the sign
 record IsBig (n sign : ℕ) (z : ℤ) (b : List ℕ) : Type 0 where
   size : length b ≡ n
-  bytes : IsBytes b
+  bytes : EachByte b
   value : z ≡ big_value sign b
   fits : FitsSigned w64 (big_value sign b)
 
@@ -52,7 +52,7 @@ NoBig n sign e b = Cut n e b ⊎ TooBig n sign e b
 abbrev value_after : ℕ → ℕ → List ℕ → Read ℤ
 value_after n sign bytes = bytes_at n bytes >>= λ digits. i64_of (big_value sign digits.0) >>= λ value. Ok (value, digits.1)
 
-value_right : (n sign : ℕ) (bytes : List ℕ) → IsBytes bytes → Right (IsBig n sign) (NoBig n sign) bytes (value_after n sign bytes)
+value_right : (n sign : ℕ) (bytes : List ℕ) → EachByte bytes → Right (IsBig n sign) (NoBig n sign) bytes (value_after n sign bytes)
 value_right n sign bytes fits =
     right_then (IsText n) (Cut n) (λ digits z y. (y ≡ []) × (i64_of (big_value sign digits) ≡ Ok z)) (λ digits e y. i64_of (big_value sign digits) ≡ Err e) (IsBig n sign) (NoBig n sign)
     bytes (bytes_at n bytes) (λ digits. i64_of (big_value sign digits.0) >>= λ value. Ok (value, digits.1))
@@ -83,7 +83,7 @@ record TooBigSigned (n : ℕ) (e : TermFault) (b : List ℕ) : Type 0 where
 abbrev NoSigned : ℕ → TermFault → List ℕ → Type 0
 NoSigned n e b = Cut (1 + n) e b ⊎ TooBigSigned n e b
 
-signed_right : (n : ℕ) (bytes : List ℕ) → IsBytes bytes → Right (IsSigned n) (NoSigned n) bytes (byte_at bytes >>= λ sign. value_after n sign.0 sign.1)
+signed_right : (n : ℕ) (bytes : List ℕ) → EachByte bytes → Right (IsSigned n) (NoSigned n) bytes (byte_at bytes >>= λ sign. value_after n sign.0 sign.1)
 signed_right n bytes fits =
     right_then IsByte (Cut 1) (IsBig n) (NoBig n) (IsSigned n) (NoSigned n) bytes (byte_at bytes) (λ sign. value_after n sign.0 sign.1)
     (byte_right bytes fits) (λ sign rest fit. value_right n sign rest fit)
@@ -117,7 +117,7 @@ pub no_byte : (b : List ℕ) → length b < 1 → [] ≡ b
 no_byte [] h = refl
 no_byte (x ∷ b) h = absurd (omega arith)
 
-pub big_right : (room : ℕ) (bytes : List ℕ) → IsBytes bytes → Right (BigBehind room) (NoBigBehind room) bytes (big_at bytes)
+pub big_right : (room : ℕ) (bytes : List ℕ) → EachByte bytes → Right (BigBehind room) (NoBigBehind room) bytes (big_at bytes)
 unfolding big_at
 big_right room bytes fits =
     right_then IsByte (Cut 1) IsSigned NoSigned (BigBehind room) (NoBigBehind room) bytes (byte_at bytes) (λ n. byte_at n.1 >>= λ sign. value_after n.0 sign.0 sign.1)

@@ -11,7 +11,7 @@ use Rattle.pg_term_io.specs.Reading.{term_of}
 use Rattle.pg_term_io.specs.Spelling.{Spells}
 use Rattle.pg_term_io.specs.Faults.{BreaksAtom, BreaksNode, BreaksPid, BreaksOldRef, BreaksRef, BreaksItem, BreaksItems, BreaksElements, BreaksTail, Breaks}
 use Rattle.pg_term_io.specs.Faults as f
-use Rattle.pg_term_io.proofs.Outcomes.{IsBytes}
+use Rattle.pg_term_io.proofs.Outcomes.{EachByte}
 use Rattle.pg_term_io.proofs.Items.{Answers, term_right}
 use Rattle.pg_term_io.proofs.Again.{term_again}
 use Rattle.pg_term_io.proofs.Broken.{term_fails}
@@ -29,14 +29,14 @@ fault_is TrailingBytes read h other = h
 fault_is OutOfMemory read h other = absurd (other refl)
 fault_is TooLong read h other = h
 
-pub is_found : (bytes : List ℕ) (r : Result Term TermFault) → IsBytes bytes → Gives (λ t. t) r (term_of bytes) → IfOk r (λ t. Spells t bytes)
+pub is_found : (bytes : List ℕ) (r : Result Term TermFault) → EachByte bytes → Gives (λ t. t) r (term_of bytes) → IfOk r (λ t. Spells t bytes)
 is_found bytes (Ok t) fits given = subst (Answers bytes) given (term_right bytes fits)
 is_found bytes (Err e) fits given = tt
 
-abbrev Told : List ℕ → Result Term TermFault → Type 0
-Told bytes r = IfErr r (λ e. e ≢ OutOfMemory → Breaks e bytes)
+abbrev ToldRight : List ℕ → Result Term TermFault → Type 0
+ToldRight bytes r = IfErr r (λ e. e ≢ OutOfMemory → Breaks e bytes)
 
-pub is_told : (bytes : List ℕ) (r : Result Term TermFault) → IsBytes bytes → Gives (λ t. t) r (term_of bytes) → Told bytes r
+pub is_told : (bytes : List ℕ) (r : Result Term TermFault) → EachByte bytes → Gives (λ t. t) r (term_of bytes) → ToldRight bytes r
 is_told bytes (Ok t) fits given = tt
 is_told bytes (Err e) fits given = λ other. subst (Answers bytes) (fault_is e (term_of bytes) given other) (term_right bytes fits)
 
@@ -124,13 +124,13 @@ of_bytes _ _ (f.Breaks.bad_version version b other) = tt
 of_bytes _ _ (f.Breaks.item e b h) = item_of_bytes 64 e b h
 of_bytes _ _ (f.Breaks.trailing t a next b h) = tt
 
-pub not_too_long : (bytes : List ℕ) (r : Result Term TermFault) → IsBytes bytes → Gives (λ t. t) r (term_of bytes) → r ≢ Err TooLong
+pub not_too_long : (bytes : List ℕ) (r : Result Term TermFault) → EachByte bytes → Gives (λ t. t) r (term_of bytes) → r ≢ Err TooLong
 not_too_long bytes r fits given is =
-    of_bytes TooLong bytes (subst (Told bytes) is (is_told bytes r fits given) (λ h. absurd cc))
+    of_bytes TooLong bytes (subst (ToldRight bytes) is (is_told bytes r fits given) (λ h. absurd cc))
 
 -- ---- each list of bytes has one meaning
 
-bytes_of : (bytes : List ℕ) → AllByRecursion (λ b. b < 256) bytes → IsBytes bytes
+bytes_of : (bytes : List ℕ) → AllByRecursion (λ b. b < 256) bytes → EachByte bytes
 bytes_of [] h i = omega arith
 bytes_of (b ∷ bytes) h zero = h.0
 bytes_of (b ∷ bytes) h (suc i) = bytes_of bytes h.1 i

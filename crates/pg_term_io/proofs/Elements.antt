@@ -13,15 +13,15 @@ use Rattle.pg_term_io.specs.Spelling.{Item, Items, Elements, Tail}
 use Rattle.pg_term_io.specs.Spelling as s
 use Rattle.pg_term_io.specs.Faults.{BreaksItem, BreaksItems, BreaksElements, BreaksTail}
 use Rattle.pg_term_io.specs.Faults as f
-use Rattle.pg_term_io.proofs.Outcomes.{IsBytes, Right, Cut, IsByte, IsHalf, IsWord, IsText, right_if, right_then, right_map, byte_right, half_right, word_right, text_right}
+use Rattle.pg_term_io.proofs.Outcomes.{EachByte, Right, Cut, IsByte, IsHalf, IsWord, IsText, right_if, right_then, right_map, byte_right, half_right, word_right, text_right}
 use Rattle.pg_term_io.proofs.Atoms.{all_fit}
 use Rattle.pg_term_io.proofs.Bigs.{no_byte}
 
 abbrev pub ItemRight : ℕ → Type 0
-ItemRight room = (bytes : List ℕ) → IsBytes bytes → Right (Item room) (BreaksItem room) bytes (item_at room bytes)
+ItemRight room = (bytes : List ℕ) → EachByte bytes → Right (Item room) (BreaksItem room) bytes (item_at room bytes)
 
 abbrev pub TailRight : ℕ → Type 0
-TailRight room = (bytes : List ℕ) → IsBytes bytes → Right (Tail room) (BreaksTail room) bytes (tail_at room bytes)
+TailRight room = (bytes : List ℕ) → EachByte bytes → Right (Tail room) (BreaksTail room) bytes (tail_at room bytes)
 
 abbrev pub IsRow : ℕ → ℕ → List Term → List ℕ → Type 0
 IsRow room n ts b = (length ts ≡ n) × Items room ts b
@@ -30,7 +30,7 @@ IsRow room n ts b = (length ts ≡ n) × Items room ts b
 abbrev Others : ℕ → ℕ → Term → List Term → List ℕ → Type 0
 Others room n t ts b = (others : List Term) × (ts ≡ t ∷ others) × IsRow room n others b
 
-pub items_right : (room : ℕ) → ItemRight room → (n : ℕ) (bytes : List ℕ) → IsBytes bytes → Right (IsRow room n) (BreaksItems room n) bytes (items_at (item_at room) n bytes)
+pub items_right : (room : ℕ) → ItemRight room → (n : ℕ) (bytes : List ℕ) → EachByte bytes → Right (IsRow room n) (BreaksItems room n) bytes (items_at (item_at room) n bytes)
 unfolding items_at
 items_right room each zero bytes fits = record { text = []; parts = refl; is = (refl, s.Items.none room); fits = fits }
 items_right room each (suc n) bytes fits =
@@ -50,7 +50,7 @@ SmallTuple room ts b = Item (suc room) (Tuple ts) (104 ∷ b)
 abbrev pub NoSmallTuple : ℕ → TermFault → List ℕ → Type 0
 NoSmallTuple room e b = BreaksItem (suc room) e (104 ∷ b)
 
-pub small_tuple_right : (room : ℕ) → ItemRight room → (bytes : List ℕ) → IsBytes bytes → Right (SmallTuple room) (NoSmallTuple room) bytes (byte_at bytes >>= λ n. items_at (item_at room) n.0 n.1)
+pub small_tuple_right : (room : ℕ) → ItemRight room → (bytes : List ℕ) → EachByte bytes → Right (SmallTuple room) (NoSmallTuple room) bytes (byte_at bytes >>= λ n. items_at (item_at room) n.0 n.1)
 small_tuple_right room each bytes fits =
     right_then IsByte (Cut 1) (IsRow room) (BreaksItems room) (SmallTuple room) (NoSmallTuple room) bytes (byte_at bytes) (λ n. items_at (item_at room) n.0 n.1)
     (byte_right bytes fits) (λ n rest fit. items_right room each n rest fit)
@@ -64,7 +64,7 @@ LargeTuple room ts b = Item (suc room) (Tuple ts) (105 ∷ b)
 abbrev pub NoLargeTuple : ℕ → TermFault → List ℕ → Type 0
 NoLargeTuple room e b = BreaksItem (suc room) e (105 ∷ b)
 
-pub large_tuple_right : (room : ℕ) → ItemRight room → (bytes : List ℕ) → IsBytes bytes → Right (LargeTuple room) (NoLargeTuple room) bytes (number_at w32 bytes >>= λ n. items_at (item_at room) n.0 n.1)
+pub large_tuple_right : (room : ℕ) → ItemRight room → (bytes : List ℕ) → EachByte bytes → Right (LargeTuple room) (NoLargeTuple room) bytes (number_at w32 bytes >>= λ n. items_at (item_at room) n.0 n.1)
 large_tuple_right room each bytes fits =
     right_then IsWord (Cut 4) (IsRow room) (BreaksItems room) (LargeTuple room) (NoLargeTuple room) bytes (number_at w32 bytes) (λ n. items_at (item_at room) n.0 n.1)
     (word_right bytes fits) (λ n rest fit. items_right room each n rest fit)
@@ -95,7 +95,7 @@ deep : (room n : ℕ) → is_deep room n ≡ true → (room ≡ 0) × (0 < n)
 deep room n h = let k = both_true (eqb room 0) (ltb 0 n) h in (eqb-true room 0 k.0, ltb-true 0 n k.1)
 
 abbrev IsString : ℕ → ℕ → List Term → List ℕ → Type 0
-IsString room n ts b = (length b ≡ n) × IsBytes b × (ts ≡ map int_of b) × (is_deep room n ≡ false)
+IsString room n ts b = (length b ≡ n) × EachByte b × (ts ≡ map int_of b) × (is_deep room n ≡ false)
 
 record DeepString (room n : ℕ) (e : TermFault) (b : List ℕ) : Type 0 where
   text : List ℕ
@@ -111,7 +111,7 @@ NoString room n e b = Cut n e b ⊎ DeepString room n e b
 abbrev terms_after : ℕ → ℕ → List ℕ × List ℕ → Read (List Term)
 terms_after room n text = cond (is_deep room n) (Err TooDeep) (Ok (map int_of text.0, text.1))
 
-text_of_right : (room n : ℕ) (bytes : List ℕ) → IsBytes bytes → Right (IsString room n) (NoString room n) bytes (bytes_at n bytes >>= terms_after room n)
+text_of_right : (room n : ℕ) (bytes : List ℕ) → EachByte bytes → Right (IsString room n) (NoString room n) bytes (bytes_at n bytes >>= terms_after room n)
 text_of_right room n bytes fits =
     let P : List ℕ → List Term → List ℕ → Type 0 = λ text ts y. (y ≡ []) × (ts ≡ map int_of text) × (is_deep room n ≡ false) in
     let Q : List ℕ → TermFault → List ℕ → Type 0 = λ text e y. (e ≡ TooDeep) × (is_deep room n ≡ true) in
@@ -135,7 +135,7 @@ broken_string room n e y lt (inr d) =
     subst (λ (z : ℕ × TermFault × ℕ × List ℕ). NoListBehind z.0 107 z.1 (to_be_bytes w16 z.2 ++ z.3)) (λ i. (sym k.0 i, sym d.is i, d.size i, sym d.whole i))
     (f.BreaksElements.string_too_deep d.text d.rest (omega (arith, lt, d.size)) (omega (arith, k.1, d.size)))
 
-string_right : (room : ℕ) (bytes : List ℕ) → IsBytes bytes → Right (ListBehind room 107) (NoListBehind room 107) bytes (string_at room bytes)
+string_right : (room : ℕ) (bytes : List ℕ) → EachByte bytes → Right (ListBehind room 107) (NoListBehind room 107) bytes (string_at room bytes)
 unfolding string_at
 string_right room bytes fits =
     right_then IsHalf (Cut 2) (IsString room) (NoString room) (ListBehind room 107) (NoListBehind room 107) bytes (number_at w16 bytes) (λ n. bytes_at n.0 n.1 >>= terms_after room n.0)
@@ -176,7 +176,7 @@ NoList room n e b = BreaksItems room n e b ⊎ NoTail room n e b
 abbrev tail_after : ℕ → List Term × List ℕ → Read (List Term)
 tail_after room items = tail_at room items.1 >>= λ tail. Ok (items.0 ++ tail.0, tail.1)
 
-row_and_tail_right : (room : ℕ) → ItemRight room → TailRight room → (n : ℕ) (bytes : List ℕ) → IsBytes bytes → Right (IsList room n) (NoList room n) bytes (items_at (item_at room) n bytes >>= tail_after room)
+row_and_tail_right : (room : ℕ) → ItemRight room → TailRight room → (n : ℕ) (bytes : List ℕ) → EachByte bytes → Right (IsList room n) (NoList room n) bytes (items_at (item_at room) n bytes >>= tail_after room)
 row_and_tail_right room each ends n bytes fits =
     right_then (IsRow room n) (BreaksItems room n) (Tailed room) (λ ts. BreaksTail room) (IsList room n) (NoList room n) bytes (items_at (item_at room) n bytes) (tail_after room)
     (items_right room each n bytes fits)
@@ -194,7 +194,7 @@ broken_list room n e y lt (inl h) = f.BreaksElements.element room n e y lt h
 broken_list room n e y lt (inr k) =
     subst (λ (z : ℕ × List ℕ). NoListBehind room 108 e (to_be_bytes w32 z.0 ++ z.1)) (λ i. (k.size i, sym k.whole i)) (f.BreaksElements.tail room e k.ts k.text k.rest (omega (arith, lt, k.size)) k.items k.tail)
 
-list_right : (room : ℕ) → ItemRight room → TailRight room → (bytes : List ℕ) → IsBytes bytes → Right (ListBehind room 108) (NoListBehind room 108) bytes (list_at (readers room) bytes)
+list_right : (room : ℕ) → ItemRight room → TailRight room → (bytes : List ℕ) → EachByte bytes → Right (ListBehind room 108) (NoListBehind room 108) bytes (list_at (readers room) bytes)
 unfolding list_at
 list_right room each ends bytes fits =
     right_then IsWord (Cut 4) (IsList room) (NoList room) (ListBehind room 108) (NoListBehind room 108) bytes (number_at w32 bytes) (λ n. items_at (item_at room) n.0 n.1 >>= tail_after room)
@@ -211,7 +211,7 @@ either : (room tag : ℕ) (bytes : List ℕ) (read : Read (List Term)) → Right
 either room tag bytes (Ok x) t = t
 either room tag bytes (Err e) q = inl q
 
-pub elements_right : (room : ℕ) → ItemRight room → TailRight room → (tag : ℕ) (bytes : List ℕ) → IsBytes bytes → Right (ListBehind room tag) (NoElements room tag) bytes (elements_behind room (readers room) tag bytes)
+pub elements_right : (room : ℕ) → ItemRight room → TailRight room → (tag : ℕ) (bytes : List ℕ) → EachByte bytes → Right (ListBehind room tag) (NoElements room tag) bytes (elements_behind room (readers room) tag bytes)
 unfolding elements_behind
 elements_right room each ends tag bytes fits =
     let r106 : Read (List Term) = Ok ([], bytes) in

@@ -13,7 +13,7 @@ use Rattle.pg_term_io.specs.Spelling.{IsAtom, IsPid, IsOldRef, IsRef}
 use Rattle.pg_term_io.specs.Spelling as s
 use Rattle.pg_term_io.specs.Faults.{BreaksNode, BreaksPid, BreaksOldRef, BreaksRef}
 use Rattle.pg_term_io.specs.Faults as f
-use Rattle.pg_term_io.proofs.Outcomes.{IsBytes, Right, Cut, cut_first, cut_behind, IsByte, IsHalf, IsWord, right_if, right_then, right_map, IsNumber, NumberRight, length_number, byte_right, half_right, word_right, length_word}
+use Rattle.pg_term_io.proofs.Outcomes.{EachByte, Right, Cut, cut_first, cut_behind, IsByte, IsHalf, IsWord, right_if, right_then, right_map, IsNumber, NumberRight, length_number, byte_right, half_right, word_right, length_word}
 use Rattle.pg_term_io.proofs.Atoms.{atom_right}
 
 -- a fault that is Truncated
@@ -41,12 +41,12 @@ module _ (w : Width) (creations : NumberRight w) where
   abbrev id_after : List ℕ → List ℕ → Read Pid
   id_after node bytes = number_at w32 bytes >>= λ id. serial_after node id.0 id.1
 
-  creation_right : (node : List ℕ) (id serial : ℕ) (bytes : List ℕ) → IsBytes bytes → Right (IsCreation node id serial) (Cut (byte_len w)) bytes (creation_after node id serial bytes)
+  creation_right : (node : List ℕ) (id serial : ℕ) (bytes : List ℕ) → EachByte bytes → Right (IsCreation node id serial) (Cut (byte_len w)) bytes (creation_after node id serial bytes)
   creation_right node id serial bytes fits =
       right_map (IsNumber w) (Cut (byte_len w)) (IsCreation node id serial) (Cut (byte_len w)) bytes (λ (creation : ℕ). record { node = node; serial = serial; id = id; creation = creation }) (number_at w bytes) (creations bytes fits)
       (λ c x h. (refl, refl, refl, h.0, h.1)) (λ e h. h)
 
-  serial_right : (node : List ℕ) (id : ℕ) (bytes : List ℕ) → IsBytes bytes → Right (IsSerial node id) (Cut (4 + byte_len w)) bytes (serial_after node id bytes)
+  serial_right : (node : List ℕ) (id : ℕ) (bytes : List ℕ) → EachByte bytes → Right (IsSerial node id) (Cut (4 + byte_len w)) bytes (serial_after node id bytes)
   serial_right node id bytes fits =
       right_then IsWord (Cut 4) (IsCreation node id) (λ serial. Cut (byte_len w)) (IsSerial node id) (Cut (4 + byte_len w)) bytes (number_at w32 bytes) (λ serial. creation_after node id serial.0 serial.1)
       (word_right bytes fits) (λ serial rest fit. creation_right node id serial rest fit)
@@ -54,7 +54,7 @@ module _ (w : Width) (creations : NumberRight w) where
       (λ n e x y h k. cut_behind (byte_len w) (4 + byte_len w) e x y (omega (arith, length_word n x h)) k)
       (λ e h. cut_first 4 (4 + byte_len w) e bytes (omega arith) h)
 
-  id_right : (node : List ℕ) (bytes : List ℕ) → IsBytes bytes → Right (IsId node) (Cut (8 + byte_len w)) bytes (id_after node bytes)
+  id_right : (node : List ℕ) (bytes : List ℕ) → EachByte bytes → Right (IsId node) (Cut (8 + byte_len w)) bytes (id_after node bytes)
   id_right node bytes fits =
       right_then IsWord (Cut 4) (IsSerial node) (λ id. Cut (4 + byte_len w)) (IsId node) (Cut (8 + byte_len w)) bytes (number_at w32 bytes) (λ id. serial_after node id.0 id.1)
       (word_right bytes fits) (λ id rest fit. serial_right node id rest fit)
@@ -62,7 +62,7 @@ module _ (w : Width) (creations : NumberRight w) where
       (λ n e x y h k. cut_behind (4 + byte_len w) (8 + byte_len w) e x y (omega (arith, length_word n x h)) k)
       (λ e h. cut_first 4 (8 + byte_len w) e bytes (omega arith) h)
 
-  pub pid_right : (bytes : List ℕ) → IsBytes bytes → Right (IsPid w) (BreaksPid w) bytes (pid_at w bytes)
+  pub pid_right : (bytes : List ℕ) → EachByte bytes → Right (IsPid w) (BreaksPid w) bytes (pid_at w bytes)
   unfolding pid_at
   pid_right bytes fits =
       right_then IsAtom BreaksNode IsId (λ node. Cut (8 + byte_len w)) (IsPid w) (BreaksPid w) bytes (atom_at bytes) (λ node. id_after node.0 node.1)
@@ -85,12 +85,12 @@ last_after node word bytes = byte_at bytes >>= λ creation. Ok (record { node = 
 abbrev word_after : List ℕ → List ℕ → Read RefParts
 word_after node bytes = number_at w32 bytes >>= λ word. last_after node word.0 word.1
 
-last_right : (node : List ℕ) (word : ℕ) (bytes : List ℕ) → IsBytes bytes → Right (IsLast node word) (Cut 1) bytes (last_after node word bytes)
+last_right : (node : List ℕ) (word : ℕ) (bytes : List ℕ) → EachByte bytes → Right (IsLast node word) (Cut 1) bytes (last_after node word bytes)
 last_right node word bytes fits =
     right_map IsByte (Cut 1) (IsLast node word) (Cut 1) bytes (λ (creation : ℕ). record { node = node; creation = creation; words = word ∷ [] }) (byte_at bytes) (byte_right bytes fits)
     (λ c x h. (c, refl, h.0, h.1)) (λ e h. h)
 
-old_word_right : (node : List ℕ) (bytes : List ℕ) → IsBytes bytes → Right (IsOldWord node) (Cut 5) bytes (word_after node bytes)
+old_word_right : (node : List ℕ) (bytes : List ℕ) → EachByte bytes → Right (IsOldWord node) (Cut 5) bytes (word_after node bytes)
 old_word_right node bytes fits =
     right_then IsWord (Cut 4) (IsLast node) (λ word. Cut 1) (IsOldWord node) (Cut 5) bytes (number_at w32 bytes) (λ word. last_after node word.0 word.1)
     (word_right bytes fits) (λ word rest fit. last_right node word rest fit)
@@ -98,7 +98,7 @@ old_word_right node bytes fits =
     (λ n e x y h k. cut_behind 1 5 e x y (omega (arith, length_word n x h)) k)
     (λ e h. cut_first 4 5 e bytes (omega arith) h)
 
-pub old_reference_right : (bytes : List ℕ) → IsBytes bytes → Right IsOldRef BreaksOldRef bytes (old_reference_at bytes)
+pub old_reference_right : (bytes : List ℕ) → EachByte bytes → Right IsOldRef BreaksOldRef bytes (old_reference_at bytes)
 unfolding old_reference_at
 old_reference_right bytes fits =
     right_then IsAtom BreaksNode IsOldWord (λ node. Cut 5) IsOldRef BreaksOldRef bytes (atom_at bytes) (λ node. word_after node.0 node.1)
@@ -116,7 +116,7 @@ AreWords n ws b = (length ws ≡ n) × AllByRecursion (λ w. w < 2 ^ 32) ws × (
 abbrev Others : ℕ → ℕ → List ℕ → List ℕ → Type 0
 Others n w ws b = (others : List ℕ) × (ws ≡ w ∷ others) × AreWords n others b
 
-words_right : (n : ℕ) (bytes : List ℕ) → IsBytes bytes → Right (AreWords n) (Cut (4 * n)) bytes (items_at (number_at w32) n bytes)
+words_right : (n : ℕ) (bytes : List ℕ) → EachByte bytes → Right (AreWords n) (Cut (4 * n)) bytes (items_at (number_at w32) n bytes)
 unfolding items_at
 words_right zero bytes fits = record { text = []; parts = refl; is = (refl, tt, refl); fits = fits }
 words_right (suc n) bytes fits =
@@ -130,7 +130,7 @@ words_right (suc n) bytes fits =
 abbrev IsWords : List ℕ → ℕ → ℕ → RefParts → List ℕ → Type 0
 IsWords node creation n r b = (r.node ≡ node) × (r.creation ≡ creation) × AreWords n r.words b
 
-words_of_right : (node : List ℕ) (creation n : ℕ) (bytes : List ℕ) → IsBytes bytes → Right (IsWords node creation n) (Cut (4 * n)) bytes (words_at node creation n bytes)
+words_of_right : (node : List ℕ) (creation n : ℕ) (bytes : List ℕ) → EachByte bytes → Right (IsWords node creation n) (Cut (4 * n)) bytes (words_at node creation n bytes)
 unfolding words_at
 words_of_right node creation n bytes fits =
     right_map (AreWords n) (Cut (4 * n)) (IsWords node creation n) (Cut (4 * n)) bytes (λ (words : List ℕ). record { node = node; creation = creation; words = words }) (items_at (number_at w32) n bytes) (words_right n bytes fits)
@@ -180,7 +180,7 @@ module _ (w : Width) (creations : NumberRight w) where
   abbrev rest_after : ℕ → List ℕ → Read RefParts
   rest_after n bytes = atom_at bytes >>= λ node. creation_and_words node.0 n node.1
 
-  tail_right : (node : List ℕ) (n : ℕ) (bytes : List ℕ) → IsBytes bytes → Right (IsTail node n) (Cut (byte_len w + 4 * n)) bytes (creation_and_words node n bytes)
+  tail_right : (node : List ℕ) (n : ℕ) (bytes : List ℕ) → EachByte bytes → Right (IsTail node n) (Cut (byte_len w + 4 * n)) bytes (creation_and_words node n bytes)
   tail_right node n bytes fits =
       right_then (IsNumber w) (Cut (byte_len w)) (λ creation. IsWords node creation n) (λ creation. Cut (4 * n)) (IsTail node n) (Cut (byte_len w + 4 * n)) bytes (number_at w bytes) (λ creation. words_at node creation.0 n creation.1)
       (creations bytes fits) (λ creation rest fit. words_of_right node creation n rest fit)
@@ -188,7 +188,7 @@ module _ (w : Width) (creations : NumberRight w) where
       (λ c e x y h k. cut_behind (4 * n) (byte_len w + 4 * n) e x y (omega (arith, length_number w c x h)) k)
       (λ e h. cut_first (byte_len w) (byte_len w + 4 * n) e bytes (omega arith) h)
 
-  rest_right : (n : ℕ) (bytes : List ℕ) → IsBytes bytes → Right (IsRest n) (NoRest n) bytes (rest_after n bytes)
+  rest_right : (n : ℕ) (bytes : List ℕ) → EachByte bytes → Right (IsRest n) (NoRest n) bytes (rest_after n bytes)
   rest_right n bytes fits =
       right_then IsAtom BreaksNode (λ node. IsTail node n) (λ node. Cut (byte_len w + 4 * n)) (IsRest n) (NoRest n) bytes (atom_at bytes) (λ node. creation_and_words node.0 n node.1)
       (atom_right bytes fits) (λ node rest fit. tail_right node n rest fit)
@@ -206,7 +206,7 @@ module _ (w : Width) (creations : NumberRight w) where
   weaken n bytes (Ok x) h t = record { text = t.text; parts = t.parts; is = (h.0, h.1, t.is); fits = t.fits }
   weaken n bytes (Err e) h q = inr (h.0, h.1, q)
 
-  counted_right : (n : ℕ) (bytes : List ℕ) → IsBytes bytes → Right (IsCounted n) (NotCounted n) bytes (cond (eqb n 0 || ltb 3 n) (Err BadReference) (rest_after n bytes))
+  counted_right : (n : ℕ) (bytes : List ℕ) → EachByte bytes → Right (IsCounted n) (NotCounted n) bytes (cond (eqb n 0 || ltb 3 n) (Err BadReference) (rest_after n bytes))
   counted_right n bytes fits =
       right_if (IsCounted n) (NotCounted n) bytes (eqb n 0 || ltb 3 n) (Err BadReference) (rest_after n bytes)
       (λ h. inl (not_few n h, refl)) (λ h. weaken n bytes (rest_after n bytes) (few n h) (rest_right n bytes fits))
@@ -223,7 +223,7 @@ module _ (w : Width) (creations : NumberRight w) where
   broken_so n e y lt (inr (some, less, inr (is, c))) =
       subst (λ (z : TermFault × List ℕ). BreaksRef w z.0 (to_be_bytes w16 n ++ z.1)) (λ i. (sym is i, sym c.whole i)) (f.BreaksRef.cut w n c.a c.node c.rest some less c.atom c.short)
 
-  pub new_reference_right : (bytes : List ℕ) → IsBytes bytes → Right (IsRef w) (BreaksRef w) bytes (new_reference_at w bytes)
+  pub new_reference_right : (bytes : List ℕ) → EachByte bytes → Right (IsRef w) (BreaksRef w) bytes (new_reference_at w bytes)
   unfolding new_reference_at
   new_reference_right bytes fits =
       right_then IsHalf (Cut 2) IsCounted NotCounted (IsRef w) (BreaksRef w) bytes (number_at w16 bytes) (λ n. cond (eqb n.0 0 || ltb 3 n.0) (Err BadReference) (rest_after n.0 n.1))

@@ -14,7 +14,7 @@ use Rattle.pg_term_io.specs.Spelling.{IsPid, IsOldRef, IsRef, Item, Elements, Ta
 use Rattle.pg_term_io.specs.Spelling as s
 use Rattle.pg_term_io.specs.Faults.{BreaksPid, BreaksOldRef, BreaksRef, BreaksItem, BreaksTail, Breaks}
 use Rattle.pg_term_io.specs.Faults as f
-use Rattle.pg_term_io.proofs.Outcomes.{IsBytes, Right, Cut, IsByte, IsWord, IsText, right_if, right_map, right_then, byte_right, word_right, text_right, small_number_right, number_right}
+use Rattle.pg_term_io.proofs.Outcomes.{EachByte, Right, Cut, IsByte, IsWord, IsText, right_if, right_map, right_then, byte_right, word_right, text_right, small_number_right, number_right}
 use Rattle.pg_term_io.proofs.Atoms.{AtomBehind, NoAtom, atom_behind_right, all_fit}
 use Rattle.pg_term_io.proofs.Bigs.{BigBehind, NoBigBehind, big_right, no_byte}
 use Rattle.pg_term_io.proofs.Identifiers.{pid_right, old_reference_right, new_reference_right}
@@ -32,7 +32,7 @@ abbrev BehindRight : ℕ → ℕ → List ℕ → Read Term → Type 0
 BehindRight room tag bytes read = Right (Behind room tag) (BrokenBehind room tag) bytes read
 
 -- an item of one kind behind its own tag
-module _ (room : ℕ) (bytes : List ℕ) (fits : IsBytes bytes) where
+module _ (room : ℕ) (bytes : List ℕ) (fits : EachByte bytes) where
   byte_item : BehindRight room 97 bytes (as_term int_of (byte_at bytes))
   byte_item =
       right_map IsByte (Cut 1) (Behind room 97) (BrokenBehind room 97) bytes int_of (byte_at bytes) (byte_right bytes fits)
@@ -217,7 +217,7 @@ answers_if bytes true x y h k = h refl
 answers_if bytes false x y h k = k refl
 
 -- each list of bytes is answered by a term that it spells, or by a fault that it has
-pub term_right : (bytes : List ℕ) → IsBytes bytes → Answers bytes (term_of bytes)
+pub term_right : (bytes : List ℕ) → EachByte bytes → Answers bytes (term_of bytes)
 unfolding term_of
 term_right [] fits = f.Breaks.missing
 term_right (version ∷ bytes) fits =

@@ -8,14 +8,14 @@ use Rattle.pg_term.specs.declared.fault.TermFault.{TermFault}
 use Rattle.pg_term.specs.declared.fault.TermFault.TheVariants.{Truncated}
 use Rattle.pg_term_io.specs.Reading.{Read, ◌>>=◌, byte_at, number_at, bytes_at}
 
-abbrev pub IsBytes : List ℕ → Type 0
-IsBytes bytes = (i : ℕ) → get_or bytes i 0 < 256
+abbrev pub EachByte : List ℕ → Type 0
+EachByte bytes = (i : ℕ) → get_or bytes i 0 < 256
 
-IsBytes-drop : (n : ℕ) (bytes : List ℕ) → IsBytes bytes → IsBytes (drop n bytes)
-IsBytes-drop n bytes h i = rw get_or-drop (h (n + i))
+EachByte-drop : (n : ℕ) (bytes : List ℕ) → EachByte bytes → EachByte (drop n bytes)
+EachByte-drop n bytes h i = rw get_or-drop (h (n + i))
 
-IsBytes-take : (n : ℕ) (bytes : List ℕ) → IsBytes bytes → IsBytes (take n bytes)
-IsBytes-take n bytes h i =
+EachByte-take : (n : ℕ) (bytes : List ℕ) → EachByte bytes → EachByte (take n bytes)
+EachByte-take n bytes h i =
     elim (cases_lt i n) [
       | inl lt ↦ rw (get_or-take n bytes i 0 lt) (h i)
       | inr le ↦ rw (get_or_past (take n bytes) i 0 (omega (arith, length-take n bytes))) (omega arith)
@@ -26,7 +26,7 @@ pub record Took {A : Type 0} (P : A → List ℕ → Type 0) (bytes : List ℕ) 
   pub text : List ℕ
   pub parts : bytes ≡ text ++ x.1
   pub is : P x.0 text
-  pub fits : IsBytes x.1
+  pub fits : EachByte x.1
 
 -- P is the relation of a value and its spelling, Q that of a fault and the bytes that have it
 abbrev pub Right : {A : Type 0} → (A → List ℕ → Type 0) → (TermFault → List ℕ → Type 0) → List ℕ → Read A → Type 0
@@ -66,7 +66,7 @@ behind P Q P' Q' bytes text rest (Err e) parts h joins fails = subst (Q' e) (sym
 pub right_then : {A B : Type 0} (P : A → List ℕ → Type 0) (Q : TermFault → List ℕ → Type 0) (P₂ : A → B → List ℕ → Type 0) (Q₂ : A → TermFault → List ℕ → Type 0) (P' : B → List ℕ → Type 0) (Q' : TermFault → List ℕ → Type 0)
     (bytes : List ℕ) (read : Read A) (next : A × List ℕ → Read B)
     → Right P Q bytes read
-    → ((a : A) (rest : List ℕ) → IsBytes rest → Right (P₂ a) (Q₂ a) rest (next (a, rest)))
+    → ((a : A) (rest : List ℕ) → EachByte rest → Right (P₂ a) (Q₂ a) rest (next (a, rest)))
     → ((a : A) (b : B) (x y : List ℕ) → P a x → P₂ a b y → P' b (x ++ y))
     → ((a : A) (e : TermFault) (x y : List ℕ) → P a x → Q₂ a e y → Q' e (x ++ y))
     → ((e : TermFault) → Q e bytes → Q' e bytes)
@@ -76,7 +76,7 @@ right_then P Q P₂ Q₂ P' Q' bytes (Ok x) next h goes joins fails first =
     behind (P₂ x.0) (Q₂ x.0) P' Q' bytes h.text x.1 (next x) h.parts (goes x.0 x.1 h.fits) (λ b y k. joins x.0 b h.text y h.is k) (λ e y k. fails x.0 e h.text y h.is k)
 
 -- a test of what was read, which takes no bytes
-pub right_pure : {A : Type 0} (r : Result A TermFault) (rest : List ℕ) → IsBytes rest → Right (λ a y. (y ≡ []) × (r ≡ Ok a)) (λ e y. r ≡ Err e) rest (r >>= λ a. Ok (a, rest))
+pub right_pure : {A : Type 0} (r : Result A TermFault) (rest : List ℕ) → EachByte rest → Right (λ a y. (y ≡ []) × (r ≡ Ok a)) (λ e y. r ≡ Err e) rest (r >>= λ a. Ok (a, rest))
 right_pure (Ok a) rest fits = record { text = []; parts = refl; is = (refl, refl); fits = fits }
 right_pure (Err e) rest fits = refl
 
@@ -92,27 +92,27 @@ abbrev pub IsHalf : ℕ → List ℕ → Type 0
 IsHalf n b = (n < 2 ^ 16) × (b ≡ to_be_bytes w16 n)
 
 abbrev pub IsText : ℕ → List ℕ → List ℕ → Type 0
-IsText n text b = (length text ≡ n) × (b ≡ text) × IsBytes text
+IsText n text b = (length text ≡ n) × (b ≡ text) × EachByte text
 
-pub byte_right : (bytes : List ℕ) → IsBytes bytes → Right IsByte (Cut 1) bytes (byte_at bytes)
+pub byte_right : (bytes : List ℕ) → EachByte bytes → Right IsByte (Cut 1) bytes (byte_at bytes)
 byte_right [] fits = (refl, omega arith)
 byte_right (b ∷ bytes) fits = record { text = b ∷ []; parts = refl; is = (fits 0, refl); fits = λ i. fits (suc i) }
 
-front_right : {A : Type 0} (P : A → List ℕ → Type 0) (n : ℕ) (bytes : List ℕ) (value : List ℕ → A) → IsBytes bytes → ((text : List ℕ) → length text ≡ n → IsBytes text → P (value text) text)
+front_right : {A : Type 0} (P : A → List ℕ → Type 0) (n : ℕ) (bytes : List ℕ) (value : List ℕ → A) → EachByte bytes → ((text : List ℕ) → length text ≡ n → EachByte text → P (value text) text)
     → Right P (Cut n) bytes (cond (ltb (length bytes) n) (Err Truncated) (Ok (value (take n bytes), drop n bytes)))
 front_right P n bytes value fits spells =
     right_if P (Cut n) bytes (ltb (length bytes) n) (Err Truncated) (Ok (value (take n bytes), drop n bytes))
     (λ short. (refl, ltb-true (length bytes) n short))
     (λ long. let le : n ≤ length bytes = ltb-false (length bytes) n long in
-    record { text = take n bytes; parts = sym (take-append-drop n bytes); is = spells (take n bytes) (omega (arith, length-take n bytes)) (IsBytes-take n bytes fits); fits = IsBytes-drop n bytes fits })
+    record { text = take n bytes; parts = sym (take-append-drop n bytes); is = spells (take n bytes) (omega (arith, length-take n bytes)) (EachByte-take n bytes fits); fits = EachByte-drop n bytes fits })
 
-pub word_right : (bytes : List ℕ) → IsBytes bytes → Right IsWord (Cut 4) bytes (number_at w32 bytes)
+pub word_right : (bytes : List ℕ) → EachByte bytes → Right IsWord (Cut 4) bytes (number_at w32 bytes)
 word_right bytes fits = front_right IsWord 4 bytes (from_be_bytes w32) fits (λ text len fit. (omega (arith, fit 0, fit 1, fit 2, fit 3), sym (be_bytes_4 text (from_be_bytes w32 text) len fit refl)))
 
-pub half_right : (bytes : List ℕ) → IsBytes bytes → Right IsHalf (Cut 2) bytes (number_at w16 bytes)
+pub half_right : (bytes : List ℕ) → EachByte bytes → Right IsHalf (Cut 2) bytes (number_at w16 bytes)
 half_right bytes fits = front_right IsHalf 2 bytes (from_be_bytes w16) fits (λ text len fit. (omega (arith, fit 0, fit 1), sym (be_bytes_2 text (from_be_bytes w16 text) len fit refl)))
 
-pub text_right : (n : ℕ) (bytes : List ℕ) → IsBytes bytes → Right (IsText n) (Cut n) bytes (bytes_at n bytes)
+pub text_right : (n : ℕ) (bytes : List ℕ) → EachByte bytes → Right (IsText n) (Cut n) bytes (bytes_at n bytes)
 text_right n bytes fits = front_right (IsText n) n bytes (λ text. text) fits (λ text len fit. (len, refl, fit))
 
 -- a number of so many bits, the highest byte first
@@ -121,9 +121,9 @@ IsNumber w n b = (n < 256 ^ byte_len w) × (b ≡ to_be_bytes w n)
 
 -- what reading such a number answers
 abbrev pub NumberRight : Width → Type 0
-NumberRight w = (bytes : List ℕ) → IsBytes bytes → Right (IsNumber w) (Cut (byte_len w)) bytes (number_at w bytes)
+NumberRight w = (bytes : List ℕ) → EachByte bytes → Right (IsNumber w) (Cut (byte_len w)) bytes (number_at w bytes)
 
-only_byte : (text : List ℕ) → length text ≡ 1 → IsBytes text → text ≡ to_be_bytes w8 (from_be_bytes w8 text)
+only_byte : (text : List ℕ) → length text ≡ 1 → EachByte text → text ≡ to_be_bytes w8 (from_be_bytes w8 text)
 only_byte [] len fit = absurd (omega (arith, len))
 only_byte (a ∷ []) len fit = let e : a ≡ a % 256 = omega (arith, fit 0) in λ i. e i ∷ []
 only_byte (a ∷ b ∷ text) len fit = absurd (omega (arith, len))

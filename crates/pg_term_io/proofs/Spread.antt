@@ -18,7 +18,7 @@ use Rattle.pg_term_io.specs.Spelling as s
 use Rattle.pg_term_io.specs.Writing.{text_bytes, atom_bytes, pid_bytes, reference_bytes, tuple_head, list_head, item_bytes, all_bytes}
 use Rattle.pg_term_io.proofs.Items.{levels}
 use Rattle.pg_term_io.proofs.Weighed.{weight_some, item_light}
-use Rattle.pg_term_io.proofs.Outcomes.{IsBytes, Took, Right}
+use Rattle.pg_term_io.proofs.Outcomes.{EachByte, Took, Right}
 use Rattle.pg_term_io.proofs.Written.{tuple_is, list_is, binary_is, head_some, item_some, count_le}
 use Rattle.pg_term_io.proofs.WrittenWords.{words_len, reference_len}
 
@@ -177,7 +177,7 @@ took room bytes (Ok x) t rest le h e =
 took room bytes (Err f) t rest le h e = absurd cc
 
 -- an item that is read takes at most 400 times the bytes that it is written in
-pub wide : (room : ℕ) (bytes : List ℕ) (t : Term) (rest : List ℕ) → room ≤ 64 → IsBytes bytes → item_at room bytes ≡ Ok (t, rest) → length bytes ≤ length rest + 400 * length (item_bytes t)
+pub wide : (room : ℕ) (bytes : List ℕ) (t : Term) (rest : List ℕ) → room ≤ 64 → EachByte bytes → item_at room bytes ≡ Ok (t, rest) → length bytes ≤ length rest + 400 * length (item_bytes t)
 wide room bytes t rest le fits e = took room bytes (item_at room bytes) t rest le ((levels room).0 bytes fits) e
 
 took_some : (room : ℕ) (bytes : List ℕ) (read : Read Term) (t : Term) (rest : List ℕ) → Right (Item room) (BreaksItem room) bytes read → read ≡ Ok (t, rest) → length rest < length bytes
@@ -195,5 +195,5 @@ took_some room bytes (Ok x) t rest h e =
 took_some room bytes (Err f) t rest h e = absurd cc
 
 -- an item takes some bytes
-pub shorter : (room : ℕ) (bytes : List ℕ) (t : Term) (rest : List ℕ) → IsBytes bytes → item_at room bytes ≡ Ok (t, rest) → length rest < length bytes
+pub shorter : (room : ℕ) (bytes : List ℕ) (t : Term) (rest : List ℕ) → EachByte bytes → item_at room bytes ≡ Ok (t, rest) → length rest < length bytes
 shorter room bytes t rest fits e = took_some room bytes (item_at room bytes) t rest ((levels room).0 bytes fits) e

@@ -28,7 +28,7 @@ use Rattle.pg_world.specs.declared.step.FrameStep.{FrameStep}
 use Rattle.pg_world.specs.declared.step.FrameStep.TheVariants as steps
 use Rattle.pg_world.specs.declared.step.Stepped.{Stepped}
 use Rattle.pg_world.specs.declared.step.Stepped.TheVariants.{Happened, Moved, Nothing, Gone}
-use Rattle.pg_world.specs.Losing.{notices, losing_of, ShowsLosing, seen_at, is_cut_off, is_barred, none_sent, first_refusal, take_refusal, own_refusal, keep_of, Told, told_take, told_own, told_of, LosingLed, LosingComesTo}
+use Rattle.pg_world.specs.Losing.{notices, losing_of, ShowsLosing, seen_at, is_cut_off, is_barred, none_sent, first_refusal, take_refusal, own_refusal, keep_of, Telling, told_take, told_own, told_of, LosingLed, LosingComesTo}
 use Rattle.pg_world.specs.Losses.{is_lost}
 use Rattle.pg_world.specs.Views.{Seen, View, peer_place}
 use Rattle.pg_world.specs.Worlds.{TimedFrameWorld, ShowsNodes, ShowsNode, Shows, ComesTo, has_port, has_places, told, told_of_first}
@@ -209,7 +209,7 @@ module _ (config : Config) (old new : View) (lost lost2 : List ℕ) (w : TimedFr
     is = ap (losing_of config w) (sym same);
   }
 
-  module _ (e : Event Action) (tells : Told) (event : tells.event ≡ Step e) (loss : tells.is_loss ≡ false) (stays : is_lost lost (node_of e) ≡ false)
+  module _ (e : Event Action) (tells : Telling) (event : tells.event ≡ Step e) (loss : tells.is_loss ≡ false) (stays : is_lost lost (node_of e) ≡ false)
       (refused : (r : Refusal) → told config w e ≡ Some (Err r) → tells.refusal ≡ Some r) (idle : told config w e ≡ None → (tells.is_idle ≡ true) × (tells.refusal ≡ None))
       (busy : (v : TimedFrameWorld) → happens (frame_machine config) w e ≡ Some v → tells.is_idle ≡ false) where
     led : (v : TimedFrameWorld) → happens (frame_machine config) w e ≡ Some v → Shows config new v → LosingLed config (losing_of config w lost) tells.event (ShowsLosing config new lost2)

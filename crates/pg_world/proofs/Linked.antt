@@ -386,7 +386,7 @@ port_place nodes i port has =
 
 -- ---- what a pull told
 
--- it is refused by want of memory alone
+-- it is refused only where memory runs out
 pub pull_err : (fault : NodeFault) (Shown : Type 0) → fault ≡ OutOfMemory → Shown → MoveLeaves None (Err fault) Shown
 pull_err fault Shown is shown = subst (λ f. MoveLeaves None (Err f) Shown) (sym is) (refl, shown)
 

@@ -25,7 +25,7 @@ use Rattle.pg_node.specs.declared.state.fault.NodeFault.TheVariants.{Refused, Ou
 use Rattle.pg_world.specs.declared.step.FrameStep.{FrameStep}
 use Rattle.pg_world.specs.declared.step.Stepped.{Stepped}
 use Rattle.pg_world.specs.declared.step.Stepped.TheVariants.{Happened, Moved, Nothing, Gone}
-use Rattle.pg_world.specs.Losing.{Told, LosingComesTo, ShowsLosing, losing_of, notices, told_of}
+use Rattle.pg_world.specs.Losing.{Telling, LosingComesTo, ShowsLosing, losing_of, notices, told_of}
 use Rattle.pg_world.specs.LosingRuns.{LosingKind, packets_past_losses, LosingStepsTo, LosingRunsTo, LosingGoesTo, RanLosing}
 use Rattle.pg_world.specs.declared.step.Step.{Step}
 use Rattle.pg_world.specs.BytesLosing.{ShowsLosingBytes, IsReachedLosing}
@@ -158,7 +158,7 @@ module _ {S : Type 0} (kind : LosingKind S) (config : Config) where
 -- ---- one step over packets
 
 module _ (config : Config) (u : LosingFrameWorld) (step : FrameStep) (Shown : LosingFrameWorld → Type 0) where
-  abbrev told : Told
+  abbrev told : Telling
   told = told_of config u step
 
   -- what a step came to, by its number

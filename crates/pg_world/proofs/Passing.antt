@@ -237,7 +237,7 @@ tells_ok (Err OutOfMemory) some h = sym h
 tells_ok (Err FrameTooLong) some h = sym h
 tells_ok (Err Damaged) some h = sym h
 
--- what can be read is refused by want of memory alone
+-- what can be read is refused only where memory runs out
 pub only_memory : (o : Option Packet) (fault : NodeFault) → Tells (Ok o) (Err fault) → fault ≡ OutOfMemory
 only_memory (Some packet) OutOfMemory h = refl
 only_memory (Some packet) (Refused refusal) h = absurd (cc)

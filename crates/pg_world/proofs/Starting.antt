@@ -121,12 +121,12 @@ have_tables (start ∷ starts) (node ∷ nodes) len each =
     shorter a b e = omega (arith, e)
 
 -- The configuration that is told.
-pub record Told (peers : ℕ) (given : Config) (rows : List (List (List (Stamped Message)))) : Type 0 where
+pub record HasConfig (peers : ℕ) (given : Config) (rows : List (List (List (Stamped Message)))) : Type 0 where
   pub config : Config
   pub orders : Orders given config
   pub are : AreTold peers config rows
 
-pub told : (peers : ℕ) (given : Config) (nodes : List Seen) (rows : List (List (List (Stamped Message)))) → HaveTables given nodes → AllOpen peers nodes rows → Told peers given rows
+pub told : (peers : ℕ) (given : Config) (nodes : List Seen) (rows : List (List (List (Stamped Message)))) → HaveTables given nodes → AllOpen peers nodes rows → HasConfig peers given rows
 told peers [] [] [] have going = record { config = []; orders = tt; are = tt }
 told peers [] [] (row ∷ rows) have going = absurd going
 told peers [] (node ∷ nodes) rows have going = absurd have
@@ -167,7 +167,7 @@ module _ (given : Config) (nodes : List Seen) (rows : List (List (List (Stamped 
   each_is : (i : ℕ) (node : Seen) → slice_get nodes i ≡ Some node → (i < length given) × (node ≡ seen_first given i)
   each_is i node at = firsts_are given (length given) i node (ap (λ (xs : List Seen). slice_get xs i) (sym are) ∙ at)
 
-  the_told : Told (length nodes - 1) given rows
+  the_told : HasConfig (length nodes - 1) given rows
   the_told = told (length nodes - 1) given nodes rows (have_tables given nodes count (λ i node at. let is = (each_is i node at).1 in (ap (λ (s : Seen). s.state.state.table) is, ap (λ (s : Seen). place_name s.names 0) is))) going
 
   size : length the_told.config ≡ length given

@@ -18,7 +18,7 @@ use Rattle.pg_world.specs.declared.step.Step.TheVariants as steps
 use Rattle.pg_world.specs.declared.step.Stepped.{Stepped}
 use Rattle.pg_world.specs.declared.step.Stepped.TheVariants.{Nothing, Moved, Gone}
 use Rattle.pg_world.specs.Crossings.{Crossing, ShowsBytesPast}
-use Rattle.pg_world.specs.Losing.{Told, losing_of, told_take, told_own, told_sight, LosingLed, LosingComesTo}
+use Rattle.pg_world.specs.Losing.{Telling, losing_of, told_take, told_own, told_sight, LosingLed, LosingComesTo}
 use Rattle.pg_world.specs.Losses.{is_lost}
 use Rattle.pg_world.specs.Views.{Account}
 use Rattle.pg_world.specs.Worlds.{TimedFrameWorld}
@@ -59,13 +59,13 @@ MoveLeaves refusal (Err fault) Shown = ⊥
 -- ---- events
 
 -- What came of a packet that should be taken: as over packets, but that nothing is told where no whole frame has come.
-abbrev pub WholeComesTo : Config → LosingFrameWorld → Told → Result Stepped NodeFault → (LosingFrameWorld → Type 0) → Type 0
+abbrev pub WholeComesTo : Config → LosingFrameWorld → Telling → Result Stepped NodeFault → (LosingFrameWorld → Type 0) → Type 0
 WholeComesTo config u told (Ok Nothing) Shown = Shown u
 WholeComesTo config u told result Shown = LosingComesTo config u told result Shown
 
 -- What came of a loss that should be seen: as over packets, but that bytes of the lost node which are on the ring, if no more than a
 -- piece of a frame, bar it.
-abbrev pub SightComesTo : Config → LosingFrameWorld → Told → Result Stepped NodeFault → (LosingFrameWorld → Type 0) → Type 0
+abbrev pub SightComesTo : Config → LosingFrameWorld → Telling → Result Stepped NodeFault → (LosingFrameWorld → Type 0) → Type 0
 SightComesTo config u told (Err (Refused NotDrained)) Shown = Shown u
 SightComesTo config u told result Shown = LosingComesTo config u told result Shown
 

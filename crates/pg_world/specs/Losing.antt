@@ -127,22 +127,22 @@ own_refusal config u i action =
 
 -- What is told of a step in a world: its event, why it is refused, if it is, whether it would take a packet where none is on the
 -- way, and whether a node is lost by it.
-pub record Told : Type 0 where
+pub record Telling : Type 0 where
   pub event : LosingEvent Action
   pub refusal : Option Refusal
   pub is_idle : Bool
   pub is_loss : Bool
 
 -- a packet is taken
-abbrev pub told_take : Config → LosingFrameWorld → ℕ → ℕ → Told
+abbrev pub told_take : Config → LosingFrameWorld → ℕ → ℕ → Telling
 told_take config u i p = record { event = Step (Take i p); refusal = take_refusal config u i p; is_idle = none_sent (u.world.wire p i); is_loss = false }
 
 -- something of its own
-abbrev pub told_own : Config → LosingFrameWorld → ℕ → Action → Told
+abbrev pub told_own : Config → LosingFrameWorld → ℕ → Action → Telling
 told_own config u i action = record { event = Step (Do i action); refusal = own_refusal config u i action; is_idle = false; is_loss = false }
 
 -- a loss is seen, by taking the last notice
-abbrev pub told_sight : Config → LosingFrameWorld → ℕ → ℕ → Told
+abbrev pub told_sight : Config → LosingFrameWorld → ℕ → ℕ → Telling
 told_sight config u i p = record { event = Step (Take i p); refusal = see_refusal config u i p; is_idle = false; is_loss = false }
 
 -- why a node is not lost, the first that holds: it is not there, or has not a number for each of its peers; it is lost; or more
@@ -154,10 +154,10 @@ loss_refusal config u i keep = first_that_holds (
     ∷ (not (can_keep (length config) u.world i (keep_of i keep)), NoSuchPlace) ∷ [])
 
 -- A node is lost, with a number for each of its peers of how many packets stay on the way there.
-abbrev pub told_loss : Config → LosingFrameWorld → ℕ → List ℕ → Told
+abbrev pub told_loss : Config → LosingFrameWorld → ℕ → List ℕ → Telling
 told_loss config u i keep = record { event = Lose i (keep_of i keep); refusal = loss_refusal config u i keep; is_idle = false; is_loss = true }
 
-abbrev pub told_of : Config → LosingFrameWorld → FrameStep → Told
+abbrev pub told_of : Config → LosingFrameWorld → FrameStep → Telling
 told_of config u (steps.Take i p) = told_take config u i p
 told_of config u (steps.Command i port command) = told_own config u i (Issue port command)
 told_of config u (steps.Retry i op) = told_own config u i (Retry op)
@@ -170,7 +170,7 @@ LosingLed config u e Shown = (v : LosingFrameWorld) × (losing_happens (losing_f
 
 -- What came of a step in the world u: it happened, with a packet on the way if it takes one, and led to a world that is shown; nothing
 -- was on the way; or memory ran out, or it was refused as is told, and the world u is shown.
-abbrev pub LosingComesTo : Config → LosingFrameWorld → Told → Result Stepped NodeFault → (LosingFrameWorld → Type 0) → Type 0
+abbrev pub LosingComesTo : Config → LosingFrameWorld → Telling → Result Stepped NodeFault → (LosingFrameWorld → Type 0) → Type 0
 LosingComesTo config u told (Ok Happened) Shown = (told.is_loss ≡ false) × (told.is_idle ≡ false) × LosingLed config u told.event Shown
 LosingComesTo config u told (Ok Gone) Shown = (told.is_loss ≡ true) × (told.is_idle ≡ false) × LosingLed config u told.event Shown
 LosingComesTo config u told (Ok Nothing) Shown = (told.is_idle ≡ true) × (told.refusal ≡ None) × Shown u

@@ -10,17 +10,17 @@ use Rattle.pg_step.specs.LossLaws.{LosingFrameWorld}
 use Rattle.pg_step.specs.Step.{Action}
 use Rattle.pg_loss.specs.Survived.{LossesSurvived}
 use Rattle.pg_world.specs.declared.step.FrameStep.{FrameStep}
-use Rattle.pg_world.specs.Losing.{Told, told_of}
+use Rattle.pg_world.specs.Losing.{Telling, told_of}
 use Rattle.pg_world.specs.Runs.{Led}
 use Rattle.pg_world.specs.Starts.{Orders}
 
 -- the number of a step that did nothing, by what is told of it: that of its refusal, 0 where no packet was on the way, and 10, out of
 -- memory, where it could have happened
-abbrev pub number_left : Told → ℕ
+abbrev pub number_left : Telling → ℕ
 number_left told = option_map_or refusal_number_of told.refusal (cond told.is_idle 0 10)
 
 -- A step that did nothing has the number of what is told of it, in the place of which memory may run out.
-abbrev pub IsLeftOut : Told → ℕ → Type 0
+abbrev pub IsLeftOut : Telling → ℕ → Type 0
 IsLeftOut told number = (number ≡ number_left told) ⊎ (number ≡ 10)
 
 -- ---- kinds of steps
@@ -31,7 +31,7 @@ pub record LosingKind (S : Type 0) : Type 1 where
   pub LeftOut : Config → LosingFrameWorld → S → ℕ → Type 0
 
 -- the event that is told, with a packet on the way if it takes one
-abbrev pub IsToldEvent : Told → LosingEvent Action → Type 0
+abbrev pub IsToldEvent : Telling → LosingEvent Action → Type 0
 IsToldEvent told e = (e ≡ told.event) × (told.is_idle ≡ false)
 
 abbrev pub packets_past_losses : LosingKind FrameStep

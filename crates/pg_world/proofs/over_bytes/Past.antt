@@ -22,7 +22,7 @@ use Rattle.pg_world.specs.declared.step.Stepped.TheVariants.{Happened, Moved, No
 use Rattle.pg_world.specs.Bars.{put_bar, pull_bar}
 use Rattle.pg_world.specs.BytesLosing.{ShowsLosingBytes, MoveLeaves, WholeComesTo, SightComesTo, LossComesTo, EventLeaves, put_refusal, pull_refusal, gone_refusal}
 use Rattle.pg_world.specs.Crossings.{Crossing, ShowsBytesPast, EventComesTo, MoveComesTo, is_take}
-use Rattle.pg_world.specs.Losing.{losing_of, is_cut_off, is_barred, Told, told_take, told_own, told_of, LosingLed, LosingComesTo}
+use Rattle.pg_world.specs.Losing.{losing_of, is_cut_off, is_barred, Telling, told_take, told_own, told_of, LosingLed, LosingComesTo}
 use Rattle.pg_world.specs.Losses.{is_lost}
 use Rattle.pg_world.specs.Views.{Seen, Account}
 use Rattle.pg_world.specs.Worlds.{TimedFrameWorld, ShowsNodes, has_port, has_places, told}
@@ -104,7 +104,7 @@ module _ (config : Config) (crossing2 : Crossing) (account2 : Account) (lost los
     is = ap (losing_of config w) (sym same);
   }
 
-  module _ (e : Event Action) (tells : Told) (event : tells.event ≡ Step e) (loss : tells.is_loss ≡ false) (stays : is_lost lost (node_of e) ≡ false)
+  module _ (e : Event Action) (tells : Telling) (event : tells.event ≡ Step e) (loss : tells.is_loss ≡ false) (stays : is_lost lost (node_of e) ≡ false)
       (refused : (r : Refusal) → told config w e ≡ Some (Err r) → tells.refusal ≡ Some r)
       (busy : (v : TimedFrameWorld) → happens (frame_machine config) w e ≡ Some v → tells.is_idle ≡ false) where
     led_past : (v : TimedFrameWorld) → happens (frame_machine config) w e ≡ Some v → ShowsBytesPast config lost crossing2 account2 v
@@ -183,7 +183,7 @@ module _ (config : Config) (crossing crossing2 : Crossing) (account account2 : A
 
 -- ---- events that are refused as a place is not there, or as a loss bars them
 
-sight_so : (config : Config) (u : LosingFrameWorld) (tells : Told) (refusal : Refusal) (Shown : LosingFrameWorld → Type 0) → tells.refusal ≡ Some refusal → Shown u
+sight_so : (config : Config) (u : LosingFrameWorld) (tells : Telling) (refusal : Refusal) (Shown : LosingFrameWorld → Type 0) → tells.refusal ≡ Some refusal → Shown u
     → SightComesTo config u tells (Err (Refused refusal)) Shown
 sight_so config u tells NotAMessage Shown is shown = (is, shown)
 sight_so config u tells NoSuchPlace Shown is shown = (is, shown)
@@ -194,7 +194,7 @@ sight_so config u tells ClockFull Shown is shown = (is, shown)
 sight_so config u tells NotLost Shown is shown = (is, shown)
 
 -- as over packets, whatever came of it
-pub sight_from : (config : Config) (u : LosingFrameWorld) (tells : Told) (Shown : LosingFrameWorld → Type 0) (result : Result Stepped NodeFault) → LosingComesTo config u tells result Shown
+pub sight_from : (config : Config) (u : LosingFrameWorld) (tells : Telling) (Shown : LosingFrameWorld → Type 0) (result : Result Stepped NodeFault) → LosingComesTo config u tells result Shown
     → SightComesTo config u tells result Shown
 sight_from config u tells Shown (Ok Happened) comes = comes
 sight_from config u tells Shown (Ok Gone) comes = comes

@@ -19,7 +19,7 @@ use Rattle.pg_world.specs.declared.step.Stepped.{Stepped}
 use Rattle.pg_world.specs.declared.step.Stepped.TheVariants.{Happened, Moved, Nothing, Gone}
 use Rattle.pg_world.specs.BytesLosing.{MoveLeaves, WholeComesTo, SightComesTo, LossComesTo, EventLeaves, StepLeaves, put_refusal, pull_refusal, gone_refusal}
 use Rattle.pg_world.specs.BytesLosingRuns.{bytes_past_losses, IsBytesEvent, IsBytesLeftOut, HasNumber, IsLossOf}
-use Rattle.pg_world.specs.Losing.{Told, LosingComesTo, told_of, told_take, told_sight}
+use Rattle.pg_world.specs.Losing.{Telling, LosingComesTo, told_of, told_take, told_sight}
 use Rattle.pg_world.specs.LosingRuns.{LosingStepsTo, IsToldEvent, IsLeftOut, number_left}
 
 -- what came of a step, by its number: it is no fault, or the fault's number
@@ -47,7 +47,7 @@ module _ (config : Config) (u : LosingFrameWorld) (step : Step) (Shown : LosingF
   -- ---- events
 
   -- as over packets
-  module _ (tells : Told) (is : (e : LosingEvent Action) → IsToldEvent tells e → IsBytesEvent config u step e) (passes : (number : ℕ) → IsLeftOut tells number → IsBytesLeftOut config u step number) where
+  module _ (tells : Telling) (is : (e : LosingEvent Action) → IsToldEvent tells e → IsBytesEvent config u step e) (passes : (number : ℕ) → IsLeftOut tells number → IsBytesLeftOut config u step number) where
     told_so : (result : Result Stepped NodeFault) → LosingComesTo config u tells result Shown → Steps (numbered result)
     told_so (Ok Happened) (loss, busy, led) = inl (record { listed = refl; e = tells.event; is = is tells.event (refl, busy); left = led.0; happened = led.1; rest = led.2 })
     told_so (Ok Gone) (loss, busy, led) = inl (record { listed = refl; e = tells.event; is = is tells.event (refl, busy); left = led.0; happened = led.1; rest = led.2 })

@@ -1,14 +1,14 @@
 use Rattle.std.proofs.Common.{◌≡◌, [], ◌∷◌, codes, refl}
 use Rattle.clap.specs.Words.{fault_of, subcommand_of}
 use Rattle.clap.proofs.OnLiterals.{clap_on_literals}
-use Rattle.pg2sim.specs.CommandLine.{command_line, IsBytes}
+use Rattle.pg2sim.specs.CommandLine.{command_line, AsksBytes}
 use Rattle.pg2sim.proofs.laws.bytes_alone.Goals as goal
 
 taken : fault_of command_line (codes "bytes" ∷ []) ≡ []
 unfolding clap_on_literals
 taken = refl
 
-names : IsBytes (subcommand_of command_line (codes "bytes" ∷ [])) (codes "b") (codes "a")
+names : AsksBytes (subcommand_of command_line (codes "bytes" ∷ [])) (codes "b") (codes "a")
 unfolding clap_on_literals
 names = (refl, refl, refl)
 
