@@ -141,26 +141,39 @@ pub(crate) fn stopped_of<K: Rng + Drop>(
     ensures lost { losses_with result ≡ lost.items }
 {
     let Room {
-        mut nodes,
-        mut rows,
-        mut logs,
+        nodes,
+        rows,
+        logs,
         mut ports,
-        mut notices,
-    } = room;
-    for ran in rans {
-        let (linked, own, _, inlet) = ran.run.into_parts();
-        let (node, row, log) = linked.into_parts();
-        nodes.push_reserved(node);
-        rows.push_reserved(row);
-        logs.push_reserved(log);
-        move_ports(&mut ports, own);
-        notices.push_reserved(inlet);
-    }
+        notices,
+    } = parts_of(rans, room);
     settle_all(rows);
     settle_notices(tellers, notices);
     let mut clients = clients;
     settle_ports(&mut ports, &mut clients);
     Stopped::new(alloc, nodes, logs, clients, lost)
+}
+
+/// What the threads gave back, taken apart, in the order of the nodes. It takes no memory.
+fn parts_of<K: Rng + Drop>(rans: Vec<NodeRan<K>>, room: Room) -> Room
+    requires { HasRoom room (length rans.items) (length (ports_ended rans.items)) }
+    ensures nodes { result.nodes.items ≡ map (λ ran. node_in ran.run) rans.items }
+    ensures rows { map (λ v. v.items) result.rows.items ≡ rows_ended rans.items }
+    ensures logs { map (λ v. v.items) result.logs.items ≡ map (λ ran. log_in ran.run) rans.items }
+    ensures ports { result.ports.items ≡ ports_ended rans.items }
+    ensures notices { result.notices.items ≡ notices_ended rans.items }
+{
+    let mut parts = room;
+    for ran in rans {
+        let (linked, own, _, inlet) = ran.run.into_parts();
+        let (node, row, log) = linked.into_parts();
+        parts.nodes.push_reserved(node);
+        parts.rows.push_reserved(row);
+        parts.logs.push_reserved(log);
+        move_ports(&mut parts.ports, own);
+        parts.notices.push_reserved(inlet);
+    }
+    parts
 }
 
 /// Where what the threads give back goes.

@@ -24,7 +24,7 @@ use pg_run::{Client, Gate};
 use pg_step::Refusal;
 use pg_world::{Config, WorldFault};
 use rand_core::Rng;
-use std::alloc::Global;
+use std::alloc::{AllocError, Global};
 use std::sync::Arc;
 use std::thread::Threads;
 
@@ -46,6 +46,33 @@ pub struct Cluster<K: Rng + Drop> {
     ghost wired: { AreWired (length (threads_in members.items)) (rows_begun (threads_in members.items)) },
     ghost told: { AllPairs AreSlots tellers.items (notices_begun (threads_in members.items)) },
     ghost untold: { IsNobodyLost (losses_in members.items) → AllOf IsSilentTeller tellers.items },
+}
+
+/// Room for what the threads of a cluster give back, and for which of its nodes were lost.
+#[derive(Drop)]
+struct Kept<K: Rng + Drop> {
+    rans: Vec<NodeRan<K>>,
+    lost: Vec<bool>,
+    room: Room,
+}
+
+impl<K: Rng + Drop> Kept<K> {
+    ghost use Rattle.std.specs.Prelude.{vec_len, vec_capacity};
+    ghost use Rattle.pg_cluster.specs.Room.{HasRoom as IsRoomFor};
+
+    /// Room for so many nodes, with so many ports.
+    ///
+    /// Error: `AllocError`.
+    fn with_capacity(alloc: Global, nodes: usize, ports: usize) -> Result<Kept<K>, AllocError>
+        ensures rans { IfOk result (λ kept. (vec_len kept.rans ≡ 0) × (nodes ≤ vec_capacity kept.rans)) }
+        ensures lost { IfOk result (λ kept. (vec_len kept.lost ≡ 0) × (nodes ≤ vec_capacity kept.lost)) }
+        ensures room { IfOk result (λ kept. IsRoomFor kept.room nodes ports) }
+    {
+        let rans = Vec::with_capacity(alloc, nodes)?;
+        let lost = Vec::with_capacity(alloc, nodes)?;
+        let room = Room::with_capacity(alloc, nodes, ports)?;
+        Ok(Kept { rans, lost, room })
+    }
 }
 
 impl<K: Rng + Drop + Send + 'static> Cluster<K> {
@@ -83,26 +110,39 @@ impl<K: Rng + Drop + Send + 'static> Cluster<K> {
         ensures silent { IfOk result (λ started. All IsSilent started.1.items) }
         ensures lost { IfOk result (λ started. NobodyLost (lost_of started.0)) }
     {
-        let made = make(alloc, config, generators)?;
-        let count = made.runs.len();
-        let mut stops = made.stops;
-        let rans = Vec::with_capacity(alloc, count)?;
-        let room = Room::with_capacity(alloc, count, made.clients.len())?;
-        let lost = Vec::with_capacity(alloc, count)?;
         let Ok(gate) = Arc::new(alloc, gate) else {
             return Err(StartFault::World(WorldFault::OutOfMemory));
         };
-        let members = start_all(rt, alloc, made.runs, &mut stops, &gate, limit)?;
-        let cluster = Cluster {
-            members,
-            stops,
-            tellers: made.tellers,
-            rans,
-            lost,
-            room,
-            alloc,
+        let made = make(alloc, config, generators)?;
+        let kept = match Kept::with_capacity(alloc, made.runs.len(), made.clients.len()) {
+            Ok(kept) => kept,
+            Err(AllocError) => {
+                drop(made);
+                return Err(StartFault::World(WorldFault::OutOfMemory));
+            }
         };
-        Ok((cluster, made.clients))
+        let mut stops = made.stops;
+        match start_all(rt, alloc, made.runs, &mut stops, &gate, limit) {
+            Ok(members) => {
+                let cluster = Cluster {
+                    members,
+                    stops,
+                    tellers: made.tellers,
+                    rans: kept.rans,
+                    lost: kept.lost,
+                    room: kept.room,
+                    alloc,
+                };
+                Ok((cluster, made.clients))
+            }
+            Err(fault) => {
+                drop(stops);
+                drop(made.tellers);
+                drop(made.clients);
+                drop(kept);
+                Err(fault)
+            }
+        }
     }
 
     /// A node is lost for good: its thread is stopped and joined, and each other node is told of it, with the clock of the node at

@@ -79,9 +79,23 @@ fn make_all<K: Rng + Drop>(
     let mut rows = rows.into_iter();
     let mut generators = generators.into_iter();
     for node in nodes {
-        match (rows.next(), generators.next()) {
-            (Some(row), Some(generator)) => made.add(alloc, node, row, generator)?,
-            _ => return Err(StartFault::World(WorldFault::BadConfig)),
+        let Some(row) = rows.next() else {
+            drop(node);
+            drop(made);
+            return Err(StartFault::World(WorldFault::BadConfig));
+        };
+        let Some(generator) = generators.next() else {
+            drop(node);
+            drop(row);
+            drop(made);
+            return Err(StartFault::World(WorldFault::BadConfig));
+        };
+        match made.add(alloc, node, row, generator) {
+            Ok(()) => {}
+            Err(fault) => {
+                drop(made);
+                return Err(fault);
+            }
         }
     }
     Ok(made)

@@ -500,7 +500,7 @@ impl Opens {
         ensures nodes { names_of self.new ≡ names_of self.old }
     {
         if let Some(place) = place_of(&self.commands, number) {
-            self.commands.remove(place);
+            drop(self.commands.remove(place));
         }
     }
 
@@ -541,7 +541,7 @@ impl Opens {
         ensures nodes { names_of self.new ≡ names_of self.old }
     {
         if let Some(place) = place_of_op(&self.commands, op) {
-            self.commands.remove(place);
+            drop(self.commands.remove(place));
         }
     }
 

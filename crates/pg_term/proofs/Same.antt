@@ -26,6 +26,10 @@ at = by false false the_parts (λ a b. int_eq a.0 b.0, (λ a b. pointwise nat_eq
 abbrev Same : Term → Type 0
 Same x = (y : Term) → eq x y ≡ true → x ≡ y
 
+-- (by name, since `cc` reads again, each time, the case analysis to which such an equation computes)
+apart : {A : Type 0} → false ≡ true → A
+apart e = absurd cc
+
 -- it is enough to look at the variants of the second
 by_variants : (c : Choice the_parts) → ((d : Choice the_parts) → at c d ≡ true → the_make c ≡ the_make d) → Same (the_make c)
 by_variants c h y e =
@@ -34,45 +38,45 @@ by_variants c h y e =
 
 all_same : (xs : List ((t : Term) × Same t)) (ys : List Term) → pointwise eq (map (λ e. e.0) xs) ys ≡ true → map (λ e. e.0) xs ≡ ys
 all_same [] [] e = refl
-all_same [] (y ∷ ys) e = absurd cc
-all_same (x ∷ xs) [] e = absurd cc
+all_same [] (y ∷ ys) e = apart e
+all_same (x ∷ xs) [] e = apart e
 all_same (x ∷ xs) (y ∷ ys) e = λ i. x.1 y (first_so (eq x.0 y) (pointwise eq (map (λ e. e.0) xs) ys) e) i ∷ all_same xs ys (second_so (eq x.0 y) (pointwise eq (map (λ e. e.0) xs) ys) e) i
 
 int_same : (n : ℤ) (d : Choice the_parts) → at (inl (n, tt)) d ≡ true → Int n ≡ the_make d
 int_same n (inl m) e = ap Int ((signed_Decides n m.0).0 e)
-int_same n (inr d) e = absurd cc
+int_same n (inr d) e = apart e
 
 tuple_same : (xs : List ((t : Term) × Same t)) (d : Choice the_parts) → at (inr (inr (inr (inr (inl (map (λ e. e.0) xs, tt)))))) d ≡ true → Tuple (map (λ e. e.0) xs) ≡ the_make d
-tuple_same xs (inl a) e = absurd cc
-tuple_same xs (inr (inl a)) e = absurd cc
-tuple_same xs (inr (inr (inl a))) e = absurd cc
-tuple_same xs (inr (inr (inr (inl a)))) e = absurd cc
+tuple_same xs (inl a) e = apart e
+tuple_same xs (inr (inl a)) e = apart e
+tuple_same xs (inr (inr (inl a))) e = apart e
+tuple_same xs (inr (inr (inr (inl a)))) e = apart e
 tuple_same xs (inr (inr (inr (inr (inl ys))))) e = ap Tuple (all_same xs ys.0 (second_so _ _ e))
-tuple_same xs (inr (inr (inr (inr (inr d))))) e = absurd cc
+tuple_same xs (inr (inr (inr (inr (inr d))))) e = apart e
 
 list_same : (xs : List ((t : Term) × Same t)) (d : Choice the_parts) → at (inr (inr (inr (inr (inr (inl (map (λ e. e.0) xs, tt))))))) d ≡ true → Listed (map (λ e. e.0) xs) ≡ the_make d
-list_same xs (inl a) e = absurd cc
-list_same xs (inr (inl a)) e = absurd cc
-list_same xs (inr (inr (inl a))) e = absurd cc
-list_same xs (inr (inr (inr (inl a)))) e = absurd cc
-list_same xs (inr (inr (inr (inr (inl a))))) e = absurd cc
+list_same xs (inl a) e = apart e
+list_same xs (inr (inl a)) e = apart e
+list_same xs (inr (inr (inl a))) e = apart e
+list_same xs (inr (inr (inr (inl a)))) e = apart e
+list_same xs (inr (inr (inr (inr (inl a))))) e = apart e
 list_same xs (inr (inr (inr (inr (inr (inl ys)))))) e = ap Listed (all_same xs ys.0 e)
-list_same xs (inr (inr (inr (inr (inr (inr d)))))) e = absurd cc
+list_same xs (inr (inr (inr (inr (inr (inr d)))))) e = apart e
 
 binary_same : (a : List ℕ) (d : Choice the_parts) → at (inr (inr (inr (inr (inr (inr (inl (a, tt)))))))) d ≡ true → Binary a ≡ the_make d
-binary_same a (inl b) e = absurd cc
-binary_same a (inr (inl b)) e = absurd cc
-binary_same a (inr (inr (inl b))) e = absurd cc
-binary_same a (inr (inr (inr (inl b)))) e = absurd cc
-binary_same a (inr (inr (inr (inr (inl b))))) e = absurd cc
-binary_same a (inr (inr (inr (inr (inr (inl b)))))) e = absurd cc
+binary_same a (inl b) e = apart e
+binary_same a (inr (inl b)) e = apart e
+binary_same a (inr (inr (inl b))) e = apart e
+binary_same a (inr (inr (inr (inl b)))) e = apart e
+binary_same a (inr (inr (inr (inr (inl b))))) e = apart e
+binary_same a (inr (inr (inr (inr (inr (inl b)))))) e = apart e
 binary_same a (inr (inr (inr (inr (inr (inr (inl b))))))) e = ap Binary ((bytes_decides a b.0).0 e)
 binary_same a (inr (inr (inr (inr (inr (inr (inr d))))))) e = absurd d
 
 atom_same : (a : List ℕ) (d : Choice the_parts) → at (inr (inl (a, tt))) d ≡ true → Atom a ≡ the_make d
-atom_same a (inl b) e = absurd cc
+atom_same a (inl b) e = apart e
 atom_same a (inr (inl b)) e = ap Atom ((bytes_decides a b.0).0 e)
-atom_same a (inr (inr d)) e = absurd cc
+atom_same a (inr (inr d)) e = apart e
 
 pub ref_is : (a b : RefParts) → ref_eq a b ≡ true → a ≡ b
 ref_is a b e =
@@ -83,10 +87,10 @@ ref_is a b e =
     λ i. record { node = node i; creation = creation i; words = words i }
 
 ref_same : (r : RefParts) (d : Choice the_parts) → at (inr (inr (inl (r, tt)))) d ≡ true → Ref r ≡ the_make d
-ref_same r (inl b) e = absurd cc
-ref_same r (inr (inl b)) e = absurd cc
+ref_same r (inl b) e = apart e
+ref_same r (inr (inl b)) e = apart e
 ref_same r (inr (inr (inl b))) e = ap Ref (ref_is r b.0 e)
-ref_same r (inr (inr (inr d))) e = absurd cc
+ref_same r (inr (inr (inr d))) e = apart e
 
 pub pid_is : (a b : Pid) → pid_ghosts.eq a b ≡ true → a ≡ b
 pid_is a b e =
@@ -99,11 +103,11 @@ pid_is a b e =
     λ i. record { node = node i; serial = serial i; id = id i; creation = creation i }
 
 pid_same : (p : Pid) (d : Choice the_parts) → at (inr (inr (inr (inl (p, tt))))) d ≡ true → Process p ≡ the_make d
-pid_same r (inl b) e = absurd cc
-pid_same r (inr (inl b)) e = absurd cc
-pid_same r (inr (inr (inl b))) e = absurd cc
+pid_same r (inl b) e = apart e
+pid_same r (inr (inl b)) e = apart e
+pid_same r (inr (inr (inl b))) e = apart e
 pid_same r (inr (inr (inr (inl b)))) e = ap Process (pid_is r b.0 e)
-pid_same r (inr (inr (inr (inr d)))) e = absurd cc
+pid_same r (inr (inr (inr (inr d)))) e = apart e
 
 layer_same : (y : Term-F ((t : Term) × Same t)) → Same (roll-Term (map-Term ((t : Term) × Same t) Term (λ e. e.0) y))
 layer_same (Term-F.Int n) = subst Same (sym (rolls-Int n)) (by_variants (inl (n, tt)) (int_same n))

@@ -113,11 +113,24 @@ pub(crate) fn begun(
     ensures fits { IfOk result (λ calls. AreSendable (names_of opens.now) calls.done.sends.items) }
 {
     let update = update_under(opens, number);
-    let lock = reference_of(opens.name(0), number)?;
     let call = reference_of(opens.name(0), opens.references() + 1)?;
-    let sends = to_left(alloc, clock, Order::Change(update, &call), opens)?;
-    let began = (op, update.copy(alloc)?);
-    Ok(made_calls(sends, Some(began), lock))
+    let told = to_left(alloc, clock, Order::Change(update, &call), opens);
+    drop(call);
+    let sends = told?;
+    match reference_of(opens.name(0), number) {
+        Ok(lock) => match update.copy(alloc) {
+            Ok(update) => Ok(made_calls(sends, Some((op, update)), lock)),
+            Err(fault) => {
+                drop(sends);
+                drop(lock);
+                Err(fault)
+            }
+        },
+        Err(fault) => {
+            drop(sends);
+            Err(fault)
+        }
+    }
 }
 
 /// The command ends: every peer that counts frees the lock. `lock`: the number of its reference.

@@ -9,14 +9,14 @@ pub loop-node-preserved : goal.loop-node-preserved
 loop-node-preserved g c =
     let was = c.loop-node.invariant in
     let runs = c.loop-node.made.runs.items in
-    let added = c.in_ok-add-in-Some-Some.ensures in
+    let added = c.in-Ok.ensures in
     let rest = into_iter_items c.next.new.self in
     let rows = into_iter_items c.next-in-loop-node.new.self in
-    let step : into_iter_items c.loop-node.rows ≡ c.in-Some-Some.row ∷ rows = search rules in (
+    let step : into_iter_items c.loop-node.rows ≡ c.in-Some-next.row ∷ rows = search rules in (
       search rules,
       search rules,
       ap (λ xs. xs ++ rest) added.nodes ∙ (append_assoc (map node_in runs) (c.in-Some.node ∷ []) rest ∙ (ap (λ zs. map node_in runs ++ zs) (sym c.in-Some.ensures.steps.0) ∙ was.2)),
-      ap (λ xs. xs ++ map (λ v. v.items) rows) added.rows ∙ one_moves (λ v. v.items) (map row_in runs) (into_iter_items c.loop-node.rows) rows c.in-Some-Some.row _ (sym step) was.3,
+      ap (λ xs. xs ++ map (λ v. v.items) rows) added.rows ∙ one_moves (λ v. v.items) (map row_in runs) (into_iter_items c.loop-node.rows) rows c.in-Some-next.row _ (sym step) was.3,
       added.unlogged was.4,
       (let more : length c.add.new.self.runs.items ≡ length runs + 1 =
           sym (length-map c.add.new.self.runs.items node_in) ∙ (ap length added.nodes ∙ (length-append (map node_in runs) (c.in-Some.node ∷ []) ∙ ap (λ n. n + 1) (length-map runs node_in))) in

@@ -15,46 +15,48 @@ use Rattle.pg_cluster.proofs.cluster.Cluster.start.Goals as goal
 pub invariant_of-cluster : goal.invariant_of-cluster
 invariant_of-cluster g c =
     let runs = c.in_ok-made.made.runs in
-    let members = c.in_ok-members.members in
+    let members = c.in-Ok-start_all.members in
     let threads = threads_in members.items in
-    let started = c.in_ok-members.ensures.started in
+    let started = c.in-Ok-start_all.ensures.started in
     let same : length threads ≡ length runs.items = started.0 in
     let mapped : length threads ≡ length members.items = length-map members.items thread_of in
     let size : vec_len members ≡ vec_len runs = members.ok.0 ∙ (sym mapped ∙ (same ∙ sym runs.ok.0)) in
-    let count : c.len-count.result ≡ vec_len runs = c.len-count.ensures in
+    let kept = c.in-Ok-with_capacity.kept in
+    let has = c.in-Ok-with_capacity.ensures in
+    let count : c.len.result ≡ vec_len runs = c.len.ensures in
     let clients = c.in_ok-made.made.clients in
     let opened = started_clients runs.items c.args.limit threads clients.items started c.in_ok-made.ensures.clients in
     let tellers = c.in_ok-made.made.tellers.items in
     let fresh = started_notices IsFresh runs.items c.args.limit threads tellers started c.in_ok-made.ensures.notices in
-    let told : c.len.result ≡ length clients.items = search rules in
-    let places : c.len.result ≡ length (ports_begun threads) = told ∙ opened.len in
-    let room = c.in_ok-rans.ensures.capacity in
-    let marks = c.in_ok-lost.ensures.capacity in record {
-      lost_fit = (search rules, omega arith);
-      rans_fit = (search rules, omega arith);
-      room_fits = subst (λ n. HasRoom c.in_ok-room.room n (length (ports_begun threads))) (count ∙ sym size) (subst (HasRoom c.in_ok-room.room c.len-count.result) places c.in_ok-room.ensures);
+    let told : c.len-2.result ≡ length clients.items = c.len-2.ensures ∙ clients.ok.0 in
+    let places : c.len-2.result ≡ length (ports_begun threads) = told ∙ opened.len in
+    let room = has.rans.1 in
+    let marks = has.lost.1 in record {
+      lost_fit = (has.lost.0, omega arith);
+      rans_fit = (has.rans.0, omega arith);
+      room_fits = subst (λ n. HasRoom kept.room n (length (ports_begun threads))) (count ∙ sym size) (subst (HasRoom kept.room c.len.result) places has.room);
       wired = started_wired c.args.config.now.starts.items runs.items c.args.limit threads c.in_ok-made.ensures.made started;
       told = pairs_so IsFresh AreSlots (λ teller inlet both. both.0) tellers (notices_begun threads) fresh;
       untold = λ nobody. pairs_left IsFresh IsSilentTeller (λ teller inlet both. both.1) tellers (notices_begun threads) fresh;
     }
 
-pub returns-clause-starts : goal.returns-clause-starts
-returns-clause-starts g c =
-    subst (AreMade c.args.config.now.starts.items) (sym (started_runs c.in_ok-made.made.runs.items c.args.limit (threads_in c.in_ok-members.members.items) c.in_ok-members.ensures.started)) c.in_ok-made.ensures.made
+pub returns-in-Ok-start_all-clause-starts : goal.returns-in-Ok-start_all-clause-starts
+returns-in-Ok-start_all-clause-starts g c =
+    subst (AreMade c.args.config.now.starts.items) (sym (started_runs c.in_ok-made.made.runs.items c.args.limit (threads_in c.in-Ok-start_all.members.items) c.in-Ok-start_all.ensures.started)) c.in_ok-made.ensures.made
 
-pub returns-clause-limit : goal.returns-clause-limit
-returns-clause-limit g c = started_limits c.in_ok-made.made.runs.items c.args.limit (threads_in c.in_ok-members.members.items) c.in_ok-members.ensures.started
+pub returns-in-Ok-start_all-clause-limit : goal.returns-in-Ok-start_all-clause-limit
+returns-in-Ok-start_all-clause-limit g c = started_limits c.in_ok-made.made.runs.items c.args.limit (threads_in c.in-Ok-start_all.members.items) c.in-Ok-start_all.ensures.started
 
-pub returns-clause-clients : goal.returns-clause-clients
-returns-clause-clients g c =
-    let threads = (threads_in c.in_ok-members.members.items) in
+pub returns-in-Ok-start_all-clause-clients : goal.returns-in-Ok-start_all-clause-clients
+returns-in-Ok-start_all-clause-clients g c =
+    let threads = (threads_in c.in-Ok-start_all.members.items) in
     let clients = c.in_ok-made.made.clients.items in
     pairs_so IsOpen ArePort (λ client port both. both.0) clients (ports_begun threads)
-    (started_clients c.in_ok-made.made.runs.items c.args.limit threads clients c.in_ok-members.ensures.started c.in_ok-made.ensures.clients)
+    (started_clients c.in_ok-made.made.runs.items c.args.limit threads clients c.in-Ok-start_all.ensures.started c.in_ok-made.ensures.clients)
 
-pub returns-clause-silent : goal.returns-clause-silent
-returns-clause-silent g c =
-    let threads = (threads_in c.in_ok-members.members.items) in
+pub returns-in-Ok-start_all-clause-silent : goal.returns-in-Ok-start_all-clause-silent
+returns-in-Ok-start_all-clause-silent g c =
+    let threads = (threads_in c.in-Ok-start_all.members.items) in
     let clients = c.in_ok-made.made.clients.items in
     pairs_left IsOpen IsSilent (λ client port both. both.1.0) clients (ports_begun threads)
-    (started_clients c.in_ok-made.made.runs.items c.args.limit threads clients c.in_ok-members.ensures.started c.in_ok-made.ensures.clients)
+    (started_clients c.in_ok-made.made.runs.items c.args.limit threads clients c.in-Ok-start_all.ensures.started c.in_ok-made.ensures.clients)

@@ -1,13 +1,28 @@
-use Rattle.std.proofs.Common.{◌≡◌, ◌++◌, ◌∷◌, [], sym, ap, ◌∙◌, subst}
+use Rattle.std.proofs.Common.{◌≡◌, ◌++◌, ◌∷◌, [], map, sym, ap, ◌∙◌, subst}
 use Rattle.std.specs.List.{All}
+use Rattle.std.proofs.lemmas.List.{map-append}
 use Rattle.pg_ring.specs.Slots.{taken}
-use Rattle.pg_run.specs.Follows.{log_of}
+use Rattle.pg_run.specs.Follows.{node_of, peers_of, log_of}
 use Rattle.pg_run.specs.Notices.{IsUntold}
 use Rattle.pg_run.specs.Runs.{notices_of}
-use Rattle.pg_cluster.specs.Threads.{log_in}
+use Rattle.pg_cluster.specs.Threads.{node_in, row_in, log_in}
 use Rattle.pg_cluster.proofs.Opening.{opened_more, fresh_more}
 use Rattle.pg_cluster.proofs.Starts.{all_push}
 use Rattle.pg_cluster.proofs.runs.Made.add.Goals as goal
+
+pub returns-in-Ok-clause-nodes : goal.returns-in-Ok-clause-nodes
+returns-in-Ok-clause-nodes g c =
+    let runs = c.args.self.now.runs.items in
+    let items = c.push_reserved.ensures.items ∙ ap (λ runs. runs ++ c.new-run.result ∷ []) c.open.ensures.runs in
+    ap (map node_in) items ∙ (map-append node_in runs (c.new-run.result ∷ [])
+    ∙ ap (λ node. map node_in runs ++ node ∷ []) (ap node_of c.new-run.ensures.linked ∙ c.new-linked.ensures.node))
+
+pub returns-in-Ok-clause-rows : goal.returns-in-Ok-clause-rows
+returns-in-Ok-clause-rows g c =
+    let runs = c.args.self.now.runs.items in
+    let items = c.push_reserved.ensures.items ∙ ap (λ runs. runs ++ c.new-run.result ∷ []) c.open.ensures.runs in
+    ap (map row_in) items ∙ (map-append row_in runs (c.new-run.result ∷ [])
+    ∙ ap (λ row. map row_in runs ++ row ∷ []) (ap peers_of c.new-run.ensures.linked ∙ c.new-linked.ensures.peers))
 
 pub returns-in-Ok-clause-unlogged : goal.returns-in-Ok-clause-unlogged
 returns-in-Ok-clause-unlogged g c = λ all.
