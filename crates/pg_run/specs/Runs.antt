@@ -1,5 +1,5 @@
 -- What turns make of a node that runs.
-use Rattle.std.specs.Prelude.{◌≡◌, ◌⊎◌, ◌<◌, ◌+◌, ℕ, length, List, [], ◌∷◌}
+use Rattle.std.specs.Prelude.{◌≡◌, ◌⊎◌, ◌<◌, ◌+◌, ℕ, Bool, length, List, [], ◌∷◌}
 use Rattle.pg_ring.specs.declared.slot_in.SlotIn.{SlotIn}
 use Rattle.pg_group.specs.declared.table.GroupTable.{Ghosts}
 use Rattle.pg_run.specs.declared.linked.LinkedNode.{LinkedNode}
@@ -32,6 +32,10 @@ module _ {T L I K : Type 0} {g : Ghosts T} where
 
   abbrev pub notices_at : NodeRun T L I K g → SlotIn Notice
   notices_at run = inlet_of run.notices
+
+  -- something moved or happened in the last turn
+  abbrev pub busy_of : NodeRun T L I K g → Bool
+  busy_of run = run.busy
 
   -- Turns led from the one to the other. The losses that their acts saw are, in their order, the next of those that were told.
   pub record Runs (accepts : L → List ℕ → L → Type 0) (gives : I → List ℕ → I → Type 0) (a b : NodeRun T L I K g) : Type 0 where

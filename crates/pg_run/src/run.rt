@@ -51,16 +51,16 @@ pub struct NodeRun<T: GroupTable, L: Drop, I: Drop, K: Drop> {
     generator: K,
     pub(crate) pauses: Pauses,
     // Something moved or happened in the last turn.
-    busy: bool,
+    pub(crate) busy: bool,
     alloc: Global,
     ghost ported: { length ports.items ≡ ports_of (held_by (node_of linked)) },
 }
 
 impl<T: GroupTable + Drop, L: Link + Drop, I: Inlet + Drop, K: Rng + Drop> NodeRun<T, L, I, K> {
-    ghost use Rattle.std.specs.Prelude.{[]};
+    ghost use Rattle.std.specs.Prelude.{[], false};
     ghost use Rattle.pg_run.specs.Notices.{kept_of};
     ghost use Rattle.pg_run.specs.Tries.{RetriedBy, WholeTurn};
-    ghost use Rattle.pg_run.specs.Runs.{linked_of, ports_at, stop_of, notices_at, notices_of, Runs, TurnedTo};
+    ghost use Rattle.pg_run.specs.Runs.{linked_of, ports_at, stop_of, notices_at, notices_of, busy_of, Runs, TurnedTo};
 
     /// A node that has made no turn. It takes no memory.
     pub fn new(
@@ -77,6 +77,7 @@ impl<T: GroupTable + Drop, L: Link + Drop, I: Inlet + Drop, K: Rng + Drop> NodeR
         ensures stop { stop_of result ≡ stop }
         ensures notices { notices_at result ≡ notices }
         ensures kept { kept_of (notices_of result) ≡ [] }
+        ensures busy { busy_of result ≡ false }
     {
         NodeRun {
             linked,
@@ -98,7 +99,9 @@ impl<T: GroupTable + Drop, L: Link + Drop, I: Inlet + Drop, K: Rng + Drop> NodeR
     }
 
     /// Whether something moved or happened in the last turn. It takes no memory.
-    pub fn is_busy(&self) -> bool {
+    pub fn is_busy(&self) -> bool
+        ensures { result ≡ busy_of self.now }
+    {
         self.busy
     }
 
