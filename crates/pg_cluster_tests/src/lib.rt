@@ -12,6 +12,8 @@ mod losses;
 #[cfg(test)]
 mod memory;
 #[cfg(test)]
+mod merges;
+#[cfg(test)]
 mod programs;
 #[cfg(test)]
 mod rings;

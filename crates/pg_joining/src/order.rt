@@ -63,24 +63,3 @@ pub fn order_of_logs<E>(
     }
     Ok(order)
 }
-
-#[cfg(test)]
-mod tests {
-    use super::*;
-    use std::test::Fail;
-
-    #[test]
-    fn by_clock_then_by_log(rt: HostRuntime) -> Result<(), Fail> {
-        let alloc = rt.alloc();
-        let first = vec![in alloc; (1, 'a'), (4, 'b')]?;
-        let empty = Vec::new(alloc);
-        let last = vec![in alloc; (1, 'c'), (2, 'd')]?;
-        let logs = vec![in alloc; first, empty, last]?;
-        let order = match order_of_logs(alloc, &logs) {
-            Err(_) => order_of_logs(alloc, &logs)?,
-            Ok(order) => order,
-        };
-        assert_eq!(rt; &order[..], &[(0, 0), (2, 0), (2, 1), (0, 1)][..]);
-        Ok(())
-    }
-}

@@ -1,4 +1,5 @@
-//! What is only run of worlds of nodes: the worked examples as steps, random schedules, and the headline by a slow reading of it.
+//! What is only run of worlds of nodes and of scripts: the worked examples as steps, random schedules, the headline by a slow reading of it,
+//! and texts that are scripts or are none.
 #![tactic(auto)]
 
 #[cfg(test)]
@@ -19,6 +20,8 @@ mod prefixes;
 mod random;
 #[cfg(test)]
 mod said;
+#[cfg(test)]
+mod scripts;
 #[cfg(test)]
 mod slow;
 #[cfg(test)]

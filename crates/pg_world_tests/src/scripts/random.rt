@@ -1,5 +1,5 @@
 // Random lines: the reader tells one fault of a text, always.
-use crate::played::{fault_of, holds_at, is_same};
+use crate::scripts::played::{fault_of, holds_at, is_same};
 use std::alloc::{AllocError, Global};
 use std::test::*;
 

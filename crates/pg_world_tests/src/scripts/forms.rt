@@ -1,5 +1,5 @@
 // Scripts that run: names in quotes, and rings of one byte.
-use crate::played::{fault_of, holds, holds_at, joined, prints};
+use crate::scripts::played::{fault_of, holds, holds_at, joined, prints};
 use std::alloc::{AllocError, Global};
 use std::test::*;
 

@@ -1,5 +1,5 @@
 // Faulty lines, each behind two nodes.
-use crate::played::{fault_of, holds, is_same, joined};
+use crate::scripts::played::{fault_of, holds, is_same, joined};
 use std::alloc::{AllocError, Global};
 use std::process::Abort;
 use std::test::*;
