@@ -2,7 +2,6 @@ pub mod Bytes
 pub mod CommandLine
 pub mod Faults
 pub mod Inputs
-pub mod Progress
 pub mod Scripts
 pub mod Status
 pub mod Talks

@@ -3,35 +3,26 @@
 
 mod bytes;
 mod fault;
-#[cfg(test)]
-mod frames;
 mod help;
 mod input;
 mod laws;
-mod progress;
 mod run;
-#[cfg(test)]
-mod runs;
 mod script;
-#[cfg(test)]
-mod streams;
 mod system;
-#[cfg(test)]
-mod talks;
 #[cfg(test)]
 mod tests;
 mod threads;
 mod words;
 
 use pg_node::{AnyReader, AnyWriter};
-use progress::Progress;
+use pg_progress::Progress;
 use run::{OUT_OF_MEMORY, refuse, refuse_given, run_words};
 use std::io::BufWriter;
 use std::process::ExitCode;
 use std::thread::Threads;
 use std::time::Instant;
 use std::{env, io, vec};
-use system::HostSystem;
+use system::{HostSystem, Shown};
 
 /// The words behind the program's name.
 fn given_words(rt: &HostRuntime) -> io::Result<Vec<String>> {
@@ -56,7 +47,7 @@ fn status(rt: &HostRuntime, threads: &impl Threads, words: &[String]) -> io::Res
         rt,
         threads,
         begun: Instant::now(rt)?,
-        progress: Progress::new(rt.stderr(), rt),
+        progress: Shown(Progress::new(rt.stderr(), rt)),
     };
     Ok(run_words(
         rt.alloc(),

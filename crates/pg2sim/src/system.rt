@@ -5,12 +5,12 @@ ghost use Rattle.pg_cluster.specs.declared.conversation.Conversation.{Conversati
 ghost use Rattle.pg_cluster.specs.declared.conversation.Outcome.{Outcome};
 ghost use Rattle.pg_cluster.specs.declared.fault.StartFault.{StartFault};
 
-use crate::progress::Progress;
-use pg_cluster::{Conversation, Outcome, StartFault, run_threads};
+use pg_cluster::{Conversation, Onlooker, Outcome, StartFault, run_threads};
+use pg_progress::Progress;
 use std::alloc::Global;
 use std::io::Write;
 use std::thread::Threads;
-use std::time::Instant;
+use std::time::{Clock, Instant};
 use std::{fs, io};
 
 /// Where files are made, threads run, and time goes by.
@@ -45,7 +45,17 @@ pub(crate) struct HostSystem<'a, R, T> {
     pub(crate) rt: &'a HostRuntime,
     pub(crate) threads: &'a R,
     pub(crate) begun: Instant,
-    pub(crate) progress: Progress<T, &'a HostRuntime>,
+    pub(crate) progress: Shown<T, &'a HostRuntime>,
+}
+
+/// A conversation's progress, on a terminal.
+#[derive(Drop)]
+pub(crate) struct Shown<T, C>(pub(crate) Progress<T, C>);
+
+impl<T: Write, C: Clock> Onlooker for Shown<T, C> {
+    fn look(&mut self, answered: u64, asked: u64) {
+        self.0.look(answered, asked);
+    }
 }
 
 impl<R: Threads, T: Write> System for HostSystem<'_, R, T> {
@@ -60,7 +70,7 @@ impl<R: Threads, T: Write> System for HostSystem<'_, R, T> {
 
     fn converse(&mut self, asked: Conversation) -> Result<Outcome, StartFault> {
         let told = run_threads(self.threads, self.alloc, asked, &mut self.progress);
-        self.progress.end();
+        self.progress.0.end();
         told
     }
 

@@ -1,11 +1,10 @@
-//! How far a conversation is, shown on a terminal while the clients speak.
+//! A line on a terminal that shows how far some work is.
 
 ghost use Rattle.std.specs.Prelude.{◌≡◌, ◌≤◌, ◌-◌, ◌/◌, ◌↔◌, ⊤, IsTrue, IsFalse, MatchOption, None, OnOk};
 ghost use Rattle.std.specs.Io.KnownBytes.{Appends};
 ghost use Rattle.std.specs.Time.{instant_nanos};
-ghost use Rattle.pg2sim.specs.Progress.{progress_line, wiped_line};
+ghost use Rattle.pg_progress.specs.Lines.{progress_line, wiped_line};
 
-use pg_cluster::Onlooker;
 use std::io;
 use std::io::{IsTerminal, Write};
 use std::time::{Clock, Instant};
@@ -19,10 +18,11 @@ const BETWEEN_READINGS: u128 = 125;
 /// How many milliseconds a line stands before it is written anew.
 const BETWEEN_LINES: u128 = 1_000;
 
-/// A line that shows how far a conversation is, where there is a terminal.
+/// A line `answered X of Y` that shows how far some work is, where there is a terminal. It is written anew over itself about once a second.
 #[derive(Drop)]
-pub(crate) struct Progress<T, C> {
-    pub(crate) terminal: T,
+pub struct Progress<T, C> {
+    /// Where it is shown.
+    pub terminal: T,
     clock: C,
     is_terminal: bool,
     // When the line was written last; `None`: no line stands.
@@ -37,7 +37,7 @@ pub(crate) struct Progress<T, C> {
 
 impl<T: Write + IsTerminal, C: Clock> Progress<T, C> {
     /// No line stands yet.
-    pub(crate) fn new(terminal: T, clock: C) -> Progress<T, C>
+    pub fn new(terminal: T, clock: C) -> Progress<T, C>
         ensures { result.terminal ≡ terminal }
     {
         let is_terminal = terminal.is_terminal();
@@ -55,7 +55,7 @@ impl<T: Write + IsTerminal, C: Clock> Progress<T, C> {
 
 impl<T: Write, C: Clock> Progress<T, C> {
     /// Wipes the line, if one stands; a write that fails changes nothing else.
-    pub(crate) fn end(&mut self)
+    pub fn end(&mut self)
         ensures wiped { self.new.written ≡ None }
         ensures elsewhere { IsFalse self.old.is_terminal → self.new.terminal ≡ self.old.terminal }
     {
@@ -63,6 +63,21 @@ impl<T: Write, C: Clock> Progress<T, C> {
             let _ = wipe(&mut self.terminal);
         }
         self.left = 0;
+    }
+
+    /// Shows that so many are answered of so many, if it is time to write the line anew. It takes no memory, and reads the clock only now and then: once
+    /// in 4,097 looks, and more often only where these would take longer than an eighth of a second. A write that fails changes nothing else.
+    pub fn look(&mut self, answered: u64, asked: u64)
+        ensures elsewhere { IsFalse self.old.is_terminal → self.new ≡ self.old }
+    {
+        if !self.is_terminal {
+            return;
+        }
+        if self.left > 0 {
+            self.left -= 1;
+            return;
+        }
+        self.show(answered, asked);
     }
 
     /// Reads the clock, and writes the line anew if it is time to; a write that fails changes nothing else.
@@ -98,21 +113,6 @@ impl<T: Write, C: Clock> Progress<T, C> {
     }
 }
 
-impl<T: Write, C: Clock> Onlooker for Progress<T, C> {
-    fn look(&mut self, answered: u64, asked: u64)
-        ensures elsewhere { IsFalse self.old.is_terminal → self.new ≡ self.old }
-    {
-        if !self.is_terminal {
-            return;
-        }
-        if self.left > 0 {
-            self.left -= 1;
-            return;
-        }
-        self.show(answered, asked);
-    }
-}
-
 /// Whether so many milliseconds went by since some time, or there was none.
 fn has_gone_by(since: Option<Instant>, now: Instant, milliseconds: u128) -> bool
     ensures { IsTrue result ↔ MatchOption since ⊤ (λ since. milliseconds ≤ (instant_nanos now - instant_nanos since) / 1_000_000) }
@@ -123,7 +123,7 @@ fn has_gone_by(since: Option<Instant>, now: Instant, milliseconds: u128) -> bool
     }
 }
 
-/// Writes how far a conversation is, over the line that stands.
+/// Writes how far the work is, over the line that stands.
 ///
 /// Error: that of the writer.
 fn write_line<W: Write>(out: &mut W, answered: u64, asked: u64) -> io::Result<()>

@@ -1,76 +1,76 @@
-//! Frames that tests send, and those that are answered.
+//! Frames that node a sends, and those that node b answers.
 
 // A call of `create g` by node a with stamp 0, framed, and the framed reply.
-pub(crate) const CREATE: &[u8] = &[
+pub const CREATE: &[u8] = &[
     0, 0, 0, 45, 131, 104, 2, 97, 0, 104, 3, 119, 4, 99, 97, 108, 108, 114, 0, 3, 119, 1, 97, 1, 0,
     0, 0, 1, 0, 0, 0, 0, 0, 0, 0, 0, 104, 2, 119, 6, 99, 114, 101, 97, 116, 101, 119, 1, 103,
 ];
 
-pub(crate) const CREATED: &[u8] = &[
+pub const CREATED: &[u8] = &[
     0, 0, 0, 40, 131, 104, 2, 97, 1, 104, 3, 119, 5, 114, 101, 112, 108, 121, 90, 0, 3, 119, 1, 97,
     0, 0, 0, 1, 0, 0, 0, 1, 0, 0, 0, 0, 0, 0, 0, 0, 119, 2, 111, 107,
 ];
 
 // The same call with the stamp 1,073,741,823, and its reply; then with 1,073,741,824, which no clock passes.
-pub(crate) const LAST_STAMP: &[u8] = &[
+pub const LAST_STAMP: &[u8] = &[
     0, 0, 0, 48, 131, 104, 2, 98, 63, 255, 255, 255, 104, 3, 119, 4, 99, 97, 108, 108, 114, 0, 3,
     119, 1, 97, 1, 0, 0, 0, 1, 0, 0, 0, 0, 0, 0, 0, 0, 104, 2, 119, 6, 99, 114, 101, 97, 116, 101,
     119, 1, 103,
 ];
 
-pub(crate) const LAST_REPLY: &[u8] = &[
+pub const LAST_REPLY: &[u8] = &[
     0, 0, 0, 43, 131, 104, 2, 98, 64, 0, 0, 0, 104, 3, 119, 5, 114, 101, 112, 108, 121, 90, 0, 3,
     119, 1, 97, 0, 0, 0, 1, 0, 0, 0, 1, 0, 0, 0, 0, 0, 0, 0, 0, 119, 2, 111, 107,
 ];
 
-pub(crate) const FULL_STAMP: &[u8] = &[
+pub const FULL_STAMP: &[u8] = &[
     0, 0, 0, 48, 131, 104, 2, 98, 64, 0, 0, 0, 104, 3, 119, 4, 99, 97, 108, 108, 114, 0, 3, 119, 1,
     97, 1, 0, 0, 0, 1, 0, 0, 0, 0, 0, 0, 0, 0, 104, 2, 119, 6, 99, 114, 101, 97, 116, 101, 119, 1,
     103,
 ];
 
 // A process that ended, with the stamp 1,073,741,825.
-pub(crate) const LARGE_STAMP: &[u8] = &[
+pub const LARGE_STAMP: &[u8] = &[
     0, 0, 0, 29, 131, 104, 2, 98, 64, 0, 0, 1, 104, 2, 119, 4, 100, 111, 119, 110, 103, 119, 1, 97,
     0, 0, 0, 1, 0, 0, 0, 0, 1,
 ];
 
 // The exchange of node a, which has no group, and its request for the lock of g.
-pub(crate) const EXCHANGE: &[u8] = &[
+pub const EXCHANGE: &[u8] = &[
     0, 0, 0, 29, 131, 104, 2, 97, 0, 104, 2, 119, 4, 99, 97, 115, 116, 104, 3, 119, 8, 101, 120,
     99, 104, 97, 110, 103, 101, 119, 1, 97, 106,
 ];
 
-pub(crate) const SET_LOCK: &[u8] = &[
+pub const SET_LOCK: &[u8] = &[
     0, 0, 0, 47, 131, 104, 2, 97, 1, 104, 3, 119, 4, 99, 97, 108, 108, 114, 0, 3, 119, 1, 97, 1, 0,
     0, 0, 1, 0, 0, 0, 0, 0, 0, 0, 0, 104, 2, 119, 8, 115, 101, 116, 95, 108, 111, 99, 107, 119, 1,
     103,
 ];
 
-pub(crate) const GRANTED: &[u8] = &[
+pub const GRANTED: &[u8] = &[
     0, 0, 0, 42, 131, 104, 2, 97, 2, 104, 3, 119, 5, 114, 101, 112, 108, 121, 90, 0, 3, 119, 1, 97,
     0, 0, 0, 1, 0, 0, 0, 1, 0, 0, 0, 0, 0, 0, 0, 0, 119, 4, 116, 114, 117, 101,
 ];
 
-pub(crate) const DENIED: &[u8] = &[
+pub const DENIED: &[u8] = &[
     0, 0, 0, 43, 131, 104, 2, 97, 2, 104, 3, 119, 5, 114, 101, 112, 108, 121, 90, 0, 3, 119, 1, 97,
     0, 0, 0, 1, 0, 0, 0, 1, 0, 0, 0, 0, 0, 0, 0, 0, 119, 5, 102, 97, 108, 115, 101,
 ];
 
 // The call with a reference as it is written, of the greatest creation, and its reply.
-pub(crate) const WIDE_CALL: &[u8] = &[
+pub const WIDE_CALL: &[u8] = &[
     0, 0, 0, 48, 131, 104, 2, 97, 0, 104, 3, 119, 4, 99, 97, 108, 108, 90, 0, 3, 119, 1, 97, 255,
     255, 255, 255, 0, 0, 0, 1, 0, 0, 0, 0, 0, 0, 0, 0, 104, 2, 119, 6, 99, 114, 101, 97, 116, 101,
     119, 1, 103,
 ];
 
-pub(crate) const WIDE_REPLY: &[u8] = &[
+pub const WIDE_REPLY: &[u8] = &[
     0, 0, 0, 40, 131, 104, 2, 97, 1, 104, 3, 119, 5, 114, 101, 112, 108, 121, 90, 0, 3, 119, 1, 97,
     255, 255, 255, 255, 0, 0, 0, 1, 0, 0, 0, 0, 0, 0, 0, 0, 119, 2, 111, 107,
 ];
 
 // The first 30 bytes of the call.
-pub(crate) const CUT: &[u8] = &[
+pub const CUT: &[u8] = &[
     0, 0, 0, 45, 131, 104, 2, 97, 0, 104, 3, 119, 4, 99, 97, 108, 108, 114, 0, 3, 119, 1, 97, 1, 0,
     0, 0, 1, 0, 0,
 ];
