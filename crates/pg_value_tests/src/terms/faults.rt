@@ -36,8 +36,16 @@ const FAULTS: &[Spelled] = &[
     Spelled(&[131, 108, 255, 255, 255, 255, 106], &[], Some(Truncated)),
     Spelled(&[131, 105, 255, 255, 255, 255], &[], Some(Truncated)),
     Spelled(&[131, 90, 0], &[], Some(Truncated)),
-    Spelled(&[131, 90, 0, 1, 119, 1, 97, 0, 0, 0, 2, 0, 0, 0], &[], Some(Truncated)),
-    Spelled(&[131, 88, 119, 1, 97, 0, 0, 0, 1, 0, 0, 0, 0, 255, 255, 255], &[], Some(Truncated)),
+    Spelled(
+        &[131, 90, 0, 1, 119, 1, 97, 0, 0, 0, 2, 0, 0, 0],
+        &[],
+        Some(Truncated),
+    ),
+    Spelled(
+        &[131, 88, 119, 1, 97, 0, 0, 0, 1, 0, 0, 0, 0, 255, 255, 255],
+        &[],
+        Some(Truncated),
+    ),
     Spelled(&[131, 109, 0, 0, 0], &[], Some(Truncated)),
     Spelled(&[131, 109, 0, 0, 0, 3, 1, 2], &[], Some(Truncated)),
     Spelled(&[131, 109, 255, 255, 255, 255, 1, 2], &[], Some(Truncated)),
@@ -45,9 +53,21 @@ const FAULTS: &[Spelled] = &[
     Spelled(&[131, 70], &[], Some(UnknownTag)),
     Spelled(&[131, 97, 1, 0], &[], Some(TrailingBytes)),
     Spelled(&[131, 109, 0, 0, 0, 0, 1], &[], Some(TrailingBytes)),
-    Spelled(&[131, 110, 8, 0, 0, 0, 0, 0, 0, 0, 0, 128], &[], Some(IntegerTooLarge)),
-    Spelled(&[131, 110, 9, 1, 0, 0, 0, 0, 0, 0, 0, 0, 1], &[], Some(IntegerTooLarge)),
-    Spelled(&[131, 108, 0, 0, 0, 1, 97, 1, 97, 2], &[], Some(ImproperList)),
+    Spelled(
+        &[131, 110, 8, 0, 0, 0, 0, 0, 0, 0, 0, 128],
+        &[],
+        Some(IntegerTooLarge),
+    ),
+    Spelled(
+        &[131, 110, 9, 1, 0, 0, 0, 0, 0, 0, 0, 0, 1],
+        &[],
+        Some(IntegerTooLarge),
+    ),
+    Spelled(
+        &[131, 108, 0, 0, 0, 1, 97, 1, 97, 2],
+        &[],
+        Some(ImproperList),
+    ),
     Spelled(&[131, 108, 0, 0, 0, 0, 97, 1], &[], Some(ImproperList)),
     Spelled(&[131, 114, 0, 4], &[], Some(BadReference)),
     Spelled(&[131, 90, 0, 4], &[], Some(BadReference)),
@@ -75,7 +95,9 @@ fn decode_faults(rt: HostRuntime) {
 
 // Tuples of one element.
 const LEVELS_62: Edit = Edit::Times(62, &[104, 1]);
+
 const LEVELS_63: Edit = Edit::Times(63, &[104, 1]);
+
 const LEVELS_64: Edit = Edit::Times(64, &[104, 1]);
 
 const LIMITS: &[Spelled] = &[
@@ -86,14 +108,34 @@ const LIMITS: &[Spelled] = &[
     Spelled(&[131, 100, 1, 0], &[Edit::Times(256, &[97])], Some(BadAtom)),
     // So many tuples of one element, one in the other, and what is in the last.
     Spelled(&[131], &[LEVELS_63, Edit::Times(1, &[107, 0, 0])], None),
-    Spelled(&[131], &[LEVELS_63, Edit::Times(1, &[107, 0, 1, 7])], Some(TooDeep)),
-    Spelled(&[131], &[LEVELS_63, Edit::Times(1, &[107, 0, 1])], Some(Truncated)),
+    Spelled(
+        &[131],
+        &[LEVELS_63, Edit::Times(1, &[107, 0, 1, 7])],
+        Some(TooDeep),
+    ),
+    Spelled(
+        &[131],
+        &[LEVELS_63, Edit::Times(1, &[107, 0, 1])],
+        Some(Truncated),
+    ),
     Spelled(&[131], &[LEVELS_62, Edit::Times(1, &[107, 0, 1, 7])], None),
     Spelled(&[131], &[LEVELS_63, Edit::Times(1, &[97, 0])], None),
-    Spelled(&[131], &[LEVELS_64, Edit::Times(1, &[97, 0])], Some(TooDeep)),
+    Spelled(
+        &[131],
+        &[LEVELS_64, Edit::Times(1, &[97, 0])],
+        Some(TooDeep),
+    ),
     Spelled(&[131], &[LEVELS_64], Some(Truncated)),
-    Spelled(&[131], &[LEVELS_63, Edit::Times(1, &[108, 0, 0, 0, 0, 106])], Some(TooDeep)),
-    Spelled(&[131], &[LEVELS_62, Edit::Times(1, &[108, 0, 0, 0, 0, 106])], None),
+    Spelled(
+        &[131],
+        &[LEVELS_63, Edit::Times(1, &[108, 0, 0, 0, 0, 106])],
+        Some(TooDeep),
+    ),
+    Spelled(
+        &[131],
+        &[LEVELS_62, Edit::Times(1, &[108, 0, 0, 0, 0, 106])],
+        None,
+    ),
 ];
 
 #[test]
