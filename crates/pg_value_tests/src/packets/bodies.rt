@@ -22,7 +22,7 @@ pub const DEL_LOCK: &[u8] =
     b"\x83h\x02a\x09h\x02w\x04casth\x03w\x08del_lockw\x01gZ\0\x01w\x01a\0\0\0\0\0\0\0\x07";
 
 /// {0, {cast, {exchange, a, []}}}
-pub const NOTHING_TOLD: &[u8] = b"\x83h\x02a\0h\x02w\x04casth\x03w\x08exchangew\x01aj";
+pub const EMPTY: &[u8] = b"\x83h\x02a\0h\x02w\x04casth\x03w\x08exchangew\x01aj";
 
 /// {0, {cast, {exchange, a, [[h, []], [g, [<a.2.0>, <a.1.0>, <a.1.0>]]]}}}
 pub const EXCHANGE: &[u8] = b"\x83h\x02a\0h\x02w\x04casth\x03w\x08exchangew\x01al\0\0\0\x02\

@@ -26,9 +26,15 @@ pub enum Wanted {
 
 pub use Wanted::{Fault, Itself, Same};
 
-const SMALL: &[u8] = &[131, 104, 2];
+pub const NO_PACKET: Wanted = Fault(NotAMessage);
 
-const LARGE: &[u8] = &[131, 105, 0, 0, 0, 2];
+pub const CUT: Wanted = Fault(Term(TermFault::Truncated));
+
+const LATE: Wanted = Fault(StampTooLarge);
+
+const SMALL: &[u8] = b"\x83h\x02";
+
+const LARGE: &[u8] = b"\x83i\0\0\0\x02";
 
 /// How the packet that is read from a body is written.
 pub fn rewritten(alloc: Global, body: &[u8]) -> Result<Vec<u8>, MessageFault> {
@@ -106,54 +112,38 @@ impl Row for Changed {
 fn each_part_in_other_forms(rt: HostRuntime) {
     const ROWS: &[Changed] = &[
         Changed(JOIN, &[], Same),
-        Changed(JOIN, &[At(3, 2, &[98, 0, 0, 0, 0])], Same),
-        Changed(JOIN, &[At(3, 2, &[110, 0, 0])], Same),
-        Changed(JOIN, &[At(3, 2, &[110, 2, 1, 0, 0])], Same),
-        Changed(JOIN, &[At(5, 2, &[105, 0, 0, 0, 3])], Same),
-        Changed(JOIN, &[At(7, 2, &[118, 0, 4])], Same),
-        Changed(JOIN, &[At(7, 2, &[115, 4])], Same),
-        Changed(JOIN, &[At(7, 2, &[100, 0, 4])], Same),
-        Changed(JOIN, &[At(13, 14, &[101, 119, 1, 97, 0, 0, 0, 7, 0])], Same),
-        Changed(
-            JOIN,
-            &[At(13, 14, &[114, 0, 1, 119, 1, 97, 0, 0, 0, 0, 7])],
-            Same,
-        ),
-        Changed(JOIN, &[At(16, 2, &[118, 0, 1])], Same),
-        Changed(JOIN, &[At(16, 2, &[115, 1])], Same),
-        Changed(JOIN, &[At(16, 2, &[100, 0, 1])], Same),
-        Changed(JOIN, &[At(27, 2, &[105, 0, 0, 0, 3])], Same),
-        Changed(JOIN, &[At(29, 2, &[118, 0, 4])], Same),
-        Changed(JOIN, &[At(29, 2, &[115, 4])], Same),
-        Changed(JOIN, &[At(29, 2, &[100, 0, 4])], Same),
-        Changed(JOIN, &[At(35, 2, &[118, 0, 1])], Same),
-        Changed(JOIN, &[At(35, 2, &[115, 1])], Same),
-        Changed(JOIN, &[At(35, 2, &[100, 0, 1])], Same),
-        Changed(
-            JOIN,
-            &[At(38, 16, &[103, 119, 1, 97, 0, 0, 0, 1, 0, 0, 0, 0, 1])],
-            Same,
-        ),
-        Changed(JOIN, &[At(39, 2, &[118, 0, 1])], Same),
-        Changed(JOIN, &[At(39, 2, &[115, 1])], Same),
-        Changed(JOIN, &[At(39, 2, &[100, 0, 1])], Same),
+        Changed(JOIN, &[At(3, 2, b"b\0\0\0\0")], Same),
+        Changed(JOIN, &[At(3, 2, b"n\0\0")], Same),
+        Changed(JOIN, &[At(3, 2, b"n\x02\x01\0\0")], Same),
+        Changed(JOIN, &[At(5, 2, b"i\0\0\0\x03")], Same),
+        Changed(JOIN, &[At(7, 2, b"v\0\x04")], Same),
+        Changed(JOIN, &[At(7, 2, b"s\x04")], Same),
+        Changed(JOIN, &[At(7, 2, b"d\0\x04")], Same),
+        Changed(JOIN, &[At(13, 14, b"ew\x01a\0\0\0\x07\0")], Same),
+        Changed(JOIN, &[At(13, 14, b"r\0\x01w\x01a\0\0\0\0\x07")], Same),
+        Changed(JOIN, &[At(16, 2, b"v\0\x01")], Same),
+        Changed(JOIN, &[At(16, 2, b"s\x01")], Same),
+        Changed(JOIN, &[At(16, 2, b"d\0\x01")], Same),
+        Changed(JOIN, &[At(27, 2, b"i\0\0\0\x03")], Same),
+        Changed(JOIN, &[At(29, 2, b"v\0\x04")], Same),
+        Changed(JOIN, &[At(29, 2, b"s\x04")], Same),
+        Changed(JOIN, &[At(29, 2, b"d\0\x04")], Same),
+        Changed(JOIN, &[At(35, 2, b"v\0\x01")], Same),
+        Changed(JOIN, &[At(35, 2, b"s\x01")], Same),
+        Changed(JOIN, &[At(35, 2, b"d\0\x01")], Same),
+        Changed(JOIN, &[At(38, 16, b"gw\x01a\0\0\0\x01\0\0\0\0\x01")], Same),
+        Changed(JOIN, &[At(39, 2, b"v\0\x01")], Same),
+        Changed(JOIN, &[At(39, 2, b"s\x01")], Same),
+        Changed(JOIN, &[At(39, 2, b"d\0\x01")], Same),
         // The name as a string of bytes, and as a list in two parts.
-        Changed(JOIN_OF_LIST, &[At(35, 10, &[107, 0, 2, 1, 2])], Same),
+        Changed(JOIN_OF_LIST, &[At(35, 10, b"k\0\x02\x01\x02")], Same),
         Changed(
             JOIN_OF_LIST,
-            &[At(
-                35,
-                10,
-                &[108, 0, 0, 0, 1, 97, 1, 108, 0, 0, 0, 1, 97, 2, 106],
-            )],
+            &[At(35, 10, b"l\0\0\0\x01a\x01l\0\0\0\x01a\x02j")],
             Same,
         ),
         // The pid in its old form.
-        Changed(
-            DOWN,
-            &[At(13, 16, &[103, 119, 1, 97, 0, 0, 0, 1, 0, 0, 0, 0, 1])],
-            Same,
-        ),
+        Changed(DOWN, &[At(13, 16, b"gw\x01a\0\0\0\x01\0\0\0\0\x01")], Same),
     ];
     check(&rt, rt.alloc(), ROWS);
 }
@@ -161,37 +151,23 @@ fn each_part_in_other_forms(rt: HostRuntime) {
 #[test]
 fn stamp_edges(rt: HostRuntime) {
     const ROWS: &[Changed] = &[
-        Changed(DOWN, &[At(3, 2, &[97, 0])], Itself),
-        Changed(DOWN, &[At(3, 2, &[98, 64, 0, 0, 0])], Itself),
-        Changed(DOWN, &[At(3, 2, &[98, 64, 0, 0, 1])], Fault(StampTooLarge)),
-        Changed(
-            DOWN,
-            &[At(3, 2, &[110, 5, 0, 0, 0, 0, 0, 1])],
-            Fault(StampTooLarge),
-        ),
-        Changed(
-            DOWN,
-            &[At(3, 2, &[98, 255, 255, 255, 255])],
-            Fault(NotAMessage),
-        ),
-        Changed(DOWN, &[At(3, 2, &[106])], Fault(NotAMessage)),
+        Changed(DOWN, &[At(3, 2, b"a\0")], Itself),
+        Changed(DOWN, &[At(3, 2, b"b@\0\0\0")], Itself),
+        Changed(DOWN, &[At(3, 2, b"b@\0\0\x01")], LATE),
+        Changed(DOWN, &[At(3, 2, b"n\x05\0\0\0\0\0\x01")], LATE),
+        Changed(DOWN, &[At(3, 2, b"b\xff\xff\xff\xff")], NO_PACKET),
+        Changed(DOWN, &[At(3, 2, b"j")], NO_PACKET),
         // What is no message is told before a stamp that is too large: {Stamp, {downs, <a.1.0>}}
+        Changed(DOWN, &[At(3, 2, b"a\0"), At(8, 5, b"\x05downs")], NO_PACKET),
         Changed(
             DOWN,
-            &[At(3, 2, &[97, 0]), At(8, 5, b"\x05downs")],
-            Fault(NotAMessage),
-        ),
-        Changed(
-            DOWN,
-            &[At(3, 2, &[98, 64, 0, 0, 1]), At(8, 5, b"\x05downs")],
-            Fault(NotAMessage),
+            &[At(3, 2, b"b@\0\0\x01"), At(8, 5, b"\x05downs")],
+            NO_PACKET,
         ),
     ];
     check(&rt, rt.alloc(), ROWS);
     assert_eq!(rt; (NotAMessage.number(), StampTooLarge.number()), (12, 13));
 }
-
-const CUT: MessageFault = Term(TermFault::Truncated);
 
 /// A body and its fault.
 #[derive(Clone, Copy)]
@@ -206,16 +182,16 @@ impl Row for Broken {
 #[test]
 fn broken_bodies(rt: HostRuntime) {
     const BROKEN: &[Broken] = &[
-        Broken(&[], CUT),
-        Broken(&[131, 104, 2, 97, 0, 97], CUT),
-        Broken(&[130], Term(TermFault::BadVersion)),
-        Broken(&[131, 97, 5], NotAMessage),
-        Broken(&[131, 97, 5, 0], Term(TermFault::TrailingBytes)),
+        Broken(b"", Term(TermFault::Truncated)),
+        Broken(b"\x83h\x02a\0a", Term(TermFault::Truncated)),
+        Broken(b"\x82", Term(TermFault::BadVersion)),
+        Broken(b"\x83a\x05", NotAMessage),
+        Broken(b"\x83a\x05\0", Term(TermFault::TrailingBytes)),
     ];
     const ROWS: &[Changed] = &[
-        Changed(CREATE, &[At(47, 1, &[])], Fault(CUT)),
-        Changed(APPLIED, &[At(39, 1, &[])], Fault(CUT)),
-        Changed(EXCHANGE, &[At(106, 1, &[])], Fault(CUT)),
+        Changed(CREATE, &[At(47, 1, b"")], CUT),
+        Changed(APPLIED, &[At(39, 1, b"")], CUT),
+        Changed(EXCHANGE, &[At(106, 1, b"")], CUT),
     ];
     check(&rt, rt.alloc(), BROKEN);
     check(&rt, rt.alloc(), ROWS);

@@ -1,38 +1,36 @@
 //! Lists of an exchange: in other forms, in two parts, and such as are none.
 
 use super::bodies::EXCHANGE;
-use super::forms::{Changed, Fault, Same};
+use super::forms::{CUT, Changed, Fault, NO_PACKET, Same, Wanted};
 use crate::rows::Edit::At;
 use crate::rows::check;
-use pg_message::MessageFault::{self, NotAMessage};
+use pg_message::MessageFault;
 use pg_term::TermFault;
 use std::test::*;
 
-const CUT: MessageFault = MessageFault::Term(TermFault::Truncated);
-
-const IMPROPER: MessageFault = MessageFault::Term(TermFault::ImproperList);
+const IMPROPER: Wanted = Fault(MessageFault::Term(TermFault::ImproperList));
 
 #[test]
 fn each_part_of_an_exchange_in_other_forms(rt: HostRuntime) {
     const ROWS: &[Changed] = &[
-        Changed(EXCHANGE, &[At(5, 2, &[105, 0, 0, 0, 2])], Same),
-        Changed(EXCHANGE, &[At(7, 2, &[118, 0, 4])], Same),
-        Changed(EXCHANGE, &[At(13, 2, &[105, 0, 0, 0, 3])], Same),
-        Changed(EXCHANGE, &[At(15, 2, &[115, 8])], Same),
-        Changed(EXCHANGE, &[At(25, 2, &[118, 0, 1])], Same),
-        Changed(EXCHANGE, &[At(25, 2, &[115, 1])], Same),
-        Changed(EXCHANGE, &[At(25, 2, &[100, 0, 1])], Same),
-        Changed(EXCHANGE, &[At(38, 2, &[118, 0, 1])], Same),
-        Changed(EXCHANGE, &[At(41, 1, &[107, 0, 0])], Same),
-        Changed(EXCHANGE, &[At(41, 1, &[108, 0, 0, 0, 0, 106])], Same),
-        Changed(EXCHANGE, &[At(42, 1, &[107, 0, 0])], Same),
-        Changed(EXCHANGE, &[At(42, 1, &[108, 0, 0, 0, 0, 106])], Same),
-        Changed(EXCHANGE, &[At(57, 2, &[100, 0, 1])], Same),
-        Changed(EXCHANGE, &[At(104, 1, &[107, 0, 0])], Same),
-        Changed(EXCHANGE, &[At(104, 1, &[108, 0, 0, 0, 0, 106])], Same),
-        Changed(EXCHANGE, &[At(105, 1, &[107, 0, 0])], Same),
-        Changed(EXCHANGE, &[At(106, 1, &[107, 0, 0])], Same),
-        Changed(EXCHANGE, &[At(106, 1, &[108, 0, 0, 0, 0, 106])], Same),
+        Changed(EXCHANGE, &[At(5, 2, b"i\0\0\0\x02")], Same),
+        Changed(EXCHANGE, &[At(7, 2, b"v\0\x04")], Same),
+        Changed(EXCHANGE, &[At(13, 2, b"i\0\0\0\x03")], Same),
+        Changed(EXCHANGE, &[At(15, 2, b"s\x08")], Same),
+        Changed(EXCHANGE, &[At(25, 2, b"v\0\x01")], Same),
+        Changed(EXCHANGE, &[At(25, 2, b"s\x01")], Same),
+        Changed(EXCHANGE, &[At(25, 2, b"d\0\x01")], Same),
+        Changed(EXCHANGE, &[At(38, 2, b"v\0\x01")], Same),
+        Changed(EXCHANGE, &[At(41, 1, b"k\0\0")], Same),
+        Changed(EXCHANGE, &[At(41, 1, b"l\0\0\0\0j")], Same),
+        Changed(EXCHANGE, &[At(42, 1, b"k\0\0")], Same),
+        Changed(EXCHANGE, &[At(42, 1, b"l\0\0\0\0j")], Same),
+        Changed(EXCHANGE, &[At(57, 2, b"d\0\x01")], Same),
+        Changed(EXCHANGE, &[At(104, 1, b"k\0\0")], Same),
+        Changed(EXCHANGE, &[At(104, 1, b"l\0\0\0\0j")], Same),
+        Changed(EXCHANGE, &[At(105, 1, b"k\0\0")], Same),
+        Changed(EXCHANGE, &[At(106, 1, b"k\0\0")], Same),
+        Changed(EXCHANGE, &[At(106, 1, b"l\0\0\0\0j")], Same),
         // The first counts so many elements, and a list of so many others is its tail.
         Changed(
             EXCHANGE,
@@ -62,16 +60,16 @@ fn each_part_of_an_exchange_in_other_forms(rt: HostRuntime) {
 #[test]
 fn lists_that_are_none(rt: HostRuntime) {
     const ROWS: &[Changed] = &[
-        Changed(EXCHANGE, &[At(29, 4, &[255, 255, 255, 255])], Fault(CUT)),
-        Changed(EXCHANGE, &[At(29, 4, &[0, 0, 0, 3])], Fault(CUT)),
-        Changed(EXCHANGE, &[At(34, 4, &[255, 255, 255, 255])], Fault(CUT)),
-        Changed(EXCHANGE, &[At(52, 4, &[255, 255, 255, 255])], Fault(CUT)),
-        Changed(EXCHANGE, &[At(52, 4, &[0, 0, 1, 3])], Fault(CUT)),
-        Changed(EXCHANGE, &[At(52, 4, &[0, 0, 0, 2])], Fault(IMPROPER)),
-        Changed(EXCHANGE, &[At(106, 2, &[97, 0])], Fault(IMPROPER)),
-        Changed(EXCHANGE, &[At(105, 1, &[97])], Fault(IMPROPER)),
-        Changed(EXCHANGE, &[At(104, 1, &[97])], Fault(IMPROPER)),
-        Changed(EXCHANGE, &[At(40, 1, &[103])], Fault(NotAMessage)),
+        Changed(EXCHANGE, &[At(29, 4, b"\xff\xff\xff\xff")], CUT),
+        Changed(EXCHANGE, &[At(29, 4, b"\0\0\0\x03")], CUT),
+        Changed(EXCHANGE, &[At(34, 4, b"\xff\xff\xff\xff")], CUT),
+        Changed(EXCHANGE, &[At(52, 4, b"\xff\xff\xff\xff")], CUT),
+        Changed(EXCHANGE, &[At(52, 4, b"\0\0\x01\x03")], CUT),
+        Changed(EXCHANGE, &[At(52, 4, b"\0\0\0\x02")], IMPROPER),
+        Changed(EXCHANGE, &[At(106, 2, b"a\0")], IMPROPER),
+        Changed(EXCHANGE, &[At(105, 1, b"a")], IMPROPER),
+        Changed(EXCHANGE, &[At(104, 1, b"a")], IMPROPER),
+        Changed(EXCHANGE, &[At(40, 1, b"g")], NO_PACKET),
     ];
     check(&rt, rt.alloc(), ROWS);
 }

@@ -1,9 +1,9 @@
 //! What may name a group, and the names of the groups that an exchange tells: in any order, each once, and each within the
 //! limits.
 
-use super::bodies::{CREATE, NOTHING_TOLD};
+use super::bodies::{CREATE, EMPTY};
 use super::drafts::created;
-use super::forms::{Changed, Fault, Itself, is_read_in_both_forms};
+use super::forms::{Changed, Itself, NO_PACKET, is_read_in_both_forms};
 use crate::rows::Edit::{self, At, Times};
 use crate::rows::{OUT_OF_MEMORY, Row, check, edited};
 use pg_message::MessageFault::{self, NameTooLarge, NotAMessage};
@@ -18,64 +18,31 @@ use std::test::*;
 #[derive(Clone, Copy)]
 struct Name(&'static [Edit], usize, bool);
 
+// Zeros in a list, and a pid behind them; and a zero inside so many tuples.
 const NAMES: &[Name] = &[
-    // Zeros in a list, and a pid behind them.
-    Name(
-        &[
-            At(45, 3, b"l\0\0\x01\xfc"),
-            Times(508, b"a\0"),
-            Times(1, b"j"),
-        ],
-        1023,
-        true,
-    ),
-    Name(
-        &[
-            At(45, 3, b"l\0\0\x01\xfd"),
-            Times(509, b"a\0"),
-            Times(1, b"j"),
-        ],
-        1025,
-        false,
-    ),
-    Name(
-        &[
-            At(45, 3, b"l\0\0\x01\xf5"),
-            Times(500, b"a\0"),
-            PID,
-            Times(1, b"j"),
-        ],
-        1023,
-        true,
-    ),
-    Name(
-        &[
-            At(45, 3, b"l\0\0\x01\xf6"),
-            Times(501, b"a\0"),
-            PID,
-            Times(1, b"j"),
-        ],
-        1025,
-        false,
-    ),
-    // A zero inside so many tuples.
-    Name(
-        &[At(45, 3, b""), Times(31, b"h\x01"), Times(1, b"a\0")],
-        65,
-        true,
-    ),
-    Name(
-        &[At(45, 3, b""), Times(32, b"h\x01"), Times(1, b"a\0")],
-        67,
-        false,
-    ),
+    Name(&[LIST_508, Times(508, b"a\0"), Times(1, b"j")], 1023, true),
+    Name(&[LIST_509, Times(509, b"a\0"), Times(1, b"j")], 1025, false),
+    Name(&[LIST_501, Times(500, b"a\0"), PID_AT_END], 1023, true),
+    Name(&[LIST_502, Times(501, b"a\0"), PID_AT_END], 1025, false),
+    Name(&[NAME, Times(31, b"h\x01"), Times(1, b"a\0")], 65, true),
+    Name(&[NAME, Times(32, b"h\x01"), Times(1, b"a\0")], 67, false),
 ];
 
-const PID: Edit = Times(1, b"Xw\x01a\0\0\0\x01\0\0\0\0\0\0\0\x01");
+const NAME: Edit = At(45, 3, b"");
+
+const LIST_508: Edit = At(45, 3, b"l\0\0\x01\xfc");
+
+const LIST_509: Edit = At(45, 3, b"l\0\0\x01\xfd");
+
+const LIST_501: Edit = At(45, 3, b"l\0\0\x01\xf5");
+
+const LIST_502: Edit = At(45, 3, b"l\0\0\x01\xf6");
+
+const PID_AT_END: Edit = Times(1, b"Xw\x01a\0\0\0\x01\0\0\0\0\0\0\0\x01j");
 
 // The name alone.
 fn decoded(alloc: Global, edits: &[Edit]) -> Result<Term, TermFault> {
-    match edited(alloc, &[131], 0, &[], edits) {
+    match edited(alloc, b"\x83", 0, b"", edits) {
         Ok(bytes) => {
             let name = decode(alloc, &bytes);
             drop(bytes);
@@ -109,7 +76,7 @@ impl Row for Name {
         } else {
             checked == Err(NameTooLarge) && written == Some(NotAMessage)
         };
-        let wanted = if is_name { Itself } else { Fault(NotAMessage) };
+        let wanted = if is_name { Itself } else { NO_PACKET };
         Ok(is_long && told && is_read_in_both_forms(alloc, CREATE, edits, wanted)?)
     }
 }
@@ -120,7 +87,7 @@ fn name_limits(rt: HostRuntime) {
     check(&rt, rt.alloc(), NAMES);
 }
 
-// Groups without members, named 1, 7, 8, g, h, {g}, [1] and <<"g">>.
+// Groups without members, named 1, 7, 8, g, h, {g}, [1] and <<"g">>; and 1, g and [1] in other forms.
 const ONE: Edit = Times(1, b"l\0\0\0\x02a\x01jj");
 
 const SEVEN: Edit = Times(1, b"l\0\0\0\x02a\x07jj");
@@ -137,7 +104,6 @@ const LIST: Edit = Times(1, b"l\0\0\0\x02l\0\0\0\x01a\x01jjj");
 
 const BINARY: Edit = Times(1, b"l\0\0\0\x02m\0\0\0\x01gjj");
 
-// 1, g and [1] in other forms.
 const LONG_ONE: Edit = Times(1, b"l\0\0\0\x02b\0\0\0\x01jj");
 
 const LATIN_G: Edit = Times(1, b"l\0\0\0\x02s\x01gjj");
@@ -149,10 +115,12 @@ const LONG: Edit = Times(1, b"l\0\0\0\x02k\x02X");
 
 const ZEROS: Edit = Times(600, b"\0");
 
-const BEHIND: Edit = Times(1, b"jj");
+const NIL: Edit = Times(1, b"jj");
 
-// So many groups, their end, and the stamp that is too large.
-const ONE_GROUP: Edit = At(28, 1, b"l\0\0\0\x01");
+// The stamp that is too large, so many groups, and their end.
+const LATE: Edit = At(3, 2, b"b@\0\0\x01");
+
+const ALONE: Edit = At(28, 1, b"l\0\0\0\x01");
 
 const TWO: Edit = At(28, 1, b"l\0\0\0\x02");
 
@@ -166,23 +134,13 @@ const SIX: Edit = At(28, 1, b"l\0\0\0\x06");
 
 const END: Edit = Times(1, b"j");
 
-const LATE: Edit = At(3, 2, &[98, 64, 0, 0, 1]);
-
 #[test]
 fn names_in_any_order(rt: HostRuntime) {
     const ROWS: &[Changed] = &[
-        Changed(
-            NOTHING_TOLD,
-            &[SIX, ONE, G, H, TUPLE, LIST, BINARY, END],
-            Itself,
-        ),
-        Changed(
-            NOTHING_TOLD,
-            &[SIX, BINARY, LIST, TUPLE, H, G, ONE, END],
-            Itself,
-        ),
-        Changed(NOTHING_TOLD, &[FIVE, H, TUPLE, ONE, BINARY, G, END], Itself),
-        Changed(NOTHING_TOLD, &[TWO, H, G, END], Itself),
+        Changed(EMPTY, &[SIX, ONE, G, H, TUPLE, LIST, BINARY, END], Itself),
+        Changed(EMPTY, &[SIX, BINARY, LIST, TUPLE, H, G, ONE, END], Itself),
+        Changed(EMPTY, &[FIVE, H, TUPLE, ONE, BINARY, G, END], Itself),
+        Changed(EMPTY, &[TWO, H, G, END], Itself),
     ];
     check(&rt, rt.alloc(), ROWS);
 }
@@ -190,52 +148,20 @@ fn names_in_any_order(rt: HostRuntime) {
 #[test]
 fn names_that_stand_twice_or_are_too_long(rt: HostRuntime) {
     const ROWS: &[Changed] = &[
-        Changed(NOTHING_TOLD, &[TWO, G, G, END], Fault(NotAMessage)),
-        Changed(NOTHING_TOLD, &[THREE, G, H, G, END], Fault(NotAMessage)),
-        Changed(
-            NOTHING_TOLD,
-            &[FOUR, ONE, G, TUPLE, TUPLE, END],
-            Fault(NotAMessage),
-        ),
-        Changed(
-            NOTHING_TOLD,
-            &[THREE, BINARY, G, BINARY, END],
-            Fault(NotAMessage),
-        ),
-        Changed(NOTHING_TOLD, &[TWO, ONE, LONG_ONE, END], Fault(NotAMessage)),
-        Changed(NOTHING_TOLD, &[TWO, LATIN_G, G, END], Fault(NotAMessage)),
-        Changed(
-            NOTHING_TOLD,
-            &[THREE, G, H, LATIN_G, END],
-            Fault(NotAMessage),
-        ),
-        Changed(NOTHING_TOLD, &[TWO, LIST, TEXT, END], Fault(NotAMessage)),
-        Changed(NOTHING_TOLD, &[TWO, SEVEN, SEVEN, END], Fault(NotAMessage)),
-        Changed(
-            NOTHING_TOLD,
-            &[THREE, SEVEN, EIGHT, SEVEN, END],
-            Fault(NotAMessage),
-        ),
-        Changed(
-            NOTHING_TOLD,
-            &[LATE, THREE, SEVEN, EIGHT, SEVEN, END],
-            Fault(NotAMessage),
-        ),
-        Changed(
-            NOTHING_TOLD,
-            &[ONE_GROUP, LONG, ZEROS, BEHIND, END],
-            Fault(NotAMessage),
-        ),
-        Changed(
-            NOTHING_TOLD,
-            &[TWO, LONG, ZEROS, BEHIND, G, END],
-            Fault(NotAMessage),
-        ),
-        Changed(
-            NOTHING_TOLD,
-            &[FOUR, ONE, G, H, LONG, ZEROS, BEHIND, END],
-            Fault(NotAMessage),
-        ),
+        Changed(EMPTY, &[TWO, G, G, END], NO_PACKET),
+        Changed(EMPTY, &[THREE, G, H, G, END], NO_PACKET),
+        Changed(EMPTY, &[FOUR, ONE, G, TUPLE, TUPLE, END], NO_PACKET),
+        Changed(EMPTY, &[THREE, BINARY, G, BINARY, END], NO_PACKET),
+        Changed(EMPTY, &[TWO, ONE, LONG_ONE, END], NO_PACKET),
+        Changed(EMPTY, &[TWO, LATIN_G, G, END], NO_PACKET),
+        Changed(EMPTY, &[THREE, G, H, LATIN_G, END], NO_PACKET),
+        Changed(EMPTY, &[TWO, LIST, TEXT, END], NO_PACKET),
+        Changed(EMPTY, &[TWO, SEVEN, SEVEN, END], NO_PACKET),
+        Changed(EMPTY, &[THREE, SEVEN, EIGHT, SEVEN, END], NO_PACKET),
+        Changed(EMPTY, &[LATE, THREE, SEVEN, EIGHT, SEVEN, END], NO_PACKET),
+        Changed(EMPTY, &[ALONE, LONG, ZEROS, NIL, END], NO_PACKET),
+        Changed(EMPTY, &[TWO, LONG, ZEROS, NIL, G, END], NO_PACKET),
+        Changed(EMPTY, &[FOUR, ONE, G, H, LONG, ZEROS, NIL, END], NO_PACKET),
     ];
     check(&rt, rt.alloc(), ROWS);
 }

@@ -1,6 +1,7 @@
 //! Bytes that spell no term, and the first fault of them.
 
-use crate::rows::{Edit, OUT_OF_MEMORY, Row, check, edited};
+use crate::rows::Edit::{self, Times};
+use crate::rows::{OUT_OF_MEMORY, Row, check, edited};
 use pg_message::MessageFault;
 use pg_term::TermFault::{self, *};
 use pg_term_io::{check_term, decode};
@@ -15,13 +16,13 @@ impl Row for Spelled {
     fn told(&self, alloc: Global) -> Result<bool, MessageFault> {
         match edited(alloc, self.0, 0, &[], self.1) {
             Ok(bytes) => {
-                let told = decode(alloc, &bytes).err();
-                let is_same = told == self.2 && check_term(&bytes).err() == self.2;
+                let read = decode(alloc, &bytes).err();
+                let looked_at = check_term(&bytes).err();
                 drop(bytes);
-                if told == Some(OutOfMemory) {
+                if read == Some(OutOfMemory) {
                     Err(OUT_OF_MEMORY)
                 } else {
-                    Ok(is_same)
+                    Ok(read == self.2 && looked_at == self.2)
                 }
             }
             Err(AllocError) => Err(OUT_OF_MEMORY),
@@ -29,113 +30,77 @@ impl Row for Spelled {
     }
 }
 
+const CUT: Option<TermFault> = Some(Truncated);
+
+const DEEP: Option<TermFault> = Some(TooDeep);
+
 const FAULTS: &[Spelled] = &[
-    Spelled(&[], &[], Some(Truncated)),
-    Spelled(&[131, 97], &[], Some(Truncated)),
-    Spelled(&[131, 110, 3, 0, 1, 2], &[], Some(Truncated)),
-    Spelled(&[131, 108, 255, 255, 255, 255, 106], &[], Some(Truncated)),
-    Spelled(&[131, 105, 255, 255, 255, 255], &[], Some(Truncated)),
-    Spelled(&[131, 90, 0], &[], Some(Truncated)),
+    Spelled(b"", &[], CUT),
+    Spelled(b"\x83a", &[], CUT),
+    Spelled(b"\x83n\x03\0\x01\x02", &[], CUT),
+    Spelled(b"\x83l\xff\xff\xff\xffj", &[], CUT),
+    Spelled(b"\x83i\xff\xff\xff\xff", &[], CUT),
+    Spelled(b"\x83Z\0", &[], CUT),
+    Spelled(b"\x83Z\0\x01w\x01a\0\0\0\x02\0\0\0", &[], CUT),
+    Spelled(b"\x83Xw\x01a\0\0\0\x01\0\0\0\0\xff\xff\xff", &[], CUT),
+    Spelled(b"\x83m\0\0\0", &[], CUT),
+    Spelled(b"\x83m\0\0\0\x03\x01\x02", &[], CUT),
+    Spelled(b"\x83m\xff\xff\xff\xff\x01\x02", &[], CUT),
+    Spelled(b"\x82a\x01", &[], Some(BadVersion)),
+    Spelled(b"\x83F", &[], Some(UnknownTag)),
+    Spelled(b"\x83a\x01\0", &[], Some(TrailingBytes)),
+    Spelled(b"\x83m\0\0\0\0\x01", &[], Some(TrailingBytes)),
+    Spelled(b"\x83n\x08\0\0\0\0\0\0\0\0\x80", &[], Some(IntegerTooLarge)),
     Spelled(
-        &[131, 90, 0, 1, 119, 1, 97, 0, 0, 0, 2, 0, 0, 0],
-        &[],
-        Some(Truncated),
-    ),
-    Spelled(
-        &[131, 88, 119, 1, 97, 0, 0, 0, 1, 0, 0, 0, 0, 255, 255, 255],
-        &[],
-        Some(Truncated),
-    ),
-    Spelled(&[131, 109, 0, 0, 0], &[], Some(Truncated)),
-    Spelled(&[131, 109, 0, 0, 0, 3, 1, 2], &[], Some(Truncated)),
-    Spelled(&[131, 109, 255, 255, 255, 255, 1, 2], &[], Some(Truncated)),
-    Spelled(&[130, 97, 1], &[], Some(BadVersion)),
-    Spelled(&[131, 70], &[], Some(UnknownTag)),
-    Spelled(&[131, 97, 1, 0], &[], Some(TrailingBytes)),
-    Spelled(&[131, 109, 0, 0, 0, 0, 1], &[], Some(TrailingBytes)),
-    Spelled(
-        &[131, 110, 8, 0, 0, 0, 0, 0, 0, 0, 0, 128],
+        b"\x83n\x09\x01\0\0\0\0\0\0\0\0\x01",
         &[],
         Some(IntegerTooLarge),
     ),
-    Spelled(
-        &[131, 110, 9, 1, 0, 0, 0, 0, 0, 0, 0, 0, 1],
-        &[],
-        Some(IntegerTooLarge),
-    ),
-    Spelled(
-        &[131, 108, 0, 0, 0, 1, 97, 1, 97, 2],
-        &[],
-        Some(ImproperList),
-    ),
-    Spelled(&[131, 108, 0, 0, 0, 0, 97, 1], &[], Some(ImproperList)),
-    Spelled(&[131, 114, 0, 4], &[], Some(BadReference)),
-    Spelled(&[131, 90, 0, 4], &[], Some(BadReference)),
-    Spelled(&[131, 90, 0, 0, 119], &[], Some(BadReference)),
-    Spelled(&[131, 114, 0, 0], &[], Some(BadReference)),
-    Spelled(&[131, 90, 0, 1, 97], &[], Some(BadAtom)),
-    Spelled(&[131, 88, 97, 0], &[], Some(BadAtom)),
-    Spelled(&[131, 103, 97, 0], &[], Some(BadAtom)),
-    Spelled(&[131, 103, 119, 1, 255], &[], Some(BadAtom)),
-    Spelled(&[131, 119, 1, 255], &[], Some(BadAtom)),
+    Spelled(b"\x83l\0\0\0\x01a\x01a\x02", &[], Some(ImproperList)),
+    Spelled(b"\x83l\0\0\0\0a\x01", &[], Some(ImproperList)),
+    Spelled(b"\x83r\0\x04", &[], Some(BadReference)),
+    Spelled(b"\x83Z\0\x04", &[], Some(BadReference)),
+    Spelled(b"\x83Z\0\0w", &[], Some(BadReference)),
+    Spelled(b"\x83r\0\0", &[], Some(BadReference)),
+    Spelled(b"\x83Z\0\x01a", &[], Some(BadAtom)),
+    Spelled(b"\x83Xa\0", &[], Some(BadAtom)),
+    Spelled(b"\x83ga\0", &[], Some(BadAtom)),
+    Spelled(b"\x83gw\x01\xff", &[], Some(BadAtom)),
+    Spelled(b"\x83w\x01\xff", &[], Some(BadAtom)),
+    // Each kind of term that takes memory, in one.
+    Spelled(EACH_KIND, &[], None),
 ];
 
-// Each kind of term that takes memory, in one.
-const EACH_KIND: &[u8] = &[
-    131, 104, 7, 109, 0, 0, 0, 2, 1, 2, 119, 1, 97, 107, 0, 2, 1, 2, 103, 100, 0, 1, 98, 0, 0, 0,
-    1, 0, 0, 0, 2, 3, 108, 0, 0, 0, 1, 115, 1, 99, 106, 114, 0, 2, 119, 1, 97, 2, 0, 0, 0, 7, 0, 0,
-    0, 8, 101, 100, 0, 1, 97, 0, 0, 0, 7, 2,
-];
+const EACH_KIND: &[u8] = b"\x83h\x07m\0\0\0\x02\x01\x02w\x01ak\0\x02\x01\x02\
+    gd\0\x01b\0\0\0\x01\0\0\0\x02\x03l\0\0\0\x01s\x01cj\
+    r\0\x02w\x01a\x02\0\0\0\x07\0\0\0\x08ed\0\x01a\0\0\0\x07\x02";
 
 #[test]
 fn decode_faults(rt: HostRuntime) {
     check(&rt, rt.alloc(), FAULTS);
-    check(&rt, rt.alloc(), &[Spelled(EACH_KIND, &[], None)]);
 }
 
-// Tuples of one element.
-const LEVELS_62: Edit = Edit::Times(62, &[104, 1]);
+// So many tuples of one element, one in the other.
+const IN_62: Edit = Times(62, b"h\x01");
 
-const LEVELS_63: Edit = Edit::Times(63, &[104, 1]);
+const IN_63: Edit = Times(63, b"h\x01");
 
-const LEVELS_64: Edit = Edit::Times(64, &[104, 1]);
+const IN_64: Edit = Times(64, b"h\x01");
 
 const LIMITS: &[Spelled] = &[
-    // Atoms whose length takes two bytes.
-    Spelled(&[131, 118, 0, 255], &[Edit::Times(255, &[97])], None),
-    Spelled(&[131, 118, 1, 0], &[Edit::Times(256, &[97])], Some(BadAtom)),
-    Spelled(&[131, 100, 0, 255], &[Edit::Times(255, &[97])], None),
-    Spelled(&[131, 100, 1, 0], &[Edit::Times(256, &[97])], Some(BadAtom)),
-    // So many tuples of one element, one in the other, and what is in the last.
-    Spelled(&[131], &[LEVELS_63, Edit::Times(1, &[107, 0, 0])], None),
-    Spelled(
-        &[131],
-        &[LEVELS_63, Edit::Times(1, &[107, 0, 1, 7])],
-        Some(TooDeep),
-    ),
-    Spelled(
-        &[131],
-        &[LEVELS_63, Edit::Times(1, &[107, 0, 1])],
-        Some(Truncated),
-    ),
-    Spelled(&[131], &[LEVELS_62, Edit::Times(1, &[107, 0, 1, 7])], None),
-    Spelled(&[131], &[LEVELS_63, Edit::Times(1, &[97, 0])], None),
-    Spelled(
-        &[131],
-        &[LEVELS_64, Edit::Times(1, &[97, 0])],
-        Some(TooDeep),
-    ),
-    Spelled(&[131], &[LEVELS_64], Some(Truncated)),
-    Spelled(
-        &[131],
-        &[LEVELS_63, Edit::Times(1, &[108, 0, 0, 0, 0, 106])],
-        Some(TooDeep),
-    ),
-    Spelled(
-        &[131],
-        &[LEVELS_62, Edit::Times(1, &[108, 0, 0, 0, 0, 106])],
-        None,
-    ),
+    Spelled(b"\x83v\0\xff", &[Times(255, b"a")], None),
+    Spelled(b"\x83v\x01\0", &[Times(256, b"a")], Some(BadAtom)),
+    Spelled(b"\x83d\0\xff", &[Times(255, b"a")], None),
+    Spelled(b"\x83d\x01\0", &[Times(256, b"a")], Some(BadAtom)),
+    Spelled(b"\x83", &[IN_63, Times(1, b"k\0\0")], None),
+    Spelled(b"\x83", &[IN_63, Times(1, b"k\0\x01\x07")], DEEP),
+    Spelled(b"\x83", &[IN_63, Times(1, b"k\0\x01")], CUT),
+    Spelled(b"\x83", &[IN_62, Times(1, b"k\0\x01\x07")], None),
+    Spelled(b"\x83", &[IN_63, Times(1, b"a\0")], None),
+    Spelled(b"\x83", &[IN_64, Times(1, b"a\0")], DEEP),
+    Spelled(b"\x83", &[IN_64], CUT),
+    Spelled(b"\x83", &[IN_63, Times(1, b"l\0\0\0\0j")], DEEP),
+    Spelled(b"\x83", &[IN_62, Times(1, b"l\0\0\0\0j")], None),
 ];
 
 #[test]

@@ -8,18 +8,14 @@ use pg_term::{Term, TermFault};
 use pg_term_io::{check_term, decode, encode, encode_into, encode_len};
 use std::alloc::Global;
 
+/// A term is written as so many bytes that begin with these, and is read from them and from each of the others.
 #[derive(Clone, Copy)]
-pub struct Made(pub Sample, pub Wanted);
-
-#[derive(Clone, Copy)]
-pub enum Wanted {
-    /// So many bytes, which begin with these, are written, and are read as the term, as are each of the others.
-    Bytes(usize, &'static [u8], &'static [&'static [u8]]),
-    /// There is no such term.
-    NotMade(TermFault),
-    /// The term is neither measured nor written.
-    NotWritten(TermFault),
-}
+pub struct Made(
+    pub Sample,
+    pub usize,
+    pub &'static [u8],
+    pub &'static [&'static [u8]],
+);
 
 // Whether the bytes are read as the term.
 fn spell(alloc: Global, bytes: &[u8], term: &Term) -> Result<bool, TermFault> {
@@ -34,29 +30,47 @@ fn spell(alloc: Global, bytes: &[u8], term: &Term) -> Result<bool, TermFault> {
     }
 }
 
-// Whether each of these bytes are.
-fn all_spell(alloc: Global, all: &[&[u8]], term: &Term) -> Result<bool, TermFault> {
-    for bytes in all {
-        match spell(alloc, bytes, term) {
-            Ok(true) => (),
-            other => return other,
-        }
-    }
-    Ok(true)
-}
-
 // Whether so many bytes are written, which begin with these, and are read as the term.
 fn is_written(alloc: Global, term: &Term, len: usize, front: &[u8]) -> Result<bool, TermFault> {
+    let is_long = encode_len(term) == Ok(len);
     match encode(alloc, term) {
         Ok(bytes) => {
             let is_same = bytes.len() == len && bytes.as_slice().starts_with(front);
             let spell = spell(alloc, &bytes, term);
             drop(bytes);
-            Ok(spell? && is_same && encode_len(term) == Ok(len))
+            Ok(spell? && is_same && is_long)
         }
         Err(fault) => Err(fault),
     }
 }
+
+// Whether the term is written and read as the row says.
+fn is_as_made(alloc: Global, term: &Term, row: Made) -> Result<bool, TermFault> {
+    let mut told = is_written(alloc, term, row.1, row.2);
+    for bytes in row.3 {
+        if told == Ok(true) {
+            told = spell(alloc, bytes, term);
+        }
+    }
+    told
+}
+
+impl Row for Made {
+    fn told(&self, alloc: Global) -> Result<bool, MessageFault> {
+        match made(alloc, self.0) {
+            Ok(term) => {
+                let told = is_as_made(alloc, &term, *self);
+                drop(term);
+                Ok(told?)
+            }
+            Err(fault) => Err(MessageFault::Term(fault)),
+        }
+    }
+}
+
+/// There is no such term, or it is neither measured nor written, for this fault.
+#[derive(Clone, Copy)]
+pub struct Refused(pub Sample, pub TermFault);
 
 // Appends a number, again where memory was refused, and tells whether nothing was appended then.
 fn put(out: &mut BytesMut, number: i64) -> Result<bool, TermFault> {
@@ -73,51 +87,38 @@ fn put(out: &mut BytesMut, number: i64) -> Result<bool, TermFault> {
     Ok(is_kept)
 }
 
-// Whether the term is appended to nothing and to no number, and the number behind it follows the one before.
+// Whether the term is not appended: to nothing, and between two numbers.
 fn is_not_appended(out: &mut BytesMut, term: &Term, fault: TermFault) -> Result<bool, TermFault> {
-    let is_empty = encode_into(term, out) == Err(fault) && out.as_slice().is_empty();
-    let is_five_kept = put(out, 5)? && encode_into(term, out) == Err(fault);
-    let is_five = out.as_slice() == [131, 97, 5].as_slice();
-    let is_kept = put(out, -1)?;
-    let are_both = out.as_slice() == [131, 97, 5, 131, 98, 255, 255, 255, 255].as_slice();
-    Ok(is_empty && is_five_kept && is_five && is_kept && are_both)
+    let at_first = encode_into(term, out) == Err(fault) && out.as_slice().is_empty();
+    let is_five = put(out, 5)?;
+    let behind = encode_into(term, out) == Err(fault) && out.as_slice() == b"\x83a\x05".as_slice();
+    let is_last = put(out, -1)?;
+    let are_both = out.as_slice() == b"\x83a\x05\x83b\xff\xff\xff\xff".as_slice();
+    Ok(at_first && is_five && behind && is_last && are_both)
 }
 
-// Whether the term is neither measured nor written for this fault, nor appended.
-fn is_not_written(alloc: Global, term: &Term, fault: TermFault) -> Result<bool, TermFault> {
+// Whether the term is neither measured nor written nor appended, for this fault.
+fn is_refused(alloc: Global, term: &Term, fault: TermFault) -> Result<bool, TermFault> {
     let mut out = BytesMut::new(alloc);
-    let is_not_appended = is_not_appended(&mut out, term, fault);
+    let told = is_not_appended(&mut out, term, fault);
     drop(out);
-    let told = encode(alloc, term).err();
-    if told == Some(TermFault::OutOfMemory) {
-        return Err(TermFault::OutOfMemory);
-    }
-    Ok(is_not_appended? && told == Some(fault) && encode_len(term) == Err(fault))
-}
-
-fn is_as_wanted(alloc: Global, term: &Term, wanted: Wanted) -> Result<bool, TermFault> {
-    match wanted {
-        Wanted::Bytes(len, front, others) => {
-            Ok(is_written(alloc, term, len, front)? && all_spell(alloc, others, term)?)
-        }
-        Wanted::NotMade(_) => Ok(false),
-        Wanted::NotWritten(fault) => is_not_written(alloc, term, fault),
+    let is_unmeasured = encode_len(term) == Err(fault);
+    match encode(alloc, term).err() {
+        Some(TermFault::OutOfMemory) => Err(TermFault::OutOfMemory),
+        written => Ok(told? && is_unmeasured && written == Some(fault)),
     }
 }
 
-impl Row for Made {
+impl Row for Refused {
     fn told(&self, alloc: Global) -> Result<bool, MessageFault> {
-        let wanted = self.1;
         match made(alloc, self.0) {
             Ok(term) => {
-                let told = is_as_wanted(alloc, &term, wanted);
+                let told = is_refused(alloc, &term, self.1);
                 drop(term);
                 Ok(told?)
             }
-            Err(fault) => match wanted {
-                Wanted::NotMade(told) if told == fault => Ok(true),
-                _ => Err(MessageFault::Term(fault)),
-            },
+            Err(TermFault::OutOfMemory) => Err(MessageFault::Term(TermFault::OutOfMemory)),
+            Err(fault) => Ok(fault == self.1),
         }
     }
 }

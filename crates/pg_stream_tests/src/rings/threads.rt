@@ -1,7 +1,7 @@
 ghost use Rattle.std.specs.Prelude.{◌≡◌, length};
 ghost use Rattle.pg_ring.specs.Ends.{SameRingOut, SameRingIn};
 
-use crate::samples::holds;
+use crate::rows::holds;
 use pg_ring::{Inlet, Link, RingIn, RingOut, ring_pair, together};
 use std::snapshot::Snapshot;
 use std::sync::Wait;

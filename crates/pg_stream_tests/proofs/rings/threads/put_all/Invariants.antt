@@ -1,5 +1,5 @@
 use Rattle.std.proofs.Common.{length, ◌≤◌, take}
-use Rattle.pg_tests.proofs.rings.threads.put_all.Given as goal
+use Rattle.pg_stream_tests.proofs.rings.threads.put_all.Given as goal
 
 abbrev pub invariant-loop : goal.invariant-loop
 invariant-loop g l =

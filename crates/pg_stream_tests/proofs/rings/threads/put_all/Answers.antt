@@ -1,7 +1,7 @@
 use Rattle.std.proofs.Common.{arith, take, drop, length, ◌-◌, ◌≡◌}
 use Rattle.std.proofs.Math.Seq.{take-add}
 use Rattle.std.proofs.lemmas.List.{length-drop, take_rest}
-use Rattle.pg_tests.proofs.rings.threads.put_all.Goals as goal
+use Rattle.pg_stream_tests.proofs.rings.threads.put_all.Goals as goal
 
 -- the bytes that were put now stand behind those that were put before
 pub loop-preserved : goal.loop-preserved
