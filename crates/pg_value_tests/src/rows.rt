@@ -24,11 +24,6 @@ pub fn check<R: Row>(rt: &impl Abort, alloc: Global, rows: &[R]) {
     }
 }
 
-/// Ends the test where a row of a table does not hold.
-pub fn row_holds(rt: &impl Abort, holds: bool, row: usize) {
-    assert!(rt; holds, "at {row}");
-}
-
 /// Ends the test where something does not hold, and tells of it.
 pub fn holds(rt: &impl Abort, holds: bool, said: &str) {
     assert!(rt; holds, "{said}");

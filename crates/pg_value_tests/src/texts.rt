@@ -42,11 +42,26 @@ fn is_shown(alloc: Global, text: &str, shown: &str) -> Result<bool, TextFault> {
     }
 }
 
+// The text is shown so, or has the fault. Where memory was refused it is read a second time.
+fn check_text(
+    rt: &impl Abort,
+    alloc: Global,
+    text: &str,
+    shown: &str,
+    wanted: Result<bool, TextFault>,
+) {
+    let told = match is_shown(alloc, text, shown) {
+        Err(TextFault::OutOfMemory) => is_shown(alloc, text, shown),
+        told => told,
+    };
+    holds(rt, told == wanted, text);
+}
+
 // Each of the texts is shown as itself, or has the fault.
 fn check_texts(rt: &impl Abort, alloc: Global, rows: &[&str], wanted: Result<bool, TextFault>) {
     for row in rows {
         for text in row.split('|') {
-            holds(rt, is_shown(alloc, text, text) == wanted, text);
+            check_text(rt, alloc, text, text, wanted);
         }
     }
 }
@@ -55,6 +70,5 @@ fn check_texts(rt: &impl Abort, alloc: Global, rows: &[&str], wanted: Result<boo
 fn texts_are_printed_as_they_are_read(rt: HostRuntime) {
     check_texts(&rt, rt.alloc(), TERMS, Ok(true));
     check_texts(&rt, rt.alloc(), NO_TERMS, Err(TextFault::BadText));
-    let is_shown = is_shown(rt.alloc(), r"'\x{e9}'", "'é'");
-    holds(&rt, is_shown == Ok(true), "an escaped letter");
+    check_text(&rt, rt.alloc(), r"'\x{e9}'", "'é'", Ok(true));
 }

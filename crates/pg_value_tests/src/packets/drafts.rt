@@ -46,15 +46,19 @@ fn pids(alloc: Global, count: u32) -> Result<Items<Pid>, TermFault> {
 fn put_group(
     alloc: Global,
     groups: &mut Vec<Group>,
-    name: Term,
+    name: Result<Term, TermFault>,
     members: u32,
 ) -> Result<(), TermFault> {
-    match pids(alloc, members) {
-        Ok(pids) => {
+    match (name, pids(alloc, members)) {
+        (Ok(name), Ok(pids)) => {
             groups.push((name, pids))?;
             Ok(())
         }
-        Err(fault) => {
+        (Err(fault), pids) => {
+            drop(pids);
+            Err(fault)
+        }
+        (name, Err(fault)) => {
             drop(name);
             Err(fault)
         }
@@ -68,27 +72,27 @@ fn long_name(alloc: Global, number: i64) -> Result<Term, TermFault> {
 }
 
 fn put_groups(alloc: Global, groups: &mut Vec<Group>, draft: Draft) -> Result<(), TermFault> {
+    let mut told = Ok(());
     match draft {
-        Draft::Late => Ok(()),
+        Draft::Late => (),
         Draft::Twice => {
             for name in &[7, 5, 6, 5] {
-                put_group(alloc, groups, Term::Int(*name), 1)?;
+                told = told.and(put_group(alloc, groups, Ok(Term::Int(*name)), 1));
             }
-            Ok(())
         }
         Draft::Long(count) => {
             for number in 0..count {
-                put_group(alloc, groups, long_name(alloc, number)?, 0)?;
+                told = told.and(put_group(alloc, groups, long_name(alloc, number), 0));
             }
-            Ok(())
         }
         Draft::Many(count, members) => {
             for number in 0..count {
-                put_group(alloc, groups, Term::Int(number), members)?;
+                told = told.and(put_group(alloc, groups, Ok(Term::Int(number)), members));
             }
-            put_group(alloc, groups, tuple(alloc, 30, 1, &[0])?, 0)
+            told = told.and(put_group(alloc, groups, tuple(alloc, 30, 1, &[0]), 0));
         }
     }
+    told
 }
 
 // An exchange of node a.

@@ -5,7 +5,7 @@ use super::bodies::{CREATE, EMPTY};
 use super::drafts::created;
 use super::forms::{Changed, Itself, NO_PACKET, is_read_in_both_forms};
 use crate::rows::Edit::{self, At, Times};
-use crate::rows::{OUT_OF_MEMORY, Row, check, edited};
+use crate::rows::{OUT_OF_MEMORY, Row, check, edited, holds};
 use pg_message::MessageFault::{self, NameTooLarge, NotAMessage};
 use pg_message::{MAX_NAME_DEPTH, MAX_NAME_LEN, check_name, write_packet};
 use pg_term::{Term, TermFault};
@@ -52,38 +52,54 @@ fn decoded(alloc: Global, edits: &[Edit]) -> Result<Term, TermFault> {
     }
 }
 
-// Why a create call of this name is not written.
-fn fault_of(alloc: Global, name: Term) -> Result<Option<MessageFault>, TermFault> {
+// Whether a create call of this name is written with this fault, or with none.
+fn is_written_with(
+    alloc: Global,
+    name: Term,
+    fault: Option<MessageFault>,
+) -> Result<bool, MessageFault> {
     match created(alloc, 0, name) {
         Ok(packet) => {
-            let fault = write_packet(alloc, &packet).err();
+            let told = write_packet(alloc, &packet).err();
             drop(packet);
-            Ok(fault)
+            if told == Some(OUT_OF_MEMORY) {
+                Err(OUT_OF_MEMORY)
+            } else {
+                Ok(told == fault)
+            }
         }
-        Err(fault) => Err(fault),
+        Err(fault) => Err(MessageFault::Term(fault)),
     }
+}
+
+// Whether a name takes so many bytes, and is checked and written as one.
+fn is_told(alloc: Global, name: Term, len: usize, is_name: bool) -> Result<bool, MessageFault> {
+    let is_long = encode_len(&name) == Ok(len);
+    let checked = check_name(&name);
+    let (wanted, fault) = if is_name {
+        (Ok(()), None)
+    } else {
+        (Err(NameTooLarge), Some(NotAMessage))
+    };
+    Ok(is_written_with(alloc, name, fault)? && is_long && checked == wanted)
 }
 
 impl Row for Name {
     fn told(&self, alloc: Global) -> Result<bool, MessageFault> {
         let Name(edits, len, is_name) = *self;
-        let name = decoded(alloc, edits)?;
-        let is_long = encode_len(&name) == Ok(len);
-        let checked = check_name(&name);
-        let written = fault_of(alloc, name)?;
-        let told = if is_name {
-            checked == Ok(()) && written == None
-        } else {
-            checked == Err(NameTooLarge) && written == Some(NotAMessage)
-        };
         let wanted = if is_name { Itself } else { NO_PACKET };
-        Ok(is_long && told && is_read_in_both_forms(alloc, CREATE, edits, wanted)?)
+        let told = match decoded(alloc, edits) {
+            Ok(name) => is_told(alloc, name, len, is_name),
+            Err(fault) => Err(MessageFault::Term(fault)),
+        };
+        Ok(told? && is_read_in_both_forms(alloc, CREATE, edits, wanted)?)
     }
 }
 
 #[test]
 fn name_limits(rt: HostRuntime) {
-    assert_eq!(rt; (MAX_NAME_LEN, MAX_NAME_DEPTH), (1024, 32));
+    let limits = (MAX_NAME_LEN, MAX_NAME_DEPTH);
+    holds(&rt, limits == (1024, 32), "the limits of a name");
     check(&rt, rt.alloc(), NAMES);
 }
 

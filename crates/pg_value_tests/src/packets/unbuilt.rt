@@ -2,68 +2,74 @@
 
 use super::bodies::EMPTY;
 use crate::rows::Edit::{self, At, Times};
-use crate::rows::{edited, holds, row_holds};
+use crate::rows::{Row, check, edited, holds};
 use pg_message::{MessageFault, read_packet};
 use pg_term_io::{NextElement, next_element, skip_item};
 use std::alloc::{AllocError, Global};
 use std::test::*;
 
-const NO_PACKETS: &[&[u8]] = &[
+/// A body, and how it is changed to what is no packet.
+#[derive(Clone, Copy)]
+struct Unbuilt(&'static [u8], &'static [Edit]);
+
+const NO_PACKETS: &[Unbuilt] = &[
     // [1, 2], <<1, 2>>, {a}, {[], {a, b}}
-    b"\x83k\0\x02\x01\x02",
-    b"\x83m\0\0\0\x02\x01\x02",
-    b"\x83h\x01w\x01a",
-    b"\x83h\x02jh\x02w\x01aw\x01b",
+    Unbuilt(b"\x83k\0\x02\x01\x02", &[]),
+    Unbuilt(b"\x83m\0\0\0\x02\x01\x02", &[]),
+    Unbuilt(b"\x83h\x01w\x01a", &[]),
+    Unbuilt(b"\x83h\x02jh\x02w\x01aw\x01b", &[]),
     // {0, [a]}, {0, {down, [a]}}, {0, {reply, {a}, ok}}
-    b"\x83h\x02a\0l\0\0\0\x01w\x01aj",
-    b"\x83h\x02a\0h\x02w\x04downl\0\0\0\x01w\x01aj",
-    b"\x83h\x02a\0h\x03w\x05replyh\x01w\x01aw\x02ok",
+    Unbuilt(b"\x83h\x02a\0l\0\0\0\x01w\x01aj", &[]),
+    Unbuilt(b"\x83h\x02a\0h\x02w\x04downl\0\0\0\x01w\x01aj", &[]),
+    Unbuilt(b"\x83h\x02a\0h\x03w\x05replyh\x01w\x01aw\x02ok", &[]),
+    // An exchange of 100,000 integers, and such as are wrong in the last of 1,000 groups.
+    Unbuilt(EMPTY, &[COUNT, INTEGERS, END]),
+    Unbuilt(EMPTY, &[THOUSAND, GROUPS, WRONG_MEMBER, END]),
+    Unbuilt(EMPTY, &[THOUSAND, GROUPS, WRONG_IN_PARTS, END]),
+    Unbuilt(EMPTY, &[THOUSAND, GROUPS, TEXT_IN_PARTS, END]),
+    Unbuilt(EMPTY, &[THOUSAND, GROUPS, THREE, END]),
+    Unbuilt(EMPTY, &[THOUSAND, GROUPS, TEXT, END]),
 ];
 
-// Of an exchange 100,000 integers; 999 groups [g, [<a.1.0>]] and one more; and the end of either.
-const INTEGERS: &[Edit] = &[At(28, 1, b"l\0\x01\x86\xa0"), Times(100_000, b"a\x01"), END];
+const COUNT: Edit = At(28, 1, b"l\0\x01\x86\xa0");
+
+const INTEGERS: Edit = Times(100_000, b"a\x01");
 
 const THOUSAND: Edit = At(28, 1, b"l\0\0\x03\xe8");
-
+// [g, [<a.1.0>]]
 const GROUPS: Edit = Times(999, GROUP);
 
 const GROUP: &[u8] = b"l\0\0\0\x02w\x01gl\0\0\0\x01Xw\x01a\0\0\0\x01\0\0\0\0\0\0\0\x01jj";
+// [g, [a]]
+const WRONG_MEMBER: Edit = Times(1, b"l\0\0\0\x02w\x01gl\0\0\0\x01w\x01ajj");
+// [g | [[a]]], a pair in two parts
+const WRONG_IN_PARTS: Edit = Times(1, b"l\0\0\0\x01w\x01gl\0\0\0\x01l\0\0\0\x01w\x01ajj");
+// [g | "1"], [g, [], []], "1"
+const TEXT_IN_PARTS: Edit = Times(1, b"l\0\0\0\x01w\x01gk\0\x011");
+
+const THREE: Edit = Times(1, b"l\0\0\0\x03w\x01gjjj");
+
+const TEXT: Edit = Times(1, b"k\0\x011");
 
 const END: Edit = Times(1, b"j");
 
-const NO_GROUPS: &[&[u8]] = &[
-    // [g, [a]]
-    b"l\0\0\0\x02w\x01gl\0\0\0\x01w\x01ajj",
-    // [g | [[a]]], a pair in two parts
-    b"l\0\0\0\x01w\x01gl\0\0\0\x01l\0\0\0\x01w\x01ajj",
-    // [g | "1"], [g, [], []], "1"
-    b"l\0\0\0\x01w\x01gk\0\x011",
-    b"l\0\0\0\x03w\x01gjjj",
-    b"k\0\x011",
-];
-
 // Nothing is built of it: where a growth is refused, it is one of the body's own.
-fn is_refused(alloc: Global, body: &[u8], edits: &[Edit]) -> bool {
-    match edited(alloc, b"", 0, body, edits) {
-        Ok(bytes) => {
-            let fault = read_packet(alloc, &bytes).err();
-            drop(bytes);
-            fault == Some(MessageFault::NotAMessage)
+impl Row for Unbuilt {
+    fn told(&self, alloc: Global) -> Result<bool, MessageFault> {
+        match edited(alloc, b"", 0, self.0, self.1) {
+            Ok(bytes) => {
+                let fault = read_packet(alloc, &bytes).err();
+                drop(bytes);
+                Ok(fault == Some(MessageFault::NotAMessage))
+            }
+            Err(AllocError) => Ok(true),
         }
-        Err(AllocError) => true,
     }
 }
 
 #[test]
 fn what_is_no_packet_takes_no_memory(rt: HostRuntime) {
-    for (row, body) in NO_PACKETS.iter().enumerate() {
-        row_holds(&rt, is_refused(rt.alloc(), body, &[]), row);
-    }
-    holds(&rt, is_refused(rt.alloc(), EMPTY, INTEGERS), "integers");
-    for (row, last) in NO_GROUPS.iter().enumerate() {
-        let edits = [THOUSAND, GROUPS, Times(1, last), END];
-        row_holds(&rt, is_refused(rt.alloc(), EMPTY, &edits), row);
-    }
+    check(&rt, rt.alloc(), NO_PACKETS);
 }
 
 // [1 | [2 | ""]]

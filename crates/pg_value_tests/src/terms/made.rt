@@ -87,14 +87,16 @@ fn put(out: &mut BytesMut, number: i64) -> Result<bool, TermFault> {
     Ok(is_kept)
 }
 
-// Whether the term is not appended: to nothing, and between two numbers.
+// Whether the term is not appended, and the bytes before it are these.
+fn is_kept(out: &mut BytesMut, term: &Term, fault: TermFault, bytes: &[u8]) -> bool {
+    encode_into(term, out) == Err(fault) && out.as_slice() == bytes
+}
+
+// Whether the term is appended neither to nothing nor to a number, and another number is.
 fn is_not_appended(out: &mut BytesMut, term: &Term, fault: TermFault) -> Result<bool, TermFault> {
-    let at_first = encode_into(term, out) == Err(fault) && out.as_slice().is_empty();
-    let is_five = put(out, 5)?;
-    let behind = encode_into(term, out) == Err(fault) && out.as_slice() == b"\x83a\x05".as_slice();
-    let is_last = put(out, -1)?;
-    let are_both = out.as_slice() == b"\x83a\x05\x83b\xff\xff\xff\xff".as_slice();
-    Ok(at_first && is_five && behind && is_last && are_both)
+    let told = is_kept(out, term, fault, b"") && put(out, 5)?;
+    let told = told && is_kept(out, term, fault, b"\x83a\x05") && put(out, -1)?;
+    Ok(told && out.as_slice() == b"\x83a\x05\x83b\xff\xff\xff\xff".as_slice())
 }
 
 // Whether the term is neither measured nor written nor appended, for this fault.
