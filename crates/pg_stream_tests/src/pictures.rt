@@ -79,38 +79,18 @@ fn put_nodes(alloc: Global, nodes: &mut Vec<String>, names: &[&str]) -> Result<(
     Ok(())
 }
 
-fn put_all(
-    alloc: Global,
-    diagram: &mut Diagram,
-    names: &[&str],
-    packets: Option<usize>,
-) -> Result<(), AllocError> {
-    put_nodes(alloc, &mut diagram.nodes, names)?;
-    put_events(alloc, &mut diagram.events, packets)
-}
-
 fn drawn(alloc: Global, names: &[&str], packets: Option<usize>) -> Result<Diagram, AllocError> {
     let mut diagram = Diagram {
         nodes: Vec::new(alloc),
         events: Vec::new(alloc),
     };
-    match put_all(alloc, &mut diagram, names, packets) {
-        Ok(()) => Ok(diagram),
-        Err(AllocError) => {
-            drop(diagram);
-            Err(AllocError)
-        }
-    }
-}
-
-fn picture(alloc: Global, names: &[&str], packets: Option<usize>) -> Result<String, AllocError> {
-    match drawn(alloc, names, packets) {
-        Ok(diagram) => {
-            let svg = svg_of(alloc, &diagram);
-            drop(diagram);
-            svg
-        }
-        Err(AllocError) => Err(AllocError),
+    let nodes = put_nodes(alloc, &mut diagram.nodes, names);
+    let events = put_events(alloc, &mut diagram.events, packets);
+    if nodes.is_ok() && events.is_ok() {
+        Ok(diagram)
+    } else {
+        drop(diagram);
+        Err(AllocError)
     }
 }
 
@@ -160,54 +140,24 @@ fn has_names_alone(svg: &str) -> bool {
     true
 }
 
-/// The nodes and packets of a picture, its arrows, and what stands in it and what does not.
+/// The nodes and packets of a picture, how many arrows it has and one more, what stands in it, and what does not.
 #[derive(Clone, Copy)]
-struct Shown {
-    nodes: &'static [&'static str],
-    packets: Option<usize>,
-    arrows: usize,
-    shown: &'static [&'static str],
-    hidden: &'static [&'static str],
-}
+struct Shown(
+    &'static [&'static str],
+    Option<usize>,
+    usize,
+    &'static [&'static str],
+    &'static [&'static str],
+);
 
-// Seven arrows are in the legend, one before the first; the last three packets are not taken.
+// Six arrows are in the legend; the last three packets are not taken.
 const PICTURES: &[Shown] = &[
-    Shown {
-        nodes: NODES,
-        packets: Some(0),
-        arrows: 7,
-        shown: &[],
-        hidden: &[],
-    },
-    Shown {
-        nodes: NODES,
-        packets: Some(1),
-        arrows: 7,
-        shown: TEXTS,
-        hidden: &[],
-    },
-    Shown {
-        nodes: NODES,
-        packets: Some(39),
-        arrows: 43,
-        shown: &[],
-        hidden: &[],
-    },
-    Shown {
-        nodes: NODES,
-        packets: Some(200),
-        arrows: 204,
-        shown: &[],
-        hidden: &[],
-    },
+    Shown(NODES, Some(0), 7, &[], &[]),
+    Shown(NODES, Some(1), 7, TEXTS, &[]),
+    Shown(NODES, Some(39), 43, &[], &[]),
+    Shown(NODES, Some(200), 204, &[], &[]),
     // Nodes and packets that are not there are passed over.
-    Shown {
-        nodes: &[],
-        packets: None,
-        arrows: 7,
-        shown: &[],
-        hidden: &["class=\"label\""],
-    },
+    Shown(&[], None, 7, &[], &["class=\"label\""]),
 ];
 
 // Names are escaped and cut.
@@ -220,34 +170,31 @@ const TEXTS: &[&str] = &[
     ">line 5</text>",
 ];
 
-// Whether a text is XML, has the arrows, and shows what it should.
-fn is_picture(alloc: Global, svg: &str, row: &Shown) -> Result<bool, AllocError> {
-    let mut is_shown = has_names_alone(svg);
-    for shown in row.shown {
-        is_shown = is_shown && svg.contains(shown);
+// Whether a text is XML, and shows what it should.
+fn is_picture(alloc: Global, svg: &str, row: Shown) -> Result<bool, AllocError> {
+    let Shown(_, _, parts, shown, hidden) = row;
+    let mut told = has_names_alone(svg) && svg.split("marker-end").count() == parts;
+    for text in shown {
+        told = told && svg.contains(text);
     }
-    for hidden in row.hidden {
-        is_shown = is_shown && !svg.contains(hidden);
+    for text in hidden {
+        told = told && !svg.contains(text);
     }
-    let are_arrows = svg.split("marker-end").count() == row.arrows;
-    Ok(is_shown && are_arrows && is_well_formed(alloc, svg)?)
+    Ok(told && is_well_formed(alloc, svg)?)
 }
 
-fn is_drawn(alloc: Global, row: &Shown) -> Result<bool, AllocError> {
-    match picture(alloc, row.nodes, row.packets) {
-        Ok(svg) => {
-            let is_picture = is_picture(alloc, svg.as_str(), row);
-            drop(svg);
-            is_picture
-        }
-        Err(AllocError) => Err(AllocError),
-    }
+fn is_drawn(alloc: Global, row: Shown) -> Result<bool, AllocError> {
+    let diagram = drawn(alloc, row.0, row.1)?;
+    let svg = svg_of(alloc, &diagram);
+    drop(diagram);
+    let svg = svg?;
+    is_picture(alloc, svg.as_str(), row)
 }
 
 #[test]
 fn pictures_are_xml(rt: HostRuntime) {
     for (at, row) in PICTURES.iter().enumerate() {
-        row_holds(&rt, is_drawn(rt.alloc(), row) == Ok(true), at);
+        row_holds(&rt, is_drawn(rt.alloc(), *row) == Ok(true), at);
     }
 }
 
