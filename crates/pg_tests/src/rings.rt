@@ -1,5 +1,0 @@
-//! Tests of rings: what moves, frames that cross them, and threads.
-
-mod crossing;
-mod moves;
-mod threads;

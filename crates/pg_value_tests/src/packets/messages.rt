@@ -1,0 +1,180 @@
+//! Each message, read from its bytes, copied, and written as them, wherever memory is refused; and what is read straight off
+//! its bytes, since it is spelled as it is written.
+
+use super::bodies::{APPLIED, CREATE, DEL_LOCK, DOWN, EMPTY, EXCHANGE, JOIN};
+use crate::rows::{OUT_OF_MEMORY, Row, check, holds};
+use bytes::BytesMut;
+use pg_group::Update;
+use pg_message::{
+    Message, MessageFault, Packet, Request, Said, is_read_directly, packet_len, read_packet,
+    write_packet, write_packet_into,
+};
+use std::alloc::{AllocError, Global};
+use std::test::*;
+
+/// The bytes of a packet in parts, and what it says, in words.
+#[derive(Clone, Copy)]
+struct Both(&'static [&'static [u8]], &'static str);
+
+// The beginning of a packet at 0, and a call and replies of #<a/0.7>.
+const NOW: &[u8] = b"\x83h\x02a\0";
+
+const CALL: &[u8] = b"h\x03w\x04callZ\0\x01w\x01a\0\0\0\0\0\0\0\x07";
+
+const GRANTED: &[u8] = b"h\x03w\x05replyZ\0\x01w\x01a\0\0\0\0\0\0\0\x07w\x04true";
+
+const DENIED: &[u8] = b"h\x03w\x05replyZ\0\x01w\x01a\0\0\0\0\0\0\0\x07w\x05false";
+
+const PID: &[u8] = b"Xw\x01a\0\0\0\x01\0\0\0\0\0\0\0\x01";
+
+const PID_2: &[u8] = b"Xw\x01a\0\0\0\x02\0\0\0\0\0\0\0\x01";
+
+const TELL: &[u8] = b"h\x02w\x04casth\x03w\x08exchangew\x01al\0\0\0\x02";
+
+const MESSAGES: &[Both] = &[
+    Both(&[CREATE], "create"),
+    Both(&[NOW, CALL, b"h\x02w\x06deletej"], "delete"),
+    Both(&[NOW, CALL, b"h\x02w\x06deletew\x01g"], "delete"),
+    Both(&[LATEST, CALL, b"h\x02w\x08set_locka\x05"], "set_lock"),
+    Both(&[NOW, CALL, b"h\x02w\x08set_lockw\x01g"], "set_lock"),
+    Both(&[JOIN], "join"),
+    Both(&[NOW, CALL, b"h\x03w\x05leavew\x01g", PID], "leave"),
+    Both(&[b"\x83h\x02a\xff", GRANTED], "true"),
+    Both(&[NOW, GRANTED], "true"),
+    Both(&[b"\x83h\x02b\0\0\x01\0", DENIED], "false"),
+    Both(&[NOW, DENIED], "false"),
+    Both(&[APPLIED], "ok"),
+    Both(&[DEL_LOCK], "del_lock"),
+    // Members in no order, and one that joined twice; no groups; members in order.
+    Both(&[EXCHANGE], "exchange"),
+    Both(&[EMPTY], "exchange"),
+    Both(
+        &[NOW, TELL, NONE_OF_G, TWO_OF_H, PID, PID_2, b"jjj"],
+        "exchange",
+    ),
+    Both(&[DOWN], "down"),
+];
+
+const LATEST: &[u8] = b"\x83h\x02b@\0\0\0";
+
+const NONE_OF_G: &[u8] = b"l\0\0\0\x02w\x01gjj";
+
+const TWO_OF_H: &[u8] = b"l\0\0\0\x02w\x01hl\0\0\0\x02";
+
+fn update_kind(update: &Update) -> &'static str {
+    match update {
+        Update::Create(_) => "create",
+        Update::Delete(_) => "delete",
+        Update::Join(_, _) => "join",
+        Update::Leave(_, _) => "leave",
+    }
+}
+
+fn kind_of(packet: &Packet) -> &'static str {
+    match &packet.message {
+        Message::Call(_, Request::SetLock(_)) => "set_lock",
+        Message::Call(_, Request::Change(update)) => update_kind(update),
+        Message::Reply(_, Said::Granted) => "true",
+        Message::Reply(_, Said::Denied) => "false",
+        Message::Reply(_, Said::Applied) => "ok",
+        Message::DelLock(_, _) => "del_lock",
+        Message::Exchange(_, _) => "exchange",
+        Message::Down(_) => "down",
+    }
+}
+
+// Writes the packet into an empty buffer, again where memory was refused and the buffer is as it was.
+fn put(packet: &Packet, out: &mut BytesMut) -> Result<(), MessageFault> {
+    let told = write_packet_into(packet, out);
+    if told == Err(OUT_OF_MEMORY) && out.as_slice().is_empty() {
+        write_packet_into(packet, out)
+    } else {
+        told
+    }
+}
+
+// Whether the packet is written as the bytes behind their length in four bytes.
+fn is_framed(alloc: Global, packet: &Packet, bytes: &[u8]) -> bool {
+    let len = u32::try_from(bytes.len()).unwrap_or(u32::MAX);
+    let mut out = BytesMut::new(alloc);
+    let is_put = put(packet, &mut out) == Ok(());
+    let is_framed = out.len() == bytes.len() + 4
+        && out.as_slice().starts_with(&len.to_be_bytes())
+        && out.as_slice().ends_with(bytes);
+    drop(out);
+    is_put && is_framed
+}
+
+// Whether the packet is written as the bytes, and in a frame.
+fn is_written(alloc: Global, packet: &Packet, bytes: &[u8]) -> Result<bool, MessageFault> {
+    let is_long = packet_len(packet) == Ok(bytes.len());
+    match write_packet(alloc, packet) {
+        Ok(body) => {
+            let is_same = body.as_slice() == bytes;
+            drop(body);
+            Ok(is_same && is_long && is_framed(alloc, packet, bytes))
+        }
+        Err(fault) => Err(fault),
+    }
+}
+
+// Whether the packet is of this kind and written as the bytes, and so is its copy.
+fn is_both_ways(
+    alloc: Global,
+    packet: &Packet,
+    bytes: &[u8],
+    kind: &str,
+) -> Result<bool, MessageFault> {
+    match packet.copy(alloc) {
+        Ok(copy) => {
+            let is_same = kind_of(packet) == kind && kind_of(&copy) == kind;
+            let is_copied = is_written(alloc, &copy, bytes);
+            drop(copy);
+            Ok(is_copied? && is_written(alloc, packet, bytes)? && is_same)
+        }
+        Err(AllocError) => Err(OUT_OF_MEMORY),
+    }
+}
+
+// Whether the bytes are read straight as a packet of this kind.
+fn is_read(alloc: Global, bytes: &[u8], kind: &str) -> Result<bool, MessageFault> {
+    let is_direct = is_read_directly(alloc, bytes)?;
+    match read_packet(alloc, bytes) {
+        Ok(packet) => {
+            let told = is_both_ways(alloc, &packet, bytes, kind);
+            drop(packet);
+            Ok(told? && is_direct)
+        }
+        Err(fault) => Err(fault),
+    }
+}
+
+impl Row for Both {
+    fn told(&self, alloc: Global) -> Result<bool, MessageFault> {
+        let mut bytes = Vec::new(alloc);
+        for part in self.0 {
+            bytes.extend_from_slice(part)?;
+        }
+        is_read(alloc, &bytes, self.1)
+    }
+}
+
+#[test]
+fn each_message_both_ways(rt: HostRuntime) {
+    check(&rt, rt.alloc(), MESSAGES);
+}
+
+// {0, {down, <a.1.0>}} with a LARGE_TUPLE_EXT, and with a PID_EXT
+const IN_LARGE: &[u8] = b"\x83i\0\0\0\x02a\0h\x02w\x04downXw\x01a\0\0\0\x01\0\0\0\0\0\0\0\x01";
+
+const OF_OLD: &[u8] = b"\x83h\x02a\0h\x02w\x04downgw\x01a\0\0\0\x01\0\0\0\0\x01";
+
+#[test]
+fn another_form_takes_a_detour(rt: HostRuntime) {
+    let are_direct = [IN_LARGE, OF_OLD].map(|body| is_read_directly(rt.alloc(), body));
+    holds(
+        &rt,
+        are_direct == [Ok(false), Ok(false)],
+        "a detour is taken",
+    );
+}
