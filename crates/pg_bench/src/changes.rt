@@ -54,20 +54,19 @@ pub enum Groups {
 }
 
 impl Groups {
-    /// The groups that a word names: `one`, as where there is none, or `own`.
-    pub fn of(word: &str) -> anyhow::Result<Groups> {
+    /// The groups that a word names: `own`, or all one.
+    pub fn of(word: &str) -> Groups {
         match word {
-            "" | "one" => Ok(Groups::One),
-            "own" => Ok(Groups::Own),
-            _ => anyhow::bail!("the groups are one and own"),
+            "own" => Groups::Own,
+            _ => Groups::One,
         }
     }
 
     /// What the figures are headed by.
     pub fn name(self) -> &'static str {
         match self {
-            Groups::One => "all of one group",
-            Groups::Own => "each of a group of its own",
+            Groups::One => "calls of b, all of one group",
+            Groups::Own => "calls of b, each of a group of its own",
         }
     }
 

@@ -4,15 +4,14 @@ mod running;
 mod talker;
 
 use crate::changes::Groups;
-use crate::rates::rate;
+use crate::figures::{Watch, number, word};
 use crate::samples::config;
-use crate::words::{number, word};
 use running::Running;
 use std::alloc::{AllocError, Global};
 use std::io::Eprint;
 use std::thread;
 use std::thread::Threads;
-use std::time::{Clock, Duration, Instant};
+use std::time::{Clock, Duration};
 use talker::Talker;
 
 /// What the clients of a cluster do.
@@ -27,19 +26,13 @@ struct Setting {
 }
 
 impl Setting {
-    fn of(words: &[String]) -> anyhow::Result<Setting> {
-        Ok(Setting {
-            groups: Groups::of(word(words, 1))?,
-            nodes: u16::try_from(number(words, 2, 3)?)?,
-            clients: u16::try_from(number(words, 3, 2)?)?,
+    fn of(words: &[String]) -> Option<Setting> {
+        Some(Setting {
+            groups: Groups::of(word(words, 1)),
+            nodes: u16::try_from(number(words, 2, 3)?).ok()?,
+            clients: u16::try_from(number(words, 3, 2)?).ok()?,
             rounds: number(words, 4, 1_000)?,
         })
-    }
-
-    // The cluster with its clients.
-    fn running<R: Threads + AllocGlobal>(self, rt: &R) -> anyhow::Result<Running> {
-        let config = config(rt.alloc(), self.nodes, self.clients)?;
-        Running::start(rt, rt.alloc(), &config)
     }
 
     // One for each client.
@@ -58,31 +51,29 @@ fn speak_once<R: Clock>(
     running: &mut Running,
     talkers: &mut [Talker],
     times: &mut Vec<Duration>,
-) -> anyhow::Result<bool> {
+) -> bool {
     let mut moved = false;
     for talker in talkers {
-        moved |= talker.speak(rt, running, times)?;
+        moved |= talker.speak(rt, running, times);
     }
-    Ok(moved)
+    moved
 }
 
 // All speak until each has said what it has to say: how long each answer took.
 fn speak<R: Clock>(
     rt: &R,
-    alloc: Global,
     running: &mut Running,
     talkers: &mut [Talker],
-) -> anyhow::Result<Vec<Duration>> {
-    let mut times = Vec::new(alloc);
+    times: &mut Vec<Duration>,
+) {
     for _ in 0..u64::MAX {
         if talkers.iter().all(|talker| talker.is_silent()) {
             break;
         }
-        if !speak_once(rt, running, talkers, &mut times)? {
+        if !speak_once(rt, running, talkers, times) {
             thread::yield_now();
         }
     }
-    Ok(times)
 }
 
 // The time within which so many of a hundred were answered, in microseconds.
@@ -94,60 +85,70 @@ fn part(times: &[Duration], hundredths: usize) -> u128 {
     }
 }
 
-// Prints how many answers a second, and how long they took.
-fn report<R: Clock + Eprint>(
+// The clients make their processes and groups; then they join and leave, which is measured.
+fn measure<R: Clock + Eprint>(
     rt: &R,
+    running: &mut Running,
+    talkers: &mut [Talker],
     times: &mut Vec<Duration>,
-    start: Instant,
-) -> anyhow::Result<()> {
-    let time = start.elapsed(rt)?;
+    rounds: u64,
+) {
+    speak(rt, running, talkers, times);
+    times.clear();
+    for talker in &mut *talkers {
+        talker.go_on(rounds);
+    }
+    let watch = Watch::begin(rt);
+    speak(rt, running, talkers, times);
+    let answered = watch.rate(rt, times.len() as u64);
     times.sort_unstable();
-    let answered = rate(times.len() as u64, time);
-    eprintln!(rt;
+    let _ = eprintln!(rt;
         "{} commands: {answered} a second; half within {} microseconds, 99 of 100 within {}",
         times.len(),
         part(times, 50),
         part(times, 99)
-    )?;
-    Ok(())
+    );
 }
 
-// All speak, which is measured.
-fn measure_rounds<R: Clock + Eprint>(
-    rt: &R,
-    alloc: Global,
-    running: &mut Running,
-    talkers: &mut [Talker],
-) -> anyhow::Result<()> {
-    let start = Instant::now(rt)?;
-    let mut times = speak(rt, alloc, running, talkers)?;
-    report(rt, &mut times, start)
-}
-
-// The clients make their processes and groups; then they join and leave, which is measured.
-fn measure<R: Clock + Eprint>(
+fn measure_talkers<R: Clock + Eprint>(
     rt: &R,
     alloc: Global,
     running: &mut Running,
     setting: Setting,
-) -> anyhow::Result<()> {
-    let mut talkers = setting.talkers(alloc)?;
-    drop(speak(rt, alloc, running, &mut talkers)?);
-    for talker in &mut talkers {
-        talker.go_on(setting.rounds);
+) -> bool {
+    match setting.talkers(alloc) {
+        Ok(mut talkers) => {
+            let mut times = Vec::new(alloc);
+            measure(rt, running, &mut talkers, &mut times, setting.rounds);
+            drop(talkers);
+            drop(times);
+            true
+        }
+        Err(AllocError) => false,
     }
-    measure_rounds(rt, alloc, running, &mut talkers)
 }
 
-/// The words behind `cluster`: `one`, where all clients change one group, or `own`, where each has its own; how many nodes (3),
-/// clients of each (2) and rounds of a join and a leave (1,000).
-pub fn run<R: Threads + Clock + Eprint + AllocGlobal>(
-    rt: &R,
-    words: &[String],
-) -> anyhow::Result<()> {
-    let setting = Setting::of(words)?;
-    let mut running = setting.running(rt)?;
-    let measured = measure(rt, rt.alloc(), &mut running, setting);
-    running.close(rt);
-    measured
+fn run_setting<R: Threads + Clock + Eprint + AllocGlobal>(rt: &R, setting: Setting) -> bool {
+    let Ok(config) = config(rt.alloc(), setting.nodes, setting.clients) else {
+        return false;
+    };
+    let started = Running::start(rt, rt.alloc(), &config);
+    drop(config);
+    match started {
+        Some(mut running) => {
+            let is_done = measure_talkers(rt, rt.alloc(), &mut running, setting);
+            running.close(rt);
+            is_done
+        }
+        None => false,
+    }
+}
+
+/// The words after `cluster`: `one`, where all clients change one group, or `own`, where each has its own; how many nodes (3),
+/// clients of each (2) and rounds of a join and a leave (1,000). Whether it could.
+pub fn run<R: Threads + Clock + Eprint + AllocGlobal>(rt: &R, words: &[String]) -> bool {
+    match Setting::of(words) {
+        Some(setting) => run_setting(rt, setting),
+        None => false,
+    }
 }

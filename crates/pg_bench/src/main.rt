@@ -6,53 +6,52 @@
 
 mod changes;
 mod cluster;
-mod codec;
-mod memory;
+mod figures;
 mod nodes;
-mod packets;
-mod rates;
 mod rings;
 mod samples;
 mod tables;
-mod words;
+mod values;
 mod worlds;
 
+use figures::word;
 use std::env;
-use words::word;
+use values::{PACKETS, TERMS};
 
-// The figures that the words name, but for those of rings.
-fn run(rt: &HostRuntime, words: &[String]) -> anyhow::Result<()> {
+// The figures that the words name, but for those of threads; whether they could be taken.
+fn run(rt: &HostRuntime, words: &[String]) -> bool {
     match word(words, 0) {
-        "codec" => codec::run(rt, words),
-        "packets" => packets::run(rt, words),
+        "codec" => values::run(rt, words, TERMS),
+        "packets" => values::run(rt, words, PACKETS),
         "tables" => tables::run(rt, words),
-        "memory" => memory::run(rt, words),
+        "memory" => tables::run_memory(rt, words),
         "nodes" => nodes::run(rt, words),
         "worlds" => worlds::run(rt, words),
-        _ => anyhow::bail!(
-            "the figures are codec, packets, rings, cluster, tables, memory, nodes and worlds"
-        ),
+        _ => false,
     }
 }
 
 // The same, each once and small, but for memory, which only Linux tells.
-fn run_each(rt: &HostRuntime) -> anyhow::Result<()> {
-    codec::run(rt, &[])?;
-    packets::run(rt, &[])?;
-    tables::run(rt, &[])?;
-    nodes::run(rt, &[])?;
-    worlds::run(rt, &[])
+fn run_each(rt: &HostRuntime) -> bool {
+    values::run(rt, &[], TERMS)
+        && values::run(rt, &[], PACKETS)
+        && tables::run(rt, &[])
+        && nodes::run(rt, &[])
+        && worlds::run(rt, &[])
 }
 
 fn main(rt: HostRuntime) -> anyhow::Result<()> {
     let words: Vec<String> = env::args(&rt)?.skip(1).collect(rt.alloc())?;
-    match word(&words, 0) {
-        "" => {
-            rings::cross(&rt, 100)?;
-            run_each(&rt)
-        }
+    let is_done = match word(&words, 0) {
+        "" => rings::cross(&rt, 100) && run_each(&rt),
         "rings" => rings::cross(&rt, 1),
         "cluster" => cluster::run(&rt, &words),
         _ => run(&rt, &words),
+    };
+    if !is_done {
+        anyhow::bail!(
+            "no such figures, no number, or no memory: codec, packets, rings, cluster, tables, memory, nodes and worlds have figures"
+        );
     }
+    Ok(())
 }

@@ -1,12 +1,12 @@
 //! How many bytes a second cross a ring between two threads, for pieces of several sizes.
 
-use crate::rates::rate;
+use crate::figures::Watch;
 use pg_ring::{Inlet, Link, RingIn, RingOut, ring_pair};
 use std::io::Eprint;
 use std::sync::Wait;
+use std::thread;
 use std::thread::Threads;
-use std::time::{Clock, Duration, Instant};
-use std::{io, thread};
+use std::time::Clock;
 
 // The capacity of the ring, in bytes.
 const CAPACITY: usize = 65_536;
@@ -53,35 +53,37 @@ fn receive(rt: &impl Wait, inlet: &mut RingIn, size: usize, bytes: usize) {
     unreachable!()
 }
 
-// The time in which so many pieces of this size cross.
-fn time_of<R: Threads + Wait + Clock + AllocGlobal + Copy + Send + 'static>(
+// Starts the thread that puts so many pieces of this size, and takes them here; whether it could.
+fn cross_pieces<R: Threads + Wait + AllocGlobal + Copy + Send + 'static>(
     rt: &R,
     size: usize,
     pieces: usize,
-) -> io::Result<Duration> {
+) -> bool {
     let Ok((out, mut inlet)) = ring_pair(rt.alloc(), CAPACITY) else {
-        return Err(io::ErrorKind::OutOfMemory.into());
+        return false;
     };
-    let start = Instant::now(rt)?;
     let own = *rt;
     let Ok(sending) = thread::spawn(rt, move || send(&own, out, size, pieces)) else {
-        return Err(io::ErrorKind::WouldBlock.into());
+        return false;
     };
     receive(rt, &mut inlet, size, size.saturating_mul(pieces));
     sending.join(rt);
-    Ok(start.elapsed(rt)?)
+    true
 }
 
-/// Prints the figures of each size, of so many parts of the pieces one.
+/// Prints the figures of each size, of so many parts of the pieces one. Whether it could.
 pub fn cross<R: Threads + Wait + Clock + Eprint + AllocGlobal + Copy + Send + 'static>(
     rt: &R,
     parts: usize,
-) -> anyhow::Result<()> {
+) -> bool {
     for &(size, all) in &ROUNDS {
         let pieces = all / parts.max(1);
-        let time = time_of(rt, size, pieces)?;
-        let megabytes = rate(size.saturating_mul(pieces) as u64, time) / 1_000_000;
-        eprintln!(rt; "pieces of {size} bytes: {megabytes} MB/s")?;
+        let watch = Watch::begin(rt);
+        if !cross_pieces(rt, size, pieces) {
+            return false;
+        }
+        let megabytes = watch.rate(rt, size.saturating_mul(pieces) as u64) / 1_000_000;
+        let _ = eprintln!(rt; "pieces of {size} bytes: {megabytes} MB/s");
     }
-    Ok(())
+    true
 }

@@ -1,117 +1,89 @@
 //! How many steps a second a world makes.
 
 use crate::changes::{Change, Groups};
-use crate::rates::rate;
+use crate::figures::{Watch, number};
 use crate::samples::{config, pid};
-use crate::words::number;
 use pg_index::IndexTable;
-use pg_node::NodeFault;
 use pg_term::TermFault;
-use pg_world::{FrameStep, Step, Stepped, World};
+use pg_world::{Config, FrameStep, Step, Stepped, World};
 use std::alloc::Global;
-use std::time::Instant;
 
 /// A world of so many nodes, and how many steps it made, of which some were events.
 #[derive(Drop)]
 struct Measured {
     world: World<IndexTable>,
-    nodes: u16,
+    nodes: usize,
     steps: u64,
     events: u64,
 }
 
 impl Measured {
-    fn new(alloc: Global, nodes: u16) -> anyhow::Result<Measured> {
-        let config = config(alloc, nodes, 1)?;
-        Ok(Measured {
-            world: World::new(alloc, &config)?,
-            nodes,
-            steps: 0,
-            events: 0,
-        })
-    }
-
     // Makes a step; whether it was an event.
-    fn step(&mut self, step: &Step) -> Result<bool, NodeFault> {
+    fn step(&mut self, step: &Step) -> bool {
         self.steps = self.steps.saturating_add(1);
-        let is_event = self.world.step(step)? == Stepped::Happened;
+        let is_event = self.world.step(step) == Ok(Stepped::Happened);
         if is_event {
             self.events = self.events.saturating_add(1);
         }
-        Ok(is_event)
+        is_event
     }
 
     // The same of a step that is made once.
-    fn make(&mut self, step: Step) -> Result<bool, NodeFault> {
-        let made = self.step(&step);
+    fn make(&mut self, step: Step) -> bool {
+        let is_event = self.step(&step);
         drop(step);
-        made
+        is_event
     }
 
-    // What one node sends goes to another.
-    fn carry(&mut self, from: usize, to: usize) -> Result<(), NodeFault> {
+    // What one node sends goes to another, which takes it.
+    fn cross(&mut self, from: usize, to: usize) {
         let max = 65_536;
-        self.make(Step::Put { from, to, max })?;
-        self.make(Step::Pull { to, from, max })?;
-        Ok(())
-    }
-
-    // A node takes the next packet that has come of another, if one has; whether it did.
-    fn take(&mut self, node: usize, peer: usize) -> Result<bool, NodeFault> {
-        self.make(Step::Event(FrameStep::Take { node, peer }))
-    }
-
-    // A node takes what has come of another.
-    fn take_all(&mut self, node: usize, peer: usize) -> Result<(), NodeFault> {
+        self.make(Step::Put { from, to, max });
+        self.make(Step::Pull { to, from, max });
         for _ in 0..100 {
-            if !self.take(node, peer)? {
+            if !self.make(Step::Event(FrameStep::Take {
+                node: to,
+                peer: from,
+            })) {
                 break;
             }
         }
-        Ok(())
-    }
-
-    fn cross(&mut self, from: usize, to: usize) -> Result<(), NodeFault> {
-        self.carry(from, to)?;
-        self.take_all(to, from)
     }
 
     // What each node sends goes to the others.
-    fn cross_all(&mut self) -> Result<(), NodeFault> {
+    fn cross_all(&mut self) {
         for from in 0..self.nodes {
             for to in 0..self.nodes {
                 if from != to {
-                    self.cross(usize::from(from), usize::from(to))?;
+                    self.cross(from, to);
                 }
             }
         }
-        Ok(())
     }
 
-    // A node is to change its own group.
-    fn ask(&mut self, alloc: Global, node: u16, change: Change) -> anyhow::Result<()> {
-        self.make(command(alloc, node, change)?)?;
-        Ok(())
-    }
-
-    // Each node makes such a change of its own group, and all is done.
-    fn round(&mut self, alloc: Global, change: Change) -> anyhow::Result<()> {
+    // Each node makes such a change of its own group, and all is done; whether there was memory for the commands.
+    fn round(&mut self, alloc: Global, change: Change) -> bool {
         for node in 0..self.nodes {
-            self.ask(alloc, node, change)?;
+            match command(alloc, node, change) {
+                Ok(step) => {
+                    self.make(step);
+                }
+                Err(_) => return false,
+            }
         }
         for _ in 0..8 {
-            self.cross_all()?;
+            self.cross_all();
         }
-        Ok(())
+        true
     }
 }
 
 // The command by which a node changes its own group; what joins and leaves is the process of the first node.
-fn command(alloc: Global, node: u16, change: Change) -> Result<Step, TermFault> {
+fn command(alloc: Global, node: usize, change: Change) -> Result<Step, TermFault> {
     let process = pid(alloc, "n0", 1)?;
-    let command = change.command(Groups::Own.group(u32::from(node)), process);
+    let command = change.command(Groups::Own.group(node as u32), process);
     Ok(Step::Event(FrameStep::Command {
-        node: usize::from(node),
+        node,
         port: 0,
         command,
     }))
@@ -128,42 +100,58 @@ fn change_of(round: u64) -> Change {
     }
 }
 
-// Prints how many of its steps, and of those that were events, the world made a second.
-fn report(rt: &HostRuntime, measured: &Measured, start: Instant) -> anyhow::Result<()> {
-    let time = start.elapsed(rt)?;
-    let steps = rate(measured.steps, time);
-    let events = rate(measured.events, time);
-    eprintln!(rt;
-        "a world of {} nodes, {} steps of which {} are events: {steps} steps a second, {events} events",
-        measured.nodes, measured.steps, measured.events
-    )?;
-    Ok(())
-}
-
-// The same of rounds until so many steps were made.
-fn measure_rounds(rt: &HostRuntime, measured: &mut Measured, steps: u64) -> anyhow::Result<()> {
-    let alloc = rt.alloc();
-    let start = Instant::now(rt)?;
+// Rounds until so many steps were made, timed.
+fn measure_rounds(rt: &HostRuntime, measured: &mut Measured, steps: u64) -> bool {
+    let watch = Watch::begin(rt);
     for round in 0..steps {
         if measured.steps >= steps {
             break;
         }
-        measured.round(alloc, change_of(round))?;
+        if !measured.round(rt.alloc(), change_of(round)) {
+            return false;
+        }
     }
-    report(rt, measured, start)
+    let made = watch.rate(rt, measured.steps);
+    let happened = watch.rate(rt, measured.events);
+    let _ = eprintln!(rt;
+        "a world of {} nodes, {} steps of which {} are events: {made} steps a second, {happened} events",
+        measured.nodes, measured.steps, measured.events
+    );
+    true
 }
 
-// The same of a world of so many nodes.
-fn measure(rt: &HostRuntime, nodes: u16, steps: u64) -> anyhow::Result<()> {
-    let mut measured = Measured::new(rt.alloc(), nodes)?;
-    let told = measure_rounds(rt, &mut measured, steps);
-    drop(measured);
-    told
+fn measure_config(rt: &HostRuntime, config: &Config, steps: u64) -> bool {
+    match World::new(rt.alloc(), config) {
+        Ok(world) => {
+            let mut measured = Measured {
+                world,
+                nodes: config.starts.len(),
+                steps: 0,
+                events: 0,
+            };
+            let is_done = measure_rounds(rt, &mut measured, steps);
+            drop(measured);
+            is_done
+        }
+        Err(_) => false,
+    }
 }
 
-/// The word behind `worlds`: how many steps (300).
-pub fn run(rt: &HostRuntime, words: &[String]) -> anyhow::Result<()> {
-    let steps = number(words, 1, 300)?;
-    measure(rt, 3, steps)?;
-    measure(rt, 16, steps)
+fn measure(rt: &HostRuntime, nodes: u16, steps: u64) -> bool {
+    match config(rt.alloc(), nodes, 1) {
+        Ok(config) => {
+            let is_done = measure_config(rt, &config, steps);
+            drop(config);
+            is_done
+        }
+        Err(_) => false,
+    }
+}
+
+/// The word after `worlds`: how many steps (300). Whether it could.
+pub fn run(rt: &HostRuntime, words: &[String]) -> bool {
+    match number(words, 1, 300) {
+        Some(steps) => measure(rt, 3, steps) && measure(rt, 16, steps),
+        None => false,
+    }
 }

@@ -29,10 +29,14 @@ pub struct Running {
 
 impl Running {
     /// The nodes of a configuration as a cluster, and its clients.
-    pub fn start<R: Threads>(rt: &R, alloc: Global, config: &Config) -> anyhow::Result<Running> {
-        let generators = generators(alloc, config.starts.len())?;
-        let (cluster, clients) = Cluster::start(rt, alloc, config, generators, Open, u64::MAX)?;
-        Ok(Running { cluster, clients })
+    pub fn start<R: Threads>(rt: &R, alloc: Global, config: &Config) -> Option<Running> {
+        let Ok(generators) = generators(alloc, config.starts.len()) else {
+            return None;
+        };
+        match Cluster::start(rt, alloc, config, generators, Open, u64::MAX) {
+            Ok((cluster, clients)) => Some(Running { cluster, clients }),
+            Err(_) => None,
+        }
     }
 
     /// Submits a command at the client at a place; whether it did.

@@ -104,26 +104,30 @@ impl Talker {
         since: Instant,
         running: &mut Running,
         times: &mut Vec<Duration>,
-    ) -> anyhow::Result<bool> {
-        match running.poll(self.place()) {
-            Some(answer) => self.hear(answer),
-            None => return Ok(false),
+    ) -> bool {
+        let Some(answer) = running.poll(self.place()) else {
+            return false;
+        };
+        self.hear(answer);
+        if let Ok(time) = since.elapsed(rt) {
+            let _ = times.push(time);
         }
-        times.push(since.elapsed(rt)?)?;
-        Ok(true)
+        true
     }
 
     // Submits what is asked for next at this time; whether it did.
-    fn ask(&mut self, now: Instant, running: &mut Running) -> Result<bool, AllocError> {
+    fn ask(&mut self, now: Instant, running: &mut Running) -> bool {
         if self.left == 0 {
-            return Ok(false);
+            return false;
         }
-        let command = self.command()?;
+        let Ok(command) = self.command() else {
+            return false;
+        };
         let is_asked = running.submit(self.place(), command);
         if is_asked {
             self.since = Some(now);
         }
-        Ok(is_asked)
+        is_asked
     }
 
     /// Takes in an answer, and keeps how long it took, or submits what comes next; whether something moved.
@@ -132,10 +136,11 @@ impl Talker {
         rt: &R,
         running: &mut Running,
         times: &mut Vec<Duration>,
-    ) -> anyhow::Result<bool> {
-        match self.since {
-            Some(since) => self.listen(rt, since, running, times),
-            None => Ok(self.ask(Instant::now(rt)?, running)?),
+    ) -> bool {
+        match (self.since, Instant::now(rt)) {
+            (Some(since), _) => self.listen(rt, since, running, times),
+            (None, Ok(now)) => self.ask(now, running),
+            (None, Err(_)) => false,
         }
     }
 }

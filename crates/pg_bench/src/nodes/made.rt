@@ -5,13 +5,9 @@ ghost use Rattle.pg_term.specs.Same.{same_atom};
 
 use pg_index::IndexTable;
 use pg_message::Message;
-use pg_node::{Done, NodeConfig, NodeFault, NodeState};
-use pg_step::Refusal;
+use pg_node::{Done, NodeConfig, NodeState};
 use pg_term::{Atom, Reference, TermFault};
 use std::alloc::{AllocError, Global};
-
-/// What is told of a peer or a port that a node lacks.
-pub const NO_PLACE: NodeFault = NodeFault::Refused(Refusal::NoSuchPlace);
 
 // Whether the three names differ.
 fn are_apart(own: &Atom, one: &Atom, two: &Atom) -> bool
@@ -55,13 +51,20 @@ fn state_of(
     NodeState::started(alloc, config, table)
 }
 
-/// The reference of the first call that is sent, if one is.
-pub fn first_call(done: &Done) -> Result<Option<Reference>, NodeFault> {
-    match done.sends.first() {
-        Some((_, packet)) => match &packet.message {
-            Message::Call(reference, _) => Ok(Some(reference.copy()?)),
-            _ => Ok(None),
-        },
-        None => Ok(None),
+/// Keeps the reference of the first call that is sent, if one is; whether there was memory for it.
+pub fn keep_call(done: &Done, calls: &mut Vec<Reference>) -> bool {
+    let Some((_, packet)) = done.sends.first() else {
+        return true;
+    };
+    match &packet.message {
+        Message::Call(reference, _) => keep(reference, calls),
+        _ => true,
+    }
+}
+
+fn keep(reference: &Reference, calls: &mut Vec<Reference>) -> bool {
+    match reference.copy() {
+        Ok(copy) => calls.push(copy).is_ok(),
+        Err(AllocError) => false,
     }
 }

@@ -1,51 +1,96 @@
-//! What the peers say.
+//! A node over packets.
 
-use crate::changes::{Change, Groups};
-use crate::samples::{pid, reference};
-use pg_message::{Message, Packet, Request, Said};
-use pg_term::{Atom, Items, Reference, TermFault};
-use std::alloc::{AllocError, Global};
+ghost use Rattle.std.specs.Prelude.{◌^◌, IsTrue};
+ghost use Rattle.pg_message.specs.Members.{IsShort};
 
-/// What a peer of this name tells at first: it has no group.
-pub fn no_groups(alloc: Global, name: &str) -> Result<Packet, TermFault> {
-    let node = Atom::new(alloc, name)?;
-    let message = Message::Exchange(node, Items::from_vec(Vec::new(alloc)));
-    Ok(Packet { stamp: 0, message })
+use crate::nodes::Player;
+use crate::nodes::made::{keep_call, new_state};
+use pg_index::IndexTable;
+use pg_message::{Message, Packet};
+use pg_node::{Done, NodeState};
+use pg_step::Command;
+use pg_term::Reference;
+use std::alloc::Global;
+
+/// The node.
+#[derive(Drop)]
+pub struct OverPackets {
+    node: NodeState<IndexTable>,
 }
 
-// The process that the change of this number is about: where all are of one group, its 1,000 processes in turn.
-fn process(groups: Groups, number: u32) -> u32 {
-    match groups {
-        Groups::One => number % 1_000 + 1,
-        Groups::Own => 1,
+// Whether it tells no group.
+fn tells_no_group(packet: &Packet) -> bool
+    ensures { IsTrue result → IsShort (2 ^ 32) packet.now.message }
+{
+    match &packet.message {
+        Message::Exchange(_, groups) => groups.as_slice().is_empty(),
+        Message::Call(..) | Message::Reply(..) | Message::DelLock(..) | Message::Down(_) => true,
     }
 }
 
-// The call of b of this number.
-fn call(alloc: Global, change: Change, groups: Groups, number: u32) -> Result<Packet, TermFault> {
-    let process = pid(alloc, "a", process(groups, number))?;
-    let from = reference(alloc, "b", number)?;
-    let update = change.update(groups.group(number), process);
-    let message = Message::Call(from, Request::Change(update));
-    Ok(Packet { stamp: 0, message })
-}
-
-/// So many calls of b that ask for the change.
-pub fn calls(
-    alloc: Global,
-    change: Change,
-    groups: Groups,
-    count: u32,
-) -> Result<Vec<Packet>, TermFault> {
-    let mut packets = Vec::new(alloc);
-    for number in 0..count {
-        packets.push(call(alloc, change, groups, number)?)?;
+impl OverPackets {
+    // Takes a packet that tells no group.
+    fn taken(&mut self, peer: usize, packet: &Packet) -> Option<Done> {
+        if peer < self.node.peer_count() && tells_no_group(packet) {
+            self.node.take(peer, packet).ok()
+        } else {
+            None
+        }
     }
-    Ok(packets)
+
+    // Gives a command at the port.
+    fn given(&mut self, command: &Command) -> Option<Done> {
+        if self.node.port_count() == 1 {
+            self.node.command(0, command).ok()
+        } else {
+            None
+        }
+    }
 }
 
-/// A reply to this call.
-pub fn reply(call: &Reference, said: Said) -> Result<Packet, AllocError> {
-    let message = Message::Reply(call.copy()?, said);
-    Ok(Packet { stamp: 0, message })
+/// Keeps the first call that is sent by an event, if it happened and one is; whether it happened, and there was memory.
+pub fn is_kept(done: Option<Done>, calls: &mut Vec<Reference>) -> bool {
+    match done {
+        Some(done) => {
+            let is_kept = keep_call(&done, calls);
+            drop(done);
+            is_kept
+        }
+        None => false,
+    }
+}
+
+impl Player for OverPackets {
+    type Load = Vec<Packet>;
+
+    fn new(alloc: Global) -> Option<OverPackets> {
+        match new_state(alloc) {
+            Ok(node) => Some(OverPackets { node }),
+            Err(_) => None,
+        }
+    }
+
+    fn load(_alloc: Global, packets: Vec<Packet>) -> Option<Vec<Packet>> {
+        Some(packets)
+    }
+
+    fn take(&mut self, peer: usize, load: &Vec<Packet>, calls: &mut Vec<Reference>) -> bool {
+        for packet in load {
+            let done = self.taken(peer, packet);
+            if !is_kept(done, calls) {
+                return false;
+            }
+        }
+        true
+    }
+
+    fn ask(&mut self, commands: &[Command], calls: &mut Vec<Reference>) -> bool {
+        for command in commands {
+            let done = self.given(command);
+            if !is_kept(done, calls) {
+                return false;
+            }
+        }
+        true
+    }
 }

@@ -1,11 +1,10 @@
-use pg_term::{Atom, Pid, TermFault};
-use std::alloc::{AllocError, Global};
+//! Names of nodes, and pids of them.
 
-/// The next of some numbers that look random.
-pub fn next(seed: u64) -> u64 {
-    seed.wrapping_mul(6_364_136_223_846_793_005)
-        .wrapping_add(1_442_695_040_888_963_407)
-}
+use crate::changes::Change;
+use pg_group::Update;
+use pg_random::Random;
+use pg_term::{Atom, Pid, Term, TermFault};
+use std::alloc::{AllocError, Global};
 
 // The name of the node of this number.
 fn name(alloc: Global, node: u64) -> Result<Atom, TermFault> {
@@ -13,7 +12,7 @@ fn name(alloc: Global, node: u64) -> Result<Atom, TermFault> {
     Atom::new(alloc, text.as_str())
 }
 
-/// The names of some nodes.
+/// The names of so many nodes.
 pub fn names(alloc: Global, nodes: u64) -> Result<Vec<Atom>, TermFault> {
     let mut names = Vec::new(alloc);
     for node in 0..nodes {
@@ -22,39 +21,67 @@ pub fn names(alloc: Global, nodes: u64) -> Result<Vec<Atom>, TermFault> {
     Ok(names)
 }
 
-/// The node that a seed tells.
-pub fn node_of(names: &[Atom], seed: u64) -> Option<&Atom> {
-    let len = (names.len() as u64).max(1);
-    let at = usize::try_from((seed >> 20) % len).unwrap_or(0);
-    names.get(at)
+/// A pid of one of these nodes.
+pub fn pid_of(names: &[Atom], random: &mut Random) -> Result<Pid, AllocError> {
+    let id = random.word();
+    match random.pick(names) {
+        Some(node) => Ok(Pid {
+            node: node.copy()?,
+            serial: 0,
+            id,
+            creation: 1,
+        }),
+        None => Err(AllocError),
+    }
 }
 
-/// The pid that a seed tells.
-pub fn pid_of(names: &[Atom], seed: u64) -> Result<Pid, AllocError> {
-    let Some(node) = node_of(names, seed) else {
-        return Err(AllocError);
-    };
-    Ok(Pid {
-        node: node.copy()?,
-        serial: 0,
-        id: u32::try_from(seed >> 33).unwrap_or(0),
-        creation: 1,
-    })
-}
-
-/// So many pids, from a first seed on.
-pub fn pids(alloc: Global, names: &[Atom], first: u64, count: u64) -> Result<Vec<Pid>, AllocError> {
+/// So many pids of these nodes, from a seed.
+pub fn pids(alloc: Global, names: &[Atom], seed: u64, count: u64) -> Result<Vec<Pid>, AllocError> {
+    let mut random = Random::new(seed);
     let mut pids = Vec::new(alloc);
-    let mut seed = first;
     for _ in 0..count {
-        seed = next(seed);
-        pids.push(pid_of(names, seed)?)?;
+        pids.push(pid_of(names, &mut random)?)?;
     }
     Ok(pids)
 }
 
-/// So many pids of so many nodes, from a first seed on.
-pub fn crowd(alloc: Global, nodes: u64, first: u64, count: u64) -> Result<Vec<Pid>, TermFault> {
-    let names = names(alloc, nodes)?;
-    Ok(pids(alloc, &names, first, count)?)
+/// Updates of the group 1 by each of these pids.
+pub fn updates(alloc: Global, pids: &[Pid], change: Change) -> Result<Vec<Update>, AllocError> {
+    let mut updates = Vec::new(alloc);
+    for pid in pids {
+        let pid = pid.copy()?;
+        updates.push(change.update(Term::Int(1), pid))?;
+    }
+    Ok(updates)
+}
+
+/// Creates and joins of a group for each of these pids.
+pub fn pairs(alloc: Global, pids: &[Pid]) -> Result<Vec<Update>, AllocError> {
+    let mut updates = Vec::new(alloc);
+    for (number, pid) in (0..).zip(pids) {
+        let pid = pid.copy()?;
+        updates.push(Update::Create(Term::Int(number)))?;
+        updates.push(Update::Join(Term::Int(number), pid))?;
+    }
+    Ok(updates)
+}
+
+/// Creates of so many groups, and joins of the first 300 by each of these pids.
+pub fn joins_of_300(alloc: Global, pids: &[Pid], count: u32) -> Result<Vec<Update>, AllocError> {
+    let mut updates = Vec::new(alloc);
+    for number in 0..count {
+        updates.push(Update::Create(Term::Int(i64::from(number))))?;
+    }
+    for pid in pids {
+        put_joins(&mut updates, pid)?;
+    }
+    Ok(updates)
+}
+
+fn put_joins(updates: &mut Vec<Update>, pid: &Pid) -> Result<(), AllocError> {
+    for number in 0..300 {
+        let pid = pid.copy()?;
+        updates.push(Update::Join(Term::Int(number), pid))?;
+    }
+    Ok(())
 }
