@@ -1,135 +1,77 @@
 //! Answers: that they are copied where there is memory. The test passes wherever an allocation is refused.
 
-use crate::samples::{pid, row_holds, row_passes};
+use crate::samples::{atom, row_holds};
 use pg_step::{Answer, Reply};
-use pg_term::{Items, Pid, Term, TermFault};
+use pg_term::{Items, Pid, Term};
 use std::alloc::{AllocError, Global};
 use std::process::Abort;
-use std::test::Fail;
 
-/// One answer of each kind, numbered from 0, made a second time where memory was refused.
-fn answers(alloc: Global) -> Result<Vec<Answer>, TermFault> {
-    match answers_once(alloc) {
-        Ok(answers) => Ok(answers),
-        Err(_) => answers_once(alloc),
-    }
-}
-
-fn answers_once(alloc: Global) -> Result<Vec<Answer>, TermFault> {
-    let mut answers = Vec::new(alloc);
+/// Answers are equal where they have one number, and replies with them; the copy of one is equal, and shows the same.
+#[test]
+fn answers_are_copied_and_told_apart(rt: HostRuntime) {
     for number in 0..8 {
-        put_answer(alloc, &mut answers, number)?;
-    }
-    Ok(answers)
-}
-
-fn put_answer(alloc: Global, answers: &mut Vec<Answer>, number: u32) -> Result<(), TermFault> {
-    let reply = reply(alloc, number)?;
-    answers.push(Answer { number, reply })?;
-    Ok(())
-}
-
-// The reply of the answer of this number.
-fn reply(alloc: Global, number: u32) -> Result<Reply, TermFault> {
-    match number {
-        0 => Ok(Reply::Ok),
-        1 => Ok(Reply::Made(pid(alloc, 1)?)),
-        2 => Ok(Reply::Pids(Items::from_vec(pids(alloc)?))),
-        3 => Ok(Reply::Closest(pid(alloc, 2)?)),
-        4 => Ok(Reply::Groups(Items::from_vec(names(alloc)?))),
-        5 => Ok(Reply::NoSuchGroup(Term::Int(5))),
-        6 => Ok(Reply::NoProcess(Term::Int(6))),
-        _ => Ok(Reply::Refused(22)),
+        let one = answer(&rt, rt.alloc(), number);
+        is_copied(&rt, rt.alloc(), &one);
+        is_told_apart(&rt, rt.alloc(), &one);
+        drop(one);
     }
 }
 
-fn pids(alloc: Global) -> Result<Vec<Pid>, TermFault> {
-    let mut pids = Vec::new(alloc);
-    for id in 0..3 {
-        pids.push(pid(alloc, id)?)?;
-    }
-    Ok(pids)
+/// The answer of this number, which has the reply of another kind than each other.
+fn answer(rt: &impl Abort, alloc: Global, number: u32) -> Answer {
+    let reply = match number {
+        0 => Reply::Ok,
+        1 => Reply::Made(pid(rt, alloc, 1)),
+        2 => Reply::Pids(asked!(rt; pids(rt, alloc))),
+        3 => Reply::Closest(pid(rt, alloc, 2)),
+        4 => Reply::Groups(asked!(rt; names(alloc))),
+        5 => Reply::NoSuchGroup(Term::Int(5)),
+        6 => Reply::NoProcess(Term::Int(6)),
+        _ => Reply::Refused(22),
+    };
+    Answer { number, reply }
 }
 
-fn names(alloc: Global) -> Result<Vec<Term>, AllocError> {
-    let mut names = Vec::new(alloc);
-    for number in 0..3 {
-        names.push(Term::Int(number))?;
-    }
-    Ok(names)
-}
-
-#[test]
-fn answers_are_told_apart(rt: HostRuntime) -> Result<(), Fail> {
-    let answers = answers(rt.alloc())?;
-    check_apart(&rt, &answers);
-    drop(answers);
-    Ok(())
-}
-
-fn check_apart(rt: &impl Abort, answers: &[Answer]) {
-    for one in answers {
-        for other in answers {
-            row_holds(rt, is_told_apart(one, other), one.number);
-        }
+fn pid(rt: &impl Abort, alloc: Global, id: u32) -> Pid {
+    Pid {
+        node: atom(rt, alloc, "a"),
+        serial: 0,
+        id,
+        creation: 1,
     }
 }
 
-// Answers are equal where they have one number, and replies with them.
-fn is_told_apart(one: &Answer, other: &Answer) -> bool {
-    let same = one.number == other.number;
-    (one == other) == same && (one.reply == other.reply) == same
+fn pids(rt: &impl Abort, alloc: Global) -> Result<Items<Pid>, AllocError> {
+    let (one, two, three) = (pid(rt, alloc, 0), pid(rt, alloc, 1), pid(rt, alloc, 2));
+    Ok(Items::from_vec(vec![in alloc; one, two, three]?))
 }
 
-#[test]
-fn answers_are_copied(rt: HostRuntime) -> Result<(), Fail> {
-    let answers = answers(rt.alloc())?;
-    check_copied(&rt, rt.alloc(), &answers);
-    drop(answers);
-    Ok(())
+fn names(alloc: Global) -> Result<Items<Term>, AllocError> {
+    Ok(Items::from_vec(vec![in alloc; Term::Int(0), Term::Int(1), Term::Int(2)]?))
 }
 
-fn check_copied(rt: &impl Abort, alloc: Global, answers: &[Answer]) {
-    for answer in answers {
-        row_passes(rt, is_copied(alloc, answer), answer.number);
+fn is_told_apart(rt: &impl Abort, alloc: Global, one: &Answer) {
+    for number in 0..8 {
+        let other = answer(rt, alloc, number);
+        let same = one.number == number;
+        row_holds(rt, (*one == other) == same, number as usize);
+        row_holds(rt, (one.reply == other.reply) == same, number as usize);
+        drop(other);
     }
 }
 
-// Whether the copy of an answer is equal, and shows the same.
-fn is_copied(alloc: Global, answer: &Answer) -> Result<bool, AllocError> {
-    match copied(alloc, answer) {
-        Ok(copy) => {
-            let is_same = copy == *answer;
-            let alike = show_alike(alloc, &copy, answer);
-            drop(copy);
-            Ok(alike? && is_same)
-        }
-        Err(error) => Err(error),
-    }
+fn is_copied(rt: &impl Abort, alloc: Global, answer: &Answer) {
+    let copy = asked!(rt; answer.copy(alloc));
+    let first = asked!(rt; shown(alloc, answer));
+    let second = asked!(rt; shown(alloc, &copy));
+    row_holds(rt, copy == *answer, answer.number as usize);
+    row_holds(rt, first == second, answer.number as usize);
+    drop(first);
+    drop(second);
+    drop(copy);
 }
 
-fn show_alike(alloc: Global, one: &Answer, other: &Answer) -> Result<bool, AllocError> {
-    let first = shown(alloc, one)?;
-    let second = shown(alloc, other)?;
-    Ok(first == second)
-}
-
-// A copy, made a second time where memory was refused.
-fn copied(alloc: Global, answer: &Answer) -> Result<Answer, AllocError> {
-    match answer.copy(alloc) {
-        Ok(copy) => Ok(copy),
-        Err(_) => answer.copy(alloc),
-    }
-}
-
-// What an answer shows for debugging, written a second time where memory was refused.
+/// What an answer shows for debugging.
 fn shown(alloc: Global, answer: &Answer) -> Result<String, AllocError> {
-    match shown_once(alloc, answer) {
-        Ok(text) => Ok(text),
-        Err(_) => shown_once(alloc, answer),
-    }
-}
-
-fn shown_once(alloc: Global, answer: &Answer) -> Result<String, AllocError> {
     format!(in alloc; "{answer:?}")
 }

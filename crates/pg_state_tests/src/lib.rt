@@ -1,5 +1,4 @@
-//! What is only run of what a node keeps: tables of groups, ends of processes, exchanges, references, locks, gathered replies,
-//! open commands and answers.
+//! What is only run of what a node keeps beside its table: references, locks, gathered replies, open commands and answers.
 #![tactic(auto)]
 
 /// Ends the test where something does not hold, and tells what. A call of a function, which is proved once.
@@ -10,25 +9,28 @@ macro_rules! check {
     };
 }
 
+/// The value of a call, which is made a second time where memory was refused.
+#[cfg(test)]
+macro_rules! asked {
+    ($rt:expr; $call:expr) => {
+        match $call {
+            Ok(value) => value,
+            Err(_) => $call.expect($rt, stringify!($call)),
+        }
+    };
+}
+
 #[cfg(test)]
 mod answers;
 #[cfg(test)]
 mod commands;
 #[cfg(test)]
-mod ends;
-#[cfg(test)]
-mod exchanges;
-#[cfg(test)]
-mod groups;
-#[cfg(test)]
 mod locks;
 #[cfg(test)]
-mod queries;
+mod many;
 #[cfg(test)]
 mod references;
 #[cfg(test)]
 mod replies;
 #[cfg(test)]
 mod samples;
-#[cfg(test)]
-mod tables;

@@ -1,165 +1,149 @@
 //! The locks of a node, and the rounds of an attempt.
 
-use crate::samples::{holds, reference};
+use crate::samples::{reference, row_holds};
 use pg_lock::{Attempt, LockTable};
-use pg_term::{Reference, Term, TermFault};
-use std::alloc::{AllocError, Global};
+use pg_term::{Reference, Term};
 use std::process::Abort;
-use std::test::Fail;
 
-mod many;
+/// What a reference wants of a node about the lock of a name.
+#[derive(Clone, Copy)]
+enum Want {
+    /// To hold it: whether the node has formed, and whether it grants it.
+    Ask(bool, bool),
+    GiveUp,
+}
 
-/// Asks a node for the lock of the name of this number. Where a growth is refused it asks once more.
-fn ask_node(
+/// Whether it is asked of the first of two nodes; what, of which name, by which reference; which reference holds the names 1 and 2
+/// there then, and whether the same hold the same at both nodes.
+type Row = (bool, Want, i64, usize, Holders, bool);
+
+type Holders = (Option<usize>, Option<usize>);
+
+const GRANTED: Want = Want::Ask(true, true);
+
+const WANTS: &[&[Row]] = &[
+    // A node that has not formed grants nothing; then the first to ask for a name holds it, and frees it alone.
+    &[
+        (true, Want::Ask(false, false), 1, 0, (None, None), true),
+        (true, GRANTED, 1, 0, (Some(0), None), false),
+        (true, Want::Ask(true, false), 1, 1, (Some(0), None), false),
+        (true, GRANTED, 2, 1, (Some(0), Some(1)), false),
+        (true, Want::GiveUp, 1, 1, (Some(0), Some(1)), false),
+        (true, Want::GiveUp, 1, 0, (None, Some(1)), false),
+    ],
+    // Tables are compared by who holds what, in whatever order it was asked for: one is missing, then another holds it.
+    &[
+        (true, GRANTED, 1, 0, (Some(0), None), false),
+        (true, GRANTED, 2, 1, (Some(0), Some(1)), false),
+        (false, GRANTED, 2, 1, (None, Some(1)), false),
+        (false, GRANTED, 1, 1, (Some(1), Some(1)), false),
+        (false, Want::GiveUp, 1, 1, (None, Some(1)), false),
+        (false, GRANTED, 1, 0, (Some(0), Some(1)), true),
+    ],
+];
+
+#[test]
+fn holders(rt: HostRuntime) {
+    let references = [
+        reference(&rt, rt.alloc(), "a", 1),
+        reference(&rt, rt.alloc(), "a", 2),
+    ];
+    for rows in WANTS {
+        let mut one = LockTable::new(rt.alloc());
+        let mut other = LockTable::new(rt.alloc());
+        check_rows(&rt, rows, &references, &mut one, &mut other);
+        drop(one);
+        drop(other);
+    }
+    drop(references);
+}
+
+fn check_rows(
+    rt: &impl Abort,
+    rows: &[Row],
+    references: &[Reference],
+    one: &mut LockTable,
+    other: &mut LockTable,
+) {
+    check!(rt; (one.same(other), other.same(one)) == (true, true));
+    for (row, at) in rows.iter().zip(0..6) {
+        let holders = if row.0 {
+            check_row(rt, row, references, one)
+        } else {
+            check_row(rt, row, references, other)
+        };
+        row_holds(rt, holders, at);
+        row_holds(rt, (one.same(other), other.same(one)) == (row.5, row.5), at);
+    }
+}
+
+/// Whether the node answers as the row says, and the names are held as it says.
+fn check_row(rt: &impl Abort, row: &Row, references: &[Reference], locks: &mut LockTable) -> bool {
+    let (_, want, name, who, holders, _) = *row;
+    let reference = references.get(who).expect(rt, "a reference");
+    let is_answered = match want {
+        Want::Ask(has_formed, granted) => ask(rt, locks, has_formed, name, reference) == granted,
+        Want::GiveUp => {
+            give_up(locks, name, reference);
+            true
+        }
+    };
+    is_answered
+        & is_held(locks, 1, holder(references, holders.0))
+        & is_held(locks, 2, holder(references, holders.1))
+}
+
+fn holder(references: &[Reference], place: Option<usize>) -> Option<&Reference> {
+    match place {
+        Some(place) => references.get(place),
+        None => None,
+    }
+}
+
+/// Whether a node grants the lock of the name of this number.
+pub fn ask(
+    rt: &impl Abort,
     locks: &mut LockTable,
     has_formed: bool,
     number: i64,
     reference: &Reference,
-) -> Result<bool, AllocError> {
+) -> bool {
     let name = Term::Int(number);
-    let told = match locks.ask(has_formed, &name, reference) {
-        Ok(told) => Ok(told),
-        Err(AllocError) => locks.ask(has_formed, &name, reference),
-    };
+    let told = asked!(rt; locks.ask(has_formed, &name, reference));
     drop(name);
     told
 }
 
-/// The same of a formed node.
-fn ask(locks: &mut LockTable, number: i64, reference: &Reference) -> Result<bool, AllocError> {
-    ask_node(locks, true, number, reference)
-}
-
-fn give_up(locks: &mut LockTable, number: i64, reference: &Reference) {
+pub fn give_up(locks: &mut LockTable, number: i64, reference: &Reference) {
     let name = Term::Int(number);
     locks.give_up(&name, reference);
     drop(name);
 }
 
-/// Whether the reference holds the lock of a name.
-fn is_held(locks: &LockTable, number: i64, reference: &Reference) -> bool {
+/// Whether this reference holds the lock of a name, or none.
+pub fn is_held(locks: &LockTable, number: i64, holder: Option<&Reference>) -> bool {
     let name = Term::Int(number);
-    let is_held = locks.holder(&name) == Some(reference);
+    let is_held = locks.holder(&name) == holder;
     drop(name);
     is_held
 }
 
-fn is_free(locks: &LockTable, number: i64) -> bool {
-    let name = Term::Int(number);
-    let is_free = locks.holder(&name).is_none();
-    drop(name);
-    is_free
-}
-
-/// A node that has not formed grants nothing; then the first to ask for a name holds it, and frees it alone.
-#[test]
-fn one_holder(rt: HostRuntime) -> Result<(), Fail> {
-    let mut tables = empty_tables(rt.alloc())?;
-    let told = check_one(&rt, &mut tables);
-    drop(tables);
-    told?;
-    Ok(())
-}
-
-fn check_one(rt: &impl Abort, tables: &mut Tables) -> Result<(), AllocError> {
-    check_asks(rt, &mut tables.one, &tables.first, &tables.second)?;
-    check_holder(rt, &mut tables.one, &tables.first, &tables.second);
-    Ok(())
-}
-
-fn check_asks(
-    rt: &impl Abort,
-    locks: &mut LockTable,
-    first: &Reference,
-    second: &Reference,
-) -> Result<(), AllocError> {
-    check!(rt; !ask_node(locks, false, 1, first)?);
-    check!(rt; is_free(locks, 1));
-    check!(rt; ask(locks, 1, first)?);
-    check!(rt; !ask(locks, 1, second)?);
-    check!(rt; ask(locks, 2, second)?);
-    Ok(())
-}
-
-fn check_holder(rt: &impl Abort, locks: &mut LockTable, first: &Reference, second: &Reference) {
-    give_up(locks, 1, second);
-    check!(rt; is_held(locks, 1, first));
-    give_up(locks, 1, first);
-    check!(rt; is_free(locks, 1));
-}
-
-/// Two tables, and two references that ask them.
-#[derive(Drop)]
-struct Tables {
-    one: LockTable,
-    other: LockTable,
-    first: Reference,
-    second: Reference,
-}
-
-fn empty_tables(alloc: Global) -> Result<Tables, TermFault> {
-    let first = reference(alloc, "a", 1)?;
-    let second = reference(alloc, "a", 2)?;
-    Ok(Tables {
-        one: LockTable::new(alloc),
-        other: LockTable::new(alloc),
-        first,
-        second,
-    })
-}
-
-/// Whether each of the two says that they are the same.
-fn are_same(tables: &Tables) -> bool {
-    tables.one.same(&tables.other) & tables.other.same(&tables.one)
-}
-
-/// Whether one of the two says that they are the same.
-fn seem_same(tables: &Tables) -> bool {
-    tables.one.same(&tables.other) | tables.other.same(&tables.one)
-}
-
-/// Tables are compared by who holds what, in whatever order it was asked for.
-#[test]
-fn same_holders(rt: HostRuntime) -> Result<(), Fail> {
-    let mut tables = empty_tables(rt.alloc())?;
-    let told = check_same(&rt, &mut tables);
-    drop(tables);
-    told?;
-    Ok(())
-}
-
-fn check_same(rt: &impl Abort, tables: &mut Tables) -> Result<(), AllocError> {
-    check!(rt; are_same(tables));
-    check!(rt; ask(&mut tables.one, 1, &tables.first)?);
-    check!(rt; ask(&mut tables.one, 2, &tables.second)?);
-    check!(rt; ask(&mut tables.other, 2, &tables.second)?);
-    holds(rt, !seem_same(tables), "one is missing");
-    check!(rt; ask(&mut tables.other, 1, &tables.second)?);
-    holds(rt, !seem_same(tables), "another holds it");
-    give_up(&mut tables.other, 1, &tables.second);
-    check!(rt; ask(&mut tables.other, 1, &tables.first)?);
-    check!(rt; are_same(tables));
-    Ok(())
-}
+/// An attempt, whether all have granted, and what is next.
+const ROUNDS: &[(Attempt, bool, Attempt)] = &[
+    (Attempt::AskingFirst, false, Attempt::Waiting),
+    (Attempt::AskingFirst, true, Attempt::AskingRest),
+    (Attempt::AskingRest, false, Attempt::Waiting),
+    (Attempt::AskingRest, true, Attempt::Held),
+    (Attempt::Held, false, Attempt::Held),
+    (Attempt::Waiting, true, Attempt::Waiting),
+];
 
 #[test]
 fn two_rounds(rt: HostRuntime) {
-    check_rounds(&rt, Attempt::new());
-    check_ends(&rt);
-}
-
-fn check_rounds(rt: &impl Abort, first: Attempt) {
-    check!(rt; first == Attempt::AskingFirst);
-    check!(rt; first.after_round(false) == Attempt::Waiting);
-    let rest = first.after_round(true);
-    check!(rt; rest == Attempt::AskingRest);
-    check!(rt; rest.after_round(false) == Attempt::Waiting);
-    check!(rt; rest.after_round(true) == Attempt::Held);
-}
-
-fn check_ends(rt: &impl Abort) {
-    check!(rt; Attempt::Held.after_round(false) == Attempt::Held);
-    check!(rt; Attempt::Waiting.after_round(true) == Attempt::Waiting);
-    check!(rt; Attempt::Waiting.retried() == Some(Attempt::AskingFirst));
-    check!(rt; Attempt::Held.retried() == None);
+    check!(&rt; Attempt::new() == Attempt::AskingFirst);
+    for ((attempt, granted, next), row) in ROUNDS.iter().zip(0..6) {
+        row_holds(&rt, attempt.after_round(*granted) == *next, row);
+    }
+    check!(&rt; Attempt::Waiting.retried() == Some(Attempt::AskingFirst));
+    check!(&rt; Attempt::Held.retried() == None);
 }

@@ -1,135 +1,137 @@
 //! The gathered replies of several nodes to one call.
 
-use crate::samples::{atom, reference};
+use crate::samples::{atom, reference, row_holds};
 use pg_multicall::{Gather, Taken};
-use pg_term::{Atom, Reference, TermFault};
-use std::alloc::Global;
+use pg_term::{Atom, Reference};
+use std::alloc::{AllocError, Global};
 use std::process::Abort;
-use std::test::Fail;
 
-mod many;
+/// What becomes of a node: b, c or d, by its place.
+#[derive(Clone, Copy)]
+enum Step {
+    /// It replies to the call, or to another: what, and what that reply is.
+    Replies(usize, bool, bool, Taken),
+    /// It is lost.
+    Lost(usize),
+}
 
-/// The gathered replies of b and c to call 1, with both names.
+const COUNTED: Taken = Taken::Counted;
+
+const DOUBLE: Taken = Taken::Double;
+
+const STRANGER: Taken = Taken::Stranger;
+
+/// Steps, each with whether all that were asked have replied then; the replies of b and c that stand at last, and how many they are.
+type Script = (&'static [(Step, bool)], [Option<Option<bool>>; 2], usize);
+
+/// b and c are asked.
+const SCRIPTS: &[Script] = &[
+    (
+        &[
+            (Step::Replies(0, true, true, COUNTED), false),
+            (Step::Replies(0, true, true, DOUBLE), false),
+            (Step::Replies(1, false, true, STRANGER), false),
+            (Step::Replies(1, true, false, COUNTED), true),
+        ],
+        [Some(Some(true)), Some(Some(false))],
+        2,
+    ),
+    // A second reply of a node changes nothing, and neither does that of a node that was not asked.
+    (
+        &[
+            (Step::Replies(0, true, true, COUNTED), false),
+            (Step::Replies(0, true, false, DOUBLE), false),
+            (Step::Replies(2, true, true, STRANGER), false),
+        ],
+        [Some(Some(true)), Some(None)],
+        2,
+    ),
+    // A node that is lost is waited for no longer, and its reply does not stand.
+    (
+        &[
+            (Step::Replies(0, true, true, COUNTED), false),
+            (Step::Lost(1), true),
+            (Step::Replies(1, true, true, STRANGER), true),
+            (Step::Lost(0), true),
+            (Step::Lost(0), true),
+        ],
+        [None, None],
+        0,
+    ),
+];
+
+/// Three nodes, and two calls of another.
 #[derive(Drop)]
-struct Asked {
-    b: Atom,
-    c: Atom,
+struct Cast {
+    nodes: [Atom; 3],
     call: Reference,
-    gather: Gather<bool>,
+    other_call: Reference,
 }
 
-fn asked_b_and_c(alloc: Global) -> Result<Asked, TermFault> {
-    let gather = gather_over_b_and_c(alloc)?;
-    let b = atom(alloc, "b")?;
-    let c = atom(alloc, "c")?;
-    let call = reference(alloc, "a", 1)?;
-    Ok(Asked { b, c, call, gather })
-}
-
-fn gather_over_b_and_c(alloc: Global) -> Result<Gather<bool>, TermFault> {
-    let b = atom(alloc, "b")?;
-    let c = atom(alloc, "c")?;
-    gather_of(alloc, &[b, c])
-}
-
-// A refused growth is asked for once more.
-fn gather_of(alloc: Global, nodes: &[Atom]) -> Result<Gather<bool>, TermFault> {
-    match gather_once(alloc, nodes) {
-        Err(TermFault::OutOfMemory) => gather_once(alloc, nodes),
-        made => made,
+fn made_cast(rt: &impl Abort, alloc: Global) -> Cast {
+    Cast {
+        nodes: [
+            atom(rt, alloc, "b"),
+            atom(rt, alloc, "c"),
+            atom(rt, alloc, "d"),
+        ],
+        call: reference(rt, alloc, "a", 1),
+        other_call: reference(rt, alloc, "a", 2),
     }
 }
 
-fn gather_once(alloc: Global, nodes: &[Atom]) -> Result<Gather<bool>, TermFault> {
-    let call = reference(alloc, "a", 1)?;
-    Ok(Gather::new(alloc, call, nodes)?)
+#[test]
+fn gather_over_two(rt: HostRuntime) {
+    let cast = made_cast(&rt, rt.alloc());
+    for script in SCRIPTS {
+        let mut gather = asked!(&rt; gather_of(rt.alloc(), &cast, 2));
+        run(&rt, &cast, &mut gather, script);
+        drop(gather);
+    }
+    drop(cast);
 }
 
-// What a reply of b is to the call.
-fn b_says(asked: &mut Asked, reply: bool) -> Taken {
-    asked.gather.take(&asked.b, &asked.call, reply)
+/// The replies to the call of the first so many nodes.
+fn gather_of(alloc: Global, cast: &Cast, count: usize) -> Result<Gather<bool>, AllocError> {
+    let call = cast.call.copy()?;
+    Gather::new(alloc, call, cast.nodes.get(..count).unwrap_or(&[]))
 }
 
-// What a reply of c is to the call.
-fn c_says(asked: &mut Asked, reply: bool) -> Taken {
-    asked.gather.take(&asked.c, &asked.call, reply)
+fn run(rt: &impl Abort, cast: &Cast, gather: &mut Gather<bool>, script: &Script) {
+    for ((step, is_complete), row) in script.0.iter().zip(0..5) {
+        row_holds(rt, go(rt, cast, gather, *step), row);
+        row_holds(rt, gather.complete() == *is_complete, row);
+    }
+    for (node, reply) in cast.nodes.iter().zip(script.1.iter()) {
+        check!(rt; gather.replies().get(node) == reply.as_ref());
+    }
+    check!(rt; gather.replies().len() == script.2);
+}
+
+/// Whether a reply is what the step says.
+fn go(rt: &impl Abort, cast: &Cast, gather: &mut Gather<bool>, step: Step) -> bool {
+    match step {
+        Step::Replies(node, is_to_call, reply, taken) => {
+            let node = cast.nodes.get(node).expect(rt, "a node");
+            let call = if is_to_call {
+                &cast.call
+            } else {
+                &cast.other_call
+            };
+            gather.take(node, call, reply) == taken
+        }
+        Step::Lost(node) => {
+            gather.forget(cast.nodes.get(node).expect(rt, "a node"));
+            true
+        }
+    }
 }
 
 #[test]
-fn gather_over_two(rt: HostRuntime) -> Result<(), Fail> {
-    let mut asked = asked_b_and_c(rt.alloc())?;
-    let told = check_another(&rt, rt.alloc(), &mut asked);
-    drop(asked);
-    told?;
-    Ok(())
-}
-
-fn check_another(rt: &impl Abort, alloc: Global, asked: &mut Asked) -> Result<(), TermFault> {
-    let other = reference(alloc, "a", 2)?;
-    check_two(rt, asked, &other);
-    drop(other);
-    Ok(())
-}
-
-fn check_two(rt: &impl Abort, asked: &mut Asked, other: &Reference) {
-    check!(rt; b_says(asked, true) == Taken::Counted);
-    check!(rt; b_says(asked, true) == Taken::Double);
-    check!(rt; asked.gather.take(&asked.c, other, true) == Taken::Stranger);
-    check!(rt; !asked.gather.complete());
-    check!(rt; c_says(asked, false) == Taken::Counted);
-    check!(rt; asked.gather.complete());
-}
-
-/// A second reply of a node changes nothing, and neither does that of a node that was not asked.
-#[test]
-fn first_replies_stay(rt: HostRuntime) -> Result<(), Fail> {
-    let mut asked = asked_b_and_c(rt.alloc())?;
-    let told = check_stranger(&rt, rt.alloc(), &mut asked);
-    drop(asked);
-    told?;
-    Ok(())
-}
-
-fn check_stranger(rt: &impl Abort, alloc: Global, asked: &mut Asked) -> Result<(), TermFault> {
-    let d = atom(alloc, "d")?;
-    check_first(rt, asked, &d);
-    drop(d);
-    Ok(())
-}
-
-fn check_first(rt: &impl Abort, asked: &mut Asked, d: &Atom) {
-    b_says(asked, true);
-    b_says(asked, false);
-    check!(rt; asked.gather.take(d, &asked.call, true) == Taken::Stranger);
-    check!(rt; asked.gather.replies().len() == 2);
-    check!(rt; asked.gather.replies().get(&asked.b) == Some(&Some(true)));
-    check!(rt; asked.gather.replies().get(&asked.c) == Some(&None));
-}
-
-#[test]
-fn nobody_asked(rt: HostRuntime) -> Result<(), Fail> {
-    let gather = gather_of(rt.alloc(), &[])?;
-    let is_complete = gather.complete();
+fn nobody_asked(rt: HostRuntime) {
+    let cast = made_cast(&rt, rt.alloc());
+    let gather = asked!(&rt; gather_of(rt.alloc(), &cast, 0));
+    check!(&rt; gather.complete());
     drop(gather);
-    check!(&rt; is_complete);
-    Ok(())
-}
-
-/// A node that is lost is waited for no longer, and its reply does not stand.
-#[test]
-fn lost_node_is_forgotten(rt: HostRuntime) -> Result<(), Fail> {
-    let mut asked = asked_b_and_c(rt.alloc())?;
-    check_lost(&rt, &mut asked);
-    drop(asked);
-    Ok(())
-}
-
-fn check_lost(rt: &impl Abort, asked: &mut Asked) {
-    b_says(asked, true);
-    asked.gather.forget(&asked.c);
-    check!(rt; asked.gather.complete());
-    check!(rt; c_says(asked, true) == Taken::Stranger);
-    asked.gather.forget(&asked.b);
-    asked.gather.forget(&asked.b);
-    check!(rt; asked.gather.replies().len() == 0);
+    drop(cast);
 }

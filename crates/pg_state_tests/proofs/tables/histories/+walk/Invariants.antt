@@ -1,5 +1,0 @@
-use Rattle.pg_state_tests.proofs.tables.histories.+walk.Given as goal
-
--- how many steps may follow
-abbrev pub decreases-walk : goal.decreases-walk
-decreases-walk g l = l.left

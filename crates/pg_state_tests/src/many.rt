@@ -1,0 +1,95 @@
+//! References, locks and nodes that are many: sizes past which code changes its way.
+
+use crate::locks::{ask, give_up, is_held};
+use crate::references::next_has;
+use crate::samples::{atom, reference};
+use pg_lock::LockTable;
+use pg_multicall::{Gather, Taken};
+use pg_refs::RefSource;
+use pg_term::{Atom, Reference};
+use std::alloc::Global;
+use std::process::Abort;
+
+/// The references 1 and 262144 differ in their words.
+#[test]
+fn reference_words(rt: HostRuntime) {
+    let mut source = RefSource::new(atom(&rt, rt.alloc(), "a"));
+    next_has(&rt, &mut source, &[1, 0, 0]);
+    for _ in 2..262_144 {
+        let skipped = source.next().expect(&rt, "a reference");
+        drop(skipped);
+    }
+    next_has(&rt, &mut source, &[0, 1, 0]);
+    drop(source);
+}
+
+/// A reference takes 501 locks, and one of another node 500, which are denied to the first and free once the node is lost; then the
+/// first gives up its own.
+#[test]
+fn many_locks(rt: HostRuntime) {
+    let mut locks = LockTable::new(rt.alloc());
+    let first = reference(&rt, rt.alloc(), "a", 1);
+    let other = reference(&rt, rt.alloc(), "b", 1);
+    change_hands(&rt, &mut locks, &first, &other);
+    drop(locks);
+    drop(first);
+    drop(other);
+}
+
+fn change_hands(rt: &impl Abort, locks: &mut LockTable, first: &Reference, other: &Reference) {
+    for number in 0..1001 {
+        check!(rt; ask(rt, locks, true, number, if number < 501 { first } else { other }));
+    }
+    for number in 501..1001 {
+        check!(rt; !ask(rt, locks, true, number, first));
+    }
+    locks.free_node(other.node());
+    for number in 501..1001 {
+        check!(rt; is_held(locks, number, None));
+    }
+    for number in 0..501 {
+        check!(rt; is_held(locks, number, Some(first)));
+        give_up(locks, number, first);
+        check!(rt; is_held(locks, number, None));
+    }
+}
+
+/// Of 1,001 nodes every other is lost, and each of the others replies once: the replies are not complete before the last node.
+#[test]
+fn gather_over_many(rt: HostRuntime) {
+    let nodes = many_nodes(&rt, rt.alloc());
+    let call = reference(&rt, rt.alloc(), "a", 1);
+    let same_call = reference(&rt, rt.alloc(), "a", 1);
+    let mut gather = Gather::new(rt.alloc(), same_call, &nodes).expect(&rt, "room for replies");
+    for (node, number) in nodes.iter().zip(0..1001) {
+        check!(&rt; !gather.complete());
+        check!(&rt; is_counted(&mut gather, &call, node, number));
+    }
+    check!(&rt; gather.complete());
+    check!(&rt; gather.replies().len() == 501);
+    drop(gather);
+    drop(call);
+    drop(nodes);
+}
+
+fn is_counted(gather: &mut Gather<u32>, call: &Reference, node: &Atom, number: u32) -> bool {
+    if number % 2 == 0 {
+        (gather.take(node, call, number) == Taken::Counted)
+            & (gather.take(node, call, number) == Taken::Double)
+    } else {
+        gather.forget(node);
+        gather.take(node, call, number) == Taken::Stranger
+    }
+}
+
+fn many_nodes(rt: &impl Abort, alloc: Global) -> Vec<Atom> {
+    let mut nodes = Vec::new(alloc);
+    for number in 0..1001 {
+        let name = format!(in alloc; "n{number}").expect(rt, "a name");
+        nodes
+            .push(atom(rt, alloc, name.as_str()))
+            .expect(rt, "room");
+        drop(name);
+    }
+    nodes
+}

@@ -1,0 +1,84 @@
+//! Small values that tests are made of, and how a test ends that finds another. Each value is made a second time where memory
+//! was refused.
+
+use pg_group::Ended;
+use pg_term::{Atom, Pid};
+use std::alloc::Global;
+use std::process::Abort;
+
+/// Ends the test where something does not hold, and tells of it.
+pub fn holds(rt: &impl Abort, holds: bool, said: &str) {
+    assert!(rt; holds, "{said}");
+}
+
+/// Ends the test where a row of a table does not hold.
+pub fn row_holds(rt: &impl Abort, holds: bool, row: usize) {
+    assert!(rt; holds, "at {row}");
+}
+
+/// The name of a node.
+pub fn atom(rt: &impl Abort, alloc: Global, name: &str) -> Atom {
+    asked!(rt; Atom::new(alloc, name))
+}
+
+/// The pid of this node with this id.
+pub fn pid(rt: &impl Abort, alloc: Global, node: &str, id: u32) -> Pid {
+    Pid {
+        node: atom(rt, alloc, node),
+        serial: 0,
+        id,
+        creation: 1,
+    }
+}
+
+/// Puts a pid behind the others.
+pub fn push(rt: &impl Abort, pids: &mut Vec<Pid>, pid: Pid) {
+    asked!(rt; pids.reserve(1));
+    pids.push(pid).expect(rt, "there is room");
+}
+
+/// Puts the pids of this node with the ids from 0 on behind the others, so many.
+pub fn push_many(rt: &impl Abort, alloc: Global, pids: &mut Vec<Pid>, node: &str, count: u32) {
+    for id in 0..count {
+        push(rt, pids, pid(rt, alloc, node, id));
+    }
+}
+
+/// The pids that a test is about, of which some have ended.
+#[derive(Drop)]
+pub struct Cast {
+    pub alloc: Global,
+    pub pids: Vec<Pid>,
+    pub ended: Ended,
+}
+
+impl Cast {
+    /// The pids of these nodes with these ids, of which none has ended.
+    pub fn new(rt: &impl Abort, alloc: Global, rows: &[(&str, u32)]) -> Cast {
+        let mut pids = Vec::new(alloc);
+        for (node, id) in rows {
+            push(rt, &mut pids, pid(rt, alloc, node, *id));
+        }
+        let ended = Ended::new(alloc);
+        Cast { alloc, pids, ended }
+    }
+
+    /// The pids of node a with the ids from 0 on, so many.
+    pub fn of_one_node(rt: &impl Abort, alloc: Global, count: u32) -> Cast {
+        let mut pids = Vec::new(alloc);
+        push_many(rt, alloc, &mut pids, "a", count);
+        let ended = Ended::new(alloc);
+        Cast { alloc, pids, ended }
+    }
+
+    /// The pid at a place.
+    pub fn pid<'a>(&'a self, rt: &impl Abort, place: usize) -> &'a Pid {
+        self.pids.get(place).expect(rt, "a pid")
+    }
+
+    /// A copy of the pid at a place.
+    pub fn copy(&self, rt: &impl Abort, place: usize) -> Pid {
+        let pid = self.pid(rt, place);
+        asked!(rt; pid.copy())
+    }
+}
