@@ -2,11 +2,12 @@
 #![tactic(auto)]
 
 mod block;
+mod narrow;
 mod play;
 
 use anyhow::Result;
 use block::{Example, next_example};
-use play::{drawn, played, traced};
+use play::{drawn, played, played_over, traced};
 use std::rt::{Env, Files};
 use std::{env, fs, vec};
 
@@ -57,6 +58,14 @@ fn run_file(rt: &HostRuntime, name: &str) -> Result<()> {
     tell(rt, name, file.as_str(), printed.as_str())
 }
 
+/// The same over rings of so many bytes.
+fn run_narrow(rt: &HostRuntime, name: &str, script: &str, ring: usize) -> Result<()> {
+    let file = format!(in rt.alloc(); "{script}.out")?;
+    let script = script_of(rt, script)?;
+    let printed = played_over(rt.alloc(), script.as_str(), ring)?;
+    tell(rt, name, file.as_str(), printed.as_str())
+}
+
 /// The same of its trace. `file`: the file of the trace.
 fn run_trace(rt: &HostRuntime, name: &str, file: &str) -> Result<()> {
     let script = script_of(rt, name)?;
@@ -91,8 +100,11 @@ fn run(rt: &HostRuntime, name: &str) -> Result<()> {
     if let Some(script) = name.strip_suffix(".trace") {
         return run_trace(rt, script, name);
     }
-    match name.strip_suffix(".svg") {
-        Some(script) => run_picture(rt, script, name),
+    if let Some(script) = name.strip_suffix(".svg") {
+        return run_picture(rt, script, name);
+    }
+    match name.split_once('.') {
+        Some((script, ring)) => run_narrow(rt, name, script, ring.parse::<usize>()?),
         None => run_file(rt, name),
     }
 }
