@@ -1,6 +1,54 @@
-//! What no clause says of scripts: which texts are faulty, and what runs print.
+//! What no clause says of scripts: which texts are faulty. What runs print is told by pg_cookbook.
 
 mod faults;
-mod forms;
-mod played;
 mod random;
+
+use crate::verdicts::holds;
+use pg_script::read_script;
+use std::alloc::Global;
+use std::test::*;
+
+/// The first faulty line of a text, from 1, and the number of its fault.
+type Fault = (usize, u8);
+
+/// The first fault of a text, if it has one.
+fn fault_of(alloc: Global, text: &str) -> Option<Fault> {
+    match read_script(alloc, text) {
+        Ok(script) => {
+            drop(script);
+            None
+        }
+        Err(fault) => Some((fault.line, fault.fault.number())),
+    }
+}
+
+const NAMES: &str = "node 'a b' made 1
+node 'it\\'s'
+node '\\\\'
+has 'a b' '\\x{a}' <'a b'.1.0>
+settle
+create 'it\\'s' 'x  y'
+settle
+groups '\\\\'
+members 'it\\'s' '\\x{a}'
+outbox 'a b' 'it\\'s'
+lock '\\\\' {'A',1}
+";
+
+// Whether a text is read, or its last line is told to be faulty.
+fn is_last_told(alloc: Global, text: &str) -> bool {
+    match fault_of(alloc, text) {
+        Some((line, _)) => line == text.split('\n').count(),
+        None => true,
+    }
+}
+
+// What is cut within a line is a script, or its last line is faulty.
+#[test]
+fn cut_anywhere(rt: HostRuntime) {
+    for len in 0..=NAMES.len() {
+        if let Some((text, _)) = NAMES.split_at_checked(len) {
+            holds(&rt, is_last_told(rt.alloc(), text), "bytes:", len);
+        }
+    }
+}

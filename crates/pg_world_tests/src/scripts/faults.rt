@@ -1,5 +1,7 @@
-// Faulty lines, each behind two nodes.
-use crate::scripts::played::{fault_of, holds, is_same, joined};
+//! Faulty lines, each behind two nodes, and the order of faults.
+
+use super::{Fault, fault_of};
+use crate::verdicts::holds;
 use std::alloc::{AllocError, Global};
 use std::process::Abort;
 use std::test::*;
@@ -114,21 +116,24 @@ const UNKNOWN: &[&str] = &[
     "lock 'A' g",
 ];
 
+fn put_lines(text: &mut String, line: &str) -> Result<(), AllocError> {
+    text.push_str("node a\nnode b\n")?;
+    text.push_str(line)?;
+    text.push_str("\nsettle\n")
+}
+
 // Whether a script whose third line this is has this fault there.
 fn is_third(alloc: Global, line: &str, number: u8) -> bool {
-    match joined(alloc, &["node a\nnode b\n", line, "\nsettle\n"]) {
-        Ok(text) => {
-            let fault = fault_of(alloc, text.as_str());
-            drop(text);
-            is_same(fault, Some((3, number)))
-        }
-        Err(AllocError) => false,
-    }
+    let mut text = String::new(alloc);
+    let told = put_lines(&mut text, line);
+    let is_third = fault_of(alloc, text.as_str()) == Some((3, number));
+    drop(text);
+    told.is_ok() && is_third
 }
 
 fn check(rt: &impl Abort, alloc: Global, lines: &[&str], number: u8) {
-    for line in lines {
-        holds(rt, is_third(alloc, line, number), line);
+    for (place, line) in lines.iter().enumerate() {
+        holds(rt, is_third(alloc, line, number), line, place);
     }
 }
 
@@ -144,7 +149,7 @@ fn unknown_nodes(rt: HostRuntime) {
 }
 
 // Texts whose faults come in their order.
-const TEXTS: &[(&str, Option<(usize, u8)>)] = &[
+const TEXTS: &[(&str, Option<Fault>)] = &[
     ("", None),
     ("%\n\n%x\nnode a", None),
     ("node a\nnode a", Some((2, 15))),
@@ -161,7 +166,7 @@ const TEXTS: &[(&str, Option<(usize, u8)>)] = &[
 
 #[test]
 fn order_of_faults(rt: HostRuntime) {
-    for (text, fault) in TEXTS {
-        holds(&rt, is_same(fault_of(rt.alloc(), text), *fault), text);
+    for (place, (text, fault)) in TEXTS.iter().enumerate() {
+        holds(&rt, fault_of(rt.alloc(), text) == *fault, text, place);
     }
 }
