@@ -92,10 +92,38 @@ fn tell(rt: &HostRuntime, name: &str, file: &str, printed: &str) -> Result<()> {
     Ok(())
 }
 
+/// Reads each line of a file as the third of a script, behind two nodes, and tells which is not faulty by the number before it.
+fn run_lines(rt: &HostRuntime, name: &str) -> Result<()> {
+    let lines = fs::read_to_string(rt, name)?;
+    let mut count = 0u32;
+    for line in lines.as_str().split('\n') {
+        if let Some((number, line)) = line.split_once(' ') {
+            count = count.saturating_add(1);
+            run_line(rt, number, line)?;
+        }
+    }
+    println!(rt; "{name}: {count} lines")?;
+    Ok(())
+}
+
+fn run_line(rt: &HostRuntime, number: &str, line: &str) -> Result<()> {
+    let script = format!(in rt.alloc(); "node a\nnode b\n{line}\nsettle\n")?;
+    let wanted = format!(in rt.alloc(); "line 3 refused {number}\n")?;
+    let printed = played(rt.alloc(), script.as_str())?;
+    if printed.as_str() != wanted.as_str() {
+        println!(rt; "behind two nodes, {line} prints:")?;
+        print!(rt; "{printed}")?;
+    }
+    Ok(())
+}
+
 /// Runs what a name of a file, or of a script with its output, stands for.
 fn run(rt: &HostRuntime, name: &str) -> Result<()> {
     if name.ends_with(".md") {
         return run_page(rt, name);
+    }
+    if name.ends_with(".lines") {
+        return run_lines(rt, name);
     }
     if let Some(script) = name.strip_suffix(".trace") {
         return run_trace(rt, script, name);

@@ -1,6 +1,5 @@
 //! What no clause says of scripts: which texts are faulty. What runs print is told by pg_cookbook.
 
-mod faults;
 mod random;
 
 use crate::verdicts::holds;
@@ -8,7 +7,7 @@ use pg_script::read_script;
 use std::alloc::Global;
 use std::test::*;
 
-/// The first faulty line of a text, from 1, and the number of its fault.
+/// A faulty line, from 1, and the number of its fault.
 type Fault = (usize, u8);
 
 /// The first fault of a text, if it has one.
@@ -50,5 +49,28 @@ fn cut_anywhere(rt: HostRuntime) {
         if let Some((text, _)) = NAMES.split_at_checked(len) {
             holds(&rt, is_last_told(rt.alloc(), text), "bytes:", len);
         }
+    }
+}
+
+// Texts whose faults come in their order.
+const TEXTS: &[(&str, Option<Fault>)] = &[
+    ("", None),
+    ("%\n\n%x\nnode a", None),
+    ("node a\nnode a", Some((2, 15))),
+    ("node a\nsettle\nnode a", Some((3, 42))),
+    ("node a\nsettle\nnode b", Some((3, 42))),
+    ("node a\nsettle\nhas c g", Some((3, 42))),
+    ("node a\nhas c g\nhas d", Some((2, 41))),
+    ("node a\nsettle\nring 4", Some((3, 42))),
+    ("ring 4\nring 5", Some((2, 40))),
+    ("ring 4\nnode a\nsettle\nring 5", Some((4, 40))),
+    ("node a\nsettle\nnode a made", Some((3, 40))),
+    ("take a b\nnode a", Some((1, 41))),
+];
+
+#[test]
+fn order_of_faults(rt: HostRuntime) {
+    for (place, (text, fault)) in TEXTS.iter().enumerate() {
+        holds(&rt, fault_of(rt.alloc(), text) == *fault, text, place);
     }
 }
