@@ -2,11 +2,12 @@
 #![tactic(auto)]
 
 mod block;
+mod narrow;
 mod play;
 
 use anyhow::Result;
 use block::{Example, next_example};
-use play::{drawn, played, traced};
+use play::{drawn, played, played_over, traced};
 use std::rt::{Env, Files};
 use std::{env, fs, vec};
 
@@ -57,6 +58,14 @@ fn run_file(rt: &HostRuntime, name: &str) -> Result<()> {
     tell(rt, name, file.as_str(), printed.as_str())
 }
 
+/// The same over rings of so many bytes.
+fn run_narrow(rt: &HostRuntime, name: &str, script: &str, ring: usize) -> Result<()> {
+    let file = format!(in rt.alloc(); "{script}.out")?;
+    let script = script_of(rt, script)?;
+    let printed = played_over(rt.alloc(), script.as_str(), ring)?;
+    tell(rt, name, file.as_str(), printed.as_str())
+}
+
 /// The same of its trace. `file`: the file of the trace.
 fn run_trace(rt: &HostRuntime, name: &str, file: &str) -> Result<()> {
     let script = script_of(rt, name)?;
@@ -83,16 +92,47 @@ fn tell(rt: &HostRuntime, name: &str, file: &str, printed: &str) -> Result<()> {
     Ok(())
 }
 
+/// Reads each line of a file as the third of a script, behind two nodes, and tells which is not faulty by the number before it.
+fn run_lines(rt: &HostRuntime, name: &str) -> Result<()> {
+    let lines = fs::read_to_string(rt, name)?;
+    let mut count = 0u32;
+    for line in lines.as_str().split('\n') {
+        if let Some((number, line)) = line.split_once(' ') {
+            count = count.saturating_add(1);
+            run_line(rt, number, line)?;
+        }
+    }
+    println!(rt; "{name}: {count} lines")?;
+    Ok(())
+}
+
+fn run_line(rt: &HostRuntime, number: &str, line: &str) -> Result<()> {
+    let script = format!(in rt.alloc(); "node a\nnode b\n{line}\nsettle\n")?;
+    let wanted = format!(in rt.alloc(); "line 3 refused {number}\n")?;
+    let printed = played(rt.alloc(), script.as_str())?;
+    if printed.as_str() != wanted.as_str() {
+        println!(rt; "behind two nodes, {line} prints:")?;
+        print!(rt; "{printed}")?;
+    }
+    Ok(())
+}
+
 /// Runs what a name of a file, or of a script with its output, stands for.
 fn run(rt: &HostRuntime, name: &str) -> Result<()> {
     if name.ends_with(".md") {
         return run_page(rt, name);
     }
+    if name.ends_with(".lines") {
+        return run_lines(rt, name);
+    }
     if let Some(script) = name.strip_suffix(".trace") {
         return run_trace(rt, script, name);
     }
-    match name.strip_suffix(".svg") {
-        Some(script) => run_picture(rt, script, name),
+    if let Some(script) = name.strip_suffix(".svg") {
+        return run_picture(rt, script, name);
+    }
+    match name.split_once('.') {
+        Some((script, ring)) => run_narrow(rt, name, script, ring.parse::<usize>()?),
         None => run_file(rt, name),
     }
 }

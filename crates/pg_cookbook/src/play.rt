@@ -1,5 +1,6 @@
 //! What a script prints.
 
+use crate::narrow::narrowed;
 use anyhow::Result;
 use pg_diagram::{Diagram, svg_of};
 use pg_node::AnyWriter;
@@ -17,6 +18,17 @@ pub(crate) fn played(alloc: Global, text: &str) -> Result<String> {
         }
         Err(fault) => faulty(alloc, fault),
     }
+}
+
+/// What it prints for a script that can be read, over rings of this capacity.
+pub(crate) fn played_over(alloc: Global, text: &str, ring: usize) -> Result<String> {
+    let mut script = read_script(alloc, text)?;
+    let told = match narrowed(alloc, &mut script, ring) {
+        Ok(()) => ran(alloc, &script),
+        Err(fault) => Err(fault.into()),
+    };
+    drop(script);
+    told
 }
 
 /// What `pg2sim script --trace` prints for a script that runs.

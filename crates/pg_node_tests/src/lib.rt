@@ -1,28 +1,22 @@
-//! What is only run of a node: its commands, what its peers make of them, and two nodes over bytes.
+//! What is only run of a node: its commands, what its peers make of them, nodes over bytes, and a world of three.
 #![tactic(auto)]
 
 #[cfg(test)]
-mod alone;
-#[cfg(test)]
 mod bytes;
 #[cfg(test)]
-mod commands;
+mod changes;
 #[cfg(test)]
-mod ends;
-#[cfg(test)]
-mod events;
+mod links;
 #[cfg(test)]
 mod memory;
 #[cfg(test)]
 mod nodes;
 #[cfg(test)]
-mod refused;
-#[cfg(test)]
 mod rows;
 #[cfg(test)]
-mod same;
+mod texts;
 #[cfg(test)]
-mod twins;
+mod told;
 #[cfg(test)]
 mod verdicts;
 #[cfg(test)]

@@ -1,75 +1,38 @@
-//! Nodes and packets that tests are made of.
+//! Nodes that tests are made of, and what is seen of them.
 
 ghost use Rattle.std.specs.Prelude.{◌≡◌, ◌∷◌, ◌≤◌, [], false, IfOk};
 ghost use Rattle.std.specs.List.{IsDistinct};
 ghost use Rattle.pg_term.specs.Same.{same_atom};
 
-use crate::events::{Sent, hear};
+use crate::told::heard;
+use crate::verdicts::asked_again;
 use pg_group::GroupTable;
 use pg_index::IndexTable;
 use pg_message::{Message, Packet};
-use pg_node::{Done, NodeConfig, NodeFault, NodeState};
-use pg_step::{Command, OpId, Refusal, Reply};
-use pg_term::{Atom, Pid, Term};
+use pg_node::{NodeConfig, NodeState};
+use pg_term::{Atom, Items, Pid, Term};
+use pg_text::read_pid;
 use std::alloc::{AllocError, Global};
 
-/// A group's name.
-pub fn name() -> Term {
-    Term::Int(7)
+/// A node over packets.
+pub type State = NodeState<IndexTable>;
+
+/// A node of one port.
+#[derive(Clone, Copy)]
+pub enum Kind<'a> {
+    /// `a`, which has no peer.
+    Lone,
+    /// The same, which can make one process more.
+    Last,
+    /// A node of the first name with the others as peers, which is not formed.
+    New(&'a str, &'a str, &'a str),
+    /// The same, whose peers have told that they have no group.
+    Formed(&'a str, &'a str, &'a str),
 }
 
-/// Whether it is that name.
-pub fn is_name(name: &Term) -> bool {
-    match name {
-        Term::Int(number) => *number == 7,
-        _ => false,
-    }
-}
-
-/// A node's name.
-pub fn atom(alloc: Global, text: &str) -> Result<Atom, NodeFault> {
-    match Atom::new(alloc, text) {
-        Ok(atom) => Ok(atom),
-        Err(_) => Err(NodeFault::OutOfMemory),
-    }
-}
-
-/// The pid of this node with this serial and this id.
-fn pid_of(alloc: Global, node: &str, serial: u32, id: u32) -> Result<Pid, NodeFault> {
-    match atom(alloc, node) {
-        Ok(node) => Ok(Pid {
-            node,
-            serial,
-            id,
-            creation: 1,
-        }),
-        Err(fault) => Err(fault),
-    }
-}
-
-/// The pid of the first process of this node.
-pub fn pid(alloc: Global, node: &str) -> Result<Pid, NodeFault> {
-    pid_of(alloc, node, 0, 1)
-}
-
-/// The pid of the last process that a node `a` can make: the number 268,435,455, which is 8,191 times 32,768, and 32,767.
-pub fn last_pid(alloc: Global) -> Result<Pid, NodeFault> {
-    pid_of(alloc, "a", 8191, 32767)
-}
-
-// Whether it is the pid of the node `a` with this serial and this id.
-fn is_pid_of(pid: &Pid, serial: u32, id: u32) -> bool {
-    pid.node.as_str() == "a" && pid.serial == serial && pid.id == id && pid.creation == 1
-}
-
-/// Whether it is the pid of the first process of the node `a`.
-pub fn is_first_pid(pid: &Pid) -> bool {
-    is_pid_of(pid, 0, 1)
-}
-
-/// Whether it is the pid of the last process that a node `a` can make.
-pub fn is_last_pid(pid: &Pid) -> bool {
-    is_pid_of(pid, 8191, 32767)
+/// A node's name; none where memory was refused.
+pub fn atom(alloc: Global, text: &str) -> Option<Atom> {
+    Atom::new(alloc, text).ok()
 }
 
 fn begun(alloc: Global, config: NodeConfig) -> Result<NodeState<IndexTable>, AllocError>
@@ -86,13 +49,8 @@ fn begun(alloc: Global, config: NodeConfig) -> Result<NodeState<IndexTable>, All
     }
 }
 
-/// A node of one port that has no peer.
-pub fn lone_node(alloc: Global) -> Result<NodeState<IndexTable>, NodeFault> {
-    lone_node_made(alloc, 0)
-}
-
-/// The same, where so many processes were made, at most 268,435,455.
-pub fn lone_node_made(alloc: Global, made: u32) -> Result<NodeState<IndexTable>, NodeFault>
+// A node that has no peer, where so many processes were made.
+fn lone_node_made(alloc: Global, made: u32) -> Option<State>
     requires { made ≤ 268435455 }
 {
     let own = atom(alloc, "a")?;
@@ -103,10 +61,7 @@ pub fn lone_node_made(alloc: Global, made: u32) -> Result<NodeState<IndexTable>,
         made,
         ports: 1,
     };
-    match begun(alloc, config) {
-        Ok(node) => Ok(node),
-        Err(_) => Err(NodeFault::OutOfMemory),
-    }
+    begun(alloc, config).ok()
 }
 
 fn two_peers(alloc: Global, one: Atom, two: Atom) -> Result<Vec<Atom>, AllocError>
@@ -135,251 +90,116 @@ fn node_of_three(
     begun(alloc, config)
 }
 
-// The same, where the names differ.
-fn node_of_names(
-    alloc: Global,
-    own: Atom,
-    one: Atom,
-    two: Atom,
-) -> Result<NodeState<IndexTable>, NodeFault> {
+/// A node with two peers, which is not formed; none where memory was refused.
+pub fn new_node(alloc: Global, own: &str, one: &str, two: &str) -> Option<State> {
+    let own = atom(alloc, own)?;
+    let one = atom(alloc, one)?;
+    let two = atom(alloc, two)?;
     if own == one || own == two || one == two {
-        drop(own);
-        drop(one);
-        drop(two);
-        return Err(NodeFault::Refused(Refusal::NoSuchPlace));
+        return None;
     }
-    match node_of_three(alloc, own, one, two) {
-        Ok(node) => Ok(node),
-        Err(_) => Err(NodeFault::OutOfMemory),
-    }
+    node_of_three(alloc, own, one, two).ok()
 }
 
-/// A node of one port with two peers, which is not formed.
-pub fn new_node(
-    alloc: Global,
-    own: &str,
-    one: &str,
-    two: &str,
-) -> Result<NodeState<IndexTable>, NodeFault> {
-    match atom(alloc, own) {
-        Ok(own) => with_peers(alloc, own, one, two),
-        Err(fault) => Err(fault),
-    }
+// That a node has no group.
+fn exchange(alloc: Global, name: &str) -> Option<Packet> {
+    Some(Packet {
+        stamp: 0,
+        message: Message::Exchange(atom(alloc, name)?, Items::from_vec(Vec::new(alloc))),
+    })
 }
 
-fn with_peers(
-    alloc: Global,
-    own: Atom,
-    one: &str,
-    two: &str,
-) -> Result<NodeState<IndexTable>, NodeFault> {
-    match atom(alloc, one) {
-        Ok(one) => with_second(alloc, own, one, atom(alloc, two)),
-        Err(fault) => {
-            drop(own);
-            Err(fault)
-        }
-    }
-}
-
-fn with_second(
-    alloc: Global,
-    own: Atom,
-    one: Atom,
-    two: Result<Atom, NodeFault>,
-) -> Result<NodeState<IndexTable>, NodeFault> {
-    match two {
-        Ok(two) => node_of_names(alloc, own, one, two),
-        Err(fault) => {
-            drop(own);
-            drop(one);
-            Err(fault)
-        }
-    }
-}
-
-/// Takes a packet that tells no group with a member.
-pub fn taken(
-    node: &mut NodeState<IndexTable>,
-    peer: usize,
-    packet: &Packet,
-) -> Result<Done, NodeFault> {
-    if peer < node.peer_count() {
-        match &packet.message {
-            Message::Call(_, _) => node.take(peer, packet),
-            Message::Reply(_, _) => node.take(peer, packet),
-            Message::DelLock(_, _) => node.take(peer, packet),
-            Message::Down(_) => node.take(peer, packet),
-            Message::Exchange(_, groups) => {
-                if groups.as_slice().is_empty() {
-                    node.take(peer, packet)
-                } else {
-                    Err(NodeFault::Refused(Refusal::NoSuchPlace))
-                }
-            }
-        }
+/// The same node, formed.
+pub fn formed_node(alloc: Global, own: &str, one: &str, two: &str) -> Option<State> {
+    let mut node = new_node(alloc, own, one, two)?;
+    let is_first = heard(&mut node, 0, exchange(alloc, one)).is_ok();
+    if is_first && heard(&mut node, 1, exchange(alloc, two)).is_ok() {
+        Some(node)
     } else {
-        Err(NodeFault::Refused(Refusal::NoSuchPlace))
-    }
-}
-
-/// A node of one port with two peers that have told that they have no group.
-pub fn formed_node(
-    alloc: Global,
-    own: &str,
-    one: &str,
-    two: &str,
-) -> Result<NodeState<IndexTable>, NodeFault> {
-    match new_node(alloc, own, one, two) {
-        Ok(node) => formed(alloc, node, one, two),
-        Err(fault) => Err(fault),
-    }
-}
-
-// The node, whose peers tell that they have no group.
-fn formed(
-    alloc: Global,
-    node: NodeState<IndexTable>,
-    one: &str,
-    two: &str,
-) -> Result<NodeState<IndexTable>, NodeFault> {
-    let mut node = node;
-    match form(alloc, &mut node, one, two) {
-        Ok(()) => Ok(node),
-        Err(fault) => {
-            drop(node);
-            Err(fault)
-        }
-    }
-}
-
-// Both peers tell that they have no group.
-fn form(
-    alloc: Global,
-    node: &mut NodeState<IndexTable>,
-    one: &str,
-    two: &str,
-) -> Result<(), NodeFault> {
-    hear(alloc, node, 0, 0, Sent::Exchange(one))?;
-    match hear(alloc, node, 1, 0, Sent::Exchange(two)) {
-        Ok(_) => Ok(()),
-        Err(fault) => Err(fault),
-    }
-}
-
-/// Gives a command at the port.
-pub fn given(node: &mut NodeState<IndexTable>, command: &Command) -> Result<Done, NodeFault> {
-    if node.port_count() == 1 {
-        node.command(0, command)
-    } else {
-        Err(NodeFault::Refused(Refusal::NoSuchPlace))
-    }
-}
-
-/// Tries the command of this number again.
-pub fn retried(node: &mut NodeState<IndexTable>, number: u32) -> Result<Done, NodeFault> {
-    if node.port_count() == 1 {
-        node.retry(OpId { port: 0, number })
-    } else {
-        Err(NodeFault::Refused(Refusal::NoSuchPlace))
-    }
-}
-
-/// How many answers were given at the port.
-pub fn answer_count(node: &NodeState<IndexTable>) -> usize {
-    if node.port_count() == 1 {
-        node.answers(0).len()
-    } else {
-        0
-    }
-}
-
-/// The last answer that was given at the port: the number of the command, and the reply.
-pub fn last_answer(node: &NodeState<IndexTable>) -> Option<(u32, &Reply)> {
-    if node.port_count() == 1 {
-        match node.answers(0).last() {
-            Some(answer) => Some((answer.number, &answer.reply)),
-            None => None,
-        }
-    } else {
+        drop(node);
         None
     }
 }
 
-/// Whether the last answer is ok, to the command of this number.
-pub fn is_done(node: &NodeState<IndexTable>, number: u32) -> bool {
-    match last_answer(node) {
-        Some((last, Reply::Ok)) => last == number,
-        _ => false,
+/// A node of this kind; none where memory was refused.
+pub fn made(alloc: Global, kind: Kind<'_>) -> Option<State> {
+    match kind {
+        Kind::Lone => lone_node_made(alloc, 0),
+        Kind::Last => lone_node_made(alloc, 268_435_454),
+        Kind::New(own, one, two) => new_node(alloc, own, one, two),
+        Kind::Formed(own, one, two) => formed_node(alloc, own, one, two),
     }
 }
 
-/// Sees the loss of a peer, whose clock was this at last.
-pub fn lost(node: &mut NodeState<IndexTable>, peer: usize, last: u32) -> Result<Done, NodeFault> {
-    if peer < node.peer_count() {
-        node.see_loss(peer, last)
-    } else {
-        Err(NodeFault::Refused(Refusal::NoSuchPlace))
-    }
+/// What is seen at a node. The group is the one named 7.
+#[derive(Clone, Copy)]
+pub enum Sight<'a> {
+    Formed(bool),
+    /// Whether it has the group.
+    Group(bool),
+    /// Whether the group's lock is held.
+    Locked(bool),
+    /// So many commands are open.
+    Open(usize),
+    /// So many commands wait for a retry.
+    Waiting(usize),
+    /// So many answers were given.
+    Answers(usize),
+    Clock(u32),
+    /// This peer is lost.
+    Lost(usize),
+    /// This process is in the group so often.
+    Counted(&'a str, u64),
 }
 
-/// Whether the loss of this peer was seen.
-pub fn is_lost(node: &NodeState<IndexTable>, peer: usize) -> bool {
-    peer < node.peer_count() && node.is_lost(peer)
-}
-
-/// Whether the node has the group.
-pub fn has_group(node: &NodeState<IndexTable>) -> bool {
-    let name = name();
+// Whether the node has the group, and whether its lock is held.
+fn has_group(node: &State) -> (bool, bool) {
+    let name = Term::Int(7);
     let has = node.table().has(&name);
+    let is_held = node.holder(&name).is_some();
     drop(name);
-    has
+    (has, is_held)
 }
 
-/// Whether a reference holds the lock of the group at the node.
-pub fn is_locked(node: &NodeState<IndexTable>) -> bool {
-    let name = name();
-    let is_locked = node.holder(&name).is_some();
-    drop(name);
-    is_locked
-}
-
-/// Whether so many commands of the node wait for a retry.
-pub fn are_waiting(node: &NodeState<IndexTable>, count: usize) -> bool {
+fn waiting(node: &State) -> Option<usize> {
     match node.waiting() {
         Ok(ops) => {
             let len = ops.len();
             drop(ops);
-            len == count
+            Some(len)
         }
-        Err(_) => false,
+        Err(AllocError) => None,
     }
 }
 
-// The pid of the first process of this node, made a second time where memory was refused.
-fn pid_again(alloc: Global, home: &str) -> Result<Pid, NodeFault> {
-    match pid(alloc, home) {
-        Ok(process) => Ok(process),
-        Err(_) => pid(alloc, home),
+fn pid(alloc: Global, text: &str) -> Option<Pid> {
+    read_pid(alloc, text).ok()
+}
+
+fn is_counted(alloc: Global, node: &State, process: &str, count: u64) -> bool {
+    match asked_again!(pid(alloc, process)) {
+        Some(pid) => {
+            let name = Term::Int(7);
+            let counted = node.table().count(&name, &pid);
+            drop(name);
+            drop(pid);
+            counted == count
+        }
+        None => false,
     }
 }
 
-// How often the process is in the group.
-fn count(node: &NodeState<IndexTable>, process: &Pid) -> u64 {
-    let name = name();
-    let count = node.table().count(&name, process);
-    drop(name);
-    count
-}
-
-/// Whether the first process of this node is in the group so often.
-pub fn has_counted(alloc: Global, node: &NodeState<IndexTable>, home: &str, wanted: u64) -> bool {
-    match pid_again(alloc, home) {
-        Ok(process) => {
-            let counted = count(node, &process);
-            drop(process);
-            counted == wanted
-        }
-        Err(_) => false,
+/// Whether this is seen at a node.
+pub fn sees(alloc: Global, node: &State, sight: Sight<'_>) -> bool {
+    match sight {
+        Sight::Formed(is) => node.formed() == is,
+        Sight::Group(has) => has_group(node).0 == has,
+        Sight::Locked(is) => has_group(node).1 == is,
+        Sight::Open(count) => node.open_count() == count,
+        Sight::Waiting(count) => asked_again!(waiting(node)) == Some(count),
+        Sight::Answers(count) => node.port_count() == 1 && node.answers(0).len() == count,
+        Sight::Clock(clock) => node.clock() == clock,
+        Sight::Lost(peer) => peer < node.peer_count() && node.is_lost(peer),
+        Sight::Counted(process, count) => is_counted(alloc, node, process, count),
     }
 }

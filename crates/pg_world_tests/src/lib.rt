@@ -1,25 +1,19 @@
-//! What is only run of worlds of nodes and of scripts: the worked examples as steps, random schedules, the headline by a slow reading of it,
-//! and texts that are scripts or are none.
+//! What is only run of worlds of nodes and of scripts: examples as steps, random schedules, the headline by a slow reading of it, and
+//! texts that are scripts or are none.
 #![tactic(auto)]
 
 #[cfg(test)]
-mod cast;
-#[cfg(test)]
 mod examples;
 #[cfg(test)]
-mod lists;
+mod formation;
 #[cfg(test)]
 mod memory;
-#[cfg(test)]
-mod ops;
-#[cfg(test)]
-mod played;
 #[cfg(test)]
 mod prefixes;
 #[cfg(test)]
 mod random;
 #[cfg(test)]
-mod said;
+mod schedules;
 #[cfg(test)]
 mod scripts;
 #[cfg(test)]

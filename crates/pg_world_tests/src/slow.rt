@@ -1,350 +1,263 @@
 //! The headline, read slowly off a world: what each node's table should be, by the history of each group.
 
 mod answered;
-mod history;
-mod value;
+mod held;
 
-use crate::cast::{GROUPS, Process, count_in, group_name, pid_of, process_of};
-use crate::lists::{put, whole};
-use crate::played::state_of;
-use crate::verdicts::holds_of;
+use crate::schedules::state_of;
 pub use answered::check_answered;
-pub use history::len_of;
+use held::{Held, count_in};
 use pg_group::{GroupTable, Scope};
 use pg_index::IndexTable;
 use pg_node::NodeState;
+use pg_step::Start;
 use pg_term::{Pid, Term};
-use pg_world::{Config, World, WorldFault};
-use std::alloc::Global;
+use pg_world::{Entry, World};
+use std::alloc::{AllocError, Global};
 use std::process::Abort;
-use value::Value;
 
 /// A node of a world.
 type State = NodeState<IndexTable>;
 
-/// A process that tests speak of, and its pid.
-pub type Known = (Process, Pid);
+/// The history of a group: a slice, and one more behind it, where the last event began it.
+pub type History<'a> = (&'a [Entry], Option<&'a Entry>);
 
-fn known_of(alloc: Global, process: Process) -> Result<Known, WorldFault> {
-    match pid_of(alloc, process) {
-        Ok(pid) => Ok((process, pid)),
-        Err(fault) => Err(fault),
+/// The groups of the tests.
+pub const GROUPS: [i64; 4] = [1, 2, 3, 4];
+
+/// How many updates there are.
+pub fn len_of(history: History<'_>) -> usize {
+    match history.1 {
+        Some(_) => history.0.len().saturating_add(1),
+        None => history.0.len(),
     }
 }
 
-// The first so many processes of a node.
-fn put_first(
-    alloc: Global,
-    processes: &mut Vec<Known>,
-    node: usize,
-    count: u32,
-) -> Result<(), WorldFault> {
-    for number in 1..=count {
-        put(processes, known_of(alloc, (node, number)))?;
-    }
-    Ok(())
-}
-
-/// Puts the first so many processes of each of so many nodes.
-pub fn put_processes(
-    alloc: Global,
-    processes: &mut Vec<Known>,
-    nodes: usize,
-    count: u32,
-) -> Result<(), WorldFault> {
-    for node in 0..nodes {
-        put_first(alloc, processes, node, count)?;
-    }
-    Ok(())
-}
-
-/// The first so many processes of each of so many nodes.
-pub fn first_processes(alloc: Global, nodes: usize, count: u32) -> Result<Vec<Known>, WorldFault> {
-    let mut processes = Vec::new(alloc);
-    let told = put_processes(alloc, &mut processes, nodes, count);
-    whole(processes, told)
-}
-
-// Whether a process has ended, as far as a node knows.
-fn has_ended(processes: &[Known], node: &State, process: Process) -> bool {
-    for (other, pid) in processes {
-        if *other == process {
-            return node.ended(pid);
-        }
-    }
-    false
-}
-
-// Whether the node at a place is there, and knows that a process has ended, or that it has not.
-fn has_told(world: &World<IndexTable>, place: usize, pid: &Pid, ended: bool) -> bool {
-    match state_of(world, place) {
-        Some(node) => node.ended(pid) == ended,
-        None => false,
-    }
-}
-
-// Whether a node does not know that a process has ended.
-fn is_alive_at_one(world: &World<IndexTable>, nodes: usize, pid: &Pid) -> bool {
-    for place in 0..nodes {
-        if has_told(world, place, pid, false) {
-            return true;
-        }
-    }
-    false
-}
-
-// Whether no end is pending: what has ended at its home has ended everywhere.
-fn none_pending(world: &World<IndexTable>, nodes: usize, processes: &[Known]) -> bool {
-    for (process, pid) in processes {
-        if has_told(world, process.0, pid, true) && is_alive_at_one(world, nodes, pid) {
-            return false;
-        }
-    }
-    true
-}
-
-// Whether a node has applied all of the history, or all but the last.
-fn has_applied(world: &World<IndexTable>, place: usize, name: &Term) -> bool {
-    let applied = world.applied(place, name);
-    let len = len_of(world.history(name)) as u128;
-    applied == len || applied.saturating_add(1) == len
-}
-
-// Whether a node has applied all of the history.
-fn has_applied_all(world: &World<IndexTable>, place: usize, name: &Term) -> bool {
-    world.applied(place, name) == len_of(world.history(name)) as u128
-}
-
-// Whether a process is in a list of a node as often as in a value, less the processes that the node knows to have ended.
-fn is_as_often(
-    node: &State,
-    processes: &[Known],
-    wanted: &Value,
-    pids: &[Pid],
-    process: Process,
-) -> bool {
-    let count = if has_ended(processes, node, process) {
-        0
+/// The update at a place.
+pub fn entry_at(history: History<'_>, place: usize) -> Option<&Entry> {
+    if place == history.0.len() {
+        history.1
     } else {
-        wanted.count(process)
-    };
-    count_in(pids, process) == count
+        history.0.get(place)
+    }
 }
 
-// Whether a list of a node has the members of a value, less the processes that the node knows to have ended, each as often.
-fn are_left(node: &State, processes: &[Known], wanted: &Value, pids: &[Pid]) -> bool {
-    for pid in pids {
-        if !is_as_often(node, processes, wanted, pids, process_of(pid)) {
-            return false;
-        }
+fn put_first(pids: &mut Vec<Pid>, start: &Start, count: u32) -> Result<(), AllocError> {
+    for id in 1..=count {
+        pids.push(Pid {
+            node: start.name.copy()?,
+            serial: 0,
+            id,
+            creation: 1,
+        })?;
     }
-    for process in wanted.members() {
-        if !is_as_often(node, processes, wanted, pids, *process) {
-            return false;
-        }
-    }
-    true
+    Ok(())
 }
 
-// Whether the table of a node has a value, less the processes that the node knows to have ended.
-fn has_left(alloc: Global, node: &State, name: &Term, processes: &[Known], wanted: &Value) -> bool {
-    if node.table().has(name) != wanted.is_there() {
-        return false;
-    }
-    match node.table().list(alloc, name, Scope::All) {
-        Ok(pids) => {
-            let are_left = are_left(node, processes, wanted, pids.as_slice());
+/// The first so many processes of each node; none where memory was refused.
+pub fn first_pids(alloc: Global, starts: &[Start], count: u32) -> Option<Vec<Pid>> {
+    let mut pids = Vec::new(alloc);
+    for start in starts {
+        if put_first(&mut pids, start, count).is_err() {
             drop(pids);
-            are_left
+            return None;
         }
-        Err(_) => false,
     }
+    Some(pids)
 }
 
-// What the updates that a node has applied make of what all began with.
-fn work_out(
-    wanted: &mut Value,
-    config: &Config,
-    world: &World<IndexTable>,
-    place: usize,
-    name: &Term,
-) -> Result<(), WorldFault> {
-    match wanted.begin(config, name) {
-        Ok(()) => wanted.replay(world.history(name), world.applied(place, name)),
-        Err(fault) => Err(fault),
+/// A world that is looked at.
+#[derive(Clone, Copy)]
+pub struct Scene<'a> {
+    pub alloc: Global,
+    pub world: &'a World<IndexTable>,
+    /// How its nodes began.
+    pub starts: &'a [Start],
+    /// The processes that the test speaks of.
+    pub pids: &'a [Pid],
+}
+
+/// What the table of a node should hold.
+#[derive(Clone, Copy)]
+enum Wanted<'a> {
+    /// What the updates that the node at this place has applied make of what all began with, less the processes that it knows to
+    /// have ended.
+    Applied(usize),
+    /// What the table of another node holds.
+    Of(&'a State),
+}
+
+impl<'a> Scene<'a> {
+    // How many updates there are that a node has not applied.
+    fn missing(&self, place: usize, name: &Term) -> Option<u128> {
+        let len = len_of(self.world.history(name)) as u128;
+        len.checked_sub(self.world.applied(place, name))
     }
-}
 
-// Whether the table of a formed node is what the updates that it has applied make of what all began with, less the ended.
-fn is_worked_out(
-    alloc: Global,
-    config: &Config,
-    world: &World<IndexTable>,
-    processes: &[Known],
-    place: usize,
-    node: &State,
-    name: &Term,
-) -> bool {
-    let mut wanted = Value::absent(alloc);
-    let told = work_out(&mut wanted, config, world, place, name);
-    let has_left = has_left(alloc, node, name, processes, &wanted);
-    drop(wanted);
-    told.is_ok() && has_left
-}
+    // What a node should hold of a process in a group.
+    fn wanted(&self, node: &State, name: &Term, wanted: Wanted<'_>, pid: &Pid) -> Held {
+        match wanted {
+            Wanted::Applied(place) => {
+                let begun = Held::begun(self.starts, name, pid);
+                let applied = self.world.applied(place, name);
+                let held = begun.replayed(self.world.history(name), applied, pid);
+                if node.ended(pid) {
+                    held.without()
+                } else {
+                    held
+                }
+            }
+            Wanted::Of(other) => Held {
+                is_there: other.table().has(name),
+                count: other.table().count(name, pid),
+            },
+        }
+    }
 
-// Whether the table of a node is as it should be, if the node is there: while it is not formed there is no update.
-fn is_table_right(
-    alloc: Global,
-    config: &Config,
-    world: &World<IndexTable>,
-    processes: &[Known],
-    place: usize,
-    name: &Term,
-) -> bool {
-    match state_of(world, place) {
-        Some(node) => {
-            if node.formed() {
-                is_worked_out(alloc, config, world, processes, place, node, name)
-            } else {
-                len_of(world.history(name)) == 0
+    // Whether a node, whose list of a group this is, holds of each of these processes what it should.
+    fn are_held(
+        &self,
+        node: &State,
+        name: &Term,
+        wanted: Wanted<'_>,
+        list: &[Pid],
+        pids: &[Pid],
+    ) -> bool {
+        let is_there = node.table().has(name);
+        for pid in pids {
+            let held = self.wanted(node, name, wanted, pid);
+            if held.is_there != is_there || held.count != count_in(list, pid) {
+                return false;
             }
         }
-        None => true,
+        true
     }
-}
 
-// Whether one node sees the lock of a group free.
-fn some_free(world: &World<IndexTable>, nodes: usize, name: &Term) -> bool {
-    for place in 0..nodes {
-        if is_free_at(world, place, name) {
-            return true;
+    // Whether a node holds of a group what it should.
+    fn is_right(&self, node: &State, name: &Term, wanted: Wanted<'_>) -> bool {
+        match node.table().list(self.alloc, name, Scope::All) {
+            Ok(list) => {
+                let pids = list.as_slice();
+                let is_right = self.are_held(node, name, wanted, pids, self.pids)
+                    && self.are_held(node, name, wanted, pids, pids);
+                drop(list);
+                is_right
+            }
+            Err(AllocError) => false,
         }
     }
-    false
-}
 
-fn is_free_at(world: &World<IndexTable>, place: usize, name: &Term) -> bool {
-    match state_of(world, place) {
-        Some(node) => node.holder(name).is_none(),
-        None => false,
+    // The node at a place, if it is formed.
+    fn formed_at(&self, place: usize) -> Option<&'a State> {
+        match state_of(self.world, place) {
+            Some(node) if node.formed() => Some(node),
+            _ => None,
+        }
     }
-}
 
-// The first node that is formed, if one is.
-fn first_formed(world: &World<IndexTable>, nodes: usize) -> Option<&State> {
-    for place in 0..nodes {
-        if let Some(node) = state_of(world, place) {
-            if node.formed() {
+    // The first node that is formed, if one is.
+    fn first_formed(&self) -> Option<&'a State> {
+        for place in 0..self.starts.len() {
+            if let Some(node) = self.formed_at(place) {
                 return Some(node);
             }
         }
+        None
     }
-    None
-}
 
-// Whether the table of a node has these members, if the node is there and formed.
-fn agrees(
-    alloc: Global,
-    world: &World<IndexTable>,
-    place: usize,
-    name: &Term,
-    value: &Value,
-) -> bool {
-    match state_of(world, place) {
-        Some(node) => !node.formed() || has_left(alloc, node, name, &[], value),
-        None => true,
-    }
-}
-
-// The value of a group in the table of a node.
-fn read(alloc: Global, value: &mut Value, node: &State, name: &Term) -> Result<(), WorldFault> {
-    match node.table().list(alloc, name, Scope::All) {
-        Ok(pids) => {
-            let told = value.take(node.table().has(name), pids.as_slice());
-            drop(pids);
-            told
-        }
-        Err(_) => Err(WorldFault::OutOfMemory),
-    }
-}
-
-// The formed nodes have the same members as the first of them.
-fn check_agreed(
-    rt: &impl Abort,
-    alloc: Global,
-    world: &World<IndexTable>,
-    nodes: usize,
-    group: i64,
-    name: &Term,
-) {
-    if let Some(first) = first_formed(world, nodes) {
-        let mut value = Value::absent(alloc);
-        let told = read(alloc, &mut value, first, name);
-        holds_of(rt, told.is_ok(), "the first table is read", group, 0);
-        for place in 0..nodes {
-            let agrees = agrees(alloc, world, place, name, &value);
-            holds_of(rt, agrees, "the tables agree", group, place);
-        }
-        drop(value);
-    }
-}
-
-// One group at each node.
-fn check_nodes(
-    rt: &impl Abort,
-    alloc: Global,
-    config: &Config,
-    world: &World<IndexTable>,
-    processes: &[Known],
-    group: i64,
-    name: &Term,
-) {
-    for place in 0..config.starts.len() {
-        let has_applied = has_applied(world, place, name);
-        holds_of(rt, has_applied, "all is applied but the last", group, place);
-        let is_right = is_table_right(alloc, config, world, processes, place, name);
-        holds_of(rt, is_right, "the table is right", group, place);
-    }
-}
-
-// Every node has applied all.
-fn check_free(rt: &impl Abort, world: &World<IndexTable>, nodes: usize, group: i64, name: &Term) {
-    for place in 0..nodes {
-        let has_applied = has_applied_all(world, place, name);
-        holds_of(rt, has_applied, "all is applied", group, place);
-    }
-}
-
-fn check_group(
-    rt: &impl Abort,
-    alloc: Global,
-    config: &Config,
-    world: &World<IndexTable>,
-    processes: &[Known],
-    group: i64,
-    name: &Term,
-) {
-    let nodes = config.starts.len();
-    check_nodes(rt, alloc, config, world, processes, group, name);
-    if some_free(world, nodes, name) {
-        check_free(rt, world, nodes, group, name);
-        if none_pending(world, nodes, processes) {
-            check_agreed(rt, alloc, world, nodes, group, name);
+    // Whether the table of a node is as it should be: while one is not formed there is no update.
+    fn is_table_right(&self, place: usize, name: &Term) -> bool {
+        match self.formed_at(place) {
+            Some(node) => self.is_right(node, name, Wanted::Applied(place)),
+            None => len_of(self.world.history(name)) == 0,
         }
     }
-}
 
-/// What the headline says of each group and node of a world, where tests speak of these processes.
-pub fn check_headline(
-    rt: &impl Abort,
-    alloc: Global,
-    config: &Config,
-    world: &World<IndexTable>,
-    processes: &[Known],
-) {
-    for group in GROUPS {
-        let name = group_name(group);
-        check_group(rt, alloc, config, world, processes, group, &name);
-        drop(name);
+    // Whether a node, if it is formed, has the members that the first one has.
+    fn agrees(&self, place: usize, name: &Term) -> bool {
+        match (self.formed_at(place), self.first_formed()) {
+            (Some(node), Some(first)) => self.is_right(node, name, Wanted::Of(first)),
+            _ => true,
+        }
+    }
+
+    // Whether one node sees the lock of a group free.
+    fn is_free(&self, name: &Term) -> bool {
+        for place in 0..self.starts.len() {
+            if let Some(node) = state_of(self.world, place) {
+                if node.holder(name).is_none() {
+                    return true;
+                }
+            }
+        }
+        false
+    }
+
+    // Whether a process has ended at its home, and not everywhere.
+    fn is_pending(&self, pid: &Pid) -> bool {
+        let mut has_ended = false;
+        let mut is_alive = false;
+        for place in 0..self.starts.len() {
+            if let Some(node) = state_of(self.world, place) {
+                let ended = node.ended(pid);
+                has_ended = has_ended || ended && *node.own() == pid.node;
+                is_alive = is_alive || !ended;
+            }
+        }
+        has_ended && is_alive
+    }
+
+    // Whether no end is pending.
+    fn none_pending(&self) -> bool {
+        for pid in self.pids {
+            if self.is_pending(pid) {
+                return false;
+            }
+        }
+        true
+    }
+
+    // What does not hold of a group at a node, if something does not. `is_free`: one node sees its lock free; `is_calm`: beside that, no
+    // end is pending.
+    fn fault(
+        &self,
+        place: usize,
+        name: &Term,
+        is_free: bool,
+        is_calm: bool,
+    ) -> Option<&'static str> {
+        let missing = self.missing(place, name);
+        if missing != Some(0) && missing != Some(1) {
+            return Some("all is applied but the last");
+        }
+        if is_free && missing != Some(0) {
+            return Some("all is applied");
+        }
+        if !self.is_table_right(place, name) {
+            return Some("the table is right");
+        }
+        if is_calm && !self.agrees(place, name) {
+            return Some("the tables agree");
+        }
+        None
+    }
+
+    // What the headline says of a group.
+    fn check_group(&self, rt: &impl Abort, group: i64, name: &Term) {
+        let is_free = self.is_free(name);
+        let is_calm = is_free && self.none_pending();
+        for place in 0..self.starts.len() {
+            if let Some(said) = self.fault(place, name, is_free, is_calm) {
+                panic!(rt; "{said}: group {group} at node {place}");
+            }
+        }
+    }
+
+    /// What the headline says of each group and node.
+    pub fn check_headline(&self, rt: &impl Abort) {
+        for group in GROUPS {
+            let name = Term::Int(group);
+            self.check_group(rt, group, &name);
+            drop(name);
+        }
     }
 }

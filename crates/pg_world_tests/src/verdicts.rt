@@ -1,21 +1,20 @@
 //! How a test ends that finds another thing than it should.
 
-use pg_world::WorldFault;
 use std::process::Abort;
 
-/// Ends the test where something does not hold, and tells of it, and of its place: a node, a line or a row.
+/// Ends the test where something does not hold, and tells of it, and of its place: a node, a row or a step.
 pub fn holds(rt: &impl Abort, holds: bool, said: &str, place: usize) {
     assert!(rt; holds, "{said} {place}");
 }
 
-/// Ends the test where something does not hold of a group, at a node.
-pub fn holds_of(rt: &impl Abort, holds: bool, said: &str, group: i64, node: usize) {
-    assert!(rt; holds, "{said}: group {group} at node {node}");
+/// What is asked for, and asked for once more where memory was refused.
+macro_rules! asked_again {
+    ($asked:expr) => {
+        match $asked {
+            Some(told) => Some(told),
+            None => $asked,
+        }
+    };
 }
 
-/// Ends the test where there was a fault.
-pub fn passes(rt: &impl Abort, told: Result<(), WorldFault>) {
-    if let Err(fault) = told {
-        panic!(rt; "{fault:?}");
-    }
-}
+pub(crate) use asked_again;

@@ -1,5 +1,8 @@
-// Random lines: the reader tells one fault of a text, always.
-use crate::scripts::played::{fault_of, holds_at, is_same};
+//! Random lines: the reader tells one fault of a text, always.
+
+use super::fault_of;
+use crate::verdicts::holds;
+use pg_random::Random;
 use std::alloc::{AllocError, Global};
 use std::test::*;
 
@@ -38,70 +41,58 @@ const PARTS: [&str; 32] = [
     "é",
 ];
 
-// The next of a row of words.
-fn next_word(word: u64) -> u64 {
-    word.wrapping_mul(6364136223846793005)
-        .wrapping_add(1442695040888963407)
-}
-
-// Up to seven parts, by the bits of a word.
-fn random_line(alloc: Global, word: u64) -> Result<String, AllocError> {
-    let mut line = String::from_str(alloc, "node a\n")?;
-    let count = (word >> 60) as usize % 8;
-    for at in 0..count {
+// Puts up to seven parts behind one another.
+fn put_line(line: &mut String, random: &mut Random) -> Result<(), AllocError> {
+    line.push_str("node a\n")?;
+    for at in 0..random.below(8) {
         if at > 0 {
             line.push(' ')?;
         }
-        let choice = (word >> (5 * at)) as usize % 32;
-        line.push_str(PARTS[choice])?;
+        line.push_str(random.pick(&PARTS).unwrap_or(&""))?;
     }
-    Ok(line)
+    Ok(())
 }
 
-// What the reader tells of a text.
+/// What the reader tells of texts.
 #[derive(Clone, Copy)]
 enum Verdict {
     Read,
     Fault,
-    /// Another fault, where it is read again.
+    /// Another fault where a text is read again, or no memory.
     Unlike,
 }
 
 fn told_of(alloc: Global, text: &str) -> Verdict {
     let first = fault_of(alloc, text);
-    if !is_same(first, fault_of(alloc, text)) {
-        return Verdict::Unlike;
-    }
     match first {
+        _ if first != fault_of(alloc, text) => Verdict::Unlike,
         Some(_) => Verdict::Fault,
         None => Verdict::Read,
     }
 }
 
-// What it tells of the line of a word; none where there is no memory for it.
-fn told(alloc: Global, word: u64) -> Option<Verdict> {
-    match random_line(alloc, word) {
-        Ok(line) => {
-            let told = told_of(alloc, line.as_str());
-            drop(line);
-            Some(told)
-        }
-        Err(AllocError) => None,
-    }
+// What it tells of a line by chance.
+fn told(alloc: Global, random: &mut Random) -> Verdict {
+    let mut line = String::new(alloc);
+    let told = match put_line(&mut line, random) {
+        Ok(()) => told_of(alloc, line.as_str()),
+        Err(AllocError) => Verdict::Unlike,
+    };
+    drop(line);
+    told
 }
 
 #[test]
 fn random_lines(rt: HostRuntime) {
-    let mut word = 20261124u64;
-    let mut good: usize = 0;
-    for at in 0..10000 {
-        word = next_word(word);
-        match told(rt.alloc(), word) {
-            Some(Verdict::Read) => good = good.saturating_add(1),
-            Some(Verdict::Fault) => {}
-            Some(Verdict::Unlike) | None => holds_at(&rt, false, "line", at),
+    let mut random = Random::new(20_261_124);
+    let mut good = 0usize;
+    for at in 0..10_000 {
+        match told(rt.alloc(), &mut random) {
+            Verdict::Read => good = good.saturating_add(1),
+            Verdict::Fault => {}
+            Verdict::Unlike => holds(&rt, false, "line", at),
         }
     }
     // Some of them have a form.
-    holds_at(&rt, good > 100, "lines with a form:", good);
+    holds(&rt, good > 100, "lines with a form:", good);
 }

@@ -1,25 +1,32 @@
 //! The updates that are answered stand in the history, each once.
 
-use super::history::History;
-use crate::cast::{GROUPS, group_name, process_of};
-use crate::ops::Op;
-use crate::played::state_of;
-use crate::said::is_group;
-use crate::verdicts::{holds, holds_of};
+use super::{GROUPS, History, entry_at, len_of};
+use crate::schedules::state_of;
+use crate::verdicts::holds;
 use pg_group::Update;
 use pg_index::IndexTable;
-use pg_step::{Answer, Reply};
-use pg_world::{Entry, World};
+use pg_step::{Answer, Command, Reply};
+use pg_term::Term;
+use pg_world::{Entry, FrameStep, Step, World};
 use std::process::Abort;
 
-// The command of this number of a node, if these lines ask for as many.
-fn op_of(ops: &[Op], node: usize, number: u32) -> Option<Op> {
+// The command of this number of a node, if these steps ask for as many.
+fn command_of(steps: &[Step], place: usize, number: u32) -> Option<&Command> {
     let mut count = 0u32;
-    for op in ops {
-        if op.asked() == Some(node) {
-            count = count.saturating_add(1);
-            if count == number {
-                return Some(*op);
+    for step in steps {
+        if let Step::Event(
+            FrameStep::Command {
+                node,
+                port: _,
+                command,
+            },
+        ) = step
+        {
+            if *node == place {
+                count = count.saturating_add(1);
+                if count == number {
+                    return Some(command);
+                }
             }
         }
     }
@@ -27,131 +34,106 @@ fn op_of(ops: &[Op], node: usize, number: u32) -> Option<Op> {
 }
 
 // Whether an update is the change that was asked for.
-fn is_update(op: Op, update: &Update) -> bool {
-    match (op, update) {
-        (Op::Create(_, group), Update::Create(name)) => is_group(name, group),
-        (Op::Delete(_, group), Update::Delete(name)) => is_group(name, group),
-        (Op::Join(_, group, process), Update::Join(name, pid)) => {
-            is_group(name, group) && process_of(pid) == process
-        }
-        (Op::Leave(_, group, process), Update::Leave(name, pid)) => {
-            is_group(name, group) && process_of(pid) == process
+fn is_update(command: &Command, update: &Update) -> bool {
+    match (command, update) {
+        (Command::Create(name), Update::Create(group)) => name == group,
+        (Command::Delete(name), Update::Delete(group)) => name == group,
+        (Command::Join(name, pid), Update::Join(group, process)) => name == group && pid == process,
+        (Command::Leave(name, pid), Update::Leave(group, process)) => {
+            name == group && pid == process
         }
         _ => false,
     }
 }
 
-fn is_of(entry: &Entry, node: usize, number: u32) -> bool {
-    entry.node == node && entry.op.number == number
-}
-
 // How many entries are of the command of this number of a node.
 fn times(history: History<'_>, node: usize, number: u32) -> usize {
     let mut times = 0usize;
-    for entry in history.0 {
-        if is_of(entry, node, number) {
-            times = times.saturating_add(1);
+    for place in 0..len_of(history) {
+        if let Some(entry) = entry_at(history, place) {
+            if entry.node == node && entry.op.number == number {
+                times = times.saturating_add(1);
+            }
         }
     }
-    match history.1 {
-        Some(entry) if is_of(entry, node, number) => times.saturating_add(1),
-        _ => times,
-    }
+    times
 }
 
 // Whether an entry is the change that its command asked for, and stands once.
-fn is_asked_once(ops: &[Op], history: History<'_>, entry: &Entry) -> bool {
-    match op_of(ops, entry.node, entry.op.number) {
-        Some(op) => {
-            is_update(op, &entry.update) && times(history, entry.node, entry.op.number) == 1
+fn is_asked_once(steps: &[Step], history: History<'_>, entry: &Entry) -> bool {
+    match command_of(steps, entry.node, entry.op.number) {
+        Some(command) => {
+            is_update(command, &entry.update) && times(history, entry.node, entry.op.number) == 1
         }
         None => false,
     }
 }
 
-fn check_entries(rt: &impl Abort, ops: &[Op], history: History<'_>, group: i64) {
-    for entry in history.0 {
-        let is_asked = is_asked_once(ops, history, entry);
-        holds_of(
-            rt,
-            is_asked,
-            "an entry was asked for, once",
-            group,
-            entry.node,
-        );
+// Whether each entry of a group was asked for, once.
+fn are_asked_once(steps: &[Step], history: History<'_>) -> bool {
+    for place in 0..len_of(history) {
+        if let Some(entry) = entry_at(history, place) {
+            if !is_asked_once(steps, history, entry) {
+                return false;
+            }
+        }
     }
-    if let Some(entry) = history.1 {
-        let is_asked = is_asked_once(ops, history, entry);
-        holds_of(
-            rt,
-            is_asked,
-            "the last entry was asked for, once",
-            group,
-            entry.node,
-        );
-    }
+    true
 }
 
-// The entries of each group.
-fn check_groups(rt: &impl Abort, world: &World<IndexTable>, ops: &[Op]) {
-    for group in GROUPS {
-        let name = group_name(group);
-        check_entries(rt, ops, world.history(&name), group);
-        drop(name);
-    }
-}
-
-// How many entries of a group are of the command of this number of a node.
-fn times_in(world: &World<IndexTable>, group: i64, node: usize, number: u32) -> usize {
-    let name = group_name(group);
-    let times = times(world.history(&name), node, number);
-    drop(name);
-    times
-}
-
-// The group whose history holds a command of this form that is answered ok: always behind its lock.
-fn locked_group(op: Op) -> Option<i64> {
-    match op {
-        Op::Delete(_, group) => Some(group),
-        Op::Join(_, group, _) => Some(group),
-        Op::Leave(_, group, _) => Some(group),
+// The group whose history holds a command that is answered ok: always behind its lock.
+fn locked_group(command: &Command) -> Option<&Term> {
+    match command {
+        Command::Delete(name) | Command::Join(name, _) | Command::Leave(name, _) => Some(name),
         _ => None,
     }
 }
 
-// Whether what was answered ok stands in the history, where that is always behind its lock.
-fn stands(world: &World<IndexTable>, op: Op, node: usize, number: u32) -> bool {
-    match locked_group(op) {
-        Some(group) => times_in(world, group, node, number) == 1,
-        None => true,
+// Whether a change that is answered ok stands in the history, if it is always behind its lock, and the answer is to a command.
+fn is_answer_right(
+    world: &World<IndexTable>,
+    steps: &[Step],
+    node: usize,
+    answer: &Answer,
+) -> bool {
+    let Some(command) = command_of(steps, node, answer.number) else {
+        return false;
+    };
+    match (locked_group(command), &answer.reply) {
+        (Some(name), Reply::Ok) => times(world.history(name), node, answer.number) == 1,
+        _ => true,
     }
 }
 
-// Whether a change that is answered ok stands in the history, and each answer is to a command.
-fn is_answer_right(world: &World<IndexTable>, ops: &[Op], node: usize, answer: &Answer) -> bool {
-    match (op_of(ops, node, answer.number), &answer.reply) {
-        (Some(op), Reply::Ok) => stands(world, op, node, answer.number),
-        (Some(_), _) => true,
-        (None, _) => false,
-    }
-}
-
-// The answers of a node.
-fn check_answers(rt: &impl Abort, world: &World<IndexTable>, ops: &[Op], node: usize) {
-    if let Some(state) = state_of(world, node) {
-        if state.port_count() == 1 {
-            for answer in state.answers(0) {
-                let is_right = is_answer_right(world, ops, node, answer);
-                holds(rt, is_right, "what was answered stands, at node", node);
+// Whether the answers of a node are right.
+fn are_answers_right(world: &World<IndexTable>, steps: &[Step], place: usize) -> bool {
+    if let Some(node) = state_of(world, place) {
+        if node.port_count() == 1 {
+            for answer in node.answers(0) {
+                if !is_answer_right(world, steps, place, answer) {
+                    return false;
+                }
             }
         }
     }
+    true
 }
 
-/// What the history of each group holds, by what these lines asked of so many nodes, and by what is answered there.
-pub fn check_answered(rt: &impl Abort, world: &World<IndexTable>, nodes: usize, ops: &[Op]) {
-    check_groups(rt, world, ops);
-    for node in 0..nodes {
-        check_answers(rt, world, ops, node);
+/// What the history of each group holds, by what these steps asked of so many nodes, and by what is answered there.
+pub fn check_answered(rt: &impl Abort, world: &World<IndexTable>, nodes: usize, steps: &[Step]) {
+    for group in GROUPS {
+        let name = Term::Int(group);
+        let are_asked_once = are_asked_once(steps, world.history(&name));
+        drop(name);
+        holds(
+            rt,
+            are_asked_once,
+            "entries were asked for, once, of group",
+            group as usize,
+        );
+    }
+    for place in 0..nodes {
+        let is_right = are_answers_right(world, steps, place);
+        holds(rt, is_right, "what was answered stands, at node", place);
     }
 }

@@ -1,5 +1,5 @@
 use Rattle.pg_node_tests.proofs.Started.{two_apart, none_few}
-use Rattle.pg_node_tests.proofs.bytes.linked_node.Goals as goal
+use Rattle.pg_node_tests.proofs.links.linked_node.Goals as goal
 
 pub new-requires-clause-apart : goal.new-requires-clause-apart
 new-requires-clause-apart c = two_apart c.args.own c.args.peer _ c.in_ok-peers.ensures c.requires
