@@ -1,5 +1,5 @@
 -- Single turns of the machine once more, word for word but for the tests over all nodes, which are written out.
--- Tried.antt proves of each what the laws need of the turn itself, and each edit of must-fail/ makes one of them a wrong
+-- Tried.antt proves of each what the laws need of the turn itself, and each edit of edits/ makes one of them a wrong
 -- turn, of which that cannot be proved.
 use Rattle.std.proofs.Common.{ℕ, ◌+◌, Bool, true, ◌&&◌, cond, nat_eq, List, [], ◌∷◌, Some, None}
 use Rattle.std.specs.Prelude.{max}

@@ -1,4 +1,4 @@
--- Steps of losses once more, and why a command is refused, word for word, each to be made wrong by an edit of must-fail/. What the laws
+-- Steps of losses once more, and why a command is refused, word for word, each to be made wrong by an edit of edits/. What the laws
 -- need of them is proved in `Tried`.
 use Rattle.std.specs.Prelude.{true, cond, [], ◌∷◌, Option, None, Result, Err, option_map}
 use Rattle.pg_term.specs.Same.{same_atom}
