@@ -1,10 +1,10 @@
 //! Nodes over bytes: what moves between two of them, and what damages a link.
 
-use crate::links::{Pair, two_alone, two_of_three};
+use crate::links::{Pair, link_to, take, two_alone, two_of_three};
 use crate::nodes::{Sight, sees};
 use crate::texts::{body_of, command_of, has_answered};
 use crate::verdicts::holds;
-use std::alloc::{AllocError, Global};
+use std::alloc::Global;
 use std::process::Abort;
 
 /// A row of a table. Places of peers are those of the first node.
@@ -20,7 +20,7 @@ enum Part<'a> {
     Told,
     /// The first node takes a packet of a peer: refused by this fault, or by none.
     Take(usize, Option<u8>),
-    /// The bytes of a packet come to the first node from a peer; `@` stands in it for the number of the last call of that node.
+    /// The bytes of a packet come to the first node from a peer: refused by this fault, or by none.
     Heard(usize, &'a str, Option<u8>),
     /// Whether the link of the first node to a peer is damaged.
     Damaged(usize, bool),
@@ -28,12 +28,12 @@ enum Part<'a> {
     Create,
     /// The first node has answered so at last.
     Answered(&'a str),
-    /// Bytes of the first node go out to a peer.
-    GoesOut(usize),
-    /// What goes out of the first node is offered, not put, and stays.
-    Stays,
-    /// No byte waits, and the first node has put so often.
-    Done(u32),
+    /// Bytes of the first node go out to its first peer.
+    GoesOut,
+    /// So many bytes wait at the first node, or at the second, to go to its first peer.
+    Waits(bool, usize),
+    /// The first node has put so often.
+    Puts(u32),
     /// What is seen at the first node, or at the second.
     Seen(bool, Sight<'a>),
 }
@@ -41,38 +41,37 @@ enum Part<'a> {
 /// Bytes that are looked at, and the number of their fault.
 type Case<'a> = (u8, &'a [u8]);
 
-fn put_frame(frame: &mut Vec<u8>, body: &[u8]) -> Result<(), AllocError> {
-    let len = u32::try_from(body.len()).unwrap_or(0);
-    frame.extend_from_slice(&len.to_be_bytes())?;
-    frame.extend_from_slice(body)
-}
-
-// The fault by which the frame of this body is refused, if it is.
-fn feed_body(alloc: Global, pair: &mut Pair, peer: usize, body: &[u8]) -> Option<u8> {
-    let mut frame = Vec::new(alloc);
-    let fault = match put_frame(&mut frame, body) {
-        Ok(()) => pair.feed(alloc, peer, frame.as_slice()),
-        Err(AllocError) => Some(10),
-    };
-    drop(frame);
-    fault
-}
-
+// The number of the fault by which the frame of a packet is refused, if it is.
 fn feed_packet(alloc: Global, pair: &mut Pair, peer: usize, text: &str) -> Option<u8> {
-    match body_of(alloc, text, pair.call) {
+    match body_of(alloc, text) {
         Some(body) => {
-            let fault = feed_body(alloc, pair, peer, body.as_slice());
+            let len = u32::try_from(body.len()).unwrap_or(0);
+            let head = pair.feed(peer, &len.to_be_bytes());
+            let fault = pair.feed(peer, body.as_slice());
             drop(body);
-            fault
+            head.or(fault)
         }
         None => Some(10),
     }
 }
 
-fn move_often(pair: &mut Pair, is_there: bool, max: usize, times: u32) -> bool {
+fn gives(alloc: Global, pair: &mut Pair, line: &str) -> bool {
+    match command_of(alloc, line) {
+        Some(command) => {
+            let is_given = pair.is_given(&command);
+            drop(command);
+            is_given
+        }
+        None => false,
+    }
+}
+
+fn moves_often(pair: &mut Pair, ways: &[bool], max: usize, times: u32) -> bool {
     for _ in 0..times {
-        if !pair.moves(is_there, max) {
-            return false;
+        for is_there in ways {
+            if !pair.moves(*is_there, max) {
+                return false;
+            }
         }
     }
     true
@@ -81,40 +80,36 @@ fn move_often(pair: &mut Pair, is_there: bool, max: usize, times: u32) -> bool {
 // Whether a row holds.
 fn is_part(alloc: Global, pair: &mut Pair, part: &Part<'_>, case: Case<'_>) -> bool {
     match part {
-        Part::Settle(rounds) => pair.settles(*rounds),
-        Part::Moves(is_there, max, times) => move_often(pair, *is_there, *max, *times),
-        Part::Fed(fault) => pair.feed(alloc, 0, case.1) == *fault,
-        Part::Told => pair.take(0) == Some(case.0),
-        Part::Take(peer, fault) => pair.take(*peer) == *fault,
+        Part::Settle(rounds) => moves_often(pair, &[true, false], 7, *rounds),
+        Part::Moves(is_there, max, times) => moves_often(pair, &[*is_there], *max, *times),
+        Part::Fed(fault) => pair.feed(0, case.1) == *fault,
+        Part::Told => take(&mut pair.one, 0) == Some(case.0),
+        Part::Take(peer, fault) => take(&mut pair.one, *peer) == *fault,
         Part::Heard(peer, text, fault) => feed_packet(alloc, pair, *peer, text) == *fault,
-        Part::Damaged(peer, is) => pair.is_damaged(*peer) == *is,
-        Part::Create => pair.is_given(command_of(alloc, "create a 7")),
-        Part::Answered(line) => has_answered(alloc, pair.node(true).state(), line) == Some(true),
-        Part::GoesOut(peer) => pair.goes_out(alloc, *peer),
-        Part::Stays => pair.stays(),
-        Part::Done(puts) => pair.is_done(*puts),
+        Part::Damaged(peer, is) => link_to(&pair.one, *peer).1 == *is,
+        Part::Create => gives(alloc, pair, "create a 7"),
+        Part::Answered(line) => has_answered(alloc, pair.one.state(), line),
+        Part::GoesOut => pair.goes_out(),
+        Part::Waits(is_first, len) => link_to(pair.node(*is_first), 0).0 == *len,
+        Part::Puts(puts) => pair.puts() == *puts,
         Part::Seen(is_first, sight) => sees(alloc, pair.node(*is_first).state(), *sight),
     }
 }
 
-// Each row of the table holds, one after another.
-fn play(rt: &impl Abort, alloc: Global, made: Option<Pair>, parts: &[Part<'_>], case: Case<'_>) {
-    match made {
-        Some(mut pair) => {
-            for (place, part) in parts.iter().enumerate() {
-                holds(rt, is_part(alloc, &mut pair, part, case), "row", place);
-            }
-            drop(pair);
-        }
-        None => holds(rt, false, "nodes are made for the fault", case.0 as usize),
+// Each row of a table holds, one after another.
+fn play(rt: &impl Abort, alloc: Global, pair: Pair, parts: &[Part<'_>], case: Case<'_>) {
+    let mut pair = pair;
+    for (place, part) in parts.iter().enumerate() {
+        holds(rt, is_part(alloc, &mut pair, part, case), place);
     }
+    drop(pair);
 }
 
-const NO_CASE: Case<'static> = (0, &[]);
+static NO_CASE: Case<'static> = (0, &[]);
 
 // Both are formed once all has come that they tell each other, and not before; and both agree on a group once one of them was told to
 // create it, and neither has its lock then. Nothing of them waits.
-const AGREE: &[Part<'static>] = &[
+static AGREE: &[Part<'static>] = &[
     Part::Seen(true, Sight::Formed(false)),
     Part::Seen(false, Sight::Formed(false)),
     Part::Settle(60),
@@ -129,22 +124,19 @@ const AGREE: &[Part<'static>] = &[
     Part::Seen(false, Sight::Group(true)),
     Part::Seen(true, Sight::Locked(false)),
     Part::Seen(false, Sight::Locked(false)),
-    Part::Done(120),
+    Part::Waits(true, 0),
+    Part::Waits(false, 0),
+    Part::Puts(120),
 ];
 
 #[test]
 fn two_nodes_agree(rt: HostRuntime) {
-    play(&rt, rt.alloc(), two_alone(rt.alloc(), 0), AGREE, NO_CASE);
-}
-
-// The same over links of which one put moves nothing: what they do not take goes out later, and nothing is lost.
-#[test]
-fn each_put_skipped_once(rt: HostRuntime) {
-    for skipped in 1..=120u32 {
+    // By each number but 0 one put moves nothing: what it does not take goes out later, and nothing is lost.
+    for skipped in 0..=120u32 {
         play(
             &rt,
             rt.alloc(),
-            two_alone(rt.alloc(), skipped),
+            two_alone(&rt, rt.alloc(), skipped),
             AGREE,
             NO_CASE,
         );
@@ -152,20 +144,29 @@ fn each_put_skipped_once(rt: HostRuntime) {
 }
 
 // What a link does not take stays in the outbox, and goes out later.
-const FULL: &[Part<'static>] = &[
-    Part::Stays,
+static FULL: &[Part<'static>] = &[
+    Part::Waits(true, 33),
+    Part::Moves(true, 64, 1),
+    Part::Waits(true, 33),
+    Part::Puts(1),
     Part::Settle(200),
-    Part::Done(201),
+    Part::Waits(true, 0),
     Part::Seen(false, Sight::Formed(true)),
 ];
 
 #[test]
 fn full_link_takes_nothing(rt: HostRuntime) {
-    play(&rt, rt.alloc(), two_alone(rt.alloc(), 1), FULL, NO_CASE);
+    play(
+        &rt,
+        rt.alloc(),
+        two_alone(&rt, rt.alloc(), 1),
+        FULL,
+        NO_CASE,
+    );
 }
 
 // A fault of what comes in is told once, and damages the link for good; the other way goes on.
-const ONE_WAY: &[Part<'static>] = &[
+static ONE_WAY: &[Part<'static>] = &[
     Part::Fed(None),
     Part::Told,
     Part::Take(0, Some(14)),
@@ -175,15 +176,8 @@ const ONE_WAY: &[Part<'static>] = &[
     Part::Seen(true, Sight::Formed(false)),
 ];
 
-#[test]
-fn faults_damage_one_way(rt: HostRuntime) {
-    for case in &FAULTS {
-        play(&rt, rt.alloc(), two_alone(rt.alloc(), 0), ONE_WAY, *case);
-    }
-}
-
 // A fault of what comes from one peer damages its link alone: what goes out to it goes out, and the other peer hears and is heard.
-const ONE_LINK: &[Part<'static>] = &[
+static ONE_LINK: &[Part<'static>] = &[
     Part::Fed(None),
     Part::Damaged(0, false),
     Part::Told,
@@ -191,7 +185,7 @@ const ONE_LINK: &[Part<'static>] = &[
     Part::Take(0, Some(14)),
     Part::Fed(Some(14)),
     Part::Take(0, Some(14)),
-    Part::GoesOut(0),
+    Part::GoesOut,
     Part::Moves(false, 64, 1),
     Part::Moves(true, 64, 1),
     Part::Damaged(1, false),
@@ -200,7 +194,7 @@ const ONE_LINK: &[Part<'static>] = &[
 ];
 
 /// Frames, and the number of the first fault of each.
-static FAULTS: [Case<'static>; 12] = [
+static FAULTS: &[Case<'static>] = &[
     // The body ends within its term.
     (1, &[0, 0, 0, 2, 131, 97]),
     // Its first byte is not 131.
@@ -246,15 +240,28 @@ static FAULTS: [Case<'static>; 12] = [
 
 #[test]
 fn each_fault_damages_its_link(rt: HostRuntime) {
-    for case in &FAULTS {
-        play(&rt, rt.alloc(), two_of_three(rt.alloc()), ONE_LINK, *case);
+    for case in FAULTS {
+        play(
+            &rt,
+            rt.alloc(),
+            two_alone(&rt, rt.alloc(), 0),
+            ONE_WAY,
+            *case,
+        );
+        play(
+            &rt,
+            rt.alloc(),
+            two_of_three(&rt, rt.alloc()),
+            ONE_LINK,
+            *case,
+        );
     }
 }
 
 const EXCHANGE: &str = "{0,{cast,{exchange,b,[]}}}";
 
 // `b` tells twice that it has no group: that is taken once, and then refused.
-const TOLD_TWICE: &[Part<'static>] = &[
+static TOLD_TWICE: &[Part<'static>] = &[
     Part::Heard(0, EXCHANGE, None),
     Part::Take(0, None),
     Part::Heard(0, EXCHANGE, None),
@@ -269,24 +276,13 @@ const TOLD_TWICE: &[Part<'static>] = &[
     Part::Seen(true, Sight::Formed(true)),
 ];
 
-#[test]
-fn second_exchange_damages_its_link(rt: HostRuntime) {
-    play(
-        &rt,
-        rt.alloc(),
-        two_of_three(rt.alloc()),
-        &TOLD_TWICE,
-        NO_CASE,
-    );
-}
-
-const APPLIED: &str = "{0,{reply,#<a/1.@.0.0>,ok}}";
+const APPLIED: &str = "{0,{reply,#<a/1.1.0.0>,ok}}";
 
 // The greatest, `c`, is played here as well. It grants the lock, and then `b` is asked, which answers by `ok`: that answers an update
 // alone. The lock stays asked for.
-const WRONG_KIND: &[Part<'static>] = &[
+static WRONG_KIND: &[Part<'static>] = &[
     Part::Create,
-    Part::Heard(1, "{0,{reply,#<a/1.@.0.0>,true}}", None),
+    Part::Heard(1, "{0,{reply,#<a/1.1.0.0>,true}}", None),
     Part::Take(1, None),
     Part::Heard(0, APPLIED, None),
     Part::Damaged(0, false),
@@ -300,12 +296,14 @@ const WRONG_KIND: &[Part<'static>] = &[
 ];
 
 #[test]
-fn wrong_kind_damages_its_link(rt: HostRuntime) {
-    play(
-        &rt,
-        rt.alloc(),
-        two_of_three(rt.alloc()),
-        &WRONG_KIND,
-        NO_CASE,
-    );
+fn unwelcome_packets_damage_their_link(rt: HostRuntime) {
+    for parts in [TOLD_TWICE, WRONG_KIND] {
+        play(
+            &rt,
+            rt.alloc(),
+            two_of_three(&rt, rt.alloc()),
+            parts,
+            NO_CASE,
+        );
+    }
 }

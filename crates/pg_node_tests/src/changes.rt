@@ -1,168 +1,222 @@
 //! Commands of a node and the replies of its peers, where the test plays the peers. A line of a command stands for what the node is told.
 
-use crate::nodes::{Kind, Sight};
-use crate::rows::{Deed, Row, check};
+use crate::nodes::{Kind, Sight, Who};
+use crate::rows::{Deed, Row, Table, check};
 use crate::told::Event;
 use pg_step::{Odd, Refusal};
 
 // A node that has no peer carries its commands out at once.
-const LONE: &[Row<'static>] = &[
-    Row::Seen(Sight::Formed(true)),
-    Row::Told(Event::Command("create a 7")),
-    Row::Did(Deed::Sends(0)),
-    Row::Did(Deed::Began(true)),
-    Row::Answered("a 1 ok"),
-    Row::Seen(Sight::Group(true)),
-    Row::Seen(Sight::Open(0)),
-    Row::Seen(Sight::Locked(false)),
-    Row::Asked("delete a 7", "a 2 ok"),
-    Row::Seen(Sight::Group(false)),
-    Row::Seen(Sight::Clock(2)),
-    // A look answers a create of a group that is there, and a leave of one that is not.
-    Row::Asked("leave a 7 <a.1.0>", "a 3 {error,{no_such_group,7}}"),
-    Row::Told(Event::Command("create a 7")),
-    Row::Told(Event::Command("create a 7")),
-    Row::Did(Deed::Began(false)),
-    Row::Answered("a 5 ok"),
-    // It lists its process until that ends.
-    Row::Asked("make a", "a 6 <a.1.0>"),
-    Row::Asked("join a 7 <a.1.0>", "a 7 ok"),
-    Row::Asked("members a 7", "a 8 [<a.1.0>]"),
-    Row::Asked("end a <a.1.0>", "a 9 ok"),
-    Row::Asked("closest a 7 4", "a 10 {error,{no_process,7}}"),
-    Row::Asked("end a <a.1.0>", "a 11 refused 27"),
-];
+static LONE: Table<'static> = Table {
+    kind: Kind::Lone,
+    rows: &[
+        Row::Seen(Sight::Formed(true)),
+        Row::Told(Event::Command("create a 7")),
+        Row::Did(Deed::Sends(0)),
+        Row::Did(Deed::Began(true)),
+        Row::Answered("a 1 ok"),
+        Row::Seen(Sight::Group(true)),
+        Row::Seen(Sight::Open(0)),
+        Row::Seen(Sight::Locked(false)),
+        Row::Asked("delete a 7", "a 2 ok"),
+        Row::Seen(Sight::Group(false)),
+        Row::Seen(Sight::Clock(2)),
+        // A look answers a create of a group that is there, and a leave of one that is not.
+        Row::Asked("leave a 7 <a.1.0>", "a 3 {error,{no_such_group,7}}"),
+        Row::Told(Event::Command("create a 7")),
+        Row::Told(Event::Command("create a 7")),
+        Row::Did(Deed::Began(false)),
+        Row::Answered("a 5 ok"),
+        // It lists its process until that ends.
+        Row::Asked("make a", "a 6 <a.1.0>"),
+        Row::Asked("join a 7 <a.1.0>", "a 7 ok"),
+        Row::Asked("members a 7", "a 8 [<a.1.0>]"),
+        Row::Asked("end a <a.1.0>", "a 9 ok"),
+        Row::Asked("closest a 7 4", "a 10 {error,{no_process,7}}"),
+        Row::Asked("end a <a.1.0>", "a 11 refused 27"),
+    ],
+};
 
 #[test]
 fn lone_node_answers_at_once(rt: HostRuntime) {
-    check(&rt, rt.alloc(), Kind::Lone, LONE);
+    check(&rt, rt.alloc(), &LONE);
 }
 
 // Nodes that were told the same are the same, until one answers another thing.
-const ALONE: &[Row<'static>] = &[
-    Row::Alone(true, "create a 7", false),
-    Row::Alone(false, "create a 7", true),
-    Row::Alone(true, "members a 7", false),
-    Row::Alone(false, "groups a", false),
-];
+static ALONE: Table<'static> = Table {
+    kind: Kind::Lone,
+    rows: &[
+        Row::Alone(true, "create a 7", false),
+        Row::Alone(false, "create a 7", true),
+        Row::Alone(true, "members a 7", false),
+        Row::Alone(false, "groups a", false),
+    ],
+};
 
 #[test]
 fn same_nodes(rt: HostRuntime) {
-    check(&rt, rt.alloc(), Kind::Lone, ALONE);
+    check(&rt, rt.alloc(), &ALONE);
 }
 
 // What the greatest denies waits for a retry, which asks it again under another reference.
-const DENIED: &[Row<'static>] = &[
-    // Nothing waits.
-    Row::Refused(Event::Retry(1), Refusal::NotWaiting),
-    Row::Told(Event::Command("delete a 7")),
-    // An answer is missing.
-    Row::Refused(Event::Retry(1), Refusal::NotWaiting),
-    Row::Told(Event::Take(1, "{3,{reply,#<a/1.@.0.0>,false}}")),
-    Row::Did(Deed::Sends(0)),
-    Row::Seen(Sight::Waiting(1)),
-    Row::Told(Event::Retry(1)),
-    Row::Did(Deed::SendsTo(1)),
-    Row::Did(Deed::CallsAnew),
-    Row::Seen(Sight::Waiting(0)),
-];
+static DENIED: Table<'static> = Table {
+    kind: Kind::Formed(Who::A),
+    rows: &[
+        // Nothing waits.
+        Row::Refused(Event::Retry(1), Refusal::NotWaiting),
+        Row::Told(Event::Command("delete a 7")),
+        // An answer is missing.
+        Row::Refused(Event::Retry(1), Refusal::NotWaiting),
+        Row::Told(Event::Take(1, "{3,{reply,#<a/1.1.0.0>,false}}")),
+        Row::Did(Deed::Sends(0)),
+        Row::Seen(Sight::Waiting(1)),
+        Row::Told(Event::Retry(1)),
+        Row::Did(Deed::SendsTo(1)),
+        Row::Did(Deed::CallsBut(1)),
+        Row::Seen(Sight::Waiting(0)),
+    ],
+};
 
 #[test]
 fn denied_lock_is_asked_again(rt: HostRuntime) {
-    check(&rt, rt.alloc(), Kind::Formed("a", "b", "c"), DENIED);
+    check(&rt, rt.alloc(), &DENIED);
 }
 
-const LIMIT: &[Row<'static>] = &[
-    Row::Asked("make a", "a 1 <a.32767.8191>"),
-    Row::Asked("make a", "a 2 refused 28"),
-    // Nothing was made: the next is refused too, and the last one can still end.
-    Row::Asked("make a", "a 3 refused 28"),
-    Row::Asked("end a <a.32767.8191>", "a 4 ok"),
-];
+static LIMIT: Table<'static> = Table {
+    kind: Kind::Last,
+    rows: &[
+        Row::Asked("make a", "a 1 <a.32767.8191>"),
+        Row::Asked("make a", "a 2 refused 28"),
+        // Nothing was made: the next is refused too, and the last one can still end.
+        Row::Asked("make a", "a 3 refused 28"),
+        Row::Asked("end a <a.32767.8191>", "a 4 ok"),
+    ],
+};
 
 #[test]
 fn process_limit(rt: HostRuntime) {
-    check(&rt, rt.alloc(), Kind::Last, LIMIT);
+    check(&rt, rt.alloc(), &LIMIT);
 }
 
 // A process of `a` is in the group at `b`, which lists it until it is told that it has ended. A late join is answered, and adds nothing.
-const IS_LISTED: &[Row<'static>] = &[
-    Row::Told(Event::Take(0, "{1,{call,#<a/1.1.0.0>,{create,7}}}")),
-    Row::Did(Deed::Sends(1)),
-    Row::Told(Event::Take(0, "{2,{call,#<a/1.2.0.0>,{join,7,<a.1.0>}}}")),
-    Row::Did(Deed::Sends(1)),
-    Row::Asked("members b 7", "b 1 [<a.1.0>]"),
-    Row::Told(Event::Take(0, "{4,{down,<a.1.0>}}")),
-    Row::Asked("members b 7", "b 2 []"),
-    Row::Told(Event::Take(0, "{9,{call,#<a/1.9.0.0>,{join,7,<a.1.0>}}}")),
-    Row::Did(Deed::Sends(1)),
-    Row::Asked("members b 7", "b 3 []"),
-];
+static IS_LISTED: Table<'static> = Table {
+    kind: Kind::Formed(Who::B),
+    rows: &[
+        Row::Told(Event::Take(0, "{1,{call,#<a/1.1.0.0>,{create,7}}}")),
+        Row::Did(Deed::Sends(1)),
+        Row::Told(Event::Take(0, "{2,{call,#<a/1.2.0.0>,{join,7,<a.1.0>}}}")),
+        Row::Did(Deed::Sends(1)),
+        Row::Asked("members b 7", "b 1 [<a.1.0>]"),
+        Row::Told(Event::Take(0, "{4,{down,<a.1.0>}}")),
+        Row::Asked("members b 7", "b 2 []"),
+        Row::Told(Event::Take(0, "{9,{call,#<a/1.9.0.0>,{join,7,<a.1.0>}}}")),
+        Row::Did(Deed::Sends(1)),
+        Row::Asked("members b 7", "b 3 []"),
+    ],
+};
 
 #[test]
 fn pending_end(rt: HostRuntime) {
-    check(&rt, rt.alloc(), Kind::Formed("b", "a", "c"), IS_LISTED);
+    check(&rt, rt.alloc(), &IS_LISTED);
 }
 
-// At a node that is not formed. A name of 512 zeros has 1,030 bytes.
-const COMMANDS: &[Row<'static>] = &[
-    Row::Told(Event::Long("create", 512)),
-    Row::Answered("a 1 refused 23"),
-    Row::Told(Event::Long("members", 512)),
-    Row::Answered("a 2 refused 23"),
-    Row::Asked("join a 7 <d.1.0>", "a 3 refused 24"),
-    Row::Asked("end a <b.1.0>", "a 4 refused 24"),
-    Row::Asked("end a <a.1.0>", "a 5 refused 25"),
-    Row::Seen(Sight::Open(0)),
-];
+// Lists of 63 pids, of 16 bytes each, and zeros, of 2: names of 1,030, 1,024 and 1,022 bytes, behind the byte of a version.
+const CREATE_WITH_8: &str =
+    "create a [<a.1.0>,<a.1.0>,<a.1.0>,<a.1.0>,<a.1.0>,<a.1.0>,<a.1.0>,<a.1.0>,<a.1.0>,<a.1.0>,\
+    <a.1.0>,<a.1.0>,<a.1.0>,<a.1.0>,<a.1.0>,<a.1.0>,<a.1.0>,<a.1.0>,<a.1.0>,<a.1.0>,<a.1.0>,\
+    <a.1.0>,<a.1.0>,<a.1.0>,<a.1.0>,<a.1.0>,<a.1.0>,<a.1.0>,<a.1.0>,<a.1.0>,<a.1.0>,<a.1.0>,\
+    <a.1.0>,<a.1.0>,<a.1.0>,<a.1.0>,<a.1.0>,<a.1.0>,<a.1.0>,<a.1.0>,<a.1.0>,<a.1.0>,<a.1.0>,\
+    <a.1.0>,<a.1.0>,<a.1.0>,<a.1.0>,<a.1.0>,<a.1.0>,<a.1.0>,<a.1.0>,<a.1.0>,<a.1.0>,<a.1.0>,\
+    <a.1.0>,<a.1.0>,<a.1.0>,<a.1.0>,<a.1.0>,<a.1.0>,<a.1.0>,<a.1.0>,<a.1.0>,0,0,0,0,0,0,0,0]";
+
+const MEMBERS_WITH_8: &str =
+    "members a [<a.1.0>,<a.1.0>,<a.1.0>,<a.1.0>,<a.1.0>,<a.1.0>,<a.1.0>,<a.1.0>,<a.1.0>,<a.1.0>,\
+    <a.1.0>,<a.1.0>,<a.1.0>,<a.1.0>,<a.1.0>,<a.1.0>,<a.1.0>,<a.1.0>,<a.1.0>,<a.1.0>,<a.1.0>,\
+    <a.1.0>,<a.1.0>,<a.1.0>,<a.1.0>,<a.1.0>,<a.1.0>,<a.1.0>,<a.1.0>,<a.1.0>,<a.1.0>,<a.1.0>,\
+    <a.1.0>,<a.1.0>,<a.1.0>,<a.1.0>,<a.1.0>,<a.1.0>,<a.1.0>,<a.1.0>,<a.1.0>,<a.1.0>,<a.1.0>,\
+    <a.1.0>,<a.1.0>,<a.1.0>,<a.1.0>,<a.1.0>,<a.1.0>,<a.1.0>,<a.1.0>,<a.1.0>,<a.1.0>,<a.1.0>,\
+    <a.1.0>,<a.1.0>,<a.1.0>,<a.1.0>,<a.1.0>,<a.1.0>,<a.1.0>,<a.1.0>,<a.1.0>,0,0,0,0,0,0,0,0]";
+
+const CREATE_WITH_5: &str =
+    "create a [<a.1.0>,<a.1.0>,<a.1.0>,<a.1.0>,<a.1.0>,<a.1.0>,<a.1.0>,<a.1.0>,<a.1.0>,<a.1.0>,\
+    <a.1.0>,<a.1.0>,<a.1.0>,<a.1.0>,<a.1.0>,<a.1.0>,<a.1.0>,<a.1.0>,<a.1.0>,<a.1.0>,<a.1.0>,\
+    <a.1.0>,<a.1.0>,<a.1.0>,<a.1.0>,<a.1.0>,<a.1.0>,<a.1.0>,<a.1.0>,<a.1.0>,<a.1.0>,<a.1.0>,\
+    <a.1.0>,<a.1.0>,<a.1.0>,<a.1.0>,<a.1.0>,<a.1.0>,<a.1.0>,<a.1.0>,<a.1.0>,<a.1.0>,<a.1.0>,\
+    <a.1.0>,<a.1.0>,<a.1.0>,<a.1.0>,<a.1.0>,<a.1.0>,<a.1.0>,<a.1.0>,<a.1.0>,<a.1.0>,<a.1.0>,\
+    <a.1.0>,<a.1.0>,<a.1.0>,<a.1.0>,<a.1.0>,<a.1.0>,<a.1.0>,<a.1.0>,<a.1.0>,0,0,0,0,0]";
+
+const CREATE_WITH_4: &str =
+    "create a [<a.1.0>,<a.1.0>,<a.1.0>,<a.1.0>,<a.1.0>,<a.1.0>,<a.1.0>,<a.1.0>,<a.1.0>,<a.1.0>,\
+    <a.1.0>,<a.1.0>,<a.1.0>,<a.1.0>,<a.1.0>,<a.1.0>,<a.1.0>,<a.1.0>,<a.1.0>,<a.1.0>,<a.1.0>,\
+    <a.1.0>,<a.1.0>,<a.1.0>,<a.1.0>,<a.1.0>,<a.1.0>,<a.1.0>,<a.1.0>,<a.1.0>,<a.1.0>,<a.1.0>,\
+    <a.1.0>,<a.1.0>,<a.1.0>,<a.1.0>,<a.1.0>,<a.1.0>,<a.1.0>,<a.1.0>,<a.1.0>,<a.1.0>,<a.1.0>,\
+    <a.1.0>,<a.1.0>,<a.1.0>,<a.1.0>,<a.1.0>,<a.1.0>,<a.1.0>,<a.1.0>,<a.1.0>,<a.1.0>,<a.1.0>,\
+    <a.1.0>,<a.1.0>,<a.1.0>,<a.1.0>,<a.1.0>,<a.1.0>,<a.1.0>,<a.1.0>,<a.1.0>,0,0,0,0]";
+
+// At a node that is not formed.
+static COMMANDS: Table<'static> = Table {
+    kind: Kind::New(Who::A),
+    rows: &[
+        Row::Asked(CREATE_WITH_8, "a 1 refused 23"),
+        Row::Asked(MEMBERS_WITH_8, "a 2 refused 23"),
+        Row::Asked("join a 7 <d.1.0>", "a 3 refused 24"),
+        Row::Asked("end a <b.1.0>", "a 4 refused 24"),
+        Row::Asked("end a <a.1.0>", "a 5 refused 25"),
+        Row::Seen(Sight::Open(0)),
+    ],
+};
 
 #[test]
 fn refused_commands(rt: HostRuntime) {
-    check(&rt, rt.alloc(), Kind::New("a", "b", "c"), COMMANDS);
+    check(&rt, rt.alloc(), &COMMANDS);
 }
 
 // The 257th command that is open at once is refused, and one that is answered at once is not.
-const BUSY: &[Row<'static>] = &[
-    Row::Often(256, Event::Command("delete a 7")),
-    Row::Seen(Sight::Open(256)),
-    Row::Asked("delete a 7", "a 257 refused 22"),
-    Row::Seen(Sight::Open(256)),
-    Row::Asked("make a", "a 258 <a.1.0>"),
-];
+static BUSY: Table<'static> = Table {
+    kind: Kind::Formed(Who::A),
+    rows: &[
+        Row::Often(256, Event::Command("delete a 7")),
+        Row::Seen(Sight::Open(256)),
+        Row::Asked("delete a 7", "a 257 refused 22"),
+        Row::Seen(Sight::Open(256)),
+        Row::Asked("make a", "a 258 <a.1.0>"),
+    ],
+};
 
 #[test]
 fn busy_node(rt: HostRuntime) {
-    check(&rt, rt.alloc(), Kind::Formed("a", "b", "c"), BUSY);
+    check(&rt, rt.alloc(), &BUSY);
 }
 
 // A refused change raises the clock by 1, is answered, and does nothing else.
-const CHANGES: &[Row<'static>] = &[
-    Row::Seen(Sight::Clock(2)),
-    Row::Asked("join a 7 <x.1.0>", "a 1 refused 24"),
-    Row::Did(Deed::Sends(0)),
-    Row::Did(Deed::Began(false)),
-    Row::Did(Deed::Odd(None)),
-    Row::Seen(Sight::Clock(3)),
-    Row::Seen(Sight::Open(0)),
-    Row::Seen(Sight::Locked(false)),
-    Row::Seen(Sight::Group(false)),
-    Row::Told(Event::Long("create", 509)),
-    Row::Answered("a 2 refused 23"),
-    Row::Did(Deed::Sends(0)),
-    Row::Did(Deed::Began(false)),
-    Row::Did(Deed::Odd(None)),
-    Row::Seen(Sight::Clock(4)),
-    Row::Seen(Sight::Open(0)),
-    Row::Seen(Sight::Locked(false)),
-    Row::Seen(Sight::Group(false)),
-    Row::Seen(Sight::Answers(2)),
-    // One zero less is a name.
-    Row::Told(Event::Long("create", 508)),
-    Row::Seen(Sight::Answers(2)),
-    Row::Seen(Sight::Open(1)),
-];
+static CHANGES: Table<'static> = Table {
+    kind: Kind::Formed(Who::A),
+    rows: &[
+        Row::Seen(Sight::Clock(2)),
+        Row::Asked("join a 7 <x.1.0>", "a 1 refused 24"),
+        Row::Did(Deed::Sends(0)),
+        Row::Did(Deed::Began(false)),
+        Row::Did(Deed::Odd(None)),
+        Row::Seen(Sight::Clock(3)),
+        Row::Seen(Sight::Open(0)),
+        Row::Seen(Sight::Locked(false)),
+        Row::Seen(Sight::Group(false)),
+        Row::Asked(CREATE_WITH_5, "a 2 refused 23"),
+        Row::Did(Deed::Sends(0)),
+        Row::Did(Deed::Began(false)),
+        Row::Did(Deed::Odd(None)),
+        Row::Seen(Sight::Clock(4)),
+        Row::Seen(Sight::Open(0)),
+        Row::Seen(Sight::Locked(false)),
+        Row::Seen(Sight::Group(false)),
+        Row::Seen(Sight::Answers(2)),
+        // One zero less makes a name.
+        Row::Told(Event::Command(CREATE_WITH_4)),
+        Row::Seen(Sight::Answers(2)),
+        Row::Seen(Sight::Open(1)),
+    ],
+};
 
 #[test]
 fn refused_changes(rt: HostRuntime) {
-    check(&rt, rt.alloc(), Kind::Formed("a", "b", "c"), CHANGES);
+    check(&rt, rt.alloc(), &CHANGES);
 }

@@ -4,30 +4,76 @@ ghost use Rattle.std.specs.Prelude.{◌≡◌, ◌∷◌, ◌≤◌, [], false, 
 ghost use Rattle.std.specs.List.{IsDistinct};
 ghost use Rattle.pg_term.specs.Same.{same_atom};
 
-use crate::told::heard;
-use crate::verdicts::asked_again;
+use crate::texts::packet_of;
+use crate::told::{Event, happens};
 use pg_group::GroupTable;
 use pg_index::IndexTable;
-use pg_message::{Message, Packet};
 use pg_node::{NodeConfig, NodeState};
-use pg_term::{Atom, Items, Pid, Term};
+use pg_term::{Atom, Term};
 use pg_text::read_pid;
 use std::alloc::{AllocError, Global};
 
 /// A node over packets.
 pub type State = NodeState<IndexTable>;
 
+/// A node of three.
+#[derive(Clone, Copy)]
+pub enum Who {
+    A,
+    B,
+    C,
+}
+
+/// The name of a node of three, those of its peers, and what they tell: that they have no group.
+struct Names {
+    own: &'static str,
+    one: &'static str,
+    two: &'static str,
+    told: [&'static str; 2],
+}
+
+static OF_A: Names = Names {
+    own: "a",
+    one: "b",
+    two: "c",
+    told: ["{0,{cast,{exchange,b,[]}}}", "{0,{cast,{exchange,c,[]}}}"],
+};
+
+static OF_B: Names = Names {
+    own: "b",
+    one: "a",
+    two: "c",
+    told: ["{0,{cast,{exchange,a,[]}}}", "{0,{cast,{exchange,c,[]}}}"],
+};
+
+static OF_C: Names = Names {
+    own: "c",
+    one: "a",
+    two: "b",
+    told: ["{0,{cast,{exchange,a,[]}}}", "{0,{cast,{exchange,b,[]}}}"],
+};
+
+impl Who {
+    fn names(self) -> &'static Names {
+        match self {
+            Who::A => &OF_A,
+            Who::B => &OF_B,
+            Who::C => &OF_C,
+        }
+    }
+}
+
 /// A node of one port.
 #[derive(Clone, Copy)]
-pub enum Kind<'a> {
+pub enum Kind {
     /// `a`, which has no peer.
     Lone,
     /// The same, which can make one process more.
     Last,
-    /// A node of the first name with the others as peers, which is not formed.
-    New(&'a str, &'a str, &'a str),
-    /// The same, whose peers have told that they have no group.
-    Formed(&'a str, &'a str, &'a str),
+    /// A node with two peers, which is not formed.
+    New(Who),
+    /// The same, whose peers have told their groups.
+    Formed(Who),
 }
 
 /// A node's name; none where memory was refused.
@@ -91,29 +137,24 @@ fn node_of_three(
 }
 
 /// A node with two peers, which is not formed; none where memory was refused.
-pub fn new_node(alloc: Global, own: &str, one: &str, two: &str) -> Option<State> {
-    let own = atom(alloc, own)?;
-    let one = atom(alloc, one)?;
-    let two = atom(alloc, two)?;
+pub fn new_node(alloc: Global, who: Who) -> Option<State> {
+    let names = who.names();
+    let own = atom(alloc, names.own)?;
+    let one = atom(alloc, names.one)?;
+    let two = atom(alloc, names.two)?;
     if own == one || own == two || one == two {
         return None;
     }
     node_of_three(alloc, own, one, two).ok()
 }
 
-// That a node has no group.
-fn exchange(alloc: Global, name: &str) -> Option<Packet> {
-    Some(Packet {
-        stamp: 0,
-        message: Message::Exchange(atom(alloc, name)?, Items::from_vec(Vec::new(alloc))),
-    })
-}
-
-/// The same node, formed.
-pub fn formed_node(alloc: Global, own: &str, one: &str, two: &str) -> Option<State> {
-    let mut node = new_node(alloc, own, one, two)?;
-    let is_first = heard(&mut node, 0, exchange(alloc, one)).is_ok();
-    if is_first && heard(&mut node, 1, exchange(alloc, two)).is_ok() {
+/// The same, formed.
+pub fn formed_node(alloc: Global, who: Who) -> Option<State> {
+    let mut node = new_node(alloc, who)?;
+    let [one, two] = who.names().told;
+    if happens(alloc, &mut node, Event::Take(0, one)).is_ok()
+        && happens(alloc, &mut node, Event::Take(1, two)).is_ok()
+    {
         Some(node)
     } else {
         drop(node);
@@ -122,12 +163,12 @@ pub fn formed_node(alloc: Global, own: &str, one: &str, two: &str) -> Option<Sta
 }
 
 /// A node of this kind; none where memory was refused.
-pub fn made(alloc: Global, kind: Kind<'_>) -> Option<State> {
+pub fn made(alloc: Global, kind: Kind) -> Option<State> {
     match kind {
         Kind::Lone => lone_node_made(alloc, 0),
         Kind::Last => lone_node_made(alloc, 268_435_454),
-        Kind::New(own, one, two) => new_node(alloc, own, one, two),
-        Kind::Formed(own, one, two) => formed_node(alloc, own, one, two),
+        Kind::New(who) => new_node(alloc, who),
+        Kind::Formed(who) => formed_node(alloc, who),
     }
 }
 
@@ -172,34 +213,38 @@ fn waiting(node: &State) -> Option<usize> {
     }
 }
 
-fn pid(alloc: Global, text: &str) -> Option<Pid> {
-    read_pid(alloc, text).ok()
-}
-
-fn is_counted(alloc: Global, node: &State, process: &str, count: u64) -> bool {
-    match asked_again!(pid(alloc, process)) {
-        Some(pid) => {
+fn counted(alloc: Global, node: &State, process: &str) -> Option<u64> {
+    match read_pid(alloc, process) {
+        Ok(pid) => {
             let name = Term::Int(7);
             let counted = node.table().count(&name, &pid);
             drop(name);
             drop(pid);
-            counted == count
+            Some(counted)
         }
-        None => false,
+        Err(_) => None,
     }
 }
 
-/// Whether this is seen at a node.
-pub fn sees(alloc: Global, node: &State, sight: Sight<'_>) -> bool {
+// Whether this is seen at a node; none where memory was refused.
+fn seen(alloc: Global, node: &State, sight: Sight<'_>) -> Option<bool> {
     match sight {
-        Sight::Formed(is) => node.formed() == is,
-        Sight::Group(has) => has_group(node).0 == has,
-        Sight::Locked(is) => has_group(node).1 == is,
-        Sight::Open(count) => node.open_count() == count,
-        Sight::Waiting(count) => asked_again!(waiting(node)) == Some(count),
-        Sight::Answers(count) => node.port_count() == 1 && node.answers(0).len() == count,
-        Sight::Clock(clock) => node.clock() == clock,
-        Sight::Lost(peer) => peer < node.peer_count() && node.is_lost(peer),
-        Sight::Counted(process, count) => is_counted(alloc, node, process, count),
+        Sight::Formed(is) => Some(node.formed() == is),
+        Sight::Group(has) => Some(has_group(node).0 == has),
+        Sight::Locked(is) => Some(has_group(node).1 == is),
+        Sight::Open(count) => Some(node.open_count() == count),
+        Sight::Waiting(count) => Some(waiting(node)? == count),
+        Sight::Answers(count) => Some(node.port_count() == 1 && node.answers(0).len() == count),
+        Sight::Clock(clock) => Some(node.clock() == clock),
+        Sight::Lost(peer) => Some(peer < node.peer_count() && node.is_lost(peer)),
+        Sight::Counted(process, count) => Some(counted(alloc, node, process)? == count),
+    }
+}
+
+/// Whether this is seen at a node. It is looked at a second time where memory was refused.
+pub fn sees(alloc: Global, node: &State, wanted: Sight<'_>) -> bool {
+    match seen(alloc, node, wanted) {
+        Some(is_seen) => is_seen,
+        None => seen(alloc, node, wanted) == Some(true),
     }
 }

@@ -4,11 +4,11 @@
 use crate::nodes::{Kind, Sight, State, made, sees};
 use crate::texts::has_answered;
 use crate::told::{Did, Event, NOTHING, happens};
-use crate::verdicts::{asked_again, holds};
+use crate::verdicts::holds;
 use pg_message::Said;
 use pg_node::NodeFault;
 use pg_step::{Odd, Refusal};
-use std::alloc::Global;
+use std::alloc::{AllocError, Global};
 use std::process::Abort;
 
 /// A row of a table.
@@ -43,38 +43,44 @@ pub enum Deed {
     Replies(Said),
     /// Whether the first packet asks for the lock.
     AsksLock(bool),
-    /// The first packet is a call, of another number than the call before.
-    CallsAnew,
-    /// The first packet tells the end of this process of the node `a`.
-    TellsEnd(u32),
+    /// The first packet is a call, of another number than this.
+    CallsBut(u32),
     /// Whether a command got its last grant.
     Began(bool),
     /// A reply that completed nothing.
     Odd(Option<Odd>),
 }
 
-/// Two nodes, the same but while an event is under way.
+/// A table of rows, and the two nodes at which they hold, one after another.
+pub struct Table<'a> {
+    pub kind: Kind,
+    pub rows: &'a [Row<'a>],
+}
+
+// Two nodes, the same but while an event is under way.
 #[derive(Drop)]
 struct Twins {
     one: State,
     other: State,
     // What the last event did.
     did: Did,
-    // Whether the last event made a call, of another number than the call before.
-    is_new_call: bool,
-    // The number of the last call.
-    call: u32,
 }
 
-fn new_twins(alloc: Global, kind: Kind<'_>) -> Option<Twins> {
-    let one = asked_again!(made(alloc, kind))?;
-    match asked_again!(made(alloc, kind)) {
+// A node, made a second time where memory was refused.
+fn made_again(alloc: Global, kind: Kind) -> Option<State> {
+    match made(alloc, kind) {
+        Some(node) => Some(node),
+        None => made(alloc, kind),
+    }
+}
+
+fn new_twins(alloc: Global, kind: Kind) -> Option<Twins> {
+    let one = made_again(alloc, kind)?;
+    match made_again(alloc, kind) {
         Some(other) => Some(Twins {
             one,
             other,
             did: NOTHING,
-            is_new_call: false,
-            call: 0,
         }),
         None => {
             drop(one);
@@ -87,65 +93,35 @@ impl Twins {
     fn are_same(&self) -> bool {
         match self.one.same(&self.other) {
             Ok(same) => same,
-            Err(_) => self.one.same(&self.other) == Ok(true),
+            Err(AllocError) => self.one.same(&self.other) == Ok(true),
         }
     }
 
     // What the event does at the first, which is told it a second time where memory was refused and it is as it was.
     fn tell_one(&mut self, alloc: Global, event: Event<'_>) -> Result<Did, NodeFault> {
-        let told = happens(alloc, &mut self.one, self.call, event);
-        if told.err() == Some(NodeFault::OutOfMemory) && self.are_same() {
-            happens(alloc, &mut self.one, self.call, event)
-        } else {
-            told
+        match happens(alloc, &mut self.one, event) {
+            Err(NodeFault::OutOfMemory) if self.are_same() => {
+                happens(alloc, &mut self.one, event)
+            }
+            told => told,
         }
     }
 
     fn tell_other(&mut self, alloc: Global, event: Event<'_>) -> Result<Did, NodeFault> {
-        let told = happens(alloc, &mut self.other, self.call, event);
-        if told.err() == Some(NodeFault::OutOfMemory) {
-            happens(alloc, &mut self.other, self.call, event)
-        } else {
-            told
+        match happens(alloc, &mut self.other, event) {
+            Err(NodeFault::OutOfMemory) => happens(alloc, &mut self.other, event),
+            told => told,
         }
     }
 
-    // Whether both are the same then, if the command is carried out.
-    fn tell_alone(&mut self, alloc: Global, is_first: bool, line: &str) -> Option<bool> {
-        let event = Event::Command(line);
-        let told = if is_first {
-            self.tell_one(alloc, event)
-        } else {
-            self.tell_other(alloc, event)
-        };
-        match told {
-            Ok(_) => Some(self.are_same()),
-            Err(_) => None,
-        }
-    }
-
-    // Whether the event happens at both, which are the same then.
-    fn tell(&mut self, alloc: Global, event: Event<'_>) -> bool {
-        match (self.tell_one(alloc, event), self.tell_other(alloc, event)) {
-            (Ok(did), Ok(_)) => {
-                self.note(did);
-                self.are_same()
-            }
-            _ => false,
-        }
-    }
-
-    fn note(&mut self, did: Did) {
-        self.is_new_call = did.call != 0 && did.call != self.call;
-        if did.call != 0 {
-            self.call = did.call;
-        }
-        self.did = did;
-    }
-
-    fn tell_often(&mut self, alloc: Global, times: u32, event: Event<'_>) -> bool {
+    // Whether the event happens at both so many times, and both are the same each time.
+    fn tell(&mut self, alloc: Global, times: u32, event: Event<'_>) -> bool {
         for _ in 0..times {
-            if !self.tell(alloc, event) {
+            match (self.tell_one(alloc, event), self.tell_other(alloc, event)) {
+                (Ok(did), Ok(_)) => self.did = did,
+                _ => return false,
+            }
+            if !self.are_same() {
                 return false;
             }
         }
@@ -160,51 +136,61 @@ impl Twins {
             && self.are_same()
     }
 
+    // Whether both are the same once one of them alone was told a command.
+    fn tell_alone(&mut self, alloc: Global, is_first: bool, line: &str) -> Option<bool> {
+        let event = Event::Command(line);
+        let told = if is_first {
+            self.tell_one(alloc, event)
+        } else {
+            self.tell_other(alloc, event)
+        };
+        match told {
+            Ok(_) => Some(self.are_same()),
+            Err(_) => None,
+        }
+    }
+
     fn has_done(&self, deed: Deed) -> bool {
         let did = self.did;
         match deed {
             Deed::Sends(count) => did.sends == count,
-            Deed::SendsTo(peer) => did.peer == Some(peer),
-            Deed::Replies(said) => did.peer == Some(0) && did.said == Some(said),
+            Deed::SendsTo(peer) => did.sends == 1 && did.peer == peer,
+            Deed::Replies(said) => did.sends == 1 && did.peer == 0 && did.said == Some(said),
             Deed::AsksLock(asks) => did.asks_lock == asks,
-            Deed::CallsAnew => self.is_new_call,
-            Deed::TellsEnd(number) => did.ended == number,
+            Deed::CallsBut(number) => did.call != 0 && did.call != number,
             Deed::Began(began) => did.began == began,
             Deed::Odd(odd) => did.odd == odd,
         }
     }
 
-    fn has_answered(&self, alloc: Global, line: &str) -> bool {
-        asked_again!(has_answered(alloc, &self.one, line)) == Some(true)
-    }
-
     // Whether the row holds.
     fn holds(&mut self, alloc: Global, row: &Row<'_>) -> bool {
         match row {
-            Row::Told(event) => self.tell(alloc, *event),
+            Row::Told(event) => self.tell(alloc, 1, *event),
+            Row::Often(times, event) => self.tell(alloc, *times, *event),
             Row::Asked(line, answer) => {
-                self.tell(alloc, Event::Command(line)) && self.has_answered(alloc, answer)
+                self.tell(alloc, 1, Event::Command(line)) && has_answered(alloc, &self.one, answer)
             }
-            Row::Often(times, event) => self.tell_often(alloc, *times, *event),
             Row::Refused(event, refusal) => self.refuse(alloc, *event, *refusal),
-            Row::Alone(is_first, line, same) => self.tell_alone(alloc, *is_first, line)
-                == Some(*same),
+            Row::Alone(is_first, line, same) => {
+                self.tell_alone(alloc, *is_first, line) == Some(*same)
+            }
             Row::Did(deed) => self.has_done(*deed),
-            Row::Answered(line) => self.has_answered(alloc, line),
+            Row::Answered(line) => has_answered(alloc, &self.one, line),
             Row::Seen(sight) => sees(alloc, &self.one, *sight),
         }
     }
 }
 
-/// Each row of the table holds at two nodes of this kind, one after another.
-pub fn check(rt: &impl Abort, alloc: Global, kind: Kind<'_>, rows: &[Row<'_>]) {
-    match new_twins(alloc, kind) {
+/// Each row of a table holds.
+pub fn check(rt: &impl Abort, alloc: Global, table: &Table<'_>) {
+    match new_twins(alloc, table.kind) {
         Some(mut twins) => {
-            for (place, row) in rows.iter().enumerate() {
-                holds(rt, twins.holds(alloc, row), "row", place);
+            for (place, row) in table.rows.iter().enumerate() {
+                holds(rt, twins.holds(alloc, row), place);
             }
             drop(twins);
         }
-        None => holds(rt, false, "nodes are made:", 2),
+        None => holds(rt, false, table.rows.len()),
     }
 }

@@ -4,14 +4,12 @@ ghost use Rattle.std.specs.Prelude.{◌≡◌, true, length};
 ghost use Rattle.std.specs.List.{All};
 ghost use Rattle.pg_node.specs.States.{names_of};
 
-use crate::nodes::{Sight, State, formed_node, sees};
+use crate::nodes::{Sight, Who, formed_node, sees};
 use crate::texts::{command_of, has_answered};
-use crate::told::number_of;
 use crate::verdicts::holds;
 use pg_index::IndexTable;
 use pg_node::{NodeFault, NodeState};
 use pg_step::{OpId, Refusal};
-use pg_term::Pid;
 use pg_world::{FrameStep, FrameWorld, Stepped};
 use std::alloc::Global;
 use std::process::Abort;
@@ -33,26 +31,15 @@ fn know_each_other(nodes: &[NodeState<IndexTable>]) -> bool
     true
 }
 
-// Puts a node behind the others, if there is one.
-fn is_put(nodes: &mut Vec<State>, node: Option<State>) -> bool {
-    match node {
-        Some(node) => nodes.push(node).is_ok(),
-        None => false,
-    }
-}
-
-/// Three formed nodes, between which nothing is on the way.
-fn three(alloc: Global) -> Option<World> {
+// Three formed nodes, between which nothing is on the way.
+fn three(rt: &impl Abort, alloc: Global) -> World {
     let mut nodes = Vec::new(alloc);
-    let are_put = is_put(&mut nodes, formed_node(alloc, "a", "b", "c"))
-        && is_put(&mut nodes, formed_node(alloc, "b", "a", "c"))
-        && is_put(&mut nodes, formed_node(alloc, "c", "a", "b"));
-    if are_put && know_each_other(nodes.as_slice()) {
-        FrameWorld::idle(alloc, nodes).ok()
-    } else {
-        drop(nodes);
-        None
+    for who in [Who::A, Who::B, Who::C] {
+        let node = formed_node(alloc, who).expect(rt, "memory");
+        nodes.push(node).ok().expect(rt, "memory");
     }
+    assert!(rt; know_each_other(nodes.as_slice()));
+    FrameWorld::idle(alloc, nodes).ok().expect(rt, "memory")
 }
 
 /// What happens in a world, or is seen there.
@@ -82,7 +69,7 @@ fn step(world: &mut World, step: FrameStep) -> Told {
     stepped
 }
 
-fn is_given(alloc: Global, world: &mut World, line: &str) -> bool {
+fn given(alloc: Global, world: &mut World, line: &str) -> bool {
     match command_of(alloc, line) {
         Some(command) => {
             let given = FrameStep::Command {
@@ -121,44 +108,28 @@ fn loses_third(alloc: Global, world: &mut World) -> bool {
     }
 }
 
-fn are_numbered(pids: &[Pid], numbers: &[u32]) -> bool {
-    for (pid, number) in pids.iter().zip(numbers) {
-        if number_of(pid) != *number {
-            return false;
-        }
-    }
-    pids.len() == numbers.len()
-}
-
+// Whether these are the numbers of the processes whose ends are pending, each of the first node.
 fn are_pending(world: &World, numbers: &[u32]) -> bool {
     match world.pending_ends() {
         Ok(pids) => {
-            let are_numbered = are_numbered(pids.as_slice(), numbers);
+            let mut are_same = pids.len() == numbers.len();
+            for (pid, number) in pids.as_slice().iter().zip(numbers) {
+                are_same = are_same
+                    && pid.node.as_str() == "a"
+                    && pid.serial == 0
+                    && pid.id == *number;
+            }
             drop(pids);
-            are_numbered
+            are_same
         }
         Err(_) => false,
-    }
-}
-
-fn is_seen(alloc: Global, world: &World, place: usize, sight: Sight<'_>) -> bool {
-    match world.node(place) {
-        Some(node) => sees(alloc, node, sight),
-        None => false,
-    }
-}
-
-fn is_answered(alloc: Global, world: &World, line: &str) -> bool {
-    match world.node(0) {
-        Some(node) => has_answered(alloc, node, line) == Some(true),
-        None => false,
     }
 }
 
 // Whether a row holds.
 fn is_row(alloc: Global, world: &mut World, row: &Row<'_>) -> bool {
     match row {
-        Row::Given(line) => is_given(alloc, world, line),
+        Row::Given(line) => given(alloc, world, line),
         Row::Take(node, peer, told) => {
             let (node, peer) = (*node, *peer);
             step(world, FrameStep::Take { node, peer }) == *told
@@ -170,27 +141,29 @@ fn is_row(alloc: Global, world: &mut World, row: &Row<'_>) -> bool {
         }
         Row::Settle(count) => settle(world) == *count,
         Row::LoseThird => loses_third(alloc, world),
-        Row::Seen(place, sight) => is_seen(alloc, world, *place, *sight),
-        Row::Answered(line) => is_answered(alloc, world, line),
+        Row::Seen(place, sight) => match world.node(*place) {
+            Some(node) => sees(alloc, node, *sight),
+            None => false,
+        },
+        Row::Answered(line) => match world.node(0) {
+            Some(node) => has_answered(alloc, node, line),
+            None => false,
+        },
         Row::Pending(numbers) => are_pending(world, numbers),
     }
 }
 
 // Each row of the table holds in a new world of three nodes, one after another.
 fn check(rt: &impl Abort, alloc: Global, rows: &[Row<'_>]) {
-    match three(alloc) {
-        Some(mut world) => {
-            for (place, row) in rows.iter().enumerate() {
-                holds(rt, is_row(alloc, &mut world, row), "row", place);
-            }
-            drop(world);
-        }
-        None => holds(rt, false, "nodes are made:", 3),
+    let mut world = three(rt, alloc);
+    for (place, row) in rows.iter().enumerate() {
+        holds(rt, is_row(alloc, &mut world, row), place);
     }
+    drop(world);
 }
 
 // A create at one node: it asks c, then b, for the lock, tells both the update, and frees the lock there.
-const CREATE: &[Row<'static>] = &[
+static CREATE: &[Row<'static>] = &[
     Row::Given("create a 7"),
     Row::Seen(0, Sight::Group(false)),
     Row::Settle(10),
@@ -209,7 +182,7 @@ fn create_reaches_all(rt: HostRuntime) {
 const NO_PLACE: Told = Err(NodeFault::Refused(Refusal::NoSuchPlace));
 
 // Steps of places that are not there, and a retry of what does not wait.
-const REFUSALS: &[Row<'static>] = &[
+static REFUSALS: &[Row<'static>] = &[
     Row::Take(3, 0, NO_PLACE),
     Row::Take(0, 3, NO_PLACE),
     Row::Take(1, 1, NO_PLACE),
@@ -224,7 +197,7 @@ fn steps_are_refused(rt: HostRuntime) {
 }
 
 // An end is pending until each node was told, or is lost that was not.
-const LOSS: &[Row<'static>] = &[
+static LOSS: &[Row<'static>] = &[
     Row::Given("make a"),
     Row::Given("end a <a.1.0>"),
     Row::Take(1, 0, Ok(Stepped::Happened)),
@@ -239,7 +212,7 @@ fn ends_are_pending(rt: HostRuntime) {
 }
 
 // The list has the pid of the process, until both others were told.
-const LISTED: &[Row<'static>] = &[
+static LISTED: &[Row<'static>] = &[
     Row::Given("make a"),
     Row::Given("end a <a.1.0>"),
     Row::Pending(&[1]),
