@@ -1,6 +1,6 @@
 //! How many events a second a node makes, over packets and over bytes, with two peers that are played here.
 
-mod bytes;
+mod linked;
 mod made;
 mod packets;
 mod said;
@@ -8,7 +8,7 @@ mod said;
 use crate::changes::{Change, Groups};
 use crate::figures::{Watch, head, number, report, say, word};
 use crate::samples::pid;
-use bytes::OverBytes;
+use linked::OverBytes;
 use packets::OverPackets;
 use pg_message::{Packet, Said};
 use pg_step::Command;
@@ -223,6 +223,24 @@ fn change_in_turn<P: Player>(
     report(rt, "own changes", made, 0, watch);
 }
 
+// Joins by these commands and leaves in turn.
+fn join_and_leave<P: Player>(
+    rt: &HostRuntime,
+    player: &mut P,
+    joins: &[Command],
+    count: u32,
+    open: u32,
+) -> bool {
+    match commands(rt.alloc(), Change::Leave, open) {
+        Ok(leaves) => {
+            change_in_turn(rt, player, joins, &leaves, count / open.max(1));
+            drop(leaves);
+            true
+        }
+        Err(_) => false,
+    }
+}
+
 // Changes of the node's own, so many open at once.
 fn own_changes<P: Player>(rt: &HostRuntime, player: &mut P, count: u32, open: u32) -> bool {
     head(
@@ -230,18 +248,13 @@ fn own_changes<P: Player>(rt: &HostRuntime, player: &mut P, count: u32, open: u3
         u64::from(open),
         "own changes open at once, of five events each",
     );
-    let both = (
-        commands(rt.alloc(), Change::Join, open),
-        commands(rt.alloc(), Change::Leave, open),
-    );
-    match both {
-        (Ok(joins), Ok(leaves)) => {
-            change_in_turn(rt, player, &joins, &leaves, count / open.max(1));
+    match commands(rt.alloc(), Change::Join, open) {
+        Ok(joins) => {
+            let is_done = join_and_leave(rt, player, &joins, count, open);
             drop(joins);
-            drop(leaves);
-            true
+            is_done
         }
-        _ => false,
+        Err(_) => false,
     }
 }
 

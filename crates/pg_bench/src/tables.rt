@@ -5,7 +5,7 @@ mod crowd;
 
 use crate::changes::Change;
 use crate::figures::{Watch, number, report_each, word};
-use calls::{Each, apply, apply_all, each, read};
+use calls::{About, apply, apply_all, each, read};
 use crowd::{joins_of_300, names, pairs, pid_of, pids, updates};
 use pg_group::{Ended, GroupTable, RowTable, Update};
 use pg_index::IndexTable;
@@ -64,7 +64,7 @@ fn updated<T: GroupTable>(
 
 fn counted<T: GroupTable>(rt: &HostRuntime, table: &mut T, name: &Term, pids: &[Pid]) {
     let watch = Watch::begin(rt);
-    let sum = each(table, name, pids, Each::Count);
+    let sum = each(table, name, pids, About::Count);
     report_each(rt, "count", pids.len() as u64, watch);
     drop(sum);
 }
@@ -122,7 +122,7 @@ fn grouped<T: GroupTable>(rt: &HostRuntime, table: &mut T, pids: &[Pid]) -> bool
 fn ended<T: GroupTable>(rt: &HostRuntime, table: &mut T, what: &str, pids: &[Pid]) {
     let name = Term::Int(1);
     let watch = Watch::begin(rt);
-    let sum = each(table, &name, pids, Each::End);
+    let sum = each(table, &name, pids, About::End);
     report_each(rt, what, pids.len() as u64, watch);
     drop(name);
     drop(sum);
@@ -139,6 +139,40 @@ fn all_ended<T: GroupTable>(rt: &HostRuntime, table: &mut T, pids: &[Pid], count
 }
 
 // The figures that a word names, with two crowds of pids.
+fn measure_crowds<T: GroupTable>(
+    rt: &HostRuntime,
+    table: &mut T,
+    calls: &str,
+    names: &[Atom],
+    many: &[Pid],
+    few: &[Pid],
+    sizes: Sizes,
+) -> bool {
+    match calls {
+        "groups" => grouped(rt, table, many),
+        "ends" => all_ended(rt, table, few, sizes.count),
+        _ => built(rt, table, many) && each_call(rt, table, names, few, sizes),
+    }
+}
+
+fn measure_crowd<T: GroupTable>(
+    rt: &HostRuntime,
+    table: &mut T,
+    calls: &str,
+    names: &[Atom],
+    many: &[Pid],
+    sizes: Sizes,
+) -> bool {
+    match pids(rt.alloc(), names, 2, sizes.times) {
+        Ok(few) => {
+            let is_done = measure_crowds(rt, table, calls, names, many, &few, sizes);
+            drop(few);
+            is_done
+        }
+        Err(AllocError) => false,
+    }
+}
+
 fn measure<T: GroupTable>(
     rt: &HostRuntime,
     table: &mut T,
@@ -146,22 +180,13 @@ fn measure<T: GroupTable>(
     names: &[Atom],
     sizes: Sizes,
 ) -> bool {
-    let crowds = (
-        pids(rt.alloc(), names, 1, sizes.count),
-        pids(rt.alloc(), names, 2, sizes.times),
-    );
-    match crowds {
-        (Ok(many), Ok(few)) => {
-            let is_done = match calls {
-                "groups" => grouped(rt, table, &many),
-                "ends" => all_ended(rt, table, &few, sizes.count),
-                _ => built(rt, table, &many) && each_call(rt, table, names, &few, sizes),
-            };
+    match pids(rt.alloc(), names, 1, sizes.count) {
+        Ok(many) => {
+            let is_done = measure_crowd(rt, table, calls, names, &many, sizes);
             drop(many);
-            drop(few);
             is_done
         }
-        _ => false,
+        Err(AllocError) => false,
     }
 }
 

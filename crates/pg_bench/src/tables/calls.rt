@@ -40,7 +40,7 @@ pub fn apply_all<T: GroupTable>(alloc: Global, table: &mut T, updates: &[Update]
 
 /// What is asked of a table about each of some pids.
 #[derive(Clone, Copy)]
-pub enum Each {
+pub enum About {
     /// The count in the group 1.
     Count,
     /// Its end.
@@ -48,12 +48,12 @@ pub enum Each {
 }
 
 /// Asks that of a table about each of these pids; the sum of the counts.
-pub fn each<T: GroupTable>(table: &mut T, name: &Term, pids: &[Pid], each: Each) -> u64 {
+pub fn each<T: GroupTable>(table: &mut T, name: &Term, pids: &[Pid], about: About) -> u64 {
     let mut sum = 0_u64;
     for pid in pids {
-        match each {
-            Each::Count => sum = sum.wrapping_add(table.count(name, pid)),
-            Each::End => table.drop_pid(pid),
+        match about {
+            About::Count => sum = sum.wrapping_add(table.count(name, pid)),
+            About::End => table.drop_pid(pid),
         }
     }
     sum
