@@ -29,11 +29,11 @@ impl Watch {
         Watch(Instant::now(rt).ok())
     }
 
-    /// How many nanoseconds went by, at least 1.
+    /// How many nanoseconds went by; 1 where no clock could be read.
     pub fn nanos(self, rt: &impl Clock) -> u128 {
         match self.0 {
             Some(start) => match start.elapsed(rt) {
-                Ok(time) => time.as_nanos().max(1),
+                Ok(time) => time.as_nanos(),
                 Err(_) => 1,
             },
             None => 1,
@@ -42,7 +42,7 @@ impl Watch {
 
     /// How many a second, of so many.
     pub fn rate(self, rt: &impl Clock, count: u64) -> u128 {
-        u128::from(count).saturating_mul(1_000_000_000) / self.nanos(rt)
+        u128::from(count).saturating_mul(1_000_000_000) / self.nanos(rt).max(1)
     }
 }
 

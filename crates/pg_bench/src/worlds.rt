@@ -81,7 +81,7 @@ impl Measured {
 // The command by which a node changes its own group; what joins and leaves is the process of the first node.
 fn command(alloc: Global, node: usize, change: Change) -> Result<Step, TermFault> {
     let process = pid(alloc, "n0", 1)?;
-    let command = change.command(Groups::Own.group(node as u32), process);
+    let command = change.command(Groups::Own.group(u32::try_from(node).unwrap_or(0)), process);
     Ok(Step::Event(FrameStep::Command {
         node,
         port: 0,

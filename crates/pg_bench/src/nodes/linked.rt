@@ -6,62 +6,70 @@ use crate::nodes::packets::is_kept;
 use bytes::BytesMut;
 use pg_index::IndexTable;
 use pg_message::{Packet, write_packet_into};
-use pg_node::{Done, Node, NodeFault, NodeState};
-use pg_ring::{Inlet, Link, MemRing};
+use pg_node::{Done, Node, NodeFault};
+use pg_ring::{Inlet, Link, MemRing, RingFault};
 use pg_step::Command;
 use pg_term::Reference;
-use std::alloc::Global;
+use std::alloc::{AllocError, Global};
 
 // How many bytes a ring has room for, and how many move at once.
 const RING: usize = 65_536;
 
-/// The node, a ring to it and one from it, and what is read of the second.
+/// The node, and its rings.
 #[derive(Drop)]
 pub struct OverBytes {
     node: Node<IndexTable>,
+    rings: Rings,
+}
+
+/// A ring to a node and one from it, and what is read of the second.
+#[derive(Drop)]
+struct Rings {
     to: MemRing,
     from: MemRing,
     piece: Vec<u8>,
 }
 
-// A node of this state, and its rings; the node last, since nothing can fail while it is alive.
-fn played(alloc: Global, state: NodeState<IndexTable>) -> Result<OverBytes, NodeFault> {
-    let to = ring(alloc)?;
-    let from = ring(alloc)?;
-    let piece = Vec::from_elem(alloc, 0, RING)?;
-    let node = Node::opened(alloc, state)?;
-    Ok(OverBytes {
-        node,
-        to,
-        from,
-        piece,
-    })
+fn both_rings(alloc: Global) -> Result<Rings, RingFault> {
+    let to = MemRing::new(alloc, RING)?;
+    let from = MemRing::new(alloc, RING)?;
+    match Vec::from_elem(alloc, 0, RING) {
+        Ok(piece) => Ok(Rings { to, from, piece }),
+        Err(AllocError) => Err(RingFault::OutOfMemory),
+    }
 }
 
-fn ring(alloc: Global) -> Result<MemRing, NodeFault> {
-    match MemRing::new(alloc, RING) {
-        Ok(ring) => Ok(ring),
-        Err(_) => Err(NodeFault::OutOfMemory),
+fn opened(alloc: Global) -> Option<Node<IndexTable>> {
+    match new_state(alloc) {
+        Ok(state) => Node::opened(alloc, state).ok(),
+        Err(_) => None,
     }
 }
 
 impl OverBytes {
-    // What goes out to a peer goes on the ring, and is dropped.
-    fn drain(&mut self, peer: usize) {
-        if peer >= self.node.state().peer_count() {
-            return;
+    // What goes out to a peer goes on the ring; how many bytes.
+    fn put(&mut self, peer: usize) -> usize {
+        if peer < self.node.state().peer_count() {
+            self.node.put(peer, &mut self.rings.from, RING)
+        } else {
+            0
         }
+    }
+
+    // The same, and it is dropped.
+    fn drain(&mut self, peer: usize) {
         for _ in 0..100 {
-            if self.node.put(peer, &mut self.from, RING) == 0 {
+            if self.put(peer) == 0 {
                 break;
             }
-            self.from.take(self.piece.as_mut_slice());
+            self.rings.from.take(self.rings.piece.as_mut_slice());
         }
     }
 
     // What stands on the ring comes in.
     fn pull(&mut self, peer: usize) -> bool {
-        peer < self.node.state().peer_count() && self.node.pull(peer, &mut self.to, RING).is_ok()
+        peer < self.node.state().peer_count()
+            && self.node.pull(peer, &mut self.rings.to, RING).is_ok()
     }
 
     fn taken(&mut self, peer: usize) -> Result<Option<Done>, NodeFault> {
@@ -102,9 +110,12 @@ impl Player for OverBytes {
     type Load = BytesMut;
 
     fn new(alloc: Global) -> Option<OverBytes> {
-        match new_state(alloc) {
-            Ok(state) => played(alloc, state).ok(),
-            Err(_) => None,
+        let Ok(rings) = both_rings(alloc) else {
+            return None;
+        };
+        match opened(alloc) {
+            Some(node) => Some(OverBytes { node, rings }),
+            None => None,
         }
     }
 
@@ -120,7 +131,7 @@ impl Player for OverBytes {
 
     fn take(&mut self, peer: usize, load: &BytesMut, calls: &mut Vec<Reference>) -> bool {
         for piece in load.as_slice().chunks(RING / 2) {
-            self.to.put(piece);
+            self.rings.to.put(piece);
             if !self.pull(peer) || !self.take_all(peer, calls) {
                 return false;
             }
