@@ -5,8 +5,6 @@
 #[cfg(test)]
 mod examples;
 #[cfg(test)]
-mod formation;
-#[cfg(test)]
 mod memory;
 #[cfg(test)]
 mod prefixes;

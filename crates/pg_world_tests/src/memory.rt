@@ -6,136 +6,99 @@ use crate::examples::{
     INITIAL_TABLES, JOIN_TWICE_LEAVE_ONCE, LOSS_DROPS_MEMBERS, LOSS_FREES_LOCK, NEW_GREATEST,
     TWO_CREATORS,
 };
-use crate::schedules::{Schedule, are_same_worlds, schedule_of, state_of};
-use crate::verdicts::{asked_again, holds};
+use crate::schedules::{are_same_worlds, schedule_of, state_of};
+use crate::verdicts::holds;
 use pg_index::IndexTable;
 use pg_lines::print_answer;
-use pg_node::{NodeFault, NodeState};
-use pg_world::{Config, Step, Stepped, World};
+use pg_node::NodeFault;
+use pg_world::{Config, Step, World};
 use std::alloc::{AllocError, Global};
 use std::process::Abort;
 
-// Two worlds in which the same steps are made.
-#[derive(Drop)]
-struct Twins {
-    one: World<IndexTable>,
-    other: World<IndexTable>,
-    // How many nodes each has.
+// The world of a configuration, made a second time where memory was refused.
+fn new_world(rt: &impl Abort, alloc: Global, config: &Config) -> World<IndexTable> {
+    match World::new(alloc, config) {
+        Ok(world) => world,
+        Err(_) => World::new(alloc, config).ok().expect(rt, "memory"),
+    }
+}
+
+// Whether a step does the same in two worlds, where it is made again if memory was refused: all of so many nodes were as in the other,
+// then.
+fn does_same(
+    one: &mut World<IndexTable>,
+    other: &mut World<IndexTable>,
     nodes: usize,
+    step: &Step,
+) -> bool {
+    let first = match one.step(step) {
+        Err(NodeFault::OutOfMemory) if are_same_worlds(one, other, nodes) => one.step(step),
+        stepped => stepped,
+    };
+    let second = match other.step(step) {
+        Err(NodeFault::OutOfMemory) => other.step(step),
+        stepped => stepped,
+    };
+    first == second
 }
 
-fn new_world(alloc: Global, config: &Config) -> Option<World<IndexTable>> {
-    World::new(alloc, config).ok()
-}
-
-fn new_twins(alloc: Global, config: &Config) -> Option<Twins> {
-    let one = asked_again!(new_world(alloc, config))?;
-    match asked_again!(new_world(alloc, config)) {
-        Some(other) => Some(Twins {
-            one,
-            other,
-            nodes: config.starts.len(),
-        }),
-        None => {
-            drop(one);
-            None
-        }
-    }
-}
-
-// Whether memory was refused.
-fn is_refused(stepped: Result<Stepped, NodeFault>) -> bool {
-    stepped == Err(NodeFault::OutOfMemory)
-}
-
-impl Twins {
-    fn are_same(&self) -> bool {
-        are_same_worlds(&self.one, &self.other, self.nodes)
-    }
-
-    // Whether a step does the same in both, where it is made again if memory was refused: all nodes were as in the other, then.
-    fn does_same(&mut self, step: &Step) -> bool {
-        let mut one = self.one.step(step);
-        if is_refused(one) {
-            if !self.are_same() {
-                return false;
-            }
-            one = self.one.step(step);
-        }
-        let mut other = self.other.step(step);
-        if is_refused(other) {
-            other = self.other.step(step);
-        }
-        one == other
-    }
-}
-
-fn print_answers(out: &mut String, node: &NodeState<IndexTable>) -> Result<(), AllocError> {
-    if node.port_count() == 1 {
-        for answer in node.answers(0) {
-            print_answer(out, node.own(), answer)?;
-        }
-    }
-    Ok(())
-}
-
-fn print_world(
+fn print_answers(
     out: &mut String,
     world: &World<IndexTable>,
     nodes: usize,
 ) -> Result<(), AllocError> {
     for place in 0..nodes {
         if let Some(node) = state_of(world, place) {
-            print_answers(out, node)?;
+            if node.port_count() == 1 {
+                for answer in node.answers(0) {
+                    print_answer(out, node.own(), answer)?;
+                }
+            }
         }
     }
     Ok(())
 }
 
-// Whether these are the answers of the nodes; none where memory was refused.
-fn are_answers(
-    alloc: Global,
-    world: &World<IndexTable>,
-    nodes: usize,
-    answers: &str,
-) -> Option<bool> {
+// Whether these are the answers of the nodes. It is asked a second time where memory was refused.
+fn are_answers(alloc: Global, world: &World<IndexTable>, nodes: usize, answers: &str) -> bool {
     let mut text = String::new(alloc);
-    let told = print_world(&mut text, world, nodes);
-    let are_said = text.as_str() == answers;
+    let mut told = print_answers(&mut text, world, nodes);
+    if told.is_err() {
+        text.clear();
+        told = print_answers(&mut text, world, nodes);
+    }
+    let are_said = told.is_ok() && text.as_str() == answers;
     drop(text);
-    match told {
-        Ok(()) => Some(are_said),
-        Err(AllocError) => None,
-    }
-}
-
-fn step_all(rt: &impl Abort, alloc: Global, twins: &mut Twins, steps: &[Step], answers: &str) {
-    for (number, step) in steps.iter().enumerate() {
-        holds(rt, twins.does_same(step), "the same by step", number);
-    }
-    holds(rt, twins.are_same(), "same nodes:", twins.nodes);
-    let told = asked_again!(are_answers(alloc, &twins.one, twins.nodes, answers));
-    holds(rt, told == Some(true), "the answers of nodes:", twins.nodes);
-}
-
-fn check_steps(rt: &impl Abort, alloc: Global, schedule: &Schedule, answers: &str) {
-    match new_twins(alloc, &schedule.config) {
-        Some(mut twins) => {
-            step_all(rt, alloc, &mut twins, schedule.steps.as_slice(), answers);
-            drop(twins);
-        }
-        None => holds(rt, false, "worlds are made:", 2),
-    }
+    are_said
 }
 
 fn check(rt: &impl Abort, alloc: Global, example: &Example<'_>) {
-    match asked_again!(schedule_of(alloc, &[example.script], 5)) {
-        Some(schedule) => {
-            check_steps(rt, alloc, &schedule, example.answers);
-            drop(schedule);
-        }
-        None => holds(rt, false, "the script is read, rounds:", 5),
+    let schedule = match schedule_of(alloc, &[example.script], 5) {
+        Some(schedule) => schedule,
+        None => schedule_of(alloc, &[example.script], 5).expect(rt, "memory"),
+    };
+    let nodes = schedule.config.starts.len();
+    let mut one = new_world(rt, alloc, &schedule.config);
+    let mut other = new_world(rt, alloc, &schedule.config);
+    for (number, step) in schedule.steps.as_slice().iter().enumerate() {
+        let is_same = does_same(&mut one, &mut other, nodes, step);
+        holds(rt, is_same, "the same by step", number);
     }
+    holds(
+        rt,
+        are_same_worlds(&one, &other, nodes),
+        "same nodes:",
+        nodes,
+    );
+    holds(
+        rt,
+        are_answers(alloc, &one, nodes, example.answers),
+        "answers of nodes:",
+        nodes,
+    );
+    drop(one);
+    drop(other);
+    drop(schedule);
 }
 
 #[test]

@@ -5,55 +5,45 @@ use crate::examples::{
     JOIN_TWICE_LEAVE_ONCE, TWO_CREATORS,
 };
 use crate::schedules::{Schedule, schedule_of};
-use crate::slow::{Scene, check_answered, first_pids};
+use crate::slow::{Scene, are_answered, first_pids};
 use crate::verdicts::holds;
 use pg_term::Pid;
 use pg_world::{Step, run};
 use std::alloc::Global;
 use std::process::Abort;
 
-// The headline holds after these steps.
-fn check_after(rt: &impl Abort, alloc: Global, schedule: &Schedule, pids: &[Pid], steps: &[Step]) {
+// Whether the headline holds after these steps, and what is answered stands in the histories.
+fn is_right(alloc: Global, schedule: &Schedule, pids: &[Pid], steps: &[Step]) -> bool {
     match run(alloc, &schedule.config, steps) {
         Ok((world, numbers)) => {
-            let starts = schedule.config.starts.as_slice();
             let scene = Scene {
                 alloc,
                 world: &world,
-                starts,
+                starts: schedule.config.starts.as_slice(),
                 pids,
             };
-            scene.check_headline(rt);
-            check_answered(rt, &world, starts.len(), schedule.steps.as_slice());
+            let is_right = scene.fault().is_none()
+                && are_answered(scene, schedule.steps.as_slice());
             drop(world);
             drop(numbers);
+            is_right
         }
-        Err(_) => holds(rt, false, "steps are run:", steps.len()),
-    }
-}
-
-fn check_each(rt: &impl Abort, alloc: Global, schedule: &Schedule) {
-    match first_pids(alloc, schedule.config.starts.as_slice(), 2) {
-        Some(pids) => {
-            let steps = schedule.steps.as_slice();
-            for len in 0..=steps.len() {
-                let (some, _) = steps.split_at(len);
-                check_after(rt, alloc, schedule, pids.as_slice(), some);
-            }
-            drop(pids);
-        }
-        None => holds(rt, false, "memory for processes:", 2),
+        Err(_) => false,
     }
 }
 
 fn check(rt: &impl Abort, alloc: Global, example: &Example<'_>) {
-    match schedule_of(alloc, &[example.script], 4) {
-        Some(schedule) => {
-            check_each(rt, alloc, &schedule);
-            drop(schedule);
-        }
-        None => holds(rt, false, "the script is read, rounds:", 4),
+    let schedule = schedule_of(alloc, &[example.script], 4).expect(rt, "memory");
+    let starts = schedule.config.starts.as_slice();
+    let pids = first_pids(alloc, starts, 2).expect(rt, "memory");
+    let steps = schedule.steps.as_slice();
+    for len in 0..=steps.len() {
+        let (some, _) = steps.split_at(len);
+        let is_right = is_right(alloc, &schedule, pids.as_slice(), some);
+        holds(rt, is_right, "the headline after steps:", len);
     }
+    drop(pids);
+    drop(schedule);
 }
 
 #[test]

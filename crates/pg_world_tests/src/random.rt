@@ -1,15 +1,14 @@
 //! Random schedules of worlds over bytes, cut at random. Whatever moved when, packets that cross whole lead to the same nodes.
 
 use crate::schedules::{Schedule, are_same, are_same_worlds, schedule_of, state_of};
-use crate::slow::{GROUPS, Scene, check_answered, first_pids, len_of};
+use crate::slow::{GROUPS, Scene, are_answered, first_pids, len_of};
 use crate::verdicts::holds;
 use pg_index::IndexTable;
-use pg_node::NodeFault;
 use pg_random::Random;
 use pg_step::{Command, OpId};
 use pg_term::{Pid, Term};
-use pg_world::{Config, FrameStep, FrameWorld, Step, Stepped, World, run, run_frames};
-use std::alloc::{AllocError, Global};
+use pg_world::{Config, FrameStep, Step, Stepped, World, run, run_frames};
+use std::alloc::Global;
 use std::process::Abort;
 
 /// How many steps a schedule has.
@@ -62,61 +61,40 @@ impl Chance {
         last.saturating_sub(self.random.below(30)).saturating_add(1)
     }
 
-    fn name(&mut self) -> Term {
-        Term::Int(i64::from(self.random.below(4)).saturating_add(1))
-    }
-
-    // A command about a process.
-    fn about(&mut self, pid: Pid) -> Command {
-        match self.random.below(33) {
-            0..15 => Command::Join(self.name(), pid),
-            15..25 => Command::Leave(self.name(), pid),
-            _ => Command::Finish(pid),
-        }
-    }
-
-    // Another command.
-    fn other(&mut self) -> Command {
-        match self.random.below(47) {
-            0..10 => Command::Create(self.name()),
-            10..15 => Command::Delete(self.name()),
-            15..23 => Command::Make,
-            23..31 => Command::Members(self.name()),
-            31..39 => Command::Closest(self.name(), self.random.below(100)),
-            _ => Command::WhichGroups,
-        }
-    }
-
+    // A command; none where memory was refused.
     fn command(&mut self, pids: &[Pid]) -> Option<Command> {
-        if self.random.below(80) < 47 {
-            return Some(self.other());
-        }
-        match self.random.pick(pids)?.copy() {
-            Ok(pid) => Some(self.about(pid)),
-            Err(AllocError) => None,
+        let name = Term::Int(i64::from(self.random.below(4)).saturating_add(1));
+        match self.random.below(80) {
+            0..10 => Some(Command::Create(name)),
+            10..15 => Some(Command::Delete(name)),
+            15..23 => Some(Command::Members(name)),
+            23..31 => Some(Command::Closest(name, self.random.below(100))),
+            31..64 => self.about(name, pids),
+            64..72 => {
+                drop(name);
+                Some(Command::Make)
+            }
+            _ => {
+                drop(name);
+                Some(Command::WhichGroups)
+            }
         }
     }
 
-    fn given(&mut self, pids: &[Pid]) -> Option<Step> {
-        self.asked = self.asked.saturating_add(1);
-        let node = self.place();
-        match self.command(pids) {
-            Some(command) => Some(Step::Event(FrameStep::Command {
-                node,
-                port: 0,
-                command,
-            })),
+    // The same about a process.
+    fn about(&mut self, name: Term, pids: &[Pid]) -> Option<Command> {
+        let process = match self.random.pick(pids) {
+            Some(pid) => pid.copy().ok(),
             None => None,
+        };
+        match (process, self.random.below(33)) {
+            (Some(pid), 0..15) => Some(Command::Join(name, pid)),
+            (Some(pid), 15..25) => Some(Command::Leave(name, pid)),
+            (process, _) => {
+                drop(name);
+                Some(Command::Finish(process?))
+            }
         }
-    }
-
-    fn retry(&mut self) -> Step {
-        let node = self.place();
-        let number = self.number();
-        Step::Event(FrameStep::Retry {
-            node,
-            op: OpId { port: 0, number },
-        })
     }
 
     // A step; none where memory was refused.
@@ -138,8 +116,22 @@ impl Chance {
                 node: one,
                 peer: other,
             })),
-            88..96 => self.given(pids),
-            _ => Some(self.retry()),
+            88..96 => {
+                self.asked = self.asked.saturating_add(1);
+                let command = self.command(pids)?;
+                Some(Step::Event(FrameStep::Command {
+                    node: one,
+                    port: 0,
+                    command,
+                }))
+            }
+            _ => Some(Step::Event(FrameStep::Retry {
+                node: one,
+                op: OpId {
+                    port: 0,
+                    number: self.number(),
+                },
+            })),
         }
     }
 }
@@ -161,14 +153,7 @@ fn put_steps(steps: &mut Vec<Step>, chance: &mut Chance, pids: &[Pid]) {
 /// What a step of a world did: whether an event happened, and the number of its fault.
 type Noted = (bool, u8);
 
-fn note_of(stepped: Result<Stepped, NodeFault>) -> Noted {
-    match stepped {
-        Ok(stepped) => (stepped == Stepped::Happened, 0),
-        Err(fault) => (false, fault.number()),
-    }
-}
-
-// Makes the steps one by one, and notes what each did. Now and then the headline is read. Whether memory was there.
+// Makes the steps one by one, and notes what each did; fewer where memory was refused.
 fn step_all(
     rt: &impl Abort,
     alloc: Global,
@@ -176,16 +161,20 @@ fn step_all(
     pids: &[Pid],
     world: &mut World<IndexTable>,
     notes: &mut Vec<Noted>,
-) -> bool {
+) {
     for (place, step) in schedule.steps.as_slice().iter().enumerate() {
-        if notes.push(note_of(world.step(step))).is_err() {
-            return false;
+        let noted = match world.step(step) {
+            Ok(stepped) => (stepped == Stepped::Happened, 0),
+            Err(fault) => (false, fault.number()),
+        };
+        if notes.push(noted).is_err() {
+            return;
         }
+        // Now and then the headline is read.
         if place % 50 == 0 {
-            looked_at(alloc, schedule, pids, world).check_headline(rt);
+            check_headline(rt, looked_at(alloc, schedule, pids, world), place);
         }
     }
-    true
 }
 
 fn looked_at<'a>(
@@ -202,6 +191,12 @@ fn looked_at<'a>(
     }
 }
 
+fn check_headline(rt: &impl Abort, scene: Scene<'_>, step: usize) {
+    if let Some(fault) = scene.fault() {
+        holds(rt, false, fault, step);
+    }
+}
+
 // How many updates of the groups were begun.
 fn begun(world: &World<IndexTable>) -> usize {
     let mut count = 0usize;
@@ -213,47 +208,20 @@ fn begun(world: &World<IndexTable>) -> usize {
     count
 }
 
-// Whether each step has the number that was noted of it.
-fn are_noted(numbers: &[u8], notes: &[Noted]) -> bool {
-    for (number, noted) in numbers.iter().zip(notes) {
-        if *number != noted.1 {
-            return false;
-        }
-    }
-    numbers.len() == notes.len()
-}
-
-// Whether a run of all steps leads to the same nodes, with the same numbers.
+// Whether a run of all steps leads to the same nodes, and gives each step the number that was noted of it.
 fn is_run(alloc: Global, schedule: &Schedule, world: &World<IndexTable>, notes: &[Noted]) -> bool {
     match run(alloc, &schedule.config, schedule.steps.as_slice()) {
         Ok((other, numbers)) => {
-            let are_same = are_same_worlds(world, &other, schedule.config.starts.len());
-            let are_noted = are_noted(numbers.as_slice(), notes);
+            let mut is_run = are_same_worlds(world, &other, schedule.config.starts.len());
+            for (number, noted) in numbers.as_slice().iter().zip(notes) {
+                is_run = is_run && *number == noted.1;
+            }
             drop(other);
             drop(numbers);
-            are_same && are_noted
+            is_run
         }
         Err(_) => false,
     }
-}
-
-// What was answered stands in the histories, and a run of all steps leads to the same nodes.
-fn check_bytes(
-    rt: &impl Abort,
-    alloc: Global,
-    schedule: &Schedule,
-    pids: &[Pid],
-    world: &World<IndexTable>,
-    notes: &[Noted],
-) {
-    let scene = looked_at(alloc, schedule, pids, world);
-    scene.check_headline(rt);
-    let nodes = scene.starts.len();
-    check_answered(rt, world, nodes, schedule.steps.as_slice());
-    let begun = begun(world);
-    holds(rt, begun > 9, "updates begun:", begun);
-    let is_run = is_run(alloc, schedule, world, notes);
-    holds(rt, is_run, "the same by a run, nodes:", nodes);
 }
 
 // The events that happened; fewer where memory was refused.
@@ -269,19 +237,6 @@ fn events(alloc: Global, steps: Vec<Step>, notes: &[Noted]) -> Vec<FrameStep> {
     events
 }
 
-fn are_same_over_packets(
-    bytes: &World<IndexTable>,
-    packets: &FrameWorld<IndexTable>,
-    nodes: usize,
-) -> bool {
-    for place in 0..nodes {
-        if !are_same(state_of(bytes, place), packets.node(place)) {
-            return false;
-        }
-    }
-    true
-}
-
 // Whether the events over packets all happen, and lead to the same nodes.
 fn is_run_over_packets(
     alloc: Global,
@@ -291,109 +246,86 @@ fn is_run_over_packets(
 ) -> bool {
     match run_frames(alloc, config, events) {
         Ok((packets, numbers)) => {
-            let are_same = are_same_over_packets(world, &packets, config.starts.len());
-            let all_happen = numbers.as_slice().iter().all(|number| *number == 0);
+            let mut is_run = true;
+            for place in 0..config.starts.len() {
+                is_run = is_run && are_same(state_of(world, place), packets.node(place));
+            }
+            for number in numbers.as_slice() {
+                is_run = is_run && *number == 0;
+            }
             drop(packets);
             drop(numbers);
-            are_same && all_happen
+            is_run
         }
         Err(_) => false,
     }
 }
 
-fn check_packets(
-    rt: &impl Abort,
-    alloc: Global,
-    schedule: Schedule,
-    world: &World<IndexTable>,
-    notes: &[Noted],
-) {
-    let Schedule { config, steps } = schedule;
-    let events = events(alloc, steps, notes);
-    let is_run = is_run_over_packets(alloc, &config, world, events.as_slice());
-    drop(events);
-    holds(
-        rt,
-        is_run,
-        "the same over packets, nodes:",
-        config.starts.len(),
-    );
-    drop(config);
-}
-
-fn check_world(rt: &impl Abort, alloc: Global, schedule: Schedule, pids: &[Pid]) {
-    match World::new(alloc, &schedule.config) {
-        Ok(begun) => {
-            let mut world = begun;
-            let mut notes = Vec::new(alloc);
-            let is_there = step_all(rt, alloc, &schedule, pids, &mut world, &mut notes);
-            holds(rt, is_there, "memory for steps:", STEPS);
-            check_bytes(rt, alloc, &schedule, pids, &world, notes.as_slice());
-            check_packets(rt, alloc, schedule, &world, notes.as_slice());
-            drop(world);
-            drop(notes);
-        }
-        Err(_) => {
-            drop(schedule);
-            holds(rt, false, "a world begins, steps:", STEPS);
-        }
-    }
-}
-
-// The schedule with steps by chance.
-fn filled(schedule: Schedule, pids: &[Pid], seed: u64) -> Schedule {
-    let mut schedule = schedule;
+// The nodes of a configuration make steps by chance.
+fn check_schedule(rt: &impl Abort, alloc: Global, nodes: Schedule, seed: u64) {
+    let mut schedule = nodes;
+    let count = schedule.config.starts.len();
+    let pids = first_pids(alloc, schedule.config.starts.as_slice(), 3).expect(rt, "memory");
     let mut chance = Chance {
         random: Random::new(seed),
-        nodes: u32::try_from(schedule.config.starts.len()).unwrap_or(1),
+        nodes: u32::try_from(count).unwrap_or(1),
         asked: 0,
     };
-    put_steps(&mut schedule.steps, &mut chance, pids);
+    put_steps(&mut schedule.steps, &mut chance, pids.as_slice());
     drop(chance);
-    schedule
-}
-
-fn check_schedule(rt: &impl Abort, alloc: Global, schedule: Schedule, seed: u64) {
-    match first_pids(alloc, schedule.config.starts.as_slice(), 3) {
-        Some(pids) => {
-            let schedule = filled(schedule, pids.as_slice(), seed);
-            let count = schedule.steps.len();
-            holds(rt, count == STEPS, "steps:", count);
-            check_world(rt, alloc, schedule, pids.as_slice());
-            drop(pids);
-        }
-        None => {
-            drop(schedule);
-            holds(rt, false, "memory for processes of each node:", 3);
-        }
-    }
+    let mut world = World::new(alloc, &schedule.config)
+        .ok()
+        .expect(rt, "memory");
+    let mut notes = Vec::new(alloc);
+    step_all(
+        rt,
+        alloc,
+        &schedule,
+        pids.as_slice(),
+        &mut world,
+        &mut notes,
+    );
+    holds(rt, notes.len() == STEPS, "steps:", notes.len());
+    // What was answered stands in the histories.
+    let scene = looked_at(alloc, &schedule, pids.as_slice(), &world);
+    check_headline(rt, scene, STEPS);
+    holds(
+        rt,
+        are_answered(scene, schedule.steps.as_slice()),
+        "answers of nodes:",
+        count,
+    );
+    let begun = begun(&world);
+    holds(rt, begun > 9, "updates begun:", begun);
+    // A run of the steps, and one of the events over packets, lead to the same nodes.
+    let is_run = is_run(alloc, &schedule, &world, notes.as_slice());
+    holds(rt, is_run, "the same by a run, nodes:", count);
+    let Schedule { config, steps } = schedule;
+    let events = events(alloc, steps, notes.as_slice());
+    let is_run = is_run_over_packets(alloc, &config, &world, events.as_slice());
+    holds(rt, is_run, "the same over packets, nodes:", count);
+    drop(events);
+    drop(config);
+    drop(world);
+    drop(notes);
+    drop(pids);
 }
 
 // `more`: how many nodes there are but for the first two.
 fn check(rt: &impl Abort, alloc: Global, more: usize, seed: u64) {
     let (begun, _) = BEGUN.split_at(more.min(3) + 1);
-    match schedule_of(alloc, begun, 1) {
-        Some(schedule) => check_schedule(rt, alloc, schedule, seed),
-        None => holds(rt, false, "the nodes are read, and more:", more),
-    }
+    let nodes = schedule_of(alloc, begun, 1).expect(rt, "memory");
+    check_schedule(rt, alloc, nodes, seed);
 }
 
 #[test]
-fn two_nodes(rt: HostRuntime) {
+fn two_and_three_nodes(rt: HostRuntime) {
     check(&rt, rt.alloc(), 0, 20_261_125);
-}
-
-#[test]
-fn three_nodes(rt: HostRuntime) {
     check(&rt, rt.alloc(), 1, 20_261_126);
 }
 
 #[test]
-fn four_nodes(rt: HostRuntime) {
+fn four_and_five_nodes(rt: HostRuntime) {
     check(&rt, rt.alloc(), 2, 20_261_127);
-}
-
-#[test]
-fn five_nodes(rt: HostRuntime) {
     check(&rt, rt.alloc(), 3, 20_261_128);
 }

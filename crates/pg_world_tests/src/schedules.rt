@@ -95,23 +95,20 @@ fn with_steps(alloc: Global, script: Script) -> Option<Schedule> {
     }
 }
 
-fn read(alloc: Global, text: &str) -> Option<Schedule> {
-    match read_script(alloc, text) {
-        Ok(script) => with_steps(alloc, script),
-        Err(_) => None,
-    }
-}
-
 /// The schedule of a script, which stands in parts: one of two or three nodes, if it settles, in so many rounds. None where memory was
 /// refused.
 pub fn schedule_of(alloc: Global, script: &[&str], rounds: usize) -> Option<Schedule> {
     let mut text = String::new(alloc);
-    let schedule = match put_lines(&mut text, script, rounds) {
-        Ok(()) => read(alloc, text.as_str()),
-        Err(AllocError) => None,
-    };
+    let told = put_lines(&mut text, script, rounds);
+    let read = read_script(alloc, text.as_str());
     drop(text);
-    schedule
+    match (told, read) {
+        (Ok(()), Ok(script)) => with_steps(alloc, script),
+        (_, read) => {
+            drop(read);
+            None
+        }
+    }
 }
 
 /// The node at a place.

@@ -4,7 +4,7 @@ mod answered;
 mod held;
 
 use crate::schedules::state_of;
-pub use answered::check_answered;
+pub use answered::are_answered;
 use held::{Held, count_in};
 use pg_group::{GroupTable, Scope};
 use pg_index::IndexTable;
@@ -13,7 +13,6 @@ use pg_step::Start;
 use pg_term::{Pid, Term};
 use pg_world::{Entry, World};
 use std::alloc::{AllocError, Global};
-use std::process::Abort;
 
 /// A node of a world.
 type State = NodeState<IndexTable>;
@@ -41,14 +40,18 @@ pub fn entry_at(history: History<'_>, place: usize) -> Option<&Entry> {
     }
 }
 
-fn put_first(pids: &mut Vec<Pid>, start: &Start, count: u32) -> Result<(), AllocError> {
-    for id in 1..=count {
-        pids.push(Pid {
-            node: start.name.copy()?,
-            serial: 0,
-            id,
-            creation: 1,
-        })?;
+fn put_pids(pids: &mut Vec<Pid>, starts: &[Start], count: u32) -> Result<(), AllocError> {
+    for start in starts {
+        for id in 1..=count {
+            let node = start.name.copy()?;
+            let (serial, creation) = (0, 1);
+            pids.push(Pid {
+                node,
+                serial,
+                id,
+                creation,
+            })?;
+        }
     }
     Ok(())
 }
@@ -56,13 +59,13 @@ fn put_first(pids: &mut Vec<Pid>, start: &Start, count: u32) -> Result<(), Alloc
 /// The first so many processes of each node; none where memory was refused.
 pub fn first_pids(alloc: Global, starts: &[Start], count: u32) -> Option<Vec<Pid>> {
     let mut pids = Vec::new(alloc);
-    for start in starts {
-        if put_first(&mut pids, start, count).is_err() {
+    match put_pids(&mut pids, starts, count) {
+        Ok(()) => Some(pids),
+        Err(AllocError) => {
             drop(pids);
-            return None;
+            None
         }
     }
-    Some(pids)
 }
 
 /// A world that is looked at.
@@ -87,24 +90,17 @@ enum Wanted<'a> {
 }
 
 impl<'a> Scene<'a> {
-    // How many updates there are that a node has not applied.
-    fn missing(&self, place: usize, name: &Term) -> Option<u128> {
-        let len = len_of(self.world.history(name)) as u128;
-        len.checked_sub(self.world.applied(place, name))
-    }
-
     // What a node should hold of a process in a group.
     fn wanted(&self, node: &State, name: &Term, wanted: Wanted<'_>, pid: &Pid) -> Held {
         match wanted {
             Wanted::Applied(place) => {
-                let begun = Held::begun(self.starts, name, pid);
                 let applied = self.world.applied(place, name);
-                let held = begun.replayed(self.world.history(name), applied, pid);
+                let mut held = Held::begun(self.starts, name, pid);
+                held.replay(self.world.history(name), applied, pid);
                 if node.ended(pid) {
-                    held.without()
-                } else {
-                    held
+                    held.count = 0;
                 }
+                held
             }
             Wanted::Of(other) => Held {
                 is_there: other.table().has(name),
@@ -146,70 +142,41 @@ impl<'a> Scene<'a> {
         }
     }
 
-    // The node at a place, if it is formed.
-    fn formed_at(&self, place: usize) -> Option<&'a State> {
-        match state_of(self.world, place) {
-            Some(node) if node.formed() => Some(node),
-            _ => None,
-        }
-    }
-
-    // The first node that is formed, if one is.
-    fn first_formed(&self) -> Option<&'a State> {
-        for place in 0..self.starts.len() {
-            if let Some(node) = self.formed_at(place) {
-                return Some(node);
+    // The first node that is formed, from a place on, and before another.
+    fn formed_in(&self, from: usize, end: usize) -> Option<&'a State> {
+        for place in from..end {
+            match state_of(self.world, place) {
+                Some(node) if node.formed() => return Some(node),
+                _ => {}
             }
         }
         None
     }
 
-    // Whether the table of a node is as it should be: while one is not formed there is no update.
-    fn is_table_right(&self, place: usize, name: &Term) -> bool {
-        match self.formed_at(place) {
-            Some(node) => self.is_right(node, name, Wanted::Applied(place)),
-            None => len_of(self.world.history(name)) == 0,
-        }
-    }
-
-    // Whether a node, if it is formed, has the members that the first one has.
-    fn agrees(&self, place: usize, name: &Term) -> bool {
-        match (self.formed_at(place), self.first_formed()) {
-            (Some(node), Some(first)) => self.is_right(node, name, Wanted::Of(first)),
-            _ => true,
-        }
-    }
-
     // Whether one node sees the lock of a group free.
     fn is_free(&self, name: &Term) -> bool {
         for place in 0..self.starts.len() {
-            if let Some(node) = state_of(self.world, place) {
-                if node.holder(name).is_none() {
-                    return true;
-                }
+            match state_of(self.world, place) {
+                Some(node) if node.holder(name).is_none() => return true,
+                _ => {}
             }
         }
         false
     }
 
-    // Whether a process has ended at its home, and not everywhere.
-    fn is_pending(&self, pid: &Pid) -> bool {
-        let mut has_ended = false;
-        let mut is_alive = false;
-        for place in 0..self.starts.len() {
-            if let Some(node) = state_of(self.world, place) {
-                let ended = node.ended(pid);
-                has_ended = has_ended || ended && *node.own() == pid.node;
-                is_alive = is_alive || !ended;
-            }
-        }
-        has_ended && is_alive
-    }
-
-    // Whether no end is pending.
+    // Whether no process has ended at its home, and not everywhere.
     fn none_pending(&self) -> bool {
         for pid in self.pids {
-            if self.is_pending(pid) {
+            let mut has_ended = false;
+            let mut is_alive = false;
+            for place in 0..self.starts.len() {
+                if let Some(node) = state_of(self.world, place) {
+                    let ended = node.ended(pid);
+                    has_ended = has_ended || ended && *node.own() == pid.node;
+                    is_alive = is_alive || !ended;
+                }
+            }
+            if has_ended && is_alive {
                 return false;
             }
         }
@@ -218,46 +185,53 @@ impl<'a> Scene<'a> {
 
     // What does not hold of a group at a node, if something does not. `is_free`: one node sees its lock free; `is_calm`: beside that, no
     // end is pending.
-    fn fault(
+    fn fault_at(
         &self,
         place: usize,
         name: &Term,
         is_free: bool,
         is_calm: bool,
     ) -> Option<&'static str> {
-        let missing = self.missing(place, name);
-        if missing != Some(0) && missing != Some(1) {
-            return Some("all is applied but the last");
+        let len = len_of(self.world.history(name)) as u128;
+        let applied = self.world.applied(place, name);
+        if applied != len && (is_free || applied.saturating_add(1) != len) {
+            return Some("not all is applied");
         }
-        if is_free && missing != Some(0) {
-            return Some("all is applied");
+        let Some(node) = self.formed_in(place, place.saturating_add(1)) else {
+            return if len == 0 {
+                None
+            } else {
+                Some("an update while a node is not formed")
+            };
+        };
+        if !self.is_right(node, name, Wanted::Applied(place)) {
+            return Some("the table is another");
         }
-        if !self.is_table_right(place, name) {
-            return Some("the table is right");
-        }
-        if is_calm && !self.agrees(place, name) {
-            return Some("the tables agree");
-        }
-        None
-    }
-
-    // What the headline says of a group.
-    fn check_group(&self, rt: &impl Abort, group: i64, name: &Term) {
-        let is_free = self.is_free(name);
-        let is_calm = is_free && self.none_pending();
-        for place in 0..self.starts.len() {
-            if let Some(said) = self.fault(place, name, is_free, is_calm) {
-                panic!(rt; "{said}: group {group} at node {place}");
+        match self.formed_in(0, self.starts.len()) {
+            Some(first) if is_calm && !self.is_right(node, name, Wanted::Of(first)) => {
+                Some("the tables do not agree")
             }
+            _ => None,
         }
     }
 
-    /// What the headline says of each group and node.
-    pub fn check_headline(&self, rt: &impl Abort) {
+    /// What does not hold of the headline, of some group at some node.
+    pub fn fault(&self) -> Option<&'static str> {
+        let none_pending = self.none_pending();
         for group in GROUPS {
             let name = Term::Int(group);
-            self.check_group(rt, group, &name);
+            let is_free = self.is_free(&name);
+            let mut fault = None;
+            for place in 0..self.starts.len() {
+                if fault.is_none() {
+                    fault = self.fault_at(place, &name, is_free, is_free && none_pending);
+                }
+            }
             drop(name);
+            if fault.is_some() {
+                return fault;
+            }
         }
+        None
     }
 }

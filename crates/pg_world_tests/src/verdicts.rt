@@ -6,15 +6,3 @@ use std::process::Abort;
 pub fn holds(rt: &impl Abort, holds: bool, said: &str, place: usize) {
     assert!(rt; holds, "{said} {place}");
 }
-
-/// What is asked for, and asked for once more where memory was refused.
-macro_rules! asked_again {
-    ($asked:expr) => {
-        match $asked {
-            Some(told) => Some(told),
-            None => $asked,
-        }
-    };
-}
-
-pub(crate) use asked_again;

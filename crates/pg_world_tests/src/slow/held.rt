@@ -3,7 +3,7 @@
 use super::{History, entry_at, len_of};
 use pg_group::Update;
 use pg_step::Start;
-use pg_term::{Items, Pid, Term};
+use pg_term::{Pid, Term};
 
 /// Whether a group is there, and how often a process is in it.
 #[derive(Clone, Copy)]
@@ -24,72 +24,51 @@ pub fn count_in(pids: &[Pid], pid: &Pid) -> u64 {
 }
 
 impl Held {
-    // What a node that begins with these groups makes of it: the process is there as often as at the node where it is more often.
-    fn told(self, groups: &[(Term, Items<Pid>)], name: &Term, pid: &Pid) -> Held {
-        let mut held = self;
-        for (group, members) in groups {
-            if group == name {
-                held.is_there = true;
-                held.count = held.count.max(count_in(members.as_slice(), pid));
-            }
-        }
-        held
-    }
-
-    /// What all nodes begin with.
+    /// What all nodes begin with: the process is there as often as at the node where it is most often.
     pub fn begun(starts: &[Start], name: &Term, pid: &Pid) -> Held {
         let mut held = Held {
             is_there: false,
             count: 0,
         };
         for start in starts {
-            held = held.told(start.groups.as_slice(), name, pid);
-        }
-        held
-    }
-
-    /// The same without the process.
-    pub fn without(self) -> Held {
-        Held {
-            is_there: self.is_there,
-            count: 0,
-        }
-    }
-
-    // What an update makes of it.
-    fn updated(self, update: &Update, pid: &Pid) -> Held {
-        let Held { is_there, count } = self;
-        match update {
-            Update::Create(_) => Held {
-                is_there: true,
-                count,
-            },
-            Update::Delete(_) => Held {
-                is_there: false,
-                count: 0,
-            },
-            Update::Join(_, other) if is_there && other == pid => Held {
-                is_there,
-                count: count.saturating_add(1),
-            },
-            Update::Leave(_, other) if other == pid => Held {
-                is_there,
-                count: count.saturating_sub(1),
-            },
-            _ => self,
-        }
-    }
-
-    /// What the first so many updates of a history make of it.
-    pub fn replayed(self, history: History<'_>, count: u128, pid: &Pid) -> Held {
-        let mut held = self;
-        for place in 0..len_of(history) {
-            if let Some(entry) = entry_at(history, place) {
-                if (place as u128) < count {
-                    held = held.updated(&entry.update, pid);
+            for (group, members) in start.groups.as_slice() {
+                if group == name {
+                    held.is_there = true;
+                    held.count = held.count.max(count_in(members.as_slice(), pid));
                 }
             }
         }
         held
+    }
+
+    // Changes it as an update does.
+    fn apply(&mut self, update: &Update, pid: &Pid) {
+        match update {
+            Update::Create(_) => self.is_there = true,
+            Update::Delete(_) => {
+                self.is_there = false;
+                self.count = 0;
+            }
+            Update::Join(_, other) => {
+                if self.is_there && other == pid {
+                    self.count = self.count.saturating_add(1);
+                }
+            }
+            Update::Leave(_, other) => {
+                if other == pid {
+                    self.count = self.count.saturating_sub(1);
+                }
+            }
+        }
+    }
+
+    /// Changes it as the first so many updates of a history do.
+    pub fn replay(&mut self, history: History<'_>, count: u128, pid: &Pid) {
+        for place in 0..len_of(history) {
+            match entry_at(history, place) {
+                Some(entry) if (place as u128) < count => self.apply(&entry.update, pid),
+                _ => {}
+            }
+        }
     }
 }
