@@ -38,6 +38,10 @@ pub enum Edit {
     Times(usize, &'static [u8]),
 }
 
+fn is_put(bytes: &mut Vec<u8>, more: &[u8]) -> bool {
+    bytes.extend_from_slice(more).is_ok()
+}
+
 /// The first bytes, and the others from one place on, where they are changed from left to right.
 pub fn edited(
     alloc: Global,
@@ -46,33 +50,26 @@ pub fn edited(
     others: &[u8],
     edits: &[Edit],
 ) -> Result<Vec<u8>, AllocError> {
-    let mut bytes = Vec::from_slice(alloc, front)?;
+    let mut bytes = Vec::new(alloc);
+    let mut told = is_put(&mut bytes, front);
     let mut from = from;
     for edit in edits {
-        from = put_edit(&mut bytes, from, others, *edit)?;
-    }
-    bytes.extend_from_slice(others.get(from..).unwrap_or(&[]))?;
-    Ok(bytes)
-}
-
-// Returns the place in the others behind what was put.
-fn put_edit(
-    bytes: &mut Vec<u8>,
-    from: usize,
-    others: &[u8],
-    edit: Edit,
-) -> Result<usize, AllocError> {
-    match edit {
-        Edit::At(at, len, with) => {
-            bytes.extend_from_slice(others.get(from..at).unwrap_or(&[]))?;
-            bytes.extend_from_slice(with)?;
-            Ok(at.saturating_add(len))
-        }
-        Edit::Times(times, with) => {
-            for _ in 0..times {
-                bytes.extend_from_slice(with)?;
+        match *edit {
+            Edit::At(at, len, with) => {
+                told = told && is_put(&mut bytes, others.get(from..at).unwrap_or(&[]));
+                told = told && is_put(&mut bytes, with);
+                from = at.saturating_add(len);
             }
-            Ok(from)
+            Edit::Times(times, with) => {
+                for _ in 0..times {
+                    told = told && is_put(&mut bytes, with);
+                }
+            }
         }
+    }
+    if told && is_put(&mut bytes, others.get(from..).unwrap_or(&[])) {
+        Ok(bytes)
+    } else {
+        Err(AllocError)
     }
 }

@@ -1,22 +1,21 @@
 //! Terms that tests name by small values.
 
-use pg_term::{Atom, Boxed, Fields, Items, Pid, Reference, Term, TermFault};
+use pg_term::{Atom, Boxed, Fields, Pid, Reference, Term, TermFault};
+use pg_text::{TextFault, read_term};
 use std::alloc::Global;
 
 #[derive(Clone, Copy)]
 pub enum Sample {
-    Int(i64),
-    /// So many times the text.
+    /// The term of this text.
+    Text(&'static str),
+    /// An atom of so many times the text.
     Atom(usize, &'static str),
-    /// A tuple of so many times the numbers, within so many tuples.
-    Tuple(usize, usize, &'static [i64]),
-    /// A list of so many times the numbers.
-    List(usize, &'static [i64]),
-    /// Serial and creation.
-    Pid(u32, u32),
-    /// Creation and words.
-    Reference(u32, &'static [u32]),
-    Binary(&'static [u8]),
+    /// A reference of these words.
+    Reference(&'static [u32]),
+    /// A tuple of so many times the integer.
+    Tuple(usize, i64),
+    /// An empty tuple within so many tuples.
+    Deep(usize),
     /// A tuple that is too long, and one that makes both too deep.
     LongAndDeep,
 }
@@ -32,8 +31,8 @@ pub fn pid(alloc: Global, id: u32) -> Result<Pid, TermFault> {
 }
 
 /// The reference of node a with these words.
-pub fn reference(alloc: Global, creation: u32, words: &[u32]) -> Result<Reference, TermFault> {
-    Reference::new(Atom::new(alloc, "a")?, creation, words)
+pub fn reference(alloc: Global, words: &[u32]) -> Result<Reference, TermFault> {
+    Reference::new(Atom::new(alloc, "a")?, 1, words)
 }
 
 /// So many times the text.
@@ -45,23 +44,29 @@ pub fn atom(alloc: Global, times: usize, text: &str) -> Result<Term, TermFault> 
     Ok(Term::Atom(Atom::new(alloc, name.as_str())?))
 }
 
-fn numbers(alloc: Global, times: usize, row: &[i64]) -> Result<Vec<Term>, TermFault> {
-    let mut items = Vec::new(alloc);
+fn tuple(alloc: Global, times: usize, number: i64) -> Result<Term, TermFault> {
+    let mut items = Vec::with_capacity(alloc, times)?;
     for _ in 0..times {
-        for number in row {
-            items.push(Term::Int(*number))?;
-        }
+        items.push(Term::Int(number))?;
     }
-    Ok(items)
+    Ok(Term::Tuple(Fields::from_vec(items)))
 }
 
-/// A tuple of so many times the numbers, within so many tuples.
-pub fn tuple(alloc: Global, levels: usize, times: usize, row: &[i64]) -> Result<Term, TermFault> {
-    let mut term = Term::Tuple(Fields::from_vec(numbers(alloc, times, row)?));
+/// A term within so many tuples.
+pub fn nested(alloc: Global, levels: usize, inner: Term) -> Result<Term, TermFault> {
+    let mut term = inner;
     for _ in 0..levels {
         term = Term::Tuple(Fields::from_vec(vec![in alloc; term]?));
     }
     Ok(term)
+}
+
+fn deep(alloc: Global, levels: usize) -> Result<Term, TermFault> {
+    nested(
+        alloc,
+        levels,
+        Term::Tuple(Fields::from_vec(Vec::new(alloc))),
+    )
 }
 
 /// A tuple of two.
@@ -79,43 +84,34 @@ pub fn pair(
     }
 }
 
-fn list(alloc: Global, times: usize, row: &[i64]) -> Result<Term, TermFault> {
-    Ok(Term::List(Items::from_vec(numbers(alloc, times, row)?)))
-}
-
-fn pid_term(alloc: Global, serial: u32, creation: u32) -> Result<Term, TermFault> {
-    Ok(Term::Pid(Pid {
-        serial,
-        creation,
-        ..pid(alloc, 1)?
-    }))
-}
-
-fn reference_term(alloc: Global, creation: u32, words: &[u32]) -> Result<Term, TermFault> {
-    Ok(Term::Ref(Boxed::new(alloc, reference(alloc, creation, words)?)?))
-}
-
-fn binary(alloc: Global, bytes: &[u8]) -> Result<Term, TermFault> {
-    Ok(Term::Binary(Items::from_vec(bytes.to_vec(alloc)?)))
+fn reference_term(alloc: Global, words: &[u32]) -> Result<Term, TermFault> {
+    Ok(Term::Ref(Boxed::new(alloc, reference(alloc, words)?)?))
 }
 
 fn long_and_deep(alloc: Global) -> Result<Term, TermFault> {
-    match tuple(alloc, 0, 1_525_201, &[i64::MAX]) {
-        Ok(long) => pair(alloc, long, tuple(alloc, 63, 0, &[])),
+    match tuple(alloc, 1_525_201, i64::MAX) {
+        Ok(long) => pair(alloc, long, deep(alloc, 63)),
         Err(fault) => Err(fault),
+    }
+}
+
+// A text that is none of a term is told as a tag that is none.
+fn read(alloc: Global, text: &str) -> Result<Term, TermFault> {
+    match read_term(alloc, text) {
+        Ok(term) => Ok(term),
+        Err(TextFault::OutOfMemory) => Err(TermFault::OutOfMemory),
+        Err(TextFault::BadText) => Err(TermFault::UnknownTag),
     }
 }
 
 /// The term.
 pub fn made(alloc: Global, sample: Sample) -> Result<Term, TermFault> {
     match sample {
-        Sample::Int(number) => Ok(Term::Int(number)),
+        Sample::Text(text) => read(alloc, text),
         Sample::Atom(times, text) => atom(alloc, times, text),
-        Sample::Tuple(levels, times, row) => tuple(alloc, levels, times, row),
-        Sample::List(times, row) => list(alloc, times, row),
-        Sample::Pid(serial, creation) => pid_term(alloc, serial, creation),
-        Sample::Reference(creation, words) => reference_term(alloc, creation, words),
-        Sample::Binary(bytes) => binary(alloc, bytes),
+        Sample::Reference(words) => reference_term(alloc, words),
+        Sample::Tuple(times, number) => tuple(alloc, times, number),
+        Sample::Deep(levels) => deep(alloc, levels),
         Sample::LongAndDeep => long_and_deep(alloc),
     }
 }

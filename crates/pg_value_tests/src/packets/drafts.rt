@@ -1,6 +1,6 @@
 //! Packets that are made, not read, and why they are not written.
 
-use crate::samples::{atom, pair, pid, reference, tuple};
+use crate::samples::{atom, nested, pair, pid, reference};
 use pg_group::Update;
 use pg_message::{MAX_STAMP, Message, Packet, Request};
 use pg_term::{Atom, Items, Pid, Term, TermFault};
@@ -20,7 +20,7 @@ pub enum Draft {
 
 /// A packet that calls for a group of this name.
 pub fn created(alloc: Global, stamp: u32, name: Term) -> Result<Packet, TermFault> {
-    match reference(alloc, 1, &[1, 0, 0]) {
+    match reference(alloc, &[1, 0, 0]) {
         Ok(from) => Ok(Packet {
             stamp,
             message: Message::Call(from, Request::Change(Update::Create(name))),
@@ -89,7 +89,7 @@ fn put_groups(alloc: Global, groups: &mut Vec<Group>, draft: Draft) -> Result<()
             for number in 0..count {
                 told = told.and(put_group(alloc, groups, Ok(Term::Int(number)), members));
             }
-            told = told.and(put_group(alloc, groups, tuple(alloc, 30, 1, &[0]), 0));
+            told = told.and(put_group(alloc, groups, nested(alloc, 31, Term::Int(0)), 0));
         }
     }
     told

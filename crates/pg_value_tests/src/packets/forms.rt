@@ -3,7 +3,7 @@
 
 use super::bodies::{APPLIED, CREATE, DOWN, EXCHANGE, JOIN, JOIN_OF_LIST};
 use crate::rows::Edit::{self, At};
-use crate::rows::{OUT_OF_MEMORY, Row, check, edited};
+use crate::rows::{OUT_OF_MEMORY, Row, check, edited, holds};
 use pg_message::MessageFault::{self, *};
 use pg_message::{read_packet, write_packet};
 use pg_term::TermFault;
@@ -166,7 +166,8 @@ fn stamp_edges(rt: HostRuntime) {
         ),
     ];
     check(&rt, rt.alloc(), ROWS);
-    assert_eq!(rt; (NotAMessage.number(), StampTooLarge.number()), (12, 13));
+    let are_right = NotAMessage.number() == 12 && StampTooLarge.number() == 13;
+    holds(&rt, are_right, "the numbers of the faults");
 }
 
 /// A body and its fault.

@@ -175,6 +175,12 @@ impl Row for Altered {
 
 #[test]
 fn bodies_cut_and_changed(rt: HostRuntime) {
-    let rows = [CREATE, JOIN, APPLIED, DEL_LOCK, EXCHANGE].map(Altered);
-    check(&rt, rt.alloc(), &rows);
+    const ROWS: &[Altered] = &[
+        Altered(CREATE),
+        Altered(JOIN),
+        Altered(APPLIED),
+        Altered(DEL_LOCK),
+        Altered(EXCHANGE),
+    ];
+    check(&rt, rt.alloc(), ROWS);
 }

@@ -3,7 +3,7 @@
 
 use super::bodies::{CREATE, EMPTY};
 use super::drafts::created;
-use super::forms::{Changed, Itself, NO_PACKET, is_read_in_both_forms};
+use super::forms::{Changed, Itself, NO_PACKET};
 use crate::rows::Edit::{self, At, Times};
 use crate::rows::{OUT_OF_MEMORY, Row, check, edited, holds};
 use pg_message::MessageFault::{self, NameTooLarge, NotAMessage};
@@ -13,32 +13,52 @@ use pg_term_io::{decode, encode_len};
 use std::alloc::{AllocError, Global};
 use std::test::*;
 
-/// The bytes of a name in place of that of a create call, how many they are with the first of a term, and whether it is
-/// within the limits.
+/// The bytes of a name in place of that of a create call, how many they are with the first of a term, why it is no name, and
+/// why such a call is not written.
 #[derive(Clone, Copy)]
-struct Name(&'static [Edit], usize, bool);
+struct Name(
+    &'static [Edit],
+    usize,
+    Option<MessageFault>,
+    Option<MessageFault>,
+);
 
-// Zeros in a list, and a pid behind them; and a zero inside so many tuples.
+const LARGE: Option<MessageFault> = Some(NameTooLarge);
+
+const REFUSED: Option<MessageFault> = Some(NotAMessage);
+
 const NAMES: &[Name] = &[
-    Name(&[LIST_508, Times(508, b"a\0"), Times(1, b"j")], 1023, true),
-    Name(&[LIST_509, Times(509, b"a\0"), Times(1, b"j")], 1025, false),
-    Name(&[LIST_501, Times(500, b"a\0"), PID_AT_END], 1023, true),
-    Name(&[LIST_502, Times(501, b"a\0"), PID_AT_END], 1025, false),
-    Name(&[NAME, Times(31, b"h\x01"), Times(1, b"a\0")], 65, true),
-    Name(&[NAME, Times(32, b"h\x01"), Times(1, b"a\0")], 67, false),
+    Name(ZEROS_508, 1023, None, None),
+    Name(ZEROS_509, 1025, LARGE, REFUSED),
+    Name(ZEROS_AND_PID_500, 1023, None, None),
+    Name(ZEROS_AND_PID_501, 1025, LARGE, REFUSED),
+    Name(DEEP_31, 65, None, None),
+    Name(DEEP_32, 67, LARGE, REFUSED),
 ];
 
-const NAME: Edit = At(45, 3, b"");
+const READ: &[Changed] = &[
+    Changed(CREATE, ZEROS_508, Itself),
+    Changed(CREATE, ZEROS_509, NO_PACKET),
+    Changed(CREATE, ZEROS_AND_PID_500, Itself),
+    Changed(CREATE, ZEROS_AND_PID_501, NO_PACKET),
+    Changed(CREATE, DEEP_31, Itself),
+    Changed(CREATE, DEEP_32, NO_PACKET),
+];
 
-const LIST_508: Edit = At(45, 3, b"l\0\0\x01\xfc");
+// Zeros in a list, and a pid behind them; a zero inside so many tuples.
+const ZEROS_508: &[Edit] = &[At(45, 3, b"l\0\0\x01\xfc"), Times(508, b"a\0"), END];
 
-const LIST_509: Edit = At(45, 3, b"l\0\0\x01\xfd");
+const ZEROS_509: &[Edit] = &[At(45, 3, b"l\0\0\x01\xfd"), Times(509, b"a\0"), END];
 
-const LIST_501: Edit = At(45, 3, b"l\0\0\x01\xf5");
+const ZEROS_AND_PID_500: &[Edit] = &[At(45, 3, b"l\0\0\x01\xf5"), Times(500, b"a\0"), PID, END];
 
-const LIST_502: Edit = At(45, 3, b"l\0\0\x01\xf6");
+const ZEROS_AND_PID_501: &[Edit] = &[At(45, 3, b"l\0\0\x01\xf6"), Times(501, b"a\0"), PID, END];
 
-const PID_AT_END: Edit = Times(1, b"Xw\x01a\0\0\0\x01\0\0\0\0\0\0\0\x01j");
+const DEEP_31: &[Edit] = &[At(45, 3, b""), Times(31, b"h\x01"), Times(1, b"a\0")];
+
+const DEEP_32: &[Edit] = &[At(45, 3, b""), Times(32, b"h\x01"), Times(1, b"a\0")];
+
+const PID: Edit = Times(1, b"Xw\x01a\0\0\0\x01\0\0\0\0\0\0\0\x01");
 
 // The name alone.
 fn decoded(alloc: Global, edits: &[Edit]) -> Result<Term, TermFault> {
@@ -52,12 +72,8 @@ fn decoded(alloc: Global, edits: &[Edit]) -> Result<Term, TermFault> {
     }
 }
 
-// Whether a create call of this name is written with this fault, or with none.
-fn is_written_with(
-    alloc: Global,
-    name: Term,
-    fault: Option<MessageFault>,
-) -> Result<bool, MessageFault> {
+// Why a create call of this name is not written.
+fn fault_of(alloc: Global, name: Term) -> Result<Option<MessageFault>, MessageFault> {
     match created(alloc, 0, name) {
         Ok(packet) => {
             let told = write_packet(alloc, &packet).err();
@@ -65,42 +81,32 @@ fn is_written_with(
             if told == Some(OUT_OF_MEMORY) {
                 Err(OUT_OF_MEMORY)
             } else {
-                Ok(told == fault)
+                Ok(told)
             }
         }
         Err(fault) => Err(MessageFault::Term(fault)),
     }
 }
 
-// Whether a name takes so many bytes, and is checked and written as one.
-fn is_told(alloc: Global, name: Term, len: usize, is_name: bool) -> Result<bool, MessageFault> {
-    let is_long = encode_len(&name) == Ok(len);
-    let checked = check_name(&name);
-    let (wanted, fault) = if is_name {
-        (Ok(()), None)
-    } else {
-        (Err(NameTooLarge), Some(NotAMessage))
-    };
-    Ok(is_written_with(alloc, name, fault)? && is_long && checked == wanted)
-}
-
 impl Row for Name {
     fn told(&self, alloc: Global) -> Result<bool, MessageFault> {
-        let Name(edits, len, is_name) = *self;
-        let wanted = if is_name { Itself } else { NO_PACKET };
-        let told = match decoded(alloc, edits) {
-            Ok(name) => is_told(alloc, name, len, is_name),
+        match decoded(alloc, self.0) {
+            Ok(name) => {
+                let is_long = encode_len(&name) == Ok(self.1);
+                let is_checked = check_name(&name).err() == self.2;
+                Ok(fault_of(alloc, name)? == self.3 && is_long && is_checked)
+            }
             Err(fault) => Err(MessageFault::Term(fault)),
-        };
-        Ok(told? && is_read_in_both_forms(alloc, CREATE, edits, wanted)?)
+        }
     }
 }
 
 #[test]
 fn name_limits(rt: HostRuntime) {
-    let limits = (MAX_NAME_LEN, MAX_NAME_DEPTH);
-    holds(&rt, limits == (1024, 32), "the limits of a name");
+    let are_right = MAX_NAME_LEN == 1024 && MAX_NAME_DEPTH == 32;
+    holds(&rt, are_right, "the limits of a name");
     check(&rt, rt.alloc(), NAMES);
+    check(&rt, rt.alloc(), READ);
 }
 
 // Groups without members, named 1, 7, 8, g, h, {g}, [1] and <<"g">>; and 1, g and [1] in other forms.

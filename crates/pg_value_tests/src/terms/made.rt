@@ -113,14 +113,14 @@ fn is_refused(alloc: Global, term: &Term, fault: TermFault) -> Result<bool, Term
 
 impl Row for Refused {
     fn told(&self, alloc: Global) -> Result<bool, MessageFault> {
-        match made(alloc, self.0) {
+        let told = match made(alloc, self.0) {
             Ok(term) => {
                 let told = is_refused(alloc, &term, self.1);
                 drop(term);
-                Ok(told?)
+                told
             }
-            Err(TermFault::OutOfMemory) => Err(MessageFault::Term(TermFault::OutOfMemory)),
-            Err(fault) => Ok(fault == self.1),
-        }
+            Err(fault) => Err(fault),
+        };
+        Ok(told == Err(self.1) || told?)
     }
 }

@@ -3,43 +3,20 @@
 use crate::rows::{OUT_OF_MEMORY, Row, check};
 use crate::samples::{Sample, made};
 use pg_message::MessageFault;
-use pg_term::{Fields, Term, TermFault};
+use pg_term::Term;
 use std::alloc::{AllocError, Global};
 use std::test::*;
 
-/// Terms of every kind, in rising order, and the depth of a tuple of them.
+/// The text of a tuple of terms in rising order, and its depth.
 #[derive(Clone, Copy)]
-struct Rising(&'static [Sample], u64);
+struct Rising(&'static str, u64);
 
+// Terms of every kind.
 const RISING: Rising = Rising(
-    &[
-        Sample::Int(1),
-        Sample::Atom(1, "a"),
-        Sample::Reference(1, &[0]),
-        Sample::Reference(256, &[0]),
-        Sample::Reference(u32::MAX, &[0]),
-        Sample::Pid(0, 1),
-        Sample::Pid(0, 256),
-        Sample::Pid(0, u32::MAX),
-        Sample::Tuple(0, 0, &[]),
-        Sample::List(0, &[]),
-        Sample::List(1, &[1]),
-        Sample::List(1, &[1, 0]),
-        Sample::Binary(&[]),
-        Sample::Binary(&[0]),
-        Sample::Binary(&[0, 255]),
-        Sample::Binary(&[1]),
-    ],
+    "{1,a,#<a/1.0>,#<a/256.0>,#<a/4294967295.0>,<a.1.0>,<a.1.0/256>,<a.1.0/4294967295>,{},\
+    [],[1],[1,0],<<>>,<<0>>,<<0,255>>,<<1>>}",
     3,
 );
-
-fn tuple_of(alloc: Global, samples: &[Sample]) -> Result<Term, TermFault> {
-    let mut terms = Vec::with_capacity(alloc, samples.len())?;
-    for sample in samples {
-        terms.push(made(alloc, *sample)?)?;
-    }
-    Ok(Term::Tuple(Fields::from_vec(terms)))
-}
 
 // Whether each of the terms stands to each as its place does, and is equal to itself alone.
 fn are_rising(terms: &[Term]) -> bool {
@@ -53,13 +30,16 @@ fn are_rising(terms: &[Term]) -> bool {
     true
 }
 
-// Whether a copy of the term is equal to it, and so deep.
-fn is_copied(alloc: Global, term: &Term, depth: u64) -> Result<bool, MessageFault> {
+// Whether a tuple is rising, and a copy of it is equal to it and so deep.
+fn is_rising(alloc: Global, term: &Term, depth: u64) -> Result<bool, MessageFault> {
+    let Term::Tuple(terms) = term else {
+        return Ok(false);
+    };
     match term.copy(alloc) {
         Ok(copy) => {
             let is_same = copy.is(term) && copy.depth() == depth;
             drop(copy);
-            Ok(is_same)
+            Ok(is_same && are_rising(terms.as_slice()))
         }
         Err(AllocError) => Err(OUT_OF_MEMORY),
     }
@@ -67,15 +47,11 @@ fn is_copied(alloc: Global, term: &Term, depth: u64) -> Result<bool, MessageFaul
 
 impl Row for Rising {
     fn told(&self, alloc: Global) -> Result<bool, MessageFault> {
-        match tuple_of(alloc, self.0) {
+        match made(alloc, Sample::Text(self.0)) {
             Ok(term) => {
-                let is_rising = match &term {
-                    Term::Tuple(terms) => are_rising(terms.as_slice()),
-                    _ => false,
-                };
-                let is_copied = is_copied(alloc, &term, self.1);
+                let told = is_rising(alloc, &term, self.1);
                 drop(term);
-                Ok(is_copied? && is_rising)
+                told
             }
             Err(fault) => Err(MessageFault::Term(fault)),
         }

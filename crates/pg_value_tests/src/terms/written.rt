@@ -9,22 +9,17 @@ use std::test::*;
 #[test]
 fn integers_and_atoms(rt: HostRuntime) {
     const ROWS: &[Made] = &[
-        Made(Int(0), 3, b"\x83a\0", &[b"\x83n\0\x01"]),
-        Made(Int(5), 3, b"\x83a\x05", &[b"\x83n\x01\0\x05"]),
-        Made(Int(255), 3, b"\x83a\xff", &[]),
-        Made(Int(256), 6, b"\x83b\0\0\x01\0", &[]),
-        Made(Int(65_538), 6, b"\x83b\0\x01\0\x02", &[]),
-        Made(Int(-1), 6, b"\x83b\xff\xff\xff\xff", &[]),
-        Made(Int(-2_147_483_648), 6, b"\x83b\x80\0\0\0", &[]),
-        Made(Atom(0, ""), 3, b"\x83w\0", &[]),
-        Made(Atom(1, "é"), 5, b"\x83w\x02\xc3\xa9", OTHERS),
-        Made(
-            Atom(1, "aß"),
-            6,
-            b"\x83w\x03a\xc3\x9f",
-            &[b"\x83s\x02a\xdf"],
-        ),
-        Made(Atom(1, "€"), 6, b"\x83w\x03\xe2\x82\xac", &[]),
+        Made(Text("0"), 3, b"\x83a\0", &[b"\x83n\0\x01"]),
+        Made(Text("5"), 3, b"\x83a\x05", &[b"\x83n\x01\0\x05"]),
+        Made(Text("255"), 3, b"\x83a\xff", &[]),
+        Made(Text("256"), 6, b"\x83b\0\0\x01\0", &[]),
+        Made(Text("65538"), 6, b"\x83b\0\x01\0\x02", &[]),
+        Made(Text("-1"), 6, b"\x83b\xff\xff\xff\xff", &[]),
+        Made(Text("-2147483648"), 6, b"\x83b\x80\0\0\0", &[]),
+        Made(Text("''"), 3, b"\x83w\0", &[]),
+        Made(Text("'é'"), 5, b"\x83w\x02\xc3\xa9", OTHERS),
+        Made(Text("'aß'"), 6, b"\x83w\x03a\xc3\x9f", &[b"\x83s\x02a\xdf"]),
+        Made(Text("'€'"), 6, b"\x83w\x03\xe2\x82\xac", &[]),
         Made(Atom(255, "a"), 258, b"\x83w\xffa", &[]),
         Made(Atom(255, "é"), 514, b"\x83v\x01\xfe\xc3\xa9", &[]),
         Made(Atom(255, "\u{1f600}"), 1024, b"\x83v\x03\xfc\xf0", &[]),
@@ -37,48 +32,49 @@ fn integers_and_atoms(rt: HostRuntime) {
 #[test]
 fn tuples_bigs_and_lists(rt: HostRuntime) {
     const ROWS: &[Made] = &[
-        Made(Int(2_147_483_648), 8, b"\x83n\x04\0\0\0\0\x80", &[]),
-        Made(Int(-2_147_483_649), 8, b"\x83n\x04\x01\x01\0\0\x80", &[]),
-        Made(Int(4_294_967_296), 9, b"\x83n\x05\0\0\0\0\0\x01", &[]),
-        Made(Int(i64::MAX), 12, MAX, &[]),
-        Made(Int(i64::MIN), 12, b"\x83n\x08\x01\0\0\0\0\0\0\0\x80", &[]),
+        Made(Text("2147483648"), 8, b"\x83n\x04\0\0\0\0\x80", &[]),
+        Made(Text("-2147483649"), 8, b"\x83n\x04\x01\x01\0\0\x80", &[]),
+        Made(Text("4294967296"), 9, b"\x83n\x05\0\0\0\0\0\x01", &[]),
+        Made(Text("9223372036854775807"), 12, MAX, &[]),
+        Made(Text("-9223372036854775808"), 12, MIN, &[]),
         Made(
-            Int(-513),
+            Text("-513"),
             6,
             b"\x83b\xff\xff\xfd\xff",
             &[b"\x83n\x02\x07\x01\x02"],
         ),
         Made(
-            Int(1),
+            Text("1"),
             3,
             b"\x83a\x01",
             &[b"\x83n\x09\0\x01\0\0\0\0\0\0\0\0"],
         ),
-        Made(Tuple(0, 0, &[]), 3, b"\x83h\0", &[]),
+        Made(Text("{}"), 3, b"\x83h\0", &[]),
         Made(
-            Tuple(0, 1, &[7]),
+            Text("{7}"),
             5,
             b"\x83h\x01a\x07",
             &[b"\x83i\0\0\0\x01a\x07"],
         ),
-        Made(Tuple(0, 255, &[7]), 513, b"\x83h\xffa\x07", &[]),
-        Made(Tuple(0, 256, &[7]), 518, b"\x83i\0\0\x01\0a\x07", &[]),
-        Made(List(0, &[]), 2, b"\x83j", &[b"\x83l\0\0\0\0j"]),
-        Made(List(1, &[7]), 9, b"\x83l\0\0\0\x01a\x07j", &[]),
-        Made(List(2, &[7]), 11, b"\x83l\0\0\0\x02a\x07a\x07j", &[]),
+        Made(Tuple(255, 7), 513, b"\x83h\xffa\x07", &[]),
+        Made(Tuple(256, 7), 518, b"\x83i\0\0\x01\0a\x07", &[]),
+        Made(Text("[]"), 2, b"\x83j", &[b"\x83l\0\0\0\0j"]),
+        Made(Text("[7]"), 9, b"\x83l\0\0\0\x01a\x07j", &[]),
+        Made(Text("[7,7]"), 11, b"\x83l\0\0\0\x02a\x07a\x07j", &[]),
     ];
     const MAX: &[u8] = b"\x83n\x08\0\xff\xff\xff\xff\xff\xff\xff\x7f";
+    const MIN: &[u8] = b"\x83n\x08\x01\0\0\0\0\0\0\0\x80";
     check(&rt, rt.alloc(), ROWS);
 }
 
 #[test]
 fn lists_and_old_references(rt: HostRuntime) {
     const ROWS: &[Made] = &[
-        Made(List(1, &[1, 2]), 11, b"\x83l\0\0\0\x02a\x01a\x02j", TEXTS),
-        Made(Reference(2, &[7]), 15, SEVEN, OLD),
-        Made(Reference(2, &[0]), 15, b"\x83Z\0\x01w", &[]),
-        Made(Reference(2, &[1, u32::MAX]), 19, b"\x83Z\0\x02w", &[]),
-        Made(Reference(2, &[1, 2, 3]), 23, b"\x83Z\0\x03w", &[]),
+        Made(Text("[1,2]"), 11, b"\x83l\0\0\0\x02a\x01a\x02j", TEXTS),
+        Made(Text("#<a/2.7>"), 15, SEVEN, OLD),
+        Made(Text("#<a/2.0>"), 15, b"\x83Z\0\x01w", &[]),
+        Made(Text("#<a/2.1.4294967295>"), 19, b"\x83Z\0\x02w", &[]),
+        Made(Text("#<a/2.1.2.3>"), 23, b"\x83Z\0\x03w", &[]),
     ];
     const TEXTS: &[&[u8]] = &[b"\x83k\0\x02\x01\x02", b"\x83l\0\0\0\x01a\x01k\0\x01\x02"];
     const SEVEN: &[u8] = b"\x83Z\0\x01w\x01a\0\0\0\x02\0\0\0\x07";
@@ -87,8 +83,8 @@ fn lists_and_old_references(rt: HostRuntime) {
         b"\x83r\0\x01w\x01a\x02\0\0\0\x07",
     ];
     const NONE: &[Refused] = &[
-        Refused(Reference(1, &[]), BadReference),
-        Refused(Reference(1, &[1, 2, 3, 4]), BadReference),
+        Refused(Reference(&[]), BadReference),
+        Refused(Reference(&[1, 2, 3, 4]), BadReference),
     ];
     check(&rt, rt.alloc(), ROWS);
     check(&rt, rt.alloc(), NONE);
@@ -97,57 +93,46 @@ fn lists_and_old_references(rt: HostRuntime) {
 #[test]
 fn wide_creations_and_binaries(rt: HostRuntime) {
     const ROWS: &[Made] = &[
+        Made(Text("<a.1.258/3>"), 17, THREE, &[]),
+        Made(Text("<a.1.258/0>"), 17, FRONT, &[]),
+        Made(Text("<a.1.258/255>"), 17, FRONT, &[]),
+        Made(Text("<a.1.258/256>"), 17, FRONT, &[]),
+        Made(Text("<a.1.258/4294967295>"), 17, FRONT, &[]),
+        Made(Text("<a.1.0/4294967295>"), 17, WIDE, &[]),
         Made(
-            Pid(258, 3),
+            Text("<a.1.0>"),
             17,
-            b"\x83Xw\x01a\0\0\0\x01\0\0\x01\x02\0\0\0\x03",
-            &[],
+            ONE,
+            &[b"\x83gw\x01a\0\0\0\x01\0\0\0\0\x01"],
         ),
-        Made(Pid(258, 0), 17, FRONT, &[]),
-        Made(Pid(258, 255), 17, FRONT, &[]),
-        Made(Pid(258, 256), 17, FRONT, &[]),
-        Made(Pid(258, u32::MAX), 17, FRONT, &[]),
-        Made(Pid(0, u32::MAX), 17, WIDE, &[]),
-        Made(
-            Pid(0, 1),
-            17,
-            b"\x83Xw\x01a\0\0\0\x01\0\0\0\0\0\0\0\x01",
-            OLD,
-        ),
-        Made(Binary(&[]), 6, b"\x83m\0\0\0\0", &[]),
-        Made(Binary(&[1, 2]), 8, b"\x83m\0\0\0\x02\x01\x02", &[]),
-        Made(Binary(&[131, 0, 255]), 9, b"\x83m\0\0\0\x03\x83\0\xff", &[]),
+        Made(Text("<<>>"), 6, b"\x83m\0\0\0\0", &[]),
+        Made(Text("<<1,2>>"), 8, b"\x83m\0\0\0\x02\x01\x02", &[]),
+        Made(Text("<<131,0,255>>"), 9, b"\x83m\0\0\0\x03\x83\0\xff", &[]),
     ];
     const FRONT: &[u8] = b"\x83Xw\x01a\0\0\0\x01\0\0\x01\x02";
+    const THREE: &[u8] = b"\x83Xw\x01a\0\0\0\x01\0\0\x01\x02\0\0\0\x03";
     const WIDE: &[u8] = b"\x83Xw\x01a\0\0\0\x01\0\0\0\0\xff\xff\xff\xff";
-    const OLD: &[&[u8]] = &[b"\x83gw\x01a\0\0\0\x01\0\0\0\0\x01"];
+    const ONE: &[u8] = b"\x83Xw\x01a\0\0\0\x01\0\0\0\0\0\0\0\x01";
     check(&rt, rt.alloc(), ROWS);
 }
 
 // The deepest that is written, and terms beyond it. Depth is told before length.
 #[test]
 fn deepest(rt: HostRuntime) {
-    const DEEP: &[Refused] = &[
-        Refused(Tuple(64, 0, &[]), TooDeep),
-        Refused(LongAndDeep, TooDeep),
-    ];
-    check(
-        &rt,
-        rt.alloc(),
-        &[Made(Tuple(63, 0, &[]), 129, b"\x83h\x01", &[])],
-    );
+    const DEEP: &[Refused] = &[Refused(Deep(64), TooDeep), Refused(LongAndDeep, TooDeep)];
+    check(&rt, rt.alloc(), &[Made(Deep(63), 129, b"\x83h\x01", &[])]);
     check(&rt, rt.alloc(), DEEP);
 }
 
 #[test]
 fn longest(rt: HostRuntime) {
-    let long = Tuple(0, 1_677_721, &[1 << 48]);
-    let row = Made(long, 16_777_216, b"\x83i\0\x19\x99\x99n\x07\0\0", &[]);
-    check(&rt, rt.alloc(), &[row]);
+    const FRONT: &[u8] = b"\x83i\0\x19\x99\x99n\x07\0\0";
+    const ROWS: &[Made] = &[Made(Tuple(1_677_721, 1 << 48), 16_777_216, FRONT, &[])];
+    check(&rt, rt.alloc(), ROWS);
 }
 
 #[test]
 fn too_long(rt: HostRuntime) {
-    let long = Tuple(0, 1_525_201, &[i64::MAX]);
-    check(&rt, rt.alloc(), &[Refused(long, TooLong)]);
+    const ROWS: &[Refused] = &[Refused(Tuple(1_525_201, i64::MAX), TooLong)];
+    check(&rt, rt.alloc(), ROWS);
 }
