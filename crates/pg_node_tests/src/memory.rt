@@ -75,8 +75,23 @@ static GREATEST: Table<'static> = Table {
         Row::Did(Deed::SendsTo(0)),
         Row::Seen(Sight::Locked(false)),
         Row::Seen(Sight::Waiting(2)),
-        // Then both are asked again.
         Row::Told(Event::Retry(2)),
+        Row::Did(Deed::Sends(2)),
+    ],
+};
+
+static DENIED: Table<'static> = Table {
+    kind: Kind::Formed(Who::C),
+    rows: &[
+        Row::Told(Event::Command("create c 7")),
+        Row::Did(Deed::Sends(2)),
+        // One grants the lock, the other denies it: who granted is told.
+        Row::Told(Event::Take(0, "{3,{reply,#<c/1.1.0.0>,true}}")),
+        Row::Told(Event::Take(1, "{3,{reply,#<c/1.1.0.0>,false}}")),
+        Row::Did(Deed::SendsTo(0)),
+        Row::Seen(Sight::Locked(false)),
+        // Then both are asked again.
+        Row::Told(Event::Retry(1)),
         Row::Did(Deed::Sends(2)),
         Row::Did(Deed::AsksLock(true)),
     ],
@@ -85,6 +100,7 @@ static GREATEST: Table<'static> = Table {
 #[test]
 fn greatest_asks_itself_first(rt: HostRuntime) {
     check(&rt, rt.alloc(), &GREATEST);
+    check(&rt, rt.alloc(), &DENIED);
 }
 
 // At a formed node: a process was not made, and then it has ended, of which both peers are told.

@@ -228,10 +228,15 @@ fn is_run(alloc: Global, schedule: &Schedule, world: &World<IndexTable>, notes: 
 fn events(alloc: Global, steps: Vec<Step>, notes: &[Noted]) -> Vec<FrameStep> {
     let mut events = Vec::new(alloc);
     for (step, noted) in steps.into_iter().zip(notes) {
-        if let (Step::Event(event), (true, _)) = (step, noted) {
-            if events.push(event).is_err() {
-                return events;
+        match step {
+            Step::Event(event) => {
+                if !noted.0 {
+                    drop(event);
+                } else if events.push(event).is_err() {
+                    return events;
+                }
             }
+            other => drop(other),
         }
     }
     events

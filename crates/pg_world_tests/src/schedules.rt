@@ -74,8 +74,10 @@ fn put_lines(text: &mut String, script: &[&str], rounds: usize) -> Result<(), Al
 // The steps of lines of which each is one.
 fn put_steps(steps: &mut Vec<Step>, lines: Vec<ScriptLine>) -> Result<(), AllocError> {
     for line in lines {
-        if let Act::Step(step) = line.act {
-            steps.push(step)?;
+        let ScriptLine { number: _, act } = line;
+        match act {
+            Act::Step(step) => steps.push(step)?,
+            other => drop(other),
         }
     }
     Ok(())
