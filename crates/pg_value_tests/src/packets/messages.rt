@@ -97,7 +97,7 @@ fn put(packet: &Packet, out: &mut BytesMut) -> Result<(), MessageFault> {
 fn is_framed(alloc: Global, packet: &Packet, bytes: &[u8]) -> bool {
     let len = u32::try_from(bytes.len()).unwrap_or(u32::MAX);
     let mut out = BytesMut::new(alloc);
-    let is_put = put(packet, &mut out) == Ok(());
+    let is_put = put(packet, &mut out).is_ok();
     let is_framed = out.len() == bytes.len() + 4
         && out.as_slice().starts_with(&len.to_be_bytes())
         && out.as_slice().ends_with(bytes);
@@ -118,7 +118,7 @@ fn is_written(alloc: Global, packet: &Packet, bytes: &[u8]) -> Result<bool, Mess
     }
 }
 
-// Whether the packet is of this kind and written as the bytes, and so is its copy.
+// Whether a copy of the packet is of this kind, and both are written as the bytes.
 fn is_both_ways(
     alloc: Global,
     packet: &Packet,
@@ -127,7 +127,7 @@ fn is_both_ways(
 ) -> Result<bool, MessageFault> {
     match packet.copy(alloc) {
         Ok(copy) => {
-            let is_same = kind_of(packet) == kind && kind_of(&copy) == kind;
+            let is_same = kind_of(&copy) == kind;
             let is_copied = is_written(alloc, &copy, bytes);
             drop(copy);
             Ok(is_copied? && is_written(alloc, packet, bytes)? && is_same)
