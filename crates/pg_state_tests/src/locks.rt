@@ -1,6 +1,6 @@
 //! The locks of a node, and the rounds of an attempt.
 
-use crate::samples::{reference, row_holds};
+use crate::samples::{at_row, reference, row_holds};
 use pg_lock::{Attempt, LockTable};
 use pg_term::{Reference, Term};
 use std::process::Abort;
@@ -141,8 +141,9 @@ const ROUNDS: &[(Attempt, bool, Attempt)] = &[
 #[test]
 fn two_rounds(rt: HostRuntime) {
     check!(&rt; Attempt::new() == Attempt::AskingFirst);
-    for ((attempt, granted, next), row) in ROUNDS.iter().zip(0..6) {
-        row_holds(&rt, attempt.after_round(*granted) == *next, row);
+    for row in ROUNDS {
+        let (attempt, granted, next) = *row;
+        at_row(&rt, attempt.after_round(granted) == next, row);
     }
     check!(&rt; Attempt::Waiting.retried() == Some(Attempt::AskingFirst));
     check!(&rt; Attempt::Held.retried() == None);

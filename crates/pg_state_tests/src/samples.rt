@@ -3,6 +3,7 @@
 
 use pg_term::{Atom, Reference};
 use std::alloc::Global;
+use std::fmt::Debug;
 use std::process::Abort;
 
 /// Ends the test where something does not hold, and tells of it.
@@ -13,6 +14,11 @@ pub fn holds(rt: &impl Abort, holds: bool, said: &str) {
 /// Ends the test where a row of a table does not hold.
 pub fn row_holds(rt: &impl Abort, holds: bool, row: usize) {
     assert!(rt; holds, "at {row}");
+}
+
+/// Ends the test where a row of a table does not hold.
+pub fn at_row<R: Debug>(rt: &impl Abort, holds: bool, row: &R) {
+    assert!(rt; holds, "at {row:?}");
 }
 
 /// The name of a node.

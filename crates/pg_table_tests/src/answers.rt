@@ -3,87 +3,102 @@
 ghost use Rattle.pg_group.specs.Scope.{anywhere};
 ghost use Rattle.pg_group.specs.Members.{IsMemberList};
 
-use crate::change::group_count;
-use crate::reading::{Counts, Reading};
-use crate::samples::Cast;
+use crate::reading::Counts;
 use pg_group::{GroupTable, Scope, one_member_list};
 use pg_query::{QueryFault, members};
 use pg_term::{Items, Pid, Term};
-use std::process::Abort;
+use std::alloc::Global;
 
-/// A table answers as the reading of the rules says, in all that can be asked of the two groups.
-pub fn answers_as<T: GroupTable>(rt: &impl Abort, table: &T, cast: &Cast, reading: &Reading) {
-    group_is(rt, table, cast, 1, reading.first);
-    group_is(rt, table, cast, 2, reading.second);
-    check!(rt; group_count(rt, table) == reading.group_count());
-}
-
-fn group_is<T: GroupTable>(rt: &impl Abort, table: &T, cast: &Cast, group: i64, counts: Counts) {
+/// Whether a table answers as the rules say, in all that can be asked of a group: each of the two pids, which are the only ones of
+/// their nodes, is so often a member.
+pub fn group_is<T: GroupTable>(
+    alloc: Global,
+    table: &T,
+    pids: (&Pid, &Pid),
+    group: i64,
+    counts: Counts,
+) -> bool {
     let name = Term::Int(group);
-    check!(rt; table.has(&name) == counts.is_some());
-    members_are(rt, table, cast, &name, counts.unwrap_or((0, 0)));
-    if counts.is_some() {
-        list_is(rt, table, cast, &name, counts.unwrap_or((0, 0)));
-    } else {
-        check!(rt; members(cast.alloc, table, &name).err() == Some(QueryFault::NoSuchGroup));
-    }
+    let is_so = table.has(&name) == counts.is_some()
+        && members_are(table, pids, &name, counts.unwrap_or((0, 0)))
+        && lists_so(alloc, table, pids, &name, counts);
     drop(name);
+    is_so
 }
 
-/// Each of the two pids is so often a member, and stands at so many places: in the group, and on its node.
+/// Whether each of the two is so often a member, and stands at so many places: in the group, and on its node.
 fn members_are<T: GroupTable>(
-    rt: &impl Abort,
     table: &T,
-    cast: &Cast,
+    (one, two): (&Pid, &Pid),
     name: &Term,
-    counts: (u64, u64),
-) {
-    let (one, two) = (cast.pid(rt, 0), cast.pid(rt, 1));
-    check!(rt; table.count(name, one) == counts.0);
-    check!(rt; table.count(name, two) == counts.1);
-    places_are(rt, table, cast, name, Scope::All, counts);
-    places_are(rt, table, cast, name, Scope::At(&one.node), (counts.0, 0));
-    places_are(rt, table, cast, name, Scope::At(&two.node), (0, counts.1));
+    (a, b): (u64, u64),
+) -> bool {
+    let all = a.saturating_add(b);
+    table.count(name, one) == a
+        && table.count(name, two) == b
+        && stands_at(table, name, Scope::All, one, 0, a)
+        && stands_at(table, name, Scope::All, two, a, all)
+        && table.pid_at(name, Scope::All, all).is_none()
+        && stands_at(table, name, Scope::At(&one.node), one, 0, a)
+        && table.pid_at(name, Scope::At(&one.node), a).is_none()
+        && stands_at(table, name, Scope::At(&two.node), two, 0, b)
+        && table.pid_at(name, Scope::At(&two.node), b).is_none()
 }
 
-fn places_are<T: GroupTable>(
-    rt: &impl Abort,
+/// Whether a pid stands at the places from one up to another.
+fn stands_at<T: GroupTable>(
     table: &T,
-    cast: &Cast,
     name: &Term,
     scope: Scope<'_>,
-    counts: (u64, u64),
-) {
-    let all = counts.0.saturating_add(counts.1);
-    for place in 0..all {
-        check!(rt; table.pid_at(name, scope, place) == wanted(cast, counts, place));
+    pid: &Pid,
+    from: u64,
+    to: u64,
+) -> bool {
+    for place in from..to {
+        if table.pid_at(name, scope, place) != Some(pid) {
+            return false;
+        }
     }
-    check!(rt; table.pid_at(name, scope, all).is_none());
+    true
 }
 
-/// The pid at a place of a list that has the first pid so often, then the second.
-fn wanted(cast: &Cast, counts: (u64, u64), place: u64) -> Option<&Pid> {
-    cast.pids.get(if place < counts.0 { 0 } else { 1 })
-}
-
-/// A group lists the first pid so often, then the second, and has sizes to match.
-fn list_is<T: GroupTable>(
-    rt: &impl Abort,
+/// Whether the list of a group, and its sizes, are so.
+fn lists_so<T: GroupTable>(
+    alloc: Global,
     table: &T,
-    cast: &Cast,
+    pids: (&Pid, &Pid),
     name: &Term,
-    counts: (u64, u64),
-) {
-    let all = counts.0.saturating_add(counts.1);
-    let listed = members(cast.alloc, table, name).expect(rt, "members");
-    check!(rt; size(table, name, &listed, Scope::All) == Some(all));
-    check!(rt; size(table, name, &listed, Scope::At(&cast.pid(rt, 0).node)) == Some(counts.0));
-    check!(rt; size(table, name, &listed, Scope::At(&cast.pid(rt, 1).node)) == Some(counts.1));
-    check!(rt; listed.len() as u64 == all);
-    for (pid, place) in listed.as_slice().iter().zip(0..all) {
-        check!(rt; Some(pid) == wanted(cast, counts, place));
+    counts: Counts,
+) -> bool {
+    match members(alloc, table, name) {
+        Ok(listed) => {
+            let is_so = list_is(table, pids, name, &listed);
+            drop(listed);
+            counts.is_some() && is_so
+        }
+        Err(fault) => counts.is_none() && fault == QueryFault::NoSuchGroup,
     }
-    drop(listed);
+}
+
+/// Whether a list has what stands at the places of a group, and the sizes are as many as the members.
+fn list_is<T: GroupTable>(table: &T, pids: (&Pid, &Pid), name: &Term, listed: &Items<Pid>) -> bool
+    requires { IsMemberList (T.contents table.now name.now) anywhere listed.now }
+{
+    let (one, two) = pids;
+    size(table, name, listed, Scope::All) == Some(listed.len() as u64)
+        && size(table, name, listed, Scope::At(&one.node)) == Some(table.count(name, one))
+        && size(table, name, listed, Scope::At(&two.node)) == Some(table.count(name, two))
+        && are_at(table, name, listed.as_slice())
+}
+
+/// Whether these are the members of a group, place by place.
+pub fn are_at<T: GroupTable>(table: &T, name: &Term, pids: &[Pid]) -> bool {
+    for place in 0..pids.len() {
+        if table.pid_at(name, Scope::All, place as u64) != pids.get(place) {
+            return false;
+        }
+    }
+    table.pid_at(name, Scope::All, pids.len() as u64).is_none()
 }
 
 /// The size of a group whose members were listed.

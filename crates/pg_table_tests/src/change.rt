@@ -3,7 +3,7 @@
 ghost use Rattle.std.specs.Prelude.{IsTrue};
 ghost use Rattle.pg_group.specs.Table.{HasRoom};
 
-use crate::samples::{Cast, push};
+use crate::samples::{Cast, either, holds, push};
 use pg_group::{Ended, GroupTable, Update};
 use pg_term::{Pid, Term};
 use std::alloc::AllocError;
@@ -65,8 +65,8 @@ pub fn perform<T: GroupTable>(
 fn put<T: GroupTable>(rt: &impl Abort, table: &mut T, cast: &Cast, update: Update) {
     let before = seen(table, &update);
     if apply(rt, table, &update, &cast.ended).is_err() {
-        check!(rt; seen(table, &update) == before);
-        apply(rt, table, &update, &cast.ended).expect(rt, "made again");
+        holds(rt, seen(table, &update) == before, "as before");
+        apply(rt, table, &update, &cast.ended).expect(rt, "again");
     }
     drop(update);
 }
@@ -87,7 +87,7 @@ fn apply<T: GroupTable>(
     update: &Update,
     ended: &Ended,
 ) -> Result<(), AllocError> {
-    assert!(rt; has_room(table, update));
+    holds(rt, has_room(table, update), "room");
     table.apply(update, ended)
 }
 
@@ -122,8 +122,8 @@ pub fn merge_told<T: GroupTable>(
 ) {
     let before = most(table, name, told);
     if table.merge(name, told, ended).is_err() {
-        check!(rt; most(table, name, told) == before);
-        table.merge(name, told, ended).expect(rt, "made again");
+        holds(rt, most(table, name, told) == before, "not above");
+        table.merge(name, told, ended).expect(rt, "again");
     }
 }
 
@@ -136,13 +136,19 @@ fn most<T: GroupTable>(table: &T, name: &Term, told: &[Pid]) -> u64 {
     most
 }
 
-/// How many groups a table names, each of which it has.
-pub fn group_count<T: GroupTable>(rt: &impl Abort, table: &T) -> usize {
-    let names = asked!(rt; table.groups());
-    for name in &names {
-        check!(rt; table.has(name));
-    }
-    let count = names.len();
+/// Whether a table names so many groups, and has each.
+pub fn has_groups<T: GroupTable>(rt: &impl Abort, table: &T, count: usize) -> bool {
+    let names = either(rt, table.groups(), table.groups());
+    let has_groups = names.len() == count && has_all(table, &names);
     drop(names);
-    count
+    has_groups
+}
+
+fn has_all<T: GroupTable>(table: &T, names: &[Term]) -> bool {
+    for name in names {
+        if !table.has(name) {
+            return false;
+        }
+    }
+    true
 }

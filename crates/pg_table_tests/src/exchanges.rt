@@ -1,7 +1,8 @@
 //! How a node forms. Each test passes wherever an allocation is refused: it looks at what the refusal left, and makes the call
 //! again.
 
-use crate::samples::{pid, push, row_holds};
+use crate::samples::{either, holds, pid, push, row_holds};
+use crate::trial::{Trial, on_both};
 use pg_exchange::{ExchangeFault, Formation, snapshot};
 use pg_group::{Ended, GroupTable};
 use pg_term::{Items, Pid, Term};
@@ -20,7 +21,11 @@ impl Node {
     /// A node of so many peers, which tell no group.
     pub fn new(rt: &impl Abort, alloc: Global, peers: usize) -> Node {
         Node {
-            formation: asked!(rt; Formation::new(alloc, peers)),
+            formation: either(
+                rt,
+                Formation::new(alloc, peers),
+                Formation::new(alloc, peers),
+            ),
             ended: Ended::new(alloc),
             told: Vec::new(alloc),
         }
@@ -32,9 +37,9 @@ impl Node {
         for _ in 0..count {
             push(rt, &mut pids, pid(rt, alloc, "a", id));
         }
-        asked!(rt; self.told.reserve(1));
+        either(rt, self.told.reserve(1), self.told.reserve(1));
         let group = (Term::Int(group), Items::from_vec(pids));
-        self.told.push(group).expect(rt, "there is room");
+        self.told.push(group).expect(rt, "room");
     }
 
     /// A peer announces its groups.
@@ -44,62 +49,50 @@ impl Node {
         table: &mut T,
         peer: usize,
     ) -> Result<(), ExchangeFault> {
-        assert!(rt; peer < self.formation.peers());
+        holds(rt, peer < self.formation.peers(), "peer");
         self.formation.take(peer, &self.told, table, &self.ended)
     }
 
     /// A peer is lost.
     pub fn forget(&mut self, rt: &impl Abort, peer: usize) {
-        assert!(rt; peer < self.formation.peers());
+        holds(rt, peer < self.formation.peers(), "peer");
         self.formation.forget(peer);
     }
 
-    /// The table says no more than is told, or nothing.
+    /// The table says no more than is told.
     pub fn has_told<T: GroupTable>(&self, rt: &impl Abort, alloc: Global, table: &T) {
-        let all = asked!(rt; snapshot(alloc, table));
-        check!(rt; all.as_slice() == self.told.as_slice());
+        let all = either(rt, snapshot(alloc, table), snapshot(alloc, table));
+        holds(rt, all.as_slice() == self.told.as_slice(), "told");
         drop(all);
     }
 }
 
-/// What becomes of a peer.
-#[derive(Clone, Copy)]
-enum Peer {
-    /// It announces its groups.
-    Takes(usize),
-    /// It is lost.
-    Forgets(usize),
-}
+/// What becomes of a peer: it announces its groups, or is lost; and whether the node has formed then.
+const LOST: &[(bool, usize, bool)] = &[(false, 1, false), (false, 1, false), (false, 0, true)];
 
-/// A peer that is lost is not waited for, also where it is lost twice. Whether the node has formed then.
-const LOST: &[(Peer, bool)] = &[
-    (Peer::Forgets(1), false),
-    (Peer::Forgets(1), false),
-    (Peer::Forgets(0), true),
-];
+const ANNOUNCED: &[(bool, usize, bool)] = &[(true, 0, false), (true, 1, true)];
 
-const ANNOUNCED: &[(Peer, bool)] = &[(Peer::Takes(0), false), (Peer::Takes(1), true)];
-
+/// A peer that is lost tells nothing more, and is not waited for.
 #[test]
 fn lost_peers_are_not_awaited(rt: HostRuntime) {
-    on_both!(&rt, forms_by_losses);
+    on_both(&rt, rt.alloc(), Trial::LostPeers);
 }
 
-fn forms_by_losses<T: GroupTable + Drop>(rt: &impl Abort, alloc: Global, table: &mut T) {
+pub fn forms_by_losses<T: GroupTable + Drop>(rt: &impl Abort, alloc: Global, table: &mut T) {
     let mut node = Node::new(rt, alloc, 2);
     forms(rt, table, &mut node, LOST);
     node.has_told(rt, alloc, table);
     drop(node);
 }
 
-/// Both peers tell the group 7, of one pid that is told twice: an exchange takes the greater count.
 #[test]
 fn formation_of_two(rt: HostRuntime) {
-    on_both!(&rt, forms_by_exchanges);
-    check!(&rt; ExchangeFault::NotAMessage.number() == 12);
+    on_both(&rt, rt.alloc(), Trial::AnnouncedGroups);
+    holds(&rt, ExchangeFault::NotAMessage.number() == 12, "number");
 }
 
-fn forms_by_exchanges<T: GroupTable + Drop>(rt: &impl Abort, alloc: Global, table: &mut T) {
+/// Both peers tell the group 7, of one pid that is told twice: an exchange takes the greater count.
+pub fn forms_by_exchanges<T: GroupTable + Drop>(rt: &impl Abort, alloc: Global, table: &mut T) {
     let mut node = Node::new(rt, alloc, 2);
     node.tell(rt, alloc, 7, 1, 2);
     forms(rt, table, &mut node, ANNOUNCED);
@@ -112,70 +105,59 @@ fn forms<T: GroupTable + Drop>(
     rt: &impl Abort,
     table: &mut T,
     node: &mut Node,
-    peers: &[(Peer, bool)],
+    rows: &[(bool, usize, bool)],
 ) {
-    check!(rt; node.formation.peers() == 2);
-    check!(rt; !node.formation.formed());
-    for (peer, has_formed) in peers {
-        let merged = match *peer {
-            Peer::Takes(peer) => takes(rt, table, node, peer),
-            Peer::Forgets(peer) => forgets(rt, node, peer),
-        };
-        check!(rt; node.formation.formed() == *has_formed);
-        check!(rt; node.take(rt, table, merged) == Err(ExchangeFault::NotAMessage));
+    holds(rt, node.formation.peers() == 2, "peers");
+    holds(rt, !node.formation.formed(), "formed");
+    for row in rows {
+        let (announces, peer, has_formed) = *row;
+        if announces {
+            takes(rt, table, node, peer);
+        } else {
+            node.forget(rt, peer);
+        }
+        row_holds(rt, node.formation.formed() == has_formed, row);
+        let again = node.take(rt, table, peer);
+        row_holds(rt, again == Err(ExchangeFault::NotAMessage), row);
     }
 }
 
 /// A refused exchange changes nothing.
-fn takes<T: GroupTable + Drop>(
-    rt: &impl Abort,
-    table: &mut T,
-    node: &mut Node,
-    peer: usize,
-) -> usize {
-    let before = has_seven(table);
-    if node.take(rt, table, peer).is_err() {
-        check!(rt; has_seven(table) == before);
-        check!(rt; !node.formation.formed());
-        node.take(rt, table, peer).expect(rt, "taken again");
-    }
-    peer
-}
-
-fn has_seven<T: GroupTable>(table: &T) -> bool {
+fn takes<T: GroupTable + Drop>(rt: &impl Abort, table: &mut T, node: &mut Node, peer: usize) {
     let name = Term::Int(7);
-    let has = table.has(&name);
+    let had = table.has(&name);
+    if node.take(rt, table, peer).is_err() {
+        holds(rt, table.has(&name) == had, "as before");
+        holds(rt, !node.formation.formed(), "not formed");
+        node.take(rt, table, peer).expect(rt, "again");
+    }
     drop(name);
-    has
 }
 
-fn forgets(rt: &impl Abort, node: &mut Node, peer: usize) -> usize {
-    node.forget(rt, peer);
-    peer
-}
-
-/// How many peers two nodes have, which of them each has lost, and whether the formations are the same.
-const PAIRS: &[([usize; 2], [&[usize]; 2], bool)] = &[
-    ([2, 3], [&[], &[]], false),
-    ([2, 2], [&[], &[]], true),
-    ([2, 2], [&[0], &[1]], false),
-    ([2, 2], [&[0, 1], &[1, 0]], true),
+/// The peers that the first of two nodes of two peers loses, and the second, and whether the formations are the same.
+const PAIRS: &[(&[usize], &[usize], bool)] = &[
+    (&[], &[], true),
+    (&[0], &[1], false),
+    (&[0, 1], &[1, 0], true),
 ];
 
 /// Formations are compared by the peers that are merged, and how many there are.
 #[test]
 fn same_peers_are_merged(rt: HostRuntime) {
-    for ((peers, lost, is_same), row) in PAIRS.iter().zip(0..4) {
-        let one = formation(&rt, rt.alloc(), peers[0], lost[0]);
-        let other = formation(&rt, rt.alloc(), peers[1], lost[1]);
-        row_holds(&rt, one.formation.same(&other.formation) == *is_same, row);
-        drop(one);
+    for (lost, others, is_same) in PAIRS {
+        let one = node_without(&rt, rt.alloc(), 2, lost);
+        let other = node_without(&rt, rt.alloc(), 2, others);
+        row_holds(&rt, one.formation.same(&other.formation) == *is_same, lost);
         drop(other);
+        let of_three = node_without(&rt, rt.alloc(), 3, others);
+        holds(&rt, !one.formation.same(&of_three.formation), "three");
+        drop(of_three);
+        drop(one);
     }
 }
 
 /// A node of so many peers that has lost these.
-fn formation(rt: &impl Abort, alloc: Global, peers: usize, lost: &[usize]) -> Node {
+fn node_without(rt: &impl Abort, alloc: Global, peers: usize, lost: &[usize]) -> Node {
     let mut node = Node::new(rt, alloc, peers);
     for peer in lost {
         node.forget(rt, *peer);

@@ -1,8 +1,8 @@
 //! Updates, and processes that have ended. Each test passes wherever an allocation is refused.
 
-use crate::samples::{Cast, pid};
+use crate::samples::{Cast, either, holds, pid, row_holds};
 use pg_group::{Ended, Update};
-use pg_term::{Pid, Term};
+use pg_term::Term;
 use std::alloc::{AllocError, Global};
 use std::process::Abort;
 
@@ -11,7 +11,7 @@ use std::process::Abort;
 fn copies_are_equal(rt: HostRuntime) {
     for kind in 0..4 {
         let update = update(&rt, rt.alloc(), kind);
-        is_copied(&rt, rt.alloc(), &update);
+        row_holds(&rt, is_copied(&rt, rt.alloc(), &update), &kind);
         drop(update);
     }
 }
@@ -25,15 +25,15 @@ fn update(rt: &impl Abort, alloc: Global, kind: u32) -> Update {
     }
 }
 
-fn is_copied(rt: &impl Abort, alloc: Global, update: &Update) {
-    let copy = asked!(rt; update.copy(alloc));
-    let first = asked!(rt; shown(alloc, update));
-    let second = asked!(rt; shown(alloc, &copy));
-    check!(rt; first == second);
-    check!(rt; copy.name().is(update.name()));
+fn is_copied(rt: &impl Abort, alloc: Global, update: &Update) -> bool {
+    let copy = either(rt, update.copy(alloc), update.copy(alloc));
+    let first = either(rt, shown(alloc, update), shown(alloc, update));
+    let second = either(rt, shown(alloc, &copy), shown(alloc, &copy));
+    let is_copied = first == second && copy.name().is(update.name());
     drop(first);
     drop(second);
     drop(copy);
+    is_copied
 }
 
 /// What an update shows for debugging.
@@ -45,31 +45,31 @@ fn shown(alloc: Global, update: &Update) -> Result<String, AllocError> {
 const PIDS: &[(&str, u32)] = &[("a", 1), ("a", 2), ("b", 1), ("b", 2)];
 
 /// The end of a pid, by its place, or the loss of its node.
-#[derive(Clone, Copy)]
+#[derive(Clone, Copy, Debug)]
 enum End {
     Pid(usize),
     Node(usize),
 }
 
 /// An end that is put in the first or in the second, whether both are the same then, and which of the pids have ended there.
-type Row = (bool, End, bool, [bool; 4]);
+type Row = (bool, End, bool, u32);
 
 /// The ended are compared as pids, however they were put in: a pid of a lost node counts once.
 const ENDS: &[&[Row]] = &[
     &[
-        (true, End::Pid(0), false, [true, false, false, false]),
-        (true, End::Pid(3), false, [true, false, false, true]),
-        (false, End::Pid(3), false, [false, false, false, true]),
-        (false, End::Pid(0), true, [true, false, false, true]),
-        (true, End::Node(0), false, [true, true, false, true]),
-        (false, End::Node(0), true, [true, true, false, true]),
+        (true, End::Pid(0), false, 0b1000),
+        (true, End::Pid(3), false, 0b1001),
+        (false, End::Pid(3), false, 0b0001),
+        (false, End::Pid(0), true, 0b1001),
+        (true, End::Node(0), false, 0b1101),
+        (false, End::Node(0), true, 0b1101),
     ],
     &[
-        (true, End::Node(0), false, [true, true, false, false]),
-        (false, End::Pid(3), false, [false, false, false, true]),
-        (false, End::Node(0), false, [true, true, false, true]),
-        (true, End::Pid(0), false, [true, true, false, false]),
-        (true, End::Pid(3), true, [true, true, false, true]),
+        (true, End::Node(0), false, 0b1100),
+        (false, End::Pid(3), false, 0b0001),
+        (false, End::Node(0), false, 0b1101),
+        (true, End::Pid(0), false, 0b1100),
+        (true, End::Pid(3), true, 0b1101),
     ],
 ];
 
@@ -77,20 +77,20 @@ const ENDS: &[&[Row]] = &[
 fn same_have_ended(rt: HostRuntime) {
     let cast = Cast::new(&rt, rt.alloc(), PIDS);
     for rows in ENDS {
-        check_rows(&rt, rt.alloc(), &cast.pids, rows);
+        check_rows(&rt, &cast, rows);
     }
     drop(cast);
 }
 
-fn check_rows(rt: &impl Abort, alloc: Global, pids: &[Pid], rows: &[Row]) {
-    let mut first = Ended::new(alloc);
-    let mut second = Ended::new(alloc);
-    check!(rt; are_same(&first, &second) == (true, true));
+fn check_rows(rt: &impl Abort, cast: &Cast, rows: &[Row]) {
+    let mut first = Ended::new(cast.alloc);
+    let mut second = Ended::new(cast.alloc);
+    holds(rt, first.same(&second), "none");
     for row in rows {
         if row.0 {
-            check_row(rt, pids, &mut first, &second, row);
+            check_row(rt, cast, &mut first, &second, row);
         } else {
-            check_row(rt, pids, &mut second, &first, row);
+            check_row(rt, cast, &mut second, &first, row);
         }
     }
     drop(first);
@@ -98,33 +98,31 @@ fn check_rows(rt: &impl Abort, alloc: Global, pids: &[Pid], rows: &[Row]) {
 }
 
 /// A refused end changes nothing.
-fn check_row(rt: &impl Abort, pids: &[Pid], one: &mut Ended, other: &Ended, row: &Row) {
+fn check_row(rt: &impl Abort, cast: &Cast, one: &mut Ended, other: &Ended, row: &Row) {
     let (_, end, is_same, have_ended) = *row;
-    let before = (are_same(one, other), have(one, pids));
-    if put(rt, one, pids, end).is_err() {
-        check!(rt; (are_same(one, other), have(one, pids)) == before);
-        put(rt, one, pids, end).expect(rt, "put in again");
+    let (was_same, had_ended) = (one.same(other), have(one, cast));
+    if put(rt, one, cast, end).is_err() {
+        row_holds(rt, one.same(other) == was_same, row);
+        row_holds(rt, have(one, cast) == had_ended, row);
+        put(rt, one, cast, end).expect(rt, "again");
     }
-    check!(rt; are_same(one, other) == (is_same, is_same));
-    check!(rt; have(one, pids) == have_ended);
+    row_holds(rt, one.same(other) == is_same, row);
+    row_holds(rt, other.same(one) == is_same, row);
+    row_holds(rt, have(one, cast) == have_ended, row);
 }
 
-fn put(rt: &impl Abort, ended: &mut Ended, pids: &[Pid], end: End) -> Result<(), AllocError> {
+fn put(rt: &impl Abort, ended: &mut Ended, cast: &Cast, end: End) -> Result<(), AllocError> {
     match end {
-        End::Pid(place) => ended.add(pids.get(place).expect(rt, "a pid").copy()?),
-        End::Node(place) => ended.add_node(&pids.get(place).expect(rt, "a pid").node),
+        End::Pid(place) => ended.add(cast.copy(rt, place)),
+        End::Node(place) => ended.add_node(&cast.pid(rt, place).node),
     }
 }
 
-fn are_same(one: &Ended, other: &Ended) -> (bool, bool) {
-    (one.same(other), other.same(one))
-}
-
-/// Which of the four pids have ended.
-fn have(ended: &Ended, pids: &[Pid]) -> [bool; 4] {
-    let mut have = [false; 4];
-    for (has, pid) in have.iter_mut().zip(pids) {
-        *has = ended.has(pid);
+/// Which of the pids have ended, a bit for each.
+fn have(ended: &Ended, cast: &Cast) -> u32 {
+    let mut have = 0;
+    for pid in &cast.pids {
+        have = u32::wrapping_mul(have, 2) | u32::from(ended.has(pid));
     }
     have
 }

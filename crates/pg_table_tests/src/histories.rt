@@ -1,9 +1,10 @@
 //! All small histories, each answer compared with a slow reading of the rules.
 
-use crate::answers::answers_as;
-use crate::change::{Act, perform};
+use crate::answers::group_is;
+use crate::change::{Act, has_groups, perform};
 use crate::reading::Reading;
-use crate::samples::Cast;
+use crate::samples::{Cast, holds};
+use crate::trial::{Trial, on_both};
 use pg_group::GroupTable;
 use std::alloc::Global;
 use std::process::Abort;
@@ -42,22 +43,13 @@ const MIXED: &[(i64, Act<'static>)] = &[
 ];
 
 #[test]
-fn rows_agree_in_all_histories(rt: HostRuntime) {
-    let rows = pg_group::RowTable::new(rt.alloc());
-    agrees(&rt, rt.alloc(), &rows);
-    drop(rows);
-}
-
-#[test]
-fn index_agrees_in_all_histories(rt: HostRuntime) {
-    let index = pg_index::IndexTable::new(rt.alloc());
-    agrees(&rt, rt.alloc(), &index);
-    drop(index);
+fn agree_in_all_histories(rt: HostRuntime) {
+    on_both(&rt, rt.alloc(), Trial::Histories);
 }
 
 /// An empty table answers as the rules say after each step of all histories of up to five updates, and of up to four updates,
 /// merges and drops; and of up to four of either, where the process of the first pid has ended.
-fn agrees<T: GroupTable + Drop>(rt: &impl Abort, alloc: Global, empty: &T) {
+pub fn agrees<T: GroupTable + Drop>(rt: &impl Abort, alloc: Global, empty: &T) {
     let mut cast = Cast::new(rt, alloc, &[("a", 1), ("b", 1)]);
     let mut reading = Reading {
         first: None,
@@ -67,7 +59,7 @@ fn agrees<T: GroupTable + Drop>(rt: &impl Abort, alloc: Global, empty: &T) {
     walk(rt, UPDATES, empty, &cast, &reading, 5);
     walk(rt, MIXED, empty, &cast, &reading, 4);
     let first = cast.copy(rt, 0);
-    cast.ended.add(first).expect(rt, "an end");
+    cast.ended.add(first).expect(rt, "end");
     reading.first_ended = true;
     walk(rt, UPDATES, empty, &cast, &reading, 4);
     walk(rt, MIXED, empty, &cast, &reading, 4);
@@ -83,12 +75,23 @@ fn walk<T: GroupTable + Drop>(
     reading: &Reading,
     left: u32,
 ) {
-    answers_as(rt, table, cast, reading);
+    let pids = (cast.pid(rt, 0), cast.pid(rt, 1));
+    holds(
+        rt,
+        group_is(cast.alloc, table, pids, 1, reading.first),
+        "first",
+    );
+    holds(
+        rt,
+        group_is(cast.alloc, table, pids, 2, reading.second),
+        "second",
+    );
+    holds(rt, has_groups(rt, table, reading.group_count()), "groups");
     if left == 0 {
         return;
     }
     for (group, act) in steps {
-        let mut next = table.copy().expect(rt, "a copy");
+        let mut next = table.copy().expect(rt, "copy");
         perform(rt, &mut next, cast, *group, *act);
         walk(
             rt,

@@ -1,39 +1,6 @@
 //! What is only run of tables of groups: groups, tables, queries, exchanges and ends.
 #![tactic(auto)]
 
-/// Ends the test where something does not hold, and tells what. A call of a function, which is proved once.
-#[cfg(test)]
-macro_rules! check {
-    ($rt:expr; $holds:expr) => {
-        crate::samples::holds($rt, $holds, stringify!($holds))
-    };
-}
-
-/// The value of a call, which is made a second time where memory was refused.
-#[cfg(test)]
-macro_rules! asked {
-    ($rt:expr; $call:expr) => {
-        match $call {
-            Ok(value) => value,
-            Err(_) => $call.expect($rt, stringify!($call)),
-        }
-    };
-}
-
-/// Puts an empty table of each kind to a trial.
-#[cfg(test)]
-macro_rules! on_both {
-    ($rt:expr, $trial:path) => {
-        let alloc = $rt.alloc();
-        let mut rows = pg_group::RowTable::new(alloc);
-        $trial($rt, alloc, &mut rows);
-        drop(rows);
-        let mut index = pg_index::IndexTable::new(alloc);
-        $trial($rt, alloc, &mut index);
-        drop(index);
-    };
-}
-
 #[cfg(test)]
 mod answers;
 #[cfg(test)]
@@ -58,3 +25,5 @@ mod random;
 mod reading;
 #[cfg(test)]
 mod samples;
+#[cfg(test)]
+mod trial;

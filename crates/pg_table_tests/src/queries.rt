@@ -4,12 +4,13 @@ ghost use Rattle.pg_group.specs.Scope.{anywhere};
 ghost use Rattle.pg_group.specs.Members.{IsMemberList};
 
 use crate::change::{Act, perform_all};
-use crate::samples::{Cast, atom, row_holds};
+use crate::samples::{Cast, atom, either, holds, row_holds};
+use crate::trial::{Trial, on_both};
 use pg_group::{GroupTable, RowTable, one_member_list};
 use pg_index::IndexTable;
 use pg_query::{QueryFault, closest, local_members, members, same_groups, which_groups};
 use pg_term::{Atom, Items, Pid, Term};
-use std::alloc::Global;
+use std::alloc::{AllocError, Global};
 use std::process::Abort;
 
 /// The pids of the tests.
@@ -42,40 +43,47 @@ const OTHERS: &[(&[(i64, Act<'static>)], bool)] = &[
 /// Tables are compared by what they say, whichever keeps it: the names of both, and of each the members as often.
 #[test]
 fn same_tables(rt: HostRuntime) {
-    let cast = Cast::new(&rt, rt.alloc(), PIDS);
-    let mut rows = RowTable::new(rt.alloc());
-    perform_all(&rt, &mut rows, &cast, FILLED);
-    for ((changes, is_same), row) in OTHERS.iter().zip(0..4) {
-        let mut other = RowTable::new(rt.alloc());
-        perform_all(&rt, &mut other, &cast, changes);
-        row_holds(
-            &rt,
-            both_ways(&rt, rt.alloc(), &rows, &other) == (*is_same, *is_same),
-            row,
-        );
-        drop(other);
-        let mut index = IndexTable::new(rt.alloc());
-        perform_all(&rt, &mut index, &cast, changes);
-        row_holds(
-            &rt,
-            both_ways(&rt, rt.alloc(), &rows, &index) == (*is_same, *is_same),
-            row,
-        );
+    on_both(&rt, rt.alloc(), Trial::SameTables);
+}
+
+pub fn compares<T: GroupTable>(rt: &impl Abort, alloc: Global, table: &mut T) {
+    let cast = Cast::new(rt, alloc, PIDS);
+    perform_all(rt, table, &cast, FILLED);
+    for row in OTHERS {
+        let mut rows = RowTable::new(alloc);
+        compares_with(rt, table, &mut rows, &cast, row);
+        drop(rows);
+        let mut index = IndexTable::new(alloc);
+        compares_with(rt, table, &mut index, &cast, row);
         drop(index);
     }
-    drop(rows);
     drop(cast);
 }
 
-fn both_ways<S: GroupTable, T: GroupTable>(
+fn compares_with<S: GroupTable, T: GroupTable>(
     rt: &impl Abort,
+    table: &S,
+    other: &mut T,
+    cast: &Cast,
+    (changes, is_same): &(&[(i64, Act<'_>)], bool),
+) {
+    perform_all(rt, other, cast, changes);
+    let (one, two) = same_both_ways(cast.alloc, table, other);
+    let (again, two_again) = same_both_ways(cast.alloc, table, other);
+    holds(rt, either(rt, one, again) == *is_same, "same");
+    holds(rt, either(rt, two, two_again) == *is_same, "same");
+}
+
+/// Whether two tables say the same, the one compared with the other, and the other with the one.
+fn same_both_ways<S: GroupTable, T: GroupTable>(
     alloc: Global,
     one: &S,
     other: &T,
-) -> (bool, bool) {
-    let first = asked!(rt; same_groups(alloc, one, other));
-    let second = asked!(rt; same_groups(alloc, other, one));
-    (first, second)
+) -> (Result<bool, AllocError>, Result<bool, AllocError>) {
+    (
+        same_groups(alloc, one, other),
+        same_groups(alloc, other, one),
+    )
 }
 
 /// A node, and which pid of the group 7 each word picks there: one of its own, or one of all where it has none.
@@ -87,47 +95,44 @@ const PICKS: &[(&str, &[(u32, u32)])] = &[
 
 #[test]
 fn closest_member(rt: HostRuntime) {
-    on_both!(&rt, picks_closest);
+    on_both(&rt, rt.alloc(), Trial::ClosestMember);
 }
 
-fn picks_closest<T: GroupTable>(rt: &impl Abort, alloc: Global, table: &mut T) {
+/// Nobody is picked from the group 3, which has no member.
+pub fn picks_closest<T: GroupTable>(rt: &impl Abort, alloc: Global, table: &mut T) {
     let cast = Cast::new(rt, alloc, PIDS);
     perform_all(rt, table, &cast, FILLED);
     drop(cast);
     for (node, words) in PICKS {
         let own = atom(rt, alloc, node);
-        picks(rt, alloc, table, &own, words);
-        picks_nobody(rt, alloc, table, &own);
+        for (word, id) in *words {
+            let picked = picked(rt, alloc, table, &own, 7, *word);
+            row_holds(rt, picked == Ok(*id), &(*node, *word));
+        }
+        let picked = picked(rt, alloc, table, &own, 3, 0);
+        row_holds(rt, picked == Err(QueryFault::NoMember), node);
         drop(own);
     }
 }
 
-/// Each word picks the pid of an id from the group 7.
-pub fn picks<T: GroupTable>(
+/// The id of the pid that a word picks from a group that is there.
+pub fn picked<T: GroupTable>(
     rt: &impl Abort,
     alloc: Global,
     table: &T,
     own: &Atom,
-    words: &[(u32, u32)],
-) {
-    let name = Term::Int(7);
+    group: i64,
+    word: u32,
+) -> Result<u32, QueryFault> {
+    let name = Term::Int(group);
     let listed = members_of(rt, alloc, table, &name);
-    for (word, id) in words {
-        let pid = closest_of(table, own, &name, *word, &listed).expect(rt, "a member");
-        check!(rt; pid.id == *id);
-    }
+    let id = match closest_of(table, own, &name, word, &listed) {
+        Ok(pid) => Ok(pid.id),
+        Err(fault) => Err(fault),
+    };
     drop(listed);
     drop(name);
-}
-
-/// Nobody is picked from the group 3, which has no member.
-fn picks_nobody<T: GroupTable>(rt: &impl Abort, alloc: Global, table: &T, own: &Atom) {
-    let name = Term::Int(3);
-    let listed = members_of(rt, alloc, table, &name);
-    let fault = closest_of(table, own, &name, 0, &listed).err();
-    check!(rt; fault == Some(QueryFault::NoMember));
-    drop(listed);
-    drop(name);
+    id
 }
 
 /// The closest member of a group whose members were listed.
@@ -149,30 +154,46 @@ fn closest_of<'a, T: GroupTable>(
 fn members_of<T: GroupTable>(rt: &impl Abort, alloc: Global, table: &T, name: &Term) -> Items<Pid>
     ensures { IsMemberList (T.contents table.now name.now) anywhere result }
 {
-    asked!(rt; members(alloc, table, name))
+    match members(alloc, table, name) {
+        Ok(listed) => listed,
+        Err(_) => members(alloc, table, name).expect(rt, "again"),
+    }
 }
 
 #[test]
 fn members_in_order(rt: HostRuntime) {
-    on_both!(&rt, lists_in_order);
-    check!(&rt; QueryFault::NoSuchGroup.number() == 20);
+    on_both(&rt, rt.alloc(), Trial::MembersInOrder);
+    holds(&rt, QueryFault::NoSuchGroup.number() == 20, "number");
 }
 
-fn lists_in_order<T: GroupTable>(rt: &impl Abort, alloc: Global, table: &mut T) {
+pub fn lists_in_order<T: GroupTable>(rt: &impl Abort, alloc: Global, table: &mut T) {
     let cast = Cast::new(rt, alloc, PIDS);
     perform_all(rt, table, &cast, FILLED);
-    lists(rt, table, &cast, 7, &[1, 2, 2, 9], &[1, 2, 2]);
-    lists(rt, table, &cast, 3, &[], &[]);
+    holds(
+        rt,
+        lists(rt, table, &cast, 7, &[1, 2, 2, 9], &[1, 2, 2]),
+        "seven",
+    );
+    holds(rt, lists(rt, table, &cast, 3, &[], &[]), "three");
+    holds(rt, is_absent(alloc, table, 5), "absent");
     drop(cast);
-    let absent = Term::Int(5);
-    check!(rt; members(alloc, table, &absent).err() == Some(QueryFault::NoSuchGroup));
-    drop(absent);
-    let names = asked!(rt; which_groups(table));
-    check!(rt; names.as_slice() == [Term::Int(3), Term::Int(7)].as_slice());
+    let names = either(rt, which_groups(table), which_groups(table));
+    holds(
+        rt,
+        names.as_slice() == [Term::Int(3), Term::Int(7)].as_slice(),
+        "names",
+    );
     drop(names);
 }
 
-/// A group has members with these ids, and on the node of the first pid with those.
+fn is_absent<T: GroupTable>(alloc: Global, table: &T, group: i64) -> bool {
+    let name = Term::Int(group);
+    let fault = members(alloc, table, &name).err();
+    drop(name);
+    fault == Some(QueryFault::NoSuchGroup)
+}
+
+/// Whether a group has members with these ids, and on the node of the first pid with those.
 fn lists<T: GroupTable>(
     rt: &impl Abort,
     table: &T,
@@ -180,22 +201,35 @@ fn lists<T: GroupTable>(
     group: i64,
     all: &[u32],
     local: &[u32],
-) {
+) -> bool {
     let name = Term::Int(group);
     let listed = members_of(rt, cast.alloc, table, &name);
-    have_ids(rt, listed.as_slice(), all);
+    let there = local_members_of(rt, cast, table, &name);
+    let lists = have_ids(listed.as_slice(), all) && have_ids(there.as_slice(), local);
     drop(listed);
-    let own = &cast.pid(rt, 0).node;
-    let listed = asked!(rt; local_members(cast.alloc, table, own, &name));
-    have_ids(rt, listed.as_slice(), local);
-    drop(listed);
+    drop(there);
     drop(name);
+    lists
 }
 
-/// These are the ids, in this order.
-fn have_ids(rt: &impl Abort, pids: &[Pid], ids: &[u32]) {
-    check!(rt; pids.len() == ids.len());
-    for (pid, id) in pids.iter().zip(ids) {
-        check!(rt; pid.id == *id);
+fn local_members_of<T: GroupTable>(
+    rt: &impl Abort,
+    cast: &Cast,
+    table: &T,
+    name: &Term,
+) -> Items<Pid> {
+    let own = &cast.pid(rt, 0).node;
+    let first = local_members(cast.alloc, table, own, name);
+    either(rt, first, local_members(cast.alloc, table, own, name))
+}
+
+/// Whether these are the ids, in this order.
+fn have_ids(pids: &[Pid], ids: &[u32]) -> bool {
+    for place in 0..ids.len() {
+        match pids.get(place) {
+            Some(pid) if pid.id == ids[place] => (),
+            _ => return false,
+        }
     }
+    pids.len() == ids.len()
 }

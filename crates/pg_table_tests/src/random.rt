@@ -1,8 +1,8 @@
 //! Random changes of two tables at once: mostly joins and leaves, of groups that come and go.
 
 use crate::answers::size;
-use crate::change::{Act, group_count, perform};
-use crate::samples::{Cast, push_many};
+use crate::change::{Act, has_groups, perform};
+use crate::samples::{Cast, holds};
 use pg_group::{GroupTable, RowTable, Scope};
 use pg_index::IndexTable;
 use pg_query::{local_members, members};
@@ -21,16 +21,13 @@ const GROUPS: u32 = 5;
 
 /// The pids of three nodes, of which every tenth has ended.
 fn crowd(rt: &impl Abort, alloc: Global) -> Cast {
-    let mut cast = Cast::new(rt, alloc, &[]);
-    for node in NODES {
-        push_many(rt, alloc, &mut cast.pids, node, PIDS_OF_NODE);
-    }
+    let mut cast = Cast::of_nodes(rt, alloc, NODES, PIDS_OF_NODE);
     for pid in cast.pids.iter_mut() {
         pid.serial = pid.id % 3;
-    }
-    for place in (9..PIDS as usize).step_by(10) {
-        let pid = cast.copy(rt, place);
-        cast.ended.add(pid).expect(rt, "an end");
+        if pid.id % 10 == 9 {
+            let copy = pid.copy().expect(rt, "copy");
+            cast.ended.add(copy).expect(rt, "end");
+        }
     }
     cast
 }
@@ -44,7 +41,10 @@ fn index_agrees_with_rows_in_random_changes(rt: HostRuntime) {
     let mut random = Random::new(1);
     for _ in 0..100 {
         change_both(&rt, &mut rows, &mut index, &cast, &mut random);
-        answer_alike(&rt, &rows, &index, &cast);
+        for group in 0..i64::from(GROUPS) {
+            holds(&rt, groups_alike(&rt, &rows, &index, &cast, group), "alike");
+        }
+        holds(&rt, have_as_many(&rt, &rows, &index), "as many");
     }
     drop(rows);
     drop(index);
@@ -61,7 +61,7 @@ fn change_both<S: GroupTable, T: GroupTable>(
     random: &mut Random,
 ) {
     for _ in 0..1_000 {
-        let (p, q, r, s) = (place(random), place(random), place(random), place(random));
+        let [p, q, r, s] = [place(random), place(random), place(random), place(random)];
         let told = [p, q, r, s, p, q];
         let group = i64::from(random.below(GROUPS));
         let act = drawn(random, p, &told);
@@ -87,64 +87,78 @@ fn drawn<'a>(random: &mut Random, pid: usize, told: &'a [usize]) -> Act<'a> {
     }
 }
 
-/// Two tables answer alike, in all that can be asked of these groups.
-fn answer_alike<S: GroupTable, T: GroupTable>(rt: &impl Abort, one: &S, other: &T, cast: &Cast) {
-    for group in 0..i64::from(GROUPS) {
-        let name = Term::Int(group);
-        check!(rt; one.has(&name) == other.has(&name));
-        counts_alike(rt, one, other, &cast.pids, &name);
-        if one.has(&name) {
-            lists_alike(rt, one, other, cast, &name);
-        }
-        drop(name);
-    }
-    check!(rt; group_count(rt, one) == group_count(rt, other));
+/// Whether two tables answer alike, in all that can be asked of a group.
+fn groups_alike<S: GroupTable, T: GroupTable>(
+    rt: &impl Abort,
+    one: &S,
+    other: &T,
+    cast: &Cast,
+    group: i64,
+) -> bool {
+    let name = Term::Int(group);
+    let alike = one.has(&name) == other.has(&name)
+        && counts_alike(one, other, &cast.pids, &name)
+        && (!one.has(&name) || lists_alike(rt, one, other, cast, &name));
+    drop(name);
+    alike
 }
 
 fn counts_alike<S: GroupTable, T: GroupTable>(
-    rt: &impl Abort,
     one: &S,
     other: &T,
     pids: &[Pid],
     name: &Term,
-) {
+) -> bool {
     for pid in pids {
-        check!(rt; one.count(name, pid) == other.count(name, pid));
+        if one.count(name, pid) != other.count(name, pid) {
+            return false;
+        }
     }
+    true
 }
 
-/// Both list the same members of a group, in all and on each node, and tell the same size.
+/// Whether both list the same members of a group, in all and on each node, and tell the same size.
 fn lists_alike<S: GroupTable, T: GroupTable>(
     rt: &impl Abort,
     one: &S,
     other: &T,
     cast: &Cast,
     name: &Term,
-) {
+) -> bool {
     let first = members(cast.alloc, one, name).expect(rt, "members");
     let second = members(cast.alloc, other, name).expect(rt, "members");
-    check!(rt; first == second);
-    let first_size = size(one, name, &first, Scope::All);
-    check!(rt; first_size == size(other, name, &second, Scope::All));
+    let alike = first == second
+        && size(one, name, &first, Scope::All) == size(other, name, &second, Scope::All);
     drop(first);
     drop(second);
-    for place in (0..PIDS as usize).step_by(PIDS_OF_NODE as usize) {
-        local_alike(rt, one, other, cast, name, cast.pid(rt, place));
-    }
+    alike
+        && local_alike(rt, one, other, cast, name, 0)
+        && local_alike(rt, one, other, cast, name, PIDS_OF_NODE as usize)
+        && local_alike(rt, one, other, cast, name, 2 * PIDS_OF_NODE as usize)
 }
 
-/// Both list the same members on the node of a pid.
+/// Whether both list the same members on the node of the pid at a place.
 fn local_alike<S: GroupTable, T: GroupTable>(
     rt: &impl Abort,
     one: &S,
     other: &T,
     cast: &Cast,
     name: &Term,
-    pid: &Pid,
-) {
-    let first = local_members(cast.alloc, one, &pid.node, name).expect(rt, "members");
-    let second = local_members(cast.alloc, other, &pid.node, name).expect(rt, "members");
-    check!(rt; first == second);
+    place: usize,
+) -> bool {
+    let node = &cast.pid(rt, place).node;
+    let first = local_members(cast.alloc, one, node, name).expect(rt, "members");
+    let second = local_members(cast.alloc, other, node, name).expect(rt, "members");
+    let alike = first == second;
     drop(first);
     drop(second);
+    alike
+}
+
+/// Whether two tables name as many groups.
+fn have_as_many<S: GroupTable, T: GroupTable>(rt: &impl Abort, one: &S, other: &T) -> bool {
+    let names = one.groups().expect(rt, "groups");
+    let have_as_many = has_groups(rt, other, names.len());
+    drop(names);
+    have_as_many
 }

@@ -1,24 +1,44 @@
 //! Small values that tests are made of, and how a test ends that finds another. Each value is made a second time where memory
 //! was refused.
 
+ghost use Rattle.std.specs.Prelude.{IsTrue};
+
 use pg_group::Ended;
 use pg_term::{Atom, Pid};
 use std::alloc::Global;
+use std::fmt::Debug;
 use std::process::Abort;
 
 /// Ends the test where something does not hold, and tells of it.
-pub fn holds(rt: &impl Abort, holds: bool, said: &str) {
+pub fn holds(rt: &impl Abort, holds: bool, said: &str)
+    ensures { IsTrue holds }
+{
     assert!(rt; holds, "{said}");
 }
 
-/// Ends the test where a row of a table does not hold.
-pub fn row_holds(rt: &impl Abort, holds: bool, row: usize) {
-    assert!(rt; holds, "at {row}");
+/// Ends the test where a row of a table does not hold, and tells it.
+pub fn row_holds<R: Debug>(rt: &impl Abort, holds: bool, row: &R) {
+    assert!(rt; holds, "at {row:?}");
+}
+
+/// What one of two same calls gives, of which one may have found no memory.
+pub fn either<V: Drop, E: Debug + Drop>(
+    rt: &impl Abort,
+    one: Result<V, E>,
+    other: Result<V, E>,
+) -> V {
+    match one {
+        Ok(value) => {
+            drop(other);
+            value
+        }
+        Err(_) => other.expect(rt, "again"),
+    }
 }
 
 /// The name of a node.
 pub fn atom(rt: &impl Abort, alloc: Global, name: &str) -> Atom {
-    asked!(rt; Atom::new(alloc, name))
+    either(rt, Atom::new(alloc, name), Atom::new(alloc, name))
 }
 
 /// The pid of this node with this id.
@@ -33,15 +53,8 @@ pub fn pid(rt: &impl Abort, alloc: Global, node: &str, id: u32) -> Pid {
 
 /// Puts a pid behind the others.
 pub fn push(rt: &impl Abort, pids: &mut Vec<Pid>, pid: Pid) {
-    asked!(rt; pids.reserve(1));
-    pids.push(pid).expect(rt, "there is room");
-}
-
-/// Puts the pids of this node with the ids from 0 on behind the others, so many.
-pub fn push_many(rt: &impl Abort, alloc: Global, pids: &mut Vec<Pid>, node: &str, count: u32) {
-    for id in 0..count {
-        push(rt, pids, pid(rt, alloc, node, id));
-    }
+    either(rt, pids.reserve(1), pids.reserve(1));
+    pids.push(pid).expect(rt, "room");
 }
 
 /// The pids that a test is about, of which some have ended.
@@ -63,10 +76,14 @@ impl Cast {
         Cast { alloc, pids, ended }
     }
 
-    /// The pids of node a with the ids from 0 on, so many.
-    pub fn of_one_node(rt: &impl Abort, alloc: Global, count: u32) -> Cast {
+    /// The pids of each of these nodes with the ids from 0 on, so many.
+    pub fn of_nodes(rt: &impl Abort, alloc: Global, nodes: &[&str], count: u32) -> Cast {
         let mut pids = Vec::new(alloc);
-        push_many(rt, alloc, &mut pids, "a", count);
+        for node in nodes {
+            for id in 0..count {
+                push(rt, &mut pids, pid(rt, alloc, node, id));
+            }
+        }
         let ended = Ended::new(alloc);
         Cast { alloc, pids, ended }
     }
@@ -79,6 +96,6 @@ impl Cast {
     /// A copy of the pid at a place.
     pub fn copy(&self, rt: &impl Abort, place: usize) -> Pid {
         let pid = self.pid(rt, place);
-        asked!(rt; pid.copy())
+        either(rt, pid.copy(), pid.copy())
     }
 }

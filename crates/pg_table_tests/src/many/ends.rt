@@ -1,36 +1,33 @@
-use crate::change::merge_told;
-use crate::ends::{ends, processes};
-use crate::samples::{Cast, pid, push};
+use crate::ends::{all_end as end_all, made, processes};
+use crate::samples::{Cast, holds, pid, push};
+use crate::trial::{Trial, on_both};
 use pg_ends::EndFault;
 use pg_group::{Ended, GroupTable};
-use pg_term::{Pid, Term};
+use pg_term::Pid;
 use std::alloc::Global;
 use std::process::Abort;
 
 #[test]
 fn many_processes_are_made_and_end(rt: HostRuntime) {
-    on_both!(&rt, all_end);
+    on_both(&rt, rt.alloc(), Trial::ManyEnds);
 }
 
 /// 1,001 processes are made, numbered from 1, and leave their group one after the other by their ends.
-fn all_end<T: GroupTable>(rt: &impl Abort, alloc: Global, table: &mut T) {
+pub fn all_end<T: GroupTable>(rt: &impl Abort, alloc: Global, table: &mut T) {
     let mut processes = processes(rt, alloc, 0);
     let mut pids = Vec::new(alloc);
     for id in 1..1002 {
-        let pid = processes.make().expect(rt, "made");
-        check!(rt; (pid.serial, pid.id, pid.creation) == (0, id, 1));
-        push(rt, &mut pids, pid);
+        push(rt, &mut pids, made(rt, &mut processes, 0, id));
     }
     let mut ended = Ended::new(alloc);
-    let name = Term::Int(1);
-    merge_told(rt, table, &name, &pids, &ended);
+    end_all(rt, table, &processes, &pids, &mut ended);
     for pid in &pids {
-        ends(rt, &processes, table, &name, pid, &mut ended);
+        holds(
+            rt,
+            processes.finish(pid, &ended) == Err(EndFault::AlreadyEnded),
+            "ended",
+        );
     }
-    for pid in &pids {
-        check!(rt; processes.finish(pid, &ended) == Err(EndFault::AlreadyEnded));
-    }
-    drop(name);
     drop(pids);
     drop(ended);
     drop(processes);
@@ -39,10 +36,10 @@ fn all_end<T: GroupTable>(rt: &impl Abort, alloc: Global, table: &mut T) {
 /// 1,001 pids of one node end, each once; and 1,001 nodes are lost. Those of the other list have not ended.
 #[test]
 fn many_have_ended(rt: HostRuntime) {
-    let of_one = Cast::of_one_node(&rt, rt.alloc(), 1001);
+    let of_one = Cast::of_nodes(&rt, rt.alloc(), &["a"], 1001);
     let of_many = of_many_nodes(&rt, rt.alloc());
-    end_each(&rt, rt.alloc(), &of_one.pids, &of_many.pids, false);
-    end_each(&rt, rt.alloc(), &of_many.pids, &of_one.pids, true);
+    end_each(&rt, &of_one, &of_many.pids, false);
+    end_each(&rt, &of_many, &of_one.pids, true);
     drop(of_one);
     drop(of_many);
 }
@@ -51,7 +48,7 @@ fn many_have_ended(rt: HostRuntime) {
 fn of_many_nodes(rt: &impl Abort, alloc: Global) -> Cast {
     let mut cast = Cast::new(rt, alloc, &[]);
     for number in 0..1001 {
-        let node = format!(in alloc; "n{number}").expect(rt, "a name");
+        let node = format!(in alloc; "n{number}").expect(rt, "name");
         push(rt, &mut cast.pids, pid(rt, alloc, node.as_str(), number));
         drop(node);
     }
@@ -59,21 +56,22 @@ fn of_many_nodes(rt: &impl Abort, alloc: Global) -> Cast {
 }
 
 /// The pids end one after the other, each by itself or by the loss of its node, and none of the others does.
-fn end_each(rt: &impl Abort, alloc: Global, pids: &[Pid], others: &[Pid], by_loss: bool) {
-    let mut ended = Ended::new(alloc);
-    for pid in pids {
-        check!(rt; !ended.has(pid));
+fn end_each(rt: &impl Abort, cast: &Cast, others: &[Pid], by_loss: bool) {
+    let mut ended = Ended::new(cast.alloc);
+    for place in 0..1001 {
+        let pid = cast.pid(rt, place);
+        holds(rt, !ended.has(pid), "not before");
         if by_loss {
-            ended.add_node(&pid.node).expect(rt, "a loss");
+            ended.add_node(&pid.node).expect(rt, "loss");
         } else {
-            ended
-                .add(pid.copy().expect(rt, "a pid"))
-                .expect(rt, "an end");
+            ended.add(cast.copy(rt, place)).expect(rt, "end");
         }
     }
-    for (pid, other) in pids.iter().zip(others) {
-        check!(rt; ended.has(pid));
-        check!(rt; !ended.has(other));
+    for pid in &cast.pids {
+        holds(rt, ended.has(pid), "ended");
+    }
+    for pid in others {
+        holds(rt, !ended.has(pid), "others");
     }
     drop(ended);
 }

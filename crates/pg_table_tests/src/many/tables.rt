@@ -1,134 +1,162 @@
+ghost use Rattle.pg_group.specs.Scope.{anywhere};
+ghost use Rattle.pg_group.specs.Members.{IsMemberList};
+
 use crate::answers::size;
-use crate::change::{Act, group_count, merge_told, perform};
-use crate::samples::Cast;
+use crate::change::{Act, has_groups, merge_told, perform};
+use crate::samples::{Cast, holds};
+use crate::trial::{Trial, on_both};
 use pg_group::{GroupTable, Scope};
 use pg_query::members;
-use pg_term::{Pid, Term};
+use pg_term::{Items, Pid, Term};
 use std::alloc::Global;
 use std::process::Abort;
 
+const PIDS: &[(&str, u32)] = &[("a", 1), ("a", 2), ("b", 1)];
+
+/// How many of the groups get changes, and which; how often each of the pids is in each group then.
+type Phase = (u16, &'static [Act<'static>], [u64; 3]);
+
+const FILLED: &[Phase] = &[(1001, &[Act::Create, Act::Merge(&[0, 1, 1, 2])], [1, 2, 1])];
+
+const EMPTIED: &[Phase] = &[
+    (1001, &[Act::Leave(1)], [1, 1, 1]),
+    (1, &[Act::Drop(1)], [1, 0, 1]),
+    (1, &[Act::DropNode(0)], [0, 0, 1]),
+];
+
+const JOINED_AND_DROPPED: &[Phase] = &[
+    (
+        300,
+        &[Act::Merge(&[]), Act::Join(0), Act::Join(0)],
+        [2, 0, 0],
+    ),
+    (1, &[Act::Drop(0)], [0, 0, 0]),
+];
+
 #[test]
 fn keeps_many_groups(rt: HostRuntime) {
-    on_both!(&rt, keeps_groups);
+    on_both(&rt, rt.alloc(), Trial::ManyGroups);
 }
 
 #[test]
 fn keeps_many_members(rt: HostRuntime) {
-    on_both!(&rt, keeps_members);
+    on_both(&rt, rt.alloc(), Trial::ManyMembers);
 }
 
 /// A pid that joined each of 300 groups twice is dropped: the groups stay, of size 0.
 #[test]
 fn drop_from_many_groups(rt: HostRuntime) {
-    on_both!(&rt, drops_from_many);
+    on_both(&rt, rt.alloc(), Trial::DropFromManyGroups);
 }
 
-/// Each of the groups from 0 on gets the changes, one after the other.
-fn in_each<T: GroupTable>(
+pub fn drops_from_groups<T: GroupTable>(rt: &impl Abort, alloc: Global, table: &mut T) {
+    let cast = Cast::new(rt, alloc, PIDS);
+    run(rt, table, &cast, 300, JOINED_AND_DROPPED);
+    drop(cast);
+}
+
+/// 1,001 groups are made, get members, lose one of them, then those of a node, and are deleted; a copy keeps them.
+pub fn keeps_groups<T: GroupTable + Drop>(rt: &impl Abort, alloc: Global, table: &mut T) {
+    let cast = Cast::new(rt, alloc, PIDS);
+    run(rt, table, &cast, 1001, FILLED);
+    let copy = table.copy().expect(rt, "copy");
+    run(rt, table, &cast, 1001, EMPTIED);
+    are_kept(rt, &copy, &cast, 1001, &[1, 2, 1]);
+    drop(copy);
+    act_on_each(rt, table, &cast, 1001, &[Act::Delete]);
+    holds(rt, has_groups(rt, table, 0), "none");
+    drop(cast);
+}
+
+fn run<T: GroupTable>(rt: &impl Abort, table: &mut T, cast: &Cast, groups: u16, phases: &[Phase]) {
+    for (changed, acts, counts) in phases {
+        act_on_each(rt, table, cast, *changed, acts);
+        are_kept(rt, table, cast, groups, counts);
+    }
+}
+
+fn act_on_each<T: GroupTable>(
     rt: &impl Abort,
     table: &mut T,
     cast: &Cast,
-    groups: i64,
+    groups: u16,
     acts: &[Act<'_>],
 ) {
     for group in 0..groups {
         for act in acts {
-            perform(rt, table, cast, group, *act);
+            perform(rt, table, cast, i64::from(group), *act);
         }
     }
 }
 
-/// Each of the groups from 0 on is there, and the pids are so often in it.
-fn are_in_each<T: GroupTable>(
+/// The table has so many groups, and the pids are so often in each.
+fn are_kept<T: GroupTable>(
     rt: &impl Abort,
     table: &T,
     cast: &Cast,
-    groups: i64,
-    counts: &[u64],
+    groups: u16,
+    counts: &[u64; 3],
 ) {
     for group in 0..groups {
-        let name = Term::Int(group);
-        check!(rt; table.has(&name));
-        for (pid, count) in cast.pids.iter().zip(counts) {
-            check!(rt; table.count(&name, pid) == *count);
-        }
+        let name = Term::Int(i64::from(group));
+        let listed = members(cast.alloc, table, &name).expect(rt, "members");
+        holds(
+            rt,
+            is_kept(table, &name, &cast.pids, &listed, counts),
+            "group",
+        );
+        drop(listed);
         drop(name);
     }
+    holds(rt, has_groups(rt, table, usize::from(groups)), "groups");
 }
 
-/// 1,001 groups are made, get members, lose one of them, and those of a node, and are deleted; a copy keeps them.
-fn keeps_groups<T: GroupTable + Drop>(rt: &impl Abort, alloc: Global, table: &mut T) {
-    let cast = Cast::new(rt, alloc, &[("a", 1), ("a", 2), ("b", 1)]);
-    in_each(
-        rt,
-        table,
-        &cast,
-        1001,
-        &[Act::Create, Act::Merge(&[0, 1, 1, 2])],
-    );
-    let copy = table.copy().expect(rt, "a copy");
-    in_each(rt, table, &cast, 1001, &[Act::Leave(1)]);
-    are_in_each(rt, table, &cast, 1001, &[1, 1, 1]);
-    perform(rt, table, &cast, 0, Act::Drop(1));
-    are_in_each(rt, table, &cast, 1001, &[1, 0, 1]);
-    are_in_each(rt, &copy, &cast, 1001, &[1, 2, 1]);
-    check!(rt; group_count(rt, &copy) == 1001);
-    drop(copy);
-    perform(rt, table, &cast, 0, Act::DropNode(0));
-    are_in_each(rt, table, &cast, 1001, &[0, 0, 1]);
-    in_each(rt, table, &cast, 1001, &[Act::Delete]);
-    check!(rt; group_count(rt, table) == 0);
-    drop(cast);
+fn is_kept<T: GroupTable>(
+    table: &T,
+    name: &Term,
+    pids: &[Pid],
+    listed: &Items<Pid>,
+    counts: &[u64; 3],
+) -> bool
+    requires { IsMemberList (T.contents table.now name.now) anywhere listed.now }
+{
+    let mut all = 0u64;
+    for place in 0..3 {
+        match pids.get(place) {
+            Some(pid) if table.count(name, pid) == counts[place] => {
+                all = all.saturating_add(counts[place]);
+            }
+            _ => return false,
+        }
+    }
+    size(table, name, listed, Scope::All) == Some(all)
 }
 
 /// A group gets 1,001 members, which join it once more; a copy lists each twice, in their order.
-fn keeps_members<T: GroupTable + Drop>(rt: &impl Abort, alloc: Global, table: &mut T) {
-    let cast = Cast::of_one_node(rt, alloc, 1001);
+pub fn keeps_members<T: GroupTable + Drop>(rt: &impl Abort, alloc: Global, table: &mut T) {
+    let cast = Cast::of_nodes(rt, alloc, &["a"], 1001);
     let name = Term::Int(1);
     merge_told(rt, table, &name, &cast.pids, &cast.ended);
     for place in 0..1001 {
         perform(rt, table, &cast, 1, Act::Join(place));
     }
-    let copy = table.copy().expect(rt, "a copy");
-    each_is_twice(rt, &copy, &name, &cast.pids);
+    let copy = table.copy().expect(rt, "copy");
+    holds(rt, each_is_twice(&copy, &name, &cast.pids), "each twice");
     drop(copy);
     drop(name);
     drop(cast);
 }
 
-fn each_is_twice<T: GroupTable>(rt: &impl Abort, table: &T, name: &Term, pids: &[Pid]) {
+fn each_is_twice<T: GroupTable>(table: &T, name: &Term, pids: &[Pid]) -> bool {
     for pid in pids {
-        check!(rt; table.count(name, pid) == 2);
+        if table.count(name, pid) != 2 {
+            return false;
+        }
     }
     for place in 0..2002 {
-        let pid = pids.get((place / 2) as usize);
-        check!(rt; table.pid_at(name, Scope::All, place) == pid);
+        if table.pid_at(name, Scope::All, place) != pids.get((place / 2) as usize) {
+            return false;
+        }
     }
-    check!(rt; table.pid_at(name, Scope::All, 2002).is_none());
-}
-
-fn drops_from_many<T: GroupTable>(rt: &impl Abort, alloc: Global, table: &mut T) {
-    let cast = Cast::new(rt, alloc, &[("a", 1)]);
-    in_each(
-        rt,
-        table,
-        &cast,
-        300,
-        &[Act::Merge(&[]), Act::Join(0), Act::Join(0)],
-    );
-    are_in_each(rt, table, &cast, 300, &[2]);
-    perform(rt, table, &cast, 0, Act::Drop(0));
-    for group in 0..300 {
-        let name = Term::Int(group);
-        is_empty(rt, alloc, table, &name);
-        drop(name);
-    }
-    check!(rt; group_count(rt, table) == 300);
-    drop(cast);
-}
-
-fn is_empty<T: GroupTable>(rt: &impl Abort, alloc: Global, table: &T, name: &Term) {
-    let listed = members(alloc, table, name).expect(rt, "members");
-    check!(rt; size(table, name, &listed, Scope::All) == Some(0));
-    drop(listed);
+    table.pid_at(name, Scope::All, 2002).is_none()
 }
