@@ -3,14 +3,13 @@
 ghost use Rattle.std.specs.Prelude.{◌≤◌};
 
 use crate::change::merge_told;
-use crate::samples::{atom, holds, pid, row_holds};
+use crate::samples::{Cast, atom, holds, push, row_holds};
 use crate::trial::{Trial, on_both};
 use pg_ends::{EndFault, MAX_PROCESSES, Processes, take_end};
 use pg_group::{Ended, GroupTable};
 use pg_term::{Pid, Term};
 use std::alloc::Global;
 use std::process::Abort;
-use std::slice;
 
 /// The ids go on in the next serial, and no process is made behind the last.
 #[test]
@@ -32,13 +31,13 @@ fn process_limit(rt: HostRuntime) {
 }
 
 /// The processes of node a, which has made so many.
-pub fn processes(rt: &impl Abort, alloc: Global, made: u32) -> Processes {
+fn processes(rt: &impl Abort, alloc: Global, made: u32) -> Processes {
     holds(rt, made <= MAX_PROCESSES, "made");
     Processes::new(atom(rt, alloc, "a"), made)
 }
 
 /// The next process, which has this serial and this id.
-pub fn made(rt: &impl Abort, processes: &mut Processes, serial: u32, id: u32) -> Pid {
+fn made(rt: &impl Abort, processes: &mut Processes, serial: u32, id: u32) -> Pid {
     let pid = match processes.make() {
         Ok(pid) => pid,
         Err(_) => processes.make().expect(rt, "again"),
@@ -48,49 +47,64 @@ pub fn made(rt: &impl Abort, processes: &mut Processes, serial: u32, id: u32) ->
     pid
 }
 
-/// Once the end of the process 2 is taken, it can't end again; nor can one end that was not made.
-const REFUSED: &[(u32, EndFault)] = &[
-    (2, EndFault::AlreadyEnded),
-    (0, EndFault::NotMade),
-    (3, EndFault::NotMade),
-];
-
+/// Of the processes 2, 0 and 3 the first has ended once its end is taken, and the others were not made.
 #[test]
 fn refused_ends(rt: HostRuntime) {
-    on_both(&rt, rt.alloc(), Trial::RefusedEnds);
+    on_both(&rt, rt.alloc(), Trial::Ends(1, 2));
 }
 
-pub fn refuses_ends<T: GroupTable>(rt: &impl Abort, alloc: Global, table: &mut T) {
-    let mut processes = processes(rt, alloc, 1);
-    let mut ended = Ended::new(alloc);
-    let first = made(rt, &mut processes, 0, 2);
-    all_end(rt, table, &processes, slice::from_ref(&first), &mut ended);
-    drop(first);
-    for row in REFUSED {
-        let again = pid(rt, alloc, "a", row.0);
-        row_holds(rt, processes.finish(&again, &ended) == Err(row.1), row);
-        drop(again);
+/// A node that has made some processes makes more, up to a number. They can end, and are in their group no more once their ends are
+/// taken; then they have ended. The process 0 was not made, and neither was the next.
+pub fn all_end<T: GroupTable>(
+    rt: &impl Abort,
+    alloc: Global,
+    table: &mut T,
+    before: u32,
+    last: u32,
+) {
+    let mut processes = processes(rt, alloc, before);
+    let mut pids = Vec::new(alloc);
+    for id in before..last {
+        push(
+            rt,
+            &mut pids,
+            made(rt, &mut processes, 0, id.saturating_add(1)),
+        );
     }
+    let mut ended = Ended::new(alloc);
+    let name = Term::Int(1);
+    merge_told(rt, table, &name, &pids, &ended);
+    for pid in &pids {
+        holds(rt, processes.finish(pid, &ended).is_ok(), "it can end");
+        ends(rt, table, &name, pid, &mut ended);
+    }
+    holds(rt, table.has(&name), "has");
+    drop(name);
+    holds(
+        rt,
+        are_refused(&processes, &ended, &pids, EndFault::AlreadyEnded),
+        "ended",
+    );
+    drop(pids);
+    let others = Cast::new(rt, alloc, &[("a", 0), ("a", last.saturating_add(1))]);
+    holds(
+        rt,
+        are_refused(&processes, &ended, &others.pids, EndFault::NotMade),
+        "not made",
+    );
+    drop(others);
     drop(processes);
     drop(ended);
 }
 
-/// Processes of a group can end, and are in it no more once their ends are taken.
-pub fn all_end<T: GroupTable>(
-    rt: &impl Abort,
-    table: &mut T,
-    processes: &Processes,
-    pids: &[Pid],
-    ended: &mut Ended,
-) {
-    let name = Term::Int(1);
-    merge_told(rt, table, &name, pids, ended);
+/// Whether no pid can end, each for this fault.
+fn are_refused(processes: &Processes, ended: &Ended, pids: &[Pid], fault: EndFault) -> bool {
     for pid in pids {
-        holds(rt, processes.finish(pid, ended).is_ok(), "it can end");
-        ends(rt, table, &name, pid, ended);
+        if processes.finish(pid, ended) != Err(fault) {
+            return false;
+        }
     }
-    holds(rt, table.has(&name), "has");
-    drop(name);
+    true
 }
 
 /// A refused end changes nothing.

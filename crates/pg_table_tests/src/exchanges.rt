@@ -9,41 +9,76 @@ use pg_term::{Items, Pid, Term};
 use std::alloc::Global;
 use std::process::Abort;
 
-/// A node that forms, whose peers all tell the same groups.
+/// How a node forms.
+#[derive(Clone, Copy, Debug)]
+pub struct Forming {
+    pub peers: usize,
+    /// Every peer tells the groups from the first up to another, of one pid, so often each.
+    pub groups: (u32, u32),
+    pub times: u32,
+    /// Whether a peer announces its groups, or is lost; which, and whether the node has formed then.
+    pub turns: &'static [(bool, usize, bool)],
+}
+
+/// A peer that is lost tells nothing more, and is not waited for.
+const LOST: Forming = Forming {
+    peers: 2,
+    groups: (0, 0),
+    times: 0,
+    turns: &[(false, 1, false), (false, 1, false), (false, 0, true)],
+};
+
+/// An exchange takes the greater count of both.
+const ANNOUNCED: Forming = Forming {
+    peers: 2,
+    groups: (7, 8),
+    times: 2,
+    turns: &[(true, 0, false), (true, 1, true)],
+};
+
+#[test]
+fn lost_peers_are_not_awaited(rt: HostRuntime) {
+    on_both(&rt, rt.alloc(), Trial::Forming(LOST));
+}
+
+#[test]
+fn formation_of_two(rt: HostRuntime) {
+    on_both(&rt, rt.alloc(), Trial::Forming(ANNOUNCED));
+    holds(&rt, ExchangeFault::NotAMessage.number() == 12, "number");
+}
+
+/// A node that forms, and what each of its peers tells.
 #[derive(Drop)]
 pub struct Node {
     pub formation: Formation,
-    pub ended: Ended,
-    pub told: Vec<(Term, Items<Pid>)>,
+    ended: Ended,
+    told: Vec<(Term, Items<Pid>)>,
 }
 
 impl Node {
     /// A node of so many peers, which tell no group.
     pub fn new(rt: &impl Abort, alloc: Global, peers: usize) -> Node {
+        let first = Formation::new(alloc, peers);
         Node {
-            formation: either(
-                rt,
-                Formation::new(alloc, peers),
-                Formation::new(alloc, peers),
-            ),
+            formation: either(rt, first, Formation::new(alloc, peers)),
             ended: Ended::new(alloc),
             told: Vec::new(alloc),
         }
     }
 
-    /// The peers tell one group more, which has the pid with this id so often.
-    pub fn tell(&mut self, rt: &impl Abort, alloc: Global, group: i64, id: u32, count: u32) {
+    /// The peers tell one group more, which has the pid of its number so often.
+    fn tell(&mut self, rt: &impl Abort, alloc: Global, number: u32, times: u32) {
         let mut pids = Vec::new(alloc);
-        for _ in 0..count {
-            push(rt, &mut pids, pid(rt, alloc, "a", id));
+        for _ in 0..times {
+            push(rt, &mut pids, pid(rt, alloc, "a", number));
         }
         either(rt, self.told.reserve(1), self.told.reserve(1));
-        let group = (Term::Int(group), Items::from_vec(pids));
+        let group = (Term::Int(i64::from(number)), Items::from_vec(pids));
         self.told.push(group).expect(rt, "room");
     }
 
     /// A peer announces its groups.
-    pub fn take<T: GroupTable + Drop>(
+    fn take<T: GroupTable + Drop>(
         &mut self,
         rt: &impl Abort,
         table: &mut T,
@@ -59,79 +94,68 @@ impl Node {
         self.formation.forget(peer);
     }
 
-    /// The table says no more than is told.
-    pub fn has_told<T: GroupTable>(&self, rt: &impl Abort, alloc: Global, table: &T) {
+    /// Whether the table says what is told.
+    fn is_told<T: GroupTable>(&self, rt: &impl Abort, alloc: Global, table: &T) -> bool {
         let all = either(rt, snapshot(alloc, table), snapshot(alloc, table));
-        holds(rt, all.as_slice() == self.told.as_slice(), "told");
+        let is_told = all.as_slice() == self.told.as_slice();
         drop(all);
+        is_told
     }
 }
 
-/// What becomes of a peer: it announces its groups, or is lost; and whether the node has formed then.
-const LOST: &[(bool, usize, bool)] = &[(false, 1, false), (false, 1, false), (false, 0, true)];
-
-const ANNOUNCED: &[(bool, usize, bool)] = &[(true, 0, false), (true, 1, true)];
-
-/// A peer that is lost tells nothing more, and is not waited for.
-#[test]
-fn lost_peers_are_not_awaited(rt: HostRuntime) {
-    on_both(&rt, rt.alloc(), Trial::LostPeers);
-}
-
-pub fn forms_by_losses<T: GroupTable + Drop>(rt: &impl Abort, alloc: Global, table: &mut T) {
-    let mut node = Node::new(rt, alloc, 2);
-    forms(rt, table, &mut node, LOST);
-    node.has_told(rt, alloc, table);
-    drop(node);
-}
-
-#[test]
-fn formation_of_two(rt: HostRuntime) {
-    on_both(&rt, rt.alloc(), Trial::AnnouncedGroups);
-    holds(&rt, ExchangeFault::NotAMessage.number() == 12, "number");
-}
-
-/// Both peers tell the group 7, of one pid that is told twice: an exchange takes the greater count.
-pub fn forms_by_exchanges<T: GroupTable + Drop>(rt: &impl Abort, alloc: Global, table: &mut T) {
-    let mut node = Node::new(rt, alloc, 2);
-    node.tell(rt, alloc, 7, 1, 2);
-    forms(rt, table, &mut node, ANNOUNCED);
-    node.has_told(rt, alloc, table);
-    drop(node);
-}
-
-/// The node has formed when the last of its peers is merged. A peer that is merged can't announce its groups.
-fn forms<T: GroupTable + Drop>(
+/// The node forms when the last of its peers is merged, and says no more than they told. A peer that is merged can't announce
+/// its groups.
+pub fn forms<T: GroupTable + Drop>(
     rt: &impl Abort,
+    alloc: Global,
+    table: &mut T,
+    forming: &Forming,
+) {
+    let mut node = Node::new(rt, alloc, forming.peers);
+    for number in forming.groups.0..forming.groups.1 {
+        node.tell(rt, alloc, number, forming.times);
+    }
+    holds(rt, node.formation.peers() == forming.peers, "peers");
+    holds(rt, !node.formation.formed(), "not formed");
+    for turn in forming.turns {
+        take_turn(rt, alloc, table, &mut node, turn);
+    }
+    row_holds(rt, node.is_told(rt, alloc, table), forming);
+    drop(node);
+}
+
+fn take_turn<T: GroupTable + Drop>(
+    rt: &impl Abort,
+    alloc: Global,
     table: &mut T,
     node: &mut Node,
-    rows: &[(bool, usize, bool)],
+    turn: &(bool, usize, bool),
 ) {
-    holds(rt, node.formation.peers() == 2, "peers");
-    holds(rt, !node.formation.formed(), "formed");
-    for row in rows {
-        let (announces, peer, has_formed) = *row;
-        if announces {
-            takes(rt, table, node, peer);
-        } else {
-            node.forget(rt, peer);
-        }
-        row_holds(rt, node.formation.formed() == has_formed, row);
-        let again = node.take(rt, table, peer);
-        row_holds(rt, again == Err(ExchangeFault::NotAMessage), row);
+    let (announces, peer, has_formed) = *turn;
+    if announces {
+        announce(rt, alloc, table, node, peer);
+    } else {
+        node.forget(rt, peer);
     }
+    row_holds(rt, node.formation.formed() == has_formed, turn);
+    let again = node.take(rt, table, peer);
+    row_holds(rt, again == Err(ExchangeFault::NotAMessage), turn);
 }
 
 /// A refused exchange changes nothing.
-fn takes<T: GroupTable + Drop>(rt: &impl Abort, table: &mut T, node: &mut Node, peer: usize) {
-    let name = Term::Int(7);
-    let had = table.has(&name);
+fn announce<T: GroupTable + Drop>(
+    rt: &impl Abort,
+    alloc: Global,
+    table: &mut T,
+    node: &mut Node,
+    peer: usize,
+) {
+    let was_told = node.is_told(rt, alloc, table);
     if node.take(rt, table, peer).is_err() {
-        holds(rt, table.has(&name) == had, "as before");
+        holds(rt, node.is_told(rt, alloc, table) == was_told, "as before");
         holds(rt, !node.formation.formed(), "not formed");
         node.take(rt, table, peer).expect(rt, "again");
     }
-    drop(name);
 }
 
 /// The peers that the first of two nodes of two peers loses, and the second, and whether the formations are the same.

@@ -13,26 +13,26 @@ use pg_term::{Atom, Items, Pid, Term};
 use std::alloc::{AllocError, Global};
 use std::process::Abort;
 
-/// The pids of the tests.
-const PIDS: &[(&str, u32)] = &[("a", 1), ("a", 2), ("b", 9)];
+/// The members of the group 7, in their order.
+const PIDS: &[(&str, u32)] = &[("a", 1), ("a", 2), ("a", 2), ("b", 9)];
 
 /// The group 7 has two members on node a, one of them twice, and one on node b; the group 3 has none.
-const FILLED: &[(i64, Act<'static>)] = &[(7, Act::Merge(&[2, 1, 0, 1])), (3, Act::Merge(&[]))];
+const FILLED: &[(i64, Act<'static>)] = &[(7, Act::Merge(&[3, 1, 0, 1])), (3, Act::Merge(&[]))];
 
 /// What is made of a second table, and whether it says the same then.
 const OTHERS: &[(&[(i64, Act<'static>)], bool)] = &[
     (FILLED, true),
     (
-        &[(7, Act::Merge(&[2, 1, 0, 0])), (3, Act::Merge(&[]))],
+        &[(7, Act::Merge(&[3, 1, 0, 0])), (3, Act::Merge(&[]))],
         false,
     ),
     (
-        &[(8, Act::Merge(&[2, 1, 0, 1])), (3, Act::Merge(&[]))],
+        &[(8, Act::Merge(&[3, 1, 0, 1])), (3, Act::Merge(&[]))],
         false,
     ),
     (
         &[
-            (7, Act::Merge(&[2, 1, 0, 1])),
+            (7, Act::Merge(&[3, 1, 0, 1])),
             (3, Act::Merge(&[])),
             (3, Act::Delete),
         ],
@@ -86,11 +86,27 @@ fn same_both_ways<S: GroupTable, T: GroupTable>(
     )
 }
 
-/// A node, and which pid of the group 7 each word picks there: one of its own, or one of all where it has none.
-const PICKS: &[(&str, &[(u32, u32)])] = &[
-    ("a", &[(0, 1), (2, 2), (3, 1)]),
-    ("b", &[(5, 9)]),
-    ("c", &[(3, 9), (4, 1)]),
+/// What a group has at a node: its members from one place of the cast up to another, the local ones among them, and the id of the pid
+/// that each word picks: a local one, or one of all where there is none.
+pub type Reading = (
+    i64,
+    &'static str,
+    (usize, usize),
+    (usize, usize),
+    &'static [(u32, Option<u32>)],
+);
+
+const READINGS: &[Reading] = &[
+    (
+        7,
+        "a",
+        (0, 4),
+        (0, 3),
+        &[(0, Some(1)), (2, Some(2)), (3, Some(1))],
+    ),
+    (7, "b", (0, 4), (3, 4), &[(5, Some(9))]),
+    (7, "c", (0, 4), (0, 0), &[(3, Some(9)), (4, Some(1))]),
+    (3, "a", (0, 0), (0, 0), &[(0, None)]),
 ];
 
 #[test]
@@ -98,56 +114,70 @@ fn closest_member(rt: HostRuntime) {
     on_both(&rt, rt.alloc(), Trial::ClosestMember);
 }
 
-/// Nobody is picked from the group 3, which has no member.
 pub fn picks_closest<T: GroupTable>(rt: &impl Abort, alloc: Global, table: &mut T) {
     let cast = Cast::new(rt, alloc, PIDS);
     perform_all(rt, table, &cast, FILLED);
+    are_read(rt, table, &cast, READINGS);
     drop(cast);
-    for (node, words) in PICKS {
-        let own = atom(rt, alloc, node);
-        for (word, id) in *words {
-            let picked = picked(rt, alloc, table, &own, 7, *word);
-            row_holds(rt, picked == Ok(*id), &(*node, *word));
-        }
-        let picked = picked(rt, alloc, table, &own, 3, 0);
-        row_holds(rt, picked == Err(QueryFault::NoMember), node);
+}
+
+pub fn are_read<T: GroupTable>(rt: &impl Abort, table: &T, cast: &Cast, readings: &[Reading]) {
+    for reading in readings {
+        let name = Term::Int(reading.0);
+        let own = atom(rt, cast.alloc, reading.1);
+        row_holds(rt, is_read(rt, table, cast, &name, &own, reading), reading);
         drop(own);
+        drop(name);
     }
 }
 
-/// The id of the pid that a word picks from a group that is there.
-pub fn picked<T: GroupTable>(
+fn is_read<T: GroupTable>(
     rt: &impl Abort,
-    alloc: Global,
     table: &T,
+    cast: &Cast,
+    name: &Term,
     own: &Atom,
-    group: i64,
-    word: u32,
-) -> Result<u32, QueryFault> {
-    let name = Term::Int(group);
-    let listed = members_of(rt, alloc, table, &name);
-    let id = match closest_of(table, own, &name, word, &listed) {
-        Ok(pid) => Ok(pid.id),
-        Err(fault) => Err(fault),
-    };
+    reading: &Reading,
+) -> bool {
+    let listed = members_of(rt, cast.alloc, table, name);
+    let first = local_members(cast.alloc, table, own, name);
+    let local = either(rt, first, local_members(cast.alloc, table, own, name));
+    let is_read = are(listed.as_slice(), &cast.pids, reading.2)
+        && are(local.as_slice(), &cast.pids, reading.3)
+        && are_picked(table, own, name, &listed, reading.4);
     drop(listed);
-    drop(name);
-    id
+    drop(local);
+    is_read
 }
 
-/// The closest member of a group whose members were listed.
-fn closest_of<'a, T: GroupTable>(
-    table: &'a T,
+/// Whether these are the pids from one place up to another.
+fn are(listed: &[Pid], pids: &[Pid], (from, to): (usize, usize)) -> bool {
+    pids.get(from..to) == Some(listed)
+}
+
+/// Whether each word picks the pid with its id from a group whose members were listed, or nobody.
+fn are_picked<T: GroupTable>(
+    table: &T,
     own: &Atom,
     name: &Term,
-    word: u32,
     listed: &Items<Pid>,
-) -> Result<&'a Pid, QueryFault>
+    words: &[(u32, Option<u32>)],
+) -> bool
     requires { IsMemberList (T.contents table.now name.now) anywhere listed.now }
 {
     one_member_list();
     let _count = listed.len();
-    closest(table, own, name, word)
+    for (word, id) in words {
+        let picked = match closest(table, own, name, *word) {
+            Ok(pid) => Some(pid.id),
+            Err(QueryFault::NoMember) => None,
+            Err(_) => return false,
+        };
+        if picked != *id {
+            return false;
+        }
+    }
+    true
 }
 
 /// The members of a group that is there.
@@ -160,23 +190,19 @@ fn members_of<T: GroupTable>(rt: &impl Abort, alloc: Global, table: &T, name: &T
     }
 }
 
+/// The groups are named in their order, and the members of each as `READINGS` say.
 #[test]
 fn members_in_order(rt: HostRuntime) {
     on_both(&rt, rt.alloc(), Trial::MembersInOrder);
     holds(&rt, QueryFault::NoSuchGroup.number() == 20, "number");
 }
 
-pub fn lists_in_order<T: GroupTable>(rt: &impl Abort, alloc: Global, table: &mut T) {
-    let cast = Cast::new(rt, alloc, PIDS);
-    perform_all(rt, table, &cast, FILLED);
-    holds(
-        rt,
-        lists(rt, table, &cast, 7, &[1, 2, 2, 9], &[1, 2, 2]),
-        "seven",
-    );
-    holds(rt, lists(rt, table, &cast, 3, &[], &[]), "three");
-    holds(rt, is_absent(alloc, table, 5), "absent");
-    drop(cast);
+pub fn names_in_order<T: GroupTable>(rt: &impl Abort, alloc: Global, table: &mut T) {
+    picks_closest(rt, alloc, table);
+    let absent = Term::Int(5);
+    let fault = members(alloc, table, &absent).err();
+    drop(absent);
+    holds(rt, fault == Some(QueryFault::NoSuchGroup), "absent");
     let names = either(rt, which_groups(table), which_groups(table));
     holds(
         rt,
@@ -184,52 +210,4 @@ pub fn lists_in_order<T: GroupTable>(rt: &impl Abort, alloc: Global, table: &mut
         "names",
     );
     drop(names);
-}
-
-fn is_absent<T: GroupTable>(alloc: Global, table: &T, group: i64) -> bool {
-    let name = Term::Int(group);
-    let fault = members(alloc, table, &name).err();
-    drop(name);
-    fault == Some(QueryFault::NoSuchGroup)
-}
-
-/// Whether a group has members with these ids, and on the node of the first pid with those.
-fn lists<T: GroupTable>(
-    rt: &impl Abort,
-    table: &T,
-    cast: &Cast,
-    group: i64,
-    all: &[u32],
-    local: &[u32],
-) -> bool {
-    let name = Term::Int(group);
-    let listed = members_of(rt, cast.alloc, table, &name);
-    let there = local_members_of(rt, cast, table, &name);
-    let lists = have_ids(listed.as_slice(), all) && have_ids(there.as_slice(), local);
-    drop(listed);
-    drop(there);
-    drop(name);
-    lists
-}
-
-fn local_members_of<T: GroupTable>(
-    rt: &impl Abort,
-    cast: &Cast,
-    table: &T,
-    name: &Term,
-) -> Items<Pid> {
-    let own = &cast.pid(rt, 0).node;
-    let first = local_members(cast.alloc, table, own, name);
-    either(rt, first, local_members(cast.alloc, table, own, name))
-}
-
-/// Whether these are the ids, in this order.
-fn have_ids(pids: &[Pid], ids: &[u32]) -> bool {
-    for place in 0..ids.len() {
-        match pids.get(place) {
-            Some(pid) if pid.id == ids[place] => (),
-            _ => return false,
-        }
-    }
-    pids.len() == ids.len()
 }

@@ -1,5 +1,6 @@
 //! What a table of either kind is put to.
 
+use crate::exchanges::Forming;
 use crate::{ends, exchanges, histories, many, memory, queries};
 use pg_group::{GroupTable, RowTable};
 use pg_index::IndexTable;
@@ -13,16 +14,14 @@ pub enum Trial {
     SameTables,
     ClosestMember,
     MembersInOrder,
-    RefusedEnds,
-    LostPeers,
-    AnnouncedGroups,
+    /// The processes that a node has made, and up to which it makes more, which end.
+    Ends(u32, u32),
+    Forming(Forming),
     ManyGroups,
     ManyMembers,
     DropFromManyGroups,
     LongGroup,
     ManyNames,
-    ManyEnds,
-    ManyAnnounced,
 }
 
 /// Puts an empty table of each kind to a trial.
@@ -41,16 +40,13 @@ fn put_to<T: GroupTable + Drop>(rt: &impl Abort, alloc: Global, table: &mut T, t
         Trial::Memory => memory::is_whole(rt, alloc, table),
         Trial::SameTables => queries::compares(rt, alloc, table),
         Trial::ClosestMember => queries::picks_closest(rt, alloc, table),
-        Trial::MembersInOrder => queries::lists_in_order(rt, alloc, table),
-        Trial::RefusedEnds => ends::refuses_ends(rt, alloc, table),
-        Trial::LostPeers => exchanges::forms_by_losses(rt, alloc, table),
-        Trial::AnnouncedGroups => exchanges::forms_by_exchanges(rt, alloc, table),
+        Trial::MembersInOrder => queries::names_in_order(rt, alloc, table),
+        Trial::Ends(before, last) => ends::all_end(rt, alloc, table, before, last),
+        Trial::Forming(forming) => exchanges::forms(rt, alloc, table, &forming),
         Trial::ManyGroups => many::tables::keeps_groups(rt, alloc, table),
         Trial::ManyMembers => many::tables::keeps_members(rt, alloc, table),
         Trial::DropFromManyGroups => many::tables::drops_from_groups(rt, alloc, table),
         Trial::LongGroup => many::queries::lists_all(rt, alloc, table),
         Trial::ManyNames => many::queries::names_all(rt, alloc, table),
-        Trial::ManyEnds => many::ends::all_end(rt, alloc, table),
-        Trial::ManyAnnounced => many::exchanges::forms_by_one(rt, alloc, table),
     }
 }

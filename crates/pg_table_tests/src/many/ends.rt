@@ -1,36 +1,14 @@
-use crate::ends::{all_end as end_all, made, processes};
 use crate::samples::{Cast, holds, pid, push};
 use crate::trial::{Trial, on_both};
-use pg_ends::EndFault;
-use pg_group::{Ended, GroupTable};
+use pg_group::Ended;
 use pg_term::Pid;
 use std::alloc::Global;
 use std::process::Abort;
 
+/// 1,001 processes are made, numbered from 1, and leave their group one after the other by their ends.
 #[test]
 fn many_processes_are_made_and_end(rt: HostRuntime) {
-    on_both(&rt, rt.alloc(), Trial::ManyEnds);
-}
-
-/// 1,001 processes are made, numbered from 1, and leave their group one after the other by their ends.
-pub fn all_end<T: GroupTable>(rt: &impl Abort, alloc: Global, table: &mut T) {
-    let mut processes = processes(rt, alloc, 0);
-    let mut pids = Vec::new(alloc);
-    for id in 1..1002 {
-        push(rt, &mut pids, made(rt, &mut processes, 0, id));
-    }
-    let mut ended = Ended::new(alloc);
-    end_all(rt, table, &processes, &pids, &mut ended);
-    for pid in &pids {
-        holds(
-            rt,
-            processes.finish(pid, &ended) == Err(EndFault::AlreadyEnded),
-            "ended",
-        );
-    }
-    drop(pids);
-    drop(ended);
-    drop(processes);
+    on_both(&rt, rt.alloc(), Trial::Ends(0, 1001));
 }
 
 /// 1,001 pids of one node end, each once; and 1,001 nodes are lost. Those of the other list have not ended.
@@ -67,11 +45,17 @@ fn end_each(rt: &impl Abort, cast: &Cast, others: &[Pid], by_loss: bool) {
             ended.add(cast.copy(rt, place)).expect(rt, "end");
         }
     }
-    for pid in &cast.pids {
-        holds(rt, ended.has(pid), "ended");
-    }
-    for pid in others {
-        holds(rt, !ended.has(pid), "others");
-    }
+    holds(rt, all_are(&ended, &cast.pids, true), "ended");
+    holds(rt, all_are(&ended, others, false), "others");
     drop(ended);
+}
+
+/// Whether all of the pids have ended, or none.
+fn all_are(ended: &Ended, pids: &[Pid], have_ended: bool) -> bool {
+    for pid in pids {
+        if ended.has(pid) != have_ended {
+            return false;
+        }
+    }
+    true
 }

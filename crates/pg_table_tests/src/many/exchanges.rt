@@ -1,26 +1,18 @@
-use crate::exchanges::Node;
+use crate::exchanges::{Forming, Node};
 use crate::samples::holds;
 use crate::trial::{Trial, on_both};
-use pg_group::GroupTable;
-use std::alloc::Global;
-use std::process::Abort;
+
+/// A node of one peer takes 1,001 groups, each of one member.
+const MANY: Forming = Forming {
+    peers: 1,
+    groups: (0, 1001),
+    times: 1,
+    turns: &[(true, 0, true)],
+};
 
 #[test]
 fn many_groups_are_taken(rt: HostRuntime) {
-    on_both(&rt, rt.alloc(), Trial::ManyAnnounced);
-}
-
-/// A node of one peer forms when it announces the groups 0 to 1000, each of one member.
-pub fn forms_by_one<T: GroupTable + Drop>(rt: &impl Abort, alloc: Global, table: &mut T) {
-    let mut node = Node::new(rt, alloc, 1);
-    holds(rt, node.formation.peers() == 1, "peers");
-    for number in 0..1001u32 {
-        node.tell(rt, alloc, i64::from(number), number, 1);
-    }
-    node.take(rt, table, 0).expect(rt, "taken");
-    holds(rt, node.formation.formed(), "formed");
-    node.has_told(rt, alloc, table);
-    drop(node);
+    on_both(&rt, rt.alloc(), Trial::Forming(MANY));
 }
 
 /// A node of 1,001 peers forms when the last of them is lost.

@@ -1,6 +1,6 @@
 use Rattle.std.proofs.Common.{◌≡◌, length, ap, arith}
 use Rattle.pg_group.specs.Scope.{anywhere}
-use Rattle.pg_table_tests.proofs.queries.closest_of.Goals as goal
+use Rattle.pg_table_tests.proofs.queries.are_picked.Goals as goal
 
 pub closest-requires : goal.closest-requires
 closest-requires g c = λ pids is.
