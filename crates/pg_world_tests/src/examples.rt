@@ -4,12 +4,14 @@
 /// A script of two or three nodes, and the answers.
 #[derive(Clone, Copy)]
 pub struct Example<'a> {
+    pub nodes: usize,
     pub script: &'a str,
     pub answers: &'a str,
 }
 
 // A process of `a` joins twice at `b`, and leaves once.
 pub static JOIN_TWICE_LEAVE_ONCE: Example<'static> = Example {
+    nodes: 2,
     script: "ring 4096
 node a
 node b
@@ -42,6 +44,7 @@ b 5 [<a.1.0>]
 
 // A delete at `b` comes between the look and the lock of a join at `a`, which is answered and adds nothing.
 pub static DELETE_BETWEEN_LOOK_AND_LOCK: Example<'static> = Example {
+    nodes: 2,
     script: "ring 4096
 node a made 1
 node b
@@ -66,6 +69,7 @@ b 2 {error,{no_such_group,1}}
 
 // Both nodes make the group; the greatest comes first.
 pub static TWO_CREATORS: Example<'static> = Example {
+    nodes: 2,
     script: "ring 4096
 node a
 node b
@@ -85,6 +89,7 @@ b 1 ok
 
 // Both nodes start with a group of one name; while nothing was told, each has its own.
 pub static INITIAL_TABLES: Example<'static> = Example {
+    nodes: 2,
     script: "ring 4096
 node a made 1
 node b made 1
@@ -107,6 +112,7 @@ b 1 ok
 
 // A process ends while a join of it is on the way: it is no member when all is done.
 pub static END_BEATS_LATE_JOIN: Example<'static> = Example {
+    nodes: 2,
     script: "ring 4096
 node a made 1
 node b
@@ -137,6 +143,7 @@ b 3 []
 
 // A member of the own node is picked where there is one, else one of all.
 pub static CLOSEST_MEMBER: Example<'static> = Example {
+    nodes: 2,
     script: "ring 4096
 node a
 node b made 2
@@ -159,6 +166,7 @@ b 1 <b.1.0>
 
 // Of three nodes, `a` and `b` have the group. The exchange of `b` comes to `a`, and then `c` asks nobody yet.
 pub static FORMATION: Example<'static> = Example {
+    nodes: 3,
     script: "ring 4096
 node a made 1
 node b
@@ -201,6 +209,7 @@ c 1 [<a.1.0>,<a.1.0>]
 
 // Where the loss is seen the processes of the lost node leave each group, and join none later.
 pub static LOSS_DROPS_MEMBERS: Example<'static> = Example {
+    nodes: 2,
     script: "ring 4096
 node a made 1
 node b made 1
@@ -223,6 +232,7 @@ b 4 [<b.1.0>]
 
 // The lock of a lost node is free where its loss is seen; it is seen once.
 pub static LOSS_FREES_LOCK: Example<'static> = Example {
+    nodes: 3,
     script: "ring 4096
 node a
 node b
@@ -249,6 +259,7 @@ c 1 [1]
 
 // The greatest node is lost while it is asked: the command waits, and its retry asks the next.
 pub static NEW_GREATEST: Example<'static> = Example {
+    nodes: 3,
     script: "ring 4096
 node a
 node b

@@ -73,9 +73,9 @@ fn are_answers(alloc: Global, world: &World<IndexTable>, nodes: usize, answers: 
 }
 
 fn check(rt: &impl Abort, alloc: Global, example: &Example<'_>) {
-    let schedule = match schedule_of(alloc, &[example.script], 5) {
+    let schedule = match schedule_of(alloc, example.script, example.nodes, 5) {
         Some(schedule) => schedule,
-        None => schedule_of(alloc, &[example.script], 5).expect(rt, "memory"),
+        None => schedule_of(alloc, example.script, example.nodes, 5).expect(rt, "memory"),
     };
     let nodes = schedule.config.starts.len();
     let mut one = new_world(rt, alloc, &schedule.config);

@@ -33,7 +33,7 @@ fn is_right(alloc: Global, schedule: &Schedule, pids: &[Pid], steps: &[Step]) ->
 }
 
 fn check(rt: &impl Abort, alloc: Global, example: &Example<'_>) {
-    let schedule = schedule_of(alloc, &[example.script], 4).expect(rt, "memory");
+    let schedule = schedule_of(alloc, example.script, example.nodes, 4).expect(rt, "memory");
     let starts = schedule.config.starts.as_slice();
     let pids = first_pids(alloc, starts, 2).expect(rt, "memory");
     let steps = schedule.steps.as_slice();

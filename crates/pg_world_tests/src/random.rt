@@ -1,6 +1,6 @@
 //! Random schedules of worlds over bytes, cut at random. Whatever moved when, packets that cross whole lead to the same nodes.
 
-use crate::schedules::{Schedule, are_same, are_same_worlds, schedule_of, state_of};
+use crate::schedules::{Schedule, are_same, are_same_worlds, read, state_of};
 use crate::slow::{GROUPS, Scene, are_answered, first_pids, len_of};
 use crate::verdicts::holds;
 use pg_index::IndexTable;
@@ -14,8 +14,8 @@ use std::process::Abort;
 /// How many steps a schedule has.
 const STEPS: usize = 10_000;
 
-// How the nodes start, of which there are two to five: two of them with groups.
-const BEGUN: &[&str] = &[
+// How the nodes start: two of them with groups.
+static BEGUN: [&str; 4] = [
     "ring 150
 node a made 2
 node b made 2
@@ -23,9 +23,33 @@ has a 1 <a.1.0> <a.1.0> <b.1.0>
 has a 3
 has b 1 <a.1.0> <b.1.0> <b.1.0>
 ",
-    "node c made 2\n",
-    "node d made 2\n",
-    "node e made 2\n",
+    "ring 150
+node a made 2
+node b made 2
+node c made 2
+has a 1 <a.1.0> <a.1.0> <b.1.0>
+has a 3
+has b 1 <a.1.0> <b.1.0> <b.1.0>
+",
+    "ring 150
+node a made 2
+node b made 2
+node c made 2
+node d made 2
+has a 1 <a.1.0> <a.1.0> <b.1.0>
+has a 3
+has b 1 <a.1.0> <b.1.0> <b.1.0>
+",
+    "ring 150
+node a made 2
+node b made 2
+node c made 2
+node d made 2
+node e made 2
+has a 1 <a.1.0> <a.1.0> <b.1.0>
+has a 3
+has b 1 <a.1.0> <b.1.0> <b.1.0>
+",
 ];
 
 /// Steps by chance.
@@ -316,21 +340,19 @@ fn check_schedule(rt: &impl Abort, alloc: Global, nodes: Schedule, seed: u64) {
     drop(pids);
 }
 
-// `more`: how many nodes there are but for the first two.
-fn check(rt: &impl Abort, alloc: Global, more: usize, seed: u64) {
-    let (begun, _) = BEGUN.split_at(more.min(3) + 1);
-    let nodes = schedule_of(alloc, begun, 1).expect(rt, "memory");
+fn check(rt: &impl Abort, alloc: Global, nodes: &str, seed: u64) {
+    let nodes = read(alloc, nodes).expect(rt, "memory");
     check_schedule(rt, alloc, nodes, seed);
 }
 
 #[test]
 fn two_and_three_nodes(rt: HostRuntime) {
-    check(&rt, rt.alloc(), 0, 20_261_125);
-    check(&rt, rt.alloc(), 1, 20_261_126);
+    check(&rt, rt.alloc(), BEGUN[0], 20_261_125);
+    check(&rt, rt.alloc(), BEGUN[1], 20_261_126);
 }
 
 #[test]
 fn four_and_five_nodes(rt: HostRuntime) {
-    check(&rt, rt.alloc(), 2, 20_261_127);
-    check(&rt, rt.alloc(), 3, 20_261_128);
+    check(&rt, rt.alloc(), BEGUN[2], 20_261_127);
+    check(&rt, rt.alloc(), BEGUN[3], 20_261_128);
 }

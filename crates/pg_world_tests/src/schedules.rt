@@ -50,23 +50,32 @@ take b c
 take b c
 ";
 
-// A script, with so many rounds in the place of each line `settle`.
-fn put_lines(text: &mut String, script: &[&str], rounds: usize) -> Result<(), AllocError> {
-    let mut round = ROUND_OF_TWO;
-    for part in script {
-        for line in part.split('\n') {
-            if line == "node c" {
-                round = ROUND_OF_THREE;
-            }
-            if line == "settle" {
-                for _ in 0..rounds {
-                    text.push_str(round)?;
-                }
-            } else {
-                text.push_str(line)?;
-                text.push('\n')?;
-            }
+// A line of a script, with so many rounds in the place of `settle`.
+fn put_line(text: &mut String, line: &str, round: &str, rounds: usize) -> Result<(), AllocError> {
+    if line == "settle" {
+        for _ in 0..rounds {
+            text.push_str(round)?;
         }
+        Ok(())
+    } else {
+        text.push_str(line)?;
+        text.push('\n')
+    }
+}
+
+fn put_lines(
+    text: &mut String,
+    script: &str,
+    nodes: usize,
+    rounds: usize,
+) -> Result<(), AllocError> {
+    let round = if nodes == 2 {
+        ROUND_OF_TWO
+    } else {
+        ROUND_OF_THREE
+    };
+    for line in script.split('\n') {
+        put_line(text, line, round, rounds)?;
     }
     Ok(())
 }
@@ -97,20 +106,23 @@ fn with_steps(alloc: Global, script: Script) -> Option<Schedule> {
     }
 }
 
-/// The schedule of a script, which stands in parts: one of two or three nodes, if it settles, in so many rounds. None where memory was
-/// refused.
-pub fn schedule_of(alloc: Global, script: &[&str], rounds: usize) -> Option<Schedule> {
-    let mut text = String::new(alloc);
-    let told = put_lines(&mut text, script, rounds);
-    let read = read_script(alloc, text.as_str());
-    drop(text);
-    match (told, read) {
-        (Ok(()), Ok(script)) => with_steps(alloc, script),
-        (_, read) => {
-            drop(read);
-            None
-        }
+/// The schedule of a text, of which each line is one step. None where memory was refused.
+pub fn read(alloc: Global, text: &str) -> Option<Schedule> {
+    match read_script(alloc, text) {
+        Ok(script) => with_steps(alloc, script),
+        Err(_) => None,
     }
+}
+
+/// The schedule of a script of two or three nodes, which settles in so many rounds. None where memory was refused.
+pub fn schedule_of(alloc: Global, script: &str, nodes: usize, rounds: usize) -> Option<Schedule> {
+    let mut text = String::new(alloc);
+    let schedule = match put_lines(&mut text, script, nodes, rounds) {
+        Ok(()) => read(alloc, text.as_str()),
+        Err(AllocError) => None,
+    };
+    drop(text);
+    schedule
 }
 
 /// The node at a place.
