@@ -8,7 +8,7 @@ use pg_random::Random;
 use pg_step::{Command, OpId};
 use pg_term::{Pid, Term};
 use pg_world::{Config, FrameStep, Step, Stepped, World, run, run_frames};
-use std::alloc::Global;
+use std::alloc::{AllocError, Global};
 use std::process::Abort;
 
 /// How many steps a schedule has.
@@ -160,18 +160,15 @@ impl Chance {
     }
 }
 
-// Puts steps by chance behind the others; fewer where memory was refused.
-fn put_steps(steps: &mut Vec<Step>, chance: &mut Chance, pids: &[Pid]) {
+// Puts steps by chance behind the others.
+fn put_steps(steps: &mut Vec<Step>, chance: &mut Chance, pids: &[Pid]) -> Result<(), AllocError> {
     for _ in 0..STEPS {
         match chance.step(pids) {
-            Some(step) => {
-                if steps.push(step).is_err() {
-                    return;
-                }
-            }
-            None => return,
+            Some(step) => steps.push(step)?,
+            None => return Err(AllocError),
         }
     }
+    Ok(())
 }
 
 /// What a step of a world did: whether an event happened, and the number of its fault.
@@ -248,22 +245,25 @@ fn is_run(alloc: Global, schedule: &Schedule, world: &World<IndexTable>, notes: 
     }
 }
 
-// The events that happened; fewer where memory was refused.
-fn events(alloc: Global, steps: Vec<Step>, notes: &[Noted]) -> Vec<FrameStep> {
-    let mut events = Vec::new(alloc);
+// Puts the events that happened behind the others.
+fn put_events(
+    events: &mut Vec<FrameStep>,
+    steps: Vec<Step>,
+    notes: &[Noted],
+) -> Result<(), AllocError> {
     for (step, noted) in steps.into_iter().zip(notes) {
         match step {
             Step::Event(event) => {
-                if !noted.0 {
+                if noted.0 {
+                    events.push(event)?;
+                } else {
                     drop(event);
-                } else if events.push(event).is_err() {
-                    return events;
                 }
             }
             other => drop(other),
         }
     }
-    events
+    Ok(())
 }
 
 // Whether the events over packets all happen, and lead to the same nodes.
@@ -300,8 +300,9 @@ fn check_schedule(rt: &impl Abort, alloc: Global, nodes: Schedule, seed: u64) {
         nodes: u32::try_from(count).unwrap_or(1),
         asked: 0,
     };
-    put_steps(&mut schedule.steps, &mut chance, pids.as_slice());
+    let told = put_steps(&mut schedule.steps, &mut chance, pids.as_slice());
     drop(chance);
+    told.expect(rt, "memory");
     let mut world = World::new(alloc, &schedule.config)
         .ok()
         .expect(rt, "memory");
@@ -330,7 +331,8 @@ fn check_schedule(rt: &impl Abort, alloc: Global, nodes: Schedule, seed: u64) {
     let is_run = is_run(alloc, &schedule, &world, notes.as_slice());
     holds(rt, is_run, "the same by a run, nodes:", count);
     let Schedule { config, steps } = schedule;
-    let events = events(alloc, steps, notes.as_slice());
+    let mut events = Vec::new(alloc);
+    put_events(&mut events, steps, notes.as_slice()).expect(rt, "memory");
     let is_run = is_run_over_packets(alloc, &config, &world, events.as_slice());
     holds(rt, is_run, "the same over packets, nodes:", count);
     drop(events);
