@@ -1,20 +1,13 @@
 //! Figures: how fast terms and packets are read and written, how fast bytes cross a ring, how fast tables of groups are
-//! changed and asked, how much memory they take, and how fast nodes, worlds of nodes and clusters of threads are. The first word
-//! says which: `codec`, `packets`, `rings`, `cluster`, `tables`, `memory`, `nodes` or `worlds`; with none, each but `cluster` and
-//! `memory` once and small. The figures go to standard error, since they differ from run to run.
+//! changed and asked, and how much memory they take. The first word says which: `codec`, `packets`, `rings`, `tables` or
+//! `memory`; with none, each but `memory` once and small. The figures go to standard error, since they differ from run to run.
 #![tactic(auto)]
 
-mod changes;
-mod cluster;
-mod figures;
-mod nodes;
 mod rings;
-mod samples;
 mod tables;
 mod values;
-mod worlds;
 
-use figures::word;
+use pg_figures::word;
 use std::env;
 use values::{PACKETS, TERMS};
 
@@ -25,19 +18,13 @@ fn run(rt: &HostRuntime, words: &[String]) -> bool {
         "packets" => values::run(rt, words, PACKETS),
         "tables" => tables::run(rt, words),
         "memory" => tables::run_memory(rt, words),
-        "nodes" => nodes::run(rt, words),
-        "worlds" => worlds::run(rt, words),
         _ => false,
     }
 }
 
 // The same, each once and small, but for memory, which only Linux tells.
 fn run_each(rt: &HostRuntime) -> bool {
-    values::run(rt, &[], TERMS)
-        && values::run(rt, &[], PACKETS)
-        && tables::run(rt, &[])
-        && nodes::run(rt, &[])
-        && worlds::run(rt, &[])
+    values::run(rt, &[], TERMS) && values::run(rt, &[], PACKETS) && tables::run(rt, &[])
 }
 
 fn main(rt: HostRuntime) -> anyhow::Result<()> {
@@ -45,12 +32,11 @@ fn main(rt: HostRuntime) -> anyhow::Result<()> {
     let is_done = match word(&words, 0) {
         "" => rings::cross(&rt, 100) && run_each(&rt),
         "rings" => rings::cross(&rt, 1),
-        "cluster" => cluster::run(&rt, &words),
         _ => run(&rt, &words),
     };
     if !is_done {
         anyhow::bail!(
-            "no such figures, no number, or no memory: codec, packets, rings, cluster, tables, memory, nodes and worlds have figures"
+            "no such figures, no number, or no memory: codec, packets, rings, tables and memory have figures"
         );
     }
     Ok(())

@@ -1,6 +1,6 @@
 //! How many bytes a second cross a ring between two threads, for pieces of several sizes.
 
-use crate::figures::Watch;
+use pg_figures::Watch;
 use pg_ring::{Inlet, Link, RingIn, RingOut, ring_pair};
 use std::io::Eprint;
 use std::sync::Wait;

@@ -3,10 +3,9 @@
 mod calls;
 mod crowd;
 
-use crate::changes::Change;
-use crate::figures::{Watch, number, report_each, word};
 use calls::{About, apply, apply_all, each, read};
 use crowd::{joins_of_300, names, pairs, pid_of, pids, updates};
+use pg_figures::{Change, Watch, number, report_each, word};
 use pg_group::{Ended, GroupTable, RowTable, Update};
 use pg_index::IndexTable;
 use pg_random::Random;

@@ -1,12 +1,18 @@
 //! How fast terms and packets are read and written, copied and compared.
 
-use crate::figures::{Watch, head, number, report, word};
-use crate::samples::{JOIN_CALL, pid};
 use bytes::BytesMut;
+use pg_figures::{Watch, head, number, pid, report, word};
 use pg_message::{Message, MessageFault, Packet, read_packet, write_packet, write_packet_into};
 use pg_term::{Atom, Fields, Items, Pid, Term, TermFault};
 use pg_term_io::{decode, encode, encode_into};
 use std::alloc::Global;
+
+// The bytes of `{0, {call, Ref, {join, g, Pid}}}`, by which a peer asks to join a process of its own to a group.
+const JOIN_CALL: [u8; 62] = [
+    131, 104, 2, 97, 0, 104, 3, 119, 4, 99, 97, 108, 108, 90, 0, 3, 119, 1, 97, 0, 0, 0, 1, 0, 0,
+    0, 1, 0, 0, 0, 0, 0, 0, 0, 0, 104, 3, 119, 4, 106, 111, 105, 110, 119, 1, 103, 88, 119, 1, 97,
+    0, 0, 0, 1, 0, 0, 0, 0, 0, 0, 0, 1,
+];
 
 /// What is read and written.
 #[derive(Clone, Copy)]

@@ -1,3 +1,4 @@
+use pg_faults::NO_THREAD;
 use pg_ring::RingFault;
 use pg_world::WorldFault;
 use std::alloc::{AllocError, AllocFailed};
@@ -24,7 +25,7 @@ impl StartFault {
     {
         match self {
             StartFault::World(fault) => fault.number(),
-            StartFault::NoThread => 34,
+            StartFault::NoThread => NO_THREAD,
         }
     }
 }

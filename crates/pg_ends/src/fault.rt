@@ -1,5 +1,6 @@
 ghost use Rattle.std.specs.Prelude.{◌≡◌};
 
+use pg_faults::{ALREADY_ENDED, FOREIGN_PID, NOT_MADE, OUT_OF_MEMORY, PROCESS_LIMIT};
 use std::alloc::{AllocError, AllocFailed};
 use thiserror::Error;
 
@@ -26,11 +27,11 @@ impl EndFault {
         ensures { result ≡ end_number_of self }
     {
         match self {
-            EndFault::ForeignPid => 24,
-            EndFault::NotMade => 26,
-            EndFault::AlreadyEnded => 27,
-            EndFault::ProcessLimit => 28,
-            EndFault::OutOfMemory => 10,
+            EndFault::ForeignPid => FOREIGN_PID,
+            EndFault::NotMade => NOT_MADE,
+            EndFault::AlreadyEnded => ALREADY_ENDED,
+            EndFault::ProcessLimit => PROCESS_LIMIT,
+            EndFault::OutOfMemory => OUT_OF_MEMORY,
         }
     }
 }

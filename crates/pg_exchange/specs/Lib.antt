@@ -1,5 +1,6 @@
 pub mod ExchangeFault
 pub mod GroupList
+pub mod Marks
 pub use Rattle.pg_group.specs.Ended
 pub use Rattle.pg_group.specs.Members
 pub use Rattle.pg_group.specs.Scope

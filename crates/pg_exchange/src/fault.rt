@@ -1,5 +1,6 @@
 ghost use Rattle.std.specs.Prelude.{◌≡◌};
 
+use pg_faults::{NOT_A_MESSAGE, OUT_OF_MEMORY};
 use std::alloc::{AllocError, AllocFailed};
 use thiserror::Error;
 
@@ -20,8 +21,8 @@ impl ExchangeFault {
         ensures { result ≡ exchange_number_of self }
     {
         match self {
-            ExchangeFault::NotAMessage => 12,
-            ExchangeFault::OutOfMemory => 10,
+            ExchangeFault::NotAMessage => NOT_A_MESSAGE,
+            ExchangeFault::OutOfMemory => OUT_OF_MEMORY,
         }
     }
 }

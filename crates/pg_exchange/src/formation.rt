@@ -16,14 +16,19 @@ use std::marker::Model;
 #[derive(Debug, Drop)]
 pub struct Formation {
     marks: Vec<bool>,
+    // How many are not merged.
+    missing: usize,
 }
 
 impl Model for Formation {
-    ghost use Rattle.std.specs.Prelude.{List, Bool};
+    ghost use Rattle.std.specs.Prelude.{◌≡◌, List, Bool};
+    ghost use Rattle.pg_exchange.specs.Marks.{unmarked};
 
     ghost Value = { List Bool };
 
     ghost view = { λ formation. formation.marks.items };
+
+    ghost invariant = { λ formation. formation.missing ≡ unmarked formation.marks.items };
 }
 
 impl Formation {
@@ -33,7 +38,10 @@ impl Formation {
     {
         let mut marks = Vec::new(alloc);
         marks.resize(peers, false)?;
-        Ok(Formation { marks })
+        Ok(Formation {
+            marks,
+            missing: peers,
+        })
     }
 
     /// How many peers there are. It takes no memory.
@@ -76,7 +84,7 @@ impl Formation {
         let mut copy = table.copy()?;
         merge_all(groups, &mut copy, ended)?;
         *table = copy;
-        self.marks[peer] = true;
+        self.forget(peer);
         Ok(())
     }
 
@@ -86,14 +94,16 @@ impl Formation {
         requires { peer < length self.old }
         ensures { self.new ≡ slice_set self.old peer true }
     {
-        let mark = &mut self.marks[peer];
-        *mark = true;
+        if !self.marks[peer] {
+            self.marks[peer] = true;
+            self.missing -= 1;
+        }
     }
 
     /// Whether every peer is merged: it has announced its groups, or was forgotten. It takes no memory.
     pub fn formed(&self) -> bool
         ensures { result ≡ list_all (λ marked. marked) self.now }
     {
-        self.marks.iter().all(|marked| *marked)
+        self.missing == 0
     }
 }

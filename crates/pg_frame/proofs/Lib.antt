@@ -1,3 +1,6 @@
 pub mod Fronts
 pub mod Bodies
 pub mod Readings
+mod Cut
+mod Moved
+mod Read

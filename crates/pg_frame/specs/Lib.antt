@@ -2,3 +2,4 @@ pub mod Buffered
 pub mod Fault
 pub mod Frames
 pub mod Laws
+pub mod Pieces

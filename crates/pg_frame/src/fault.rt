@@ -1,5 +1,6 @@
 ghost use Rattle.std.specs.Prelude.{◌≡◌};
 
+use pg_faults::{OUT_OF_MEMORY, TOO_LONG};
 use std::alloc::AllocError;
 use thiserror::Error;
 
@@ -36,8 +37,8 @@ impl FrameFault {
         ensures { result ≡ number_of self }
     {
         match self {
-            FrameFault::OutOfMemory => 10,
-            FrameFault::TooLong => 11,
+            FrameFault::OutOfMemory => OUT_OF_MEMORY,
+            FrameFault::TooLong => TOO_LONG,
         }
     }
 }

@@ -4,6 +4,7 @@
 mod deframer;
 mod fault;
 mod laws;
+mod pieces;
 mod write;
 
 pub use deframer::Deframer;
@@ -11,6 +12,10 @@ pub use fault::{FrameFault, TooLong};
 pub use laws::{
     front_is_first, front_is_frame, loop_keeps, one_reading, overlong_stays, pieces_continue,
     rest_begins_no_frame, taking_leaves_others, written_is_read,
+};
+pub use pieces::{
+    front_is_first_of_cut, front_is_first_packet, loss_cuts_packets, moving_keeps_packets,
+    packets_cross_in_order, sending_adds_packets, whole_frames_come,
 };
 pub use write::{frame_into, write_frame};
 

@@ -87,13 +87,11 @@ module _ (among : Pid → Bool) where
 
   -- ---- the entries, one after the other
 
-  pub sized_more : (size all : ℕ) (pid : Pid) (k : ℕ) (left es : List (Pid × ℕ)) → left ≡ (pid, k) ∷ es → among pid ≡ true → size + length (spread among left) ≡ all → size + k + length (spread among es) ≡ all
-  sized_more size all pid k left es is e h =
-      let f : length (spread among left) ≡ k + length (spread among es) = ap (λ l. length (spread among l)) is ∙ length-spread pid k es ∙ ap (λ b. cond b k 0 + length (spread among es)) e in
-      omega arith
+  pub sized_more : (pid : Pid) (k : ℕ) (left es : List (Pid × ℕ)) → left ≡ (pid, k) ∷ es → among pid ≡ true → length (spread among left) ≡ k + length (spread among es)
+  sized_more pid k left es is e = ap (λ l. length (spread among l)) is ∙ length-spread pid k es ∙ ap (λ b. cond b k 0 + length (spread among es)) e
 
-  pub sized_all : (size all : ℕ) (left : List (Pid × ℕ)) → left ≡ [] → size + length (spread among left) ≡ all → all ≡ size
-  sized_all size all left is h = let f : length (spread among left) ≡ 0 = ap (λ l. length (spread among l)) is in omega arith
+  pub sized_none : (left : List (Pid × ℕ)) → left ≡ [] → length (spread among left) ≡ 0
+  sized_none left is = ap (λ l. length (spread among l)) is
 
   pub place_here : (i : ℕ) (found : Option Pid) (pid : Pid) (k : ℕ) (left es : List (Pid × ℕ)) → left ≡ (pid, k) ∷ es → among pid ≡ true → i < k → slice_get (spread among left) i ≡ found → Some pid ≡ found
   place_here i found pid k left es is e h f = sym (ap (λ l. slice_get (spread among l) i) is ∙ get-spread_low pid k es i e h) ∙ f

@@ -1,11 +1,10 @@
 -- The members of a group as a list: pids in their order, each as often as its count.
-use Rattle.std.specs.Prelude.{◌≡◌, ℕ, zero, suc, ◌<◌, ◌^◌, Bool, false, cond, List, [], ◌∷◌, length, count_by}
+use Rattle.std.specs.Prelude.{◌≡◌, ℕ, zero, suc, Bool, false, cond, List, [], ◌∷◌, count_by}
 use Rattle.std.specs.List.{AllByRecursion}
 use Rattle.std.specs.Ordering.{is_gt}
 use Rattle.pg_term.specs.declared.pid.Pid.{Pid}
 use Rattle.pg_term.specs.Same.{same_pid, pid_cmp}
 use Rattle.pg_group.specs.Value.{Value, count_in}
-use Rattle.pg_group.specs.Scope.{anywhere}
 
 -- no pid is greater than one that stands after it
 abbrev pub IsInOrder : List Pid → Type 0
@@ -25,7 +24,3 @@ put (suc n) pid pids = pid ∷ put n pid pids
 pub record IsMemberList (v : Value) (among : Pid → Bool) (pids : List Pid) : Type 0 where
   pub ordered : IsInOrder pids
   pub each : (pid : Pid) → count_by (same_pid pid) pids ≡ count_among v among pid
-
--- the number of all members can be told in 64 bits
-abbrev pub SizeFits : Value → Type 0
-SizeFits v = (pids : List Pid) → IsMemberList v anywhere pids → length pids < 2 ^ 64

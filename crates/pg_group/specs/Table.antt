@@ -1,5 +1,5 @@
 -- A table of groups, as a function from names to groups.
-use Rattle.std.specs.Prelude.{◌≡◌, ℕ, ◌+◌, ◌<◌, ◌^◌, Bool, true, false, cond, List, None, is_some, IsSome}
+use Rattle.std.specs.Prelude.{◌≡◌, ℕ, ◌+◌, ◌<◌, ◌≤◌, ◌^◌, length, Bool, true, false, cond, List, None, is_some, IsSome}
 use Rattle.std.specs.List.{IsDistinct, list_any}
 use Rattle.pg_term.specs.declared.pid.Pid.{Pid}
 use Rattle.pg_term.specs.declared.term.Term.{Term}
@@ -7,7 +7,8 @@ use Rattle.pg_term.specs.Same.{same_term, same_pid}
 use Rattle.pg_group.specs.declared.update.Update.{Update}
 use Rattle.pg_group.specs.declared.update.Update.TheVariants.{Create, Delete, Join, Leave}
 use Rattle.pg_group.specs.Functions.{upd}
-use Rattle.pg_group.specs.Scope.{at_node}
+use Rattle.pg_group.specs.Members.{IsMemberList}
+use Rattle.pg_group.specs.Scope.{anywhere, at_node}
 use Rattle.pg_group.specs.Value.{Value, apply, name_of, count_in, less, merge, listed, IsBetween}
 
 abbrev pub Table : Type 0
@@ -41,6 +42,15 @@ Adds table (Create name) ended = table name ≡ None
 Adds table (Delete name) ended = ⊥
 Adds table (Join name pid) ended = IsNewMember (table name) pid ended
 Adds table (Leave name pid) ended = ⊥
+
+-- so many members more of a group could not be told in 64 bits
+abbrev pub LacksRoom : Value → ℕ → Type 0
+LacksRoom v more = (pids : List Pid) × (IsMemberList v anywhere pids × (2 ^ 64 ≤ length pids + more))
+
+-- the update joins a group whose members, with one more, could not be told in 64 bits
+abbrev pub Overfills : Table → Update → Type 0
+Overfills table (Join name pid) = LacksRoom (table name) 1
+Overfills table update = ⊥
 
 -- these are the names of the groups that are there, each once
 pub record AreNames (table : Table) (names : List Term) : Type 0 where

@@ -15,7 +15,7 @@ pub struct Members {
 }
 
 impl Members {
-    ghost use Rattle.std.specs.Prelude.{◌≡◌, ◌+◌, ◌<◌, ◌^◌, max, List, length, slice_get, Some, option_copied, OnOk, OnErr, IfOk};
+    ghost use Rattle.std.specs.Prelude.{◌≡◌, ◌+◌, ◌<◌, ◌^◌, max, min, List, length, slice_get, Some, option_copied, OnOk, OnErr, IfOk};
     ghost use Rattle.pg_term.specs.Same.{same_pid};
     ghost use Rattle.pg_term.specs.declared.pid.Pid.{Pid};
     ghost use Rattle.pg_group.specs.Ended.{ended_of};
@@ -23,7 +23,7 @@ impl Members {
     ghost use Rattle.pg_group.specs.Value.{nobody, with_one_more, with_one_less, greater, told, none_of, IsBetween};
     ghost use Rattle.pg_group.specs.Rows.{counts_of};
     ghost use Rattle.pg_group.specs.Scope.{in_scope, at_node};
-    ghost use Rattle.pg_group.specs.Members.{IsMemberList, SizeFits};
+    ghost use Rattle.pg_group.specs.Members.{IsMemberList};
 
     /// Nobody is a member.
     pub fn new(alloc: Global) -> Members
@@ -128,16 +128,15 @@ impl Members {
         Ok(())
     }
 
-    /// How many members there are, each as often as its count.
+    /// How many members there are, each as often as its count, or `u64::MAX` where there are more.
     pub fn size(&self, scope: Scope<'_>) -> u64
-        requires { SizeFits (Some (counts_of self.now)) }
         ensures { (pids : List Pid) × (IsMemberList (Some (counts_of self.now)) (in_scope scope.entry) pids
-            × (length pids ≡ result)) }
+            × (result ≡ min (length pids) u64.MAX)) }
     {
-        let mut size = 0;
+        let mut size = 0_u64;
         for (pid, count) in &self.counts {
             if scope.has(pid) {
-                size += *count;
+                size = size.saturating_add(*count);
             }
         }
         size

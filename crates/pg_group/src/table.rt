@@ -1,11 +1,11 @@
-ghost use Rattle.std.specs.Prelude.{◌≡◌, ◌↔◌, IsTrue, IsSome, IfSome, IfOk, OnOk, OnErr, Option, List, length, slice_get, option_copied};
+ghost use Rattle.std.specs.Prelude.{◌≡◌, ◌↔◌, ◌⊎◌, IsTrue, IsSome, IfSome, IfOk, OnOk, OnErr, Option, List, length, min, slice_get, option_copied};
 ghost use Rattle.pg_term.specs.declared.pid.Pid.{Pid};
 ghost use Rattle.pg_term.specs.declared.term.Term.{Term};
 ghost use Rattle.pg_group.specs.Ended.{ended_of};
 ghost use Rattle.pg_group.specs.Value.{count_in};
-ghost use Rattle.pg_group.specs.Table.{Table, changed, HasRoom, AreNames, merged, PartlyMerged, without, without_node};
+ghost use Rattle.pg_group.specs.Table.{Table, changed, HasRoom, Adds, Overfills, AreNames, merged, PartlyMerged, without, without_node};
 ghost use Rattle.pg_group.specs.Scope.{in_scope};
-ghost use Rattle.pg_group.specs.Members.{IsMemberList, SizeFits};
+ghost use Rattle.pg_group.specs.Members.{IsMemberList};
 
 use crate::ended::Ended;
 use crate::scope::Scope;
@@ -23,11 +23,14 @@ pub trait GroupTable {
         ensures { IsTrue result ↔ IsSome (contents self.now name.now) };
 
     /// Applies an update to the group that it names; a join of a pid that has ended adds nothing. An error
-    /// changes nothing.
+    /// changes nothing, and comes only where a group or a member is added, or where so many members could not be told in 64
+    /// bits: a deletion, a leave, a join of a pid that has ended and one more count of a member need no memory.
     fn apply(&mut self, update: &Update, ended: &Ended) -> Result<(), AllocError>
         requires { HasRoom (contents self.old) update.now }
         ensures ok { OnOk result (contents self.new ≡ changed (contents self.old) update.now (ended_of ended.now)) }
-        ensures err { OnErr result (contents self.new ≡ contents self.old) };
+        ensures err { OnErr result (contents self.new ≡ contents self.old) }
+        ensures memory { OnErr result (Adds (contents self.old) update.now (ended_of ended.now)
+            ⊎ Overfills (contents self.old) update.now) };
 
     /// Takes in what another node says of a group: makes it if it is missing, and raises the count of each pid that
     /// has not ended to how often it stands in `members`, where that is more. Its cost grows with `members`.
@@ -58,13 +61,12 @@ pub trait GroupTable {
     fn count(&self, name: &Term, pid: &Pid) -> u64
         ensures { result ≡ count_in (contents self.now name.now) pid.now };
 
-    /// How many members a group has, each as often as its count; `None` where the group is absent. Its cost may grow
-    /// with the members. It takes no memory.
+    /// How many members a group has, each as often as its count, or `u64::MAX` where there are more; `None` where the group
+    /// is absent. Its cost may grow with the members. It takes no memory.
     fn size(&self, name: &Term, scope: Scope<'_>) -> Option<u64>
-        requires { SizeFits (contents self.now name.now) }
         ensures there { IsSome result ↔ IsSome (contents self.now name.now) }
         ensures value { IfSome result (λ size. (pids : List Pid)
-            × (IsMemberList (contents self.now name.now) (in_scope scope.entry) pids × (length pids ≡ size))) };
+            × (IsMemberList (contents self.now name.now) (in_scope scope.entry) pids × (size ≡ min (length pids) u64.MAX))) };
 
     /// The member at a place, counted from 0, in the list of the members of a group: pids in their order, each as often
     /// as its count. `None` past the end, and where the group is absent. Its cost may grow with the members. It takes

@@ -1,11 +1,14 @@
 -- Tables that are copied group by group, and the names of a table.
 use Rattle.std.proofs.Math.Path.{fun_ext}
-use Rattle.std.proofs.Common.{◌≡◌, ℕ, suc, Bool, true, false, cond, Option, Some, None, List, [], ◌∷◌, refl, sym, ap, subst, ◌∙◌, arith}
-use Rattle.std.specs.Prelude.{is_some, unwrap_or}
+use Rattle.std.proofs.Common.{◌≡◌, ℕ, suc, Bool, true, false, ◌||◌, cond, Option, Some, None, List, [], ◌∷◌, refl, sym, ap, subst, ◌∙◌, arith}
+use Rattle.std.specs.Prelude.{is_some, unwrap_or, get_or}
 use Rattle.std.specs.Option.{option_or, option_map}
 use Rattle.std.specs.List.{All, IsDistinct, list_any}
 use Rattle.std.specs.Map.{lookup}
 use Rattle.std.specs.HashMap.{keys}
+use Rattle.std.specs.Map.{keys_of}
+use Rattle.std.proofs.lemmas.Map.Entries.{lookup_from_place}
+use Rattle.std.proofs.lemmas.Option.{slice_get-get_or}
 use Rattle.slab.specs.Slab.{Slab, get}
 use Rattle.pg_term.specs.declared.pid.Pid.{Pid}
 use Rattle.pg_term.specs.declared.term.Term.{Term}
@@ -24,6 +27,19 @@ use Rattle.pg_index.specs.Index.{Numbers, number_of, contents_of, HasGroups}
 use Rattle.pg_index.proofs.Tables.{is_there}
 
 -- ---- names
+
+-- a name has a number where it is among the names
+pub has_among : (q : Term) (es : List (Term × ℕ)) → is_some (lookup (same_term q) es) ≡ list_any (same_term q) (keys_of es)
+has_among q [] = refl
+has_among q (e ∷ es) = go (same_term q e.0) (has_among q es)
+  where
+    go : (b : Bool) → is_some (lookup (same_term q) es) ≡ list_any (same_term q) (keys_of es) → is_some (cond b (Some e.1) (lookup (same_term q) es)) ≡ (b || list_any (same_term q) (keys_of es))
+    go true later = refl
+    go false later = later
+
+-- each name is found with its number
+pub found_each : (numbers : Numbers) → IsDistinct same_term (keys numbers) → All (λ e. number_of numbers e.0 ≡ Some e.1) numbers.entries
+found_each numbers once = λ k d below. lookup_from_place term_laws.laws-law numbers.entries k (get_or numbers.entries k d).0 (get_or numbers.entries k d).1 once (slice_get-get_or numbers.entries k d below)
 
 pub keys_are_names : (numbers : Numbers) (counts : Numbered) (names : List Term) → names ≡ keys numbers
     → ((q : Term) → is_some (number_of numbers q) ≡ list_any (same_term q) (keys numbers)) → IsDistinct same_term (keys numbers)

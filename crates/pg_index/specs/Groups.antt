@@ -41,10 +41,6 @@ without_nodes counts node group = without_node (counts group) node
 abbrev pub without_pid : Numbered → Pid → Numbered
 without_pid counts pid group = upd same_pid (counts group) pid 0
 
--- so many members more of a group could not be told in 64 bits
-abbrev pub LacksRoom : Value → ℕ → Type 0
-LacksRoom v more = (pids : List Pid) × (IsMemberList v anywhere pids × (2 ^ 64 ≤ length pids + more))
-
 -- one group with the counts of a list, where they are more
 abbrev pub counts_raised : Numbered → ℕ → List Pid → (Pid → Bool) → Numbered
 counts_raised counts group pids ended = upd nat_eq counts group (greater (counts group) (told pids ended))

@@ -1,20 +1,19 @@
 -- What an indexed table of groups keeps.
 use Rattle.std.specs.Prelude.{◌≡◌, ℕ, Bool, true, Option, Some, List}
 use Rattle.std.specs.Option.{option_map}
-use Rattle.std.specs.HashMap.{HashMap, get}
+use Rattle.indexmap.specs.IndexMap.{IndexMap, get}
 use Rattle.std.specs.declared.hash.FoldHasher.{FoldHasher}
 use Rattle.std.specs.declared.hash.BuildHasherDefault.{BuildHasherDefault}
 use Rattle.pg_term.specs.declared.term.Term.{Term}
 use Rattle.pg_term.specs.Same.{same_term}
-use Rattle.pg_group.specs.declared.update.Update.{Update}
-use Rattle.pg_group.specs.declared.update.Update.TheVariants.{Join}
 use Rattle.pg_group.specs.Table.{Table}
 use Rattle.pg_members.specs.declared.row.Row.{Row}
 use Rattle.pg_members.specs.Rows.{counts_of}
-use Rattle.pg_index.specs.Groups.{Numbered, LacksRoom}
+use Rattle.pg_index.specs.Groups.{Numbered, counts_in}
+use Rattle.pg_index.specs.declared.memberships.Memberships.{Memberships}
 
 abbrev pub Numbers : Type 0
-Numbers = HashMap Term ℕ (BuildHasherDefault FoldHasher)
+Numbers = IndexMap Term ℕ (BuildHasherDefault FoldHasher)
 
 -- the number of a name
 abbrev pub number_of : Numbers → Term → Option ℕ
@@ -36,7 +35,6 @@ AreApart number_of = (one other : Term) (group : ℕ) → number_of one ≡ Some
 abbrev pub MembersOf : Table → Term → Option (List Row) → Type 0
 MembersOf table name rows = option_map counts_of rows ≡ table name
 
--- the update joins a group whose members, with one more, could not be told in 64 bits
-abbrev pub Overfills : Table → Update → Type 0
-Overfills table (Join name pid) = LacksRoom (table name) 1
-Overfills table update = ⊥
+-- what an indexed table says: the group of each name
+abbrev pub table_of : Numbers → Memberships → Table
+table_of numbers memberships = contents_of (number_of numbers) (counts_in memberships.groups)

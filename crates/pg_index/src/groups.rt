@@ -2,7 +2,8 @@ ghost use Rattle.std.specs.Prelude.{◌≡◌, ◌+◌, ◌<◌, ◌⊎◌, true
 ghost use Rattle.pg_term.specs.Same.{same_pid};
 ghost use Rattle.pg_group.specs.Functions.{upd};
 ghost use Rattle.pg_group.specs.Value.{with_one_less};
-ghost use Rattle.pg_index.specs.Groups.{counts_in, is_used, counts_changed, without_node, LacksRoom};
+ghost use Rattle.pg_index.specs.Groups.{counts_in, is_used, counts_changed, without_node};
+ghost use Rattle.pg_group.specs.Table.{LacksRoom};
 
 use pg_members::Members;
 use pg_term::{Atom, Pid};

@@ -3,23 +3,23 @@ ghost use Rattle.pg_term.specs.Same.{same_term, same_pid};
 ghost use Rattle.pg_group.specs.Ended.{ended_of};
 ghost use Rattle.pg_group.specs.Functions.{upd};
 ghost use Rattle.pg_group.specs.Value.{apply, count_in};
-ghost use Rattle.pg_group.specs.Table.{changed, Adds, HasRoom};
+ghost use Rattle.pg_group.specs.Table.{changed, Adds, HasRoom, LacksRoom, Overfills};
 ghost use Rattle.pg_group.specs.declared.update.Update.TheVariants.{Create, Delete, Join, Leave};
-ghost use Rattle.pg_index.specs.Groups.{counts_in, is_used, LacksRoom};
-ghost use Rattle.pg_index.specs.Index.{number_of, contents_of, HasGroups, AreApart, MembersOf, Overfills};
+ghost use Rattle.pg_index.specs.Groups.{is_used};
+ghost use Rattle.pg_index.specs.Index.{number_of, table_of, HasGroups, AreApart, MembersOf};
 
 use crate::memberships::Memberships;
+use indexmap::IndexMap;
 use pg_group::{Ended, GroupTable, Scope, Update};
 use pg_members::Members;
 use pg_term::{Atom, Pid, Term};
 use std::alloc::{AllocError, Global};
-use std::collections::HashMap;
 
 /// The table for many groups and members: a number for each name, the members of each number in an order that finds
 /// them by place, by node and by pid, and the numbers of the groups of each pid.
 #[derive(Drop)]
 pub struct IndexTable {
-    numbers: HashMap<Term, u32>,
+    numbers: IndexMap<Term, u32>,
     memberships: Memberships,
     alloc: Global,
     ghost there: { HasGroups (number_of numbers) (is_used memberships.groups) },
@@ -29,10 +29,10 @@ pub struct IndexTable {
 impl IndexTable {
     /// No group. It takes no memory.
     pub fn new(alloc: Global) -> IndexTable
-        ensures { contents_of (number_of result.numbers) (counts_in result.memberships.groups) ≡ (λ name. None) }
+        ensures { table_of result.numbers result.memberships ≡ (λ name. None) }
     {
         IndexTable {
-            numbers: HashMap::new(alloc),
+            numbers: IndexMap::new(alloc),
             memberships: Memberships::new(alloc),
             alloc,
         }
@@ -47,7 +47,7 @@ impl IndexTable {
 
     /// The members of a group.
     fn members(&self, name: &Term) -> Option<&Members>
-        ensures { MembersOf (contents_of (number_of self.now.numbers) (counts_in self.now.memberships.groups)) name.now (option_copied result) }
+        ensures { MembersOf (table_of self.now.numbers self.now.memberships) name.now (option_copied result) }
     {
         match self.number(name) {
             Some(number) => self.memberships.members(number),
@@ -57,13 +57,13 @@ impl IndexTable {
 
     /// Makes an absent group empty. A group that is there takes no memory. An error changes nothing.
     fn create(&mut self, name: &Term) -> Result<(), AllocError>
-        ensures ok { OnOk result (contents_of (number_of self.new.numbers) (counts_in self.new.memberships.groups)
-            ≡ upd same_term (contents_of (number_of self.old.numbers) (counts_in self.old.memberships.groups)) name.now
-            (apply (contents_of (number_of self.old.numbers) (counts_in self.old.memberships.groups) name.now) (Create name.now))) }
-        ensures err { OnErr result (contents_of (number_of self.new.numbers) (counts_in self.new.memberships.groups)
-            ≡ contents_of (number_of self.old.numbers) (counts_in self.old.memberships.groups)) }
+        ensures ok { OnOk result (table_of self.new.numbers self.new.memberships
+            ≡ upd same_term (table_of self.old.numbers self.old.memberships) name.now
+            (apply (table_of self.old.numbers self.old.memberships name.now) (Create name.now))) }
+        ensures err { OnErr result (table_of self.new.numbers self.new.memberships
+            ≡ table_of self.old.numbers self.old.memberships) }
         ensures memory { OnErr result
-            (contents_of (number_of self.old.numbers) (counts_in self.old.memberships.groups) name.now ≡ None) }
+            (table_of self.old.numbers self.old.memberships name.now ≡ None) }
     {
         if self.numbers.contains_key(name) {
             return Ok(());
@@ -79,28 +79,28 @@ impl IndexTable {
 
     /// Makes a group absent. It takes no memory, and time for each member.
     fn delete(&mut self, name: &Term)
-        ensures { contents_of (number_of self.new.numbers) (counts_in self.new.memberships.groups)
-            ≡ upd same_term (contents_of (number_of self.old.numbers) (counts_in self.old.memberships.groups)) name.now None }
+        ensures { table_of self.new.numbers self.new.memberships
+            ≡ upd same_term (table_of self.old.numbers self.old.memberships) name.now None }
     {
         let Some(number) = self.number(name) else {
             return;
         };
-        self.numbers.remove(name);
+        self.numbers.swap_remove(name);
         self.memberships.close(number);
     }
 
     /// Adds one to the count of a pid in a group that is there. Only a new member takes memory. An error changes nothing.
     fn join(&mut self, name: &Term, pid: &Pid) -> Result<(), AllocError>
-        ensures ok { OnOk result (contents_of (number_of self.new.numbers) (counts_in self.new.memberships.groups)
-            ≡ upd same_term (contents_of (number_of self.old.numbers) (counts_in self.old.memberships.groups)) name.now
-            (apply (contents_of (number_of self.old.numbers) (counts_in self.old.memberships.groups) name.now) (Join name.now pid.now))) }
-        ensures err { OnErr result (contents_of (number_of self.new.numbers) (counts_in self.new.memberships.groups)
-            ≡ contents_of (number_of self.old.numbers) (counts_in self.old.memberships.groups)) }
+        ensures ok { OnOk result (table_of self.new.numbers self.new.memberships
+            ≡ upd same_term (table_of self.old.numbers self.old.memberships) name.now
+            (apply (table_of self.old.numbers self.old.memberships name.now) (Join name.now pid.now))) }
+        ensures err { OnErr result (table_of self.new.numbers self.new.memberships
+            ≡ table_of self.old.numbers self.old.memberships) }
         ensures there { OnErr result
-            (IsSome (contents_of (number_of self.old.numbers) (counts_in self.old.memberships.groups) name.now)) }
+            (IsSome (table_of self.old.numbers self.old.memberships name.now)) }
         ensures memory { OnErr result
-            ((count_in (contents_of (number_of self.old.numbers) (counts_in self.old.memberships.groups) name.now) pid.now ≡ 0)
-            ⊎ LacksRoom (contents_of (number_of self.old.numbers) (counts_in self.old.memberships.groups) name.now) 1) }
+            ((count_in (table_of self.old.numbers self.old.memberships name.now) pid.now ≡ 0)
+            ⊎ LacksRoom (table_of self.old.numbers self.old.memberships name.now) 1) }
     {
         match self.number(name) {
             Some(number) => self.memberships.add(number, pid, 1),
@@ -110,9 +110,9 @@ impl IndexTable {
 
     /// Takes one from the count of a pid in a group that is there. It takes no memory.
     fn leave(&mut self, name: &Term, pid: &Pid)
-        ensures { contents_of (number_of self.new.numbers) (counts_in self.new.memberships.groups)
-            ≡ upd same_term (contents_of (number_of self.old.numbers) (counts_in self.old.memberships.groups)) name.now
-            (apply (contents_of (number_of self.old.numbers) (counts_in self.old.memberships.groups) name.now) (Leave name.now pid.now)) }
+        ensures { table_of self.new.numbers self.new.memberships
+            ≡ upd same_term (table_of self.old.numbers self.old.memberships) name.now
+            (apply (table_of self.old.numbers self.old.memberships name.now) (Leave name.now pid.now)) }
     {
         match self.number(name) {
             Some(number) => self.memberships.take_one(number, pid),
@@ -122,7 +122,7 @@ impl IndexTable {
 }
 
 impl GroupTable for IndexTable {
-    ghost contents = { λ table. contents_of (number_of table.numbers) (counts_in table.memberships.groups) };
+    ghost contents = { λ table. table_of table.numbers table.memberships };
 
     /// Its cost is that of a hash.
     fn has(&self, name: &Term) -> bool {
@@ -133,14 +133,14 @@ impl GroupTable for IndexTable {
     /// that is made and a new member take memory. It also answers `AllocError` to a join where the members, with one more,
     /// could not be told in 64 bits, and to a creation where all numbers of 32 bits are in use.
     fn apply(&mut self, update: &Update, ended: &Ended) -> Result<(), AllocError>
-        requires { HasRoom (contents_of (number_of self.old.numbers) (counts_in self.old.memberships.groups)) update.now }
-        ensures ok { OnOk result (contents_of (number_of self.new.numbers) (counts_in self.new.memberships.groups)
-            ≡ changed (contents_of (number_of self.old.numbers) (counts_in self.old.memberships.groups)) update.now (ended_of ended.now)) }
-        ensures err { OnErr result (contents_of (number_of self.new.numbers) (counts_in self.new.memberships.groups)
-            ≡ contents_of (number_of self.old.numbers) (counts_in self.old.memberships.groups)) }
+        requires { HasRoom (table_of self.old.numbers self.old.memberships) update.now }
+        ensures ok { OnOk result (table_of self.new.numbers self.new.memberships
+            ≡ changed (table_of self.old.numbers self.old.memberships) update.now (ended_of ended.now)) }
+        ensures err { OnErr result (table_of self.new.numbers self.new.memberships
+            ≡ table_of self.old.numbers self.old.memberships) }
         ensures memory { OnErr result
-            (Adds (contents_of (number_of self.old.numbers) (counts_in self.old.memberships.groups)) update.now (ended_of ended.now)
-            ⊎ Overfills (contents_of (number_of self.old.numbers) (counts_in self.old.memberships.groups)) update.now) }
+            (Adds (table_of self.old.numbers self.old.memberships) update.now (ended_of ended.now)
+            ⊎ Overfills (table_of self.old.numbers self.old.memberships) update.now) }
     {
         match update {
             Update::Create(name) => self.create(name),

@@ -3,7 +3,8 @@ ghost use Rattle.slab.specs.Slab.{get};
 ghost use Rattle.pg_group.specs.Ended.{ended_of};
 ghost use Rattle.pg_group.specs.Functions.{upd};
 ghost use Rattle.pg_group.specs.Value.{with_one_less, nobody};
-ghost use Rattle.pg_index.specs.Groups.{counts_in, is_used, counts_changed, counts_raised, without_pid, without_nodes, IsPartlyRaised, LacksRoom};
+ghost use Rattle.pg_index.specs.Groups.{counts_in, is_used, counts_changed, counts_raised, without_pid, without_nodes, IsPartlyRaised};
+ghost use Rattle.pg_group.specs.Table.{LacksRoom};
 ghost use Rattle.pg_index.specs.Listings.{listed_in, AreListed};
 
 use crate::groups::{self, Groups};

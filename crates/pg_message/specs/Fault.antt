@@ -1,5 +1,6 @@
 -- The faults of messages: their place in the one list of faults, and what a call that can refuse answers.
 use Rattle.std.specs.Prelude.{◌≡◌, ℕ, Result, Ok, Err}
+use Rattle.pg_faults.specs.declared.TheConstants.{NAME_TOO_LARGE, NOT_A_MESSAGE, STAMP_TOO_LARGE}
 use Rattle.pg_term.specs.declared.fault.TermFault.TheVariants.{OutOfMemory}
 use Rattle.pg_term.specs.Fault as term
 use Rattle.pg_message.specs.declared.fault.MessageFault.{MessageFault}
@@ -8,9 +9,9 @@ use Rattle.pg_message.specs.declared.fault.MessageFault.TheVariants.{Term, NotAM
 -- the number of a fault
 abbrev pub message_number_of : MessageFault → ℕ
 message_number_of (Term fault) = term.number_of fault
-message_number_of NotAMessage = 12
-message_number_of StampTooLarge = 13
-message_number_of NameTooLarge = 23
+message_number_of NotAMessage = NOT_A_MESSAGE
+message_number_of StampTooLarge = STAMP_TOO_LARGE
+message_number_of NameTooLarge = NAME_TOO_LARGE
 
 -- memory ran out
 abbrev pub out_of_memory : MessageFault

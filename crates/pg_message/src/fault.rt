@@ -1,3 +1,4 @@
+use pg_faults::{NAME_TOO_LARGE, NOT_A_MESSAGE, STAMP_TOO_LARGE};
 use pg_term::TermFault;
 use std::alloc::{AllocError, AllocFailed};
 use thiserror::Error;
@@ -31,9 +32,9 @@ impl MessageFault {
     {
         match self {
             MessageFault::Term(fault) => fault.number(),
-            MessageFault::NotAMessage => 12,
-            MessageFault::StampTooLarge => 13,
-            MessageFault::NameTooLarge => 23,
+            MessageFault::NotAMessage => NOT_A_MESSAGE,
+            MessageFault::StampTooLarge => STAMP_TOO_LARGE,
+            MessageFault::NameTooLarge => NAME_TOO_LARGE,
         }
     }
 }

@@ -1,5 +1,6 @@
 -- The faults' place in the one list of faults, and what a call may refuse.
 use Rattle.std.specs.Prelude.{◌≡◌, ℕ, Result, Err}
+use Rattle.pg_faults.specs.declared.TheConstants.{CLOCK_FULL, READ_FAULT, TOO_LONG, WRITE_FAULT}
 use Rattle.pg_term.specs.declared.fault.TermFault.TheVariants.{OutOfMemory}
 use Rattle.pg_message.specs.Fault.{message_number_of}
 use Rattle.pg_message.specs.declared.fault.MessageFault.TheVariants.{Term, NotAMessage}
@@ -13,10 +14,10 @@ use Rattle.pg_node.specs.declared.state.fault.NodeFault.TheVariants as node
 -- the number of a fault
 abbrev pub number_of : ServeFault → ℕ
 number_of (Message fault) = message_number_of fault
-number_of FrameTooLong = 11
-number_of ClockFull = 30
-number_of ReadFault = 31
-number_of WriteFault = 32
+number_of FrameTooLong = TOO_LONG
+number_of ClockFull = CLOCK_FULL
+number_of ReadFault = READ_FAULT
+number_of WriteFault = WRITE_FAULT
 
 -- memory ran out
 abbrev pub out_of_memory : ServeFault

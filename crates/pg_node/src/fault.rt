@@ -1,3 +1,4 @@
+use pg_faults::{CLOCK_FULL, READ_FAULT, TOO_LONG, WRITE_FAULT};
 use pg_message::MessageFault;
 use pg_term::TermFault;
 use std::alloc::AllocError;
@@ -34,10 +35,10 @@ impl ServeFault {
     {
         match self {
             ServeFault::Message(fault) => fault.number(),
-            ServeFault::FrameTooLong => 11,
-            ServeFault::ClockFull => 30,
-            ServeFault::ReadFault => 31,
-            ServeFault::WriteFault => 32,
+            ServeFault::FrameTooLong => TOO_LONG,
+            ServeFault::ClockFull => CLOCK_FULL,
+            ServeFault::ReadFault => READ_FAULT,
+            ServeFault::WriteFault => WRITE_FAULT,
         }
     }
 }

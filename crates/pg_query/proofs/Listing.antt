@@ -1,9 +1,11 @@
 -- What is picked from lists of members, and names in another order.
-use Rattle.std.proofs.Common.{◌≡◌, ℕ, suc, zero, ◌<◌, ◌%◌, Bool, true, false, cond, Some, None, List, [], ◌∷◌, length, refl, sym, ap, ◌∙◌, arith}
+use Rattle.std.proofs.Common.{◌≡◌, ℕ, suc, zero, ◌<◌, ◌%◌, Bool, true, false, cond, Some, None, List, [], ◌∷◌, length, min, refl, sym, ap, ◌∙◌, inl, inr, arith}
 use Rattle.std.specs.Prelude.{slice_get}
 use Rattle.std.specs.List.Sorted.{IsPermutation}
 use Rattle.std.proofs.lemmas.List.Sorted.{list_any-IsPermutation}
 use Rattle.std.proofs.lemmas.Map.Keys.{IsDistinct-IsPermutation}
+use Rattle.std.proofs.lemmas.Bool.{cases_lt}
+use Rattle.std.proofs.Math.Nat.{mod-eq_of_lt}
 use Rattle.pg_term.specs.declared.pid.Pid.{Pid}
 use Rattle.pg_term.specs.declared.term.Term.{Term}
 use Rattle.pg_term.specs.Same.{same_term}
@@ -48,3 +50,11 @@ names_sorted table names sorted moved are = record {
   each = λ name. sym (list_any-IsPermutation (same_term name) names sorted moved) ∙ are.each name;
   once = IsDistinct-IsPermutation same_term term_laws.laws-law.symm names sorted moved are.once;
 }
+
+-- a word of 32 bits picks the same by a size that stops at the greatest number of 64 bits
+pub same_place : (word size all : ℕ) → word < 4294967296 → size ≡ min all 18446744073709551615 → word % size ≡ word % all
+same_place word size all low is =
+    elim (cases_lt all 18446744073709551616) [
+      | inl fits ↦ let e : size ≡ all = omega arith in ap (λ n. word % n) e
+      | inr long ↦ let a : word < size = omega arith in let b : word < all = omega arith in mod-eq_of_lt a ∙ sym (mod-eq_of_lt b)
+    ]

@@ -1,9 +1,10 @@
 -- The numbers of the faults of a question.
 use Rattle.std.specs.Prelude.{ℕ}
+use Rattle.pg_faults.specs.declared.TheConstants.{NO_MEMBER, NO_SUCH_GROUP, OUT_OF_MEMORY}
 use Rattle.pg_query.specs.declared.fault.QueryFault.{QueryFault}
 use Rattle.pg_query.specs.declared.fault.QueryFault.TheVariants.{NoSuchGroup, NoMember, OutOfMemory}
 
 abbrev pub query_number_of : QueryFault → ℕ
-query_number_of OutOfMemory = 10
-query_number_of NoSuchGroup = 20
-query_number_of NoMember = 21
+query_number_of OutOfMemory = OUT_OF_MEMORY
+query_number_of NoSuchGroup = NO_SUCH_GROUP
+query_number_of NoMember = NO_MEMBER

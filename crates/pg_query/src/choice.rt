@@ -1,7 +1,7 @@
 ghost use Rattle.std.specs.Prelude.{◌≡◌, ◌↔◌, ◌≢◌, None, Err, IsSome, IfOk, List, [], option_copied};
 ghost use Rattle.pg_term.specs.declared.pid.Pid.{Pid};
 ghost use Rattle.pg_group.specs.Scope.{in_scope, anywhere};
-ghost use Rattle.pg_group.specs.Members.{IsMemberList, SizeFits};
+ghost use Rattle.pg_group.specs.Members.{IsMemberList};
 ghost use Rattle.pg_query.specs.Closest.{IsClosest, picked};
 ghost use Rattle.pg_query.specs.declared.fault.QueryFault.TheVariants.{NoSuchGroup, NoMember, OutOfMemory};
 
@@ -11,7 +11,7 @@ use pg_term::{Atom, Pid, Term};
 
 /// The member of a group that a word picks: a local one where there is one, else any (`get_closest_pid/1` of the pg2
 /// manual page). The place is `word` modulo the length of the list, counted from 0, the list being in the order of pids,
-/// each as often as its count. It takes no memory.
+/// each as often as its count. It takes no memory. Its cost is that of two sizes and one place of the table.
 ///
 /// Faults: `NoSuchGroup` where the group is absent, `NoMember` where it has no member.
 pub fn closest<'a, T: GroupTable>(
@@ -20,7 +20,6 @@ pub fn closest<'a, T: GroupTable>(
     name: &Term,
     word: u32,
 ) -> Result<&'a Pid, QueryFault>
-    requires { SizeFits (T.contents table.now name.now) }
     ensures ok { IfOk result (λ pid. IsClosest (T.contents table.now name.now) own.now word pid.now) }
     ensures missing { (result ≡ Err NoSuchGroup) ↔ (T.contents table.now name.now ≡ None) }
     ensures nobody { (result ≡ Err NoMember)
@@ -47,7 +46,6 @@ fn pick<'a, T: GroupTable>(
     scope: Scope<'_>,
     word: u32,
 ) -> Option<&'a Pid>
-    requires { SizeFits (T.contents table.now name.now) }
     ensures { (pids : List Pid) × (IsMemberList (T.contents table.now name.now) (in_scope scope.entry) pids
         × (option_copied result ≡ picked pids word)) }
 {

@@ -1,5 +1,6 @@
 ghost use Rattle.std.specs.Prelude.{◌≡◌};
 
+use pg_faults::{NO_MEMBER, NO_SUCH_GROUP, OUT_OF_MEMORY};
 use std::alloc::{AllocError, AllocFailed};
 use thiserror::Error;
 
@@ -22,9 +23,9 @@ impl QueryFault {
         ensures { result ≡ query_number_of self }
     {
         match self {
-            QueryFault::NoSuchGroup => 20,
-            QueryFault::NoMember => 21,
-            QueryFault::OutOfMemory => 10,
+            QueryFault::NoSuchGroup => NO_SUCH_GROUP,
+            QueryFault::NoMember => NO_MEMBER,
+            QueryFault::OutOfMemory => OUT_OF_MEMORY,
         }
     }
 }

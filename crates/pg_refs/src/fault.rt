@@ -1,3 +1,4 @@
+use pg_faults::{CLOCK_FULL, OUT_OF_MEMORY};
 use std::alloc::AllocError;
 use thiserror::Error;
 
@@ -21,8 +22,8 @@ impl RefFault {
         ensures { result ≡ number_of self }
     {
         match self {
-            RefFault::ClockFull => 30,
-            RefFault::OutOfMemory => 10,
+            RefFault::ClockFull => CLOCK_FULL,
+            RefFault::OutOfMemory => OUT_OF_MEMORY,
         }
     }
 }

@@ -1,5 +1,6 @@
 ghost use Rattle.std.specs.Prelude.{◌≡◌};
 
+use pg_faults::{BAD_CAPACITY, OUT_OF_MEMORY};
 use std::alloc::AllocError;
 use thiserror::Error;
 
@@ -22,8 +23,8 @@ impl RingFault {
         ensures { result ≡ number_of self }
     {
         match self {
-            RingFault::BadCapacity => 18,
-            RingFault::OutOfMemory => 10,
+            RingFault::BadCapacity => BAD_CAPACITY,
+            RingFault::OutOfMemory => OUT_OF_MEMORY,
         }
     }
 }

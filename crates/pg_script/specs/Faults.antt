@@ -1,5 +1,6 @@
 -- The numbers of the faults, and where they come from.
 use Rattle.std.specs.Prelude.{ℕ}
+use Rattle.pg_faults.specs.declared.TheConstants.{BAD_CONFIG, BAD_LINE, LATE_DECLARATION, OUT_OF_MEMORY, UNKNOWN_NODE, WRITE_FAULT}
 use Rattle.pg_text.specs.declared.fault.TextFault.{TextFault}
 use Rattle.pg_text.specs.declared.fault.TextFault.TheVariants as text
 use Rattle.pg_world.specs.Faults.{world_number_of}
@@ -9,16 +10,16 @@ use Rattle.pg_script.specs.declared.fault.RunFault.{RunFault}
 use Rattle.pg_script.specs.declared.fault.RunFault.TheVariants as run
 
 abbrev pub line_number_of : LineFault → ℕ
-line_number_of line.OutOfMemory = 10
-line_number_of line.BadConfig = 15
-line_number_of line.BadLine = 40
-line_number_of line.UnknownNode = 41
-line_number_of line.LateDeclaration = 42
+line_number_of line.OutOfMemory = OUT_OF_MEMORY
+line_number_of line.BadConfig = BAD_CONFIG
+line_number_of line.BadLine = BAD_LINE
+line_number_of line.UnknownNode = UNKNOWN_NODE
+line_number_of line.LateDeclaration = LATE_DECLARATION
 
 abbrev pub run_number_of : RunFault → ℕ
 run_number_of (run.World fault) = world_number_of fault
-run_number_of run.OutOfMemory = 10
-run_number_of run.WriteFault = 32
+run_number_of run.OutOfMemory = OUT_OF_MEMORY
+run_number_of run.WriteFault = WRITE_FAULT
 
 -- what is wrong with a line of which this is wrong
 abbrev pub line_fault_of : TextFault → LineFault

@@ -1,5 +1,6 @@
 //! Why a script is not read, and why a run of one ends early.
 
+use pg_faults::{BAD_CONFIG, BAD_LINE, LATE_DECLARATION, OUT_OF_MEMORY, UNKNOWN_NODE, WRITE_FAULT};
 use pg_text::TextFault;
 use pg_world::WorldFault;
 use std::alloc::{AllocError, AllocFailed};
@@ -33,11 +34,11 @@ impl LineFault {
         ensures { result ≡ line_number_of self }
     {
         match self {
-            LineFault::OutOfMemory => 10,
-            LineFault::BadConfig => 15,
-            LineFault::BadLine => 40,
-            LineFault::UnknownNode => 41,
-            LineFault::LateDeclaration => 42,
+            LineFault::OutOfMemory => OUT_OF_MEMORY,
+            LineFault::BadConfig => BAD_CONFIG,
+            LineFault::BadLine => BAD_LINE,
+            LineFault::UnknownNode => UNKNOWN_NODE,
+            LineFault::LateDeclaration => LATE_DECLARATION,
         }
     }
 }
@@ -109,8 +110,8 @@ impl RunFault {
     {
         match self {
             RunFault::World(fault) => fault.number(),
-            RunFault::OutOfMemory => 10,
-            RunFault::WriteFault => 32,
+            RunFault::OutOfMemory => OUT_OF_MEMORY,
+            RunFault::WriteFault => WRITE_FAULT,
         }
     }
 }

@@ -1,5 +1,6 @@
 -- The numbers of faults and refusals in the one list of faults, and which of several is told.
 use Rattle.std.specs.Prelude.{ℕ, Bool, cond, List, [], ◌∷◌, Option, Some, None}
+use Rattle.pg_faults.specs.declared.TheConstants.{ALREADY_ENDED, BUSY, CLOCK_FULL, FOREIGN_PID, NAME_TOO_LARGE, NODE_LOST, NOT_A_MESSAGE, NOT_DRAINED, NOT_FORMED, NOT_LOST, NOT_MADE, NOT_WAITING, NO_SUCH_PLACE, PROCESS_LIMIT}
 use Rattle.pg_step.specs.declared.command_fault.CommandFault.{CommandFault}
 use Rattle.pg_step.specs.declared.command_fault.CommandFault.TheVariants as fault
 use Rattle.pg_step.specs.declared.refusal.Refusal.{Refusal}
@@ -7,23 +8,23 @@ use Rattle.pg_step.specs.declared.refusal.Refusal.TheVariants as refusal
 
 -- the number of the fault that a command is answered by
 abbrev pub command_number_of : CommandFault → ℕ
-command_number_of fault.Busy = 22
-command_number_of fault.NameTooLarge = 23
-command_number_of fault.ForeignPid = 24
-command_number_of fault.NotFormed = 25
-command_number_of fault.NotMade = 26
-command_number_of fault.AlreadyEnded = 27
-command_number_of fault.ProcessLimit = 28
+command_number_of fault.Busy = BUSY
+command_number_of fault.NameTooLarge = NAME_TOO_LARGE
+command_number_of fault.ForeignPid = FOREIGN_PID
+command_number_of fault.NotFormed = NOT_FORMED
+command_number_of fault.NotMade = NOT_MADE
+command_number_of fault.AlreadyEnded = ALREADY_ENDED
+command_number_of fault.ProcessLimit = PROCESS_LIMIT
 
 -- the number of the reason why an event does not happen
 abbrev pub refusal_number_of : Refusal → ℕ
-refusal_number_of refusal.NotAMessage = 12
-refusal_number_of refusal.NoSuchPlace = 16
-refusal_number_of refusal.NotWaiting = 17
-refusal_number_of refusal.NodeLost = 19
-refusal_number_of refusal.NotDrained = 29
-refusal_number_of refusal.ClockFull = 30
-refusal_number_of refusal.NotLost = 33
+refusal_number_of refusal.NotAMessage = NOT_A_MESSAGE
+refusal_number_of refusal.NoSuchPlace = NO_SUCH_PLACE
+refusal_number_of refusal.NotWaiting = NOT_WAITING
+refusal_number_of refusal.NodeLost = NODE_LOST
+refusal_number_of refusal.NotDrained = NOT_DRAINED
+refusal_number_of refusal.ClockFull = CLOCK_FULL
+refusal_number_of refusal.NotLost = NOT_LOST
 
 -- what stands beside the first test that holds
 abbrev pub first_that_holds : {A : Type 0} → List (Bool × A) → Option A

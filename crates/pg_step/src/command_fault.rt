@@ -1,5 +1,7 @@
 ghost use Rattle.std.specs.Prelude.{◌≡◌};
 
+use pg_faults::{ALREADY_ENDED, BUSY, FOREIGN_PID, NAME_TOO_LARGE, NOT_FORMED, NOT_MADE, PROCESS_LIMIT};
+
 /// Why a command is refused.
 #[derive(Clone, Copy, Debug, PartialEq, Eq)]
 pub enum CommandFault {
@@ -27,13 +29,13 @@ impl CommandFault {
         ensures { result ≡ command_number_of self }
     {
         match self {
-            CommandFault::Busy => 22,
-            CommandFault::NameTooLarge => 23,
-            CommandFault::ForeignPid => 24,
-            CommandFault::NotFormed => 25,
-            CommandFault::NotMade => 26,
-            CommandFault::AlreadyEnded => 27,
-            CommandFault::ProcessLimit => 28,
+            CommandFault::Busy => BUSY,
+            CommandFault::NameTooLarge => NAME_TOO_LARGE,
+            CommandFault::ForeignPid => FOREIGN_PID,
+            CommandFault::NotFormed => NOT_FORMED,
+            CommandFault::NotMade => NOT_MADE,
+            CommandFault::AlreadyEnded => ALREADY_ENDED,
+            CommandFault::ProcessLimit => PROCESS_LIMIT,
         }
     }
 }

@@ -1,5 +1,7 @@
 ghost use Rattle.std.specs.Prelude.{◌≡◌};
 
+use pg_faults::{CLOCK_FULL, NODE_LOST, NOT_A_MESSAGE, NOT_DRAINED, NOT_LOST, NOT_WAITING, NO_SUCH_PLACE};
+
 /// Why an event of a node does not happen.
 #[derive(Clone, Copy, Debug, PartialEq, Eq)]
 pub enum Refusal {
@@ -27,13 +29,13 @@ impl Refusal {
         ensures { result ≡ refusal_number_of self }
     {
         match self {
-            Refusal::NotAMessage => 12,
-            Refusal::NoSuchPlace => 16,
-            Refusal::NotWaiting => 17,
-            Refusal::NodeLost => 19,
-            Refusal::NotDrained => 29,
-            Refusal::ClockFull => 30,
-            Refusal::NotLost => 33,
+            Refusal::NotAMessage => NOT_A_MESSAGE,
+            Refusal::NoSuchPlace => NO_SUCH_PLACE,
+            Refusal::NotWaiting => NOT_WAITING,
+            Refusal::NodeLost => NODE_LOST,
+            Refusal::NotDrained => NOT_DRAINED,
+            Refusal::ClockFull => CLOCK_FULL,
+            Refusal::NotLost => NOT_LOST,
         }
     }
 }

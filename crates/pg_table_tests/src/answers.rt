@@ -1,10 +1,7 @@
 //! What a table answers.
 
-ghost use Rattle.pg_group.specs.Scope.{anywhere};
-ghost use Rattle.pg_group.specs.Members.{IsMemberList};
-
 use crate::reading::Counts;
-use pg_group::{GroupTable, Scope, one_member_list};
+use pg_group::{GroupTable, Scope};
 use pg_query::{QueryFault, members};
 use pg_term::{Items, Pid, Term};
 use std::alloc::Global;
@@ -81,13 +78,11 @@ fn lists_so<T: GroupTable>(
 }
 
 /// Whether a list has what stands at the places of a group, and the sizes are as many as the members.
-fn list_is<T: GroupTable>(table: &T, pids: (&Pid, &Pid), name: &Term, listed: &Items<Pid>) -> bool
-    requires { IsMemberList (T.contents table.now name.now) anywhere listed.now }
-{
+fn list_is<T: GroupTable>(table: &T, pids: (&Pid, &Pid), name: &Term, listed: &Items<Pid>) -> bool {
     let (one, two) = pids;
-    size(table, name, listed, Scope::All) == Some(listed.len() as u64)
-        && size(table, name, listed, Scope::At(&one.node)) == Some(table.count(name, one))
-        && size(table, name, listed, Scope::At(&two.node)) == Some(table.count(name, two))
+    table.size(name, Scope::All) == Some(listed.len() as u64)
+        && table.size(name, Scope::At(&one.node)) == Some(table.count(name, one))
+        && table.size(name, Scope::At(&two.node)) == Some(table.count(name, two))
         && are_at(table, name, listed.as_slice())
 }
 
@@ -99,18 +94,4 @@ pub fn are_at<T: GroupTable>(table: &T, name: &Term, pids: &[Pid]) -> bool {
         }
     }
     table.pid_at(name, Scope::All, pids.len() as u64).is_none()
-}
-
-/// The size of a group whose members were listed.
-pub fn size<T: GroupTable>(
-    table: &T,
-    name: &Term,
-    listed: &Items<Pid>,
-    scope: Scope<'_>,
-) -> Option<u64>
-    requires { IsMemberList (T.contents table.now name.now) anywhere listed.now }
-{
-    one_member_list();
-    let _count = listed.len();
-    table.size(name, scope)
 }

@@ -8,6 +8,8 @@ mod change;
 #[cfg(test)]
 mod ends;
 #[cfg(test)]
+mod examples;
+#[cfg(test)]
 mod exchanges;
 #[cfg(test)]
 mod groups;

@@ -1,12 +1,9 @@
 //! Lists of groups and members, and the closest member. Each test passes wherever an allocation is refused.
 
-ghost use Rattle.pg_group.specs.Scope.{anywhere};
-ghost use Rattle.pg_group.specs.Members.{IsMemberList};
-
 use crate::change::{Act, perform_all};
 use crate::samples::{Cast, atom, either, holds, row_holds};
 use crate::trial::{Trial, on_both};
-use pg_group::{GroupTable, RowTable, one_member_list};
+use pg_group::{GroupTable, RowTable};
 use pg_index::IndexTable;
 use pg_query::{QueryFault, closest, local_members, members, same_groups, which_groups};
 use pg_term::{Atom, Items, Pid, Term};
@@ -14,10 +11,10 @@ use std::alloc::{AllocError, Global};
 use std::process::Abort;
 
 /// The members of the group 7, in their order.
-const PIDS: &[(&str, u32)] = &[("a", 1), ("a", 2), ("a", 2), ("b", 9)];
+pub const PIDS: &[(&str, u32)] = &[("a", 1), ("a", 2), ("a", 2), ("b", 9)];
 
 /// The group 7 has two members on node a, one of them twice, and one on node b; the group 3 has none.
-const FILLED: &[(i64, Act<'static>)] = &[(7, Act::Merge(&[3, 1, 0, 1])), (3, Act::Merge(&[]))];
+pub const FILLED: &[(i64, Act<'static>)] = &[(7, Act::Merge(&[3, 1, 0, 1])), (3, Act::Merge(&[]))];
 
 /// What is made of a second table, and whether it says the same then.
 const OTHERS: &[(&[(i64, Act<'static>)], bool)] = &[
@@ -96,7 +93,7 @@ pub type Reading = (
     &'static [(u32, Option<u32>)],
 );
 
-const READINGS: &[Reading] = &[
+pub const READINGS: &[Reading] = &[
     (
         7,
         "a",
@@ -108,11 +105,6 @@ const READINGS: &[Reading] = &[
     (7, "c", (0, 4), (0, 0), &[(3, Some(9)), (4, Some(1))]),
     (3, "a", (0, 0), (0, 0), &[(0, None)]),
 ];
-
-#[test]
-fn closest_member(rt: HostRuntime) {
-    on_both(&rt, rt.alloc(), Trial::ClosestMember);
-}
 
 pub fn picks_closest<T: GroupTable>(rt: &impl Abort, alloc: Global, table: &mut T) {
     let cast = Cast::new(rt, alloc, PIDS);
@@ -144,7 +136,7 @@ fn is_read<T: GroupTable>(
     let local = either(rt, first, local_members(cast.alloc, table, own, name));
     let is_read = are(listed.as_slice(), &cast.pids, reading.2)
         && are(local.as_slice(), &cast.pids, reading.3)
-        && are_picked(table, own, name, &listed, reading.4);
+        && are_picked(table, own, name, reading.4);
     drop(listed);
     drop(local);
     is_read
@@ -155,18 +147,13 @@ fn are(listed: &[Pid], pids: &[Pid], (from, to): (usize, usize)) -> bool {
     pids.get(from..to) == Some(listed)
 }
 
-/// Whether each word picks the pid with its id from a group whose members were listed, or nobody.
+/// Whether each word picks the pid with its id from a group, or nobody.
 fn are_picked<T: GroupTable>(
     table: &T,
     own: &Atom,
     name: &Term,
-    listed: &Items<Pid>,
     words: &[(u32, Option<u32>)],
-) -> bool
-    requires { IsMemberList (T.contents table.now name.now) anywhere listed.now }
-{
-    one_member_list();
-    let _count = listed.len();
+) -> bool {
     for (word, id) in words {
         let picked = match closest(table, own, name, *word) {
             Ok(pid) => Some(pid.id),
@@ -181,9 +168,7 @@ fn are_picked<T: GroupTable>(
 }
 
 /// The members of a group that is there.
-fn members_of<T: GroupTable>(rt: &impl Abort, alloc: Global, table: &T, name: &Term) -> Items<Pid>
-    ensures { IsMemberList (T.contents table.now name.now) anywhere result }
-{
+fn members_of<T: GroupTable>(rt: &impl Abort, alloc: Global, table: &T, name: &Term) -> Items<Pid> {
     match members(alloc, table, name) {
         Ok(listed) => listed,
         Err(_) => members(alloc, table, name).expect(rt, "again"),

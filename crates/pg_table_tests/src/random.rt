@@ -1,6 +1,5 @@
 //! Random changes of two tables at once: mostly joins and leaves, of groups that come and go.
 
-use crate::answers::size;
 use crate::change::{Act, has_groups, perform};
 use crate::samples::{Cast, holds};
 use pg_group::{GroupTable, RowTable, Scope};
@@ -127,8 +126,7 @@ fn lists_alike<S: GroupTable, T: GroupTable>(
 ) -> bool {
     let first = members(cast.alloc, one, name).expect(rt, "members");
     let second = members(cast.alloc, other, name).expect(rt, "members");
-    let alike = first == second
-        && size(one, name, &first, Scope::All) == size(other, name, &second, Scope::All);
+    let alike = first == second && one.size(name, Scope::All) == other.size(name, Scope::All);
     drop(first);
     drop(second);
     alike

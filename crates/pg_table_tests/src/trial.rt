@@ -1,7 +1,7 @@
 //! What a table of either kind is put to.
 
 use crate::exchanges::Forming;
-use crate::{ends, exchanges, histories, many, memory, queries};
+use crate::{ends, examples, exchanges, histories, many, memory, queries};
 use pg_group::{GroupTable, RowTable};
 use pg_index::IndexTable;
 use std::alloc::Global;
@@ -12,7 +12,8 @@ pub enum Trial {
     Histories,
     Memory,
     SameTables,
-    ClosestMember,
+    /// The worked example at this place.
+    Example(usize),
     MembersInOrder,
     /// The processes that a node has made, and up to which it makes more, which end.
     Ends(u32, u32),
@@ -39,7 +40,7 @@ fn put_to<T: GroupTable + Drop>(rt: &impl Abort, alloc: Global, table: &mut T, t
         Trial::Histories => histories::agrees(rt, alloc, table),
         Trial::Memory => memory::is_whole(rt, alloc, table),
         Trial::SameTables => queries::compares(rt, alloc, table),
-        Trial::ClosestMember => queries::picks_closest(rt, alloc, table),
+        Trial::Example(place) => examples::is_so(rt, alloc, table, place),
         Trial::MembersInOrder => queries::names_in_order(rt, alloc, table),
         Trial::Ends(before, last) => ends::all_end(rt, alloc, table, before, last),
         Trial::Forming(forming) => exchanges::forms(rt, alloc, table, &forming),

@@ -1,4 +1,4 @@
-ghost use Rattle.std.specs.Prelude.{◌≡◌, ◌<◌, ◌≤◌, length, IfOk, string_bytes, nat_eq};
+ghost use Rattle.std.specs.Prelude.{◌≡◌, ◌<◌, ◌≤◌, length, IfOk, nat_eq, nat_lt};
 ghost use Rattle.std.specs.Str.{chars};
 ghost use Rattle.std.specs.Ordering.{nat_cmp, as_partial_cmp};
 ghost use Rattle.std.specs.Str.{encode_utf8_all};
@@ -42,7 +42,7 @@ impl Atom {
     pub fn new(alloc: Global, text: &str) -> Result<Atom, TermFault>
         ensures { Gives (λ a. a) result (atom_of (chars text.now)) }
     {
-        if text.chars().count() > 255 {
+        if is_long(text) {
             return Err(TermFault::BadAtom);
         }
         Ok(Atom {
@@ -69,6 +69,17 @@ impl Atom {
             text: Box::new(alloc, self.text.copy()?)?,
         })
     }
+}
+
+/// Whether a text has more than 255 characters, and so is that of no atom. It has no more characters than bytes, so that a
+/// short one is not counted. It takes no memory.
+pub fn is_long(text: &str) -> bool
+    ensures { result ≡ nat_lt 255 (length (chars text.now)) }
+{
+    if text.len() <= 255 {
+        return false;
+    }
+    text.chars().count() > 255
 }
 
 impl PartialEq for Atom {

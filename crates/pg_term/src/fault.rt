@@ -1,5 +1,6 @@
 ghost use Rattle.std.specs.Prelude.{◌≡◌};
 
+use pg_faults::{BAD_ATOM, BAD_REFERENCE, BAD_VERSION, IMPROPER_LIST, INTEGER_TOO_LARGE, OUT_OF_MEMORY, TOO_DEEP, TOO_LONG, TRAILING_BYTES, TRUNCATED, UNKNOWN_TAG};
 use std::alloc::{AllocError, AllocFailed};
 use thiserror::Error;
 
@@ -38,17 +39,17 @@ impl TermFault {
         ensures { result ≡ number_of self }
     {
         match self {
-            TermFault::Truncated => 1,
-            TermFault::BadVersion => 2,
-            TermFault::UnknownTag => 3,
-            TermFault::TooDeep => 4,
-            TermFault::IntegerTooLarge => 5,
-            TermFault::BadAtom => 6,
-            TermFault::ImproperList => 7,
-            TermFault::BadReference => 8,
-            TermFault::TrailingBytes => 9,
-            TermFault::OutOfMemory => 10,
-            TermFault::TooLong => 11,
+            TermFault::Truncated => TRUNCATED,
+            TermFault::BadVersion => BAD_VERSION,
+            TermFault::UnknownTag => UNKNOWN_TAG,
+            TermFault::TooDeep => TOO_DEEP,
+            TermFault::IntegerTooLarge => INTEGER_TOO_LARGE,
+            TermFault::BadAtom => BAD_ATOM,
+            TermFault::ImproperList => IMPROPER_LIST,
+            TermFault::BadReference => BAD_REFERENCE,
+            TermFault::TrailingBytes => TRAILING_BYTES,
+            TermFault::OutOfMemory => OUT_OF_MEMORY,
+            TermFault::TooLong => TOO_LONG,
         }
     }
 }

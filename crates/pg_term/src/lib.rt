@@ -13,7 +13,7 @@ mod short;
 mod term;
 mod text;
 
-pub use atom::Atom;
+pub use atom::{Atom, is_long};
 pub use boxed::Boxed;
 pub use fault::TermFault;
 pub use fields::Fields;

@@ -1,5 +1,6 @@
 ghost use Rattle.std.specs.Prelude.{◌≡◌};
 
+use pg_faults::{BAD_LINE, OUT_OF_MEMORY};
 use std::alloc::{AllocError, AllocFailed};
 use thiserror::Error;
 
@@ -20,8 +21,8 @@ impl TextFault {
         ensures { result ≡ text_number_of self }
     {
         match self {
-            TextFault::BadText => 40,
-            TextFault::OutOfMemory => 10,
+            TextFault::BadText => BAD_LINE,
+            TextFault::OutOfMemory => OUT_OF_MEMORY,
         }
     }
 }

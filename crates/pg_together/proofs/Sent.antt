@@ -7,7 +7,7 @@ use Rattle.pg_frame.specs.Frames.{frame}
 use Rattle.pg_message.specs.declared.message.Message.{Message}
 use Rattle.pg_message.specs.declared.packet.Packet.{Packet}
 use Rattle.pg_machine.specs.Clocked.{Stamped}
-use Rattle.pg_pieces.specs.Pieces.{frames_of}
+use Rattle.pg_frame.specs.Pieces.{frames_of}
 use Rattle.pg_joining.specs.Logs.{sent_to}
 use Rattle.pg_run.specs.Acts.{Act, Standing, Leads, AllLead, frames_sent}
 use Rattle.pg_step.specs.Config.{Config, names_of, name_at, nodes_at, ports_at}

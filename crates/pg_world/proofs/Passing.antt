@@ -14,7 +14,7 @@ use Rattle.pg_message.specs.Reading.{packet_spelled}
 use Rattle.pg_machine.specs.Places.{is_pair}
 use Rattle.pg_machine.specs.Machine.{Event, Take, Do}
 use Rattle.pg_machine.specs.Clocked.{Timed, Stamped}
-use Rattle.pg_pieces.specs.Pieces.{Bytes, taken as bytes_taken}
+use Rattle.pg_frame.specs.Pieces.{Bytes, taken as bytes_taken}
 use Rattle.pg_opens.specs.Places.{whole_in, name_at as place_name}
 use Rattle.pg_step.specs.declared.answer.Answer.{Answer}
 use Rattle.pg_step.specs.declared.refusal.Refusal.{Refusal}

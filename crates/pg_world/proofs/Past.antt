@@ -2,7 +2,7 @@
 use Rattle.std.proofs.Common.{◌≡◌, ◌≢◌, ℕ, Bool, true, false, take, map, length, List, [], ◌∷◌, ◌++◌, Some, Ok, Err, refl, sym, ap, ◌∙◌, subst}
 use Rattle.pg_frame.specs.Frames.{front_of, too_long}
 use Rattle.pg_message.specs.declared.packet.Packet.{Packet}
-use Rattle.pg_pieces.specs.Pieces.{Bytes, ArePackets, AreShort, AreCut, FirstPacket, FirstOfCut, frames_of, put, pull, sent as bytes_sent, taken as bytes_taken}
+use Rattle.pg_frame.specs.Pieces.{Bytes, ArePackets, AreShort, AreCut, FirstPacket, FirstOfCut, frames_of, put, pull, sent as bytes_sent, taken as bytes_taken}
 use Rattle.pg_world.specs.Crossings.{written_of, IsOnWay}
 
 -- ---- bytes move

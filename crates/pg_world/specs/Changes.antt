@@ -2,7 +2,7 @@
 use Rattle.std.specs.Prelude.{◌≡◌, ◌≢◌, ◌-◌, ℕ, true, min, length, get_or, slice_get, None, Result, Ok, Err}
 use Rattle.pg_machine.specs.Places.{is_pair}
 use Rattle.pg_machine.specs.Machine.{Event, Take, Do, node_of as place_of}
-use Rattle.pg_pieces.specs.Pieces.{Bytes, put, pull}
+use Rattle.pg_frame.specs.Pieces.{Bytes, put, pull}
 use Rattle.pg_step.specs.Step.{Action, Issue, Retry}
 use Rattle.pg_node.specs.declared.state.fault.NodeFault.{NodeFault}
 use Rattle.pg_node.specs.Bytes.{next_packet}

@@ -11,7 +11,7 @@ use Rattle.pg_message.specs.Writing.{is_exchange, term_of_packet}
 use Rattle.pg_machine.specs.Places.{is_pair}
 use Rattle.pg_machine.specs.Machine.{Event, Take, Do, happens}
 use Rattle.pg_machine.specs.Clocked.{Stamped}
-use Rattle.pg_pieces.specs.Pieces.{Bytes, ArePackets, AreCut}
+use Rattle.pg_frame.specs.Pieces.{Bytes, ArePackets, AreCut}
 use Rattle.pg_step.specs.declared.refusal.Refusal.TheVariants.{NoSuchPlace, NotAMessage}
 use Rattle.pg_step.specs.Config.{Config, name_at, nodes_at}
 use Rattle.pg_step.specs.FrameMachine.{frame_machine}

@@ -25,7 +25,7 @@ use pg_history::nobody_is_harmed;
 use pg_loss::no_packet_is_refused;
 use pg_message::Packet;
 use pg_node::{Node, NodeFault};
-use pg_pieces::{
+use pg_frame::{
     front_is_first_of_cut, front_is_first_packet, loss_cuts_packets, moving_keeps_packets,
     sending_adds_packets,
 };
@@ -69,7 +69,7 @@ impl<T: GroupTable + Drop> World<T> {
     ghost use Rattle.pg_world.specs.Worlds.{has_port, has_places, TimedFrameWorld};
     ghost use Rattle.pg_world.specs.Views.{no_account};
     ghost use Rattle.pg_world.specs.Changes.{Moves, put_count, pull_count, MoveChanges, EventChanges, FrameChanges, StepChanges};
-    ghost use Rattle.pg_pieces.specs.Pieces.{put, pull};
+    ghost use Rattle.pg_frame.specs.Pieces.{put, pull};
     ghost use Rattle.pg_world.specs.Crossings.{crossing_of, idle_crossing, node_of, link_at, bytes_at, IsReached, IsWelcome, ShowsCrossing, ShowsPast, ShowsBytes, ShowsBytesPast, EventComesTo, FrameComesTo, StepComesTo};
 
     /// A world of these nodes, with an empty ring from each to each other, which has room for `ring` bytes, and where nothing has

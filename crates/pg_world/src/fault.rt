@@ -1,3 +1,4 @@
+use pg_faults::{BAD_CAPACITY, BAD_CONFIG, NAME_TOO_LARGE, OUT_OF_MEMORY, TOO_LONG};
 use std::alloc::{AllocError, AllocFailed};
 use thiserror::Error;
 
@@ -29,11 +30,11 @@ impl WorldFault {
         ensures { result ≡ world_number_of self }
     {
         match self {
-            WorldFault::OutOfMemory => 10,
-            WorldFault::TooLong => 11,
-            WorldFault::BadConfig => 15,
-            WorldFault::BadCapacity => 18,
-            WorldFault::NameTooLarge => 23,
+            WorldFault::OutOfMemory => OUT_OF_MEMORY,
+            WorldFault::TooLong => TOO_LONG,
+            WorldFault::BadConfig => BAD_CONFIG,
+            WorldFault::BadCapacity => BAD_CAPACITY,
+            WorldFault::NameTooLarge => NAME_TOO_LARGE,
         }
     }
 }

@@ -2,14 +2,12 @@
 
 ghost use Rattle.std.specs.Prelude.{IsTrue};
 ghost use Rattle.pg_group.specs.Table.{HasRoom};
-ghost use Rattle.pg_group.specs.Scope.{anywhere};
-ghost use Rattle.pg_group.specs.Members.{IsMemberList};
 
-use crate::figures::{Watch, report_each};
-use pg_group::{Ended, GroupTable, Scope, Update, one_member_list};
+use pg_figures::{Watch, report_each};
+use pg_group::{Ended, GroupTable, Scope, Update};
 use pg_query::{closest, members};
 use pg_random::Random;
-use pg_term::{Atom, Items, Pid, Term};
+use pg_term::{Atom, Pid, Term};
 use std::alloc::Global;
 
 /// Whether the count that the update raises is below the greatest that is told.
@@ -59,6 +57,9 @@ pub fn each<T: GroupTable>(table: &mut T, name: &Term, pids: &[Pid], about: Abou
     sum
 }
 
+// How many places of a group are asked for.
+const PLACES: u32 = 1_000;
+
 /// What is asked about a group.
 #[derive(Clone, Copy)]
 enum Ask {
@@ -73,31 +74,12 @@ const ASKS: &[(&str, Ask)] = &[
     ("member at a place", Ask::Place),
 ];
 
-/// The id of the closest member of a group whose members were listed.
-fn closest_id<T: GroupTable>(
-    table: &T,
-    name: &Term,
-    listed: &Items<Pid>,
-    own: &Atom,
-    word: u32,
-) -> u64
-    requires { IsMemberList (T.contents table.now name.now) anywhere listed.now }
-{
-    one_member_list();
-    let _count = listed.len();
+/// The id of the closest member of a group.
+fn closest_id<T: GroupTable>(table: &T, name: &Term, own: &Atom, word: u32) -> u64 {
     match closest(table, own, name, word) {
         Ok(pid) => u64::from(pid.id),
         Err(_) => 0,
     }
-}
-
-/// The size at a node of a group whose members were listed.
-fn size_at<T: GroupTable>(table: &T, name: &Term, listed: &Items<Pid>, node: &Atom) -> u64
-    requires { IsMemberList (T.contents table.now name.now) anywhere listed.now }
-{
-    one_member_list();
-    let _count = listed.len();
-    table.size(name, Scope::At(node)).unwrap_or(0)
 }
 
 /// The id of the member at a place.
@@ -108,57 +90,30 @@ fn id_at<T: GroupTable>(table: &T, name: &Term, place: u64) -> u64 {
     }
 }
 
-fn asked<T: GroupTable>(
-    table: &T,
-    name: &Term,
-    listed: &Items<Pid>,
-    node: &Atom,
-    word: u32,
-    ask: Ask,
-) -> u64
-    requires { IsMemberList (T.contents table.now name.now) anywhere listed.now }
-{
+fn asked<T: GroupTable>(table: &T, name: &Term, node: &Atom, word: u32, ask: Ask) -> u64 {
     match ask {
-        Ask::Closest => closest_id(table, name, listed, node, word),
-        Ask::Size => size_at(table, name, listed, node),
-        Ask::Place => id_at(table, name, u64::from(word) % (listed.len() as u64).max(1)),
+        Ask::Closest => closest_id(table, name, node, word),
+        Ask::Size => table.size(name, Scope::At(node)).unwrap_or(0),
+        Ask::Place => id_at(table, name, u64::from(word % PLACES)),
     }
 }
 
-fn ask_all<T: GroupTable>(
-    table: &T,
-    name: &Term,
-    listed: &Items<Pid>,
-    names: &[Atom],
-    times: u64,
-    ask: Ask,
-) -> u64
-    requires { IsMemberList (T.contents table.now name.now) anywhere listed.now }
-{
+fn ask_all<T: GroupTable>(table: &T, name: &Term, names: &[Atom], times: u64, ask: Ask) -> u64 {
     let mut random = Random::new(3);
     let mut found = 0_u64;
     for _ in 0..times {
         let word = random.word();
         if let Some(node) = random.pick(names) {
-            found = found.wrapping_add(asked(table, name, listed, node, word, ask));
+            found = found.wrapping_add(asked(table, name, node, word, ask));
         }
     }
     found
 }
 
-fn ask_each<T: GroupTable>(
-    rt: &HostRuntime,
-    table: &T,
-    name: &Term,
-    listed: &Items<Pid>,
-    names: &[Atom],
-    times: u64,
-)
-    requires { IsMemberList (T.contents table.now name.now) anywhere listed.now }
-{
+fn ask_each<T: GroupTable>(rt: &HostRuntime, table: &T, name: &Term, names: &[Atom], times: u64) {
     for (what, ask) in ASKS {
         let watch = Watch::begin(rt);
-        let found = ask_all(table, name, listed, names, times, *ask);
+        let found = ask_all(table, name, names, times, *ask);
         report_each(rt, what, times, watch);
         drop(found);
     }
@@ -176,8 +131,8 @@ pub fn read<T: GroupTable>(
     match members(rt.alloc(), table, name) {
         Ok(listed) => {
             report_each(rt, "members, a member", listed.len() as u64, watch);
-            ask_each(rt, table, name, &listed, names, times);
             drop(listed);
+            ask_each(rt, table, name, names, times);
             true
         }
         Err(_) => false,

@@ -1,6 +1,6 @@
 //! Names of nodes, and pids of them.
 
-use crate::changes::Change;
+use pg_figures::Change;
 use pg_group::Update;
 use pg_random::Random;
 use pg_term::{Atom, Pid, Term, TermFault};

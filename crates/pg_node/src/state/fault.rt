@@ -1,3 +1,4 @@
+use pg_faults::{DAMAGED, OUT_OF_MEMORY, TOO_LONG};
 use pg_frame::TooLong;
 use pg_message::MessageFault;
 use pg_step::Refusal;
@@ -35,9 +36,9 @@ impl NodeFault {
         match self {
             NodeFault::Refused(refusal) => refusal.number(),
             NodeFault::Message(fault) => fault.number(),
-            NodeFault::OutOfMemory => 10,
-            NodeFault::TooLong => 11,
-            NodeFault::Damaged => 14,
+            NodeFault::OutOfMemory => OUT_OF_MEMORY,
+            NodeFault::TooLong => TOO_LONG,
+            NodeFault::Damaged => DAMAGED,
         }
     }
 }

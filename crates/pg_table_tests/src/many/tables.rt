@@ -1,7 +1,3 @@
-ghost use Rattle.pg_group.specs.Scope.{anywhere};
-ghost use Rattle.pg_group.specs.Members.{IsMemberList};
-
-use crate::answers::size;
 use crate::change::{Act, has_groups, merge_told, perform};
 use crate::samples::{Cast, holds};
 use crate::trial::{Trial, on_both};
@@ -99,27 +95,13 @@ fn are_kept<T: GroupTable>(
 ) {
     for group in 0..groups {
         let name = Term::Int(i64::from(group));
-        let listed = members(cast.alloc, table, &name).expect(rt, "members");
-        holds(
-            rt,
-            is_kept(table, &name, &cast.pids, &listed, counts),
-            "group",
-        );
-        drop(listed);
+        holds(rt, is_kept(table, &name, &cast.pids, counts), "group");
         drop(name);
     }
     holds(rt, has_groups(rt, table, usize::from(groups)), "groups");
 }
 
-fn is_kept<T: GroupTable>(
-    table: &T,
-    name: &Term,
-    pids: &[Pid],
-    listed: &Items<Pid>,
-    counts: &[u64; 3],
-) -> bool
-    requires { IsMemberList (T.contents table.now name.now) anywhere listed.now }
-{
+fn is_kept<T: GroupTable>(table: &T, name: &Term, pids: &[Pid], counts: &[u64; 3]) -> bool {
     let mut all = 0u64;
     for place in 0..3 {
         match pids.get(place) {
@@ -129,7 +111,7 @@ fn is_kept<T: GroupTable>(
             _ => return false,
         }
     }
-    size(table, name, listed, Scope::All) == Some(all)
+    table.size(name, Scope::All) == Some(all)
 }
 
 /// A group gets 1,001 members, which join it once more; a copy lists each twice, in their order.

@@ -11,7 +11,7 @@ use Rattle.pg_message.specs.declared.packet.Packet.{Packet}
 use Rattle.pg_machine.specs.Places.{is_place, is_pair}
 use Rattle.pg_machine.specs.Clocked.{Timed, Stamped}
 use Rattle.pg_machine.specs.Losing.{Lose, can_keep}
-use Rattle.pg_pieces.specs.Pieces.{Bytes, ArePackets, AreCut, AreShort, StayWhole}
+use Rattle.pg_frame.specs.Pieces.{Bytes, ArePackets, AreCut, AreShort, StayWhole}
 use Rattle.pg_opens.specs.Places.{name_at as place_name}
 use Rattle.pg_step.specs.declared.answer.Answer.{Answer}
 use Rattle.pg_step.specs.declared.refusal.Refusal.{Refusal}

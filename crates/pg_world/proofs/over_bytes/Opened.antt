@@ -23,7 +23,7 @@ use Rattle.pg_message.specs.declared.packet.TheConstants.{MAX_STAMP}
 use Rattle.pg_message.specs.Reading.{packet_of}
 use Rattle.pg_message.specs.Writing.{body_of, sent, length_of, term_of_packet, is_exchange, is_sayable}
 use Rattle.pg_term.specs.declared.fault.TermFault.TheVariants as terms
-use Rattle.pg_pieces.specs.Pieces.{ArePackets}
+use Rattle.pg_frame.specs.Pieces.{ArePackets}
 use Rattle.pg_opens.specs.Places.{name_at}
 use Rattle.pg_step.specs.Config.{Config, names_of, groups_at}
 use Rattle.pg_step.specs.FrameMachine.{frame_machine}

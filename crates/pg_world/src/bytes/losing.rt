@@ -9,7 +9,7 @@ use crate::world::peer_place;
 use pg_group::GroupTable;
 use pg_message::Packet;
 use pg_node::NodeFault;
-use pg_pieces::{front_is_first_of_cut, loss_cuts_packets};
+use pg_frame::{front_is_first_of_cut, loss_cuts_packets};
 use pg_step::Refusal;
 use std::alloc::AllocError;
 

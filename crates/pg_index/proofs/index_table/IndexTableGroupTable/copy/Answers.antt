@@ -5,13 +5,13 @@ use Rattle.pg_group.specs.Ended.{ended_of}
 use Rattle.pg_group.specs.Table.{merged}
 use Rattle.pg_index.specs.Groups.{counts_in, is_used}
 use Rattle.pg_index.specs.Index.{number_of, contents_of}
-use Rattle.pg_index.proofs.Copies.{copy_begun, copy_more, copy_all, left_is_there, rows_at}
+use Rattle.pg_index.proofs.Copies.{copy_begun, found_each, copy_more, copy_all, left_is_there, rows_at}
 use Rattle.pg_index.proofs.index_table.IndexTableGroupTable.copy.Goals as goal
 
 pub loop-name-init : goal.loop-name-init
 loop-name-init c =
     copy_begun c.args.self.now.numbers (counts_in c.args.self.now.memberships.groups) (contents_of (number_of c.new-copy.result.numbers) (counts_in c.new-copy.result.memberships.groups))
-    c.into_iter-name-iterator.result (c.into_iter-name-iterator.ensures.into_iter_gives ∙ c.iter-name-items.ensures.rest) c.iter-name-items.ensures.found c.new-copy.ensures
+    c.into_iter-name-iterator.result (c.into_iter-name-iterator.ensures.into_iter_gives ∙ c.iter-name-items.ensures.rest) (found_each c.args.self.now.numbers c.iter-name-items.ensures.unique) c.new-copy.ensures
 
 pub unreachable-requires : goal.unreachable-requires
 unreachable-requires c =

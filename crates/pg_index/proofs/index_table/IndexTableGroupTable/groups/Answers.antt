@@ -6,12 +6,11 @@ use Rattle.pg_term.specs.declared.term.Term.{Term}
 use Rattle.pg_term.specs.Same.{same_term}
 use Rattle.pg_index.specs.Groups.{counts_in}
 use Rattle.pg_index.specs.Index.{number_of}
-use Rattle.pg_index.proofs.Copies.{keys_are_names}
+use Rattle.pg_index.proofs.Copies.{keys_are_names, has_among}
 use Rattle.pg_index.proofs.index_table.IndexTableGroupTable.groups.Goals as goal
 
 pub returns : goal.returns
 returns c =
     let numbers = c.args.self.now.numbers in
     let all : c.loop-name.names.items ≡ keys numbers = sym (append-nil c.loop-name.names.items) ∙ ap (λ rest. c.loop-name.names.items ++ rest) (sym c.in-None.ensures.steps.0) ∙ c.loop-name.invariant in
-    let has = λ (q : Term). subst (λ (names : List Term). is_some (number_of numbers q) ≡ list_any (same_term q) names) c.keys-name-items.ensures.rest (c.keys-name-items.ensures.has q) in
-    keys_are_names numbers (counts_in c.args.self.now.memberships.groups) c.loop-name.names.items all has c.keys-name-items.ensures.unique
+    keys_are_names numbers (counts_in c.args.self.now.memberships.groups) c.loop-name.names.items all (λ q. has_among q numbers.entries) c.keys-name-items.ensures.unique

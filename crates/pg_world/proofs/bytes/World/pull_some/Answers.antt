@@ -1,7 +1,7 @@
 use Rattle.std.proofs.Common.{◌≡◌, ◌∙◌, ℕ, true, false, get_or, length, ap, subst, sym, refl}
 use Rattle.std.specs.Prelude.{slice_set}
 use Rattle.pg_machine.specs.Places.{is_pair}
-use Rattle.pg_pieces.specs.Pieces.{pull}
+use Rattle.pg_frame.specs.Pieces.{pull}
 use Rattle.pg_node.specs.Links.{Link, at_link, with_fed}
 use Rattle.pg_node.specs.Nodes.{links_of}
 use Rattle.pg_world.specs.Crossings.{written_of}

@@ -1,7 +1,7 @@
 use Rattle.std.proofs.Common.{◌≡◌, ◌∙◌, get_or, take, length, ap, subst}
 use Rattle.std.specs.Prelude.{slice_set, min}
 use Rattle.pg_ring.specs.MemRing.{Grows, HasRoomFor}
-use Rattle.pg_pieces.specs.Pieces.{put}
+use Rattle.pg_frame.specs.Pieces.{put}
 use Rattle.pg_node.specs.Links.{at_link, without_front}
 use Rattle.pg_node.specs.Nodes.{links_of}
 use Rattle.pg_world.specs.Crossings.{written_of}

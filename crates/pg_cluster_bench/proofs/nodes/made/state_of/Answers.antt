@@ -1,0 +1,8 @@
+use Rattle.pg_cluster_bench.proofs.Started.{three_apart, none_few}
+use Rattle.pg_cluster_bench.proofs.nodes.made.state_of.Goals as goal
+
+pub started-requires-clause-apart : goal.started-requires-clause-apart
+started-requires-clause-apart c = three_apart c.args.own c.args.one c.args.two _ c.in_ok-peers.ensures.items c.requires.first c.requires.second c.requires.third
+
+pub started-requires-clause-few : goal.started-requires-clause-few
+started-requires-clause-few c = none_few _ c.new-table.ensures

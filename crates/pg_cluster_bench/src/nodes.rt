@@ -1,0 +1,322 @@
+//! How many events a second a node makes, over packets and over bytes, with two peers that are played here.
+
+mod linked;
+mod made;
+mod packets;
+mod said;
+
+use crate::commands::command;
+use linked::OverBytes;
+use packets::OverPackets;
+use pg_figures::{Change, Groups, Watch, head, number, pid, report, say, word};
+use pg_message::{Packet, Said};
+use pg_step::Command;
+use pg_term::{Reference, Term, TermFault};
+use said::{calls, no_groups, replies};
+use std::alloc::{AllocError, Global};
+
+/// The node `a`, whose peers `b` and `c` are played.
+trait Player: Drop {
+    /// Packets as they come in.
+    type Load: Drop;
+
+    /// The node, which has taken nothing yet.
+    fn new(alloc: Global) -> Option<Self>;
+
+    /// These packets, as they come in.
+    fn load(alloc: Global, packets: Vec<Packet>) -> Option<Self::Load>;
+
+    /// Takes packets of a peer, and keeps the first call that is sent for each; whether all were taken.
+    fn take(&mut self, peer: usize, load: &Self::Load, calls: &mut Vec<Reference>) -> bool;
+
+    /// Gives commands at the port, and keeps the first call that is sent for each; whether all were taken.
+    fn ask(&mut self, commands: &[Command], calls: &mut Vec<Reference>) -> bool;
+}
+
+// Packets that were made, as they come in.
+fn loaded<P: Player, E: Drop>(alloc: Global, packets: Result<Vec<Packet>, E>) -> Option<P::Load> {
+    match packets {
+        Ok(packets) => P::load(alloc, packets),
+        Err(_) => None,
+    }
+}
+
+// Packets of a peer are taken, where they could be made; whether they were.
+fn feed<P: Player>(alloc: Global, player: &mut P, peer: usize, load: Option<P::Load>) -> bool {
+    match load {
+        Some(load) => {
+            let mut calls = Vec::new(alloc);
+            let is_taken = player.take(peer, &load, &mut calls);
+            drop(calls);
+            drop(load);
+            is_taken
+        }
+        None => false,
+    }
+}
+
+// Both peers tell that they have no group.
+fn form<P: Player>(alloc: Global, player: &mut P) -> bool {
+    let one = loaded::<P, TermFault>(alloc, no_groups(alloc, "b"));
+    let other = loaded::<P, TermFault>(alloc, no_groups(alloc, "c"));
+    feed(alloc, player, 0, one) && feed(alloc, player, 1, other)
+}
+
+// So many calls of b, as they come in.
+fn calls_of<P: Player>(
+    alloc: Global,
+    change: Change,
+    groups: Groups,
+    count: u32,
+) -> Option<P::Load> {
+    loaded::<P, TermFault>(alloc, calls(alloc, change, groups, count))
+}
+
+// Calls of b are taken.
+fn change<P: Player>(
+    alloc: Global,
+    player: &mut P,
+    change: Change,
+    groups: Groups,
+    count: u32,
+) -> bool {
+    let load = calls_of::<P>(alloc, change, groups, count);
+    feed(alloc, player, 0, load)
+}
+
+/// What a peer asks for, in this order.
+const UPDATES: [(Change, Groups); 5] = [
+    (Change::Create, Groups::Own),
+    (Change::Join, Groups::Own),
+    (Change::Leave, Groups::Own),
+    (Change::Join, Groups::One),
+    (Change::Leave, Groups::One),
+];
+
+// Updates that b asks for are taken, and replied to, timed.
+fn updates<P: Player>(rt: &HostRuntime, player: &mut P, count: u32) -> bool {
+    let mut is_done = true;
+    for (change, groups) in UPDATES {
+        head(rt, u64::from(count), groups.name());
+        let load = calls_of::<P>(rt.alloc(), change, groups, count);
+        let watch = Watch::begin(rt);
+        is_done = feed(rt.alloc(), player, 0, load) && is_done;
+        report(rt, change.name(), u64::from(count), 0, watch);
+    }
+    is_done
+}
+
+// A query, so many times.
+fn query<P: Player>(
+    rt: &HostRuntime,
+    player: &mut P,
+    what: &str,
+    commands: &[Command],
+    count: u32,
+) -> bool {
+    let mut calls = Vec::new(rt.alloc());
+    let watch = Watch::begin(rt);
+    for _ in 0..count {
+        if !player.ask(commands, &mut calls) {
+            return false;
+        }
+    }
+    report(rt, what, u64::from(count), 0, watch);
+    true
+}
+
+// A query that is made for it.
+fn query_made<P: Player>(
+    rt: &HostRuntime,
+    player: &mut P,
+    what: &str,
+    command: Command,
+    count: u32,
+) -> bool {
+    let commands = [command];
+    let is_done = query(rt, player, what, &commands, count);
+    drop(commands);
+    is_done
+}
+
+// Queries of a group of 10 members, and then of 1,000 more.
+fn queries<P: Player>(rt: &HostRuntime, player: &mut P, count: u32) -> bool {
+    let alloc = rt.alloc();
+    change(alloc, player, Change::Create, Groups::One, 1)
+        && change(alloc, player, Change::Join, Groups::One, 10)
+        && query_made(
+            rt,
+            player,
+            "members of 10",
+            Command::Members(Term::Int(0)),
+            count,
+        )
+        && change(alloc, player, Change::Join, Groups::One, 1_000)
+        && query_made(
+            rt,
+            player,
+            "closest of 1,010",
+            Command::Closest(Term::Int(0), 700),
+            count,
+        )
+}
+
+// Both peers say this to each of these calls, the greatest first; then the calls are those that follow.
+fn reply<P: Player>(alloc: Global, player: &mut P, calls: &mut Vec<Reference>, said: Said) -> bool {
+    match loaded::<P, AllocError>(alloc, replies(alloc, calls, said)) {
+        Some(load) => {
+            let is_first_taken = player.take(1, &load, calls);
+            calls.clear();
+            let is_taken = player.take(0, &load, calls);
+            drop(load);
+            is_first_taken && is_taken
+        }
+        None => false,
+    }
+}
+
+// Changes of the node that are open at once, each of another group: its commands, and what both peers reply. How many.
+fn changed<P: Player>(
+    alloc: Global,
+    player: &mut P,
+    commands: &[Command],
+    calls: &mut Vec<Reference>,
+) -> u64 {
+    calls.clear();
+    if !player.ask(commands, calls) || !reply(alloc, player, calls, Said::Granted) {
+        return 0;
+    }
+    let made = calls.len() as u64;
+    if reply(alloc, player, calls, Said::Applied) {
+        made
+    } else {
+        0
+    }
+}
+
+// Commands that ask for the change, each of another group.
+fn commands(alloc: Global, change: Change, count: u32) -> Result<Vec<Command>, TermFault> {
+    let mut commands = Vec::new(alloc);
+    for number in 0..count {
+        let process = pid(alloc, "a", 1)?;
+        commands.push(command(change, Groups::Own.group(number), process))?;
+    }
+    Ok(commands)
+}
+
+// Joins and leaves in turn, so many rounds, timed.
+fn change_in_turn<P: Player>(
+    rt: &HostRuntime,
+    player: &mut P,
+    joins: &[Command],
+    leaves: &[Command],
+    rounds: u32,
+) {
+    let mut calls = Vec::new(rt.alloc());
+    let mut made = 0_u64;
+    let watch = Watch::begin(rt);
+    for round in 0..rounds {
+        let commands = if round % 2 == 0 { joins } else { leaves };
+        made = made.saturating_add(changed(rt.alloc(), player, commands, &mut calls));
+    }
+    report(rt, "own changes", made, 0, watch);
+}
+
+// Joins by these commands and leaves in turn.
+fn join_and_leave<P: Player>(
+    rt: &HostRuntime,
+    player: &mut P,
+    joins: &[Command],
+    count: u32,
+    open: u32,
+) -> bool {
+    match commands(rt.alloc(), Change::Leave, open) {
+        Ok(leaves) => {
+            change_in_turn(rt, player, joins, &leaves, count / open.max(1));
+            drop(leaves);
+            true
+        }
+        Err(_) => false,
+    }
+}
+
+// Changes of the node's own, so many open at once.
+fn own_changes<P: Player>(rt: &HostRuntime, player: &mut P, count: u32, open: u32) -> bool {
+    head(
+        rt,
+        u64::from(open),
+        "own changes open at once, of five events each",
+    );
+    match commands(rt.alloc(), Change::Join, open) {
+        Ok(joins) => {
+            let is_done = join_and_leave(rt, player, &joins, count, open);
+            drop(joins);
+            is_done
+        }
+        Err(_) => false,
+    }
+}
+
+fn changes<P: Player>(rt: &HostRuntime, player: &mut P, count: u32) -> bool {
+    change(rt.alloc(), player, Change::Create, Groups::Own, 64)
+        && own_changes(rt, player, count, 1)
+        && own_changes(rt, player, count, 64)
+}
+
+// Which figures of a node.
+#[derive(Clone, Copy)]
+enum Figure {
+    Updates,
+    Queries,
+    Changes,
+}
+
+const FIGURES: &[(&str, Figure)] = &[
+    ("updates", Figure::Updates),
+    ("queries", Figure::Queries),
+    ("changes", Figure::Changes),
+];
+
+fn measure_one<P: Player>(rt: &HostRuntime, player: &mut P, figure: Figure, count: u32) -> bool {
+    if !form(rt.alloc(), player) {
+        return false;
+    }
+    match figure {
+        Figure::Updates => updates(rt, player, count),
+        Figure::Queries => queries(rt, player, count),
+        Figure::Changes => changes(rt, player, count),
+    }
+}
+
+// The figures that are asked for, each with a node of its own.
+fn measure<P: Player>(rt: &HostRuntime, what: &str, count: u32, only: &str) -> bool {
+    say(rt, what);
+    for (name, figure) in FIGURES {
+        if only.is_empty() || only == *name {
+            let Some(mut player) = P::new(rt.alloc()) else {
+                return false;
+            };
+            let is_done = measure_one(rt, &mut player, *figure, count);
+            drop(player);
+            if !is_done {
+                return false;
+            }
+        }
+    }
+    true
+}
+
+/// The words after `nodes`: `packets` or `bytes`; how many events of each kind (200); and `updates`, `queries` or `changes`, where only
+/// these are measured. Whether it could.
+pub fn run(rt: &HostRuntime, words: &[String]) -> bool {
+    let Some(count) = number(words, 2, 200) else {
+        return false;
+    };
+    let count = u32::try_from(count).unwrap_or(u32::MAX);
+    let (only, over) = (word(words, 3), word(words, 1));
+    let is_over_packets = over == "bytes"
+        || measure::<OverPackets>(rt, "one node over packets", count, only);
+    let is_over_bytes = over == "packets"
+        || measure::<OverBytes>(rt, "one node over bytes", count, only);
+    is_over_packets && is_over_bytes
+}

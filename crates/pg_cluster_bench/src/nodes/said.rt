@@ -1,0 +1,59 @@
+//! What the peers say.
+
+use pg_figures::{Change, Groups, pid, reference};
+use pg_message::{Message, Packet, Request, Said};
+use pg_term::{Atom, Items, Reference, TermFault};
+use std::alloc::{AllocError, Global};
+
+/// What a peer of this name tells at first: it has no group.
+pub fn no_groups(alloc: Global, name: &str) -> Result<Vec<Packet>, TermFault> {
+    let node = Atom::new(alloc, name)?;
+    let message = Message::Exchange(node, Items::from_vec(Vec::new(alloc)));
+    Ok(vec![in alloc; Packet { stamp: 0, message }]?)
+}
+
+// The process that the change of this number is about: where all are of one group, its 1,000 processes in turn.
+fn process(groups: Groups, number: u32) -> u32 {
+    match groups {
+        Groups::One => number % 1_000 + 1,
+        Groups::Own => 1,
+    }
+}
+
+// The call of b of this number.
+fn call(alloc: Global, change: Change, groups: Groups, number: u32) -> Result<Packet, TermFault> {
+    let process = pid(alloc, "a", process(groups, number))?;
+    let from = reference(alloc, "b", number)?;
+    let update = change.update(groups.group(number), process);
+    let message = Message::Call(from, Request::Change(update));
+    Ok(Packet { stamp: 0, message })
+}
+
+/// So many calls of b that ask for the change.
+pub fn calls(
+    alloc: Global,
+    change: Change,
+    groups: Groups,
+    count: u32,
+) -> Result<Vec<Packet>, TermFault> {
+    let mut packets = Vec::new(alloc);
+    for number in 0..count {
+        packets.push(call(alloc, change, groups, number)?)?;
+    }
+    Ok(packets)
+}
+
+// A reply to this call.
+fn reply(call: &Reference, said: Said) -> Result<Packet, AllocError> {
+    let message = Message::Reply(call.copy()?, said);
+    Ok(Packet { stamp: 0, message })
+}
+
+/// A reply to each of these calls.
+pub fn replies(alloc: Global, calls: &[Reference], said: Said) -> Result<Vec<Packet>, AllocError> {
+    let mut packets = Vec::new(alloc);
+    for call in calls {
+        packets.push(reply(call, said)?)?;
+    }
+    Ok(packets)
+}

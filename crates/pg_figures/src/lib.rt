@@ -1,0 +1,10 @@
+//! What measurements share: words that choose a figure, watches, lines, and small values that figures are about.
+#![tactic(auto)]
+
+mod changes;
+mod figures;
+mod samples;
+
+pub use changes::{Change, Groups};
+pub use figures::{Watch, head, number, report, report_each, say, word};
+pub use samples::{pid, reference};

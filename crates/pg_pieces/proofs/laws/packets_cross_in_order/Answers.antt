@@ -1,5 +1,0 @@
-use Rattle.pg_pieces.proofs.Read.{first_packets}
-use Rattle.pg_pieces.proofs.laws.packets_cross_in_order.Goals as goal
-
-pub returns : goal.returns
-returns g c = first_packets c.written_is_read.ensures
