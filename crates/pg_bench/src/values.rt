@@ -3,9 +3,10 @@
 use crate::figures::{Watch, head, number, report, word};
 use crate::samples::{JOIN_CALL, pid};
 use bytes::BytesMut;
-use pg_message::{Message, MessageFault, Packet, read_packet, write_packet, write_packet_into};
+use pg_message::{Message, MessageFault, Packet, read_packet};
 use pg_term::{Atom, Fields, Items, Pid, Term, TermFault};
 use pg_term_io::{decode, encode, encode_into};
+use pg_writer::{write_packet, write_packet_into};
 use std::alloc::Global;
 
 /// What is read and written.

@@ -19,9 +19,9 @@ use Rattle.pg_message.specs.declared.packet.Packet.{Packet}
 use Rattle.pg_message.specs.declared.packet.TheConstants.{MAX_STAMP}
 use Rattle.pg_message.specs.Name.{is_name}
 use Rattle.pg_message.specs.Writing.{triple, message_term, update_term, request_term, said_term, is_sayable, body_of}
-use Rattle.pg_message.proofs.Bodies.{written_len, short}
-use Rattle.pg_message.proofs.Stamps.{stamp_few}
-use Rattle.pg_message.proofs.Words.{int_is, pid_is, reference_is, pair_len, triple_len, word_len}
+use Rattle.pg_writer.proofs.Bodies.{written_len, short}
+use Rattle.pg_writer.proofs.Stamps.{stamp_few}
+use Rattle.pg_writer.proofs.Words.{int_is, pid_is, reference_is, pair_len, triple_len, word_len}
 
 second : (a b : Bool) → (a && b) ≡ true → b ≡ true
 second true b e = e

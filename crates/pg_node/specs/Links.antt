@@ -8,7 +8,7 @@ use Rattle.pg_message.specs.Name.{is_name}
 use Rattle.pg_message.specs.Reading.{packet_spelled}
 use Rattle.pg_group.specs.Functions.{upd}
 use Rattle.pg_group.specs.Value.{name_of}
-use Rattle.pg_message.specs.declared.writing.size.TheConstants.{MAX_SMALL_LEN}
+use Rattle.pg_writer.specs.declared.size.TheConstants.{MAX_SMALL_LEN}
 use Rattle.pg_message.specs.Writing.{term_of_packet, framed}
 use Rattle.pg_term_io.specs.Writing.{written}
 use Rattle.pg_step.specs.Nodes.{Node}

@@ -7,17 +7,18 @@ ghost use Rattle.pg_message.specs.Name.{is_name};
 ghost use Rattle.pg_message.specs.Writing.{message_term, request_term, update_term, is_exchange, is_sayable, body_of};
 ghost use Rattle.pg_group.specs.Value.{name_of};
 ghost use Rattle.pg_node.specs.Links.{is_askable, frame_of, IsSmallFrame};
-ghost use Rattle.pg_message.specs.declared.writing.size.TheConstants.{MAX_SMALL_LEN};
+ghost use Rattle.pg_writer.specs.declared.size.TheConstants.{MAX_SMALL_LEN};
 ghost use Rattle.pg_node.specs.Bytes.{damages};
 
 use crate::state::NodeFault;
 use bytes::BytesMut;
 use pg_frame::Deframer;
 use pg_group::Update;
-use pg_message::{MAX_SMALL_LEN, Message, Packet, Request, read_packet, write_packet_into};
+use pg_message::{Message, Packet, Request, read_packet};
 use pg_ring::{Inlet, Link};
 use pg_step::Refusal;
 use pg_term_io::{pid_len, reference_len};
+use pg_writer::{MAX_SMALL_LEN, write_packet_into};
 use std::alloc::{AllocError, Global};
 
 /// What came in from a peer and what goes out to it.

@@ -7,9 +7,10 @@ use super::forms::{Same, is_read_in_both_forms, rewritten};
 use crate::rows::{Edit, OUT_OF_MEMORY, Row, check, edited};
 use bytes::BytesMut;
 use pg_message::MessageFault::{self, NotAMessage, StampTooLarge};
-use pg_message::{Packet, packet_len, write_packet, write_packet_into};
+use pg_message::Packet;
 use pg_term::TermFault;
 use pg_term_io::{decode, encode};
+use pg_writer::{packet_len, write_packet, write_packet_into};
 use std::alloc::{AllocError, Global};
 use std::test::*;
 

@@ -5,10 +5,8 @@ use super::bodies::{APPLIED, CREATE, DEL_LOCK, DOWN, EMPTY, EXCHANGE, JOIN};
 use crate::rows::{OUT_OF_MEMORY, Row, check};
 use bytes::BytesMut;
 use pg_group::Update;
-use pg_message::{
-    Message, MessageFault, Packet, Request, Said, is_read_directly, packet_len, read_packet,
-    write_packet, write_packet_into,
-};
+use pg_message::{Message, MessageFault, Packet, Request, Said, is_read_directly, read_packet};
+use pg_writer::{packet_len, write_packet, write_packet_into};
 use std::alloc::{AllocError, Global};
 use std::test::*;
 

@@ -1,0 +1,17 @@
+-- What a writer appends.
+use Rattle.std.specs.Prelude.{◌≡◌, ◌+◌, List, ◌++◌, length}
+use Rattle.bytes.specs.Filled.{Filled}
+use Rattle.pg_term.specs.declared.term.Term.{Term}
+use Rattle.pg_term_io.specs.Writing.{item_bytes, all_bytes, IsSpelled, AreSpelled}
+
+-- the bytes of a term, which spell it, are appended in room that was there
+pub record Puts (old new : Filled) (t : Term) : Type 0 where
+  pub items : new.items ≡ old.items ++ item_bytes t
+  pub spare : new.spare + length (item_bytes t) ≡ old.spare
+  pub spelled : IsSpelled t
+
+-- the same of terms, one after the other
+pub record PutsAll (old new : Filled) (ts : List Term) : Type 0 where
+  pub items : new.items ≡ old.items ++ all_bytes ts
+  pub spare : new.spare + length (all_bytes ts) ≡ old.spare
+  pub spelled : AreSpelled ts
