@@ -1,6 +1,8 @@
 pub mod Bodies
 pub mod Deep
 pub mod Listed
+pub mod Marks
+pub mod Packets
 pub mod Put
 pub mod Sent
 pub mod Stamps

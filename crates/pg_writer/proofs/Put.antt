@@ -1,20 +1,22 @@
 -- What writers append, one after the other.
-use Rattle.std.proofs.Common.{◌≡◌, ℕ, ℤ, ◌+◌, ◌<◌, ◌≤◌, true, List, [], ◌∷◌, ◌++◌, length, length-append, get_or, map, take, sym, ap, subst, ◌∙◌, append_assoc, arith}
+use Rattle.std.proofs.Common.{◌≡◌, ℕ, ℤ, ◌+◌, ◌<◌, ◌≤◌, Bool, true, cond, List, [], ◌∷◌, ◌++◌, length, length-append, get_or, map, take, refl, sym, ap, subst, ◌∙◌, append_assoc, arith}
 use Rattle.std.specs.Prelude.{pos}
+use Rattle.std.specs.Int.{w32, to_be_bytes}
 use Rattle.std.specs.Str.{IsUtf8, chars}
+use Rattle.std.proofs.lemmas.Bool.{lt-ltb}
 use Rattle.std.proofs.Math.ListN.{length-map}
 use Rattle.std.proofs.lemmas.List.{append-nil}
 use Rattle.bytes.specs.Filled.{Filled}
 use Rattle.pg_term.specs.declared.term.Term.{Term, Tuple, List as Listed}
 use Rattle.pg_term.specs.declared.term.Term.TheVariants.{Int, Atom}
 use Rattle.pg_term_io.specs.Spelling as s
-use Rattle.pg_term_io.specs.Writing.{int_bytes, tuple_head, list_head, item_bytes, all_bytes, IsSpelled}
+use Rattle.pg_term_io.specs.Writing.{int_bytes, tuple_head, list_head, item_bytes, all_bytes, written, IsSpelled}
 use Rattle.pg_term_io.proofs.Spelled.{atom_spelled, name_spelled, tuple_spelled, list_spelled, none_spelled}
 use Rattle.pg_term_io.proofs.Latin.{latin_chars}
 use Rattle.pg_term_io.proofs.Written.{tuple_is, list_is, count_le}
-use Rattle.pg_message.specs.Writing.{is_plain}
+use Rattle.pg_message.specs.Writing.{pair, is_plain}
 use Rattle.pg_message.proofs.Words.{plain_text}
-use Rattle.pg_writer.specs.Puts.{Puts, PutsAll}
+use Rattle.pg_writer.specs.Puts.{Puts, PutsAll, PutsOpening}
 use Rattle.pg_writer.proofs.Listed.{part_bytes, part_len, part_spelled}
 use Rattle.pg_writer.proofs.Words.{int_is, word_bytes}
 
@@ -101,3 +103,41 @@ word_put old mid new w x plain few utf8 fits same head room text rest =
     (text ∙ (λ i. head i ++ same i) ∙ append_assoc old.items (119 ∷ length w ∷ []) w)
     (omega (arith, ap length same))
     (name_spelled w (atom_spelled w w utf8 (omega arith) few characters (sym e)))
+
+-- ---- tuples whose first element is a word
+
+-- the head of a tuple and a word, as four bytes and the text
+pub opening_put : (old mid new : Filled) (n : ℕ) (w x : List ℕ) → is_plain w ≡ true → length w ≤ 255 → IsUtf8 w → ((i : ℕ) → get_or w i 0 < 256) → x ≡ w
+    → mid.items ≡ old.items ++ 104 ∷ n ∷ 119 ∷ length w ∷ [] → mid.spare + 4 ≡ old.spare → new.items ≡ mid.items ++ x → new.spare + length x ≡ mid.spare → PutsOpening old new n w
+opening_put old mid new n w x plain few utf8 fits same head room text rest =
+    let headed : Filled = record { items = old.items ++ 104 ∷ n ∷ []; spare = mid.spare + 2 } in
+    record {
+      mid = headed;
+      head = refl;
+      head_spare = omega (arith, room);
+      word_first = word_put headed mid new w x plain few utf8 fits same (head ∙ sym (append_assoc old.items (104 ∷ n ∷ []) (119 ∷ length w ∷ []))) refl text rest;
+    }
+
+pub opened_put : (a b c : Filled) (w : List ℕ) (ts : List Term) → length (item_bytes (Tuple (Atom w ∷ ts))) ≤ 16777216 → length ts < 255 → PutsOpening a b (length (Atom w ∷ ts)) w → PutsAll b c ts → Puts a c (Tuple (Atom w ∷ ts))
+opened_put a b c w ts short few o rest =
+    let n = length (Atom w ∷ ts) in
+    let head : tuple_head n ≡ 104 ∷ n ∷ [] = ap (λ (d : Bool). cond d (104 ∷ n ∷ []) (105 ∷ to_be_bytes w32 n)) (lt-ltb n 256 (omega arith)) in
+    tuple_put a o.mid c (Atom w ∷ ts) short (o.head ∙ ap (λ (x : List ℕ). a.items ++ x) (sym head)) (ap (λ (x : List ℕ). o.mid.spare + length x) head ∙ o.head_spare) (more o.word_first rest)
+
+-- ---- bodies
+
+-- the version byte and a pair, whose head is appended with it
+pub record PutsBody (old new : Filled) (t : Term) : Type 0 where
+  pub items : new.items ≡ old.items ++ written t
+  pub spare : new.spare + length (written t) ≡ old.spare
+  pub spelled : IsSpelled t
+
+pub body_put : (a b c : Filled) (s t : Term) → length (item_bytes (pair s t)) ≤ 16777216 → b.items ≡ a.items ++ 131 ∷ 104 ∷ 2 ∷ [] → b.spare + 3 ≡ a.spare → PutsAll b c (s ∷ t ∷ []) → PutsBody a c (pair s t)
+body_put a b c s t short head room rest =
+    let headed : Filled = record { items = a.items ++ 131 ∷ []; spare = b.spare + 2 } in
+    let put = tuple_put headed b c (s ∷ t ∷ []) short (head ∙ sym (append_assoc a.items (131 ∷ []) (104 ∷ 2 ∷ []))) refl rest in
+    record {
+      items = put.items ∙ append_assoc a.items (131 ∷ []) (item_bytes (pair s t));
+      spare = omega (arith, put.spare, room);
+      spelled = put.spelled;
+    }

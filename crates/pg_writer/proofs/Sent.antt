@@ -41,6 +41,11 @@ same_fault (Err f) fault e = cc
 pub not_sent : (r : Result (List ℕ) MessageFault) (fault : MessageFault) → Err fault ≡ length_of r → Fails fault r
 not_sent r fault e = fails_so r fault (same_fault r fault e)
 
+-- a body that has a length is there
+pub has_body : (r : Result (List ℕ) MessageFault) (n : ℕ) → Ok n ≡ length_of r → IsOk r
+has_body (Ok body) n e = refl
+has_body (Err f) n e = absurd cc
+
 settled : (b c : Bool) (p : Packet) (w : List ℕ) → is_ok (sent (cond b (cond c (Ok p) (Err StampTooLarge)) (Err NotAMessage)) w) ≡ true
     → (b ≡ true) × (cond b (cond c (Ok p) (Err StampTooLarge)) (Err NotAMessage) ≡ Ok p)
 settled true true p w h = (refl, refl)

@@ -1,70 +1,75 @@
 //! The parts of packets, appended where there is room.
 
-ghost use Rattle.std.specs.Prelude.{◌≡◌, ◌≤◌, ◌∷◌, [], pos, codes, map, length, true};
-ghost use Rattle.pg_term.specs.declared.term.Term.{Tuple, List};
+ghost use Rattle.std.specs.Prelude.{◌≡◌, ◌+◌, ◌≤◌, ◌∷◌, ◌++◌, [], pos, codes, map, length, true};
+ghost use Rattle.pg_term.specs.declared.term.Term.{List};
 ghost use Rattle.pg_term.specs.declared.term.Term.TheVariants as terms;
-ghost use Rattle.pg_term_io.specs.Writing.{item_bytes, all_bytes};
+ghost use Rattle.pg_term_io.specs.Writing.{item_bytes, all_bytes, written, IsSpelled};
 ghost use Rattle.pg_message.specs.declared.message.Message.TheVariants as messages;
 ghost use Rattle.pg_message.specs.Writing.{pair, triple, update_term, request_term, said_term, group_term, message_term, term_of_packet, is_plain};
-ghost use Rattle.pg_writer.specs.Puts.{Puts, PutsAll};
+ghost use Rattle.pg_writer.specs.Puts.{Puts, PutsAll, PutsOpening};
+ghost use Rattle.pg_writer.specs.Told.{reference_lent, asked_for, message_told, packet_told};
 
+use crate::told::{Asked, Mark, Told};
 use bytes::BytesMut;
 use pg_group::Update;
-use pg_message::{Message, Packet, Request, Said};
+use pg_message::Said;
 use pg_term::{Atom, Items, Pid, Reference, Term};
-use pg_term_io::{
-    MAX_LEN, put_atom, put_int, put_item, put_list_head, put_pid, put_reference, put_tuple_head,
-};
+use pg_term_io::{MAX_LEN, put_atom, put_int, put_item, put_list_head, put_pid, put_reference};
 
-// A packet as one item, without the version byte 131.
+/// Appends the body of a packet.
 #[tactic(auto, using(crate::proofs::Words::pair_len))]
-pub(crate) fn put_packet(out: &mut BytesMut, packet: &Packet)
-    requires short { length (item_bytes (term_of_packet packet.now)) ≤ MAX_LEN }
-    requires room { length (item_bytes (term_of_packet packet.now)) ≤ out.old.spare }
-    ensures { Puts out.old out.new (term_of_packet packet.now) }
+pub(crate) fn put_body(out: &mut BytesMut, stamp: u32, told: &Told<'_>)
+    requires short { length (written (term_of_packet (packet_told stamp told.now))) ≤ MAX_LEN }
+    requires room { length (written (term_of_packet (packet_told stamp told.now))) ≤ out.old.spare }
+    ensures items { out.new.items
+        ≡ out.old.items ++ written (term_of_packet (packet_told stamp told.now)) }
+    ensures spare { out.new.spare + length (written (term_of_packet (packet_told stamp told.now)))
+        ≡ out.old.spare }
+    ensures spelled { IsSpelled (term_of_packet (packet_told stamp told.now)) }
 {
-    put_tuple_head(out, 2);
-    put_stamp(out, packet.stamp);
-    put_message(out, &packet.message);
+    out.extend_reserved(&[131, 104, 2]);
+    put_stamp(out, stamp);
+    put_told(out, told);
 }
 
-fn put_message(out: &mut BytesMut, message: &Message)
-    requires short { length (item_bytes (message_term message.now)) ≤ MAX_LEN }
-    requires room { length (item_bytes (message_term message.now)) ≤ out.old.spare }
-    ensures { Puts out.old out.new (message_term message.now) }
+fn put_told(out: &mut BytesMut, told: &Told<'_>)
+    requires short { length (item_bytes (message_term (message_told told.now))) ≤ MAX_LEN }
+    requires room { length (item_bytes (message_term (message_told told.now))) ≤ out.old.spare }
+    ensures { Puts out.old out.new (message_term (message_told told.now)) }
 {
-    match message {
-        Message::Call(reference, request) => put_call(out, reference, request),
-        Message::Reply(reference, said) => put_reply(out, reference, *said),
-        Message::DelLock(name, reference) => put_freed(out, name, reference),
-        Message::Exchange(node, groups) => put_exchange(out, node, groups.as_slice()),
-        Message::Down(pid) => put_down(out, pid),
+    match told {
+        Told::Call(mark, asked) => put_call(out, mark, asked),
+        Told::Reply(mark, said) => put_reply(out, mark, *said),
+        Told::DelLock(name, mark) => put_freed(out, name, mark),
+        Told::Exchange(node, groups) => put_exchange(out, node, groups),
+        Told::Down(pid) => put_down(out, pid),
     }
 }
 
 // {call, Ref, Request}
 #[tactic(auto, using(crate::proofs::Words::triple_len))]
-fn put_call(out: &mut BytesMut, reference: &Reference, request: &Request)
-    requires short { length (item_bytes (message_term (messages.Call reference.now request.now)))
-        ≤ MAX_LEN }
-    requires room { length (item_bytes (message_term (messages.Call reference.now request.now)))
+fn put_call(out: &mut BytesMut, mark: &Mark<'_>, asked: &Asked<'_>)
+    requires short { length (item_bytes
+        (message_term (messages.Call (reference_lent mark.now) (asked_for asked.now)))) ≤ MAX_LEN }
+    requires room { length (item_bytes
+        (message_term (messages.Call (reference_lent mark.now) (asked_for asked.now))))
         ≤ out.old.spare }
-    ensures { Puts out.old out.new (message_term (messages.Call reference.now request.now)) }
+    ensures { Puts out.old out.new
+        (message_term (messages.Call (reference_lent mark.now) (asked_for asked.now))) }
 {
-    put_tuple_head(out, 3);
-    put_word(out, "call");
-    put_ref(out, reference);
-    put_request(out, request);
+    put_opening(out, 3, "call");
+    put_mark(out, mark);
+    put_asked(out, asked);
 }
 
-fn put_request(out: &mut BytesMut, request: &Request)
-    requires short { length (item_bytes (request_term request.now)) ≤ MAX_LEN }
-    requires room { length (item_bytes (request_term request.now)) ≤ out.old.spare }
-    ensures { Puts out.old out.new (request_term request.now) }
+fn put_asked(out: &mut BytesMut, asked: &Asked<'_>)
+    requires short { length (item_bytes (request_term (asked_for asked.now))) ≤ MAX_LEN }
+    requires room { length (item_bytes (request_term (asked_for asked.now))) ≤ out.old.spare }
+    ensures { Puts out.old out.new (request_term (asked_for asked.now)) }
 {
-    match request {
-        Request::SetLock(name) => put_named(out, "set_lock", name),
-        Request::Change(update) => put_update(out, update),
+    match asked {
+        Asked::SetLock(name) => put_named(out, "set_lock", name),
+        Asked::Change(update) => put_update(out, update),
     }
 }
 
@@ -90,8 +95,7 @@ fn put_named(out: &mut BytesMut, word: &str, name: &Term)
     requires room { length (item_bytes (pair (terms.Atom word.now) name.now)) ≤ out.old.spare }
     ensures { Puts out.old out.new (pair (terms.Atom word.now) name.now) }
 {
-    put_tuple_head(out, 2);
-    put_word(out, word);
+    put_opening(out, 2, word);
     put_name(out, name);
 }
 
@@ -106,24 +110,22 @@ fn put_membership(out: &mut BytesMut, word: &str, name: &Term, pid: &Pid)
         ≤ out.old.spare }
     ensures { Puts out.old out.new (triple (terms.Atom word.now) name.now (terms.Pid pid.now)) }
 {
-    put_tuple_head(out, 3);
-    put_word(out, word);
+    put_opening(out, 3, word);
     put_name(out, name);
     put_process(out, pid);
 }
 
 // {reply, Ref, Said}
 #[tactic(auto, using(crate::proofs::Words::triple_len))]
-pub(crate) fn put_reply(out: &mut BytesMut, reference: &Reference, said: Said)
-    requires short { length (item_bytes (message_term (messages.Reply reference.now said)))
+fn put_reply(out: &mut BytesMut, mark: &Mark<'_>, said: Said)
+    requires short { length (item_bytes (message_term (messages.Reply (reference_lent mark.now) said)))
         ≤ MAX_LEN }
-    requires room { length (item_bytes (message_term (messages.Reply reference.now said)))
+    requires room { length (item_bytes (message_term (messages.Reply (reference_lent mark.now) said)))
         ≤ out.old.spare }
-    ensures { Puts out.old out.new (message_term (messages.Reply reference.now said)) }
+    ensures { Puts out.old out.new (message_term (messages.Reply (reference_lent mark.now) said)) }
 {
-    put_tuple_head(out, 3);
-    put_word(out, "reply");
-    put_ref(out, reference);
+    put_opening(out, 3, "reply");
+    put_mark(out, mark);
     put_said(out, said);
 }
 
@@ -140,19 +142,18 @@ fn put_said(out: &mut BytesMut, said: Said)
 
 // {cast, {del_lock, Name, Ref}}
 #[tactic(auto, using(crate::proofs::Words::pair_len, crate::proofs::Words::triple_len))]
-fn put_freed(out: &mut BytesMut, name: &Term, reference: &Reference)
-    requires short { length (item_bytes (message_term (messages.DelLock name.now reference.now)))
-        ≤ MAX_LEN }
-    requires room { length (item_bytes (message_term (messages.DelLock name.now reference.now)))
-        ≤ out.old.spare }
-    ensures { Puts out.old out.new (message_term (messages.DelLock name.now reference.now)) }
+fn put_freed(out: &mut BytesMut, name: &Term, mark: &Mark<'_>)
+    requires short { length (item_bytes
+        (message_term (messages.DelLock name.now (reference_lent mark.now)))) ≤ MAX_LEN }
+    requires room { length (item_bytes
+        (message_term (messages.DelLock name.now (reference_lent mark.now)))) ≤ out.old.spare }
+    ensures { Puts out.old out.new
+        (message_term (messages.DelLock name.now (reference_lent mark.now))) }
 {
-    put_tuple_head(out, 2);
-    put_word(out, "cast");
-    put_tuple_head(out, 3);
-    put_word(out, "del_lock");
+    put_opening(out, 2, "cast");
+    put_opening(out, 3, "del_lock");
     put_name(out, name);
-    put_ref(out, reference);
+    put_mark(out, mark);
 }
 
 // {cast, {exchange, Node, Groups}}
@@ -164,10 +165,8 @@ fn put_exchange(out: &mut BytesMut, node: &Atom, groups: &[(Term, Items<Pid>)])
         ≤ out.old.spare }
     ensures { Puts out.old out.new (message_term (messages.Exchange node.now groups.now)) }
 {
-    put_tuple_head(out, 2);
-    put_word(out, "cast");
-    put_tuple_head(out, 3);
-    put_word(out, "exchange");
+    put_opening(out, 2, "cast");
+    put_opening(out, 3, "exchange");
     put_node(out, node);
     put_groups(out, groups);
 }
@@ -179,8 +178,7 @@ fn put_down(out: &mut BytesMut, pid: &Pid)
     requires room { length (item_bytes (message_term (messages.Down pid.now))) ≤ out.old.spare }
     ensures { Puts out.old out.new (message_term (messages.Down pid.now)) }
 {
-    put_tuple_head(out, 2);
-    put_word(out, "down");
+    put_opening(out, 2, "down");
     put_process(out, pid);
 }
 
@@ -238,6 +236,18 @@ fn put_all_pids(out: &mut BytesMut, pids: &[Pid])
     }
 }
 
+// What stands before the other elements of a tuple whose first is a word: SMALL_TUPLE_EXT and SMALL_ATOM_UTF8_EXT.
+#[tactic(auto, using(crate::proofs::Words::word_len))]
+fn put_opening(out: &mut BytesMut, arity: u8, word: &str)
+    requires plain { is_plain word.now ≡ true }
+    requires few { length word.now ≤ 255 }
+    requires room { 2 + length (item_bytes (terms.Atom word.now)) ≤ out.old.spare }
+    ensures { PutsOpening out.old out.new arity word.now }
+{
+    out.extend_reserved(&[104, arity, 119, word.len() as u8]);
+    out.extend_reserved(word.as_bytes());
+}
+
 // A word as an atom: SMALL_ATOM_UTF8_EXT.
 #[tactic(auto, using(crate::proofs::Words::word_len))]
 fn put_word(out: &mut BytesMut, word: &str)
@@ -250,7 +260,7 @@ fn put_word(out: &mut BytesMut, word: &str)
     out.extend_reserved(word.as_bytes());
 }
 
-// The next five append a part by a call of pg_term_io, each with a clause of its own: what they put.
+// The next ones append a part by a call of pg_term_io, each with a clause of its own: what they put.
 pub(crate) fn put_stamp(out: &mut BytesMut, stamp: u32)
     requires { length (item_bytes (terms.Int (pos stamp))) ≤ out.old.spare }
     ensures { Puts out.old out.new (terms.Int (pos stamp)) }
@@ -273,11 +283,36 @@ fn put_node(out: &mut BytesMut, node: &Atom)
     put_atom(out, node);
 }
 
+fn put_mark(out: &mut BytesMut, mark: &Mark<'_>)
+    requires { length (item_bytes (terms.Ref (reference_lent mark.now))) ≤ out.old.spare }
+    ensures { Puts out.old out.new (terms.Ref (reference_lent mark.now)) }
+{
+    match mark {
+        Mark::Whole(reference) => put_ref(out, reference),
+        Mark::Parts(node, creation, words) => put_ref_parts(out, node, *creation, words),
+    }
+}
+
 fn put_ref(out: &mut BytesMut, reference: &Reference)
     requires { length (item_bytes (terms.Ref reference.now)) ≤ out.old.spare }
     ensures { Puts out.old out.new (terms.Ref reference.now) }
 {
     put_reference(out, reference);
+}
+
+// A reference of three words by its parts: NEWER_REFERENCE_EXT.
+fn put_ref_parts(out: &mut BytesMut, node: &Atom, creation: u32, words: &[u32; 3])
+    requires { length (item_bytes (terms.Ref
+        (record { node = node.now; creation = creation; words = words.now }))) ≤ out.old.spare }
+    ensures { Puts out.old out.new
+        (terms.Ref (record { node = node.now; creation = creation; words = words.now })) }
+{
+    out.extend_reserved(&[90, 0, 3]);
+    put_atom(out, node);
+    out.extend_reserved(&creation.to_be_bytes());
+    out.extend_reserved(&words[0].to_be_bytes());
+    out.extend_reserved(&words[1].to_be_bytes());
+    out.extend_reserved(&words[2].to_be_bytes());
 }
 
 fn put_process(out: &mut BytesMut, pid: &Pid)

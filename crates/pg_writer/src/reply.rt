@@ -1,17 +1,17 @@
 //! The packet that answers a call, of parts that are only lent.
 
 ghost use Rattle.std.specs.Prelude.{◌≡◌, ◌≤◌, ◌++◌, length, IsOk, OnOk, OnErr};
-ghost use Rattle.pg_term_io.specs.Writing.{item_bytes, written};
+ghost use Rattle.pg_term_io.specs.Writing.{written};
 ghost use Rattle.pg_message.specs.declared.message.Message.TheVariants as messages;
 ghost use Rattle.pg_message.specs.Writing.{term_of_packet, framed};
-ghost use Rattle.pg_writer.specs.Puts.{Puts};
+ghost use Rattle.pg_writer.specs.Told.{reference_lent};
 
-use crate::parts::{put_reply, put_stamp};
+use crate::frame::put_frame;
 use crate::size::{reply_len, stamp_len};
+use crate::told::{Mark, Told};
 use bytes::BytesMut;
 use pg_message::{MAX_STAMP, Said};
 use pg_term::Reference;
-use pg_term_io::{MAX_LEN, put_tuple_head};
 use std::alloc::AllocError;
 
 /// Appends the packet `{Stamp, {reply, Ref, Said}}` as one whole frame, as `write_packet_into` does: a `gen_server` call's
@@ -34,34 +34,18 @@ pub fn write_reply_into(
         (term_of_packet (record { stamp = stamp; message = messages.Reply reference.now said })))) ≤ out.old.spare
         → IsOk result }
 {
-    let len = reply_packet_len(stamp, reference, said);
+    let mark = Mark::Whole(reference);
+    let len = reply_packet_len(stamp, &mark, said);
     out.reserve(4 + len)?;
-    out.extend_reserved(&(len as u32).to_be_bytes());
-    out.extend_reserved(&[131]);
-    put_reply_packet(out, stamp, reference, said);
+    put_frame(out, len, stamp, &Told::Reply(mark, said));
     Ok(())
 }
 
 // How many bytes the body takes.
-fn reply_packet_len(stamp: u32, reference: &Reference, said: Said) -> usize
-    ensures value { result ≡ length (written
-        (term_of_packet (record { stamp = stamp; message = messages.Reply reference.now said }))) }
+fn reply_packet_len(stamp: u32, mark: &Mark<'_>, said: Said) -> usize
+    ensures value { result ≡ length (written (term_of_packet
+        (record { stamp = stamp; message = messages.Reply (reference_lent mark.now) said }))) }
     ensures few { result ≤ 4100 }
 {
-    3 + stamp_len(stamp) + reply_len(reference, said)
-}
-
-// The packet as one item, without the version byte 131.
-#[tactic(auto, using(crate::proofs::Words::pair_len))]
-fn put_reply_packet(out: &mut BytesMut, stamp: u32, reference: &Reference, said: Said)
-    requires short { length (item_bytes
-        (term_of_packet (record { stamp = stamp; message = messages.Reply reference.now said }))) ≤ MAX_LEN }
-    requires room { length (item_bytes
-        (term_of_packet (record { stamp = stamp; message = messages.Reply reference.now said }))) ≤ out.old.spare }
-    ensures { Puts out.old out.new
-        (term_of_packet (record { stamp = stamp; message = messages.Reply reference.now said })) }
-{
-    put_tuple_head(out, 2);
-    put_stamp(out, stamp);
-    put_reply(out, reference, said);
+    3 + stamp_len(stamp) + reply_len(mark, said)
 }

@@ -1,23 +1,21 @@
 //! How many bytes packets take.
 
-ghost use Rattle.std.specs.Prelude.{◌≡◌, ◌+◌, ◌≤◌, ◌∷◌, [], pos, codes, map, length, min, IfOk, IfSome, IfNone, IfErr, true, false};
+ghost use Rattle.std.specs.Prelude.{◌≡◌, ◌+◌, ◌≤◌, ◌∷◌, [], ℕ, pos, codes, map, length, min, IfOk, IsOk, IfSome, IfNone, true, false};
 ghost use Rattle.std.specs.List.{list_all};
-ghost use Rattle.pg_term.specs.declared.term.Term.{Tuple, List};
+ghost use Rattle.pg_term.specs.declared.term.Term.{List};
 ghost use Rattle.pg_term.specs.declared.term.Term.TheVariants as terms;
 ghost use Rattle.pg_term_io.specs.Writing.{item_bytes, all_bytes};
 ghost use Rattle.pg_group.specs.Value.{name_of};
 ghost use Rattle.pg_message.specs.declared.message.Message.TheVariants as messages;
 ghost use Rattle.pg_message.specs.Name.{is_name};
-ghost use Rattle.pg_message.specs.Writing.{pair, triple, update_term, said_term, group_term, message_term, term_of_packet, is_plain, is_exchange, is_sayable, body_of, length_of};
+ghost use Rattle.pg_message.specs.Writing.{pair, triple, update_term, said_term, group_term, message_term, is_plain, is_exchange, is_sayable, body_of, length_of};
+ghost use Rattle.pg_writer.specs.Told.{reference_lent, asked_for, message_told, packet_told};
 
+use crate::told::{Asked, Mark, Told};
 use pg_group::Update;
-use pg_message::{
-    MAX_STAMP, Message, MessageFault, Packet, Request, Said, are_named_once, name_len,
-};
-use pg_term::{Atom, Items, Pid, Reference, Term, TermFault};
-use pg_term_io::{
-    MAX_LEN, atom_len, int_len, list_head_len, pid_len, reference_len, tuple_head_len,
-};
+use pg_message::{MAX_STAMP, MessageFault, Packet, Said, are_named_once, name_len};
+use pg_term::{Atom, Items, Pid, Term, TermFault};
+use pg_term_io::{MAX_LEN, atom_len, int_len, list_head_len, pid_len, reference_len};
 
 /// How many bytes a body takes at most, if it is no exchange.
 pub const MAX_SMALL_LEN: usize = 3126;
@@ -32,14 +30,29 @@ pub fn packet_len(packet: &Packet) -> Result<usize, MessageFault>
     ensures exact { result ≡ length_of (body_of packet.now) }
     ensures few { is_exchange packet.now.message ≡ false
         → IfOk result (λ len. len ≤ MAX_SMALL_LEN) }
+
+    // Only an exchange can be too long.
+    ensures small { is_sayable packet.now.message ≡ true → packet.now.stamp ≤ MAX_STAMP
+        → is_exchange packet.now.message ≡ false → IsOk result }
 {
-    let Some(message) = message_len(&packet.message) else {
+    told_len(packet.stamp, &Told::of(&packet.message))
+}
+
+/// The same of a message that is lent.
+pub(crate) fn told_len(stamp: u32, told: &Told<'_>) -> Result<usize, MessageFault>
+    ensures exact { result ≡ length_of (body_of (packet_told stamp told.now)) }
+    ensures few { is_exchange (message_told told.now) ≡ false
+        → IfOk result (λ len. len ≤ MAX_SMALL_LEN) }
+    ensures small { is_sayable (message_told told.now) ≡ true → stamp ≤ MAX_STAMP
+        → is_exchange (message_told told.now) ≡ false → IsOk result }
+{
+    let Some(message) = message_len(told) else {
         return Err(MessageFault::NotAMessage);
     };
-    if packet.stamp > MAX_STAMP {
+    if stamp > MAX_STAMP {
         return Err(MessageFault::StampTooLarge);
     }
-    let len = message.saturating_add(3 + stamp_len(packet.stamp));
+    let len = message.saturating_add(3 + stamp_len(stamp));
     if len > MAX_LEN {
         return Err(MessageFault::Term(TermFault::TooLong));
     }
@@ -55,37 +68,58 @@ pub(crate) fn stamp_len(stamp: u32) -> usize
 }
 
 // What a message takes as one item, or `usize::MAX` where that is less; `None` for what may not be sent.
-fn message_len(message: &Message) -> Option<usize>
+fn message_len(told: &Told<'_>) -> Option<usize>
     ensures len { IfSome result
-        (λ len. len ≡ min (length (item_bytes (message_term message.now))) usize.MAX) }
-    ensures few { is_exchange message.now ≡ false → IfSome result (λ len. len ≤ 3118) }
-    ensures some { IfSome result (λ len. is_sayable message.now ≡ true) }
-    ensures none { IfNone result (is_sayable message.now ≡ false) }
+        (λ len. len ≡ min (length (item_bytes (message_term (message_told told.now)))) usize.MAX) }
+    ensures few { is_exchange (message_told told.now) ≡ false → IfSome result (λ len. len ≤ 3118) }
+    ensures some { IfSome result (λ len. is_sayable (message_told told.now) ≡ true) }
+    ensures none { IfNone result (is_sayable (message_told told.now) ≡ false) }
 {
-    match message {
-        Message::Call(reference, request) => call_len(reference, request),
-        Message::Reply(reference, said) => Some(reply_len(reference, *said)),
-        Message::DelLock(name, reference) => freed_len(name, reference),
-        Message::Exchange(node, groups) => exchange_len(node, groups.as_slice()),
-        Message::Down(pid) => Some(down_len(pid)),
+    match told {
+        Told::Call(mark, asked) => call_len(mark, asked),
+        Told::Reply(mark, said) => Some(reply_len(mark, *said)),
+        Told::DelLock(name, mark) => freed_len(name, mark),
+        Told::Exchange(node, groups) => exchange_len(node, groups),
+        Told::Down(pid) => Some(down_len(pid)),
     }
 }
 
 // {call, Ref, Request}
 #[tactic(auto, using(crate::proofs::Words::triple_len))]
-fn call_len(reference: &Reference, request: &Request) -> Option<usize>
+fn call_len(mark: &Mark<'_>, asked: &Asked<'_>) -> Option<usize>
     ensures len { IfSome result (λ len. len ≡ length (item_bytes
-        (message_term (messages.Call reference.now request.now)))) }
+        (message_term (messages.Call (reference_lent mark.now) (asked_for asked.now))))) }
     ensures few { IfSome result (λ len. len ≤ 3118) }
     ensures some { IfSome result
-        (λ len. is_sayable (messages.Call reference.now request.now) ≡ true) }
-    ensures none { IfNone result (is_sayable (messages.Call reference.now request.now) ≡ false) }
+        (λ len. is_sayable (messages.Call (reference_lent mark.now) (asked_for asked.now)) ≡ true) }
+    ensures none { IfNone result
+        (is_sayable (messages.Call (reference_lent mark.now) (asked_for asked.now)) ≡ false) }
 {
-    let asked = match request {
-        Request::SetLock(name) => named_len("set_lock", name)?,
-        Request::Change(update) => update_len(update)?,
+    let asked = match asked {
+        Asked::SetLock(name) => named_len("set_lock", name)?,
+        Asked::Change(update) => update_len(update)?,
     };
-    Some(2 + word_len("call") + reference_len(reference) + asked)
+    Some(2 + word_len("call") + mark_len(mark) + asked)
+}
+
+/// How many bytes the reference takes.
+fn mark_len(mark: &Mark<'_>) -> usize
+    ensures len { result ≡ length (item_bytes (terms.Ref (reference_lent mark.now))) }
+    ensures few { result ≤ 1042 }
+{
+    match mark {
+        Mark::Whole(reference) => reference_len(reference),
+        Mark::Parts(node, _, words) => parts_len(node, words),
+    }
+}
+
+// How many bytes a reference of three words takes, whatever its creation.
+fn parts_len(node: &Atom, words: &[u32; 3]) -> usize
+    ensures len { (creation : ℕ) → result ≡ length (item_bytes (terms.Ref
+        (record { node = node.now; creation = creation; words = words.now }))) }
+    ensures few { result ≤ 1042 }
+{
+    7 + atom_len(node) + 4 * words.len()
 }
 
 fn update_len(update: &Update) -> Option<usize>
@@ -134,12 +168,12 @@ fn membership_len(word: &str, name: &Term, pid: &Pid) -> Option<usize>
 
 // {reply, Ref, Said}
 #[tactic(auto, using(crate::proofs::Words::triple_len))]
-pub(crate) fn reply_len(reference: &Reference, said: Said) -> usize
+pub(crate) fn reply_len(mark: &Mark<'_>, said: Said) -> usize
     ensures len { result ≡ length (item_bytes
-        (triple (terms.Atom (codes "reply")) (terms.Ref reference.now) (said_term said))) }
+        (message_term (messages.Reply (reference_lent mark.now) said))) }
     ensures few { result ≤ 1058 }
 {
-    2 + word_len("reply") + reference_len(reference) + said_len(said)
+    2 + word_len("reply") + mark_len(mark) + said_len(said)
 }
 
 fn said_len(said: Said) -> usize
@@ -155,15 +189,15 @@ fn said_len(said: Said) -> usize
 
 // {cast, {del_lock, Name, Ref}}
 #[tactic(auto, using(crate::proofs::Words::pair_len, crate::proofs::Words::triple_len))]
-fn freed_len(name: &Term, reference: &Reference) -> Option<usize>
+fn freed_len(name: &Term, mark: &Mark<'_>) -> Option<usize>
     ensures len { IfSome result (λ len. len ≡ length (item_bytes
-        (message_term (messages.DelLock name.now reference.now)))) }
+        (message_term (messages.DelLock name.now (reference_lent mark.now))))) }
     ensures few { IfSome result (λ len. len ≤ 2085) }
     ensures some { IfSome result (λ len. is_name name.now ≡ true) }
     ensures none { IfNone result (is_name name.now ≡ false) }
 {
     let len = name_len(name)?;
-    Some(2 + word_len("cast") + 2 + word_len("del_lock") + len + reference_len(reference))
+    Some(2 + word_len("cast") + 2 + word_len("del_lock") + len + mark_len(mark))
 }
 
 // {down, Pid}

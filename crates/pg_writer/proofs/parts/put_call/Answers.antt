@@ -1,10 +1,11 @@
-use Rattle.std.proofs.Common.{[], ◌∷◌, codes}
-use Rattle.pg_term.specs.declared.term.Term.TheVariants.{Atom, Ref}
+use Rattle.std.proofs.Common.{[], ◌∷◌, codes, arith}
+use Rattle.pg_term.specs.declared.term.Term.TheVariants.{Ref}
 use Rattle.pg_message.specs.Writing.{request_term}
-use Rattle.pg_writer.proofs.Put.{tuple_put, more, nothing}
+use Rattle.pg_writer.specs.Told.{reference_lent, asked_for}
+use Rattle.pg_writer.proofs.Put.{opened_put, more, nothing}
 use Rattle.pg_writer.proofs.parts.put_call.Goals as goal
 
 pub returns : goal.returns
 returns c =
-    tuple_put c.args.out.now c.put_tuple_head.new.out c.put_request.new.out (Atom (codes "call") ∷ Ref c.args.reference.now ∷ request_term c.args.request.now ∷ []) c.requires.short c.put_tuple_head.ensures.items c.put_tuple_head.ensures.spare
-    (more c.put_word.ensures (more c.put_ref.ensures (more c.put_request.ensures (nothing c.put_request.new.out))))
+    opened_put c.args.out.now c.put_opening.new.out c.put_asked.new.out (codes "call") (Ref (reference_lent c.args.mark.now) ∷ request_term (asked_for c.args.asked.now) ∷ []) c.requires.short (omega arith) c.put_opening.ensures
+    (more c.put_mark.ensures (more c.put_asked.ensures (nothing c.put_asked.new.out)))
