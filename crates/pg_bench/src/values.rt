@@ -2,9 +2,10 @@
 
 use bytes::BytesMut;
 use pg_figures::{Watch, head, number, pid, report, word};
-use pg_message::{Message, MessageFault, Packet, read_packet, write_packet, write_packet_into};
+use pg_message::{Message, MessageFault, Packet, read_packet};
 use pg_term::{Atom, Fields, Items, Pid, Term, TermFault};
 use pg_term_io::{decode, encode, encode_into};
+use pg_writer::{write_packet, write_packet_into};
 use std::alloc::Global;
 
 // The bytes of `{0, {call, Ref, {join, g, Pid}}}`, by which a peer asks to join a process of its own to a group.

@@ -1,14 +1,13 @@
 -- The one written form of a packet, and when it may be sent.
-use Rattle.std.specs.Prelude.{◌≡◌, ℕ, ◌+◌, pos, List, [], ◌∷◌, ◌++◌, length, map, codes, Bool, true, false, ◌&&◌, nat_lt, nat_le, Result, Ok, Err, if◌then◌else◌}
+use Rattle.std.specs.Prelude.{ℕ, pos, List, [], ◌∷◌, ◌++◌, length, map, codes, Bool, true, false, ◌&&◌, nat_lt, nat_le, Result, Ok, Err, if◌then◌else◌}
 use Rattle.std.specs.Int.{w32, to_be_bytes}
 use Rattle.std.specs.List.{list_all}
-use Rattle.bytes.specs.Filled.{Filled}
 use Rattle.pg_term.specs.declared.fault.TermFault.TheVariants as terms
 use Rattle.pg_term.specs.declared.pid.Pid.{Pid}
 use Rattle.pg_term.specs.declared.term.Term.{Term, Tuple, List as Listed}
 use Rattle.pg_term.specs.declared.term.Term.TheVariants.{Int, Atom, Ref, Pid as Process}
 use Rattle.pg_term_io.specs.declared.limits.TheConstants.{MAX_LEN}
-use Rattle.pg_term_io.specs.Writing.{item_bytes, all_bytes, written, IsSpelled, AreSpelled}
+use Rattle.pg_term_io.specs.Writing.{written}
 use Rattle.pg_group.specs.declared.update.Update.{Update}
 use Rattle.pg_group.specs.declared.update.Update.TheVariants.{Create, Delete, Join, Leave}
 use Rattle.pg_group.specs.Value.{name_of}
@@ -110,20 +109,6 @@ length_of (Err fault) = Err fault
 abbrev pub framed : List ℕ → List ℕ
 framed body = to_be_bytes w32 (length body) ++ body
 
--- ---- what a writer does
-
 -- characters that are their own UTF-8
 abbrev pub is_plain : List ℕ → Bool
 is_plain text = list_all (λ c. nat_lt c 128) text
-
--- the bytes of a term, which spell it, are appended in room that was there
-pub record Puts (old new : Filled) (t : Term) : Type 0 where
-  pub items : new.items ≡ old.items ++ item_bytes t
-  pub spare : new.spare + length (item_bytes t) ≡ old.spare
-  pub spelled : IsSpelled t
-
--- the same of terms, one after the other
-pub record PutsAll (old new : Filled) (ts : List Term) : Type 0 where
-  pub items : new.items ≡ old.items ++ all_bytes ts
-  pub spare : new.spare + length (all_bytes ts) ≡ old.spare
-  pub spelled : AreSpelled ts

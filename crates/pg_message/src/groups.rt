@@ -13,7 +13,7 @@ use std::collections::BTreeSet;
 
 /// Whether no group is named twice. It takes no memory. One walk over the groups where they ascend in the order of
 /// terms, as a node tells them; else each name is compared with all that follow it.
-pub(crate) fn are_named_once(groups: &[(Term, Items<Pid>)]) -> bool
+pub fn are_named_once(groups: &[(Term, Items<Pid>)]) -> bool
     ensures { result ≡ is_named_once groups.now }
 {
     do_ascend(groups) || do_differ(groups)

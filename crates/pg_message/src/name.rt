@@ -33,8 +33,9 @@ pub(crate) fn is_name(term: &Term) -> bool
     name_len(term).is_some()
 }
 
-/// How many bytes a name takes as one item, without the byte 131; `None` for what is no name.
-pub(crate) fn name_len(term: &Term) -> Option<usize>
+/// How many bytes a name takes as one item, without the byte 131; `None` for what `check_name` refuses. It takes no memory, and
+/// the same walk as `check_name`.
+pub fn name_len(term: &Term) -> Option<usize>
     ensures name { IfSome result (λ len. is_name term.now ≡ true) }
     ensures len { IfSome result (λ len. len ≡ length (item_bytes term.now)) }
     ensures few { IfSome result (λ len. len ≤ 1023) }

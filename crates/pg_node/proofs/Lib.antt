@@ -7,7 +7,6 @@ pub mod Apart
 pub mod Attempted
 pub mod Begun
 pub mod Bodies
-pub mod Bounds
 pub mod Chains
 pub mod Coming
 pub mod Commanded

@@ -8,7 +8,7 @@ use Rattle.std.proofs.Math.Dec.{eqb-zero-suc, eqb-suc-zero, eqb-suc-suc}
 use Rattle.std.proofs.lemmas.Bool.{eqb-true, eq-eqb}
 use Rattle.pg_group.specs.Functions.{upd}
 use Rattle.pg_message.specs.declared.packet.Packet.{Packet}
-use Rattle.pg_message.specs.declared.writing.size.TheConstants.{MAX_SMALL_LEN}
+use Rattle.pg_writer.specs.declared.size.TheConstants.{MAX_SMALL_LEN}
 use Rattle.pg_step.specs.Nodes.{Node}
 use Rattle.pg_node.specs.declared.node.wire.Wire.{Wire}
 use Rattle.pg_node.specs.Links.{Link, link_of, idle_link, part_in, links_in, at_link, room_in, frame_of, frames_to, with_more, HasRoom, HaveRoom, FitLinks, IsSmallFrame, AreSmallFrames}

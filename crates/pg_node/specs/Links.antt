@@ -1,14 +1,10 @@
 -- The links of a node to its peers, by the places of the peers, and the frames that go out there.
 use Rattle.std.specs.Prelude.{◌≡◌, ◌≤◌, ◌+◌, ◌<◌, ℕ, zero, suc, nat_eq, cond, Bool, false, List, [], ◌∷◌, ◌++◌, length, drop, Ok}
 use Rattle.std.specs.List.{AllByRecursion}
-use Rattle.pg_message.specs.declared.message.Request.{Request}
-use Rattle.pg_message.specs.declared.message.Request.TheVariants.{SetLock, Change}
 use Rattle.pg_message.specs.declared.packet.Packet.{Packet}
-use Rattle.pg_message.specs.Name.{is_name}
 use Rattle.pg_message.specs.Reading.{packet_spelled}
 use Rattle.pg_group.specs.Functions.{upd}
-use Rattle.pg_group.specs.Value.{name_of}
-use Rattle.pg_message.specs.declared.writing.size.TheConstants.{MAX_SMALL_LEN}
+use Rattle.pg_writer.specs.declared.size.TheConstants.{MAX_SMALL_LEN}
 use Rattle.pg_message.specs.Writing.{term_of_packet, framed}
 use Rattle.pg_term_io.specs.Writing.{written}
 use Rattle.pg_step.specs.Nodes.{Node}
@@ -41,11 +37,6 @@ links_in wires = part_in link_of idle_link wires
 -- for how many bytes the outbox at each place has room
 abbrev pub room_in : List Wire → ℕ → ℕ
 room_in wires = part_in (λ wire. wire.outbox.spare) 0 wires
-
--- the name in it is a name
-abbrev pub is_askable : Request → Bool
-is_askable (SetLock name) = is_name name
-is_askable (Change update) = is_name (name_of update)
 
 -- the frame of a packet
 abbrev pub frame_of : Packet → List ℕ

@@ -2,7 +2,7 @@
 
 ghost use Rattle.std.specs.Prelude.{◌≡◌, ◌≤◌, ◌+◌, ◌++◌, ◌^◌, length, IfErr, OnOk, OnErr};
 ghost use Rattle.pg_message.specs.Members.{IsShort};
-ghost use Rattle.pg_message.specs.declared.writing.size.TheConstants.{MAX_SMALL_LEN};
+ghost use Rattle.pg_writer.specs.declared.size.TheConstants.{MAX_SMALL_LEN};
 ghost use Rattle.pg_node.specs.Fault.{untaken_as, Refuses};
 ghost use Rattle.pg_node.specs.Links.{frames_to, FitLinks};
 ghost use Rattle.pg_node.specs.Replica.{pair_of, taken_packet, answered, Answers};
@@ -13,9 +13,10 @@ use crate::node::write_small;
 use crate::state::{NodeFault, NodeState};
 use bytes::BytesMut;
 use pg_group::GroupTable;
-use pg_message::{MAX_SMALL_LEN, MessageFault, Packet, read_packet};
+use pg_message::{MessageFault, Packet, read_packet};
 use pg_step::Refusal;
 use pg_term::TermFault;
+use pg_writer::MAX_SMALL_LEN;
 use std::alloc::Global;
 
 /// Takes the body of a packet of the one peer, and appends what is sent for it, framed, to the output.

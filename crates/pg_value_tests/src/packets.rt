@@ -4,6 +4,7 @@
 mod bodies;
 mod drafts;
 mod forms;
+mod lent;
 mod lists;
 mod many;
 mod messages;

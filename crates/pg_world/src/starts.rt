@@ -19,10 +19,11 @@ use crate::fault::WorldFault;
 use crate::outgoing::Outgoing;
 use pg_group::{Ended, GroupTable};
 use pg_index::IndexTable;
-use pg_message::{Packet, packet_len};
+use pg_message::Packet;
 use pg_node::{NodeConfig, NodeState};
 use pg_step::Start;
 use pg_term::{Atom, Items, Pid, Term};
+use pg_writer::packet_len;
 use std::alloc::{AllocError, Global};
 
 /// The nodes of a configuration as they start, by their places. Its cost is that of the groups and, for each node, of all names.

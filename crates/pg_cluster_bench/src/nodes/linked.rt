@@ -5,11 +5,12 @@ use crate::nodes::made::new_state;
 use crate::nodes::packets::is_kept;
 use bytes::BytesMut;
 use pg_index::IndexTable;
-use pg_message::{Packet, write_packet_into};
+use pg_message::Packet;
 use pg_node::{Done, Node, NodeFault};
 use pg_ring::{Inlet, Link, MemRing, RingFault};
 use pg_step::Command;
 use pg_term::Reference;
+use pg_writer::write_packet_into;
 use std::alloc::{AllocError, Global};
 
 // How many bytes a ring has room for, and how many move at once.

@@ -18,7 +18,8 @@ use crate::node::Node;
 use crate::node::wire::Wire;
 use crate::state::{NodeConfig, NodeFault, NodeState, started};
 use pg_group::GroupTable;
-use pg_message::{Packet, packet_len, write_packet_into};
+use pg_message::Packet;
+use pg_writer::{packet_len, write_packet_into};
 use std::alloc::{AllocError, Global};
 
 /// How many bytes stand on their way from an inlet at once.

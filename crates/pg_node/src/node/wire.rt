@@ -1,23 +1,19 @@
 //! The link of a node to one peer.
 
-ghost use Rattle.std.specs.Prelude.{◌≡◌, ◌≤◌, ◌+◌, ◌++◌, ◌^◌, [], true, false, length, take, min, Err, IsOk, IfOk, IfErr, IfSome, OnOk, OnErr};
-ghost use Rattle.pg_term_io.specs.Writing.{item_bytes};
+ghost use Rattle.std.specs.Prelude.{◌≡◌, ◌≤◌, ◌+◌, ◌++◌, ◌^◌, [], true, false, length, take, min, Err, IfOk, IfErr, IfSome, OnOk, OnErr};
 ghost use Rattle.pg_message.specs.declared.packet.TheConstants.{MAX_STAMP};
-ghost use Rattle.pg_message.specs.Name.{is_name};
-ghost use Rattle.pg_message.specs.Writing.{message_term, request_term, update_term, is_exchange, is_sayable, body_of};
-ghost use Rattle.pg_group.specs.Value.{name_of};
-ghost use Rattle.pg_node.specs.Links.{is_askable, frame_of, IsSmallFrame};
-ghost use Rattle.pg_message.specs.declared.writing.size.TheConstants.{MAX_SMALL_LEN};
+ghost use Rattle.pg_message.specs.Writing.{is_exchange, is_sayable};
+ghost use Rattle.pg_node.specs.Links.{frame_of, IsSmallFrame};
+ghost use Rattle.pg_writer.specs.declared.size.TheConstants.{MAX_SMALL_LEN};
 ghost use Rattle.pg_node.specs.Bytes.{damages};
 
 use crate::state::NodeFault;
 use bytes::BytesMut;
 use pg_frame::Deframer;
-use pg_group::Update;
-use pg_message::{MAX_SMALL_LEN, Message, Packet, Request, read_packet, write_packet_into};
+use pg_message::{Packet, read_packet};
 use pg_ring::{Inlet, Link};
 use pg_step::Refusal;
-use pg_term_io::{pid_len, reference_len};
+use pg_writer::{MAX_SMALL_LEN, write_packet_into};
 use std::alloc::{AllocError, Global};
 
 /// What came in from a peer and what goes out to it.
@@ -190,7 +186,6 @@ pub(crate) fn write_small(packet: &Packet, out: &mut BytesMut)
     ensures items { out.new.items ≡ out.old.items ++ frame_of packet.now }
     ensures small { IsSmallFrame packet.now }
 {
-    bounds_of(packet);
     write_packet_into(packet, out).unwrap();
 }
 
@@ -202,64 +197,5 @@ fn damages(fault: NodeFault) -> bool
         NodeFault::Message(_) | NodeFault::TooLong => true,
         NodeFault::Refused(refusal) => matches!(refusal, Refusal::NotAMessage),
         NodeFault::Damaged | NodeFault::OutOfMemory => false,
-    }
-}
-
-// A small packet of names has a body. It computes nothing that is used: what its parts take is bounded.
-fn bounds_of(packet: &Packet)
-    requires named { is_sayable packet.now.message ≡ true }
-    requires stamp { packet.now.stamp ≤ MAX_STAMP }
-    requires small { is_exchange packet.now.message ≡ false }
-    ensures { IsOk (body_of packet.now) }
-{
-    bounds_of_message(&packet.message);
-}
-
-fn bounds_of_message(message: &Message)
-    requires named { is_sayable message.now ≡ true }
-    requires small { is_exchange message.now ≡ false }
-    ensures { length (item_bytes (message_term message.now)) ≤ 3118 }
-{
-    match message {
-        Message::Call(reference, request) => {
-            reference_len(reference);
-            bounds_of_request(request);
-        }
-        Message::Reply(reference, _) => {
-            reference_len(reference);
-        }
-        Message::DelLock(_, reference) => {
-            reference_len(reference);
-        }
-        Message::Exchange(_, _) => {}
-        Message::Down(pid) => {
-            pid_len(pid);
-        }
-    }
-}
-
-fn bounds_of_request(request: &Request)
-    requires { is_askable request.now ≡ true }
-    ensures { length (item_bytes (request_term request.now)) ≤ 2068 }
-{
-    match request {
-        Request::SetLock(_) => {}
-        Request::Change(update) => bounds_of_update(update),
-    }
-}
-
-fn bounds_of_update(update: &Update)
-    requires { is_name (name_of update.now) ≡ true }
-    ensures { length (item_bytes (update_term update.now)) ≤ 2068 }
-{
-    match update {
-        Update::Create(_) => {}
-        Update::Delete(_) => {}
-        Update::Join(_, pid) => {
-            pid_len(pid);
-        }
-        Update::Leave(_, pid) => {
-            pid_len(pid);
-        }
     }
 }

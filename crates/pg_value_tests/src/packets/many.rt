@@ -4,12 +4,14 @@
 use super::bodies::{APPLIED, CREATE, DEL_LOCK, EXCHANGE, JOIN};
 use super::drafts::{Draft, drafted};
 use super::forms::{Same, is_read_in_both_forms, rewritten};
+use super::lent::write_lent;
 use crate::rows::{Edit, OUT_OF_MEMORY, Row, check, edited};
 use bytes::BytesMut;
 use pg_message::MessageFault::{self, NotAMessage, StampTooLarge};
-use pg_message::{Packet, packet_len, write_packet, write_packet_into};
+use pg_message::Packet;
 use pg_term::TermFault;
 use pg_term_io::{decode, encode};
+use pg_writer::{packet_len, write_packet, write_packet_into};
 use std::alloc::{AllocError, Global};
 use std::test::*;
 
@@ -22,6 +24,7 @@ fn is_refused(alloc: Global, packet: &Packet, fault: MessageFault) -> bool {
     let mut out = BytesMut::new(alloc);
     packet_len(packet) == Err(fault)
         && write_packet_into(packet, &mut out) == Err(fault)
+        && write_lent(packet, &mut out) == Err(fault)
         && write_packet(alloc, packet).err() == Some(fault)
         && out.as_slice().is_empty()
 }

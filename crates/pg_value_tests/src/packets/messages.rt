@@ -2,13 +2,12 @@
 //! its bytes, since it is spelled as it is written.
 
 use super::bodies::{APPLIED, CREATE, DEL_LOCK, DOWN, EMPTY, EXCHANGE, JOIN};
+use super::lent::write_lent;
 use crate::rows::{OUT_OF_MEMORY, Row, check};
 use bytes::BytesMut;
 use pg_group::Update;
-use pg_message::{
-    Message, MessageFault, Packet, Request, Said, is_read_directly, packet_len, read_packet,
-    write_packet, write_packet_into,
-};
+use pg_message::{Message, MessageFault, Packet, Request, Said, is_read_directly, read_packet};
+use pg_writer::{packet_len, write_packet, write_packet_into};
 use std::alloc::{AllocError, Global};
 use std::test::*;
 
@@ -20,6 +19,14 @@ struct Both(&'static [&'static [u8]], &'static str);
 const NOW: &[u8] = b"\x83h\x02a\0";
 
 const CALL: &[u8] = b"h\x03w\x04callZ\0\x01w\x01a\0\0\0\0\0\0\0\x07";
+
+// A call, a freed lock and a reference of #<b/257.131075.67108869> with creation 2.
+const CALL_OF_THREE: &[u8] =
+    b"h\x03w\x04callZ\0\x03w\x01b\0\0\0\x02\0\0\x01\x01\0\x02\0\x03\x04\0\0\x05";
+
+const FREE: &[u8] = b"h\x02w\x04casth\x03w\x08del_lockw\x01g";
+
+const REFERENCE_OF_THREE: &[u8] = b"Z\0\x03w\x01b\0\0\0\x02\0\0\x01\x01\0\x02\0\x03\x04\0\0\x05";
 
 const GRANTED: &[u8] = b"h\x03w\x05replyZ\0\x01w\x01a\0\0\0\0\0\0\0\x07w\x04true";
 
@@ -37,6 +44,11 @@ const MESSAGES: &[Both] = &[
     Both(&[NOW, CALL, b"h\x02w\x06deletew\x01g"], "delete"),
     Both(&[LATEST, CALL, b"h\x02w\x08set_locka\x05"], "set_lock"),
     Both(&[NOW, CALL, b"h\x02w\x08set_lockw\x01g"], "set_lock"),
+    Both(
+        &[NOW, CALL_OF_THREE, b"h\x02w\x08set_locka\x05"],
+        "set_lock",
+    ),
+    Both(&[NOW, CALL_OF_THREE, b"h\x02w\x06deletew\x01g"], "delete"),
     Both(&[JOIN], "join"),
     Both(&[NOW, CALL, b"h\x03w\x05leavew\x01g", PID], "leave"),
     Both(&[b"\x83h\x02a\xff", GRANTED], "true"),
@@ -45,6 +57,7 @@ const MESSAGES: &[Both] = &[
     Both(&[NOW, DENIED], "false"),
     Both(&[APPLIED], "ok"),
     Both(&[DEL_LOCK], "del_lock"),
+    Both(&[NOW, FREE, REFERENCE_OF_THREE], "del_lock"),
     // Members in no order, and one that joined twice; no groups; members in order.
     Both(&[EXCHANGE], "exchange"),
     Both(&[EMPTY], "exchange"),
@@ -83,7 +96,7 @@ fn kind_of(packet: &Packet) -> &'static str {
     }
 }
 
-// Writes the packet into an empty buffer, again where memory was refused and the buffer is as it was.
+// Appends the packet, again where memory was refused and the buffer is as it was.
 fn put(packet: &Packet, out: &mut BytesMut) -> Result<(), MessageFault> {
     let told = write_packet_into(packet, out);
     if told == Err(OUT_OF_MEMORY) && out.as_slice().is_empty() {
@@ -93,19 +106,40 @@ fn put(packet: &Packet, out: &mut BytesMut) -> Result<(), MessageFault> {
     }
 }
 
-// Whether the packet is written as the bytes behind their length in four bytes.
-fn is_framed(alloc: Global, packet: &Packet, bytes: &[u8]) -> bool {
-    let len = u32::try_from(bytes.len()).unwrap_or(u32::MAX);
-    let mut out = BytesMut::new(alloc);
-    let is_put = put(packet, &mut out).is_ok();
-    let is_framed = out.len() == bytes.len() + 4
-        && out.as_slice().starts_with(&len.to_be_bytes())
-        && out.as_slice().ends_with(bytes);
-    drop(out);
-    is_put && is_framed
+// The same of its parts, which are lent.
+fn put_lent(packet: &Packet, out: &mut BytesMut) -> Result<(), MessageFault> {
+    let before = out.len();
+    let told = write_lent(packet, out);
+    if told == Err(OUT_OF_MEMORY) && out.len() == before {
+        write_lent(packet, out)
+    } else {
+        told
+    }
 }
 
-// Whether the packet is written as the bytes, and in a frame.
+// Whether these are the bytes behind their length in four bytes.
+fn is_frame(frame: &[u8], bytes: &[u8]) -> bool {
+    let len = u32::try_from(bytes.len()).unwrap_or(u32::MAX);
+    frame.len() == bytes.len().saturating_add(4)
+        && frame.starts_with(&len.to_be_bytes())
+        && frame.ends_with(bytes)
+}
+
+// Whether the packet is written as the bytes in a frame, and once more behind it of its parts.
+fn is_framed(alloc: Global, packet: &Packet, bytes: &[u8]) -> bool {
+    let mut out = BytesMut::new(alloc);
+    let is_put = put(packet, &mut out).is_ok();
+    let one = out.len();
+    let is_lent = put_lent(packet, &mut out).is_ok();
+    let is_framed = match out.as_slice().split_at_checked(one) {
+        Some((first, second)) => is_frame(first, bytes) && is_frame(second, bytes),
+        None => false,
+    };
+    drop(out);
+    is_put && is_lent && is_framed
+}
+
+// Whether the packet is written as the bytes, and in frames.
 fn is_written(alloc: Global, packet: &Packet, bytes: &[u8]) -> Result<bool, MessageFault> {
     let is_long = packet_len(packet) == Ok(bytes.len());
     match write_packet(alloc, packet) {

@@ -7,9 +7,10 @@ use super::forms::{Changed, Itself, NO_PACKET};
 use crate::rows::Edit::{self, At, Times};
 use crate::rows::{OUT_OF_MEMORY, Row, check, edited, holds};
 use pg_message::MessageFault::{self, NameTooLarge, NotAMessage};
-use pg_message::{MAX_NAME_DEPTH, MAX_NAME_LEN, check_name, write_packet};
+use pg_message::{MAX_NAME_DEPTH, MAX_NAME_LEN, check_name};
 use pg_term::{Term, TermFault};
 use pg_term_io::{decode, encode_len};
+use pg_writer::write_packet;
 use std::alloc::{AllocError, Global};
 use std::test::*;
 

@@ -1,5 +1,0 @@
-use Rattle.pg_message.proofs.Sent.{sent_read}
-use Rattle.pg_message.proofs.writing.put_body.Goals as goal
-
-pub returns-clause-read : goal.returns-clause-read
-returns-clause-read c = sent_read c.args.packet.now c.requires.sent c.put_packet.ensures.spelled

@@ -1,0 +1,9 @@
+pub mod Bodies
+pub mod Deep
+pub mod Listed
+pub mod Marks
+pub mod Packets
+pub mod Put
+pub mod Sent
+pub mod Stamps
+pub mod Words

@@ -1,0 +1,15 @@
+//! Packets to bodies and frames.
+#![tactic(auto)]
+
+mod frame;
+mod lent;
+mod parts;
+mod reply;
+mod size;
+mod told;
+
+pub use frame::{write_packet, write_packet_into};
+pub use lent::{write_call_into, write_del_lock_into, write_down_into};
+pub use reply::write_reply_into;
+pub use size::{MAX_SMALL_LEN, packet_len};
+pub use told::{Asked, Mark};
