@@ -110,14 +110,10 @@ pub(crate) fn big_at(bytes: &[u8]) -> Result<(i64, &[u8]), TermFault>
     let (count, rest) = u8_at(bytes)?;
     let (sign, rest) = u8_at(rest)?;
     let (digits, rest) = some_bytes(usize::from(count), rest)?;
-    let value = big(sign, digits)?;
-    Ok((value, rest))
-}
-
-fn big(sign: u8, digits: &[u8]) -> Result<i64, TermFault>
-    ensures { Gives (λ z. z) result (i64_of (big_value sign digits.now)) }
-{
-    value_of(sign, digits).ok_or(TermFault::IntegerTooLarge)
+    match value_of(sign, digits) {
+        Some(value) => Ok((value, rest)),
+        None => Err(TermFault::IntegerTooLarge),
+    }
 }
 
 /// The integer of these digits, where it is one of 64 bits with a sign.

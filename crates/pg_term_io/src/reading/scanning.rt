@@ -29,14 +29,6 @@ fn past_word(bytes: &[u8]) -> Result<&[u8], TermFault>
     Ok(rest)
 }
 
-/// What follows so many bytes.
-fn past_text(count: usize, bytes: &[u8]) -> Result<&[u8], TermFault>
-    ensures { Tells (λ rest. rest.now) result (past (bytes_at count bytes.now)) }
-{
-    let (_, rest) = some_bytes(count, bytes)?;
-    Ok(rest)
-}
-
 /// Whether a text has more characters than an atom. It has no more of them than bytes, so that a short one is not counted.
 fn is_long(text: &str) -> bool
     ensures { result ≡ nat_lt 255 (length (chars text.now)) }
@@ -162,17 +154,8 @@ fn binary(bytes: &[u8]) -> Result<&[u8], TermFault>
     ensures { Tells (λ rest. rest.now) result (over_binary bytes.now) }
 {
     let (count, rest) = u32_at(bytes)?;
-    past_text(count as usize, rest)
-}
-
-/// Whether digits are those of a signed integer of 64 bits.
-fn check_big(sign: u8, digits: &[u8]) -> Result<(), TermFault>
-    ensures { Names result (i64_of (big_value sign digits.now)) }
-{
-    match value_of(sign, digits) {
-        Some(_) => Ok(()),
-        None => Err(TermFault::IntegerTooLarge),
-    }
+    let (_, rest) = some_bytes(count as usize, rest)?;
+    Ok(rest)
 }
 
 /// What follows a big integer.
@@ -183,8 +166,10 @@ fn past_big(bytes: &[u8]) -> Result<&[u8], TermFault>
     let (count, rest) = u8_at(bytes)?;
     let (sign, rest) = u8_at(rest)?;
     let (digits, rest) = some_bytes(usize::from(count), rest)?;
-    check_big(sign, digits)?;
-    Ok(rest)
+    match value_of(sign, digits) {
+        Some(_) => Ok(rest),
+        None => Err(TermFault::IntegerTooLarge),
+    }
 }
 
 /// What follows an item that holds no terms, behind its tag.
