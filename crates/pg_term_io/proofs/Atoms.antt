@@ -1,20 +1,28 @@
 -- What the reader of an atom answers.
-use Rattle.std.proofs.Common.{◌≡◌, ℕ, suc, ◌<◌, ◌≤◌, ◌^◌, Bool, true, false, cond, ltb, eqb, ◌⊎◌, inl, inr, List, [], ◌∷◌, ◌++◌, length, Result, Ok, Err, refl, sym, ap, subst, ◌∙◌, arith}
+use Rattle.std.proofs.Common.{◌≡◌, ℕ, suc, ◌<◌, ◌≤◌, ◌^◌, Bool, true, false, cond, ltb, ◌⊎◌, inl, inr, List, [], ◌∷◌, ◌++◌, length, Option, Result, Ok, Err, refl, sym, ap, subst, ◌∙◌, arith}
 use Rattle.std.specs.Int.{w16, to_be_bytes}
 use Rattle.std.specs.List.{AllByRecursion}
 use Rattle.std.specs.Str.{chars, is_utf8, IsUtf8}
-use Rattle.std.proofs.lemmas.Bool.{ltb-false, ltb-true, eqb-true}
+use Rattle.std.proofs.lemmas.Bool.{ltb-false, ltb-true}
 use Rattle.std.proofs.lemmas.List.{append-nil}
 use Rattle.std.proofs.lemmas.Str.{IsUtf8-from_is_utf8, is_utf8-from_IsUtf8}
 use Rattle.pg_term.specs.declared.fault.TermFault.{TermFault}
 use Rattle.pg_term.specs.declared.fault.TermFault.TheVariants.{Truncated, BadAtom}
-use Rattle.pg_term_io.specs.Tags.{is_atom_tag}
-use Rattle.pg_term_io.specs.Reading.{Read, ◌>>=◌, byte_at, number_at, bytes_at, named_at, utf8_atom, latin_atom, atom_behind, atom_at}
+use Rattle.pg_term_io.specs.declared.tag.Size.{Size}
+use Rattle.pg_term_io.specs.declared.tag.Size.TheVariants.{Small, Large}
+use Rattle.pg_term_io.specs.declared.tag.Encoding.{Encoding}
+use Rattle.pg_term_io.specs.declared.tag.Encoding.TheVariants.{Utf8, Latin}
+use Rattle.pg_term_io.specs.declared.tag.LeafTag.TheVariants.{Atom}
+use Rattle.pg_term_io.specs.declared.tag.Tag.{Tag}
+use Rattle.pg_term_io.specs.declared.tag.Tag.TheVariants.{Leaf}
+use Rattle.pg_term_io.specs.Tags.{tag_of, is_atom}
+use Rattle.pg_term_io.specs.Reading.{Read, ◌>>=◌, byte_at, number_at, bytes_at, named_at, utf8_atom, latin_atom, atom_behind, node_behind, atom_at}
 use Rattle.pg_term_io.specs.Spelling.{IsAtom}
 use Rattle.pg_term_io.specs.Spelling as s
 use Rattle.pg_term_io.specs.Faults.{BreaksAtom, BreaksNode, IsSmallAtomTag, IsLargeAtomTag}
 use Rattle.pg_term_io.specs.Faults as f
-use Rattle.pg_term_io.proofs.Outcomes.{EachByte, Right, Cut, IsByte, IsHalf, IsText, right_if, right_then, right_pure, byte_right, half_right, text_right}
+use Rattle.pg_term_io.proofs.Outcomes.{EachByte, Right, Cut, IsByte, IsHalf, IsText, right_then, right_pure, byte_right, half_right, text_right}
+use Rattle.pg_term_io.proofs.Tags.{byte_of, named, atom_or_not}
 
 -- the text of an atom, which `name` reads
 abbrev IsName : (List ℕ → Result (List ℕ) TermFault) → ℕ → List ℕ → List ℕ → Type 0
@@ -89,9 +97,8 @@ all_fit (b ∷ text) h = (h 0, all_fit text (λ i. h (suc i)))
 
 -- ---- behind each tag
 
--- behind an atom's tag, or behind another
 abbrev pub NoAtom : ℕ → TermFault → List ℕ → Type 0
-NoAtom tag e b = BreaksAtom e (tag ∷ b) ⊎ ((is_atom_tag tag ≡ false) × (e ≡ BadAtom))
+NoAtom tag e b = BreaksAtom e (tag ∷ b)
 
 abbrev pub AtomBehind : ℕ → List ℕ → List ℕ → Type 0
 AtomBehind tag a b = IsAtom a (tag ∷ b)
@@ -109,11 +116,11 @@ small_right tag name is spells refuses bytes fits =
     (byte_right bytes fits)
     (λ n rest fit. named_right name n rest fit)
     (λ n a x y h k. subst (λ (z : List ℕ). IsAtom a (tag ∷ (z ++ y))) (ap (λ (m : ℕ). m ∷ []) k.0 ∙ sym h.1) (spells a y (omega (arith, h.0, k.0)) k.2 k.1))
-    (λ n e x y h k. inl (elim k [
+    (λ n e x y h k. elim k [
       | inl c ↦ fault_is (λ (d : TermFault). BreaksAtom d (tag ∷ (x ++ y))) e Truncated c.0 (subst (λ (z : List ℕ). BreaksAtom Truncated (tag ∷ (z ++ y))) (sym h.1) (f.BreaksAtom.small_text_cut tag n y is c.1))
       | inr r ↦ subst (λ (z : List ℕ × List ℕ). BreaksAtom e (tag ∷ (z.0 ++ z.1))) (λ i. ((ap (λ (m : ℕ). m ∷ []) r.size ∙ sym h.1) i, sym r.whole i)) (refuses e r.text r.rest (omega (arith, h.0, r.size)) r.is)
-    ]))
-    (λ e h. inl (fault_is (λ (d : TermFault). BreaksAtom d (tag ∷ bytes)) e Truncated h.0 (subst (λ (z : List ℕ). BreaksAtom Truncated (tag ∷ z)) (none bytes h.1) (f.BreaksAtom.small_length_cut tag is))))
+    ])
+    (λ e h. fault_is (λ (d : TermFault). BreaksAtom d (tag ∷ bytes)) e Truncated h.0 (subst (λ (z : List ℕ). BreaksAtom Truncated (tag ∷ z)) (none bytes h.1) (f.BreaksAtom.small_length_cut tag is)))
   where
     none : (b : List ℕ) → length b < 1 → [] ≡ b
     none [] h = refl
@@ -129,11 +136,11 @@ large_right tag name is spells refuses bytes fits =
     (half_right bytes fits)
     (λ n rest fit. named_right name n rest fit)
     (λ n a x y h k. subst (λ (z : List ℕ). IsAtom a (tag ∷ (z ++ y))) (ap (to_be_bytes w16) k.0 ∙ sym h.1) (spells a y (omega (arith, h.0, k.0)) k.2 k.1))
-    (λ n e x y h k. inl (elim k [
+    (λ n e x y h k. elim k [
       | inl c ↦ fault_is (λ (d : TermFault). BreaksAtom d (tag ∷ (x ++ y))) e Truncated c.0 (subst (λ (z : List ℕ). BreaksAtom Truncated (tag ∷ (z ++ y))) (sym h.1) (f.BreaksAtom.text_cut tag n y is h.0 c.1))
       | inr r ↦ subst (λ (z : List ℕ × List ℕ). BreaksAtom e (tag ∷ (z.0 ++ z.1))) (λ i. ((ap (to_be_bytes w16) r.size ∙ sym h.1) i, sym r.whole i)) (refuses e r.text r.rest (omega (arith, h.0, r.size)) r.is)
-    ]))
-    (λ e h. inl (fault_is (λ (d : TermFault). BreaksAtom d (tag ∷ bytes)) e Truncated h.0 (f.BreaksAtom.length_cut tag bytes is h.1)))
+    ])
+    (λ e h. fault_is (λ (d : TermFault). BreaksAtom d (tag ∷ bytes)) e Truncated h.0 (f.BreaksAtom.length_cut tag bytes is h.1))
 
 utf8_small : (bytes : List ℕ) → EachByte bytes → Right (AtomBehind 119) (NoAtom 119) bytes (byte_at bytes >>= λ n. named_at utf8_atom n.0 n.1)
 utf8_small = small_right 119 utf8_atom (inr refl)
@@ -155,32 +162,31 @@ latin_large = large_right 100 latin_atom (inl refl)
     (λ a text lt fit e. let k = told_ok (IsLatinText text) (λ d. NoLatinText d text) (latin_atom text) a (latin_told text) e in subst (λ (z : List ℕ). IsAtom z (100 ∷ to_be_bytes w16 (length text) ++ text)) k.1 (s.IsAtom.latin text k.0 (all_fit text fit)))
     (λ e text rest lt h. let k = told_err (IsLatinText text) (λ d. NoLatinText d text) (latin_atom text) e (latin_told text) h in fault_is (λ (d : TermFault). BreaksAtom d (100 ∷ to_be_bytes w16 (length text) ++ (text ++ rest))) e BadAtom k.1 (f.BreaksAtom.latin_bad text rest lt k.0))
 
-pub atom_behind_right : (tag : ℕ) (bytes : List ℕ) → EachByte bytes → Right (AtomBehind tag) (NoAtom tag) bytes (atom_behind tag bytes)
+pub atom_behind_right : (size : Size) (encoding : Encoding) (bytes : List ℕ) → EachByte bytes → Right (AtomBehind (byte_of (Leaf (Atom size encoding)))) (NoAtom (byte_of (Leaf (Atom size encoding)))) bytes (atom_behind size encoding bytes)
 unfolding atom_behind
-atom_behind_right tag bytes fits =
-    let r100 : Read (List ℕ) = number_at w16 bytes >>= λ n. named_at latin_atom n.0 n.1 in
-    let r115 : Read (List ℕ) = byte_at bytes >>= λ n. named_at latin_atom n.0 n.1 in
-    let r118 : Read (List ℕ) = number_at w16 bytes >>= λ n. named_at utf8_atom n.0 n.1 in
-    let r119 : Read (List ℕ) = byte_at bytes >>= λ n. named_at utf8_atom n.0 n.1 in
-    let P = AtomBehind tag in
-    let Q = NoAtom tag in
-    right_if P Q bytes (eqb tag 119) r119 (cond (eqb tag 118) r118 (cond (eqb tag 115) r115 (cond (eqb tag 100) r100 (Err BadAtom))))
-    (λ h. subst (λ (k : ℕ). Right (AtomBehind k) (NoAtom k) bytes r119) (sym (eqb-true tag 119 h)) (utf8_small bytes fits))
-    (λ n119. right_if P Q bytes (eqb tag 118) r118 (cond (eqb tag 115) r115 (cond (eqb tag 100) r100 (Err BadAtom)))
-    (λ h. subst (λ (k : ℕ). Right (AtomBehind k) (NoAtom k) bytes r118) (sym (eqb-true tag 118 h)) (utf8_large bytes fits))
-    (λ n118. right_if P Q bytes (eqb tag 115) r115 (cond (eqb tag 100) r100 (Err BadAtom))
-    (λ h. subst (λ (k : ℕ). Right (AtomBehind k) (NoAtom k) bytes r115) (sym (eqb-true tag 115 h)) (latin_small bytes fits))
-    (λ n115. right_if P Q bytes (eqb tag 100) r100 (Err BadAtom)
-    (λ h. subst (λ (k : ℕ). Right (AtomBehind k) (NoAtom k) bytes r100) (sym (eqb-true tag 100 h)) (latin_large bytes fits))
-    (λ n100. let other : is_atom_tag tag ≡ false = rw (n100, n115, n118, n119) refl in inr (other, refl)))))
+atom_behind_right Small Utf8 bytes fits = utf8_small bytes fits
+atom_behind_right Large Utf8 bytes fits = utf8_large bytes fits
+atom_behind_right Small Latin bytes fits = latin_small bytes fits
+atom_behind_right Large Latin bytes fits = latin_large bytes fits
+
+-- with the tag in front again
+tagged : (tag : ℕ) (bytes : List ℕ) (read : Read (List ℕ)) → Right (AtomBehind tag) (NoAtom tag) bytes read → Right IsAtom BreaksNode (tag ∷ bytes) read
+tagged tag bytes (Ok x) t = record { text = tag ∷ t.text; parts = ap (λ (b : List ℕ). tag ∷ b) t.parts; is = t.is; fits = t.fits }
+tagged tag bytes (Err e) h = f.BreaksNode.atom e (tag ∷ bytes) h
+
+node_right : (tag : ℕ) (bytes : List ℕ) → EachByte bytes → (found : Option Tag) → tag_of tag ≡ found → Right IsAtom BreaksNode (tag ∷ bytes) (node_behind found bytes)
+node_right tag bytes fits found is = elim (atom_or_not found) [
+  | inl a ↦
+      let form : Tag = Leaf (Atom a.size a.encoding) in
+      let read = atom_behind a.size a.encoding bytes in
+      let here : tag ≡ byte_of form = named tag form (is ∙ a.is) in
+      subst (λ (found : Option Tag). Right IsAtom BreaksNode (tag ∷ bytes) (node_behind found bytes)) (sym a.is)
+      (subst (λ (k : ℕ). Right IsAtom BreaksNode (k ∷ bytes) read) (sym here) (tagged (byte_of form) bytes read (atom_behind_right a.size a.encoding bytes fits)))
+  | inr none ↦ subst (Right IsAtom BreaksNode (tag ∷ bytes)) (sym (none.read bytes)) (f.BreaksNode.no_atom tag bytes (ap is_atom is ∙ none.is))
+]
 
 -- an atom in its place
 pub atom_right : (bytes : List ℕ) → EachByte bytes → Right IsAtom BreaksNode bytes (atom_at bytes)
 unfolding atom_at
 atom_right [] fits = f.BreaksNode.missing
-atom_right (tag ∷ bytes) fits = tagged (atom_behind tag bytes) (atom_behind_right tag bytes (λ i. fits (suc i)))
-  where
-    tagged : (read : Read (List ℕ)) → Right (AtomBehind tag) (NoAtom tag) bytes read → Right IsAtom BreaksNode (tag ∷ bytes) read
-    tagged (Ok x) t = record { text = tag ∷ t.text; parts = ap (λ (b : List ℕ). tag ∷ b) t.parts; is = t.is; fits = t.fits }
-    tagged (Err e) (inl h) = f.BreaksNode.atom e (tag ∷ bytes) h
-    tagged (Err e) (inr h) = fault_is (λ (d : TermFault). BreaksNode d (tag ∷ bytes)) e BadAtom h.1 (f.BreaksNode.no_atom tag bytes h.0)
+atom_right (tag ∷ bytes) fits = node_right tag bytes (λ i. fits (suc i)) (tag_of tag) refl

@@ -1,20 +1,22 @@
 -- The fault that bytes have is the one that reading tells.
-use Rattle.std.proofs.Common.{◌≡◌, ℕ, zero, suc, ◌+◌, ◌<◌, ◌^◌, Bool, true, false, cond, ltb, eqb, ◌||◌, ◌&&◌, ℤ, FitsSigned, List, [], ◌∷◌, ◌++◌, length, map, Result, Ok, Err, refl, sym, ap, ◌∙◌, arith}
+use Rattle.std.proofs.Common.{◌≡◌, ℕ, zero, suc, ◌+◌, ◌<◌, ◌^◌, Bool, true, false, cond, ltb, eqb, ◌&&◌, ℤ, FitsSigned, List, [], ◌∷◌, ◌++◌, length, map, Option, Some, None, Result, Ok, Err, refl, sym, ap, ◌∙◌, arith}
 use Rattle.std.specs.Int.{w8, w16, w32, w64, to_be_bytes, cast_signed}
 use Rattle.std.proofs.lemmas.Bool.{lt-ltb, ne_eqb}
 use Rattle.pg_term.specs.declared.fault.TermFault.{TermFault}
-use Rattle.pg_term.specs.declared.fault.TermFault.TheVariants.{Truncated, UnknownTag, TooDeep, IntegerTooLarge, ImproperList}
+use Rattle.pg_term.specs.declared.fault.TermFault.TheVariants.{Truncated, UnknownTag, TooDeep, IntegerTooLarge}
 use Rattle.pg_term.specs.declared.term.Term.{Term, Tuple, List as Listed}
 use Rattle.pg_term.specs.declared.term.Term.TheVariants.{Int, Ref, Pid as Process, Binary}
 use Rattle.pg_term_io.specs.Numbers.{int_of, big_value}
-use Rattle.pg_term_io.specs.Tags.{is_one_of, is_atom_tag, is_list_tag, is_other_tag, is_tag}
+use Rattle.pg_term_io.specs.declared.tag.Tag.{Tag}
+use Rattle.pg_term_io.specs.Tags.{tag_of, is_some_tag}
 use Rattle.pg_term_io.specs.Reading.{Read, ◌>>=◌, number_at, bytes_at, is_i64, i64_of, big_at, binary_at, items_at, as_term, string_at, list_at, elements_behind, item_behind, leaf_behind, readers, item_at, tail_at, term_of}
 use Rattle.pg_term_io.specs.Spelling.{Items}
 use Rattle.pg_term_io.specs.Faults.{BreaksItem, BreaksItems, BreaksElements, BreaksTail, Breaks}
 use Rattle.pg_term_io.specs.Faults as f
 use Rattle.pg_term_io.proofs.Again.{bytes_again, word_again, item_again, items_again}
 use Rattle.pg_term_io.proofs.Bigs.{is_i64-fits}
-use Rattle.pg_term_io.proofs.Cuts.{number_cut, bytes_cut, behind_half, half_missing, none_of, atom_fails, pid_fails, old_ref_fails, ref_fails}
+use Rattle.pg_term_io.proofs.Cuts.{number_cut, bytes_cut, behind_half, half_missing, atom_fails, pid_fails, old_ref_fails, ref_fails}
+use Rattle.pg_term_io.proofs.Tags.{no_list}
 
 -- ---- integers
 
@@ -109,31 +111,10 @@ list_fails room e b h = record { tail = h; item = ap (as_term Listed) h }
 
 -- ---- tags
 
-improper_fails : (room tag : ℕ) (b : List ℕ) → is_list_tag tag ≡ false → elements_behind room (readers room) tag b ≡ Err ImproperList
-unfolding elements_behind
-improper_fails room tag b other =
-    let n106 = none_of (eqb tag 106) (is_one_of (107 ∷ 108 ∷ []) tag) other in
-    let n107 = none_of (eqb tag 107) (is_one_of (108 ∷ []) tag) n106.1 in
-    let n108 = none_of (eqb tag 108) false n107.1 in
-    rw (n106.0, n107.0, n108.0) refl
-
-unknown_fails : (room tag : ℕ) (b : List ℕ) → is_tag tag ≡ false → item_behind room (readers room) tag b ≡ Err UnknownTag
-unfolding item_behind leaf_behind
-unknown_fails room tag b other =
-    let lists = none_of (is_other_tag tag || is_atom_tag tag) (is_list_tag tag) other in
-    let kinds = none_of (is_other_tag tag) (is_atom_tag tag) lists.0 in
-    let n97 = none_of (eqb tag 97) (is_one_of (98 ∷ 110 ∷ 104 ∷ 105 ∷ 103 ∷ 88 ∷ 101 ∷ 114 ∷ 90 ∷ 109 ∷ []) tag) kinds.0 in
-    let n98 = none_of (eqb tag 98) (is_one_of (110 ∷ 104 ∷ 105 ∷ 103 ∷ 88 ∷ 101 ∷ 114 ∷ 90 ∷ 109 ∷ []) tag) n97.1 in
-    let n110 = none_of (eqb tag 110) (is_one_of (104 ∷ 105 ∷ 103 ∷ 88 ∷ 101 ∷ 114 ∷ 90 ∷ 109 ∷ []) tag) n98.1 in
-    let n104 = none_of (eqb tag 104) (is_one_of (105 ∷ 103 ∷ 88 ∷ 101 ∷ 114 ∷ 90 ∷ 109 ∷ []) tag) n110.1 in
-    let n105 = none_of (eqb tag 105) (is_one_of (103 ∷ 88 ∷ 101 ∷ 114 ∷ 90 ∷ 109 ∷ []) tag) n104.1 in
-    let n103 = none_of (eqb tag 103) (is_one_of (88 ∷ 101 ∷ 114 ∷ 90 ∷ 109 ∷ []) tag) n105.1 in
-    let n88 = none_of (eqb tag 88) (is_one_of (101 ∷ 114 ∷ 90 ∷ 109 ∷ []) tag) n103.1 in
-    let n101 = none_of (eqb tag 101) (is_one_of (114 ∷ 90 ∷ 109 ∷ []) tag) n88.1 in
-    let n114 = none_of (eqb tag 114) (is_one_of (90 ∷ 109 ∷ []) tag) n101.1 in
-    let n90 = none_of (eqb tag 90) (is_one_of (109 ∷ []) tag) n114.1 in
-    let n109 = none_of (eqb tag 109) false n90.1 in
-    rw (n97.0, n98.0, n110.0, kinds.1, n104.0, n105.0, lists.1, n103.0, n88.0, n101.0, n114.0, n90.0, n109.0) refl
+unknown_fails : (room : ℕ) (found : Option Tag) (b : List ℕ) → is_some_tag found ≡ false → item_behind room (readers room) found b ≡ Err UnknownTag
+unfolding item_behind
+unknown_fails room None b other = refl
+unknown_fails room (Some form) b other = absurd cc
 
 -- ---- items
 
@@ -144,7 +125,7 @@ mutual
   item_fails _ _ _ (f.BreaksItem.missing_item zero) = refl
   item_fails _ _ _ (f.BreaksItem.missing_item (suc room)) = refl
   item_fails _ _ _ (f.BreaksItem.deep_item tag b) = refl
-  item_fails _ _ _ (f.BreaksItem.unknown_tag room tag b other) = unknown_fails room tag b other
+  item_fails _ _ _ (f.BreaksItem.unknown_tag room tag b other) = unknown_fails room (tag_of tag) b other
   item_fails _ _ _ (f.BreaksItem.small_integer_cut room) = refl
   item_fails _ _ _ (f.BreaksItem.integer_cut room b short) = ap (as_term (λ n. Int (cast_signed w32 n))) (number_cut w32 b short)
   item_fails _ _ _ (f.BreaksItem.big_length_cut room) = ap (as_term Int) big_missing
@@ -182,7 +163,7 @@ mutual
   tail_fails _ _ _ (f.BreaksTail.missing_tail zero) = refl
   tail_fails _ _ _ (f.BreaksTail.missing_tail (suc room)) = refl
   tail_fails _ _ _ (f.BreaksTail.deep_tail tag b) = refl
-  tail_fails _ _ _ (f.BreaksTail.improper room tag b other) = improper_fails room tag b other
+  tail_fails _ _ _ (f.BreaksTail.improper room tag b other) = no_list (tag_of tag) other room (readers room) b
   tail_fails _ _ _ (f.BreaksTail.list_tail room e b h) = (elements_fail room e b h).tail
 
 pub term_fails : (e : TermFault) (b : List ℕ) → Breaks e b → term_of b ≡ Err e

@@ -8,11 +8,18 @@ use Rattle.pg_term.specs.declared.fault.TermFault.{TermFault}
 use Rattle.pg_term.specs.declared.fault.TermFault.TheVariants.{Truncated, BadAtom, BadReference}
 use Rattle.pg_term.specs.RefParts.{RefParts}
 use Rattle.pg_term.specs.declared.term.Term.TheVariants.{Atom as Name}
-use Rattle.pg_term_io.specs.Tags.{is_atom_tag}
+use Rattle.pg_term_io.specs.declared.tag.Size.{Size}
+use Rattle.pg_term_io.specs.declared.tag.Size.TheVariants.{Small, Large}
+use Rattle.pg_term_io.specs.declared.tag.Encoding.{Encoding}
+use Rattle.pg_term_io.specs.declared.tag.Encoding.TheVariants.{Utf8, Latin}
+use Rattle.pg_term_io.specs.declared.tag.LeafTag.TheVariants.{Atom}
+use Rattle.pg_term_io.specs.declared.tag.Tag.TheVariants.{Leaf}
+use Rattle.pg_term_io.specs.Tags.{tag_of}
 use Rattle.pg_term_io.specs.Reading.{Read, ◌>>=◌, byte_at, number_at, bytes_at, named_at, utf8_atom, latin_atom, atom_behind, atom_at, pid_at, old_reference_at, words_at, new_reference_at, items_at, as_term, item_behind, leaf_behind, readers, item_at}
 use Rattle.pg_term_io.specs.Spelling.{IsAtom}
 use Rattle.pg_term_io.specs.Faults.{BreaksAtom, BreaksNode, BreaksPid, BreaksOldRef, BreaksRef, IsSmallAtomTag, IsLargeAtomTag}
 use Rattle.pg_term_io.specs.Faults as f
+use Rattle.pg_term_io.proofs.Tags.{byte_of, no_atom}
 use Rattle.pg_term_io.proofs.Again.{bytes_again, half_again, atom_again}
 
 pub number_cut : (w : Width) (b : List ℕ) → length b < byte_len w → number_at w b ≡ Err Truncated
@@ -72,28 +79,22 @@ pub record AtomFails (e : TermFault) (b : List ℕ) : Type 0 where
   pub item : (room : ℕ) → item_at (suc room) b ≡ Err e
 
 -- by what stands behind the tag
-fails_at : (tag : ℕ) (e : TermFault) (b : List ℕ) → (tag ≡ 100) ⊎ (tag ≡ 115) ⊎ (tag ≡ 118) ⊎ (tag ≡ 119) → atom_behind tag b ≡ Err e → AtomFails e (tag ∷ b)
+fails_at : (size : Size) (encoding : Encoding) (e : TermFault) (b : List ℕ) → atom_behind size encoding b ≡ Err e → AtomFails e (byte_of (Leaf (Atom size encoding)) ∷ b)
 unfolding atom_at item_behind leaf_behind readers
-fails_at tag e b is h = record { placed = h; item = λ room. as_item room is }
-  where
-    wrapped : (r : Read (List ℕ)) → r ≡ Err e → as_term Name r ≡ Err e
-    wrapped r k = ap (as_term Name) k
-
-    as_item : (room : ℕ) → (tag ≡ 100) ⊎ (tag ≡ 115) ⊎ (tag ≡ 118) ⊎ (tag ≡ 119) → item_at (suc room) (tag ∷ b) ≡ Err e
-    as_item room (inl t) = subst (λ (k : ℕ). item_at (suc room) (k ∷ b) ≡ Err e) (sym t) (wrapped (atom_behind 100 b) (subst (λ (k : ℕ). atom_behind k b ≡ Err e) t h))
-    as_item room (inr (inl t)) = subst (λ (k : ℕ). item_at (suc room) (k ∷ b) ≡ Err e) (sym t) (wrapped (atom_behind 115 b) (subst (λ (k : ℕ). atom_behind k b ≡ Err e) t h))
-    as_item room (inr (inr (inl t))) = subst (λ (k : ℕ). item_at (suc room) (k ∷ b) ≡ Err e) (sym t) (wrapped (atom_behind 118 b) (subst (λ (k : ℕ). atom_behind k b ≡ Err e) t h))
-    as_item room (inr (inr (inr t))) = subst (λ (k : ℕ). item_at (suc room) (k ∷ b) ≡ Err e) (sym t) (wrapped (atom_behind 119 b) (subst (λ (k : ℕ). atom_behind k b ≡ Err e) t h))
+fails_at Small Utf8 e b h = record { placed = h; item = λ room. ap (as_term Name) h }
+fails_at Large Utf8 e b h = record { placed = h; item = λ room. ap (as_term Name) h }
+fails_at Small Latin e b h = record { placed = h; item = λ room. ap (as_term Name) h }
+fails_at Large Latin e b h = record { placed = h; item = λ room. ap (as_term Name) h }
 
 small_at : (tag : ℕ) (e : TermFault) (b : List ℕ) → IsSmallAtomTag tag → ((name : List ℕ → Result (List ℕ) TermFault) → (byte_at b >>= λ n. named_at name n.0 n.1) ≡ Err e) → AtomFails e (tag ∷ b)
 unfolding atom_behind
-small_at tag e b (inl t) h = fails_at tag e b (inr (inl t)) (subst (λ (k : ℕ). atom_behind k b ≡ Err e) (sym t) (h latin_atom))
-small_at tag e b (inr t) h = fails_at tag e b (inr (inr (inr t))) (subst (λ (k : ℕ). atom_behind k b ≡ Err e) (sym t) (h utf8_atom))
+small_at tag e b (inl t) h = subst (λ (k : ℕ). AtomFails e (k ∷ b)) (sym t) (fails_at Small Latin e b (h latin_atom))
+small_at tag e b (inr t) h = subst (λ (k : ℕ). AtomFails e (k ∷ b)) (sym t) (fails_at Small Utf8 e b (h utf8_atom))
 
 large_at : (tag : ℕ) (e : TermFault) (b : List ℕ) → IsLargeAtomTag tag → ((name : List ℕ → Result (List ℕ) TermFault) → (number_at w16 b >>= λ n. named_at name n.0 n.1) ≡ Err e) → AtomFails e (tag ∷ b)
 unfolding atom_behind
-large_at tag e b (inl t) h = fails_at tag e b (inl t) (subst (λ (k : ℕ). atom_behind k b ≡ Err e) (sym t) (h latin_atom))
-large_at tag e b (inr t) h = fails_at tag e b (inr (inr (inl t))) (subst (λ (k : ℕ). atom_behind k b ≡ Err e) (sym t) (h utf8_atom))
+large_at tag e b (inl t) h = subst (λ (k : ℕ). AtomFails e (k ∷ b)) (sym t) (fails_at Large Latin e b (h latin_atom))
+large_at tag e b (inr t) h = subst (λ (k : ℕ). AtomFails e (k ∷ b)) (sym t) (fails_at Large Utf8 e b (h utf8_atom))
 
 pub atom_fails : (e : TermFault) (b : List ℕ) → BreaksAtom e b → AtomFails e b
 unfolding atom_behind
@@ -101,28 +102,14 @@ atom_fails _ _ (f.BreaksAtom.small_length_cut tag is) = small_at tag Truncated [
 atom_fails _ _ (f.BreaksAtom.length_cut tag b is short) = large_at tag Truncated b is (λ name. half_missing b (λ n. named_at name n.0 n.1) short)
 atom_fails _ _ (f.BreaksAtom.small_text_cut tag n b is short) = small_at tag Truncated (n ∷ b) is (λ name. named_cut name n b short)
 atom_fails _ _ (f.BreaksAtom.text_cut tag n b is lt short) = large_at tag Truncated (to_be_bytes w16 n ++ b) is (λ name. behind_half n b (λ n. named_at name n.0 n.1) lt ∙ named_cut name n b short)
-atom_fails _ _ (f.BreaksAtom.small_bad text rest lt bad) = fails_at 119 BadAtom (length text ∷ (text ++ rest)) (inr (inr (inr refl))) (named_refused utf8_atom text rest (utf8_refused text (is_utf8 text) refl bad))
-atom_fails _ _ (f.BreaksAtom.bad text rest lt bad) = fails_at 118 BadAtom (to_be_bytes w16 (length text) ++ (text ++ rest)) (inr (inr (inl refl))) (behind_half (length text) (text ++ rest) (λ n. named_at utf8_atom n.0 n.1) lt ∙ named_refused utf8_atom text rest (utf8_refused text (is_utf8 text) refl bad))
-atom_fails _ _ (f.BreaksAtom.latin_bad text rest lt long) = fails_at 100 BadAtom (to_be_bytes w16 (length text) ++ (text ++ rest)) (inl refl) (behind_half (length text) (text ++ rest) (λ n. named_at latin_atom n.0 n.1) lt ∙ named_refused latin_atom text rest (rw (lt-ltb 255 (length text) long) refl))
-
--- each test that fails
-pub none_of : (a b : Bool) → (a || b) ≡ false → (a ≡ false) × (b ≡ false)
-none_of true b h = absurd cc
-none_of false b h = (refl, h)
-
-no_atom_tag : (tag : ℕ) (b : List ℕ) → is_atom_tag tag ≡ false → atom_behind tag b ≡ Err BadAtom
-unfolding atom_behind
-no_atom_tag tag b other =
-    let n100 = none_of (eqb tag 100) (eqb tag 115 || (eqb tag 118 || (eqb tag 119 || false))) other in
-    let n115 = none_of (eqb tag 115) (eqb tag 118 || (eqb tag 119 || false)) n100.1 in
-    let n118 = none_of (eqb tag 118) (eqb tag 119 || false) n115.1 in
-    let n119 = none_of (eqb tag 119) false n118.1 in
-    rw (n119.0, n118.0, n115.0, n100.0) refl
+atom_fails _ _ (f.BreaksAtom.small_bad text rest lt bad) = fails_at Small Utf8 BadAtom (length text ∷ (text ++ rest)) (named_refused utf8_atom text rest (utf8_refused text (is_utf8 text) refl bad))
+atom_fails _ _ (f.BreaksAtom.bad text rest lt bad) = fails_at Large Utf8 BadAtom (to_be_bytes w16 (length text) ++ (text ++ rest)) (behind_half (length text) (text ++ rest) (λ n. named_at utf8_atom n.0 n.1) lt ∙ named_refused utf8_atom text rest (utf8_refused text (is_utf8 text) refl bad))
+atom_fails _ _ (f.BreaksAtom.latin_bad text rest lt long) = fails_at Large Latin BadAtom (to_be_bytes w16 (length text) ++ (text ++ rest)) (behind_half (length text) (text ++ rest) (λ n. named_at latin_atom n.0 n.1) lt ∙ named_refused latin_atom text rest (rw (lt-ltb 255 (length text) long) refl))
 
 pub node_fails : (e : TermFault) (b : List ℕ) → BreaksNode e b → atom_at b ≡ Err e
 unfolding atom_at
 node_fails _ _ f.BreaksNode.missing = refl
-node_fails _ _ (f.BreaksNode.no_atom tag b other) = no_atom_tag tag b other
+node_fails _ _ (f.BreaksNode.no_atom tag b other) = no_atom (tag_of tag) other b
 node_fails _ _ (f.BreaksNode.atom e b h) = (atom_fails e b h).placed
 
 -- ---- pids and references

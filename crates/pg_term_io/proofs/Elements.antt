@@ -4,10 +4,12 @@ use Rattle.std.specs.Int.{w16, w32, to_be_bytes}
 use Rattle.std.proofs.lemmas.Bool.{lt-ltb, eq-eqb, ltb-true, eqb-true}
 use Rattle.std.proofs.lemmas.List.{append-nil}
 use Rattle.pg_term.specs.declared.fault.TermFault.{TermFault}
-use Rattle.pg_term.specs.declared.fault.TermFault.TheVariants.{TooDeep, ImproperList}
+use Rattle.pg_term.specs.declared.fault.TermFault.TheVariants.{TooDeep}
 use Rattle.pg_term.specs.declared.term.Term.{Term, Tuple}
 use Rattle.pg_term_io.specs.Numbers.{int_of}
-use Rattle.pg_term_io.specs.Tags.{is_list_tag}
+use Rattle.pg_term_io.specs.declared.tag.ListTag.{ListTag}
+use Rattle.pg_term_io.specs.declared.tag.ListTag.TheVariants.{Nil, String, List as Cons}
+use Rattle.pg_term_io.specs.declared.tag.Tag.TheVariants.{List as Listing}
 use Rattle.pg_term_io.specs.Reading.{Read, ◌>>=◌, byte_at, number_at, bytes_at, items_at, item_at, tail_at, readers, list_at, string_at, elements_behind}
 use Rattle.pg_term_io.specs.Spelling.{Item, Items, Elements, Tail}
 use Rattle.pg_term_io.specs.Spelling as s
@@ -16,6 +18,7 @@ use Rattle.pg_term_io.specs.Faults as f
 use Rattle.pg_term_io.proofs.Outcomes.{EachByte, Right, Cut, IsByte, IsHalf, IsWord, IsText, right_if, right_then, right_map, byte_right, half_right, word_right, text_right}
 use Rattle.pg_term_io.proofs.Atoms.{all_fit}
 use Rattle.pg_term_io.proofs.Bigs.{no_byte}
+use Rattle.pg_term_io.proofs.Tags.{byte_of}
 
 abbrev pub ItemRight : ℕ → Type 0
 ItemRight room = (bytes : List ℕ) → EachByte bytes → Right (Item room) (BreaksItem room) bytes (item_at room bytes)
@@ -203,26 +206,8 @@ list_right room each ends bytes fits =
     (λ n e x y h k. subst (λ (z : List ℕ). NoListBehind room 108 e (z ++ y)) (sym h.1) (broken_list room n e y h.0 k))
     (λ e h. subst (λ (d : TermFault). NoListBehind room 108 d bytes) (sym h.0) (f.BreaksElements.length_cut room bytes h.1))
 
--- behind the tag of a list, or behind another
-abbrev pub NoElements : ℕ → ℕ → TermFault → List ℕ → Type 0
-NoElements room tag e b = BreaksElements room e (tag ∷ b) ⊎ ((is_list_tag tag ≡ false) × (e ≡ ImproperList))
-
-either : (room tag : ℕ) (bytes : List ℕ) (read : Read (List Term)) → Right (ListBehind room tag) (NoListBehind room tag) bytes read → Right (ListBehind room tag) (NoElements room tag) bytes read
-either room tag bytes (Ok x) t = t
-either room tag bytes (Err e) q = inl q
-
-pub elements_right : (room : ℕ) → ItemRight room → TailRight room → (tag : ℕ) (bytes : List ℕ) → EachByte bytes → Right (ListBehind room tag) (NoElements room tag) bytes (elements_behind room (readers room) tag bytes)
+pub elements_right : (room : ℕ) → ItemRight room → TailRight room → (form : ListTag) (bytes : List ℕ) → EachByte bytes → Right (ListBehind room (byte_of (Listing form))) (NoListBehind room (byte_of (Listing form))) bytes (elements_behind room (readers room) form bytes)
 unfolding elements_behind
-elements_right room each ends tag bytes fits =
-    let r106 : Read (List Term) = Ok ([], bytes) in
-    let r107 = string_at room bytes in
-    let r108 = list_at (readers room) bytes in
-    let P = ListBehind room tag in
-    let Q = NoElements room tag in
-    right_if P Q bytes (eqb tag 106) r106 (cond (eqb tag 107) r107 (cond (eqb tag 108) r108 (Err ImproperList)))
-    (λ h. subst (λ (k : ℕ). Right (ListBehind room k) (NoElements room k) bytes r106) (sym (eqb-true tag 106 h)) (record { text = []; parts = refl; is = s.Elements.nil room; fits = fits }))
-    (λ n106. right_if P Q bytes (eqb tag 107) r107 (cond (eqb tag 108) r108 (Err ImproperList))
-    (λ h. subst (λ (k : ℕ). Right (ListBehind room k) (NoElements room k) bytes r107) (sym (eqb-true tag 107 h)) (either room 107 bytes r107 (string_right room bytes fits)))
-    (λ n107. right_if P Q bytes (eqb tag 108) r108 (Err ImproperList)
-    (λ h. subst (λ (k : ℕ). Right (ListBehind room k) (NoElements room k) bytes r108) (sym (eqb-true tag 108 h)) (either room 108 bytes r108 (list_right room each ends bytes fits)))
-    (λ n108. let other : is_list_tag tag ≡ false = rw (n106, n107, n108) refl in inr (other, refl))))
+elements_right room each ends Nil bytes fits = record { text = []; parts = refl; is = s.Elements.nil room; fits = fits }
+elements_right room each ends String bytes fits = string_right room bytes fits
+elements_right room each ends Cons bytes fits = list_right room each ends bytes fits

@@ -1,24 +1,34 @@
 -- What the readers of items, of tails and of all the bytes answer.
-use Rattle.std.proofs.Common.{◌≡◌, ℕ, zero, suc, Bool, true, false, cond, eqb, inl, inr, List, [], ◌∷◌, ◌++◌, length, Result, Ok, Err, refl, sym, ap, subst, ◌∙◌, arith}
+use Rattle.std.proofs.Common.{◌≡◌, ℕ, zero, suc, Bool, true, false, cond, eqb, inl, inr, List, [], ◌∷◌, ◌++◌, length, Option, Some, None, Result, Ok, Err, refl, sym, ap, subst, ◌∙◌, arith}
 use Rattle.std.specs.Int.{w8, w32, to_be_bytes, cast_signed}
 use Rattle.std.proofs.lemmas.Bool.{eqb-true, eqb-false, ne_eqb}
 use Rattle.std.proofs.lemmas.List.{append-nil}
 use Rattle.pg_term.specs.declared.fault.TermFault.{TermFault}
-use Rattle.pg_term.specs.declared.fault.TermFault.TheVariants.{BadVersion, UnknownTag, TrailingBytes}
+use Rattle.pg_term.specs.declared.fault.TermFault.TheVariants.{BadVersion, TrailingBytes}
 use Rattle.pg_term.specs.declared.term.Term.{Term, Tuple, List as Listed}
 use Rattle.pg_term.specs.declared.term.Term.TheVariants.{Int, Atom as Name, Ref, Pid as Process, Binary}
 use Rattle.pg_term_io.specs.Numbers.{int_of}
-use Rattle.pg_term_io.specs.Tags.{is_atom_tag, is_list_tag, is_tag}
-use Rattle.pg_term_io.specs.Reading.{Read, ◌>>=◌, byte_at, number_at, big_at, atom_behind, items_at, elements_behind, pid_at, old_reference_at, new_reference_at, bytes_at, binary_at, as_term, item_behind, leaf_behind, item_at, readers, term_of}
+use Rattle.pg_term_io.specs.declared.tag.Size.{Size}
+use Rattle.pg_term_io.specs.declared.tag.Size.TheVariants.{Small, Large}
+use Rattle.pg_term_io.specs.declared.tag.Encoding.{Encoding}
+use Rattle.pg_term_io.specs.declared.tag.Creation.TheVariants.{Byte, Word}
+use Rattle.pg_term_io.specs.declared.tag.LeafTag.{LeafTag}
+use Rattle.pg_term_io.specs.declared.tag.LeafTag.TheVariants as leaf
+use Rattle.pg_term_io.specs.declared.tag.ListTag.{ListTag}
+use Rattle.pg_term_io.specs.declared.tag.Tag.{Tag}
+use Rattle.pg_term_io.specs.declared.tag.Tag.TheVariants as tag
+use Rattle.pg_term_io.specs.Tags.{list_tag, tag_of, is_some_tag, is_list}
+use Rattle.pg_term_io.specs.Reading.{Read, ◌>>=◌, byte_at, number_at, big_at, atom_behind, items_at, elements_behind, tail_behind, pid_at, old_reference_at, new_reference_at, bytes_at, binary_at, as_term, item_behind, leaf_behind, item_at, readers, term_of}
 use Rattle.pg_term_io.specs.Spelling.{IsPid, IsOldRef, IsRef, Item, Elements, Tail, Spells}
 use Rattle.pg_term_io.specs.Spelling as s
 use Rattle.pg_term_io.specs.Faults.{BreaksPid, BreaksOldRef, BreaksRef, BreaksItem, BreaksTail, Breaks}
 use Rattle.pg_term_io.specs.Faults as f
-use Rattle.pg_term_io.proofs.Outcomes.{EachByte, Right, Cut, IsByte, IsWord, IsText, right_if, right_map, right_then, byte_right, word_right, text_right, small_number_right, number_right}
+use Rattle.pg_term_io.proofs.Outcomes.{EachByte, Right, Cut, IsByte, IsWord, IsText, right_map, right_then, byte_right, word_right, text_right, small_number_right, number_right}
 use Rattle.pg_term_io.proofs.Atoms.{AtomBehind, NoAtom, atom_behind_right, all_fit}
 use Rattle.pg_term_io.proofs.Bigs.{BigBehind, NoBigBehind, big_right, no_byte}
 use Rattle.pg_term_io.proofs.Identifiers.{pid_right, old_reference_right, new_reference_right}
-use Rattle.pg_term_io.proofs.Elements.{ItemRight, TailRight, SmallTuple, NoSmallTuple, small_tuple_right, LargeTuple, NoLargeTuple, large_tuple_right, ListBehind, NoElements, elements_right}
+use Rattle.pg_term_io.proofs.Elements.{ItemRight, TailRight, SmallTuple, NoSmallTuple, small_tuple_right, LargeTuple, NoLargeTuple, large_tuple_right, ListBehind, NoListBehind, elements_right}
+use Rattle.pg_term_io.proofs.Tags.{byte_of, named, list_or_not}
 
 -- ---- behind a tag
 
@@ -48,14 +58,11 @@ module _ (room : ℕ) (bytes : List ℕ) (fits : EachByte bytes) where
   big_item : BehindRight room 110 bytes (as_term Int (big_at bytes))
   big_item = right_map (BigBehind room) (NoBigBehind room) (Behind room 110) (BrokenBehind room 110) bytes Int (big_at bytes) (big_right room bytes fits) (λ z x h. h) (λ e h. h)
 
-  atom_item : (tag : ℕ) → is_atom_tag tag ≡ true → BehindRight room tag bytes (as_term Name (atom_behind tag bytes))
-  atom_item tag known =
-      right_map (AtomBehind tag) (NoAtom tag) (Behind room tag) (BrokenBehind room tag) bytes Name (atom_behind tag bytes) (atom_behind_right tag bytes fits)
-      (λ a x h. s.Item.atom room a (tag ∷ x) h)
-      (λ e h. elim h [
-        | inl k ↦ f.BreaksItem.atom room e (tag ∷ bytes) k
-        | inr k ↦ let no = k.0 in absurd cc
-      ])
+  atom_item : (size : Size) (encoding : Encoding) → BehindRight room (byte_of (tag.Leaf (leaf.Atom size encoding))) bytes (as_term Name (atom_behind size encoding bytes))
+  atom_item size encoding =
+      let k = byte_of (tag.Leaf (leaf.Atom size encoding)) in
+      right_map (AtomBehind k) (NoAtom k) (Behind room k) (BrokenBehind room k) bytes Name (atom_behind size encoding bytes) (atom_behind_right size encoding bytes fits)
+      (λ a x h. s.Item.atom room a (k ∷ x) h) (λ e h. f.BreaksItem.atom room e (k ∷ bytes) h)
 
   pid_item : BehindRight room 103 bytes (as_term Process (pid_at w8 bytes))
   pid_item = right_map (IsPid w8) (BreaksPid w8) (Behind room 103) (BrokenBehind room 103) bytes Process (pid_at w8 bytes) (pid_right w8 small_number_right bytes fits) (λ p x h. s.Item.pid room p x h) (λ e h. f.BreaksItem.pid room e bytes h)
@@ -98,64 +105,36 @@ module _ (room : ℕ) (bytes : List ℕ) (fits : EachByte bytes) where
     large_tuple_item : BehindRight room 105 bytes (as_term Tuple (number_at w32 bytes >>= λ n. items_at (item_at room) n.0 n.1))
     large_tuple_item = right_map (LargeTuple room) (NoLargeTuple room) (Behind room 105) (BrokenBehind room 105) bytes Tuple (number_at w32 bytes >>= λ n. items_at (item_at room) n.0 n.1) (large_tuple_right room each bytes fits) (λ ts x h. h) (λ e h. h)
 
-    list_item : (tag : ℕ) → is_list_tag tag ≡ true → BehindRight room tag bytes (as_term Listed (elements_behind room (readers room) tag bytes))
-    list_item tag known =
-        right_map (ListBehind room tag) (NoElements room tag) (Behind room tag) (BrokenBehind room tag) bytes Listed (elements_behind room (readers room) tag bytes) (elements_right room each ends tag bytes fits)
-        (λ ts x h. s.Item.list room ts (tag ∷ x) h)
-        (λ e h. elim h [
-          | inl k ↦ f.BreaksItem.list room e (tag ∷ bytes) k
-          | inr k ↦ let no = k.0 in absurd cc
-        ])
+    list_item : (form : ListTag) → BehindRight room (byte_of (tag.List form)) bytes (as_term Listed (elements_behind room (readers room) form bytes))
+    list_item form =
+        let k = byte_of (tag.List form) in
+        right_map (ListBehind room k) (NoListBehind room k) (Behind room k) (BrokenBehind room k) bytes Listed (elements_behind room (readers room) form bytes) (elements_right room each ends form bytes fits)
+        (λ ts x h. s.Item.list room ts (k ∷ x) h) (λ e h. f.BreaksItem.list room e (k ∷ bytes) h)
 
-    behind_right : (tag : ℕ) → BehindRight room tag bytes (item_behind room (readers room) tag bytes)
-    unfolding item_behind leaf_behind
-    behind_right tag =
-        let v97 = as_term int_of (byte_at bytes) in
-        let v98 = as_term (λ (n : ℕ). Int (cast_signed w32 n)) (number_at w32 bytes) in
-        let v110 = as_term Int (big_at bytes) in
-        let vatom = as_term Name (atom_behind tag bytes) in
-        let v104 = as_term Tuple (byte_at bytes >>= λ n. items_at (item_at room) n.0 n.1) in
-        let v105 = as_term Tuple (number_at w32 bytes >>= λ n. items_at (item_at room) n.0 n.1) in
-        let vlist = as_term Listed (elements_behind room (readers room) tag bytes) in
-        let v103 = as_term Process (pid_at w8 bytes) in
-        let v88 = as_term Process (pid_at w32 bytes) in
-        let v101 = as_term Ref (old_reference_at bytes) in
-        let v114 = as_term Ref (new_reference_at w8 bytes) in
-        let v90 = as_term Ref (new_reference_at w32 bytes) in
-        let v109 = as_term Binary (binary_at bytes) in
-        let r109 : Read Term = cond (eqb tag 109) v109 (Err UnknownTag) in
-        let r90 : Read Term = cond (eqb tag 90) v90 r109 in
-        let r114 : Read Term = cond (eqb tag 114) v114 r90 in
-        let r101 : Read Term = cond (eqb tag 101) v101 r114 in
-        let r88 : Read Term = cond (eqb tag 88) v88 r101 in
-        let r103 : Read Term = cond (eqb tag 103) v103 r88 in
-        let ratom : Read Term = cond (is_atom_tag tag) vatom r103 in
-        let r110 : Read Term = cond (eqb tag 110) v110 ratom in
-        let r98 : Read Term = cond (eqb tag 98) v98 r110 in
-        let r97 : Read Term = cond (eqb tag 97) v97 r98 in
-        let rlist : Read Term = cond (is_list_tag tag) vlist r97 in
-        let r105 : Read Term = cond (eqb tag 105) v105 rlist in
-        let P = Behind room tag in
-        let Q = BrokenBehind room tag in
-        let at : (k : ℕ) (read : Read Term) → BehindRight room k bytes read → eqb tag k ≡ true → BehindRight room tag bytes read = λ k read h e. subst (λ (m : ℕ). BehindRight room m bytes read) (sym (eqb-true tag k e)) h in
-        right_if P Q bytes (eqb tag 104) v104 r105 (at 104 v104 small_tuple_item)
-        (λ n104. right_if P Q bytes (eqb tag 105) v105 rlist (at 105 v105 large_tuple_item)
-        (λ n105. right_if P Q bytes (is_list_tag tag) vlist r97 (list_item tag)
-        (λ nlist. right_if P Q bytes (eqb tag 97) v97 r98 (at 97 v97 byte_item)
-        (λ n97. right_if P Q bytes (eqb tag 98) v98 r110 (at 98 v98 word_item)
-        (λ n98. right_if P Q bytes (eqb tag 110) v110 ratom (at 110 v110 big_item)
-        (λ n110. right_if P Q bytes (is_atom_tag tag) vatom r103 (atom_item tag)
-        (λ natom. right_if P Q bytes (eqb tag 103) v103 r88 (at 103 v103 pid_item)
-        (λ n103. right_if P Q bytes (eqb tag 88) v88 r101 (at 88 v88 new_pid_item)
-        (λ n88. right_if P Q bytes (eqb tag 101) v101 r114 (at 101 v101 old_reference_item)
-        (λ n101. right_if P Q bytes (eqb tag 114) v114 r90 (at 114 v114 reference_item)
-        (λ n114. right_if P Q bytes (eqb tag 90) v90 r109 (at 90 v90 newer_reference_item)
-        (λ n90. right_if P Q bytes (eqb tag 109) v109 (Err UnknownTag) (at 109 v109 binary_item)
-        (λ n109. f.BreaksItem.unknown_tag room tag bytes (unknown tag n97 n98 n110 natom n104 n105 nlist n103 n88 n101 n114 n90 n109))))))))))))))
-      where
-        unknown : (tag : ℕ) → eqb tag 97 ≡ false → eqb tag 98 ≡ false → eqb tag 110 ≡ false → is_atom_tag tag ≡ false → eqb tag 104 ≡ false → eqb tag 105 ≡ false → is_list_tag tag ≡ false → eqb tag 103 ≡ false → eqb tag 88 ≡ false → eqb tag 101 ≡ false → eqb tag 114 ≡ false → eqb tag 90 ≡ false → eqb tag 109 ≡ false
-            → is_tag tag ≡ false
-        unknown tag n97 n98 n110 natom n104 n105 nlist n103 n88 n101 n114 n90 n109 = rw (n97, n98, n110, n104, n105, n103, n88, n101, n114, n90, n109, natom, nlist) refl
+    leaf_item : (form : LeafTag) → BehindRight room (byte_of (tag.Leaf form)) bytes (leaf_behind form bytes)
+    unfolding leaf_behind
+    leaf_item leaf.SmallInteger = byte_item
+    leaf_item leaf.Integer = word_item
+    leaf_item leaf.SmallBig = big_item
+    leaf_item (leaf.Atom size encoding) = atom_item size encoding
+    leaf_item (leaf.Pid Byte) = pid_item
+    leaf_item (leaf.Pid Word) = new_pid_item
+    leaf_item leaf.OldReference = old_reference_item
+    leaf_item (leaf.Reference Byte) = reference_item
+    leaf_item (leaf.Reference Word) = newer_reference_item
+    leaf_item leaf.Binary = binary_item
+
+    tag_item : (form : Tag) → BehindRight room (byte_of form) bytes (item_behind room (readers room) (Some form) bytes)
+    unfolding item_behind
+    tag_item (tag.Tuple Small) = small_tuple_item
+    tag_item (tag.Tuple Large) = large_tuple_item
+    tag_item (tag.List form) = list_item form
+    tag_item (tag.Leaf form) = leaf_item form
+
+    behind_right : (byte : ℕ) (found : Option Tag) → tag_of byte ≡ found → BehindRight room byte bytes (item_behind room (readers room) found bytes)
+    unfolding item_behind
+    behind_right byte None is = f.BreaksItem.unknown_tag room byte bytes (ap is_some_tag is)
+    behind_right byte (Some form) is = subst (λ (k : ℕ). BehindRight room k bytes (item_behind room (readers room) (Some form) bytes)) (sym (named byte form is)) (tag_item form)
 
 -- ---- levels
 
@@ -164,10 +143,19 @@ tagged : (room tag : ℕ) (bytes : List ℕ) (read : Read Term) → BehindRight 
 tagged room tag bytes (Ok x) t = record { text = tag ∷ t.text; parts = ap (λ (b : List ℕ). tag ∷ b) t.parts; is = t.is; fits = t.fits }
 tagged room tag bytes (Err e) q = q
 
-tagged_tail : (room tag : ℕ) (bytes : List ℕ) (read : Read (List Term)) → Right (ListBehind room tag) (NoElements room tag) bytes read → Right (Tail (suc room)) (BreaksTail (suc room)) (tag ∷ bytes) read
+tagged_tail : (room tag : ℕ) (bytes : List ℕ) (read : Read (List Term)) → Right (ListBehind room tag) (NoListBehind room tag) bytes read → Right (Tail (suc room)) (BreaksTail (suc room)) (tag ∷ bytes) read
 tagged_tail room tag bytes (Ok x) t = record { text = tag ∷ t.text; parts = ap (λ (b : List ℕ). tag ∷ b) t.parts; is = s.Tail.tail room x.0 (tag ∷ t.text) t.is; fits = t.fits }
-tagged_tail room tag bytes (Err e) (inl h) = f.BreaksTail.list_tail room e (tag ∷ bytes) h
-tagged_tail room tag bytes (Err e) (inr h) = subst (λ (d : TermFault). BreaksTail (suc room) d (tag ∷ bytes)) (sym h.1) (f.BreaksTail.improper room tag bytes h.0)
+tagged_tail room tag bytes (Err e) h = f.BreaksTail.list_tail room e (tag ∷ bytes) h
+
+tail_right : (room byte : ℕ) (bytes : List ℕ) → EachByte bytes → ItemRight room → TailRight room → (found : Option Tag) → tag_of byte ≡ found → Right (Tail (suc room)) (BreaksTail (suc room)) (byte ∷ bytes) (tail_behind room (readers room) (list_tag found) bytes)
+tail_right room byte bytes fits each ends found is = elim (list_or_not found) [
+  | inl l ↦
+      let read = elements_behind room (readers room) l.form bytes in
+      let here : byte ≡ byte_of (tag.List l.form) = named byte (tag.List l.form) (is ∙ l.is) in
+      subst (λ (found : Option Tag). Right (Tail (suc room)) (BreaksTail (suc room)) (byte ∷ bytes) (tail_behind room (readers room) (list_tag found) bytes)) (sym l.is)
+      (subst (λ (k : ℕ). Right (Tail (suc room)) (BreaksTail (suc room)) (k ∷ bytes) read) (sym here) (tagged_tail room (byte_of (tag.List l.form)) bytes read (elements_right room each ends l.form bytes fits)))
+  | inr none ↦ subst (Right (Tail (suc room)) (BreaksTail (suc room)) (byte ∷ bytes)) (sym (none.read room (readers room) bytes)) (f.BreaksTail.improper room byte bytes (ap is_list is ∙ none.is))
+]
 
 deep_item : ItemRight zero
 unfolding readers
@@ -182,12 +170,12 @@ deep_tail (tag ∷ bytes) fits = f.BreaksTail.deep_tail tag bytes
 next_item : (room : ℕ) → ItemRight room → TailRight room → ItemRight (suc room)
 unfolding readers
 next_item room each ends [] fits = f.BreaksItem.missing_item (suc room)
-next_item room each ends (tag ∷ bytes) fits = tagged room tag bytes (item_behind room (readers room) tag bytes) (behind_right room bytes (λ i. fits (suc i)) each ends tag)
+next_item room each ends (tag ∷ bytes) fits = tagged room tag bytes (item_behind room (readers room) (tag_of tag) bytes) (behind_right room bytes (λ i. fits (suc i)) each ends tag (tag_of tag) refl)
 
 next_tail : (room : ℕ) → ItemRight room → TailRight room → TailRight (suc room)
 unfolding readers
 next_tail room each ends [] fits = f.BreaksTail.missing_tail (suc room)
-next_tail room each ends (tag ∷ bytes) fits = tagged_tail room tag bytes (elements_behind room (readers room) tag bytes) (elements_right room each ends tag bytes (λ i. fits (suc i)))
+next_tail room each ends (tag ∷ bytes) fits = tail_right room tag bytes (λ i. fits (suc i)) each ends (tag_of tag) refl
 
 pub levels : (room : ℕ) → ItemRight room × TailRight room
 levels zero = (deep_item, deep_tail)

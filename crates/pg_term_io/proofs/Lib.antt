@@ -12,6 +12,7 @@ pub mod Items
 pub mod Latin
 pub mod Lists
 pub mod Loop
+pub mod Nexts
 pub mod Outcomes
 pub mod Placed
 pub mod Rewritten
@@ -19,6 +20,7 @@ pub mod Scanned
 pub mod Spelled
 pub mod Spread
 pub mod Steps
+pub mod Tags
 pub mod Walked
 pub mod Weighed
 pub mod Written

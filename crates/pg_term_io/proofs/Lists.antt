@@ -1,6 +1,6 @@
 -- Lists from some place in them on.
-use Rattle.std.proofs.Common.{◌≡◌, ◌≢◌, ℕ, zero, suc, ◌≤◌, Bool, true, false, cond, ltb, eqb, ◌&&◌, List, [], ◌∷◌, ◌++◌, length, take, drop, map, Option, Some, Ok, Err, refl, sym, ap, subst, ◌∙◌, arith}
-use Rattle.std.proofs.lemmas.Bool.{ltb-false, ne_eqb}
+use Rattle.std.proofs.Common.{◌≡◌, ◌≢◌, ℕ, zero, suc, ◌≤◌, Bool, true, false, cond, ltb, eqb, ◌&&◌, List, [], ◌∷◌, ◌++◌, length, take, drop, map, Option, Some, None, Ok, Err, refl, sym, ap, subst, ◌∙◌, arith}
+use Rattle.std.proofs.lemmas.Bool.{ltb-false}
 use Rattle.std.specs.Int.{w16, w32}
 use Rattle.pg_term.specs.declared.fault.TermFault.{TermFault}
 use Rattle.pg_term.specs.declared.fault.TermFault.TheVariants.{Truncated, TooDeep}
@@ -8,10 +8,12 @@ use Rattle.pg_term.specs.declared.term.Term.{Term, Tuple, List as Listed}
 use Rattle.pg_term.specs.Order.{kind_of}
 use Rattle.pg_term_io.specs.Lists.{list_from, GoesOn, IsOver, IsText}
 use Rattle.pg_term_io.specs.Numbers.{int_of}
-use Rattle.pg_term_io.specs.Reading.{Read, ◌>>=◌, byte_at, number_at, bytes_at, items_at, item_at, tail_at, readers, elements_behind, item_behind, leaf_behind, as_term, string_at, list_at}
-use Rattle.pg_term_io.specs.Kinds.{place_behind}
-use Rattle.pg_term_io.specs.Tags.{is_list_tag}
-use Rattle.pg_term_io.proofs.Placed.{made, tuple_kind, item_kind, other_than_list}
+use Rattle.pg_term_io.specs.Reading.{Read, ◌>>=◌, number_at, bytes_at, items_at, item_at, tail_at, readers, elements_behind, tail_behind, arity_at, item_behind, as_term, string_at, list_at}
+use Rattle.pg_term_io.specs.declared.tag.ListTag.{ListTag}
+use Rattle.pg_term_io.specs.declared.tag.Tag.{Tag}
+use Rattle.pg_term_io.specs.declared.tag.Tag.TheVariants as tags
+use Rattle.pg_term_io.specs.Tags.{tag_of, list_tag}
+use Rattle.pg_term_io.proofs.Placed.{made, tuple_kind, leaf_is_no_list}
 
 -- ---- the elements that stand there
 
@@ -157,10 +159,10 @@ tail_untold (suc room) f bytes ts rest count e = let no = sym (ap (λ (r : Read 
 -- ---- what holds of a list that begins with a tag
 
 -- other tags begin none
-pub no_list : (room tag : ℕ) (bytes : List ℕ) (ts : List Term) (rest : List ℕ) → (tag ≡ 106 → ⊥) → (tag ≡ 107 → ⊥) → (tag ≡ 108 → ⊥) → tail_at room (tag ∷ bytes) ≡ Ok (ts, rest) → ⊥
-unfolding readers elements_behind
-no_list zero tag bytes ts rest a b c e = absurd cc
-no_list (suc room) tag bytes ts rest a b c e = let x = ne_eqb tag 106 a in let y = ne_eqb tag 107 b in let z = ne_eqb tag 108 c in let no = rw (x, y, z) at e in absurd cc
+pub no_list : (room tag : ℕ) (bytes : List ℕ) (ts : List Term) (rest : List ℕ) → list_tag (tag_of tag) ≡ None → tail_at room (tag ∷ bytes) ≡ Ok (ts, rest) → ⊥
+unfolding readers
+no_list zero tag bytes ts rest none e = absurd cc
+no_list (suc room) tag bytes ts rest none e = let no = ap (λ (found : Option ListTag). tail_behind room (readers room) found bytes) none in absurd cc
 
 -- a list none of whose elements stand there
 pub tail_after : (room count : ℕ) (bytes : List ℕ) (tag known : ℕ) (behind : List ℕ) (ts : List Term) (rest : List ℕ) → count ≡ 0 → bytes ≡ tag ∷ behind → tag ≡ known → list_from room count bytes ≡ Ok (ts, rest) → tail_at room (known ∷ behind) ≡ Ok (ts, rest)
@@ -192,18 +194,16 @@ module _ (room tag : ℕ) (bytes : List ℕ) (t : Term) (rest : List ℕ) (five 
       }
   list_there (Err f) is e = absurd cc
 
-  by_tag : (small large list : Bool) (x y : Read (List Term)) (leaf : Read Term) → is_list_tag tag ≡ list → place_behind tag ≡ Some (kind_of t)
-      → cond small (as_term Tuple x) (cond large (as_term Tuple y) (cond list (as_term Listed (tail_at (suc room) (tag ∷ bytes))) leaf)) ≡ Ok (t, rest) → IsList (suc room) (tag ∷ bytes) t rest
-  by_tag true large list x y leaf is place e = no_tuple_there x e
-  by_tag false true list x y leaf is place e = no_tuple_there y e
-  by_tag false false true x y leaf is place e = list_there (tail_at (suc room) (tag ∷ bytes)) refl e
-  by_tag false false false x y leaf is place e = absurd (other_than_list tag is (place ∙ ap Some five))
+  by_tag : (found : Option Tag) → tag_of tag ≡ found → item_behind room (readers room) found bytes ≡ Ok (t, rest) → IsList (suc room) (tag ∷ bytes) t rest
+  unfolding readers item_behind
+  by_tag None is e = absurd cc
+  by_tag (Some (tags.Tuple size)) is e = no_tuple_there (arity_at size bytes >>= λ n. items_at (item_at room) n.0 n.1) e
+  by_tag (Some (tags.List form)) is e = list_there (elements_behind room (readers room) form bytes) (ap (λ (found : Option Tag). tail_behind room (readers room) (list_tag found) bytes) is) e
+  by_tag (Some (tags.Leaf form)) is e = absurd (leaf_is_no_list form bytes t rest e five)
 
 pub is_list : (room : ℕ) (bytes : List ℕ) (t : Term) (rest : List ℕ) → item_at room bytes ≡ Ok (t, rest) → kind_of t ≡ 5 → IsList room bytes t rest
 unfolding readers item_behind
 is_list zero [] t rest e five = absurd cc
 is_list zero (tag ∷ bytes) t rest e five = absurd cc
 is_list (suc room) [] t rest e five = absurd cc
-is_list (suc room) (tag ∷ bytes) t rest e five =
-    by_tag room tag bytes t rest five (eqb tag 104) (eqb tag 105) (is_list_tag tag) (byte_at bytes >>= λ n. items_at (item_at room) n.0 n.1) (number_at w32 bytes >>= λ n. items_at (item_at room) n.0 n.1) (leaf_behind tag bytes) refl
-    (item_kind (suc room) (tag ∷ bytes) t rest e) e
+is_list (suc room) (tag ∷ bytes) t rest e five = by_tag room tag bytes t rest five (tag_of tag) refl e

@@ -1,5 +1,5 @@
 -- A walk over bytes ends where reading them ends, or at the same fault.
-use Rattle.std.proofs.Common.{◌≡◌, ℕ, zero, suc, Bool, true, false, cond, ltb, eqb, ◌||◌, ◌&&◌, List, [], ◌∷◌, ◌++◌, length, map, Result, Ok, Err, refl, ap, subst, ◌∙◌, arith}
+use Rattle.std.proofs.Common.{◌≡◌, ℕ, zero, suc, Bool, true, false, cond, ltb, eqb, ◌||◌, ◌&&◌, List, [], ◌∷◌, ◌++◌, length, map, Option, Some, None, inl, inr, Result, Ok, Err, refl, sym, ap, subst, ◌∙◌, arith}
 use Rattle.std.proofs.lemmas.Bool.{le-ltb}
 use Rattle.std.specs.Int.{Width, w8, w16, w32, cast_signed}
 use Rattle.pg_term.specs.declared.fault.TermFault.{TermFault}
@@ -7,9 +7,20 @@ use Rattle.pg_term.specs.declared.fault.TermFault.TheVariants.{BadVersion, BadRe
 use Rattle.pg_term.specs.declared.term.Term.{Term, Tuple, List as Listed}
 use Rattle.pg_term.specs.declared.term.Term.TheVariants.{Int, Atom as Name, Ref, Pid as Process, Binary}
 use Rattle.pg_term_io.specs.Numbers.{int_of}
-use Rattle.pg_term_io.specs.Tags.{is_atom_tag, is_list_tag}
-use Rattle.pg_term_io.specs.Reading.{Read, ◌>>=◌, byte_at, number_at, bytes_at, big_at, named_at, utf8_atom, latin_atom, atom_behind, atom_at, pid_at, old_reference_at, words_at, new_reference_at, binary_at, items_at, string_at, list_at, elements_behind, item_behind, leaf_behind, Readers, readers, item_at, tail_at, term_of}
-use Rattle.pg_term_io.specs.Scanning.{past, Walk, Walks, over_atom, over_node, over_byte, over_word, over_pid, over_old_reference, over_all, over_words, over_reference, over_binary, over_leaf, over_string, over_list, over_elements, over_behind, walks, over_item, over_tail, over_term}
+use Rattle.pg_term_io.specs.declared.tag.Size.{Size}
+use Rattle.pg_term_io.specs.declared.tag.Encoding.{Encoding}
+use Rattle.pg_term_io.specs.declared.tag.Creation.{Creation}
+use Rattle.pg_term_io.specs.declared.tag.Creation.TheVariants.{Byte, Word}
+use Rattle.pg_term_io.specs.declared.tag.LeafTag.{LeafTag}
+use Rattle.pg_term_io.specs.declared.tag.LeafTag.TheVariants as leaf
+use Rattle.pg_term_io.specs.declared.tag.ListTag.{ListTag}
+use Rattle.pg_term_io.specs.declared.tag.ListTag.TheVariants as listed
+use Rattle.pg_term_io.specs.declared.tag.Tag.{Tag}
+use Rattle.pg_term_io.specs.declared.tag.Tag.TheVariants as tag
+use Rattle.pg_term_io.specs.Tags.{list_tag, tag_of}
+use Rattle.pg_term_io.specs.Reading.{Read, ◌>>=◌, byte_at, number_at, bytes_at, big_at, named_at, atom_in, text_length_at, atom_behind, node_behind, atom_at, creation_width, arity_at, tail_behind, pid_at, old_reference_at, words_at, new_reference_at, binary_at, items_at, string_at, list_at, elements_behind, item_behind, leaf_behind, Readers, readers, item_at, tail_at, term_of}
+use Rattle.pg_term_io.specs.Scanning.{past, Walk, Walks, over_atom, over_node_behind, over_node, over_creation, over_tail_behind, over_byte, over_word, over_pid, over_old_reference, over_all, over_words, over_reference, over_binary, over_leaf, over_string, over_list, over_elements, over_behind, walks, over_item, over_tail, over_term}
+use Rattle.pg_term_io.proofs.Tags.{atom_or_not, list_or_not}
 
 -- ---- steps
 
@@ -35,18 +46,20 @@ tested false x y v w p q = q
 
 -- ---- leaves
 
-pub atom_end : (tag : ℕ) (bytes : List ℕ) → past (atom_behind tag bytes) ≡ over_atom tag bytes
+pub atom_end : (size : Size) (encoding : Encoding) (bytes : List ℕ) → past (atom_behind size encoding bytes) ≡ over_atom size encoding bytes
 unfolding atom_behind over_atom
-atom_end tag bytes =
-    tested (eqb tag 119) _ _ _ _ (step (byte_at bytes) (λ n. named_at utf8_atom n.0 n.1) (λ n. past (named_at utf8_atom n.0 n.1)) (λ n. refl))
-    (tested (eqb tag 118) _ _ _ _ (step (number_at w16 bytes) (λ n. named_at utf8_atom n.0 n.1) (λ n. past (named_at utf8_atom n.0 n.1)) (λ n. refl))
-    (tested (eqb tag 115) _ _ _ _ (step (byte_at bytes) (λ n. named_at latin_atom n.0 n.1) (λ n. past (named_at latin_atom n.0 n.1)) (λ n. refl))
-    (tested (eqb tag 100) _ _ _ _ (step (number_at w16 bytes) (λ n. named_at latin_atom n.0 n.1) (λ n. past (named_at latin_atom n.0 n.1)) (λ n. refl)) refl)))
+atom_end size encoding bytes = step (text_length_at size bytes) (λ n. named_at (atom_in encoding) n.0 n.1) (λ n. past (named_at (atom_in encoding) n.0 n.1)) (λ n. refl)
+
+node_behind_end : (found : Option Tag) (bytes : List ℕ) → past (node_behind found bytes) ≡ over_node_behind found bytes
+node_behind_end found bytes = elim (atom_or_not found) [
+  | inl a ↦ subst (λ (found : Option Tag). past (node_behind found bytes) ≡ over_node_behind found bytes) (sym a.is) (atom_end a.size a.encoding bytes)
+  | inr none ↦ ap past (none.read bytes) ∙ sym (none.walk bytes)
+]
 
 pub node_end : (bytes : List ℕ) → past (atom_at bytes) ≡ over_node bytes
 unfolding atom_at over_node
 node_end [] = refl
-node_end (tag ∷ bytes) = atom_end tag bytes
+node_end (tag ∷ bytes) = node_behind_end (tag_of tag) bytes
 
 -- a creation, and the walk over it
 abbrev CreationEnd : Width → Walk → Type 0
@@ -58,6 +71,10 @@ small_end (b ∷ bytes) = let long : ltb (length (b ∷ bytes)) 1 ≡ false = le
 
 word_end : CreationEnd w32 over_word
 word_end bytes = refl
+
+creation_end : (creation : Creation) → CreationEnd (creation_width creation) (over_creation creation)
+creation_end Byte = small_end
+creation_end Word = word_end
 
 pub pid_end : (w : Width) (creation : Walk) → CreationEnd w creation → (bytes : List ℕ) → past (pid_at w bytes) ≡ over_pid creation bytes
 unfolding pid_at over_pid
@@ -101,19 +118,16 @@ pub binary_end : (bytes : List ℕ) → past (binary_at bytes) ≡ over_binary b
 unfolding binary_at over_binary
 binary_end bytes = step (number_at w32 bytes) (λ n. bytes_at n.0 n.1) (λ n. past (bytes_at n.0 n.1)) (λ n. refl)
 
-pub leaf_end : (tag : ℕ) (bytes : List ℕ) → past (leaf_behind tag bytes) ≡ over_leaf tag bytes
+pub leaf_end : (form : LeafTag) (bytes : List ℕ) → past (leaf_behind form bytes) ≡ over_leaf form bytes
 unfolding leaf_behind over_leaf
-leaf_end tag bytes =
-    tested (eqb tag 97) _ _ _ _ (same_end int_of (byte_at bytes))
-    (tested (eqb tag 98) _ _ _ _ (same_end (λ (n : ℕ). Int (cast_signed w32 n)) (number_at w32 bytes))
-    (tested (eqb tag 110) _ _ _ _ (same_end Int (big_at bytes))
-    (tested (is_atom_tag tag) _ _ _ _ (same_end Name (atom_behind tag bytes) ∙ atom_end tag bytes)
-    (tested (eqb tag 103) _ _ _ _ (same_end Process (pid_at w8 bytes) ∙ pid_end w8 over_byte small_end bytes)
-    (tested (eqb tag 88) _ _ _ _ (same_end Process (pid_at w32 bytes) ∙ pid_end w32 over_word word_end bytes)
-    (tested (eqb tag 101) _ _ _ _ (same_end Ref (old_reference_at bytes) ∙ old_reference_end bytes)
-    (tested (eqb tag 114) _ _ _ _ (same_end Ref (new_reference_at w8 bytes) ∙ reference_end w8 over_byte small_end bytes)
-    (tested (eqb tag 90) _ _ _ _ (same_end Ref (new_reference_at w32 bytes) ∙ reference_end w32 over_word word_end bytes)
-    (tested (eqb tag 109) _ _ _ _ (same_end Binary (binary_at bytes) ∙ binary_end bytes) refl)))))))))
+leaf_end leaf.SmallInteger bytes = same_end int_of (byte_at bytes)
+leaf_end leaf.Integer bytes = same_end (λ (n : ℕ). Int (cast_signed w32 n)) (number_at w32 bytes)
+leaf_end leaf.SmallBig bytes = same_end Int (big_at bytes)
+leaf_end (leaf.Atom size encoding) bytes = same_end Name (atom_behind size encoding bytes) ∙ atom_end size encoding bytes
+leaf_end (leaf.Pid creation) bytes = same_end Process (pid_at (creation_width creation) bytes) ∙ pid_end (creation_width creation) (over_creation creation) (creation_end creation) bytes
+leaf_end leaf.OldReference bytes = same_end Ref (old_reference_at bytes) ∙ old_reference_end bytes
+leaf_end (leaf.Reference creation) bytes = same_end Ref (new_reference_at (creation_width creation) bytes) ∙ reference_end (creation_width creation) (over_creation creation) (creation_end creation) bytes
+leaf_end leaf.Binary bytes = same_end Binary (binary_at bytes) ∙ binary_end bytes
 
 -- ---- lists and tuples
 
@@ -141,16 +155,25 @@ module _ (below : Readers) (under : Walks) (t : Together below under) where
       (λ n. walked (items_at below.item n.0 n.1) (over_all under.item n.0 n.1) (all_items_end n.0 n.1) (λ items. below.tail items.1 >>= λ tail. Ok (items.0 ++ tail.0, tail.1)) under.tail
       (λ items rest. same_end (λ (tail : List Term). items ++ tail) (below.tail rest) ∙ t.tail rest))
 
-  elements_end : (room tag : ℕ) (bytes : List ℕ) → past (elements_behind room below tag bytes) ≡ over_elements room under tag bytes
+  elements_end : (room : ℕ) (form : ListTag) (bytes : List ℕ) → past (elements_behind room below form bytes) ≡ over_elements room under form bytes
   unfolding elements_behind over_elements
-  elements_end room tag bytes = tested (eqb tag 106) _ _ _ _ refl (tested (eqb tag 107) _ _ _ _ (string_end room bytes) (tested (eqb tag 108) _ _ _ _ (list_end bytes) refl))
+  elements_end room listed.Nil bytes = refl
+  elements_end room listed.String bytes = string_end room bytes
+  elements_end room listed.List bytes = list_end bytes
 
-  behind_end : (room tag : ℕ) (bytes : List ℕ) → past (item_behind room below tag bytes) ≡ over_behind room under tag bytes
+  tail_behind_end : (room : ℕ) (found : Option Tag) (bytes : List ℕ) → past (tail_behind room below (list_tag found) bytes) ≡ over_tail_behind room under (list_tag found) bytes
+  tail_behind_end room found bytes = elim (list_or_not found) [
+    | inl l ↦ subst (λ (found : Option Tag). past (tail_behind room below (list_tag found) bytes) ≡ over_tail_behind room under (list_tag found) bytes) (sym l.is) (elements_end room l.form bytes)
+    | inr none ↦ ap past (none.read room below bytes) ∙ sym (none.walk room under bytes)
+  ]
+
+  behind_end : (room : ℕ) (found : Option Tag) (bytes : List ℕ) → past (item_behind room below found bytes) ≡ over_behind room under found bytes
   unfolding item_behind over_behind
-  behind_end room tag bytes =
-      tested (eqb tag 104) _ _ _ _ (same_end Tuple (byte_at bytes >>= λ n. items_at below.item n.0 n.1) ∙ step (byte_at bytes) (λ n. items_at below.item n.0 n.1) (λ n. over_all under.item n.0 n.1) (λ n. all_items_end n.0 n.1))
-      (tested (eqb tag 105) _ _ _ _ (same_end Tuple (number_at w32 bytes >>= λ n. items_at below.item n.0 n.1) ∙ step (number_at w32 bytes) (λ n. items_at below.item n.0 n.1) (λ n. over_all under.item n.0 n.1) (λ n. all_items_end n.0 n.1))
-      (tested (is_list_tag tag) _ _ _ _ (same_end Listed (elements_behind room below tag bytes) ∙ elements_end room tag bytes) (leaf_end tag bytes)))
+  behind_end room None bytes = refl
+  behind_end room (Some (tag.Tuple size)) bytes =
+      same_end Tuple (arity_at size bytes >>= λ n. items_at below.item n.0 n.1) ∙ step (arity_at size bytes) (λ n. items_at below.item n.0 n.1) (λ n. over_all under.item n.0 n.1) (λ n. all_items_end n.0 n.1)
+  behind_end room (Some (tag.List form)) bytes = same_end Listed (elements_behind room below form bytes) ∙ elements_end room form bytes
+  behind_end room (Some (tag.Leaf form)) bytes = leaf_end form bytes
 
 -- ---- levels
 
@@ -160,11 +183,11 @@ next_level room t = record { item = item; tail = tail }
   where
     item : (bytes : List ℕ) → past (item_at (suc room) bytes) ≡ over_item (suc room) bytes
     item [] = refl
-    item (tag ∷ bytes) = behind_end (readers room) (walks room) t room tag bytes
+    item (tag ∷ bytes) = behind_end (readers room) (walks room) t room (tag_of tag) bytes
 
     tail : (bytes : List ℕ) → past (tail_at (suc room) bytes) ≡ over_tail (suc room) bytes
     tail [] = refl
-    tail (tag ∷ bytes) = elements_end (readers room) (walks room) t room tag bytes
+    tail (tag ∷ bytes) = tail_behind_end (readers room) (walks room) t room (tag_of tag) bytes
 
 no_level : Together (readers zero) (walks zero)
 unfolding readers walks

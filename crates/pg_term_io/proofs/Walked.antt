@@ -4,7 +4,8 @@ use Rattle.std.proofs.Math.Seq.{take-length}
 use Rattle.pg_term.specs.declared.fault.TermFault.{TermFault}
 use Rattle.pg_term.specs.declared.fault.TermFault.TheVariants.{Truncated, TooDeep}
 use Rattle.pg_term_io.specs.Reading.{◌>>=◌, bytes_at, named_at}
-use Rattle.pg_term_io.specs.Scanning.{past, Walk, over_all, over_behind, over_elements, walks, over_item, over_tail}
+use Rattle.pg_term_io.specs.Tags.{tag_of, list_tag}
+use Rattle.pg_term_io.specs.Scanning.{past, Walk, over_all, over_behind, over_tail_behind, walks, over_item, over_tail}
 
 -- ---- one level
 
@@ -30,13 +31,13 @@ unfolding walks
 tail-deep room [] h e = absurd (omega arith)
 tail-deep room (tag ∷ bytes) h e = rw e refl
 
-pub item-more : (room : ℕ) (bytes : List ℕ) → 1 ≤ length bytes → (room ≡ 0 → ⊥) → over_item room bytes ≡ over_behind (room - 1) (walks (room - 1)) (get_or bytes 0 0) (take (length bytes - 1) (drop 1 bytes))
+pub item-more : (room : ℕ) (bytes : List ℕ) → 1 ≤ length bytes → (room ≡ 0 → ⊥) → over_item room bytes ≡ over_behind (room - 1) (walks (room - 1)) (tag_of (get_or bytes 0 0)) (take (length bytes - 1) (drop 1 bytes))
 unfolding walks
 item-more room [] h e = absurd (omega arith)
 item-more zero (tag ∷ bytes) h e = absurd (e refl)
 item-more (suc room) (tag ∷ bytes) h e = let k : suc room - 1 ≡ room = omega arith in let n : length (tag ∷ bytes) - 1 ≡ length bytes = omega arith in rw (k, n, take-length bytes) refl
 
-pub tail-more : (room : ℕ) (bytes : List ℕ) → 1 ≤ length bytes → (room ≡ 0 → ⊥) → over_tail room bytes ≡ over_elements (room - 1) (walks (room - 1)) (get_or bytes 0 0) (take (length bytes - 1) (drop 1 bytes))
+pub tail-more : (room : ℕ) (bytes : List ℕ) → 1 ≤ length bytes → (room ≡ 0 → ⊥) → over_tail room bytes ≡ over_tail_behind (room - 1) (walks (room - 1)) (list_tag (tag_of (get_or bytes 0 0))) (take (length bytes - 1) (drop 1 bytes))
 unfolding walks
 tail-more room [] h e = absurd (omega arith)
 tail-more zero (tag ∷ bytes) h e = absurd (e refl)

@@ -7,6 +7,7 @@ use Rattle.std.specs.Str.{chars, IsUtf8}
 use Rattle.pg_term.specs.declared.fault.TermFault.{TermFault}
 use Rattle.pg_term.specs.declared.fault.TermFault.TheVariants.{Truncated, BadVersion, UnknownTag, TooDeep, IntegerTooLarge, BadAtom, ImproperList, BadReference, TrailingBytes}
 use Rattle.pg_term.specs.declared.term.Term.{Term}
+use Rattle.pg_term_io.specs.declared.tag.TheConstants.{ATOM_EXT, ATOM_UTF8_EXT, BINARY_EXT, INTEGER_EXT, LARGE_TUPLE_EXT, LIST_EXT, NEWER_REFERENCE_EXT, NEW_PID_EXT, NEW_REFERENCE_EXT, PID_EXT, REFERENCE_EXT, SMALL_ATOM_EXT, SMALL_ATOM_UTF8_EXT, SMALL_BIG_EXT, SMALL_INTEGER_EXT, SMALL_TUPLE_EXT, STRING_EXT}
 use Rattle.pg_term_io.specs.declared.limits.TheConstants.{MAX_DEPTH}
 use Rattle.pg_term_io.specs.Numbers.{big_value}
 use Rattle.pg_term_io.specs.Tags.{is_atom_tag, is_list_tag, is_tag}
@@ -16,10 +17,10 @@ use Rattle.pg_term_io.specs.Spelling.{IsAtom, Item, Items}
 
 -- the tags of atoms whose length takes one byte (SMALL_ATOM_EXT, SMALL_ATOM_UTF8_EXT), and two (ATOM_EXT, ATOM_UTF8_EXT)
 abbrev pub IsSmallAtomTag : ℕ → Type 0
-IsSmallAtomTag tag = (tag ≡ 115) ⊎ (tag ≡ 119)
+IsSmallAtomTag tag = (tag ≡ SMALL_ATOM_EXT) ⊎ (tag ≡ SMALL_ATOM_UTF8_EXT)
 
 abbrev pub IsLargeAtomTag : ℕ → Type 0
-IsLargeAtomTag tag = (tag ≡ 100) ⊎ (tag ≡ 118)
+IsLargeAtomTag tag = (tag ≡ ATOM_EXT) ⊎ (tag ≡ ATOM_UTF8_EXT)
 
 -- an atom, with its tag
 pub data BreaksAtom : TermFault → List ℕ → Type 0 where
@@ -30,10 +31,10 @@ pub data BreaksAtom : TermFault → List ℕ → Type 0 where
   small_text_cut : (tag n : ℕ) (b : List ℕ) → IsSmallAtomTag tag → length b < n → BreaksAtom Truncated (tag ∷ n ∷ b)
   text_cut : (tag n : ℕ) (b : List ℕ) → IsLargeAtomTag tag → n < 2 ^ 16 → length b < n → BreaksAtom Truncated (tag ∷ to_be_bytes w16 n ++ b)
   -- its text is no UTF-8, or has more than 255 characters
-  small_bad : (text rest : List ℕ) → length text < 256 → (IsUtf8 text → 255 < length (chars text)) → BreaksAtom BadAtom (119 ∷ length text ∷ (text ++ rest))
-  bad : (text rest : List ℕ) → length text < 2 ^ 16 → (IsUtf8 text → 255 < length (chars text)) → BreaksAtom BadAtom (118 ∷ to_be_bytes w16 (length text) ++ (text ++ rest))
+  small_bad : (text rest : List ℕ) → length text < 256 → (IsUtf8 text → 255 < length (chars text)) → BreaksAtom BadAtom (SMALL_ATOM_UTF8_EXT ∷ length text ∷ (text ++ rest))
+  bad : (text rest : List ℕ) → length text < 2 ^ 16 → (IsUtf8 text → 255 < length (chars text)) → BreaksAtom BadAtom (ATOM_UTF8_EXT ∷ to_be_bytes w16 (length text) ++ (text ++ rest))
   -- its text in Latin-1 has more than 255 characters
-  latin_bad : (text rest : List ℕ) → length text < 2 ^ 16 → 255 < length text → BreaksAtom BadAtom (100 ∷ to_be_bytes w16 (length text) ++ (text ++ rest))
+  latin_bad : (text rest : List ℕ) → length text < 2 ^ 16 → 255 < length text → BreaksAtom BadAtom (ATOM_EXT ∷ to_be_bytes w16 (length text) ++ (text ++ rest))
 
 -- the atom of a pid or a reference
 pub data BreaksNode : TermFault → List ℕ → Type 0 where
@@ -81,29 +82,29 @@ mutual
     -- a tag that is none of the table
     unknown_tag : (room tag : ℕ) (b : List ℕ) → is_tag tag ≡ false → BreaksItem (suc room) UnknownTag (tag ∷ b)
     -- SMALL_INTEGER_EXT, INTEGER_EXT: cut
-    small_integer_cut : (room : ℕ) → BreaksItem (suc room) Truncated (97 ∷ [])
-    integer_cut : (room : ℕ) (b : List ℕ) → length b < 4 → BreaksItem (suc room) Truncated (98 ∷ b)
+    small_integer_cut : (room : ℕ) → BreaksItem (suc room) Truncated (SMALL_INTEGER_EXT ∷ [])
+    integer_cut : (room : ℕ) (b : List ℕ) → length b < 4 → BreaksItem (suc room) Truncated (INTEGER_EXT ∷ b)
     -- SMALL_BIG_EXT: its number of digits is cut, or the sign and the digits are
-    big_length_cut : (room : ℕ) → BreaksItem (suc room) Truncated (110 ∷ [])
-    big_cut : (room n : ℕ) (b : List ℕ) → length b < 1 + n → BreaksItem (suc room) Truncated (110 ∷ n ∷ b)
+    big_length_cut : (room : ℕ) → BreaksItem (suc room) Truncated (SMALL_BIG_EXT ∷ [])
+    big_cut : (room n : ℕ) (b : List ℕ) → length b < 1 + n → BreaksItem (suc room) Truncated (SMALL_BIG_EXT ∷ n ∷ b)
     -- no signed integer of 64 bits
-    too_large : (room sign : ℕ) (digits rest : List ℕ) → (FitsSigned w64 (big_value sign digits) → ⊥) → BreaksItem (suc room) IntegerTooLarge (110 ∷ length digits ∷ sign ∷ (digits ++ rest))
+    too_large : (room sign : ℕ) (digits rest : List ℕ) → (FitsSigned w64 (big_value sign digits) → ⊥) → BreaksItem (suc room) IntegerTooLarge (SMALL_BIG_EXT ∷ length digits ∷ sign ∷ (digits ++ rest))
     -- the fault of an atom
     atom : (room : ℕ) (f : TermFault) (b : List ℕ) → BreaksAtom f b → BreaksItem (suc room) f b
     -- PID_EXT, NEW_PID_EXT, REFERENCE_EXT, NEW_REFERENCE_EXT, NEWER_REFERENCE_EXT: the fault of what stands behind the tag
-    pid : (room : ℕ) (f : TermFault) (b : List ℕ) → BreaksPid w8 f b → BreaksItem (suc room) f (103 ∷ b)
-    new_pid : (room : ℕ) (f : TermFault) (b : List ℕ) → BreaksPid w32 f b → BreaksItem (suc room) f (88 ∷ b)
-    old_reference : (room : ℕ) (f : TermFault) (b : List ℕ) → BreaksOldRef f b → BreaksItem (suc room) f (101 ∷ b)
-    reference : (room : ℕ) (f : TermFault) (b : List ℕ) → BreaksRef w8 f b → BreaksItem (suc room) f (114 ∷ b)
-    newer_reference : (room : ℕ) (f : TermFault) (b : List ℕ) → BreaksRef w32 f b → BreaksItem (suc room) f (90 ∷ b)
+    pid : (room : ℕ) (f : TermFault) (b : List ℕ) → BreaksPid w8 f b → BreaksItem (suc room) f (PID_EXT ∷ b)
+    new_pid : (room : ℕ) (f : TermFault) (b : List ℕ) → BreaksPid w32 f b → BreaksItem (suc room) f (NEW_PID_EXT ∷ b)
+    old_reference : (room : ℕ) (f : TermFault) (b : List ℕ) → BreaksOldRef f b → BreaksItem (suc room) f (REFERENCE_EXT ∷ b)
+    reference : (room : ℕ) (f : TermFault) (b : List ℕ) → BreaksRef w8 f b → BreaksItem (suc room) f (NEW_REFERENCE_EXT ∷ b)
+    newer_reference : (room : ℕ) (f : TermFault) (b : List ℕ) → BreaksRef w32 f b → BreaksItem (suc room) f (NEWER_REFERENCE_EXT ∷ b)
     -- BINARY_EXT: its length is cut, or its bytes are
-    binary_length_cut : (room : ℕ) (b : List ℕ) → length b < 4 → BreaksItem (suc room) Truncated (109 ∷ b)
-    binary_cut : (room n : ℕ) (b : List ℕ) → n < 2 ^ 32 → length b < n → BreaksItem (suc room) Truncated (109 ∷ to_be_bytes w32 n ++ b)
+    binary_length_cut : (room : ℕ) (b : List ℕ) → length b < 4 → BreaksItem (suc room) Truncated (BINARY_EXT ∷ b)
+    binary_cut : (room n : ℕ) (b : List ℕ) → n < 2 ^ 32 → length b < n → BreaksItem (suc room) Truncated (BINARY_EXT ∷ to_be_bytes w32 n ++ b)
     -- SMALL_TUPLE_EXT, LARGE_TUPLE_EXT: the arity is cut, or an element has the fault
-    small_arity_cut : (room : ℕ) → BreaksItem (suc room) Truncated (104 ∷ [])
-    small_tuple : (room n : ℕ) (f : TermFault) (b : List ℕ) → BreaksItems room n f b → BreaksItem (suc room) f (104 ∷ n ∷ b)
-    arity_cut : (room : ℕ) (b : List ℕ) → length b < 4 → BreaksItem (suc room) Truncated (105 ∷ b)
-    large_tuple : (room n : ℕ) (f : TermFault) (b : List ℕ) → n < 2 ^ 32 → BreaksItems room n f b → BreaksItem (suc room) f (105 ∷ to_be_bytes w32 n ++ b)
+    small_arity_cut : (room : ℕ) → BreaksItem (suc room) Truncated (SMALL_TUPLE_EXT ∷ [])
+    small_tuple : (room n : ℕ) (f : TermFault) (b : List ℕ) → BreaksItems room n f b → BreaksItem (suc room) f (SMALL_TUPLE_EXT ∷ n ∷ b)
+    arity_cut : (room : ℕ) (b : List ℕ) → length b < 4 → BreaksItem (suc room) Truncated (LARGE_TUPLE_EXT ∷ b)
+    large_tuple : (room n : ℕ) (f : TermFault) (b : List ℕ) → n < 2 ^ 32 → BreaksItems room n f b → BreaksItem (suc room) f (LARGE_TUPLE_EXT ∷ to_be_bytes w32 n ++ b)
     -- the fault of a list
     list : (room : ℕ) (f : TermFault) (b : List ℕ) → BreaksElements room f b → BreaksItem (suc room) f b
 
@@ -117,14 +118,14 @@ mutual
   -- a list with its tag, and room levels for its elements and its tail
   pub data BreaksElements : ℕ → TermFault → List ℕ → Type 0 where
     -- STRING_EXT: its length is cut, or its bytes are
-    string_length_cut : (room : ℕ) (b : List ℕ) → length b < 2 → BreaksElements room Truncated (107 ∷ b)
-    string_cut : (room n : ℕ) (b : List ℕ) → n < 2 ^ 16 → length b < n → BreaksElements room Truncated (107 ∷ to_be_bytes w16 n ++ b)
+    string_length_cut : (room : ℕ) (b : List ℕ) → length b < 2 → BreaksElements room Truncated (STRING_EXT ∷ b)
+    string_cut : (room n : ℕ) (b : List ℕ) → n < 2 ^ 16 → length b < n → BreaksElements room Truncated (STRING_EXT ∷ to_be_bytes w16 n ++ b)
     -- some bytes where no further level may nest, told once they are there
-    string_too_deep : (text rest : List ℕ) → length text < 2 ^ 16 → 0 < length text → BreaksElements zero TooDeep (107 ∷ to_be_bytes w16 (length text) ++ (text ++ rest))
+    string_too_deep : (text rest : List ℕ) → length text < 2 ^ 16 → 0 < length text → BreaksElements zero TooDeep (STRING_EXT ∷ to_be_bytes w16 (length text) ++ (text ++ rest))
     -- LIST_EXT: its length is cut, or an element has the fault, or the tail has it
-    length_cut : (room : ℕ) (b : List ℕ) → length b < 4 → BreaksElements room Truncated (108 ∷ b)
-    element : (room n : ℕ) (f : TermFault) (b : List ℕ) → n < 2 ^ 32 → BreaksItems room n f b → BreaksElements room f (108 ∷ to_be_bytes w32 n ++ b)
-    tail : (room : ℕ) (f : TermFault) (ts : List Term) (a b : List ℕ) → length ts < 2 ^ 32 → Items room ts a → BreaksTail room f b → BreaksElements room f (108 ∷ to_be_bytes w32 (length ts) ++ (a ++ b))
+    length_cut : (room : ℕ) (b : List ℕ) → length b < 4 → BreaksElements room Truncated (LIST_EXT ∷ b)
+    element : (room n : ℕ) (f : TermFault) (b : List ℕ) → n < 2 ^ 32 → BreaksItems room n f b → BreaksElements room f (LIST_EXT ∷ to_be_bytes w32 n ++ b)
+    tail : (room : ℕ) (f : TermFault) (ts : List Term) (a b : List ℕ) → length ts < 2 ^ 32 → Items room ts a → BreaksTail room f b → BreaksElements room f (LIST_EXT ∷ to_be_bytes w32 (length ts) ++ (a ++ b))
 
   -- in the place of a tail
   pub data BreaksTail : ℕ → TermFault → List ℕ → Type 0 where

@@ -1,10 +1,14 @@
 -- A list from some place in it on: so many elements that stand there as items, and then its tail, with the further ones.
-use Rattle.std.specs.Prelude.{◌≡◌, ℕ, ◌≤◌, ◌<◌, List, [], ◌∷◌, ◌++◌, length, map, Ok}
+use Rattle.std.specs.Prelude.{◌≡◌, ℕ, zero, suc, ◌≤◌, ◌<◌, List, [], ◌∷◌, ◌++◌, length, map, Option, Some, None, Ok, Err, ◌==◌, if◌then◌else◌}
+use Rattle.std.specs.Int.{w16, w32}
 use Rattle.pg_term.specs.declared.term.Term.{Term}
 use Rattle.pg_term_io.specs.declared.element.NextElement.{NextElement}
 use Rattle.pg_term_io.specs.declared.element.NextElement.TheVariants.{End, Item, NoItem}
 use Rattle.pg_term_io.specs.Numbers.{int_of}
-use Rattle.pg_term_io.specs.Reading.{Read, ◌>>=◌, items_at, item_at, tail_at}
+use Rattle.pg_term_io.specs.declared.tag.ListTag.{ListTag}
+use Rattle.pg_term_io.specs.declared.tag.ListTag.TheVariants.{Nil, String, List as Cons}
+use Rattle.pg_term_io.specs.Reading.{Read, ◌>>=◌, number_at, items_at, item_at, tail_at}
+use Rattle.pg_term_io.specs.Tags.{tag_of, list_tag}
 
 -- the elements from there on, where room more levels may nest
 unfoldable pub list_from : ℕ → ℕ → List ℕ → Read (List Term)
@@ -44,3 +48,40 @@ abbrev pub IsWithin : ℕ → List ℕ → NextElement → Type 0
 IsWithin room bytes (End behind) = length behind.now < length bytes
 IsWithin room bytes (Item below count behind) = (below ≤ room) × (length behind.now ≤ length bytes)
 IsWithin room bytes NoItem = Unit {0}
+
+-- what comes next in a list: its end, with the bytes behind it, or an element, with how many levels it may nest, how many
+-- elements stand behind it, and the bytes from it on
+pub data Next : Type 0 where
+  over : List ℕ → Next
+  element : ℕ → ℕ → List ℕ → Next
+  nowhere : Next
+
+-- behind the length of a text, which has elements but no items
+abbrev pub text_next : Read ℕ → Next
+text_next (Ok n) = if n.0 == 0 then over n.1 else nowhere
+text_next (Err f) = nowhere
+
+-- behind the number of elements
+abbrev pub items_next : (ℕ → List ℕ → Next) → Read ℕ → Next
+items_next from (Ok n) = from n.0 n.1
+items_next from (Err f) = nowhere
+
+-- behind the tag of a tail; `from` tells what comes next inside of it
+abbrev pub tail_next : (ℕ → List ℕ → Next) → Option ListTag → List ℕ → Next
+tail_next from (Some Nil) bytes = over bytes
+tail_next from (Some String) bytes = text_next (number_at w16 bytes)
+tail_next from (Some Cons) bytes = items_next from (number_at w32 bytes)
+tail_next from None bytes = nowhere
+
+-- from some place on, where so many elements stand before the tail
+unfoldable pub next_from : ℕ → ℕ → List ℕ → Next
+next_from room (suc count) bytes = element room count bytes
+next_from room zero [] = nowhere
+next_from zero zero (tag ∷ bytes) = tail_next (λ count rest. nowhere) (list_tag (tag_of tag)) bytes
+next_from (suc room) zero (tag ∷ bytes) = tail_next (next_from room) (list_tag (tag_of tag)) bytes
+
+-- a call answers just this
+abbrev pub Shows : NextElement → Next → Type 0
+Shows (End behind) next = next ≡ over behind.now
+Shows (Item room count bytes) next = next ≡ element room count bytes.now
+Shows NoItem next = next ≡ nowhere

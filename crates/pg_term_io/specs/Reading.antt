@@ -1,5 +1,5 @@
 -- Reading a term from left to right, with the first fault that is met. A reader answers the value and the bytes after it.
-use Rattle.std.specs.Prelude.{ℕ, zero, suc, ◌^◌, ℤ, pos, negsuc, List, [], ◌∷◌, ◌++◌, length, take, drop, map, Bool, ◌||◌, ◌&&◌, Result, Ok, Err, nat_lt, ◌==◌, if◌then◌else◌}
+use Rattle.std.specs.Prelude.{ℕ, zero, suc, ◌^◌, ℤ, pos, negsuc, List, [], ◌∷◌, ◌++◌, length, take, drop, map, Bool, ◌||◌, ◌&&◌, Option, Some, None, Result, Ok, Err, nat_lt, ◌==◌, if◌then◌else◌}
 use Rattle.std.specs.Int.{Width, w8, w16, w32, byte_len, from_be_bytes, cast_signed}
 use Rattle.std.specs.Str.{chars, is_utf8}
 use Rattle.pg_term.specs.declared.fault.TermFault.{TermFault}
@@ -11,7 +11,19 @@ use Rattle.pg_term.specs.RefParts.{RefParts}
 use Rattle.pg_term.specs.Fault.{atom_of}
 use Rattle.pg_term_io.specs.declared.limits.TheConstants.{MAX_DEPTH}
 use Rattle.pg_term_io.specs.Numbers.{int_of, big_value}
-use Rattle.pg_term_io.specs.Tags.{is_atom_tag, is_list_tag}
+use Rattle.pg_term_io.specs.declared.tag.Size.{Size}
+use Rattle.pg_term_io.specs.declared.tag.Size.TheVariants.{Small, Large}
+use Rattle.pg_term_io.specs.declared.tag.Encoding.{Encoding}
+use Rattle.pg_term_io.specs.declared.tag.Encoding.TheVariants.{Utf8, Latin}
+use Rattle.pg_term_io.specs.declared.tag.Creation.{Creation}
+use Rattle.pg_term_io.specs.declared.tag.Creation.TheVariants.{Byte, Word}
+use Rattle.pg_term_io.specs.declared.tag.LeafTag.{LeafTag}
+use Rattle.pg_term_io.specs.declared.tag.LeafTag.TheVariants.{SmallInteger, Integer, SmallBig, Atom, Pid as Process, OldReference, Reference, Binary}
+use Rattle.pg_term_io.specs.declared.tag.ListTag.{ListTag}
+use Rattle.pg_term_io.specs.declared.tag.ListTag.TheVariants.{Nil, String, List as Cons}
+use Rattle.pg_term_io.specs.declared.tag.Tag.{Tag}
+use Rattle.pg_term_io.specs.declared.tag.Tag.TheVariants.{Tuple, List as Listing, Leaf}
+use Rattle.pg_term_io.specs.Tags.{tag_of, list_tag}
 
 -- what is read at the front, and the bytes after it
 abbrev pub Read : Type 0 → Type 0
@@ -77,21 +89,34 @@ named_at name n bytes = do
   atom ← name text.0
   Ok (atom, text.1)
 
+abbrev pub atom_in : Encoding → List ℕ → Result (List ℕ) TermFault
+atom_in Utf8 = utf8_atom
+atom_in Latin = latin_atom
+
+-- how long the text of an atom is
+abbrev pub text_length_at : Size → List ℕ → Read ℕ
+text_length_at Small bytes = byte_at bytes
+text_length_at Large bytes = number_at w16 bytes
+
 -- behind an atom's tag
-unfoldable pub atom_behind : ℕ → List ℕ → Read (List ℕ)
-atom_behind tag bytes =
-    if tag == 119 then (byte_at bytes >>= λ n. named_at utf8_atom n.0 n.1)
-    else if tag == 118 then (number_at w16 bytes >>= λ n. named_at utf8_atom n.0 n.1)
-    else if tag == 115 then (byte_at bytes >>= λ n. named_at latin_atom n.0 n.1)
-    else if tag == 100 then (number_at w16 bytes >>= λ n. named_at latin_atom n.0 n.1)
-    else Err BadAtom
+unfoldable pub atom_behind : Size → Encoding → List ℕ → Read (List ℕ)
+atom_behind size encoding bytes = text_length_at size bytes >>= λ n. named_at (atom_in encoding) n.0 n.1
+
+abbrev pub node_behind : Option Tag → List ℕ → Read (List ℕ)
+node_behind (Some (Leaf (Atom size encoding))) bytes = atom_behind size encoding bytes
+node_behind _ bytes = Err BadAtom
 
 -- an atom as a part of a pid or a reference
 unfoldable pub atom_at : List ℕ → Read (List ℕ)
 atom_at [] = Err Truncated
-atom_at (tag ∷ bytes) = atom_behind tag bytes
+atom_at (tag ∷ bytes) = node_behind (tag_of tag) bytes
 
 -- ---- behind the other tags
+
+-- the bits of a creation
+abbrev pub creation_width : Creation → Width
+creation_width Byte = w8
+creation_width Word = w32
 
 -- a pid, with a creation of so many bits
 unfoldable pub pid_at : Width → List ℕ → Read Pid
@@ -154,46 +179,49 @@ list_at below bytes = do
   Ok (items.0 ++ tail.0, tail.1)
 
 -- behind the tag of a list
-unfoldable pub elements_behind : ℕ → Readers → ℕ → List ℕ → Read (List Term)
-elements_behind room below tag bytes =
-    if tag == 106 then Ok ([], bytes)
-    else if tag == 107 then string_at room bytes
-    else if tag == 108 then list_at below bytes
-    else Err ImproperList
+unfoldable pub elements_behind : ℕ → Readers → ListTag → List ℕ → Read (List Term)
+elements_behind room below Nil bytes = Ok ([], bytes)
+elements_behind room below String bytes = string_at room bytes
+elements_behind room below Cons bytes = list_at below bytes
+
+-- behind the tag of a tail
+abbrev pub tail_behind : ℕ → Readers → Option ListTag → List ℕ → Read (List Term)
+tail_behind room below (Some tag) bytes = elements_behind room below tag bytes
+tail_behind room below None bytes = Err ImproperList
+
+-- how many elements a tuple has
+abbrev pub arity_at : Size → List ℕ → Read ℕ
+arity_at Small bytes = byte_at bytes
+arity_at Large bytes = number_at w32 bytes
 
 abbrev pub as_term : {A : Type 0} → (A → Term) → Read A → Read Term
 as_term make read = read >>= λ x. Ok (make x.0, x.1)
 
 -- behind the tag of a term that holds no terms
-unfoldable pub leaf_behind : ℕ → List ℕ → Read Term
-leaf_behind tag bytes =
-    if tag == 97 then as_term int_of (byte_at bytes)
-    else if tag == 98 then as_term (λ n. term.TheVariants.Int (cast_signed w32 n)) (number_at w32 bytes)
-    else if tag == 110 then as_term term.TheVariants.Int (big_at bytes)
-    else if is_atom_tag tag then as_term term.TheVariants.Atom (atom_behind tag bytes)
-    else if tag == 103 then as_term term.TheVariants.Pid (pid_at w8 bytes)
-    else if tag == 88 then as_term term.TheVariants.Pid (pid_at w32 bytes)
-    else if tag == 101 then as_term term.TheVariants.Ref (old_reference_at bytes)
-    else if tag == 114 then as_term term.TheVariants.Ref (new_reference_at w8 bytes)
-    else if tag == 90 then as_term term.TheVariants.Ref (new_reference_at w32 bytes)
-    else if tag == 109 then as_term term.TheVariants.Binary (binary_at bytes)
-    else Err UnknownTag
+unfoldable pub leaf_behind : LeafTag → List ℕ → Read Term
+leaf_behind SmallInteger bytes = as_term int_of (byte_at bytes)
+leaf_behind Integer bytes = as_term (λ n. term.TheVariants.Int (cast_signed w32 n)) (number_at w32 bytes)
+leaf_behind SmallBig bytes = as_term term.TheVariants.Int (big_at bytes)
+leaf_behind (Atom size encoding) bytes = as_term term.TheVariants.Atom (atom_behind size encoding bytes)
+leaf_behind (Process creation) bytes = as_term term.TheVariants.Pid (pid_at (creation_width creation) bytes)
+leaf_behind OldReference bytes = as_term term.TheVariants.Ref (old_reference_at bytes)
+leaf_behind (Reference creation) bytes = as_term term.TheVariants.Ref (new_reference_at (creation_width creation) bytes)
+leaf_behind Binary bytes = as_term term.TheVariants.Binary (binary_at bytes)
 
 -- behind any tag
-unfoldable pub item_behind : ℕ → Readers → ℕ → List ℕ → Read Term
-item_behind room below tag bytes =
-    if tag == 104 then as_term term.Tuple (byte_at bytes >>= λ n. items_at below.item n.0 n.1)
-    else if tag == 105 then as_term term.Tuple (number_at w32 bytes >>= λ n. items_at below.item n.0 n.1)
-    else if is_list_tag tag then as_term term.List (elements_behind room below tag bytes)
-    else leaf_behind tag bytes
+unfoldable pub item_behind : ℕ → Readers → Option Tag → List ℕ → Read Term
+item_behind room below (Some (Tuple size)) bytes = as_term term.Tuple (arity_at size bytes >>= λ n. items_at below.item n.0 n.1)
+item_behind room below (Some (Listing tag)) bytes = as_term term.List (elements_behind room below tag bytes)
+item_behind room below (Some (Leaf tag)) bytes = leaf_behind tag bytes
+item_behind room below None bytes = Err UnknownTag
 
 abbrev pub item_by : ℕ → Readers → List ℕ → Read Term
 item_by room below [] = Err Truncated
-item_by room below (tag ∷ bytes) = item_behind room below tag bytes
+item_by room below (tag ∷ bytes) = item_behind room below (tag_of tag) bytes
 
 abbrev pub tail_by : ℕ → Readers → List ℕ → Read (List Term)
 tail_by room below [] = Err Truncated
-tail_by room below (tag ∷ bytes) = elements_behind room below tag bytes
+tail_by room below (tag ∷ bytes) = tail_behind room below (list_tag (tag_of tag)) bytes
 
 -- where room levels may nest
 unfoldable pub readers : ℕ → Readers

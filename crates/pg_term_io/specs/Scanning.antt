@@ -1,11 +1,21 @@
 -- Walking over a term without its value: the bytes after what is read, or the first fault.
-use Rattle.std.specs.Prelude.{◌≡◌, ℕ, zero, suc, List, [], ◌∷◌, length, ◌||◌, ◌&&◌, Result, Ok, Err, nat_lt, ◌==◌, if◌then◌else◌}
+use Rattle.std.specs.Prelude.{◌≡◌, ℕ, zero, suc, List, [], ◌∷◌, length, ◌||◌, ◌&&◌, Option, Some, None, Result, Ok, Err, nat_lt, ◌==◌, if◌then◌else◌}
 use Rattle.std.specs.Int.{w16, w32}
 use Rattle.pg_term.specs.declared.fault.TermFault.{TermFault}
 use Rattle.pg_term.specs.declared.fault.TermFault.TheVariants.{Truncated, BadVersion, UnknownTag, TooDeep, BadAtom, ImproperList, BadReference, TrailingBytes}
 use Rattle.pg_term_io.specs.declared.limits.TheConstants.{MAX_DEPTH}
-use Rattle.pg_term_io.specs.Reading.{Read, ◌>>=◌, byte_at, number_at, bytes_at, big_at, named_at, utf8_atom, latin_atom}
-use Rattle.pg_term_io.specs.Tags.{is_atom_tag, is_list_tag}
+use Rattle.pg_term_io.specs.declared.tag.Size.{Size}
+use Rattle.pg_term_io.specs.declared.tag.Encoding.{Encoding}
+use Rattle.pg_term_io.specs.declared.tag.Creation.{Creation}
+use Rattle.pg_term_io.specs.declared.tag.Creation.TheVariants.{Byte, Word}
+use Rattle.pg_term_io.specs.declared.tag.LeafTag.{LeafTag}
+use Rattle.pg_term_io.specs.declared.tag.LeafTag.TheVariants.{SmallInteger, Integer, SmallBig, Atom, Pid, OldReference, Reference, Binary}
+use Rattle.pg_term_io.specs.declared.tag.ListTag.{ListTag}
+use Rattle.pg_term_io.specs.declared.tag.ListTag.TheVariants.{Nil, String, List as Cons}
+use Rattle.pg_term_io.specs.declared.tag.Tag.{Tag}
+use Rattle.pg_term_io.specs.declared.tag.Tag.TheVariants.{Tuple, List as Listing, Leaf}
+use Rattle.pg_term_io.specs.Reading.{Read, ◌>>=◌, byte_at, number_at, bytes_at, big_at, named_at, atom_in, text_length_at, arity_at}
+use Rattle.pg_term_io.specs.Tags.{tag_of, list_tag}
 
 -- the bytes after what is read
 abbrev pub past : {A : Type 0} → Read A → Result (List ℕ) TermFault
@@ -26,18 +36,17 @@ Names {X} {Y} (Ok x) read = (y : Y) × (read ≡ Ok y)
 Names (Err e) read = read ≡ Err e
 
 -- behind an atom's tag
-unfoldable pub over_atom : ℕ → Walk
-over_atom tag bytes =
-    if tag == 119 then (byte_at bytes >>= λ n. past (named_at utf8_atom n.0 n.1))
-    else if tag == 118 then (number_at w16 bytes >>= λ n. past (named_at utf8_atom n.0 n.1))
-    else if tag == 115 then (byte_at bytes >>= λ n. past (named_at latin_atom n.0 n.1))
-    else if tag == 100 then (number_at w16 bytes >>= λ n. past (named_at latin_atom n.0 n.1))
-    else Err BadAtom
+unfoldable pub over_atom : Size → Encoding → Walk
+over_atom size encoding bytes = text_length_at size bytes >>= λ n. past (named_at (atom_in encoding) n.0 n.1)
+
+abbrev pub over_node_behind : Option Tag → Walk
+over_node_behind (Some (Leaf (Atom size encoding))) bytes = over_atom size encoding bytes
+over_node_behind _ bytes = Err BadAtom
 
 -- the atom of a pid or a reference
 unfoldable pub over_node : Walk
 over_node [] = Err Truncated
-over_node (tag ∷ bytes) = over_atom tag bytes
+over_node (tag ∷ bytes) = over_node_behind (tag_of tag) bytes
 
 -- what takes one byte, and four
 abbrev pub over_byte : Walk
@@ -45,6 +54,10 @@ over_byte bytes = past (byte_at bytes)
 
 abbrev pub over_word : Walk
 over_word bytes = past (number_at w32 bytes)
+
+abbrev pub over_creation : Creation → Walk
+over_creation Byte = over_byte
+over_creation Word = over_word
 
 -- a pid, with its Creation
 unfoldable pub over_pid : Walk → Walk
@@ -81,19 +94,15 @@ unfoldable pub over_binary : Walk
 over_binary bytes = number_at w32 bytes >>= λ n. past (bytes_at n.0 n.1)
 
 -- behind the tag of a term that holds no terms
-unfoldable pub over_leaf : ℕ → Walk
-over_leaf tag bytes =
-    if tag == 97 then over_byte bytes
-    else if tag == 98 then over_word bytes
-    else if tag == 110 then past (big_at bytes)
-    else if is_atom_tag tag then over_atom tag bytes
-    else if tag == 103 then over_pid over_byte bytes
-    else if tag == 88 then over_pid over_word bytes
-    else if tag == 101 then over_old_reference bytes
-    else if tag == 114 then over_reference over_byte bytes
-    else if tag == 90 then over_reference over_word bytes
-    else if tag == 109 then over_binary bytes
-    else Err UnknownTag
+unfoldable pub over_leaf : LeafTag → Walk
+over_leaf SmallInteger bytes = over_byte bytes
+over_leaf Integer bytes = over_word bytes
+over_leaf SmallBig bytes = past (big_at bytes)
+over_leaf (Atom size encoding) bytes = over_atom size encoding bytes
+over_leaf (Pid creation) bytes = over_pid (over_creation creation) bytes
+over_leaf OldReference bytes = over_old_reference bytes
+over_leaf (Reference creation) bytes = over_reference (over_creation creation) bytes
+over_leaf Binary bytes = over_binary bytes
 
 -- the items of one depth, and the lists that stand as a tail there
 pub record Walks : Type 0 where
@@ -117,28 +126,30 @@ over_list below bytes = do
   below.tail rest
 
 -- behind the tag of a list
-unfoldable pub over_elements : ℕ → Walks → ℕ → Walk
-over_elements room below tag bytes =
-    if tag == 106 then Ok bytes
-    else if tag == 107 then over_string room bytes
-    else if tag == 108 then over_list below bytes
-    else Err ImproperList
+unfoldable pub over_elements : ℕ → Walks → ListTag → Walk
+over_elements room below Nil bytes = Ok bytes
+over_elements room below String bytes = over_string room bytes
+over_elements room below Cons bytes = over_list below bytes
+
+-- behind the tag of a tail
+abbrev pub over_tail_behind : ℕ → Walks → Option ListTag → Walk
+over_tail_behind room below (Some tag) bytes = over_elements room below tag bytes
+over_tail_behind room below None bytes = Err ImproperList
 
 -- behind any tag
-unfoldable pub over_behind : ℕ → Walks → ℕ → Walk
-over_behind room below tag bytes =
-    if tag == 104 then (byte_at bytes >>= λ n. over_all below.item n.0 n.1)
-    else if tag == 105 then (number_at w32 bytes >>= λ n. over_all below.item n.0 n.1)
-    else if is_list_tag tag then over_elements room below tag bytes
-    else over_leaf tag bytes
+unfoldable pub over_behind : ℕ → Walks → Option Tag → Walk
+over_behind room below (Some (Tuple size)) bytes = arity_at size bytes >>= λ n. over_all below.item n.0 n.1
+over_behind room below (Some (Listing tag)) bytes = over_elements room below tag bytes
+over_behind room below (Some (Leaf tag)) bytes = over_leaf tag bytes
+over_behind room below None bytes = Err UnknownTag
 
 abbrev pub walk_item : ℕ → Walks → Walk
 walk_item room below [] = Err Truncated
-walk_item room below (tag ∷ bytes) = over_behind room below tag bytes
+walk_item room below (tag ∷ bytes) = over_behind room below (tag_of tag) bytes
 
 abbrev pub walk_tail : ℕ → Walks → Walk
 walk_tail room below [] = Err Truncated
-walk_tail room below (tag ∷ bytes) = over_elements room below tag bytes
+walk_tail room below (tag ∷ bytes) = over_tail_behind room below (list_tag (tag_of tag)) bytes
 
 -- where room levels may nest
 unfoldable pub walks : ℕ → Walks

@@ -7,6 +7,7 @@ pub mod laws;
 mod limits;
 mod reading;
 mod size;
+mod tag;
 mod writing;
 
 pub use element::NextElement;

@@ -27,8 +27,8 @@ use pg_term::{Term, TermFault};
 use std::alloc::Global;
 
 /// The term that the bytes spell, all of the bytes, by the External Term Format chapter of the
-/// Erlang documentation: the byte 131 and one item. Tags that are read: 88, 90, 97, 98, 100, 101,
-/// 103 to 110, 114, 115, 118 and 119. Terms may nest 64 levels deep.
+/// Erlang documentation: the byte 131 and one item. The tags that are read stand in `src/tag.rt`. Terms may nest 64
+/// levels deep.
 ///
 /// Items are read from left to right, an item before its parts, and the first fault is told:
 ///

@@ -5,6 +5,11 @@ ghost use Rattle.pg_term_io.specs.Spelling.{IsAtom, Spells};
 
 use crate::limits::{MAX_DEPTH, MAX_LEN};
 use crate::size::{digit_count, encode_len};
+use crate::tag::{
+    ATOM_UTF8_EXT, BINARY_EXT, INTEGER_EXT, LARGE_TUPLE_EXT, LIST_EXT, NEW_PID_EXT,
+    NEWER_REFERENCE_EXT, NIL_EXT, SMALL_ATOM_UTF8_EXT, SMALL_BIG_EXT, SMALL_INTEGER_EXT,
+    SMALL_TUPLE_EXT,
+};
 use bytes::BytesMut;
 use pg_term::{Atom, Pid, Reference, Term, TermFault};
 use std::alloc::Global;
@@ -19,9 +24,9 @@ pub fn put_int(out: &mut BytesMut, number: i64)
     ensures spelled { IsSpelled (Term.Int number) }
 {
     if let Ok(small) = u8::try_from(number) {
-        out.extend_reserved(&[97, small]);
+        out.extend_reserved(&[SMALL_INTEGER_EXT, small]);
     } else if let Ok(word) = i32::try_from(number) {
-        out.extend_reserved(&[98]);
+        out.extend_reserved(&[INTEGER_EXT]);
         out.extend_reserved(&word.to_be_bytes());
     } else if number < 0 {
         put_big(out, 1, number.unsigned_abs());
@@ -36,7 +41,7 @@ fn put_big(out: &mut BytesMut, sign: u8, magnitude: u64)
     ensures items { out.new.items ≡ out.old.items ++ big_bytes sign magnitude }
     ensures spare { out.new.spare + length (big_bytes sign magnitude) ≡ out.old.spare }
 {
-    out.extend_reserved(&[110, digit_count(magnitude) as u8, sign]);
+    out.extend_reserved(&[SMALL_BIG_EXT, digit_count(magnitude) as u8, sign]);
     let mut rest = magnitude;
     while rest > 0 {
         out.extend_reserved(&[(rest % 256) as u8]);
@@ -55,9 +60,9 @@ pub fn put_atom(out: &mut BytesMut, atom: &Atom)
     let text = atom.as_str().as_bytes();
     let len = text.len();
     if len <= 255 {
-        out.extend_reserved(&[119, len as u8]);
+        out.extend_reserved(&[SMALL_ATOM_UTF8_EXT, len as u8]);
     } else {
-        out.extend_reserved(&[118]);
+        out.extend_reserved(&[ATOM_UTF8_EXT]);
         out.extend_reserved(&(len as u16).to_be_bytes());
     }
     out.extend_reserved(text);
@@ -71,7 +76,7 @@ pub fn put_pid(out: &mut BytesMut, pid: &Pid)
     ensures spare { out.new.spare + length (pid_bytes pid.now) ≡ out.old.spare }
     ensures spelled { IsSpelled (Term.Pid pid.now) }
 {
-    out.extend_reserved(&[88]);
+    out.extend_reserved(&[NEW_PID_EXT]);
     put_atom(out, &pid.node);
     out.extend_reserved(&pid.id.to_be_bytes());
     out.extend_reserved(&pid.serial.to_be_bytes());
@@ -86,7 +91,7 @@ pub fn put_reference(out: &mut BytesMut, reference: &Reference)
     ensures spare { out.new.spare + length (reference_bytes reference.now) ≡ out.old.spare }
     ensures spelled { IsSpelled (Term.Ref reference.now) }
 {
-    out.extend_reserved(&[90]);
+    out.extend_reserved(&[NEWER_REFERENCE_EXT]);
     out.extend_reserved(&(reference.words().len() as u16).to_be_bytes());
     put_atom(out, reference.node());
     out.extend_reserved(&reference.creation().to_be_bytes());
@@ -103,7 +108,7 @@ fn put_binary(out: &mut BytesMut, content: &[u8])
     ensures spare { out.new.spare + length (binary_bytes content.now) ≡ out.old.spare }
     ensures spelled { IsSpelled (Term.Binary content.now) }
 {
-    out.extend_reserved(&[109]);
+    out.extend_reserved(&[BINARY_EXT]);
     out.extend_reserved(&(content.len() as u32).to_be_bytes());
     out.extend_reserved(content);
 }
@@ -116,22 +121,22 @@ pub fn put_tuple_head(out: &mut BytesMut, arity: u32)
     ensures spare { out.new.spare + length (tuple_head arity) ≡ out.old.spare }
 {
     if arity <= 255 {
-        out.extend_reserved(&[104, arity as u8]);
+        out.extend_reserved(&[SMALL_TUPLE_EXT, arity as u8]);
     } else {
-        out.extend_reserved(&[105]);
+        out.extend_reserved(&[LARGE_TUPLE_EXT]);
         out.extend_reserved(&arity.to_be_bytes());
     }
 }
 
 /// Writes what stands before the elements of a list into room that was reserved: LIST_EXT, or
-/// nothing for no elements. Behind the elements belongs NIL_EXT, the byte 106.
+/// nothing for no elements. Behind the elements belongs NIL_EXT.
 pub fn put_list_head(out: &mut BytesMut, count: u32)
     requires { length (list_head count) ≤ out.old.spare }
     ensures items { out.new.items ≡ out.old.items ++ list_head count }
     ensures spare { out.new.spare + length (list_head count) ≡ out.old.spare }
 {
     if count > 0 {
-        out.extend_reserved(&[108]);
+        out.extend_reserved(&[LIST_EXT]);
         out.extend_reserved(&count.to_be_bytes());
     }
 }
@@ -179,7 +184,7 @@ fn put_list(out: &mut BytesMut, terms: &[Term])
 {
     put_list_head(out, terms.len() as u32);
     put_all(out, terms);
-    out.extend_reserved(&[106]);
+    out.extend_reserved(&[NIL_EXT]);
 }
 
 #[cycle(put)]

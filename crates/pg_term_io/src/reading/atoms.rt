@@ -2,9 +2,10 @@
 
 ghost use Rattle.std.specs.Prelude.{◌≡◌};
 ghost use Rattle.pg_term.specs.Fault.{Gives, atom_of};
-ghost use Rattle.pg_term_io.specs.Reading.{named_at, utf8_atom, latin_atom, atom_behind, atom_at};
+ghost use Rattle.pg_term_io.specs.Reading.{utf8_atom, latin_atom, atom_in, atom_behind, atom_at};
 
-use crate::reading::numbers::{some_bytes, u8_at, u16_at};
+use crate::reading::numbers::{some_bytes, text_len_at};
+use crate::tag::{Encoding, LeafTag, Size, Tag};
 use arrayvec::ArrayString;
 use pg_term::{Atom, TermFault};
 use std::alloc::Global;
@@ -33,48 +34,29 @@ fn latin_atom(alloc: Global, bytes: &[u8]) -> Result<Atom, TermFault>
     Atom::new(alloc, text.as_str())
 }
 
-#[tactic(auto, unfolding(crate::specs::Reading::named_at))]
-fn utf8_named(alloc: Global, count: usize, bytes: &[u8]) -> Result<(Atom, &[u8]), TermFault>
-    ensures { Gives (λ x. (x.0, x.1.now)) result (named_at utf8_atom count bytes.now) }
+fn atom_in(alloc: Global, encoding: Encoding, text: &[u8]) -> Result<Atom, TermFault>
+    ensures { Gives (λ a. a) result (atom_in encoding text.now) }
 {
-    let (text, rest) = some_bytes(count, bytes)?;
-    let atom = utf8_atom(alloc, text)?;
-    Ok((atom, rest))
-}
-
-#[tactic(auto, unfolding(crate::specs::Reading::named_at))]
-fn latin_named(alloc: Global, count: usize, bytes: &[u8]) -> Result<(Atom, &[u8]), TermFault>
-    ensures { Gives (λ x. (x.0, x.1.now)) result (named_at latin_atom count bytes.now) }
-{
-    let (text, rest) = some_bytes(count, bytes)?;
-    let atom = latin_atom(alloc, text)?;
-    Ok((atom, rest))
+    match encoding {
+        Encoding::Utf8 => utf8_atom(alloc, text),
+        Encoding::Latin => latin_atom(alloc, text),
+    }
 }
 
 /// An atom, behind its tag.
-#[tactic(auto, unfolding(crate::specs::Reading::atom_behind))]
-pub(crate) fn atom_behind(alloc: Global, tag: u8, bytes: &[u8]) -> Result<(Atom, &[u8]), TermFault>
-    ensures { Gives (λ x. (x.0, x.1.now)) result (atom_behind tag bytes.now) }
+#[tactic(auto, unfolding(crate::specs::Reading::atom_behind, crate::specs::Reading::named_at))]
+pub(crate) fn atom_behind(
+    alloc: Global,
+    size: Size,
+    encoding: Encoding,
+    bytes: &[u8],
+) -> Result<(Atom, &[u8]), TermFault>
+    ensures { Gives (λ x. (x.0, x.1.now)) result (atom_behind size encoding bytes.now) }
 {
-    match tag {
-        119 => {
-            let (count, rest) = u8_at(bytes)?;
-            utf8_named(alloc, usize::from(count), rest)
-        }
-        118 => {
-            let (count, rest) = u16_at(bytes)?;
-            utf8_named(alloc, usize::from(count), rest)
-        }
-        115 => {
-            let (count, rest) = u8_at(bytes)?;
-            latin_named(alloc, usize::from(count), rest)
-        }
-        100 => {
-            let (count, rest) = u16_at(bytes)?;
-            latin_named(alloc, usize::from(count), rest)
-        }
-        _ => Err(TermFault::BadAtom),
-    }
+    let (len, rest) = text_len_at(size, bytes)?;
+    let (text, rest) = some_bytes(len, rest)?;
+    let atom = atom_in(alloc, encoding, text)?;
+    Ok((atom, rest))
 }
 
 /// An atom in its place in a pid or a reference.
@@ -82,8 +64,11 @@ pub(crate) fn atom_behind(alloc: Global, tag: u8, bytes: &[u8]) -> Result<(Atom,
 pub(crate) fn atom_at(alloc: Global, bytes: &[u8]) -> Result<(Atom, &[u8]), TermFault>
     ensures { Gives (λ x. (x.0, x.1.now)) result (atom_at bytes.now) }
 {
-    match bytes {
-        [] => Err(TermFault::Truncated),
-        [tag, rest @ ..] => atom_behind(alloc, *tag, rest),
+    let [tag, rest @ ..] = bytes else {
+        return Err(TermFault::Truncated);
+    };
+    match Tag::of(*tag) {
+        Some(Tag::Leaf(LeafTag::Atom(size, encoding))) => atom_behind(alloc, size, encoding, rest),
+        _ => Err(TermFault::BadAtom),
     }
 }

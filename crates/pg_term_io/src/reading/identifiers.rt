@@ -1,24 +1,30 @@
 //! Pids and references, behind their tags.
 
 ghost use Rattle.std.specs.Prelude.{◌≡◌, ◌<◌};
-ghost use Rattle.std.specs.Int.{w8, w16, w32};
+ghost use Rattle.std.specs.Int.{w32};
 ghost use Rattle.pg_term.specs.Fault.{Gives};
-ghost use Rattle.pg_term_io.specs.Reading.{pid_at, old_reference_at, words_at, new_reference_at, items_at, number_at};
+ghost use Rattle.pg_term_io.specs.Reading.{pid_at, old_reference_at, words_at, new_reference_at, items_at, number_at, creation_width};
 
 use crate::reading::atoms::atom_at;
-use crate::reading::numbers::{small_at, u8_at, u16_at, u32_at};
+use crate::reading::numbers::{creation_at, u8_at, u16_at, u32_at};
+use crate::tag::Creation;
 use pg_term::{Atom, Pid, Reference, TermFault};
 use std::alloc::Global;
 
-/// A pid with a creation of one byte.
+/// A pid, behind its tag.
+#[inline]
 #[tactic(auto, unfolding(crate::specs::Reading::pid_at))]
-pub(crate) fn pid_at(alloc: Global, bytes: &[u8]) -> Result<(Pid, &[u8]), TermFault>
-    ensures { Gives (λ x. (x.0, x.1.now)) result (pid_at w8 bytes.now) }
+pub(crate) fn pid_at(
+    alloc: Global,
+    creation: Creation,
+    bytes: &[u8],
+) -> Result<(Pid, &[u8]), TermFault>
+    ensures { Gives (λ x. (x.0, x.1.now)) result (pid_at (creation_width creation) bytes.now) }
 {
     let (node, rest) = atom_at(alloc, bytes)?;
     let (id, rest) = u32_at(rest)?;
     let (serial, rest) = u32_at(rest)?;
-    let (creation, rest) = small_at(rest)?;
+    let (creation, rest) = creation_at(creation, rest)?;
     let pid = Pid {
         node,
         serial,
@@ -28,25 +34,13 @@ pub(crate) fn pid_at(alloc: Global, bytes: &[u8]) -> Result<(Pid, &[u8]), TermFa
     Ok((pid, rest))
 }
 
-/// The pid whose tag, 88, stands before the bytes, as a part of what `decode` reads, and the bytes behind it. It has a
-/// creation of four bytes.
+/// The pid whose tag, NEW_PID_EXT, stands before the bytes, as a part of what `decode` reads, and the bytes behind it.
 ///
 /// Faults as `decode` says of what stands behind the tag.
-#[tactic(auto, unfolding(crate::specs::Reading::pid_at))]
 pub fn decode_pid(alloc: Global, bytes: &[u8]) -> Result<(Pid, &[u8]), TermFault>
     ensures { Gives (λ x. (x.0, x.1.now)) result (pid_at w32 bytes.now) }
 {
-    let (node, rest) = atom_at(alloc, bytes)?;
-    let (id, rest) = u32_at(rest)?;
-    let (serial, rest) = u32_at(rest)?;
-    let (creation, rest) = u32_at(rest)?;
-    let pid = Pid {
-        node,
-        serial,
-        id,
-        creation,
-    };
-    Ok((pid, rest))
+    pid_at(alloc, Creation::Word, bytes)
 }
 
 /// A reference of one word.
@@ -60,35 +54,34 @@ pub(crate) fn old_reference_at(alloc: Global, bytes: &[u8]) -> Result<(Reference
     Ok((Reference::new(node, u32::from(creation), &[word])?, rest))
 }
 
-/// A reference of one to three words, with a creation of one byte.
+/// A reference that says how many words it has, behind its tag.
+#[inline]
 #[tactic(auto, unfolding(crate::specs::Reading::new_reference_at))]
-pub(crate) fn new_reference_at(alloc: Global, bytes: &[u8]) -> Result<(Reference, &[u8]), TermFault>
-    ensures { Gives (λ x. (x.0, x.1.now)) result (new_reference_at w8 bytes.now) }
+pub(crate) fn reference_at(
+    alloc: Global,
+    creation: Creation,
+    bytes: &[u8],
+) -> Result<(Reference, &[u8]), TermFault>
+    ensures { Gives (λ x. (x.0, x.1.now)) result
+        (new_reference_at (creation_width creation) bytes.now) }
 {
     let (count, rest) = u16_at(bytes)?;
     if count == 0 || count > 3 {
         return Err(TermFault::BadReference);
     }
     let (node, rest) = atom_at(alloc, rest)?;
-    let (creation, rest) = small_at(rest)?;
+    let (creation, rest) = creation_at(creation, rest)?;
     reference_words(node, creation, count, rest)
 }
 
-/// The reference whose tag, 90, stands before the bytes, as a part of what `decode` reads, and the bytes behind it. It has
-/// one to three words and a creation of four bytes.
+/// The reference whose tag, NEWER_REFERENCE_EXT, stands before the bytes, as a part of what `decode` reads, and the bytes
+/// behind it.
 ///
 /// Faults as `decode` says of what stands behind the tag.
-#[tactic(auto, unfolding(crate::specs::Reading::new_reference_at))]
 pub fn decode_reference(alloc: Global, bytes: &[u8]) -> Result<(Reference, &[u8]), TermFault>
     ensures { Gives (λ x. (x.0, x.1.now)) result (new_reference_at w32 bytes.now) }
 {
-    let (count, rest) = u16_at(bytes)?;
-    if count == 0 || count > 3 {
-        return Err(TermFault::BadReference);
-    }
-    let (node, rest) = atom_at(alloc, rest)?;
-    let (creation, rest) = u32_at(rest)?;
-    reference_words(node, creation, count, rest)
+    reference_at(alloc, Creation::Word, bytes)
 }
 
 #[tactic(auto, unfolding(crate::specs::Reading::items_at))]

@@ -2,17 +2,19 @@
 //! still to come behind what is read, each of which takes a byte at least.
 
 ghost use Rattle.std.specs.Prelude.{◌≡◌, ◌++◌, ◌∷◌, [], map, OnOk};
-ghost use Rattle.std.specs.Int.{w8, w32, cast_signed};
+ghost use Rattle.std.specs.Int.{w32, cast_signed};
 ghost use Rattle.pg_term.specs.declared.term.Term.TheVariants.{Int, Atom, Pid, Ref, Binary};
 ghost use Rattle.pg_term.specs.Fault.{Gives};
 ghost use Rattle.pg_term_io.specs.Numbers.{int_of};
-ghost use Rattle.pg_term_io.specs.Reading.{byte_at, number_at, big_at, atom_behind, pid_at, old_reference_at, new_reference_at, as_term, string_at, binary_at, with_front, items_at, item_at, tail_at, readers, list_at, elements_behind, item_behind, leaf_behind};
+ghost use Rattle.pg_term_io.specs.Reading.{byte_at, number_at, big_at, atom_behind, pid_at, old_reference_at, new_reference_at, as_term, string_at, binary_at, with_front, items_at, item_at, tail_at, readers, list_at, elements_behind, item_behind, leaf_behind, creation_width};
 
 use crate::reading::atoms::atom_behind;
-use crate::reading::identifiers::{
-    decode_pid, decode_reference, new_reference_at, old_reference_at, pid_at,
+use crate::reading::identifiers::{decode_pid, old_reference_at, pid_at, reference_at};
+use crate::reading::numbers::{arity_at, big_at, some_bytes, u8_at, u16_at, u32_at};
+use crate::tag::{
+    Creation, Encoding, LeafTag, ListTag, NEW_PID_EXT, SMALL_ATOM_UTF8_EXT, SMALL_INTEGER_EXT,
+    SMALL_TUPLE_EXT, Size, Tag,
 };
-use crate::reading::numbers::{big_at, some_bytes, u8_at, u16_at, u32_at};
 use pg_term::{Boxed, Fields, Items, Term, TermFault};
 use std::alloc::{AllocError, Global};
 
@@ -96,22 +98,22 @@ fn items<'a>(
         let behind = due.saturating_add((count - index - 1) as usize);
         rest = match rest {
             // A small integer at once, with no call.
-            [tag, number, after @ ..] if *tag == 97 && room > 0 => {
+            [tag, number, after @ ..] if *tag == SMALL_INTEGER_EXT && room > 0 => {
                 push(terms, small(*number))?;
                 after
             }
             // A tuple, an atom and a pid in their places, with no move of a whole result.
-            [tag, arity, after @ ..] if *tag == 104 && room > 0 => {
+            [tag, arity, after @ ..] if *tag == SMALL_TUPLE_EXT && room > 0 => {
                 let (inner, after) = fields(alloc, room - 1, behind, u32::from(*arity), after)?;
                 push(terms, Term::Tuple(Fields::from_vec(inner)))?;
                 after
             }
-            [tag, after @ ..] if *tag == 119 && room > 0 => {
-                let (atom, after) = atom_behind(alloc, 119, after)?;
+            [tag, after @ ..] if *tag == SMALL_ATOM_UTF8_EXT && room > 0 => {
+                let (atom, after) = atom_behind(alloc, Size::Small, Encoding::Utf8, after)?;
                 push(terms, Term::Atom(atom))?;
                 after
             }
-            [tag, after @ ..] if *tag == 88 && room > 0 => {
+            [tag, after @ ..] if *tag == NEW_PID_EXT && room > 0 => {
                 let (pid, after) = decode_pid(alloc, after)?;
                 push(terms, Term::Pid(pid))?;
                 after
@@ -150,7 +152,7 @@ fn elements<'a>(
     alloc: Global,
     room: u8,
     due: usize,
-    tag: u8,
+    tag: ListTag,
     terms: &mut Vec<Term>,
     bytes: &'a [u8],
 ) -> Result<&'a [u8], TermFault>
@@ -158,10 +160,9 @@ fn elements<'a>(
         (with_front terms.old.items (elements_behind room (readers room) tag bytes.now)) }
 {
     match tag {
-        106 => Ok(bytes),
-        107 => string_at(room, terms, bytes),
-        108 => list_at(alloc, room, due, terms, bytes),
-        _ => Err(TermFault::ImproperList),
+        ListTag::Nil => Ok(bytes),
+        ListTag::String => string_at(room, terms, bytes),
+        ListTag::List => list_at(alloc, room, due, terms, bytes),
     }
 }
 
@@ -183,7 +184,10 @@ fn tail<'a>(
             if room == 0 {
                 return Err(TermFault::TooDeep);
             }
-            elements(alloc, room - 1, due, *tag, terms, rest)
+            match Tag::of_list(*tag) {
+                Some(tag) => elements(alloc, room - 1, due, tag, terms, rest),
+                None => Err(TermFault::ImproperList),
+            }
         }
     }
 }
@@ -210,7 +214,7 @@ fn list(
     alloc: Global,
     room: u8,
     due: usize,
-    tag: u8,
+    tag: ListTag,
     bytes: &[u8],
 ) -> Result<(Vec<Term>, &[u8]), TermFault>
     ensures { Gives (λ x. (x.0.items, x.1.now)) result
@@ -237,7 +241,7 @@ pub(crate) fn item(
             if room == 0 {
                 return Err(TermFault::TooDeep);
             }
-            item_behind(alloc, room - 1, due, *tag, rest)
+            item_behind(alloc, room - 1, due, Tag::of(*tag), rest)
         }
     }
 }
@@ -249,47 +253,40 @@ fn item_behind(
     alloc: Global,
     room: u8,
     due: usize,
-    tag: u8,
+    tag: Option<Tag>,
     bytes: &[u8],
 ) -> Result<(Term, &[u8]), TermFault>
     ensures { Gives (λ x. (x.0, x.1.now)) result (item_behind room (readers room) tag bytes.now) }
 {
     match tag {
-        104 => {
-            let (count, rest) = u8_at(bytes)?;
-            let (terms, rest) = fields(alloc, room, due, u32::from(count), rest)?;
+        Some(Tag::Tuple(size)) => {
+            let (arity, rest) = arity_at(size, bytes)?;
+            let (terms, rest) = fields(alloc, room, due, arity, rest)?;
             Ok((Term::Tuple(Fields::from_vec(terms)), rest))
         }
-        105 => {
-            let (count, rest) = u32_at(bytes)?;
-            let (terms, rest) = fields(alloc, room, due, count, rest)?;
-            Ok((Term::Tuple(Fields::from_vec(terms)), rest))
-        }
-        106 | 107 | 108 => {
+        Some(Tag::List(tag)) => {
             let (terms, rest) = list(alloc, room, due, tag, bytes)?;
             Ok((Term::List(Items::from_vec(terms)), rest))
         }
-        _ => leaf(alloc, tag, bytes),
+        Some(Tag::Leaf(tag)) => leaf(alloc, tag, bytes),
+        None => Err(TermFault::UnknownTag),
     }
 }
 
 /// An item that holds no terms, behind its tag.
 #[tactic(auto, unfolding(crate::specs::Reading::leaf_behind))]
-fn leaf(alloc: Global, tag: u8, bytes: &[u8]) -> Result<(Term, &[u8]), TermFault>
+fn leaf(alloc: Global, tag: LeafTag, bytes: &[u8]) -> Result<(Term, &[u8]), TermFault>
     ensures { Gives (λ x. (x.0, x.1.now)) result (leaf_behind tag bytes.now) }
 {
     match tag {
-        97 => byte_int(bytes),
-        98 => int_at(bytes),
-        110 => big_int(bytes),
-        100 | 115 | 118 | 119 => atom_term(alloc, tag, bytes),
-        103 => old_pid_term(alloc, bytes),
-        88 => pid_term(alloc, bytes),
-        101 => old_reference_term(alloc, bytes),
-        114 => new_reference_term(alloc, bytes),
-        90 => reference_term(alloc, bytes),
-        109 => binary_term(alloc, bytes),
-        _ => Err(TermFault::UnknownTag),
+        LeafTag::SmallInteger => byte_int(bytes),
+        LeafTag::Integer => int_at(bytes),
+        LeafTag::SmallBig => big_int(bytes),
+        LeafTag::Atom(size, encoding) => atom_term(alloc, size, encoding, bytes),
+        LeafTag::Pid(creation) => pid_term(alloc, creation, bytes),
+        LeafTag::OldReference => old_reference_term(alloc, bytes),
+        LeafTag::Reference(creation) => reference_term(alloc, creation, bytes),
+        LeafTag::Binary => binary_term(alloc, bytes),
     }
 }
 
@@ -307,25 +304,24 @@ fn big_int(bytes: &[u8]) -> Result<(Term, &[u8]), TermFault>
     Ok((Term::Int(n), rest))
 }
 
-fn atom_term(alloc: Global, tag: u8, bytes: &[u8]) -> Result<(Term, &[u8]), TermFault>
-    ensures { Gives (λ x. (x.0, x.1.now)) result (as_term Atom (atom_behind tag bytes.now)) }
+fn atom_term(
+    alloc: Global,
+    size: Size,
+    encoding: Encoding,
+    bytes: &[u8],
+) -> Result<(Term, &[u8]), TermFault>
+    ensures { Gives (λ x. (x.0, x.1.now)) result
+        (as_term Atom (atom_behind size encoding bytes.now)) }
 {
-    let (atom, rest) = atom_behind(alloc, tag, bytes)?;
+    let (atom, rest) = atom_behind(alloc, size, encoding, bytes)?;
     Ok((Term::Atom(atom), rest))
 }
 
-/// A pid with a creation of one byte, as a term.
-fn old_pid_term(alloc: Global, bytes: &[u8]) -> Result<(Term, &[u8]), TermFault>
-    ensures { Gives (λ x. (x.0, x.1.now)) result (as_term Pid (pid_at w8 bytes.now)) }
+fn pid_term(alloc: Global, creation: Creation, bytes: &[u8]) -> Result<(Term, &[u8]), TermFault>
+    ensures { Gives (λ x. (x.0, x.1.now)) result
+        (as_term Pid (pid_at (creation_width creation) bytes.now)) }
 {
-    let (pid, rest) = pid_at(alloc, bytes)?;
-    Ok((Term::Pid(pid), rest))
-}
-
-fn pid_term(alloc: Global, bytes: &[u8]) -> Result<(Term, &[u8]), TermFault>
-    ensures { Gives (λ x. (x.0, x.1.now)) result (as_term Pid (pid_at w32 bytes.now)) }
-{
-    let (pid, rest) = decode_pid(alloc, bytes)?;
+    let (pid, rest) = pid_at(alloc, creation, bytes)?;
     Ok((Term::Pid(pid), rest))
 }
 
@@ -337,18 +333,15 @@ fn old_reference_term(alloc: Global, bytes: &[u8]) -> Result<(Term, &[u8]), Term
     Ok((Term::Ref(Boxed::new(alloc, reference)?), rest))
 }
 
-/// A reference with a creation of one byte, as a term.
-fn new_reference_term(alloc: Global, bytes: &[u8]) -> Result<(Term, &[u8]), TermFault>
-    ensures { Gives (λ x. (x.0, x.1.now)) result (as_term Ref (new_reference_at w8 bytes.now)) }
+fn reference_term(
+    alloc: Global,
+    creation: Creation,
+    bytes: &[u8],
+) -> Result<(Term, &[u8]), TermFault>
+    ensures { Gives (λ x. (x.0, x.1.now)) result
+        (as_term Ref (new_reference_at (creation_width creation) bytes.now)) }
 {
-    let (reference, rest) = new_reference_at(alloc, bytes)?;
-    Ok((Term::Ref(Boxed::new(alloc, reference)?), rest))
-}
-
-fn reference_term(alloc: Global, bytes: &[u8]) -> Result<(Term, &[u8]), TermFault>
-    ensures { Gives (λ x. (x.0, x.1.now)) result (as_term Ref (new_reference_at w32 bytes.now)) }
-{
-    let (reference, rest) = decode_reference(alloc, bytes)?;
+    let (reference, rest) = reference_at(alloc, creation, bytes)?;
     Ok((Term::Ref(Boxed::new(alloc, reference)?), rest))
 }
 

@@ -2,11 +2,14 @@
 
 ghost use Rattle.std.specs.Prelude.{◌≡◌, ◌<◌, ◌∷◌, ℕ, List, length, Ok};
 ghost use Rattle.pg_term.specs.declared.term.Term.{Term};
-ghost use Rattle.pg_term_io.specs.Lists.{list_from, Continues, IsWithin};
-ghost use Rattle.pg_term_io.specs.Reading.{tail_at};
+ghost use Rattle.pg_term_io.specs.declared.tag.TheConstants.{STRING_EXT};
+ghost use Rattle.std.specs.Int.{w16};
+ghost use Rattle.pg_term_io.specs.Lists.{list_from, Continues, IsWithin, next_from, text_next, Shows};
+ghost use Rattle.pg_term_io.specs.Reading.{number_at, tail_at};
 
 use crate::element::NextElement;
 use crate::reading::numbers::{u16_at, u32_at};
+use crate::tag::{ListTag, Tag};
 
 /// Where the next element of a list stands, of which so many stand at the front of the bytes before its tail, and may
 /// nest so many levels each. A list that stands at the front of the bytes is its own tail: its first element is the next one
@@ -14,6 +17,7 @@ use crate::reading::numbers::{u16_at, u32_at};
 ///
 /// It looks at five bytes for each tail that holds no elements. The element is skipped by `skip_item`.
 pub fn next_element(levels: u8, count: u32, bytes: &[u8]) -> NextElement<'_>
+    ensures shown { Shows result (next_from levels count bytes.now) }
     ensures next { (elements : List Term) (rest : List ℕ)
         → list_from levels count bytes.now ≡ Ok (elements, rest) → Continues result elements rest }
     ensures within { IsWithin levels bytes.now result }
@@ -24,10 +28,10 @@ pub fn next_element(levels: u8, count: u32, bytes: &[u8]) -> NextElement<'_>
     let Some((tag, behind)) = bytes.split_first() else {
         return NextElement::NoItem;
     };
-    match *tag {
-        106 => NextElement::End(behind),
-        107 => text_end(behind),
-        108 => {
+    match Tag::of_list(*tag) {
+        Some(ListTag::Nil) => NextElement::End(behind),
+        Some(ListTag::String) => text_end(behind),
+        Some(ListTag::List) => {
             if levels == 0 {
                 return NextElement::NoItem;
             }
@@ -36,14 +40,15 @@ pub fn next_element(levels: u8, count: u32, bytes: &[u8]) -> NextElement<'_>
                 Err(_) => NextElement::NoItem,
             }
         }
-        _ => NextElement::NoItem,
+        None => NextElement::NoItem,
     }
 }
 
 /// How a list goes on that is a text, behind its tag.
 fn text_end(bytes: &[u8]) -> NextElement<'_>
+    ensures shown { Shows result (text_next (number_at w16 bytes.now)) }
     ensures next { (room : ℕ) (elements : List Term) (rest : List ℕ)
-        → tail_at room (107 ∷ bytes.now) ≡ Ok (elements, rest) → Continues result elements rest }
+        → tail_at room (STRING_EXT ∷ bytes.now) ≡ Ok (elements, rest) → Continues result elements rest }
     ensures within { (room : ℕ) (around : List ℕ) → length bytes.now < length around
         → IsWithin room around result }
 {

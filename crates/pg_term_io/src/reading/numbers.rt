@@ -6,8 +6,9 @@ ghost use Rattle.std.specs.Int.{w8, w16, w32};
 ghost use Rattle.pg_term.specs.Fault.{Gives};
 ghost use Rattle.pg_term_io.specs.Numbers.{little_endian, big_value};
 ghost use Rattle.pg_term_io.specs.Scanning.{Tells};
-ghost use Rattle.pg_term_io.specs.Reading.{byte_at, number_at, bytes_at, big_at, i64_of};
+ghost use Rattle.pg_term_io.specs.Reading.{byte_at, number_at, bytes_at, big_at, i64_of, text_length_at, arity_at, creation_width};
 
+use crate::tag::{Creation, Size};
 use pg_term::TermFault;
 
 /// One byte.
@@ -18,16 +19,6 @@ pub(crate) fn u8_at(bytes: &[u8]) -> Result<(u8, &[u8]), TermFault>
     match bytes {
         [] => Err(TermFault::Truncated),
         [byte, rest @ ..] => Ok((*byte, rest)),
-    }
-}
-
-/// One byte, as a creation of the older forms.
-pub(crate) fn small_at(bytes: &[u8]) -> Result<(u32, &[u8]), TermFault>
-    ensures { Gives (λ x. (x.0, x.1.now)) result (number_at w8 bytes.now) }
-{
-    match bytes {
-        [] => Err(TermFault::Truncated),
-        [byte, rest @ ..] => Ok((u32::from(*byte), rest)),
     }
 }
 
@@ -53,6 +44,53 @@ pub(crate) fn u32_at(bytes: &[u8]) -> Result<(u32, &[u8]), TermFault>
     Ok((u32::from_be_bytes(*digits), rest))
 }
 
+/// How many bytes the text of an atom takes.
+#[inline]
+pub(crate) fn text_len_at(size: Size, bytes: &[u8]) -> Result<(usize, &[u8]), TermFault>
+    ensures told { Tells (λ x. (x.0, x.1.now)) result (text_length_at size bytes.now) }
+    ensures given { Gives (λ x. (x.0, x.1.now)) result (text_length_at size bytes.now) }
+{
+    match size {
+        Size::Small => {
+            let (len, rest) = u8_at(bytes)?;
+            Ok((usize::from(len), rest))
+        }
+        Size::Large => {
+            let (len, rest) = u16_at(bytes)?;
+            Ok((usize::from(len), rest))
+        }
+    }
+}
+
+/// How many elements a tuple has.
+#[inline]
+pub(crate) fn arity_at(size: Size, bytes: &[u8]) -> Result<(u32, &[u8]), TermFault>
+    ensures told { Tells (λ x. (x.0, x.1.now)) result (arity_at size bytes.now) }
+    ensures given { Gives (λ x. (x.0, x.1.now)) result (arity_at size bytes.now) }
+{
+    match size {
+        Size::Small => {
+            let (arity, rest) = u8_at(bytes)?;
+            Ok((u32::from(arity), rest))
+        }
+        Size::Large => u32_at(bytes),
+    }
+}
+
+/// The creation of a pid or a reference.
+#[inline]
+pub(crate) fn creation_at(creation: Creation, bytes: &[u8]) -> Result<(u32, &[u8]), TermFault>
+    ensures { Gives (λ x. (x.0, x.1.now)) result (number_at (creation_width creation) bytes.now) }
+{
+    match creation {
+        Creation::Byte => match bytes {
+            [] => Err(TermFault::Truncated),
+            [byte, rest @ ..] => Ok((u32::from(*byte), rest)),
+        },
+        Creation::Word => u32_at(bytes),
+    }
+}
+
 /// So many bytes.
 pub(crate) fn some_bytes(count: usize, bytes: &[u8]) -> Result<(&[u8], &[u8]), TermFault>
     ensures told { Tells (λ x. (x.0.now, x.1.now)) result (bytes_at count bytes.now) }
@@ -72,14 +110,10 @@ pub(crate) fn big_at(bytes: &[u8]) -> Result<(i64, &[u8]), TermFault>
     let (count, rest) = u8_at(bytes)?;
     let (sign, rest) = u8_at(rest)?;
     let (digits, rest) = some_bytes(usize::from(count), rest)?;
-    let value = big(sign, digits)?;
-    Ok((value, rest))
-}
-
-fn big(sign: u8, digits: &[u8]) -> Result<i64, TermFault>
-    ensures { Gives (λ z. z) result (i64_of (big_value sign digits.now)) }
-{
-    value_of(sign, digits).ok_or(TermFault::IntegerTooLarge)
+    match value_of(sign, digits) {
+        Some(value) => Ok((value, rest)),
+        None => Err(TermFault::IntegerTooLarge),
+    }
 }
 
 /// The integer of these digits, where it is one of 64 bits with a sign.

@@ -4,40 +4,28 @@ ghost use Rattle.std.specs.Prelude.{◌≡◌, ◌≢◌, ◌+◌, ◌*◌, ◌<
 ghost use Rattle.std.specs.Option.{option_map};
 ghost use Rattle.pg_term.specs.Order.{kind_of};
 ghost use Rattle.pg_term.specs.declared.term.Term.{Term, Tuple};
-ghost use Rattle.pg_term_io.specs.Kinds.{place_of, place_behind, arity_behind};
+ghost use Rattle.pg_term_io.specs.Kinds.{place_of, kind_in};
 ghost use Rattle.pg_term_io.specs.Reading.{as_term, items_at, item_at};
-ghost use Rattle.pg_term_io.specs.Scanning.{past, Tells, over_item};
+ghost use Rattle.pg_term_io.specs.Scanning.{past, Tells};
 ghost use Rattle.pg_term_io.specs.Writing.{item_bytes};
 
 use crate::kind::Kind;
-use crate::reading::numbers::{u8_at, u32_at};
+use crate::reading::numbers::arity_at;
 use crate::reading::scanning::item;
+use crate::tag::Tag;
 use pg_term::TermFault;
 
-/// Which kind of term stands at the front of the bytes, if one does. `None`: none does. It looks at one byte.
+/// Which kind of term stands at the front of the bytes, by their first one, if that is a tag. `None`: no term stands there.
+#[tactic(auto, unfolding(crate::specs::Kinds::kind_in))]
 pub fn kind_at(bytes: &[u8]) -> Option<Kind>
-    ensures { (room : ℕ) (t : Term) (rest : List ℕ) → item_at room bytes.now ≡ Ok (t, rest)
-        → option_map place_of result ≡ Some (kind_of t) }
+    ensures by_tag { result ≡ kind_in bytes.now }
+    // It is the kind of the term that is read there, where one is.
+    ensures of_term { (room : ℕ) (t : Term) (rest : List ℕ)
+        → item_at room bytes.now ≡ Ok (t, rest) → option_map place_of result ≡ Some (kind_of t) }
 {
     match bytes {
         [] => None,
-        [tag, ..] => kind_behind(*tag),
-    }
-}
-
-#[tactic(auto, unfolding(crate::specs::Kinds::place_behind))]
-fn kind_behind(tag: u8) -> Option<Kind>
-    ensures { option_map place_of result ≡ place_behind tag }
-{
-    match tag {
-        97 | 98 | 110 => Some(Kind::Integer),
-        100 | 115 | 118 | 119 => Some(Kind::Atom),
-        90 | 101 | 114 => Some(Kind::Reference),
-        88 | 103 => Some(Kind::Pid),
-        104 | 105 => Some(Kind::Tuple),
-        106 | 107 | 108 => Some(Kind::List),
-        109 => Some(Kind::Binary),
-        _ => None,
+        [tag, ..] => Some(Tag::of(*tag)?.kind()),
     }
 }
 
@@ -52,23 +40,12 @@ pub fn tuple_at(bytes: &[u8]) -> Option<(u32, &[u8])>
     let Some((tag, behind)) = bytes.split_first() else {
         return None;
     };
-    match arity_behind(*tag, behind) {
+    let Some(size) = Tag::of_tuple(*tag) else {
+        return None;
+    };
+    match arity_at(size, behind) {
         Ok(found) => Some(found),
         Err(_) => None,
-    }
-}
-
-#[tactic(auto, unfolding(crate::specs::Kinds::arity_behind))]
-fn arity_behind(tag: u8, bytes: &[u8]) -> Result<(u32, &[u8]), TermFault>
-    ensures { Tells (λ x. (x.0, x.1.now)) result (arity_behind tag bytes.now) }
-{
-    match tag {
-        104 => {
-            let (arity, rest) = u8_at(bytes)?;
-            Ok((u32::from(arity), rest))
-        }
-        105 => u32_at(bytes),
-        _ => Err(TermFault::UnknownTag),
     }
 }
 

@@ -1,14 +1,15 @@
 //! Walking over bytes without building what they spell: no memory is taken.
 
 ghost use Rattle.std.specs.Prelude.{◌≡◌, length, nat_lt, Ok};
-ghost use Rattle.std.specs.Int.{w8, w16, w32};
+ghost use Rattle.std.specs.Int.{w16, w32};
 ghost use Rattle.std.specs.Str.{chars};
-ghost use Rattle.pg_term_io.specs.Reading.{byte_at, number_at, bytes_at, big_at, i64_of, named_at, utf8_atom, latin_atom};
+ghost use Rattle.pg_term_io.specs.Reading.{byte_at, number_at, bytes_at, big_at, i64_of, utf8_atom, atom_in};
 ghost use Rattle.pg_term_io.specs.Numbers.{big_value};
-ghost use Rattle.pg_term_io.specs.Scanning.{past, Tells, Names, over_atom, over_node, over_byte, over_word, over_pid, over_old_reference, over_all, over_words, over_reference, over_binary, over_leaf, over_string, over_list, over_elements, over_behind, over_item, over_tail, over_term, walks};
+ghost use Rattle.pg_term_io.specs.Scanning.{past, Tells, Names, over_atom, over_node, over_creation, over_pid, over_old_reference, over_all, over_words, over_reference, over_binary, over_leaf, over_string, over_list, over_elements, over_behind, over_item, over_tail, over_term, walks};
 
 use crate::limits::MAX_DEPTH;
-use crate::reading::numbers::{some_bytes, u8_at, u16_at, u32_at, value_of};
+use crate::reading::numbers::{arity_at, some_bytes, text_len_at, u8_at, u16_at, u32_at, value_of};
+use crate::tag::{Creation, Encoding, LeafTag, ListTag, Size, Tag};
 use pg_term::TermFault;
 use std::str;
 
@@ -25,14 +26,6 @@ fn past_word(bytes: &[u8]) -> Result<&[u8], TermFault>
     ensures { Tells (λ rest. rest.now) result (past (number_at w32 bytes.now)) }
 {
     let (_, rest) = u32_at(bytes)?;
-    Ok(rest)
-}
-
-/// What follows so many bytes.
-fn past_text(count: usize, bytes: &[u8]) -> Result<&[u8], TermFault>
-    ensures { Tells (λ rest. rest.now) result (past (bytes_at count bytes.now)) }
-{
-    let (_, rest) = some_bytes(count, bytes)?;
     Ok(rest)
 }
 
@@ -61,83 +54,65 @@ fn check_utf8(text: &[u8]) -> Result<(), TermFault>
     }
 }
 
-/// What follows a text of UTF-8.
-#[tactic(auto, unfolding(crate::specs::Reading::named_at))]
-fn past_utf8(count: usize, bytes: &[u8]) -> Result<&[u8], TermFault>
-    ensures { Tells (λ rest. rest.now) result (past (named_at utf8_atom count bytes.now)) }
+/// Whether a text is that of an atom.
+fn check_text(encoding: Encoding, text: &[u8]) -> Result<(), TermFault>
+    ensures { Names result (atom_in encoding text.now) }
 {
-    let (text, rest) = some_bytes(count, bytes)?;
-    check_utf8(text)?;
-    Ok(rest)
-}
-
-/// What follows a text in Latin-1.
-#[tactic(auto, unfolding(crate::specs::Reading::named_at))]
-fn past_latin(count: usize, bytes: &[u8]) -> Result<&[u8], TermFault>
-    ensures { Tells (λ rest. rest.now) result (past (named_at latin_atom count bytes.now)) }
-{
-    let (text, rest) = some_bytes(count, bytes)?;
-    if text.len() > 255 {
-        return Err(TermFault::BadAtom);
-    }
-    Ok(rest)
-}
-
-#[tactic(auto, unfolding(crate::specs::Scanning::over_atom))]
-fn atom(tag: u8, bytes: &[u8]) -> Result<&[u8], TermFault>
-    ensures { Tells (λ rest. rest.now) result (over_atom tag bytes.now) }
-{
-    match tag {
-        119 => {
-            let (count, rest) = u8_at(bytes)?;
-            past_utf8(usize::from(count), rest)
+    match encoding {
+        Encoding::Utf8 => check_utf8(text),
+        Encoding::Latin => {
+            if text.len() > 255 {
+                return Err(TermFault::BadAtom);
+            }
+            Ok(())
         }
-        118 => {
-            let (count, rest) = u16_at(bytes)?;
-            past_utf8(usize::from(count), rest)
-        }
-        115 => {
-            let (count, rest) = u8_at(bytes)?;
-            past_latin(usize::from(count), rest)
-        }
-        100 => {
-            let (count, rest) = u16_at(bytes)?;
-            past_latin(usize::from(count), rest)
-        }
-        _ => Err(TermFault::BadAtom),
     }
 }
 
+/// What follows an atom, behind its tag.
+#[tactic(auto, unfolding(crate::specs::Scanning::over_atom, crate::specs::Reading::named_at))]
+fn atom(size: Size, encoding: Encoding, bytes: &[u8]) -> Result<&[u8], TermFault>
+    ensures { Tells (λ rest. rest.now) result (over_atom size encoding bytes.now) }
+{
+    let (len, rest) = text_len_at(size, bytes)?;
+    let (text, rest) = some_bytes(len, rest)?;
+    check_text(encoding, text)?;
+    Ok(rest)
+}
+
+/// What follows the atom of a pid or a reference.
 #[tactic(auto, unfolding(crate::specs::Scanning::over_node))]
 fn node(bytes: &[u8]) -> Result<&[u8], TermFault>
     ensures { Tells (λ rest. rest.now) result (over_node bytes.now) }
 {
-    match bytes {
-        [] => Err(TermFault::Truncated),
-        [tag, rest @ ..] => atom(*tag, rest),
+    let [tag, rest @ ..] = bytes else {
+        return Err(TermFault::Truncated);
+    };
+    match Tag::of(*tag) {
+        Some(Tag::Leaf(LeafTag::Atom(size, encoding))) => atom(size, encoding, rest),
+        _ => Err(TermFault::BadAtom),
     }
 }
 
-/// What follows a pid with a creation of one byte.
-#[tactic(auto, unfolding(crate::specs::Scanning::over_pid))]
-fn pid(bytes: &[u8]) -> Result<&[u8], TermFault>
-    ensures { Tells (λ rest. rest.now) result (over_pid over_byte bytes.now) }
+/// What follows a creation.
+fn past_creation(creation: Creation, bytes: &[u8]) -> Result<&[u8], TermFault>
+    ensures { Tells (λ rest. rest.now) result (over_creation creation bytes.now) }
 {
-    let rest = node(bytes)?;
-    let rest = past_word(rest)?;
-    let rest = past_word(rest)?;
-    past_byte(rest)
+    match creation {
+        Creation::Byte => past_byte(bytes),
+        Creation::Word => past_word(bytes),
+    }
 }
 
-/// What follows a pid with a creation of four bytes.
+/// What follows a pid, behind its tag.
 #[tactic(auto, unfolding(crate::specs::Scanning::over_pid))]
-fn new_pid(bytes: &[u8]) -> Result<&[u8], TermFault>
-    ensures { Tells (λ rest. rest.now) result (over_pid over_word bytes.now) }
+fn pid(creation: Creation, bytes: &[u8]) -> Result<&[u8], TermFault>
+    ensures { Tells (λ rest. rest.now) result (over_pid (over_creation creation) bytes.now) }
 {
     let rest = node(bytes)?;
     let rest = past_word(rest)?;
     let rest = past_word(rest)?;
-    past_word(rest)
+    past_creation(creation, rest)
 }
 
 #[tactic(auto, unfolding(crate::specs::Scanning::over_old_reference))]
@@ -160,31 +135,17 @@ fn words(count: u16, bytes: &[u8]) -> Result<&[u8], TermFault>
     Ok(rest)
 }
 
-/// What follows a reference of one to three words, with a creation of one byte.
+/// What follows a reference that says how many words it has, behind its tag.
 #[tactic(auto, unfolding(crate::specs::Scanning::over_reference))]
-fn new_reference(bytes: &[u8]) -> Result<&[u8], TermFault>
-    ensures { Tells (λ rest. rest.now) result (over_reference over_byte bytes.now) }
+fn reference(creation: Creation, bytes: &[u8]) -> Result<&[u8], TermFault>
+    ensures { Tells (λ rest. rest.now) result (over_reference (over_creation creation) bytes.now) }
 {
     let (count, rest) = u16_at(bytes)?;
     if count == 0 || count > 3 {
         return Err(TermFault::BadReference);
     }
     let rest = node(rest)?;
-    let rest = past_byte(rest)?;
-    words(count, rest)
-}
-
-/// What follows a reference of one to three words, with a creation of four bytes.
-#[tactic(auto, unfolding(crate::specs::Scanning::over_reference))]
-fn newer_reference(bytes: &[u8]) -> Result<&[u8], TermFault>
-    ensures { Tells (λ rest. rest.now) result (over_reference over_word bytes.now) }
-{
-    let (count, rest) = u16_at(bytes)?;
-    if count == 0 || count > 3 {
-        return Err(TermFault::BadReference);
-    }
-    let rest = node(rest)?;
-    let rest = past_word(rest)?;
+    let rest = past_creation(creation, rest)?;
     words(count, rest)
 }
 
@@ -193,17 +154,8 @@ fn binary(bytes: &[u8]) -> Result<&[u8], TermFault>
     ensures { Tells (λ rest. rest.now) result (over_binary bytes.now) }
 {
     let (count, rest) = u32_at(bytes)?;
-    past_text(count as usize, rest)
-}
-
-/// Whether digits are those of a signed integer of 64 bits.
-fn check_big(sign: u8, digits: &[u8]) -> Result<(), TermFault>
-    ensures { Names result (i64_of (big_value sign digits.now)) }
-{
-    match value_of(sign, digits) {
-        Some(_) => Ok(()),
-        None => Err(TermFault::IntegerTooLarge),
-    }
+    let (_, rest) = some_bytes(count as usize, rest)?;
+    Ok(rest)
 }
 
 /// What follows a big integer.
@@ -214,27 +166,26 @@ fn past_big(bytes: &[u8]) -> Result<&[u8], TermFault>
     let (count, rest) = u8_at(bytes)?;
     let (sign, rest) = u8_at(rest)?;
     let (digits, rest) = some_bytes(usize::from(count), rest)?;
-    check_big(sign, digits)?;
-    Ok(rest)
+    match value_of(sign, digits) {
+        Some(_) => Ok(rest),
+        None => Err(TermFault::IntegerTooLarge),
+    }
 }
 
 /// What follows an item that holds no terms, behind its tag.
 #[tactic(auto, unfolding(crate::specs::Scanning::over_leaf))]
-fn leaf(tag: u8, bytes: &[u8]) -> Result<&[u8], TermFault>
+fn leaf(tag: LeafTag, bytes: &[u8]) -> Result<&[u8], TermFault>
     ensures { Tells (λ rest. rest.now) result (over_leaf tag bytes.now) }
 {
     match tag {
-        97 => past_byte(bytes),
-        98 => past_word(bytes),
-        110 => past_big(bytes),
-        100 | 115 | 118 | 119 => atom(tag, bytes),
-        103 => pid(bytes),
-        88 => new_pid(bytes),
-        101 => old_reference(bytes),
-        114 => new_reference(bytes),
-        90 => newer_reference(bytes),
-        109 => binary(bytes),
-        _ => Err(TermFault::UnknownTag),
+        LeafTag::SmallInteger => past_byte(bytes),
+        LeafTag::Integer => past_word(bytes),
+        LeafTag::SmallBig => past_big(bytes),
+        LeafTag::Atom(size, encoding) => atom(size, encoding, bytes),
+        LeafTag::Pid(creation) => pid(creation, bytes),
+        LeafTag::OldReference => old_reference(bytes),
+        LeafTag::Reference(creation) => reference(creation, bytes),
+        LeafTag::Binary => binary(bytes),
     }
 }
 
@@ -274,14 +225,13 @@ fn list(room: u8, bytes: &[u8]) -> Result<&[u8], TermFault>
 
 #[cycle(scan)]
 #[tactic(auto, unfolding(crate::specs::Scanning::over_elements))]
-fn elements(room: u8, tag: u8, bytes: &[u8]) -> Result<&[u8], TermFault>
+fn elements(room: u8, tag: ListTag, bytes: &[u8]) -> Result<&[u8], TermFault>
     ensures { Tells (λ rest. rest.now) result (over_elements room (walks room) tag bytes.now) }
 {
     match tag {
-        106 => Ok(bytes),
-        107 => string(room, bytes),
-        108 => list(room, bytes),
-        _ => Err(TermFault::ImproperList),
+        ListTag::Nil => Ok(bytes),
+        ListTag::String => string(room, bytes),
+        ListTag::List => list(room, bytes),
     }
 }
 
@@ -295,7 +245,10 @@ fn tail(room: u8, bytes: &[u8]) -> Result<&[u8], TermFault>
             if room == 0 {
                 return Err(TermFault::TooDeep);
             }
-            elements(room - 1, *tag, rest)
+            match Tag::of_list(*tag) {
+                Some(tag) => elements(room - 1, tag, rest),
+                None => Err(TermFault::ImproperList),
+            }
         }
     }
 }
@@ -311,27 +264,24 @@ pub(crate) fn item(room: u8, bytes: &[u8]) -> Result<&[u8], TermFault>
             if room == 0 {
                 return Err(TermFault::TooDeep);
             }
-            behind(room - 1, *tag, rest)
+            behind(room - 1, Tag::of(*tag), rest)
         }
     }
 }
 
 #[cycle(scan)]
 #[tactic(auto, unfolding(crate::specs::Scanning::over_behind))]
-fn behind(room: u8, tag: u8, bytes: &[u8]) -> Result<&[u8], TermFault>
+fn behind(room: u8, tag: Option<Tag>, bytes: &[u8]) -> Result<&[u8], TermFault>
     ensures { Tells (λ rest. rest.now) result (over_behind room (walks room) tag bytes.now) }
 {
     match tag {
-        104 => {
-            let (count, rest) = u8_at(bytes)?;
-            items(room, u32::from(count), rest)
+        Some(Tag::Tuple(size)) => {
+            let (arity, rest) = arity_at(size, bytes)?;
+            items(room, arity, rest)
         }
-        105 => {
-            let (count, rest) = u32_at(bytes)?;
-            items(room, count, rest)
-        }
-        106 | 107 | 108 => elements(room, tag, bytes),
-        _ => leaf(tag, bytes),
+        Some(Tag::List(tag)) => elements(room, tag, bytes),
+        Some(Tag::Leaf(tag)) => leaf(tag, bytes),
+        None => Err(TermFault::UnknownTag),
     }
 }
 

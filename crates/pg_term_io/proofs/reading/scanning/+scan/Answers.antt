@@ -1,3 +1,4 @@
+use Rattle.std.proofs.Common.{refl}
 use Rattle.std.proofs.lemmas.Result.{err_from_is_err_and}
 use Rattle.pg_term_io.specs.Scanning.{over_all, over_item}
 use Rattle.pg_term_io.proofs.Walked.{item-nothing, tail-nothing, item-deep, tail-deep, item-more, tail-more, goes_on, stops, is_done}
@@ -10,7 +11,7 @@ pub item-returns-then-room-eq0 : goal.item-returns-then-room-eq0
 item-returns-then-room-eq0 t c = item-deep c.args.room c.args.bytes.now c.in-len1-up.len_at_least c.if-room-eq0.true
 
 pub item-returns-else-room-eq0 : goal.item-returns-else-room-eq0
-item-returns-else-room-eq0 t c = rw (item-more c.args.room c.args.bytes.now c.in-len1-up.len_at_least c.if-room-eq0.false) c.behind.ensures
+item-returns-else-room-eq0 t c = rw (item-more c.args.room c.args.bytes.now c.in-len1-up.len_at_least c.if-room-eq0.false, ← c.of.ensures) c.behind.ensures
 
 pub tail-returns-in-empty : goal.tail-returns-in-empty
 tail-returns-in-empty t c = tail-nothing c.args.room c.args.bytes.now c.in-empty.len_below
@@ -18,8 +19,11 @@ tail-returns-in-empty t c = tail-nothing c.args.room c.args.bytes.now c.in-empty
 pub tail-returns-then-room-eq0 : goal.tail-returns-then-room-eq0
 tail-returns-then-room-eq0 t c = tail-deep c.args.room c.args.bytes.now c.in-len1-up.len_at_least c.if-room-eq0.true
 
-pub tail-returns-else-room-eq0 : goal.tail-returns-else-room-eq0
-tail-returns-else-room-eq0 t c = rw (tail-more c.args.room c.args.bytes.now c.in-len1-up.len_at_least c.if-room-eq0.false) c.elements.ensures
+pub tail-returns-in-Some : goal.tail-returns-in-Some
+tail-returns-in-Some t c = rw (tail-more c.args.room c.args.bytes.now c.in-len1-up.len_at_least c.if-room-eq0.false, ← c.of_list.ensures, c.in-Some.is) c.elements.ensures
+
+pub tail-returns-in-None : goal.tail-returns-in-None
+tail-returns-in-None t c = rw (tail-more c.args.room c.args.bytes.now c.in-len1-up.len_at_least c.if-room-eq0.false, ← c.of_list.ensures, c.in-None.is) refl
 
 pub items-returns-in_err-rest : goal.items-returns-in_err-rest
 items-returns-in_err-rest t c =
