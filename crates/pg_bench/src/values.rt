@@ -3,7 +3,8 @@
 use crate::figures::{Watch, head, number, report, word};
 use crate::samples::{JOIN_CALL, pid};
 use bytes::BytesMut;
-use pg_message::{Message, MessageFault, Packet, read_packet, write_packet, write_packet_into};
+use pg_message::{Message, MessageFault, Packet, write_packet, write_packet_into};
+use pg_reader::read_packet;
 use pg_term::{Atom, Fields, Items, Pid, Term, TermFault};
 use pg_term_io::{decode, encode, encode_into};
 use std::alloc::Global;

@@ -1,17 +1,9 @@
-pub mod Apart
 pub mod Ascents
 pub mod Bodies
-pub mod Collected
 pub mod Deep
-pub mod ListShapes
 pub mod Listed
-pub mod Members
 pub mod Put
 pub mod ReadBack
-pub mod Rows
 pub mod Sent
-pub mod Shapes
-pub mod Spelled
 pub mod Stamps
-pub mod Standing
 pub mod Words

@@ -6,9 +6,9 @@ use crate::rows::{OUT_OF_MEMORY, Row, check};
 use bytes::BytesMut;
 use pg_group::Update;
 use pg_message::{
-    Message, MessageFault, Packet, Request, Said, is_read_directly, packet_len, read_packet,
-    write_packet, write_packet_into,
+    Message, MessageFault, Packet, Request, Said, packet_len, write_packet, write_packet_into,
 };
+use pg_reader::{is_read_directly, read_packet};
 use std::alloc::{AllocError, Global};
 use std::test::*;
 

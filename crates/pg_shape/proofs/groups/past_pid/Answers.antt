@@ -1,0 +1,10 @@
+use Rattle.std.proofs.Common.{refl}
+use Rattle.pg_term_io.specs.Reading.{item_at}
+use Rattle.pg_shape.proofs.ListShapes.{no_pid_kind, has_end}
+use Rattle.pg_shape.proofs.groups.past_pid.Goals as goal
+
+pub returns-then-not-is_pid-clause-none : goal.returns-then-not-is_pid-clause-none
+returns-then-not-is_pid-clause-none c t rest e = no_pid_kind t (c.if-not-is_pid.ensures c.args.levels t rest refl e)
+
+pub returns-in-Err-clause-none : goal.returns-in-Err-clause-none
+returns-in-Err-clause-none c t rest e = absurd (has_end (item_at c.args.levels c.args.bytes.now) t rest c.in-Err.field-0 e c.in-Err.ensures.exact)

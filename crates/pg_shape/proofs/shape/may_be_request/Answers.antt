@@ -1,0 +1,34 @@
+use Rattle.std.proofs.Common.{◌≡◌, ◌∙◌, false, ℕ, List, [], ◌∷◌, Option, Some, None, Ok, Bor, sym, subst}
+use Rattle.std.specs.Prelude.{IfNone, is_some}
+use Rattle.std.specs.Option.{option_and_then}
+use Rattle.pg_term.specs.declared.term.Term.{Term}
+use Rattle.pg_term_io.specs.Reading.{item_at}
+use Rattle.pg_message.specs.Reading.{request_in}
+use Rattle.pg_shape.proofs.Shapes.{no_pair, no_triple, no_other, request_other, triple_no_pid}
+use Rattle.pg_shape.proofs.shape.may_be_request.Goals as goal
+
+pub returns-then-arity-eq2 : goal.returns-then-arity-eq2
+returns-then-arity-eq2 c t rest r e =
+    no_pair 61 c.in-Some.arity c.args.bytes.now c.in-Some.parts.now (c.in-Some.ensures.some 61) t rest e (option_and_then request_in) None c.if-arity-eq2.true
+    (λ a b mid ea eb. at a b mid c.past_named.result (c.past_named.ensures.pair a b mid rest) ea eb (sym c.is_some.ensures ∙ r))
+  where
+    at : (a b : Term) (mid : List ℕ) (o : Option (Bor (List ℕ)))
+        → IfNone o (item_at 61 c.in-Some.parts.now ≡ Ok (a, mid) → item_at 61 mid ≡ Ok (b, rest) → request_in (a ∷ b ∷ []) ≡ None)
+        → item_at 61 c.in-Some.parts.now ≡ Ok (a, mid) → item_at 61 mid ≡ Ok (b, rest) → is_some o ≡ false → request_in (a ∷ b ∷ []) ≡ None
+    at a b mid None h ea eb k = h ea eb
+    at a b mid (Some x) h ea eb k = absurd cc
+
+pub returns-in-Some-past_named : goal.returns-in-Some-past_named
+returns-in-Some-past_named c t rest r e =
+    no_triple 61 c.in-Some.arity c.args.bytes.now c.in-Some.parts.now (c.in-Some.ensures.some 61) t rest e (option_and_then request_in) None c.if-arity-eq3.true
+    (λ a b x mid then ea eb ex. triple_no_pid a b x (c.is_small.ensures 61 x rest r
+    (subst (λ (bytes : List ℕ). item_at 61 bytes ≡ Ok (x, rest)) (c.in-Some-past_named.ensures.some a b mid then ea eb) ex)))
+
+pub returns-in-None : goal.returns-in-None
+returns-in-None c t rest r e =
+    no_triple 61 c.in-Some.arity c.args.bytes.now c.in-Some.parts.now (c.in-Some.ensures.some 61) t rest e (option_and_then request_in) None c.if-arity-eq3.true (λ a b x mid then ea eb ex. c.in-None.ensures.triple a b x mid then ea eb)
+
+pub returns-else-arity-eq3 : goal.returns-else-arity-eq3
+returns-else-arity-eq3 c t rest r e =
+    no_other 61 c.in-Some.arity c.args.bytes.now c.in-Some.parts.now (c.in-Some.ensures.some 61) t rest e (option_and_then request_in) None
+    (λ ts len. request_other ts (λ two. c.if-arity-eq2.false (sym len ∙ two)) (λ three. c.if-arity-eq3.false (sym len ∙ three)))
