@@ -1,7 +1,7 @@
 use Rattle.std.proofs.Common.{List, ℕ, Ok, Err, Result, Bor}
 use Rattle.std.specs.Prelude.{IfOk}
 use Rattle.pg_term.specs.declared.term.Term.TheVariants.{Atom}
-use Rattle.pg_message.specs.declared.reading.direct.Detour.{Detour}
+use Rattle.pg_reader.specs.declared.direct.Detour.{Detour}
 use Rattle.pg_reader.specs.Standing.{Stands, Opens}
 use Rattle.pg_reader.proofs.direct.opened.Goals as goal
 
