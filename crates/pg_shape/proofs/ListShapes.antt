@@ -1,6 +1,6 @@
 -- Lists that tell no groups, and no members, seen element by element.
 use Rattle.std.proofs.Common.{◌≡◌, ◌≢◌, ℕ, Bool, true, false, cond, List, [], ◌∷◌, map, Option, Some, None, Ok, Err, Bor, refl, sym, ap, subst, ◌∙◌, rules}
-use Rattle.std.specs.Prelude.{MatchOption}
+use Rattle.std.specs.Prelude.{is_some, MatchOption}
 use Rattle.std.specs.Option.{option_map, option_and_then}
 use Rattle.pg_term.specs.declared.fault.TermFault.{TermFault}
 use Rattle.pg_term.specs.declared.pid.Pid.{Pid}
@@ -16,10 +16,11 @@ use Rattle.pg_term_io.specs.Scanning.{past}
 use Rattle.pg_term_io.proofs.Lists.{is_list}
 use Rattle.pg_message.specs.Groups.{IsNamed}
 use Rattle.pg_message.specs.Name.{is_name}
-use Rattle.pg_message.specs.Parts.{list_in, items_of, pid_in, pid_of}
+use Rattle.pg_message.specs.Parts.{items_of, pid_in, pid_of}
 use Rattle.pg_message.specs.Reading.{all_of, group_in, group_of}
 use Rattle.pg_message.proofs.ReadBack.{items_is}
-use Rattle.pg_shape.proofs.Shapes.{no_items, none_if, none_after}
+use Rattle.pg_shape.specs.Lists.{Leaves}
+use Rattle.pg_shape.proofs.Shapes.{no_items, none_if}
 
 -- ---- what is no list
 
@@ -35,18 +36,17 @@ no_pid_kind t other = at (out-Term t) other
     at (Term-F.List ts) h = refl
     at (Term-F.Binary content) h = refl
 
--- it is enough to look at lists
-pub of_lists : {A : Type 0} (follow : List Term → Option A) (t : Term) → (kind_of t ≡ 5 → option_and_then follow (items_of t) ≡ None) → option_and_then follow (items_of t) ≡ None
-of_lists follow t why = at (out-Term t) why
+pub pid_kind : (t : Term) → kind_of t ≡ 3 → is_some (pid_of t) ≡ true
+pid_kind t three = at (out-Term t) three
   where
-    at : (l : Term-F Term) → (kind_step l ≡ 5 → option_and_then follow (list_in l) ≡ None) → option_and_then follow (list_in l) ≡ None
-    at (Term-F.List ts) h = h refl
-    at (Term-F.Int z) h = refl
-    at (Term-F.Atom a) h = refl
-    at (Term-F.Ref r) h = refl
+    at : (l : Term-F Term) → kind_step l ≡ 3 → is_some (pid_in l) ≡ true
     at (Term-F.Pid p) h = refl
-    at (Term-F.Tuple ts) h = refl
-    at (Term-F.Binary content) h = refl
+    at (Term-F.Int z) h = absurd cc
+    at (Term-F.Atom a) h = absurd cc
+    at (Term-F.Ref r) h = absurd cc
+    at (Term-F.Tuple ts) h = absurd cc
+    at (Term-F.List ts) h = absurd cc
+    at (Term-F.Binary content) h = absurd cc
 
 pub no_list : {A : Type 0} (follow : List Term → Option A) (t : Term) → kind_of t ≢ 5 → option_and_then follow (items_of t) ≡ None
 no_list follow t other = ap (option_and_then follow) (no_items t other)
@@ -66,38 +66,42 @@ int_no_group n = ap (option_and_then group_in) (int_no_items n)
 
 -- ---- all elements of a list, each of which has to be something
 
+pub is_nothing : {A : Type 0} (o : Option A) → is_some o ≡ false → o ≡ None
+is_nothing None e = refl
+is_nothing (Some x) e = absurd cc
+
 module _ {A : Type 0} (each : Term → Option A) where
-  pub first_none : (t : Term) (ts : List Term) → each t ≡ None → all_of each (t ∷ ts) ≡ None
+  first_none : (t : Term) (ts : List Term) → each t ≡ None → all_of each (t ∷ ts) ≡ None
   first_none t ts why = ap (option_and_then (λ x. option_map (λ xs. x ∷ xs) (all_of each ts))) why
 
-  pub others_none : (t : Term) (ts : List Term) → all_of each ts ≡ None → all_of each (t ∷ ts) ≡ None
-  others_none t ts why = none_after (λ x. option_map (λ xs. x ∷ xs) (all_of each ts)) (each t) (λ x. ap (option_map (λ xs. x ∷ xs)) why)
+  -- behind what is something
+  behind_some : (o : Option A) (others : Option (List A)) → is_some o ≡ true → is_some (option_and_then (λ x. option_map (λ xs. x ∷ xs) others) o) ≡ is_some others
+  behind_some (Some x) (Some xs) e = refl
+  behind_some (Some x) None e = refl
+  behind_some None others e = absurd cc
 
-  -- the list is nothing, where what is left of it is
-  pub record IsLeft (room count : ℕ) (left : List ℕ) (t : Term) (rest : List ℕ) : Type 0 where
-    pub elements : List Term
-    pub read : list_from room count left ≡ Ok (elements, rest)
-    pub nothing : all_of each elements ≡ None → option_and_then (all_of each) (items_of t) ≡ None
-
-  pub at_first : (room : ℕ) (bytes : List ℕ) (t : Term) (rest : List ℕ) → item_at room bytes ≡ Ok (t, rest) → kind_of t ≡ 5 → IsLeft room 0 bytes t rest
+  pub at_first : (room : ℕ) (bytes : List ℕ) (t : Term) (rest : List ℕ) → item_at room bytes ≡ Ok (t, rest) → kind_of t ≡ 5 → Leaves each room 0 bytes (option_and_then (all_of each) (items_of t)) rest
   at_first room bytes t rest e five =
       let list = is_list room bytes t rest e five in
-      record { elements = list.elements; read = list.read; nothing = λ none. ap (λ (t : Term). option_and_then (all_of each) (items_of t)) list.is ∙ ap (option_and_then (all_of each)) (items_is list.elements) ∙ none }
+      record { elements = list.elements; read = list.read; same = ap (λ (t : Term). is_some (option_and_then (all_of each) (items_of t))) list.is ∙ ap (λ (o : Option (List Term)). is_some (option_and_then (all_of each) o)) (items_is list.elements) }
 
-  module _ (t : Term) (rest : List ℕ) (room count : ℕ) (left : List ℕ) (before : IsLeft room count left t rest) where
+  module _ (whole : Option (List A)) (rest : List ℕ) (room count : ℕ) (left : List ℕ) (before : Leaves each room count left whole rest) where
     module _ (below more : ℕ) (bytes : List ℕ) (goes : GoesOn below more bytes before.elements rest) where
-      pub no_first : each goes.first ≡ None → option_and_then (all_of each) (items_of t) ≡ None
-      no_first none = before.nothing (ap (all_of each) goes.are ∙ first_none goes.first goes.others none)
+      pub no_first : each goes.first ≡ None → whole ≡ None
+      no_first none = is_nothing whole (before.same ∙ ap (λ (ts : List Term). is_some (all_of each ts)) goes.are ∙ ap (λ (o : Option (List A)). is_some o) (first_none goes.first goes.others none))
 
-      pub behind_first : (behind : List ℕ) → goes.behind ≡ behind → IsLeft below more behind t rest
-      behind_first behind ends = record {
+      pub behind_first : is_some (each goes.first) ≡ true → (behind : List ℕ) → goes.behind ≡ behind → Leaves each below more behind whole rest
+      behind_first some behind ends = record {
         elements = goes.others;
         read = subst (λ (b : List ℕ). list_from below more b ≡ Ok (goes.others, rest)) ends goes.after;
-        nothing = λ none. before.nothing (ap (all_of each) goes.are ∙ others_none goes.first goes.others none);
+        same = before.same ∙ ap (λ (ts : List Term). is_some (all_of each ts)) goes.are ∙ behind_some (each goes.first) (all_of each goes.others) some;
       }
 
-    pub no_text : ((n : ℕ) → each (int_of n) ≡ None) → IsText before.elements → option_and_then (all_of each) (items_of t) ≡ None
-    no_text none text = before.nothing (ap (all_of each) text.are ∙ first_none (int_of text.first) (map int_of text.others) (none text.first))
+    pub no_text : ((n : ℕ) → each (int_of n) ≡ None) → IsText before.elements → whole ≡ None
+    no_text none text = is_nothing whole (before.same ∙ ap (λ (ts : List Term). is_some (all_of each ts)) text.are ∙ ap (λ (o : Option (List A)). is_some o) (first_none (int_of text.first) (map int_of text.others) (none text.first)))
+
+    pub over : before.elements ≡ [] → is_some whole ≡ true
+    over none = before.same ∙ ap (λ (ts : List Term). is_some (all_of each ts)) none
 
 -- ---- what is no pair of a name and members
 
@@ -113,6 +117,15 @@ no_name name (members ∷ t ∷ ts) why = refl
 pub no_third : (name members : Term) (others : List Term) → others ≢ [] → group_in (name ∷ members ∷ others) ≡ None
 no_third name members [] some = absurd (some refl)
 no_third name members (t ∷ ts) some = refl
+
+pub some_group : (name members : Term) → is_name name ≡ true → is_some (option_and_then (all_of pid_of) (items_of members)) ≡ true → is_some (group_in (name ∷ members ∷ [])) ≡ true
+some_group name members named some =
+    at (is_name name) (option_and_then (all_of pid_of) (items_of members)) named some
+  where
+    at : (b : Bool) (o : Option (List Pid)) → b ≡ true → is_some o ≡ true → is_some {T = Term × List Pid} (cond b (option_map (λ pids. (name, pids)) o) None) ≡ true
+    at true (Some pids) h e = refl
+    at true None h e = absurd cc
+    at false o h e = absurd cc
 
 -- integers alone
 int_no_members : (n : ℕ) → option_and_then (all_of pid_of) (items_of (int_of n)) ≡ None
@@ -159,10 +172,10 @@ group_is room bytes t rest e five =
     let list = is_list room bytes t rest e five in
     record { elements = list.elements; read = list.read; same = ap group_of list.is ∙ ap (option_and_then group_in) (items_is list.elements) }
 
--- what is refused for one reason is so for another
-pub refused : {X : Type 0} (r : Option X) (P : X → Type 0) {A B : Type 0} → (A → B) → MatchOption r A P → MatchOption r B P
-refused None P f h = f h
-refused (Some x) P f h = h
+-- what is told of what is found, and of what is not, for other reasons
+pub told : {X : Type 0} (r : Option X) (P : X → Type 0) (Q : Type 0) {A B C : Type 0} → (A → B) → (Q → C) → MatchOption r A (λ x. P x × Q) → MatchOption r B (λ x. P x × C)
+told None P Q f g h = f h
+told (Some x) P Q f g h = (h.0, g h.1)
 
 -- what is known of what was found, and of what was not
 pub at_some : {X : Type 0} (r : Option X) (x : X) (A : Type 0) (P : X → Type 0) → r ≡ Some x → MatchOption r A P → P x

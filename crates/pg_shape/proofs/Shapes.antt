@@ -1,6 +1,7 @@
 -- What has not the shape of a packet, and so is none.
 use Rattle.std.proofs.Common.{◌≡◌, ◌≢◌, ◌-◌, take, drop, ℕ, zero, suc, ◌≤◌, Bool, true, false, cond, eqb, List, [], ◌∷◌, length, codes, Option, Some, None, Ok, Err, refl, sym, ap, subst, ◌∙◌, arith}
 use Rattle.std.proofs.Math.Seq.{take-length}
+use Rattle.std.specs.Prelude.{◌&&◌, ◌||◌}
 use Rattle.std.specs.Option.{option_map, option_and_then}
 use Rattle.pg_term.specs.declared.fault.TermFault.TheVariants.{BadVersion, TrailingBytes}
 use Rattle.pg_term.specs.declared.pid.Pid.{Pid}
@@ -208,6 +209,18 @@ none_if false o p h k = k
 pub none_after : {A B : Type 0} (f : A → Option B) (o : Option A) → ((x : A) → f x ≡ None) → option_and_then f o ≡ None
 none_after f (Some x) h = h x
 none_after f None h = refl
+
+-- ---- ways that all lead to true
+
+pub both_true : (a b : Bool) → a ≡ true → b ≡ true → a && b ≡ true
+both_true a b h k = (λ i. h i && k i)
+
+pub true_behind : (a b : Bool) → b ≡ true → a || b ≡ true
+true_behind true b h = refl
+true_behind false b h = h
+
+pub true_before : (a b : Bool) → a ≡ true → a || b ≡ true
+true_before a b h = (λ i. h i || b)
 
 -- ---- requests
 

@@ -1,30 +1,36 @@
 //! Whether the last part of an exchange may tell groups, none of them named twice. Its bytes are walked over once: each walk
 //! over a part hands back what follows it. No member is built; a name is, to see whether it is one, but for an atom.
 
-ghost use Rattle.std.specs.Prelude.{IfNone, ◌≡◌, ◌≢◌, ◌<◌, ◌≤◌, ℕ, List, [], ◌∷◌, length, true, false, Ok, Some, None, IfOk, IfSome, MatchOption};
-ghost use Rattle.std.specs.Option.{option_and_then};
+ghost use Rattle.std.specs.Prelude.{◌≡◌, ◌≢◌, ◌<◌, ◌≤◌, ℕ, Bool, List, [], ◌∷◌, length, true, false, is_some, Ok, Some, None, IfOk, IfSome, MatchOption};
 ghost use Rattle.pg_term.specs.declared.term.Term.{Term};
 ghost use Rattle.pg_term.specs.Order.{kind_of};
 ghost use Rattle.pg_term_io.specs.Lists.{list_from};
 ghost use Rattle.pg_term_io.specs.Reading.{item_at};
-ghost use Rattle.pg_term_io.specs.Scanning.{past};
 ghost use Rattle.pg_message.specs.Name.{is_name};
-ghost use Rattle.pg_message.specs.Parts.{items_of, pid_of};
-ghost use Rattle.pg_message.specs.Reading.{all_of, group_in, group_of, groups_of};
+ghost use Rattle.pg_message.specs.Reading.{group_in, group_of, groups_of};
+ghost use Rattle.pg_shape.specs.Shape.{listed_of};
 
 mod names;
 
 use crate::groups::names::{Name, are_apart, checked_name};
-use pg_term_io::{Kind, NextElement, kind_at, next_element, skip_item};
+use crate::pids::past_pids;
+use pg_term_io::{Kind, NextElement, kind_at, next_element};
 use std::alloc::{AllocError, Global};
 
 /// Whether a part may be a list of groups, none of them named twice. Where names ascend in the order of terms, as a node
 /// tells them, two of them are kept at a time, and of atoms none; else the groups are walked over again, and all names kept.
 pub fn may_be_groups(alloc: Global, levels: u8, bytes: &[u8]) -> Result<bool, AllocError>
     requires { levels ≤ 64 }
-    ensures { (t : Term) (rest : List ℕ) → result ≡ Ok false
+    // What is refused tells no groups, or one of them twice.
+    ensures refused { (t : Term) (rest : List ℕ) → result ≡ Ok false
         → item_at levels bytes.now ≡ Ok (t, rest) → groups_of t ≡ None }
+    // What is not lists groups.
+    ensures listed { (t : Term) (rest : List ℕ) → result ≡ Ok true
+        → item_at levels bytes.now ≡ Ok (t, rest) → is_some (listed_of t) ≡ true }
 {
+    if !is_list(bytes) {
+        return Ok(false);
+    }
     match do_ascend(alloc, levels, bytes)? {
         None => Ok(false),
         Some(true) => Ok(true),
@@ -35,8 +41,10 @@ pub fn may_be_groups(alloc: Global, levels: u8, bytes: &[u8]) -> Result<bool, Al
 /// Whether the names of groups are seen to ascend; `None` for what is no list of groups.
 fn do_ascend(alloc: Global, levels: u8, bytes: &[u8]) -> Result<Option<bool>, AllocError>
     requires { levels ≤ 64 }
-    ensures { (t : Term) (rest : List ℕ) → result ≡ Ok None → item_at levels bytes.now ≡ Ok (t, rest)
-        → option_and_then (all_of group_of) (items_of t) ≡ None }
+    ensures none { (t : Term) (rest : List ℕ) → result ≡ Ok None → item_at levels bytes.now ≡ Ok (t, rest)
+        → kind_of t ≡ 5 → listed_of t ≡ None }
+    ensures some { (t : Term) (rest : List ℕ) (ascend : Bool) → result ≡ Ok (Some ascend)
+        → item_at levels bytes.now ≡ Ok (t, rest) → kind_of t ≡ 5 → is_some (listed_of t) ≡ true }
 {
     let mut last = None;
     do_rise(alloc, &mut last, levels, bytes)
@@ -50,8 +58,10 @@ fn do_rise<'a>(
     bytes: &'a [u8],
 ) -> Result<Option<bool>, AllocError>
     requires { levels ≤ 64 }
-    ensures { (t : Term) (rest : List ℕ) → result ≡ Ok None → item_at levels bytes.now ≡ Ok (t, rest)
-        → option_and_then (all_of group_of) (items_of t) ≡ None }
+    ensures none { (t : Term) (rest : List ℕ) → result ≡ Ok None → item_at levels bytes.now ≡ Ok (t, rest)
+        → kind_of t ≡ 5 → listed_of t ≡ None }
+    ensures some { (t : Term) (rest : List ℕ) (ascend : Bool) → result ≡ Ok (Some ascend)
+        → item_at levels bytes.now ≡ Ok (t, rest) → kind_of t ≡ 5 → is_some (listed_of t) ≡ true }
 {
     let mut ascend = true;
     let mut room = levels;
@@ -83,7 +93,8 @@ fn past_group(
 ) -> Result<Option<(Name<'_>, &[u8])>, AllocError>
     requires { levels ≤ 64 }
     ensures group { (t : Term) (rest : List ℕ) → item_at levels bytes.now ≡ Ok (t, rest) → IfOk result (λ found.
-        MatchOption found (group_of t ≡ None) (λ x. rest ≡ x.1.now)) }
+        MatchOption found (group_of t ≡ None)
+        (λ x. (rest ≡ x.1.now) × (is_some (group_of t) ≡ true))) }
     ensures shorter { IfOk result (λ found. IfSome found (λ x. length x.1.now < length bytes.now)) }
 {
     if !is_list(bytes) {
@@ -108,7 +119,8 @@ fn past_group(
 pub(crate) fn past_members(levels: u8, count: u32, bytes: &[u8]) -> Option<&[u8]>
     ensures group { (name : Term) (others : List Term) (rest : List ℕ)
         → list_from levels count bytes.now ≡ Ok (others, rest)
-        → MatchOption result (group_in (name ∷ others) ≡ None) (λ behind. rest ≡ behind.now) }
+        → MatchOption result (group_in (name ∷ others) ≡ None) (λ behind. (rest ≡ behind.now)
+        × (is_name name ≡ true → is_some (group_in (name ∷ others)) ≡ true)) }
     ensures shorter { IfSome result (λ behind. length behind.now < length bytes.now) }
 {
     let NextElement::Item(room, more, members) = next_element(levels, count, bytes) else {
@@ -124,68 +136,12 @@ pub(crate) fn past_members(levels: u8, count: u32, bytes: &[u8]) -> Option<&[u8]
 fn past_end(levels: u8, count: u32, bytes: &[u8]) -> Option<&[u8]>
     ensures over { (others : List Term) (rest : List ℕ)
         → list_from levels count bytes.now ≡ Ok (others, rest)
-        → MatchOption result (others ≢ []) (λ behind. rest ≡ behind.now) }
+        → MatchOption result (others ≢ []) (λ behind. (rest ≡ behind.now) × (others ≡ [])) }
     ensures shorter { IfSome result (λ behind. length behind.now < length bytes.now) }
 {
     match next_element(levels, count, bytes) {
         NextElement::End(behind) => Some(behind),
         _ => None,
-    }
-}
-
-/// What follows a list of pids; `None` for what is none.
-fn past_pids(levels: u8, bytes: &[u8]) -> Option<&[u8]>
-    ensures pids { (t : Term) (rest : List ℕ) → item_at levels bytes.now ≡ Ok (t, rest)
-        → MatchOption result (option_and_then (all_of pid_of) (items_of t) ≡ None)
-        (λ behind. rest ≡ behind.now) }
-    ensures shorter { IfSome result (λ behind. length behind.now < length bytes.now) }
-{
-    if !is_list(bytes) {
-        return None;
-    }
-    let mut room = levels;
-    let mut count = 0;
-    let mut left = bytes;
-    'elements: loop {
-        match next_element(room, count, left) {
-            NextElement::Item(below, more, pid) => {
-                let Some(behind) = past_pid(below, pid) else {
-                    return None;
-                };
-                room = below;
-                count = more;
-                left = behind;
-            }
-            NextElement::End(behind) => return Some(behind),
-            NextElement::NoItem => return None,
-        }
-    }
-}
-
-/// What follows a pid; `None` for what is none.
-fn past_pid(levels: u8, bytes: &[u8]) -> Option<&[u8]>
-    ensures some { IfSome result (λ behind. past (item_at levels bytes.now) ≡ Ok behind.now) }
-    ensures none { (t : Term) (rest : List ℕ) → IfNone result
-        (item_at levels bytes.now ≡ Ok (t, rest) → pid_of t ≡ None) }
-    ensures shorter { IfSome result (λ behind. length behind.now < length bytes.now) }
-{
-    if !is_pid(bytes) {
-        return None;
-    }
-    match skip_item(levels, bytes) {
-        Ok(behind) => Some(behind),
-        Err(_) => None,
-    }
-}
-
-/// Whether a part is a pid.
-fn is_pid(bytes: &[u8]) -> bool
-    ensures { (room : ℕ) (t : Term) (rest : List ℕ) → result ≡ false
-        → item_at room bytes.now ≡ Ok (t, rest) → kind_of t ≢ 3 }
-{
-    match kind_at(bytes) {
-        Some(Kind::Pid) => true,
-        _ => false,
     }
 }
 

@@ -2,7 +2,9 @@
 #![tactic(auto)]
 
 mod groups;
+mod pids;
 mod shape;
 
 pub use groups::may_be_groups;
+pub use pids::pid_head;
 pub use shape::may_be_packet;

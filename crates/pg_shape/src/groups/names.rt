@@ -1,7 +1,8 @@
 //! The names of the groups that an exchange tells: whether each is one, and whether one stands twice.
 
-ghost use Rattle.std.specs.Prelude.{◌≡◌, ◌<◌, ◌≤◌, ℕ, List, [], length, false, Ok, None, IfOk, IfSome, MatchOption};
+ghost use Rattle.std.specs.Prelude.{◌≡◌, ◌<◌, ◌≤◌, ℕ, List, [], length, true, false, Ok, None, IfOk, IfSome, MatchOption};
 ghost use Rattle.pg_term.specs.declared.term.Term.{Term};
+ghost use Rattle.pg_term.specs.Order.{kind_of};
 ghost use Rattle.pg_term_io.specs.Reading.{item_at};
 ghost use Rattle.pg_message.specs.Groups.{IsNamed};
 ghost use Rattle.pg_message.specs.Name.{is_name};
@@ -68,13 +69,13 @@ pub(crate) fn checked_name(
 ) -> Result<Option<(Name<'_>, &[u8])>, AllocError>
     requires { levels ≤ 64 }
     ensures name { (t : Term) (rest : List ℕ) → item_at levels bytes.now ≡ Ok (t, rest) → IfOk result (λ found.
-        MatchOption found (is_name t ≡ false) (λ x. rest ≡ x.1.now)) }
+        MatchOption found (is_name t ≡ false) (λ x. (rest ≡ x.1.now) × (is_name t ≡ true))) }
     ensures shorter { IfOk result (λ found. IfSome found (λ x. length x.1.now < length bytes.now)) }
 {
     let Some(behind) = past_name(levels, bytes) else {
         return Ok(None);
     };
-    if kind_at(bytes) == Some(Kind::Atom) {
+    if is_atom(bytes) {
         return Ok(Some((Name::Atom(bytes), behind)));
     }
     match built_name(alloc, levels, bytes)? {
@@ -83,10 +84,21 @@ pub(crate) fn checked_name(
     }
 }
 
+/// Whether a part is an atom, which may be a name.
+fn is_atom(bytes: &[u8]) -> bool
+    ensures { (room : ℕ) (t : Term) (rest : List ℕ) → result ≡ true
+        → item_at room bytes.now ≡ Ok (t, rest) → kind_of t ≡ 1 }
+{
+    match kind_at(bytes) {
+        Some(Kind::Atom) => true,
+        _ => false,
+    }
+}
+
 /// The name at the front of a part; `None` for what is none.
 fn built_name(alloc: Global, levels: u8, bytes: &[u8]) -> Result<Option<Term>, AllocError>
     ensures { (t : Term) (rest : List ℕ) → item_at levels bytes.now ≡ Ok (t, rest) → IfOk result (λ found.
-        MatchOption found (is_name t ≡ false) (λ name. name ≡ t)) }
+        MatchOption found (is_name t ≡ false) (λ name. (name ≡ t) × (is_name t ≡ true))) }
 {
     match decode_item(alloc, levels, bytes) {
         Ok((name, _)) => {
