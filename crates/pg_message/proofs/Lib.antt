@@ -1,11 +1,3 @@
-pub mod Apart
 pub mod Ascents
-pub mod Collected
-pub mod ListShapes
-pub mod Members
 pub mod ReadBack
-pub mod Rows
-pub mod Shapes
-pub mod Spelled
-pub mod Standing
 pub mod Words

@@ -4,5 +4,4 @@ pub mod Members
 pub mod Name
 pub mod Parts
 pub mod Reading
-pub mod Standing
 pub mod Writing

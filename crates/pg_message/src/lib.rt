@@ -7,12 +7,10 @@ mod laws;
 mod message;
 mod name;
 mod packet;
-mod reading;
 
 pub use fault::MessageFault;
 pub use groups::{are_named_once, are_told_once};
 pub use laws::read_back;
 pub use message::{Message, Request, Said};
-pub use name::{MAX_NAME_DEPTH, MAX_NAME_LEN, check_name, name_len};
+pub use name::{MAX_NAME_DEPTH, MAX_NAME_LEN, check_name, is_name, name_len};
 pub use packet::{MAX_STAMP, Packet};
-pub use reading::{is_read_directly, read_packet};

@@ -27,7 +27,7 @@ pub fn check_name(name: &Term) -> Result<(), MessageFault>
 }
 
 /// Whether a term may name a group.
-pub(crate) fn is_name(term: &Term) -> bool
+pub fn is_name(term: &Term) -> bool
     ensures { result ≡ is_name term.now }
 {
     name_len(term).is_some()

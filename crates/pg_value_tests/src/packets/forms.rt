@@ -5,7 +5,7 @@ use super::bodies::{APPLIED, CREATE, DOWN, EXCHANGE, JOIN, JOIN_OF_LIST};
 use crate::rows::Edit::{self, At};
 use crate::rows::{OUT_OF_MEMORY, Row, check, edited, holds};
 use pg_message::MessageFault::{self, *};
-use pg_message::read_packet;
+use pg_reader::read_packet;
 use pg_term::TermFault;
 use pg_writer::write_packet;
 use std::alloc::{AllocError, Global};

@@ -1,0 +1,5 @@
+pub mod Collected
+pub mod Members
+pub mod Rows
+pub mod Spelled
+pub mod Standing

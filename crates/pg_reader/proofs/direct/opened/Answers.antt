@@ -1,0 +1,13 @@
+use Rattle.std.proofs.Common.{List, ℕ, Ok, Err, Result, Bor}
+use Rattle.std.specs.Prelude.{IfOk}
+use Rattle.pg_term.specs.declared.term.Term.TheVariants.{Atom}
+use Rattle.pg_reader.specs.declared.direct.Detour.{Detour}
+use Rattle.pg_reader.specs.Standing.{Stands, Opens}
+use Rattle.pg_reader.proofs.direct.opened.Goals as goal
+
+pub returns : goal.returns
+returns c = at c.word_at.result c.word_at.ensures
+  where
+    at : (o : Result (Bor (List ℕ)) Detour) → ((room : ℕ) → IfOk o (λ rest. Stands room (Atom c.args.word.now) c.in_ok-rest.rest.now rest.now)) → IfOk o (λ rest. Opens c.args.arity c.args.word.now c.args.bytes.now rest.now)
+    at (Err e) h = tt
+    at (Ok rest) h = record { behind = c.in_ok-rest.rest.now; head = c.in_ok-rest.ensures; word_first = h }

@@ -1,0 +1,16 @@
+use Rattle.std.proofs.Common.{List, ℕ, ◌≡◌, ◌++◌, ap, ◌∙◌, Ok, Err, Result, Bor, arith}
+use Rattle.std.specs.Prelude.{IfOk}
+use Rattle.pg_term.specs.declared.term.Term.TheVariants.{Atom}
+use Rattle.pg_reader.specs.declared.direct.Detour.{Detour}
+use Rattle.pg_reader.specs.Standing.{Stands}
+use Rattle.pg_reader.proofs.Standing.{word_stands}
+use Rattle.pg_reader.proofs.direct.word_at.Goals as goal
+
+pub returns : goal.returns
+returns c = λ room. at room c.behind-2.result c.behind-2.ensures
+  where
+    at : (room : ℕ) (o : Result (Bor (List ℕ)) Detour) → IfOk o (λ rest. c.in_ok-rest.rest.now ≡ c.as_bytes.result.now ++ rest.now) → IfOk o (λ rest. Stands room (Atom c.args.word.now) c.args.bytes.now rest.now)
+    at room (Err e) h = tt
+    at room (Ok rest) h =
+        word_stands room c.args.bytes.now c.in_ok-rest.rest.now c.args.word.now rest.now c.requires.plain c.requires.few c.utf8.word (λ i. omega (arith, c.type_inv.word i)) c.in_ok-rest.ensures
+        (h ∙ ap (λ (x : List ℕ). x ++ rest.now) c.as_bytes.ensures.value)

@@ -1,0 +1,395 @@
+//! Packets that are spelled as they are written, read straight off their bytes: no tuple and no word is built.
+
+ghost use Rattle.std.specs.Prelude.{◌≡◌, ◌≤◌, ◌++◌, ℕ, List, pos, codes, true, length, IfOk, Ok};
+ghost use Rattle.pg_term.specs.RefParts.{RefParts};
+ghost use Rattle.pg_term.specs.declared.term.Term.TheVariants as terms;
+ghost use Rattle.pg_term_io.specs.Reading.{item_at};
+ghost use Rattle.pg_message.specs.Name.{is_name};
+ghost use Rattle.pg_message.specs.Reading.{packet_spelled};
+ghost use Rattle.pg_reader.specs.Standing.{Stands, Opens};
+ghost use Rattle.pg_message.specs.Writing.{message_term, request_term, said_term, is_plain, is_sayable};
+ghost use Rattle.pg_message.specs.declared.message.Message.TheVariants as messages;
+
+mod groups;
+
+use crate::direct::groups::groups_at;
+use crate::parts::atom;
+use pg_group::Update;
+use pg_message::{MAX_NAME_LEN, MAX_STAMP, Message, Packet, Request, Said, is_name};
+use pg_shape::may_be_groups;
+use pg_term::{Atom, Pid, Reference, Term, TermFault};
+use pg_term_io::{Kind, decode_item, decode_pid, decode_reference, kind_at, skip_item};
+use std::alloc::{AllocError, AllocFailed, Global};
+
+/// How many levels a name may nest. The term of a packet may nest 64, and a name stands in three tuples, as does the
+/// node of an exchange.
+const NAME_LEVELS: u8 = 61;
+
+/// Why no packet is read straight off the bytes.
+#[derive(Clone, Copy, Debug, PartialEq, Eq)]
+pub(crate) enum Detour {
+    /// Memory ran out.
+    OutOfMemory,
+    /// The bytes spell no packet, or spell it in another form than it is written in.
+    OtherForm,
+}
+
+impl From<TermFault> for Detour {
+    fn from(fault: TermFault) -> Detour {
+        match fault {
+            TermFault::OutOfMemory => Detour::OutOfMemory,
+            _ => Detour::OtherForm,
+        }
+    }
+}
+
+impl From<AllocError> for Detour {
+    fn from(_e: AllocError) -> Detour {
+        Detour::OutOfMemory
+    }
+}
+
+impl<T: Drop> From<AllocFailed<T>> for Detour {
+    fn from(_e: AllocFailed<T>) -> Detour {
+        Detour::OutOfMemory
+    }
+}
+
+/// The packet that a body spells, where all that stands around its parts is spelled as it is written. It takes memory
+/// for these parts alone, and to see that an exchange whose groups do not ascend names none twice.
+pub(crate) fn direct_packet(alloc: Global, body: &[u8]) -> Result<Packet, Detour>
+    ensures { IfOk result (λ packet. packet_spelled body.now ≡ Ok packet) }
+{
+    let rest = behind(body, &[131, 104, 2])?;
+    let (stamp, rest) = stamp_at(rest)?;
+    let (message, rest) = message_at(alloc, rest)?;
+    if !rest.is_empty() {
+        drop(message);
+        return Err(Detour::OtherForm);
+    }
+    Ok(Packet { stamp, message })
+}
+
+/// What follows these bytes at the front.
+fn behind<'a>(bytes: &'a [u8], front: &[u8]) -> Result<&'a [u8], Detour>
+    ensures { IfOk result (λ rest. bytes.now ≡ front.now ++ rest.now) }
+{
+    match bytes.strip_prefix(front) {
+        Some(rest) => Ok(rest),
+        None => Err(Detour::OtherForm),
+    }
+}
+
+/// What follows a word.
+fn word_at<'a>(bytes: &'a [u8], word: &str) -> Result<&'a [u8], Detour>
+    requires plain { is_plain word.now ≡ true }
+    requires few { length word.now ≤ 255 }
+    ensures { (room : ℕ) → IfOk result (λ rest.
+        Stands room (terms.Atom word.now) bytes.now rest.now) }
+{
+    let rest = behind(bytes, &[119, word.len() as u8])?;
+    behind(rest, word.as_bytes())
+}
+
+/// What follows the word with which a tuple of so many elements begins.
+fn opened<'a>(bytes: &'a [u8], arity: u8, word: &str) -> Result<&'a [u8], Detour>
+    requires plain { is_plain word.now ≡ true }
+    requires few { length word.now ≤ 255 }
+    ensures { IfOk result (λ rest. Opens arity word.now bytes.now rest.now) }
+{
+    let rest = behind(bytes, &[104, arity])?;
+    word_at(rest, word)
+}
+
+fn stamp_at(bytes: &[u8]) -> Result<(u32, &[u8]), Detour>
+    ensures term { (room : ℕ) → IfOk result (λ x.
+        Stands room (terms.Int (pos x.0)) bytes.now x.1.now) }
+    ensures in_time { IfOk result (λ x. x.0 ≤ MAX_STAMP) }
+{
+    if let Ok(rest) = behind(bytes, &[97]) {
+        let Some((stamp, rest)) = rest.split_first() else {
+            return Err(Detour::OtherForm);
+        };
+        Ok((u32::from(*stamp), rest))
+    } else {
+        large_stamp_at(bytes)
+    }
+}
+
+/// A stamp that is written in four bytes.
+fn large_stamp_at(bytes: &[u8]) -> Result<(u32, &[u8]), Detour>
+    ensures term { (room : ℕ) → IfOk result (λ x.
+        Stands room (terms.Int (pos x.0)) bytes.now x.1.now) }
+    ensures in_time { IfOk result (λ x. x.0 ≤ MAX_STAMP) }
+{
+    let rest = behind(bytes, &[98])?;
+    let Some((digits, rest)) = rest.split_first_chunk::<4>() else {
+        return Err(Detour::OtherForm);
+    };
+    let stamp = u32::from_be_bytes(*digits);
+    if stamp > MAX_STAMP {
+        return Err(Detour::OtherForm);
+    }
+    Ok((stamp, rest))
+}
+
+fn reference_at(alloc: Global, bytes: &[u8]) -> Result<(Reference, &[u8]), Detour>
+    ensures { (room : ℕ) → IfOk result (λ x. Stands room (terms.Ref x.0) bytes.now x.1.now) }
+{
+    let rest = behind(bytes, &[90])?;
+    Ok(decode_reference(alloc, rest)?)
+}
+
+fn pid_at(alloc: Global, bytes: &[u8]) -> Result<(Pid, &[u8]), Detour>
+    ensures { (room : ℕ) → IfOk result (λ x. Stands room (terms.Pid x.0) bytes.now x.1.now) }
+{
+    let rest = behind(bytes, &[88])?;
+    Ok(decode_pid(alloc, rest)?)
+}
+
+/// A name that may nest so many levels.
+fn name_at(alloc: Global, levels: u8, bytes: &[u8]) -> Result<(Term, &[u8]), Detour>
+    ensures term { IfOk result (λ x. item_at levels bytes.now ≡ Ok (x.0, x.1.now)) }
+    ensures name { IfOk result (λ x. is_name x.0 ≡ true) }
+{
+    check_name_len(levels, bytes)?;
+    let (name, rest) = decode_item(alloc, levels, bytes)?;
+    if !is_name(&name) {
+        drop(name);
+        return Err(Detour::OtherForm);
+    }
+    Ok((name, rest))
+}
+
+/// Whether a part takes no more bytes than a name as it is written: what takes more is left unbuilt. An atom never does.
+fn check_name_len(levels: u8, bytes: &[u8]) -> Result<(), Detour> {
+    if kind_at(bytes) == Some(Kind::Atom) {
+        return Ok(());
+    }
+    let behind = skip_item(levels, bytes)?;
+    if bytes.len().saturating_sub(behind.len()) >= MAX_NAME_LEN {
+        return Err(Detour::OtherForm);
+    }
+    Ok(())
+}
+
+fn node_at(alloc: Global, bytes: &[u8]) -> Result<(Atom, &[u8]), Detour>
+    ensures { IfOk result (λ x. Stands 60 (terms.Atom x.0) bytes.now x.1.now) }
+{
+    if kind_at(bytes) != Some(Kind::Atom) {
+        return Err(Detour::OtherForm);
+    }
+    let (term, rest) = decode_item(alloc, NAME_LEVELS, bytes)?;
+    let Some(node) = atom(term) else {
+        return Err(Detour::OtherForm);
+    };
+    Ok((node, rest))
+}
+
+/// Whether groups may stand behind a node: of what tells none the names alone are built.
+fn check_exchange(alloc: Global, bytes: &[u8]) -> Result<(), Detour> {
+    let groups = skip_item(NAME_LEVELS, bytes)?;
+    if !may_be_groups(alloc, NAME_LEVELS, groups)? {
+        return Err(Detour::OtherForm);
+    }
+    Ok(())
+}
+
+fn message_at(alloc: Global, bytes: &[u8]) -> Result<(Message, &[u8]), Detour>
+    ensures term { IfOk result (λ x. Stands 62 (message_term x.0) bytes.now x.1.now) }
+    ensures sayable { IfOk result (λ x. is_sayable x.0 ≡ true) }
+{
+    if let Ok(rest) = opened(bytes, 3, "call") {
+        call_at(alloc, rest)
+    } else if let Ok(rest) = opened(bytes, 3, "reply") {
+        reply_at(alloc, rest)
+    } else if let Ok(rest) = opened(bytes, 2, "cast") {
+        cast_at(alloc, rest)
+    } else if let Ok(rest) = opened(bytes, 2, "down") {
+        down_at(alloc, rest)
+    } else {
+        Err(Detour::OtherForm)
+    }
+}
+
+// Ref, Request}
+fn call_at(alloc: Global, bytes: &[u8]) -> Result<(Message, &[u8]), Detour>
+    ensures term { (front : List ℕ) → Opens 3 (codes "call") front bytes.now → IfOk result (λ x.
+        Stands 62 (message_term x.0) front x.1.now) }
+    ensures sayable { IfOk result (λ x. is_sayable x.0 ≡ true) }
+{
+    let (reference, rest) = reference_at(alloc, bytes)?;
+    let (request, rest) = request_at(alloc, rest)?;
+    Ok((Message::Call(reference, request), rest))
+}
+
+// Ref, Said}
+fn reply_at(alloc: Global, bytes: &[u8]) -> Result<(Message, &[u8]), Detour>
+    ensures term { (front : List ℕ) → Opens 3 (codes "reply") front bytes.now → IfOk result (λ x.
+        Stands 62 (message_term x.0) front x.1.now) }
+    ensures sayable { IfOk result (λ x. is_sayable x.0 ≡ true) }
+{
+    let (reference, rest) = reference_at(alloc, bytes)?;
+    let (said, rest) = said_at(rest)?;
+    Ok((Message::Reply(reference, said), rest))
+}
+
+// {del_lock, Name, Ref}} or {exchange, Node, Groups}}
+fn cast_at(alloc: Global, bytes: &[u8]) -> Result<(Message, &[u8]), Detour>
+    ensures term { (front : List ℕ) → Opens 2 (codes "cast") front bytes.now → IfOk result (λ x.
+        Stands 62 (message_term x.0) front x.1.now) }
+    ensures sayable { IfOk result (λ x. is_sayable x.0 ≡ true) }
+{
+    if let Ok(rest) = opened(bytes, 3, "del_lock") {
+        del_lock_at(alloc, rest)
+    } else if let Ok(rest) = opened(bytes, 3, "exchange") {
+        exchange_at(alloc, rest)
+    } else {
+        Err(Detour::OtherForm)
+    }
+}
+
+// Name, Ref}}
+fn del_lock_at(alloc: Global, bytes: &[u8]) -> Result<(Message, &[u8]), Detour>
+    ensures term { (front inner : List ℕ) → Opens 2 (codes "cast") front inner
+        → Opens 3 (codes "del_lock") inner bytes.now → IfOk result (λ x.
+        Stands 62 (message_term x.0) front x.1.now) }
+    ensures sayable { IfOk result (λ x. is_sayable x.0 ≡ true) }
+{
+    let (name, rest) = name_at(alloc, NAME_LEVELS, bytes)?;
+    match reference_at(alloc, rest) {
+        Ok((reference, rest)) => Ok((Message::DelLock(name, reference), rest)),
+        Err(detour) => {
+            drop(name);
+            Err(detour)
+        }
+    }
+}
+
+// Node, Groups}}
+fn exchange_at(alloc: Global, bytes: &[u8]) -> Result<(Message, &[u8]), Detour>
+    ensures term { (front inner : List ℕ) → Opens 2 (codes "cast") front inner
+        → Opens 3 (codes "exchange") inner bytes.now → IfOk result (λ x.
+        Stands 62 (message_term x.0) front x.1.now) }
+    ensures sayable { IfOk result (λ x. is_sayable x.0 ≡ true) }
+{
+    check_exchange(alloc, bytes)?;
+    let (node, rest) = node_at(alloc, bytes)?;
+    let (groups, rest) = groups_at(alloc, rest)?;
+    Ok((Message::Exchange(node, groups), rest))
+}
+
+// Pid}
+fn down_at(alloc: Global, bytes: &[u8]) -> Result<(Message, &[u8]), Detour>
+    ensures term { (front : List ℕ) → Opens 2 (codes "down") front bytes.now → IfOk result (λ x.
+        Stands 62 (message_term x.0) front x.1.now) }
+    ensures sayable { IfOk result (λ x. is_sayable x.0 ≡ true) }
+{
+    let (pid, rest) = pid_at(alloc, bytes)?;
+    Ok((Message::Down(pid), rest))
+}
+
+fn request_at(alloc: Global, bytes: &[u8]) -> Result<(Request, &[u8]), Detour>
+    ensures term { IfOk result (λ x. Stands 61 (request_term x.0) bytes.now x.1.now) }
+    ensures sayable { (reference : RefParts) → IfOk result (λ x.
+        is_sayable (messages.Call reference x.0) ≡ true) }
+{
+    if let Ok(rest) = opened(bytes, 3, "join") {
+        join_at(alloc, rest)
+    } else if let Ok(rest) = opened(bytes, 3, "leave") {
+        leave_at(alloc, rest)
+    } else if let Ok(rest) = opened(bytes, 2, "create") {
+        create_at(alloc, rest)
+    } else if let Ok(rest) = opened(bytes, 2, "delete") {
+        delete_at(alloc, rest)
+    } else if let Ok(rest) = opened(bytes, 2, "set_lock") {
+        set_lock_at(alloc, rest)
+    } else {
+        Err(Detour::OtherForm)
+    }
+}
+
+/// A name, and a pid behind it.
+fn named_pid_at(alloc: Global, bytes: &[u8]) -> Result<(Term, Pid, &[u8]), Detour>
+    ensures terms { IfOk result (λ x. (mid : List ℕ)
+        × Stands 60 x.0 bytes.now mid × Stands 60 (terms.Pid x.1) mid x.2.now) }
+    ensures name { IfOk result (λ x. is_name x.0 ≡ true) }
+{
+    let (name, rest) = name_at(alloc, NAME_LEVELS, bytes)?;
+    match pid_at(alloc, rest) {
+        Ok((pid, rest)) => Ok((name, pid, rest)),
+        Err(detour) => {
+            drop(name);
+            Err(detour)
+        }
+    }
+}
+
+// Name, Pid}
+fn join_at(alloc: Global, bytes: &[u8]) -> Result<(Request, &[u8]), Detour>
+    ensures term { (front : List ℕ) → Opens 3 (codes "join") front bytes.now → IfOk result (λ x.
+        Stands 61 (request_term x.0) front x.1.now) }
+    ensures sayable { (reference : RefParts) → IfOk result (λ x.
+        is_sayable (messages.Call reference x.0) ≡ true) }
+{
+    let (name, pid, rest) = named_pid_at(alloc, bytes)?;
+    Ok((Request::Change(Update::Join(name, pid)), rest))
+}
+
+// Name, Pid}
+fn leave_at(alloc: Global, bytes: &[u8]) -> Result<(Request, &[u8]), Detour>
+    ensures term { (front : List ℕ) → Opens 3 (codes "leave") front bytes.now → IfOk result (λ x.
+        Stands 61 (request_term x.0) front x.1.now) }
+    ensures sayable { (reference : RefParts) → IfOk result (λ x.
+        is_sayable (messages.Call reference x.0) ≡ true) }
+{
+    let (name, pid, rest) = named_pid_at(alloc, bytes)?;
+    Ok((Request::Change(Update::Leave(name, pid)), rest))
+}
+
+// Name}
+fn create_at(alloc: Global, bytes: &[u8]) -> Result<(Request, &[u8]), Detour>
+    ensures term { (front : List ℕ) → Opens 2 (codes "create") front bytes.now → IfOk result (λ x.
+        Stands 61 (request_term x.0) front x.1.now) }
+    ensures sayable { (reference : RefParts) → IfOk result (λ x.
+        is_sayable (messages.Call reference x.0) ≡ true) }
+{
+    let (name, rest) = name_at(alloc, NAME_LEVELS, bytes)?;
+    Ok((Request::Change(Update::Create(name)), rest))
+}
+
+// Name}
+fn delete_at(alloc: Global, bytes: &[u8]) -> Result<(Request, &[u8]), Detour>
+    ensures term { (front : List ℕ) → Opens 2 (codes "delete") front bytes.now → IfOk result (λ x.
+        Stands 61 (request_term x.0) front x.1.now) }
+    ensures sayable { (reference : RefParts) → IfOk result (λ x.
+        is_sayable (messages.Call reference x.0) ≡ true) }
+{
+    let (name, rest) = name_at(alloc, NAME_LEVELS, bytes)?;
+    Ok((Request::Change(Update::Delete(name)), rest))
+}
+
+// Name}
+fn set_lock_at(alloc: Global, bytes: &[u8]) -> Result<(Request, &[u8]), Detour>
+    ensures term { (front : List ℕ) → Opens 2 (codes "set_lock") front bytes.now → IfOk result (λ x.
+        Stands 61 (request_term x.0) front x.1.now) }
+    ensures sayable { (reference : RefParts) → IfOk result (λ x.
+        is_sayable (messages.Call reference x.0) ≡ true) }
+{
+    let (name, rest) = name_at(alloc, NAME_LEVELS, bytes)?;
+    Ok((Request::SetLock(name), rest))
+}
+
+fn said_at(bytes: &[u8]) -> Result<(Said, &[u8]), Detour>
+    ensures { IfOk result (λ x. Stands 61 (said_term x.0) bytes.now x.1.now) }
+{
+    if let Ok(rest) = word_at(bytes, "ok") {
+        Ok((Said::Applied, rest))
+    } else if let Ok(rest) = word_at(bytes, "true") {
+        Ok((Said::Granted, rest))
+    } else if let Ok(rest) = word_at(bytes, "false") {
+        Ok((Said::Denied, rest))
+    } else {
+        Err(Detour::OtherForm)
+    }
+}

@@ -1,0 +1,5 @@
+pub mod Alike
+pub mod Apart
+pub mod AtomNames
+pub mod ListShapes
+pub mod Shapes
