@@ -5,7 +5,8 @@ use crate::samples::{JOIN_CALL, pid};
 use bytes::BytesMut;
 use pg_message::{Message, MessageFault, Packet, read_packet, write_packet, write_packet_into};
 use pg_term::{Atom, Fields, Items, Pid, Term, TermFault};
-use pg_term_io::{decode, encode, encode_into};
+use pg_term_io::decode;
+use pg_term_out::{encode, encode_into};
 use std::alloc::Global;
 
 /// What is read and written.

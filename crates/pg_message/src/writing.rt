@@ -21,8 +21,9 @@ pub use crate::writing::size::{MAX_SMALL_LEN, packet_len};
 use bytes::BytesMut;
 use pg_group::Update;
 use pg_term::{Atom, Items, Pid, Reference, Term};
-use pg_term_io::{
-    MAX_LEN, put_atom, put_int, put_item, put_list_head, put_pid, put_reference, put_tuple_head,
+use pg_term_io::MAX_LEN;
+use pg_term_out::{
+    put_atom, put_int, put_item, put_list_head, put_pid, put_reference, put_tuple_head,
 };
 use std::alloc::Global;
 

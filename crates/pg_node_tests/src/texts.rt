@@ -4,7 +4,7 @@ use crate::nodes::State;
 use pg_lines::{Line, NodeForm, print_answer, read_line};
 use pg_message::{Packet, read_packet};
 use pg_step::Command;
-use pg_term_io::encode;
+use pg_term_out::encode;
 use pg_text::read_term;
 use std::alloc::{AllocError, Global};
 

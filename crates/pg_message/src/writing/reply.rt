@@ -11,7 +11,8 @@ use crate::writing::size::{reply_len, stamp_len};
 use crate::writing::{put_reply, put_stamp};
 use bytes::BytesMut;
 use pg_term::Reference;
-use pg_term_io::{MAX_LEN, put_tuple_head};
+use pg_term_io::MAX_LEN;
+use pg_term_out::put_tuple_head;
 use std::alloc::AllocError;
 
 /// Appends the packet `{Stamp, {reply, Ref, Said}}` as one whole frame, as `write_packet_into` does: a `gen_server` call's

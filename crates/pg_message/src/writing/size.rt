@@ -17,9 +17,8 @@ use crate::name::name_len;
 use crate::packet::{MAX_STAMP, Packet};
 use pg_group::Update;
 use pg_term::{Atom, Items, Pid, Reference, Term, TermFault};
-use pg_term_io::{
-    MAX_LEN, atom_len, int_len, list_head_len, pid_len, reference_len, tuple_head_len,
-};
+use pg_term_io::MAX_LEN;
+use pg_term_out::{atom_len, int_len, list_head_len, pid_len, reference_len, tuple_head_len};
 
 /// How many bytes a body takes at most, if it is no exchange.
 pub const MAX_SMALL_LEN: usize = 3126;

@@ -17,7 +17,7 @@ use pg_group::Update;
 use pg_message::{MAX_SMALL_LEN, Message, Packet, Request, read_packet, write_packet_into};
 use pg_ring::{Inlet, Link};
 use pg_step::Refusal;
-use pg_term_io::{pid_len, reference_len};
+use pg_term_out::{pid_len, reference_len};
 use std::alloc::{AllocError, Global};
 
 /// What came in from a peer and what goes out to it.

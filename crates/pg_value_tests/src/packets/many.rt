@@ -9,7 +9,8 @@ use bytes::BytesMut;
 use pg_message::MessageFault::{self, NotAMessage, StampTooLarge};
 use pg_message::{Packet, packet_len, write_packet, write_packet_into};
 use pg_term::TermFault;
-use pg_term_io::{decode, encode};
+use pg_term_io::decode;
+use pg_term_out::encode;
 use std::alloc::{AllocError, Global};
 use std::test::*;
 

@@ -9,7 +9,8 @@ use crate::rows::{OUT_OF_MEMORY, Row, check, edited, holds};
 use pg_message::MessageFault::{self, NameTooLarge, NotAMessage};
 use pg_message::{MAX_NAME_DEPTH, MAX_NAME_LEN, check_name, write_packet};
 use pg_term::{Term, TermFault};
-use pg_term_io::{decode, encode_len};
+use pg_term_io::decode;
+use pg_term_out::encode_len;
 use std::alloc::{AllocError, Global};
 use std::test::*;
 
