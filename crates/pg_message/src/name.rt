@@ -4,7 +4,7 @@ ghost use Rattle.pg_message.specs.Name.{is_name};
 
 use crate::fault::MessageFault;
 use pg_term::Term;
-use pg_term_io::item_len;
+use pg_term_writer::item_len;
 
 /// How many bytes a name takes at most, as it is written with the byte 131: this project's own limit.
 pub const MAX_NAME_LEN: usize = 1024;
@@ -15,7 +15,7 @@ pub const MAX_NAME_DEPTH: usize = 32;
 /// Whether a term may name a group. It takes no memory. One walk over the term, at most 32 levels down.
 ///
 /// The fault: `NameTooLarge`, where the term nests more than 32 levels deep, or takes more than 1,024 bytes as
-/// `pg_term_io::encode` writes it.
+/// `pg_term_writer::encode` writes it.
 pub fn check_name(name: &Term) -> Result<(), MessageFault>
     ensures ok { IsOk result ↔ IsTrue (is_name name.now) }
     ensures err { IfErr result (λ fault. fault ≡ MessageFault.NameTooLarge) }

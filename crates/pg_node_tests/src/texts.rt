@@ -5,7 +5,7 @@ use pg_lines::{Line, NodeForm, print_answer, read_line};
 use pg_message::Packet;
 use pg_reader::read_packet;
 use pg_step::Command;
-use pg_term_io::encode;
+use pg_term_writer::encode;
 use pg_text::read_term;
 use std::alloc::{AllocError, Global};
 

@@ -6,41 +6,41 @@ ghost use Rattle.pg_term_io.specs.Tags.{tag_of, list_tag, tuple_size, kind_of_le
 
 use crate::kind::Kind;
 
-pub(crate) const NEW_PID_EXT: u8 = 88;
+pub const NEW_PID_EXT: u8 = 88;
 
-pub(crate) const NEWER_REFERENCE_EXT: u8 = 90;
+pub const NEWER_REFERENCE_EXT: u8 = 90;
 
-pub(crate) const SMALL_INTEGER_EXT: u8 = 97;
+pub const SMALL_INTEGER_EXT: u8 = 97;
 
-pub(crate) const INTEGER_EXT: u8 = 98;
+pub const INTEGER_EXT: u8 = 98;
 
-pub(crate) const ATOM_EXT: u8 = 100;
+pub const ATOM_EXT: u8 = 100;
 
-pub(crate) const REFERENCE_EXT: u8 = 101;
+pub const REFERENCE_EXT: u8 = 101;
 
-pub(crate) const PID_EXT: u8 = 103;
+pub const PID_EXT: u8 = 103;
 
-pub(crate) const SMALL_TUPLE_EXT: u8 = 104;
+pub const SMALL_TUPLE_EXT: u8 = 104;
 
-pub(crate) const LARGE_TUPLE_EXT: u8 = 105;
+pub const LARGE_TUPLE_EXT: u8 = 105;
 
-pub(crate) const NIL_EXT: u8 = 106;
+pub const NIL_EXT: u8 = 106;
 
-pub(crate) const STRING_EXT: u8 = 107;
+pub const STRING_EXT: u8 = 107;
 
-pub(crate) const LIST_EXT: u8 = 108;
+pub const LIST_EXT: u8 = 108;
 
-pub(crate) const BINARY_EXT: u8 = 109;
+pub const BINARY_EXT: u8 = 109;
 
-pub(crate) const SMALL_BIG_EXT: u8 = 110;
+pub const SMALL_BIG_EXT: u8 = 110;
 
-pub(crate) const NEW_REFERENCE_EXT: u8 = 114;
+pub const NEW_REFERENCE_EXT: u8 = 114;
 
-pub(crate) const SMALL_ATOM_EXT: u8 = 115;
+pub const SMALL_ATOM_EXT: u8 = 115;
 
-pub(crate) const ATOM_UTF8_EXT: u8 = 118;
+pub const ATOM_UTF8_EXT: u8 = 118;
 
-pub(crate) const SMALL_ATOM_UTF8_EXT: u8 = 119;
+pub const SMALL_ATOM_UTF8_EXT: u8 = 119;
 
 /// Whether a length takes one byte, or more: two bytes that of an atom, four that of a tuple.
 #[derive(Clone, Copy)]

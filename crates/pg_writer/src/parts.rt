@@ -14,7 +14,8 @@ use bytes::BytesMut;
 use pg_group::Update;
 use pg_message::Said;
 use pg_term::{Atom, Items, Pid, Reference, Term};
-use pg_term_io::{MAX_LEN, put_atom, put_int, put_item, put_list_head, put_pid, put_reference};
+use pg_term_io::MAX_LEN;
+use pg_term_writer::{put_atom, put_int, put_item, put_list_head, put_pid, put_reference};
 
 /// Appends the body of a packet.
 #[tactic(auto, using(crate::proofs::Words::pair_len))]

@@ -15,7 +15,8 @@ use crate::told::{Asked, Mark, Told};
 use pg_group::Update;
 use pg_message::{MAX_STAMP, MessageFault, Packet, Said, are_named_once, name_len};
 use pg_term::{Atom, Items, Pid, Term, TermFault};
-use pg_term_io::{MAX_LEN, atom_len, int_len, list_head_len, pid_len, reference_len};
+use pg_term_io::MAX_LEN;
+use pg_term_writer::{atom_len, int_len, list_head_len, pid_len, reference_len};
 
 /// How many bytes a body takes at most, if it is no exchange.
 pub const MAX_SMALL_LEN: usize = 3126;

@@ -1,6 +1,6 @@
 use Rattle.std.proofs.Common.{◌≡◌, ◌+◌, ◌++◌, length, take}
 use Rattle.pg_term_io.specs.Writing.{all_bytes, AreSpelled}
-use Rattle.pg_term_io.proofs.writing.+put.Given as goal
+use Rattle.pg_term_writer.proofs.writing.+put.Given as goal
 
 abbrev pub invariant-put_all-loop-term : goal.invariant-put_all-loop-term
 invariant-put_all-loop-term l =

@@ -2,7 +2,7 @@ use Rattle.std.proofs.Common.{◌≡◌, ◌+◌, ◌*◌, ◌++◌, ◌∷◌, 
 use Rattle.std.specs.Int.{w16, w32, to_be_bytes}
 use Rattle.std.specs.List.{flat_map}
 use Rattle.pg_term_io.specs.Writing.{atom_bytes}
-use Rattle.pg_term_io.proofs.writing.put_reference.Given as goal
+use Rattle.pg_term_writer.proofs.writing.put_reference.Given as goal
 
 abbrev pub invariant-loop-word : goal.invariant-loop-word
 invariant-loop-word l =

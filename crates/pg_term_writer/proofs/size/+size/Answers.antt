@@ -2,7 +2,7 @@ use Rattle.std.proofs.Common.{rules, arith, ap, ◌<◌}
 use Rattle.pg_term.specs.Depth.{depth, greatest_depth}
 use Rattle.pg_term_io.proofs.Deep.{part_depth, depth_more}
 use Rattle.pg_term_io.proofs.Written.{len_more}
-use Rattle.pg_term_io.proofs.size.+size.Goals as goal
+use Rattle.pg_term_writer.proofs.size.+size.Goals as goal
 
 pub all_len-returns-in_err-item_len-clause-err : goal.all_len-returns-in_err-item_len-clause-err
 all_len-returns-in_err-item_len-clause-err t c =

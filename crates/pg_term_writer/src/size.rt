@@ -2,11 +2,11 @@ ghost use Rattle.std.specs.Prelude.{◌≡◌, ◌+◌, ◌<◌, ◌≤◌, ◌�
 ghost use Rattle.pg_term.specs.Depth.{depth, greatest_depth};
 ghost use Rattle.pg_term_io.specs.Writing.{digits, int_bytes, atom_bytes, pid_bytes, reference_bytes, binary_bytes, tuple_head, list_head, item_bytes, all_bytes, tuple_bytes, list_bytes, written, IsWritable, IsTooLong};
 
-use crate::limits::{MAX_DEPTH, MAX_LEN};
 use pg_term::{Atom, Pid, Reference, Term, TermFault};
+use pg_term_io::{MAX_DEPTH, MAX_LEN};
 
 // How many digits a number has in base 256.
-#[tactic(auto, using(crate::proofs::WrittenDigits::counting))]
+#[tactic(auto, using(pg_term_io::proofs::WrittenDigits::counting))]
 pub(crate) fn digit_count(number: u64) -> usize
     ensures value { result ≡ length (digits number) }
     ensures few { result ≤ 8 }
@@ -22,7 +22,7 @@ pub(crate) fn digit_count(number: u64) -> usize
 
 /// How many bytes an integer takes: SMALL_INTEGER_EXT, INTEGER_EXT or SMALL_BIG_EXT of the External
 /// Term Format.
-#[tactic(auto, unfolding(crate::specs::Writing::big_bytes))]
+#[tactic(auto, unfolding(pg_term_io::specs::Writing::big_bytes))]
 pub fn int_len(number: i64) -> usize
     ensures value { result ≡ length (int_bytes number) }
     ensures few { result ≤ 11 }
@@ -37,7 +37,7 @@ pub fn int_len(number: i64) -> usize
 }
 
 /// How many bytes an atom takes: SMALL_ATOM_UTF8_EXT or ATOM_UTF8_EXT.
-#[tactic(auto, unfolding(crate::specs::Writing::atom_bytes))]
+#[tactic(auto, unfolding(pg_term_io::specs::Writing::atom_bytes))]
 pub fn atom_len(atom: &Atom) -> usize
     ensures value { result ≡ length (atom_bytes atom.now) }
     ensures few { result ≤ 1023 }
@@ -47,7 +47,7 @@ pub fn atom_len(atom: &Atom) -> usize
 }
 
 /// How many bytes a pid takes: NEW_PID_EXT.
-#[tactic(auto, unfolding(crate::specs::Writing::pid_bytes))]
+#[tactic(auto, unfolding(pg_term_io::specs::Writing::pid_bytes))]
 pub fn pid_len(pid: &Pid) -> usize
     ensures value { result ≡ length (pid_bytes pid.now) }
     ensures few { result ≤ 1036 }
@@ -56,7 +56,7 @@ pub fn pid_len(pid: &Pid) -> usize
 }
 
 /// How many bytes a reference takes: NEWER_REFERENCE_EXT.
-#[tactic(auto, using(crate::proofs::WrittenWords::reference_len))]
+#[tactic(auto, using(pg_term_io::proofs::WrittenWords::reference_len))]
 pub fn reference_len(reference: &Reference) -> usize
     ensures value { result ≡ length (reference_bytes reference.now) }
     ensures few { result ≤ 1042 }

@@ -1,6 +1,6 @@
 use Rattle.std.proofs.Common.{◌≡◌, ◌+◌, ◌++◌, ◌∷◌, length}
 use Rattle.pg_term_io.specs.Writing.{digits}
-use Rattle.pg_term_io.proofs.writing.put_big.Given as goal
+use Rattle.pg_term_writer.proofs.writing.put_big.Given as goal
 
 abbrev pub invariant-loop-rest : goal.invariant-loop-rest
 invariant-loop-rest l =

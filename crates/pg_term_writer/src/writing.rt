@@ -3,20 +3,20 @@ ghost use Rattle.pg_term.specs.Depth.{depth};
 ghost use Rattle.pg_term_io.specs.Writing.{big_bytes, int_bytes, atom_bytes, pid_bytes, reference_bytes, binary_bytes, tuple_head, list_head, item_bytes, all_bytes, tuple_bytes, list_bytes, written, IsWritable, IsTooLong, IsSpelled, AreSpelled};
 ghost use Rattle.pg_term_io.specs.Spelling.{IsAtom, Spells};
 
-use crate::limits::{MAX_DEPTH, MAX_LEN};
 use crate::size::{digit_count, encode_len};
-use crate::tag::{
+use bytes::BytesMut;
+use pg_term::{Atom, Pid, Reference, Term, TermFault};
+use pg_term_io::tag::{
     ATOM_UTF8_EXT, BINARY_EXT, INTEGER_EXT, LARGE_TUPLE_EXT, LIST_EXT, NEW_PID_EXT,
     NEWER_REFERENCE_EXT, NIL_EXT, SMALL_ATOM_UTF8_EXT, SMALL_BIG_EXT, SMALL_INTEGER_EXT,
     SMALL_TUPLE_EXT,
 };
-use bytes::BytesMut;
-use pg_term::{Atom, Pid, Reference, Term, TermFault};
+use pg_term_io::{MAX_DEPTH, MAX_LEN};
 use std::alloc::Global;
 
 /// Writes an integer into room that was reserved: SMALL_INTEGER_EXT, INTEGER_EXT or SMALL_BIG_EXT
 /// of the External Term Format, the first that holds it.
-#[tactic(auto, using(crate::proofs::Spelled::number_spelled))]
+#[tactic(auto, using(pg_term_io::proofs::Spelled::number_spelled))]
 pub fn put_int(out: &mut BytesMut, number: i64)
     requires { length (int_bytes number) ≤ out.old.spare }
     ensures items { out.new.items ≡ out.old.items ++ int_bytes number }
@@ -35,7 +35,7 @@ pub fn put_int(out: &mut BytesMut, number: i64)
     }
 }
 
-#[tactic(auto, using(crate::proofs::WrittenDigits::counting), unfolding(crate::specs::Writing::big_bytes))]
+#[tactic(auto, using(pg_term_io::proofs::WrittenDigits::counting), unfolding(pg_term_io::specs::Writing::big_bytes))]
 fn put_big(out: &mut BytesMut, sign: u8, magnitude: u64)
     requires { length (big_bytes sign magnitude) ≤ out.old.spare }
     ensures items { out.new.items ≡ out.old.items ++ big_bytes sign magnitude }
@@ -50,7 +50,7 @@ fn put_big(out: &mut BytesMut, sign: u8, magnitude: u64)
 }
 
 /// Writes an atom into room that was reserved: SMALL_ATOM_UTF8_EXT or ATOM_UTF8_EXT.
-#[tactic(auto, using(crate::proofs::Spelled::atom_spelled), unfolding(crate::specs::Writing::atom_bytes))]
+#[tactic(auto, using(pg_term_io::proofs::Spelled::atom_spelled), unfolding(pg_term_io::specs::Writing::atom_bytes))]
 pub fn put_atom(out: &mut BytesMut, atom: &Atom)
     requires { length (atom_bytes atom.now) ≤ out.old.spare }
     ensures items { out.new.items ≡ out.old.items ++ atom_bytes atom.now }
@@ -69,7 +69,7 @@ pub fn put_atom(out: &mut BytesMut, atom: &Atom)
 }
 
 /// Writes a pid into room that was reserved: NEW_PID_EXT.
-#[tactic(auto, unfolding(crate::specs::Writing::pid_bytes))]
+#[tactic(auto, unfolding(pg_term_io::specs::Writing::pid_bytes))]
 pub fn put_pid(out: &mut BytesMut, pid: &Pid)
     requires { length (pid_bytes pid.now) ≤ out.old.spare }
     ensures items { out.new.items ≡ out.old.items ++ pid_bytes pid.now }
@@ -84,7 +84,7 @@ pub fn put_pid(out: &mut BytesMut, pid: &Pid)
 }
 
 /// Writes a reference into room that was reserved: NEWER_REFERENCE_EXT.
-#[tactic(auto, using(crate::proofs::WrittenWords::reference_len), unfolding(crate::specs::Writing::reference_bytes))]
+#[tactic(auto, using(pg_term_io::proofs::WrittenWords::reference_len), unfolding(pg_term_io::specs::Writing::reference_bytes))]
 pub fn put_reference(out: &mut BytesMut, reference: &Reference)
     requires { length (reference_bytes reference.now) ≤ out.old.spare }
     ensures items { out.new.items ≡ out.old.items ++ reference_bytes reference.now }
@@ -200,7 +200,7 @@ fn put_all(out: &mut BytesMut, terms: &[Term])
     }
 }
 
-#[tactic(auto, using(crate::proofs::Spelled::written_spelled))]
+#[tactic(auto, using(pg_term_io::proofs::Spelled::written_spelled))]
 fn put_written(out: &mut BytesMut, term: &Term)
     requires short { length (written term.now) ≤ MAX_LEN }
     requires room { length (written term.now) ≤ out.old.spare }

@@ -1,7 +1,7 @@
 use Rattle.std.proofs.Common.{◌<◌, ℕ, get_or, rules}
 use Rattle.pg_term_io.proofs.Atoms.{all_fit}
 use Rattle.pg_term_io.proofs.Spelled.{binary_spelled}
-use Rattle.pg_term_io.proofs.writing.put_binary.Goals as goal
+use Rattle.pg_term_writer.proofs.writing.put_binary.Goals as goal
 
 pub returns-clause-spelled : goal.returns-clause-spelled
 returns-clause-spelled c =

@@ -1,7 +1,7 @@
 use Rattle.std.proofs.Common.{arith}
 use Rattle.pg_term_io.specs.Writing.{big_bytes}
 use Rattle.pg_term_io.proofs.WrittenDigits.{digits_step, digits_end, digits_count}
-use Rattle.pg_term_io.proofs.writing.put_big.Goals as goal
+use Rattle.pg_term_writer.proofs.writing.put_big.Goals as goal
 
 pub loop-rest-preserved : goal.loop-rest-preserved
 loop-rest-preserved c = (

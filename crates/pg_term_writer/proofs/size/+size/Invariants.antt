@@ -1,7 +1,7 @@
 use Rattle.std.proofs.Common.{◌≡◌, ◌≤◌, length, min, take}
 use Rattle.pg_term.specs.Depth.{greatest_depth}
 use Rattle.pg_term_io.specs.Writing.{all_bytes}
-use Rattle.pg_term_io.proofs.size.+size.Given as goal
+use Rattle.pg_term_writer.proofs.size.+size.Given as goal
 
 abbrev pub invariant-all_len-loop-term : goal.invariant-all_len-loop-term
 invariant-all_len-loop-term l =

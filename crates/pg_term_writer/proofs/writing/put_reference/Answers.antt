@@ -3,7 +3,7 @@ use Rattle.pg_term_io.specs.Spelling.{IsAtom}
 use Rattle.pg_term_io.specs.Writing.{atom_bytes}
 use Rattle.pg_term_io.proofs.Spelled.{reference_spelled}
 use Rattle.pg_term_io.proofs.WrittenWords.{reference_len, words_below}
-use Rattle.pg_term_io.proofs.writing.put_reference.Goals as goal
+use Rattle.pg_term_writer.proofs.writing.put_reference.Goals as goal
 
 pub returns-clause-spare : goal.returns-clause-spare
 returns-clause-spare c = omega (arith, reference_len c.args.reference.now, ap length c.words-word-items.ensures.value)

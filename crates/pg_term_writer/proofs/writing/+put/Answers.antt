@@ -4,7 +4,7 @@ use Rattle.pg_term.specs.declared.term.Term.{the_lemmas}
 use Rattle.pg_term_io.specs.Writing.{item_bytes, all_bytes, tuple_head, list_head}
 use Rattle.pg_term_io.proofs.Written.{tuple_at, list_at, count_le, bytes_more, len_more, part_fits}
 use Rattle.pg_term_io.proofs.Spelled.{spelled_more, none_spelled, name_spelled, tuple_spelled, list_spelled}
-use Rattle.pg_term_io.proofs.writing.+put.Goals as goal
+use Rattle.pg_term_writer.proofs.writing.+put.Goals as goal
 
 pub put_tuple-overflow_cast-terms : goal.put_tuple-overflow_cast-terms
 put_tuple-overflow_cast-terms t c =
