@@ -1,4 +1,5 @@
 pub mod Collected
+pub mod Ends
 pub mod Members
 pub mod Rows
 pub mod Spelled

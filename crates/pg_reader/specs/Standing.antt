@@ -1,8 +1,9 @@
 -- What stands at the front of bytes.
-use Rattle.std.specs.Prelude.{◌≡◌, ℕ, suc, List, ◌∷◌, Ok}
-use Rattle.std.specs.Int.{w32}
+use Rattle.std.specs.Prelude.{◌≡◌, ℕ, suc, List, [], ◌∷◌, ◌++◌, take, Ok}
+use Rattle.std.specs.Int.{w32, from_be_bytes}
+use Rattle.pg_term.specs.declared.pid.Pid.{Pid}
 use Rattle.pg_term.specs.declared.term.Term.{Term}
-use Rattle.pg_term.specs.declared.term.Term.TheVariants.{Atom}
+use Rattle.pg_term.specs.declared.term.Term.TheVariants.{Atom, Pid as Process}
 use Rattle.pg_term_io.specs.Reading.{item_at, number_at}
 
 -- one item that is this term, with room for so many levels below it, and then the rest
@@ -20,3 +21,15 @@ pub record Counts (count : ℕ) (bytes rest : List ℕ) : Type 0 where
   pub behind : List ℕ
   pub head : bytes ≡ 108 ∷ behind
   pub count_first : number_at w32 behind ≡ Ok (count, rest)
+
+-- the last of some pids stands at the front of the bytes
+pub record EndsWith (pids : List Pid) (bytes : List ℕ) : Type 0 where
+  pub front : List Pid
+  pub pid : Pid
+  pub after : List ℕ
+  pub are : pids ≡ front ++ pid ∷ []
+  pub here : (room : ℕ) → Stands room (Process pid) bytes after
+
+-- the number in the first four bytes
+abbrev pub number_of : List ℕ → ℕ
+number_of bytes = from_be_bytes w32 (take 4 bytes)

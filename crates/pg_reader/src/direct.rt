@@ -16,9 +16,9 @@ use crate::direct::groups::groups_at;
 use crate::parts::atom;
 use pg_group::Update;
 use pg_message::{MAX_NAME_LEN, MAX_STAMP, Message, Packet, Request, Said, is_name};
-use pg_shape::may_be_groups;
+use pg_shape::{is_atom, may_be_groups};
 use pg_term::{Atom, Pid, Reference, Term, TermFault};
-use pg_term_io::{Kind, decode_item, decode_pid, decode_reference, kind_at, skip_item};
+use pg_term_io::{decode_item, decode_pid, decode_reference, skip_item};
 use std::alloc::{AllocError, AllocFailed, Global};
 
 /// How many levels a name may nest. The term of a packet may nest 64, and a name stands in three tuples, as does the
@@ -71,6 +71,7 @@ pub(crate) fn direct_packet(alloc: Global, body: &[u8]) -> Result<Packet, Detour
 }
 
 /// What follows these bytes at the front.
+#[inline]
 fn behind<'a>(bytes: &'a [u8], front: &[u8]) -> Result<&'a [u8], Detour>
     ensures { IfOk result (λ rest. bytes.now ≡ front.now ++ rest.now) }
 {
@@ -81,6 +82,7 @@ fn behind<'a>(bytes: &'a [u8], front: &[u8]) -> Result<&'a [u8], Detour>
 }
 
 /// What follows a word.
+#[inline]
 fn word_at<'a>(bytes: &'a [u8], word: &str) -> Result<&'a [u8], Detour>
     requires plain { is_plain word.now ≡ true }
     requires few { length word.now ≤ 255 }
@@ -92,6 +94,7 @@ fn word_at<'a>(bytes: &'a [u8], word: &str) -> Result<&'a [u8], Detour>
 }
 
 /// What follows the word with which a tuple of so many elements begins.
+#[inline]
 fn opened<'a>(bytes: &'a [u8], arity: u8, word: &str) -> Result<&'a [u8], Detour>
     requires plain { is_plain word.now ≡ true }
     requires few { length word.now ≤ 255 }
@@ -101,6 +104,7 @@ fn opened<'a>(bytes: &'a [u8], arity: u8, word: &str) -> Result<&'a [u8], Detour
     word_at(rest, word)
 }
 
+#[inline]
 fn stamp_at(bytes: &[u8]) -> Result<(u32, &[u8]), Detour>
     ensures term { (room : ℕ) → IfOk result (λ x.
         Stands room (terms.Int (pos x.0)) bytes.now x.1.now) }
@@ -133,6 +137,7 @@ fn large_stamp_at(bytes: &[u8]) -> Result<(u32, &[u8]), Detour>
     Ok((stamp, rest))
 }
 
+#[inline]
 fn reference_at(alloc: Global, bytes: &[u8]) -> Result<(Reference, &[u8]), Detour>
     ensures { (room : ℕ) → IfOk result (λ x. Stands room (terms.Ref x.0) bytes.now x.1.now) }
 {
@@ -140,6 +145,7 @@ fn reference_at(alloc: Global, bytes: &[u8]) -> Result<(Reference, &[u8]), Detou
     Ok(decode_reference(alloc, rest)?)
 }
 
+#[inline]
 fn pid_at(alloc: Global, bytes: &[u8]) -> Result<(Pid, &[u8]), Detour>
     ensures { (room : ℕ) → IfOk result (λ x. Stands room (terms.Pid x.0) bytes.now x.1.now) }
 {
@@ -152,6 +158,9 @@ fn name_at(alloc: Global, levels: u8, bytes: &[u8]) -> Result<(Term, &[u8]), Det
     ensures term { IfOk result (λ x. item_at levels bytes.now ≡ Ok (x.0, x.1.now)) }
     ensures name { IfOk result (λ x. is_name x.0 ≡ true) }
 {
+    if is_atom(bytes) {
+        return Ok(decode_item(alloc, levels, bytes)?);
+    }
     check_name_len(levels, bytes)?;
     let (name, rest) = decode_item(alloc, levels, bytes)?;
     if !is_name(&name) {
@@ -161,11 +170,8 @@ fn name_at(alloc: Global, levels: u8, bytes: &[u8]) -> Result<(Term, &[u8]), Det
     Ok((name, rest))
 }
 
-/// Whether a part takes no more bytes than a name as it is written: what takes more is left unbuilt. An atom never does.
+/// Whether a part takes no more bytes than a name as it is written: what takes more is left unbuilt.
 fn check_name_len(levels: u8, bytes: &[u8]) -> Result<(), Detour> {
-    if kind_at(bytes) == Some(Kind::Atom) {
-        return Ok(());
-    }
     let behind = skip_item(levels, bytes)?;
     if bytes.len().saturating_sub(behind.len()) >= MAX_NAME_LEN {
         return Err(Detour::OtherForm);
@@ -176,7 +182,7 @@ fn check_name_len(levels: u8, bytes: &[u8]) -> Result<(), Detour> {
 fn node_at(alloc: Global, bytes: &[u8]) -> Result<(Atom, &[u8]), Detour>
     ensures { IfOk result (λ x. Stands 60 (terms.Atom x.0) bytes.now x.1.now) }
 {
-    if kind_at(bytes) != Some(Kind::Atom) {
+    if !is_atom(bytes) {
         return Err(Detour::OtherForm);
     }
     let (term, rest) = decode_item(alloc, NAME_LEVELS, bytes)?;
@@ -195,24 +201,23 @@ fn check_exchange(alloc: Global, bytes: &[u8]) -> Result<(), Detour> {
     Ok(())
 }
 
+#[inline]
 fn message_at(alloc: Global, bytes: &[u8]) -> Result<(Message, &[u8]), Detour>
     ensures term { IfOk result (λ x. Stands 62 (message_term x.0) bytes.now x.1.now) }
     ensures sayable { IfOk result (λ x. is_sayable x.0 ≡ true) }
 {
-    if let Ok(rest) = opened(bytes, 3, "call") {
-        call_at(alloc, rest)
-    } else if let Ok(rest) = opened(bytes, 3, "reply") {
-        reply_at(alloc, rest)
-    } else if let Ok(rest) = opened(bytes, 2, "cast") {
-        cast_at(alloc, rest)
-    } else if let Ok(rest) = opened(bytes, 2, "down") {
-        down_at(alloc, rest)
-    } else {
-        Err(Detour::OtherForm)
+    // Chosen by the arity and the first letter of the word; then the word is compared.
+    match bytes {
+        [_, 3, _, _, b'c', ..] => call_at(alloc, opened(bytes, 3, "call")?),
+        [_, 3, _, _, b'r', ..] => reply_at(alloc, opened(bytes, 3, "reply")?),
+        [_, 2, _, _, b'c', ..] => cast_at(alloc, opened(bytes, 2, "cast")?),
+        [_, 2, _, _, b'd', ..] => down_at(alloc, opened(bytes, 2, "down")?),
+        _ => Err(Detour::OtherForm),
     }
 }
 
 // Ref, Request}
+#[inline]
 fn call_at(alloc: Global, bytes: &[u8]) -> Result<(Message, &[u8]), Detour>
     ensures term { (front : List ℕ) → Opens 3 (codes "call") front bytes.now → IfOk result (λ x.
         Stands 62 (message_term x.0) front x.1.now) }
@@ -224,6 +229,7 @@ fn call_at(alloc: Global, bytes: &[u8]) -> Result<(Message, &[u8]), Detour>
 }
 
 // Ref, Said}
+#[inline]
 fn reply_at(alloc: Global, bytes: &[u8]) -> Result<(Message, &[u8]), Detour>
     ensures term { (front : List ℕ) → Opens 3 (codes "reply") front bytes.now → IfOk result (λ x.
         Stands 62 (message_term x.0) front x.1.now) }
@@ -240,12 +246,10 @@ fn cast_at(alloc: Global, bytes: &[u8]) -> Result<(Message, &[u8]), Detour>
         Stands 62 (message_term x.0) front x.1.now) }
     ensures sayable { IfOk result (λ x. is_sayable x.0 ≡ true) }
 {
-    if let Ok(rest) = opened(bytes, 3, "del_lock") {
-        del_lock_at(alloc, rest)
-    } else if let Ok(rest) = opened(bytes, 3, "exchange") {
-        exchange_at(alloc, rest)
-    } else {
-        Err(Detour::OtherForm)
+    match bytes {
+        [_, 3, _, _, b'd', ..] => del_lock_at(alloc, opened(bytes, 3, "del_lock")?),
+        [_, 3, _, _, b'e', ..] => exchange_at(alloc, opened(bytes, 3, "exchange")?),
+        _ => Err(Detour::OtherForm),
     }
 }
 
@@ -280,6 +284,7 @@ fn exchange_at(alloc: Global, bytes: &[u8]) -> Result<(Message, &[u8]), Detour>
 }
 
 // Pid}
+#[inline]
 fn down_at(alloc: Global, bytes: &[u8]) -> Result<(Message, &[u8]), Detour>
     ensures term { (front : List ℕ) → Opens 2 (codes "down") front bytes.now → IfOk result (λ x.
         Stands 62 (message_term x.0) front x.1.now) }
@@ -289,27 +294,24 @@ fn down_at(alloc: Global, bytes: &[u8]) -> Result<(Message, &[u8]), Detour>
     Ok((Message::Down(pid), rest))
 }
 
+#[inline]
 fn request_at(alloc: Global, bytes: &[u8]) -> Result<(Request, &[u8]), Detour>
     ensures term { IfOk result (λ x. Stands 61 (request_term x.0) bytes.now x.1.now) }
     ensures sayable { (reference : RefParts) → IfOk result (λ x.
         is_sayable (messages.Call reference x.0) ≡ true) }
 {
-    if let Ok(rest) = opened(bytes, 3, "join") {
-        join_at(alloc, rest)
-    } else if let Ok(rest) = opened(bytes, 3, "leave") {
-        leave_at(alloc, rest)
-    } else if let Ok(rest) = opened(bytes, 2, "create") {
-        create_at(alloc, rest)
-    } else if let Ok(rest) = opened(bytes, 2, "delete") {
-        delete_at(alloc, rest)
-    } else if let Ok(rest) = opened(bytes, 2, "set_lock") {
-        set_lock_at(alloc, rest)
-    } else {
-        Err(Detour::OtherForm)
+    match bytes {
+        [_, 3, _, _, b'j', ..] => join_at(alloc, opened(bytes, 3, "join")?),
+        [_, 3, _, _, b'l', ..] => leave_at(alloc, opened(bytes, 3, "leave")?),
+        [_, 2, _, _, b'c', ..] => create_at(alloc, opened(bytes, 2, "create")?),
+        [_, 2, _, _, b'd', ..] => delete_at(alloc, opened(bytes, 2, "delete")?),
+        [_, 2, _, _, b's', ..] => set_lock_at(alloc, opened(bytes, 2, "set_lock")?),
+        _ => Err(Detour::OtherForm),
     }
 }
 
 /// A name, and a pid behind it.
+#[inline]
 fn named_pid_at(alloc: Global, bytes: &[u8]) -> Result<(Term, Pid, &[u8]), Detour>
     ensures terms { IfOk result (λ x. (mid : List ℕ)
         × Stands 60 x.0 bytes.now mid × Stands 60 (terms.Pid x.1) mid x.2.now) }
@@ -326,6 +328,7 @@ fn named_pid_at(alloc: Global, bytes: &[u8]) -> Result<(Term, Pid, &[u8]), Detou
 }
 
 // Name, Pid}
+#[inline]
 fn join_at(alloc: Global, bytes: &[u8]) -> Result<(Request, &[u8]), Detour>
     ensures term { (front : List ℕ) → Opens 3 (codes "join") front bytes.now → IfOk result (λ x.
         Stands 61 (request_term x.0) front x.1.now) }
@@ -337,6 +340,7 @@ fn join_at(alloc: Global, bytes: &[u8]) -> Result<(Request, &[u8]), Detour>
 }
 
 // Name, Pid}
+#[inline]
 fn leave_at(alloc: Global, bytes: &[u8]) -> Result<(Request, &[u8]), Detour>
     ensures term { (front : List ℕ) → Opens 3 (codes "leave") front bytes.now → IfOk result (λ x.
         Stands 61 (request_term x.0) front x.1.now) }
@@ -348,6 +352,7 @@ fn leave_at(alloc: Global, bytes: &[u8]) -> Result<(Request, &[u8]), Detour>
 }
 
 // Name}
+#[inline]
 fn create_at(alloc: Global, bytes: &[u8]) -> Result<(Request, &[u8]), Detour>
     ensures term { (front : List ℕ) → Opens 2 (codes "create") front bytes.now → IfOk result (λ x.
         Stands 61 (request_term x.0) front x.1.now) }
@@ -359,6 +364,7 @@ fn create_at(alloc: Global, bytes: &[u8]) -> Result<(Request, &[u8]), Detour>
 }
 
 // Name}
+#[inline]
 fn delete_at(alloc: Global, bytes: &[u8]) -> Result<(Request, &[u8]), Detour>
     ensures term { (front : List ℕ) → Opens 2 (codes "delete") front bytes.now → IfOk result (λ x.
         Stands 61 (request_term x.0) front x.1.now) }
@@ -370,6 +376,7 @@ fn delete_at(alloc: Global, bytes: &[u8]) -> Result<(Request, &[u8]), Detour>
 }
 
 // Name}
+#[inline]
 fn set_lock_at(alloc: Global, bytes: &[u8]) -> Result<(Request, &[u8]), Detour>
     ensures term { (front : List ℕ) → Opens 2 (codes "set_lock") front bytes.now → IfOk result (λ x.
         Stands 61 (request_term x.0) front x.1.now) }
@@ -383,13 +390,10 @@ fn set_lock_at(alloc: Global, bytes: &[u8]) -> Result<(Request, &[u8]), Detour>
 fn said_at(bytes: &[u8]) -> Result<(Said, &[u8]), Detour>
     ensures { IfOk result (λ x. Stands 61 (said_term x.0) bytes.now x.1.now) }
 {
-    if let Ok(rest) = word_at(bytes, "ok") {
-        Ok((Said::Applied, rest))
-    } else if let Ok(rest) = word_at(bytes, "true") {
-        Ok((Said::Granted, rest))
-    } else if let Ok(rest) = word_at(bytes, "false") {
-        Ok((Said::Denied, rest))
-    } else {
-        Err(Detour::OtherForm)
+    match bytes {
+        [_, _, b'o', ..] => Ok((Said::Applied, word_at(bytes, "ok")?)),
+        [_, _, b't', ..] => Ok((Said::Granted, word_at(bytes, "true")?)),
+        [_, _, b'f', ..] => Ok((Said::Denied, word_at(bytes, "false")?)),
+        _ => Err(Detour::OtherForm),
     }
 }

@@ -65,6 +65,7 @@ pub fn is_read_directly(alloc: Global, body: &[u8]) -> Result<bool, AllocError>
 }
 
 // Its clauses are proved of one; those of the call above follow from it.
+#[inline]
 fn whole_packet(alloc: Global, body: &[u8]) -> Result<Packet, MessageFault>
     ensures { Gives (λ packet. packet) result (packet_spelled body.now) }
 {

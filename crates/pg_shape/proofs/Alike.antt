@@ -16,6 +16,9 @@ use Rattle.pg_shape.specs.Lists.{Leaves}
 use Rattle.pg_term_io.proofs.Lists.{goes_on}
 use Rattle.pg_shape.proofs.ListShapes.{behind_first}
 
+pub pid_is : (p : Pid) → pid_of (Process p) ≡ Some p
+pid_is p = search (rules, the_lemmas)
+
 -- the three numbers behind a node
 abbrev number_of : List ℕ → ℕ
 number_of bytes = from_be_bytes w32 (take 4 bytes)
@@ -101,9 +104,6 @@ module _ (text : List ℕ) where
     pub alike_there : (room : ℕ) → item_at (suc room) (88 ∷ 119 ∷ length text ∷ (text ++ numbers)) ≡ Ok (Process (numbered node numbers), drop 12 numbers)
     unfolding readers item_behind leaf_behind
     alike_there room = ap (as_term Process) pid_there
-
-    pid_is : (p : Pid) → pid_of (Process p) ≡ Some p
-    pid_is p = search (rules, the_lemmas)
 
     alike_is : (room : ℕ) (t : Term) (end : List ℕ) → item_at room (88 ∷ 119 ∷ length text ∷ (text ++ numbers)) ≡ Ok (t, end) → (is_some (pid_of t) ≡ true) × (end ≡ drop 12 numbers)
     unfolding readers

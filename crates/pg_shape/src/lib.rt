@@ -7,4 +7,4 @@ mod shape;
 
 pub use groups::may_be_groups;
 pub use pids::pid_head;
-pub use shape::may_be_packet;
+pub use shape::{is_atom, may_be_packet};

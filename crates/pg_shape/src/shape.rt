@@ -1,7 +1,7 @@
 //! Whether bytes may spell a packet, told with memory for the names in an exchange alone: what has not the shape of one is
 //! refused before anything else of it is built. A part that holds others is a tuple, a list or a binary; all others are small.
 
-ghost use Rattle.std.specs.Prelude.{◌≡◌, ◌<◌, ◌≤◌, ℕ, List, [], ◌∷◌, length, true, false, ◌||◌, is_some, IfSome, IfNone, Ok, Err, Some, None};
+ghost use Rattle.std.specs.Prelude.{◌≡◌, ◌<◌, ◌≤◌, ℕ, List, [], ◌∷◌, length, true, false, ◌||◌, is_some, nat_eq, IfSome, IfNone, Ok, Err, Some, None};
 ghost use Rattle.pg_term.specs.declared.term.Term.{Term};
 ghost use Rattle.pg_term.specs.Order.{kind_of};
 ghost use Rattle.pg_term_io.specs.Reading.{item_at, term_of};
@@ -18,6 +18,17 @@ use std::alloc::{AllocError, Global};
 
 /// How many bytes a name takes at most, however it is spelled: 400 times as many as it is written in.
 const MAX_SPELLED_NAME: usize = 400 * (MAX_NAME_LEN - 1);
+
+/// Whether a part is an atom. Each atom may be a name.
+pub fn is_atom(bytes: &[u8]) -> bool
+    ensures { (room : ℕ) (t : Term) (rest : List ℕ) → item_at room bytes.now ≡ Ok (t, rest)
+        → result ≡ nat_eq (kind_of t) 1 }
+{
+    match kind_at(bytes) {
+        Some(Kind::Atom) => true,
+        _ => false,
+    }
+}
 
 /// Whether a part holds no others.
 fn is_small(bytes: &[u8]) -> bool

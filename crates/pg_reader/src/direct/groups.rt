@@ -1,20 +1,21 @@
 //! The groups that an exchange tells, read straight off their bytes: no list of terms is built.
 
-ghost use Rattle.std.specs.Prelude.{◌≡◌, ◌<◌, ◌∷◌, ℕ, suc, List, true, map, IfOk, Ok};
+ghost use Rattle.std.specs.Prelude.{◌≡◌, ◌<◌, ◌≤◌, ◌∷◌, ◌++◌, ℕ, suc, List, true, map, length, drop, IfOk, IfSome, Ok};
 ghost use Rattle.std.specs.List.{list_all};
 ghost use Rattle.pg_term.specs.declared.term.Term.{List as Listed};
 ghost use Rattle.pg_term.specs.declared.term.Term.TheVariants as terms;
-ghost use Rattle.pg_term_io.specs.Reading.{items_at, item_at};
+ghost use Rattle.pg_term_io.specs.Reading.{items_at, item_at, with_front};
 ghost use Rattle.pg_message.specs.Name.{is_name};
 ghost use Rattle.pg_message.specs.Reading.{is_named_once};
-ghost use Rattle.pg_reader.specs.Standing.{Stands, Counts};
+ghost use Rattle.pg_reader.specs.Standing.{Stands, Counts, EndsWith, number_of};
 ghost use Rattle.pg_message.specs.Writing.{group_term, is_sayable};
 ghost use Rattle.pg_message.specs.declared.message.Message.TheVariants as messages;
 
 use crate::direct::{Detour, behind, name_at, pid_at};
 use pg_message::are_told_once;
+use pg_shape::pid_head;
 use pg_term::{Items, Pid, Term};
-use std::alloc::Global;
+use std::alloc::{AllocError, Global};
 
 /// How many levels the name of a group may nest: it stands in two lists and three tuples.
 const GROUP_NAME_LEVELS: u8 = 59;
@@ -157,11 +158,74 @@ fn all_pids_at(alloc: Global, count: u32, bytes: &[u8]) -> Result<(Vec<Pid>, &[u
         items_at (item_at (suc room)) count bytes.now ≡ Ok (map terms.Pid x.0.items, x.1.now)) }
 {
     let mut pids = Vec::with_capacity(alloc, count as usize)?;
+    let mut more = count;
     let mut rest = bytes;
-    for _ in 0..count {
+    while more > 0 {
         let (pid, after) = pid_at(alloc, rest)?;
         pids.push(pid)?;
-        rest = after;
+        let (others, behind) = alike_at(&mut pids, rest, more - 1, after)?;
+        more = others;
+        rest = behind;
     }
     Ok((pids, rest))
+}
+
+/// Of so many pids those that begin as the last one, which stands in front of them; how many are left, and what follows.
+/// Only their numbers are read: the node is copied.
+fn alike_at<'a>(
+    pids: &mut Vec<Pid>,
+    last: &[u8],
+    count: u32,
+    bytes: &'a [u8],
+) -> Result<(u32, &'a [u8]), AllocError>
+    requires { EndsWith pids.old.items last.now }
+    ensures pids { (room : ℕ) → IfOk result (λ x.
+        with_front (map terms.Pid pids.new.items) (items_at (item_at (suc room)) x.0 x.1.now)
+        ≡ with_front (map terms.Pid pids.old.items) (items_at (item_at (suc room)) count bytes.now)) }
+    ensures fewer { IfOk result (λ x. x.0 ≤ count) }
+{
+    let mut more = count;
+    let mut rest = bytes;
+    let Some(head) = pid_head(last) else {
+        return Ok((more, rest));
+    };
+    while more > 0 {
+        let Some((id, serial, creation, after)) = numbers_at(head, rest) else {
+            return Ok((more, rest));
+        };
+        let Some(before) = pids.last() else {
+            return Ok((more, rest));
+        };
+        let node = before.node.copy()?;
+        pids.push(Pid {
+            node,
+            serial,
+            id,
+            creation,
+        })?;
+        more -= 1;
+        rest = after;
+    }
+    Ok((more, rest))
+}
+
+/// The numbers of a pid that begins with these bytes: its id, serial and creation; and what follows it. `None` for what
+/// begins otherwise, or is cut.
+#[inline]
+fn numbers_at<'a>(head: &[u8], bytes: &'a [u8]) -> Option<(u32, u32, u32, &'a [u8])>
+    ensures { IfSome result (λ x. (numbers : List ℕ)
+        × (bytes.now ≡ head.now ++ numbers) × (12 ≤ length numbers)
+        × (x.0 ≡ number_of numbers) × (x.1 ≡ number_of (drop 4 numbers))
+        × (x.2 ≡ number_of (drop 4 (drop 4 numbers))) × (x.3.now ≡ drop 12 numbers)) }
+{
+    let numbers = bytes.strip_prefix(head)?;
+    let (id, rest) = numbers.split_first_chunk::<4>()?;
+    let (serial, rest) = rest.split_first_chunk::<4>()?;
+    let (creation, rest) = rest.split_first_chunk::<4>()?;
+    Some((
+        u32::from_be_bytes(*id),
+        u32::from_be_bytes(*serial),
+        u32::from_be_bytes(*creation),
+        rest,
+    ))
 }

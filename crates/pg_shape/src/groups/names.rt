@@ -2,17 +2,16 @@
 
 ghost use Rattle.std.specs.Prelude.{◌≡◌, ◌<◌, ◌≤◌, ℕ, List, [], length, true, false, Ok, None, IfOk, IfSome, MatchOption};
 ghost use Rattle.pg_term.specs.declared.term.Term.{Term};
-ghost use Rattle.pg_term.specs.Order.{kind_of};
 ghost use Rattle.pg_term_io.specs.Reading.{item_at};
 ghost use Rattle.pg_message.specs.Groups.{IsNamed};
 ghost use Rattle.pg_message.specs.Name.{is_name};
 ghost use Rattle.pg_message.specs.Reading.{group_of, groups_of};
 
 use crate::groups::{is_list, past_members};
-use crate::shape::past_name;
+use crate::shape::{is_atom, past_name};
 use pg_message::is_name;
 use pg_term::{Term, TermFault};
-use pg_term_io::{Kind, NextElement, decode_item, kind_at, next_element};
+use pg_term_io::{NextElement, decode_item, next_element};
 use std::alloc::{AllocError, Global};
 use std::cmp::Ordering;
 use std::collections::BTreeSet;
@@ -81,17 +80,6 @@ pub(crate) fn checked_name(
     match built_name(alloc, levels, bytes)? {
         Some(name) => Ok(Some((Name::Built(name), behind))),
         None => Ok(None),
-    }
-}
-
-/// Whether a part is an atom, which may be a name.
-fn is_atom(bytes: &[u8]) -> bool
-    ensures { (room : ℕ) (t : Term) (rest : List ℕ) → result ≡ true
-        → item_at room bytes.now ≡ Ok (t, rest) → kind_of t ≡ 1 }
-{
-    match kind_at(bytes) {
-        Some(Kind::Atom) => true,
-        _ => false,
     }
 }
 

@@ -1,4 +1,6 @@
-use Rattle.std.proofs.Common.{◌≡◌, true, false, arith}
+use Rattle.std.proofs.Common.{◌≡◌, true, false, arith, sym, ◌∙◌}
+use Rattle.std.proofs.lemmas.Bool.{eqb-true}
+use Rattle.pg_term.specs.Order.{kind_of}
 use Rattle.pg_term_io.specs.Reading.{item_at}
 use Rattle.pg_message.specs.Name.{is_name}
 use Rattle.pg_shape.proofs.Shapes.{end_is}
@@ -9,7 +11,7 @@ use Rattle.pg_shape.proofs.groups.names.checked_name.Goals as goal
 pub returns-then-is_atom-clause-name : goal.returns-then-is_atom-clause-name
 returns-then-is_atom-clause-name c t rest e = (
   end_is (item_at c.args.levels c.args.bytes.now) t rest c.in-Some.behind.now e c.in-Some.ensures.some,
-  atom_read c.args.levels c.args.bytes.now t rest (λ i. omega (arith, c.type_inv.bytes i)) e (c.is_atom.ensures c.args.levels t rest c.if-is_atom.true e),
+  atom_read c.args.levels c.args.bytes.now t rest (λ i. omega (arith, c.type_inv.bytes i)) e (eqb-true (kind_of t) 1 (sym (c.is_atom.ensures c.args.levels t rest e) ∙ c.if-is_atom.true)),
 )
 
 pub returns-in-None-clause-name : goal.returns-in-None-clause-name
