@@ -17,10 +17,10 @@ use Rattle.pg_term_io.specs.Numbers.{big_value}
 use Rattle.pg_term_io.specs.Spelling.{IsAtom, IsPid, IsRef, Item, Items, Elements, Tail, Spells}
 use Rattle.pg_term_io.specs.Spelling as s
 use Rattle.pg_term_io.specs.Writing.{digits, big_bytes, int_bytes, text_bytes, atom_bytes, pid_bytes, reference_bytes, binary_bytes, tuple_head, item_bytes, all_bytes, tuple_bytes, list_bytes, written, IsSpelled, AreSpelled}
-use Rattle.pg_term_io.proofs.Deep.{depth_more}
+use Rattle.pg_term_io.proofs.Deep.{greatest_push, depth_more}
 use Rattle.pg_term_io.proofs.WrittenDigits.{few_digits}
 use Rattle.pg_term_io.proofs.WrittenValue.{little_endian-digits, digits_below}
-use Rattle.pg_term_io.proofs.Written.{tuple_is, list_is, binary_is, count_le, bytes_more}
+use Rattle.pg_term_io.proofs.Written.{tuple_is, list_is, binary_is, count_le, all_push, bytes_more}
 
 tested_at : (P : List ℕ → Type 0) (b : Bool) (x y : List ℕ) → (b ≡ true → P x) → (b ≡ false → P y) → P (cond b x y)
 tested_at P true x y p q = p refl
@@ -203,6 +203,14 @@ spelled_more ts i t h e parts spelled = record { items = at }
         let whole = items_push room (take i ts) (all_bytes (take i ts)) t (item_bytes t) (parts.items room (omega arith)) (spelled.item room (omega arith)) in
         subst (λ (x : List Term). Items room x (all_bytes (take (i + 1) ts))) more
         (subst (Items room (take i ts ++ t ∷ [])) (sym (bytes_more ts i t h e)) whole)
+
+pub spelled_last : (ts : List Term) (t : Term) → AreSpelled ts → IsSpelled t → AreSpelled (ts ++ t ∷ [])
+spelled_last ts t parts spelled = record { items = at }
+  where
+    at : (room : ℕ) → greatest_depth (ts ++ t ∷ []) ≤ room → Items room (ts ++ t ∷ []) (all_bytes (ts ++ t ∷ []))
+    at room deep =
+        let known : max (greatest_depth ts) (depth t) ≤ room = omega (arith, greatest_push ts t) in
+        subst (Items room (ts ++ t ∷ [])) (sym (all_push ts t)) (items_push room ts (all_bytes ts) t (item_bytes t) (parts.items room (omega arith)) (spelled.item room (omega arith)))
 
 pub written_spelled : (t : Term) → IsSpelled t → depth t ≤ 64 → Spells t (written t)
 written_spelled t spelled deep = s.Spells.version t (item_bytes t) (spelled.item 64 deep)

@@ -195,9 +195,14 @@ fn put_all(out: &mut BytesMut, terms: &[Term])
     ensures spare { out.new.spare + length (all_bytes terms.now) ≡ out.old.spare }
     ensures spelled { AreSpelled terms.now }
 {
-    for term in terms {
+    // The last of them behind the loop, where a call takes the place of its caller.
+    let Some((last, others)) = terms.split_last() else {
+        return;
+    };
+    for term in others {
         put_item(out, term);
     }
+    put_item(out, last);
 }
 
 #[tactic(auto, using(pg_term_io::proofs::Spelled::written_spelled))]
