@@ -12,7 +12,10 @@ one_more : (n : ℕ) → suc n ≡ n + 1
 one_more n = omega arith
 
 pub invariant_of-result : goal.invariant_of-result
-invariant_of-result g c =
+invariant_of-result g c = c.formation.invariant
+
+pub invariant_of-result-2 : goal.invariant_of-result-2
+invariant_of-result-2 g c =
     let config = c.args.config in
     let started = c.in_ok-new.ensures.none (g.T.GroupTable.contents c.args.table) config.made in
     let named : opens.names_of c.in_ok-new.field-0 ≡ config.own ∷ config.peers.items = c.in_ok-new.ensures.names ∙ c.in_ok-insert.ensures.items in
