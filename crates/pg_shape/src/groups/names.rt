@@ -1,6 +1,6 @@
 //! The names of the groups that an exchange tells: whether each is one, and whether one stands twice.
 
-ghost use Rattle.std.specs.Prelude.{◌≡◌, ◌<◌, ◌≤◌, ℕ, List, [], length, true, false, Ok, None, IfOk, IfSome, MatchOption};
+ghost use Rattle.std.specs.Prelude.{◌≡◌, ◌<◌, ◌≤◌, ℕ, List, [], length, true, false, Ok, Some, None, IfOk, IfSome, MatchOption};
 ghost use Rattle.pg_term.specs.declared.term.Term.{Term};
 ghost use Rattle.pg_term_io.specs.Reading.{item_at};
 ghost use Rattle.pg_message.specs.Groups.{IsNamed};
@@ -27,7 +27,10 @@ pub(crate) enum Name<'a> {
 
 impl<'a> Name<'a> {
     /// Puts the name in the place of the last one: whether it is seen to be greater in the order of terms, or the first.
-    pub(crate) fn follows(self, last: &mut Option<Name<'a>>) -> bool {
+    pub(crate) fn follows(self, last: &mut Option<Name<'a>>) -> bool
+        ensures kept { last.new ≡ Some self.entry }
+        ensures first { last.old ≡ None → result ≡ true }
+    {
         let greater = match last {
             Some(last) => last.is_below(&self),
             None => true,
