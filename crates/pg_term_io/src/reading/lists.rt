@@ -17,7 +17,9 @@ use crate::tag::{ListTag, Tag};
 ///
 /// It looks at five bytes for each tail that holds no elements. The element is skipped by `skip_item`.
 pub fn next_element(levels: u8, count: u32, bytes: &[u8]) -> NextElement<'_>
+    // Of any bytes, also of those that spell no list.
     ensures shown { Shows result (next_from levels count bytes.now) }
+    // Of a list, what it says of its elements.
     ensures next { (elements : List Term) (rest : List ℕ)
         → list_from levels count bytes.now ≡ Ok (elements, rest) → Continues result elements rest }
     ensures within { IsWithin levels bytes.now result }
