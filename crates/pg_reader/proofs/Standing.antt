@@ -1,11 +1,10 @@
 -- What stands at the front of bytes, part by part, up to a whole packet.
 use Rattle.std.proofs.Common.{◌≡◌, ℕ, suc, ◌<◌, ◌≤◌, pos, ℤ, Bool, true, false, cond, eqb, ltb, List, [], ◌∷◌, ◌++◌, length, get_or, take, drop, Ok, Err, refl, sym, ap, subst, ◌∙◌, arith}
-use Rattle.std.specs.Prelude.{nat_lt, nat_le, ◌&&◌}
+use Rattle.std.specs.Prelude.{nat_le}
 use Rattle.std.specs.Int.{w32, from_be_bytes, cast_signed}
-use Rattle.std.specs.Str.{chars, IsUtf8, encode_utf8_all}
-use Rattle.std.proofs.lemmas.Bool.{eqb-true, ltb-true, le-ltb, le-leb}
+use Rattle.std.specs.Str.{chars, IsUtf8}
+use Rattle.std.proofs.lemmas.Bool.{eqb-true, le-ltb, le-leb}
 use Rattle.std.proofs.lemmas.Int.{to_z_pos}
-use Rattle.std.proofs.lemmas.Str.{encode_ascii}
 use Rattle.pg_term.specs.declared.pid.Pid.{Pid}
 use Rattle.pg_term.specs.declared.term.Term.{Term, Tuple}
 use Rattle.pg_term.specs.declared.term.Term.TheVariants.{Int, Atom, Ref, Pid as Process}
@@ -23,19 +22,7 @@ use Rattle.pg_message.specs.Reading.{spelled, packet_spelled}
 use Rattle.pg_reader.specs.Standing.{Stands, Opens}
 use Rattle.pg_message.specs.Writing.{pair, triple, message_term, term_of_packet, is_plain, is_sayable}
 use Rattle.pg_message.proofs.ReadBack.{read_back}
-
--- ---- words
-
-both : (a b : Bool) → a && b ≡ true → (a ≡ true) × (b ≡ true)
-both true b e = (refl, e)
-both false b e = absurd cc
-
--- the UTF-8 of plain characters is themselves
-plain_text : (w : List ℕ) → is_plain w ≡ true → encode_utf8_all w ≡ w
-plain_text [] e = refl
-plain_text (c ∷ w) e =
-    let h = both (nat_lt c 128) (is_plain w) e in
-    (λ i. encode_ascii c (ltb-true c 128 h.0) i ++ plain_text w h.1 i)
+use Rattle.pg_message.proofs.Words.{plain_text}
 
 -- ---- items
 

@@ -1,8 +1,7 @@
 //! Walking over bytes without building what they spell: no memory is taken.
 
-ghost use Rattle.std.specs.Prelude.{◌≡◌, length, nat_lt, Ok};
+ghost use Rattle.std.specs.Prelude.{◌≡◌, Ok};
 ghost use Rattle.std.specs.Int.{w16, w32};
-ghost use Rattle.std.specs.Str.{chars};
 ghost use Rattle.pg_term_io.specs.Reading.{byte_at, number_at, bytes_at, big_at, i64_of, utf8_atom, atom_in};
 ghost use Rattle.pg_term_io.specs.Numbers.{big_value};
 ghost use Rattle.pg_term_io.specs.Scanning.{past, Tells, Names, over_atom, over_node, over_creation, over_pid, over_old_reference, over_all, over_words, over_reference, over_binary, over_leaf, over_string, over_list, over_elements, over_behind, over_item, over_tail, over_term, walks};
@@ -10,7 +9,7 @@ ghost use Rattle.pg_term_io.specs.Scanning.{past, Tells, Names, over_atom, over_
 use crate::limits::MAX_DEPTH;
 use crate::reading::numbers::{arity_at, some_bytes, text_len_at, u8_at, u16_at, u32_at, value_of};
 use crate::tag::{Creation, Encoding, LeafTag, ListTag, Size, Tag};
-use pg_term::TermFault;
+use pg_term::{TermFault, is_long};
 use std::str;
 
 /// What follows a byte.
@@ -27,16 +26,6 @@ fn past_word(bytes: &[u8]) -> Result<&[u8], TermFault>
 {
     let (_, rest) = u32_at(bytes)?;
     Ok(rest)
-}
-
-/// Whether a text has more characters than an atom. It has no more of them than bytes, so that a short one is not counted.
-fn is_long(text: &str) -> bool
-    ensures { result ≡ nat_lt 255 (length (chars text.now)) }
-{
-    if text.len() <= 255 {
-        return false;
-    }
-    text.chars().count() > 255
 }
 
 /// Whether a text of UTF-8 is that of an atom.
