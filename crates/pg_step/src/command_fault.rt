@@ -1,6 +1,8 @@
 ghost use Rattle.std.specs.Prelude.{◌≡◌};
 
-use pg_faults::{ALREADY_ENDED, BUSY, FOREIGN_PID, NAME_TOO_LARGE, NOT_FORMED, NOT_MADE, PROCESS_LIMIT};
+use pg_faults::{
+    ALREADY_ENDED, BUSY, FOREIGN_PID, NAME_TOO_LARGE, NOT_FORMED, NOT_MADE, PROCESS_LIMIT,
+};
 
 /// Why a command is refused.
 #[derive(Clone, Copy, Debug, PartialEq, Eq)]

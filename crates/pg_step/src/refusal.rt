@@ -1,6 +1,8 @@
 ghost use Rattle.std.specs.Prelude.{◌≡◌};
 
-use pg_faults::{CLOCK_FULL, NODE_LOST, NOT_A_MESSAGE, NOT_DRAINED, NOT_LOST, NOT_WAITING, NO_SUCH_PLACE};
+use pg_faults::{
+    CLOCK_FULL, NO_SUCH_PLACE, NODE_LOST, NOT_A_MESSAGE, NOT_DRAINED, NOT_LOST, NOT_WAITING,
+};
 
 /// Why an event of a node does not happen.
 #[derive(Clone, Copy, Debug, PartialEq, Eq)]

@@ -20,15 +20,15 @@ use crate::rings::{Rings, rings_between};
 use crate::step::{FrameStep, Step, Stepped};
 use crate::world::peer_place;
 pub use begun::starting_nodes;
+use pg_frame::{
+    front_is_first_of_cut, front_is_first_packet, loss_cuts_packets, moving_keeps_packets,
+    sending_adds_packets,
+};
 use pg_group::GroupTable;
 use pg_history::nobody_is_harmed;
 use pg_loss::no_packet_is_refused;
 use pg_message::Packet;
 use pg_node::{Node, NodeFault};
-use pg_frame::{
-    front_is_first_of_cut, front_is_first_packet, loss_cuts_packets, moving_keeps_packets,
-    sending_adds_packets,
-};
 use pg_step::{Command, OpId, Refusal};
 use pg_term::Term;
 pub use runs::run;

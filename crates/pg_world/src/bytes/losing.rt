@@ -6,10 +6,10 @@ use crate::bytes::World;
 use crate::losses::let_go;
 use crate::step::{FrameStep, Stepped};
 use crate::world::peer_place;
+use pg_frame::{front_is_first_of_cut, loss_cuts_packets};
 use pg_group::GroupTable;
 use pg_message::Packet;
 use pg_node::NodeFault;
-use pg_frame::{front_is_first_of_cut, loss_cuts_packets};
 use pg_step::Refusal;
 use std::alloc::AllocError;
 
