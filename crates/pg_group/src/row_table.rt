@@ -53,16 +53,24 @@ impl GroupTable for RowTable {
         match update {
             Update::Create(name) => create(&mut self.rows, self.alloc, name),
             Update::Delete(name) => {
-                delete(&mut self.rows, name);
+                self.delete(name);
                 Ok(())
             }
             Update::Join(_, pid) if ended.has(pid) => Ok(()),
             Update::Join(name, pid) => join(&mut self.rows, name, pid),
             Update::Leave(name, pid) => {
-                leave(&mut self.rows, name, pid);
+                self.leave(name, pid);
                 Ok(())
             }
         }
+    }
+
+    fn delete(&mut self, name: &Term) {
+        delete(&mut self.rows, name);
+    }
+
+    fn leave(&mut self, name: &Term, pid: &Pid) {
+        leave(&mut self.rows, name, pid);
     }
 
     fn merge(&mut self, name: &Term, members: &[Pid], ended: &Ended) -> Result<(), AllocError> {

@@ -1,8 +1,11 @@
-ghost use Rattle.std.specs.Prelude.{◌≡◌, ◌↔◌, ◌⊎◌, IsTrue, IsSome, IfSome, IfOk, OnOk, OnErr, Option, List, length, min, slice_get, option_copied};
+ghost use Rattle.std.specs.Prelude.{◌≡◌, ◌↔◌, ◌⊎◌, IsTrue, None, IsSome, IfSome, IfOk, OnOk, OnErr, Option, List, length, min, slice_get, option_copied};
 ghost use Rattle.pg_term.specs.declared.pid.Pid.{Pid};
 ghost use Rattle.pg_term.specs.declared.term.Term.{Term};
 ghost use Rattle.pg_group.specs.Ended.{ended_of};
-ghost use Rattle.pg_group.specs.Value.{count_in};
+ghost use Rattle.pg_term.specs.Same.{same_term};
+ghost use Rattle.pg_group.specs.declared.update.Update.TheVariants.{Leave};
+ghost use Rattle.pg_group.specs.Functions.{upd};
+ghost use Rattle.pg_group.specs.Value.{apply, count_in};
 ghost use Rattle.pg_group.specs.Table.{Table, changed, HasRoom, Adds, Overfills, AreNames, merged, PartlyMerged, without, without_node};
 ghost use Rattle.pg_group.specs.Scope.{in_scope};
 ghost use Rattle.pg_group.specs.Members.{IsMemberList};
@@ -31,6 +34,15 @@ pub trait GroupTable {
         ensures err { OnErr result (contents self.new ≡ contents self.old) }
         ensures memory { OnErr result (Adds (contents self.old) update.now (ended_of ended.now)
             ⊎ Overfills (contents self.old) update.now) };
+
+    /// Makes a group absent. It takes no memory.
+    fn delete(&mut self, name: &Term)
+        ensures { contents self.new ≡ upd same_term (contents self.old) name.now None };
+
+    /// Takes one from the count of a pid in a group, where it is a member. It takes no memory.
+    fn leave(&mut self, name: &Term, pid: &Pid)
+        ensures { contents self.new ≡ upd same_term (contents self.old) name.now
+            (apply (contents self.old name.now) (Leave name.now pid.now)) };
 
     /// Takes in what another node says of a group: makes it if it is missing, and raises the count of each pid that
     /// has not ended to how often it stands in `members`, where that is more. Its cost grows with `members`.
