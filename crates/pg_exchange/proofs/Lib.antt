@@ -1,3 +1,4 @@
 pub mod Groups
 pub mod Marks
+pub mod Undone
 pub mod Tables

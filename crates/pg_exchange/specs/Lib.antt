@@ -1,6 +1,7 @@
 pub mod ExchangeFault
 pub mod GroupList
 pub mod Marks
+pub mod Undone
 pub use Rattle.pg_group.specs.Ended
 pub use Rattle.pg_group.specs.Members
 pub use Rattle.pg_group.specs.Scope

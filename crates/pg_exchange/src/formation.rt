@@ -6,7 +6,7 @@ ghost use Rattle.pg_exchange.specs.GroupList.{all_merged};
 ghost use Rattle.pg_exchange.specs.declared.fault.ExchangeFault.TheVariants.{NotAMessage};
 
 use crate::fault::ExchangeFault;
-use crate::group_list::merge_all;
+use crate::merging::merge_all;
 use pg_group::{Ended, GroupTable};
 use pg_term::{Items, Pid, Term};
 use std::alloc::{AllocError, Global};
@@ -18,6 +18,7 @@ pub struct Formation {
     marks: Vec<bool>,
     // How many are not merged.
     missing: usize,
+    alloc: Global,
 }
 
 impl Model for Formation {
@@ -41,6 +42,7 @@ impl Formation {
         Ok(Formation {
             marks,
             missing: peers,
+            alloc,
         })
     }
 
@@ -58,12 +60,12 @@ impl Formation {
         self.marks == other.marks
     }
 
-    /// Takes the groups that a peer announces: merges each into a copy, which takes the table's place at the end, and
-    /// counts the peer as merged. `peer` is a place among the peers. Each group becomes the merge of what it was and of what
-    /// is announced of it, less the ended: the law `exchange_merges_tables`. Its cost grows with the table and the groups.
+    /// Takes the groups that a peer announces: merges each into the table, and counts the peer as merged. `peer` is a place
+    /// among the peers. Each group becomes the merge of what it was and of what is announced of it, less the ended: the law
+    /// `exchange_merges_tables`. Its cost is that of the groups that are announced, however many more the table has.
     ///
     /// Faults, which change nothing: `NotAMessage` where the peer is merged already; else `OutOfMemory`.
-    pub fn take<T: GroupTable + Drop>(
+    pub fn take<T: GroupTable>(
         &mut self,
         peer: usize,
         groups: &[(Term, Items<Pid>)],
@@ -81,9 +83,7 @@ impl Formation {
         if self.marks[peer] {
             return Err(ExchangeFault::NotAMessage);
         }
-        let mut copy = table.copy()?;
-        merge_all(groups, &mut copy, ended)?;
-        *table = copy;
+        merge_all(self.alloc, groups, table, ended)?;
         self.forget(peer);
         Ok(())
     }

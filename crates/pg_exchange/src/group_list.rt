@@ -1,27 +1,12 @@
-ghost use Rattle.std.specs.Prelude.{◌≡◌, IsSome, IfOk, OnOk};
-ghost use Rattle.pg_group.specs.Ended.{ended_of};
+ghost use Rattle.std.specs.Prelude.{◌≡◌, IsSome, IfOk};
 ghost use Rattle.pg_group.specs.Scope.{anywhere};
 ghost use Rattle.pg_group.specs.Members.{IsMemberList};
-ghost use Rattle.pg_exchange.specs.GroupList.{all_merged, IsSnapshot};
+ghost use Rattle.pg_exchange.specs.GroupList.{IsSnapshot};
 
-use pg_group::{Ended, GroupTable};
+use pg_group::GroupTable;
 use pg_query::{QueryFault, members, which_groups};
 use pg_term::{Items, Pid, Term};
 use std::alloc::{AllocError, Global};
-
-/// Takes in groups, one after the other.
-pub fn merge_all<T: GroupTable>(
-    groups: &[(Term, Items<Pid>)],
-    table: &mut T,
-    ended: &Ended,
-) -> Result<(), AllocError>
-    ensures { OnOk result (T.contents table.new ≡ all_merged (T.contents table.old) groups.now (ended_of ended.now)) }
-{
-    for (name, members) in groups {
-        table.merge(name, members.as_slice(), ended)?;
-    }
-    Ok(())
-}
 
 /// All that a table says, as a node announces it: its groups in the order of terms, each with its members in the order of pids.
 pub fn snapshot<T: GroupTable>(

@@ -5,6 +5,7 @@ mod fault;
 mod formation;
 mod group_list;
 mod laws;
+mod merging;
 
 pub use fault::ExchangeFault;
 pub use formation::Formation;
