@@ -1,6 +1,7 @@
 pub mod Begun
 pub mod Bridged
 pub mod Clauses
+pub mod Exclusive
 pub mod Located
 pub mod Prefixes
 pub mod Shown

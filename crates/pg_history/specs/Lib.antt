@@ -1,4 +1,5 @@
 pub mod Counted
+pub mod Exclusive
 pub mod Headline
 pub mod History
 pub mod Lasting

@@ -22,6 +22,7 @@ ghost use Rattle.pg_step.specs.Config.{Config, names_of, name_at, nodes_at, grou
 ghost use Rattle.pg_step.specs.FrameMachine.{node_step, frame_machine, losing_frame_machine, last_notice, sent_packet};
 ghost use Rattle.pg_history.specs.History.{LockFree, is_formed, history, updates_of, applied_count, applied_by};
 ghost use Rattle.pg_history.specs.Headline.{OneHistory, HoldsAnswered, AppliesHistory, HasTables, HarmsNobody, GoesOn};
+ghost use Rattle.pg_history.specs.Exclusive.{ExclusiveLocks};
 ghost use Rattle.pg_history.specs.Reached.{TimedFrameWorld, Reaches, HasEndedAt, FinishedAt};
 ghost use Rattle.pg_history.specs.ReferencesFit.{ReferencesFit, Follows};
 ghost use Rattle.pg_history.specs.Sent.{ends_in, exchanges_in, is_reply};
@@ -34,6 +35,7 @@ ghost use Rattle.pg_history.specs.Sent.{ends_in, exchanges_in, is_reply};
 /// - each node has applied that history, or all but its last update, and all of it where one node sees the lock free;
 /// - a formed node's table is that of what it has applied, less the ends that it took, and formed nodes agree where one
 ///   sees the lock free and no end is pending;
+/// - locks are exclusive: two updates of one group are never under way at once;
 /// - no reply is a stranger's or a double, and no packet will be refused, but by a full clock.
 pub fn one_history()
     ensures each_world { (config : Config) (w : TimedFrameWorld) (events : List (Event Action))
@@ -90,6 +92,15 @@ pub fn tables_are_replayed()
     ensures { (config : Config) (w : TimedFrameWorld) (events : List (Event Action))
         → IsDistinct same_atom (names_of config) → Reaches config events w
         → HasTables config (plain w) }
+{}
+
+/// Locks are exclusive. At each node one reference at most holds the lock of a group, and a grant that is counted stands at
+/// the node that gave it; so two requests for one lock are never granted by the same node at once. While an update is under
+/// way its command holds the lock of its group at every node, and no other update of that group is under way.
+pub fn locks_are_exclusive()
+    ensures { (config : Config) (w : TimedFrameWorld) (events : List (Event Action))
+        → IsDistinct same_atom (names_of config) → Reaches config events w
+        → ExclusiveLocks config (plain w) }
 {}
 
 /// Nobody is harmed: no reply is a stranger's or a double, and no packet on the way will be refused, but by a full clock.

@@ -20,7 +20,8 @@ use Rattle.pg_history.specs.ReferencesFit.{ReferencesFit}
 use Rattle.pg_history.proofs.references.Fitting.{is_changing}
 use Rattle.pg_history.proofs.references.Keys.{atoms, split, at_read, read_at, read_other}
 use Rattle.pg_history.proofs.references.References.{references}
-use Rattle.pg_history.proofs.locks.Kept.{Tale, Full, Due, Excused, IsOpOf, updating, IsUpdateOf, IsUpdating, Inv, Latest, Lines, answers_of, live, near, opens, talk}
+use Rattle.pg_history.specs.Exclusive.{IsUpdateOf}
+use Rattle.pg_history.proofs.locks.Kept.{Tale, Full, Due, Excused, IsOpOf, updating, IsUpdating, Inv, Latest, Lines, answers_of, live, near, opens, talk}
 use Rattle.pg_history.proofs.locks.Lines.{Line, Fits, FitsStatus, FitsReply}
 use Rattle.pg_history.proofs.locks.Named.{World, Entry}
 use Rattle.pg_history.proofs.locks.Seats.{Sits}

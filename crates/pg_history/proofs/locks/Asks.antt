@@ -27,7 +27,8 @@ use Rattle.pg_history.proofs.locks.Lines.{Line, talk_same, Fits, FitsStatus}
 use Rattle.pg_history.proofs.locks.Lines.Line.{Quiet, Wanting, Having}
 use Rattle.pg_history.proofs.locks.Moves.{refit, asked, asked_self}
 use Rattle.pg_history.proofs.locks.Named.{World, perform}
-use Rattle.pg_history.proofs.locks.Kept.{says, IsUpdateOf, IsUpdating, Inv, near}
+use Rattle.pg_history.specs.Exclusive.{IsUpdateOf}
+use Rattle.pg_history.proofs.locks.Kept.{says, IsUpdating, Inv, near}
 use Rattle.pg_history.proofs.locks.Framed.{Acts, ours_sent, spoken, acts_lines, acts_tidy, locks_here, locks_there, fitting_perform, once_same}
 use Rattle.pg_history.proofs.locks.Telling.{silent_remains, mute_tales, fewer_upd, more_upd, ops_upd, mute_sent}
 use Rattle.pg_history.proofs.locks.Latest.{latest_same, goes_upd}

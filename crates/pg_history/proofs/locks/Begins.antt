@@ -25,7 +25,8 @@ use Rattle.pg_history.proofs.locks.Lines.{Line, talk_same, shows, Fits, FitsStat
 use Rattle.pg_history.proofs.locks.Lines.Line.{Quiet, Having, Telling}
 use Rattle.pg_history.proofs.locks.Moves.{refit, reported}
 use Rattle.pg_history.proofs.locks.Named.{World, Entry, perform, on, of_name}
-use Rattle.pg_history.proofs.locks.Kept.{talk, near, live, live_own, near_live, IsUpdateOf, IsOpOf, updating, IsUpdating, GoesOut, Latest, Inv, carried, Tale, opens, answers_of}
+use Rattle.pg_history.specs.Exclusive.{IsUpdateOf}
+use Rattle.pg_history.proofs.locks.Kept.{talk, near, live, live_own, near_live, IsOpOf, updating, IsUpdating, GoesOut, Latest, Inv, carried, Tale, opens, answers_of}
 use Rattle.pg_history.proofs.locks.Framed.{Acts, ours_sent, spoken, acts_lines, acts_tidy, acts_about, locks_here, locks_there, fitting_perform, once_same}
 use Rattle.pg_history.proofs.locks.Telling.{silent_remains, tell_same, tell_more, fewer_upd, more_upd, tale_same, use_read, on-append, of_name-append}
 use Rattle.pg_history.proofs.locks.Latest.{GoesOn, parted, entry_name, updating_of, goes_upd, still_out, answered_same}

@@ -21,7 +21,8 @@ use Rattle.pg_history.proofs.locks.Lines.{talk_same, Fits, FitsStatus, FitsReply
 use Rattle.pg_history.proofs.locks.Lines.Line.{Telling}
 use Rattle.pg_history.proofs.locks.Moves.{applied, change_line}
 use Rattle.pg_history.proofs.locks.Named.{World, perform, popped, on, of_name}
-use Rattle.pg_history.proofs.locks.Kept.{talk, near, live, IsUpdateOf, IsOpOf, carried, Tale, Inv}
+use Rattle.pg_history.specs.Exclusive.{IsUpdateOf}
+use Rattle.pg_history.proofs.locks.Kept.{talk, near, live, IsOpOf, carried, Tale, Inv}
 use Rattle.pg_history.proofs.locks.Framed.{fitting_perform, read_same, once_same}
 use Rattle.pg_history.proofs.locks.Telling.{silent_remains, tell_more, tale_same, mute_sent, carried_mute, history_same, on-append}
 use Rattle.pg_history.proofs.locks.Latest.{latest_same}

@@ -25,7 +25,8 @@ use Rattle.pg_history.proofs.locks.Lines.{Line, talk_same, shows, Fits, FitsStat
 use Rattle.pg_history.proofs.locks.Lines.Line.{Having}
 use Rattle.pg_history.proofs.locks.Moves.{refit, freed, freed_own}
 use Rattle.pg_history.proofs.locks.Named.{World, perform}
-use Rattle.pg_history.proofs.locks.Kept.{says, IsUpdateOf, IsUpdating, Inv, near, live, live_own, opens}
+use Rattle.pg_history.specs.Exclusive.{IsUpdateOf}
+use Rattle.pg_history.proofs.locks.Kept.{says, IsUpdating, Inv, near, live, live_own, opens}
 use Rattle.pg_history.proofs.locks.Framed.{Acts, ours_sent, spoken, acts_lines, acts_tidy, locks_here, locks_there, fitting_perform, once_same}
 use Rattle.pg_history.proofs.locks.Telling.{silent_remains, mute_tales, fewer_upd, more_upd, ops_upd, mute_sent}
 use Rattle.pg_history.proofs.locks.Latest.{latest_same, goes_upd}

@@ -23,7 +23,8 @@ use Rattle.pg_history.proofs.locks.Lines.{Line, talk_same, shows, Fits, FitsRepl
 use Rattle.pg_history.proofs.locks.Lines.Line.{Quiet}
 use Rattle.pg_history.proofs.locks.Moves.{freed, freed_own}
 use Rattle.pg_history.proofs.locks.Named.{World, perform, on, of_name}
-use Rattle.pg_history.proofs.locks.Kept.{says, talk, near, live, live_own, near_live, IsUpdateOf, IsOpOf, IsUpdating, GoesOut, Latest, Inv, carried, Tale, opens, answers_of}
+use Rattle.pg_history.specs.Exclusive.{IsUpdateOf}
+use Rattle.pg_history.proofs.locks.Kept.{says, talk, near, live, live_own, near_live, IsOpOf, IsUpdating, GoesOut, Latest, Inv, carried, Tale, opens, answers_of}
 use Rattle.pg_history.proofs.locks.Framed.{Acts, ours_sent, spoken, acts_lines, acts_tidy, locks_here, locks_there, fitting_perform}
 use Rattle.pg_history.proofs.locks.Telling.{live_remains, full_same, fewer_upd, more_upd, mute_sent, tale_same, use_read, log_same, history_same, carried_mute, answers-append}
 use Rattle.pg_history.proofs.locks.Seats.{Sits, seated, to_own, to_own_at, to_near, true_both}

@@ -18,6 +18,7 @@ use Rattle.pg_step.specs.State.{State, Use, Stage}
 use Rattle.pg_step.specs.State.Use.{Updating}
 use Rattle.pg_step.specs.State.Stage.{Closed}
 use Rattle.pg_step.specs.Turns.{NodeTurn}
+use Rattle.pg_history.specs.Exclusive.{IsUpdateOf}
 use Rattle.pg_history.specs.ReferencesFit.{ReferencesFit}
 use Rattle.pg_history.proofs.references.Keys.{atoms, cases, upd_at, upd_same, upd_other}
 use Rattle.pg_history.proofs.references.References.{about, about-append}
@@ -68,10 +69,6 @@ pub record Tidy (wire : Node → Node → List Message) : Type 0 where
   pub own : (x : Node) → wire x x ≡ []
   pub stray : (x y h : Node) (c : ℕ) → h ≢ x → h ≢ y → about (numbered h c) (wire x y) ≡ []
   pub ours : (x y : Node) → AllByRecursion (IsOurs x y) (wire x y)
-
-abbrev pub IsUpdateOf : Term → Use → Type 0
-IsUpdateOf N (Updating op u c rep) = name_of u ≡ N
-IsUpdateOf N _ = ⊥
 
 -- the updates that messages carry
 abbrev pub carried : List Message → List Update

@@ -12,7 +12,8 @@ use Rattle.pg_step.specs.State.Use.{Fresh, Spent, Locking, Owning, Updating}
 use Rattle.pg_step.specs.Turns.{NodeTurn}
 use Rattle.pg_history.proofs.references.Keys.{terms, numbers, at_read}
 use Rattle.pg_history.proofs.locks.Named.{World, Entry, perform, answer_of, of_name}
-use Rattle.pg_history.proofs.locks.Kept.{IsUpdateOf, IsUpdating, GoesOut, Latest, answers_of}
+use Rattle.pg_history.specs.Exclusive.{IsUpdateOf}
+use Rattle.pg_history.proofs.locks.Kept.{IsUpdating, GoesOut, Latest, answers_of}
 use Rattle.pg_history.proofs.locks.Telling.{history_same, use_read}
 
 -- ---- lists

@@ -23,7 +23,8 @@ use Rattle.pg_history.proofs.references.References.{refers, about, about_here, I
 use Rattle.pg_history.proofs.locks.Lines.{Talk, talk_same, Fits, FitsStatus, FitsReply}
 use Rattle.pg_history.proofs.locks.Moves.{refit, granted_back, denied_back, applied_back}
 use Rattle.pg_history.proofs.locks.Named.{World, perform, popped}
-use Rattle.pg_history.proofs.locks.Kept.{says, talk, near, near_swap, Lines, IsUpdateOf, IsOpOf, updating, IsUpdating, carried, Inv, Mine, Theirs, lines_perform}
+use Rattle.pg_history.specs.Exclusive.{IsUpdateOf}
+use Rattle.pg_history.proofs.locks.Kept.{says, talk, near, near_swap, Lines, IsOpOf, updating, IsUpdating, carried, Inv, Mine, Theirs, lines_perform}
 use Rattle.pg_history.proofs.locks.Framed.{read_same, fitting_perform, tidy_perform, once_same}
 use Rattle.pg_history.proofs.locks.Telling.{silent_remains, mute_told, fewer_upd, more_upd, ops_upd}
 use Rattle.pg_history.proofs.locks.Latest.{latest_same, goes_upd}

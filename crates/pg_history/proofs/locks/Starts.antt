@@ -22,7 +22,8 @@ use Rattle.pg_history.proofs.references.Keys.{numbers, at_read}
 use Rattle.pg_history.proofs.references.References.{about}
 use Rattle.pg_history.proofs.locks.Lines.{talk_same, Fits}
 use Rattle.pg_history.proofs.locks.Named.{World, perform}
-use Rattle.pg_history.proofs.locks.Kept.{IsOurs, IsUpdateOf, IsOpOf, IsUpdating, carried, Inv, lines_perform, opens, answers_of}
+use Rattle.pg_history.specs.Exclusive.{IsUpdateOf}
+use Rattle.pg_history.proofs.locks.Kept.{IsOurs, IsOpOf, IsUpdating, carried, Inv, lines_perform, opens, answers_of}
 use Rattle.pg_history.proofs.locks.Framed.{still_lines, still_tidy, fitting_perform, tidy_perform, read_same, once_same}
 use Rattle.pg_history.proofs.locks.Telling.{silent_remains, mute_tales, fewer_upd, more_upd, ops_upd}
 use Rattle.pg_history.proofs.locks.Stages.{commands}

@@ -20,7 +20,8 @@ use Rattle.pg_history.proofs.references.Keys.{atoms, numbers, at_read, from_read
 use Rattle.pg_history.proofs.references.References.{about, about-append, cond_append, refers}
 use Rattle.pg_history.proofs.locks.Named.{World, Entry, perform, listed, entry_of, answer_of, on, of_name, times}
 use Rattle.pg_history.proofs.locks.Thins.{thin_map, thin_push}
-use Rattle.pg_history.proofs.locks.Kept.{Tells, Full, Tale, IsUpdateOf, IsOpOf, carried, Inv, live, answers_of}
+use Rattle.pg_history.specs.Exclusive.{IsUpdateOf}
+use Rattle.pg_history.proofs.locks.Kept.{Tells, Full, Tale, IsOpOf, carried, Inv, live, answers_of}
 
 -- ---- lists
 

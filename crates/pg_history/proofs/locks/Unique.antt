@@ -17,7 +17,8 @@ use Rattle.pg_history.proofs.references.References.{references, numbered_apart}
 use Rattle.pg_history.proofs.locks.Lines.{shows, Fits, FitsStatus}
 use Rattle.pg_history.proofs.locks.Lines.Line.{Having}
 use Rattle.pg_history.proofs.locks.Named.{World}
-use Rattle.pg_history.proofs.locks.Kept.{talk, near, IsUpdateOf, Inv}
+use Rattle.pg_history.specs.Exclusive.{IsUpdateOf}
+use Rattle.pg_history.proofs.locks.Kept.{talk, near, Inv}
 
 pub record IsUpdate (N : Term) (x : Use) : Type 0 where
   pub op : OpId

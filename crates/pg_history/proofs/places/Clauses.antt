@@ -45,6 +45,7 @@ use Rattle.pg_history.proofs.locks.Kept.{Live}
 use Rattle.pg_history.proofs.locks.Agreed.{Agrees, IsAllButOne, agrees_of}
 use Rattle.pg_history.proofs.places.Shown.{IsHere, by_name, Shows}
 use Rattle.pg_history.proofs.places.Bridged.{Bridged, bridged, nobody_seen, live_at, near_at, all_applied}
+use Rattle.pg_history.proofs.places.Exclusive.{exclusive}
 use Rattle.pg_history.proofs.places.Prefixes.{as_long, lengths, updates_shown, answers_shown, split_shown, node_here, as_many_updates}
 
 module _ (config : Config) (apart : IsDistinct same_atom (names_of config)) where
@@ -246,7 +247,7 @@ module _ (config : Config) (apart : IsDistinct same_atom (names_of config)) (es 
   -- ---- all of them
 
   pub one_history : OneHistory config es v
-  one_history = record { answered = changes_held; applies = applies config apart v bridge; tables = tables; harmless = harmless }
+  one_history = record { answered = changes_held; applies = applies config apart v bridge; tables = tables; exclusive = exclusive config apart v bridge; harmless = harmless }
 
 -- whatever events are tried, those that happen lead to such a world
 pub any_events : (config : Config) (es : List (Event Action)) → IsDistinct same_atom (names_of config)

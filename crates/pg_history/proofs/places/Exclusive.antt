@@ -1,0 +1,69 @@
+-- Locks are exclusive in each world of a run.
+use Rattle.std.proofs.Common.{◌≡◌, ℕ, Bool, true, refl, ap, sym, ◌∙◌, subst}
+use Rattle.std.specs.List.{IsDistinct}
+use Rattle.pg_term.specs.declared.term.Term.{Term}
+use Rattle.pg_term.specs.Same.{same_atom}
+use Rattle.pg_group.specs.declared.update.Update.{Update}
+use Rattle.pg_group.specs.Value.{name_of}
+use Rattle.pg_lock.specs.Locks.{is_holder}
+use Rattle.pg_refs.specs.Numbered.{numbered}
+use Rattle.pg_step.specs.declared.command.OpId.{OpId}
+use Rattle.pg_step.specs.Config.{Config, names_of, name_at}
+use Rattle.pg_step.specs.FrameMachine.{FrameWorld}
+use Rattle.pg_step.specs.Nodes.{Node}
+use Rattle.pg_step.specs.State.{State, Status, Use}
+use Rattle.pg_step.specs.State.Status.{Yes}
+use Rattle.pg_step.specs.State.Use.{Locking, Updating}
+use Rattle.pg_history.specs.Exclusive.{ExclusiveLocks, Holds, IsUpdateOf}
+use Rattle.pg_history.proofs.ends.Apart.{same_place}
+use Rattle.pg_history.proofs.references.Keys.{atoms}
+use Rattle.pg_history.proofs.references.Fitting.{is_owning}
+use Rattle.pg_history.proofs.locks.Named.{World}
+use Rattle.pg_history.proofs.locks.Kept.{near}
+use Rattle.pg_history.proofs.locks.Unique.{one_ref, owner_holds, yes_holds, one_update}
+use Rattle.pg_history.proofs.places.Shown.{IsHere, Shows}
+use Rattle.pg_history.proofs.places.Bridged.{Bridged, near_at}
+
+module _ (config : Config) (apart : IsDistinct same_atom (names_of config)) (v : FrameWorld) (b : Bridged config apart v) where
+  abbrev w : World
+  w = b.has.world
+
+  abbrev s : Shows config v w
+  s = b.has.shows
+
+  -- a node of the one world is that of the other
+  uses_are : (i c : ℕ) → IsHere config i → (w.node (name_at config i)).uses c ≡ (v.node i).uses c
+  uses_are i c here = ap (λ (z : State). z.uses c) (s.node i here)
+
+  held_there : (x i c : ℕ) (name : Term) → IsHere config x → is_holder ((w.node (name_at config x)).locks name) (numbered (name_at config i) c) ≡ true → Holds config v x i c name
+  held_there x i c name here h = sym (ap (λ (z : State). is_holder (z.locks name) (numbered (name_at config i) c)) (s.node x here)) ∙ h
+
+  is_near : (i x : ℕ) → IsHere config i → IsHere config x → near w (name_at config i) (name_at config x)
+  is_near i x here there = near_at config apart v w x i s there here
+
+  one_place : (i j : ℕ) → IsHere config i → IsHere config j → name_at config i ≡ name_at config j → i ≡ j
+  one_place i j here there e = same_place config apart i j here there (ap (same_atom (name_at config i)) (sym e) ∙ atoms.refl (name_at config i))
+
+  one_holder : (x i j c d : ℕ) (name : Term) → IsHere config i → IsHere config j → Holds config v x i c name → Holds config v x j d name → (i ≡ j) × (c ≡ d)
+  one_holder x i j c d name here there e f =
+      let one = one_ref (name_at config i) (name_at config j) c d ((v.node x).locks name) e f in
+      (one_place i j here there one.0, one.1)
+
+  granted : (x i c : ℕ) (op : OpId) (update : Update) (first : Node) (status : Node → Status) → IsHere config x → IsHere config i → (v.node i).uses c ≡ Locking op update first status → status (name_at config x) ≡ Yes → Holds config v x i c (name_of update)
+  granted x i c op update first status there here is grants =
+      held_there x i c (name_of update) there (yes_holds w b.has.inv (name_at config i) c op update first status (name_at config x) (is_near i x here there) (uses_are i c here ∙ is) grants)
+
+  held : (x i n : ℕ) (op : OpId) (update : Update) (lock : ℕ) (replied : Node → Bool) → IsHere config x → IsHere config i → (v.node i).uses n ≡ Updating op update lock replied → Holds config v x i lock (name_of update)
+  held x i n op update lock replied there here is =
+      held_there x i lock (name_of update) there
+      (owner_holds w b.has.inv (name_at config i) lock (name_of update) n (name_at config x) (is_near i x here there)
+        (is_owning (b.has.inv.fitting (name_at config i)) n op update lock replied (uses_are i n here ∙ is)))
+
+  one : (i j n k : ℕ) (name : Term) → IsHere config i → IsHere config j → IsUpdateOf name ((v.node i).uses n) → IsUpdateOf name ((v.node j).uses k) → (i ≡ j) × (n ≡ k)
+  one i j n k name here there f g =
+      let both = one_update w b.has.inv (name_at config i) n (name_at config j) k name (name_at config i) (is_near i i here here) (is_near j i there here)
+        (subst (IsUpdateOf name) (sym (uses_are i n here)) f) (subst (IsUpdateOf name) (sym (uses_are j k there)) g) in
+      (one_place i j here there both.0, both.1)
+
+  pub exclusive : ExclusiveLocks config v
+  exclusive = record { one_holder = one_holder; granted = granted; held = held; one_update = one }
