@@ -2,5 +2,6 @@ pub mod Grows
 pub mod Lasting
 pub mod Lossless
 pub mod Made
+pub mod RealTime
 pub mod Single
 pub mod Ways

@@ -19,6 +19,7 @@ use Rattle.pg_step.specs.FrameMachine.{node_step, FrameWorld}
 use Rattle.pg_history.specs.History.{Entry, entries, history, updates_of, applied_by, applied_count, answered_count, times, replay, known, base, command_at, answers_by, has_answer, answers_to, IsAnsweredOk, ok_means_lock, is_formed, has_groups, LockFree, NonePending}
 use Rattle.pg_step.specs.Commands.{change_of}
 use Rattle.pg_history.specs.Exclusive.{ExclusiveLocks}
+use Rattle.pg_history.specs.RealTime.{InRealTime}
 
 -- Each answered change stands, once, in one history.
 pub record HoldsAnswered (config : Config) (events : List (Event Action)) (w : FrameWorld) : Type 0 where
@@ -93,7 +94,8 @@ pub record OneHistory (config : Config) (events : List (Event Action)) (w : Fram
   pub answered : HoldsAnswered config events w
   pub applies : AppliesHistory config w
   pub tables : HasTables config w
-  pub exclusive : ExclusiveLocks config w
+  pub real_time : InRealTime config events w
+  pub exclusive : ExclusiveLocks config (is_place (length config)) w.node
   pub harmless : HarmsNobody config w
 
 -- A later world's history of each group is that of the earlier one, and more.

@@ -4,6 +4,7 @@ pub mod Headline
 pub mod History
 pub mod Lasting
 pub mod Reached
+pub mod RealTime
 pub mod ReferencesFit
 pub mod Sent
 pub mod WithLosses

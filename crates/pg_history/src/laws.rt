@@ -23,6 +23,7 @@ ghost use Rattle.pg_step.specs.FrameMachine.{node_step, frame_machine, losing_fr
 ghost use Rattle.pg_history.specs.History.{LockFree, is_formed, history, updates_of, applied_count, applied_by};
 ghost use Rattle.pg_history.specs.Headline.{OneHistory, HoldsAnswered, AppliesHistory, HasTables, HarmsNobody, GoesOn};
 ghost use Rattle.pg_history.specs.Exclusive.{ExclusiveLocks};
+ghost use Rattle.pg_history.specs.RealTime.{InRealTime};
 ghost use Rattle.pg_history.specs.Reached.{TimedFrameWorld, Reaches, HasEndedAt, FinishedAt};
 ghost use Rattle.pg_history.specs.ReferencesFit.{ReferencesFit, Follows};
 ghost use Rattle.pg_history.specs.Sent.{ends_in, exchanges_in, is_reply};
@@ -35,6 +36,7 @@ ghost use Rattle.pg_history.specs.Sent.{ends_in, exchanges_in, is_reply};
 /// - each node has applied that history, or all but its last update, and all of it where one node sees the lock free;
 /// - a formed node's table is that of what it has applied, less the ends that it took, and formed nodes agree where one
 ///   sees the lock free and no end is pending;
+/// - a change that was answered before another command came in stands before it, and each node has applied it from then on;
 /// - locks are exclusive: two updates of one group are never under way at once;
 /// - no reply is a stranger's or a double, and no packet will be refused, but by a full clock.
 pub fn one_history()
@@ -100,7 +102,19 @@ pub fn tables_are_replayed()
 pub fn locks_are_exclusive()
     ensures { (config : Config) (w : TimedFrameWorld) (events : List (Event Action))
         → IsDistinct same_atom (names_of config) → Reaches config events w
-        → ExclusiveLocks config (plain w) }
+        → ExclusiveLocks config (is_place (length config)) (plain w).node }
+{}
+
+/// The history of a group goes by real time. A change that was answered behind its lock before another command came in, at
+/// whatever node, stands before it; and from then on its update is among those that each node has applied, so that a formed
+/// node answers queries from a table that has it. No node goes back.
+///
+/// So the changes of a group that go through its lock, and the queries after them, are linearizable. A create that is
+/// answered ok by the look, and a join or a leave that the look finds no group for, promise nothing of other nodes.
+pub fn updates_go_by_real_time()
+    ensures { (config : Config) (w : TimedFrameWorld) (events : List (Event Action))
+        → IsDistinct same_atom (names_of config) → Reaches config events w
+        → InRealTime config events (plain w) }
 {}
 
 /// Nobody is harmed: no reply is a stranger's or a double, and no packet on the way will be refused, but by a full clock.

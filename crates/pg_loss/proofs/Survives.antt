@@ -1,5 +1,5 @@
 -- What survives losses, together.
-use Rattle.std.proofs.Common.{◌≡◌, ◌≢◌, ℕ, true, false, length, List, ◌∷◌, None, sym, ◌∙◌}
+use Rattle.std.proofs.Common.{◌≡◌, ◌≢◌, ℕ, Bool, true, false, not, ◌&&◌, length, List, ◌∷◌, None, refl, sym, ◌∙◌}
 use Rattle.std.specs.List.{AllByRecursion, IsDistinct}
 use Rattle.pg_term.specs.declared.term.Term.{Term}
 use Rattle.pg_term.specs.Same.{same_atom}
@@ -8,17 +8,20 @@ use Rattle.pg_message.specs.declared.message.Message.{Message}
 use Rattle.pg_machine.specs.Clocked.{plain}
 use Rattle.pg_machine.specs.Losing.{LosingEvent, Noticed}
 use Rattle.pg_machine.specs.Machine.{Taken}
-use Rattle.pg_machine.specs.Places.{is_pair}
+use Rattle.pg_machine.specs.Places.{is_pair, is_place}
 use Rattle.pg_step.specs.Config.{Config, names_of, name_at}
 use Rattle.pg_step.specs.FrameMachine.{losing_machine_of}
 use Rattle.pg_step.specs.LossLaws.{LosingFrameWorld}
 use Rattle.pg_step.specs.Step.{Action}
 use Rattle.pg_step.specs.Turns.{Report}
 use Rattle.pg_history.specs.History.{base, replay}
+use Rattle.pg_history.specs.Exclusive.{ExclusiveLocks}
 use Rattle.pg_history.specs.WithLosses.{FormedAtLosses, HasThinned, SurvivesLosses}
+use Rattle.pg_history.proofs.places.Exclusive.{are_exclusive}
 use Rattle.pg_history.proofs.places.Shown.{IsHere}
-use Rattle.pg_loss.specs.Reached.{LosingReaches}
+use Rattle.pg_loss.specs.Reached.{LosingReaches, lives_in, nodes_of}
 use Rattle.pg_loss.specs.Thinned.{AppliesThinned}
+use Rattle.pg_loss.proofs.Bridge.{live_at}
 use Rattle.pg_loss.proofs.Bridges.{Bridged, bridged}
 use Rattle.pg_loss.proofs.Lossy.{bare}
 use Rattle.pg_loss.proofs.Tabled.{all_ended, table_of}
@@ -36,6 +39,23 @@ module _ (config : Config) (apart : IsDistinct same_atom (names_of config)) (es 
   pub packets_heard : (i p : ℕ) (packet : Noticed Message) (rest : List (Noticed Message)) → is_pair (length config) i p ≡ true → w.gone i ≡ false → (w.world.node i).state.lost (name_at config p) ≡ false
       → (plain w.world).wire p i ≡ packet ∷ rest → (losing_machine_of config).step i ((plain w.world).node i) (Taken p packet) ≢ None
   packets_heard i p packet rest pair lives known first = not_refused config apart (bare w) bridge.has (posted config apart es w l) i p pair lives known packet rest first
+
+  -- a node that is not lost
+  is_left : (i : ℕ) → lives_in config w i ≡ true → IsHere config i × (w.gone i ≡ false)
+  is_left i lives = go (is_place (length config) i) (w.gone i) refl refl lives
+    where
+      go : (here gone : Bool) → is_place (length config) i ≡ here → w.gone i ≡ gone → (here && not gone) ≡ true → IsHere config i × (w.gone i ≡ false)
+      go true false h g e = (h, g)
+      go true true h g e = absurd (cc)
+      go false gone h g e = absurd (cc)
+
+  pub exclusive : ExclusiveLocks config (lives_in config w) (nodes_of w).node
+  exclusive = are_exclusive config apart (lives_in config w) (nodes_of w).node bridge.has.world (record {
+    inv = bridge.has.inv;
+    here = λ i lives. (is_left i lives).0;
+    live = λ i lives. live_at config apart (bare w) bridge.has i (is_left i lives).0 (is_left i lives).1;
+    same = λ i lives. bridge.has.shows.node i (is_left i lives).0;
+  })
 
   pub no_odd_reply : AllByRecursion (λ (t : ℕ × Report). t.1.odd ≡ None) w.world.reported
   no_odd_reply = bridge.even

@@ -1,7 +1,8 @@
 -- The worlds that nodes come to which can be lost.
-use Rattle.std.specs.Prelude.{List, [], ◌∷◌}
+use Rattle.std.specs.Prelude.{ℕ, Bool, not, ◌&&◌, length, List, [], ◌∷◌}
 use Rattle.pg_machine.specs.Losing.{LosingEvent, LosingLeads, Lose, Step, nobody_gone}
 use Rattle.pg_machine.specs.Machine.{Event, start_of}
+use Rattle.pg_machine.specs.Places.{is_place}
 use Rattle.pg_step.specs.Config.{Config}
 use Rattle.pg_step.specs.FrameMachine.{FrameWorld, last_notice, losing_frame_machine}
 use Rattle.pg_step.specs.LossLaws.{LosingFrameWorld}
@@ -20,3 +21,7 @@ steps_of (Lose node keep ∷ es) = steps_of es
 -- the nodes without their clocks, and what they reported, with nothing on the way
 abbrev pub nodes_of : LosingFrameWorld → FrameWorld
 nodes_of w = record { node = λ i. (w.world.node i).state; wire = λ x y. []; reported = w.world.reported }
+
+-- a node of the configuration that is not lost
+abbrev pub lives_in : Config → LosingFrameWorld → ℕ → Bool
+lives_in config w i = is_place (length config) i && not (w.gone i)

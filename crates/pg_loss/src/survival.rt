@@ -18,9 +18,10 @@ ghost use Rattle.pg_step.specs.State.{formed};
 ghost use Rattle.pg_step.specs.Step.{Action};
 ghost use Rattle.pg_step.specs.Turns.{Report};
 ghost use Rattle.pg_history.specs.History.{Entry, answered_count, applied_by, history};
+ghost use Rattle.pg_history.specs.Exclusive.{ExclusiveLocks};
 ghost use Rattle.pg_history.specs.WithLosses.{FormedAtLosses, NoLockOfLost, NonePendingLeft, SurvivesLosses};
 ghost use Rattle.pg_loss.specs.Agreeing.{EndedHome, SawAll};
-ghost use Rattle.pg_loss.specs.Reached.{LosingReaches};
+ghost use Rattle.pg_loss.specs.Reached.{LosingReaches, lives_in, nodes_of};
 ghost use Rattle.pg_loss.specs.Thinned.{AppliesThinned};
 
 /// The three promises, of each node that is not lost, where every node was formed at the first loss: its table is that of a
@@ -44,6 +45,14 @@ pub fn no_lock_of_the_lost()
     ensures { (config : Config) (w : LosingFrameWorld) (events : List (LosingEvent Action)) (i : ℕ)
         → IsDistinct same_atom (names_of config) → LosingReaches config events w
         → is_place (length config) i ≡ true → NoLockOfLost w i }
+{}
+
+/// Whoever is lost, locks are exclusive among the nodes that are not: two updates of one group, of two of them, are never under way
+/// at once, and each has the lock of its group at all of them.
+pub fn locks_are_exclusive_past_losses()
+    ensures { (config : Config) (w : LosingFrameWorld) (events : List (LosingEvent Action))
+        → IsDistinct same_atom (names_of config) → LosingReaches config events w
+        → ExclusiveLocks config (lives_in config w) (nodes_of w).node }
 {}
 
 /// Whoever is lost, no reply that a node takes is a stranger's or a double.

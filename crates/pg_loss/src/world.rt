@@ -14,7 +14,7 @@ use crate::lasting::{
 };
 use crate::survival::{
     ended_processes_were_made_past_losses, ends_at_home_past_losses, histories_are_thinned,
-    losses_are_survived, no_lock_of_the_lost, no_packet_is_refused, no_reply_is_odd,
+    locks_are_exclusive_past_losses, losses_are_survived, no_lock_of_the_lost, no_packet_is_refused, no_reply_is_odd,
     nodes_left_agree, unanswered_changes_are_last,
 };
 
@@ -27,6 +27,7 @@ pub fn each_world_past_losses()
     losses_are_survived();
     histories_are_thinned();
     no_lock_of_the_lost();
+    locks_are_exclusive_past_losses();
     no_reply_is_odd();
     no_packet_is_refused();
     unanswered_changes_are_last();

@@ -13,12 +13,12 @@ use Rattle.pg_lock.specs.Locks.{is_holder}
 use Rattle.pg_message.specs.declared.message.Message.{Message}
 use Rattle.pg_message.specs.declared.message.Message.TheVariants.{Call, Reply, DelLock, Exchange, Down}
 use Rattle.pg_message.specs.declared.message.Said.{Said}
-use Rattle.pg_machine.specs.Places.{is_pair}
+use Rattle.pg_machine.specs.Places.{is_pair, is_place}
 use Rattle.pg_machine.specs.Machine.{Event, Taken, start_of}
 use Rattle.pg_machine.specs.Runs.{Leads, run, ran}
 use Rattle.pg_machine.specs.Clocked.{plain}
 use Rattle.pg_step.specs.State.{State}
-use Rattle.pg_step.specs.Turns.{NodeTurn}
+use Rattle.pg_step.specs.Turns.{NodeTurn, Report}
 use Rattle.pg_step.specs.Step.{CLOCK_LIMIT, Action, taken, node_takes}
 use Rattle.pg_step.specs.declared.refusal.Refusal.{Refusal}
 use Rattle.pg_step.specs.Config.{Config, names_of, name_at, nodes_at}
@@ -45,7 +45,10 @@ use Rattle.pg_history.proofs.locks.Kept.{Live}
 use Rattle.pg_history.proofs.locks.Agreed.{Agrees, IsAllButOne, agrees_of}
 use Rattle.pg_history.proofs.places.Shown.{IsHere, by_name, Shows}
 use Rattle.pg_history.proofs.places.Bridged.{Bridged, bridged, nobody_seen, live_at, near_at, all_applied}
-use Rattle.pg_history.proofs.places.Exclusive.{exclusive}
+use Rattle.pg_history.specs.Exclusive.{ExclusiveLocks}
+use Rattle.pg_history.specs.RealTime.{InRealTime}
+use Rattle.pg_history.proofs.steps.RealTime.{comes_before, comes_before_in, goes_onward, reported_more, stays_seen}
+use Rattle.pg_history.proofs.places.Exclusive.{are_exclusive}
 use Rattle.pg_history.proofs.places.Prefixes.{as_long, lengths, updates_shown, answers_shown, split_shown, node_here, as_many_updates}
 
 module _ (config : Config) (apart : IsDistinct same_atom (names_of config)) where
@@ -244,10 +247,36 @@ module _ (config : Config) (apart : IsDistinct same_atom (names_of config)) (es 
       packets i p (Exchange node groups) rest pair is = none_refused config v bridge.nobody (posted_timed config apart es w l) i p (Exchange node groups) rest pair is refl
       packets i p (Down pid) rest pair is = none_refused config v bridge.nobody (posted_timed config apart es w l) i p (Down pid) rest pair is refl
 
+  pub exclusive : ExclusiveLocks config (is_place (length config)) v.node
+  exclusive = are_exclusive config apart (is_place (length config)) v.node bridge.has.world (record {
+    inv = bridge.has.inv;
+    here = λ i here. here;
+    live = λ i here. live_at config apart v bridge.has.world i bridge.has.shows here;
+    same = λ i here. bridge.has.shows.node i here;
+  })
+
+  -- ---- real time
+
+  on_the_way : (first last : List (Event Action)) (m : TimedFrameWorld) → es ≡ first ++ last → Reaches config first m → (more : List (ℕ × Report)) × (v.reported ≡ (plain m).reported ++ more)
+  on_the_way first last m is before = reported_more config es first last w m is l before
+
+  pub in_real_time : InRealTime config es v
+  in_real_time = record {
+    before = λ first last m i op earlier later e is reached some none at.
+        let more = on_the_way first last m is reached in comes_before config first m reached more.0 v.reported more.1 i op earlier later e some none at;
+    in_group = λ first last m name before after earlier later a e is reached was none at.
+        let more = on_the_way first last m is reached in comes_before_in config first m reached more.0 v.reported more.1 name before after earlier later a e was none at;
+    seen = λ first last m x name before after e is reached here was some.
+        let more = on_the_way first last m is reached in
+        stays_seen config first m reached more.0 v.reported more.1 x name before after e (λ later now answered. (applies config apart v bridge).everywhere x name before later e here now answered) was some;
+    onward = λ first last m x name is reached.
+        let more = on_the_way first last m is reached in goes_onward config first m reached more.0 v.reported more.1 x name;
+  }
+
   -- ---- all of them
 
   pub one_history : OneHistory config es v
-  one_history = record { answered = changes_held; applies = applies config apart v bridge; tables = tables; exclusive = exclusive config apart v bridge; harmless = harmless }
+  one_history = record { answered = changes_held; applies = applies config apart v bridge; tables = tables; real_time = in_real_time; exclusive = exclusive; harmless = harmless }
 
 -- whatever events are tried, those that happen lead to such a world
 pub any_events : (config : Config) (es : List (Event Action)) → IsDistinct same_atom (names_of config)

@@ -25,6 +25,7 @@ returns c = λ config w events apart l. record {
     made = λ i pid. c.ended_processes_were_made_past_losses.ensures config w events i pid apart l;
     ended = λ i name. c.ended_are_in_no_group_past_losses.ensures config w events i name l;
   };
+  exclusive = c.locks_are_exclusive_past_losses.ensures config w events apart l;
   harmless = record {
     replies = c.no_reply_is_odd.ensures config w events apart l;
     packets = λ i p packet rest. c.no_packet_is_refused.ensures config w events i p packet rest apart l;
