@@ -10,6 +10,7 @@ pub mod Lasts
 pub mod OwnEnds
 pub mod Standing
 pub mod Parting
+pub mod RealTime
 pub mod Requests
 pub mod Survives
 pub mod Tabled

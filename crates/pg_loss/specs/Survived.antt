@@ -24,9 +24,10 @@ use Rattle.pg_step.specs.Turns.{Report}
 use Rattle.pg_history.specs.Counted.{CountsCommands}
 use Rattle.pg_history.specs.History.{Entry, IsAnsweredOk, answered_count, answers_by, answers_to, applied_by, command_at, entries, has_answer, history, ok_means_lock, times}
 use Rattle.pg_history.specs.Exclusive.{ExclusiveLocks}
+use Rattle.pg_history.specs.RealTime.{StandsBefore}
 use Rattle.pg_history.specs.WithLosses.{FormedAtLosses, NoLockOfLost, NonePendingLeft, SurvivesLosses}
 use Rattle.pg_loss.specs.Agreeing.{EndedHome, SawAll}
-use Rattle.pg_loss.specs.Reached.{lives_in, nodes_of, steps_of}
+use Rattle.pg_loss.specs.Reached.{lives_in, LosingReaches, nodes_of, steps_of}
 use Rattle.pg_loss.specs.Thinned.{AppliesThinned}
 
 -- Each answered change stands, once.
@@ -94,6 +95,9 @@ pub record LossesSurvived (config : Config) (events : List (LosingEvent Action))
   pub unanswered : (name : Term) (before after : List Entry) (e : Entry) → history name w.world.reported ≡ before ++ e ∷ after
       → answered_count e.node e.op w.world.reported ≡ 0 → w.gone e.node ≡ false → StandsLast config w name before after e
   pub left : LeftAgree config events w
+  -- what was reported until a time stands before what comes in later
+  pub order : (first last : List (LosingEvent Action)) (m : LosingFrameWorld) → events ≡ first ++ last → LosingReaches config first m
+      → StandsBefore (steps_of first) m.world.reported w.world.reported
   -- locks are exclusive among the nodes that are not lost
   pub exclusive : ExclusiveLocks config (lives_in config w) (nodes_of w).node
   pub harmless : HarmsNobodyLeft config w

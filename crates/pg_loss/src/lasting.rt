@@ -28,6 +28,7 @@ ghost use Rattle.pg_history.specs.History.{
   ok_means_lock,
   times,
 };
+ghost use Rattle.pg_history.specs.RealTime.{StandsBefore};
 ghost use Rattle.pg_loss.specs.Reached.{LosingReaches, nodes_of, steps_of};
 
 /// Answers that were given stay, each with its number and its response, whoever is lost.
@@ -44,6 +45,14 @@ pub fn histories_grow_past_losses()
         → LosingLeads (losing_frame_machine config) last_notice w events v
         → (more : List Entry)
         × (history name v.world.reported ≡ history name w.world.reported ++ more) }
+{}
+
+/// Whoever is lost, histories go by real time: a change that was answered behind its lock before another command came in stands
+/// before it, and so does each entry of a group that was there by then. No node goes back.
+pub fn histories_go_by_real_time_past_losses()
+    ensures { (config : Config) (w m : LosingFrameWorld) (events first last : List (LosingEvent Action))
+        → LosingReaches config events w → events ≡ first ++ last → LosingReaches config first m
+        → StandsBefore (steps_of first) m.world.reported w.world.reported }
 {}
 
 /// A node that is formed stays formed, whoever is lost.

@@ -11,6 +11,7 @@ ghost use Rattle.pg_loss.specs.Survived.{LossesSurvived};
 use crate::lasting::{
     changes_are_answered_past_losses, changes_stand_once_past_losses,
     commands_are_counted_past_losses, ended_are_in_no_group_past_losses,
+    histories_go_by_real_time_past_losses,
 };
 use crate::survival::{
     ended_processes_were_made_past_losses, ends_at_home_past_losses, histories_are_thinned,
@@ -27,6 +28,7 @@ pub fn each_world_past_losses()
     losses_are_survived();
     histories_are_thinned();
     no_lock_of_the_lost();
+    histories_go_by_real_time_past_losses();
     locks_are_exclusive_past_losses();
     no_reply_is_odd();
     no_packet_is_refused();

@@ -47,7 +47,7 @@ use Rattle.pg_history.proofs.places.Shown.{IsHere, by_name, Shows}
 use Rattle.pg_history.proofs.places.Bridged.{Bridged, bridged, nobody_seen, live_at, near_at, all_applied}
 use Rattle.pg_history.specs.Exclusive.{ExclusiveLocks}
 use Rattle.pg_history.specs.RealTime.{InRealTime}
-use Rattle.pg_history.proofs.steps.RealTime.{comes_before, comes_before_in, goes_onward, reported_more, stays_seen}
+use Rattle.pg_history.proofs.steps.RealTime.{none_before, reported_more, stands_before, stays_seen}
 use Rattle.pg_history.proofs.places.Exclusive.{are_exclusive}
 use Rattle.pg_history.proofs.places.Prefixes.{as_long, lengths, updates_shown, answers_shown, split_shown, node_here, as_many_updates}
 
@@ -262,15 +262,12 @@ module _ (config : Config) (apart : IsDistinct same_atom (names_of config)) (es 
 
   pub in_real_time : InRealTime config es v
   in_real_time = record {
-    before = λ first last m i op earlier later e is reached some none at.
-        let more = on_the_way first last m is reached in comes_before config first m reached more.0 v.reported more.1 i op earlier later e some none at;
-    in_group = λ first last m name before after earlier later a e is reached was none at.
-        let more = on_the_way first last m is reached in comes_before_in config first m reached more.0 v.reported more.1 name before after earlier later a e was none at;
+    order = λ first last m is reached.
+        let more = on_the_way first last m is reached in
+        stands_before first (plain m).reported more.0 v.reported more.1 (none_before config first m reached) (λ i op. stands_answered config first m reached i op);
     seen = λ first last m x name before after e is reached here was some.
         let more = on_the_way first last m is reached in
-        stays_seen config first m reached more.0 v.reported more.1 x name before after e (λ later now answered. (applies config apart v bridge).everywhere x name before later e here now answered) was some;
-    onward = λ first last m x name is reached.
-        let more = on_the_way first last m is reached in goes_onward config first m reached more.0 v.reported more.1 x name;
+        stays_seen first (plain m).reported more.0 v.reported more.1 x name before after e (λ later now answered. (applies config apart v bridge).everywhere x name before later e here now answered) was some;
   }
 
   -- ---- all of them

@@ -1,9 +1,8 @@
 -- What was reported before stands before what comes in later.
 use Rattle.std.proofs.Common.{◌≡◌, ℕ, ◌+◌, ◌<◌, ◌≤◌, Bool, true, false, ◌&&◌, cond, nat_eq, length, List, [], ◌∷◌, ◌++◌, Option, Some, None, refl, ap, sym, ◌∙◌, subst, arith}
-use Rattle.std.specs.List.{IsDistinct}
 use Rattle.std.proofs.lemmas.List.{append_assoc}
 use Rattle.pg_term.specs.declared.term.Term.{Term}
-use Rattle.pg_term.specs.Same.{same_atom, same_term}
+use Rattle.pg_term.specs.Same.{same_term}
 use Rattle.pg_group.specs.Value.{name_of}
 use Rattle.pg_machine.specs.Clocked.{plain}
 use Rattle.pg_machine.specs.Machine.{Event, start_of}
@@ -11,16 +10,16 @@ use Rattle.pg_machine.specs.Runs.{Leads}
 use Rattle.pg_machine.proofs.Plain.{plain_leads}
 use Rattle.pg_machine.proofs.Sequences.{one_world, parts, tells}
 use Rattle.pg_step.specs.Attempts.{same_op}
+use Rattle.pg_step.specs.declared.command.Command.{Command}
 use Rattle.pg_step.specs.declared.command.OpId.{OpId}
-use Rattle.pg_step.specs.Config.{Config, names_of}
+use Rattle.pg_step.specs.Config.{Config}
 use Rattle.pg_step.specs.FrameMachine.{frame_machine, machine_of}
 use Rattle.pg_step.specs.Step.{Action, CLOCK_LIMIT}
 use Rattle.pg_step.specs.Turns.{Report}
-use Rattle.pg_history.specs.Headline.{AppliesHistory}
 use Rattle.pg_history.specs.History.{Entry, answered_count, applied_count, command_at, entries, history, is_op, is_update_of, of_group, times}
 use Rattle.pg_history.specs.Reached.{Reaches, TimedFrameWorld}
+use Rattle.pg_history.specs.RealTime.{StandsBefore}
 use Rattle.pg_history.proofs.commands.AskedRuns.{entries_asked}
-use Rattle.pg_history.proofs.commands.StandRuns.{stands_answered}
 use Rattle.pg_history.proofs.steps.Grows.{entries_append, history_append}
 
 -- ---- counts over what was reported
@@ -67,45 +66,52 @@ of_all name (a ∷ es) before after e is = go (same_term name (name_of a.update)
     go true (b ∷ rest) at others = later (others rest (let tail : of_group name es ≡ rest ++ e ∷ after = cc in tail))
     go false rest at others = later (others rest at)
 
--- ---- a run, and a world on its way
+-- ---- what was reported until a time, and what is reported now
 
-module _ (config : Config) (first : List (Event Action)) (m : TimedFrameWorld) (l : Reaches config first m) where
-  none_before : (x y : List Entry) (e : Entry) → command_at e.node e.op first ≡ None → entries (plain m).reported ≡ x ++ e ∷ y → ⊥
-  none_before x y e none at =
-      let asked = entries_asked config first m l x y e at in
-      no asked.0 asked.1
-    where
-      no : (c : _) → command_at e.node e.op first ≡ Some c → ⊥
-      no c some = let clash : None ≡ Some c = sym none ∙ some in cc
+module _ (asked : List (Event Action)) (until more now : List (ℕ × Report)) (is : now ≡ until ++ more) where
+  pub stays_seen : (x : ℕ) (name : Term) (before after : List Entry) (e : Entry)
+      → ((later : List Entry) → history name now ≡ before ++ e ∷ later → 0 < answered_count e.node e.op now → length before < applied_count x name now)
+      → history name until ≡ before ++ e ∷ after → 0 < answered_count e.node e.op until
+      → (later : List Entry) × (history name now ≡ before ++ e ∷ (after ++ later)) × (length before < applied_count x name now)
+  stays_seen x name before after e everywhere was some =
+      let later : history name now ≡ before ++ e ∷ (after ++ history name more) = ap (history name) is ∙ history_append name until more ∙ ap (λ es. es ++ history name more) was ∙ append_assoc before (e ∷ after) (history name more) in
+      let count : answered_count e.node e.op now ≡ answered_count e.node e.op until + answered_count e.node e.op more = ap (answered_count e.node e.op) is ∙ answered_append e.node e.op until more in
+      (history name more, later, everywhere (after ++ history name more) later (omega (arith, count, some)))
 
-  module _ (more : List (ℕ × Report)) (reported : List (ℕ × Report)) (is : reported ≡ (plain m).reported ++ more) where
-    pub comes_before : (i : ℕ) (op : OpId) (earlier later : List Entry) (e : Entry) → 0 < answered_count i op (plain m).reported → command_at e.node e.op first ≡ None → entries reported ≡ earlier ++ e ∷ later → 1 ≤ times i op earlier
-    comes_before i op earlier later e some none at =
-        let after = comes_after (entries (plain m).reported) (entries more) earlier later e (λ x y. none_before x y e none) (sym (ap entries is ∙ entries_append (plain m).reported more) ∙ at) in
-        let all : times i op earlier ≡ times i op (entries (plain m).reported) + times i op after.0 = ap (times i op) after.1 ∙ times_append i op (entries (plain m).reported) after.0 in
-        let one : times i op (entries (plain m).reported) ≡ 1 = stands_answered config first m l i op some in
+  -- each entry is of a command that was asked, and a command that was answered stands there
+  module _ (given : (x y : List Entry) (e : Entry) → command_at e.node e.op asked ≡ None → entries until ≡ x ++ e ∷ y → ⊥) (stand : (i : ℕ) (op : OpId) → 0 < answered_count i op until → times i op (entries until) ≡ 1) where
+    answered : (i : ℕ) (op : OpId) (earlier later : List Entry) (e : Entry) → 0 < answered_count i op until → command_at e.node e.op asked ≡ None → entries now ≡ earlier ++ e ∷ later → 1 ≤ times i op earlier
+    answered i op earlier later e some none at =
+        let after = comes_after (entries until) (entries more) earlier later e (λ x y. given x y e none) (sym (ap entries is ∙ entries_append until more) ∙ at) in
+        let all : times i op earlier ≡ times i op (entries until) + times i op after.0 = ap (times i op) after.1 ∙ times_append i op (entries until) after.0 in
+        let one : times i op (entries until) ≡ 1 = stand i op some in
         omega (arith, all, one)
 
-    pub comes_before_in : (name : Term) (before after earlier later : List Entry) (a e : Entry) → history name (plain m).reported ≡ before ++ a ∷ after → command_at e.node e.op first ≡ None → history name reported ≡ earlier ++ e ∷ later → (rest : List Entry) × (earlier ≡ before ++ a ∷ rest)
-    comes_before_in name before after earlier later a e was none at =
-        let later_on = comes_after (history name (plain m).reported) (history name more) earlier later e
-            (λ x y on. let found = of_all name (entries (plain m).reported) x y e on in none_before found.0 found.1 e none found.2)
-            (sym (ap (history name) is ∙ history_append name (plain m).reported more) ∙ at) in
+    in_group : (name : Term) (before after earlier later : List Entry) (a e : Entry) → history name until ≡ before ++ a ∷ after → command_at e.node e.op asked ≡ None → history name now ≡ earlier ++ e ∷ later → (rest : List Entry) × (earlier ≡ before ++ a ∷ rest)
+    in_group name before after earlier later a e was none at =
+        let later_on = comes_after (history name until) (history name more) earlier later e
+            (λ x y on. let found = of_all name (entries until) x y e on in given found.0 found.1 e none found.2)
+            (sym (ap (history name) is ∙ history_append name until more) ∙ at) in
         (after ++ later_on.0, later_on.1 ∙ ap (λ es. es ++ later_on.0) was ∙ append_assoc before (a ∷ after) later_on.0)
 
-    pub stays_seen : (x : ℕ) (name : Term) (before after : List Entry) (e : Entry)
-        → ((later : List Entry) → history name reported ≡ before ++ e ∷ later → 0 < answered_count e.node e.op reported → length before < applied_count x name reported)
-        → history name (plain m).reported ≡ before ++ e ∷ after → 0 < answered_count e.node e.op (plain m).reported
-        → (later : List Entry) × (history name reported ≡ before ++ e ∷ (after ++ later)) × (length before < applied_count x name reported)
-    stays_seen x name before after e everywhere was some =
-        let now : history name reported ≡ before ++ e ∷ (after ++ history name more) = ap (history name) is ∙ history_append name (plain m).reported more ∙ ap (λ es. es ++ history name more) was ∙ append_assoc before (e ∷ after) (history name more) in
-        let count : answered_count e.node e.op reported ≡ answered_count e.node e.op (plain m).reported + answered_count e.node e.op more = ap (answered_count e.node e.op) is ∙ answered_append e.node e.op (plain m).reported more in
-        (history name more, now, everywhere (after ++ history name more) now (omega (arith, count, some)))
-
-    pub goes_onward : (x : ℕ) (name : Term) → applied_count x name (plain m).reported ≤ applied_count x name reported
-    goes_onward x name =
-        let count : applied_count x name reported ≡ applied_count x name (plain m).reported + applied_count x name more = ap (applied_count x name) is ∙ applied_append x name (plain m).reported more in
+    onward : (x : ℕ) (name : Term) → applied_count x name until ≤ applied_count x name now
+    onward x name =
+        let count : applied_count x name now ≡ applied_count x name until + applied_count x name more = ap (applied_count x name) is ∙ applied_append x name until more in
         omega (arith, count)
+
+    pub stands_before : StandsBefore asked until now
+    stands_before = record { answered = answered; in_group = in_group; onward = onward }
+
+-- ---- a run, and a world on its way
+
+-- no entry is of a command that did not come in
+pub none_before : (config : Config) (first : List (Event Action)) (m : TimedFrameWorld) → Reaches config first m → (x y : List Entry) (e : Entry) → command_at e.node e.op first ≡ None → entries (plain m).reported ≡ x ++ e ∷ y → ⊥
+none_before config first m l x y e none at =
+    let asked = entries_asked config first m l x y e at in
+    not_both asked.0 asked.1
+  where
+    not_both : (c : Command) → command_at e.node e.op first ≡ Some c → ⊥
+    not_both c some = let clash : None ≡ Some c = sym none ∙ some in cc
 
 -- what was reported on the way stands first
 pub reported_more : (config : Config) (events first last : List (Event Action)) (w m : TimedFrameWorld) → events ≡ first ++ last → Reaches config events w → Reaches config first m → (more : List (ℕ × Report)) × ((plain w).reported ≡ (plain m).reported ++ more)

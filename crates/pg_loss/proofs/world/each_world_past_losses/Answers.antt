@@ -25,6 +25,7 @@ returns c = λ config w events apart l. record {
     made = λ i pid. c.ended_processes_were_made_past_losses.ensures config w events i pid apart l;
     ended = λ i name. c.ended_are_in_no_group_past_losses.ensures config w events i name l;
   };
+  order = λ first last m is reached. c.histories_go_by_real_time_past_losses.ensures config w m events first last l is reached;
   exclusive = c.locks_are_exclusive_past_losses.ensures config w events apart l;
   harmless = record {
     replies = c.no_reply_is_odd.ensures config w events apart l;

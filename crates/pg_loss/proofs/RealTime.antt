@@ -1,0 +1,38 @@
+-- Histories go by real time, whoever is lost.
+use Rattle.std.proofs.Common.{◌≡◌, ℕ, List, [], ◌∷◌, ◌++◌, Some, None, refl, sym, ◌∙◌, subst}
+use Rattle.pg_machine.specs.Losing.{LosingEvent, LosingLeads, nobody_gone}
+use Rattle.pg_machine.specs.Machine.{start_of}
+use Rattle.pg_machine.proofs.Options.{some_is}
+use Rattle.pg_step.specs.declared.command.Command.{Command}
+use Rattle.pg_step.specs.Config.{Config}
+use Rattle.pg_step.specs.FrameMachine.{last_notice, losing_frame_machine}
+use Rattle.pg_step.specs.LossLaws.{LosingFrameWorld}
+use Rattle.pg_step.specs.Step.{Action}
+use Rattle.pg_history.specs.History.{Entry, command_at, entries}
+use Rattle.pg_history.specs.RealTime.{StandsBefore}
+use Rattle.pg_history.proofs.steps.RealTime.{stands_before}
+use Rattle.pg_loss.specs.Reached.{LosingReaches, steps_of}
+use Rattle.pg_loss.proofs.Answering.{entries_given}
+use Rattle.pg_loss.proofs.Lasts.{reported_on}
+use Rattle.pg_loss.proofs.Standing.{answered_stand}
+
+module _ (config : Config) where
+  abbrev Goes : LosingFrameWorld → List (LosingEvent Action) → LosingFrameWorld → Type 0
+  Goes w es v = LosingLeads (losing_frame_machine config) last_notice w es v
+
+  -- events from one world, of which the first lead to another
+  later : (first last : List (LosingEvent Action)) (w m v : LosingFrameWorld) → Goes w (first ++ last) v → Goes w first m → Goes m last v
+  later [] last w m v l k = subst (λ u. Goes u last v) k l
+  later (e ∷ first) last w m v l k = later first last k.0 m v (subst (λ u. Goes u (first ++ last) v) (some_is (sym l.1 ∙ k.1)) l.2) k.2
+
+  pub order : (w m : LosingFrameWorld) (events first last : List (LosingEvent Action)) → LosingReaches config events w → events ≡ first ++ last → LosingReaches config first m → StandsBefore (steps_of first) m.world.reported w.world.reported
+  order w m events first last reaches is reached =
+      let start = nobody_gone (start_of (losing_frame_machine config)) in
+      let more = reported_on config last m w (later first last start m w (subst (λ es. LosingReaches config es w) is reaches) reached) in
+      stands_before (steps_of first) m.world.reported more.0 w.world.reported more.1 none (λ i op. answered_stand config first m reached i op)
+    where
+      not_both : (e : Entry) (c : Command) → command_at e.node e.op (steps_of first) ≡ None → command_at e.node e.op (steps_of first) ≡ Some c → ⊥
+      not_both e c absent some = let clash : None ≡ Some c = sym absent ∙ some in cc
+
+      none : (x y : List Entry) (e : Entry) → command_at e.node e.op (steps_of first) ≡ None → entries m.world.reported ≡ x ++ e ∷ y → ⊥
+      none x y e absent at = let given = entries_given config first m reached x y e at in not_both e given.0 absent given.1
