@@ -70,7 +70,7 @@ counted_same counts pid group k e =
 pub more_is_some : (n more : ℕ) → 0 < more → true ≡ nat_lt 0 (n + more)
 more_is_some n more h = grind (arith, nat_tests)
 
-pub some_left : (n m : ℕ) → m ≡ n - 1 → (m ≡ 0 → ⊥) → nat_lt 0 n ≡ nat_lt 0 m
+pub some_left : (n m : ℕ) → m ≡ n - 1 → (n ≡ 1 → ⊥) → nat_lt 0 n ≡ nat_lt 0 m
 some_left n m e f = go (nat_lt 0 n) (nat_lt 0 m) refl refl
   where
     go : (a b : Bool) → nat_lt 0 n ≡ a → nat_lt 0 m ≡ b → a ≡ b
@@ -79,12 +79,25 @@ some_left n m e f = go (nat_lt 0 n) (nat_lt 0 m) refl refl
     go true false g h = absurd (f (grind (arith, nat_tests)))
     go false true g h = absurd (grind (arith, nat_tests))
 
-pub is_some_count : (n : ℕ) → (n ≡ 0 → ⊥) → true ≡ nat_lt 0 n
-is_some_count n f = go (nat_lt 0 n) refl
+-- a count that is not all that came was there before
+pub was_some : (n more count : ℕ) → count ≡ n + more → (count ≡ more → ⊥) → nat_lt 0 n ≡ nat_lt 0 (n + more)
+was_some n more count e f = go (nat_lt 0 n) (nat_lt 0 (n + more)) refl refl
   where
-    go : (a : Bool) → nat_lt 0 n ≡ a → true ≡ a
-    go true g = refl
-    go false g = absurd (f (grind (arith, nat_tests)))
+    go : (a b : Bool) → nat_lt 0 n ≡ a → nat_lt 0 (n + more) ≡ b → a ≡ b
+    go true true g h = refl
+    go false false g h = refl
+    go true false g h = absurd (grind (arith, nat_tests))
+    go false true g h = absurd (f (grind (arith, nat_tests)))
+
+-- a count that was none before, and is none again
+pub changed_back : (counts after back : Numbered) (pid : Pid) (group k : ℕ) → counts group pid ≡ 0 → after ≡ counts_changed counts group pid k → back ≡ counts_changed after group pid 0 → back ≡ counts
+changed_back counts after back pid group k none e f =
+    f
+    ∙ ap (λ (c : Numbered). counts_changed c group pid 0) e
+    ∙ ap (λ (g : Counts). upd nat_eq (counts_changed counts group pid k) group (upd same_pid g pid 0)) (upd_at nat_eq counts group (upd same_pid (counts group) pid k) (number_itself group))
+    ∙ upd_twice nat_eq counts group (upd same_pid (counts group) pid k) (upd same_pid (upd same_pid (counts group) pid k) pid 0)
+    ∙ ap (λ (g : Counts). upd nat_eq counts group g) (upd_twice same_pid (counts group) pid k 0)
+    ∙ sym (counted_same counts pid group 0 (sym none))
 
 -- ---- the numbers in use
 
@@ -131,6 +144,9 @@ told_none rows ended e = ap counts_of e ∙ fun_ext (λ pid. go (ended pid))
     go : (b : Bool) → ◌≡◌ {A = ℕ} 0 (cond b 0 0)
     go true = refl
     go false = refl
+
+pub told_now : (counts counts' : Counts) (pid : Pid) → counts' ≡ with_one_more counts pid → counts' pid ≡ counts pid + 1
+told_now counts counts' pid e = ap (λ (f : Counts). f pid) e ∙ upd_at same_pid counts pid (counts pid + 1) (pid_laws.laws-law.refl pid)
 
 abbrev pub raised_to : Numbered → ℕ → Counts → Numbered
 raised_to before group s = upd nat_eq before group (greater (before group) s)

@@ -1,29 +1,28 @@
--- Tables that are copied group by group, and the names of a table.
+-- Maps, listings and groups that are copied, and the names of a table.
 use Rattle.std.proofs.Math.Path.{fun_ext}
 use Rattle.std.proofs.Common.{◌≡◌, ℕ, suc, Bool, true, false, ◌||◌, cond, Option, Some, None, List, [], ◌∷◌, refl, sym, ap, subst, ◌∙◌, arith}
-use Rattle.std.specs.Prelude.{is_some, unwrap_or, get_or}
-use Rattle.std.specs.Option.{option_or, option_map}
-use Rattle.std.specs.List.{All, IsDistinct, list_any}
+use Rattle.std.specs.Prelude.{is_some, get_or, slice_index_or}
+use Rattle.std.specs.Option.{option_or}
+use Rattle.std.specs.List.{All, AllZip, IsDistinct, list_any}
 use Rattle.std.specs.Map.{lookup}
 use Rattle.std.specs.HashMap.{keys}
 use Rattle.std.specs.Map.{keys_of}
+use Rattle.std.specs.BTreeMap.{get, is_at}
+use Rattle.std.specs.BTreeSet.{BTreeSet}
 use Rattle.std.proofs.lemmas.Map.Entries.{lookup_from_place}
 use Rattle.std.proofs.lemmas.Option.{slice_get-get_or}
-use Rattle.slab.specs.Slab.{Slab, get}
-use Rattle.pg_term.specs.declared.pid.Pid.{Pid}
+use Rattle.slab.specs.Slab.{Slab, IsSlotClone, IsSlabClone}
 use Rattle.pg_term.specs.declared.term.Term.{Term}
-use Rattle.pg_term.specs.Same.{same_term}
+use Rattle.pg_term.specs.Same.{same_term, atom_cmp}
 use Rattle.pg_term.specs.contracts.term.TermEq.TheImpl.Laws as term_laws
-use Rattle.pg_term.proofs.Same as decided
-use Rattle.pg_group.specs.Value.{Value, Counts, nobody, merge, less, listed}
-use Rattle.pg_group.specs.Scope.{anywhere}
-use Rattle.pg_group.specs.Members.{IsMemberList}
-use Rattle.pg_group.specs.Table.{Table, AreNames, exchanged, merged}
-use Rattle.pg_group.proofs.Changes.{upd_at, upd_other}
+use Rattle.pg_term.specs.contracts.atom.AtomEq.TheImpl.Laws as atom_laws
+use Rattle.pg_group.specs.Table.{AreNames}
 use Rattle.pg_members.specs.declared.row.Row.{Row}
-use Rattle.pg_members.specs.Rows.{counts_of}
-use Rattle.pg_index.specs.Groups.{Numbered, counts_at, counts_in}
-use Rattle.pg_index.specs.Index.{Numbers, number_of, contents_of, HasGroups}
+use Rattle.pg_index.specs.declared.listing.Listing.{Listing}
+use Rattle.pg_index.specs.Groups.{Numbered, counts_at, counts_in, is_used}
+use Rattle.pg_index.specs.Index.{Numbers, number_of, contents_of}
+use Rattle.pg_index.specs.Listings.{listed_in, listing_of}
+use Rattle.pg_index.proofs.Listed.{Nodes, has, nodes_tie}
 use Rattle.pg_index.proofs.Tables.{is_there}
 
 -- ---- names
@@ -49,91 +48,89 @@ keys_are_names numbers counts names is has once = record {
   once = subst (IsDistinct same_term) (sym is) once;
 }
 
--- ---- copies
+-- ---- maps that are copied entry by entry
 
--- a table that was copied in part: what was copied, and the names that are left
-pub record TableCopied (number_of : Term → Option ℕ) (counts : Numbered) (done : Table) (left : List (Term × ℕ)) : Type 0 where
-  pub overlaid : (q : Term) → option_or (done q) (option_map counts (lookup (same_term q) left)) ≡ contents_of number_of counts q
-  pub found : All (λ e. number_of e.0 ≡ Some e.1) left
+module _ {K X : Type 0} (at : K → K → Bool) (whole : K → Option X) where
+  -- a map that was copied in part: what was copied, and the entries that are left
+  pub record EntriesCopied (done : K → Option X) (left : List (K × X)) : Type 0 where
+    pub overlaid : (q : K) → option_or (done q) (lookup (at q) left) ≡ whole q
+    pub found : All (λ e. whole e.0 ≡ Some e.1) left
 
-pub copy_begun : (numbers : Numbers) (counts : Numbered) (done : Table) (left : List (Term × ℕ)) → left ≡ numbers.entries → All (λ e. number_of numbers e.0 ≡ Some e.1) numbers.entries → done ≡ (λ name. None)
-    → TableCopied (number_of numbers) counts done left
-copy_begun numbers counts done left is all empty = record {
-  overlaid = λ q. ap (λ (es : List (Term × ℕ)). option_or (done q) (option_map counts (lookup (same_term q) es))) is
-      ∙ ap (λ (t : Table). option_or (t q) (contents_of (number_of numbers) counts q)) empty;
-  found = subst (All (λ e. number_of numbers e.0 ≡ Some e.1)) (sym is) all;
-}
+  pub entries_begun : (done : K → Option X) (left entries : List (K × X)) → left ≡ entries → ((q : K) → lookup (at q) entries ≡ whole q) → All (λ e. whole e.0 ≡ Some e.1) entries → ((q : K) → done q ≡ None)
+      → EntriesCopied done left
+  entries_begun done left entries is each all empty = record {
+    overlaid = λ q. ap (λ (o : Option X). option_or o (lookup (at q) left)) (empty q) ∙ ap (λ (es : List (K × X)). lookup (at q) es) is ∙ each q;
+    found = subst (All (λ e. whole e.0 ≡ Some e.1)) (sym is) all;
+  }
 
-or_none : (o : Value) → option_or o None ≡ o
-or_none None = refl
-or_none (Some y) = refl
+  pub entries_more : ((x y : K) → at x y ≡ true → x ≡ y) → ((x y : K) → at x y ≡ at y x) → (old new : K → Option X) (k : K) (v : X) (before left : List (K × X)) → before ≡ (k, v) ∷ left → EntriesCopied old before
+      → ((q : K) → new q ≡ cond (at k q) (Some v) (old q)) → EntriesCopied new left
+  entries_more decides flips old new k v before left is copied after = record {
+    overlaid = λ q. ap (λ (o : Option X). option_or o (lookup (at q) left)) (after q) ∙ go q (at k q) refl;
+    found = λ i d below. here.found (suc i) d (omega arith);
+  }
+    where
+      here : EntriesCopied old ((k, v) ∷ left)
+      here = subst (λ (l : List (K × X)). EntriesCopied old l) is copied
 
-pub copy_all : (number_of : Term → Option ℕ) (counts : Numbered) (done : Table) (left : List (Term × ℕ)) → left ≡ [] → TableCopied number_of counts done left → done ≡ contents_of number_of counts
-copy_all number_of counts done left is copied =
-    let here = subst (λ (l : List (Term × ℕ)). TableCopied number_of counts done l) is copied in
-    fun_ext (λ q. sym (or_none (done q)) ∙ here.overlaid q)
+      first : whole k ≡ Some v
+      first = here.found 0 (k, v) (omega arith)
 
-first_found : (number_of : Term → Option ℕ) (e : Term × ℕ) (left : List (Term × ℕ)) → All (λ e. number_of e.0 ≡ Some e.1) (e ∷ left) → number_of e.0 ≡ Some e.1
-first_found number_of e left h = h 0 e (omega arith)
+      go : (q : K) (b : Bool) → at k q ≡ b → option_or (cond b (Some v) (old q)) (lookup (at q) left) ≡ whole q
+      go q true e = sym first ∙ ap whole (decides k q e)
+      go q false e = ap (λ b. option_or (old q) (cond b (Some v) (lookup (at q) left))) (sym (flips q k ∙ e)) ∙ here.overlaid q
 
-rest_found : (number_of : Term → Option ℕ) (e : Term × ℕ) (left : List (Term × ℕ)) → All (λ e. number_of e.0 ≡ Some e.1) (e ∷ left) → All (λ e. number_of e.0 ≡ Some e.1) left
-rest_found number_of e left h = λ k d below. h (suc k) d (omega arith)
+  or_none : (o : Option X) → option_or o None ≡ o
+  or_none None = refl
+  or_none (Some y) = refl
 
--- a group that is left has members
-pub left_is_there : (number_of : Term → Option ℕ) (counts : Numbered) (done : Table) (used : ℕ → Bool) (before left : List (Term × ℕ)) (name : Term) (group : ℕ)
-    → HasGroups number_of used → before ≡ (name, group) ∷ left → TableCopied number_of counts done before → used group ≡ true
-left_is_there number_of counts done used before left name group there is copied =
-    let here = subst (λ (l : List (Term × ℕ)). TableCopied number_of counts done l) is copied in
-    there name group (first_found number_of (name, group) left here.found)
+  pub entries_all : (done : K → Option X) (left : List (K × X)) → left ≡ [] → EntriesCopied done left → done ≡ whole
+  entries_all done left is copied =
+      let here = subst (λ (l : List (K × X)). EntriesCopied done l) is copied in
+      fun_ext (λ q. sym (or_none (done q)) ∙ here.overlaid q)
 
-counts_alone : (f g : Counts) → ◌≡◌ {A = Value} (Some f) (Some g) → f ≡ g
-counts_alone f g e = ap (λ (v : Value). unwrap_or v nobody) e
+-- ---- numbers
 
--- a group into which the list of its members is merged
-merged_list : (v : Value) (counts : Counts) (pids : List Pid) (ended : Pid → Bool) → ended ≡ (λ pid. false) → IsMemberList (Some counts) anywhere pids → ((v ≡ None) → ⊥) → v ≡ Some counts → exchanged v pids ended ≡ Some counts
-merged_list None counts pids ended none list some is = absurd (some refl)
-merged_list (Some f) counts pids ended none list some is =
-    let same : f ≡ counts = counts_alone f counts is in
-    ap (λ (e : Pid → Bool). merge (Some f) (less (listed pids) e)) none
-    ∙ ap Some (fun_ext (λ pid. let at : f pid ≡ counts pid = ap (λ (g : Counts). g pid) same in let told = list.each pid in omega arith))
+pub names_flip : (x y : Term) → same_term x y ≡ same_term y x
+names_flip x y = term_laws.laws-law.symm x y
 
-merged_absent : (counts : Counts) (pids : List Pid) (ended : Pid → Bool) → ended ≡ (λ pid. false) → IsMemberList (Some counts) anywhere pids → exchanged None pids ended ≡ Some counts
-merged_absent counts pids ended none list = ap (λ (e : Pid → Bool). less (listed pids) e) none ∙ ap Some (fun_ext (λ pid. list.each pid))
+-- ---- listings
 
-pub copy_more : (number_of : Term → Option ℕ) (counts : Numbered) (old new : Table) (before left : List (Term × ℕ)) (name : Term) (group : ℕ) (rows : List Row) (pids : List Pid) (ended : Pid → Bool)
-    → before ≡ (name, group) ∷ left → TableCopied number_of counts old before → counts_of rows ≡ counts group → IsMemberList (Some (counts_of rows)) anywhere pids → ended ≡ (λ pid. false)
-    → new ≡ merged old name pids ended → TableCopied number_of counts new left
-copy_more number_of counts old new before left name group rows pids ended is copied same list none e = record {
-  overlaid = λ q. over q (same_term name q) refl;
-  found = rest_found number_of (name, group) left here.found;
-}
+abbrev pub node_at : List ℕ → List ℕ → Bool
+node_at q = is_at (atom_cmp q)
+
+pub nodes_flip : (x y : List ℕ) → node_at x y ≡ node_at y x
+nodes_flip x y = nodes_tie x y ∙ atom_laws.laws-law.symm x y ∙ sym (nodes_tie y x)
+
+pub listed_alike : (copy whole : Nodes) → get atom_cmp copy ≡ get atom_cmp whole → listed_in copy ≡ listed_in whole
+listed_alike copy whole e = fun_ext (λ pid. fun_ext (λ group. ap (λ (m : List ℕ → Option (BTreeSet Listing)). has (m pid.node) (listing_of pid group)) e))
+
+pub keys_alike : {K : Type 0} (C : K → K → Type 0) → ((x y : K) → C x y → y ≡ x) → (xs ys : List K) → AllZip C xs ys → ys ≡ xs
+keys_alike C h [] [] a = refl
+keys_alike C h [] (y ∷ ys) a = absurd a
+keys_alike C h (x ∷ xs) [] a = absurd a
+keys_alike C h (x ∷ xs) (y ∷ ys) a = λ i. h x y a.0 i ∷ keys_alike C h xs ys a.1 i
+
+-- an equal set was put in under an equal name
+pub put_alike : (old new : Nodes) (copy node : List ℕ) (set twin : BTreeSet Listing) → copy ≡ node → twin.keys ≡ set.keys
+    → ((q : List ℕ) → get atom_cmp new q ≡ cond (is_at (atom_cmp copy) q) (Some twin) (get atom_cmp old q))
+    → (q : List ℕ) → get atom_cmp new q ≡ cond (node_at node q) (Some set) (get atom_cmp old q)
+put_alike old new copy node set twin e same h q = h q ∙ (λ i. cond (node_at (e i) q) (Some (record { keys = same i })) (get atom_cmp old q))
+
+-- ---- groups
+
+slots_alike : (xs ys : List (Option (List Row))) → AllZip (IsSlotClone (λ x y. y ≡ x)) xs ys → ys ≡ xs
+slots_alike [] [] a = refl
+slots_alike [] (y ∷ ys) a = absurd a
+slots_alike (x ∷ xs) [] a = absurd a
+slots_alike (x ∷ xs) (y ∷ ys) a = λ i. slot x y a.0 i ∷ slots_alike xs ys a.1 i
   where
-    here : TableCopied number_of counts old ((name, group) ∷ left)
-    here = subst (λ (l : List (Term × ℕ)). TableCopied number_of counts old l) is copied
+    slot : (x y : Option (List Row)) → IsSlotClone (λ x y. y ≡ x) x y → y ≡ x
+    slot None y e = e
+    slot (Some x) None e = absurd e
+    slot (Some x) (Some y) e = ap Some e
 
-    whole : contents_of number_of counts name ≡ Some (counts group)
-    whole = ap (option_map counts) (first_found number_of (name, group) left here.found)
-
-    members : IsMemberList (Some (counts group)) anywhere pids
-    members = subst (λ (c : Counts). IsMemberList (Some c) anywhere pids) same list
-
-    at_name : (v : Value) → old name ≡ v → exchanged v pids ended ≡ Some (counts group)
-    at_name None f = merged_absent (counts group) pids ended none members
-    at_name (Some c) f =
-        let there : ◌≡◌ {A = Value} (Some c) (Some (counts group)) = ap (λ (v : Value). option_or v (option_map counts (lookup (same_term name) ((name, group) ∷ left)))) (sym f) ∙ here.overlaid name ∙ whole in
-        merged_list (Some c) (counts group) pids ended none members (λ n. absurd cc) there
-
-    made : new name ≡ Some (counts group)
-    made = ap (λ (t : Table). t name) e ∙ upd_at same_term old name (exchanged (old name) pids ended) (term_laws.laws-law.refl name) ∙ at_name (old name) refl
-
-    over : (q : Term) (t : Bool) → same_term name q ≡ t → option_or (new q) (option_map counts (lookup (same_term q) left)) ≡ contents_of number_of counts q
-    over q true f =
-        let n : name ≡ q = decided.same_term name q f in
-        ap (λ (v : Value). option_or v (option_map counts (lookup (same_term q) left))) (ap new (sym n) ∙ made) ∙ sym whole ∙ ap (contents_of number_of counts) n
-    over q false f =
-        ap (λ (v : Value). option_or v (option_map counts (lookup (same_term q) left))) (ap (λ (t : Table). t q) e ∙ upd_other same_term old name (exchanged (old name) pids ended) q f)
-        ∙ ap (λ b. option_or (old q) (option_map counts (cond b (Some group) (lookup (same_term q) left)))) (sym (sym (term_laws.laws-law.symm name q) ∙ f))
-        ∙ here.overlaid q
-
-pub rows_at : (groups : Slab (List Row)) (group : ℕ) (rows : List Row) → Some rows ≡ get groups group → counts_of rows ≡ counts_in groups group
-rows_at groups group rows e = ap counts_at e
+pub groups_alike : (groups copy : Slab (List Row)) → IsSlabClone (λ x y. y ≡ x) groups copy → (counts_in copy ≡ counts_in groups) × (is_used copy ≡ is_used groups)
+groups_alike groups copy h =
+    let same = slots_alike groups.slots copy.slots h.slots in
+    (λ i group. counts_at (slice_index_or (same i) group None), λ i group. is_some (slice_index_or (same i) group None))

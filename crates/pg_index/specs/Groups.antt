@@ -1,12 +1,11 @@
 -- Groups by their numbers.
-use Rattle.std.specs.Prelude.{◌≡◌, ℕ, Bool, false, cond, Option, None, Some, is_some, nat_eq, List, length, ◌+◌, ◌≤◌, ◌^◌}
+use Rattle.std.specs.Prelude.{◌≡◌, ℕ, Bool, false, cond, Option, None, Some, is_some, nat_eq, List}
 use Rattle.slab.specs.Slab.{Slab, get}
 use Rattle.pg_term.specs.declared.pid.Pid.{Pid}
 use Rattle.pg_term.specs.Same.{same_pid}
 use Rattle.pg_group.specs.Functions.{upd}
-use Rattle.pg_group.specs.Value.{Value, Counts, nobody, greater, told, IsBetween}
-use Rattle.pg_group.specs.Scope.{anywhere, at_node}
-use Rattle.pg_group.specs.Members.{IsMemberList}
+use Rattle.pg_group.specs.Value.{Counts, nobody, greater, told, IsBetween}
+use Rattle.pg_group.specs.Scope.{at_node}
 use Rattle.pg_members.specs.declared.row.Row.{Row}
 use Rattle.pg_members.specs.Rows.{counts_of}
 

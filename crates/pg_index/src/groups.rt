@@ -1,4 +1,4 @@
-ghost use Rattle.std.specs.Prelude.{◌≡◌, ◌+◌, ◌<◌, ◌⊎◌, true, Some, OnOk, OnErr, nat_eq};
+ghost use Rattle.std.specs.Prelude.{◌≡◌, ◌+◌, ◌<◌, ◌⊎◌, true, Some, OnOk, OnErr, IfOk, nat_eq};
 ghost use Rattle.pg_term.specs.Same.{same_pid};
 ghost use Rattle.pg_group.specs.Functions.{upd};
 ghost use Rattle.pg_group.specs.Value.{with_one_less};
@@ -23,12 +23,13 @@ pub fn count(groups: &Groups, group: u32, pid: &Pid) -> u64
     }
 }
 
-/// Adds to the count of a pid. Only a new member takes memory. An error changes nothing.
-pub fn add(groups: &mut Groups, group: u32, pid: &Pid, more: u64) -> Result<(), AllocError>
+/// Adds to the count of a pid, and tells it then. Only a new member takes memory. An error changes nothing.
+pub fn add(groups: &mut Groups, group: u32, pid: &Pid, more: u64) -> Result<u64, AllocError>
     requires used { is_used groups.old group ≡ true }
     requires some { 0 < more }
     ensures ok { OnOk result (counts_in groups.new ≡ counts_changed (counts_in groups.old) group pid.now
         (counts_in groups.old group pid.now + more)) }
+    ensures count { IfOk result (λ count. count ≡ counts_in groups.old group pid.now + more) }
     ensures err { OnErr result (counts_in groups.new ≡ counts_in groups.old) }
     ensures memory { OnErr result ((counts_in groups.old group pid.now ≡ 0)
         ⊎ LacksRoom (Some (counts_in groups.old group)) more) }
@@ -40,15 +41,16 @@ pub fn add(groups: &mut Groups, group: u32, pid: &Pid, more: u64) -> Result<(), 
     }
 }
 
-/// Takes one from the count of a pid, if it is a member. It takes no memory.
-pub fn take_one(groups: &mut Groups, group: u32, pid: &Pid)
+/// Takes one from the count of a pid, if it is a member, and tells the count before. It takes no memory.
+pub fn take_one(groups: &mut Groups, group: u32, pid: &Pid) -> u64
     ensures counts { counts_in groups.new
         ≡ upd nat_eq (counts_in groups.old) group (with_one_less (counts_in groups.old group) pid.now) }
+    ensures count { result ≡ counts_in groups.old group pid.now }
     ensures used { is_used groups.new ≡ is_used groups.old }
 {
     match groups.get_mut(group as usize) {
         Some(members) => members.take_one(pid),
-        None => (),
+        None => 0,
     }
 }
 

@@ -26,6 +26,20 @@ pub struct IndexTable {
     ghost apart: { AreApart (number_of numbers) },
 }
 
+/// The same numbers of the same names: memory for each name.
+fn copy_numbers(
+    numbers: &IndexMap<Term, u32>,
+    alloc: Global,
+) -> Result<IndexMap<Term, u32>, AllocError>
+    ensures { IfOk result (λ copy. number_of copy ≡ number_of numbers.now) }
+{
+    let mut copy = IndexMap::new(alloc);
+    for (name, number) in numbers.iter() {
+        copy.insert(name.copy(alloc)?, *number)?;
+    }
+    Ok(copy)
+}
+
 impl IndexTable {
     /// No group. It takes no memory.
     pub fn new(alloc: Global) -> IndexTable
@@ -218,17 +232,14 @@ impl GroupTable for IndexTable {
         }
     }
 
-    /// Its cost grows with the sum of all counts.
+    /// Its cost grows with the groups and their members, however often each is one.
     fn copy(&self) -> Result<IndexTable, AllocError> {
-        let mut copy = IndexTable::new(self.alloc);
-        let ended = Ended::new(self.alloc);
-        for (name, number) in self.numbers.iter() {
-            let Some(members) = self.memberships.members(*number) else {
-                unreachable!()
-            };
-            let pids = members.list(self.alloc, Scope::All)?;
-            copy.merge(name, &pids, &ended)?;
-        }
-        Ok(copy)
+        let numbers = copy_numbers(&self.numbers, self.alloc)?;
+        let memberships = self.memberships.copy()?;
+        Ok(IndexTable {
+            numbers,
+            memberships,
+            alloc: self.alloc,
+        })
     }
 }

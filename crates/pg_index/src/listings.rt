@@ -1,4 +1,4 @@
-ghost use Rattle.std.specs.Prelude.{◌≡◌, ℕ, true, false, OnOk, OnErr, nat_eq, nat_lt};
+ghost use Rattle.std.specs.Prelude.{◌≡◌, ℕ, true, false, OnOk, OnErr, IfOk, nat_eq, nat_lt};
 ghost use Rattle.std.specs.BTreeSet.{contains};
 ghost use Rattle.pg_term.specs.declared.pid.Pid.{Pid};
 ghost use Rattle.pg_term.specs.Same.{same_pid};
@@ -68,6 +68,17 @@ pub fn remove(listings: &mut Listings, pid: &Pid, group: u32)
         }
         None => (),
     }
+}
+
+/// Equal listings: memory for each, and for the names of nodes.
+pub fn copy(listings: &Listings, alloc: Global) -> Result<Listings, AllocError>
+    ensures { IfOk result (λ copy. listed_in copy ≡ listed_in listings.now) }
+{
+    let mut copy = BTreeMap::new(alloc);
+    for (node, set) in listings {
+        copy.insert(node.copy()?, set.clone()?)?;
+    }
+    Ok(copy)
 }
 
 /// Lists the members of a group no longer in it. It takes no memory.

@@ -78,13 +78,14 @@ impl Memberships {
             ⊎ LacksRoom (Some (counts_in self.old.groups group)) more) }
         ensures used { is_used self.new.groups ≡ is_used self.old.groups }
     {
-        listings::add(&mut self.listings, self.alloc, pid, group)?;
-        match groups::add(&mut self.groups, group, pid, more) {
+        let count = groups::add(&mut self.groups, group, pid, more)?;
+        if count != more {
+            return Ok(());
+        }
+        match listings::add(&mut self.listings, self.alloc, pid, group) {
             Ok(()) => Ok(()),
             Err(error) => {
-                if groups::count(&self.groups, group, pid) == 0 {
-                    listings::remove(&mut self.listings, pid, group);
-                }
+                groups::remove(&mut self.groups, group, pid);
                 Err(error)
             }
         }
@@ -118,8 +119,8 @@ impl Memberships {
         let mut seen = Members::new(self.alloc);
         for pid in pids {
             if !ended.has(pid) {
-                seen.add(pid, 1)?;
-                self.raise(group, pid, seen.count(pid))?;
+                let count = seen.add(pid, 1)?;
+                self.raise(group, pid, count)?;
             }
         }
         Ok(())
@@ -131,11 +132,24 @@ impl Memberships {
             ≡ upd nat_eq (counts_in self.old.groups) group (with_one_less (counts_in self.old.groups group) pid.now) }
         ensures used { is_used self.new.groups ≡ is_used self.old.groups }
     {
-        groups::take_one(&mut self.groups, group, pid);
-        let left = groups::count(&self.groups, group, pid);
-        if left == 0 {
+        let count = groups::take_one(&mut self.groups, group, pid);
+        if count == 1 {
             listings::remove(&mut self.listings, pid, group);
         }
+    }
+
+    /// Equal groups by the same numbers: memory for each group, for each member with its name, and for each listing.
+    pub fn copy(&self) -> Result<Memberships, AllocError>
+        ensures counts { IfOk result (λ copy. counts_in copy.groups ≡ counts_in self.now.groups) }
+        ensures used { IfOk result (λ copy. is_used copy.groups ≡ is_used self.now.groups) }
+    {
+        let groups = self.groups.clone()?;
+        let listings = listings::copy(&self.listings, self.alloc)?;
+        Ok(Memberships {
+            groups,
+            listings,
+            alloc: self.alloc,
+        })
     }
 
     /// Makes a group's number free again, with its members. It takes no memory, and time for each member.

@@ -73,6 +73,29 @@ fn sum(rows: &[Row]) -> u64
     total
 }
 
+impl Block {
+    /// Whether it has so many rows that it is to be split.
+    pub fn is_full(&self) -> bool
+        ensures { IsTrue result → 0 < length self.now }
+    {
+        self.rows.len() >= FULL_ROWS
+    }
+
+    /// Gives back its memory, where it has no row.
+    pub fn shrink(&mut self)
+        ensures { self.new ≡ self.old }
+    {
+        if self.rows.is_empty() {
+            self.rows.shrink_to_fit();
+        }
+    }
+
+    /// What it takes its memory from.
+    pub fn allocator(&self) -> Global {
+        self.alloc
+    }
+}
+
 impl Part for Block {
     ghost rows = { λ block. block };
 
@@ -108,12 +131,13 @@ impl Part for Block {
         }
     }
 
-    fn add(&mut self, pid: &Pid, more: u64) -> Result<bool, AllocError> {
+    fn add(&mut self, pid: &Pid, more: u64) -> Result<u64, AllocError> {
         let at = find(&self.rows, Edge::AtPid(pid));
         if is_at(&self.rows, at, pid) {
-            self.rows[at].count += more;
+            let count = self.rows[at].count + more;
+            self.rows[at].count = count;
             self.total += more;
-            return Ok(false);
+            return Ok(count);
         }
         let row = Row {
             pid: pid.copy()?,
@@ -121,7 +145,7 @@ impl Part for Block {
         };
         self.rows.insert(at, row)?;
         self.total += more;
-        Ok(true)
+        Ok(more)
     }
 
     fn take(&mut self, pid: &Pid, most: u64) -> u64 {
@@ -131,12 +155,11 @@ impl Part for Block {
             if count <= most {
                 self.rows.remove(at);
                 self.total -= count;
-                count
             } else {
                 self.rows[at].count = count - most;
                 self.total -= most;
-                most
             }
+            count
         } else {
             0
         }

@@ -1,4 +1,4 @@
-ghost use Rattle.std.specs.Prelude.{◌≡◌, ◌+◌, ◌-◌, ◌<◌, ◌≤◌, ◌^◌, min, length, take, drop, ◌↔◌, IsTrue, OnOk, OnErr, IfOk, IfSome, IfNone, [], ◌∷◌, ◌++◌};
+ghost use Rattle.std.specs.Prelude.{◌≡◌, ◌+◌, ◌-◌, ◌<◌, ◌≤◌, ◌^◌, length, take, drop, OnOk, OnErr, IfOk, IfSome, IfNone, [], ◌∷◌, ◌++◌, vec_len, vec_capacity};
 ghost use Rattle.std.specs.List.{filter, flat_map};
 ghost use Rattle.pg_group.specs.Scope.{in_scope, at_node};
 ghost use Rattle.pg_members.specs.Edges.{before};
@@ -131,39 +131,39 @@ fn divide<P: Part>(parts: &mut Vec<P>, at: usize)
     }
 }
 
-/// Adds to the count of a pid in the part where it is at home.
-fn add_at<P: Part>(parts: &mut Vec<P>, at: usize, pid: &Pid, more: u64) -> Result<bool, AllocError>
+/// Adds to the count of a pid in the part where it is at home, and tells it then.
+fn add_at<P: Part>(parts: &mut Vec<P>, at: usize, pid: &Pid, more: u64) -> Result<u64, AllocError>
     requires home { IsHome P.rows pid.now parts.old.items at }
     requires parts { NoneEmpty P.rows parts.old.items }
     requires some { 0 < more }
     requires fits { total_of (flat_map P.rows parts.old.items) + more < 2 ^ 64 }
     ensures ok { OnOk result (flat_map P.rows parts.new.items ≡ added (flat_map P.rows parts.old.items) pid.now more) }
     ensures err { OnErr result (flat_map P.rows parts.new.items ≡ flat_map P.rows parts.old.items) }
-    ensures new { IfOk result (λ is_new. IsTrue is_new ↔ (counts_of (flat_map P.rows parts.old.items) pid.now ≡ 0)) }
+    ensures count { IfOk result (λ count. count ≡ counts_of (flat_map P.rows parts.old.items) pid.now + more) }
     ensures memory { OnErr result (counts_of (flat_map P.rows parts.old.items) pid.now ≡ 0) }
     ensures parts { NoneEmpty P.rows parts.new.items }
 {
-    let is_new = parts[at].add(pid, more)?;
-    if is_new {
+    let count = parts[at].add(pid, more)?;
+    if count == more {
         divide(parts, at);
     }
-    Ok(is_new)
+    Ok(count)
 }
 
-/// Takes from the count of a pid in the part where it is at home.
+/// Takes from the count of a pid in the part where it is at home, and tells the count before.
 fn take_at<P: Part>(parts: &mut Vec<P>, at: usize, pid: &Pid, most: u64) -> u64
     requires home { IsHome P.rows pid.now parts.old.items at }
     requires parts { NoneEmpty P.rows parts.old.items }
     requires some { 0 < most }
-    ensures count { result ≡ min most (counts_of (flat_map P.rows parts.old.items) pid.now) }
+    ensures count { result ≡ counts_of (flat_map P.rows parts.old.items) pid.now }
     ensures rest { flat_map P.rows parts.new.items ≡ taken (flat_map P.rows parts.old.items) pid.now most }
     ensures parts { NoneEmpty P.rows parts.new.items }
 {
-    let taken = parts[at].take(pid, most);
+    let count = parts[at].take(pid, most);
     if parts[at].is_empty() {
         parts.remove(at);
     }
-    taken
+    count
 }
 
 /// Takes the last row out of the last part.
@@ -203,6 +203,25 @@ fn drop_each<P: Part>(parts: &mut Vec<P>, node: &Atom)
     }
 }
 
+impl<P: Part> Level<P> {
+    /// A level of the rows of one part, which is split if it has too many. There is room for the part.
+    pub fn of(alloc: Global, mut parts: Vec<P>, part: P) -> Level<P>
+        requires none { parts.items ≡ [] }
+        requires room { vec_len parts < vec_capacity parts }
+        requires some { 0 < length (P.rows part) }
+        ensures { result ≡ P.rows part }
+    {
+        let total = part.total();
+        parts.push_reserved(part);
+        divide(&mut parts, 0);
+        Level {
+            parts,
+            total,
+            alloc,
+        }
+    }
+}
+
 impl<P: Part> Part for Level<P> {
     ghost rows = { λ level. level };
 
@@ -237,18 +256,18 @@ impl<P: Part> Part for Level<P> {
         self.parts[at].count(pid)
     }
 
-    fn add(&mut self, pid: &Pid, more: u64) -> Result<bool, AllocError> {
+    fn add(&mut self, pid: &Pid, more: u64) -> Result<u64, AllocError> {
         if self.parts.is_empty() {
             let mut part = P::new(self.alloc);
             part.add(pid, more)?;
             self.parts.push(part)?;
             self.total = more;
-            return Ok(true);
+            return Ok(more);
         }
         let at = home(&self.parts, pid);
-        let is_new = add_at(&mut self.parts, at, pid, more)?;
+        let count = add_at(&mut self.parts, at, pid, more)?;
         self.total += more;
-        Ok(is_new)
+        Ok(count)
     }
 
     fn take(&mut self, pid: &Pid, most: u64) -> u64 {
@@ -256,9 +275,9 @@ impl<P: Part> Part for Level<P> {
             return 0;
         }
         let at = home(&self.parts, pid);
-        let taken = take_at(&mut self.parts, at, pid, most);
-        self.total -= taken;
-        taken
+        let count = take_at(&mut self.parts, at, pid, most);
+        self.total -= count.min(most);
+        count
     }
 
     fn take_last(&mut self) -> Option<Row> {

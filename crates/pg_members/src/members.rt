@@ -6,11 +6,11 @@ ghost use Rattle.pg_group.specs.Value.{with_one_less, less};
 ghost use Rattle.pg_group.specs.Scope.{in_scope, anywhere, at_node};
 ghost use Rattle.pg_group.specs.Members.{IsMemberList};
 ghost use Rattle.pg_members.specs.Edges.{before};
+ghost use Rattle.pg_members.specs.Forms.{rows_of};
 ghost use Rattle.pg_members.specs.Rows.{AreRows, counts_of, total_of, spread};
 
-use crate::block::Block;
 use crate::edge::Edge;
-use crate::level::Level;
+use crate::form::Form;
 use crate::part::Part;
 use crate::row::Row;
 use pg_group::Scope;
@@ -21,7 +21,7 @@ use std::marker::Model;
 /// The members of one group, in the order of pids, each with its count.
 #[derive(Drop)]
 pub struct Members {
-    rows: Level<Level<Level<Block>>>,
+    rows: Form,
 }
 
 impl Model for Members {
@@ -30,7 +30,17 @@ impl Model for Members {
 
     ghost Value = { List Row };
 
-    ghost view = { λ members. members.rows };
+    ghost use Rattle.pg_members.specs.Forms.{rows_of};
+
+    ghost view = { λ members. rows_of members.rows };
+}
+
+impl Clone for Members {
+    ghost is_clone = { λ members copy. copy ≡ members };
+
+    fn clone(&self) -> Result<Members, AllocError> {
+        self.copy()
+    }
 }
 
 impl Members {
@@ -39,7 +49,7 @@ impl Members {
         ensures { result ≡ [] }
     {
         Members {
-            rows: Level::new(alloc),
+            rows: Form::new(alloc),
         }
     }
 
@@ -50,14 +60,15 @@ impl Members {
         self.rows.count(pid)
     }
 
-    /// Adds to the count of a pid. Only a new member takes memory.
+    /// Adds to the count of a pid, and tells it then. Only a new member takes memory.
     ///
     /// Refusal: `AllocError`, which changes nothing, where there is no memory for a new member, and always where the counts
     /// of all members would pass 64 bits.
-    pub fn add(&mut self, pid: &Pid, more: u64) -> Result<(), AllocError>
+    pub fn add(&mut self, pid: &Pid, more: u64) -> Result<u64, AllocError>
         requires { 0 < more }
         ensures ok { OnOk result (counts_of self.new
             ≡ upd same_pid (counts_of self.old) pid.now (counts_of self.old pid.now + more)) }
+        ensures count { IfOk result (λ count. count ≡ counts_of self.old pid.now + more) }
         ensures err { OnErr result (self.new ≡ self.old) }
         ensures full { 2 ^ 64 ≤ length (spread anywhere self.old) + more → IsErr result }
         ensures memory { OnErr result
@@ -68,16 +79,17 @@ impl Members {
         if room < more {
             return Err(AllocError);
         }
-        self.rows.add(pid, more)?;
-        Ok(())
+        let count = self.rows.add(pid, more)?;
+        Ok(count)
     }
 
-    /// Takes one from the count of a pid, if it is a member. It takes no memory.
-    pub fn take_one(&mut self, pid: &Pid)
-        ensures { counts_of self.new ≡ with_one_less (counts_of self.old) pid.now }
+    /// Takes one from the count of a pid, if it is a member, and tells the count before. It takes no memory.
+    pub fn take_one(&mut self, pid: &Pid) -> u64
+        ensures counts { counts_of self.new ≡ with_one_less (counts_of self.old) pid.now }
+        ensures count { result ≡ counts_of self.old pid.now }
     {
         self.rows.total();
-        self.rows.take(pid, 1);
+        self.rows.take(pid, 1)
     }
 
     /// Takes a pid out, whatever its count. It takes no memory.

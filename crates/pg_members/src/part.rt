@@ -1,4 +1,4 @@
-ghost use Rattle.std.specs.Prelude.{◌≡◌, ◌↔◌, ◌+◌, ◌<◌, ◌≤◌, ◌^◌, ◌++◌, IsTrue, min, List, [], ◌∷◌, IfSome, IfNone, length, slice_get, option_copied, OnOk, OnErr, IfOk, MatchOption};
+ghost use Rattle.std.specs.Prelude.{◌≡◌, ◌↔◌, ◌+◌, ◌<◌, ◌≤◌, ◌^◌, ◌++◌, IsTrue, List, [], ◌∷◌, IfSome, IfNone, length, slice_get, option_copied, OnOk, OnErr, IfOk, MatchOption};
 ghost use Rattle.std.specs.List.{filter};
 ghost use Rattle.pg_members.specs.declared.row.Row.{Row};
 ghost use Rattle.pg_members.specs.Edges.{before};
@@ -39,19 +39,19 @@ pub trait Part: Drop {
     fn count(&self, pid: &Pid) -> u64
         ensures { result ≡ counts_of (rows self.now) pid.now };
 
-    /// Adds to the count of a pid, and tells whether it is a new member. Only a new member takes memory.
-    fn add(&mut self, pid: &Pid, more: u64) -> Result<bool, AllocError>
+    /// Adds to the count of a pid, and tells it then. Only a new member takes memory.
+    fn add(&mut self, pid: &Pid, more: u64) -> Result<u64, AllocError>
         requires some { 0 < more }
         requires fits { total_of (rows self.old) + more < 2 ^ 64 }
         ensures ok { OnOk result (rows self.new ≡ added (rows self.old) pid.now more) }
         ensures err { OnErr result (rows self.new ≡ rows self.old) }
-        ensures new { IfOk result (λ is_new. IsTrue is_new ↔ (counts_of (rows self.old) pid.now ≡ 0)) }
+        ensures count { IfOk result (λ count. count ≡ counts_of (rows self.old) pid.now + more) }
         ensures memory { OnErr result (counts_of (rows self.old) pid.now ≡ 0) };
 
-    /// Takes at most so many from the count of a pid, and tells how many.
+    /// Takes at most so many from the count of a pid, and tells the count before.
     fn take(&mut self, pid: &Pid, most: u64) -> u64
         requires { 0 < most }
-        ensures count { result ≡ min most (counts_of (rows self.old) pid.now) }
+        ensures count { result ≡ counts_of (rows self.old) pid.now }
         ensures rest { rows self.new ≡ taken (rows self.old) pid.now most };
 
     /// Takes the last row out.

@@ -47,14 +47,15 @@ fn made(rt: &impl Abort, processes: &mut Processes, serial: u32, id: u32) -> Pid
     pid
 }
 
-/// Of the processes 2, 0 and 3 the first has ended once its end is taken, and the others were not made.
+/// Of the processes 2, 0 and 3 the first has ended once its end is taken, and the others were not made; process 1 of node b is of
+/// another node.
 #[test]
 fn refused_ends(rt: HostRuntime) {
     on_both(&rt, rt.alloc(), Trial::Ends(1, 2));
 }
 
 /// A node that has made some processes makes more, up to a number. They can end, and are in their group no more once their ends are
-/// taken; then they have ended. The process 0 was not made, and neither was the next.
+/// taken; then they have ended. The process 0 was not made, and neither was the next; those of node b are of another node.
 pub fn all_end<T: GroupTable>(
     rt: &impl Abort,
     alloc: Global,
@@ -80,28 +81,28 @@ pub fn all_end<T: GroupTable>(
     }
     holds(rt, table.has(&name), "has");
     drop(name);
-    holds(
-        rt,
-        are_refused(&processes, &ended, &pids, EndFault::AlreadyEnded),
-        "ended",
-    );
+    let next = last.saturating_add(1);
+    holds(rt, are_refused(&processes, &ended, &pids, 27), "ended");
     drop(pids);
-    let others = Cast::new(rt, alloc, &[("a", 0), ("a", last.saturating_add(1))]);
-    holds(
-        rt,
-        are_refused(&processes, &ended, &others.pids, EndFault::NotMade),
-        "not made",
-    );
-    drop(others);
+    for (row, number) in [([("a", 0), ("a", next)], 26), ([("b", 1), ("b", next)], 24)] {
+        let others = Cast::new(rt, alloc, &row);
+        row_holds(
+            rt,
+            are_refused(&processes, &ended, &others.pids, number),
+            &number,
+        );
+        drop(others);
+    }
     drop(processes);
     drop(ended);
 }
 
-/// Whether no pid can end, each for this fault.
-fn are_refused(processes: &Processes, ended: &Ended, pids: &[Pid], fault: EndFault) -> bool {
+/// Whether no pid can end, each for the fault of this number.
+fn are_refused(processes: &Processes, ended: &Ended, pids: &[Pid], number: u8) -> bool {
     for pid in pids {
-        if processes.finish(pid, ended) != Err(fault) {
-            return false;
+        match processes.finish(pid, ended) {
+            Err(fault) if fault.number() == number => (),
+            _ => return false,
         }
     }
     true

@@ -18,6 +18,8 @@ mod histories;
 #[cfg(test)]
 mod many;
 #[cfg(test)]
+mod members;
+#[cfg(test)]
 mod memory;
 #[cfg(test)]
 mod queries;

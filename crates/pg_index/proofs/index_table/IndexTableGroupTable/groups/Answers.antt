@@ -1,11 +1,6 @@
-use Rattle.std.proofs.Common.{◌≡◌, ◌++◌, List, sym, ap, subst, ◌∙◌, append-nil}
-use Rattle.std.specs.Prelude.{is_some}
-use Rattle.std.specs.List.{list_any}
+use Rattle.std.proofs.Common.{◌≡◌, ◌++◌, sym, ap, ◌∙◌, append-nil}
 use Rattle.std.specs.HashMap.{keys}
-use Rattle.pg_term.specs.declared.term.Term.{Term}
-use Rattle.pg_term.specs.Same.{same_term}
 use Rattle.pg_index.specs.Groups.{counts_in}
-use Rattle.pg_index.specs.Index.{number_of}
 use Rattle.pg_index.proofs.Copies.{keys_are_names, has_among}
 use Rattle.pg_index.proofs.index_table.IndexTableGroupTable.groups.Goals as goal
 

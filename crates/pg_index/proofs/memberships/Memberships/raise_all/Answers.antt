@@ -6,8 +6,8 @@ use Rattle.pg_group.proofs.Merges.{told_more, told_kept}
 use Rattle.pg_members.specs.Rows.{counts_of}
 use Rattle.pg_index.specs.declared.memberships.Memberships.{Memberships}
 use Rattle.pg_index.specs.Groups.{counts_in, counts_changed, is_used}
-use Rattle.pg_index.proofs.Changed.{raised_none, told_none, raised_more, raised_so_far, raised_to}
-use Rattle.pg_index.proofs.memberships.Memberships.raise_all.Goals.{then-not-has+in_ok-add+in_ok-raise, else-not-has}
+use Rattle.pg_index.proofs.Changed.{raised_none, told_none, told_now, raised_more, raised_so_far, raised_to}
+use Rattle.pg_index.proofs.memberships.Memberships.raise_all.Goals.{then-not-has+in_ok-count+in_ok-raise, else-not-has}
 use Rattle.pg_index.proofs.memberships.Memberships.raise_all.Goals as goal
 
 pub loop-pid-init : goal.loop-pid-init
@@ -17,8 +17,8 @@ loop-pid-init c = record {
   used = refl;
 }
 
-pub returns-in_err-add-clause-err : goal.returns-in_err-add-clause-err
-returns-in_err-add-clause-err c =
+pub returns-in_err-count-clause-err : goal.returns-in_err-count-clause-err
+returns-in_err-count-clause-err c =
     on_err c.from_residual.result (raised_so_far (counts_in c.args.self.now.groups) (counts_in c.loop-pid.self.groups) c.args.group c.args.pids.now (ended_of c.args.ended.now) c.loop-pid.pid-index c.loop-pid.invariant.raised)
 
 pub raise-requires : goal.raise-requires
@@ -37,14 +37,14 @@ loop-pid-preserved c =
     let pid = c.pid-item.result in
     let counts = counts_in c.loop-pid.self.groups in
     elim c.if-not-has.branch [
-      | then-not-has+in_ok-add+in_ok-raise w ↦
+      | then-not-has+in_ok-count+in_ok-raise w ↦
           let more = told_more pids ended i pid c.loop-pid-test.true (sym c.pid-item.is) (sym c.has.ensures ∙ w.if-not-has.true) in
-          let least = ap (λ n. counts_changed counts c.args.group pid (max (counts c.args.group pid) n)) w.count.ensures in
+          let least = ap (λ n. counts_changed counts c.args.group pid (max (counts c.args.group pid) n)) (w.in_ok-count.ensures.count ∙ sym (told_now (counts_of c.loop-pid.seen) (counts_of w.add.new.self) pid w.in_ok-count.ensures.ok)) in
           record {
-            seen = ap counts_of w.seen-is ∙ w.in_ok-add.ensures.ok ∙ ap (λ (s : Counts). with_one_more s pid) c.loop-pid.invariant.seen ∙ sym more;
+            seen = ap counts_of w.seen-is ∙ w.in_ok-count.ensures.ok ∙ ap (λ (s : Counts). with_one_more s pid) c.loop-pid.invariant.seen ∙ sym more;
             raised = ap (λ (m : Memberships). counts_in m.groups) w.self-is
                 ∙ raised_more before counts (counts_in w.raise.new.self.groups) c.args.group (told (take i pids) ended) (counts_of c.loop-pid.seen) (counts_of w.add.new.self) pid
-                c.loop-pid.invariant.raised c.loop-pid.invariant.seen w.in_ok-add.ensures.ok (w.in_ok-raise.ensures.ok ∙ least)
+                c.loop-pid.invariant.raised c.loop-pid.invariant.seen w.in_ok-count.ensures.ok (w.in_ok-raise.ensures.ok ∙ least)
                 ∙ ap (raised_to before c.args.group) (sym more);
             used = ap (λ (m : Memberships). is_used m.groups) w.self-is ∙ w.in_ok-raise.ensures.used ∙ c.loop-pid.invariant.used;
           }

@@ -9,18 +9,21 @@ pub invariant_of-self : goal.invariant_of-self
 invariant_of-self c =
     let counts = counts_in c.args.self.now.groups in
     let pid = c.args.pid.now in
+    let n = counts c.args.group pid in
+    let one : n ≡ 1 = sym c.take_one-count.ensures.count ∙ c.if-count-eq1.true in
+    let here : counts_in c.take_one-count.new.groups c.args.group pid ≡ 0 = ap (λ (f : Numbered). f c.args.group pid) c.take_one-count.ensures.counts ∙ changed_here counts c.args.group pid (n - 1) ∙ ap (λ m. m - 1) one in
     record {
-      each = listed_after (listed_in c.args.self.now.listings) (listed_in c.remove.new.listings) counts (counts_in c.take_one.new.groups) pid c.args.group false (counts c.args.group pid - 1)
-          c.args.self.now.each c.remove.ensures c.take_one.ensures.counts (ap (nat_lt 0) (sym c.if-left-eq0.true ∙ c.count-left.ensures));
+      each = listed_after (listed_in c.args.self.now.listings) (listed_in c.remove.new.listings) counts (counts_in c.take_one-count.new.groups) pid c.args.group false (counts c.args.group pid - 1)
+          c.args.self.now.each c.remove.ensures c.take_one-count.ensures.counts (ap (nat_lt 0) (sym here));
     }
 
-pub invariant_of-self-else-left-eq0 : goal.invariant_of-self-else-left-eq0
-invariant_of-self-else-left-eq0 c =
+pub invariant_of-self-else-count-eq1 : goal.invariant_of-self-else-count-eq1
+invariant_of-self-else-count-eq1 c =
     let counts = counts_in c.args.self.now.groups in
     let pid = c.args.pid.now in
     let n = counts c.args.group pid in
-    let here : counts_in c.take_one.new.groups c.args.group pid ≡ n - 1 = ap (λ (f : Numbered). f c.args.group pid) c.take_one.ensures.counts ∙ changed_here counts c.args.group pid (n - 1) in
+    let here : counts_in c.take_one-count.new.groups c.args.group pid ≡ n - 1 = ap (λ (f : Numbered). f c.args.group pid) c.take_one-count.ensures.counts ∙ changed_here counts c.args.group pid (n - 1) in
     record {
-      each = listed_kept (listed_in c.args.self.now.listings) counts (counts_in c.take_one.new.groups) pid c.args.group (n - 1)
-          c.args.self.now.each c.take_one.ensures.counts (some_left n (counts_in c.take_one.new.groups c.args.group pid) here (λ e. c.if-left-eq0.false (c.count-left.ensures ∙ e)));
+      each = listed_kept (listed_in c.args.self.now.listings) counts (counts_in c.take_one-count.new.groups) pid c.args.group (n - 1)
+          c.args.self.now.each c.take_one-count.ensures.counts (some_left n (counts_in c.take_one-count.new.groups c.args.group pid) here (λ e. c.if-count-eq1.false (c.take_one-count.ensures.count ∙ e)));
     }
