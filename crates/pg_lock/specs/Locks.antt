@@ -1,10 +1,10 @@
 -- Who holds the lock of each name at one node (global:set_lock/2 and global:del_lock/1 of the global manual page, for
 -- locks of one node that are asked for once).
 use Rattle.std.specs.Prelude.{ℕ, Bool, true, false, ◌&&◌, cond, List, Option, Some, None}
-use Rattle.std.specs.BTreeMap.{get}
 use Rattle.pg_term.specs.declared.term.Term.{Term}
 use Rattle.pg_term.specs.RefParts.{RefParts, ref_eq}
-use Rattle.pg_term.specs.Same.{same_atom, same_term, term_cmp}
+use Rattle.pg_term.specs.Same.{same_atom, same_term}
+use Rattle.pg_lock.specs.Holders.{holder_in}
 use Rattle.pg_lock.specs.declared.table.LockTable.{LockTable}
 
 -- the holder of each name
@@ -22,6 +22,10 @@ is_free (Some holder) = false
 abbrev pub is_holder : Option RefParts → RefParts → Bool
 is_holder None reference = false
 is_holder (Some holder) reference = ref_eq holder reference
+
+-- whether the reference of a pair is the holder of its name
+abbrev pub holds_so : Locks → (Term × RefParts) → Bool
+holds_so locks pair = is_holder (locks pair.0) pair.1
 
 -- a node grants exactly where it is formed and the name has no holder
 abbrev pub grants : Bool → Locks → Term → Bool
@@ -47,4 +51,4 @@ abbrev pub without_node : Locks → List ℕ → Locks
 without_node locks node name = freed_of node (locks name)
 
 abbrev pub locks_of : LockTable → Locks
-locks_of table name = get term_cmp table.holders name
+locks_of table name = holder_in table.sorted.items table.beyond name

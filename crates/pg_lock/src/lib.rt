@@ -2,6 +2,7 @@
 #![tactic(auto)]
 
 mod attempt;
+mod holders;
 mod table;
 
 pub use attempt::Attempt;

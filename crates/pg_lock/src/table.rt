@@ -1,26 +1,41 @@
-ghost use Rattle.std.specs.Prelude.{◌≡◌, ◌↔◌, IsTrue, false, Ok, None, IfOk, OnErr};
-ghost use Rattle.std.specs.Option.{option_copied};
+ghost use Rattle.std.specs.Prelude.{◌≡◌, ◌↔◌, ◌≤◌, IsTrue, false, Ok, Err, None, Some, IsSome, IfSome, IfOk, OnOk, OnErr, length};
+ghost use Rattle.std.specs.BTreeMap.{get, IsOrdered};
+ghost use Rattle.std.specs.List.{list_all};
+ghost use Rattle.std.specs.List.Sorted.{IsSearchInRange, IsStrictlySortedBy-prop};
+ghost use Rattle.std.specs.Map.{keys_of};
+ghost use Rattle.std.specs.Option.{option_copied, is_some};
+ghost use Rattle.pg_term.specs.Same.{term_cmp};
+ghost use Rattle.pg_lock.specs.Holders.{AreSorted, AreApart, IsPlace, IsWithin};
 
+use crate::holders::{Holder, is_held_by, place_among};
 use pg_term::{Atom, Reference, Term};
 use std::alloc::{AllocError, Global};
 use std::collections::BTreeMap;
 
+// How many holders are kept sorted in one vector: those of all commands that 16 nodes can have open.
+const MAX_SORTED: usize = 4096;
+
 /// Who holds the lock of each name at one node.
 #[derive(Drop)]
 pub struct LockTable {
-    holders: BTreeMap<Term, Reference>,
+    // Up to 4,096 holders in the order of their names, and those of other names. The vector keeps its room.
+    sorted: Vec<Holder>,
+    beyond: BTreeMap<Term, Reference>,
     alloc: Global,
+    ghost ordered: { AreSorted sorted.items } by { IsStrictlySortedBy-prop term_cmp (keys_of sorted.items) },
+    ghost apart: { AreApart sorted.items beyond },
 }
 
 impl LockTable {
-    ghost use Rattle.pg_lock.specs.Locks.{locks_of, grants, after_ask, given_up, is_holder, without_node};
+    ghost use Rattle.pg_lock.specs.Locks.{locks_of, held, grants, after_ask, given_up, is_free, is_holder, holds_so, without_node};
 
     /// No name has a holder. It takes no memory.
     pub fn new(alloc: Global) -> LockTable
         ensures { locks_of result ≡ (λ name. None) }
     {
         LockTable {
-            holders: BTreeMap::new(alloc),
+            sorted: Vec::new(alloc),
+            beyond: BTreeMap::new(alloc),
             alloc,
         }
     }
@@ -34,8 +49,8 @@ impl LockTable {
     }
 
     /// Asks for the lock of a name (`global:set_lock/2`): granted exactly where the node is formed and the name has no
-    /// holder, and then the reference is its holder. No other name changes. O(log n) in the names that have a
-    /// holder, and the copies of a granted name and its reference.
+    /// holder, and then the reference is its holder. No other name changes. One search, O(log n) in the names that have a
+    /// holder; for a lock that is granted the copies of the name and the reference, and the moves of at most 4,096 holders.
     ///
     /// Refusal: `AllocError`, which changes nothing; only for a lock that would be granted.
     pub fn ask(
@@ -50,33 +65,75 @@ impl LockTable {
         ensures err { OnErr result (locks_of self.new ≡ locks_of self.old) }
         ensures denied { grants formed (locks_of self.old) name.now ≡ false → result ≡ Ok false }
     {
-        if !self.grants(formed, name) {
+        if !formed {
             return Ok(false);
         }
-        let name = name.copy(self.alloc)?;
+        let Some(gap) = self.gap_of(name) else {
+            return Ok(false);
+        };
         let holder = reference.copy()?;
-        self.holders.insert(name, holder)?;
+        let name = name.copy(self.alloc)?;
+        self.put(gap, name, holder)?;
         Ok(true)
     }
 
+    /// The place for a name among the sorted, where it has no holder.
+    fn gap_of(&self, name: &Term) -> Option<usize>
+        ensures free { is_some result ≡ is_free (locks_of self.now name.now) }
+        ensures bound { IfSome result (λ gap. gap ≤ length self.now.sorted.items) }
+        ensures place { IfSome result (λ gap. IsPlace self.now.sorted.items name.now (Err gap)) }
+        ensures beyond { IsSome result → get term_cmp self.now.beyond name.now ≡ None }
+    {
+        let Err(gap) = self.place_of(name) else {
+            return None;
+        };
+        if self.beyond.contains_key(name) {
+            return None;
+        }
+        Some(gap)
+    }
+
+    /// Where a name stands among the sorted; where it is not among them, `Err` of where it would.
+    fn place_of(&self, name: &Term) -> Result<usize, usize>
+        ensures bound { IsSearchInRange result (length self.now.sorted.items) }
+        ensures place { IsPlace self.now.sorted.items name.now result }
+    {
+        place_among(&self.sorted, name)
+    }
+
+    /// Puts in a name that has no holder, at its gap among the sorted where these are not full.
+    fn put(&mut self, gap: usize, name: Term, holder: Reference) -> Result<(), AllocError>
+        requires bound { gap ≤ length self.old.sorted.items }
+        requires gap { IsPlace self.old.sorted.items name (Err gap) }
+        requires free { get term_cmp self.old.beyond name ≡ None }
+        ensures ok { OnOk result (locks_of self.new ≡ held (locks_of self.old) name (Some holder)) }
+        ensures err { OnErr result (locks_of self.new ≡ locks_of self.old) }
+    {
+        if self.sorted.len() < MAX_SORTED {
+            self.sorted.insert(gap, (name, holder))?;
+        } else {
+            self.beyond.insert(name, holder)?;
+        }
+        Ok(())
+    }
+
     /// Frees a name where the reference is its holder (`global:del_lock/1`), and else changes nothing. No other name
-    /// changes. It takes no memory: O(log n).
+    /// changes. It takes no memory: O(log n), and for a name that is freed the moves of at most 4,096 holders.
     pub fn give_up(&mut self, name: &Term, reference: &Reference)
         ensures { locks_of self.new
             ≡ given_up (is_holder (locks_of self.old name.now) reference.now) (locks_of self.old) name.now }
     {
-        if self.is_held_by(name, reference) {
-            self.holders.remove(name);
-        }
-    }
-
-    /// Whether the reference is the holder of a name.
-    fn is_held_by(&self, name: &Term, reference: &Reference) -> bool
-        ensures { result ≡ is_holder (locks_of self.now name.now) reference.now }
-    {
-        match self.holders.get(name) {
-            Some(holder) => holder == reference,
-            None => false,
+        match self.place_of(name) {
+            Ok(place) => {
+                if is_held_by(Some(&self.sorted[place].1), reference) {
+                    drop(self.sorted.remove(place));
+                }
+            }
+            Err(_) => {
+                if is_held_by(self.beyond.get(name), reference) {
+                    drop(self.beyond.remove(name));
+                }
+            }
         }
     }
 
@@ -85,20 +142,48 @@ impl LockTable {
     pub fn free_node(&mut self, node: &Atom)
         ensures { locks_of self.new ≡ without_node (locks_of self.old) node.now }
     {
-        self.holders.retain(|_, holder| node != holder.node());
+        self.sorted.retain(|holder| node != holder.1.node());
+        self.beyond.retain(|_, holder| node != holder.node());
     }
 
-    /// Whether both tell the same holder of each name. It takes no memory: O(n) in the names that have a holder.
+    /// Whether both tell the same holder of each name. It takes no memory: O(n log n) in the names that have a holder.
     pub fn same(&self, other: &LockTable) -> bool
         ensures { IsTrue result ↔ (locks_of self.now ≡ locks_of other.now) }
     {
-        self.holders.len() == other.holders.len() && self.holders == other.holders
+        self.is_within(other) && other.is_within(self)
+    }
+
+    /// Whether each name that has a holder has the same one in the other.
+    fn is_within(&self, other: &LockTable) -> bool
+        ensures { IsTrue result ↔ IsWithin (locks_of self.now) (locks_of other.now) }
+    {
+        other.has_all(&self.sorted) && other.has_all_beyond(&self.beyond)
+    }
+
+    fn has_all(&self, holders: &[Holder]) -> bool
+        ensures { result ≡ list_all (holds_so (locks_of self.now)) holders.now }
+    {
+        holders
+            .iter()
+            .all(|holder| is_held_by(self.holder(&holder.0), &holder.1))
+    }
+
+    fn has_all_beyond(&self, holders: &BTreeMap<Term, Reference>) -> bool
+        ensures all { result ≡ list_all (holds_so (locks_of self.now)) holders.now.entries }
+        ensures ordered { IsOrdered term_cmp holders.now }
+    {
+        holders
+            .iter()
+            .all(|(name, holder)| is_held_by(self.holder(name), holder))
     }
 
     /// The holder of a name. It takes no memory: O(log n).
     pub fn holder(&self, name: &Term) -> Option<&Reference>
         ensures { option_copied result ≡ locks_of self.now name.now }
     {
-        self.holders.get(name)
+        match self.place_of(name) {
+            Ok(place) => Some(&self.sorted[place].1),
+            Err(_) => self.beyond.get(name),
+        }
     }
 }

@@ -1,12 +1,6 @@
-ghost use Rattle.std.specs.Prelude.{◌≡◌, ◌≢◌, ◌↔◌, true, Some, None, IfOk};
-ghost use Rattle.pg_multicall.specs.Gathered.{replies_at, asked_of};
+ghost use Rattle.std.specs.Prelude.{◌≡◌, ◌≢◌, ◌↔◌, ℕ, Bool, Option, true, Some, None};
 
-use pg_term::{Atom, Reference};
-use std::alloc::{AllocError, Global};
-use std::collections::BTreeMap;
-
-/// The asked nodes, in their order, each with its reply once that was counted.
-pub type Replies<R> = BTreeMap<Atom, Option<R>>;
+use crate::places::Places;
 
 /// What became of a reply.
 #[derive(Clone, Copy, Debug, PartialEq, Eq)]
@@ -19,86 +13,83 @@ pub enum Taken {
     Double,
 }
 
-/// The replies to one call of several nodes, as `gen_server:multi_call/2` gathers them.
-#[derive(Drop)]
-pub struct Gather<R> {
-    reference: Reference,
-    replies: Replies<R>,
+/// The replies to one call of several nodes, as `gen_server:multi_call/2` gathers them: who was asked, who has replied, and who has
+/// granted what the call is about. A node is named by its place in the set.
+#[derive(Clone, Copy, Debug, PartialEq, Eq)]
+pub struct Gather {
+    asked: Places,
+    replied: Places,
+    granted: Places,
 }
 
-impl<R: Drop> Gather<R> {
-    ghost use Rattle.std.specs.Prelude.{List, ℕ};
-    ghost use Rattle.pg_term.specs.RefParts.{ref_eq};
-    ghost use Rattle.pg_multicall.specs.Gathered.{reply_of, what_of, after, forgotten};
+impl Gather {
+    ghost use Rattle.pg_multicall.specs.Gathered.{what_of};
+    ghost use Rattle.pg_multicall.specs.Places.{has_of};
+    ghost use Rattle.pg_multicall.specs.Replies.{asked_of, after, forgotten, replies_of};
 
-    /// Nothing has replied to the call of this reference. A node that is named twice is asked once. It makes the room
-    /// for all replies: O(nodes log nodes).
-    ///
-    /// Refusal: `AllocError`.
-    pub fn new(alloc: Global, reference: Reference, nodes: &[Atom]) -> Result<Gather<R>, AllocError>
-        ensures reference { IfOk result (λ gather. gather.reference ≡ reference) }
-        ensures asked { IfOk result (λ gather. reply_of gather ≡ asked_of nodes.now) }
+    /// These were asked, and none has replied. It takes no memory.
+    pub fn new(asked: Places) -> Gather
+        ensures { (place : ℕ) → replies_of result place ≡ asked_of (has_of asked) place }
     {
-        let replies = unanswered(alloc, nodes)?;
-        Ok(Gather { reference, replies })
+        Gather {
+            asked,
+            replied: Places::none(),
+            granted: Places::none(),
+        }
     }
 
-    /// Takes the reply of a node to the call of a reference. Only a counted one changes anything. It takes no memory:
-    /// O(log nodes).
-    pub fn take(&mut self, node: &Atom, reference: &Reference, reply: R) -> Taken
-        ensures what { result ≡ what_of (ref_eq self.old.reference reference.now) (reply_of self.old node.now) }
-        ensures after { reply_of self.new ≡ after result (reply_of self.old) node.now reply }
-        ensures reference { self.new.reference ≡ self.old.reference }
+    /// Takes the reply of the node at a place: whether it grants, or has done, what it was asked for. Only a counted reply changes
+    /// anything. It takes no memory.
+    pub fn take(&mut self, place: usize, granted: bool) -> Taken
+        ensures what { result ≡ what_of true (replies_of self.old place) }
+        ensures after { (other : ℕ) → replies_of self.new other ≡ after result (replies_of self.old) place granted other }
     {
-        if self.reference != *reference {
+        if !self.asked.has(place) {
             return Taken::Stranger;
         }
-        let Some(slot) = self.replies.get_mut(node) else {
-            return Taken::Stranger;
-        };
-        if slot.is_some() {
+        if self.replied.has(place) {
             return Taken::Double;
         }
-        *slot = Some(reply);
+        self.replied = self.replied.with(place);
+        self.granted = self.granted.with_or_without(place, granted);
         Taken::Counted
     }
 
-    /// Forgets a node, as where it is lost: it is asked no longer, and its reply stands no longer. All else stays as it was.
-    /// It takes no memory: O(log nodes).
-    pub fn forget(&mut self, node: &Atom)
-        ensures after { reply_of self.new ≡ forgotten (reply_of self.old) node.now }
-        ensures reference { self.new.reference ≡ self.old.reference }
+    /// Forgets the node at a place, as where it is lost: it is asked no longer, and its reply stands no longer. All else stays as
+    /// it was. It takes no memory.
+    pub fn forget(&mut self, place: usize)
+        ensures { (other : ℕ) → replies_of self.new other ≡ forgotten (replies_of self.old) place other }
     {
-        self.replies.remove(node);
+        self.asked = self.asked.without(place);
+        self.replied = self.replied.without(place);
+        self.granted = self.granted.without(place);
     }
 
-    /// Whether each asked node has replied. It takes no memory: O(nodes).
-    pub fn complete(&self) -> bool
-        ensures { (result ≡ true) ↔ ((node : List ℕ) → reply_of self.now node ≢ Some None) }
+    /// What has come of the node at a place: `None` where it was not asked, `Some(None)` where it has not replied, and else its
+    /// reply. It takes no memory.
+    pub fn reply(&self, place: usize) -> Option<Option<bool>>
+        ensures { result ≡ replies_of self.now place }
     {
-        for reply in self.replies.values() {
-            if reply.is_none() {
-                return false;
-            }
+        if !self.asked.has(place) {
+            None
+        } else if !self.replied.has(place) {
+            Some(None)
+        } else {
+            Some(Some(self.granted.has(place)))
         }
-        true
     }
 
-    /// The asked nodes with their replies. It takes no memory.
-    pub fn replies(&self) -> &Replies<R>
-        ensures { replies_at result.now ≡ reply_of self.now }
+    /// Whether each node that was asked has replied. It takes no memory.
+    pub fn complete(&self) -> bool
+        ensures { (result ≡ true) ↔ ((place : ℕ) → replies_of self.now place ≢ Some None) }
     {
-        &self.replies
+        self.asked.are_within(self.replied)
     }
-}
 
-/// Entries for these nodes, with no reply.
-fn unanswered<R: Drop>(alloc: Global, nodes: &[Atom]) -> Result<Replies<R>, AllocError>
-    ensures { IfOk result (λ replies. replies_at replies ≡ asked_of nodes.now) }
-{
-    let mut replies = BTreeMap::new(alloc);
-    for node in nodes {
-        replies.insert(node.copy()?, None)?;
+    /// Whether each node that was asked has granted. It takes no memory.
+    pub fn is_granted(&self) -> bool
+        ensures { (result ≡ true) ↔ ((place : ℕ) (reply : Option Bool) → replies_of self.now place ≡ Some reply → reply ≡ Some true) }
+    {
+        self.complete() && self.asked.are_within(self.granted)
     }
-    Ok(replies)
 }

@@ -2,5 +2,7 @@
 #![tactic(auto)]
 
 mod gather;
+mod places;
 
-pub use gather::{Gather, Replies, Taken};
+pub use gather::{Gather, Taken};
+pub use places::{MAX_PLACES, Places};

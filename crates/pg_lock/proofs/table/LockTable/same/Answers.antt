@@ -1,15 +1,16 @@
-use Rattle.std.proofs.Common.{sym, ap, ◌∙◌, length, eqb-true, eq-eqb}
-use Rattle.pg_lock.proofs.Held.{entries_one, holders_one, entries_told}
+use Rattle.std.proofs.Common.{sym, ◌∙◌}
+use Rattle.pg_lock.specs.Locks.{locks_of}
+use Rattle.pg_lock.proofs.Within.{within_both, within_itself}
 use Rattle.pg_lock.proofs.table.LockTable.same.Goals as goal
 
-pub returns-then-len : goal.returns-then-len
-returns-then-len c = let one = c.args.self.now.holders in let other = c.args.other.now.holders in (
-  λ e. holders_one one other ((entries_told one other c.eq.result c.eq.ensures).0 e),
-  λ h. (entries_told one other c.eq.result c.eq.ensures).1 (entries_one one other c.len.ensures.ordered c.len-2.ensures.ordered h),
+pub returns-then-is_within : goal.returns-then-is_within
+returns-then-is_within c = (
+  λ e. within_both (locks_of c.args.self.now) (locks_of c.args.other.now) (c.is_within.ensures.0 c.if-is_within.true) (c.is_within-then-is_within.ensures.0 e),
+  λ h. c.is_within-then-is_within.ensures.1 (within_itself (locks_of c.args.other.now) (locks_of c.args.self.now) (sym h)),
 )
 
-pub returns-else-len : goal.returns-else-len
-returns-else-len c = let one = c.args.self.now.holders in let other = c.args.other.now.holders in (
-  λ e. absurd (c.if-len.false (eqb-true c.len.result c.len-2.result e)),
-  λ h. eq-eqb c.len.result c.len-2.result (c.len.ensures.len ∙ ap length (entries_one one other c.len.ensures.ordered c.len-2.ensures.ordered h) ∙ sym c.len-2.ensures.len),
+pub returns-else-is_within : goal.returns-else-is_within
+returns-else-is_within c = (
+  λ e. absurd (cc (sym e ∙ c.if-is_within.false)),
+  λ h. c.is_within.ensures.1 (within_itself (locks_of c.args.self.now) (locks_of c.args.other.now) h),
 )

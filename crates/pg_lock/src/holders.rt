@@ -1,0 +1,38 @@
+ghost use Rattle.std.specs.Prelude.{◌≡◌, length};
+ghost use Rattle.std.specs.List.Sorted.{IsSearchInRange};
+ghost use Rattle.pg_term.specs.Same.{term_cmp};
+ghost use Rattle.pg_lock.specs.Holders.{AreSorted, IsPlace};
+ghost use Rattle.pg_lock.specs.Locks.{is_holder};
+ghost use Rattle.std.specs.Option.{option_copied};
+
+use pg_term::{Reference, Term};
+use std::cmp::Ordering;
+
+/// A name and the holder of its lock.
+pub type Holder = (Term, Reference);
+
+/// Where a name stands among holders that are sorted by their names; where it is not among them, `Err` of where it would.
+pub fn place_among(holders: &[Holder], name: &Term) -> Result<usize, usize>
+    requires { AreSorted holders.now }
+    ensures bound { IsSearchInRange result (length holders.now) }
+    ensures place { IsPlace holders.now name.now result }
+{
+    holders.binary_search_by(|holder| by_name(holder, name))
+}
+
+/// How the name of a holder stands to a name.
+fn by_name(holder: &Holder, name: &Term) -> Ordering
+    ensures { result ≡ term_cmp holder.now.0 name.now }
+{
+    holder.0.cmp(name)
+}
+
+/// Whether the reference is the holder of a name that is held so.
+pub fn is_held_by(holder: Option<&Reference>, reference: &Reference) -> bool
+    ensures { result ≡ is_holder (option_copied holder.entry) reference.now }
+{
+    match holder {
+        Some(holder) => holder == reference,
+        None => false,
+    }
+}
