@@ -91,18 +91,6 @@ impl IndexTable {
         Err(AllocError)
     }
 
-    /// Makes a group absent. It takes no memory, and time for each member.
-    fn delete(&mut self, name: &Term)
-        ensures { table_of self.new.numbers self.new.memberships
-            ≡ upd same_term (table_of self.old.numbers self.old.memberships) name.now None }
-    {
-        let Some(number) = self.number(name) else {
-            return;
-        };
-        self.numbers.swap_remove(name);
-        self.memberships.close(number);
-    }
-
     /// Adds one to the count of a pid in a group that is there. Only a new member takes memory. An error changes nothing.
     fn join(&mut self, name: &Term, pid: &Pid) -> Result<(), AllocError>
         ensures ok { OnOk result (table_of self.new.numbers self.new.memberships
@@ -119,18 +107,6 @@ impl IndexTable {
         match self.number(name) {
             Some(number) => self.memberships.add(number, pid, 1),
             None => Ok(()),
-        }
-    }
-
-    /// Takes one from the count of a pid in a group that is there. It takes no memory.
-    fn leave(&mut self, name: &Term, pid: &Pid)
-        ensures { table_of self.new.numbers self.new.memberships
-            ≡ upd same_term (table_of self.old.numbers self.old.memberships) name.now
-            (apply (table_of self.old.numbers self.old.memberships name.now) (Leave name.now pid.now)) }
-    {
-        match self.number(name) {
-            Some(number) => self.memberships.take_one(number, pid),
-            None => (),
         }
     }
 }
@@ -168,6 +144,23 @@ impl GroupTable for IndexTable {
                 self.leave(name, pid);
                 Ok(())
             }
+        }
+    }
+
+    /// Its cost is that of a hash and of the group's members.
+    fn delete(&mut self, name: &Term) {
+        let Some(number) = self.number(name) else {
+            return;
+        };
+        self.numbers.swap_remove(name);
+        self.memberships.close(number);
+    }
+
+    /// Its cost is that of a hash and of searches in order.
+    fn leave(&mut self, name: &Term, pid: &Pid) {
+        match self.number(name) {
+            Some(number) => self.memberships.take_one(number, pid),
+            None => (),
         }
     }
 

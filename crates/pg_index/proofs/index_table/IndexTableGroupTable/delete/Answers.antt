@@ -2,7 +2,7 @@ use Rattle.std.proofs.Common.{sym}
 use Rattle.pg_index.specs.Groups.{counts_in, is_used}
 use Rattle.pg_index.specs.Index.{number_of}
 use Rattle.pg_index.proofs.Tables.{gone, gone_there, gone_apart, absent_gone}
-use Rattle.pg_index.proofs.index_table.IndexTable.delete.Goals as goal
+use Rattle.pg_index.proofs.index_table.IndexTableGroupTable.delete.Goals as goal
 
 pub returns-in_default : goal.returns-in_default
 returns-in_default c = absent_gone (number_of c.args.self.now.numbers) (counts_in c.args.self.now.memberships.groups) c.args.name.now (sym c.in_default.ensures)

@@ -2,7 +2,7 @@ use Rattle.std.proofs.Common.{sym, ap, ◌∙◌}
 use Rattle.pg_index.specs.Groups.{counts_in}
 use Rattle.pg_index.specs.Index.{number_of}
 use Rattle.pg_index.proofs.Tables.{left, left_absent}
-use Rattle.pg_index.proofs.index_table.IndexTable.leave.Goals as goal
+use Rattle.pg_index.proofs.index_table.IndexTableGroupTable.leave.Goals as goal
 
 pub invariant_of-self : goal.invariant_of-self
 invariant_of-self c = record {
