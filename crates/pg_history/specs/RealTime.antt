@@ -1,5 +1,5 @@
 -- The history of a group goes by real time: what was answered before another command came in comes before it.
-use Rattle.std.specs.Prelude.{◌≡◌, ℕ, ◌<◌, ◌≤◌, true, List, ◌∷◌, ◌++◌, length, Option, None}
+use Rattle.std.specs.Prelude.{◌≡◌, ℕ, ◌<◌, ◌≤◌, true, List, ◌∷◌, ◌++◌, length, None}
 use Rattle.pg_term.specs.declared.term.Term.{Term}
 use Rattle.pg_machine.specs.Clocked.{plain}
 use Rattle.pg_machine.specs.Machine.{Event}

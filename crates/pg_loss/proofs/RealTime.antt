@@ -1,5 +1,5 @@
 -- Histories go by real time, whoever is lost.
-use Rattle.std.proofs.Common.{◌≡◌, ℕ, List, [], ◌∷◌, ◌++◌, Some, None, refl, sym, ◌∙◌, subst}
+use Rattle.std.proofs.Common.{◌≡◌, List, [], ◌∷◌, ◌++◌, Some, None, sym, ◌∙◌, subst}
 use Rattle.pg_machine.specs.Losing.{LosingEvent, LosingLeads, nobody_gone}
 use Rattle.pg_machine.specs.Machine.{start_of}
 use Rattle.pg_machine.proofs.Options.{some_is}

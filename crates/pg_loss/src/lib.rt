@@ -8,12 +8,13 @@ mod world;
 pub use lasting::{
     answers_stay_past_losses, changes_are_answered_past_losses, changes_stand_once_past_losses,
     commands_are_counted_past_losses, ended_are_in_no_group_past_losses,
-    ends_stay_taken_past_losses, formed_nodes_stay_formed_past_losses, histories_go_by_real_time_past_losses,
-    histories_grow_past_losses,     lost_nodes_are_not_heard, lost_nodes_do_nothing, seen_losses_stay_seen,
+    ends_stay_taken_past_losses, formed_nodes_stay_formed_past_losses,
+    histories_go_by_real_time_past_losses, histories_grow_past_losses, lost_nodes_are_not_heard,
+    lost_nodes_do_nothing, seen_losses_stay_seen,
 };
 pub use survival::{
     ended_processes_were_made_past_losses, ends_at_home_past_losses, histories_are_thinned,
-    locks_are_exclusive_past_losses, losses_are_survived, no_lock_of_the_lost, no_packet_is_refused, no_reply_is_odd,
-    nodes_left_agree, unanswered_changes_are_last,
+    locks_are_exclusive_past_losses, losses_are_survived, no_lock_of_the_lost,
+    no_packet_is_refused, no_reply_is_odd, nodes_left_agree, unanswered_changes_are_last,
 };
 pub use world::each_world_past_losses;

@@ -15,8 +15,8 @@ use crate::lasting::{
 };
 use crate::survival::{
     ended_processes_were_made_past_losses, ends_at_home_past_losses, histories_are_thinned,
-    locks_are_exclusive_past_losses, losses_are_survived, no_lock_of_the_lost, no_packet_is_refused, no_reply_is_odd,
-    nodes_left_agree, unanswered_changes_are_last,
+    locks_are_exclusive_past_losses, losses_are_survived, no_lock_of_the_lost,
+    no_packet_is_refused, no_reply_is_odd, nodes_left_agree, unanswered_changes_are_last,
 };
 
 /// All that the laws say of one world, whoever is lost and whenever.

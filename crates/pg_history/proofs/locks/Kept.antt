@@ -7,7 +7,6 @@ use Rattle.pg_term.specs.Same.{same_atom}
 use Rattle.pg_refs.specs.Numbered.{numbered}
 use Rattle.pg_group.specs.declared.update.Update.{Update}
 use Rattle.pg_group.specs.Functions.{upd}
-use Rattle.pg_group.specs.Value.{name_of}
 use Rattle.pg_lock.specs.Locks.{Locks, is_holder}
 use Rattle.pg_message.specs.declared.message.Message.{Message}
 use Rattle.pg_message.specs.declared.message.Message.TheVariants.{Call, Reply, DelLock, Exchange, Down}

@@ -1,5 +1,5 @@
 -- Locks are exclusive among nodes that know of no loss of one another.
-use Rattle.std.proofs.Common.{◌≡◌, ℕ, Bool, true, refl, ap, sym, ◌∙◌, subst}
+use Rattle.std.proofs.Common.{◌≡◌, ℕ, Bool, true, ap, sym, ◌∙◌, subst}
 use Rattle.std.specs.List.{IsDistinct}
 use Rattle.pg_term.specs.declared.term.Term.{Term}
 use Rattle.pg_term.specs.Same.{same_atom}
@@ -10,7 +10,7 @@ use Rattle.pg_refs.specs.Numbered.{numbered}
 use Rattle.pg_step.specs.declared.command.OpId.{OpId}
 use Rattle.pg_step.specs.Config.{Config, names_of, name_at}
 use Rattle.pg_step.specs.Nodes.{Node}
-use Rattle.pg_step.specs.State.{State, Status, Use}
+use Rattle.pg_step.specs.State.{State, Status}
 use Rattle.pg_step.specs.State.Status.{Yes}
 use Rattle.pg_step.specs.State.Use.{Locking, Updating}
 use Rattle.pg_history.specs.Exclusive.{ExclusiveLocks, Holds, IsUpdateOf}
@@ -55,12 +55,12 @@ module _ (config : Config) (apart : IsDistinct same_atom (names_of config)) (liv
   held x i n op update lock replied there here is =
       held_there x i lock (name_of update) there
       (owner_holds w shown.inv (name_at config i) lock (name_of update) n (name_at config x) (is_near i x here there)
-        (is_owning (shown.inv.fitting (name_at config i)) n op update lock replied (uses_are i n here ∙ is)))
+      (is_owning (shown.inv.fitting (name_at config i)) n op update lock replied (uses_are i n here ∙ is)))
 
   one : (i j n k : ℕ) (name : Term) → lives i ≡ true → lives j ≡ true → IsUpdateOf name ((node i).uses n) → IsUpdateOf name ((node j).uses k) → (i ≡ j) × (n ≡ k)
   one i j n k name here there f g =
       let both = one_update w shown.inv (name_at config i) n (name_at config j) k name (name_at config i) (is_near i i here here) (is_near j i there here)
-        (subst (IsUpdateOf name) (sym (uses_are i n here)) f) (subst (IsUpdateOf name) (sym (uses_are j k there)) g) in
+      (subst (IsUpdateOf name) (sym (uses_are i n here)) f) (subst (IsUpdateOf name) (sym (uses_are j k there)) g) in
       (one_place i j here there both.0, both.1)
 
   pub are_exclusive : ExclusiveLocks config lives node

@@ -1,5 +1,5 @@
 -- What was reported before stands before what comes in later.
-use Rattle.std.proofs.Common.{◌≡◌, ℕ, ◌+◌, ◌<◌, ◌≤◌, Bool, true, false, ◌&&◌, cond, nat_eq, length, List, [], ◌∷◌, ◌++◌, Option, Some, None, refl, ap, sym, ◌∙◌, subst, arith}
+use Rattle.std.proofs.Common.{◌≡◌, ℕ, ◌+◌, ◌<◌, ◌≤◌, Bool, true, false, ◌&&◌, cond, nat_eq, length, List, [], ◌∷◌, ◌++◌, Some, None, refl, ap, sym, ◌∙◌, subst, arith}
 use Rattle.std.proofs.lemmas.List.{append_assoc}
 use Rattle.pg_term.specs.declared.term.Term.{Term}
 use Rattle.pg_term.specs.Same.{same_term}
@@ -90,8 +90,8 @@ module _ (asked : List (Event Action)) (until more now : List (ℕ × Report)) (
     in_group : (name : Term) (before after earlier later : List Entry) (a e : Entry) → history name until ≡ before ++ a ∷ after → command_at e.node e.op asked ≡ None → history name now ≡ earlier ++ e ∷ later → (rest : List Entry) × (earlier ≡ before ++ a ∷ rest)
     in_group name before after earlier later a e was none at =
         let later_on = comes_after (history name until) (history name more) earlier later e
-            (λ x y on. let found = of_all name (entries until) x y e on in given found.0 found.1 e none found.2)
-            (sym (ap (history name) is ∙ history_append name until more) ∙ at) in
+        (λ x y on. let found = of_all name (entries until) x y e on in given found.0 found.1 e none found.2)
+        (sym (ap (history name) is ∙ history_append name until more) ∙ at) in
         (after ++ later_on.0, later_on.1 ∙ ap (λ es. es ++ later_on.0) was ∙ append_assoc before (a ∷ after) later_on.0)
 
     onward : (x : ℕ) (name : Term) → applied_count x name until ≤ applied_count x name now
