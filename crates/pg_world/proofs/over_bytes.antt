@@ -1,3 +1,4 @@
+pub mod Drained
 pub mod Lost
 pub mod Opened
 pub mod Past

@@ -1,17 +1,18 @@
 -- What bars a step over bytes where nodes may be lost: a place that is not there, and losses.
-use Rattle.std.specs.Prelude.{◌≡◌, ◌⊎◌, ℕ, Bool, true, false, not, nat_lt, length, List, [], ◌∷◌, Option, Some, None, Result, Ok, Err}
+use Rattle.std.specs.Prelude.{◌≡◌, ◌⊎◌, ℕ, Bool, true, false, not, ◌||◌, nat_lt, length, List, [], ◌∷◌, Option, Some, None, Result, Ok, Err}
 use Rattle.pg_machine.specs.Places.{is_pair}
 use Rattle.pg_step.specs.declared.refusal.Refusal.{Refusal}
 use Rattle.pg_step.specs.declared.refusal.Refusal.TheVariants.{NoSuchPlace, NodeLost, NotLost, NotDrained}
 use Rattle.pg_step.specs.Faults.{first_that_holds}
 use Rattle.pg_node.specs.declared.state.fault.NodeFault.{NodeFault}
 use Rattle.pg_node.specs.declared.state.fault.NodeFault.TheVariants.{Refused, OutOfMemory}
+use Rattle.pg_node.specs.Bytes.{is_drained}
 use Rattle.pg_world.specs.declared.step.FrameStep.{FrameStep}
 use Rattle.pg_world.specs.declared.step.FrameStep.TheVariants as frames
 use Rattle.pg_world.specs.declared.step.Step.{Step}
 use Rattle.pg_world.specs.declared.step.Step.TheVariants as steps
 use Rattle.pg_world.specs.declared.step.Stepped.{Stepped}
-use Rattle.pg_world.specs.Crossings.{Crossing, bytes_at}
+use Rattle.pg_world.specs.Crossings.{Crossing, bytes_at, link_at}
 use Rattle.pg_world.specs.Losing.{is_cut_off, is_barred, lost_with, lost_after}
 use Rattle.pg_world.specs.Losses.{is_lost}
 use Rattle.pg_world.specs.Worlds.{has_places}
@@ -36,6 +37,19 @@ sight_bar crossing lost i p = first_that_holds (
     ∷ (is_cut_off crossing.nodes lost i p, NodeLost)
     ∷ (not (is_lost lost p), NotLost)
     ∷ (has_bytes (bytes_at crossing p i).ring, NotDrained) ∷ [])
+
+-- bytes of a peer are on the ring, or a whole frame of it has come
+abbrev pub is_undrained : Crossing → ℕ → ℕ → Bool
+is_undrained crossing i p = has_bytes (bytes_at crossing p i).ring || not (is_drained (link_at crossing i p))
+
+-- a loss is told as not drained there alone
+abbrev pub TellsUndrained : Crossing → FrameStep → Result Stepped NodeFault → Type 0
+TellsUndrained crossing (frames.SeeLoss i p) result = result ≡ Err (Refused NotDrained) → is_undrained crossing i p ≡ true
+TellsUndrained crossing step result = Unit {0}
+
+abbrev pub StepTellsUndrained : Crossing → Step → Result Stepped NodeFault → Type 0
+StepTellsUndrained crossing (steps.Event step) result = TellsUndrained crossing step result
+StepTellsUndrained crossing step result = Unit {0}
 
 -- why a node is not lost
 abbrev pub loss_bar : Crossing → List ℕ → ℕ → Option Refusal

@@ -65,7 +65,7 @@ impl<T: GroupTable + Drop> World<T> {
     ghost use Rattle.pg_world.specs.BytesLosing.{IsReachedLosing, ShowsLosingBytes, MoveLeaves, EventLeaves, StepLeaves};
     ghost use Rattle.pg_world.specs.Losses.{lost_in, is_lost};
     ghost use Rattle.pg_world.specs.Losing.{lost_after};
-    ghost use Rattle.pg_world.specs.Bars.{IsHeld, put_bar, pull_bar, event_bar, bar_of, bytes_lost_after};
+    ghost use Rattle.pg_world.specs.Bars.{IsHeld, StepTellsUndrained, TellsUndrained, put_bar, pull_bar, event_bar, bar_of, bytes_lost_after};
     ghost use Rattle.pg_world.specs.Worlds.{has_port, has_places, TimedFrameWorld};
     ghost use Rattle.pg_world.specs.Views.{no_account};
     ghost use Rattle.pg_world.specs.Changes.{Moves, put_count, pull_count, MoveChanges, EventChanges, FrameChanges, StepChanges};
@@ -148,6 +148,7 @@ impl<T: GroupTable + Drop> World<T> {
             → StepLeaves config u step.now result (ShowsLosingBytes config (crossing_of self.new) (account_of self.new.histories) (lost_in self.new.losses)) }
         ensures changes { StepChanges self.old.ring (crossing_of self.old) (crossing_of self.new) step.now result }
         ensures barred { IsHeld (bar_of (crossing_of self.old) (lost_in self.old.losses) step.now) result }
+        ensures undrained { StepTellsUndrained (crossing_of self.old) step.now result }
         ensures lost { lost_in self.new.losses ≡ bytes_lost_after step.now result (lost_in self.old.losses) }
     {
         match step {
@@ -242,6 +243,7 @@ impl<T: GroupTable + Drop> World<T> {
             → EventLeaves config u event.now result (ShowsLosingBytes config (crossing_of self.new) (account_of self.new.histories) (lost_in self.new.losses)) }
         ensures changes { FrameChanges (crossing_of self.old) (crossing_of self.new) event.now result }
         ensures barred { IsHeld (event_bar (crossing_of self.old) (lost_in self.old.losses) event.now) result }
+        ensures undrained { TellsUndrained (crossing_of self.old) event.now result }
         ensures lost { lost_in self.new.losses ≡ lost_after event.now result (lost_in self.old.losses) }
     {
         nobody_is_harmed();

@@ -18,10 +18,11 @@ impl<T: GroupTable + Drop> World<T> {
     ghost use Rattle.pg_step.specs.Config.{Config};
     ghost use Rattle.pg_step.specs.LossLaws.{LosingFrameWorld};
     ghost use Rattle.pg_world.specs.BytesLosing.{ShowsLosingBytes, SightComesTo, LossComesTo};
-    ghost use Rattle.pg_world.specs.Bars.{IsHeld, has_bytes, sight_bar, loss_bar};
+    ghost use Rattle.pg_world.specs.Bars.{IsHeld, TellsUndrained, has_bytes, sight_bar, loss_bar};
     ghost use Rattle.pg_step.specs.declared.refusal.Refusal.TheVariants.{NotLost};
     ghost use Rattle.pg_node.specs.declared.state.fault.NodeFault.TheVariants.{Refused};
     ghost use Rattle.pg_world.specs.Changes.{SightChanges};
+    ghost use Rattle.pg_world.specs.declared.step.FrameStep.TheVariants.{SeeLoss};
     ghost use Rattle.pg_world.specs.Crossings.{crossing_of, bytes_at};
     ghost use Rattle.pg_world.specs.Histories.{account_of};
     ghost use Rattle.pg_world.specs.Losses.{lost_in, is_lost};
@@ -78,6 +79,7 @@ impl<T: GroupTable + Drop> World<T> {
         ensures account { account_of self.new.histories ≡ account_of self.old.histories }
         ensures none { is_lost (lost_in self.old.losses) peer ≡ false → result ≡ Err (Refused NotLost) }
         ensures barred { IsHeld (sight_bar (crossing_of self.old) (lost_in self.old.losses) node peer) result }
+        ensures undrained { TellsUndrained (crossing_of self.old) (SeeLoss node peer) result }
         ensures lost { lost_in self.new.losses ≡ lost_in self.old.losses }
         ensures losing { (config : Config) (u : LosingFrameWorld) → ShowsLosingBytes config (crossing_of self.old) (account_of self.old.histories) (lost_in self.old.losses) u
             → SightComesTo config u (told_sight config u node peer) result (ShowsLosingBytes config (crossing_of self.new) (account_of self.new.histories) (lost_in self.new.losses)) }

@@ -4,14 +4,16 @@ use Rattle.pg_step.specs.declared.refusal.Refusal.TheVariants.{NoSuchPlace, Node
 use Rattle.pg_step.specs.Faults.{first_that_holds}
 use Rattle.pg_world.specs.declared.step.Stepped.TheVariants.{Happened}
 use Rattle.pg_world.specs.Bars.{IsHeld, sight_bar}
-use Rattle.pg_world.specs.Crossings.{crossing_of, node_of, written_of}
+use Rattle.pg_world.specs.Crossings.{crossing_of, link_at, node_of, written_of}
 use Rattle.pg_world.specs.Losses.{lost_in}
 use Rattle.pg_node.specs.Bytes.{closed}
 use Rattle.pg_node.specs.Links.{Link, at_link}
 use Rattle.pg_node.specs.Nodes.{held_by, links_of}
-use Rattle.pg_node.specs.States.{state_of, answers_of}
+use Rattle.pg_node.specs.States.{names_of, state_of, answers_of}
 use Rattle.pg_world.specs.Histories.{account_of}
 use Rattle.pg_world.specs.Views.{peer_place}
+use Rattle.pg_node.specs.declared.state.fault.NodeFault.TheVariants.{Refused}
+use Rattle.pg_world.proofs.over_bytes.Drained.{bytes_there, left_there, undrained_told}
 use Rattle.pg_world.proofs.over_bytes.Lost.{sight_not_lost, sight_made, sight_held}
 use Rattle.pg_world.proofs.over_bytes.Seen.{peer_clock, closed_bytes, step_there}
 use Rattle.pg_world.proofs.Linked.{alone, first_there, second_there, node_same, seen_kept, seen_there, nodes_set, links_here, part_kept}
@@ -102,3 +104,18 @@ returns-in-Err-clause-losing g c = λ config u shows.
     c.in-Err.fault (state_of (held_by after)) (answers_of (held_by after))
     (node_same nodes rings i over after l at (seen_kept over after c.in-Err.ensures.names c.in-Err.ensures.ports c.in-Err.ensures.err c.in-Err.ensures.err_answers) c.in-Err.ensures.kept) refl
     (step_there c.peer_place.result (peer_place i p) c.peer_place.ensures over after c.clock-last.result (Err c.in-Err.fault) (links_here nodes rings i over l at) c.in-Err.ensures.event)
+
+pub returns-then-has_bytes-clause-undrained : goal.returns-then-has_bytes-clause-undrained
+returns-then-has_bytes-clause-undrained g c = λ told. bytes_there _ _ (sym c.has_bytes.ensures ∙ c.if-has_bytes.true)
+
+pub returns-in-Err-clause-undrained : goal.returns-in-Err-clause-undrained
+returns-in-Err-clause-undrained g c = λ told.
+    let nodes = c.args.self.now.nodes.items in
+    let rings = c.args.self.now.rings.items in
+    let i = c.args.node in
+    let over = c.index_mut-over.result.now in
+    let after = c.see_loss.new.self in
+    let l = first_there nodes rings i c.args.peer c.requires.pair c.args.self.now.rows in
+    let fault : c.in-Err.fault ≡ Refused NotDrained = cc in
+    left_there _ _ (undrained_told (names_of (held_by over)) _ c.clock-last.result (link_at (crossing_of c.args.self.now) i c.args.peer) (state_of (held_by over)) (state_of (held_by after)) (answers_of (held_by over)) (answers_of (held_by after)) c.in-Err.fault fault
+    (step_there c.peer_place.result (peer_place i c.args.peer) c.peer_place.ensures over after c.clock-last.result (Err c.in-Err.fault) (links_here nodes rings i over l c.index_mut-over.ensures.value) c.in-Err.ensures.event))
