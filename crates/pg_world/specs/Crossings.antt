@@ -56,6 +56,10 @@ crossing_in nodes rings = record { nodes = map node_of nodes; links = map links_
 abbrev pub crossing_of : {T : Type 0} {g : Ghosts T} → World T g → Crossing
 crossing_of world = crossing_in world.nodes.items world.rings.items
 
+-- how much room each ring has, in bytes
+abbrev pub room_of : {T : Type 0} {g : Ghosts T} → World T g → ℕ
+room_of world = world.ring
+
 -- nodes between which the rings are empty
 abbrev pub idle_crossing : {T : Type 0} {g : Ghosts T} → List (Node T g) → Crossing
 idle_crossing nodes = record { nodes = map node_of nodes; links = map links_of nodes; rings = replicate (length nodes) (replicate (length nodes - 1) []) }

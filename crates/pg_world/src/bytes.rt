@@ -70,7 +70,7 @@ impl<T: GroupTable + Drop> World<T> {
     ghost use Rattle.pg_world.specs.Views.{no_account};
     ghost use Rattle.pg_world.specs.Changes.{Moves, put_count, pull_count, MoveChanges, EventChanges, FrameChanges, StepChanges};
     ghost use Rattle.pg_frame.specs.Pieces.{put, pull};
-    ghost use Rattle.pg_world.specs.Crossings.{crossing_of, idle_crossing, node_of, link_at, bytes_at, IsReached, IsWelcome, ShowsCrossing, ShowsPast, ShowsBytes, ShowsBytesPast, EventComesTo, FrameComesTo, StepComesTo};
+    ghost use Rattle.pg_world.specs.Crossings.{crossing_of, room_of, idle_crossing, node_of, link_at, bytes_at, IsReached, IsWelcome, ShowsCrossing, ShowsPast, ShowsBytes, ShowsBytesPast, EventComesTo, FrameComesTo, StepComesTo};
 
     /// A world of these nodes, with an empty ring from each to each other, which has room for `ring` bytes, and where nothing has
     /// begun. Its cost is one allocation for each node and for each ring, and one.
@@ -81,6 +81,7 @@ impl<T: GroupTable + Drop> World<T> {
         requires capacity { IsCapacity ring }
         ensures crossing { IfOk result (λ world. crossing_of world ≡ idle_crossing nodes.items) }
         ensures account { IfOk result (λ world. account_of world.histories ≡ no_account) }
+        ensures room { IfOk result (λ world. room_of world ≡ ring) }
         ensures lost { IfOk result (λ world. lost_in world.losses ≡ []) }
     {
         let rings = rings_between(alloc, nodes.len(), ring)?;
@@ -146,10 +147,11 @@ impl<T: GroupTable + Drop> World<T> {
         ensures losing { (config : Config) (u : LosingFrameWorld) → IsReachedLosing config u
             → ShowsLosingBytes config (crossing_of self.old) (account_of self.old.histories) (lost_in self.old.losses) u
             → StepLeaves config u step.now result (ShowsLosingBytes config (crossing_of self.new) (account_of self.new.histories) (lost_in self.new.losses)) }
-        ensures changes { StepChanges self.old.ring (crossing_of self.old) (crossing_of self.new) step.now result }
+        ensures changes { StepChanges (room_of self.old) (crossing_of self.old) (crossing_of self.new) step.now result }
         ensures barred { IsHeld (bar_of (crossing_of self.old) (lost_in self.old.losses) step.now) result }
         ensures undrained { StepTellsUndrained (crossing_of self.old) step.now result }
         ensures lost { lost_in self.new.losses ≡ bytes_lost_after step.now result (lost_in self.old.losses) }
+        ensures room { room_of self.new ≡ room_of self.old }
     {
         match step {
             Step::Put { from, to, max } => self.put(*from, *to, *max),
@@ -166,7 +168,8 @@ impl<T: GroupTable + Drop> World<T> {
             → MoveLeaves (put_bar (crossing_of self.old) (lost_in self.old.losses) from to) result (ShowsBytesPast config (lost_in self.old.losses) (crossing_of self.new) (account_of self.new.histories) w) }
         ensures barred { IsHeld (put_bar (crossing_of self.old) (lost_in self.old.losses) from to) result }
         ensures lost { lost_in self.new.losses ≡ lost_in self.old.losses }
-        ensures changes { MoveChanges (crossing_of self.old) (crossing_of self.new) from to (put_count self.old.ring max (bytes_at (crossing_of self.old) from to)) put result }
+        ensures changes { MoveChanges (crossing_of self.old) (crossing_of self.new) from to (put_count (room_of self.old) max (bytes_at (crossing_of self.old) from to)) put result }
+        ensures room { room_of self.new ≡ room_of self.old }
     {
         if !self.has_pair(from, to) {
             return Err(NodeFault::Refused(Refusal::NoSuchPlace));
@@ -184,8 +187,9 @@ impl<T: GroupTable + Drop> World<T> {
             → ShowsPast config lost (crossing_of self.old) w → ShowsPast config lost (crossing_of self.new) w }
         ensures account { account_of self.new.histories ≡ account_of self.old.histories }
         ensures lost { lost_in self.new.losses ≡ lost_in self.old.losses }
-        ensures many { result ≡ put_count self.old.ring max (bytes_at (crossing_of self.old) from to) }
+        ensures many { result ≡ put_count (room_of self.old) max (bytes_at (crossing_of self.old) from to) }
         ensures moves { Moves (crossing_of self.old) (crossing_of self.new) from to (put result) }
+        ensures room { room_of self.new ≡ room_of self.old }
     {
         moving_keeps_packets::<Packet>();
         let place = peer_place(from, to);
@@ -203,6 +207,7 @@ impl<T: GroupTable + Drop> World<T> {
         ensures barred { IsHeld (pull_bar (crossing_of self.old) (lost_in self.old.losses) to from) result }
         ensures lost { lost_in self.new.losses ≡ lost_in self.old.losses }
         ensures changes { MoveChanges (crossing_of self.old) (crossing_of self.new) from to (pull_count max (bytes_at (crossing_of self.old) from to)) pull result }
+        ensures room { room_of self.new ≡ room_of self.old }
     {
         if !self.has_pair(from, to) {
             return Err(NodeFault::Refused(Refusal::NoSuchPlace));
@@ -221,6 +226,7 @@ impl<T: GroupTable + Drop> World<T> {
             → MoveLeaves None result (ShowsBytesPast config lost (crossing_of self.new) (account_of self.new.histories) w) }
         ensures lost { lost_in self.new.losses ≡ lost_in self.old.losses }
         ensures changes { MoveChanges (crossing_of self.old) (crossing_of self.new) from to (pull_count max (bytes_at (crossing_of self.old) from to)) pull result }
+        ensures room { room_of self.new ≡ room_of self.old }
     {
         moving_keeps_packets::<Packet>();
         loss_cuts_packets::<Packet>();
@@ -245,6 +251,7 @@ impl<T: GroupTable + Drop> World<T> {
         ensures barred { IsHeld (event_bar (crossing_of self.old) (lost_in self.old.losses) event.now) result }
         ensures undrained { TellsUndrained (crossing_of self.old) event.now result }
         ensures lost { lost_in self.new.losses ≡ lost_after event.now result (lost_in self.old.losses) }
+        ensures room { room_of self.new ≡ room_of self.old }
     {
         nobody_is_harmed();
         no_packet_is_refused();
@@ -315,6 +322,7 @@ impl<T: GroupTable + Drop> World<T> {
             → EventComesTo config w (Take node peer) result (ShowsBytesPast config lost (crossing_of self.new) (account_of self.new.histories)) }
         ensures changes { EventChanges (crossing_of self.old) (crossing_of self.new) (Take node peer) result }
         ensures lost { lost_in self.new.losses ≡ lost_in self.old.losses }
+        ensures room { room_of self.new ≡ room_of self.old }
     {
         front_is_first_packet::<Packet>();
         front_is_first_of_cut::<Packet>();
@@ -345,6 +353,7 @@ impl<T: GroupTable + Drop> World<T> {
             → EventComesTo config w (Take node peer) result (ShowsBytesPast config lost (crossing_of self.new) (account_of self.new.histories)) }
         ensures changes { EventChanges (crossing_of self.old) (crossing_of self.new) (Take node peer) result }
         ensures lost { lost_in self.new.losses ≡ lost_in self.old.losses }
+        ensures room { room_of self.new ≡ room_of self.old }
     {
         match next {
             None => Ok(Stepped::Nothing),
@@ -363,6 +372,7 @@ impl<T: GroupTable + Drop> World<T> {
             → EventComesTo config w (Take node peer) result (ShowsBytesPast config lost (crossing_of self.new) (account_of self.new.histories)) }
         ensures changes { EventChanges (crossing_of self.old) (crossing_of self.new) (Take node peer) result }
         ensures lost { lost_in self.new.losses ≡ lost_in self.old.losses }
+        ensures room { room_of self.new ≡ room_of self.old }
     {
         sending_adds_packets::<Packet>();
         front_is_first_packet::<Packet>();
@@ -391,6 +401,7 @@ impl<T: GroupTable + Drop> World<T> {
             → EventComesTo config w (Do node (Issue port command.now)) result (ShowsBytesPast config lost (crossing_of self.new) (account_of self.new.histories)) }
         ensures changes { EventChanges (crossing_of self.old) (crossing_of self.new) (Do node (Issue port command.now)) result }
         ensures lost { lost_in self.new.losses ≡ lost_in self.old.losses }
+        ensures room { room_of self.new ≡ room_of self.old }
     {
         sending_adds_packets::<Packet>();
         let state = &mut self.nodes[node];
@@ -412,6 +423,7 @@ impl<T: GroupTable + Drop> World<T> {
             → EventComesTo config w (Do node (Retry op)) result (ShowsBytesPast config lost (crossing_of self.new) (account_of self.new.histories)) }
         ensures changes { EventChanges (crossing_of self.old) (crossing_of self.new) (Do node (Retry op)) result }
         ensures lost { lost_in self.new.losses ≡ lost_in self.old.losses }
+        ensures room { room_of self.new ≡ room_of self.old }
     {
         sending_adds_packets::<Packet>();
         let state = &mut self.nodes[node];

@@ -35,7 +35,8 @@ use Rattle.pg_node.specs.Nodes.{held_by, links_of}
 use Rattle.pg_node.specs.States.{names_of as known_names, stamped_of}
 use Rattle.pg_world.specs.declared.fault.WorldFault.{WorldFault}
 use Rattle.pg_world.specs.declared.fault.WorldFault.TheVariants.{BadConfig, NameTooLarge, BadCapacity, TooLong, OutOfMemory}
-use Rattle.pg_world.specs.BytesStart.{OpensLinks, BytesBegin}
+use Rattle.pg_world.specs.BytesStart.{OpensLinks, OpensBytes, BytesBegin}
+use Rattle.pg_world.specs.Changes.{links_at}
 use Rattle.pg_world.specs.Crossings.{Crossing, node_of, idle_crossing, no_links, link_at, bytes_at, packet_as, packets_between, written_of, CanCross}
 use Rattle.pg_world.specs.Openings.{AreReady, TellsNames, AllFit, CantOpen, CantStart, opening_fault_of}
 use Rattle.pg_world.specs.Starts.{seen_first, firsts, AllOpen, Begins}
@@ -305,3 +306,13 @@ pub made_fit : {T E : Type 0} {g : Ghosts T} (given : Config) (result : Result (
     → IfOk result (λ nodes. (i : ℕ) → i < length given → OpensLinks (length given - 1) (seen_first given i) (get_or (map links_of nodes.items) i no_links)) → IfOk result (λ nodes. AllFit given)
 made_fit given (Ok nodes) told_by = all_links_fit given (map links_of nodes.items) (length given - 1) told_by
 made_fit given (Err fault) told_by = tt
+
+-- nodes that tell their groups, between which nothing has crossed
+pub opens_bytes : (starts : Config) {T : Type 0} {g : Ghosts T} (nodes : List (Node T g)) (crossing : Crossing) → map node_of nodes ≡ firsts starts (length starts)
+    → ((i : ℕ) → i < length starts → OpensLinks (length starts - 1) (seen_first starts i) (get_or (map links_of nodes) i no_links)) → crossing ≡ idle_crossing nodes → OpensBytes starts crossing
+opens_bytes starts nodes crossing made opened is =
+    let count : length nodes ≡ length starts = sym (length-map nodes node_of) ∙ (ap length made ∙ firsts_length starts (length starts)) in
+    record {
+      rings = ap (λ (c : Crossing). c.rings) is ∙ ap (λ n. replicate n (replicate (n - 1) [])) count;
+      links = λ i l. subst (λ (c : Crossing). OpensLinks (length starts - 1) (seen_first starts i) (links_at c i)) (sym is) (opened i l);
+    }

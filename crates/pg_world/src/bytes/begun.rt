@@ -22,8 +22,8 @@ use std::alloc::Global;
 
 impl World<IndexTable> {
     ghost use Rattle.pg_world.specs.Histories.{account_of};
-    ghost use Rattle.pg_world.specs.BytesStart.{BytesBegin};
-    ghost use Rattle.pg_world.specs.Crossings.{crossing_of};
+    ghost use Rattle.pg_world.specs.BytesStart.{BytesBegin, OpensBytes};
+    ghost use Rattle.pg_world.specs.Crossings.{crossing_of, room_of};
     ghost use Rattle.pg_world.specs.Losses.{lost_in};
     ghost use Rattle.pg_world.specs.Openings.{AllFit, CantBegin, CantStart, AreReady};
 
@@ -35,6 +35,8 @@ impl World<IndexTable> {
         ensures good { IfOk result (λ world. IsConfig config.now.starts.items × IsCapacity config.now.ring) }
         ensures fits { IfOk result (λ world. AllFit config.now.starts.items) }
         ensures begins { IfOk result (λ world. BytesBegin config.now.starts.items (crossing_of world) (account_of world.histories)) }
+        ensures opens { IfOk result (λ world. OpensBytes config.now.starts.items (crossing_of world)) }
+        ensures room { IfOk result (λ world. room_of world ≡ config.now.ring) }
         ensures lost { IfOk result (λ world. lost_in world.losses ≡ []) }
         ensures fault { IfErr result (CantBegin config.now.ring config.now.starts.items) }
     {
@@ -50,6 +52,8 @@ impl World<IndexTable> {
         requires capacity { IsCapacity ring }
         ensures fits { IfOk result (λ world. AllFit starts.now) }
         ensures begins { IfOk result (λ world. BytesBegin starts.now (crossing_of world) (account_of world.histories)) }
+        ensures opens { IfOk result (λ world. OpensBytes starts.now (crossing_of world)) }
+        ensures room { IfOk result (λ world. room_of world ≡ ring) }
         ensures lost { IfOk result (λ world. lost_in world.losses ≡ []) }
         ensures fault { IfErr result (CantStart starts.now) }
     {

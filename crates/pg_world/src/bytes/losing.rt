@@ -23,7 +23,7 @@ impl<T: GroupTable + Drop> World<T> {
     ghost use Rattle.pg_node.specs.declared.state.fault.NodeFault.TheVariants.{Refused};
     ghost use Rattle.pg_world.specs.Changes.{SightChanges};
     ghost use Rattle.pg_world.specs.declared.step.FrameStep.TheVariants.{SeeLoss};
-    ghost use Rattle.pg_world.specs.Crossings.{crossing_of, bytes_at};
+    ghost use Rattle.pg_world.specs.Crossings.{crossing_of, room_of, bytes_at};
     ghost use Rattle.pg_world.specs.Histories.{account_of};
     ghost use Rattle.pg_world.specs.Losses.{lost_in, is_lost};
     ghost use Rattle.pg_world.specs.Losing.{told_sight, lost_with, seen_at, is_cut_off, is_barred};
@@ -83,6 +83,7 @@ impl<T: GroupTable + Drop> World<T> {
         ensures lost { lost_in self.new.losses ≡ lost_in self.old.losses }
         ensures losing { (config : Config) (u : LosingFrameWorld) → ShowsLosingBytes config (crossing_of self.old) (account_of self.old.histories) (lost_in self.old.losses) u
             → SightComesTo config u (told_sight config u node peer) result (ShowsLosingBytes config (crossing_of self.new) (account_of self.new.histories) (lost_in self.new.losses)) }
+        ensures room { room_of self.new ≡ room_of self.old }
     {
         front_is_first_of_cut::<Packet>();
         if !self.losses.has(peer) {
@@ -120,6 +121,7 @@ impl<T: GroupTable + Drop> World<T> {
         ensures lost { lost_in self.new.losses ≡ lost_with node result (lost_in self.old.losses) }
         ensures losing { (config : Config) (u : LosingFrameWorld) → ShowsLosingBytes config (crossing_of self.old) (account_of self.old.histories) (lost_in self.old.losses) u
             → LossComesTo config u node result (ShowsLosingBytes config (crossing_of self.new) (account_of self.new.histories) (lost_in self.new.losses)) }
+        ensures room { room_of self.new ≡ room_of self.old }
     {
         loss_cuts_packets::<Packet>();
         if node >= self.nodes.len() {

@@ -5,7 +5,7 @@ ghost use Rattle.pg_ring.specs.Capacity.{IsCapacity};
 ghost use Rattle.pg_step.specs.Config.{Config as Configuration, IsConfig};
 ghost use Rattle.pg_world.specs.BytesLosing.{ShowsLosingBytes as shows_losing};
 ghost use Rattle.pg_world.specs.BytesLosingRuns.{bytes_past_losses as over_bytes_past};
-ghost use Rattle.pg_world.specs.Crossings.{ShowsBytes as shows_bytes, crossing_of as shown_by};
+ghost use Rattle.pg_world.specs.Crossings.{ShowsBytes as shows_bytes, crossing_of as shown_by, room_of as room_in};
 ghost use Rattle.pg_world.specs.Histories.{account_of as kept_of};
 ghost use Rattle.pg_world.specs.Losses.{lost_in as lost_by};
 ghost use Rattle.pg_world.specs.LosingRuns.{RanLosing};
@@ -23,7 +23,7 @@ use pg_loss::each_world_past_losses;
 use std::alloc::Global;
 
 impl<T: GroupTable + Drop> World<T> {
-    ghost use Rattle.pg_world.specs.Crossings.{IsReached, ShowsBytes, crossing_of, is_loss_in};
+    ghost use Rattle.pg_world.specs.Crossings.{IsReached, ShowsBytes, crossing_of, room_of, is_loss_in};
     ghost use Rattle.pg_step.specs.LossLaws.{LosingFrameWorld};
     ghost use Rattle.pg_world.specs.BytesLosing.{IsReachedLosing, ShowsLosingBytes};
     ghost use Rattle.pg_world.specs.BytesLosingRuns.{bytes_past_losses};
@@ -39,6 +39,7 @@ impl<T: GroupTable + Drop> World<T> {
     pub fn run(&mut self, steps: &[Step], numbers: &mut Vec<u8>)
         requires { length numbers.old.items ≡ length steps.now }
         ensures len { length numbers.new.items ≡ length steps.now }
+        ensures room { room_of self.new ≡ room_of self.old }
         ensures ran { NobodyLost steps.now → (config : Configuration) (w : TimedFrameWorld) → lost_in self.old.losses ≡ [] → IsReached config w
             → ShowsBytes config (crossing_of self.old) (account_of self.old.histories) w
             → GoesTo over_bytes config w steps.now numbers.new.items (ShowsBytes config (crossing_of self.new) (account_of self.new.histories)) }
@@ -55,6 +56,7 @@ impl<T: GroupTable + Drop> World<T> {
 
     /// Makes one step, and tells its number.
     fn step_number(&mut self, step: &Step) -> u8
+        ensures room { room_of self.new ≡ room_of self.old }
         ensures steps { is_loss_in step.now ≡ false → (config : Configuration) (w : TimedFrameWorld) → lost_in self.old.losses ≡ [] → IsReached config w
             → ShowsBytes config (crossing_of self.old) (account_of self.old.histories) w
             → StepsTo over_bytes config w step.now result (ShowsBytes config (crossing_of self.new) (account_of self.new.histories)) }
@@ -87,6 +89,7 @@ pub fn run(
 ) -> Result<(World<IndexTable>, Vec<u8>), WorldFault>
     ensures good { IfOk result (λ ran. IsConfig config.now.starts.items × IsCapacity config.now.ring) }
     ensures fits { IfOk result (λ ran. AllFit config.now.starts.items) }
+    ensures room { IfOk result (λ ran. room_in ran.0 ≡ config.now.ring) }
     ensures ran { IfOk result (λ ran. NoneIsLost steps.now → Ran over_bytes config.now.starts.items steps.now ran.1.items
         (λ given. shows_bytes given (shown_by ran.0) (kept_of ran.0.histories))) }
     ensures losing { IfOk result (λ ran. RanLosing over_bytes_past config.now.starts.items steps.now ran.1.items

@@ -1,6 +1,6 @@
 use Rattle.std.proofs.Common.{◌-◌, length, map}
 use Rattle.pg_node.specs.Nodes.{links_of}
-use Rattle.pg_world.proofs.over_bytes.Opened.{all_known, all_links_fit, idle_begins, begins_as}
+use Rattle.pg_world.proofs.over_bytes.Opened.{all_known, all_links_fit, idle_begins, begins_as, opens_bytes}
 use Rattle.pg_world.proofs.bytes.begun.World+IndexTable.begun.Goals as goal
 
 pub idle-requires-clause-known : goal.idle-requires-clause-known
@@ -13,3 +13,6 @@ pub returns-in_ok-idle-in-Ok-clause-begins : goal.returns-in_ok-idle-in-Ok-claus
 returns-in_ok-idle-in-Ok-clause-begins c =
     let begins = idle_begins c.args.starts.now c.in-Ok.nodes.items c.in-Ok.ensures.nodes c.in-Ok.ensures.opened c.requires.ready.apart in
     begins_as c.args.starts.now _ _ _ _ c.in_ok-idle-in-Ok.ensures.crossing c.in_ok-idle-in-Ok.ensures.account begins
+
+pub returns-in_ok-idle-in-Ok-clause-opens : goal.returns-in_ok-idle-in-Ok-clause-opens
+returns-in_ok-idle-in-Ok-clause-opens c = opens_bytes c.args.starts.now c.in-Ok.nodes.items _ c.in-Ok.ensures.nodes c.in-Ok.ensures.opened c.in_ok-idle-in-Ok.ensures.crossing
