@@ -14,7 +14,7 @@ use Rattle.pg_members.specs.Edges.{IsDownward}
 use Rattle.pg_members.proofs.Order.{equal_if, greater_if}
 use Rattle.pg_members.proofs.Flat.{below, rows_left, rows_right, total-append, counts-append, none_less, count_head, added_after, taken_after}
 
-all_at : (P : Row → Type 0) (rows : List Row) (i : ℕ) (d : Row) → AllByRecursion P rows → i < length rows → P (get_or rows i d)
+pub all_at : (P : Row → Type 0) (rows : List Row) (i : ℕ) (d : Row) → AllByRecursion P rows → i < length rows → P (get_or rows i d)
 all_at P [] i d h k = absurd (omega arith)
 all_at P (r ∷ rs) zero d h k = h.0
 all_at P (r ∷ rs) (suc i) d h k = all_at P rs i d h.1 (omega arith)
@@ -80,13 +80,13 @@ rows_front rows at h = rows_left (take at rows) (drop at rows) (subst AreRows (s
 pub rows_rest : (rows : List Row) (at : ℕ) → AreRows rows → AreRows (drop at rows)
 rows_rest rows at h = rows_right (take at rows) (drop at rows) (subst AreRows (sym (take-append-drop at rows)) h)
 
-ends_at : (rows : List Row) (i : ℕ) (r : Row) → i + 1 ≡ length rows → slice_get rows i ≡ Some r → take i rows ++ r ∷ [] ≡ rows
+pub ends_at : (rows : List Row) (i : ℕ) (r : Row) → i + 1 ≡ length rows → slice_get rows i ≡ Some r → take i rows ++ r ∷ [] ≡ rows
 ends_at [] i r h e = absurd (omega arith)
 ends_at (s ∷ []) zero r h e = let f : s ≡ r = cc in ap (λ t. t ∷ []) (sym f)
 ends_at (s ∷ (t ∷ ts)) zero r h e = absurd (omega arith)
 ends_at (s ∷ rows) (suc i) r h e = ap (λ l. s ∷ l) (ends_at rows i r (omega arith) e)
 
-some_row : (rows : List Row) (i : ℕ) (r : Row) → slice_get rows i ≡ Some r → 0 < length rows
+pub some_row : (rows : List Row) (i : ℕ) (r : Row) → slice_get rows i ≡ Some r → 0 < length rows
 some_row [] i r e = absurd cc
 some_row (s ∷ rows) i r e = omega arith
 

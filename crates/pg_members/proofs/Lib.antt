@@ -1,3 +1,4 @@
+pub mod Alike
 pub mod Order
 pub mod Flat
 pub mod Cut

@@ -63,7 +63,7 @@ lt_trans a b c e f = go (atom_cmp a b) refl
     go Equal g = ap is_lt (nat_list_cmp_total.congr a b c g) ∙ f
     go Greater g = absurd (let h = ap is_gt g in cc)
 
-node_of_less : (x y : Pid) → pid_cmp x y ≡ Less → is_gt (atom_cmp x.node y.node) ≡ false
+pub node_of_less : (x y : Pid) → pid_cmp x y ≡ Less → is_gt (atom_cmp x.node y.node) ≡ false
 node_of_less x y e = go (atom_cmp x.node y.node) (ordering_then (nat_cmp x.serial y.serial) (ordering_then (nat_cmp x.id y.id) (nat_cmp x.creation y.creation))) e
   where
     go : (o p : Ordering) → ordering_then o p ≡ Less → is_gt o ≡ false
@@ -105,3 +105,10 @@ downward_node node x y e f = lt_trans x.node y.node node (node_of_less x y e) f
 
 pub downward_past : (node : List ℕ) → IsDownward (λ q. is_le (atom_cmp q.node node))
 downward_past node x y e f = le_trans x.node y.node node (node_of_less x y e) f
+
+-- of two pids of one node the numbers decide
+pub numbers_decide : (pid other : Pid) → pid.node ≡ other.node
+    → is_lt (ordering_then (nat_cmp pid.serial other.serial) (ordering_then (nat_cmp pid.id other.id) (nat_cmp pid.creation other.creation))) ≡ is_lt (pid_cmp pid other)
+numbers_decide pid other e =
+    let same : atom_cmp pid.node other.node ≡ Equal = subst (λ (n : List ℕ). atom_cmp pid.node n ≡ Equal) e (tied_itself nat_list_cmp_total pid.node) in
+    ap (λ o. is_lt (ordering_then o (ordering_then (nat_cmp pid.serial other.serial) (ordering_then (nat_cmp pid.id other.id) (nat_cmp pid.creation other.creation))))) (sym same)

@@ -13,6 +13,12 @@ before (AtPid edge) pid = is_lt (pid_cmp pid edge.now)
 before (AtNode node) pid = is_lt (atom_cmp pid.node node.now)
 before (PastNode node) pid = is_le (atom_cmp pid.node node.now)
 
+-- the edge is at a pid, of the node of this one
+abbrev pub IsOnNode : Edge → Pid → Type 0
+IsOnNode (AtPid edge) pid = pid.node ≡ edge.now.node
+IsOnNode (AtNode node) pid = ⊥
+IsOnNode (PastNode node) pid = ⊥
+
 -- what is less than a pid that passes, passes
 abbrev pub IsDownward : (Pid → Bool) → Type 0
 IsDownward p = (x y : Pid) → pid_cmp x y ≡ Less → p y ≡ true → p x ≡ true

@@ -1,5 +1,7 @@
-ghost use Rattle.std.specs.Prelude.{◌≡◌, ◌+◌, ◌<◌, ◌≤◌, ◌^◌, length, take, drop, slice_get, IsTrue};
-ghost use Rattle.pg_members.specs.Edges.{before};
+ghost use Rattle.std.specs.Prelude.{◌≡◌, ◌+◌, ◌<◌, ◌≤◌, ◌^◌, length, take, drop, slice_get, option_copied, Some, IsTrue};
+ghost use Rattle.std.specs.List.{AllByRecursion};
+ghost use Rattle.pg_members.specs.declared.row.Row.{Row};
+ghost use Rattle.pg_members.specs.Edges.{before, IsOnNode};
 ghost use Rattle.pg_members.specs.Rows.{AreRows, IsCut, is_here, is_off, total_of};
 
 use crate::edge::Edge;
@@ -35,16 +37,50 @@ impl Model for Block {
     ghost invariant = { λ b. (b.total ≡ total_of b.rows.items) × AreRows b.rows.items };
 }
 
+/// Whether there is a row, and it is of a node.
+fn is_on(row: Option<&Row>, node: &Atom) -> bool
+    ensures { IsTrue result → (there : Row) × (option_copied row.entry ≡ Some there) × (there.pid.node ≡ node.now) }
+{
+    match row {
+        Some(row) => row.pid.node == *node,
+        None => false,
+    }
+}
+
+/// Whether an edge is at a pid, and all rows are of its node, as the first and the last are.
+fn are_on_node(rows: &[Row], edge: Edge<'_>) -> bool
+    requires { AreRows rows.now }
+    ensures { IsTrue result → AllByRecursion (λ row. IsOnNode edge.entry row.pid) rows.now }
+{
+    match edge {
+        Edge::AtPid(pid) => is_on(rows.first(), &pid.node) && is_on(rows.last(), &pid.node),
+        Edge::AtNode(_) | Edge::PastNode(_) => false,
+    }
+}
+
+/// Whether a row stands before an edge. Names are not looked at where it is known to be of the node of the edge's pid.
+fn is_before(row: &Row, edge: Edge<'_>, is_on_node: bool) -> bool
+    requires { IsTrue is_on_node → IsOnNode edge row.now.pid }
+    ensures { result ≡ before edge.entry row.now.pid }
+{
+    if is_on_node {
+        edge.is_after_on_node(&row.pid)
+    } else {
+        edge.is_after(&row.pid)
+    }
+}
+
 /// How many rows stand before an edge.
 fn find(rows: &[Row], edge: Edge<'_>) -> usize
     requires { AreRows rows.now }
     ensures { IsCut (before edge.entry) rows.now result }
 {
+    let are_on_node = are_on_node(rows, edge);
     let mut low = 0;
     let mut high = rows.len();
     while low < high {
         let middle = low + (high - low) / 2;
-        if edge.is_after(&rows[middle].pid) {
+        if is_before(&rows[middle], edge, are_on_node) {
             low = middle + 1;
         } else {
             high = middle;
