@@ -35,10 +35,13 @@ pub fn number_of(node: &Atom, reference: &Reference) -> Option<u32>
     if reference.node() != node || reference.creation() != 1 {
         return None;
     }
-    match reference.words() {
-        [low, high, 0] if *low < FIRST_WORDS => {
-            u32::try_from(u64::from(*low) + u64::from(FIRST_WORDS) * u64::from(*high)).ok()
-        }
-        _ => None,
+    let [low, high, _] = reference.words() else {
+        return None;
+    };
+    let number = u64::from(*low) + u64::from(FIRST_WORDS) * u64::from(*high);
+    let number = u32::try_from(number).ok()?;
+    if reference.words() != words_of(number).as_slice() {
+        return None;
     }
+    Some(number)
 }
