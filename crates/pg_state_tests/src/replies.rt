@@ -81,8 +81,9 @@ fn run(rt: &impl Abort, script: &Script) {
         row_holds(rt, gather.complete() == *is_complete, row);
         row_holds(rt, gather.is_granted() == *is_granted, row);
     }
-    check!(rt; gather.reply(0) == script.1[0]);
-    check!(rt; gather.reply(15) == script.1[1]);
+    for (place, reply) in [0, 15].iter().zip(script.1.iter()) {
+        check!(rt; gather.reply(*place) == *reply);
+    }
     check!(rt; gather.reply(1) == None);
 }
 
