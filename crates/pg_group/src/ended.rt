@@ -1,4 +1,4 @@
-ghost use Rattle.std.specs.Prelude.{◌≡◌, true, false, IsTrue, ◌↔◌, OnOk, OnErr};
+ghost use Rattle.std.specs.Prelude.{◌≡◌, true, false, IsTrue, ◌↔◌, IfOk, OnOk, OnErr};
 
 use pg_term::{Atom, Pid};
 use std::alloc::{AllocError, Global};
@@ -16,7 +16,7 @@ impl Ended {
     ghost use Rattle.std.specs.List.{list_all};
     ghost use Rattle.pg_term.specs.Same.{same_pid};
     ghost use Rattle.pg_group.specs.Functions.{upd};
-    ghost use Rattle.pg_group.specs.Ended.{ended_of, ended_with, IsWithin};
+    ghost use Rattle.pg_group.specs.Ended.{ended_of, ended_with, is_whole, single_of, IsWithin};
 
     /// No pid has ended. It takes no memory.
     pub fn new(alloc: Global) -> Ended
@@ -33,6 +33,36 @@ impl Ended {
         ensures { result ≡ ended_of self.now pid.now }
     {
         self.nodes.contains(&pid.node) || self.pids.contains(pid)
+    }
+
+    /// Whether all pids of the node were put in at once. It takes no memory: O(log n) in the nodes that were put in.
+    pub fn has_node(&self, node: &Atom) -> bool
+        ensures { result ≡ is_whole self.now node.now }
+    {
+        self.nodes.contains(node)
+    }
+
+    /// The pids of the node that were put in one by one, in their order. O(log n) in the pids that were put in, and the copies of
+    /// those of the node.
+    ///
+    /// Error: `AllocError`.
+    pub fn pids_of(&self, alloc: Global, node: &Atom) -> Result<Vec<Pid>, AllocError>
+        ensures { IfOk result (λ pids. pids.items ≡ single_of self.now node.now) }
+    {
+        let first = Pid {
+            node: node.copy()?,
+            serial: 0,
+            id: 0,
+            creation: 0,
+        };
+        let mut pids = Vec::new(alloc);
+        for pid in self.pids.range(first..) {
+            if *node != pid.node {
+                break;
+            }
+            pids.push(pid.copy()?)?;
+        }
+        Ok(pids)
     }
 
     /// Whether the same pids have ended in both. It takes no memory: O(n log n) in the pids and the nodes that were put in.

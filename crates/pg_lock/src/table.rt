@@ -12,13 +12,13 @@ use pg_term::{Atom, Reference, Term};
 use std::alloc::{AllocError, Global};
 use std::collections::BTreeMap;
 
-// How many holders are kept sorted in one vector: those of all commands that 16 nodes can have open.
-const MAX_SORTED: usize = 4096;
+// How many holders are kept sorted in one vector. A new one moves those after it: beyond a hundred the map is faster.
+const MAX_SORTED: usize = 64;
 
 /// Who holds the lock of each name at one node.
 #[derive(Drop)]
 pub struct LockTable {
-    // Up to 4,096 holders in the order of their names, and those of other names. The vector keeps its room.
+    // Up to 64 holders in the order of their names, and those of other names. The vector keeps its room.
     sorted: Vec<Holder>,
     beyond: BTreeMap<Term, Reference>,
     alloc: Global,
@@ -50,7 +50,7 @@ impl LockTable {
 
     /// Asks for the lock of a name (`global:set_lock/2`): granted exactly where the node is formed and the name has no
     /// holder, and then the reference is its holder. No other name changes. One search, O(log n) in the names that have a
-    /// holder; for a lock that is granted the copies of the name and the reference, and the moves of at most 4,096 holders.
+    /// holder; for a lock that is granted the copies of the name and the reference, and the moves of at most 64 holders.
     ///
     /// Refusal: `AllocError`, which changes nothing; only for a lock that would be granted.
     pub fn ask(
@@ -118,7 +118,7 @@ impl LockTable {
     }
 
     /// Frees a name where the reference is its holder (`global:del_lock/1`), and else changes nothing. No other name
-    /// changes. It takes no memory: O(log n), and for a name that is freed the moves of at most 4,096 holders.
+    /// changes. It takes no memory: O(log n), and for a name that is freed the moves of at most 64 holders.
     pub fn give_up(&mut self, name: &Term, reference: &Reference)
         ensures { locks_of self.new
             ≡ given_up (is_holder (locks_of self.old name.now) reference.now) (locks_of self.old) name.now }

@@ -12,9 +12,13 @@ pub record Made : Type 0 where
 abbrev pub made_code : Coded Made
 made_code = code_by (List ℕ × ℕ) (coded× (coded_list coded_ℕ) coded_ℕ) (λ m. (m.node, m.made)) (λ p. record { node = p.0; made = p.1 }) (λ _. refl)
 
--- reference number c: creation 1, and the words c mod 2^18, c div 2^18 and 0
+-- the words of reference number c: c mod 2^18, c div 2^18 and 0
+abbrev pub words_in : ℕ → List ℕ
+words_in c = c % 262144 ∷ c / 262144 ∷ 0 ∷ []
+
+-- reference number c: creation 1, and these words
 abbrev pub numbered : List ℕ → ℕ → RefParts
-numbered node c = record { node = node; creation = 1; words = c % 262144 ∷ c / 262144 ∷ 0 ∷ [] }
+numbered node c = record { node = node; creation = 1; words = words_in c }
 
 -- the number that the words of a reference tell
 abbrev pub number_of_words : List ℕ → ℕ

@@ -8,5 +8,5 @@ mod source;
 
 pub use fault::RefFault;
 pub use laws::fresh_references;
-pub use numbers::{number_of, reference_of};
+pub use numbers::{number_of, reference_of, words_of};
 pub use source::{MAX_REFERENCES, RefSource};

@@ -1,10 +1,17 @@
 ghost use Rattle.std.specs.Prelude.{◌≡◌, ◌&&◌, ◌^◌, cond, nat_lt, Some, None, IfOk};
 ghost use Rattle.pg_term.specs.RefParts.{ref_eq};
-ghost use Rattle.pg_refs.specs.Numbered.{numbered, number_in, number_of_words};
+ghost use Rattle.pg_refs.specs.Numbered.{numbered, number_in, number_of_words, words_in};
 
 use crate::source::FIRST_WORDS;
 use pg_term::{Atom, Reference};
 use std::alloc::AllocError;
+
+/// The words of the reference of this number, as every node makes them: its creation is 1. It takes no memory.
+pub fn words_of(number: u32) -> [u32; 3]
+    ensures { result ≡ words_in number }
+{
+    [number % FIRST_WORDS, number / FIRST_WORDS, 0]
+}
 
 /// The reference of this number that the node makes. One allocation.
 ///
@@ -13,8 +20,7 @@ pub fn reference_of(node: &Atom, number: u32) -> Result<Reference, AllocError>
     ensures { IfOk result (λ reference. reference ≡ numbered node.now number) }
 {
     let node = node.copy()?;
-    let words = [number % FIRST_WORDS, number / FIRST_WORDS, 0];
-    let Ok(reference) = Reference::new(node, 1, &words) else {
+    let Ok(reference) = Reference::new(node, 1, &words_of(number)) else {
         // Three words are as many as a reference may have.
         unreachable!()
     };
@@ -29,10 +35,13 @@ pub fn number_of(node: &Atom, reference: &Reference) -> Option<u32>
     if reference.node() != node || reference.creation() != 1 {
         return None;
     }
-    match reference.words() {
-        [low, high, 0] if *low < FIRST_WORDS => {
-            u32::try_from(u64::from(*low) + u64::from(FIRST_WORDS) * u64::from(*high)).ok()
-        }
-        _ => None,
+    let [low, high, _] = reference.words() else {
+        return None;
+    };
+    let number = u64::from(*low) + u64::from(FIRST_WORDS) * u64::from(*high);
+    let number = u32::try_from(number).ok()?;
+    if reference.words() != words_of(number).as_slice() {
+        return None;
     }
+    Some(number)
 }

@@ -1,13 +1,11 @@
-//! References, locks and nodes that are many: sizes past which code changes its way.
+//! References and locks that are many: sizes past which code changes its way.
 
 use crate::locks::{ask, give_up, is_held};
 use crate::references::next_has;
 use crate::samples::{atom, reference};
 use pg_lock::LockTable;
-use pg_multicall::{Gather, Taken};
 use pg_refs::RefSource;
-use pg_term::{Atom, Reference};
-use std::alloc::Global;
+use pg_term::Reference;
 use std::process::Abort;
 
 /// The references 1 and 262144 differ in their words.
@@ -23,7 +21,7 @@ fn reference_words(rt: HostRuntime) {
     drop(source);
 }
 
-/// A reference takes 501 locks, and one of another node 500, which are denied to the first and free once the node is lost; then the
+/// A reference takes 501 locks, more than stand in a vector, and one of another node 500, which are denied to the first and free once the node is lost; then the
 /// first gives up its own.
 #[test]
 fn many_locks(rt: HostRuntime) {
@@ -52,44 +50,4 @@ fn change_hands(rt: &impl Abort, locks: &mut LockTable, first: &Reference, other
         give_up(locks, number, first);
         check!(rt; is_held(locks, number, None));
     }
-}
-
-/// Of 1,001 nodes every other is lost, and each of the others replies once: the replies are not complete before the last node.
-#[test]
-fn gather_over_many(rt: HostRuntime) {
-    let nodes = many_nodes(&rt, rt.alloc());
-    let call = reference(&rt, rt.alloc(), "a", 1);
-    let same_call = reference(&rt, rt.alloc(), "a", 1);
-    let mut gather = Gather::new(rt.alloc(), same_call, &nodes).expect(&rt, "room for replies");
-    for (node, number) in nodes.iter().zip(0..1001) {
-        check!(&rt; !gather.complete());
-        check!(&rt; is_counted(&mut gather, &call, node, number));
-    }
-    check!(&rt; gather.complete());
-    check!(&rt; gather.replies().len() == 501);
-    drop(gather);
-    drop(call);
-    drop(nodes);
-}
-
-fn is_counted(gather: &mut Gather<u32>, call: &Reference, node: &Atom, number: u32) -> bool {
-    if number % 2 == 0 {
-        (gather.take(node, call, number) == Taken::Counted)
-            & (gather.take(node, call, number) == Taken::Double)
-    } else {
-        gather.forget(node);
-        gather.take(node, call, number) == Taken::Stranger
-    }
-}
-
-fn many_nodes(rt: &impl Abort, alloc: Global) -> Vec<Atom> {
-    let mut nodes = Vec::new(alloc);
-    for number in 0..1001 {
-        let name = format!(in alloc; "n{number}").expect(rt, "a name");
-        nodes
-            .push(atom(rt, alloc, name.as_str()))
-            .expect(rt, "room");
-        drop(name);
-    }
-    nodes
 }

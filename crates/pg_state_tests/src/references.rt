@@ -1,11 +1,17 @@
 //! Fresh references, and their numbers. Each test passes wherever an allocation is refused.
 
 use crate::samples::{atom, row_holds};
-use pg_refs::{RefSource, number_of, reference_of};
+use pg_refs::{RefSource, number_of, reference_of, words_of};
 use pg_term::{Atom, Reference, TermFault};
 use std::process::Abort;
 
-const NUMBERS: &[u32] = &[1, 262_143, 262_144, u32::MAX];
+/// Numbers, and the words of their references.
+const NUMBERS: &[(u32, [u32; 3])] = &[
+    (1, [1, 0, 0]),
+    (262_143, [262_143, 0, 0]),
+    (262_144, [0, 1, 0]),
+    (u32::MAX, [262_143, 16_383, 0]),
+];
 
 /// References of these parts have no number: two words, another creation, a large first word, a large number.
 const FOREIGN: &[(u32, &[u32])] = &[
@@ -18,13 +24,10 @@ const FOREIGN: &[(u32, &[u32])] = &[
 #[test]
 fn numbers_of_references(rt: HostRuntime) {
     let node = atom(&rt, rt.alloc(), "a");
-    for number in NUMBERS {
+    for ((number, words), row) in NUMBERS.iter().zip(0..4) {
         let reference = asked!(&rt; reference_of(&node, *number));
-        row_holds(
-            &rt,
-            number_of(&node, &reference) == Some(*number),
-            *number as usize,
-        );
+        row_holds(&rt, number_of(&node, &reference) == Some(*number), row);
+        row_holds(&rt, words_of(*number) == *words, row);
         drop(reference);
     }
     for ((creation, words), row) in FOREIGN.iter().zip(0..4) {

@@ -1,16 +1,14 @@
 //! The gathered replies of several nodes to one call.
 
-use crate::samples::{atom, reference, row_holds};
-use pg_multicall::{Gather, Taken};
-use pg_term::{Atom, Reference};
-use std::alloc::{AllocError, Global};
+use crate::samples::row_holds;
+use pg_multicall::{Gather, MAX_PLACES, Places, Taken};
 use std::process::Abort;
 
-/// What becomes of a node: b, c or d, by its place.
+/// What becomes of a node: of the place 0, 1 or 15.
 #[derive(Clone, Copy)]
 enum Step {
-    /// It replies to the call, or to another: what, and what that reply is.
-    Replies(usize, bool, bool, Taken),
+    /// It replies: whether it grants, and what that reply is.
+    Replies(usize, bool, Taken),
     /// It is lost.
     Lost(usize),
 }
@@ -21,107 +19,80 @@ const DOUBLE: Taken = Taken::Double;
 
 const STRANGER: Taken = Taken::Stranger;
 
-/// Steps, each with whether all that were asked have replied then; the replies of b and c that stand at last, and how many they are.
-type Script = (&'static [(Step, bool)], [Option<Option<bool>>; 2], usize);
+/// Steps, each with whether all that were asked have replied then, and whether all have granted; and the replies of the places 0 and
+/// 15 that stand at last.
+type Script = (&'static [(Step, bool, bool)], [Option<Option<bool>>; 2]);
 
-/// b and c are asked.
+/// 0 and 15 are asked.
 const SCRIPTS: &[Script] = &[
+    // Both grant. A second reply of a node changes nothing.
     (
         &[
-            (Step::Replies(0, true, true, COUNTED), false),
-            (Step::Replies(0, true, true, DOUBLE), false),
-            (Step::Replies(1, false, true, STRANGER), false),
-            (Step::Replies(1, true, false, COUNTED), true),
+            (Step::Replies(0, true, COUNTED), false, false),
+            (Step::Replies(0, false, DOUBLE), false, false),
+            (Step::Replies(15, true, COUNTED), true, true),
+            (Step::Replies(15, false, DOUBLE), true, true),
+        ],
+        [Some(Some(true)), Some(Some(true))],
+    ),
+    // One denies. The reply of a node that was not asked changes nothing, and neither does that of a place where no node is.
+    (
+        &[
+            (Step::Replies(1, true, STRANGER), false, false),
+            (Step::Replies(16, true, STRANGER), false, false),
+            (Step::Replies(15, false, COUNTED), false, false),
+            (Step::Replies(0, true, COUNTED), true, false),
         ],
         [Some(Some(true)), Some(Some(false))],
-        2,
-    ),
-    // A second reply of a node changes nothing, and neither does that of a node that was not asked.
-    (
-        &[
-            (Step::Replies(0, true, true, COUNTED), false),
-            (Step::Replies(0, true, false, DOUBLE), false),
-            (Step::Replies(2, true, true, STRANGER), false),
-        ],
-        [Some(Some(true)), Some(None)],
-        2,
     ),
     // A node that is lost is waited for no longer, and its reply does not stand.
     (
         &[
-            (Step::Replies(0, true, true, COUNTED), false),
-            (Step::Lost(1), true),
-            (Step::Replies(1, true, true, STRANGER), true),
-            (Step::Lost(0), true),
-            (Step::Lost(0), true),
+            (Step::Replies(15, false, COUNTED), false, false),
+            (Step::Lost(15), false, false),
+            (Step::Replies(15, true, STRANGER), false, false),
+            (Step::Lost(16), false, false),
+            (Step::Lost(0), true, true),
         ],
         [None, None],
-        0,
+    ),
+    // The one that has not replied is lost.
+    (
+        &[
+            (Step::Replies(0, true, COUNTED), false, false),
+            (Step::Lost(1), false, false),
+            (Step::Lost(15), true, true),
+        ],
+        [Some(Some(true)), None],
     ),
 ];
 
-/// Three nodes, and two calls of another.
-#[derive(Drop)]
-struct Cast {
-    nodes: [Atom; 3],
-    call: Reference,
-    other_call: Reference,
-}
-
-fn made_cast(rt: &impl Abort, alloc: Global) -> Cast {
-    Cast {
-        nodes: [
-            atom(rt, alloc, "b"),
-            atom(rt, alloc, "c"),
-            atom(rt, alloc, "d"),
-        ],
-        call: reference(rt, alloc, "a", 1),
-        other_call: reference(rt, alloc, "a", 2),
-    }
-}
-
 #[test]
 fn gather_over_two(rt: HostRuntime) {
-    let cast = made_cast(&rt, rt.alloc());
     for script in SCRIPTS {
-        let mut gather = asked!(&rt; gather_of(rt.alloc(), &cast, 2));
-        run(&rt, &cast, &mut gather, script);
-        drop(gather);
+        run(&rt, script);
     }
-    drop(cast);
 }
 
-/// The replies to the call of the first so many nodes.
-fn gather_of(alloc: Global, cast: &Cast, count: usize) -> Result<Gather<bool>, AllocError> {
-    let call = cast.call.copy()?;
-    Gather::new(alloc, call, cast.nodes.get(..count).unwrap_or(&[]))
-}
-
-fn run(rt: &impl Abort, cast: &Cast, gather: &mut Gather<bool>, script: &Script) {
-    for ((step, is_complete), row) in script.0.iter().zip(0..5) {
-        row_holds(rt, go(rt, cast, gather, *step), row);
+fn run(rt: &impl Abort, script: &Script) {
+    let mut gather = Gather::new(Places::none().with(0).with(15));
+    for ((step, is_complete, is_granted), row) in script.0.iter().zip(0..5) {
+        row_holds(rt, went(&mut gather, *step), row);
         row_holds(rt, gather.complete() == *is_complete, row);
+        row_holds(rt, gather.is_granted() == *is_granted, row);
     }
-    for (node, reply) in cast.nodes.iter().zip(script.1.iter()) {
-        check!(rt; gather.replies().get(node) == reply.as_ref());
+    for (place, reply) in [0, 15].iter().zip(script.1.iter()) {
+        check!(rt; gather.reply(*place) == *reply);
     }
-    check!(rt; gather.replies().len() == script.2);
+    check!(rt; gather.reply(1) == None);
 }
 
 /// Whether a reply is what the step says.
-fn go(rt: &impl Abort, cast: &Cast, gather: &mut Gather<bool>, step: Step) -> bool {
+fn went(gather: &mut Gather, step: Step) -> bool {
     match step {
-        Step::Replies(node, is_to_call, reply, taken) => {
-            let node = cast.nodes.get(node).expect(rt, "a node");
-            let call = if is_to_call {
-                &cast.call
-            } else {
-                &cast.other_call
-            };
-            gather.take(node, call, reply) == taken
-        }
-        Step::Lost(node) => {
-            gather.forget(cast.nodes.get(node).expect(rt, "a node"));
+        Step::Replies(place, granted, taken) => gather.take(place, granted) == taken,
+        Step::Lost(place) => {
+            gather.forget(place);
             true
         }
     }
@@ -129,9 +100,25 @@ fn go(rt: &impl Abort, cast: &Cast, gather: &mut Gather<bool>, step: Step) -> bo
 
 #[test]
 fn nobody_asked(rt: HostRuntime) {
-    let cast = made_cast(&rt, rt.alloc());
-    let gather = asked!(&rt; gather_of(rt.alloc(), &cast, 0));
+    let gather = Gather::new(Places::none());
     check!(&rt; gather.complete());
-    drop(gather);
-    drop(cast);
+    check!(&rt; gather.is_granted());
+}
+
+/// All sixteen are asked, and reply one after another: the replies are complete at the last.
+#[test]
+fn gather_over_all(rt: HostRuntime) {
+    let mut asked = Places::none();
+    for place in 0..MAX_PLACES {
+        asked = asked.with(place);
+    }
+    let mut gather = Gather::new(asked);
+    for place in 0..MAX_PLACES {
+        check!(&rt; !gather.complete());
+        check!(&rt; gather.take(place, true) == Taken::Counted);
+    }
+    check!(&rt; gather.is_granted());
+    check!(&rt; !asked.without(3).has(3));
+    check!(&rt; asked.with_or_without(3, false).are_within(asked));
+    check!(&rt; !asked.has(MAX_PLACES));
 }
