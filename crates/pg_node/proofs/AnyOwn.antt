@@ -1,6 +1,6 @@
 -- A node without commands shows its own name in nothing that it answers.
 use Rattle.std.proofs.Common.{◌≡◌, ◌+◌, ℕ, Bool, true, false, cond, max, nat_le, List, [], ◌∷◌, Option, Some, None, Result, Ok, Err, refl, sym, ap, subst, ◌∙◌}
-use Rattle.std.specs.Prelude.{IfOk, IfErr, IfSome}
+use Rattle.std.specs.Prelude.{⊤, IfOk, IfErr, IfSome}
 use Rattle.std.specs.Io.KnownBytes.{Appends}
 use Rattle.pg_term.specs.RefParts.{RefParts, ref_eq}
 use Rattle.pg_refs.specs.Numbered.{number_in}
@@ -24,7 +24,7 @@ use Rattle.pg_step.specs.State.Use.{Fresh, Spent}
 use Rattle.pg_step.specs.Step.{TimedTurn, CLOCK_LIMIT, taken, at_clock, timed, step_take}
 use Rattle.pg_step.specs.Turns.{NodeTurn}
 use Rattle.pg_node.specs.declared.fault.ServeFault.{ServeFault}
-use Rattle.pg_node.specs.Causes.{AllAnswered, Cause, Unread}
+use Rattle.pg_node.specs.Causes.{AllAnswered, Cause, InTurn, Unread}
 use Rattle.pg_node.specs.Replica.{Pair, State, Answer, Run, start, nodes_of, turned, taken_packet, taken_in, answered, goes_on, preceded, run, served, rest_fault, first_fault, frames_of, WroteFor, Serves}
 use Rattle.pg_node.specs.States.{stamped_of}
 use Rattle.pg_node.proofs.Served.{cause_of}
@@ -180,3 +180,19 @@ pub cause_any : {R : Type 0} (B : Type 0) (gives : R → List ℕ → R → Type
 cause_any B gives fails old new pair own peer before after (Ok done) same h = tt
 cause_any B gives fails old new pair own peer before after (Err fault) same h =
     cause_of (λ u. record { pieces = u.pieces; fact = answered_any pair own peer before after _ same u.fact; last = u.last }) (λ b. b) fault h
+
+pub order_any : {R W : Type 0} (gives : R → List ℕ → R → Type 0) (flushed : W → Type 0) (contents : W → Option (List ℕ)) (old new : R) (first last : W) (pair : Pair) (own peer : Node) (result : Result (Unit {0}) ServeFault) → pair.peer ≡ peer
+    → IfErr result (Cause ⊤ (InTurn gives flushed contents old new first last (λ w input. AllAnswered pair (contents first) (contents w) input)))
+    → IfErr result (Cause ⊤ (InTurn gives flushed contents old new first last (λ w input. AllAnswered (record { own = own; peer = peer }) (contents first) (contents w) input)))
+order_any gives flushed contents old new first last pair own peer (Ok done) same h = tt
+order_any gives flushed contents old new first last pair own peer (Err fault) same h =
+    cause_of (λ u. u) (λ (t : InTurn gives flushed contents old new first last (λ w input. AllAnswered pair (contents first) (contents w) input)). record {
+      piece = t.piece;
+      earlier = t.earlier;
+      gave = t.gave;
+      between = t.between;
+      out = t.out;
+      fact = answered_any pair own peer _ _ _ same t.fact;
+      part = t.part;
+      since = t.since;
+    }) fault h

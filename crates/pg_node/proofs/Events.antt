@@ -1,5 +1,5 @@
 -- The events of a node over bytes, from those of its parts.
-use Rattle.std.proofs.Common.{◌≡◌, ◌<◌, ℕ, Bool, true, false, ◌||◌, cond, nat_eq, List, length, get_or, Option, Some, None, Result, Ok, Err, refl, sym, ap, ◌∙◌}
+use Rattle.std.proofs.Common.{◌≡◌, ◌<◌, ℕ, Bool, true, false, not, ◌||◌, cond, nat_eq, List, length, get_or, Option, Some, None, Result, Ok, Err, refl, sym, ap, ◌∙◌}
 use Rattle.std.specs.Prelude.{slice_set}
 use Rattle.std.proofs.Math.Path.{fun_ext}
 use Rattle.std.proofs.lemmas.Bool.{eqb-true}
@@ -8,6 +8,7 @@ use Rattle.pg_machine.specs.Clocked.{Timed}
 use Rattle.pg_message.specs.declared.packet.Packet.{Packet}
 use Rattle.pg_step.specs.declared.answer.Answer.{Answer}
 use Rattle.pg_step.specs.declared.refusal.Refusal.{Refusal}
+use Rattle.pg_step.specs.declared.refusal.Refusal.TheVariants.{NodeLost}
 use Rattle.pg_step.specs.Nodes.{Node as Name, Nodes}
 use Rattle.pg_step.specs.State.{State}
 use Rattle.pg_step.specs.Step.{TimedTurn, step_take}
@@ -15,11 +16,15 @@ use Rattle.pg_node.specs.declared.node.wire.Wire.{Wire}
 use Rattle.pg_node.specs.declared.state.done.Done.{Done}
 use Rattle.pg_node.specs.declared.state.fault.NodeFault.{NodeFault}
 use Rattle.pg_node.specs.declared.state.fault.NodeFault.TheVariants.{Refused, OutOfMemory, Message, TooLong, Damaged}
-use Rattle.pg_node.specs.Bytes.{Tells, damages, marked, passed}
+use Rattle.pg_node.specs.Bytes.{Tells, next_packet, damages, marked, passed}
 use Rattle.pg_node.specs.Links.{Link, link_of, links_in, at_link, frames_to, with_more}
-use Rattle.pg_node.specs.Nodes.{taken_as, taken_of, TakesNext, ComesInRoom, sent_out}
+use Rattle.pg_node.specs.Nodes.{read_next, taken_as, taken_of, step_link, TakesNext, ComesInRoom, sent_out}
 use Rattle.pg_node.specs.States.{stamped_of, Comes}
 use Rattle.pg_node.proofs.Linked.{one_link}
+
+pub not_true : (b : Bool) → not b ≡ true → b ≡ false
+not_true true e = absurd (cc)
+not_true false e = refl
 
 -- a fault that damages nothing marks nothing
 pub unmarked : (links : ℕ → Link) (peer : ℕ) (fault : NodeFault) → damages fault ≡ false → at_link peer (λ l. marked l fault) links ≡ links
@@ -105,3 +110,16 @@ tells_ok (Err (Refused other)) some h = sym h
 tells_ok (Err OutOfMemory) some h = sym h
 tells_ok (Err TooLong) some h = sym h
 tells_ok (Err Damaged) some h = sym h
+
+-- what was read of a peer whose loss was not seen is the next packet
+pub read_is : (lost : Bool) (link : Link) (some : Option Packet) → read_next lost link ≡ Ok some → (lost ≡ false) × (next_packet link ≡ Ok some)
+read_is true link some e = absurd (cc)
+read_is false link some e = (refl, e)
+
+-- what the next packet of a peer leads to, by what is read
+pub step_read : (m : Nodes) (p : Name) (link : Link) (s : Timed State) → step_link m p link s ≡ taken_of m p s (read_next (s.state.lost p) link)
+step_read m p link s = go (s.state.lost p)
+  where
+    go : (lost : Bool) → cond lost (Err (Refused NodeLost)) (taken_of m p s (next_packet link)) ≡ taken_of m p s (read_next lost link)
+    go true = refl
+    go false = refl

@@ -63,7 +63,7 @@ module _ (m : Nodes) (p : Node) (reference : RefParts) (said : Said) (s : State)
       go true e = ap (λ (o : Option ℕ). value o) e
       go false e = absurd (cc)
 
-  use_is : (n : ℕ) → cond (ref_eq (numbered m.own number) reference && nat_lt number (2 ^ 32)) (Some number) None ≡ Some n → use_of m reference s ≡ s.uses number
+  pub use_is : (n : ℕ) → cond (ref_eq (numbered m.own number) reference && nat_lt number (2 ^ 32)) (Some number) None ≡ Some n → use_of m reference s ≡ s.uses number
   use_is n e = go (ref_eq (numbered m.own number) reference) refl e
     where
       go : (b : Bool) → ref_eq (numbered m.own number) reference ≡ b → cond (b && nat_lt number (2 ^ 32)) (Some number) None ≡ Some n → use_of m reference s ≡ s.uses number

@@ -1,6 +1,6 @@
 -- What a server that read and answered so far has done, at each way on and at each end.
 use Rattle.std.proofs.Common.{◌≡◌, ℕ, Bool, true, false, List, [], ◌∷◌, ◌++◌, length, Option, Some, None, Result, Ok, Err, ◌⊎◌, inl, inr, refl, sym, ap, subst, ◌∙◌, append_assoc, append-nil, arith}
-use Rattle.std.specs.Prelude.{◌^◌, ◌+◌, ◌<◌, IfSome, IfErr, OnOk, ◌==◌, if◌then◌else◌}
+use Rattle.std.specs.Prelude.{◌^◌, ◌+◌, ◌<◌, ⊤, IfSome, IfErr, OnOk, ◌==◌, if◌then◌else◌}
 use Rattle.std.specs.Io.KnownBytes.{Appends, Keeps, Consumes, IsAtEnd}
 use Rattle.std.proofs.lemmas.List.{nil_from_length}
 use Rattle.std.proofs.lemmas.Bool.{eqb-true}
@@ -11,7 +11,7 @@ use Rattle.pg_term.specs.declared.fault.TermFault.TheVariants.{Truncated, OutOfM
 use Rattle.pg_node.specs.declared.fault.ServeFault.{ServeFault}
 use Rattle.pg_message.specs.declared.fault.MessageFault.TheVariants.{Term}
 use Rattle.pg_node.specs.declared.fault.ServeFault.TheVariants.{Message, FrameTooLong, ClockFull, ReadFault, WriteFault}
-use Rattle.pg_node.specs.Causes.{Cause, AllAnswered, Gave, Unread, IsFlushed, LeavesFlushed, joined}
+use Rattle.pg_node.specs.Causes.{Cause, AllAnswered, Gave, InTurn, Unread, IsFlushed, LeavesFlushed, joined}
 use Rattle.pg_message.specs.declared.fault.MessageFault.{MessageFault}
 use Rattle.pg_message.specs.declared.packet.Packet.{Packet}
 use Rattle.pg_message.specs.Reading.{packet_spelled}
@@ -20,9 +20,9 @@ use Rattle.pg_step.specs.declared.refusal.Refusal.{Refusal}
 use Rattle.pg_step.specs.declared.refusal.Refusal.TheVariants as refusals
 use Rattle.pg_node.specs.Fault.{out_of_memory, Refuses}
 use Rattle.pg_node.specs.States.{stamped_of}
-use Rattle.pg_node.specs.Progress.{Progress, Reads, Serving, Stops, StopsAt}
+use Rattle.pg_node.specs.Progress.{CutShort, Progress, Reads, Serving, Stops, StopsAt}
 use Rattle.pg_node.specs.Replica.{Pair, State, Run, nodes_of, answered, taken_in, turned, start, Serves, served, frames_of, WroteFor}
-use Rattle.pg_node.proofs.Streams.{stay, onward, fed, kept, known_kept}
+use Rattle.pg_node.proofs.Streams.{appends_then, appends_kept, stay, onward, fed, kept, known_kept}
 use Rattle.pg_node.proofs.Outcomes.{ended, over, cut, done}
 
 consumes_none : (r : Option (List ℕ)) → Consumes r r []
@@ -157,6 +157,47 @@ module _ {R : Type 0} (gives : R → List ℕ → R → Type 0) (fails : R → R
   -- so many reads were made
   pub reads_spent : n ≡ 2 ^ 40 → Unread gives fails old now (AllAnswered pair out0 out1)
   reads_spent e = record { pieces = v.pieces; fact = answered_so_far; last = inr (v.gave.0, v.gave.1 ∙ e) }
+
+-- ---- in which order
+
+-- what is said of a fault of writing holds where the fault is one
+pub if_write : (B : Type 0) (fault : ServeFault) → (fault ≡ WriteFault → B) → Cause ⊤ B fault
+if_write B (Message fault) h = tt
+if_write B FrameTooLong h = tt
+if_write B ClockFull h = tt
+if_write B ReadFault h = tt
+if_write B WriteFault h = h refl
+
+pub not_write : (B : Type 0) (fault : ServeFault) → (fault ≡ ReadFault) ⊎ (fault ≡ out_of_memory) → Cause ⊤ B fault
+not_write B fault (inl e) = subst (Cause ⊤ B) (sym e) tt
+not_write B fault (inr e) = subst (Cause ⊤ B) (sym e) tt
+
+-- what was written of the replies when a write failed
+pub wrote_part : (pair : Pair) (unread : List ℕ) (s : State) (out0 out1 : Option (List ℕ)) → Stops pair WriteFault unread s out0 out1 → (part : List ℕ) × Appends out0 out1 part
+wrote_part pair unread s out0 out1 h = go h.stops
+  where
+    replies : List ℕ
+    replies = frames_of h.progress.replies
+
+    go : CutShort pair h.unread h.state h.written out1 ⊎ Keeps h.written out1 → (part : List ℕ) × Appends out0 out1 part
+    go (inl c) = (replies ++ c.part, appends_then out0 h.written out1 replies c.part h.progress.wrote c.wrote)
+    go (inr k) = (replies, appends_kept out0 h.written out1 replies h.progress.wrote k)
+
+-- a write failed behind one more piece
+pub in_turn : {R W : Type 0} (gives : R → List ℕ → R → Type 0) (flushed : W → Type 0) (contents : W → Option (List ℕ)) (old now new : R) (n : ℕ) (pair : Pair) (r0 r1 : Option (List ℕ)) (unread : List ℕ) (s : State)
+    (first between last : W) (v : Serving pair (λ (pieces : List (List ℕ)). Gave gives old pieces now × (length pieces ≡ n)) r0 r1 unread s (contents first) (contents between))
+    → IsFlushed flushed first between → (piece : List ℕ) → gives now piece new → 0 < length piece → (part : List ℕ) × Appends (contents between) (contents last) part
+    → InTurn gives flushed contents old new first last (λ w input. AllAnswered pair (contents first) (contents w) input)
+in_turn gives flushed contents old now new n pair r0 r1 unread s first between last v out piece gave some wrote = record {
+  piece = piece;
+  earlier = v.pieces;
+  gave = (now, v.gave.0, gave, some);
+  between = between;
+  out = out;
+  fact = all_answered pair (λ (pieces : List (List ℕ)). Gave gives old pieces now × (length pieces ≡ n)) r0 r1 unread s (contents first) (contents between) v;
+  part = wrote.0;
+  since = wrote.1;
+}
 
 turned_cause : (pair : Pair) (r : Result TimedTurn Refusal) → IfErr (turned pair r) (Cause ⊥ ⊥)
 turned_cause pair (Ok t) = tt

@@ -41,6 +41,19 @@ pub record Unread {R : Type 0} (gives : R → List ℕ → R → Type 0) (fails 
 abbrev pub IsFlushed : {W : Type 0} → (W → Type 0) → W → W → Type 0
 IsFlushed flushed old new = (new ≡ old) ⊎ flushed new
 
+-- Reads gave pieces, each of some bytes. When the last of them was read, all that was written by then was flushed, and P holds of the
+-- sink and of the pieces before it. A part was written since.
+pub record InTurn {R W : Type 0} (gives : R → List ℕ → R → Type 0) (flushed : W → Type 0) (contents : W → Option (List ℕ)) (old new : R) (first last : W)
+    (P : W → List ℕ → Type 0) : Type 0 where
+  pub piece : List ℕ
+  pub earlier : List (List ℕ)
+  pub gave : Gave gives old (piece ∷ earlier) new
+  pub between : W
+  pub out : IsFlushed flushed first between
+  pub fact : P between (joined earlier)
+  pub part : List ℕ
+  pub since : Appends (contents between) (contents last) part
+
 -- at the end of the input, and where it can't be read, all that was written was flushed
 abbrev pub LeavesFlushed : {W : Type 0} → (W → Type 0) → W → W → Result (Unit {0}) ServeFault → Type 0
 LeavesFlushed flushed old new (Ok done) = IsFlushed flushed old new

@@ -1,8 +1,9 @@
 -- What a node over bytes is seen as, and what an event makes of it.
-use Rattle.std.specs.Prelude.{◌≡◌, ℕ, cond, List, Option, Some, None, Result, Ok, Err}
+use Rattle.std.specs.Prelude.{◌≡◌, ℕ, ◌+◌, Bool, cond, List, Option, Some, None, Result, Ok, Err}
 use Rattle.pg_group.specs.declared.table.GroupTable.{Ghosts}
 use Rattle.pg_machine.specs.Clocked.{Timed}
 use Rattle.pg_message.specs.declared.packet.Packet.{Packet}
+use Rattle.pg_opens.specs.Places.{name_at}
 use Rattle.pg_step.specs.declared.answer.Answer.{Answer}
 use Rattle.pg_step.specs.declared.refusal.Refusal.{Refusal}
 use Rattle.pg_step.specs.declared.refusal.Refusal.TheVariants.{NodeLost, NotDrained}
@@ -16,7 +17,7 @@ use Rattle.pg_node.specs.declared.state.fault.NodeFault.{NodeFault}
 use Rattle.pg_node.specs.declared.state.fault.NodeFault.TheVariants.{Refused, OutOfMemory, Message}
 use Rattle.pg_node.specs.Links.{Link, links_in, frames_to, with_more}
 use Rattle.pg_node.specs.Bytes.{next_packet, is_drained}
-use Rattle.pg_node.specs.States.{stamped_of, step_see_loss, Happens, Comes}
+use Rattle.pg_node.specs.States.{names_of, kept_by, stamped_of, step_see_loss, Happens, Comes}
 
 -- the node over packets
 abbrev pub held_by : {T : Type 0} {g : Ghosts T} → Node T g → NodeState T g
@@ -25,6 +26,16 @@ held_by node = node.state
 -- the links to its peers, by their places
 abbrev pub links_of : {T : Type 0} {g : Ghosts T} → Node T g → ℕ → Link
 links_of node = links_in node.wires.items
+
+-- the loss of the peer at a place was seen
+abbrev pub has_lost : {T : Type 0} {g : Ghosts T} → NodeState T g → ℕ → Bool
+has_lost node peer = (kept_by node).lost (name_at (names_of node) (peer + 1))
+
+-- ---- a packet is read
+
+-- the next packet of a peer by what stands in its link, of which nothing is read once its loss was seen
+abbrev pub read_next : Bool → Link → Result (Option Packet) NodeFault
+read_next lost link = cond lost (Err (Refused NodeLost)) (next_packet link)
 
 -- ---- a packet is taken
 

@@ -1,5 +1,5 @@
 -- What a node's state is seen as, and what an event makes of it.
-use Rattle.std.specs.Prelude.{◌≡◌, ℕ, ◌+◌, ◌++◌, cond, max, nat_eq, List, [], ◌∷◌, Option, Some, None, Result, Ok, Err}
+use Rattle.std.specs.Prelude.{◌≡◌, ℕ, ◌+◌, ◌++◌, Bool, true, false, not, cond, max, nat_eq, List, [], ◌∷◌, Option, Some, None, Result, Ok, Err}
 use Rattle.pg_term.specs.Same.{same_atom}
 use Rattle.pg_group.specs.declared.table.GroupTable.{Ghosts}
 use Rattle.pg_group.specs.Ended.{ended_of}
@@ -7,8 +7,12 @@ use Rattle.pg_group.specs.Functions.{upd}
 use Rattle.pg_lock.specs.Locks.{locks_of}
 use Rattle.pg_ends.specs.Processes.{made_of}
 use Rattle.pg_message.specs.declared.message.Message.{Message}
+use Rattle.pg_message.specs.declared.message.Message.TheVariants.{DelLock, Reply as Replied}
 use Rattle.pg_message.specs.declared.packet.Packet.{Packet}
 use Rattle.pg_machine.specs.Clocked.{Timed, Stamped}
+use Rattle.pg_multicall.specs.Gathered.{what_of}
+use Rattle.pg_multicall.specs.declared.gather.Taken.{Taken}
+use Rattle.pg_multicall.specs.declared.gather.Taken.TheVariants.{Counted}
 use Rattle.pg_opens.specs.Opens as opens
 use Rattle.pg_opens.specs.Places.{name_at}
 use Rattle.pg_step.specs.declared.answer.Answer.{Answer}
@@ -16,6 +20,7 @@ use Rattle.pg_step.specs.declared.answer.Reply.{Reply}
 use Rattle.pg_step.specs.declared.command.OpId.{OpId}
 use Rattle.pg_step.specs.Nodes.{Node, Nodes}
 use Rattle.pg_step.specs.State.{State, Response}
+use Rattle.pg_step.specs.Attempts.{gathered, use_of}
 use Rattle.pg_step.specs.Commands.{Answers}
 use Rattle.pg_step.specs.Losses.{see_loss}
 use Rattle.pg_step.specs.Turns.{NodeTurn}
@@ -107,3 +112,15 @@ Comes names (Err refusal) result s before after = result ≡ Err (Refused refusa
 abbrev pub ComesAt : ℕ → List Node → Result NodeTurn Refusal → Result Done NodeFault → Timed State → (ℕ → List Answer) → (ℕ → List Answer) → Type 0
 ComesAt clock names (Ok t) result s before after = Comes names (Ok (at_clock clock t)) result s before after
 ComesAt clock names (Err refusal) result s before after = Comes names (Err refusal) result s before after
+
+-- ---- memory
+
+abbrev pub is_counted : Taken → Bool
+is_counted Counted = true
+is_counted taken = false
+
+-- a packet of p that takes no memory: it frees a lock, or is a reply that completes nothing
+abbrev pub takes_none : Nodes → Node → State → Message → Bool
+takes_none m p s (DelLock name reference) = true
+takes_none m p s (Replied reference said) = not (is_counted (what_of true (gathered (use_of m reference s) p)))
+takes_none m p s message = false

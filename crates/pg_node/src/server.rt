@@ -1,7 +1,7 @@
-ghost use Rattle.std.specs.Prelude.{◌≡◌, ◌<◌, ◌∷◌, ◌++◌, true, false, List, ℕ, length, [], Some, None, Ok, Err, IfSome, IfOk, IfErr, OnOk, OnErr, ◌⊎◌, ◌==◌, if◌then◌else◌};
+ghost use Rattle.std.specs.Prelude.{◌≡◌, ◌<◌, ◌∷◌, ◌++◌, ⊤, true, false, List, ℕ, length, [], Some, None, Ok, Err, IfSome, IfOk, IfErr, OnOk, OnErr, ◌⊎◌, ◌==◌, if◌then◌else◌};
 ghost use Rattle.std.specs.Io.KnownBytes.{Appends, Keeps, Consumes, IsAtEnd};
 ghost use Rattle.pg_frame.specs.Frames.{front_of};
-ghost use Rattle.pg_node.specs.Causes.{AllAnswered, Cause, FailedAt, LeavesFlushed, Unread};
+ghost use Rattle.pg_node.specs.Causes.{AllAnswered, Cause, FailedAt, InTurn, LeavesFlushed, Unread};
 ghost use Rattle.pg_node.specs.Fault.{out_of_memory};
 ghost use Rattle.pg_node.specs.Replica.{start, pair_of, Serves};
 ghost use Rattle.pg_node.specs.States.{names_of, state_of};
@@ -132,6 +132,8 @@ impl<T: GroupTable + Drop> Server<T> {
             (AllAnswered (pair_of self.old.node) (W.contents writer.old) (W.contents writer.new)))
             (FailedAt W.fails writer.new)) }
         ensures flushed { LeavesFlushed W.flushed writer.old writer.new result }
+        ensures order { IfErr result (Cause ⊤ (InTurn R.gives W.flushed W.contents reader.old reader.new writer.old writer.new
+            (λ between input. AllAnswered (pair_of self.old.node) (W.contents writer.old) (W.contents between) input))) }
     {
         let mut piece = [0; PIECE_LEN];
         for _ in 0..MAX_READS {
@@ -162,14 +164,16 @@ impl<T: GroupTable + Drop> Server<T> {
 /// and sends no exchange. It answers requests for updates and for locks; a lock is granted once the exchange of the peer
 /// was taken. It takes in the peer's groups, freed locks and ends of processes. A reply to it is a stranger's, as it asks
 /// for nothing. A packet with stamp s sets the clock to `max(clock, s) + 1`, and what is sent for it carries that clock.
-/// Each reply is written whole before the next packet is taken, and all are flushed before the next read.
+/// Each reply is written whole before the next packet is taken, and all are flushed before the next read: wherever a write or a
+/// flush fails, the replies to all packets that were whole before the last read had been written and flushed by that read.
 ///
 /// It ends at the end of the input: `Ok` where no bytes are left over, else `Truncated`. It ends at the first fault,
 /// in this order for one packet: `FrameTooLong`, the faults of terms, `NotAMessage`, `StampTooLarge`, `ClockFull`, and
 /// `NotAMessage` for an exchange of another node than the peer or a second one; or at `OutOfMemory`, and then the replies to
 /// the packets before it were written whole; or at `ReadFault`, where a read failed or 2^40 reads were made, and then the
 /// replies to all packets that were read whole were written and flushed; or at `WriteFault`, where a write or a flush failed or
-/// a write took nothing, and then what was written is a prefix of the replies' frames.
+/// a write took nothing, and then what was written is a prefix of the replies' frames. Into a `Vec` a write fails only where it is
+/// full and can't grow.
 ///
 /// The time is that of the input, each update with a search of its group; an exchange copies the table and an end costs the
 /// groups of its process. The memory is that of the longest frame, and of the groups with their members, the ended pids and the
@@ -191,6 +195,8 @@ pub fn serve<R: Source, W: Sink>(
         (AllAnswered (record { own = own.now; peer = peer.now }) (W.contents writer.old) (W.contents writer.new)))
         (FailedAt W.fails writer.new)) }
     ensures flushed { LeavesFlushed W.flushed writer.old writer.new result }
+    ensures order { IfErr result (Cause ⊤ (InTurn R.gives W.flushed W.contents reader.old reader.new writer.old writer.new
+        (λ between input. AllAnswered (record { own = own.now; peer = peer.now }) (W.contents writer.old) (W.contents between) input))) }
 {
     let mut server = idle_server(alloc, own, peer)?;
     let served = server.run(reader, writer);

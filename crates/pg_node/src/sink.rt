@@ -1,6 +1,6 @@
 //! Where a server writes its output.
 
-ghost use Rattle.std.specs.Prelude.{◌<◌, ⊤, Option, List, ℕ, length, IfOk, OnOk, OnErr};
+ghost use Rattle.std.specs.Prelude.{◌≡◌, ◌<◌, ⊤, Option, Some, List, ℕ, length, IfOk, OnOk, OnErr, vec_len, vec_capacity};
 ghost use Rattle.std.specs.Io.{WritesAtMost};
 ghost use Rattle.std.specs.Io.KnownBytes.{WriteAppends, Keeps};
 
@@ -59,5 +59,29 @@ impl<W: Write> Sink for AnyWriter<W> {
 
     fn flush_all(&mut self) -> io::Result<()> {
         self.writer.flush()
+    }
+}
+
+/// Bytes in memory: a write fails only where the buffer is full and can't grow, and changes no byte then. A flush never fails.
+impl Sink for Vec<u8> {
+    ghost contents = { λ sink. Some sink.items };
+
+    ghost fails = { λ a b. (b.items ≡ a.items) × (vec_len b ≡ vec_capacity b) };
+
+    ghost flushed = { λ sink. ⊤ };
+
+    fn write_some(&mut self, bytes: &[u8]) -> io::Result<usize> {
+        let is_short = self.reserve(bytes.len()).is_err();
+        let room = self.capacity() - self.len();
+        if is_short && room == 0 {
+            return Err(io::Error::from(ErrorKind::OutOfMemory));
+        }
+        let count = bytes.len().min(room);
+        self.extend_from_slice(&bytes[..count]).unwrap();
+        Ok(count)
+    }
+
+    fn flush_all(&mut self) -> io::Result<()> {
+        Ok(())
     }
 }

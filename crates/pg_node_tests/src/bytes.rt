@@ -1,6 +1,6 @@
 //! Nodes over bytes: what moves between two of them, and what damages a link.
 
-use crate::links::{Pair, link_to, take, two_alone, two_of_three};
+use crate::links::{Pair, link_to, lose, read, take, two_alone, two_of_three};
 use crate::nodes::{Sight, sees};
 use crate::texts::{body_of, command_of, has_answered};
 use crate::verdicts::holds;
@@ -20,6 +20,10 @@ enum Part<'a> {
     Told,
     /// The first node takes a packet of a peer: refused by this fault, or by none.
     Take(usize, Option<u8>),
+    /// The first node reads a packet of a peer, which stays: refused by this fault, or by none.
+    Read(usize, Option<u8>),
+    /// The first node sees the loss of a peer, whose clock was this at last: refused by this fault, or by none.
+    Lose(usize, u32, Option<u8>),
     /// The bytes of a packet come to the first node from a peer: refused by this fault, or by none.
     Heard(usize, &'a str, Option<u8>),
     /// Whether the link of the first node to a peer is damaged.
@@ -85,6 +89,8 @@ fn is_part(alloc: Global, pair: &mut Pair, part: &Part<'_>, case: Case<'_>) -> b
         Part::Fed(fault) => pair.feed(0, case.1) == *fault,
         Part::Told => take(&mut pair.one, 0) == Some(case.0),
         Part::Take(peer, fault) => take(&mut pair.one, *peer) == *fault,
+        Part::Read(peer, fault) => read(&mut pair.one, *peer) == *fault,
+        Part::Lose(peer, last, fault) => lose(&mut pair.one, *peer, *last) == *fault,
         Part::Heard(peer, text, fault) => feed_packet(alloc, pair, *peer, text) == *fault,
         Part::Damaged(peer, is) => link_to(&pair.one, *peer).1 == *is,
         Part::Create => gives(alloc, pair, "create a 7"),
@@ -304,6 +310,56 @@ fn unwelcome_packets_damage_their_link(rt: HostRuntime) {
             two_of_three(&rt, rt.alloc()),
             parts,
             NO_CASE,
+        );
+    }
+}
+
+const NODE_LOST: Option<u8> = Some(19);
+
+// Of a peer whose loss was seen nothing comes in, is read or is taken, and that changes nothing; the other peer is heard. The loss is not
+// seen while a whole frame is left.
+static LOST: &[Part<'static>] = &[
+    Part::Heard(0, EXCHANGE, None),
+    Part::Read(0, None),
+    Part::Lose(0, 4, Some(29)),
+    Part::Take(0, None),
+    Part::Waits(true, 33),
+    Part::Lose(0, 4, None),
+    Part::Waits(true, 0),
+    Part::Seen(true, Sight::Clock(5)),
+    Part::Take(0, NODE_LOST),
+    Part::Read(0, NODE_LOST),
+    Part::Fed(NODE_LOST),
+    Part::Lose(0, 9, NODE_LOST),
+    Part::Damaged(0, false),
+    Part::Seen(true, Sight::Lost(0)),
+    Part::Seen(true, Sight::Clock(5)),
+    Part::Moves(false, 64, 1),
+    Part::Seen(true, Sight::Formed(true)),
+];
+
+// The loss is told before the damage of the link.
+static LOST_DAMAGED: &[Part<'static>] = &[
+    Part::Fed(None),
+    Part::Told,
+    Part::Read(0, Some(14)),
+    Part::Lose(0, 4, None),
+    Part::Take(0, NODE_LOST),
+    Part::Read(0, NODE_LOST),
+    Part::Fed(NODE_LOST),
+    Part::Lose(0, 4, NODE_LOST),
+    Part::Damaged(0, true),
+];
+
+#[test]
+fn nothing_comes_of_the_lost(rt: HostRuntime) {
+    for parts in [LOST, LOST_DAMAGED] {
+        play(
+            &rt,
+            rt.alloc(),
+            two_of_three(&rt, rt.alloc()),
+            parts,
+            (1, &[0, 0, 0, 2, 131, 97]),
         );
     }
 }

@@ -69,6 +69,7 @@ static DENIED: Table<'static> = Table {
         Row::Told(Event::Take(1, "{3,{reply,#<a/1.1.0.0>,false}}")),
         Row::Did(Deed::Sends(0)),
         Row::Seen(Sight::Waiting(1)),
+        Row::Seen(Sight::Waits(1, false)),
         Row::Told(Event::Retry(1)),
         Row::Did(Deed::SendsTo(1)),
         Row::Did(Deed::CallsBut(1)),
@@ -170,15 +171,35 @@ fn refused_commands(rt: HostRuntime) {
     check(&rt, rt.alloc(), &COMMANDS);
 }
 
+// The greatest node is lost, whose answer alone was missing: the command waits, and its retry goes on from what was gathered, so that the
+// own node is asked and the other peer.
+static READY: Table<'static> = Table {
+    kind: Kind::Formed(Who::A),
+    rows: &[
+        Row::Told(Event::Command("delete a 7")),
+        Row::Seen(Sight::Waiting(0)),
+        Row::Told(Event::Loss(1, 4)),
+        Row::Seen(Sight::Waits(1, true)),
+        Row::Told(Event::Retry(1)),
+        Row::Seen(Sight::Open(1)),
+    ],
+};
+
+#[test]
+fn lost_answer_makes_ready(rt: HostRuntime) {
+    check(&rt, rt.alloc(), &READY);
+}
+
 // The 257th command that is open at once is refused, and one that is answered at once is not.
 static BUSY: Table<'static> = Table {
     kind: Kind::Formed(Who::A),
     rows: &[
-        Row::Often(256, Event::Command("delete a 7")),
+        Row::Creates(256),
         Row::Seen(Sight::Open(256)),
-        Row::Asked("delete a 7", "a 257 refused 22"),
+        Row::Asked("create a 7000", "a 257 refused 22"),
         Row::Seen(Sight::Open(256)),
-        Row::Asked("make a", "a 258 <a.1.0>"),
+        Row::Asked("join a 7001 <a.1.0>", "a 258 {error,{no_such_group,7001}}"),
+        Row::Asked("make a", "a 259 <a.1.0>"),
     ],
 };
 

@@ -94,6 +94,34 @@ pub fn take(node: &mut Linked, peer: usize) -> Option<u8> {
     }
 }
 
+/// Reads the next packet of a peer, if it is whole: the number of the fault, if there is one.
+pub fn read(node: &mut Linked, peer: usize) -> Option<u8> {
+    if peer >= node.state().peer_count() {
+        return NO_PLACE;
+    }
+    match node.next(peer) {
+        Ok(packet) => {
+            drop(packet);
+            None
+        }
+        Err(fault) => Some(fault.number()),
+    }
+}
+
+/// Sees the loss of a peer, whose clock was this at last: the number of the fault, if there is one.
+pub fn lose(node: &mut Linked, peer: usize, last: u32) -> Option<u8> {
+    if peer >= node.state().peer_count() {
+        return NO_PLACE;
+    }
+    match node.see_loss(peer, last) {
+        Ok(done) => {
+            drop(done);
+            None
+        }
+        Err(fault) => Some(fault.number()),
+    }
+}
+
 /// How many bytes go out to a peer and were not put, and whether the link to it is damaged.
 pub fn link_to(node: &Linked, peer: usize) -> (usize, bool) {
     if peer < node.state().peer_count() {

@@ -9,6 +9,7 @@ use crate::told::{Event, happens};
 use pg_group::GroupTable;
 use pg_index::IndexTable;
 use pg_node::{NodeConfig, NodeState};
+use pg_step::OpId;
 use pg_term::{Atom, Term};
 use pg_text::read_pid;
 use std::alloc::{AllocError, Global};
@@ -184,6 +185,8 @@ pub enum Sight<'a> {
     Open(usize),
     /// So many commands wait for a retry.
     Waiting(usize),
+    /// The command of this number waits for a retry, and no other does. Whether it is ready.
+    Waits(u32, bool),
     /// So many answers were given.
     Answers(usize),
     Clock(u32),
@@ -213,6 +216,18 @@ fn waiting(node: &State) -> Option<usize> {
     }
 }
 
+// Whether the command of this number waits, and no other.
+fn is_the_one(node: &State, number: u32) -> Option<bool> {
+    match node.waiting() {
+        Ok(ops) => {
+            let is_the_one = ops.as_slice() == [OpId { port: 0, number }].as_slice();
+            drop(ops);
+            Some(is_the_one)
+        }
+        Err(AllocError) => None,
+    }
+}
+
 fn counted(alloc: Global, node: &State, process: &str) -> Option<u64> {
     match read_pid(alloc, process) {
         Ok(pid) => {
@@ -234,6 +249,9 @@ fn seen(alloc: Global, node: &State, sight: Sight<'_>) -> Option<bool> {
         Sight::Locked(is) => Some(has_group(node).1 == is),
         Sight::Open(count) => Some(node.open_count() == count),
         Sight::Waiting(count) => Some(waiting(node)? == count),
+        Sight::Waits(number, ready) => Some(
+            is_the_one(node, number)? && node.is_ready(OpId { port: 0, number }) == ready,
+        ),
         Sight::Answers(count) => Some(node.port_count() == 1 && node.answers(0).len() == count),
         Sight::Clock(clock) => Some(node.clock() == clock),
         Sight::Lost(peer) => Some(peer < node.peer_count() && node.is_lost(peer)),

@@ -20,6 +20,8 @@ pub enum Row<'a> {
     Asked(&'a str, &'a str),
     /// The event happens so many times.
     Often(u32, Event<'a>),
+    /// So many groups of different names are to be created.
+    Creates(u32),
     /// The event is refused, and changes nothing.
     Refused(Event<'a>, Refusal),
     /// The first node alone is told a command, or the other, and whether both are the same then.
@@ -64,6 +66,14 @@ struct Twins {
     other: State,
     // What the last event did.
     did: Did,
+}
+
+// The command that creates the group of a number, made a second time where memory was refused.
+fn create_line(alloc: Global, number: u32) -> Option<String> {
+    match format!(in alloc; "create a {number}") {
+        Ok(line) => Some(line),
+        Err(_) => format!(in alloc; "create a {number}").ok(),
+    }
 }
 
 // A node, made a second time where memory was refused.
@@ -128,6 +138,24 @@ impl Twins {
         true
     }
 
+    // Whether both take the commands that create so many groups of different names.
+    fn create(&mut self, alloc: Global, count: u32) -> bool {
+        for number in 1..=count {
+            let told = match create_line(alloc, number) {
+                Some(line) => {
+                    let told = self.tell(alloc, 1, Event::Command(line.as_str()));
+                    drop(line);
+                    told
+                }
+                None => false,
+            };
+            if !told {
+                return false;
+            }
+        }
+        true
+    }
+
     // Whether the event is refused so at both, which are the same then.
     fn refuse(&mut self, alloc: Global, event: Event<'_>, refusal: Refusal) -> bool {
         let wanted = Some(NodeFault::Refused(refusal));
@@ -168,6 +196,7 @@ impl Twins {
         match row {
             Row::Told(event) => self.tell(alloc, 1, *event),
             Row::Often(times, event) => self.tell(alloc, *times, *event),
+            Row::Creates(count) => self.create(alloc, *count),
             Row::Asked(line, answer) => {
                 self.tell(alloc, 1, Event::Command(line)) && has_answered(alloc, &self.one, answer)
             }

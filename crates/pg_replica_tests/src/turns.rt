@@ -205,6 +205,37 @@ fn is_held(alloc: Global, turns: Turns<'_>, input: &[u8], calls: usize) -> bool 
     goes(alloc, turns, &mut reader, run)
 }
 
+// Whether the replies to all that came before the last read were flushed by then, where the input comes 7 bytes a read and the writer is
+// called so often.
+fn is_out_before(alloc: Global, turns: Turns<'_>, input: &[u8], calls: usize) -> bool {
+    let mut reader = AnyReader {
+        reader: Pieces {
+            text: input,
+            first: 7,
+            next: 7,
+            reads_left: usize::MAX,
+        },
+    };
+    let mut writer = AnyWriter {
+        writer: Sheet::new(alloc, calls),
+    };
+    let got = served(alloc, "b", "a", &mut reader, &mut writer);
+    let read = input.len().saturating_sub(reader.reader.text.len());
+    let is_out = writer.writer.flushed >= answered_len(turns, read.saturating_sub(7));
+    drop(writer);
+    is_out && (got == WRITE_FAULT || got == DONE)
+}
+
+// Whether as much is served into memory as is answered.
+fn is_kept(alloc: Global, turns: Turns<'_>, input: &[u8], len: usize) -> bool {
+    let (mut reader, _) = input.split_at(len.min(input.len()));
+    let mut writer = Vec::new(alloc);
+    let got = served(alloc, "b", "a", &mut reader, &mut writer);
+    let is_kept = are_first(turns, writer.as_slice(), answered_len(turns, len));
+    drop(writer);
+    is_kept && got == fault_after(turns, len)
+}
+
 // Where an input is cut, or fails.
 #[derive(Clone, Copy)]
 enum Part {
@@ -218,15 +249,20 @@ enum Part {
     Bytes,
     // The writer is called so often.
     Writes,
+    // The writer is called so often, and the input comes 7 bytes a read.
+    Turns,
+    // It ends after so many bytes, and is served into memory.
+    Memory,
 }
 
 // How many of these there are.
 fn count_of(turns: Turns<'_>, input: &[u8], part: Part) -> usize {
     match part {
-        Part::Prefix | Part::Piece => input.len().saturating_add(1),
+        Part::Prefix | Part::Piece | Part::Memory => input.len().saturating_add(1),
         Part::Sevens => input.len().div_ceil(7).saturating_add(2),
         Part::Bytes => input.len().saturating_add(2),
         Part::Writes => calls_of(turns).saturating_add(1),
+        Part::Turns => calls_of(turns).saturating_add(input.len().div_ceil(7)),
     }
 }
 
@@ -238,6 +274,8 @@ fn is_so(alloc: Global, turns: Turns<'_>, input: &[u8], part: Part, at: usize) -
         Part::Sevens => is_read_in(alloc, turns, input, 7, 7, at),
         Part::Bytes => is_read_in(alloc, turns, input, 1, 1, at),
         Part::Writes => is_held(alloc, turns, input, at),
+        Part::Turns => is_out_before(alloc, turns, input, at),
+        Part::Memory => is_kept(alloc, turns, input, at),
     }
 }
 
@@ -280,4 +318,15 @@ fn each_read_fails(rt: HostRuntime) {
 #[test]
 fn each_write_fails(rt: HostRuntime) {
     check(&rt, rt.alloc(), UNFORMED, Part::Writes);
+}
+
+// Wherever a write or a flush fails, no more was read before the replies to what came before were written and flushed.
+#[test]
+fn replies_are_out_before_the_next_read(rt: HostRuntime) {
+    check(&rt, rt.alloc(), UNFORMED, Part::Turns);
+}
+
+#[test]
+fn served_into_memory(rt: HostRuntime) {
+    check(&rt, rt.alloc(), FORMED, Part::Memory);
 }

@@ -11,8 +11,9 @@ use Rattle.pg_node.specs.Issued.{ports_of}
 use Rattle.pg_message.specs.declared.packet.Packet.{Packet}
 use Rattle.pg_node.specs.Bytes.{Tells, damages, marked}
 use Rattle.pg_node.specs.Links.{Link, at_link, frames_to}
-use Rattle.pg_node.specs.Nodes.{held_by, links_of, step_link, taken_of, taken_as, ComesInRoom}
+use Rattle.pg_node.specs.Nodes.{held_by, links_of, read_next, step_link, taken_of, taken_as, ComesInRoom}
 use Rattle.pg_node.specs.States.{names_of, state_of, answers_of, stamped_of, Happens, Comes}
+use Rattle.pg_node.proofs.Events.{step_read}
 use Rattle.pg_run.specs.declared.linked.LinkedNode.{LinkedNode}
 use Rattle.pg_run.specs.Acts.{Act, Standing, Leads, event_of, is_from, losses_of}
 use Rattle.pg_opens.specs.Places.{name_at, whole_in}
@@ -72,47 +73,41 @@ by_lost : (lost : Bool) (r other : Result (Option TimedTurn) NodeFault) → lost
 by_lost lost r other here same = ap (λ b. cond b (Err (Refused NodeLost)) r) here ∙ same
 
 -- the fault that was told of what came in
-pub told_next : (lost : Bool) (m : Nodes) (p : Name) (s : Timed State) (r : Result (Option Packet) NodeFault) (fault : NodeFault) → lost ≡ false → Tells r (Err fault)
-    → IsTold (cond lost (Err (Refused NodeLost)) (taken_of m p s r)) fault
-told_next lost m p s r OutOfMemory here told = tt
-told_next lost m p s (Ok (Some packet)) (Refused other) here told = absurd (cc)
-told_next lost m p s (Ok (Some packet)) (Message other) here told = absurd (cc)
-told_next lost m p s (Ok (Some packet)) TooLong here told = absurd (cc)
-told_next lost m p s (Ok (Some packet)) Damaged here told = absurd (cc)
-told_next lost m p s (Ok None) (Refused other) here told = absurd (cc)
-told_next lost m p s (Ok None) (Message other) here told = absurd (cc)
-told_next lost m p s (Ok None) TooLong here told = absurd (cc)
-told_next lost m p s (Ok None) Damaged here told = absurd (cc)
-told_next lost m p s (Err (Refused x)) (Refused other) here told = by_lost lost (Err (Refused x)) (Err (Refused other)) here (cc)
-told_next lost m p s (Err (Refused x)) (Message other) here told = absurd (cc)
-told_next lost m p s (Err (Refused x)) TooLong here told = absurd (cc)
-told_next lost m p s (Err (Refused x)) Damaged here told = absurd (cc)
-told_next lost m p s (Err (Message x)) (Refused other) here told = absurd (cc)
-told_next lost m p s (Err (Message x)) (Message other) here told = by_lost lost (Err (Message x)) (Err (Message other)) here (cc)
-told_next lost m p s (Err (Message x)) TooLong here told = absurd (cc)
-told_next lost m p s (Err (Message x)) Damaged here told = absurd (cc)
-told_next lost m p s (Err TooLong) (Refused other) here told = absurd (cc)
-told_next lost m p s (Err TooLong) (Message other) here told = absurd (cc)
-told_next lost m p s (Err TooLong) TooLong here told = by_lost lost (Err TooLong) (Err TooLong) here refl
-told_next lost m p s (Err TooLong) Damaged here told = absurd (cc)
-told_next lost m p s (Err Damaged) (Refused other) here told = absurd (cc)
-told_next lost m p s (Err Damaged) (Message other) here told = absurd (cc)
-told_next lost m p s (Err Damaged) TooLong here told = absurd (cc)
-told_next lost m p s (Err Damaged) Damaged here told = by_lost lost (Err Damaged) (Err Damaged) here refl
-told_next lost m p s (Err OutOfMemory) (Refused other) here told = absurd (cc)
-told_next lost m p s (Err OutOfMemory) (Message other) here told = absurd (cc)
-told_next lost m p s (Err OutOfMemory) TooLong here told = absurd (cc)
-told_next lost m p s (Err OutOfMemory) Damaged here told = absurd (cc)
+pub told_next : (m : Nodes) (p : Name) (s : Timed State) (r : Result (Option Packet) NodeFault) (fault : NodeFault) → Tells r (Err fault)
+    → IsTold (taken_of m p s r) fault
+told_next m p s r OutOfMemory told = tt
+told_next m p s (Ok (Some packet)) (Refused other) told = absurd (cc)
+told_next m p s (Ok (Some packet)) (Message other) told = absurd (cc)
+told_next m p s (Ok (Some packet)) TooLong told = absurd (cc)
+told_next m p s (Ok (Some packet)) Damaged told = absurd (cc)
+told_next m p s (Ok None) (Refused other) told = absurd (cc)
+told_next m p s (Ok None) (Message other) told = absurd (cc)
+told_next m p s (Ok None) TooLong told = absurd (cc)
+told_next m p s (Ok None) Damaged told = absurd (cc)
+told_next m p s (Err (Refused x)) (Refused other) told = cc
+told_next m p s (Err (Refused x)) (Message other) told = absurd (cc)
+told_next m p s (Err (Refused x)) TooLong told = absurd (cc)
+told_next m p s (Err (Refused x)) Damaged told = absurd (cc)
+told_next m p s (Err (Message x)) (Refused other) told = absurd (cc)
+told_next m p s (Err (Message x)) (Message other) told = cc
+told_next m p s (Err (Message x)) TooLong told = absurd (cc)
+told_next m p s (Err (Message x)) Damaged told = absurd (cc)
+told_next m p s (Err TooLong) (Refused other) told = absurd (cc)
+told_next m p s (Err TooLong) (Message other) told = absurd (cc)
+told_next m p s (Err TooLong) TooLong told = refl
+told_next m p s (Err TooLong) Damaged told = absurd (cc)
+told_next m p s (Err Damaged) (Refused other) told = absurd (cc)
+told_next m p s (Err Damaged) (Message other) told = absurd (cc)
+told_next m p s (Err Damaged) TooLong told = absurd (cc)
+told_next m p s (Err Damaged) Damaged told = refl
+told_next m p s (Err OutOfMemory) (Refused other) told = absurd (cc)
+told_next m p s (Err OutOfMemory) (Message other) told = absurd (cc)
+told_next m p s (Err OutOfMemory) TooLong told = absurd (cc)
+told_next m p s (Err OutOfMemory) Damaged told = absurd (cc)
 
--- what was read is what is told
-pub told_ok : (r : Result (Option Packet) NodeFault) (next : Option Packet) → Tells r (Ok next) → r ≡ Ok next
-told_ok (Ok (Some packet)) next told = sym told
-told_ok (Ok None) next told = sym told
-told_ok (Err (Refused x)) next told = sym told
-told_ok (Err (Message x)) next told = sym told
-told_ok (Err TooLong) next told = sym told
-told_ok (Err Damaged) next told = sym told
-told_ok (Err OutOfMemory) next told = sym told
+-- the same of what should be read, of a peer whose loss was seen or not
+pub told_reading : (m : Nodes) (p : Name) (link : Link) (s : Timed State) (fault : NodeFault) → Tells (read_next (s.state.lost p) link) (Err fault) → IsTold (step_link m p link s) fault
+told_reading m p link s fault told = subst (λ r. IsTold r fault) (sym (step_read m p link s)) (told_next m p s (read_next (s.state.lost p) link) fault told)
 
 -- the fault of a packet that was read
 pub told_read : (lost : Bool) (m : Nodes) (p : Name) (s : Timed State) (r : Result (Option Packet) NodeFault) (packet : Packet) (fault : NodeFault) → lost ≡ false → r ≡ Ok (Some packet)

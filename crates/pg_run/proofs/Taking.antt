@@ -276,9 +276,3 @@ module _ {T : Type 0} {g : Ghosts T} (peer : ℕ) where
       → IfErr r (λ fault. IsTold (told_of_peer n peer) fault)
   told_err (Ok took) n m e f told = tt
   told_err (Err fault) n m e f told = subst (λ t. IsTold t fault) (told_same n m e f) told
-
--- whether a peer is lost goes by the node over packets
-pub lost_at : {T : Type 0} {g : Ghosts T} (peer : ℕ) (seen held : NodeState T g) → seen ≡ held → (lost : Bool) → lost ≡ (kept_by seen).lost (name_at (names_of seen) (peer + 1)) → lost ≡ false
-    → (kept_by held).lost (name_at (names_of held) (peer + 1)) ≡ false
-lost_at {T} {g} peer seen held same lost is here =
-    ap (λ (s : NodeState T g). (kept_by s).lost (name_at (names_of s) (peer + 1))) (sym same) ∙ (sym is ∙ here)

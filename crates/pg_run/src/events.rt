@@ -8,7 +8,7 @@ use pg_group::GroupTable;
 use pg_message::Packet;
 use pg_node::NodeFault;
 use pg_ring::{Inlet, Link};
-use pg_step::{Command, OpId, Refusal};
+use pg_step::{Command, OpId};
 
 impl<T: GroupTable + Drop, L: Link + Drop, I: Inlet + Drop> LinkedNode<T, L, I> {
     ghost use Rattle.pg_message.specs.Members.{IsShort};
@@ -35,9 +35,6 @@ impl<T: GroupTable + Drop, L: Link + Drop, I: Inlet + Drop> LinkedNode<T, L, I> 
     {
         if self.log.reserve(1).is_err() {
             return Err(NodeFault::OutOfMemory);
-        }
-        if self.node.state().is_lost(peer) {
-            return Err(NodeFault::Refused(Refusal::NodeLost));
         }
         match self.node.next(peer) {
             Ok(next) => {

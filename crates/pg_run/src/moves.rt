@@ -8,8 +8,9 @@ use pg_node::NodeFault;
 use pg_ring::{Inlet, Link};
 
 impl<T: GroupTable + Drop, L: Link + Drop, I: Inlet + Drop> LinkedNode<T, L, I> {
-    ghost use Rattle.pg_node.specs.declared.state.fault.NodeFault.TheVariants.{Damaged, OutOfMemory};
-    ghost use Rattle.pg_node.specs.Nodes.{links_of};
+    ghost use Rattle.pg_step.specs.declared.refusal.Refusal.TheVariants.{NodeLost};
+    ghost use Rattle.pg_node.specs.declared.state.fault.NodeFault.TheVariants.{Refused, Damaged, OutOfMemory};
+    ghost use Rattle.pg_node.specs.Nodes.{held_by, links_of, has_lost};
     ghost use Rattle.pg_run.specs.Follows.{Follows, node_of, peers_of};
 
     /// Moves what waits for a peer into the link to it, as much as that takes, and returns how many bytes. `peer`: its place
@@ -26,13 +27,16 @@ impl<T: GroupTable + Drop, L: Link + Drop, I: Inlet + Drop> LinkedNode<T, L, I> 
     /// Adds what the inlet from a peer gives to what came in from it, and returns how many bytes: up to `max`, and up to 65,536.
     /// `peer`: its place among the peers. O(bytes moved), and at times that of the bytes that were not taken yet.
     ///
-    /// Faults, by which nothing moves: `Damaged`, exactly where the link is damaged; else `OutOfMemory`.
+    /// Faults, by which nothing moves, the first that holds: `Refused` by `NodeLost`, exactly where the loss of the peer was seen;
+    /// `Damaged`, exactly where the link is damaged; else `OutOfMemory`.
     pub fn pull(&mut self, peer: usize, max: usize) -> Result<usize, NodeFault>
         requires place { peer < length (peers_of self.old) }
         ensures follows { Follows L.accepts I.gives [] self.old self.new }
         ensures within { IfOk result (λ count. (count ≤ max) × (count ≤ 65536)) }
-        ensures damaged { (links_of (node_of self.old) peer).damaged ≡ true → result ≡ Err Damaged }
-        ensures memory { (links_of (node_of self.old) peer).damaged ≡ false → IfErr result (λ fault. fault ≡ OutOfMemory) }
+        ensures lost { has_lost (held_by (node_of self.old)) peer ≡ true → result ≡ Err (Refused NodeLost) }
+        ensures damaged { has_lost (held_by (node_of self.old)) peer ≡ false → (links_of (node_of self.old) peer).damaged ≡ true → result ≡ Err Damaged }
+        ensures memory { has_lost (held_by (node_of self.old)) peer ≡ false → (links_of (node_of self.old) peer).damaged ≡ false
+            → IfErr result (λ fault. fault ≡ OutOfMemory) }
     {
         let links = &mut self.peers[peer];
         self.node.pull(peer, &mut links.inlet, max)

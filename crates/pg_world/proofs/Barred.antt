@@ -28,17 +28,13 @@ use Rattle.pg_world.specs.declared.step.FrameStep.{FrameStep}
 use Rattle.pg_world.specs.declared.step.FrameStep.TheVariants as steps
 use Rattle.pg_world.specs.declared.step.Stepped.{Stepped}
 use Rattle.pg_world.specs.declared.step.Stepped.TheVariants.{Happened, Moved, Nothing, Gone}
-use Rattle.pg_world.specs.Losing.{notices, losing_of, ShowsLosing, seen_at, is_cut_off, is_barred, none_sent, first_refusal, take_refusal, own_refusal, keep_of, Telling, told_take, told_own, told_of, LosingLed, LosingComesTo}
+use Rattle.pg_world.specs.Losing.{notices, losing_of, SeenAreLost, ShowsLosing, seen_at, is_cut_off, is_barred, none_sent, first_refusal, take_refusal, own_refusal, keep_of, Telling, told_take, told_own, told_of, LosingLed, LosingComesTo}
 use Rattle.pg_world.specs.Losses.{is_lost}
 use Rattle.pg_world.specs.Views.{Seen, View, peer_place}
 use Rattle.pg_world.specs.Worlds.{TimedFrameWorld, ShowsNodes, ShowsNode, Shows, ComesTo, has_port, has_places, told, told_of_first}
 use Rattle.pg_world.proofs.Lossy.{lifted, lost_kept}
 use Rattle.pg_world.proofs.Peering.{lt_false, peer_name, named, there_and_back}
 use Rattle.pg_world.proofs.Turning.{pair_is}
-
--- who has seen the loss of a node has seen it of one that is lost
-abbrev pub SeenAreLost : Config → TimedFrameWorld → List ℕ → Type 0
-SeenAreLost config w lost = (i p : ℕ) → is_pair (length config) i p ≡ true → (w.node i).state.lost (name_at config p) ≡ true → is_lost lost p ≡ true
 
 both_if : (a b : Bool) → (b ≡ true → a ≡ true) → (a && b) ≡ b
 both_if true b h = refl
@@ -75,6 +71,12 @@ module _ (config : Config) (nodes : List Seen) (w : TimedFrameWorld) (lost : Lis
       go : ((x : Seen) × (i < length nodes) × (slice_get nodes i ≡ Some x) × (get_or nodes i x ≡ x)) ⊎ ((length nodes ≤ i) × (slice_get nodes i ≡ None)) → seen_at nodes i p ≡ (w.node i).state.lost (name_at config p)
       go (inl r) = seen_so i p pair r.0 r.2
       go (inr r) = let l = (pair_is (length config) i p pair).0 in absurd (omega (arith, l, r.0, shows.size))
+
+  -- who has not seen it there has not seen it by what it keeps
+  pub unseen_by : (i p : ℕ) (node : Seen) → is_pair (length config) i p ≡ true → slice_get nodes i ≡ Some node → (w.node i).state.lost (name_at config p) ≡ false
+      → node.state.state.lost (place_name node.names (peer_place i p + 1)) ≡ false
+  unseen_by i p node pair at unseen =
+      sym (ap (λ o. option_map_or (λ (n : Seen). n.state.state.lost (place_name n.names (peer_place i p + 1))) o false) at) ∙ (seen_so i p pair node at ∙ unseen)
 
   pub port_is : (i port : ℕ) → has_port nodes i port ≡ (is_place (length config) i && nat_lt port (ports_at config i))
   port_is i port = go (slice_get_cases nodes i).1

@@ -27,7 +27,7 @@ use Rattle.pg_node.specs.declared.state.fault.NodeFault.{NodeFault}
 use Rattle.pg_node.specs.declared.state.fault.NodeFault.TheVariants.{Refused, OutOfMemory, Message as BadMessage, TooLong as FrameTooLong, Damaged}
 use Rattle.pg_node.specs.Bytes.{Tells, damages, marked, packet_in, packet_at, next_packet}
 use Rattle.pg_node.specs.Links.{Link, at_link, AreSmallFrames}
-use Rattle.pg_node.specs.Nodes.{ComesInRoom}
+use Rattle.pg_node.specs.Nodes.{read_next, ComesInRoom}
 use Rattle.pg_node.specs.Sendable.{AreSendable}
 use Rattle.pg_node.specs.States.{stamped_of, Comes}
 use Rattle.pg_world.specs.declared.step.Stepped.TheVariants.{Happened}
@@ -236,6 +236,11 @@ tells_ok (Err (Refused other)) some h = sym h
 tells_ok (Err OutOfMemory) some h = sym h
 tells_ok (Err FrameTooLong) some h = sym h
 tells_ok (Err Damaged) some h = sym h
+
+-- what was read is the next packet
+pub read_ok : (lost : Bool) (link : Link) (some : Option Packet) → Tells (read_next lost link) (Ok some) → next_packet link ≡ Ok some
+read_ok true link some told = absurd (cc)
+read_ok false link some told = tells_ok (next_packet link) some told
 
 -- what can be read is refused only where memory runs out
 pub only_memory : (o : Option Packet) (fault : NodeFault) → Tells (Ok o) (Err fault) → fault ≡ OutOfMemory

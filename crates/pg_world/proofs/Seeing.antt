@@ -26,11 +26,11 @@ use Rattle.pg_node.specs.declared.state.NodeState.{NodeState}
 use Rattle.pg_node.specs.States.{names_of as names_of_state, Comes, Happens, step_see_loss}
 use Rattle.pg_world.specs.declared.outgoing.Outgoing.{Outgoing}
 use Rattle.pg_world.specs.declared.step.Stepped.TheVariants.{Happened}
-use Rattle.pg_world.specs.Losing.{notices, losing_of, is_cut_off, told_sight, ShowsLosing, LosingComesTo}
+use Rattle.pg_world.specs.Losing.{SeenAreLost, notices, losing_of, is_cut_off, told_sight, ShowsLosing, LosingComesTo}
 use Rattle.pg_world.specs.Losses.{is_lost}
 use Rattle.pg_world.specs.Views.{Seen, View, IsWhole, seen_of, ways_of, traffic_in, peer_place, on_the_way}
 use Rattle.pg_world.specs.Worlds.{TimedFrameWorld, ShowsNode, ShowsNodes}
-use Rattle.pg_world.proofs.Barred.{SeenAreLost, cut_is, pair_here}
+use Rattle.pg_world.proofs.Barred.{cut_is, pair_here}
 use Rattle.pg_world.proofs.Peering.{peer_name, named, there_and_back}
 use Rattle.pg_world.proofs.Sighted.{sight, sight_clock, sighted, same_wire, seen_then, sight_happens, nodes_sighted, updates_sighted}
 use Rattle.pg_world.proofs.Turning.{pair_is, pair_turned}

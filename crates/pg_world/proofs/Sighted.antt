@@ -31,11 +31,10 @@ use Rattle.pg_step.specs.Turns.{Report, NodeTurn}
 use Rattle.pg_opens.proofs.Named.{atom_self, names_differ}
 use Rattle.pg_node.specs.declared.state.done.Done.{Done}
 use Rattle.pg_node.specs.States.{Happens, step_see_loss}
-use Rattle.pg_world.specs.Losing.{notices, losing_of, ShowsLosing, LosingLed}
+use Rattle.pg_world.specs.Losing.{SeenAreLost, notices, losing_of, ShowsLosing, LosingLed}
 use Rattle.pg_world.specs.Losses.{is_lost}
 use Rattle.pg_world.specs.Views.{Seen, Account}
 use Rattle.pg_world.specs.Worlds.{TimedFrameWorld, ShowsNodes, ShowsUpdates}
-use Rattle.pg_world.proofs.Barred.{SeenAreLost}
 use Rattle.pg_world.proofs.Lossy.{no_notice}
 use Rattle.pg_world.proofs.Peering.{named}
 use Rattle.pg_world.proofs.Recording.{Records, records_so, updates_after, grew_own, none_of}

@@ -19,11 +19,10 @@ use Rattle.pg_step.specs.LossLaws.{LosingFrameWorld}
 use Rattle.pg_step.specs.Nodes.{Node}
 use Rattle.pg_step.specs.State.{State}
 use Rattle.pg_step.specs.Turns.{Report}
-use Rattle.pg_world.specs.Losing.{notices, losing_of, keep_of, loss_refusal}
+use Rattle.pg_world.specs.Losing.{SeenAreLost, notices, losing_of, keep_of, loss_refusal}
 use Rattle.pg_world.specs.Losses.{is_lost}
 use Rattle.pg_world.specs.Views.{Seen, View, Account, CanStay, peer_place, place_of_peer, on_the_way}
 use Rattle.pg_world.specs.Worlds.{TimedFrameWorld, Shows, ShowsNodes, ShowsUpdates}
-use Rattle.pg_world.proofs.Barred.{SeenAreLost}
 use Rattle.pg_world.proofs.Lossy.{no_notice}
 use Rattle.pg_world.proofs.Peering.{peer_low, peer_high, place_low, place_high, own_place, place_within}
 use Rattle.pg_world.proofs.Turning.{pair_is, is_pair_so, pair_turned, way_at}

@@ -18,7 +18,7 @@ use Rattle.pg_world.specs.declared.step.Step.TheVariants as steps
 use Rattle.pg_world.specs.declared.step.Stepped.{Stepped}
 use Rattle.pg_world.specs.declared.step.Stepped.TheVariants.{Nothing, Moved, Gone}
 use Rattle.pg_world.specs.Crossings.{Crossing, ShowsBytesPast}
-use Rattle.pg_world.specs.Losing.{Telling, losing_of, told_take, told_own, told_sight, LosingLed, LosingComesTo}
+use Rattle.pg_world.specs.Losing.{SeenAreLost, Telling, losing_of, told_take, told_own, told_sight, LosingLed, LosingComesTo}
 use Rattle.pg_world.specs.Losses.{is_lost}
 use Rattle.pg_world.specs.Views.{Account}
 use Rattle.pg_world.specs.Worlds.{TimedFrameWorld}
@@ -30,8 +30,7 @@ use Rattle.pg_world.specs.Worlds.{TimedFrameWorld}
 pub record ShowsLosingBytes (config : Config) (crossing : Crossing) (account : Account) (lost : List ℕ) (u : LosingFrameWorld) : Type 0 where
   pub frames : TimedFrameWorld
   pub shows : ShowsBytesPast config lost crossing account frames
-  -- who has seen the loss of a node has seen it of one that is lost
-  pub seen : (i p : ℕ) → is_pair (length config) i p ≡ true → (frames.node i).state.lost (name_at config p) ≡ true → is_lost lost p ≡ true
+  pub seen : SeenAreLost config frames lost
   pub is : u ≡ losing_of config frames lost
 
 -- a world with losses that events lead to from the start

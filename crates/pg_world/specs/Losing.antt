@@ -48,12 +48,15 @@ losing_of config w lost = record {
   gone = is_lost lost;
 }
 
+-- who has seen the loss of a node has seen it of one that is lost
+abbrev pub SeenAreLost : Config → TimedFrameWorld → List ℕ → Type 0
+SeenAreLost config w lost = (i p : ℕ) → is_pair (length config) i p ≡ true → (w.node i).state.lost (name_at config p) ≡ true → is_lost lost p ≡ true
+
 -- Nodes and what is on the way between them, of which these are lost, are those of a world with losses.
 pub record ShowsLosing (config : Config) (view : View) (lost : List ℕ) (u : LosingFrameWorld) : Type 0 where
   pub frames : TimedFrameWorld
   pub shows : Shows config view frames
-  -- who has seen the loss of a node has seen it of one that is lost
-  pub seen : (i p : ℕ) → is_pair (length config) i p ≡ true → (frames.node i).state.lost (name_at config p) ≡ true → is_lost lost p ≡ true
+  pub seen : SeenAreLost config frames lost
   pub is : u ≡ losing_of config frames lost
 
 -- ---- what a world knows of its losses

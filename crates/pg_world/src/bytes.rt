@@ -56,7 +56,7 @@ impl<T: GroupTable + Drop> World<T> {
     ghost use Rattle.pg_machine.specs.Places.{is_pair};
     ghost use Rattle.pg_history.specs.History.{LockFree};
     ghost use Rattle.pg_machine.specs.Machine.{Take, Do};
-    ghost use Rattle.pg_step.specs.Config.{Config};
+    ghost use Rattle.pg_step.specs.Config.{Config, name_at};
     ghost use Rattle.pg_step.specs.Step.{Issue, Retry};
     ghost use Rattle.pg_message.specs.Members.{IsShort};
     ghost use Rattle.pg_node.specs.Bytes.{next_packet};
@@ -64,7 +64,7 @@ impl<T: GroupTable + Drop> World<T> {
     ghost use Rattle.pg_step.specs.LossLaws.{LosingFrameWorld};
     ghost use Rattle.pg_world.specs.BytesLosing.{IsReachedLosing, ShowsLosingBytes, MoveLeaves, EventLeaves, StepLeaves};
     ghost use Rattle.pg_world.specs.Losses.{lost_in, is_lost};
-    ghost use Rattle.pg_world.specs.Losing.{lost_after};
+ghost use Rattle.pg_world.specs.Losing.{SeenAreLost, lost_after};
     ghost use Rattle.pg_world.specs.Bars.{IsHeld, StepTellsUndrained, TellsUndrained, put_bar, pull_bar, event_bar, bar_of, bytes_lost_after};
     ghost use Rattle.pg_world.specs.Worlds.{has_port, has_places, TimedFrameWorld};
     ghost use Rattle.pg_world.specs.Views.{no_account};
@@ -201,7 +201,7 @@ impl<T: GroupTable + Drop> World<T> {
 
     /// Up to so many bytes of what is on the ring from one node to another come there.
     fn pull(&mut self, to: usize, from: usize, max: usize) -> Result<Stepped, NodeFault>
-        ensures came { (config : Config) (w : TimedFrameWorld)
+        ensures came { (config : Config) (w : TimedFrameWorld) → SeenAreLost config w (lost_in self.old.losses)
             → ShowsBytesPast config (lost_in self.old.losses) (crossing_of self.old) (account_of self.old.histories) w
             → MoveLeaves (pull_bar (crossing_of self.old) (lost_in self.old.losses) to from) result (ShowsBytesPast config (lost_in self.old.losses) (crossing_of self.new) (account_of self.new.histories) w) }
         ensures barred { IsHeld (pull_bar (crossing_of self.old) (lost_in self.old.losses) to from) result }
@@ -221,7 +221,7 @@ impl<T: GroupTable + Drop> World<T> {
     /// The same, where both are there.
     fn pull_some(&mut self, to: usize, from: usize, max: usize) -> Result<Stepped, NodeFault>
         requires pair { is_pair (length (crossing_of self.old).nodes) from to ≡ true }
-        ensures came { (config : Config) (lost : List ℕ) (w : TimedFrameWorld)
+        ensures came { (config : Config) (lost : List ℕ) (w : TimedFrameWorld) → (w.node to).state.lost (name_at config from) ≡ false
             → ShowsBytesPast config lost (crossing_of self.old) (account_of self.old.histories) w
             → MoveLeaves None result (ShowsBytesPast config lost (crossing_of self.new) (account_of self.new.histories) w) }
         ensures lost { lost_in self.new.losses ≡ lost_in self.old.losses }
@@ -317,7 +317,7 @@ impl<T: GroupTable + Drop> World<T> {
     fn take(&mut self, node: usize, peer: usize) -> Result<Stepped, NodeFault>
         requires settled { IsSettled self.old.histories }
         requires pair { is_pair (length (crossing_of self.old).nodes) node peer ≡ true }
-        ensures event { (config : Config) (lost : List ℕ) (w : TimedFrameWorld) → is_lost lost node ≡ false → IsWelcome config w node peer
+        ensures event { (config : Config) (lost : List ℕ) (w : TimedFrameWorld) → is_lost lost node ≡ false → (w.node node).state.lost (name_at config peer) ≡ false → IsWelcome config w node peer
             → ShowsBytesPast config lost (crossing_of self.old) (account_of self.old.histories) w
             → EventComesTo config w (Take node peer) result (ShowsBytesPast config lost (crossing_of self.new) (account_of self.new.histories)) }
         ensures changes { EventChanges (crossing_of self.old) (crossing_of self.new) (Take node peer) result }

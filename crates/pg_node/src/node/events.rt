@@ -15,7 +15,7 @@ impl<T: GroupTable + Drop> Node<T> {
     ghost use Rattle.pg_opens.specs.Places.{name_at};
     ghost use Rattle.pg_step.specs.Step.{Issue, Retry, step_act, step_take};
     ghost use Rattle.pg_node.specs.Bytes.{Tells, next_packet, marked, passed, closed};
-    ghost use Rattle.pg_node.specs.Nodes.{held_by, links_of, step_link, taken_of, TakesNext, ComesInRoom, sent_out, step_lose};
+    ghost use Rattle.pg_node.specs.Nodes.{held_by, links_of, has_lost, read_next, step_link, taken_of, TakesNext, ComesInRoom, sent_out, step_lose};
     ghost use Rattle.pg_node.specs.Links.{at_link, AreSmallFrames};
     ghost use Rattle.pg_node.specs.Issued.{ports_of};
     ghost use Rattle.pg_node.specs.Sendable.{AreSendable};
@@ -43,11 +43,7 @@ impl<T: GroupTable + Drop> Node<T> {
         ensures names { names_of (held_by self.new) ≡ names_of (held_by self.old) }
         ensures ports { ports_of (held_by self.new) ≡ ports_of (held_by self.old) }
     {
-        if self.state.is_lost(peer) {
-            return Err(NodeFault::Refused(Refusal::NodeLost));
-        }
-        let wire = &mut self.wires[peer];
-        match wire.next(self.alloc) {
+        match self.next(peer) {
             Ok(next) => {
                 let taken = self.take_next(peer, &next);
                 drop(next);
@@ -61,6 +57,7 @@ impl<T: GroupTable + Drop> Node<T> {
     fn take_next(&mut self, peer: usize, next: &Option<Packet>) -> Result<Option<Done>, NodeFault>
         requires place { peer + 1 < length (names_of (held_by self.old)) }
         requires few { (packet : Packet) → next.now ≡ Some packet → IsShort (2 ^ 32) packet.message }
+        requires next { next_packet (links_of self.old peer) ≡ Ok next.now }
         ensures event { TakesNext (names_of (held_by self.old))
             (taken_of (nodes_of (held_by self.old)) (name_at (names_of (held_by self.old)) (peer + 1)) (state_of (held_by self.old)) (Ok next.now))
             result (state_of (held_by self.old)) (state_of (held_by self.new)) (answers_of (held_by self.old)) (answers_of (held_by self.new)) }
@@ -86,28 +83,33 @@ impl<T: GroupTable + Drop> Node<T> {
     /// Reads the next packet of a peer, if its frame is whole. It stays, to be taken by `take_read`. `peer`: its place among the
     /// peers.
     ///
-    /// Faults, the first that holds: `Damaged`, `TooLong` and `Message`, as `take` tells them, of which the last two damage the
-    /// link for good; `OutOfMemory` may be told in the place of a `Message`. Nothing else changes.
+    /// Faults, the first that holds: `Refused` by `NodeLost` where the loss of the peer was seen; `Damaged`, `TooLong` and
+    /// `Message`, as `take` tells them, of which the last two damage the link for good; `OutOfMemory` may be told in the place of a
+    /// `Message`. Nothing else changes.
     pub fn next(&mut self, peer: usize) -> Result<Option<Packet>, NodeFault>
         requires place { peer + 1 < length (names_of (held_by self.old)) }
-        ensures told { Tells (next_packet (links_of self.old peer)) result }
+        ensures told { Tells (read_next (has_lost (held_by self.old) peer) (links_of self.old peer)) result }
         ensures few { IfOk result (λ some. IfSome some (λ packet. IsShort (2 ^ 32) packet.message)) }
         ensures same { OnOk result (links_of self.new ≡ links_of self.old) }
         ensures marked { IfErr result (λ fault. links_of self.new ≡ at_link peer (λ l. marked l fault) (links_of self.old)) }
         ensures state { held_by self.new ≡ held_by self.old }
     {
+        if self.state.is_lost(peer) {
+            return Err(NodeFault::Refused(Refusal::NodeLost));
+        }
         let wire = &mut self.wires[peer];
         wire.next(self.alloc)
     }
 
-    /// Takes the packet that `next` has read of a peer: what the step sends stands framed in the outboxes. `peer`: its place among
-    /// the peers.
+    /// Takes the packet that `next` has read of a peer, which is the next of its link: what the step sends stands framed in the
+    /// outboxes. `peer`: its place among the peers. `packet`: that packet.
     ///
     /// Faults: those of `NodeState::take`, of which `NotAMessage` damages the link for good; `OutOfMemory` may be told in the place
     /// of each. Nothing else changes, and the frame stays.
     pub fn take_read(&mut self, peer: usize, packet: &Packet) -> Result<Done, NodeFault>
         requires place { peer + 1 < length (names_of (held_by self.old)) }
         requires few { IsShort (2 ^ 32) packet.now.message }
+        requires next { next_packet (links_of self.old peer) ≡ Ok (Some packet.now) }
         ensures event { ComesInRoom (names_of (held_by self.old))
             (step_take (nodes_of (held_by self.old)) (name_at (names_of (held_by self.old)) (peer + 1)) (stamped_of packet.now) (state_of (held_by self.old)))
             result (state_of (held_by self.new)) (answers_of (held_by self.old)) (answers_of (held_by self.new)) }

@@ -7,11 +7,13 @@ use crate::node::wire::Wire;
 use crate::state::{NodeFault, NodeState};
 use pg_group::GroupTable;
 use pg_ring::{Inlet, Link};
+use pg_step::Refusal;
 
 impl<T: GroupTable + Drop> Node<T> {
-    ghost use Rattle.pg_node.specs.declared.state.fault.NodeFault.TheVariants.{Damaged, OutOfMemory};
+    ghost use Rattle.pg_step.specs.declared.refusal.Refusal.TheVariants.{NodeLost};
+    ghost use Rattle.pg_node.specs.declared.state.fault.NodeFault.TheVariants.{Refused, Damaged, OutOfMemory};
     ghost use Rattle.pg_node.specs.Links.{at_link, with_fed, without_front};
-    ghost use Rattle.pg_node.specs.Nodes.{held_by, links_of};
+    ghost use Rattle.pg_node.specs.Nodes.{held_by, links_of, has_lost};
     ghost use Rattle.pg_node.specs.States.{names_of};
 
     /// The node over packets. It takes no memory.
@@ -55,7 +57,8 @@ impl<T: GroupTable + Drop> Node<T> {
     /// Adds what an inlet gives to the bytes that came in from a peer, and returns how many it gave: up to `max`, and up to
     /// 65,536. O(bytes moved), and at times that of the bytes that were not taken yet.
     ///
-    /// Faults, by which nothing changes: `Damaged`, exactly where the link is damaged; else `OutOfMemory`.
+    /// Faults, by which nothing changes, the first that holds: `Refused` by `NodeLost`, exactly where the loss of the peer was seen;
+    /// `Damaged`, exactly where the link is damaged; else `OutOfMemory`.
     pub fn pull<I: Inlet>(
         &mut self,
         peer: usize,
@@ -67,12 +70,16 @@ impl<T: GroupTable + Drop> Node<T> {
         ensures many { IfOk result (λ count. I.moves inlet.old (min max 65536) count) }
         ensures fed { IfOk result (λ count. (piece : List ℕ) × (length piece ≡ count) × I.gives inlet.old piece inlet.new
             × (links_of self.new ≡ at_link peer (λ l. with_fed l piece) (links_of self.old))) }
-        ensures damaged { (links_of self.old peer).damaged ≡ true → result ≡ Err Damaged }
-        ensures memory { (links_of self.old peer).damaged ≡ false → IfErr result (λ fault. fault ≡ OutOfMemory) }
+        ensures lost { has_lost (held_by self.old) peer ≡ true → result ≡ Err (Refused NodeLost) }
+        ensures damaged { has_lost (held_by self.old) peer ≡ false → (links_of self.old peer).damaged ≡ true → result ≡ Err Damaged }
+        ensures memory { has_lost (held_by self.old) peer ≡ false → (links_of self.old peer).damaged ≡ false → IfErr result (λ fault. fault ≡ OutOfMemory) }
         ensures err { OnErr result (links_of self.new ≡ links_of self.old) }
         ensures err_inlet { OnErr result (inlet.new ≡ inlet.old) }
         ensures state { held_by self.new ≡ held_by self.old }
     {
+        if self.state.is_lost(peer) {
+            return Err(NodeFault::Refused(Refusal::NodeLost));
+        }
         let wire = &mut self.wires[peer];
         pull_some(wire, inlet, &mut self.piece, max)
     }

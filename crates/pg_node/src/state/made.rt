@@ -42,7 +42,7 @@ ghost use Rattle.pg_step.specs.State.{new_state, formed};
 ghost use Rattle.pg_node.specs.Issued.{ports_of};
 ghost use Rattle.pg_node.specs.Opening.{Announces};
 ghost use Rattle.pg_node.specs.States.{names_of, nodes_of, left_of, kept_by, state_of, answers_of, sends_in};
-ghost use Rattle.pg_node.specs.Waiting.{AreWaiting, waiting_of, ops_of};
+ghost use Rattle.pg_node.specs.Waiting.{AreWaiting};
 
 impl<T: GroupTable + Drop> NodeState<T> {
     /// A node at time 0, which has this table and has taken nothing, and the packets with which it begins, each to a peer by its
@@ -162,13 +162,12 @@ impl<T: GroupTable + Drop> NodeState<T> {
         entry.answers.as_slice()
     }
 
-    /// The open commands that wait for their retry, in the order in which they were opened. One search of all open commands
-    /// for each of them.
+    /// The open commands that wait for their retry, each once, in whatever order. One search of all open commands for each of
+    /// them.
     ///
     /// Error: `AllocError`.
     pub fn waiting(&self) -> Result<Vec<OpId>, AllocError>
-        ensures waiting { IfOk result (λ ops. AreWaiting (left_of self.now) (kept_by self.now) ops.items) }
-        ensures order { IfOk result (λ ops. ops.items ≡ waiting_of (left_of self.now) (kept_by self.now) (ops_of self.now)) }
+        ensures { IfOk result (λ ops. AreWaiting (left_of self.now) (kept_by self.now) ops.items) }
     {
         self.opens.has_each_once();
         let mut ops = Vec::new(self.alloc);

@@ -1,6 +1,6 @@
 //! What a node makes of a reply.
 
-ghost use Rattle.std.specs.Prelude.{◌≡◌, ◌⊎◌, ◌≤◌, ◌<◌, ◌+◌, ℕ, true, Err, IfOk, IfErr, OnErr, length};
+ghost use Rattle.std.specs.Prelude.{◌≡◌, ◌≢◌, ◌⊎◌, ◌≤◌, ◌<◌, ◌+◌, ℕ, true, false, Err, IfOk, IfErr, OnErr, length};
 ghost use Rattle.pg_message.specs.declared.message.Said.{Said};
 ghost use Rattle.pg_message.specs.declared.packet.TheConstants.{MAX_STAMP};
 
@@ -20,10 +20,11 @@ impl<T: GroupTable + Drop> NodeState<T> {
     ghost use Rattle.pg_opens.specs.Places.{name_at};
     ghost use Rattle.pg_opens.specs.Readings.{gathering_of};
     ghost use Rattle.pg_opens.specs.declared.command.Gathering.TheVariants as gatherings;
-    ghost use Rattle.pg_step.specs.Attempts.{counted, gathered, reply_taken, strange};
+    ghost use Rattle.pg_step.specs.Attempts.{counted, gathered, use_of, reply_taken, strange};
+    ghost use Rattle.pg_node.specs.declared.state.fault.NodeFault.TheVariants.{OutOfMemory};
     ghost use Rattle.pg_step.specs.Step.{at_clock};
     ghost use Rattle.pg_node.specs.Issued.{ports_of};
-    ghost use Rattle.pg_node.specs.States.{names_of, left_of, kept_by, state_of, answers_of, Happens, ComesAt};
+    ghost use Rattle.pg_node.specs.States.{names_of, left_of, kept_by, state_of, answers_of, is_counted, Happens, ComesAt};
     ghost use Rattle.pg_node.specs.Sendable.{AreSendable};
 
     /// Takes the reply of a peer, which is not lost.
@@ -39,6 +40,8 @@ impl<T: GroupTable + Drop> NodeState<T> {
         requires later { self.old.clock < clock }
         requires within { clock ≤ MAX_STAMP }
         requires place { peer + 1 < length (names_of self.old) }
+        ensures light { is_counted (what_of true (gathered (use_of (left_of self.old) reference.now (kept_by self.old)) (name_at (names_of self.old) (peer + 1)))) ≡ false
+            → result ≢ Err OutOfMemory }
         ensures comes { ComesAt clock (names_of self.old) (reply_taken (left_of self.old) (name_at (names_of self.old) (peer + 1)) reference.now said (kept_by self.old))
             result (state_of self.new) (answers_of self.old) (answers_of self.new) }
         ensures err { OnErr result (state_of self.new ≡ state_of self.old) }

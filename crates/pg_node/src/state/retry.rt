@@ -16,6 +16,7 @@ impl<T: GroupTable + Drop> NodeState<T> {
     ghost use Rattle.pg_node.specs.Issued.{ports_of};
     ghost use Rattle.pg_node.specs.Sendable.{AreSendable};
     ghost use Rattle.pg_node.specs.States.{names_of, nodes_of, left_of, kept_by, state_of, answers_of, Happens, Comes};
+    ghost use Rattle.pg_node.specs.Waiting.{is_ready};
 
     /// Tries a command again that waits: a new attempt begins, or, where all has come that it gathers, what follows then (as
     /// where the last that it waited for was lost). The clock is one more. Its cost is O(open commands + peers) and that of
@@ -43,6 +44,17 @@ impl<T: GroupTable + Drop> NodeState<T> {
         match self.try_again(self.clock + 1, op) {
             Ok(done) => Ok(done),
             Err(AllocError) => Err(NodeFault::OutOfMemory),
+        }
+    }
+
+    /// Whether all has come that a command gathers, so that it waits, and a retry goes on from there and begins no new attempt:
+    /// the last answer that was missing was that of a lost node. It takes no memory: O(open commands + peers).
+    pub fn is_ready(&self, op: OpId) -> bool
+        ensures { result ≡ is_ready (left_of self.now) ((kept_by self.now).stages op) (kept_by self.now) }
+    {
+        match self.opens.standing(op) {
+            Standing::Asking(number) | Standing::Changing(number) => self.opens.is_complete(number),
+            Standing::Closed | Standing::Waiting => false,
         }
     }
 

@@ -1,6 +1,6 @@
 //! What a node makes of a packet.
 
-ghost use Rattle.std.specs.Prelude.{◌≡◌, ◌≤◌, ◌<◌, ◌+◌, ◌^◌, IfOk, OnErr, length};
+ghost use Rattle.std.specs.Prelude.{◌≡◌, ◌≢◌, ◌≤◌, ◌<◌, ◌+◌, ◌^◌, true, Err, IfOk, OnErr, length};
 ghost use Rattle.pg_message.specs.Members.{IsShort};
 ghost use Rattle.pg_message.specs.declared.packet.TheConstants.{MAX_STAMP};
 
@@ -13,7 +13,8 @@ impl<T: GroupTable + Drop> NodeState<T> {
     ghost use Rattle.pg_opens.specs.Places.{name_at};
     ghost use Rattle.pg_step.specs.Step.{step_take};
     ghost use Rattle.pg_node.specs.Issued.{ports_of};
-    ghost use Rattle.pg_node.specs.States.{names_of, nodes_of, kept_by, state_of, answers_of, stamped_of, step_see_loss, Comes};
+    ghost use Rattle.pg_node.specs.declared.state.fault.NodeFault.TheVariants.{OutOfMemory};
+    ghost use Rattle.pg_node.specs.States.{names_of, nodes_of, left_of, kept_by, state_of, answers_of, stamped_of, step_see_loss, takes_none, Comes};
     ghost use Rattle.pg_node.specs.Sendable.{AreSendable};
 
     /// Takes a packet of a peer. `peer`: its place among the peers. What is sent carries the clock that the event sets: the
@@ -21,13 +22,15 @@ impl<T: GroupTable + Drop> NodeState<T> {
     ///
     /// Faults, which change nothing, the first that holds: `Refused` by `NodeLost` where the loss of the peer was seen, by
     /// `ClockFull` where the clock would pass 1,073,741,824, and by `NotAMessage` for the groups of another node, or where
-    /// the peer has told its groups; `OutOfMemory`.
+    /// the peer has told its groups; `OutOfMemory`, which never comes where a lock is freed, or of a reply that completes nothing.
     pub fn take(&mut self, peer: usize, packet: &Packet) -> Result<Done, NodeFault>
         requires place { peer + 1 < length (names_of self.old) }
         requires few { IsShort (2 ^ 32) packet.now.message }
         ensures event { Comes (names_of self.old)
             (step_take (nodes_of self.old) (name_at (names_of self.old) (peer + 1)) (stamped_of packet.now) (state_of self.old))
             result (state_of self.new) (answers_of self.old) (answers_of self.new) }
+        ensures light { takes_none (left_of self.old) (name_at (names_of self.old) (peer + 1)) (kept_by self.old) packet.now.message ≡ true
+            → result ≢ Err OutOfMemory }
         ensures err { OnErr result (state_of self.new ≡ state_of self.old) }
         ensures err_answers { OnErr result (answers_of self.new ≡ answers_of self.old) }
         ensures names { names_of self.new ≡ names_of self.old }

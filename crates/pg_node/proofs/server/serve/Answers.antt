@@ -2,7 +2,7 @@ use Rattle.std.proofs.Common.{ℕ, List, [], inr, refl}
 use Rattle.std.specs.Prelude.{⊤}
 use Rattle.std.proofs.lemmas.Result.{err_from_is_err_and}
 use Rattle.pg_node.specs.Replica.{Pair, pair_of, start}
-use Rattle.pg_node.proofs.AnyOwn.{serves_any, cause_any}
+use Rattle.pg_node.proofs.AnyOwn.{serves_any, cause_any, order_any}
 use Rattle.pg_node.proofs.Served.{at_start, unread_ends}
 use Rattle.pg_node.proofs.server.serve.Goals as goal
 
@@ -33,3 +33,13 @@ pub returns-clause-cause : goal.returns-clause-cause
 returns-clause-cause g c =
     cause_any _ g.R.Source.gives g.R.Source.fails c.args.reader.now c.run-served.new.reader (pair_of c.in_ok-server.server.node) c.args.own.now c.args.peer.now (g.W.Sink.contents c.args.writer.now) (g.W.Sink.contents c.run-served.new.writer) c.run-served.result
     c.in_ok-server.ensures.peer c.run-served.ensures.cause
+
+pub returns-in_err-server-clause-order : goal.returns-in_err-server-clause-order
+returns-in_err-server-clause-order g c =
+    let p = err_from_is_err_and c.from_residual.result c.from_residual.ensures.1 in
+    rw (p.1, p.2, c.in_err-server.ensures.fault) tt
+
+pub returns-clause-order : goal.returns-clause-order
+returns-clause-order g c =
+    order_any g.R.Source.gives g.W.Sink.flushed g.W.Sink.contents c.args.reader.now c.run-served.new.reader c.args.writer.now c.run-served.new.writer (pair_of c.in_ok-server.server.node) c.args.own.now c.args.peer.now c.run-served.result
+    c.in_ok-server.ensures.peer c.run-served.ensures.order

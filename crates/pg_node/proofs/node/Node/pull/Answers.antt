@@ -1,17 +1,27 @@
 use Rattle.std.proofs.Common.{◌≡◌, ◌<◌, ◌∙◌, length, sym, ap, arith}
 use Rattle.pg_node.specs.Links.{Link, link_of, idle_link, links_in, with_fed}
 use Rattle.pg_node.proofs.Linked.{part_here, one_link, same_links, if_ok, on_err}
+use Rattle.pg_opens.proofs.Named.{clash}
 use Rattle.pg_node.proofs.node.Node.pull.Goals as goal
 
+pub returns-then-is_lost-clause-damaged : goal.returns-then-is_lost-clause-damaged
+returns-then-is_lost-clause-damaged g c stays is = absurd (clash (sym (sym c.is_lost.ensures ∙ c.if-is_lost.true) ∙ stays))
+
+pub returns-then-is_lost-clause-memory : goal.returns-then-is_lost-clause-memory
+returns-then-is_lost-clause-memory g c stays is = absurd (clash (sym (sym c.is_lost.ensures ∙ c.if-is_lost.true) ∙ stays))
+
+pub returns-clause-lost : goal.returns-clause-lost
+returns-clause-lost g c gone = absurd (clash (sym gone ∙ (sym c.is_lost.ensures ∙ c.if-is_lost.false)))
+
 pub returns-clause-damaged : goal.returns-clause-damaged
-returns-clause-damaged g c is =
+returns-clause-damaged g c stays is =
     let wires = c.args.self.now.wires.items in
     let within : c.args.peer < length wires = omega (arith, c.args.self.now.linked, c.requires.place) in
     let here : links_in wires c.args.peer ≡ link_of c.index_mut-wire.result.now = part_here link_of idle_link wires c.args.peer c.index_mut-wire.result.now within c.index_mut-wire.ensures.value in
     c.pull_some.ensures.damaged (sym (ap (λ (link : Link). link.damaged) here) ∙ is)
 
 pub returns-clause-memory : goal.returns-clause-memory
-returns-clause-memory g c is =
+returns-clause-memory g c stays is =
     let wires = c.args.self.now.wires.items in
     let within : c.args.peer < length wires = omega (arith, c.args.self.now.linked, c.requires.place) in
     let here : links_in wires c.args.peer ≡ link_of c.index_mut-wire.result.now = part_here link_of idle_link wires c.args.peer c.index_mut-wire.result.now within c.index_mut-wire.ensures.value in

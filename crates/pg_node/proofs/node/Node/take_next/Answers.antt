@@ -3,11 +3,15 @@ use Rattle.pg_message.specs.declared.packet.Packet.{Packet}
 use Rattle.pg_opens.specs.Places.{name_at}
 use Rattle.pg_step.specs.Step.{step_take}
 use Rattle.pg_node.specs.declared.state.done.Done.{Done}
-use Rattle.pg_node.specs.Links.{AreSmallFrames}
+use Rattle.pg_node.specs.Bytes.{next_packet}
+use Rattle.pg_node.specs.Links.{links_in, AreSmallFrames}
 use Rattle.pg_node.specs.Nodes.{taken_of, TakesNext}
 use Rattle.pg_node.specs.States.{names_of, nodes_of, state_of, answers_of, stamped_of}
 use Rattle.pg_node.proofs.Events.{takes_ok, takes_err}
 use Rattle.pg_node.proofs.node.Node.take_next.Goals as goal
+
+pub take_read-requires-clause-next : goal.take_read-requires-clause-next
+take_read-requires-clause-next g c = subst (λ (next : Option Packet). next_packet (links_in c.args.self.now.wires.items c.args.peer) ≡ Ok next) c.in-Some.is c.requires.next
 
 pub returns-in-None-clause-event : goal.returns-in-None-clause-event
 returns-in-None-clause-event g c =

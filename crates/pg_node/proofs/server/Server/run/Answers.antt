@@ -1,11 +1,13 @@
 use Rattle.std.proofs.Common.{inl, inr, refl, sym, subst, ◌∙◌, arith}
 use Rattle.std.specs.Prelude.{⊤, Err}
 use Rattle.std.proofs.lemmas.Result.{err_from_is_err_and}
+use Rattle.pg_node.specs.declared.fault.ServeFault.{ServeFault}
 use Rattle.pg_node.specs.declared.fault.ServeFault.TheVariants.{ReadFault}
 use Rattle.pg_node.specs.Progress.{Progress, Stops}
-use Rattle.pg_node.specs.Replica.{Pair, State, pair_of}
+use Rattle.pg_node.specs.Replica.{Pair, State, pair_of, frames_of}
 use Rattle.pg_node.specs.States.{state_of}
-use Rattle.pg_node.proofs.Served.{at_start, goes_on, stopped, finished, unread_ends, unwritten_ends, gave_more, read_failed, reads_spent, cause_of, left_flushed, left_unread, where_ok}
+use Rattle.pg_node.proofs.Streams.{appends_kept}
+use Rattle.pg_node.proofs.Served.{at_start, goes_on, stopped, finished, unread_ends, unwritten_ends, gave_more, read_failed, reads_spent, cause_of, left_flushed, left_unread, where_ok, if_write, not_write, wrote_part, in_turn}
 use Rattle.pg_node.proofs.server.Server.run.Goals as goal
 
 pub loop-init : goal.loop-init
@@ -119,3 +121,29 @@ returns-clause-cause g c =
 
 pub returns-clause-flushed : goal.returns-clause-flushed
 returns-clause-flushed g c = left_flushed g.W.Sink.flushed c.args.writer.now c.loop.writer c.loop.invariant.2 (Err ReadFault)
+
+pub returns-in_err-read-clause-order : goal.returns-in_err-read-clause-order
+returns-in_err-read-clause-order g c =
+    let p = err_from_is_err_and c.from_residual.result c.from_residual.ensures.1 in
+    rw (p.1, p.2) (not_write _ c.in_err-read.field-0.0 c.in_err-read.ensures.fault)
+
+pub returns-in_err-answer_all-clause-order : goal.returns-in_err-answer_all-clause-order
+returns-in_err-answer_all-clause-order g c =
+    let contents = g.W.Sink.contents in
+    let got = c.in_ok-read.ensures.piece in
+    let new = c.read.new.self in
+    let p = err_from_is_err_and c.from_residual-in_err-answer_all.result c.from_residual-in_err-answer_all.ensures.1 in
+    rw (p.1, p.2) (if_write _ c.in_err-answer_all.field-0.0 (λ is.
+    in_turn g.R.Source.gives g.W.Sink.flushed contents c.args.reader.now c.loop.reader c.read.new.reader c.loop.counter (pair_of c.args.self.now.node) (g.R.Source.remaining c.args.reader.now) (g.R.Source.remaining c.loop.reader)
+    c.loop.self.deframer.unread (state_of c.loop.self.node) c.args.writer.now c.loop.writer c.answer_all.new.writer c.loop.invariant.1 c.loop.invariant.2 got.piece got.gave (got.some c.if-not-branch.false)
+    (wrote_part (pair_of new.node) new.deframer.unread (state_of new.node) (contents c.loop.writer) (contents c.answer_all.new.writer)
+    (subst (λ (f : ServeFault). Stops (pair_of new.node) f new.deframer.unread (state_of new.node) (contents c.loop.writer) (contents c.answer_all.new.writer)) is c.in_err-answer_all.ensures.fault))))
+
+pub returns-then-is_err-clause-order : goal.returns-then-is_err-clause-order
+returns-then-is_err-clause-order g c =
+    let contents = g.W.Sink.contents in
+    let got = c.in_ok-read.ensures.piece in
+    let progress = c.in_ok-answer_all.ensures.progress in
+    in_turn g.R.Source.gives g.W.Sink.flushed contents c.args.reader.now c.loop.reader c.read.new.reader c.loop.counter (pair_of c.args.self.now.node) (g.R.Source.remaining c.args.reader.now) (g.R.Source.remaining c.loop.reader)
+    c.loop.self.deframer.unread (state_of c.loop.self.node) c.args.writer.now c.loop.writer c.flush_all.new.self c.loop.invariant.1 c.loop.invariant.2 got.piece got.gave (got.some c.if-not-branch.false)
+    (frames_of progress.replies, appends_kept (contents c.loop.writer) (contents c.answer_all.new.writer) (contents c.flush_all.new.self) (frames_of progress.replies) progress.wrote c.flush_all.ensures.bytes)

@@ -1,4 +1,4 @@
-use Rattle.std.proofs.Common.{◌≡◌, ◌≤◌, ◌+◌, ◌∙◌, ℕ, false, max, refl, sym, ap, arith}
+use Rattle.std.proofs.Common.{◌≡◌, ◌≤◌, ◌+◌, ◌∙◌, ℕ, true, false, max, refl, sym, ap, subst, arith}
 use Rattle.pg_message.specs.declared.message.Message.{Message}
 use Rattle.pg_message.specs.declared.message.Message.TheVariants.{Call, Exchange}
 use Rattle.pg_exchange.specs.GroupList.{GroupList}
@@ -8,8 +8,9 @@ use Rattle.pg_step.specs.Nodes.{Node}
 use Rattle.pg_step.specs.Attempts.{reply_taken}
 use Rattle.pg_step.specs.Peers.{lock_request, update_request, lock_freed, process_end}
 use Rattle.pg_step.specs.Step.{CLOCK_LIMIT, taken}
-use Rattle.pg_node.specs.States.{names_of, nodes_of, left_of, kept_by, state_of, answers_of, stamped_of}
+use Rattle.pg_node.specs.States.{names_of, nodes_of, left_of, kept_by, state_of, answers_of, stamped_of, takes_none}
 use Rattle.pg_node.proofs.Coming.{on_err, comes, comes_at, groups_come}
+use Rattle.pg_node.proofs.Events.{not_true}
 use Rattle.pg_node.proofs.state.NodeState.take.Goals as goal
 
 pub returns-in_err-serve_lock-in-SetLock-clause-err : goal.returns-in_err-serve_lock-in-SetLock-clause-err
@@ -95,3 +96,33 @@ returns-in-Exchange-clause-event g c =
     let within : clock ≤ CLOCK_LIMIT = omega (arith, c.if-latest-ge-MAX_STAMP.false) in
     groups_come (nodes_of old) p (stamped_of c.args.packet.now) (state_of old) clock here later within (names_of old) c.in-Exchange.node c.as_slice.result.now c.take_groups.result
     (state_of c.take_groups.new.self) (answers_of old) (answers_of c.take_groups.new.self) (c.in-Exchange.is ∙ ap (λ (groups : GroupList). Exchange c.in-Exchange.node groups) (sym c.as_slice.ensures)) c.take_groups.ensures.bad c.take_groups.ensures.fault c.take_groups.ensures.told c.take_groups.ensures.state c.take_groups.ensures.answers
+
+pub returns-in_err-serve_lock-in-SetLock-clause-light : goal.returns-in_err-serve_lock-in-SetLock-clause-light
+returns-in_err-serve_lock-in-SetLock-clause-light g c = λ h is.
+    let old = c.args.self.now in
+    let light = λ (x : Message). takes_none (left_of old) (name_at (names_of old) (c.args.peer + 1)) (kept_by old) x ≡ true in
+    let no : false ≡ true = subst light (c.in-Call.is) h in absurd (cc)
+
+pub returns-in_err-serve_update-in-Change-clause-light : goal.returns-in_err-serve_update-in-Change-clause-light
+returns-in_err-serve_update-in-Change-clause-light g c = λ h is.
+    let old = c.args.self.now in
+    let light = λ (x : Message). takes_none (left_of old) (name_at (names_of old) (c.args.peer + 1)) (kept_by old) x ≡ true in
+    let no : false ≡ true = subst light (c.in-Call.is) h in absurd (cc)
+
+pub returns-in_err-take_end-in-Down-clause-light : goal.returns-in_err-take_end-in-Down-clause-light
+returns-in_err-take_end-in-Down-clause-light g c = λ h is.
+    let old = c.args.self.now in
+    let light = λ (x : Message). takes_none (left_of old) (name_at (names_of old) (c.args.peer + 1)) (kept_by old) x ≡ true in
+    let no : false ≡ true = subst light (c.in-Down.is) h in absurd (cc)
+
+pub returns-in-Exchange-clause-light : goal.returns-in-Exchange-clause-light
+returns-in-Exchange-clause-light g c = λ h is.
+    let old = c.args.self.now in
+    let light = λ (x : Message). takes_none (left_of old) (name_at (names_of old) (c.args.peer + 1)) (kept_by old) x ≡ true in
+    let no : false ≡ true = subst light (c.in-Exchange.is) h in absurd (cc)
+
+pub returns-in-Reply-clause-light : goal.returns-in-Reply-clause-light
+returns-in-Reply-clause-light g c = λ h.
+    let old = c.args.self.now in
+    let light = λ (x : Message). takes_none (left_of old) (name_at (names_of old) (c.args.peer + 1)) (kept_by old) x ≡ true in
+    c.take_reply.ensures.light (not_true _ (subst light c.in-Reply.is h))

@@ -22,8 +22,8 @@ loop-place-preserved g c =
       | else-waits w ↦ ap (λ v. v.items) w.ops-is ∙ c.loop-place.invariant ∙ sym (none_waits m s ops place c.op_at-op.result c.op_at-op.ensures (sym is ∙ w.if-waits.false))
     ]
 
-pub returns-clause-waiting : goal.returns-clause-waiting
-returns-clause-waiting g c =
+pub returns : goal.returns
+returns g c =
     let node = c.args.self.now in
     let m = left_of node in
     let s = kept_by node in

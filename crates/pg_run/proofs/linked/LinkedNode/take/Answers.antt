@@ -1,19 +1,16 @@
 use Rattle.std.proofs.Common.{ap, refl, ◌∙◌, ◌+◌}
 use Rattle.pg_node.specs.Bytes.{next_packet}
 use Rattle.pg_node.specs.Issued.{ports_of}
-use Rattle.pg_node.specs.States.{names_of, nodes_of, kept_by, state_of, answers_of}
+use Rattle.pg_node.specs.States.{names_of, nodes_of, state_of, answers_of}
 use Rattle.pg_opens.specs.Places.{name_at}
-use Rattle.pg_node.specs.Nodes.{held_by, links_of}
-use Rattle.pg_run.proofs.Acting.{nothing_held, fault_done, told_next, told_ok}
-use Rattle.pg_run.proofs.Taking.{took_from, told_err, lost_at}
+use Rattle.pg_node.specs.Nodes.{held_by, links_of, has_lost}
+use Rattle.pg_node.proofs.Events.{tells_ok, read_is}
+use Rattle.pg_run.proofs.Acting.{nothing_held, fault_done, told_reading}
+use Rattle.pg_run.proofs.Taking.{took_from, told_err}
 use Rattle.pg_run.proofs.linked.LinkedNode.take.Goals as goal
 
 pub returns-then-is_err-clause-took : goal.returns-then-is_err-clause-took
 returns-then-is_err-clause-took g c =
-    nothing_held g.L.Link.accepts g.I.Inlet.gives g.met.L.Link.rests g.met.I.Inlet.rests c.args.self.now _ refl c.reserve.ensures.items refl refl
-
-pub returns-then-is_lost-clause-took : goal.returns-then-is_lost-clause-took
-returns-then-is_lost-clause-took g c =
     nothing_held g.L.Link.accepts g.I.Inlet.gives g.met.L.Link.rests g.met.I.Inlet.rests c.args.self.now _ refl c.reserve.ensures.items refl refl
 
 pub returns-in-Ok-clause-took : goal.returns-in-Ok-clause-took
@@ -32,16 +29,22 @@ returns-in-Err-clause-took g c =
     let p = name_at (names_of (held_by n)) (c.args.peer + 1) in
     fault_done g.L.Link.accepts g.I.Inlet.gives g.met.L.Link.rests g.met.I.Inlet.rests c.args.self.now _ c.args.peer c.in-Err.fault (ap names_of held) (ap ports_of held) (ap state_of held) (ap answers_of held)
     c.reserve.ensures.items refl c.in-Err.ensures.marked
-    (told_next ((kept_by (held_by n)).lost p) (nodes_of (held_by n)) p (state_of (held_by n)) (next_packet (links_of n c.args.peer)) c.in-Err.fault
-    (lost_at c.args.peer c.state.result.now (held_by n) c.state.ensures c.is_lost.result c.is_lost.ensures c.if-is_lost.false) c.in-Err.ensures.told)
+    (told_reading (nodes_of (held_by n)) p (links_of n c.args.peer) (state_of (held_by n)) c.in-Err.fault c.in-Err.ensures.told)
 
 pub take_next-took-requires-clause-next : goal.take_next-took-requires-clause-next
 take_next-took-requires-clause-next g c =
-    ap (λ ls. next_packet (ls c.args.peer)) c.in-Ok.ensures.same ∙ told_ok (next_packet (links_of c.args.self.now.node c.args.peer)) c.in-Ok.next c.in-Ok.ensures.told
+    let n = c.args.self.now.node in
+    ap (λ ls. next_packet (ls c.args.peer)) c.in-Ok.ensures.same
+    ∙ (read_is (has_lost (held_by n) c.args.peer) (links_of n c.args.peer) c.in-Ok.next (tells_ok _ c.in-Ok.next c.in-Ok.ensures.told)).1
+
+pub take_next-took-requires-clause-here : goal.take_next-took-requires-clause-here
+take_next-took-requires-clause-here g c =
+    let n = c.args.self.now.node in
+    ap (λ s. has_lost s c.args.peer) c.next.ensures.state
+    ∙ (read_is (has_lost (held_by n) c.args.peer) (links_of n c.args.peer) c.in-Ok.next (tells_ok _ c.in-Ok.next c.in-Ok.ensures.told)).0
 
 pub returns-in-Err-clause-fault : goal.returns-in-Err-clause-fault
 returns-in-Err-clause-fault g c =
     let n = c.args.self.now.node in
     let p = name_at (names_of (held_by n)) (c.args.peer + 1) in
-    told_next ((kept_by (held_by n)).lost p) (nodes_of (held_by n)) p (state_of (held_by n)) (next_packet (links_of n c.args.peer)) c.in-Err.fault
-    (lost_at c.args.peer c.state.result.now (held_by n) c.state.ensures c.is_lost.result c.is_lost.ensures c.if-is_lost.false) c.in-Err.ensures.told
+    told_reading (nodes_of (held_by n)) p (links_of n c.args.peer) (state_of (held_by n)) c.in-Err.fault c.in-Err.ensures.told

@@ -1,7 +1,10 @@
-use Rattle.std.proofs.Common.{◌≡◌, ◌≢◌, ◌∙◌, ℕ, List, [], ◌∷◌, Result, true, false, refl, sym, ap, subst}
+use Rattle.std.proofs.Common.{◌≡◌, ◌≢◌, ◌∙◌, ℕ, Bool, List, [], ◌∷◌, Result, true, false, refl, sym, ap, subst}
 use Rattle.pg_machine.specs.Places.{is_pair}
 use Rattle.pg_machine.specs.Machine.{Take, Do}
+use Rattle.pg_history.proofs.steps.Lossless.{nobody_timed}
 use Rattle.pg_loss.specs.Reached.{LosingReaches}
+use Rattle.pg_step.specs.Config.{name_at}
+use Rattle.pg_step.specs.Nodes.{Node}
 use Rattle.pg_step.specs.LossLaws.{LosingFrameWorld}
 use Rattle.pg_step.specs.Step.{Issue, Retry}
 use Rattle.pg_world.specs.declared.step.FrameStep.{FrameStep}
@@ -42,7 +45,7 @@ returns-in-Take-clause-came g c = λ config w nobody reached shows.
     let now = subst (λ (a : Account). ShowsBytes config (crossing_of c.args.self.now) a w) (sym settled) shows in
     let harmless = c.nobody_is_harmed.ensures config w reached.0 shows.traffic.nodes.apart reached.1 in
     subst (λ (s : FrameStep). FrameComesTo config w s c.take.result (ShowsBytes config (crossing_of c.take.new.self) (account_of c.take.new.self.histories))) (sym c.in-Take.is)
-    (c.take.ensures.event config [] w refl (welcome_there config w c.in-Take.node c.in-Take.peer harmless (pair_there config nodes w c.in-Take.node c.in-Take.peer shows.traffic.nodes pair)) now)
+    (c.take.ensures.event config [] w refl (ap (λ (f : Node → Bool). f (name_at config c.in-Take.peer)) (nobody_timed config reached.0 w reached.1 c.in-Take.node)) (welcome_there config w c.in-Take.node c.in-Take.peer harmless (pair_there config nodes w c.in-Take.node c.in-Take.peer shows.traffic.nodes pair)) now)
 
 pub returns-in-Take-clause-losing : goal.returns-in-Take-clause-losing
 returns-in-Take-clause-losing g c = λ config u reached shows.
@@ -66,7 +69,7 @@ returns-in-Take-clause-losing g c = λ config u reached shows.
     let welcome = welcome_left config w lost i p (λ packet rest begins. c.no_packet_is_refused.ensures config (losing_of config w lost) reached.0 i p packet rest its.apart led (pair_there config nodes w i p its pair) stays unseen begins) in
     subst (λ (s : FrameStep). EventLeaves config u s c.take.result (ShowsLosingBytes config (crossing_of c.take.new.self) (account_of c.take.new.self.histories) (lost_in c.take.new.self.losses))) (sym c.in-Take.is)
     (take_past config crossing (crossing_of c.take.new.self) _ (account_of c.take.new.self.histories) u lost _ now c.take.ensures.lost c.take.result i p pair lives
-    (c.take.ensures.event config lost w stays welcome now.shows))
+    (c.take.ensures.event config lost w stays unseen welcome now.shows))
 
 pub returns-in-Command-clause-came : goal.returns-in-Command-clause-came
 returns-in-Command-clause-came g c = λ config w nobody reached shows.

@@ -3,19 +3,20 @@ use Rattle.std.specs.Prelude.{slice_set}
 use Rattle.pg_machine.specs.Places.{is_pair}
 use Rattle.pg_frame.specs.Pieces.{pull}
 use Rattle.pg_node.specs.Links.{Link, at_link, with_fed}
-use Rattle.pg_node.specs.Nodes.{links_of}
+use Rattle.pg_node.specs.Nodes.{held_by, links_of, has_lost}
 use Rattle.pg_world.specs.Crossings.{written_of}
 use Rattle.pg_world.specs.Views.{peer_place}
 use Rattle.pg_world.specs.Losses.{is_lost}
 use Rattle.pg_world.proofs.Crossed.{moved_shown, same_shown}
-use Rattle.pg_world.proofs.Linked.{pull_many, pulled_as, second_there, row_there, ring_there, links_here, pull_moves, ring_kept, pull_err}
+use Rattle.pg_world.proofs.Barred.{unseen_by}
+use Rattle.pg_world.proofs.Linked.{pull_many, pulled_as, second_there, row_there, ring_there, seen_there, links_here, pull_moves, ring_kept, pull_err}
 use Rattle.pg_world.proofs.Past.{way_pulled}
 use Rattle.pg_world.proofs.Turning.{pair_turned}
 use Rattle.pg_world.proofs.bytes.World.pull_some.Goals as goal
 
 pub returns-in-Ok : goal.returns-in-Ok
 returns-in-Ok g c = record {
-  came = λ config lost w shows.
+  came = λ config lost w unseen shows.
       let nodes = c.args.self.now.nodes.items in
       let rings = c.args.self.now.rings.items in
       let x = c.args.from in
@@ -61,7 +62,7 @@ returns-in-Ok g c = record {
 
 pub returns-in-Err : goal.returns-in-Err
 returns-in-Err g c = record {
-  came = λ config lost w shows.
+  came = λ config lost w unseen shows.
       let nodes = c.args.self.now.nodes.items in
       let rings = c.args.self.now.rings.items in
       let x = c.args.from in
@@ -76,8 +77,10 @@ returns-in-Err g c = record {
       let pair_here : is_pair (length config) x y ≡ true = ap (λ n. is_pair n x y) (sym shows.traffic.nodes.size) ∙ c.requires.pair in
       let sound : (links_of node c.peer_place-2.result).damaged ≡ false = ap (λ k. (links_of node k).damaged) c.peer_place-2.ensures
       ∙ (ap (λ (ls : ℕ → Link). (ls (peer_place y x)).damaged) (sym (links_here nodes rings y node ly c.index_mut-node.ensures.value)) ∙ shows.traffic.sound y x (pair_turned (length config) x y pair_here)) in
+      let stays = ap (has_lost (held_by node)) c.peer_place-2.ensures
+      ∙ unseen_by config _ w lost shows.traffic.nodes y x _ (pair_turned (length config) x y pair_here) (seen_there nodes rings y node ly c.index_mut-node.ensures.value) unseen in
       let is = ap (λ k. slice_set row.rings.items k c.pull.new.inlet) place in
-      pull_err c.in-Err.fault _ (c.in-Err.ensures.memory sound)
+      pull_err c.in-Err.fault _ (c.in-Err.ensures.memory stays sound)
       (record {
         traffic = same_shown config lost _ _ w (ring_kept nodes rings y x (peer_place x y) node c.pull.new.self row _ ring c.pull.new.inlet ly c.index_mut-node.ensures.value
             (row_there nodes rings x y c.requires.pair c.args.self.now.rows) c.index_mut-row.ensures.value c.in-Err.ensures.state c.in-Err.ensures.err lk there c.in-Err.ensures.err_inlet is) shows.traffic;

@@ -4,14 +4,16 @@ use Rattle.pg_node.specs.declared.state.fault.NodeFault.{NodeFault}
 use Rattle.pg_node.specs.declared.state.fault.NodeFault.TheVariants.{OutOfMemory}
 use Rattle.pg_node.specs.Bytes.{Tells, next_packet, marked}
 use Rattle.pg_node.specs.Links.{Link, at_link}
-use Rattle.pg_node.specs.Nodes.{links_of}
+use Rattle.pg_node.specs.Nodes.{held_by, links_of, has_lost, read_next}
 use Rattle.pg_world.specs.Crossings.{Crossing, crossing_of, written_of, ShowsBytesPast}
 use Rattle.pg_world.specs.Histories.{account_of}
 use Rattle.pg_world.specs.Views.{seen_of, peer_place}
 use Rattle.pg_world.specs.Changes.{EventChanges}
-use Rattle.pg_world.proofs.Linked.{alone, first_there, links_here, links_now, node_same}
-use Rattle.pg_world.proofs.Passing.{tells_ok, readable, only_memory, unread_err, unmarked}
+use Rattle.pg_world.proofs.Barred.{unseen_by}
+use Rattle.pg_world.proofs.Linked.{alone, first_there, seen_there, links_here, links_now, node_same}
+use Rattle.pg_world.proofs.Passing.{read_ok, readable, only_memory, unread_err, unmarked}
 use Rattle.pg_world.proofs.Past.{reads_first, reads_lawful}
+use Rattle.pg_world.proofs.Turning.{pair_there}
 use Rattle.pg_world.proofs.bytes.World.take.Goals as goal
 
 pub take_next-taken-requires-clause-front : goal.take_next-taken-requires-clause-front
@@ -22,11 +24,11 @@ take_next-taken-requires-clause-front g c =
     let node = c.index_mut-taker.result.now in
     let l = first_there nodes rings i c.args.peer c.requires.pair c.args.self.now.rows in
     ap (λ (ls : ℕ → Link). next_packet (ls (peer_place i c.args.peer))) (links_now nodes rings rings i c.next.new.self l ∙ c.in-Ok.ensures.same)
-    ∙ (ap (λ k. next_packet (links_of node k)) (sym c.peer_place.ensures) ∙ tells_ok (next_packet (links_of node c.peer_place.result)) c.in-Ok.next c.in-Ok.ensures.told)
+    ∙ (ap (λ k. next_packet (links_of node k)) (sym c.peer_place.ensures) ∙ read_ok (has_lost (held_by node) c.peer_place.result) (links_of node c.peer_place.result) c.in-Ok.next c.in-Ok.ensures.told)
 
 pub returns-in-Ok : goal.returns-in-Ok
 returns-in-Ok g c = record {
-  event = λ config lost w stays welcome shows.
+  event = λ config lost w stays unseen welcome shows.
       let nodes = c.args.self.now.nodes.items in
       let rings = c.args.self.now.rings.items in
       let i = c.args.node in
@@ -48,7 +50,7 @@ returns-in-Ok g c = record {
 
 pub returns-in-Err : goal.returns-in-Err
 returns-in-Err g c = record {
-  event = λ config lost w stays welcome shows.
+  event = λ config lost w stays unseen welcome shows.
       let nodes = c.args.self.now.nodes.items in
       let rings = c.args.self.now.rings.items in
       let i = c.args.node in
@@ -63,7 +65,11 @@ returns-in-Err g c = record {
       (reads_lawful (λ packets bytes. c.front_is_first_packet.ensures.lawful written_of packets bytes) (λ packets bytes. c.front_is_first_of_cut.ensures.lawful written_of packets bytes)) in
       let next : next_packet (links_of node c.peer_place.result) ≡ Ok read.0 = ap (λ k. next_packet (links_of node k)) c.peer_place.ensures
       ∙ (ap (λ (ls : ℕ → Link). next_packet (ls (peer_place i p))) (sym (links_here nodes rings i node l at)) ∙ read.1) in
-      let memory = only_memory read.0 fault (subst (λ r. Tells r (Err fault)) next c.in-Err.ensures.told) in
+      let its = shows.traffic.nodes in
+      let still = ap (has_lost (held_by node)) c.peer_place.ensures
+      ∙ unseen_by config _ w lost its i p _ (pair_there config _ w i p its c.requires.pair) (seen_there nodes rings i node l at) unseen in
+      let told = subst (λ b. Tells (read_next b (links_of node c.peer_place.result)) (Err fault)) still c.in-Err.ensures.told in
+      let memory = only_memory read.0 fault (subst (λ r. Tells r (Err fault)) next told) in
       let unchanged = c.in-Err.ensures.marked ∙ (ap (λ (f : NodeFault). at_link c.peer_place.result (λ l. marked l f) (links_of node)) memory ∙ unmarked (links_of node) c.peer_place.result OutOfMemory refl) in
       let same = node_same nodes rings i node node2 l at (ap seen_of c.in-Err.ensures.state) unchanged in
       unread_err config w (Take i p) fault _ memory (subst (λ (crossing : Crossing). ShowsBytesPast config lost crossing (account_of c.args.self.now.histories) w) (sym same) shows);

@@ -1,20 +1,31 @@
-use Rattle.std.proofs.Common.{◌≡◌, ◌∙◌, ◌+◌, ℕ, Ok, Err, refl, sym, subst}
+use Rattle.std.proofs.Common.{◌≡◌, ◌∙◌, ◌+◌, ℕ, Ok, Err, refl, sym, ap, subst}
 use Rattle.std.specs.Prelude.{slice_set}
 use Rattle.pg_opens.specs.Places.{name_at}
 use Rattle.pg_step.specs.Step.{step_take}
-use Rattle.pg_node.specs.Bytes.{passed}
-use Rattle.pg_node.specs.Links.{at_link}
+use Rattle.pg_node.specs.Bytes.{next_packet, passed}
+use Rattle.pg_node.specs.Links.{Link, at_link}
 use Rattle.pg_node.specs.Nodes.{held_by, links_of, sent_out, ComesInRoom}
 use Rattle.pg_node.specs.States.{names_of, nodes_of, state_of, answers_of, stamped_of}
 use Rattle.pg_world.specs.Crossings.{Crossing, crossing_in, crossing_of, node_of, written_of, ShowsBytesPast}
 use Rattle.pg_world.specs.Histories.{account_of, asked_by}
-use Rattle.pg_world.specs.Views.{Account}
-use Rattle.pg_world.proofs.Linked.{alone, first_there, seen_there, nodes_set, seen_kept, take_acts, node_same}
+use Rattle.pg_world.specs.Views.{Account, peer_place}
+use Rattle.pg_world.proofs.Linked.{alone, first_there, seen_there, links_here, nodes_set, seen_kept, take_acts, node_same}
 use Rattle.pg_world.proofs.Passing.{first_read, taken_shown, take_err, unmarked}
 use Rattle.pg_world.proofs.Past.{reads_first}
 use Rattle.pg_world.proofs.Recording.{grew_taken}
 use Rattle.pg_world.proofs.Turning.{pair_is}
 use Rattle.pg_world.proofs.bytes.World.take_read.Goals as goal
+
+pub take_read-requires-clause-next : goal.take_read-requires-clause-next
+take_read-requires-clause-next g c =
+    let nodes = c.args.self.now.nodes.items in
+    let rings = c.args.self.now.rings.items in
+    let i = c.args.node in
+    let p = c.args.peer in
+    let node = c.index_mut-taker.result.now in
+    let l = first_there nodes rings i p c.requires.pair c.args.self.now.rows in
+    ap (λ k. next_packet (links_of node k)) c.peer_place.ensures
+    ∙ (ap (λ (ls : ℕ → Link). next_packet (ls (peer_place i p))) (sym (links_here nodes rings i node l c.index_mut-taker.ensures.value)) ∙ c.requires.front)
 
 pub returns-in-Ok-take_read : goal.returns-in-Ok-take_read
 returns-in-Ok-take_read g c = record {
