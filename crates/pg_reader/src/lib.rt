@@ -6,4 +6,4 @@ mod exchange;
 mod parts;
 mod reading;
 
-pub use reading::{is_read_directly, read_packet};
+pub use reading::read_packet;

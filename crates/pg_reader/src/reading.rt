@@ -1,6 +1,6 @@
 //! Terms and bytes to packets.
 
-ghost use Rattle.std.specs.Prelude.{◌≡◌, ◌∷◌, [], length, true, Some, None, IfOk, IsOk, Ok, if◌then◌else◌};
+ghost use Rattle.std.specs.Prelude.{◌≡◌, ◌∷◌, [], length, true, Some, None, IfOk, Ok, if◌then◌else◌};
 ghost use Rattle.std.specs.Option.{option_and_then};
 ghost use Rattle.pg_term.specs.declared.term.Term.{Term};
 ghost use Rattle.pg_term_io.specs.Spelling.{Spells};
@@ -44,24 +44,6 @@ pub fn read_packet(alloc: Global, body: &[u8]) -> Result<Packet, MessageFault>
     ensures few { IfOk result (λ packet. IsShort (length body.now) packet.message) }
 {
     whole_packet(alloc, body)
-}
-
-/// Whether a body is read straight off its bytes: `read_packet` makes no detour over the term that it spells. It takes the
-/// time and the memory of reading it so.
-///
-/// Error: `AllocError`.
-pub fn is_read_directly(alloc: Global, body: &[u8]) -> Result<bool, AllocError>
-    // What is read so spells a packet.
-    ensures { result ≡ Ok true → IsOk (packet_spelled body.now) }
-{
-    match direct_packet(alloc, body) {
-        Ok(packet) => {
-            drop(packet);
-            Ok(true)
-        }
-        Err(Detour::OutOfMemory) => Err(AllocError),
-        Err(Detour::OtherForm) => Ok(false),
-    }
 }
 
 // Its clauses are proved of one; those of the call above follow from it.
