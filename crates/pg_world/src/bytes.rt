@@ -64,7 +64,7 @@ impl<T: GroupTable + Drop> World<T> {
     ghost use Rattle.pg_step.specs.LossLaws.{LosingFrameWorld};
     ghost use Rattle.pg_world.specs.BytesLosing.{IsReachedLosing, ShowsLosingBytes, MoveLeaves, EventLeaves, StepLeaves};
     ghost use Rattle.pg_world.specs.Losses.{lost_in, is_lost};
-ghost use Rattle.pg_world.specs.Losing.{SeenAreLost, lost_after};
+    ghost use Rattle.pg_world.specs.Losing.{SeenAreLost, lost_after};
     ghost use Rattle.pg_world.specs.Bars.{IsHeld, StepTellsUndrained, TellsUndrained, put_bar, pull_bar, event_bar, bar_of, bytes_lost_after};
     ghost use Rattle.pg_world.specs.Worlds.{has_port, has_places, TimedFrameWorld};
     ghost use Rattle.pg_world.specs.Views.{no_account};
