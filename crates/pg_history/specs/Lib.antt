@@ -1,5 +1,6 @@
 pub mod Counted
 pub mod Exclusive
+pub mod Fresh
 pub mod Headline
 pub mod History
 pub mod Lasting

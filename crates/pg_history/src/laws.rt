@@ -21,6 +21,7 @@ ghost use Rattle.pg_step.specs.declared.refusal.Refusal.TheVariants.{NotAMessage
 ghost use Rattle.pg_step.specs.Config.{Config, names_of, name_at, nodes_at, groups_at};
 ghost use Rattle.pg_step.specs.FrameMachine.{node_step, frame_machine, losing_frame_machine, last_notice, sent_packet};
 ghost use Rattle.pg_history.specs.History.{LockFree, is_formed, history, updates_of, applied_count, applied_by};
+ghost use Rattle.pg_history.specs.Fresh.{MakesFresh};
 ghost use Rattle.pg_history.specs.Headline.{OneHistory, HoldsAnswered, AppliesHistory, HasTables, HarmsNobody, GoesOn};
 ghost use Rattle.pg_history.specs.Exclusive.{ExclusiveLocks};
 ghost use Rattle.pg_history.specs.RealTime.{InRealTime};
@@ -145,6 +146,13 @@ pub fn ended_processes_were_finished()
         → IsDistinct same_atom (names_of config) → Reaches config events w
         → pid.node ≡ name_at config i → ((plain w).node i).ended pid ≡ true
         → FinishedAt events i pid }
+{}
+
+/// No process is made twice. Those that a node makes have the numbers after those that it had made at the start, in their order;
+/// a number is never used again, whoever ends.
+pub fn processes_are_fresh()
+    ensures { (config : Config) (w : TimedFrameWorld) (events : List (Event Action)) (i : ℕ)
+        → Reaches config events w → MakesFresh config (plain w) i }
 {}
 
 /// Where no node is lost none sees a loss, and so all count.
