@@ -26,18 +26,18 @@ returns-in-Ok-clause-tried g c = λ whole.
     tried_where_waits g.L.Link.accepts g.I.Inlet.gives g.met.L.Link.rests g.met.I.Inlet.rests g.met.L.Link.composes g.met.I.Inlet.composes c.as_slice.result.now c.args.at_once c.args.pauses.now c.args.linked.now
     c.retry_each.new.linked
     (λ op. ap (list_any (λ other. same_op other op)) c.as_slice.ensures.value
-    ∙ (c.in-Ok.ensures.waiting.each op ∙ ap (λ s. waits (left_of s) ((kept_by s).stages op) (kept_by s)) (c.state.ensures ∙ ap held_by c.node.ensures)))
+    ∙ (c.in-Ok.ensures.each op ∙ ap (λ s. waits (left_of s) ((kept_by s).stages op) (kept_by s)) (c.state.ensures ∙ ap held_by c.node.ensures)))
     (c.retry_each.ensures.tried whole)
 
 pub returns-in-Ok-clause-waits : goal.returns-in-Ok-clause-waits
 returns-in-Ok-clause-waits g c =
     where_waits c.as_slice.result.now c.args.at_once c.retry_each.result.whole c.args.pauses.now c.retry_each.new.pauses (waits_at (node_of c.args.linked.now))
     (λ op. ap (list_any (λ other. same_op other op)) c.as_slice.ensures.value
-    ∙ (c.in-Ok.ensures.waiting.each op ∙ ap (λ s. waits (left_of s) ((kept_by s).stages op) (kept_by s)) (c.state.ensures ∙ ap held_by c.node.ensures)))
+    ∙ (c.in-Ok.ensures.each op ∙ ap (λ s. waits (left_of s) ((kept_by s).stages op) (kept_by s)) (c.state.ensures ∙ ap held_by c.node.ensures)))
     c.retry_each.ensures.waits
 
 pub returns-in-Ok-clause-others : goal.returns-in-Ok-clause-others
 returns-in-Ok-clause-others g c = λ op waits_not.
     c.retry_each.ensures.others op
     (ap (list_any (λ other. same_op other op)) c.as_slice.ensures.value
-    ∙ (c.in-Ok.ensures.waiting.each op ∙ (ap (λ s. waits (left_of s) ((kept_by s).stages op) (kept_by s)) (c.state.ensures ∙ ap held_by c.node.ensures) ∙ waits_not)))
+    ∙ (c.in-Ok.ensures.each op ∙ (ap (λ s. waits (left_of s) ((kept_by s).stages op) (kept_by s)) (c.state.ensures ∙ ap held_by c.node.ensures) ∙ waits_not)))
