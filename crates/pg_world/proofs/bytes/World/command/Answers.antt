@@ -25,6 +25,7 @@ returns-in-Ok g c = record {
       (grew_own (account_of c.args.self.now.histories) _ i c.in-Ok.done.began c.in-Ok.done.began refl c.begin.ensures.history c.begin.ensures.applied) c.in-Ok.ensures.event;
   changes = alone c.args.self.now.nodes.items c.args.self.now.rings.items c.args.node c.command.new.self;
   lost = refl;
+  room = refl;
 }
 
 pub returns-in-Err : goal.returns-in-Err
@@ -43,4 +44,5 @@ returns-in-Err g c = record {
       (subst (λ (crossing : Crossing). ShowsBytesPast config lost crossing (account_of c.args.self.now.histories) w) (sym same) shows);
   changes = alone c.args.self.now.nodes.items c.args.self.now.rings.items c.args.node c.command.new.self;
   lost = refl;
+  room = refl;
 }

@@ -39,6 +39,7 @@ returns-in-Ok g c = record {
         },
       );
   lost = refl;
+  room = refl;
   changes =
       let nodes = c.args.self.now.nodes.items in
       let rings = c.args.self.now.rings.items in
@@ -87,6 +88,7 @@ returns-in-Err g c = record {
         updates = shows.updates;
       });
   lost = refl;
+  room = refl;
   changes =
       let nodes = c.args.self.now.nodes.items in
       let rings = c.args.self.now.rings.items in

@@ -18,6 +18,7 @@ loop-place-preserved g c =
     let inside : c.loop-place.place < length numbers = omega (arith, within, c.loop-place.invariant.len) in
     record {
       len = length-set numbers c.loop-place.place c.step_number-number.result ∙ c.loop-place.invariant.len;
+      room = c.step_number-number.ensures.room ∙ c.loop-place.invariant.room;
       lost = λ none. c.step_number-number.ensures.lost (passes_at is_loss_in steps c.loop-place.place c.index-steps-place.result within c.index-steps-place.is none) ∙ c.loop-place.invariant.lost none;
       losing = λ config u reached shows.
           losing_steps_more bytes_past_losses config steps numbers c.loop-place.place c.step_number-number.result c.index-steps-place.result u

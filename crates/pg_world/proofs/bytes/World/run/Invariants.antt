@@ -1,6 +1,6 @@
 use Rattle.std.proofs.Common.{◌≡◌, take, length, []}
 use Rattle.pg_step.specs.Config.{Config}
-use Rattle.pg_world.specs.Crossings.{IsReached, ShowsBytes, crossing_of}
+use Rattle.pg_world.specs.Crossings.{IsReached, ShowsBytes, crossing_of, room_of}
 use Rattle.pg_world.specs.Histories.{account_of}
 use Rattle.pg_step.specs.LossLaws.{LosingFrameWorld}
 use Rattle.pg_world.specs.BytesLosing.{IsReachedLosing, ShowsLosingBytes}
@@ -14,6 +14,7 @@ use Rattle.pg_world.proofs.bytes.World.run.Given as goal
 abbrev pub invariant-loop-place : goal.invariant-loop-place
 invariant-loop-place g l = record {
   len : length l.numbers.items ≡ length l.steps;
+  room : room_of l.self ≡ room_of l.fn.self;
   lost : NobodyLost l.steps → lost_in l.self.losses ≡ lost_in l.fn.self.losses;
   ran : NobodyLost l.steps → (config : Config) (w : TimedFrameWorld) → lost_in l.fn.self.losses ≡ [] → IsReached config w → ShowsBytes config (crossing_of l.fn.self) (account_of l.fn.self.histories) w
       → GoesTo over_bytes config w (take l.place l.steps) (take l.place l.numbers.items) (ShowsBytes config (crossing_of l.self) (account_of l.self.histories));

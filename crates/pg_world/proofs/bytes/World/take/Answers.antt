@@ -46,6 +46,7 @@ returns-in-Ok g c = record {
       let same = node_same nodes rings i node c.next.new.self l c.index_mut-taker.ensures.value (ap seen_of c.in-Ok.ensures.state) c.in-Ok.ensures.same in
       subst (λ (crossing : Crossing). EventChanges crossing (crossing_of c.take_next-taken.new.self) (Take i c.args.peer) c.take_next-taken.result) same c.take_next-taken.ensures.changes;
   lost = c.take_next-taken.ensures.lost;
+  room = c.take_next-taken.ensures.room;
 }
 
 pub returns-in-Err : goal.returns-in-Err
@@ -75,4 +76,5 @@ returns-in-Err g c = record {
       unread_err config w (Take i p) fault _ memory (subst (λ (crossing : Crossing). ShowsBytesPast config lost crossing (account_of c.args.self.now.histories) w) (sym same) shows);
   changes = alone c.args.self.now.nodes.items c.args.self.now.rings.items c.args.node c.next.new.self;
   lost = refl;
+  room = refl;
 }

@@ -56,6 +56,7 @@ returns-in-Ok-take_read g c = record {
       place c.in-Ok-take_read.ensures.event);
   changes = alone c.args.self.now.nodes.items c.args.self.now.rings.items c.args.node c.take_read.new.self;
   lost = refl;
+  room = refl;
 }
 
 pub returns-in-Err-take_read : goal.returns-in-Err-take_read
@@ -85,4 +86,5 @@ returns-in-Err-take_read g c = record {
       (sym (node_same nodes rings i node node2 l at seen (c.in-Err-take_read.ensures.marked ∙ unmarked (links_of node) c.peer_place.result fault harms))) shows));
   changes = alone c.args.self.now.nodes.items c.args.self.now.rings.items c.args.node c.take_read.new.self;
   lost = refl;
+  room = refl;
 }
