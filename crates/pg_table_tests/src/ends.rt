@@ -117,3 +117,56 @@ fn ends<T: GroupTable>(rt: &impl Abort, table: &mut T, name: &Term, pid: &Pid, e
     }
     holds(rt, table.count(name, pid) == 0, "count");
 }
+
+/// Puts a pid in, a second time where memory was refused.
+fn put(rt: &impl Abort, ended: &mut Ended, pid: &Pid) {
+    let is_in = match pid.copy() {
+        Ok(pid) => ended.add(pid).is_ok(),
+        Err(_) => false,
+    };
+    if !is_in {
+        let pid = pid.copy().expect(rt, "again");
+        ended.add(pid).expect(rt, "again");
+    }
+}
+
+/// Whether these are the pids of a node that were put in one by one, by their ids.
+fn are_listed(rt: &impl Abort, alloc: Global, ended: &Ended, node: &Pid, ids: &[u32]) -> bool {
+    let pids = match ended.pids_of(alloc, &node.node) {
+        Ok(pids) => pids,
+        Err(_) => ended.pids_of(alloc, &node.node).expect(rt, "again"),
+    };
+    let mut are_listed = pids.len() == ids.len();
+    for (pid, id) in pids.iter().zip(ids) {
+        are_listed = are_listed && pid.node == node.node && pid.id == *id;
+    }
+    drop(pids);
+    are_listed
+}
+
+/// Of the ended pids those of one node are listed in their order, and a node that was put in as a whole adds none to them.
+#[test]
+fn ended_of_a_node(rt: HostRuntime) {
+    let cast = Cast::new(&rt, rt.alloc(), &[("b", 7), ("c", 1), ("a", 9), ("b", 2)]);
+    let [b, c, a, other] = cast.pids.as_slice() else {
+        holds(&rt, false, "four pids");
+        return;
+    };
+    let mut ended = Ended::new(rt.alloc());
+    for pid in [b, a, other] {
+        put(&rt, &mut ended, pid);
+    }
+    for (pid, ids) in [(a, &[9][..]), (b, &[2, 7][..]), (c, &[][..])] {
+        holds(&rt, are_listed(&rt, rt.alloc(), &ended, pid, ids), "listed");
+        holds(&rt, !ended.has_node(&pid.node), "one by one");
+    }
+    let is_in = ended.add_node(&b.node).is_ok() || ended.add_node(&b.node).is_ok();
+    holds(&rt, is_in && ended.has_node(&b.node), "as a whole");
+    holds(
+        &rt,
+        are_listed(&rt, rt.alloc(), &ended, b, &[2, 7]),
+        "still",
+    );
+    drop(ended);
+    drop(cast);
+}

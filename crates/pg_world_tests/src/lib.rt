@@ -3,6 +3,8 @@
 #![tactic(auto)]
 
 #[cfg(test)]
+mod configs;
+#[cfg(test)]
 mod examples;
 #[cfg(test)]
 mod memory;
