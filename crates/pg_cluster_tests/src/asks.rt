@@ -13,7 +13,8 @@ pub enum Asked<'a> {
     Make,
     Join(&'a Pid),
     Leave(&'a Pid),
-    Members,
+    /// For the members, of which this is the one, once.
+    Members(&'a Pid),
 }
 
 fn create(alloc: Global, name: &str) -> Result<Command, TermFault> {
@@ -66,7 +67,15 @@ pub fn command(alloc: Global, asked: Asked<'_>) -> Result<Command, TermFault> {
         Asked::Make => Ok(Command::Make),
         Asked::Join(pid) => change(alloc, pid, true),
         Asked::Leave(pid) => change(alloc, pid, false),
-        Asked::Members => members(alloc),
+        Asked::Members(_) => members(alloc),
+    }
+}
+
+// Whether the process is the one member, and once.
+fn is_alone(pid: &Pid, members: &[Pid]) -> bool {
+    match members {
+        [only] => only == pid,
+        _ => false,
     }
 }
 
@@ -76,7 +85,7 @@ fn is_answer(asked: Asked<'_>, reply: &Reply) -> bool {
         (Asked::Make, Reply::Made(_)) => true,
         (Asked::Join(_), Reply::Ok) => true,
         (Asked::Leave(_), Reply::Ok) => true,
-        (Asked::Members, Reply::Pids(_)) => true,
+        (Asked::Members(pid), Reply::Pids(pids)) => is_alone(pid, pids.as_slice()),
         _ => false,
     }
 }

@@ -13,7 +13,7 @@ fn change(rt: &impl Wait, alloc: Global, running: &mut Running, pid: &Pid, round
     let mut answered: u64 = 0;
     for _ in 0..rounds {
         let is_in = asks(rt, alloc, running, 1, Asked::Join(pid));
-        let is_told = asks(rt, alloc, running, 1, Asked::Members);
+        let is_told = asks(rt, alloc, running, 1, Asked::Members(pid));
         let is_out = asks(rt, alloc, running, 1, Asked::Leave(pid));
         answered = answered.saturating_add(u64::from(is_in));
         answered = answered.saturating_add(u64::from(is_told));

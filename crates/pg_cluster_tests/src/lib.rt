@@ -8,6 +8,8 @@ mod conversation;
 #[cfg(test)]
 mod gates;
 #[cfg(test)]
+mod judges;
+#[cfg(test)]
 mod losses;
 #[cfg(test)]
 mod memory;
