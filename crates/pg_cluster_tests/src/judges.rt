@@ -65,7 +65,7 @@ fn closed(rt: &impl Threads, started: Started) -> Option<Judged> {
 }
 
 // Two nodes, of which the second was asked to create the group of this name.
-fn judged(rt: &(impl Threads + Wait), alloc: Global, name: &str) -> Option<Judged> {
+fn closed_cluster(rt: &(impl Threads + Wait), alloc: Global, name: &str) -> Option<Judged> {
     match start(rt, alloc, TWO, Open) {
         Ok(begun) => {
             let mut started = begun;
@@ -78,7 +78,7 @@ fn judged(rt: &(impl Threads + Wait), alloc: Global, name: &str) -> Option<Judge
 
 #[test]
 fn a_step_less(rt: HostRuntime) {
-    let Some(told) = judged(&rt, rt.alloc(), "g") else {
+    let Some(told) = closed_cluster(&rt, rt.alloc(), "g") else {
         return holds(&rt, false, "it is closed");
     };
     let mut cluster = told;
@@ -92,11 +92,11 @@ fn a_step_less(rt: HostRuntime) {
 
 #[test]
 fn a_node_of_another_cluster(rt: HostRuntime) {
-    let Some(told) = judged(&rt, rt.alloc(), "g") else {
+    let Some(told) = closed_cluster(&rt, rt.alloc(), "g") else {
         return holds(&rt, false, "it is closed");
     };
     let mut cluster = told;
-    let Some(beside) = judged(&rt, rt.alloc(), "h") else {
+    let Some(beside) = closed_cluster(&rt, rt.alloc(), "h") else {
         drop(cluster);
         return holds(&rt, false, "the other is closed");
     };
