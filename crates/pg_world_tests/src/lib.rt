@@ -3,8 +3,6 @@
 #![tactic(auto)]
 
 #[cfg(test)]
-mod configs;
-#[cfg(test)]
 mod examples;
 #[cfg(test)]
 mod memory;

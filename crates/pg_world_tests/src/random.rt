@@ -1,13 +1,13 @@
 //! Random schedules of worlds over bytes, cut at random. Whatever moved when, packets that cross whole lead to the same nodes.
 
 use crate::schedules::{Schedule, are_same, are_same_worlds, read, state_of};
-use crate::slow::{GROUPS, Scene, are_answered, are_equal, first_pids, len_of};
+use crate::slow::{GROUPS, Scene, are_answered, first_pids, len_of};
 use crate::verdicts::holds;
 use pg_index::IndexTable;
 use pg_random::Random;
 use pg_step::{Command, OpId};
 use pg_term::{Pid, Term};
-use pg_world::{Config, FrameStep, FrameWorld, Step, Stepped, World, run, run_frames};
+use pg_world::{Config, FrameStep, Step, Stepped, World, run, run_frames};
 use std::alloc::{AllocError, Global};
 use std::process::Abort;
 
@@ -266,37 +266,7 @@ fn put_events(
     Ok(())
 }
 
-// Whether the same histories are told of a world over bytes and of one over packets, and of so many nodes how much they have applied.
-fn are_told_alike(
-    world: &World<IndexTable>,
-    packets: &FrameWorld<IndexTable>,
-    nodes: usize,
-) -> bool {
-    let mut are_alike = true;
-    for group in GROUPS {
-        let name = Term::Int(group);
-        are_alike = are_alike && are_equal(world.history(&name), packets.history(&name));
-        for place in 0..nodes {
-            let applied = packets.applied(place, &name);
-            are_alike = are_alike && world.applied(place, &name) == applied;
-        }
-        drop(name);
-    }
-    are_alike
-}
-
-// Whether the same ends are pending.
-fn are_pending_alike(world: &World<IndexTable>, packets: &FrameWorld<IndexTable>) -> bool {
-    let (Ok(some), Ok(others)) = (world.pending_ends(), packets.pending_ends()) else {
-        return false;
-    };
-    let are_alike = some == others;
-    drop(some);
-    drop(others);
-    are_alike
-}
-
-// Whether the events over packets all happen, and lead to the same nodes, of which the same is told.
+// Whether the events over packets all happen, and lead to the same nodes.
 fn is_run_over_packets(
     alloc: Global,
     config: &Config,
@@ -312,8 +282,6 @@ fn is_run_over_packets(
             for number in numbers.as_slice() {
                 is_run = is_run && *number == 0;
             }
-            is_run = is_run && are_told_alike(world, &packets, config.starts.len());
-            is_run = is_run && are_pending_alike(world, &packets);
             drop(packets);
             drop(numbers);
             is_run

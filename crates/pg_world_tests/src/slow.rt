@@ -31,19 +31,6 @@ pub fn len_of(history: History<'_>) -> usize {
     }
 }
 
-/// Whether both have the same commands of the same nodes, in the same order.
-pub fn are_equal(one: History<'_>, other: History<'_>) -> bool {
-    let count = len_of(one);
-    let mut are_equal = count == len_of(other);
-    for place in 0..count {
-        let (Some(entry), Some(twin)) = (entry_at(one, place), entry_at(other, place)) else {
-            return false;
-        };
-        are_equal = are_equal && entry.node == twin.node && entry.op == twin.op;
-    }
-    are_equal
-}
-
 /// The update at a place.
 pub fn entry_at(history: History<'_>, place: usize) -> Option<&Entry> {
     if place == history.0.len() {
