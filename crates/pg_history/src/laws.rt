@@ -22,6 +22,7 @@ ghost use Rattle.pg_step.specs.Config.{Config, names_of, name_at, nodes_at, grou
 ghost use Rattle.pg_step.specs.FrameMachine.{node_step, frame_machine, losing_frame_machine, last_notice, sent_packet};
 ghost use Rattle.pg_history.specs.History.{LockFree, is_formed, history, updates_of, applied_count, applied_by};
 ghost use Rattle.pg_history.specs.Fresh.{MakesFresh};
+ghost use Rattle.pg_history.specs.Quiet.{AllFormed, IsQuiet, NoLockHeld, NothingUnderWay};
 ghost use Rattle.pg_history.specs.Headline.{OneHistory, HoldsAnswered, AppliesHistory, HasTables, HarmsNobody, GoesOn};
 ghost use Rattle.pg_history.specs.Exclusive.{ExclusiveLocks};
 ghost use Rattle.pg_history.specs.RealTime.{InRealTime};
@@ -110,8 +111,10 @@ pub fn locks_are_exclusive()
 /// whatever node, stands before it; and from then on its update is among those that each node has applied, so that a formed
 /// node answers queries from a table that has it. No node goes back.
 ///
-/// So the changes of a group that go through its lock, and the queries after them, are linearizable. A create that is
-/// answered ok by the look, and a join or a leave that the look finds no group for, promise nothing of other nodes.
+/// So the changes of a group that go through its lock are linearizable. Of queries it says no more than this: one that comes
+/// in after such a change was answered reads a table that has it. Two queries while a change is under way may disagree, and
+/// the later one may read the older table. A create that is answered ok by the look, and a join or a leave that the look
+/// finds no group for, promise nothing of other nodes.
 pub fn updates_go_by_real_time()
     ensures { (config : Config) (w : TimedFrameWorld) (events : List (Event Action))
         → IsDistinct same_atom (names_of config) → Reaches config events w
@@ -239,4 +242,26 @@ pub fn references_within_the_clock()
         → t.state.references ≤ s.references + 2 }
     ensures reached { (config : Config) (w : TimedFrameWorld) (events : List (Event Action)) (i : ℕ)
         → Reaches config events w → (w.node i).state.references ≤ 2 * (w.node i).clock }
+{}
+
+/// Where no packet is on the way each node is formed: none waits for the exchange of a peer.
+pub fn a_quiet_world_is_formed()
+    ensures { (config : Config) (w : TimedFrameWorld) (events : List (Event Action))
+        → IsDistinct same_atom (names_of config) → Reaches config events w → IsQuiet config (plain w)
+        → AllFormed config (plain w) }
+{}
+
+/// Where no packet is on the way no node holds a lock, of whatever name and for whomever.
+pub fn a_quiet_world_holds_no_lock()
+    ensures { (config : Config) (w : TimedFrameWorld) (events : List (Event Action))
+        → IsDistinct same_atom (names_of config) → Reaches config events w → IsQuiet config (plain w)
+        → NoLockHeld config (plain w) }
+{}
+
+/// Where no packet is on the way no command has an attempt under way: each open one waits for its retry, and no node waits
+/// for a reply.
+pub fn a_quiet_world_waits_for_retries()
+    ensures { (config : Config) (w : TimedFrameWorld) (events : List (Event Action)) (i : ℕ)
+        → IsDistinct same_atom (names_of config) → Reaches config events w → IsQuiet config (plain w)
+        → is_place (length config) i ≡ true → NothingUnderWay ((plain w).node i) }
 {}

@@ -1,0 +1,4 @@
+pub mod Gathering
+pub mod Linked
+pub mod Rest
+pub mod Runs
