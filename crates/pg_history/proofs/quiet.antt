@@ -1,4 +1,9 @@
 pub mod Gathering
+pub mod Home
 pub mod Linked
+pub mod Phases
 pub mod Rest
+pub mod Retry
+pub mod Room
 pub mod Runs
+pub mod Solo

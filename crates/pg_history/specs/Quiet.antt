@@ -1,6 +1,9 @@
 -- Quiet worlds: no packet is on the way. Each node is formed there, no lock is held, and no command asks for anything.
-use Rattle.std.specs.Prelude.{◌≡◌, ℕ, Bool, true, false, [], None, length}
+use Rattle.std.specs.Prelude.{◌≡◌, ℕ, ◌+◌, ◌-◌, ◌*◌, ◌<◌, ◌≤◌, Bool, true, false, nat_lt, List, [], ◌∷◌, Some, None, length}
 use Rattle.pg_term.specs.declared.term.Term.{Term}
+use Rattle.pg_message.specs.declared.message.Message.{Message}
+use Rattle.pg_machine.specs.Clocked.{Stamped, plain}
+use Rattle.pg_machine.specs.Machine.{Event, Take, Do, happens}
 use Rattle.pg_machine.specs.Places.{is_place, is_pair}
 use Rattle.pg_step.specs.declared.command.OpId.{OpId}
 use Rattle.pg_step.specs.Nodes.{Node}
@@ -8,9 +11,11 @@ use Rattle.pg_step.specs.State.{State, Stage}
 use Rattle.pg_step.specs.State.Stage.{Waiting}
 use Rattle.pg_step.specs.Attempts.{gathered}
 use Rattle.pg_step.specs.Config.{Config}
-use Rattle.pg_step.specs.FrameMachine.{FrameWorld}
+use Rattle.pg_step.specs.FrameMachine.{FrameWorld, frame_machine}
+use Rattle.pg_step.specs.Step.{CLOCK_LIMIT, Action}
 use Rattle.pg_history.specs.Counted.{is_open}
-use Rattle.pg_history.specs.History.{LockFree, is_formed}
+use Rattle.pg_history.specs.History.{IsAnsweredOk, LockFree, answers_by, is_formed}
+use Rattle.pg_history.specs.Reached.{TimedFrameWorld}
 
 -- no packet is on the way from one node to another
 abbrev pub IsQuiet : Config → FrameWorld → Type 0
@@ -35,3 +40,36 @@ pub record NothingUnderWay (s : State) : Type 0 where
   pub waits : (op : OpId) → is_waiting (s.stages op) ≡ is_open (s.stages op)
   -- and no reply is waited for
   pub none_gathered : (c : ℕ) (q : Node) → gathered (s.uses c) q ≡ None
+
+-- ---- a retry
+
+-- each of these events takes a packet
+abbrev pub OnlyTakes : List (Event Action) → Type 0
+OnlyTakes [] = Unit {0}
+OnlyTakes (Take i p ∷ events) = OnlyTakes events
+OnlyTakes (Do i action ∷ events) = ⊥
+
+-- how many peers each node has
+abbrev pub peer_count : Config → ℕ
+peer_count config = length config - 1
+
+-- no clock is nearer to its limit than so many events
+abbrev pub HasRoom : Config → TimedFrameWorld → ℕ → Type 0
+HasRoom config w events = (i : ℕ) → is_place (length config) i ≡ true → (w.node i).clock + events ≤ CLOCK_LIMIT
+
+-- What a retry of a command of node i in a quiet world has come to once so many packets were taken behind it.
+pub record RetryGoes (config : Config) (i : ℕ) (op : OpId) (count : ℕ) (v : TimedFrameWorld) : Type 0 where
+  -- five packets for each peer are taken, and no more: three that the peer takes, and two replies
+  pub within : count ≤ 5 * peer_count config
+  -- the command is open until four for each peer are
+  pub open_until : is_open (((plain v).node i).stages op) ≡ nat_lt count (4 * peer_count config)
+  -- then it is answered ok
+  pub answered : 4 * peer_count config ≤ count → IsAnsweredOk op (answers_by i (plain v).reported)
+  -- and where all are taken the world is quiet again
+  pub quiet : count ≡ 5 * peer_count config → IsQuiet config (plain v)
+  -- until then a packet is on the way
+  pub on_the_way : count < 5 * peer_count config
+      → (x : ℕ) × (y : ℕ) × (packet : Stamped Message) × (rest : List (Stamped Message)) × (is_pair (length config) x y ≡ true) × (v.wire x y ≡ packet ∷ rest)
+  -- and each that is next on its way can be taken
+  pub is_taken : (x y : ℕ) (packet : Stamped Message) (rest : List (Stamped Message)) → is_pair (length config) x y ≡ true → v.wire x y ≡ packet ∷ rest
+      → (u : TimedFrameWorld) × (happens (frame_machine config) v (Take y x) ≡ Some u)

@@ -1,4 +1,4 @@
-ghost use Rattle.std.specs.Prelude.{◌≡◌, ◌≢◌, ℕ, ◌+◌, ◌*◌, ◌≤◌, true, false, cond, take, length, List, [], ◌∷◌, Err};
+ghost use Rattle.std.specs.Prelude.{◌≡◌, ◌≢◌, ℕ, ◌+◌, ◌*◌, ◌≤◌, true, false, cond, nat_lt, take, length, List, [], ◌∷◌, Some, Err};
 ghost use Rattle.std.specs.List.{AllByRecursion, IsDistinct};
 ghost use Rattle.pg_term.specs.declared.pid.Pid.{Pid};
 ghost use Rattle.pg_term.specs.Same.{same_atom};
@@ -7,7 +7,7 @@ ghost use Rattle.pg_group.specs.Value.{NoneEnded};
 ghost use Rattle.pg_exchange.specs.GroupList.{GroupList};
 ghost use Rattle.pg_message.specs.declared.message.Message.{Message};
 ghost use Rattle.pg_message.specs.declared.message.Message.TheVariants.{Exchange};
-ghost use Rattle.pg_machine.specs.Machine.{Event, Input, Turn, Taken, start_of};
+ghost use Rattle.pg_machine.specs.Machine.{Do, Event, Input, Turn, Taken, happens, start_of};
 ghost use Rattle.pg_step.specs.Nodes.{Node};
 ghost use Rattle.pg_step.specs.Peers.{is_bad_exchange};
 ghost use Rattle.pg_machine.specs.Clocked.{Timed, Stamped, plain};
@@ -16,13 +16,15 @@ ghost use Rattle.pg_machine.specs.Runs.{Leads, run, ran};
 ghost use Rattle.pg_machine.specs.Places.{is_place, is_pair};
 ghost use Rattle.pg_step.specs.State.{State, left};
 ghost use Rattle.pg_step.specs.Turns.{Report};
-ghost use Rattle.pg_step.specs.Step.{Action, step_take};
+ghost use Rattle.pg_step.specs.Step.{Action, Retry, step_take};
 ghost use Rattle.pg_step.specs.declared.refusal.Refusal.TheVariants.{NotAMessage};
-ghost use Rattle.pg_step.specs.Config.{Config, names_of, name_at, nodes_at, groups_at};
+ghost use Rattle.pg_step.specs.Config.{Config, names_of, name_at, nodes_at, groups_at, ports_at};
+ghost use Rattle.pg_step.specs.declared.command.OpId.{OpId};
 ghost use Rattle.pg_step.specs.FrameMachine.{node_step, frame_machine, losing_frame_machine, last_notice, sent_packet};
+ghost use Rattle.pg_history.specs.Counted.{is_open};
 ghost use Rattle.pg_history.specs.History.{LockFree, is_formed, history, updates_of, applied_count, applied_by};
 ghost use Rattle.pg_history.specs.Fresh.{MakesFresh};
-ghost use Rattle.pg_history.specs.Quiet.{AllFormed, IsQuiet, NoLockHeld, NothingUnderWay};
+ghost use Rattle.pg_history.specs.Quiet.{AllFormed, HasRoom, IsQuiet, NoLockHeld, NothingUnderWay, OnlyTakes, RetryGoes, peer_count};
 ghost use Rattle.pg_history.specs.Headline.{OneHistory, HoldsAnswered, AppliesHistory, HasTables, HarmsNobody, GoesOn};
 ghost use Rattle.pg_history.specs.Exclusive.{ExclusiveLocks};
 ghost use Rattle.pg_history.specs.RealTime.{InRealTime};
@@ -264,4 +266,24 @@ pub fn a_quiet_world_waits_for_retries()
     ensures { (config : Config) (w : TimedFrameWorld) (events : List (Event Action)) (i : ℕ)
         → IsDistinct same_atom (names_of config) → Reaches config events w → IsQuiet config (plain w)
         → is_place (length config) i ≡ true → NothingUnderWay ((plain w).node i) }
+{}
+
+/// A retry is answered. Where no packet is on the way, and no clock is within `5 (n - 1) + 1` of its limit, each open command
+/// can be tried again. From then on as long as packets are on the way each that is next can be taken. In whatever order they
+/// are, and whatever node takes them, the command is answered ok when `4 (n - 1)` are, and after `n - 1` more no packet is
+/// on the way.
+///
+/// It is about takes alone: where other commands come in meanwhile, they may have the lock, and this one waits again.
+pub fn a_retry_is_answered()
+    ensures begins { (config : Config) (w : TimedFrameWorld) (events : List (Event Action)) (i : ℕ) (op : OpId)
+        → IsDistinct same_atom (names_of config) → Reaches config events w → IsQuiet config (plain w)
+        → is_place (length config) i ≡ true → is_open (((plain w).node i).stages op) ≡ true
+        → nat_lt op.port (ports_at config i) ≡ true → HasRoom config w 1
+        → (v : TimedFrameWorld) × (happens (frame_machine config) w (Do i (Retry op)) ≡ Some v) }
+    ensures goes { (config : Config) (w v : TimedFrameWorld) (events takes : List (Event Action)) (i : ℕ) (op : OpId)
+        → IsDistinct same_atom (names_of config) → Reaches config events w → IsQuiet config (plain w)
+        → is_place (length config) i ≡ true → is_open (((plain w).node i).stages op) ≡ true
+        → HasRoom config w (1 + 5 * peer_count config)
+        → OnlyTakes takes → Leads (frame_machine config) w (Do i (Retry op) ∷ takes) v
+        → RetryGoes config i op (length takes) v }
 {}
