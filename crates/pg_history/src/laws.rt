@@ -1,4 +1,4 @@
-ghost use Rattle.std.specs.Prelude.{◌≡◌, ◌≢◌, ℕ, ◌+◌, ◌*◌, ◌≤◌, true, false, cond, nat_lt, take, length, List, [], ◌∷◌, Some, Err};
+ghost use Rattle.std.specs.Prelude.{◌≡◌, ◌≢◌, ℕ, ◌+◌, ◌*◌, ◌≤◌, true, false, cond, take, length, List, [], ◌∷◌, Some, Err};
 ghost use Rattle.std.specs.List.{AllByRecursion, IsDistinct};
 ghost use Rattle.pg_term.specs.declared.pid.Pid.{Pid};
 ghost use Rattle.pg_term.specs.Same.{same_atom};
@@ -18,7 +18,7 @@ ghost use Rattle.pg_step.specs.State.{State, left};
 ghost use Rattle.pg_step.specs.Turns.{Report};
 ghost use Rattle.pg_step.specs.Step.{Action, Retry, step_take};
 ghost use Rattle.pg_step.specs.declared.refusal.Refusal.TheVariants.{NotAMessage};
-ghost use Rattle.pg_step.specs.Config.{Config, names_of, name_at, nodes_at, groups_at, ports_at};
+ghost use Rattle.pg_step.specs.Config.{Config, names_of, name_at, nodes_at, groups_at};
 ghost use Rattle.pg_step.specs.declared.command.OpId.{OpId};
 ghost use Rattle.pg_step.specs.FrameMachine.{node_step, frame_machine, losing_frame_machine, last_notice, sent_packet};
 ghost use Rattle.pg_history.specs.Counted.{is_open};
@@ -278,7 +278,7 @@ pub fn a_retry_is_answered()
     ensures begins { (config : Config) (w : TimedFrameWorld) (events : List (Event Action)) (i : ℕ) (op : OpId)
         → IsDistinct same_atom (names_of config) → Reaches config events w → IsQuiet config (plain w)
         → is_place (length config) i ≡ true → is_open (((plain w).node i).stages op) ≡ true
-        → nat_lt op.port (ports_at config i) ≡ true → HasRoom config w 1
+        → HasRoom config w 1
         → (v : TimedFrameWorld) × (happens (frame_machine config) w (Do i (Retry op)) ≡ Some v) }
     ensures goes { (config : Config) (w v : TimedFrameWorld) (events takes : List (Event Action)) (i : ℕ) (op : OpId)
         → IsDistinct same_atom (names_of config) → Reaches config events w → IsQuiet config (plain w)

@@ -37,6 +37,7 @@ use Rattle.pg_history.specs.Counted.{is_open}
 use Rattle.pg_history.specs.History.{IsAnsweredOk, answers_by}
 use Rattle.pg_history.specs.Quiet.{HasRoom, IsQuiet, OnlyTakes, RetryGoes, is_waiting, peer_count}
 use Rattle.pg_history.specs.Reached.{TimedFrameWorld, Reaches}
+use Rattle.pg_history.proofs.commands.CountRuns.{all_counted}
 use Rattle.pg_history.proofs.ends.Apart.{pair_second, pair_swapped}
 use Rattle.pg_history.proofs.ends.Posts.{posted_timed}
 use Rattle.pg_history.proofs.places.Clauses.{harmless}
@@ -409,8 +410,8 @@ module _ (config : Config) (apart : IsDistinct same_atom (names_of config)) (h :
   timely = timely_run (machine_of config) CLOCK_LIMIT events (start_of (frame_machine config)) w reached (timely_start (machine_of config) CLOCK_LIMIT)
 
   -- the retry is no event that is refused
-  pub retry_happens : nat_lt op.port (ports_at config h) ≡ true → HasRoom config w 1 → (v : TimedFrameWorld) × (happens (frame_machine config) w (Do h (Retry op)) ≡ Some v)
-  retry_happens there room = does config w h (Retry op) here room (place_turn config (attempt m op waiting.0 s)) (
+  pub retry_happens : HasRoom config w 1 → (v : TimedFrameWorld) × (happens (frame_machine config) w (Do h (Retry op)) ≡ Some v)
+  retry_happens room = does config w h (Retry op) here room (place_turn config (attempt m op waiting.0 s)) (
       ap (λ z. placed config (acted m z (ports_at config h) (Retry op) s)) (left_all m s (rests.bridged.nobody h))
       ∙ ap (λ b. placed config (cond b (cond (waits m (s.stages op) s) (Ok (tried_again (s.stages op) m op s)) (Err NotWaiting)) (Err NoSuchPlace))) there
       ∙ ap (λ (stage : Stage). placed config (cond (waits m stage s) (Ok (tried_again stage m op s)) (Err NotWaiting))) waiting.1)
@@ -420,6 +421,9 @@ module _ (config : Config) (apart : IsDistinct same_atom (names_of config)) (h :
 
       s : State
       s = (plain w).node h
+
+      there : nat_lt op.port (ports_at config h) ≡ true
+      there = lt-ltb op.port (ports_at config h) ((all_counted config w events h reached).counts.within op opened).1
 
   room_run : (es : List (Event Action)) (x v : TimedFrameWorld) (k : ℕ) → Leads (frame_machine config) x es v → IsTimely CLOCK_LIMIT x → HasRoom config x (length es + k) → HasRoom config v k
   room_run [] x v k l on_time room = subst (λ z. HasRoom config z k) l (λ i there. let before : (x.node i).clock + (0 + k) ≤ CLOCK_LIMIT = room i there in omega (arith, before))
