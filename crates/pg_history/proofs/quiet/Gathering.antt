@@ -141,7 +141,7 @@ module _ (m : Nodes) (P : RefParts → Type 0) (own : (c : ℕ) → P (own_refer
       others d other = subst (λ x. is_complete m x ≡ false) (sym (upd_other nat_eq numbers (upd nat_eq s.uses c (Owning (name_of u) (s.references + 1))) (s.references + 1) (Updating op u c (same_atom m.own)) d other))
           (at_upd nat_eq numbers (λ x. is_complete m x ≡ false) s.uses c (Owning (name_of u) (s.references + 1)) d (λ _. refl) (before.gather d))
 
-  given_up_settled : (c : ℕ) (op : OpId) (u : Update) (st : Node → Status) (s : State) → Unsettled m P c s → Settled m P ((give_up m c op u st s).state)
+  pub given_up_settled : (c : ℕ) (op : OpId) (u : Update) (st : Node → Status) (s : State) → Unsettled m P c s → Settled m P ((give_up m c op u st s).state)
   given_up_settled c op u st s before = record {
     gather = all_put m s.uses c Spent refl before.gather;
     known = freed_held P (is_yes (st m.own) && is_holder (s.locks (name_of u)) (own_reference m c)) s.locks (name_of u) before.known;
@@ -164,23 +164,29 @@ module _ (m : Nodes) (P : RefParts → Type 0) (own : (c : ℕ) → P (own_refer
       go false true _ = given_up_settled c op u st s before
       go false false some = record { gather = all_here m s.uses c before.gather (ap (is_complete m) (is ∙ shape) ∙ some); known = before.known }
 
+  -- the rest is asked
+  pub asked_settled : (c : ℕ) (op : OpId) (u : Update) (lead : Node) (st : Node → Status) (s : State) → Unsettled m P c s
+      → Settled m P ((and_then (ask m (λ _. true) c op u lead st s) (λ v. locks_in m c (v.uses c) v)).state)
+  asked_settled c op u lead st s before =
+      let later = with_asked m (λ _. true) st (would_grant m s (name_of u)) in
+      let t = (ask m (λ _. true) c op u lead st s).state in
+      locks_settled c (t.uses c) op u lead later t (upd_same nat_eq numbers s.uses c (Locking op u lead later)) refl (asked_unsettled (λ _. true) c op u lead st s before)
+
+  -- an answer is missing as yet
+  pub missing_settled : (c : ℕ) (op : OpId) (u : Update) (lead : Node) (st : Node → Status) (s : State) → s.uses c ≡ Locking op u lead st → none_missing m st ≡ false → Unsettled m P c s → Settled m P s
+  missing_settled c op u lead st s is some before = record { gather = all_here m s.uses c before.gather (ap (is_complete m) is ∙ some); known = before.known }
+
   -- a round is over, or not
   goes_on_settled : (c : ℕ) (used : Use) (op : OpId) (u : Update) (lead : Node) (st : Node → Status) (s : State) → used ≡ Locking op u lead st → s.uses c ≡ used → Unsettled m P c s
       → Settled m P ((go_on m c used s).state)
   goes_on_settled c used op u lead st s shape is before =
       subst (λ x. Settled m P ((go_on m c x s).state)) (sym shape) (go (none_missing m st) (does_wait (after_round (round_of lead st) (none_denied m st))) refl)
     where
-      later : Node → Status
-      later = with_asked m (λ _. true) st (would_grant m s (name_of u))
-
-      t : State
-      t = (ask m (λ _. true) c op u lead st s).state
-
       go : (b d : Bool) → none_missing m st ≡ b
           → Settled m P ((cond b (cond d (give_up m c op u st s) (and_then (ask m (λ _. true) c op u lead st s) (λ v. locks_in m c (v.uses c) v))) (becomes s)).state)
       go true true _ = given_up_settled c op u st s before
-      go true false _ = locks_settled c (t.uses c) op u lead later t (upd_same nat_eq numbers s.uses c (Locking op u lead later)) refl (asked_unsettled (λ _. true) c op u lead st s before)
-      go false d some = record { gather = all_here m s.uses c before.gather (ap (is_complete m) (is ∙ shape) ∙ some); known = before.known }
+      go true false _ = asked_settled c op u lead st s before
+      go false d some = missing_settled c op u lead st s (is ∙ shape) some before
 
   attempt_settled : (op : OpId) (u : Update) (s : State) → Settled m P s → Settled m P ((attempt m op u s).state)
   attempt_settled op u s before =

@@ -95,7 +95,7 @@ has_replied u false r (Having M) fits out back = absurd fits
 has_replied u false r (Telling v) fits out back = absurd (cc)
 has_replied u false r Confirming fits out back = absurd (cc)
 
-holds_nothing : (used : Use) (p : Node) (r : RefParts) (line : Line) (M : Term) → IsAtRest used → Fits used p line → [] ≡ outs r line → holds line M ≡ false
+pub holds_nothing : (used : Use) (p : Node) (r : RefParts) (line : Line) (M : Term) → IsAtRest used → Fits used p line → [] ≡ outs r line → holds line M ≡ false
 holds_nothing Fresh p r line M rests fits out = ap (λ l. holds l M) fits
 holds_nothing Spent p r Quiet M rests fits out = refl
 holds_nothing Spent p r (Closing N) M rests fits out = absurd (cc)
