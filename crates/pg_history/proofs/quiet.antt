@@ -1,3 +1,4 @@
+pub mod Ending
 pub mod Gathering
 pub mod Home
 pub mod Linked
@@ -7,3 +8,6 @@ pub mod Retry
 pub mod Room
 pub mod Runs
 pub mod Solo
+pub mod Sums
+pub mod Taken
+pub mod Weights

@@ -7,7 +7,7 @@ ghost use Rattle.pg_group.specs.Value.{NoneEnded};
 ghost use Rattle.pg_exchange.specs.GroupList.{GroupList};
 ghost use Rattle.pg_message.specs.declared.message.Message.{Message};
 ghost use Rattle.pg_message.specs.declared.message.Message.TheVariants.{Exchange};
-ghost use Rattle.pg_machine.specs.Machine.{Do, Event, Input, Turn, Taken, happens, start_of};
+ghost use Rattle.pg_machine.specs.Machine.{Do, Event, Input, Take, Turn, Taken, happens, start_of};
 ghost use Rattle.pg_step.specs.Nodes.{Node};
 ghost use Rattle.pg_step.specs.Peers.{is_bad_exchange};
 ghost use Rattle.pg_machine.specs.Clocked.{Timed, Stamped, plain};
@@ -244,6 +244,25 @@ pub fn references_within_the_clock()
         → t.state.references ≤ s.references + 2 }
     ensures reached { (config : Config) (w : TimedFrameWorld) (events : List (Event Action)) (i : ℕ)
         → Reaches config events w → (w.node i).state.references ≤ 2 * (w.node i).clock }
+{}
+
+/// A world comes to rest. Where no command comes in and none is tried again, some packets are on the way and some follow
+/// from them, but no more than a certain number are ever taken, whatever their order. As long as one is on the way each that
+/// is next can be taken, where no clock is full. So takes lead to a world in which no packet is on the way, or a clock is full.
+pub fn a_world_comes_to_rest()
+    ensures ends { (config : Config) (w : TimedFrameWorld) (events : List (Event Action))
+        → IsDistinct same_atom (names_of config) → Reaches config events w
+        → (most : ℕ) × ((takes : List (Event Action)) (v : TimedFrameWorld)
+        → OnlyTakes takes → Leads (frame_machine config) w takes v → length takes ≤ most) }
+    ensures goes_on { (config : Config) (w : TimedFrameWorld) (events : List (Event Action))
+        (x y : ℕ) (packet : Stamped Message) (rest : List (Stamped Message))
+        → IsDistinct same_atom (names_of config) → Reaches config events w → HasRoom config w 1
+        → is_pair (length config) x y ≡ true → w.wire x y ≡ packet ∷ rest
+        → (v : TimedFrameWorld) × (happens (frame_machine config) w (Take y x) ≡ Some v) }
+    ensures rests { (config : Config) (w : TimedFrameWorld) (events : List (Event Action))
+        → IsDistinct same_atom (names_of config) → Reaches config events w
+        → (takes : List (Event Action)) × (v : TimedFrameWorld) × OnlyTakes takes
+        × Leads (frame_machine config) w takes v × (HasRoom config v 1 → IsQuiet config (plain v)) }
 {}
 
 /// Where no packet is on the way each node is formed: none waits for the exchange of a peer.

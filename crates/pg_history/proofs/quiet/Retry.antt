@@ -43,11 +43,12 @@ use Rattle.pg_history.proofs.ends.Posts.{posted_timed}
 use Rattle.pg_history.proofs.places.Clauses.{harmless}
 use Rattle.pg_history.proofs.places.Shown.{IsHere}
 use Rattle.pg_history.proofs.quiet.Home.{AtEnd, AtLock, AtUpdate, IsFreed, OwnSees, Result, Sees, SeesOk, attempt_result}
-use Rattle.pg_history.proofs.quiet.Phases.{Phase, backs, but, but_here, but_other, count, outs, total, total_all, total_but, total_le, total_tight}
+use Rattle.pg_history.proofs.quiet.Phases.{Phase, backs, count, outs}
 use Rattle.pg_history.proofs.quiet.Phases.Phase.{Ahead, Wanted, Given, Owned, Told, Confirmed, Done, Freed, Over}
 use Rattle.pg_history.proofs.quiet.Rest.{all_formed, no_lock_held, nothing_under_way, pair_of}
 use Rattle.pg_history.proofs.quiet.Room.{does, room_left, takes_next}
 use Rattle.pg_history.proofs.quiet.Runs.{Rested, rested_timed}
+use Rattle.pg_history.proofs.quiet.Sums.{but, but_here, but_other, find_place, total, total_all, total_but, total_le, total_tight}
 use Rattle.pg_history.proofs.quiet.Solo.{AtHome, Locks, Updates, Ends, Peer, Solo, home_turn, knows, takes, weight}
 use Rattle.pg_history.proofs.steps.Lasting.{all_stay, event_lasts}
 use Rattle.pg_history.proofs.steps.Lossless.{NobodyLost, did_all, event_nobody, left_all}
@@ -97,21 +98,6 @@ own_answered Unasked holder sees = refl
 own_answered Yes holder sees = refl
 own_answered Asked holder sees = absurd sees
 own_answered No holder sees = absurd sees
-
--- ---- what can be found among places
-
-find_place : (n : ℕ) (P Q : ℕ → Type 0) → ((k : ℕ) → P k ⊎ Q k) → ((k : ℕ) × P k) ⊎ ((k : ℕ) → k < n → Q k)
-find_place zero P Q each = inr (λ k below. absurd (omega arith))
-find_place (suc n) P Q each = go (each n) (find_place n P Q each)
-  where
-    go : P n ⊎ Q n → ((k : ℕ) × P k) ⊎ ((k : ℕ) → k < n → Q k) → ((k : ℕ) × P k) ⊎ ((k : ℕ) → k < suc n → Q k)
-    go (inl found) _ = inl (n, found)
-    go (inr none) (inl found) = inl found
-    go (inr none) (inr all) = inr (λ k below. last k below (cases_eq n k))
-      where
-        last : (k : ℕ) → k < suc n → (n ≡ k) ⊎ (n ≡ k → ⊥) → Q k
-        last k below (inl e) = subst Q e none
-        last k below (inr other) = all k (omega (arith, below, other))
 
 module _ (config : Config) (apart : IsDistinct same_atom (names_of config)) (h : ℕ) (here : IsHere config h) where
   below : h < length config

@@ -42,9 +42,11 @@ use Rattle.pg_history.proofs.locks.Packets.{number_is, use_is}
 use Rattle.pg_history.proofs.places.Located.{is_named, left_out, same_names}
 use Rattle.pg_history.proofs.places.Shown.{IsHere}
 use Rattle.pg_history.proofs.quiet.Home.{AtEnd, AtLock, AtUpdate, After, IsAtEnd, IsAtLock, IsAtUpdate, IsFreed, Knows, Result, Sees, SeesOk, confirmed_result, granted_result}
-use Rattle.pg_history.proofs.quiet.Phases.{Phase, backs, but, but_here, but_other, count, needs_free, outs, total, total_less, total_same}
+use Rattle.pg_history.proofs.quiet.Phases.{Phase, backs, count, needs_free, outs}
 use Rattle.pg_history.proofs.quiet.Phases.Phase.{Ahead, Wanted, Given, Owned, Told, Confirmed, Done, Freed, Over}
 use Rattle.pg_history.proofs.quiet.Rest.{each_peer, pair_of}
+use Rattle.pg_history.proofs.quiet.Taken.{first, full_later, reported_is, sent_is, state_is, turn}
+use Rattle.pg_history.proofs.quiet.Sums.{but, but_here, but_other, total, total_less, total_same}
 use Rattle.pg_history.proofs.references.Keys.{atoms, numbers, differ, at_upd, upd_at, upd_other}
 use Rattle.pg_history.proofs.steps.Lasting.{all_stay, event_lasts}
 use Rattle.pg_history.proofs.steps.Lossless.{NobodyLost, took_all}
@@ -308,45 +310,20 @@ module _ (config : Config) (apart : IsDistinct same_atom (names_of config)) (h :
         go k n (inl e) = subst (λ z. weight phase z ≡ weight later z) e (but_here h (λ q. count (phase q)) ∙ sym (but_here h (λ q. count (later q))))
         go k n (inr m) = but_other h (λ q. count (phase q)) k m ∙ ap count (sym (same k (λ e. n (sym e)))) ∙ sym (but_other h (λ q. count (later q)) k m)
 
-    module _ (v x : FrameWorld) (i p : ℕ) (happened : Happened (machine_of config) v (Take i p) x) (nobody : NobodyLost v) where
-      abbrev all : Changes {C = Action} (Take i p) happened.turn v x
-      all = changes (machine_of config) v x (Take i p) happened
-
-      first : (packet : Message) × (v.wire p i ≡ packet ∷ x.wire p i)
-      first = all.taken p i (refl, refl)
-
-      made : node_step config i (v.node i) (Taken p first.0) ≡ Some happened.turn
-      made = ap (node_step config i (v.node i)) (some_is (sym (ap (first_from p) first.1) ∙ happened.given)) ∙ happened.made
-
-      turn : (t : NodeTurn) × (taken (nodes_at config i) (name p) first.0 (v.node i) ≡ Ok t) × (happened.turn ≡ place_turn config t)
-      turn = took_all config i (v.node i) (nobody i) p first.0 happened.turn made
-
-      state_is : x.node i ≡ turn.0.state
-      state_is = all.state ∙ ap (λ (t : Turn State Message Report). t.state) turn.2
-
-      reported_is : x.reported ≡ v.reported ++ (i, turn.0.reported) ∷ []
-      reported_is = all.reported ∙ ap (λ (t : Turn State Message Report). v.reported ++ (i, t.reported) ∷ []) turn.2
-
-      sent_is : (q : ℕ) → IsHere config q → x.wire i q ≡ v.wire i q ++ turn.0.sends (name q)
-      sent_is q there = all.sent q ∙ ap (λ (t : Turn State Message Report). v.wire i q ++ t.sends q) turn.2 ∙ ap (λ b. v.wire i q ++ cond b (turn.0.sends (name q)) []) there
-
-      full_later : ((j : ℕ) → IsHere config j → formed (nodes_at config j) (v.node j) ≡ true) → (j : ℕ) → IsHere config j → formed (nodes_at config j) (x.node j) ≡ true
-      full_later full j there = all_stay (v.node j).merged (x.node j).merged (nodes_at config j).peers ((event_lasts config v x (Take i p) happened j).merged) (full j there)
-
     -- a peer takes a packet of the node of the change
     module _ (v x : FrameWorld) (i : ℕ) (there : Peer i) (happened : Happened (machine_of config) v (Take i h) x) (nobody : NobodyLost v) (left : ℕ) (solo : Solo v left) where
       abbrev changed : Changes {C = Action} (Take i h) happened.turn v x
       changed = changes (machine_of config) v x (Take i h) happened
 
       abbrev t : NodeTurn
-      t = (turn v x i h happened nobody).0
+      t = (turn config v x i h happened nobody).0
 
       abbrev phase : ℕ → Phase
       phase = solo.phase
 
       goes : PeerGoes m.own c u (phase i) (x.wire h i) t
-      goes = peer_goes m.own c u (nodes_at config i) (v.node i) t (first v x i h happened nobody).0 (x.wire h i) (phase i) (sym (solo.out i there) ∙ (first v x i h happened nobody).1)
-          (solo.full i (peer_here i there)) (solo.free i there) (turn v x i h happened nobody).1
+      goes = peer_goes m.own c u (nodes_at config i) (v.node i) t (first config v x i h happened nobody).0 (x.wire h i) (phase i) (sym (solo.out i there) ∙ (first config v x i h happened nobody).1)
+          (solo.full i (peer_here i there)) (solo.free i there) (turn config v x i h happened nobody).1
 
       abbrev later : ℕ → Phase
       later = upd nat_eq phase i goes.next
@@ -378,7 +355,7 @@ module _ (config : Config) (apart : IsDistinct same_atom (names_of config)) (h :
       home_then (Ends at ok) = Ends (record {
         stage = at.stage;
         peers = λ q this. put IsFreed q (λ e. goes.freed (subst (λ z. IsFreed (phase z)) (sym e) (at.peers q this))) (λ _. at.peers q this);
-      }) (subst (λ ts. IsAnsweredOk op (answers_by h ts)) (sym (reported_is v x i h happened nobody)) (answered_more h op v.reported ((i, t.reported) ∷ []) ok))
+      }) (subst (λ ts. IsAnsweredOk op (answers_by h ts)) (sym (reported_is config v x i h happened nobody)) (answered_more h op v.reported ((i, t.reported) ∷ []) ok))
 
       untaken : (q : ℕ) → i ≢ q → x.wire h q ≡ v.wire h q
       untaken q n = changed.ways h q home_apart (λ both. n both.1)
@@ -387,7 +364,7 @@ module _ (config : Config) (apart : IsDistinct same_atom (names_of config)) (h :
       other_way a b pair an bn (inl e) =
           let this = pair_second (length config) a b pair in
           subst (λ z. x.wire z b ≡ []) (sym e)
-          (sent_is v x i h happened nobody b this
+          (sent_is config v x i h happened nobody b this
           ∙ ap (λ xs. v.wire i b ++ xs) (goes.else (name b) (names_differ h b here this (λ e. bn (sym e))))
           ∙ append-nil (v.wire i b) ∙ subst (λ z. v.wire z b ≡ []) e (solo.others a b pair an bn))
       other_way a b pair an bn (inr n) = changed.ways a b n (λ both. an (sym both.0)) ∙ solo.others a b pair an bn
@@ -402,12 +379,12 @@ module _ (config : Config) (apart : IsDistinct same_atom (names_of config)) (h :
           out = λ q this. put (λ z. x.wire h q ≡ outs m.own c u z) q (λ e. subst (λ z. x.wire h z ≡ outs m.own c u goes.next) e goes.no_more) (λ n. untaken q n ∙ solo.out q this);
           back = λ q this. put (λ z. x.wire q h ≡ backs m.own c u z) q
               (λ e. subst (λ z. x.wire z h ≡ backs m.own c u goes.next) e
-              (sent_is v x i h happened nobody h here ∙ ap (λ xs. xs ++ t.sends m.own) (solo.back i there) ∙ goes.back))
+              (sent_is config v x i h happened nobody h here ∙ ap (λ xs. xs ++ t.sends m.own) (solo.back i there) ∙ goes.back))
               (λ n. changed.ways q h (λ e. n (sym e)) (λ both. peer_other q this both.0) ∙ solo.back q this);
           free = λ q this. put (λ z. needs_free z ≡ true → (x.node q).locks (name_of u) ≡ None) q (λ _ e. absurd (clash (sym e ∙ goes.lent)))
               (λ n e. ap (λ (s : State). s.locks (name_of u)) (changed.states q (λ same. n (sym same))) ∙ solo.free q this e);
           others = λ a b pair an bn. other_way a b pair an bn (cases_eq a i);
-          full = full_later v x i h happened nobody solo.full;
+          full = full_later config v x i h happened nobody solo.full;
           left_is = refl;
         };
       }
@@ -424,10 +401,10 @@ module _ (config : Config) (apart : IsDistinct same_atom (names_of config)) (h :
       then_phase = solo.phase
 
       abbrev packet : Message
-      packet = (first v x h p happened nobody).0
+      packet = (first config v x h p happened nobody).0
 
       way_is : backs m.own c u (then_phase p) ≡ packet ∷ x.wire p h
-      way_is = sym (solo.back p there) ∙ (first v x h p happened nobody).1
+      way_is = sym (solo.back p there) ∙ (first config v x h p happened nobody).1
 
       -- and goes on with the peer in a new phase
       home_took : (old new : Phase) → then_phase p ≡ old → count old ≡ suc (count new) → outs m.own c u old ≡ outs m.own c u new → needs_free new ≡ false → x.wire p h ≡ backs m.own c u new
@@ -436,9 +413,9 @@ module _ (config : Config) (apart : IsDistinct same_atom (names_of config)) (h :
         now = total (length config) (weight later);
         is = sym solo.left_is ∙ weight_less then_phase later p there (ap count was ∙ fewer ∙ ap (λ z. suc (count z)) (sym (upd_at nat_eq numbers then_phase p new p refl))) (λ q n. upd_other nat_eq numbers then_phase p new q n);
         solo = home_turn v x t later result
-            (state_is v x h p happened nobody ∙ ap (λ (z : NodeTurn). z.state) same)
-            (reported_is v x h p happened nobody ∙ ap (λ (z : NodeTurn). v.reported ++ (h, z.reported) ∷ []) same)
-            (λ q this. sent_is v x h p happened nobody q (peer_here q this) ∙ ap (λ (z : NodeTurn). v.wire h q ++ z.sends (name q)) same)
+            (state_is config v x h p happened nobody ∙ ap (λ (z : NodeTurn). z.state) same)
+            (reported_is config v x h p happened nobody ∙ ap (λ (z : NodeTurn). v.reported ++ (h, z.reported) ∷ []) same)
+            (λ q this. sent_is config v x h p happened nobody q (peer_here q this) ∙ ap (λ (z : NodeTurn). v.wire h q ++ z.sends (name q)) same)
             (λ q this. altered.states q (λ e. peer_other q this (sym e)))
             (λ q this. at_upd nat_eq numbers (λ z. v.wire h q ≡ outs m.own c u z) then_phase p new q
             (λ e. subst (λ z. v.wire h z ≡ outs m.own c u new) e (solo.out p there ∙ ap (outs m.own c u) was ∙ same_out)) (λ _. solo.out q this))
@@ -447,14 +424,14 @@ module _ (config : Config) (apart : IsDistinct same_atom (names_of config)) (h :
             (λ n. altered.ways q h (λ e. peer_other q this (sym e)) (λ both. n both.0) ∙ solo.back q this))
             (λ q this. at_upd nat_eq numbers (λ z. needs_free z ≡ true → (v.node q).locks (name_of u) ≡ None) then_phase p new q (λ _ e. absurd (clash (sym e ∙ lent))) (λ _. solo.free q this))
             (λ a b pair an bn. altered.ways a b an (λ both. bn (sym both.1)) ∙ solo.others a b pair an bn)
-            (full_later v x h p happened nobody solo.full);
+            (full_later config v x h p happened nobody solo.full);
       }
         where
           later : ℕ → Phase
           later = upd nat_eq then_phase p new
 
-          same : (turn v x h p happened nobody).0 ≡ t
-          same = ok_is (sym (turn v x h p happened nobody).1 ∙ made)
+          same : (turn config v x h p happened nobody).0 ≡ t
+          same = ok_is (sym (turn config v x h p happened nobody).1 ∙ made)
 
       -- a reply under a reference of its own
       reply_is : (k : ℕ) (said : Said) → reply_taken m (name p) (numbered m.own k) said s ≡ reply_under (s.uses k) m (name p) k said s
@@ -507,6 +484,6 @@ module _ (config : Config) (apart : IsDistinct same_atom (names_of config)) (h :
         go (inl e) _ = home_takes v x p (subst (λ z. is_pair (length config) z p ≡ true) e pair) (subst (λ z. Happened (machine_of config) v (Take z p) x) e happened) nobody left solo
         go (inr n) (inl e) = peer_took v x i (subst (λ z. is_pair (length config) z i ≡ true) e (pair_swapped (length config) i p pair)) (subst (λ z. Happened (machine_of config) v (Take i z) x) e happened) nobody left solo
         go (inr n) (inr k) =
-            let taken_first = first v x i p happened nobody in
+            let taken_first = first config v x i p happened nobody in
             let none : v.wire p i ≡ [] = solo.others p i (pair_swapped (length config) i p pair) k n in
             absurd (cc)

@@ -1,5 +1,5 @@
 -- Wrong turns, and what each leaves: of that the invariant, or the law, says the contrary.
-use Rattle.std.proofs.Common.{◌≡◌, ℕ, ◌+◌, ◌<◌, Bool, true, false, cond, List, [], ◌∷◌, ◌++◌, Some, None, ap, sym, ◌∙◌, subst, inl, inr, arith}
+use Rattle.std.proofs.Common.{◌≡◌, ℕ, ◌+◌, ◌*◌, ◌<◌, ◌≤◌, Bool, true, false, cond, List, [], ◌∷◌, ◌++◌, Some, None, ap, sym, ◌∙◌, subst, inl, inr, arith}
 use Rattle.pg_term.specs.declared.pid.Pid.{Pid}
 use Rattle.pg_term.specs.declared.term.Term.{Term}
 use Rattle.pg_term.specs.RefParts.{RefParts, ref_eq}
@@ -146,3 +146,7 @@ denied_back own c u (Told n) e = cc
 denied_back own c u Done e = cc
 denied_back own c u Freed e = cc
 denied_back own c u Over e = cc
+
+-- an attempt that is denied and begins anew at once: what it frees and what the new one leads to are more than the old one led to
+pub anew_is_more : (peers granted : ℕ) → 0 < peers → granted + 5 * peers ≤ 3 * peers → ⊥
+anew_is_more peers granted some pays = absurd (omega (arith, some, pays))
