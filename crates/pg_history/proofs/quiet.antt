@@ -1,3 +1,4 @@
+pub mod Answering
 pub mod Ending
 pub mod Gathering
 pub mod Home

@@ -12,7 +12,7 @@ use Rattle.pg_step.specs.State.Stage.{Waiting}
 use Rattle.pg_step.specs.Attempts.{gathered}
 use Rattle.pg_step.specs.Config.{Config}
 use Rattle.pg_step.specs.FrameMachine.{FrameWorld, frame_machine}
-use Rattle.pg_step.specs.Step.{CLOCK_LIMIT, Action}
+use Rattle.pg_step.specs.Step.{CLOCK_LIMIT, Action, Issue, Retry}
 use Rattle.pg_history.specs.Counted.{is_open}
 use Rattle.pg_history.specs.History.{IsAnsweredOk, LockFree, answers_by, is_formed}
 use Rattle.pg_history.specs.Reached.{TimedFrameWorld}
@@ -73,3 +73,16 @@ pub record RetryGoes (config : Config) (i : ℕ) (op : OpId) (count : ℕ) (v : 
   -- and each that is next on its way can be taken
   pub is_taken : (x y : ℕ) (packet : Stamped Message) (rest : List (Stamped Message)) → is_pair (length config) x y ≡ true → v.wire x y ≡ packet ∷ rest
       → (u : TimedFrameWorld) × (happens (frame_machine config) v (Take y x) ≡ Some u)
+
+-- ---- until all is answered
+
+-- each of these events takes a packet or tries a command again
+abbrev pub OnlyTakesAndRetries : List (Event Action) → Type 0
+OnlyTakesAndRetries [] = Unit {0}
+OnlyTakesAndRetries (Take i p ∷ events) = OnlyTakesAndRetries events
+OnlyTakesAndRetries (Do i (Retry op) ∷ events) = OnlyTakesAndRetries events
+OnlyTakesAndRetries (Do i (Issue port c) ∷ events) = ⊥
+
+-- no command of any node is open: each that came in is answered
+abbrev pub NoneOpen : Config → FrameWorld → Type 0
+NoneOpen config w = (i : ℕ) (op : OpId) → is_place (length config) i ≡ true → is_open ((w.node i).stages op) ≡ false

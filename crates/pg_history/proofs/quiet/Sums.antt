@@ -140,6 +140,22 @@ total_changes n p q f g a b apart below under more less same =
     rest k low other (inl e) = subst (λ z. g z ≡ between z) e (sym at_p)
     rest k low other (inr n) = same k low (λ e. n (sym e)) other ∙ sym (between_other k n)
 
+-- a number that is lower, and none that is higher
+pub total_lower : (n p : ℕ) (f g : ℕ → ℕ) → p < n → f p < g p → ((k : ℕ) → k < n → f k ≤ g k) → total n f < total n g
+unfolding total
+total_lower zero p f g below less each = absurd (omega arith)
+total_lower (suc n) p f g below less each = go (cases_eq n p) (λ under. total_lower n p f g under less (λ k low. each k (omega arith)))
+  where
+    go : (n ≡ p) ⊎ (n ≡ p → ⊥) → (p < n → total n f < total n g) → f n + total n f < g n + total n g
+    go (inl e) again =
+        let here : f n < g n = subst (λ k. f k < g k) (sym e) less in
+        let rest : total n f ≤ total n g = total_le n f g (λ k under. each k (omega arith)) in
+        omega (arith, here, rest)
+    go (inr apart) again =
+        let here : f n ≤ g n = each n (omega arith) in
+        let rest : total n f < total n g = again (omega (arith, below, apart)) in
+        omega (arith, here, rest)
+
 -- at one place at most
 pub total_one : (n p k : ℕ) → total n (λ y. cond (nat_eq p y) k 0) ≤ k
 unfolding total
