@@ -1,4 +1,5 @@
 pub mod Answering
+pub mod Bounds
 pub mod Ending
 pub mod Gathering
 pub mod Home

@@ -1,5 +1,5 @@
 -- Quiet worlds: no packet is on the way. Each node is formed there, no lock is held, and no command asks for anything.
-use Rattle.std.specs.Prelude.{◌≡◌, ℕ, ◌+◌, ◌-◌, ◌*◌, ◌<◌, ◌≤◌, Bool, true, false, nat_lt, List, [], ◌∷◌, Some, None, length}
+use Rattle.std.specs.Prelude.{◌≡◌, ℕ, zero, suc, ◌+◌, ◌-◌, ◌*◌, ◌<◌, ◌≤◌, Bool, true, false, nat_lt, List, [], ◌∷◌, Some, None, length}
 use Rattle.pg_term.specs.declared.term.Term.{Term}
 use Rattle.pg_message.specs.declared.message.Message.{Message}
 use Rattle.pg_machine.specs.Clocked.{Stamped, plain}
@@ -74,6 +74,24 @@ pub record RetryGoes (config : Config) (i : ℕ) (op : OpId) (count : ℕ) (v : 
   pub is_taken : (x y : ℕ) (packet : Stamped Message) (rest : List (Stamped Message)) → is_pair (length config) x y ≡ true → v.wire x y ≡ packet ∷ rest
       → (u : TimedFrameWorld) × (happens (frame_machine config) v (Take y x) ≡ Some u)
 
+-- ---- how much is still to be taken
+
+-- the sum of the first so many
+unfoldable pub total : ℕ → (ℕ → ℕ) → ℕ
+total zero f = 0
+total (suc n) f = f n + total n f
+
+abbrev pub packets_on_the_way : Config → FrameWorld → ℕ
+packets_on_the_way config w = total (length config) (λ x. total (length config) (λ y. length (w.wire x y)))
+
+abbrev pub open_commands : Config → FrameWorld → ℕ
+open_commands config w = total (length config) (λ i. (w.node i).opened)
+
+-- How many packets can be taken at most before a command comes in or one is tried again: those on the way and the replies
+-- to them, and five for each peer of each command that is open.
+abbrev pub most_takes : Config → FrameWorld → ℕ
+most_takes config w = 2 * packets_on_the_way config w + 5 * peer_count config * open_commands config w
+
 -- ---- until all is answered
 
 -- each of these events takes a packet or tries a command again
@@ -86,3 +104,8 @@ OnlyTakesAndRetries (Do i (Issue port c) ∷ events) = ⊥
 -- no command of any node is open: each that came in is answered
 abbrev pub NoneOpen : Config → FrameWorld → Type 0
 NoneOpen config w = (i : ℕ) (op : OpId) → is_place (length config) i ≡ true → is_open ((w.node i).stages op) ≡ false
+
+-- how many events answer every open command, where none comes in meanwhile: takes until the world is quiet, and for each open
+-- command its retry and five takes for each peer
+abbrev pub most_events : Config → FrameWorld → ℕ
+most_events config w = most_takes config w + (1 + 5 * peer_count config) * open_commands config w

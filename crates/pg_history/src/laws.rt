@@ -24,7 +24,7 @@ ghost use Rattle.pg_step.specs.FrameMachine.{node_step, frame_machine, losing_fr
 ghost use Rattle.pg_history.specs.Counted.{is_open};
 ghost use Rattle.pg_history.specs.History.{LockFree, is_formed, history, updates_of, applied_count, applied_by};
 ghost use Rattle.pg_history.specs.Fresh.{MakesFresh};
-ghost use Rattle.pg_history.specs.Quiet.{AllFormed, HasRoom, IsQuiet, NoLockHeld, NothingUnderWay, OnlyTakes, RetryGoes, peer_count};
+ghost use Rattle.pg_history.specs.Quiet.{AllFormed, HasRoom, IsQuiet, NoLockHeld, NoneOpen, NothingUnderWay, OnlyTakes, OnlyTakesAndRetries, RetryGoes, most_events, most_takes, peer_count};
 ghost use Rattle.pg_history.specs.Headline.{OneHistory, HoldsAnswered, AppliesHistory, HasTables, HarmsNobody, GoesOn};
 ghost use Rattle.pg_history.specs.Exclusive.{ExclusiveLocks};
 ghost use Rattle.pg_history.specs.RealTime.{InRealTime};
@@ -246,23 +246,22 @@ pub fn references_within_the_clock()
         → Reaches config events w → (w.node i).state.references ≤ 2 * (w.node i).clock }
 {}
 
-/// A world comes to rest. Where no command comes in and none is tried again, some packets are on the way and some follow
-/// from them, but no more than a certain number are ever taken, whatever their order. As long as one is on the way each that
-/// is next can be taken, where no clock is full. So takes lead to a world in which no packet is on the way, or a clock is full.
+/// A world comes to rest. Before a command comes in or one is tried again no more packets are taken than twice those on the
+/// way, and five for each peer of each open command, whatever their order. While one is on the way each that is next can be
+/// taken, where no clock is full. So where no clock comes near its limit takes lead to a world in which no packet is on the way.
 pub fn a_world_comes_to_rest()
-    ensures ends { (config : Config) (w : TimedFrameWorld) (events : List (Event Action))
+    ensures ends { (config : Config) (w v : TimedFrameWorld) (events takes : List (Event Action))
         → IsDistinct same_atom (names_of config) → Reaches config events w
-        → (most : ℕ) × ((takes : List (Event Action)) (v : TimedFrameWorld)
-        → OnlyTakes takes → Leads (frame_machine config) w takes v → length takes ≤ most) }
+        → OnlyTakes takes → Leads (frame_machine config) w takes v → length takes ≤ most_takes config (plain w) }
     ensures goes_on { (config : Config) (w : TimedFrameWorld) (events : List (Event Action))
         (x y : ℕ) (packet : Stamped Message) (rest : List (Stamped Message))
         → IsDistinct same_atom (names_of config) → Reaches config events w → HasRoom config w 1
         → is_pair (length config) x y ≡ true → w.wire x y ≡ packet ∷ rest
         → (v : TimedFrameWorld) × (happens (frame_machine config) w (Take y x) ≡ Some v) }
     ensures rests { (config : Config) (w : TimedFrameWorld) (events : List (Event Action))
-        → IsDistinct same_atom (names_of config) → Reaches config events w
+        → IsDistinct same_atom (names_of config) → Reaches config events w → HasRoom config w (most_takes config (plain w))
         → (takes : List (Event Action)) × (v : TimedFrameWorld) × OnlyTakes takes
-        × Leads (frame_machine config) w takes v × (HasRoom config v 1 → IsQuiet config (plain v)) }
+        × Leads (frame_machine config) w takes v × IsQuiet config (plain v) }
 {}
 
 /// Where no packet is on the way each node is formed: none waits for the exchange of a peer.
@@ -305,4 +304,13 @@ pub fn a_retry_is_answered()
         → HasRoom config w (1 + 5 * peer_count config)
         → OnlyTakes takes → Leads (frame_machine config) w (Do i (Retry op) ∷ takes) v
         → RetryGoes config i op (length takes) v }
+{}
+
+/// Nothing is stuck. From each world takes and retries alone lead to one in which each command that came in is answered, and
+/// no packet is on the way, where no clock comes near its limit.
+pub fn every_command_can_be_answered()
+    ensures { (config : Config) (w : TimedFrameWorld) (events : List (Event Action))
+        → IsDistinct same_atom (names_of config) → Reaches config events w → HasRoom config w (most_events config (plain w))
+        → (more : List (Event Action)) × (v : TimedFrameWorld) × OnlyTakesAndRetries more
+        × Leads (frame_machine config) w more v × NoneOpen config (plain v) × IsQuiet config (plain v) }
 {}

@@ -1,20 +1,20 @@
 -- Every command that is open can be answered, by takes and retries alone.
-use Rattle.std.proofs.Common.{◌≡◌, ◌≢◌, ◌⊎◌, inl, inr, ℕ, ◌+◌, ◌*◌, ◌-◌, ◌<◌, ◌≤◌, zero, suc, Bool, true, false, ◌&&◌, ◌||◌, cond, nat_eq, nat_lt, length, List, [], ◌∷◌, ◌++◌, Option, Some, None, refl, ap, sym, ◌∙◌, subst, append-nil, arith}
+use Rattle.std.proofs.Common.{◌≡◌, ◌⊎◌, inl, inr, ℕ, ◌+◌, ◌*◌, ◌<◌, ◌≤◌, zero, suc, Bool, true, false, ◌||◌, nat_eq, length, List, [], ◌∷◌, ◌++◌, Some, refl, ap, sym, ◌∙◌, subst, append-nil, arith}
 use Rattle.std.specs.List.{Contains, IsDistinct, list_any}
-use Rattle.std.proofs.lemmas.Bool.{cases_eq, cases_lt, eq-eqb, le-ltb}
+use Rattle.std.proofs.Math.Nat.{mul-suc}
+use Rattle.std.proofs.lemmas.Bool.{cases_eq, cases_lt, eq-eqb}
 use Rattle.std.proofs.lemmas.Bool.Decides.{Decides-ltb}
-use Rattle.std.proofs.lemmas.List.{append_assoc, length-append}
+use Rattle.std.proofs.lemmas.List.{length-append}
 use Rattle.pg_term.specs.Same.{same_atom}
 use Rattle.pg_message.specs.declared.message.Message.{Message}
-use Rattle.pg_machine.specs.Clocked.{Stamped, plain}
+use Rattle.pg_machine.specs.Clocked.{plain}
 use Rattle.pg_machine.specs.Happened.{Happened}
 use Rattle.pg_machine.specs.Machine.{Event, Input, Taken, Own, Take, Do, first_from, happens, node_of, start_of}
 use Rattle.pg_machine.specs.Places.{is_place}
 use Rattle.pg_machine.specs.Runs.{Leads}
 use Rattle.pg_step.specs.declared.answer.Reply.TheVariants as reply
 use Rattle.pg_step.specs.declared.command.OpId.{OpId}
-use Rattle.pg_step.specs.State.{State, Stage, Response}
-use Rattle.pg_step.specs.State.Stage.{Closed}
+use Rattle.pg_step.specs.State.{State, Response}
 use Rattle.pg_step.specs.State.Response.{Given}
 use Rattle.pg_step.specs.Step.{CLOCK_LIMIT, Action, Issue, Retry}
 use Rattle.pg_step.specs.Config.{Config, names_of, ports_at}
@@ -26,16 +26,18 @@ use Rattle.pg_machine.proofs.Sequences.{whole}
 use Rattle.pg_machine.proofs.Steps.{happened}
 use Rattle.pg_history.specs.Counted.{is_open, open_at, open_in}
 use Rattle.pg_history.specs.History.{IsAnsweredOk, answers_by, has_answer}
-use Rattle.pg_history.specs.Quiet.{HasRoom, IsQuiet, NoneOpen, OnlyTakes, OnlyTakesAndRetries, RetryGoes, peer_count}
+use Rattle.pg_history.specs.Quiet.{HasRoom, IsQuiet, NoneOpen, OnlyTakes, OnlyTakesAndRetries, RetryGoes, most_events, peer_count}
 use Rattle.pg_history.specs.Reached.{TimedFrameWorld, Reaches}
 use Rattle.pg_history.proofs.commands.CountRuns.{AllCounts, all_counted}
 use Rattle.pg_history.proofs.commands.Counting.{Counts}
 use Rattle.pg_history.proofs.commands.Ports.{counts_by, step_counts}
 use Rattle.pg_history.proofs.commands.StandRuns.{standing}
 use Rattle.pg_history.proofs.places.Shown.{IsHere}
-use Rattle.pg_history.proofs.quiet.Ending.{Rests, comes_to_rest}
+use Rattle.pg_history.proofs.quiet.Bounds.{some_open}
+use Rattle.pg_history.proofs.quiet.Ending.{Rests, comes_to_rest, on_time}
 use Rattle.pg_history.proofs.quiet.Retry.{retry_goes, retry_happens}
-use Rattle.pg_history.proofs.quiet.Sums.{find_place, total, total_lower}
+use Rattle.pg_history.proofs.quiet.Room.{room_run}
+use Rattle.pg_history.proofs.quiet.Sums.{find_place, total, total_le, total_lower, total_term}
 use Rattle.pg_history.proofs.steps.Lasting.{more_answers_later}
 use Rattle.pg_history.proofs.steps.Ways.{state_after}
 
@@ -262,22 +264,10 @@ module _ (config : Config) (apart : IsDistinct same_atom (names_of config)) wher
                   within (inl above) = ap is_open (counts.fitting.closed op above)
                   within (inr low) = none i ((Decides-ltb i n).0 here) here op.port ((counts.within op is).1) op.number (omega (arith, low))
 
-  room_or_not : (w : TimedFrameWorld) (k : ℕ) → HasRoom config w k ⊎ (HasRoom config w k → ⊥)
-  room_or_not w k = go (find_place n (λ i. IsHere config i × (CLOCK_LIMIT < (w.node i).clock + k)) (λ i. IsHere config i → (w.node i).clock + k ≤ CLOCK_LIMIT) each)
-    where
-      each : (i : ℕ) → (IsHere config i × (CLOCK_LIMIT < (w.node i).clock + k)) ⊎ (IsHere config i → (w.node i).clock + k ≤ CLOCK_LIMIT)
-      each i = told (is_place n i) refl (cases_lt CLOCK_LIMIT ((w.node i).clock + k))
-        where
-          told : (b : Bool) → is_place n i ≡ b → (CLOCK_LIMIT < (w.node i).clock + k) ⊎ ((w.node i).clock + k ≤ CLOCK_LIMIT) → (IsHere config i × (CLOCK_LIMIT < (w.node i).clock + k)) ⊎ (IsHere config i → (w.node i).clock + k ≤ CLOCK_LIMIT)
-          told b is (inr low) = inr (λ _. low)
-          told true here (inl high) = inl (here, high)
-          told false away (inl high) = inr (λ here. absurd (clash (sym here ∙ away)))
-
-      go : ((i : ℕ) × (IsHere config i × (CLOCK_LIMIT < (w.node i).clock + k))) ⊎ ((i : ℕ) → i < n → IsHere config i → (w.node i).clock + k ≤ CLOCK_LIMIT) → HasRoom config w k ⊎ (HasRoom config w k → ⊥)
-      go (inl found) = inr (λ room. let low : (w.node found.0).clock + k ≤ CLOCK_LIMIT = room found.0 found.1.0 in let high : CLOCK_LIMIT < (w.node found.0).clock + k = found.1.1 in absurd (omega (arith, low, high)))
-      go (inr all) = inl (λ i here. all i ((Decides-ltb i n).0 here) here)
-
   -- ---- one command is answered
+
+  one_behind : (es : List (Event Action)) (e : Event Action) (w v u : TimedFrameWorld) → Leads (frame_machine config) w es v → happens (frame_machine config) v e ≡ Some u → Leads (frame_machine config) w (es ++ e ∷ []) u
+  one_behind es e w v u l is = whole (frame_machine config) es (e ∷ []) w v u l (u, is, refl)
 
   abbrev enough : ℕ
   enough = 1 + 5 * peer_count config
@@ -314,7 +304,7 @@ module _ (config : Config) (apart : IsDistinct same_atom (names_of config)) wher
           world = u.0;
           only = one_more_take d.takes next.1 next.0 d.only;
           many = let sum : length (d.takes ++ Take next.1 next.0 ∷ []) ≡ length d.takes + 1 = length-append d.takes (Take next.1 next.0 ∷ []) in omega (arith, sum, many);
-          leads = whole (frame_machine config) (Do i (Retry op) ∷ d.takes) (Take next.1 next.0 ∷ []) w d.world u.0 d.leads (u.0, u.1, refl);
+          leads = one_behind (Do i (Retry op) ∷ d.takes) (Take next.1 next.0) w d.world u.0 d.leads u.1;
         }
 
     drive : (count : ℕ) → count ≤ 5 * peer_count config → Driven count
@@ -331,6 +321,7 @@ module _ (config : Config) (apart : IsDistinct same_atom (names_of config)) wher
       more : List (Event Action)
       world : TimedFrameWorld
       only : OnlyTakesAndRetries more
+      many : length more ≡ enough
       leads : Leads (frame_machine config) w more world
       rests : IsQuiet config (plain world)
       fewer : opened world < opened w
@@ -345,6 +336,7 @@ module _ (config : Config) (apart : IsDistinct same_atom (names_of config)) wher
           more = Do i (Retry op) ∷ last.takes;
           world = last.world;
           only = only;
+          many = omega (arith, many);
           leads = last.leads;
           rests = all.quiet many;
           fewer = opened_less events (Do i (Retry op) ∷ last.takes) w last.world l last.leads only i found.here op found.is ok;
@@ -357,37 +349,52 @@ module _ (config : Config) (apart : IsDistinct same_atom (names_of config)) wher
     pub world : TimedFrameWorld
     pub only : OnlyTakesAndRetries more
     pub leads : Leads (frame_machine config) w more world
-    pub done : HasRoom config world enough → NoneOpen config (plain world) × IsQuiet config (plain world)
+    pub none_open : NoneOpen config (plain world)
+    pub quiet : IsQuiet config (plain world)
 
   behind : (w v : TimedFrameWorld) (es : List (Event Action)) → OnlyTakesAndRetries es → Leads (frame_machine config) w es v → AllAnswered v → AllAnswered w
-  behind w v es only l all = record { more = es ++ all.more; world = all.world; only = both_too es all.more only all.only; leads = whole (frame_machine config) es all.more w v all.world l all.leads; done = all.done }
+  behind w v es only l all = record {
+    more = es ++ all.more;
+    world = all.world;
+    only = both_too es all.more only all.only;
+    leads = whole (frame_machine config) es all.more w v all.world l all.leads;
+    none_open = all.none_open;
+    quiet = all.quiet;
+  }
 
-  no_room : (w : TimedFrameWorld) → (HasRoom config w enough → ⊥) → AllAnswered w
-  no_room w none = record { more = []; world = w; only = tt; leads = refl; done = λ room. absurd (none room) }
+  -- where a command is open, one is counted as open
+  some_opened : (events : List (Event Action)) (w : TimedFrameWorld) → Reaches config events w → OpenOne w → 1 ≤ opened w
+  some_opened events w l found =
+      let one : 1 ≤ (w.node found.place).state.opened = some_open (ports_at config found.place) (w.node found.place).state ((all_counted config w events found.place l).counts) found.op found.is in
+      let all : (w.node found.place).state.opened ≤ opened w = total_term n found.place (λ i. (w.node i).state.opened) ((Decides-ltb found.place n).0 found.here) in
+      omega (arith, one, all)
 
-  answered_so : (events : List (Event Action)) (w : TimedFrameWorld) → Reaches config events w → IsQuiet config (plain w) → HasRoom config w enough ⊎ (HasRoom config w enough → ⊥) → OpenOne w ⊎ NoneOpen config (plain w)
-      → ((more : List (Event Action)) (v : TimedFrameWorld) → Leads (frame_machine config) w more v → IsQuiet config (plain v) → opened v < opened w → AllAnswered v) → AllAnswered w
-  answered_so events w l quiet (inr none) _ again = no_room w none
-  answered_so events w l quiet (inl room) (inr closed) again = record { more = []; world = w; only = tt; leads = refl; done = λ _. (closed, quiet) }
-  answered_so events w l quiet (inl room) (inl found) again =
-      let one = one_answered events w l quiet found room in
-      behind w one.world one.more one.only one.leads (again one.more one.world one.leads one.rests one.fewer)
+  answered_within : (k : ℕ) (events : List (Event Action)) (w : TimedFrameWorld) → Reaches config events w → IsQuiet config (plain w) → opened w ≤ k → HasRoom config w (enough * k) → OpenOne w ⊎ NoneOpen config (plain w) → AllAnswered w
+  answered_within k events w l quiet few room (inr none) = record { more = []; world = w; only = tt; leads = refl; none_open = none; quiet = quiet }
+  answered_within zero events w l quiet few room (inl found) = let some : 1 ≤ opened w = some_opened events w l found in absurd (omega (arith, some, few))
+  answered_within (suc k) events w l quiet few room (inl found) =
+      let sum : enough * suc k ≡ enough * k + enough = mul-suc enough k in
+      let free : HasRoom config w enough = λ i here. let all : (w.node i).clock + enough * suc k ≤ CLOCK_LIMIT = room i here in omega (arith, all, sum) in
+      let one = one_answered events w l quiet found free in
+      let less : opened one.world < opened w = one.fewer in
+      let many : length one.more ≡ enough = one.many in
+      let reached = whole (frame_machine config) events one.more (start_of (frame_machine config)) w one.world l one.leads in
+      let left : HasRoom config one.world (enough * k) = room_run config one.more w one.world (enough * k) one.leads (on_time config apart events w l)
+      (λ i here. let all : (w.node i).clock + enough * suc k ≤ CLOCK_LIMIT = room i here in omega (arith, all, sum, many)) in
+      behind w one.world one.more one.only one.leads (answered_within k (events ++ one.more) one.world reached one.rests (omega (arith, less, few)) left (open_or_none (events ++ one.more) one.world reached))
 
-  answered_within : (k : ℕ) (events : List (Event Action)) (w : TimedFrameWorld) → Reaches config events w → IsQuiet config (plain w) → opened w ≤ k → AllAnswered w
-  answered_within zero events w l quiet few = answered_so events w l quiet (room_or_not w enough) (open_or_none events w l) (λ more v k rests less. absurd (omega (arith, less, few)))
-  answered_within (suc k) events w l quiet few = answered_so events w l quiet (room_or_not w enough) (open_or_none events w l)
-      (λ more v leads rests less. answered_within k (events ++ more) v (whole (frame_machine config) events more (start_of (frame_machine config)) w v l leads) rests (omega (arith, less, few)))
-
-  pub all_answered : (events : List (Event Action)) (w : TimedFrameWorld) → Reaches config events w → AllAnswered w
-  all_answered events w l = behind w rest.world rest.takes (takes_too rest.takes rest.only) rest.leads (go (room_or_not rest.world enough))
+  pub all_answered : (events : List (Event Action)) (w : TimedFrameWorld) → Reaches config events w → HasRoom config w (most_events config (plain w)) → AllAnswered w
+  all_answered events w l room = behind w rest.world rest.takes only rest.leads
+      (answered_within (opened w) (events ++ rest.takes) rest.world reached rest.quiet few rest.left (open_or_none (events ++ rest.takes) rest.world reached))
     where
-      rest : Rests config apart w
-      rest = comes_to_rest config apart events w l
+      rest : Rests config apart w (enough * opened w)
+      rest = comes_to_rest config apart events w l (enough * opened w) room
+
+      only : OnlyTakesAndRetries rest.takes
+      only = takes_too rest.takes rest.only
 
       reached : Reaches config (events ++ rest.takes) rest.world
       reached = whole (frame_machine config) events rest.takes (start_of (frame_machine config)) w rest.world l rest.leads
 
-      go : HasRoom config rest.world enough ⊎ (HasRoom config rest.world enough → ⊥) → AllAnswered rest.world
-      go (inr none) = no_room rest.world none
-      go (inl room) = answered_within (opened rest.world) (events ++ rest.takes) rest.world reached
-          (rest.quiet (λ i here. let all : (rest.world.node i).clock + (1 + 5 * peer_count config) ≤ CLOCK_LIMIT = room i here in omega (arith, all))) (omega arith)
+      few : opened rest.world ≤ opened w
+      few = total_le n (λ i. (rest.world.node i).state.opened) (λ i. (w.node i).state.opened) (λ i _. fewer_opened events rest.takes w rest.world l rest.leads only i)

@@ -1,19 +1,18 @@
 -- Takes alone come to an end, and where no clock is full they end where no packet is on the way.
-use Rattle.std.proofs.Common.{◌≡◌, ◌≢◌, ◌⊎◌, inl, inr, ℕ, ◌+◌, ◌<◌, ◌≤◌, zero, suc, Bool, true, false, cond, nat_eq, length, List, [], ◌∷◌, ◌++◌, Option, Some, None, refl, ap, sym, ◌∙◌, subst, arith}
+use Rattle.std.proofs.Common.{◌≡◌, ◌≢◌, ◌⊎◌, inl, inr, ℕ, ◌+◌, ◌<◌, ◌≤◌, zero, suc, Bool, true, false, cond, nat_eq, length, List, [], ◌∷◌, ◌++◌, Some, refl, ap, sym, ◌∙◌, subst, arith}
 use Rattle.std.specs.List.{IsDistinct}
 use Rattle.std.proofs.lemmas.Bool.{cases_eq}
 use Rattle.std.proofs.lemmas.Bool.Decides.{Decides-ltb}
 use Rattle.pg_term.specs.Same.{same_atom}
 use Rattle.pg_message.specs.declared.message.Message.{Message}
+use Rattle.pg_message.specs.declared.message.Message.TheVariants.{Call, Reply, DelLock, Exchange, Down}
 use Rattle.pg_machine.specs.Clocked.{Stamped, packets_of, plain}
 use Rattle.pg_machine.specs.Happened.{Happened, Changes}
 use Rattle.pg_machine.specs.Machine.{Event, Take, Do, happens, start_of}
 use Rattle.pg_machine.specs.Places.{is_pair}
 use Rattle.pg_machine.specs.Runs.{Leads}
 use Rattle.pg_machine.specs.Timely.{IsTimely}
-use Rattle.pg_step.specs.Nodes.{Node, Nodes, to_one}
-use Rattle.pg_step.specs.State.{State, Use}
-use Rattle.pg_step.specs.State.Use.{Fresh}
+use Rattle.pg_step.specs.Nodes.{Nodes, to_one}
 use Rattle.pg_step.specs.Turns.{NodeTurn}
 use Rattle.pg_step.specs.Step.{CLOCK_LIMIT, Action}
 use Rattle.pg_step.specs.Config.{Config, names_of, name_at, nodes_at}
@@ -23,19 +22,27 @@ use Rattle.pg_machine.proofs.Plain.{plain_event, plain_leads}
 use Rattle.pg_machine.proofs.Sequences.{whole}
 use Rattle.pg_machine.proofs.Steps.{changes, happened, pair_apart}
 use Rattle.pg_machine.proofs.Timing.{timely_run, timely_start}
-use Rattle.pg_history.specs.Quiet.{HasRoom, IsQuiet, OnlyTakes}
+use Rattle.pg_history.specs.Quiet.{HasRoom, IsQuiet, OnlyTakes, most_takes}
 use Rattle.pg_history.specs.Reached.{TimedFrameWorld, Reaches}
 use Rattle.pg_history.proofs.ends.Apart.{pair_first, pair_second, pair_swapped}
 use Rattle.pg_history.proofs.places.Clauses.{harmless}
 use Rattle.pg_history.proofs.places.Located.{same_names}
 use Rattle.pg_history.proofs.places.Shown.{IsHere}
 use Rattle.pg_history.proofs.quiet.Rest.{IsAtRest}
-use Rattle.pg_history.proofs.quiet.Room.{takes_next}
-use Rattle.pg_history.proofs.quiet.Sums.{find_place, total, total_add, total_change, total_changes, total_one, total_same}
+use Rattle.pg_history.proofs.quiet.Bounds.{few_takes}
+use Rattle.pg_history.proofs.quiet.Room.{room_left, takes_next}
+use Rattle.pg_history.proofs.quiet.Sums.{find_place, total, total_add, total_change, total_changes, total_one, total_same, total_term}
 use Rattle.pg_history.proofs.quiet.Taken.{first, sent_is, state_is, turn}
 use Rattle.pg_history.proofs.quiet.Weights.{Lessens, Made, ToOne, node_weight, packet_lessens, packet_weight, sent_weight, weigh, weigh_append}
 use Rattle.pg_history.proofs.references.FittingRuns.{fitting_timed}
 use Rattle.pg_history.proofs.steps.Lossless.{NobodyLost, event_nobody, nobody_timed}
+
+least_one : (x : Message) → 1 ≤ packet_weight x
+least_one (Call r request) = omega arith
+least_one (Reply r said) = omega arith
+least_one (DelLock name r) = omega arith
+least_one (Exchange node groups) = omega arith
+least_one (Down pid) = omega arith
 
 one_way : (b : Bool) (x : Message) → weigh (cond b (x ∷ []) []) ≡ cond b (packet_weight x) 0
 one_way true x = let one : weigh (x ∷ []) ≡ packet_weight x = omega arith in one
@@ -145,24 +152,24 @@ module _ (config : Config) (apart : IsDistinct same_atom (names_of config)) wher
   all_made : (events : List (Event Action)) (w : TimedFrameWorld) → Reaches config events w → AllMade (plain w)
   all_made events w l i c above = subst IsAtRest (sym ((fitting_timed config events w l i).fresh c above)) tt
 
-  pub takes_end : (events : List (Event Action)) (w : TimedFrameWorld) → Reaches config events w
-      → (most : ℕ) × ((takes : List (Event Action)) (v : TimedFrameWorld) → OnlyTakes takes → Leads (frame_machine config) w takes v → length takes ≤ most)
-  takes_end events w l = (
-    world_weight (plain w),
-    λ takes v only more.
-        let all : length takes + world_weight (plain v) ≤ world_weight (plain w) =
-        all_taken takes only (plain w) (plain v) (plain_leads (machine_of config) CLOCK_LIMIT takes w v more) (nobody_timed config events w l) (all_made events w l) in
-        omega (arith, all),
-  )
+  pub takes_end : (events : List (Event Action)) (w : TimedFrameWorld) → Reaches config events w → (takes : List (Event Action)) (v : TimedFrameWorld) → OnlyTakes takes → Leads (frame_machine config) w takes v
+      → length takes ≤ most_takes config (plain w)
+  takes_end events w l takes v only more =
+      let all : length takes + world_weight (plain v) ≤ world_weight (plain w) =
+      all_taken takes only (plain w) (plain v) (plain_leads (machine_of config) CLOCK_LIMIT takes w v more) (nobody_timed config events w l) (all_made events w l) in
+      let few : world_weight (plain w) ≤ most_takes config (plain w) = few_takes config apart events w l in
+      omega (arith, all, few)
 
   -- ---- until nothing is on the way
+
+  pub on_time : (events : List (Event Action)) (w : TimedFrameWorld) → Reaches config events w → IsTimely CLOCK_LIMIT w
+  on_time events w l = timely_run (machine_of config) CLOCK_LIMIT events (start_of (frame_machine config)) w l (timely_start (machine_of config) CLOCK_LIMIT)
 
   pub next_is_taken : (events : List (Event Action)) (w : TimedFrameWorld) → Reaches config events w → HasRoom config w 1 → (x y : ℕ) (packet : Stamped Message) (rest : List (Stamped Message)) → is_pair n x y ≡ true
       → w.wire x y ≡ packet ∷ rest → (u : TimedFrameWorld) × (happens (frame_machine config) w (Take y x) ≡ Some u)
   next_is_taken events w l room x y packet rest pair is =
       let swapped = pair_swapped n x y pair in
-      let on_time : IsTimely CLOCK_LIMIT w = timely_run (machine_of config) CLOCK_LIMIT events (start_of (frame_machine config)) w l (timely_start (machine_of config) CLOCK_LIMIT) in
-      takes_next config w y x packet rest on_time swapped room is ((harmless config apart events w l).packets y x packet.packet (packets_of rest) swapped (ap packets_of is))
+      takes_next config w y x packet rest (on_time events w l) swapped room is ((harmless config apart events w l).packets y x packet.packet (packets_of rest) swapped (ap packets_of is))
 
   record Next (w : TimedFrameWorld) : Type 0 where
     from : ℕ
@@ -197,29 +204,23 @@ module _ (config : Config) (apart : IsDistinct same_atom (names_of config)) wher
       go (inl found) = inl found.1
       go (inr none) = inr (λ a b pair. none a (below a (pair_first n a b pair)) b (below b (pair_second n a b pair)) pair)
 
-  -- takes that lead to a world which is quiet, or in which a clock is full
-  pub record Rests (w : TimedFrameWorld) : Type 0 where
+  -- a packet that is next weighs something
+  next_weighs : (w : TimedFrameWorld) → Next w → 1 ≤ world_weight (plain w)
+  next_weighs w next =
+      let here : weigh ((plain w).wire next.from next.to) ≡ packet_weight next.packet.packet + weigh (packets_of next.rest) = ap (λ xs. weigh (packets_of xs)) next.is in
+      let some : 1 ≤ packet_weight next.packet.packet = least_one next.packet.packet in
+      let row : weigh ((plain w).wire next.from next.to) ≤ way_weights (plain w) next.from = total_term n next.to (λ b. weigh ((plain w).wire next.from b)) (below next.to (pair_second n next.from next.to next.pair)) in
+      let all : way_weights (plain w) next.from ≤ total n (way_weights (plain w)) = total_term n next.from (way_weights (plain w)) (below next.from (pair_first n next.from next.to next.pair)) in
+      omega (arith, here, some, row, all)
+
+  -- takes that lead to a quiet world, in which the clocks still have so much room
+  pub record Rests (w : TimedFrameWorld) (room : ℕ) : Type 0 where
     pub takes : List (Event Action)
     pub world : TimedFrameWorld
     pub only : OnlyTakes takes
     pub leads : Leads (frame_machine config) w takes world
-    pub quiet : HasRoom config world 1 → IsQuiet config (plain world)
-
-  rests_here : (w : TimedFrameWorld) → (HasRoom config w 1 → IsQuiet config (plain w)) → Rests w
-  rests_here w quiet = record { takes = []; world = w; only = tt; leads = refl; quiet = quiet }
-
-  -- one packet is taken, where it is not refused
-  rests_behind : (events : List (Event Action)) (w : TimedFrameWorld) → Reaches config events w → Next w ⊎ IsQuiet config (plain w)
-      → ((i p : ℕ) (u : TimedFrameWorld) → happens (frame_machine config) w (Take i p) ≡ Some u → Rests u) → Rests w
-  rests_behind events w l (inr quiet) again = rests_here w (λ _. quiet)
-  rests_behind events w l (inl next) again = go (happens (frame_machine config) w (Take next.to next.from)) refl
-    where
-      go : (o : Option TimedFrameWorld) → happens (frame_machine config) w (Take next.to next.from) ≡ o → Rests w
-      go (Some u) is = let rest = again next.to next.from u is in record { takes = Take next.to next.from ∷ rest.takes; world = rest.world; only = rest.only; leads = (u, is, rest.leads); quiet = rest.quiet }
-      go None none = rests_here w (λ room. let some = next_is_taken events w l room next.from next.to next.packet next.rest next.pair next.is in absurd (no_some (sym none ∙ some.1)))
-        where
-          no_some : {u : TimedFrameWorld} → ◌≡◌ {A = Option TimedFrameWorld} None (Some u) → ⊥
-          no_some e = absurd (cc)
+    pub quiet : IsQuiet config (plain world)
+    pub left : HasRoom config world room
 
   later : (events : List (Event Action)) (w u : TimedFrameWorld) (i p : ℕ) → Reaches config events w → happens (frame_machine config) w (Take i p) ≡ Some u → Reaches config (events ++ Take i p ∷ []) u
   later events w u i p l is = whole (frame_machine config) events (Take i p ∷ []) (start_of (frame_machine config)) w u l (u, is, refl)
@@ -228,11 +229,32 @@ module _ (config : Config) (apart : IsDistinct same_atom (names_of config)) wher
   lighter events w u i p l is =
       weighs_less (plain w) (plain u) i p (happened (machine_of config) (plain w) (plain u) (Take i p) (plain_event (machine_of config) CLOCK_LIMIT w u (Take i p) is)) (nobody_timed config events w l) (all_made events w l)
 
-  rests_within : (k : ℕ) (events : List (Event Action)) (w : TimedFrameWorld) → Reaches config events w → world_weight (plain w) ≤ k → Rests w
-  rests_within zero events w l light = rests_behind events w l (next_or_quiet w)
-      (λ i p u is. let less : world_weight (plain u) + 1 ≤ world_weight (plain w) = lighter events w u i p l is in absurd (omega (arith, less, light)))
-  rests_within (suc k) events w l light = rests_behind events w l (next_or_quiet w)
-      (λ i p u is. let less : world_weight (plain u) + 1 ≤ world_weight (plain w) = lighter events w u i p l is in rests_within k (events ++ Take i p ∷ []) u (later events w u i p l is) (omega (arith, less, light)))
+  -- one packet is taken, and what follows it
+  rests_behind : (events : List (Event Action)) (w : TimedFrameWorld) → Reaches config events w → (k room : ℕ) → HasRoom config w (suc k + room) → (next : Next w)
+      → ((u : TimedFrameWorld) → happens (frame_machine config) w (Take next.to next.from) ≡ Some u → HasRoom config u (k + room) → Rests u room) → Rests w room
+  rests_behind events w l k room free next again =
+      let one = next_is_taken events w l (λ i here. let all : (w.node i).clock + (suc k + room) ≤ CLOCK_LIMIT = free i here in omega (arith, all)) next.from next.to next.packet next.rest next.pair next.is in
+      let left = room_left config w one.0 (Take next.to next.from) (happened (frame_machine config) w one.0 (Take next.to next.from) one.1) (k + room) (on_time events w l)
+      (λ i here. let all : (w.node i).clock + (suc k + room) ≤ CLOCK_LIMIT = free i here in omega (arith, all)) in
+      let rest = again one.0 one.1 left in
+      record { takes = Take next.to next.from ∷ rest.takes; world = rest.world; only = rest.only; leads = (one.0, one.1, rest.leads); quiet = rest.quiet; left = rest.left }
 
-  pub comes_to_rest : (events : List (Event Action)) (w : TimedFrameWorld) → Reaches config events w → Rests w
-  comes_to_rest events w l = rests_within (world_weight (plain w)) events w l (omega arith)
+  rests_here : (w : TimedFrameWorld) (k room : ℕ) → HasRoom config w (k + room) → IsQuiet config (plain w) → Rests w room
+  rests_here w k room free quiet = record {
+    takes = [];
+    world = w;
+    only = tt;
+    leads = refl;
+    quiet = quiet;
+    left = λ i here. let all : (w.node i).clock + (k + room) ≤ CLOCK_LIMIT = free i here in omega (arith, all);
+  }
+
+  rests_within : (k room : ℕ) (events : List (Event Action)) (w : TimedFrameWorld) → Reaches config events w → world_weight (plain w) ≤ k → HasRoom config w (k + room) → Next w ⊎ IsQuiet config (plain w) → Rests w room
+  rests_within k room events w l light free (inr quiet) = rests_here w k room free quiet
+  rests_within zero room events w l light free (inl next) = let some : 1 ≤ world_weight (plain w) = next_weighs w next in absurd (omega (arith, some, light))
+  rests_within (suc k) room events w l light free (inl next) = rests_behind events w l k room free next
+      (λ u is left. let less : world_weight (plain u) + 1 ≤ world_weight (plain w) = lighter events w u next.to next.from l is in
+      rests_within k room (events ++ Take next.to next.from ∷ []) u (later events w u next.to next.from l is) (omega (arith, less, light)) left (next_or_quiet u))
+
+  pub comes_to_rest : (events : List (Event Action)) (w : TimedFrameWorld) → Reaches config events w → (room : ℕ) → HasRoom config w (most_takes config (plain w) + room) → Rests w room
+  comes_to_rest events w l room free = rests_within (most_takes config (plain w)) room events w l (few_takes config apart events w l) free (next_or_quiet w)

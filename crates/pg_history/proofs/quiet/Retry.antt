@@ -1,5 +1,5 @@
 -- A retry in a quiet world, and what is taken behind it.
-use Rattle.std.proofs.Common.{◌≡◌, ◌≢◌, ◌⊎◌, inl, inr, ℕ, zero, suc, ◌+◌, ◌*◌, ◌<◌, ◌≤◌, Bool, true, false, not, cond, nat_lt, length, List, [], ◌∷◌, ◌++◌, Option, Some, Ok, Err, refl, ap, sym, ◌∙◌, subst, arith}
+use Rattle.std.proofs.Common.{◌≡◌, ◌≢◌, ◌⊎◌, inl, inr, ℕ, suc, ◌+◌, ◌*◌, ◌<◌, ◌≤◌, Bool, true, false, not, cond, nat_lt, length, List, [], ◌∷◌, ◌++◌, Option, Some, Ok, Err, refl, ap, sym, ◌∙◌, subst, arith}
 use Rattle.std.specs.List.{IsDistinct}
 use Rattle.std.proofs.lemmas.Bool.{cases_eq, cases_lt, le-ltb, lt-ltb}
 use Rattle.std.proofs.lemmas.Bool.Decides.{Decides-ltb}
@@ -31,7 +31,6 @@ use Rattle.pg_machine.proofs.Plain.{plain_leads}
 use Rattle.pg_machine.proofs.Sequences.{whole}
 use Rattle.pg_machine.proofs.Steps.{changes, happened, pair_apart}
 use Rattle.pg_machine.proofs.Timing.{timely_run, timely_start}
-use Rattle.pg_machine.proofs.Timing.{timely as on_time_after}
 use Rattle.pg_machine.specs.Timely.{IsTimely}
 use Rattle.pg_history.specs.Counted.{is_open}
 use Rattle.pg_history.specs.History.{IsAnsweredOk, answers_by}
@@ -46,7 +45,7 @@ use Rattle.pg_history.proofs.quiet.Home.{AtEnd, AtLock, AtUpdate, IsFreed, OwnSe
 use Rattle.pg_history.proofs.quiet.Phases.{Phase, backs, count, outs}
 use Rattle.pg_history.proofs.quiet.Phases.Phase.{Ahead, Wanted, Given, Owned, Told, Confirmed, Done, Freed, Over}
 use Rattle.pg_history.proofs.quiet.Rest.{all_formed, no_lock_held, nothing_under_way, pair_of}
-use Rattle.pg_history.proofs.quiet.Room.{does, room_left, takes_next}
+use Rattle.pg_history.proofs.quiet.Room.{does, room_run, takes_next}
 use Rattle.pg_history.proofs.quiet.Runs.{Rested, rested_timed}
 use Rattle.pg_history.proofs.quiet.Sums.{but, but_here, but_other, find_place, total, total_all, total_but, total_le, total_tight}
 use Rattle.pg_history.proofs.quiet.Solo.{AtHome, Locks, Updates, Ends, Peer, Solo, home_turn, knows, takes, weight}
@@ -411,12 +410,6 @@ module _ (config : Config) (apart : IsDistinct same_atom (names_of config)) (h :
       there : nat_lt op.port (ports_at config h) ≡ true
       there = lt-ltb op.port (ports_at config h) ((all_counted config w events h reached).counts.within op opened).1
 
-  room_run : (es : List (Event Action)) (x v : TimedFrameWorld) (k : ℕ) → Leads (frame_machine config) x es v → IsTimely CLOCK_LIMIT x → HasRoom config x (length es + k) → HasRoom config v k
-  room_run [] x v k l on_time room = subst (λ z. HasRoom config z k) l (λ i there. let before : (x.node i).clock + (0 + k) ≤ CLOCK_LIMIT = room i there in omega (arith, before))
-  room_run (e ∷ es) x v k l on_time room =
-      let event = happened (frame_machine config) x l.0 e l.1 in
-      room_run es l.0 v k l.2 (on_time_after (machine_of config) CLOCK_LIMIT x l.0 e event on_time) (room_left config x l.0 e event (length es + k) on_time (λ i there. let before : (x.node i).clock + (suc (length es) + k) ≤ CLOCK_LIMIT = room i there in omega (arith, before)))
-
   module _ (room : HasRoom config w (1 + 5 * peer_count config)) (es : List (Event Action)) (only : OnlyTakes es) (v : TimedFrameWorld) (l : Leads (frame_machine config) w (Do h (Retry op) ∷ es) v) where
     abbrev u : Update
     u = waiting.0
@@ -453,7 +446,7 @@ module _ (config : Config) (apart : IsDistinct same_atom (names_of config)) (h :
     timely_later = timely_run (machine_of config) CLOCK_LIMIT (Do h (Retry op) ∷ es) w v l timely
 
     room_later : HasRoom config v now
-    room_later = room_run (Do h (Retry op) ∷ es) w v now l timely (λ i there. let before : (w.node i).clock + (1 + 5 * peer_count config) ≤ CLOCK_LIMIT = room i there in omega (arith, before, sum))
+    room_later = room_run config (Do h (Retry op) ∷ es) w v now l timely (λ i there. let before : (w.node i).clock + (1 + 5 * peer_count config) ≤ CLOCK_LIMIT = room i there in omega (arith, before, sum))
 
     as_many : nat_lt (peer_count config) now ≡ nat_lt (length es) (4 * peer_count config)
     as_many = go (cases_lt (peer_count config) now)

@@ -1,5 +1,5 @@
 -- Clocks that are far enough from their limit let events happen, and each event takes one from what is left.
-use Rattle.std.proofs.Common.{◌≡◌, ◌≢◌, ◌⊎◌, inl, inr, ℕ, suc, ◌+◌, ◌≤◌, true, cond, length, max, nat_le, List, ◌∷◌, Option, Some, None, refl, ap, sym, ◌∙◌, subst, arith}
+use Rattle.std.proofs.Common.{◌≡◌, ◌≢◌, ◌⊎◌, inl, inr, ℕ, suc, ◌+◌, ◌≤◌, true, cond, length, max, nat_le, List, ◌∷◌, Option, Some, None, refl, ap, sym, ◌∙◌, subst, arith, []}
 use Rattle.std.specs.List.{AllByRecursion}
 use Rattle.std.specs.Option.{option_map_or}
 use Rattle.std.proofs.lemmas.Bool.{cases_eq, le-leb}
@@ -16,8 +16,10 @@ use Rattle.pg_step.specs.Config.{Config}
 use Rattle.pg_step.specs.FrameMachine.{FrameWorld, frame_machine, machine_of, node_step}
 use Rattle.pg_machine.proofs.Options.{map_is_some}
 use Rattle.pg_machine.proofs.Plain.{plain_happens}
-use Rattle.pg_machine.proofs.Steps.{happens_so}
+use Rattle.pg_machine.proofs.Steps.{happened, happens_so}
+use Rattle.pg_machine.specs.Runs.{Leads}
 use Rattle.pg_machine.proofs.Timing.{ticks}
+use Rattle.pg_machine.proofs.Timing.{timely as on_time_after}
 use Rattle.pg_history.specs.Quiet.{HasRoom}
 use Rattle.pg_history.specs.Reached.{TimedFrameWorld}
 use Rattle.pg_history.proofs.ends.Apart.{pair_first, pair_second}
@@ -48,6 +50,12 @@ module _ (config : Config) where
           let same : (v.node i).clock ≡ (w.node i).clock = (ticks (machine_of config) CLOCK_LIMIT w v e happened).others i other in
           let before : (w.node i).clock + suc k ≤ CLOCK_LIMIT = room i here in
           omega (arith, same, before)
+
+  pub room_run : (es : List (Event Action)) (x v : TimedFrameWorld) (k : ℕ) → Leads (frame_machine config) x es v → IsTimely CLOCK_LIMIT x → HasRoom config x (length es + k) → HasRoom config v k
+  room_run [] x v k l on_time room = subst (λ z. HasRoom config z k) l (λ i there. let before : (x.node i).clock + (0 + k) ≤ CLOCK_LIMIT = room i there in omega (arith, before))
+  room_run (e ∷ es) x v k l on_time room =
+      let event = happened (frame_machine config) x l.0 e l.1 in
+      room_run es l.0 v k l.2 (on_time_after (machine_of config) CLOCK_LIMIT x l.0 e event on_time) (room_left x l.0 e event (length es + k) on_time (λ i there. let before : (x.node i).clock + (suc (length es) + k) ≤ CLOCK_LIMIT = room i there in omega (arith, before)))
 
   -- ---- events that happen
 

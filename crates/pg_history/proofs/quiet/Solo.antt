@@ -17,7 +17,7 @@ use Rattle.pg_message.specs.declared.message.Request.TheVariants.{SetLock, Chang
 use Rattle.pg_message.specs.declared.message.Said.{Said}
 use Rattle.pg_message.specs.declared.message.Said.TheVariants.{Granted, Applied}
 use Rattle.pg_multicall.specs.Gathered.{what_of}
-use Rattle.pg_machine.specs.Machine.{Taken, Take, Turn, first_from}
+use Rattle.pg_machine.specs.Machine.{Take}
 use Rattle.pg_machine.specs.Happened.{Happened, Changes}
 use Rattle.pg_machine.specs.Places.{is_pair}
 use Rattle.pg_step.specs.declared.answer.Reply.TheVariants as reply
@@ -32,8 +32,7 @@ use Rattle.pg_step.specs.Peers.{would_grant, verdict, lock_request, update_reque
 use Rattle.pg_step.specs.Attempts.{count_answer, count_ok, go_on, replies_in, reply_by, reply_under, reply_taken, lock_entry}
 use Rattle.pg_step.specs.Step.{Action, taken}
 use Rattle.pg_step.specs.Config.{Config, names_of, name_at, nodes_at}
-use Rattle.pg_step.specs.FrameMachine.{node_step, machine_of, place_turn, FrameWorld}
-use Rattle.pg_machine.proofs.Options.{some_is}
+use Rattle.pg_step.specs.FrameMachine.{machine_of, FrameWorld}
 use Rattle.pg_machine.proofs.Steps.{changes, pair_apart}
 use Rattle.pg_step.proofs.Once.{clash}
 use Rattle.pg_history.specs.History.{IsAnsweredOk, answer_at, answer_by, answers_by}
@@ -48,8 +47,7 @@ use Rattle.pg_history.proofs.quiet.Rest.{each_peer, pair_of}
 use Rattle.pg_history.proofs.quiet.Taken.{first, full_later, reported_is, sent_is, state_is, turn}
 use Rattle.pg_history.proofs.quiet.Sums.{but, but_here, but_other, total, total_less, total_same}
 use Rattle.pg_history.proofs.references.Keys.{atoms, numbers, differ, at_upd, upd_at, upd_other}
-use Rattle.pg_history.proofs.steps.Lasting.{all_stay, event_lasts}
-use Rattle.pg_history.proofs.steps.Lossless.{NobodyLost, took_all}
+use Rattle.pg_history.proofs.steps.Lossless.{NobodyLost}
 use Rattle.pg_history.proofs.steps.Single.{ok_is}
 use Rattle.pg_history.proofs.steps.Ways.{told_append}
 use Rattle.pg_history.proofs.tables.Formed.{all_others}

@@ -1,12 +1,8 @@
 -- Sums over places.
 use Rattle.std.proofs.Common.{◌≡◌, ◌≢◌, ◌⊎◌, inl, inr, ℕ, ◌+◌, ◌*◌, ◌<◌, ◌≤◌, zero, suc, nat_eq, cond, refl, ap, sym, ◌∙◌, subst, add-one, arith}
-use Rattle.std.proofs.Math.Nat.{mul-suc}
+use Rattle.std.proofs.Math.Nat.{mul-add, mul-suc, mul-zero}
 use Rattle.std.proofs.lemmas.Bool.{cases_eq, eq-eqb, ne_eqb}
-
--- the sum of the first so many
-pub total : ℕ → (ℕ → ℕ) → ℕ
-total zero f = 0
-total (suc n) f = f n + total n f
+unfoldable pub use Rattle.pg_history.specs.Quiet.{total}
 
 pub total_same : (n : ℕ) (f g : ℕ → ℕ) → ((k : ℕ) → k < n → f k ≡ g k) → total n f ≡ total n g
 unfolding total
@@ -139,6 +135,30 @@ total_changes n p q f g a b apart below under more less same =
     rest : (k : ℕ) → k < n → k ≢ q → (p ≡ k) ⊎ (p ≡ k → ⊥) → g k ≡ between k
     rest k low other (inl e) = subst (λ z. g z ≡ between z) e (sym at_p)
     rest k low other (inr n) = same k low (λ e. n (sym e)) other ∙ sym (between_other k n)
+
+-- each is part of the sum
+pub total_term : (n p : ℕ) (f : ℕ → ℕ) → p < n → f p ≤ total n f
+unfolding total
+total_term zero p f below = absurd (omega arith)
+total_term (suc n) p f below = go (cases_eq n p) (λ under. total_term n p f under)
+  where
+    go : (n ≡ p) ⊎ (n ≡ p → ⊥) → (p < n → f p ≤ total n f) → f p ≤ f n + total n f
+    go (inl e) again = let here : f n ≡ f p = ap f e in omega (arith, here)
+    go (inr apart) again = let rest : f p ≤ total n f = again (omega (arith, below, apart)) in omega (arith, rest)
+
+pub total_scale : (n k : ℕ) (f : ℕ → ℕ) → total n (λ c. k * f c) ≡ k * total n f
+unfolding total
+total_scale zero k f = sym (mul-zero k)
+total_scale (suc n) k f =
+    let rest : total n (λ c. k * f c) ≡ k * total n f = total_scale n k f in
+    let both : k * (f n + total n f) ≡ k * f n + k * total n f = mul-add k (f n) (total n f) in
+    omega (arith, rest, both)
+
+-- sums of sums, in the other order
+pub total_swap : (a b : ℕ) (f : ℕ → ℕ → ℕ) → total a (λ i. total b (λ j. f i j)) ≡ total b (λ j. total a (λ i. f i j))
+unfolding total
+total_swap zero b f = let none : total b (λ j. 0) ≡ 0 * b = total_all b 0 (λ j. 0) (λ j _. refl) in let zero_is : 0 * b ≡ 0 = omega arith in sym (none ∙ zero_is)
+total_swap (suc a) b f = ap (λ k. total b (λ j. f a j) + k) (total_swap a b f) ∙ sym (total_add b (λ j. f a j) (λ j. total a (λ i. f i j)))
 
 -- a number that is lower, and none that is higher
 pub total_lower : (n p : ℕ) (f g : ℕ → ℕ) → p < n → f p < g p → ((k : ℕ) → k < n → f k ≤ g k) → total n f < total n g

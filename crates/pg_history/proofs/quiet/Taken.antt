@@ -1,5 +1,5 @@
 -- A packet that is taken: what was first on its way, and what its node made of it.
-use Rattle.std.proofs.Common.{◌≡◌, ℕ, Bool, true, cond, length, List, [], ◌∷◌, ◌++◌, Some, Ok, refl, ap, sym, ◌∙◌}
+use Rattle.std.proofs.Common.{◌≡◌, ℕ, true, cond, [], ◌∷◌, ◌++◌, Some, Ok, refl, ap, sym, ◌∙◌}
 use Rattle.pg_message.specs.declared.message.Message.{Message}
 use Rattle.pg_machine.specs.Machine.{Taken, Take, Turn, first_from}
 use Rattle.pg_machine.specs.Happened.{Happened, Changes}

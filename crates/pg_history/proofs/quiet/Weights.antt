@@ -1,6 +1,6 @@
 -- How many packets are still taken, at most, where no command comes in and none is tried again: those on the way, with the replies
 -- to them, and those that references still lead to. No turn that follows a packet adds to that.
-use Rattle.std.proofs.Common.{◌≡◌, ◌≢◌, ◌⊎◌, inl, inr, ℕ, ◌+◌, ◌*◌, ◌<◌, ◌≤◌, suc, Bool, true, false, ◌&&◌, ◌||◌, cond, nat_eq, List, [], ◌∷◌, ◌++◌, Ok, Err, refl, ap, sym, ◌∙◌, subst, arith}
+use Rattle.std.proofs.Common.{◌≡◌, ◌⊎◌, inl, inr, ℕ, ◌+◌, ◌*◌, ◌<◌, ◌≤◌, Bool, true, false, ◌&&◌, ◌||◌, cond, nat_eq, List, [], ◌∷◌, ◌++◌, Ok, Err, refl, ap, sym, ◌∙◌, subst, arith}
 use Rattle.std.proofs.lemmas.Bool.{cases_lt}
 use Rattle.pg_term.specs.RefParts.{RefParts, ref_eq}
 use Rattle.pg_term.specs.Same.{same_atom}
@@ -18,7 +18,7 @@ use Rattle.pg_multicall.specs.Gathered.{what_of}
 use Rattle.pg_multicall.specs.declared.gather.Taken.TheVariants as what
 use Rattle.pg_step.specs.declared.command.OpId.{OpId}
 use Rattle.pg_step.specs.declared.refusal.Refusal.TheVariants.{NotAMessage}
-use Rattle.pg_step.specs.Nodes.{Node, Nodes, every, is_node, is_peer, to_one, to_peers}
+use Rattle.pg_step.specs.Nodes.{Node, Nodes, every, is_peer, to_one, to_peers}
 use Rattle.pg_step.specs.State.{State, Status, Use}
 use Rattle.pg_step.specs.State.Status.{Unasked, Asked, Yes, No}
 use Rattle.pg_step.specs.State.Use.{Fresh, Locking, Owning, Updating, Spent}
@@ -28,7 +28,7 @@ use Rattle.pg_step.specs.Attempts.{own_reference, is_unasked, is_yes, asks, own_
 use Rattle.pg_step.specs.Step.{taken}
 use Rattle.pg_history.proofs.quiet.Rest.{IsAtRest}
 use Rattle.pg_history.proofs.quiet.Sums.{total, total_add, total_all, total_change, total_le, total_more, total_same}
-use Rattle.pg_history.proofs.references.Keys.{atoms, numbers, cases, at_upd, upd_at, upd_same, upd_other}
+use Rattle.pg_history.proofs.references.Keys.{atoms, numbers, at_upd, upd_same, upd_other}
 use Rattle.pg_history.proofs.steps.Single.{Makes, ok_is, judged, none_counted}
 
 -- ---- packets
@@ -128,6 +128,10 @@ module _ (m : Nodes) (n : ℕ) (name : ℕ → Node) where
       go : (q : Node) (b : Bool) → (b ≡ true → f q ≤ g q) → cond b (f q) 0 ≤ cond b (g q) 0
       go q true here = here refl
       go q false here = omega arith
+
+  pub peers_at_most : (f : Node → ℕ) (k : ℕ) → total n (λ y. cond (is_peer m (name y)) (f (name y)) 0) ≤ k → peers_total f ≤ k
+  unfolding peers_total
+  peers_at_most f k few = few
 
   peers_add : (f g : Node → ℕ) → peers_total (λ q. f q + g q) ≡ peers_total f + peers_total g
   unfolding peers_total
