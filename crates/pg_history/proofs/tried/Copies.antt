@@ -113,10 +113,14 @@ copied_locks_in m c (Locking op update lead st) s =
     (cond (none_missing m st) (give_up m c op update st s) (becomes s))
 copied_locks_in m c _ s = becomes s
 
+-- what follows a round in which one has denied
+abbrev pub copied_denied_round : Nodes → ℕ → OpId → Update → (Node → Status) → State → NodeTurn
+copied_denied_round m c op update st s = give_up m c op update st s
+
 abbrev pub copied_go_on : Nodes → ℕ → Use → State → NodeTurn
 copied_go_on m c (Locking op update first st) s =
     cond (none_missing m st)
-    (cond (does_wait (after_round (round_of first st) (none_denied m st))) (give_up m c op update st s)
+    (cond (does_wait (after_round (round_of first st) (none_denied m st))) (copied_denied_round m c op update st s)
     (and_then (ask m (λ q. true) c op update first st s) (λ t. locks_in m c (t.uses c) t)))
     (becomes s)
 copied_go_on m c _ s = becomes s

@@ -47,7 +47,7 @@ use Rattle.pg_history.proofs.references.Keys.{atoms, terms, upd_same}
 use Rattle.pg_history.proofs.references.References.{references}
 use Rattle.pg_history.proofs.quiet.Weights.{Made, Pays, gives_up_pay, round_goes_pay, stays}
 use Rattle.pg_history.proofs.quiet.Gathering.{Settled, Unsettled, asked_settled, given_up_settled, missing_settled}
-use Rattle.pg_history.proofs.tried.Copies.{copied_grants, copied_would_grant, copied_lock_request, copied_update_request, copied_greater, copied_merge, copied_all_merged, copied_exchange, copied_new_attempt, copied_begin, copied_all_replied, copied_replies_in, copied_all_granted, copied_locks_in, copied_lock_freed, copied_go_on}
+use Rattle.pg_history.proofs.tried.Copies.{copied_grants, copied_would_grant, copied_lock_request, copied_update_request, copied_greater, copied_merge, copied_all_merged, copied_exchange, copied_new_attempt, copied_begin, copied_all_replied, copied_replies_in, copied_all_granted, copied_locks_in, copied_lock_freed, copied_denied_round, copied_go_on}
 
 -- ---- a lock is asked for
 
@@ -179,23 +179,32 @@ module _ (w : World) (a : Node) (peers : List Node) (sits : Sits w.nodes w.seen 
 
 -- ---- a round
 
--- a round that is over leads on, or the attempt is given up: no reference has all that it gathers
+-- where one has denied no reference has all that it gathers any more
+denied_settled : (m : Nodes) (P : RefParts → Type 0) → ((c : ℕ) → P (own_reference m c)) → (c : ℕ) (op : OpId) (u : Update) (st : Node → Status) (s : State) → Unsettled m P c s
+    → Settled m P ((copied_denied_round m c op u st s).state)
+denied_settled m P own c op u st s before = given_up_settled m P own c op u st s before
+
+-- so it is whatever a round leads to
 pub round_settled : (m : Nodes) (P : RefParts → Type 0) → ((c : ℕ) → P (own_reference m c)) → (c : ℕ) (op : OpId) (u : Update) (lead : Node) (st : Node → Status) (s : State) → s.uses c ≡ Locking op u lead st
     → Unsettled m P c s → Settled m P ((copied_go_on m c (Locking op u lead st) s).state)
 round_settled m P own c op u lead st s is before = go (none_missing m st) (does_wait (after_round (round_of lead st) (none_denied m st))) refl
   where
     go : (b d : Bool) → none_missing m st ≡ b
-        → Settled m P ((cond b (cond d (give_up m c op u st s) (and_then (ask m (λ q. true) c op u lead st s) (λ t. locks_in m c (t.uses c) t))) (becomes s)).state)
-    go true true _ = given_up_settled m P own c op u st s before
+        → Settled m P ((cond b (cond d (copied_denied_round m c op u st s) (and_then (ask m (λ q. true) c op u lead st s) (λ t. locks_in m c (t.uses c) t))) (becomes s)).state)
+    go true true _ = denied_settled m P own c op u st s before
     go true false _ = asked_settled m P own c op u lead st s before
     go false d some = missing_settled m P own c op u lead st s is some before
 
--- nor does it lead to more packets than its reference led to before, so that takes alone come to an end
+-- and what follows a denial is no more than what the reference led to before, so that takes alone come to an end
+denied_pays : (m : Nodes) (n : ℕ) (name : ℕ → Node) (c : ℕ) (op : OpId) (u : Update) (lead : Node) (st : Node → Status) (s : State) → s.uses c ≡ Locking op u lead st → Made m n name s
+    → Pays m n name s (copied_denied_round m c op u st s)
+denied_pays m n name c op u lead st s is made = gives_up_pay m n name s c op u lead st made is
+
 pub round_pays : (m : Nodes) (n : ℕ) (name : ℕ → Node) (c : ℕ) (op : OpId) (u : Update) (lead : Node) (st : Node → Status) (s : State) → s.uses c ≡ Locking op u lead st → Made m n name s
     → Pays m n name s (copied_go_on m c (Locking op u lead st) s)
 round_pays m n name c op u lead st s is made = go (none_missing m st) (does_wait (after_round (round_of lead st) (none_denied m st)))
   where
-    go : (b d : Bool) → Pays m n name s (cond b (cond d (give_up m c op u st s) (and_then (ask m (λ q. true) c op u lead st s) (λ t. locks_in m c (t.uses c) t))) (becomes s))
-    go true true = gives_up_pay m n name s c op u lead st made is
+    go : (b d : Bool) → Pays m n name s (cond b (cond d (copied_denied_round m c op u st s) (and_then (ask m (λ q. true) c op u lead st s) (λ t. locks_in m c (t.uses c) t))) (becomes s))
+    go true true = denied_pays m n name c op u lead st s is made
     go true false = round_goes_pay m n name s c op u lead st made is
     go false d = stays m n name s made
