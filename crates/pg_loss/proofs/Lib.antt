@@ -11,6 +11,7 @@ pub mod OwnEnds
 pub mod Standing
 pub mod Parting
 pub mod RealTime
+pub mod Retries
 pub mod Requests
 pub mod Survives
 pub mod Tabled

@@ -21,6 +21,7 @@ ghost use Rattle.pg_history.specs.History.{Entry, answered_count, applied_by, hi
 ghost use Rattle.pg_history.specs.Exclusive.{ExclusiveLocks};
 ghost use Rattle.pg_history.specs.WithLosses.{FormedAtLosses, NoLockOfLost, NonePendingLeft, SurvivesLosses};
 ghost use Rattle.pg_loss.specs.Agreeing.{EndedHome, SawAll};
+ghost use Rattle.pg_loss.specs.Quiet.{IsQuietLeft, WaitsForRetries};
 ghost use Rattle.pg_loss.specs.Reached.{LosingReaches, lives_in, nodes_of};
 ghost use Rattle.pg_loss.specs.Thinned.{AppliesThinned};
 
@@ -119,4 +120,12 @@ pub fn nodes_left_agree()
         → SawAll config w i → SawAll config w j
         → applied_by i name w.world.reported ≡ applied_by j name w.world.reported
         → (w.world.node i).state.table name ≡ (w.world.node j).state.table name }
+{}
+
+/// Where nothing is on the way to a node that is not lost, each open command of such a node waits for its retry: it waits for
+/// nobody, also not for a node that was lost.
+pub fn open_commands_wait_for_retries_past_losses()
+    ensures { (config : Config) (w : LosingFrameWorld) (events : List (LosingEvent Action)) (i : ℕ)
+        → IsDistinct same_atom (names_of config) → LosingReaches config events w → IsQuietLeft config w
+        → is_place (length config) i ≡ true → w.gone i ≡ false → WaitsForRetries config w i }
 {}

@@ -71,7 +71,7 @@ IsAtRest Fresh = Unit {0}
 IsAtRest Spent = Unit {0}
 IsAtRest used = ⊥
 
-not_asked : (N : Term) (status : Status) (r : RefParts) (line : Line) → FitsStatus N status line → [] ≡ outs r line → [] ≡ backs r line → not (is_asked status) ≡ true
+pub not_asked : (N : Term) (status : Status) (r : RefParts) (line : Line) → FitsStatus N status line → [] ≡ outs r line → [] ≡ backs r line → not (is_asked status) ≡ true
 not_asked N Unasked r line fits out back = refl
 not_asked N Yes r line fits out back = refl
 not_asked N No r line fits out back = refl
@@ -84,7 +84,7 @@ not_asked N Asked r (Having M) fits out back = absurd fits
 not_asked N Asked r (Telling u) fits out back = absurd fits
 not_asked N Asked r Confirming fits out back = absurd fits
 
-has_replied : (u : Update) (replied : Bool) (r : RefParts) (line : Line) → FitsReply u replied line → [] ≡ outs r line → [] ≡ backs r line → replied ≡ true
+pub has_replied : (u : Update) (replied : Bool) (r : RefParts) (line : Line) → FitsReply u replied line → [] ≡ outs r line → [] ≡ backs r line → replied ≡ true
 has_replied u true r line fits out back = refl
 has_replied u false r Quiet fits out back = absurd fits
 has_replied u false r (Closing M) fits out back = absurd fits

@@ -1,6 +1,7 @@
 -- Steps of losses once more, and why a command is refused, word for word, each to be made wrong by an edit of edits/. What the laws
 -- need of them is proved in `Tried`.
-use Rattle.std.specs.Prelude.{true, cond, [], ◌∷◌, Option, None, Result, Err, option_map}
+use Rattle.std.specs.Prelude.{true, not, cond, [], ◌∷◌, Option, None, Result, Err, option_map}
+use Rattle.std.specs.List.{filter}
 use Rattle.pg_term.specs.Same.{same_atom}
 use Rattle.pg_group.specs.Ended.{ended_with}
 use Rattle.pg_group.specs.Functions.{upd}
@@ -46,3 +47,7 @@ abbrev pub copied_fault_of : Nodes → State → Command → Option CommandFault
 copied_fault_of m s c = first_that_holds (
     (has_large_name c, NameTooLarge) ∷ (has_foreign_pid m c, ForeignPid) ∷ (ends_unformed m s c, NotFormed)
     ∷ (ends_unmade s c, NotMade) ∷ (ends_again s c, AlreadyEnded) ∷ (passes_limit s c, ProcessLimit) ∷ [])
+
+-- the nodes that count for a node
+abbrev pub copied_left : Nodes → State → Nodes
+copied_left m s = record { own = m.own; peers = filter (λ q. not (s.lost q)) m.peers }
