@@ -252,14 +252,16 @@ pub fn references_within_the_clock()
 pub fn a_world_comes_to_rest()
     ensures ends { (config : Config) (w v : TimedFrameWorld) (events takes : List (Event Action))
         → IsDistinct same_atom (names_of config) → Reaches config events w
-        → OnlyTakes takes → Leads (frame_machine config) w takes v → length takes ≤ most_takes config (plain w) }
+        → OnlyTakes takes → Leads (frame_machine config) w takes v
+        → length takes ≤ most_takes config (plain w) }
     ensures goes_on { (config : Config) (w : TimedFrameWorld) (events : List (Event Action))
         (x y : ℕ) (packet : Stamped Message) (rest : List (Stamped Message))
         → IsDistinct same_atom (names_of config) → Reaches config events w → HasRoom config w 1
         → is_pair (length config) x y ≡ true → w.wire x y ≡ packet ∷ rest
         → (v : TimedFrameWorld) × (happens (frame_machine config) w (Take y x) ≡ Some v) }
     ensures rests { (config : Config) (w : TimedFrameWorld) (events : List (Event Action))
-        → IsDistinct same_atom (names_of config) → Reaches config events w → HasRoom config w (most_takes config (plain w))
+        → IsDistinct same_atom (names_of config) → Reaches config events w
+        → HasRoom config w (most_takes config (plain w))
         → (takes : List (Event Action)) × (v : TimedFrameWorld) × OnlyTakes takes
         × Leads (frame_machine config) w takes v × IsQuiet config (plain v) }
 {}
@@ -310,7 +312,8 @@ pub fn a_retry_is_answered()
 /// no packet is on the way, where no clock comes near its limit.
 pub fn every_command_can_be_answered()
     ensures { (config : Config) (w : TimedFrameWorld) (events : List (Event Action))
-        → IsDistinct same_atom (names_of config) → Reaches config events w → HasRoom config w (most_events config (plain w))
+        → IsDistinct same_atom (names_of config) → Reaches config events w
+        → HasRoom config w (most_events config (plain w))
         → (more : List (Event Action)) × (v : TimedFrameWorld) × OnlyTakesAndRetries more
         × Leads (frame_machine config) w more v × NoneOpen config (plain v) × IsQuiet config (plain v) }
 {}
