@@ -15,6 +15,7 @@ pub mod Retries
 pub mod Requests
 pub mod Survives
 pub mod Tabled
+pub mod Takes
 pub mod Thinned
 pub mod Unanswered
 pub mod Unharmed

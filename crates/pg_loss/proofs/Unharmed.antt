@@ -82,10 +82,10 @@ rest_post config p merged later x xs (inr one) = inl (cc (one.0))
 abbrev pub Posts : Config → Lossy → Type 0
 Posts config w = (p i : ℕ) → is_pair (length config) i p ≡ true → (w.world.node i).lost (name_at config p) ≡ false → Post config p ((w.world.node i).merged (name_at config p)) (told (w.world.wire p i))
 
-same_input : {p q : ℕ} {x z : Noticed Message} → ◌≡◌ {A = Input (Noticed Message) Action} (Taken p x) (Taken q z) → (p ≡ q) × (x ≡ z)
+pub same_input : {p q : ℕ} {x z : Noticed Message} → ◌≡◌ {A = Input (Noticed Message) Action} (Taken p x) (Taken q z) → (p ≡ q) × (x ≡ z)
 same_input e = (cc, cc)
 
-noted_packet : (given : Input Message Action) (p : ℕ) (packet : Noticed Message) → noted given ≡ Taken p packet → (x : Message) × (given ≡ Taken p x) × (packet ≡ Sent x)
+pub noted_packet : (given : Input Message Action) (p : ℕ) (packet : Noticed Message) → noted given ≡ Taken p packet → (x : Message) × (given ≡ Taken p x) × (packet ≡ Sent x)
 noted_packet (Taken q x) p packet e =
     let from : q ≡ p = cc in
     let is : Sent x ≡ packet = cc in

@@ -10,7 +10,7 @@ use Rattle.pg_message.specs.declared.message.Message.TheVariants.{Call, Reply, D
 use Rattle.pg_machine.specs.Clocked.{plain}
 use Rattle.pg_machine.specs.Machine.{Event}
 use Rattle.pg_step.specs.declared.command.OpId.{OpId}
-use Rattle.pg_step.specs.Nodes.{Node, is_peer}
+use Rattle.pg_step.specs.Nodes.{Node, Nodes, is_peer}
 use Rattle.pg_step.specs.State.{State, Status, Use, Stage}
 use Rattle.pg_step.specs.State.Status.{Unasked, Asked, Yes, No}
 use Rattle.pg_step.specs.State.Use.{Fresh, Locking, Owning, Updating, Spent}
@@ -34,19 +34,19 @@ use Rattle.pg_history.proofs.references.Keys.{atoms}
 
 -- ---- packets
 
+pub at_most_two : (x : Message) → packet_weight x ≤ 2
+at_most_two (Call r request) = omega arith
+at_most_two (Reply r said) = omega arith
+at_most_two (DelLock name r) = omega arith
+at_most_two (Exchange node groups) = omega arith
+at_most_two (Down pid) = omega arith
+
 two_each : (xs : List Message) → weigh xs ≤ 2 * length xs
 two_each [] = omega arith
 two_each (x ∷ xs) =
-    let one : packet_weight x ≤ 2 = at_most x in
+    let one : packet_weight x ≤ 2 = at_most_two x in
     let rest : weigh xs ≤ 2 * length xs = two_each xs in
     omega (arith, one, rest)
-  where
-    at_most : (x : Message) → packet_weight x ≤ 2
-    at_most (Call r request) = omega arith
-    at_most (Reply r said) = omega arith
-    at_most (DelLock name r) = omega arith
-    at_most (Exchange node groups) = omega arith
-    at_most (Down pid) = omega arith
 
 -- ---- commands
 
@@ -166,50 +166,52 @@ module _ (config : Config) (apart : IsDistinct same_atom (names_of config)) wher
   abbrev name : ℕ → Node
   name = name_at config
 
-  -- five for each peer
-  peers_few : (i : ℕ) → IsHere config i → (f : Node → ℕ) → ((q : Node) → f q ≤ 5) → total n (λ y. cond (is_peer (nodes_at config i) (name y)) (f (name y)) 0) ≤ 5 * peer_count config
-  peers_few i here f five =
-      let low : i < n = (Decides-ltb i n).0 here in
-      let all : total n (but i (λ p. 5)) + 5 ≡ 5 * n = total_but n i 5 low in
-      let few : total n (λ y. cond (is_peer (nodes_at config i) (name y)) (f (name y)) 0) ≤ total n (but i (λ p. 5)) =
-      total_le n (λ y. cond (is_peer (nodes_at config i) (name y)) (f (name y)) 0) (but i (λ p. 5)) (λ y _. go y (cases_eq i y)) in
-      omega (arith, low, all, few)
-    where
-      not_own : is_peer (nodes_at config i) (name i) ≡ false
-      not_own = left_out (names_of config) i (name i) (place_below config i here) apart ∙ false_right (list_any (same_atom (name i)) (names_of config)) (ap not (atoms.refl (name i)))
+  -- a node is none of its own peers
+  pub own_no_peer : (i : ℕ) → IsHere config i → is_peer (nodes_at config i) (name i) ≡ false
+  own_no_peer i here = left_out (names_of config) i (name i) (place_below config i here) apart ∙ false_right (list_any (same_atom (name i)) (names_of config)) (ap not (atoms.refl (name i)))
 
-      within : (b : Bool) (k : ℕ) → k ≤ 5 → cond b k 0 ≤ 5
-      within true k few = few
-      within false k few = omega arith
+  -- of a node and those that count there as its peers
+  module _ (i : ℕ) (here : IsHere config i) (m : Nodes) (not_own : is_peer m (name i) ≡ false) where
+    -- five for each peer
+    peers_few : (f : Node → ℕ) → ((q : Node) → f q ≤ 5) → total n (λ y. cond (is_peer m (name y)) (f (name y)) 0) ≤ 5 * peer_count config
+    peers_few f five =
+        let low : i < n = (Decides-ltb i n).0 here in
+        let all : total n (but i (λ p. 5)) + 5 ≡ 5 * n = total_but n i 5 low in
+        let few : total n (λ y. cond (is_peer m (name y)) (f (name y)) 0) ≤ total n (but i (λ p. 5)) =
+        total_le n (λ y. cond (is_peer m (name y)) (f (name y)) 0) (but i (λ p. 5)) (λ y _. go y (cases_eq i y)) in
+        omega (arith, low, all, few)
+      where
+        within : (b : Bool) (k : ℕ) → k ≤ 5 → cond b k 0 ≤ 5
+        within true k few = few
+        within false k few = omega arith
 
-      go : (y : ℕ) → (i ≡ y) ⊎ (i ≡ y → ⊥) → cond (is_peer (nodes_at config i) (name y)) (f (name y)) 0 ≤ but i (λ p. 5) y
-      go y (inl e) =
-          let none : cond (is_peer (nodes_at config i) (name i)) (f (name i)) 0 ≡ 0 = ap (λ b. cond b (f (name i)) 0) not_own in
-          subst (λ z. cond (is_peer (nodes_at config i) (name z)) (f (name z)) 0 ≤ but i (λ p. 5) z) e (omega (arith, none))
-      go y (inr other) =
-          let five_is : but i (λ p. 5) y ≡ 5 = but_other i (λ p. 5) y other in
-          let low : cond (is_peer (nodes_at config i) (name y)) (f (name y)) 0 ≤ 5 = within (is_peer (nodes_at config i) (name y)) (f (name y)) (five (name y)) in
-          omega (arith, five_is, low)
+        go : (y : ℕ) → (i ≡ y) ⊎ (i ≡ y → ⊥) → cond (is_peer m (name y)) (f (name y)) 0 ≤ but i (λ p. 5) y
+        go y (inl e) =
+            let none : cond (is_peer m (name i)) (f (name i)) 0 ≡ 0 = ap (λ b. cond b (f (name i)) 0) not_own in
+            subst (λ z. cond (is_peer m (name z)) (f (name z)) 0 ≤ but i (λ p. 5) z) e (omega (arith, none))
+        go y (inr other) =
+            let five_is : but i (λ p. 5) y ≡ 5 = but_other i (λ p. 5) y other in
+            let low : cond (is_peer m (name y)) (f (name y)) 0 ≤ 5 = within (is_peer m (name y)) (f (name y)) (five (name y)) in
+            omega (arith, five_is, low)
 
-  use_light : (i : ℕ) → IsHere config i → (used : Use) → use_weight (nodes_at config i) n name used ≤ 5 * peer_count config * works used
-  use_light i here (Locking op u lead st) =
-      let few = peers_at_most (nodes_at config i) n name (λ q. status_weight (st q)) (5 * peer_count config) (peers_few i here (λ q. status_weight (st q)) (λ q. five_left (st q))) in omega (arith, few)
-  use_light i here (Updating op u c replied) =
-      let few = peers_at_most (nodes_at config i) n name (λ q. 1) (5 * peer_count config) (peers_few i here (λ q. 1) (λ q. omega arith)) in omega (arith, few)
-  use_light i here (Owning name_ k) = omega arith
-  use_light i here Fresh = omega arith
-  use_light i here Spent = omega arith
+    use_light : (used : Use) → use_weight m n name used ≤ 5 * peer_count config * works used
+    use_light (Locking op u lead st) =
+        let few = peers_at_most m n name (λ q. status_weight (st q)) (5 * peer_count config) (peers_few (λ q. status_weight (st q)) (λ q. five_left (st q))) in omega (arith, few)
+    use_light (Updating op u c replied) =
+        let few = peers_at_most m n name (λ q. 1) (5 * peer_count config) (peers_few (λ q. 1) (λ q. omega arith)) in omega (arith, few)
+    use_light (Owning group k) = omega arith
+    use_light Fresh = omega arith
+    use_light Spent = omega arith
 
-  -- a node's references lead to five packets for each peer of each command that is open there
-  node_light : (i : ℕ) → IsHere config i → (s : State) → Counts (ports_at config i) s → node_weight (nodes_at config i) n name s ≤ 5 * peer_count config * s.opened
-  node_light i here s all =
-      let k = 5 * peer_count config in
-      let r = s.references + 1 in
-      let each : node_weight (nodes_at config i) n name s ≤ total r (λ c. k * works (s.uses c)) =
-      total_le r (λ c. use_weight (nodes_at config i) n name (s.uses c)) (λ c. k * works (s.uses c)) (λ c _. use_light i here (s.uses c)) in
-      let scale : total r (λ c. k * works (s.uses c)) ≡ k * total r (λ c. works (s.uses c)) = total_scale r k (λ c. works (s.uses c)) in
-      let few : k * total r (λ c. works (s.uses c)) ≤ k * s.opened = mul-le-mul_left k (works_few (ports_at config i) s all r) in
-      omega (arith, each, scale, few)
+    -- its references lead to five packets for each peer of each command that is open there
+    pub node_light : (s : State) → Counts (ports_at config i) s → node_weight m n name s ≤ 5 * peer_count config * s.opened
+    node_light s all =
+        let k = 5 * peer_count config in
+        let r = s.references + 1 in
+        let each : node_weight m n name s ≤ total r (λ c. k * works (s.uses c)) = total_le r (λ c. use_weight m n name (s.uses c)) (λ c. k * works (s.uses c)) (λ c _. use_light (s.uses c)) in
+        let scale : total r (λ c. k * works (s.uses c)) ≡ k * total r (λ c. works (s.uses c)) = total_scale r k (λ c. works (s.uses c)) in
+        let few : k * total r (λ c. works (s.uses c)) ≤ k * s.opened = mul-le-mul_left k (works_few (ports_at config i) s all r) in
+        omega (arith, each, scale, few)
 
   pub few_takes : (events : List (Event Action)) (w : TimedFrameWorld) → Reaches config events w
       → total n (λ i. node_weight (nodes_at config i) n name ((plain w).node i)) + total n (λ x. total n (λ y. weigh ((plain w).wire x y))) ≤ most_takes config (plain w)
@@ -217,7 +219,7 @@ module _ (config : Config) (apart : IsDistinct same_atom (names_of config)) wher
       let k = 5 * peer_count config in
       let nodes : total n (λ i. node_weight (nodes_at config i) n name ((plain w).node i)) ≤ total n (λ i. k * ((plain w).node i).opened) =
       total_le n (λ i. node_weight (nodes_at config i) n name ((plain w).node i)) (λ i. k * ((plain w).node i).opened)
-      (λ i under. node_light i ((Decides-ltb i n).1 under) ((plain w).node i) ((all_counted config w events i l).counts)) in
+      (λ i under. let here = (Decides-ltb i n).1 under in node_light i here (nodes_at config i) (own_no_peer i here) ((plain w).node i) ((all_counted config w events i l).counts)) in
       let all : total n (λ i. k * ((plain w).node i).opened) ≡ k * open_commands config (plain w) = total_scale n k (λ i. ((plain w).node i).opened) in
       let ways : total n (λ x. total n (λ y. weigh ((plain w).wire x y))) ≤ total n (λ x. 2 * total n (λ y. length ((plain w).wire x y))) =
       total_le n (λ x. total n (λ y. weigh ((plain w).wire x y))) (λ x. 2 * total n (λ y. length ((plain w).wire x y))) (λ x _. row x) in

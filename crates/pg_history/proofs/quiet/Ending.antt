@@ -37,7 +37,7 @@ use Rattle.pg_history.proofs.quiet.Weights.{Lessens, Made, ToOne, node_weight, p
 use Rattle.pg_history.proofs.references.FittingRuns.{fitting_timed}
 use Rattle.pg_history.proofs.steps.Lossless.{NobodyLost, event_nobody, nobody_timed}
 
-least_one : (x : Message) → 1 ≤ packet_weight x
+pub least_one : (x : Message) → 1 ≤ packet_weight x
 least_one (Call r request) = omega arith
 least_one (Reply r said) = omega arith
 least_one (DelLock name r) = omega arith
@@ -59,7 +59,7 @@ module _ (config : Config) (apart : IsDistinct same_atom (names_of config)) wher
   below k here = (Decides-ltb k n).0 here
 
   -- what goes to one node goes to one place
-  to_one_place : (m : Nodes) (p : ℕ) → IsHere config p → ToOne m n (name_at config) (name_at config p)
+  pub to_one_place : (m : Nodes) (p : ℕ) → IsHere config p → ToOne m n (name_at config) (name_at config p)
   to_one_place m p here x =
       let each : total n (λ y. weigh (to_one (name_at config p) x (name_at config y))) ≡ total n (λ y. cond (nat_eq p y) (packet_weight x) 0) =
       total_same n (λ y. weigh (to_one (name_at config p) x (name_at config y))) (λ y. cond (nat_eq p y) (packet_weight x) 0)

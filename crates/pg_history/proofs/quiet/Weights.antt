@@ -437,3 +437,8 @@ module _ (m : Nodes) (n : ℕ) (name : ℕ → Node) where
       go true d = absurd (cc)
       go false d = subst (Lessens s (Exchange node groups)) (ok_is d) (silent s (Exchange node groups) _ (omega arith) made refl refl none_sent)
   packet_lessens p (Down pid) s t one made e = subst (Lessens s (Down pid)) (ok_is e) (silent s (Down pid) _ (omega arith) made refl refl none_sent)
+
+-- fewer peers count, or each for less
+pub peers_fewer : (m later : Nodes) (n : ℕ) (name : ℕ → Node) (f g : Node → ℕ) → ((q : Node) → cond (is_peer later q) (g q) 0 ≤ cond (is_peer m q) (f q) 0) → peers_total later n name g ≤ peers_total m n name f
+unfolding peers_total
+peers_fewer m later n name f g le = total_le n (λ y. cond (is_peer later (name y)) (g (name y)) 0) (λ y. cond (is_peer m (name y)) (f (name y)) 0) (λ y _. le (name y))

@@ -14,7 +14,8 @@ use Rattle.pg_step.specs.Commands.{ends_again, ends_unformed, ends_unmade, has_f
 use Rattle.pg_step.specs.Faults.{first_that_holds}
 use Rattle.pg_step.specs.Losses.{forgets}
 use Rattle.pg_step.specs.Nodes.{Node, Nodes}
-use Rattle.pg_step.specs.State.{State, left}
+use Rattle.pg_step.specs.State.{State, Status, left}
+use Rattle.pg_step.specs.State.Status.{Unasked}
 use Rattle.pg_step.specs.Step.{taken}
 use Rattle.pg_step.specs.Turns.{NodeTurn, becomes}
 use Rattle.pg_step.specs.declared.command.Command.{Command}
@@ -51,3 +52,7 @@ copied_fault_of m s c = first_that_holds (
 -- the nodes that count for a node
 abbrev pub copied_left : Nodes → State → Nodes
 copied_left m s = record { own = m.own; peers = filter (λ q. not (s.lost q)) m.peers }
+
+-- what comes of the nodes that are asked for a lock, where the loss of one is seen
+abbrev pub copied_forgotten : Node → (Node → Status) → Node → Status
+copied_forgotten peer st = upd same_atom st peer Unasked

@@ -1,5 +1,5 @@
 -- Of what each wrong step leaves, what is asked of the copies is false, and not only hard to prove.
-use Rattle.std.proofs.Common.{◌≡◌, true, false, not, List, ◌∷◌, Some, refl, ap, sym, ◌∙◌}
+use Rattle.std.proofs.Common.{◌≡◌, true, false, not, List, ◌∷◌, Some, refl, ap, sym, ◌∙◌, ◌≤◌, arith}
 use Rattle.std.specs.Cmp.{first_so, second_so}
 use Rattle.std.specs.List.{list_all}
 use Rattle.pg_term.specs.declared.pid.Pid.{Pid}
@@ -14,7 +14,8 @@ use Rattle.pg_step.specs.Attempts.{is_asked, none_missing}
 use Rattle.pg_step.specs.Nodes.{Node}
 use Rattle.pg_step.specs.Peers.{ended_in}
 use Rattle.pg_step.specs.State.{State, Status}
-use Rattle.pg_step.specs.State.Status.{Asked}
+use Rattle.pg_step.specs.State.Status.{Asked, Unasked, Yes}
+use Rattle.pg_history.proofs.quiet.Weights.{status_weight}
 use Rattle.pg_history.proofs.references.Keys.{atoms, read_at, same_is}
 use Rattle.pg_loss.proofs.Tabled.{HasEndedLost}
 use Rattle.pg_loss.proofs.Unheld.{Clear}
@@ -45,3 +46,7 @@ lost_is_missed own peer peers st asked all =
     let answered : not (is_asked (st peer)) ≡ true = first_so (not (is_asked (st peer))) (list_all (λ q. not (is_asked (st q))) peers) others in
     let missing : not (is_asked (st peer)) ≡ false = ap (λ v. not (is_asked v)) asked in
     absurd (cc)
+
+-- a loss is seen, and a node that has granted is asked anew: two packets more
+pub asked_anew : status_weight Unasked ≤ status_weight Yes → ⊥
+asked_anew pays = absurd (omega (arith, pays))
