@@ -5,6 +5,7 @@ pub mod Bridge
 pub mod Bridges
 pub mod Carried
 pub mod Counting
+pub mod Formation
 pub mod Homes
 pub mod Lasts
 pub mod OwnEnds

@@ -109,7 +109,7 @@ no_last [] e = absurd (cc)
 no_last (x ∷ xs) e = absurd (cc)
 
 -- who is lost has a last notice on the way, until that is taken
-lost_waits : (b : Bool) (all : List Message) → Left b [] all → b ≡ false
+pub lost_waits : (b : Bool) (all : List Message) → Left b [] all → b ≡ false
 lost_waits false all left_over = refl
 lost_waits true all left_over = absurd (no_last left_over.0 left_over.2)
 

@@ -140,3 +140,12 @@ pub fn takes_end_past_losses()
         → LosingLeads (losing_frame_machine config) last_notice w (all_steps takes) v
         → length takes ≤ most_takes_left config w }
 {}
+
+/// Where nothing is on the way to a node that is not lost, that node is formed: it waits for the exchange of nobody, also not of
+/// a node that was lost.
+pub fn a_quiet_node_is_formed_past_losses()
+    ensures { (config : Config) (w : LosingFrameWorld) (events : List (LosingEvent Action)) (i : ℕ)
+        → IsDistinct same_atom (names_of config) → LosingReaches config events w → IsQuietLeft config w
+        → is_place (length config) i ≡ true → w.gone i ≡ false
+        → formed (nodes_at config i) (w.world.node i).state ≡ true }
+{}

@@ -50,3 +50,7 @@ lost_is_missed own peer peers st asked all =
 -- a loss is seen, and a node that has granted is asked anew: two packets more
 pub asked_anew : status_weight Unasked ≤ status_weight Yes → ⊥
 asked_anew pays = absurd (omega (arith, pays))
+
+-- a loss is seen, and the exchange of the lost is waited for
+pub awaits_lost : (peer : Node) (s : State) → s.lost peer ≡ true → s.merged peer ≡ false → ((q : Node) → s.lost q ≡ true → s.merged q ≡ true) → ⊥
+awaits_lost peer s seen unmerged noted = let merged : s.merged peer ≡ true = noted peer seen in absurd (cc)

@@ -20,7 +20,7 @@ use Rattle.pg_step.specs.declared.command.Command.TheVariants.{Finish}
 use Rattle.pg_step.specs.declared.refusal.Refusal.TheVariants.{NodeLost}
 use Rattle.pg_history.proofs.quiet.Weights.{status_weight}
 use Rattle.pg_history.proofs.references.Keys.{atoms, read_other, split}
-use Rattle.pg_history.proofs.references.Keys.{upd_other as upd_not}
+use Rattle.pg_history.proofs.references.Keys.{upd_other as upd_not, upd_same}
 use Rattle.pg_loss.proofs.OwnEnds.{was_made}
 use Rattle.pg_loss.proofs.Retries.{every_left}
 use Rattle.pg_loss.proofs.Tabled.{HasEndedLost}
@@ -69,3 +69,7 @@ left_pass m test s all = every_left (λ q. not (s.lost q)) test m.peers all
 -- nor does a loss lead to more packets with the others
 pub others_remembered : (peer q : Node) (st : Node → Status) → peer ≢ q → status_weight (copied_forgotten peer st q) ≤ status_weight (st q)
 others_remembered peer q st other = subst (λ v. status_weight v ≤ status_weight (st q)) (sym (upd_not same_atom atoms st peer Unasked q other)) (omega arith)
+
+-- and the exchange of the lost node is not waited for
+pub loss_noted : (peer : Node) (s : State) → (copied_see_loss peer s).state.merged peer ≡ true
+loss_noted peer s = upd_same same_atom atoms s.merged peer true
