@@ -1,6 +1,6 @@
 -- The rows of links, once all rings are made, and the nodes that have them.
 use Rattle.std.proofs.Common.{◌≡◌, ◌<◌, ◌≤◌, true, ℕ, List, [], ◌∷◌, length, map, get_or, sym, ◌∙◌, ap, subst, arith, inl, inr}
-use Rattle.std.specs.Prelude.{IfOk, Result, Ok, Err}
+use Rattle.std.specs.Prelude.{IfErr, IfOk, Result, Ok, Err}
 use Rattle.std.specs.List.{All}
 use Rattle.std.proofs.lemmas.Bool.Decides.{leb_tells}
 use Rattle.std.proofs.lemmas.List.{get_or-map, length-map}
@@ -15,10 +15,13 @@ use Rattle.pg_world.proofs.Turning.{pair_is}
 use Rattle.pg_world.specs.BytesStart.{BytesBegin}
 use Rattle.pg_world.specs.Crossings.{idle_crossing}
 use Rattle.pg_world.specs.Views.{no_account, peer_place}
+use Rattle.pg_world.specs.declared.fault.WorldFault.TheVariants.{OutOfMemory}
 use Rattle.pg_cluster.specs.declared.fault.StartFault.{StartFault}
+use Rattle.pg_cluster.specs.declared.fault.StartFault.TheVariants.{World, NoThread}
 use Rattle.pg_cluster.specs.declared.runs.Made.{Made}
 use Rattle.pg_cluster.specs.Clients.{AllPairs, IsOpen}
 use Rattle.pg_cluster.specs.Ended.{Row, AreWired, row_at}
+use Rattle.pg_cluster.specs.Fault.{CantRun, IsShortage}
 use Rattle.pg_cluster.specs.Rows.{Wired, RowsWired}
 use Rattle.pg_cluster.specs.Threads.{AreMade, NodeOf, node_in, row_in, log_in, ports_of_runs}
 use Rattle.pg_cluster.proofs.Paired.{pairs_right}
@@ -83,3 +86,14 @@ are_made given nodes rows (Ok made) good count begins wired held rowed unlogged 
       wired = subst (λ (n : ℕ). AreWired n (map row_in made.runs.items)) (sym size) (subst (AreWired (length nodes)) (sym rowed) (are_wired (length nodes) rows wired));
     }
 are_made given nodes rows (Err fault) good count begins wired held rowed unlogged untold clients = tt
+
+-- ---- why nothing was made
+
+pub shortage : (ring : ℕ) (given : Config) (fault : StartFault) → IsShortage fault → CantRun ring given fault
+shortage ring given (World OutOfMemory) short = tt
+shortage ring given NoThread short = tt
+shortage ring given (World fault) short = absurd short
+
+pub shortage_of : {A : Type 0} (ring : ℕ) (given : Config) (result : Result A StartFault) → IfErr result IsShortage → IfErr result (CantRun ring given)
+shortage_of ring given (Ok made) short = tt
+shortage_of ring given (Err fault) short = shortage ring given fault short
