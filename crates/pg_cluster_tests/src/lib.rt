@@ -22,4 +22,6 @@ mod rings;
 #[cfg(test)]
 mod setting;
 #[cfg(test)]
+mod turns;
+#[cfg(test)]
 mod verdicts;

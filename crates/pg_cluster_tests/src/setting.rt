@@ -85,7 +85,8 @@ pub struct Setting<'a> {
     pub limit: u64,
 }
 
-fn config(alloc: Global, setting: Setting<'_>) -> Result<Config, TermFault> {
+/// The configuration of a setting.
+pub fn config(alloc: Global, setting: Setting<'_>) -> Result<Config, TermFault> {
     let mut starts = Vec::new(alloc);
     match put_names(alloc, &mut starts, setting.names, setting.ports) {
         Ok(()) => Ok(Config {
