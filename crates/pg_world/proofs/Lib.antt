@@ -7,7 +7,7 @@ mod Deciding
 mod Dropped
 mod Fitted
 mod Harmless
-mod Idle
+mod Leading
 mod Linked
 mod Listed
 mod LosingRunning
@@ -24,6 +24,7 @@ mod Rowed
 mod Running
 mod Seeing
 mod Sending
+mod Sets
 mod Shortened
 mod Sighted
 mod Starting
