@@ -1,28 +1,33 @@
 -- The past of a world, and what a step adds to it.
-use Rattle.std.proofs.Common.{◌≡◌, ◌≤◌, ◌<◌, ℕ, Bool, true, false, cond, length, map, take, List, [], ◌∷◌, ◌++◌, Option, Some, None, Result, Ok, Err, refl, sym, ap, ◌∙◌, subst, arith}
-use Rattle.std.specs.Prelude.{slice_get}
-use Rattle.std.specs.List.{IsDistinct}
+use Rattle.std.proofs.Common.{◌≡◌, ◌↔◌, ◌≤◌, ◌<◌, ℕ, Bool, true, false, cond, length, map, take, List, [], ◌∷◌, ◌++◌, Option, Some, None, Result, Ok, Err, refl, sym, ap, ◌∙◌, subst, arith}
+use Rattle.std.specs.Prelude.{drop, is_none, slice_get}
+use Rattle.std.specs.List.{IsDistinct, list_all}
+use Rattle.std.specs.Option.{option_map_or}
+use Rattle.std.proofs.lemmas.Option.{slice_get_within}
 use Rattle.std.proofs.lemmas.Bool.{lt-ltb}
 use Rattle.std.proofs.lemmas.List.{append-nil, take-append-le}
 use Rattle.std.proofs.Math.Seq.{take-length}
 use Rattle.pg_term.specs.declared.term.Term.{Term}
+use Rattle.pg_term.specs.RefParts.{RefParts}
 use Rattle.pg_term.specs.Same.{same_atom}
 use Rattle.pg_machine.specs.Clocked.{Timed, plain}
 use Rattle.pg_machine.specs.Losing.{LosingEvent, Step, Lose, LosingLeads, losing_happens, nobody_gone, all_steps, stopped}
 use Rattle.pg_machine.specs.Machine.{Event, start_of}
-use Rattle.pg_machine.specs.Places.{set_at}
+use Rattle.pg_machine.specs.Places.{is_place, set_at}
 use Rattle.pg_machine.proofs.Options.{some_is}
 use Rattle.pg_machine.proofs.Places.{set_at_here}
-use Rattle.pg_step.specs.Config.{Config, names_of}
+use Rattle.pg_step.specs.Config.{Config, names_of, nodes_at}
 use Rattle.pg_step.specs.FrameMachine.{losing_frame_machine, last_notice}
 use Rattle.pg_step.specs.LossLaws.{LosingFrameWorld}
-use Rattle.pg_step.specs.State.{State}
+use Rattle.pg_step.specs.Nodes.{Node}
+use Rattle.pg_step.specs.State.{State, formed as formed_by}
 use Rattle.pg_step.specs.Step.{Action}
 use Rattle.pg_step.proofs.Unnoticed.{without_losses}
 use Rattle.pg_history.proofs.places.Clauses.{one_history}
 use Rattle.pg_loss.specs.Reached.{LosingReaches, steps_of}
 use Rattle.pg_loss.specs.Survived.{LossesSurvived}
-use Rattle.pg_history.specs.History.{Entry, LockFree, history, applied_count}
+use Rattle.pg_history.specs.History.{Entry, LockFree, NonePending, history, applied_count, is_formed}
+use Rattle.pg_history.specs.WithLosses.{NonePendingLeft}
 use Rattle.pg_loss.proofs.Lasts.{history_later, lost_for_good}
 use Rattle.pg_node.specs.declared.state.fault.NodeFault.{NodeFault}
 use Rattle.pg_node.specs.declared.state.fault.NodeFault.TheVariants.{Refused, OutOfMemory, Message as BadMessage, TooLong, Damaged}
@@ -33,6 +38,7 @@ use Rattle.pg_world.specs.Losing.{Telling, LosingComesTo, ShowsLosing, losing_of
 use Rattle.pg_world.specs.LosingRuns.{LosingKind, LosingGoesTo, packets_past_losses}
 use Rattle.pg_world.specs.Losses.{is_lost}
 use Rattle.pg_world.specs.Past.{HasHeadline, IsPast, HasPast, LedOn, GoesOn, FramesHavePast, FramesGoOn, FramesRunOn, HistoriesGrow, RunsOn}
+use Rattle.pg_world.specs.Pending.{AgreeOn, has_formed, pending_of, sees_free}
 use Rattle.pg_world.specs.Starts.{Begins, Orders}
 use Rattle.pg_world.specs.Views.{Seen, Account, View}
 use Rattle.pg_world.specs.Worlds.{TimedFrameWorld, ShowsNodes, ShowsUpdates}
@@ -230,6 +236,15 @@ pub histories_grow : (config : Config) (old new : Account) (u v : LosingFrameWor
 histories_grow config old new u v events before after led name =
     grown (history name u.world.reported) (history name v.world.reported) (old.histories name) (new.histories name) (history_later config u v events led name) (before name) (after name)
 
+-- a node that sees a lock free
+unheld : (o : Option RefParts) → is_none o ≡ true → o ≡ None
+unheld None e = refl
+unheld (Some holder) e = absurd (cc)
+
+freed : (at : Option Seen) (name : Term) → option_map_or (λ (node : Seen). is_none (node.state.state.locks name)) at false ≡ true → (node : Seen) × (at ≡ Some node) × (node.state.state.locks name ≡ None)
+freed None name e = absurd (cc)
+freed (Some node) name e = (node, refl, unheld (node.state.state.locks name) e)
+
 -- nodes, and what is kept of their updates, are those of a world with losses
 module _ (config : Config) (nodes : List Seen) (account : Account) (lost : List ℕ) (frames : TimedFrameWorld) (u : LosingFrameWorld)
     (shows : ShowsNodes config nodes frames) (updates : ShowsUpdates account frames) (is : u ≡ losing_of config frames lost) where
@@ -247,6 +262,27 @@ module _ (config : Config) (nodes : List Seen) (account : Account) (lost : List 
       let locks = ap (λ (w : LosingFrameWorld). (w.world.node x).state.locks name) one ∙ ap (λ (s : Timed State). s.state.locks name) (shows.each x node at).state ∙ free in
       let applied = headline.history.applies.free i x name (lt-ltb i (length config) (omega (arith, within, shows.size))) (lt-ltb x (length config) (omega (arith, inside, shows.size))) locks in
       updates.applied i name ∙ ap (applied_count i name) (sym reported) ∙ applied ∙ ap (λ ts. length (history name ts)) reported ∙ ap length (sym (updates.history name))
+
+  -- where a node sees the lock of a group free, no end is pending and no node is lost, formed nodes have the same of it
+  pub agreed_there : (events : List (LosingEvent Action)) → (((i : ℕ) → u.gone i ≡ false) → HasHeadline config events u) → lost ≡ [] → NonePendingLeft config u → (x : ℕ) (name : Term) → sees_free nodes x name ≡ true
+      → AgreeOn nodes name
+  agreed_there events headlines none nothing x name free i j one other at_one at_other formed_one formed_other =
+      let gone = λ (k : ℕ). ap (λ (v : LosingFrameWorld). v.gone k) is ∙ ap (λ (l : List ℕ). is_lost l k) none in
+      let headline = headlines gone in
+      let w = headline.w in
+      let same = sym headline.is ∙ is in
+      let state : (k : ℕ) (node : Seen) → slice_get nodes k ≡ Some node → (w.node k).state ≡ node.state.state =
+      λ k node at. ap (λ (v : LosingFrameWorld). (v.world.node k).state) same ∙ ap (λ (s : Timed State). s.state) (shows.each k node at).state in
+      let there : (k : ℕ) (node : Seen) → slice_get nodes k ≡ Some node → is_place (length config) k ≡ true = λ k node at. lt-ltb k (length config) (subst (λ n. k < n) shows.size (slice_get_within nodes k node at)) in
+      let full : (k : ℕ) (node : Seen) → slice_get nodes k ≡ Some node → has_formed node ≡ true → is_formed config (plain w) k ≡ true =
+      λ k node at formed. ap (formed_by (nodes_at config k)) (state k node at) ∙ sym (ap (λ (names : List Node). list_all node.state.state.merged (drop 1 names)) (shows.each k node at).names) ∙ formed in
+      let pending : NonePending config (plain w) = λ home k pid home_there k_there named ended.
+      sym (ap (λ (v : LosingFrameWorld). (v.world.node k).state.ended pid) headline.is)
+      ∙ nothing home k pid home_there k_there (gone home) (gone k) named (ap (λ (v : LosingFrameWorld). (v.world.node home).state.ended pid) headline.is ∙ ended) in
+      let seer = freed (slice_get nodes x) name free in
+      let unlocked : LockFree (plain w) x name = ap (λ (s : State). s.locks name) (state x seer.0 seer.1) ∙ seer.2 in
+      let agreed = headline.history.tables.agree i j x name (there i one at_one) (there j other at_other) (there x seer.0 seer.1) (full i one at_one formed_one) (full j other at_other formed_other) unlocked pending in
+      sym (ap (λ (s : State). s.table name) (state i one at_one)) ∙ agreed ∙ ap (λ (s : State). s.table name) (state j other at_other)
 
 -- ---- the same over packets
 
@@ -268,3 +304,15 @@ pub applied_all : (given : Config) (view : View) (lost : List ℕ) (x : ℕ) (no
 applied_all given view lost x node name past none at free inside =
     let shows = past.is.shows in
     applied_there past.config view.traffic.nodes view.account lost shows.frames past.u shows.shows.traffic.nodes shows.shows.updates shows.is past.events past.is.history none x node name at free inside
+
+-- the law of pending ends: the list is empty where none is
+abbrev pub Lists : Type 0
+Lists = (config : Config) (nodes : List Seen) (lost : List ℕ) (frames : TimedFrameWorld) (u : LosingFrameWorld) (events : List (LosingEvent Action)) → ShowsNodes config nodes frames
+    → u ≡ losing_of config frames lost → LosingReaches config events u → (pending_of nodes lost ≡ []) ↔ NonePendingLeft config u
+
+pub agreed_all : Lists → (given : Config) (view : View) (lost : List ℕ) (x : ℕ) (name : Term) → FramesHavePast given view lost → pending_of view.traffic.nodes lost ≡ [] → lost ≡ [] → sees_free view.traffic.nodes x name ≡ true
+    → AgreeOn view.traffic.nodes name
+agreed_all lists given view lost x name past empty none free =
+    let shows = past.is.shows in
+    agreed_there past.config view.traffic.nodes view.account lost shows.frames past.u shows.shows.traffic.nodes shows.shows.updates shows.is past.events past.is.history none
+    ((lists past.config view.traffic.nodes lost shows.frames past.u past.events shows.shows.traffic.nodes shows.is past.is.reached).0 empty) x name free

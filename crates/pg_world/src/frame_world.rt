@@ -7,6 +7,7 @@ ghost use Rattle.pg_world.specs.Worlds.{view_of as seen_as};
 use crate::config::Config;
 use crate::entry::Entry;
 use crate::fault::WorldFault;
+use crate::laws::pending_ends_are_listed;
 use crate::step::{FrameStep, Stepped};
 use crate::world::FrameNodes;
 use pg_group::GroupTable;
@@ -58,8 +59,9 @@ impl FrameWorld<IndexTable> {
 }
 
 impl<T: GroupTable + Drop> FrameWorld<T> {
-    ghost use Rattle.std.specs.Prelude.{◌≡◌, ◌<◌, ◌↔◌, ◌++◌, [], IsTrue, Ok, IfOk, OnErr, ℕ, length, map, option_map, slice_get};
+    ghost use Rattle.std.specs.Prelude.{◌≡◌, ◌<◌, ◌↔◌, ◌++◌, [], true, IsTrue, Ok, IfOk, OnErr, ℕ, length, map, option_map, slice_get};
     ghost use Rattle.std.specs.Option.{option_copied};
+    ghost use Rattle.pg_term.specs.declared.term.Term.{Term};
     ghost use Rattle.pg_machine.specs.Clocked.{plain};
     ghost use Rattle.pg_history.specs.History.{LockFree};
     ghost use Rattle.pg_step.specs.Config.{Config as Configuration};
@@ -69,7 +71,7 @@ impl<T: GroupTable + Drop> FrameWorld<T> {
     ghost use Rattle.pg_world.specs.Losing.{lost_after, told_of, ShowsLosing, LosingComesTo};
     ghost use Rattle.pg_world.specs.Losses.{is_lost};
     ghost use Rattle.pg_world.specs.Past.{FramesGoOn, HistoriesGrow};
-    ghost use Rattle.pg_world.specs.Pending.{pending_of};
+    ghost use Rattle.pg_world.specs.Pending.{AgreeOn, pending_of, sees_free};
     ghost use Rattle.pg_world.specs.Views.{seen_of};
     ghost use Rattle.pg_world.specs.Worlds.{TimedFrameWorld, Shows, StepComesTo};
 
@@ -100,6 +102,7 @@ impl<T: GroupTable + Drop> FrameWorld<T> {
     /// history. It takes no memory: O(log n) in the names that have a holder there.
     pub fn lock_free(&self, node: usize, name: &Term) -> bool
         requires place { node < length (traffic_of self.now).nodes }
+        ensures sees { result ≡ sees_free (traffic_of self.now).nodes node name.now }
         ensures free { (config : Configuration) (w : TimedFrameWorld) → Shows config (view_of self.now) w
             → IsTrue result ↔ LockFree (plain w) node name.now }
         ensures applied { IsTrue result → lost_of self.now ≡ [] → (i : ℕ) → i < length (traffic_of self.now).nodes
@@ -121,10 +124,15 @@ impl<T: GroupTable + Drop> FrameWorld<T> {
     /// nothing counts. They stand home by home, and by number at each. Its cost is a search at each node that is left for each
     /// process that was made at one, and the memory of the list.
     ///
+    /// Where the list is empty, no node is lost and one node sees the lock of a group free, formed nodes have the same of that group.
+    ///
     /// Error: `AllocError`.
     pub fn pending_ends(&self) -> Result<Vec<Pid>, AllocError>
         ensures list { IfOk result (λ pids. pids.items ≡ pending_of (traffic_of self.now).nodes (lost_of self.now)) }
+        ensures agree { IfOk result (λ pids. pids.items ≡ [] → lost_of self.now ≡ [] → (x : ℕ) (name : Term)
+            → sees_free (traffic_of self.now).nodes x name ≡ true → AgreeOn (traffic_of self.now).nodes name) }
     {
+        pending_ends_are_listed();
         self.frames.pending_ends()
     }
 

@@ -27,9 +27,10 @@ use Rattle.pg_world.specs.Crossings.{Crossing}
 use Rattle.pg_world.specs.Losing.{Telling, LosingComesTo, told_take, told_own, told_sight}
 use Rattle.pg_world.specs.LosingRuns.{LosingGoesTo}
 use Rattle.pg_world.specs.Past.{BytesHavePast, BytesGoOn, BytesRunOn, HistoriesGrow}
+use Rattle.pg_world.specs.Pending.{AgreeOn, pending_of, sees_free}
 use Rattle.pg_world.specs.Views.{Seen, Account}
 use Rattle.pg_world.specs.Worlds.{TimedFrameWorld}
-use Rattle.pg_world.proofs.Leading.{Near, Here, Next, Survive, AreApart, goes_on, past_after, past_of, runs_on, comes_on, some_comes, histories_grow, history_is, applied_there}
+use Rattle.pg_world.proofs.Leading.{Near, Here, Next, Lists, Survive, AreApart, goes_on, past_after, past_of, runs_on, comes_on, some_comes, histories_grow, history_is, applied_there, agreed_there}
 use Rattle.pg_world.proofs.LosingRunning.{losing_leads, start_is}
 use Rattle.pg_world.proofs.over_bytes.Past.{move_mapped}
 
@@ -187,3 +188,10 @@ pub bytes_applied_all : (given : Config) (crossing : Crossing) (account : Accoun
 bytes_applied_all given crossing account lost x node name past none at free inside =
     let shows = past.is.shows in
     applied_there past.config crossing.nodes account lost shows.frames past.u shows.shows.traffic.nodes shows.shows.updates shows.is past.events past.is.history none x node name at free inside
+
+pub bytes_agreed_all : Lists → (given : Config) (crossing : Crossing) (account : Account) (lost : List ℕ) (x : ℕ) (name : Term) → BytesHavePast given crossing account lost → pending_of crossing.nodes lost ≡ [] → lost ≡ []
+    → sees_free crossing.nodes x name ≡ true → AgreeOn crossing.nodes name
+bytes_agreed_all lists given crossing account lost x name past empty none free =
+    let shows = past.is.shows in
+    agreed_there past.config crossing.nodes account lost shows.frames past.u shows.shows.traffic.nodes shows.shows.updates shows.is past.events past.is.history none
+    ((lists past.config crossing.nodes lost shows.frames past.u past.events shows.shows.traffic.nodes shows.is past.is.reached).0 empty) x name free
