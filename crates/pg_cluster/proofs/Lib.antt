@@ -9,10 +9,8 @@ pub mod JoiningRows
 pub mod Judging
 pub mod Making
 pub mod NodesSent
-pub mod OneList
 pub mod OneRun
 pub mod Opening
-pub mod OrderedOnce
 pub mod Paired
 pub mod PartsSent
 pub mod Popping

@@ -32,7 +32,8 @@ use std::alloc::{AllocError, Global};
 impl Closed {
     ghost use Rattle.pg_world.specs.FrameWorlds.{view_of};
     ghost use Rattle.pg_world.specs.Runs.{LosesNone};
-    ghost use Rattle.pg_cluster.specs.Judges.{Agree, AreShown, CanBegin, Replays, ran_out};
+    ghost use Rattle.pg_cluster.specs.Judges.{Agree, AreShown, Replays, ran_out};
+    ghost use Rattle.pg_world.specs.Openings.{CanBegin};
     ghost use Rattle.pg_cluster.specs.Together.{AreOneRun};
 
     /// Whether the nodes agree: formed nodes have the same of each group whose lock one node sees free, or an end is pending that

@@ -12,8 +12,10 @@ mod Linked
 mod Listed
 mod LosingRunning
 mod Lossy
+pub mod OneList
 mod Opened
 pub mod Ordered
+pub mod OrderedOnce
 mod Passing
 mod Past
 pub mod Peering

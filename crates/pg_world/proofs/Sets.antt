@@ -1,5 +1,5 @@
 -- Entries of histories are a set: an equation between two has one proof.
-use Rattle.std.proofs.Common.{◌≡◌, Bool, true, false, inl, inr, ◌⊎◌, refl, sym, ap, ◌∙◌, subst}
+use Rattle.std.proofs.Common.{◌≡◌, Bool, true, false, inl, inr, ◌⊎◌, refl, sym, ap, ◌∙◌}
 use Rattle.std.proofs.Props.{props}
 use mathlib.Core.HLevel.{collapsible→set, hedberg}
 use mathlib.Core.Sum.{⊎_set}
@@ -10,7 +10,6 @@ use Rattle.pg_term.specs.contracts.term.TermEq.TheImpl.Laws as term_laws
 use Rattle.pg_term.proofs.Same.{same_term as term_is}
 use Rattle.pg_group.specs.declared.update.Update.{Update}
 use Rattle.pg_group.specs.declared.update.Update.TheVariants.{Create, Delete, Join, Leave}
-use Rattle.pg_history.specs.History.{Entry}
 
 -- two terms are one, or not
 decided : (one other : Term) (b : Bool) → same_term one other ≡ b → Dec (one ≡ other)

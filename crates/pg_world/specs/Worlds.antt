@@ -25,7 +25,7 @@ use Rattle.pg_node.specs.declared.state.fault.NodeFault.TheVariants.{Refused, Ou
 use Rattle.pg_world.specs.declared.step.FrameStep.{FrameStep}
 use Rattle.pg_world.specs.declared.step.FrameStep.TheVariants as steps
 use Rattle.pg_world.specs.declared.step.Stepped.{Stepped}
-use Rattle.pg_world.specs.declared.step.Stepped.TheVariants.{Nothing, Moved, Happened}
+use Rattle.pg_world.specs.declared.step.Stepped.TheVariants.{Nothing, Happened}
 use Rattle.pg_world.specs.declared.world.FrameNodes.{FrameNodes}
 use Rattle.pg_world.specs.Histories.{account_of}
 use Rattle.pg_world.specs.Views.{Seen, Traffic, Account, View, traffic_in, on_the_way}

@@ -29,6 +29,7 @@ impl FrameNodes<IndexTable> {
     pub(crate) fn new(alloc: Global, config: &Config) -> Result<FrameNodes<IndexTable>, WorldFault>
         ensures good { IfOk result (λ world. IsConfig config.now.starts.items × IsCapacity config.now.ring) }
         ensures fits { IfOk result (λ world. AllFit config.now.starts.items) }
+        ensures few { IfOk result (λ world. have_few config.now.starts.items ≡ true) }
         ensures begins { IfOk result (λ world. Begins config.now.starts.items (view_of world)) }
         ensures lost { IfOk result (λ world. lost_of world ≡ []) }
         ensures fault { IfErr result (CantBegin config.now.ring config.now.starts.items) }

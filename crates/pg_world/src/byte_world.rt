@@ -29,12 +29,12 @@ pub struct World<T: GroupTable> {
 }
 
 impl World<IndexTable> {
-    ghost use Rattle.std.specs.Prelude.{◌≡◌, [], IfOk, IfErr};
+    ghost use Rattle.std.specs.Prelude.{◌≡◌, [], true, IfOk, IfErr};
     ghost use Rattle.pg_ring.specs.Capacity.{IsCapacity};
     ghost use Rattle.pg_step.specs.Config.{IsConfig};
     ghost use Rattle.pg_world.specs.BytesStart.{BytesBegin, OpensBytes};
     ghost use Rattle.pg_world.specs.ByteWorlds.{account_of, crossing_of, given_of, lost_of, room_of};
-    ghost use Rattle.pg_world.specs.Openings.{AllFit, CantBegin};
+    ghost use Rattle.pg_world.specs.Openings.{AllFit, CantBegin, have_few};
 
     /// The nodes of a configuration as they start, where what each of them tells of its groups stands in its outbox to each other,
     /// and the ring from each to each other is empty. Its cost is that of `FrameWorld::new`, and of the rings.
@@ -43,6 +43,7 @@ impl World<IndexTable> {
     pub fn new(alloc: Global, config: &Config) -> Result<World<IndexTable>, WorldFault>
         ensures good { IfOk result (λ world. IsConfig config.now.starts.items × IsCapacity config.now.ring) }
         ensures fits { IfOk result (λ world. AllFit config.now.starts.items) }
+        ensures few { IfOk result (λ world. have_few config.now.starts.items ≡ true) }
         ensures begins { IfOk result (λ world. BytesBegin config.now.starts.items (crossing_of world) (account_of world)) }
         ensures opens { IfOk result (λ world. OpensBytes config.now.starts.items (crossing_of world)) }
         ensures given { IfOk result (λ world. given_of world ≡ config.now.starts.items) }

@@ -28,11 +28,11 @@ pub struct FrameWorld<T: GroupTable> {
 }
 
 impl FrameWorld<IndexTable> {
-    ghost use Rattle.std.specs.Prelude.{◌≡◌, [], IfOk, IfErr};
+    ghost use Rattle.std.specs.Prelude.{◌≡◌, [], true, IfOk, IfErr};
     ghost use Rattle.pg_ring.specs.Capacity.{IsCapacity};
     ghost use Rattle.pg_step.specs.Config.{IsConfig};
     ghost use Rattle.pg_world.specs.FrameWorlds.{view_of, lost_of, given_of};
-    ghost use Rattle.pg_world.specs.Openings.{AllFit, CantBegin};
+    ghost use Rattle.pg_world.specs.Openings.{AllFit, CantBegin, have_few};
     ghost use Rattle.pg_world.specs.Starts.{Begins};
 
     /// The nodes of a configuration as they start, where what each of them tells of its groups is on the way to each other.
@@ -44,6 +44,7 @@ impl FrameWorld<IndexTable> {
     pub fn new(alloc: Global, config: &Config) -> Result<FrameWorld<IndexTable>, WorldFault>
         ensures good { IfOk result (λ world. IsConfig config.now.starts.items × IsCapacity config.now.ring) }
         ensures fits { IfOk result (λ world. AllFit config.now.starts.items) }
+        ensures few { IfOk result (λ world. have_few config.now.starts.items ≡ true) }
         ensures begins { IfOk result (λ world. Begins config.now.starts.items (view_of world)) }
         ensures given { IfOk result (λ world. given_of world ≡ config.now.starts.items) }
         ensures lost { IfOk result (λ world. lost_of world ≡ []) }

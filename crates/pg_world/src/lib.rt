@@ -30,5 +30,7 @@ pub use entry::Entry;
 pub use fault::WorldFault;
 pub use frame_world::FrameWorld;
 pub use frames::run_frames;
-pub use laws::{configs_are_decided, orders_keep_tables, pending_ends_are_listed};
+pub use laws::{
+    configs_are_decided, orders_keep_tables, pending_ends_are_listed, refusals_are_exact,
+};
 pub use step::{FrameStep, Step, Stepped};

@@ -1,17 +1,16 @@
 -- The past of a world of bytes, and what a step adds to it.
-use Rattle.std.proofs.Common.{◌≡◌, ◌<◌, ℕ, false, true, length, List, [], Option, Some, None, Result, Ok, Err, refl, sym, ap, ◌∙◌, subst}
+use Rattle.std.proofs.Common.{◌≡◌, ◌<◌, ℕ, false, true, length, List, [], Option, Some, None, Result, Ok, Err, refl, sym, subst}
 use Rattle.std.specs.Prelude.{slice_get}
 use Rattle.pg_term.specs.declared.term.Term.{Term}
-use Rattle.pg_machine.specs.Losing.{LosingEvent, Lose, nobody_gone}
+use Rattle.pg_machine.specs.Losing.{Lose, nobody_gone}
 use Rattle.pg_machine.specs.Machine.{start_of}
 use Rattle.pg_step.specs.declared.refusal.Refusal.{Refusal}
 use Rattle.pg_step.specs.declared.refusal.Refusal.TheVariants.{NotDrained}
 use Rattle.pg_step.specs.Config.{Config}
 use Rattle.pg_step.specs.FrameMachine.{frame_machine, losing_frame_machine}
 use Rattle.pg_step.specs.LossLaws.{LosingFrameWorld}
-use Rattle.pg_step.specs.Step.{Action, Issue, Retry}
+use Rattle.pg_step.specs.Step.{Issue, Retry}
 use Rattle.pg_history.specs.History.{history}
-use Rattle.pg_loss.specs.Reached.{LosingReaches}
 use Rattle.pg_node.specs.declared.state.fault.NodeFault.{NodeFault}
 use Rattle.pg_node.specs.declared.state.fault.NodeFault.TheVariants.{Refused, OutOfMemory, Message as BadMessage, TooLong, Damaged}
 use Rattle.pg_world.specs.declared.step.FrameStep.{FrameStep}
@@ -20,16 +19,15 @@ use Rattle.pg_world.specs.declared.step.Step.{Step}
 use Rattle.pg_world.specs.declared.step.Step.TheVariants as steps
 use Rattle.pg_world.specs.declared.step.Stepped.{Stepped}
 use Rattle.pg_world.specs.declared.step.Stepped.TheVariants.{Happened, Moved, Nothing, Gone}
-use Rattle.pg_world.specs.BytesLosing.{IsReachedLosing, ShowsLosingBytes, MoveLeaves, WholeComesTo, SightComesTo, LossComesTo, EventLeaves, StepLeaves, put_refusal, pull_refusal, gone_refusal}
+use Rattle.pg_world.specs.BytesLosing.{IsReachedLosing, ShowsLosingBytes, MoveLeaves, WholeComesTo, SightComesTo, LossComesTo, EventLeaves, StepLeaves, put_refusal, pull_refusal}
 use Rattle.pg_world.specs.BytesLosingRuns.{bytes_past_losses}
 use Rattle.pg_world.specs.BytesStart.{BytesBegin}
 use Rattle.pg_world.specs.Crossings.{Crossing}
-use Rattle.pg_world.specs.Losing.{Telling, LosingComesTo, told_take, told_own, told_sight}
+use Rattle.pg_world.specs.Losing.{Telling, told_take, told_own, told_sight}
 use Rattle.pg_world.specs.LosingRuns.{LosingGoesTo}
 use Rattle.pg_world.specs.Past.{BytesHavePast, BytesGoOn, BytesRunOn, HistoriesGrow}
 use Rattle.pg_world.specs.Pending.{AgreeOn, pending_of, sees_free}
 use Rattle.pg_world.specs.Views.{Seen, Account}
-use Rattle.pg_world.specs.Worlds.{TimedFrameWorld}
 use Rattle.pg_world.proofs.Leading.{Near, Here, Next, Lists, Survive, AreApart, goes_on, past_after, past_of, runs_on, comes_on, some_comes, histories_grow, history_is, applied_there, agreed_there}
 use Rattle.pg_world.proofs.LosingRunning.{losing_leads, start_is}
 use Rattle.pg_world.proofs.over_bytes.Past.{move_mapped}

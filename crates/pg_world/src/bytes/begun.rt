@@ -34,6 +34,7 @@ impl ByteNodes<IndexTable> {
     pub(crate) fn new(alloc: Global, config: &Config) -> Result<ByteNodes<IndexTable>, WorldFault>
         ensures good { IfOk result (λ world. IsConfig config.now.starts.items × IsCapacity config.now.ring) }
         ensures fits { IfOk result (λ world. AllFit config.now.starts.items) }
+        ensures few { IfOk result (λ world. have_few config.now.starts.items ≡ true) }
         ensures begins { IfOk result (λ world. BytesBegin config.now.starts.items (crossing_of world) (account_of world.histories)) }
         ensures opens { IfOk result (λ world. OpensBytes config.now.starts.items (crossing_of world)) }
         ensures room { IfOk result (λ world. room_of world ≡ config.now.ring) }

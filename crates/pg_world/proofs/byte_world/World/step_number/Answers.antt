@@ -1,6 +1,6 @@
 use Rattle.std.proofs.Common.{◌∙◌, ap, sym, subst}
 use Rattle.pg_world.specs.Crossings.{ShowsBytes}
-use Rattle.pg_world.specs.ByteWorlds.{account_of, crossing_of, given_of, lost_of, room_of}
+use Rattle.pg_world.specs.ByteWorlds.{account_of, crossing_of, lost_of, room_of}
 use Rattle.pg_world.specs.Runs.{over_bytes, StepsTo}
 use Rattle.pg_world.specs.BytesLosing.{ShowsLosingBytes}
 use Rattle.pg_world.specs.BytesLosingRuns.{bytes_past_losses}

@@ -1,15 +1,13 @@
-use Rattle.std.proofs.Common.{◌≡◌, ◌≢◌, ◌∙◌, ℕ, Bool, List, [], ◌∷◌, Result, true, false, refl, sym, ap, subst}
+use Rattle.std.proofs.Common.{◌≡◌, ◌∙◌, Bool, [], true, false, refl, sym, ap, subst}
 use Rattle.pg_machine.specs.Places.{is_pair}
-use Rattle.pg_machine.specs.Machine.{Take, Do}
 use Rattle.pg_history.proofs.steps.Lossless.{nobody_timed}
 use Rattle.pg_loss.specs.Reached.{LosingReaches}
 use Rattle.pg_step.specs.Config.{name_at}
 use Rattle.pg_step.specs.Nodes.{Node}
-use Rattle.pg_step.specs.LossLaws.{LosingFrameWorld}
 use Rattle.pg_step.specs.Step.{Issue, Retry}
 use Rattle.pg_world.specs.declared.step.FrameStep.{FrameStep}
 use Rattle.pg_world.specs.BytesLosing.{ShowsLosingBytes, EventLeaves}
-use Rattle.pg_world.specs.Crossings.{crossing_of, ShowsBytes, ShowsBytesPast, FrameComesTo, EventComesTo}
+use Rattle.pg_world.specs.Crossings.{crossing_of, ShowsBytes, FrameComesTo}
 use Rattle.pg_world.specs.Histories.{account_of}
 use Rattle.pg_world.specs.Losing.{losing_of, is_barred, is_cut_off}
 use Rattle.pg_world.specs.Losses.{lost_in, is_lost}

@@ -1,8 +1,6 @@
-use Rattle.std.proofs.Common.{◌≡◌, ◌+◌, ◌<◌, ◌∙◌, false, length, sym, ap, subst}
+use Rattle.std.proofs.Common.{◌+◌, ◌∙◌, false, sym, ap}
 use Rattle.std.specs.Option.{option_map_or}
 use Rattle.pg_opens.specs.Places.{name_at}
-use Rattle.pg_node.specs.declared.state.NodeState.{NodeState}
-use Rattle.pg_node.specs.Nodes.{held_by}
 use Rattle.pg_node.specs.States.{names_of, state_of}
 use Rattle.pg_world.specs.Views.{Seen, peer_place}
 use Rattle.pg_world.proofs.Linked.{first_there, seen_there}

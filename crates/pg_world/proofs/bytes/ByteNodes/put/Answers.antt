@@ -1,5 +1,4 @@
-use Rattle.std.proofs.Common.{◌≡◌, ◌∙◌, ◌∷◌, [], not, Option, None, Some, sym, subst}
-use Rattle.pg_step.specs.declared.refusal.Refusal.{Refusal}
+use Rattle.std.proofs.Common.{◌≡◌, ◌∙◌, ◌∷◌, [], not, None, Some, sym, subst}
 use Rattle.pg_step.specs.declared.refusal.Refusal.TheVariants.{NoSuchPlace, NodeLost}
 use Rattle.pg_step.specs.Faults.{first_that_holds}
 use Rattle.pg_world.specs.Bars.{put_bar}

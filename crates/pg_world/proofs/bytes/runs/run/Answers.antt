@@ -3,7 +3,7 @@ use Rattle.pg_step.specs.Config.{Config}
 use Rattle.pg_step.specs.FrameMachine.{frame_machine}
 use Rattle.pg_machine.specs.Machine.{start_of}
 use Rattle.pg_world.specs.Crossings.{ShowsBytes}
-use Rattle.pg_world.specs.ByteWorlds.{account_of, crossing_of, given_of, lost_of, room_of}
+use Rattle.pg_world.specs.ByteWorlds.{account_of, crossing_of, lost_of, room_of}
 use Rattle.pg_world.specs.Runs.{over_bytes}
 use Rattle.pg_world.specs.BytesLosing.{ShowsLosingBytes}
 use Rattle.pg_world.proofs.over_bytes.Chained.{ran_crossing_so}

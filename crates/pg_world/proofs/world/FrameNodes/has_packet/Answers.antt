@@ -1,4 +1,4 @@
-use Rattle.std.proofs.Common.{◌≡◌, ◌<◌, length, sym, subst}
+use Rattle.std.proofs.Common.{◌<◌, length, sym, subst}
 use Rattle.pg_world.specs.Views.{ways_of}
 use Rattle.pg_world.proofs.Taking.{sender_place}
 use Rattle.pg_world.proofs.world.FrameNodes.has_packet.Goals as goal

@@ -1,8 +1,8 @@
-use Rattle.std.proofs.Common.{◌≡◌, ◌+◌, ◌<◌, ◌∙◌, false, length, sym, ap, subst}
+use Rattle.std.proofs.Common.{◌+◌, ◌<◌, ◌∙◌, false, length, sym, ap, subst}
 use Rattle.std.specs.Option.{option_map_or}
 use Rattle.pg_opens.specs.Places.{name_at}
 use Rattle.pg_node.specs.States.{names_of, state_of}
-use Rattle.pg_world.specs.Views.{Seen, seen_of, peer_place}
+use Rattle.pg_world.specs.Views.{Seen, peer_place}
 use Rattle.pg_world.proofs.Taking.{taker_there, taker_place}
 use Rattle.pg_world.proofs.Viewing.{seen_here}
 use Rattle.pg_world.proofs.world.FrameNodes.has_seen.Goals as goal

@@ -4,7 +4,6 @@ use Rattle.pg_world.specs.Losing.{lost_of}
 use Rattle.pg_world.specs.Views.{seen_of, ways_of}
 use Rattle.pg_world.specs.Worlds.{view_of}
 use Rattle.pg_world.proofs.Dropped.{cut_there, cut_others, cut_whole, few_or_many, lost_before, too_many, lost_now}
-use Rattle.pg_world.proofs.Sighted.{seen_then}
 use Rattle.pg_world.proofs.world.FrameNodes.lose.Goals as goal
 
 pub returns-then-keep-len-clause-losing : goal.returns-then-keep-len-clause-losing

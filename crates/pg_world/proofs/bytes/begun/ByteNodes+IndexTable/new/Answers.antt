@@ -17,3 +17,6 @@ returns-in-Ok-clause-fault c = good_fault c.args.config.now.ring c.args.config.n
 
 pub returns-in-Ok-clause-opens : goal.returns-in-Ok-clause-opens
 returns-in-Ok-clause-opens c = rw c.as_slice.ensures.value at c.begun.ensures.opens
+
+pub returns-in-Ok-clause-few : goal.returns-in-Ok-clause-few
+returns-in-Ok-clause-few c = of_ok c.begun.result c.in-Ok.ensures.few

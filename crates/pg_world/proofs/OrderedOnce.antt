@@ -20,11 +20,10 @@ use Rattle.pg_world.specs.declared.fault.WorldFault.{WorldFault}
 use Rattle.pg_world.specs.declared.fault.WorldFault.TheVariants.{BadConfig, NameTooLarge, BadCapacity, TooLong, OutOfMemory}
 use Rattle.pg_world.specs.Configs.{refusal_of}
 use Rattle.pg_world.specs.Fitting.{FitsFrame, IsOverlong}
-use Rattle.pg_world.specs.Openings.{Fits, IsTooLong, SomeIsTooLong, CantBegin, are_few, have_few}
+use Rattle.pg_world.specs.Openings.{Fits, IsTooLong, SomeIsTooLong, CanBegin, CantBegin, are_few, have_few}
 use Rattle.pg_world.specs.Starts.{IsOrdered, Orders, seen_first}
 use Rattle.pg_world.specs.Views.{Seen}
-use Rattle.pg_cluster.specs.Judges.{CanBegin}
-use Rattle.pg_cluster.proofs.OneList.{names_one}
+use Rattle.pg_world.proofs.OneList.{names_one}
 
 groups_one : (table : Table) (groups others : GroupList) → announced_names groups ≡ announced_names others
     → AllByRecursion (λ group. IsMemberList (table group.0) anywhere group.1) groups → AllByRecursion (λ group. IsMemberList (table group.0) anywhere group.1) others → groups ≡ others
