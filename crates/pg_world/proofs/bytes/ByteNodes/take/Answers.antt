@@ -10,7 +10,7 @@ use Rattle.pg_world.specs.Histories.{account_of}
 use Rattle.pg_world.specs.Views.{seen_of, peer_place}
 use Rattle.pg_world.specs.Changes.{EventChanges}
 use Rattle.pg_world.proofs.Barred.{unseen_by}
-use Rattle.pg_world.proofs.Linked.{alone, first_there, seen_there, links_here, links_now, node_same}
+use Rattle.pg_world.proofs.Linked.{alone, first_there, seen_there, links_here, links_now, node_same, nodes_kept}
 use Rattle.pg_world.proofs.Passing.{read_ok, readable, only_memory, unread_err, unmarked}
 use Rattle.pg_world.proofs.Past.{reads_first, reads_lawful}
 use Rattle.pg_world.proofs.Turning.{pair_there}
@@ -74,7 +74,14 @@ returns-in-Err g c = record {
       let unchanged = c.in-Err.ensures.marked ∙ (ap (λ (f : NodeFault). at_link c.peer_place.result (λ l. marked l f) (links_of node)) memory ∙ unmarked (links_of node) c.peer_place.result OutOfMemory refl) in
       let same = node_same nodes rings i node node2 l at (ap seen_of c.in-Err.ensures.state) unchanged in
       unread_err config w (Take i p) fault _ memory (subst (λ (crossing : Crossing). ShowsBytesPast config lost crossing (account_of c.args.self.now.histories) w) (sym same) shows);
-  changes = alone c.args.self.now.nodes.items c.args.self.now.rings.items c.args.node c.next.new.self;
+  changes =
+      let nodes = c.args.self.now.nodes.items in
+      let rings = c.args.self.now.rings.items in
+      let i = c.args.node in
+      let node = c.index_mut-taker.result.now in
+      let node2 = c.next.new.self in
+      let l = first_there nodes rings i c.args.peer c.requires.pair c.args.self.now.rows in
+      (nodes_kept nodes i node node2 l c.index_mut-taker.ensures.value (ap seen_of c.in-Err.ensures.state), alone nodes rings i node2);
   lost = refl;
   room = refl;
 }

@@ -9,7 +9,7 @@ use Rattle.pg_node.specs.States.{names_of, nodes_of, state_of, answers_of, stamp
 use Rattle.pg_world.specs.Crossings.{Crossing, crossing_in, crossing_of, node_of, written_of, ShowsBytesPast}
 use Rattle.pg_world.specs.Histories.{account_of, asked_by}
 use Rattle.pg_world.specs.Views.{Account, peer_place}
-use Rattle.pg_world.proofs.Linked.{alone, first_there, seen_there, links_here, nodes_set, seen_kept, take_acts, node_same}
+use Rattle.pg_world.proofs.Linked.{alone, first_there, seen_there, links_here, nodes_set, seen_kept, take_acts, node_same, nodes_kept}
 use Rattle.pg_world.proofs.Passing.{first_read, taken_shown, take_err, unmarked}
 use Rattle.pg_world.proofs.Past.{reads_first}
 use Rattle.pg_world.proofs.Recording.{grew_taken}
@@ -84,7 +84,15 @@ returns-in-Err-take_read g c = record {
       (λ harms. subst (λ (a : Account). ShowsBytesPast config lost (crossing_in (slice_set nodes i node2) rings) a w) (sym account)
       (subst (λ (x : Crossing). ShowsBytesPast config lost x (account_of c.args.self.now.histories) w)
       (sym (node_same nodes rings i node node2 l at seen (c.in-Err-take_read.ensures.marked ∙ unmarked (links_of node) c.peer_place.result fault harms))) shows));
-  changes = alone c.args.self.now.nodes.items c.args.self.now.rings.items c.args.node c.take_read.new.self;
+  changes =
+      let nodes = c.args.self.now.nodes.items in
+      let rings = c.args.self.now.rings.items in
+      let i = c.args.node in
+      let node = c.index_mut-taker.result.now in
+      let node2 = c.take_read.new.self in
+      let l = first_there nodes rings i c.args.peer c.requires.pair c.args.self.now.rows in
+      let seen = seen_kept node node2 c.in-Err-take_read.ensures.names c.in-Err-take_read.ensures.ports c.in-Err-take_read.ensures.err c.in-Err-take_read.ensures.err_answers in
+      (nodes_kept nodes i node node2 l c.index_mut-taker.ensures.value seen, alone nodes rings i node2);
   lost = refl;
   room = refl;
 }
