@@ -1,6 +1,6 @@
 -- How the program ends where it serves.
 use Rattle.std.proofs.Common.{arith, ◌≡◌, ◌⊎◌, Bool, ◌∷◌, ℕ, List, [], Option, Some, None, Result, Err, length, refl, sym, ap, ◌∙◌, inl, inr}
-use Rattle.std.specs.Prelude.{IfSome, IfErr}
+use Rattle.std.specs.Prelude.{IfSome, IfErr, get_or}
 use Rattle.std.specs.Str.{chars}
 use Rattle.clap.specs.Words.{Kinds, IsAmong, Row, Text}
 use Rattle.clap.specs.declared.error.ErrorKind.{ErrorKind}
@@ -12,10 +12,15 @@ use Rattle.pg_node.specs.declared.fault.ServeFault.TheVariants.{Message}
 use Rattle.pg2sim.specs.declared.bytes.BytesFault.{BytesFault}
 use Rattle.pg2sim.specs.declared.bytes.BytesFault.TheVariants.{Serve}
 use Rattle.pg2sim.specs.Bytes.{BytesCause, ServesAs}
-use Rattle.pg2sim.specs.CommandLine.{AsksBytes, IsOther, IsScript, IsScriptWord, IsThreads}
+use Rattle.pg2sim.specs.CommandLine.{AsksBytes, IsOther, IsScript, IsScriptWord, IsServe, IsServeWord, IsThreads}
 use Rattle.pg2sim.specs.Scripts.{ScriptEnd}
 use Rattle.pg2sim.specs.Status.{BytesEnd, Ends, end_of_bytes, end_status}
+use Rattle.pg2sim.specs.Services.{EndsService, IsServed, service_end}
 use Rattle.pg2sim.specs.Talks.{EndsTalk, OrNoMemory}
+use Rattle.pg2sim.specs.declared.words.Offer.{Offer}
+use Rattle.pg_talk.specs.declared.service.Service.{Service}
+use Rattle.pg_talk.specs.declared.service.fault.ServiceFault.{ServiceFault}
+use Rattle.pg_talk.specs.declared.service.run.Served.{Served}
 use Rattle.pg2sim.specs.declared.fault.Fault.{Fault}
 use Rattle.pg2sim.specs.declared.fault.Fault.TheVariants.{Run}
 use Rattle.pg2sim.specs.declared.words.Aids.{Aids}
@@ -72,6 +77,40 @@ threads_no_bytes (Some p) talk own peer h k = let bad = ap length (sym h.0 ∙ k
 pub threads_no_script : (m : Option (Text × List Row)) (talk : Talk) (aids : Aids) → IsThreads m talk → IsScript m aids → ⊥
 threads_no_script None talk aids h k = h
 threads_no_script (Some p) talk aids h k = k.0 h.0
+
+-- words that begin otherwise are others
+begins : (a b : List ℕ) → a ≡ b → get_or a 0 0 ≡ get_or b 0 0
+begins a b e = ap (λ (xs : List ℕ). get_or xs 0 0) e
+
+pub serve_no_bytes : (m : Option (Text × List Row)) (own peer : List ℕ) → IsServeWord m → AsksBytes m own peer → ⊥
+serve_no_bytes None own peer h k = h
+serve_no_bytes (Some p) own peer h k = let bad = begins _ _ (sym h ∙ k.0) in absurd (omega (arith, bad))
+
+pub serve_no_threads : (m : Option (Text × List Row)) (talk : Talk) → IsServeWord m → IsThreads m talk → ⊥
+serve_no_threads None talk h k = h
+serve_no_threads (Some p) talk h k = let bad = ap length (sym h ∙ k.0) in absurd (omega (arith, bad))
+
+pub serve_no_script_word : (m : Option (Text × List Row)) → IsServeWord m → IsScriptWord m → ⊥
+serve_no_script_word None h k = h
+serve_no_script_word (Some p) h k = let bad = ap length (sym h ∙ k) in absurd (omega (arith, bad))
+
+pub serve_no_script : (m : Option (Text × List Row)) (aids : Aids) → IsServeWord m → IsScript m aids → ⊥
+serve_no_script None aids h k = h
+serve_no_script (Some p) aids h k = k.1 h
+
+pub serve_word : (m : Option (Text × List Row)) (offer : Offer) → IsServe m offer → IsServeWord m
+serve_word None offer h = h
+serve_word (Some p) offer h = h.0
+
+-- a service was asked for
+pub it_was_served : {D : Type 0} (served : D → Service → Result Served ServiceFault → D → Type 0) (service : Service) (told : Result Served ServiceFault) (before after : D)
+    (end : Result Served Fault) → served before service told after → end ≡ service_end told → IsServed served end
+it_was_served served service told before after end is e = inl (service, told, record { before = before; after = after; is = is }, e)
+
+-- no service began
+pub not_served : {D : Type 0} (served : D → Service → Result Served ServiceFault → D → Type 0) (T : Result Served Fault → Type 0) (status : ℕ) → status ≡ 1 → T (Err (Run 10))
+    → EndsService served T status
+not_served served T status e told = record { end = Err (Run 10); is = inr (Run 10, inl refl, refl); told = told; status_is = e }
 
 pub same_names : (m : Option (Text × List Row)) (own peer own2 peer2 : List ℕ) → AsksBytes m own peer → AsksBytes m own2 peer2 → (own ≡ own2) × (peer ≡ peer2)
 same_names None own peer own2 peer2 h k = absurd h

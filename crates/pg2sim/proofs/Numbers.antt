@@ -3,7 +3,7 @@ use Rattle.std.proofs.Common.{◌≡◌, ℕ, List, Option, Some, None, Result, 
 use Rattle.std.specs.Prelude.{unwrap_or}
 use Rattle.std.specs.Str.Parse.{ParsesUnsigned}
 use Rattle.clap.specs.Words.{ReadsOne, Row, Text}
-use Rattle.pg_cluster.specs.declared.conversation.Conversation.{Conversation}
+use Rattle.pg_talk.specs.declared.conversation.Conversation.{Conversation}
 use Rattle.pg2sim.specs.CommandLine.{AsksTalk, GivesNumber, IsThreads}
 use Rattle.pg2sim.specs.declared.words.Talk.{Talk}
 

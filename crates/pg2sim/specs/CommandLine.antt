@@ -3,15 +3,16 @@ use Rattle.std.specs.Prelude.{◌≡◌, ◌<◌, ◌⊎◌, ℕ, ◌-◌, ◌^�
 use Rattle.std.specs.Option.{option_map_or}
 use Rattle.std.specs.Str.{bytes_eq}
 use Rattle.std.specs.Str.Parse.{IsNumeral, digits_value, without_leading_plus}
-use Rattle.clap.specs.declared.builder.action.ArgAction.TheVariants.{SetTrue}
+use Rattle.clap.specs.declared.builder.action.ArgAction.TheVariants.{Append, SetTrue}
 use Rattle.clap.specs.declared.builder.value_parser.ValueParser.TheVariants.{Unsigned}
 use Rattle.clap.specs.Words.{App, Row, Rule, Text, first_of, one_of, new_app, new_rule, with_rule, with_subcommand}
 use Rattle.clap.specs.Simple.{on_top}
-use Rattle.pg_cluster.specs.declared.conversation.Conversation.{Conversation}
+use Rattle.pg_talk.specs.declared.conversation.Conversation.{Conversation}
 use Rattle.pg2sim.specs.declared.words.Aids.{Aids}
+use Rattle.pg2sim.specs.declared.words.Offer.{Offer}
 use Rattle.pg2sim.specs.declared.words.Talk.{Talk}
 use Rattle.pg2sim.specs.declared.words.Task.{Task}
-use Rattle.pg2sim.specs.declared.words.Task.TheVariants.{Bytes, Script, Threads}
+use Rattle.pg2sim.specs.declared.words.Task.TheVariants.{Bytes, Script, Serve, Threads}
 
 -- `--ID NAME`, where this name stands for one that is not given
 abbrev pub name_rule : Text → Text → Rule
@@ -47,13 +48,31 @@ abbrev pub threads_line : App
 threads_line = with_rule (with_rule (with_rule cluster_line (number_rule (codes "seed") (codes "1") 0 (2 ^ 64 - 1)))
     (number_rule (codes "turns") (codes "100000000") 0 (2 ^ 64 - 1))) (flag_rule (codes "json"))
 
+-- `--name NAME`, any number of times
+abbrev pub names_rule : Rule
+names_rule = record (new_rule (codes "name")) { long = Some (codes "name"); value_names = 1; action = Some Append }
+
+-- `--members FILE`
+abbrev pub members_rule : Rule
+members_rule = record (new_rule (codes "members")) { long = Some (codes "members"); value_names = 1 }
+
+-- `serve [--nodes N] [--ports N] [--name NAME].. [--members FILE]`
+abbrev pub served_line : App
+served_line = with_rule (with_rule (with_rule (with_rule (new_app (codes "serve")) (number_rule (codes "nodes") (codes "3") 1 16))
+    (number_rule (codes "ports") (codes "2") 1 64)) names_rule) members_rule
+
+-- and `[--commands N] [--seed N]`
+abbrev pub serve_line : App
+serve_line = with_rule (with_rule served_line (number_rule (codes "commands") (codes "1000000") 0 (2 ^ 64 - 1)))
+    (number_rule (codes "seed") (codes "1") 0 (2 ^ 64 - 1))
+
 -- the program, without its commands
 abbrev pub top_line : App
 top_line = on_top (λ top. record top { no_binary_name = true; subcommand_required = true; disable_help_subcommand = true }) (new_app (codes "pg2sim"))
 
--- one of the three
+-- one of the four
 abbrev pub command_line : App
-command_line = with_subcommand (with_subcommand (with_subcommand top_line bytes_line.top) script_line.top) threads_line.top
+command_line = with_subcommand (with_subcommand (with_subcommand (with_subcommand top_line bytes_line.top) script_line.top) threads_line.top) serve_line.top
 
 -- the name that was given, or this one
 abbrev pub given_name : Text → Text → List Row → Text
@@ -78,9 +97,9 @@ pub record AsksAids (rows : List Row) (aids : Aids) : Type 0 where
   pub traced : aids.is_traced ≡ is_flag (codes "trace") rows
   pub diagram : option_map (λ s. s.now) aids.diagram ≡ first_of (codes "diagram") rows
 
--- another than `threads`, with these aids
+-- another than `threads` and `serve`, with these aids
 abbrev pub IsScript : Option (Text × List Row) → Aids → Type 0
-IsScript (Some p) aids = (p.0 ≡ codes "threads" → ⊥) × AsksAids p.1 aids
+IsScript (Some p) aids = (p.0 ≡ codes "threads" → ⊥) × (p.0 ≡ codes "serve" → ⊥) × AsksAids p.1 aids
 IsScript None aids = Unit {0}
 
 -- a text is a number of so many bits, in decimal, and a plus may stand before it
@@ -106,6 +125,24 @@ abbrev pub IsThreads : Option (Text × List Row) → Talk → Type 0
 IsThreads (Some p) talk = (p.0 ≡ codes "threads") × AsksTalk p.1 talk.asked × (talk.is_json ≡ is_flag (codes "json") p.1)
 IsThreads None talk = ⊥
 
+-- the numbers and the file of a service are those of its options
+pub record AsksOffer (rows : List Row) (offer : Offer) : Type 0 where
+  pub nodes : GivesNumber 16 3 (one_of (codes "nodes") rows) offer.nodes
+  pub ports : GivesNumber 16 2 (one_of (codes "ports") rows) offer.ports
+  pub members : option_map (λ s. s.now) offer.members ≡ first_of (codes "members") rows
+  pub requests : GivesNumber 64 1000000 (one_of (codes "commands") rows) offer.requests
+  pub seed : GivesNumber 64 1 (one_of (codes "seed") rows) offer.seed
+
+-- `serve`, with this offer
+abbrev pub IsServe : Option (Text × List Row) → Offer → Type 0
+IsServe (Some p) offer = (p.0 ≡ codes "serve") × AsksOffer p.1 offer
+IsServe None offer = ⊥
+
+-- the command is `serve`
+abbrev pub IsServeWord : Option (Text × List Row) → Type 0
+IsServeWord (Some p) = p.0 ≡ codes "serve"
+IsServeWord None = ⊥
+
 -- the command is `script`
 abbrev pub IsScriptWord : Option (Text × List Row) → Type 0
 IsScriptWord (Some p) = p.0 ≡ codes "script"
@@ -116,3 +153,4 @@ abbrev pub IsAsked : Option (Text × List Row) → Task → Type 0
 IsAsked matches (Bytes own peer) = AsksBytes matches own.now peer.now
 IsAsked matches (Script aids) = IsOther matches × IsScript matches aids
 IsAsked matches (Threads talk) = IsOther matches × IsThreads matches talk
+IsAsked matches (Serve offer) = IsOther matches × IsServe matches offer

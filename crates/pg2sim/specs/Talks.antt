@@ -2,9 +2,9 @@
 use Rattle.std.specs.Prelude.{◌≡◌, ◌⊎◌, ℕ, List, ◌++◌, Bool, true, false, Option, Result, Ok, Err, codes, decimal, if◌then◌else◌}
 use Rattle.std.specs.Io.KnownBytes.{Appends}
 use Rattle.pg_cluster.specs.Fault.{start_number_of}
-use Rattle.pg_cluster.specs.Outcomes.{is_good, outcome_lines}
-use Rattle.pg_cluster.specs.declared.conversation.Conversation.{Conversation}
-use Rattle.pg_cluster.specs.declared.conversation.Outcome.{Outcome}
+use Rattle.pg_talk.specs.Outcomes.{is_good, outcome_lines}
+use Rattle.pg_talk.specs.declared.conversation.Conversation.{Conversation}
+use Rattle.pg_talk.specs.declared.conversation.Outcome.{Outcome}
 use Rattle.pg_cluster.specs.declared.fault.StartFault.{StartFault}
 use Rattle.pg2sim.specs.Faults.{status_of}
 use Rattle.pg2sim.specs.Told.{WritesSome}

@@ -93,3 +93,35 @@ pub(crate) const TURNS_HELP: &str = "how many turns each node makes at most";
 
 pub(crate) const JSON_HELP: &str =
     "print the same as one line of JSON, with the time in microseconds";
+
+/// What `serve` does.
+pub(crate) const SERVE_ABOUT: &str =
+    "Run nodes as threads, take requests for them from standard input, and write the replies";
+
+/// What `serve` reads and writes, and when it is content.
+pub(crate) const SERVE_LINES: &str =
+    "Each request and each reply is one term in the External Term Format, after four bytes of length,
+as a port of Erlang has it with {packet, 4}. A request is {Node, Port, Command}, with Port from 1:
+  make  {finish, Pid}  {create, Name}  {delete, Name}  {join, Name, Pid}  {leave, Name, Pid}
+  {members, Name}  {local_members, Name}  which_groups  {closest, Name, Word}
+Its reply is {Node, Port, Number, Reply}; Number counts the requests of the port from 1. A port's requests are
+handed over one after another, each once the one before it was replied to. Reply is
+  ok, a pid, a list, {error, {no_such_group, Name}}, {error, {no_process, Name}} or {refused, N}.
+{lose, Node} loses a node for good, and is answered {lost, Node}. Requests at a lost node are answered
+{Node, Port, Number, {error, {node_lost, Node}}}. Any other body is answered {error, {bad_request, N}}, N being its place
+among all bodies. Once the input is over and all is answered the nodes are stopped, and standard error has two lines:
+  agree yes              nodes have the same members where they see the lock of a group free
+  replay yes             the logs of the nodes, joined to one run, lead to the nodes as they ended
+
+Status 0: both say yes; else 1. A broken frame or term ends the input, and `refused N` follows, status 1.";
+
+/// The options of `serve`.
+pub(crate) const PORTS_HELP: &str = "how many ports each node has, 1 to 64";
+
+pub(crate) const NAME_HELP: &str =
+    "the name of a node, as often as there are nodes, or never: n1, n2 and so on";
+
+pub(crate) const MEMBERS_HELP: &str =
+    "a file with the text of a list of {Node, Made, [{Name, [Pid, ..]}, ..]}: what the nodes know at first";
+
+pub(crate) const COMMANDS_HELP: &str = "after how many requests the input counts as ended";

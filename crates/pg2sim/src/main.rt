@@ -8,6 +8,7 @@ mod input;
 mod laws;
 mod run;
 mod script;
+mod service;
 mod system;
 #[cfg(test)]
 mod tests;

@@ -1,15 +1,16 @@
 //! What the program does for its words.
 
-ghost use Rattle.std.specs.Prelude.{◌≡◌, ◌≢◌, ◌⊎◌, List, ℕ, [], IfSome, Err, map, string_bytes};
+ghost use Rattle.std.specs.Prelude.{◌≡◌, ◌≢◌, ◌⊎◌, List, ℕ, [], IfSome, Ok, Err, map, string_bytes};
 ghost use Rattle.std.specs.Str.{chars};
 ghost use Rattle.std.specs.IoError.{error_kind};
 ghost use Rattle.std.specs.declared.io.ErrorKind.TheVariants.{InvalidData};
 ghost use Rattle.clap.specs.Words.{fault_of, kind_of, subcommand_of};
 ghost use Rattle.pg_node.specs.Causes.{AllAnswered, FailedAt, Unread};
 ghost use Rattle.pg2sim.specs.Bytes.{BytesCause, pair_of_texts};
-ghost use Rattle.pg2sim.specs.CommandLine.{command_line, AsksBytes, IsScriptWord, IsThreads};
+ghost use Rattle.pg2sim.specs.CommandLine.{command_line, AsksBytes, IsScriptWord, IsServeWord, IsThreads};
 ghost use Rattle.pg2sim.specs.Inputs.{IsInput, IsUnread};
 ghost use Rattle.pg2sim.specs.Scripts.{ScriptEnd};
+ghost use Rattle.pg2sim.specs.Services.{EndsService, ToldService, service_status};
 ghost use Rattle.pg2sim.specs.Status.{BytesEnd, Ends, ToldEnd, WordsEnd, end_of_bytes, end_status};
 ghost use Rattle.pg2sim.specs.Talks.{EndsTalk, OrNoMemory, TalkEnd};
 ghost use Rattle.pg2sim.specs.declared.fault.Fault.TheVariants.{Run};
@@ -18,13 +19,15 @@ ghost use Rattle.pg2sim.specs.declared.words.Talk.{Talk};
 use crate::bytes::{BytesFault, serve_input};
 use crate::fault::Fault;
 use crate::script::run_input;
+use crate::service::{print_verdict, serve};
 use crate::system::System;
 use crate::threads::converse;
-use crate::words::{Aids, Talk, Task, read_words};
+use crate::words::{Aids, Offer, Talk, Task, read_words};
 use clap::Error;
 use clap::error::ErrorKind;
 use pg_node::{Sink, Source};
 use pg_script::put_whole;
+use pg_talk::Served;
 use std::alloc::Global;
 use std::io;
 
@@ -43,8 +46,9 @@ const REFUSED_WORDS: u8 = 2;
 /// `bytes [--node NAME] [--peer NAME]` reads framed packets from `reader` and writes the framed replies to `writer`, as
 /// `pg_node::serve` does; names that are too long or equal are refused. `script` reads a script and runs it, as
 /// `pg_script::run_script` does; by `--trace` it tells what was seen, too, and by `--diagram` it makes a file in `system` once the run
-/// has ended. `threads` lets clients speak with a cluster of nodes in threads, as `pg_cluster::run_threads` does, and prints how it went;
-/// status 1 where not all was well. A fault stands in a line of `faults`: `refused N`, or `line L refused N` for a faulty line of a
+/// has ended. `threads` lets clients speak with a cluster of nodes in threads, as `pg_talk::run_threads` does, and prints how it went;
+/// status 1 where not all was well. `serve` takes requests for such a cluster from the system's input, and writes the replies to `writer`,
+/// as `pg_talk::serve_cluster` does; then two lines on `faults` tell what the cluster is found to be, and status 1 where not all is well. A fault stands in a line of `faults`: `refused N`, or `line L refused N` for a faulty line of a
 /// script. Status 0: done; 1: the run was refused; 2: what was given was refused. Refused words print the text of `clap` on
 /// `faults`, status 2, and nothing is read or written.
 pub fn run_words<R: Source, W: Sink, D: System, F: Sink>(
@@ -74,10 +78,14 @@ pub fn run_words<R: Source, W: Sink, D: System, F: Sink>(
         → EndsTalk (OrNoMemory (writer.new ≡ writer.old) (TalkEnd D.went talk.asked talk.is_json
         (writer.new ≡ writer.old) (FailedAt W.fails writer.new) (W.flushed writer.new) (W.contents writer.old) (W.contents writer.new)))
         (ToldEnd F.fails F.contents faults.old faults.new) result }
+    ensures serve { fault_of command_line (map string_bytes words.now) ≡ []
+        → IsServeWord (subcommand_of command_line (map string_bytes words.now))
+        → EndsService D.served (ToldService F.fails F.contents faults.old faults.new) result }
 {
     match read_words(alloc, words) {
         Ok(Task::Bytes { own, peer }) => run_bytes(alloc, own, peer, reader, writer, faults),
         Ok(Task::Threads(talk)) => run_conversation(alloc, talk, writer, system, faults),
+        Ok(Task::Serve(offer)) => run_service(alloc, offer, writer, system, faults),
         Ok(Task::Script(aids)) => run_script(alloc, aids, reader, writer, system, faults),
         Err(error) => refuse_words(alloc, faults, &error),
     }
@@ -134,6 +142,40 @@ fn run_conversation<W: Sink, D: System, F: Sink>(
         Ok(true) => DONE,
         Ok(false) => NOT_GOOD,
         Err(fault) => tell(faults, Err(fault)),
+    }
+}
+
+/// Serves the requests of the input, and gives the status.
+fn run_service<W: Sink, D: System, F: Sink>(
+    alloc: Global,
+    offer: Offer<'_>,
+    writer: &mut W,
+    system: &mut D,
+    faults: &mut F,
+) -> u8
+    ensures { EndsService D.served (ToldService F.fails F.contents faults.old faults.new) result }
+{
+    match serve(alloc, offer, writer, system) {
+        Ok(served) => tell_served(faults, served),
+        Err(fault) => tell(faults, Err(fault)),
+    }
+}
+
+/// Writes what a cluster is found to be, and by which fault its input ended; the status.
+fn tell_served<F: Sink>(faults: &mut F, served: Served) -> u8
+    ensures told { ToldService F.fails F.contents faults.old faults.new (Ok served) }
+    ensures status { result ≡ service_status (Ok served) }
+{
+    let _ = print_verdict(faults, served.verdict);
+    match served.fault {
+        Some(number) => tell(faults, Err(Fault::Run(number))),
+        None => {
+            if served.verdict.agree && served.verdict.replay {
+                DONE
+            } else {
+                NOT_GOOD
+            }
+        }
     }
 }
 

@@ -1,12 +1,19 @@
 //! What the program asks of the system: files, threads and time.
 
 ghost use Rattle.std.specs.Prelude.{⊤, Result, OnErr};
-ghost use Rattle.pg_cluster.specs.declared.conversation.Conversation.{Conversation};
-ghost use Rattle.pg_cluster.specs.declared.conversation.Outcome.{Outcome};
+ghost use Rattle.pg_talk.specs.declared.conversation.Conversation.{Conversation};
+ghost use Rattle.pg_talk.specs.declared.conversation.Outcome.{Outcome};
+ghost use Rattle.pg_talk.specs.declared.service.Service.{Service};
+ghost use Rattle.pg_talk.specs.declared.service.fault.ServiceFault.{ServiceFault};
+ghost use Rattle.pg_talk.specs.declared.service.run.Served.{Served};
 ghost use Rattle.pg_cluster.specs.declared.fault.StartFault.{StartFault};
 
-use pg_cluster::{Conversation, Onlooker, Outcome, StartFault, run_threads};
+use pg_cluster::StartFault;
+use pg_node::{AnyReader, Sink};
 use pg_progress::Progress;
+use pg_talk::{
+    Conversation, Onlooker, Outcome, Served, Service, ServiceFault, run_threads, serve_cluster,
+};
 use std::alloc::Global;
 use std::io::Write;
 use std::thread::Threads;
@@ -21,6 +28,9 @@ pub(crate) trait System {
     /// `went a asked told b`: a conversation that was asked for in `a` went as it is told, and that left `b`.
     ghost went: { Self → Conversation → Result Outcome StartFault → Self → Type 0 } = { λ a asked told b. ⊤ };
 
+    /// `served a service told b`: a service that was asked for in `a` went as it is told, and that left `b`.
+    ghost served: { Self → Service → Result Served ServiceFault → Self → Type 0 } = { λ a service told b. ⊤ };
+
     /// Makes a file of this name hold just these bytes.
     ///
     /// Error: any, where it can't be made or written.
@@ -32,6 +42,17 @@ pub(crate) trait System {
     /// Faults: those of `run_threads`.
     fn converse(&mut self, asked: Conversation) -> Result<Outcome, StartFault>
         ensures told { went self.old asked result self.new };
+
+    /// The bytes of the file of this name.
+    ///
+    /// Error: any, where it can't be read.
+    fn get(&mut self, name: &str) -> io::Result<Vec<u8>>;
+
+    /// Serves requests from the input, and writes the replies. It may wait for threads.
+    ///
+    /// Faults: those of `serve_cluster`.
+    fn serve<W: Sink>(&mut self, service: Service, writer: &mut W) -> Result<Served, ServiceFault>
+        ensures told { served self.old service result self.new };
 
     /// How many microseconds went by since some moment that stays; 0 where no clock can be read.
     fn microseconds(&mut self) -> u64;
@@ -60,7 +81,7 @@ impl<T: Write, C: Clock> Onlooker for Shown<T, C> {
 
 impl<R: Threads, T: Write> System for HostSystem<'_, R, T> {
     ghost use Rattle.std.specs.Prelude.{IfOk};
-    ghost use Rattle.pg_cluster.specs.Conversations.{TookPlace};
+    ghost use Rattle.pg_talk.specs.Conversations.{TookPlace};
 
     ghost went = { λ a asked told b. IfOk told (TookPlace asked) };
 
@@ -72,6 +93,17 @@ impl<R: Threads, T: Write> System for HostSystem<'_, R, T> {
         let told = run_threads(self.threads, self.alloc, asked, &mut self.progress);
         self.progress.0.end();
         told
+    }
+
+    fn get(&mut self, name: &str) -> io::Result<Vec<u8>> {
+        fs::read(self.rt, name)
+    }
+
+    fn serve<W: Sink>(&mut self, service: Service, writer: &mut W) -> Result<Served, ServiceFault> {
+        let source = AnyReader {
+            reader: self.rt.stdin(),
+        };
+        serve_cluster(self.threads, self.alloc, service, source, writer)
     }
 
     fn microseconds(&mut self) -> u64 {

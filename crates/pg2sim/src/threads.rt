@@ -1,7 +1,7 @@
 //! `pg2sim threads`.
 
 ghost use Rattle.std.specs.Prelude.{◌≡◌, ◌++◌, OnOk};
-ghost use Rattle.pg_cluster.specs.Outcomes.{is_good};
+ghost use Rattle.pg_talk.specs.Outcomes.{is_good};
 ghost use Rattle.pg_node.specs.Causes.{FailedAt};
 ghost use Rattle.pg2sim.specs.Talks.{Printed, TalkEnd, json_line, outcome_text};
 
@@ -9,9 +9,9 @@ use crate::fault::Fault;
 use crate::run::OUT_OF_MEMORY;
 use crate::system::System;
 use crate::words::Talk;
-use pg_cluster::Outcome;
 use pg_node::Sink;
 use pg_script::{RunFault, put_whole};
+use pg_talk::Outcome;
 use std::alloc::Global;
 use std::io;
 use std::io::Write;

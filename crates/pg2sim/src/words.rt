@@ -3,16 +3,17 @@
 ghost use Rattle.std.specs.Prelude.{◌≡◌, false, IfOk, IfErr, codes, map, option_map, string_bytes};
 ghost use Rattle.clap.specs.Words.{rule_of, subcommand_rows_of, app_of, new_app, kind_of, found_of, rows_of, first_of, one_of, fault_of, subcommand_of, FailsBy};
 ghost use Rattle.clap.specs.declared.builder.Command.TheViews.{out-Command};
-ghost use Rattle.pg2sim.specs.CommandLine.{name_rule, bytes_line, script_line, flag_rule, diagram_rule, number_rule, cluster_line, threads_line, top_line, command_line, given_name, is_flag, AsksAids, AsksTalk, GivesNumber, IsAsked};
+ghost use Rattle.pg2sim.specs.CommandLine.{name_rule, bytes_line, script_line, flag_rule, diagram_rule, number_rule, cluster_line, threads_line, names_rule, members_rule, served_line, serve_line, top_line, command_line, given_name, is_flag, AsksAids, AsksOffer, AsksTalk, GivesNumber, IsAsked};
 
 use crate::help::{
-    ABOUT, BYTES_ABOUT, CLIENTS_HELP, DIAGRAM_HELP, JSON_HELP, NODE_HELP, NODES_HELP, PEER_HELP,
-    ROUNDS_HELP, SCRIPT_ABOUT, SCRIPT_FORMS, SEED_HELP, THREADS_ABOUT, THREADS_LINES, TRACE_HELP,
+    ABOUT, BYTES_ABOUT, CLIENTS_HELP, COMMANDS_HELP, DIAGRAM_HELP, JSON_HELP, MEMBERS_HELP,
+    NAME_HELP, NODE_HELP, NODES_HELP, PEER_HELP, PORTS_HELP, ROUNDS_HELP, SCRIPT_ABOUT,
+    SCRIPT_FORMS, SEED_HELP, SERVE_ABOUT, SERVE_LINES, THREADS_ABOUT, THREADS_LINES, TRACE_HELP,
     TURNS_HELP,
 };
 use clap::builder::ValueParser;
 use clap::{Arg, ArgAction, ArgMatches, Command, Error};
-use pg_cluster::Conversation;
+use pg_talk::Conversation;
 use std::alloc::{AllocError, Global};
 
 /// What the words ask for.
@@ -24,6 +25,22 @@ pub(crate) enum Task<'a> {
     Script(Aids<'a>),
     /// Clients that speak with a cluster.
     Threads(Talk),
+    /// A service over a cluster.
+    Serve(Offer<'a>),
+}
+
+/// The cluster that a service has, and how much it serves.
+#[derive(Debug, Drop)]
+pub(crate) struct Offer<'a> {
+    pub(crate) nodes: u16,
+    pub(crate) ports: u16,
+    /// The names of the nodes, where some were given.
+    pub(crate) names: Vec<&'a str>,
+    /// The file that tells what the nodes know as they start.
+    pub(crate) members: Option<&'a str>,
+    /// After how many requests the input counts as ended.
+    pub(crate) requests: u64,
+    pub(crate) seed: u64,
 }
 
 /// Clients that speak with a cluster, and how it is told.
@@ -52,27 +69,51 @@ pub(crate) fn read_words<'a>(alloc: Global, words: &'a [String]) -> Result<Task<
 {
     let command = command(alloc)?;
     match command.try_get_matches_from(words) {
-        Ok(matches) => Ok(task_of(&matches)),
+        Ok(matches) => Ok(task_of(alloc, &matches)?),
         Err(error) => Err(error),
     }
 }
 
 /// What the matches ask for.
-fn task_of<'a>(matches: &ArgMatches<'a>) -> Task<'a>
-    ensures { IsAsked (subcommand_rows_of matches.now) result }
+fn task_of<'a>(alloc: Global, matches: &ArgMatches<'a>) -> Result<Task<'a>, AllocError>
+    ensures { IfOk result (IsAsked (subcommand_rows_of matches.now)) }
 {
     match matches.subcommand() {
-        Some(("bytes", names)) => Task::Bytes {
+        Some(("bytes", names)) => Ok(Task::Bytes {
             own: name_or(names, "node", "b"),
             peer: name_or(names, "peer", "a"),
+        }),
+        Some(("threads", given)) => Ok(Task::Threads(talk_of(given))),
+        Some(("serve", given)) => match offer_of(alloc, given) {
+            Ok(offer) => Ok(Task::Serve(offer)),
+            Err(AllocError) => Err(AllocError),
         },
-        Some(("threads", given)) => Task::Threads(talk_of(given)),
-        Some((_, given)) => Task::Script(aids_of(given)),
-        None => Task::Script(Aids {
+        Some((_, given)) => Ok(Task::Script(aids_of(given))),
+        None => Ok(Task::Script(Aids {
             is_traced: false,
             diagram: None,
-        }),
+        })),
     }
+}
+
+/// The service that is asked for.
+///
+/// Error: `AllocError`.
+fn offer_of<'a>(alloc: Global, given: &ArgMatches<'a>) -> Result<Offer<'a>, AllocError>
+    ensures { IfOk result (AsksOffer (rows_of (found_of given.now))) }
+{
+    let names = match given.get_strs("name") {
+        Some(names) => names.to_vec(alloc)?,
+        None => Vec::new(alloc),
+    };
+    Ok(Offer {
+        nodes: small_number(given, "nodes", 3),
+        ports: small_number(given, "ports", 2),
+        names,
+        members: text_of(given, "members"),
+        requests: large_number(given, "commands", 1_000_000),
+        seed: large_number(given, "seed", 1),
+    })
 }
 
 /// The aids that a run of a script is asked for.
@@ -167,7 +208,9 @@ fn command<'a>(alloc: Global) -> Result<Command<'a>, AllocError>
     let script = script_command(alloc)?;
     let command = command.subcommand(script)?;
     let threads = threads_command(alloc)?;
-    command.subcommand(threads)
+    let command = command.subcommand(threads)?;
+    let serve = serve_command(alloc)?;
+    command.subcommand(serve)
 }
 
 /// The program, without its commands.
@@ -263,6 +306,58 @@ fn cluster_command<'a>(alloc: Global) -> Result<Command<'a>, AllocError>
     let command = command.arg(number_option(alloc, "nodes", "3", 1, 16, NODES_HELP))?;
     let command = command.arg(number_option(alloc, "clients", "2", 1, 16, CLIENTS_HELP))?;
     command.arg(number_option(alloc, "rounds", "50", 0, 1000, ROUNDS_HELP))
+}
+
+fn serve_command<'a>(alloc: Global) -> Result<Command<'a>, AllocError>
+    ensures app { IfOk result (λ command. app_of command ≡ serve_line) }
+    ensures local { IfOk result (λ command. (out-Command command).has_globals ≡ false) }
+{
+    let command = served_command(alloc)?;
+    let command = command.arg(number_option(
+        alloc,
+        "commands",
+        "1000000",
+        0,
+        u64::MAX,
+        COMMANDS_HELP,
+    ))?;
+    let command = command.after_help(SERVE_LINES);
+    command.arg(number_option(alloc, "seed", "1", 0, u64::MAX, SEED_HELP))
+}
+
+/// The command `serve` with the options of its cluster alone.
+fn served_command<'a>(alloc: Global) -> Result<Command<'a>, AllocError>
+    ensures app { IfOk result (λ command. app_of command ≡ served_line) }
+    ensures local { IfOk result (λ command. (out-Command command).has_globals ≡ false) }
+{
+    let command = new_command(alloc, "serve", SERVE_ABOUT);
+    let command = command.arg(number_option(alloc, "nodes", "3", 1, 16, NODES_HELP))?;
+    let command = command.arg(number_option(alloc, "ports", "2", 1, 64, PORTS_HELP))?;
+    let command = command.arg(names_option(alloc))?;
+    command.arg(members_option(alloc))
+}
+
+/// The option that names a node, as often as there are nodes.
+fn names_option<'a>(alloc: Global) -> Arg<'a>
+    ensures rule { rule_of result ≡ names_rule }
+    ensures plain { result.global ≡ false }
+{
+    Arg::new(alloc, "name")
+        .long("name")
+        .value_name("NAME")
+        .action(ArgAction::Append)
+        .help(NAME_HELP)
+}
+
+/// The option that gives the file of what the nodes know.
+fn members_option<'a>(alloc: Global) -> Arg<'a>
+    ensures rule { rule_of result ≡ members_rule }
+    ensures plain { result.global ≡ false }
+{
+    Arg::new(alloc, "members")
+        .long("members")
+        .value_name("FILE")
+        .help(MEMBERS_HELP)
 }
 
 /// An option that gives a number within bounds.

@@ -3,6 +3,8 @@ use Rattle.std.proofs.Common.{◌≡◌, ◌<◌, ℕ, List, [], ◌∷◌, ◌+
 use Rattle.std.specs.Prelude.{Bool, Result, Ok, Err, IfOk, IfErr, MatchResult}
 use Rattle.std.proofs.lemmas.Bool.Decides.{eqb_tells}
 use Rattle.std.specs.List.{All}
+use Rattle.std.specs.declared.alloc.Global.{Global}
+use Rattle.std.specs.declared.vec.Vec.{Vec}
 use Rattle.std.proofs.lemmas.List.{length-map, get_or-map}
 use Rattle.std.proofs.Math.ListN.{get_or-append}
 use Rattle.std.proofs.Math.Seq.{get_or-append_seam}
@@ -15,7 +17,8 @@ use Rattle.pg_world.specs.declared.step.FrameStep.{FrameStep}
 use Rattle.pg_cluster.specs.declared.closed.Closed.{Closed}
 use Rattle.pg_cluster.specs.declared.closed.Stopped.{Stopped}
 use Rattle.pg_cluster.specs.Clients.{AllPairs, AllHeard, ClientsRest, ports_ended}
-use Rattle.pg_cluster.specs.Closed.{nodes_of, logs_of, losses_of, clients_of}
+use Rattle.pg_cluster.specs.Closed.{JoinsToOneRun, nodes_of, logs_of, losses_of, clients_of}
+use Rattle.pg_cluster.specs.Judges.{Agree}
 use Rattle.pg_cluster.specs.Ended.{AreWired, AllArrived}
 use Rattle.pg_cluster.specs.Notices.{NobodyLost}
 use Rattle.pg_cluster.specs.Schedule.{IsSchedule}
@@ -104,10 +107,11 @@ stopped_heard {K} threads rans clients stopped joined meets nodes logs given mad
     (heard_all threads rans clients joined unlogged made.unused meets))
 
 -- which were lost is the same
-pub finished_lost : (lost : List Bool) (stopped : Stopped) (result : Result Closed Stopped) → losses_of stopped ≡ lost → IfErr result (λ other. other ≡ stopped)
-    → IfErr result (λ other. losses_of other ≡ lost)
-finished_lost lost stopped (Ok closed) are same = tt
-finished_lost lost stopped (Err other) are same = ap losses_of same ∙ are
+pub finished_lost : (lost : List Bool) (stopped : Stopped) (result : Result Closed Stopped) → losses_of stopped ≡ lost
+    → IfOk result (λ closed. closed.lost.items ≡ losses_of stopped) → IfErr result (λ other. other ≡ stopped)
+    → MatchResult result (λ closed. closed.lost.items ≡ lost) (λ other. losses_of other ≡ lost)
+finished_lost lost stopped (Ok closed) are told same = told ∙ are
+finished_lost lost stopped (Err other) are told same = ap losses_of same ∙ are
 
 -- the schedule, where none was lost
 pub finished_schedule : (lost : List Bool) (stopped : Stopped) (result : Result Closed Stopped) → losses_of stopped ≡ lost
@@ -129,3 +133,40 @@ finished_run law lost threads (Ok closed) ended is = λ nobody given made.
     law given lost threads closed.nodes.items (map (λ v. v.items) closed.logs.items) closed.schedule.items nobody made (ended nobody)
     (subst (λ n. IsSchedule (map (λ v. v.items) closed.logs.items) n closed.schedule.items) (sym (length-map closed.logs.items (λ v. v.items))) (is nobody))
 finished_run law lost threads (Err other) ended is = tt
+
+-- ---- what stopped, once it is finished
+
+pub joined_run : (stopped : Stopped) (result : Result Closed Stopped) → IfOk result (λ closed. closed.nodes.items ≡ nodes_of stopped)
+    → IfOk result (λ closed. map (λ v. v.items) closed.logs.items ≡ logs_of stopped)
+    → IfOk result (λ closed. NobodyLost (losses_of stopped) → IsSchedule (map (λ v. v.items) closed.logs.items) (length closed.logs.items) closed.schedule.items)
+    → IfOk result (λ closed. NobodyLost (losses_of stopped) → (given : Config) → JoinsToOneRun given (nodes_of stopped) (logs_of stopped)
+    → AreOneRun given closed.nodes.items (map (λ v. v.items) closed.logs.items) closed.schedule.items)
+joined_run stopped (Ok closed) nodes logs is = λ nobody given joins.
+    let own = map (λ v. v.items) closed.logs.items in
+    let joined : IsSchedule own (length own) closed.schedule.items =
+    subst (λ n. IsSchedule own n closed.schedule.items) (sym (length-map closed.logs.items (λ v. v.items))) (is nobody) in
+    subst (λ ns. AreOneRun given ns own closed.schedule.items) (sym nodes)
+    (subst (λ ls. AreOneRun given (nodes_of stopped) ls closed.schedule.items) (sym logs)
+    (joins closed.schedule.items (subst (λ ls. IsSchedule ls (length ls) closed.schedule.items) logs joined)))
+joined_run stopped (Err other) nodes logs is = tt
+
+pub joined_agree : ((given : Config) (nodes : List NodeOf) (logs : List (Vec (ℕ × NodeEvent) Global)) (schedule : List FrameStep)
+    → AreOneRun given nodes (map (λ v. v.items) logs) schedule → Agree nodes logs)
+    → (stopped : Stopped) (result : Result Closed Stopped)
+    → IfOk result (λ closed. NobodyLost (losses_of stopped) → (given : Config) → JoinsToOneRun given (nodes_of stopped) (logs_of stopped)
+    → AreOneRun given closed.nodes.items (map (λ v. v.items) closed.logs.items) closed.schedule.items)
+    → IfOk result (λ closed. NobodyLost (losses_of stopped) → (given : Config) → JoinsToOneRun given (nodes_of stopped) (logs_of stopped) → Agree closed.nodes.items closed.logs.items)
+joined_agree law stopped (Ok closed) run = λ nobody given joins. law given closed.nodes.items closed.logs.items closed.schedule.items (run nobody given joins)
+joined_agree law stopped (Err other) run = tt
+
+-- what a thread made joins to one run, where no node was lost
+pub stopped_joins : {K : Type 0}
+    → ((given : Config) (lost : List Bool) (threads : List (Thread K)) (nodes : List NodeOf) (logs : List (List (ℕ × NodeEvent))) (schedule : List FrameStep)
+    → NobodyLost lost → AreMade given (map begun_by threads) → EndedWith lost threads nodes logs → IsSchedule logs (length logs) schedule → AreOneRun given nodes logs schedule)
+    → (lost : List Bool) (threads : List (Thread K)) (stopped : Stopped) (result : Result Closed Stopped) → (NobodyLost lost → EndedWith lost threads (nodes_of stopped) (logs_of stopped))
+    → IfErr result (λ other. other ≡ stopped)
+    → IfErr result (λ other. NobodyLost lost → (given : Config) → AreMade given (map begun_by threads) → JoinsToOneRun given (nodes_of other) (logs_of other))
+stopped_joins law lost threads stopped (Ok closed) ended same = tt
+stopped_joins law lost threads stopped (Err other) ended same = λ nobody given made.
+    subst (λ (s : Stopped). JoinsToOneRun given (nodes_of s) (logs_of s)) (sym same)
+    (λ schedule is. law given lost threads (nodes_of stopped) (logs_of stopped) schedule nobody made (ended nobody) is)

@@ -8,11 +8,12 @@ use Rattle.pg_node.specs.declared.node.Node.{Node}
 use Rattle.pg_machine.proofs.Options.{some_is}
 use Rattle.pg_step.specs.Config.{Config}
 use Rattle.pg_world.specs.declared.step.FrameStep.{FrameStep}
-use Rattle.pg_world.specs.declared.world.FrameWorld.{FrameWorld}
+use Rattle.pg_world.specs.declared.frame_world.FrameWorld.{FrameWorld}
 use Rattle.pg_world.specs.Crossings.{node_of}
 use Rattle.pg_world.specs.Runs.{Ran, LosesNone, over_packets}
 use Rattle.pg_world.specs.Views.{Seen, seen_of}
-use Rattle.pg_world.specs.Worlds.{Shows, view_of}
+use Rattle.pg_world.specs.FrameWorlds.{view_of}
+use Rattle.pg_world.specs.Worlds.{Shows}
 use Rattle.pg_cluster.specs.Judges.{AreShown, Replays}
 
 -- what holds of each answer

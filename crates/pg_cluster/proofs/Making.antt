@@ -1,6 +1,10 @@
 -- The rows of links, once all rings are made, and the nodes that have them.
-use Rattle.std.proofs.Common.{◌≡◌, ◌<◌, ◌≤◌, true, ℕ, List, [], ◌∷◌, length, map, get_or, sym, ◌∙◌, ap, subst, arith, inl, inr}
-use Rattle.std.specs.Prelude.{IfOk, Result, Ok, Err}
+use Rattle.std.proofs.Common.{◌≡◌, ◌<◌, ◌≤◌, ◌+◌, true, ℕ, List, [], ◌∷◌, length, map, get_or, sym, ◌∙◌, ap, subst, arith, inl, inr}
+use Rattle.std.specs.Prelude.{slice_get, Some, IfErr, IfOk, Result, Ok, Err}
+use Rattle.std.specs.Option.{option_map}
+use Rattle.std.proofs.lemmas.Option.{slice_get-get_or, slice_get-map, slice_get_within}
+use Rattle.pg_node.specs.Nodes.{held_by}
+use Rattle.pg_node.specs.States.{names_of}
 use Rattle.std.specs.List.{All}
 use Rattle.std.proofs.lemmas.Bool.Decides.{leb_tells}
 use Rattle.std.proofs.lemmas.List.{get_or-map, length-map}
@@ -10,20 +14,24 @@ use Rattle.pg_run.specs.Ports.{IsUnused}
 use Rattle.pg_run.specs.Runs.{notices_of}
 use Rattle.pg_step.specs.Config.{Config, IsConfig}
 use Rattle.pg_together.specs.Apart.{End}
-use Rattle.pg_world.proofs.Peering.{place_low, place_high}
+use Rattle.pg_world.proofs.Peering.{known, place_low, place_high}
 use Rattle.pg_world.proofs.Turning.{pair_is}
 use Rattle.pg_world.specs.BytesStart.{BytesBegin}
-use Rattle.pg_world.specs.Crossings.{idle_crossing}
+use Rattle.pg_world.specs.Crossings.{idle_crossing, node_of as seen_node}
 use Rattle.pg_world.specs.Views.{no_account, peer_place}
+use Rattle.pg_world.specs.declared.fault.WorldFault.TheVariants.{OutOfMemory}
 use Rattle.pg_cluster.specs.declared.fault.StartFault.{StartFault}
+use Rattle.pg_cluster.specs.declared.fault.StartFault.TheVariants.{World, NoThread}
 use Rattle.pg_cluster.specs.declared.runs.Made.{Made}
 use Rattle.pg_cluster.specs.Clients.{AllPairs, IsOpen}
 use Rattle.pg_cluster.specs.Ended.{Row, AreWired, row_at}
+use Rattle.pg_cluster.specs.Fault.{CantRun, IsShortage}
 use Rattle.pg_cluster.specs.Rows.{Wired, RowsWired}
-use Rattle.pg_cluster.specs.Threads.{AreMade, NodeOf, node_in, row_in, log_in, ports_of_runs}
+use Rattle.pg_cluster.specs.Threads.{AreMade, HasLinks, NodeOf, node_in, row_in, log_in, ports_of_runs}
 use Rattle.pg_cluster.proofs.Paired.{pairs_right}
 
-abbrev lists : List Row → List (List End)
+-- the links of each
+abbrev pub lists : List Row → List (List End)
 lists rows = map (λ v. v.items) rows
 
 module _ (n : ℕ) (rows : List Row) (none : Row) (wired : RowsWired n rows) where
@@ -83,3 +91,41 @@ are_made given nodes rows (Ok made) good count begins wired held rowed unlogged 
       wired = subst (λ (n : ℕ). AreWired n (map row_in made.runs.items)) (sym size) (subst (AreWired (length nodes)) (sym rowed) (are_wired (length nodes) rows wired));
     }
 are_made given nodes rows (Err fault) good count begins wired held rowed unlogged untold clients = tt
+
+-- ---- why nothing was made
+
+pub shortage : (ring : ℕ) (given : Config) (fault : StartFault) → IsShortage fault → CantRun ring given fault
+shortage ring given (World OutOfMemory) short = tt
+shortage ring given NoThread short = tt
+shortage ring given (World fault) short = absurd short
+
+pub shortage_of : {A : Type 0} (ring : ℕ) (given : Config) (result : Result A StartFault) → IfErr result IsShortage → IfErr result (CantRun ring given)
+shortage_of ring given (Ok made) short = tt
+shortage_of ring given (Err fault) short = shortage ring given fault short
+
+-- ---- the links of each node
+
+-- it knows as many nodes as there are
+pub names_begun : (given : Config) (nodes : List NodeOf) → BytesBegin given (idle_crossing nodes) no_account → (i : ℕ) (node : NodeOf) → slice_get nodes i ≡ Some node
+    → length (names_of (held_by node)) ≡ length nodes
+names_begun given nodes begins i node there =
+    let shows = begins.2.traffic.nodes in
+    let size : length nodes ≡ length begins.0 = sym (length-map nodes seen_node) ∙ shows.size in
+    let seen : slice_get (map seen_node nodes) i ≡ Some (seen_node node) = slice_get-map seen_node nodes i ∙ ap (option_map seen_node) there in
+    let low : i < length nodes = slice_get_within nodes i node there in
+    ap length (shows.each i (seen_node node) seen).names ∙ (known begins.0 i (omega (arith, low, size)) ∙ sym size)
+
+pub rows_fit : (given : Config) (nodes : List NodeOf) (rows : List Row) → BytesBegin given (idle_crossing nodes) no_account → RowsWired (length nodes) rows → AllPairs HasLinks (lists rows) nodes
+rows_fit given nodes rows begins wired = record {
+  len = length-map rows (λ v. v.items) ∙ wired.rows;
+  each = λ i row node low. at i row node low rows wired;
+}
+  where
+    at : (i : ℕ) (row : List End) (node : NodeOf) → i < length nodes → (rs : List Row) → RowsWired (length nodes) rs → HasLinks (get_or (lists rs) i row) (get_or nodes i node)
+    at i row node low [] wired = absurd (let e = wired.rows in omega (arith, low, e))
+    at i row node low (r ∷ rs) wired =
+        let all : List Row = r ∷ rs in
+        let here : get_or (lists all) i row ≡ (get_or all i r).items = get_or-map (λ v. v.items) all i r row (let e = wired.rows in omega (arith, low, e)) in
+        let long : length (get_or all i r).items + 1 ≡ length nodes = wired.between i r (omega arith) low low in
+        let names = names_begun given nodes begins i (get_or nodes i node) (slice_get-get_or nodes i node low) in
+        ap (λ w. length w + 1) here ∙ (long ∙ sym names)

@@ -4,7 +4,7 @@ use Rattle.std.specs.List.{All}
 use Rattle.std.proofs.lemmas.Bool.Decides.{eqb_tells, leb_tells}
 use Rattle.std.proofs.lemmas.List.{get_or-drop, get_or-take, get_or_push, length_push, length-drop, length-take-le}
 use Rattle.std.proofs.Math.ListN.{get_or-append}
-use Rattle.std.proofs.Math.Seq.{get_or-append_right}
+use Rattle.std.proofs.Math.Seq.{get_or-append_right, get_or-append_seam}
 use Rattle.pg_cluster.specs.Clients.{AllPairs}
 
 module _ {X Y : Type 0} (R : X → Y → Type 0) where
@@ -104,3 +104,12 @@ all_rest P xs ys all = λ i d low.
     let behind : length xs ≤ length xs + i = omega arith in
     let place : length xs + i - length xs ≡ i = omega arith in
     subst P (get_or-append_right xs ys (length xs + i) d behind ∙ ap (λ n. get_or ys n d) place) (all (length xs + i) d less)
+
+-- the elements at one place, where two lists are cut
+pub pairs_here : {X Y : Type 0} (R : X → Y → Type 0) (xs before rest : List X) (ys before2 rest2 : List Y) (x : X) (y : Y) → AllPairs R xs ys → before ++ x ∷ rest ≡ xs → before2 ++ y ∷ rest2 ≡ ys
+    → length before ≡ length before2 → R x y
+pairs_here R xs before rest ys before2 rest2 x y all is is2 same =
+    let low : length before2 < length ys = let n = ap length is2 in let m = length-append before2 (y ∷ rest2) in omega (arith, n, m) in
+    let there : get_or ys (length before2) y ≡ y = ap (λ w. get_or w (length before2) y) (sym is2) ∙ get_or-append_seam before2 y rest2 y in
+    let here : get_or xs (length before2) x ≡ x = ap (λ w. get_or w (length before2) x) (sym is) ∙ (ap (λ k. get_or (before ++ x ∷ rest) k x) (sym same) ∙ get_or-append_seam before x rest x) in
+    subst (R x) there (subst (λ z. R z (get_or ys (length before2) y)) here (all.each (length before2) x y low))

@@ -27,11 +27,12 @@ use Rattle.pg_world.specs.Openings.{CantBegin}
 use Rattle.pg_world.specs.Runs.{IsTold, IsPassed, LosesNone, Ran, RunsTo, over_packets, number_told}
 use Rattle.pg_world.specs.Views.{Seen, View}
 use Rattle.pg_world.specs.Worlds.{TimedFrameWorld, Shows, ShowsNode, ShowsNodes, event_of, told, told_of_first}
-use Rattle.pg_cluster.specs.Judges.{AreShown, CanBegin, Replays, ran_out}
+use Rattle.pg_cluster.specs.Judges.{AreShown, Replays, ran_out}
 use Rattle.pg_cluster.specs.Threads.{NodeOf}
 use Rattle.pg_cluster.specs.Together.{AreOneRun}
-use Rattle.pg_cluster.proofs.Conversing.{none_lost}
-use Rattle.pg_cluster.proofs.OrderedOnce.{ordered_once}
+use Rattle.pg_cluster.proofs.NoneLost.{none_lost}
+use Rattle.pg_world.specs.Openings.{CanBegin}
+use Rattle.pg_world.proofs.OrderedOnce.{ordered_once}
 use Rattle.pg_cluster.proofs.ShownOnce.{shown_once}
 
 -- ---- what is told of an event that happens

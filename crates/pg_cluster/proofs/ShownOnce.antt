@@ -23,7 +23,7 @@ use Rattle.pg_step.specs.State.{Response}
 use Rattle.pg_step.specs.State.Response.{Given, Read}
 use Rattle.pg_world.specs.Views.{Seen}
 use Rattle.pg_world.specs.Worlds.{TimedFrameWorld, AreAnswers, ShowsNode}
-use Rattle.pg_cluster.proofs.OneList.{names_one}
+use Rattle.pg_world.proofs.OneList.{names_one}
 
 -- ---- one reply
 

@@ -15,7 +15,7 @@ use Rattle.pg_run.proofs.Moving.{nil_first}
 use Rattle.pg_run.specs.Runs.{notices_at}
 use Rattle.pg_cluster.specs.Clients.{AllPairs}
 use Rattle.pg_cluster.specs.ClientsLaws.{each_set, slot_in_on, slot_out_on}
-use Rattle.pg_cluster.specs.Notices.{NobodyLost, IsSilent, Untold, SameTellers}
+use Rattle.pg_cluster.specs.Notices.{NobodyLost, IsSilent, Told, SameTellers}
 use Rattle.pg_cluster.specs.Threads.{Thread, RanOf, Joined, begun_by, notices_begun, notices_ended}
 use Rattle.pg_cluster.proofs.Hearing.{first_ran, others_ran}
 use Rattle.pg_cluster.proofs.Paired.{pairs_none, pairs_push, pairs_append, pairs_by}
@@ -75,9 +75,11 @@ module _ {K : Type 0} where
       are (same_inlets threads rans joined)
 
 -- where nothing was told nothing came
-pub nothing_came : (tellers : List (SlotOut Notice)) (inlets : List (SlotIn Notice)) → All IsSilent tellers → AllPairs Untold tellers inlets → All (λ inlet. taken inlet ≡ []) inlets
+pub nothing_came : (tellers : List (SlotOut Notice)) (inlets : List (SlotIn Notice)) → All IsSilent tellers → AllPairs Told tellers inlets → All (λ inlet. taken inlet ≡ []) inlets
 nothing_came [] inlets silent all = λ i y low. absurd (let e = all.len in omega (arith, e, low))
-nothing_came (t ∷ ts) inlets silent all = λ i y low. all.each i t y low (silent i t (let e = all.len in omega (arith, e, low)))
+nothing_came (t ∷ ts) inlets silent all = λ i y low.
+    let told = all.each i t y low in
+    nil_first (taken (get_or inlets i y)) told.on_the_way (sym told.is ∙ silent i t (let e = all.len in omega (arith, e, low)))
 
 -- ---- both ends in one hand
 
@@ -133,23 +135,18 @@ module _ (tellers tellers2 : List (SlotOut Notice)) (inlets inlets2 : List (Slot
           (slot_in_on (get_or inlets i none) (get_or inlets2 i none) (get_or (set inlets2 place inlet2) i none) first.0 then.0, then.1 ∙ first.1);
     }
 
-    -- where nothing was given nothing was taken
-    pub untold_more : Untold teller inlet → ((i : ℕ) (x : SlotOut Notice) (y : SlotIn Notice) → i < place → Untold (get_or tellers i x) (get_or inlets i y))
-        → (i : ℕ) (x : SlotOut Notice) (y : SlotIn Notice) → i < place + 1 → Untold (get_or tellers i x) (get_or inlets i y)
-    untold_more here before i x y less = elim (eqb_tells i place) [
+    -- what was taken is the first of what was given
+    pub told_more : Told teller inlet → ((i : ℕ) (x : SlotOut Notice) (y : SlotIn Notice) → i < place → Told (get_or tellers i x) (get_or inlets i y))
+        → (i : ℕ) (x : SlotOut Notice) (y : SlotIn Notice) → i < place + 1 → Told (get_or tellers i x) (get_or inlets i y)
+    told_more here before i x y less = elim (eqb_tells i place) [
       | inl e ↦
-          subst (λ k. Untold (get_or tellers k x) (get_or inlets k y)) (sym e.1) (λ silent.
           let at_teller : get_or tellers2 place x ≡ teller = sym (teller_is ∙ get_or_default tellers2 place teller x teller_there) in
           let at_inlet : get_or inlets2 place y ≡ inlet = sym (inlet_is ∙ get_or_default inlets2 place inlet y low) in
-          let none : given teller ≡ [] = ap given (sym at_teller) ∙ ((t.each place x).1 ∙ silent) in
-          sym (n.each place y).1 ∙ (ap taken at_inlet ∙ here none))
+          let still : taken inlet ≡ taken (get_or inlets place y) = sym (ap taken at_inlet) ∙ (n.each place y).1 in
+          subst (λ k. Told (get_or tellers k x) (get_or inlets k y)) (sym e.1)
+          (record { on_the_way = here.on_the_way; is = sym (t.each place x).1 ∙ (ap given at_teller ∙ (here.is ∙ ap (λ w. w ++ here.on_the_way) still)) })
       | inr f ↦ before i x y (omega (arith, f.1, less))
     ]
-
--- what is taken, and then what is left, is what was given
-pub untold_whole : (xs left all : List Notice) → xs ++ left ≡ all → all ≡ [] → xs ≡ []
-untold_whole [] left all whole none = refl
-untold_whole (x ∷ xs) left all whole none = absurd (cc)
 
 -- a node that was told of no loss, and to which no notice came, saw none
 pub none_seen : (losses : List Notice) (a b : Notices) → NoticesGo losses a b → IsUntold a → taken (inlet_of b) ≡ [] → losses ≡ []

@@ -7,8 +7,13 @@ use Rattle.pg_run.specs.declared.port.Client.{Client}
 use Rattle.pg_cluster.specs.declared.closed.Stopped.{Stopped}
 use Rattle.pg_cluster.specs.declared.cluster.Cluster.{Cluster}
 use Rattle.pg_cluster.specs.Members.{last_of, threads_in, losses_in}
-use Rattle.pg_cluster.specs.Notices.{NotifiedUpTo}
-use Rattle.pg_cluster.specs.Threads.{NodeOf, Thread}
+use Rattle.pg_cluster.specs.Clients.{AllPairs}
+use Rattle.pg_cluster.specs.Notices.{NotifiedUpTo, Told}
+use Rattle.pg_cluster.specs.Schedule.{IsSchedule}
+use Rattle.pg_cluster.specs.Threads.{Joined, NodeOf, RanOf, Thread, notices_ended}
+use Rattle.pg_cluster.specs.Together.{AreOneRun}
+use Rattle.pg_step.specs.Config.{Config}
+use Rattle.pg_world.specs.declared.step.FrameStep.{FrameStep}
 
 -- the threads of a cluster, by the places of their nodes
 abbrev pub threads_of : {K : Type 0} → Cluster K → List (Thread K)
@@ -27,6 +32,12 @@ pub record AllTold {K : Type 0} (node : ℕ) (a b : Cluster K) : Type 0 where
   pub clock : slice_get (lasts_of b) node ≡ Some last
   pub told : NotifiedUpTo node last (length (tellers_of a)) (tellers_of a) (tellers_of b)
 
+-- What came of the notices at each node, as its thread ended, is, in order, the first of what the node was told.
+pub record NoticesCame {K : Type 0} (tellers : List (SlotOut Notice)) (threads : List (Thread K)) : Type 0 where
+  pub rans : List (RanOf K)
+  pub joined : Joined threads rans
+  pub told : AllPairs Told tellers (notices_ended rans)
+
 -- which of its nodes were lost, by their places
 abbrev pub lost_of : {K : Type 0} → Cluster K → List Bool
 lost_of cluster = losses_in cluster.members.items
@@ -43,3 +54,7 @@ logs_of stopped = map (λ v. v.items) stopped.logs.items
 
 abbrev pub clients_of : Stopped → List Client
 clients_of stopped = stopped.clients.items
+
+-- where such logs join to a schedule, that is one run of the configuration, in which these nodes ended
+abbrev pub JoinsToOneRun : Config → List NodeOf → List (List (ℕ × NodeEvent)) → Type 0
+JoinsToOneRun given nodes logs = (schedule : List FrameStep) → IsSchedule logs (length logs) schedule → AreOneRun given nodes logs schedule

@@ -1,10 +1,25 @@
--- The faults' place in the one list of faults.
+-- Why no cluster was started, and the faults' place in the one list of faults.
 use Rattle.std.specs.Prelude.{ℕ}
 use Rattle.pg_faults.specs.declared.TheConstants.{NO_THREAD}
+use Rattle.pg_world.specs.declared.fault.WorldFault.TheVariants.{OutOfMemory}
 use Rattle.pg_world.specs.Faults.{world_number_of}
+use Rattle.pg_world.specs.Openings.{CantBegin}
+use Rattle.pg_step.specs.Config.{Config}
 use Rattle.pg_cluster.specs.declared.fault.StartFault.{StartFault}
 use Rattle.pg_cluster.specs.declared.fault.StartFault.TheVariants.{World, NoThread}
 
 abbrev pub start_number_of : StartFault → ℕ
 start_number_of (World fault) = world_number_of fault
 start_number_of NoThread = NO_THREAD
+
+-- No cluster of a configuration with such rings was started: a world of it can't begin, as this fault tells, or a thread could not be
+-- started.
+abbrev pub CantRun : ℕ → Config → StartFault → Type 0
+CantRun ring given (World fault) = CantBegin ring given fault
+CantRun ring given NoThread = Unit {0}
+
+-- memory ran out, or a thread could not be started
+abbrev pub IsShortage : StartFault → Type 0
+IsShortage (World OutOfMemory) = Unit {0}
+IsShortage (World fault) = ⊥
+IsShortage NoThread = Unit {0}

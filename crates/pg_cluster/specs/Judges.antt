@@ -13,22 +13,12 @@ use Rattle.pg_run.specs.declared.log.NodeEvent.{NodeEvent}
 use Rattle.pg_run.specs.declared.log.NodeEvent.TheVariants as events
 use Rattle.pg_step.specs.declared.command.Command.TheVariants.{Finish}
 use Rattle.pg_step.specs.State.{State, formed}
-use Rattle.pg_ring.specs.Capacity.{IsCapacity}
-use Rattle.pg_step.specs.Config.{Config, IsConfig}
+use Rattle.pg_step.specs.Config.{Config}
 use Rattle.pg_world.specs.declared.step.FrameStep.{FrameStep}
 use Rattle.pg_world.specs.Crossings.{node_of}
-use Rattle.pg_world.specs.Openings.{AllFit, have_few}
 use Rattle.pg_world.specs.Runs.{Ran, over_packets}
 use Rattle.pg_world.specs.Views.{Seen}
 use Rattle.pg_world.specs.Worlds.{ShowsNode}
-
--- A world of a configuration, whose rings have this capacity, can begin unless memory runs out: the configuration is one, and what each
--- node tells of its groups fits into a frame, with at most 2^32 members of each group.
-pub record CanBegin (ring : ℕ) (given : Config) : Type 0 where
-  pub good : IsConfig given
-  pub capacity : IsCapacity ring
-  pub fits : AllFit given
-  pub few : have_few given ≡ true
 
 -- one of the steps that have these numbers was refused since memory ran out
 abbrev pub ran_out : List ℕ → Bool

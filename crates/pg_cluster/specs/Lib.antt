@@ -1,16 +1,15 @@
 pub mod Clients
 pub mod ClientsLaws
 pub mod Closed
-pub mod Conversations
 pub mod Ended
 pub mod Fault
 pub mod Judges
 pub mod Members
 pub mod Notices
-pub mod Outcomes
 pub mod Promises
 pub mod Room
 pub mod Rows
+pub mod Running
 pub mod Schedule
 pub mod Threads
 pub mod Together

@@ -19,9 +19,10 @@ IsSilent teller = given teller ≡ []
 abbrev pub IsFresh : SlotOut Notice → SlotIn Notice → Type 0
 IsFresh teller inlet = AreSlots teller inlet × IsSilent teller
 
--- where nothing was told, no notice came
-abbrev pub Untold : SlotOut Notice → SlotIn Notice → Type 0
-Untold teller inlet = IsSilent teller → taken inlet ≡ []
+-- what came is, in order, the first of what was told there
+pub record Told (teller : SlotOut Notice) (inlet : SlotIn Notice) : Type 0 where
+  pub on_the_way : List Notice
+  pub is : given teller ≡ taken inlet ++ on_the_way
 
 -- the same ends, in the same order
 pub record SameTellers (a b : List (SlotOut Notice)) : Type 0 where

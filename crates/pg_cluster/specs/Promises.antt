@@ -8,10 +8,17 @@ use Rattle.pg_run.specs.declared.run.NodeRun.{NodeRun}
 use Rattle.pg_run.specs.declared.running.Ran.{Ran}
 use Rattle.pg_run.specs.Runs.{Runs, RanBy, Ended, stop_of}
 
+-- Of so many bytes a ring takes in no more, and it gives no more. How many it does its ends find.
+abbrev pub TakesIn : RingOut → ℕ → ℕ → Type 0
+TakesIn end offered count = count ≤ offered
+
+abbrev pub Gives : RingIn → ℕ → ℕ → Type 0
+Gives end asked count = count ≤ asked
+
 -- what a thread tells of the node that it was given
 pub record RanAs {T K : Type 0} {g : Ghosts T} (run : NodeRun T RingOut RingIn K g) (limit : ℕ) (ran : Ran T RingOut RingIn K g) : Type 0 where
   pub runs : Runs Sends Receives run ran.run
-  pub made : RanBy Sends Receives run ran
+  pub made : RanBy Sends Receives TakesIn Gives run ran
   pub turns : ran.turns ≤ limit
   pub short : ran.short ≤ ran.turns
   pub ended : Ended Receives (stop_of run) (stop_of ran.run) limit ran.turns

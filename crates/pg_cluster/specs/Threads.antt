@@ -1,10 +1,12 @@
 -- The threads of a cluster, and what comes back from them.
-use Rattle.std.specs.Prelude.{◌≡◌, ℕ, ◌<◌, ◌≤◌, Bool, List, [], Option, Some, None, length, map, slice_index_or}
+use Rattle.std.specs.Prelude.{◌≡◌, ℕ, ◌<◌, ◌≤◌, ◌+◌, Bool, List, [], Option, Some, None, length, map, slice_index_or}
 use Rattle.std.specs.List.{All, flat_map}
 use Rattle.std.specs.declared.thread.PromisedHandle.{PromisedHandle}
 use Rattle.pg_index.specs.declared.index_table.IndexTable.{IndexTable}
 use Rattle.pg_index.specs.contracts.index_table.IndexTableGroupTable.TheImpl.{ghosts}
 use Rattle.pg_node.specs.declared.node.Node.{Node}
+use Rattle.pg_node.specs.Nodes.{held_by}
+use Rattle.pg_node.specs.States.{names_of}
 use Rattle.pg_ring.specs.declared.ring_out.RingOut.{RingOut}
 use Rattle.pg_ring.specs.declared.ring_in.RingIn.{RingIn}
 use Rattle.pg_ring.specs.declared.slot_in.SlotIn.{SlotIn}
@@ -30,6 +32,10 @@ use Rattle.pg_cluster.specs.Promises.{RanAs}
 
 abbrev pub NodeOf : Type 0
 NodeOf = Node IndexTable ghosts
+
+-- these links are one to each peer of the node
+abbrev pub HasLinks : List End → NodeOf → Type 0
+HasLinks row node = length row + 1 ≡ length (names_of (held_by node))
 
 -- a node as its thread runs it, and as it has run
 abbrev pub RunOf : Type 0 → Type 0

@@ -5,6 +5,7 @@ ghost use Rattle.pg_cluster.specs.Notices.{NobodyLost};
 ghost use Rattle.pg_cluster.specs.Room.{HasRoom};
 ghost use Rattle.pg_cluster.specs.Schedule.{IsSchedule, but_losses};
 
+use crate::laws::nodes_of_one_run_agree;
 use crate::notices::{Teller, settle_notices};
 use crate::pairs::{move_ports, settle_all, settle_ports};
 use crate::promise::NodeRan;
@@ -41,10 +42,15 @@ pub struct Closed {
     pub schedule: Vec<FrameStep>,
     /// The clients, those of the first node first.
     pub clients: Vec<Client>,
+    /// Which of the nodes were lost.
+    pub lost: Vec<bool>,
 }
 
 impl Stopped {
-    ghost use Rattle.pg_cluster.specs.Closed.{nodes_of, logs_of, losses_of, clients_of};
+    ghost use Rattle.pg_cluster.specs.Closed.{JoinsToOneRun, nodes_of, logs_of, losses_of, clients_of};
+    ghost use Rattle.pg_cluster.specs.Judges.{Agree};
+    ghost use Rattle.pg_cluster.specs.Together.{AreOneRun};
+    ghost use Rattle.pg_step.specs.Config.{Config as Configuration};
 
     /// A cluster whose threads have ended. It takes no memory.
     pub(crate) fn new(
@@ -78,7 +84,29 @@ impl Stopped {
         ensures schedule { IfOk result (λ closed. NobodyLost (losses_of self)
             → IsSchedule (map (λ v. v.items) closed.logs.items) (length closed.logs.items) closed.schedule.items) }
         ensures events { IfOk result (λ closed. IsSchedule (map (λ v. v.items) closed.logs.items) (length closed.logs.items) (but_losses closed.schedule.items)) }
+        ensures one_run { IfOk result (λ closed. NobodyLost (losses_of self) → (given : Configuration) → JoinsToOneRun given (nodes_of self) (logs_of self)
+            → AreOneRun given closed.nodes.items (map (λ v. v.items) closed.logs.items) closed.schedule.items) }
+        ensures agree { IfOk result (λ closed. NobodyLost (losses_of self) → (given : Configuration) → JoinsToOneRun given (nodes_of self) (logs_of self)
+            → Agree closed.nodes.items closed.logs.items) }
         ensures clients { IfOk result (λ closed. closed.clients.items ≡ clients_of self) }
+        ensures lost { IfOk result (λ closed. closed.lost.items ≡ losses_of self) }
+        ensures err { IfErr result (λ stopped. stopped ≡ self) }
+    {
+        nodes_of_one_run_agree();
+        self.with_schedule()
+    }
+
+    /// The same, with the schedule to which the logs join.
+    ///
+    /// Error: where there is no memory for the schedule, what stopped, unchanged.
+    fn with_schedule(self) -> Result<Closed, Stopped>
+        ensures nodes { IfOk result (λ closed. closed.nodes.items ≡ nodes_of self) }
+        ensures logs { IfOk result (λ closed. map (λ v. v.items) closed.logs.items ≡ logs_of self) }
+        ensures schedule { IfOk result (λ closed. NobodyLost (losses_of self)
+            → IsSchedule (map (λ v. v.items) closed.logs.items) (length closed.logs.items) closed.schedule.items) }
+        ensures events { IfOk result (λ closed. IsSchedule (map (λ v. v.items) closed.logs.items) (length closed.logs.items) (but_losses closed.schedule.items)) }
+        ensures clients { IfOk result (λ closed. closed.clients.items ≡ clients_of self) }
+        ensures lost { IfOk result (λ closed. closed.lost.items ≡ losses_of self) }
         ensures err { IfErr result (λ stopped. stopped ≡ self) }
     {
         match schedule_of(self.alloc, self.logs.as_slice(), self.lost.as_slice()) {
@@ -87,6 +115,7 @@ impl Stopped {
                 logs: self.logs,
                 schedule,
                 clients: self.clients,
+                lost: self.lost,
             }),
             Err(AllocError) => Err(self),
         }
@@ -115,7 +144,7 @@ ghost use Rattle.pg_cluster.specs.Closed.{nodes_of as nodes_with, logs_of as log
 ghost use Rattle.pg_run.specs.Ports.{ArePort, Meets};
 ghost use Rattle.pg_cluster.specs.Clients.{AllPairs, ClientsRest, ports_ended};
 ghost use Rattle.pg_cluster.specs.Ended.{AreJoined, AllArrived};
-ghost use Rattle.pg_cluster.specs.Notices.{Untold};
+ghost use Rattle.pg_cluster.specs.Notices.{Told};
 ghost use Rattle.pg_cluster.specs.Threads.{node_in, log_in, rows_ended, notices_ended};
 
 /// What stopped, of what the threads gave back: both ends of each ring, of each port and of where each node was told of losses are
@@ -137,7 +166,7 @@ pub(crate) fn stopped_of<K: Rng + Drop>(
     ensures clients { ClientsRest clients.items (clients_with result) }
     ensures arrived { AllArrived (length rans.items) (rows_ended rans.items) }
     ensures meets { AllPairs Meets clients.items (ports_ended rans.items) }
-    ensures untold { AllPairs Untold tellers.items (notices_ended rans.items) }
+    ensures told { AllPairs Told tellers.items (notices_ended rans.items) }
     ensures lost { losses_with result ≡ lost.items }
 {
     let Room {

@@ -78,14 +78,16 @@ impl<K: Rng + Drop> Kept<K> {
 impl<K: Rng + Drop + Send + 'static> Cluster<K> {
     ghost use Rattle.pg_run.specs.Ports.{IsSilent};
     ghost use Rattle.pg_cluster.specs.Clients.{AreClients, ClientsRest, AllHeard};
-    ghost use Rattle.pg_cluster.specs.Closed.{AllTold, threads_of, lost_of, nodes_of, logs_of, losses_of, clients_of};
+    ghost use Rattle.pg_cluster.specs.Closed.{AllTold, JoinsToOneRun, NoticesCame, tellers_of, threads_of, lost_of, nodes_of, logs_of, losses_of, clients_of};
+    ghost use Rattle.pg_cluster.specs.Fault.{CantRun};
     ghost use Rattle.pg_cluster.specs.Notices.{NobodyLost};
     ghost use Rattle.pg_node.specs.declared.state.fault.NodeFault.TheVariants.{Refused};
     ghost use Rattle.pg_step.specs.declared.refusal.Refusal.TheVariants.{NoSuchPlace, NodeLost};
     ghost use Rattle.std.specs.List.{All};
     ghost use Rattle.pg_cluster.specs.Threads.{AreMade, EndedWith, begun_by, limit_of};
     ghost use Rattle.pg_step.specs.Config.{Config as Configuration};
-    ghost use Rattle.pg_cluster.specs.Judges.{Agree, CanBegin};
+    ghost use Rattle.pg_cluster.specs.Judges.{Agree};
+    ghost use Rattle.pg_world.specs.Openings.{CanBegin};
     ghost use Rattle.pg_cluster.specs.Schedule.{IsSchedule, but_losses};
     ghost use Rattle.pg_cluster.specs.Together.{AreOneRun};
 
@@ -93,7 +95,8 @@ impl<K: Rng + Drop + Send + 'static> Cluster<K> {
     /// each port, those of the first node first. `generators`: of the pauses, one for each node. `gate`: what each node passes at
     /// the start of each turn. `limit`: how many turns a node makes at most. It may wait for threads.
     ///
-    /// Faults: `World`, those of `World::new`; `NoThread`, where a thread can't be started: those that run are stopped and joined.
+    /// Faults: `World`, exactly as `World::new` tells them; `NoThread`, where a thread can't be started: those that run are stopped and
+    /// joined.
     pub fn start<G: Gate + Drop + Send + Sync + 'static, R: Threads>(
         rt: &R,
         alloc: Global,
@@ -109,6 +112,7 @@ impl<K: Rng + Drop + Send + 'static> Cluster<K> {
         ensures clients { IfOk result (λ started. AreClients (threads_of started.0) started.1.items) }
         ensures silent { IfOk result (λ started. All IsSilent started.1.items) }
         ensures lost { IfOk result (λ started. NobodyLost (lost_of started.0)) }
+        ensures fault { IfErr result (CantRun config.now.ring config.now.starts.items) }
     {
         let Ok(gate) = Arc::new(alloc, gate) else {
             return Err(StartFault::World(WorldFault::OutOfMemory));
@@ -194,7 +198,10 @@ impl<K: Rng + Drop + Send + 'static> Cluster<K> {
             → ∥ AllHeard (threads_of self) closed.nodes.items (map (λ v. v.items) closed.logs.items) clients.items ∥₁)
             (λ stopped. (given : Configuration) → AreMade given (map begun_by (threads_of self))
             → ∥ AllHeard (threads_of self) (nodes_of stopped) (logs_of stopped) clients.items ∥₁) }
-        ensures lost { IfErr result (λ stopped. losses_of stopped ≡ lost_of self) }
+        ensures lost { MatchResult result (λ closed. closed.lost.items ≡ lost_of self) (λ stopped. losses_of stopped ≡ lost_of self) }
+        ensures joins { IfErr result (λ stopped. NobodyLost (lost_of self) → (given : Configuration) → AreMade given (map begun_by (threads_of self))
+            → JoinsToOneRun given (nodes_of stopped) (logs_of stopped)) }
+        ensures told { ∥ NoticesCame (tellers_of self) (threads_of self) ∥₁ }
         ensures clients { MatchResult result (λ closed. ClientsRest clients.items closed.clients.items) (λ stopped. ClientsRest clients.items (clients_of stopped)) }
     {
         let stopped = self.stop(rt, clients);
@@ -211,6 +218,7 @@ impl<K: Rng + Drop + Send + 'static> Cluster<K> {
         ensures heard { (given : Configuration) → AreMade given (map begun_by (threads_of self))
             → ∥ AllHeard (threads_of self) (nodes_of result) (logs_of result) clients.items ∥₁ }
         ensures lost { losses_of result ≡ lost_of self }
+        ensures told { ∥ NoticesCame (tellers_of self) (threads_of self) ∥₁ }
         ensures clients { ClientsRest clients.items (clients_of result) }
     {
         let Cluster {

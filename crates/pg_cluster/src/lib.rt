@@ -3,25 +3,23 @@
 
 mod closed;
 mod cluster;
-mod conversation;
 mod fault;
 mod judges;
 mod laws;
 mod member;
 mod notices;
-mod onlooker;
 mod pairs;
 mod promise;
+mod running;
 mod runs;
 mod schedule;
-mod speaker;
+mod survivors;
 mod threads;
 mod wires;
 
 pub use closed::{Closed, Stopped};
 pub use cluster::Cluster;
-pub use conversation::{Conversation, Outcome, run_threads};
 pub use fault::StartFault;
 pub use laws::{nodes_of_one_run_agree, one_run_replays, threads_are_one_run};
-pub use onlooker::{Onlooker, Quiet};
 pub use pg_run::{Client, Gate, LogEntry, NodeEvent};
+pub use running::{OpenGate, Running};

@@ -4,7 +4,7 @@ ghost use Rattle.std.specs.Prelude.{◌≡◌, length};
 ghost use Rattle.pg_world.specs.Views.{peer_place};
 ghost use Rattle.pg_ring.specs.Slots.{AreSlots, SameSlotOut};
 ghost use Rattle.pg_cluster.specs.Clients.{AllPairs};
-ghost use Rattle.pg_cluster.specs.Notices.{SameTellers, Notified, NotifiedUpTo, Untold};
+ghost use Rattle.pg_cluster.specs.Notices.{SameTellers, Notified, NotifiedUpTo, Told};
 
 use pg_ring::{SlotIn, SlotOut, slots_together};
 use pg_run::Notice;
@@ -44,10 +44,10 @@ fn tell(teller: &mut Teller, place: usize, node: usize, last: u32)
     }
 }
 
-/// Looks at both ends of where each node was told of losses: where none was told, no notice came.
+/// Looks at both ends of where each node was told of losses: what came is, in order, the first of what was told.
 pub(crate) fn settle_notices(tellers: Vec<Teller>, inlets: Vec<SlotIn<Notice>>)
     requires { AllPairs AreSlots tellers.items inlets.items }
-    ensures { AllPairs Untold tellers.items inlets.items }
+    ensures { AllPairs Told tellers.items inlets.items }
 {
     let mut tellers = tellers;
     let mut inlets = inlets;

@@ -1,13 +1,14 @@
 //! The nodes of a cluster before their threads are started.
 
-ghost use Rattle.std.specs.Prelude.{◌≡◌, IfOk, [], length, map};
+ghost use Rattle.std.specs.Prelude.{◌≡◌, IfOk, IfErr, [], length, map};
 ghost use Rattle.std.specs.List.{All as AllOf};
 ghost use Rattle.pg_cluster.specs.Clients.{AllPairs as Pairs, IsOpen as IsOpened, OpensMore};
 ghost use Rattle.pg_run.specs.Notices.{IsUntold as IsUntoldAt};
 ghost use Rattle.pg_run.specs.Runs.{notices_at as notices_of_run, notices_of as told_of_run};
 ghost use Rattle.pg_cluster.specs.Notices.{IsFresh as IsFreshPair};
-ghost use Rattle.pg_cluster.specs.Judges.{CanBegin};
-ghost use Rattle.pg_cluster.specs.Threads.{AreMade, node_in as node_of_run, row_in as row_of_run, log_in as log_of_run, ports_of_runs as ports_in_runs};
+ghost use Rattle.pg_cluster.specs.Fault.{CantRun, IsShortage as IsShort};
+ghost use Rattle.pg_world.specs.Openings.{CanBegin};
+ghost use Rattle.pg_cluster.specs.Threads.{AreMade, HasLinks as HasLinksOf, node_in as node_of_run, row_in as row_of_run, log_in as log_of_run, ports_of_runs as ports_in_runs};
 
 use crate::fault::StartFault;
 use crate::notices::Teller;
@@ -34,16 +35,18 @@ pub(crate) struct Made<K: Drop> {
 
 /// The nodes of a configuration as they start, with rings between them and a client at each port. `generators`: one for each node.
 ///
-/// Faults: those of `Cluster::start`, but for `NoThread`.
+/// Faults: those of `World::new`.
 pub(crate) fn make<K: Rng + Drop>(
     alloc: Global,
     config: &Config,
     generators: Vec<K>,
 ) -> Result<Made<K>, StartFault>
+    requires generators { length generators.items ≡ length config.now.starts.items }
     ensures can { IfOk result (λ made. CanBegin config.now.ring config.now.starts.items) }
     ensures made { IfOk result (λ made. AreMade config.now.starts.items made.runs.items) }
     ensures clients { IfOk result (λ made. Pairs IsOpened made.clients.items (ports_in_runs made.runs.items)) }
     ensures notices { IfOk result (λ made. Pairs IsFreshPair made.tellers.items (map notices_of_run made.runs.items)) }
+    ensures fault { IfErr result (CantRun config.now.ring config.now.starts.items) }
 {
     let nodes = match starting_nodes(alloc, config) {
         Ok(nodes) => nodes,
@@ -56,19 +59,23 @@ pub(crate) fn make<K: Rng + Drop>(
 }
 
 /// The same of these nodes with these links, and a generator for each.
+///
+/// Fault: `World` of `OutOfMemory`.
 fn make_all<K: Rng + Drop>(
     alloc: Global,
     nodes: Vec<Node<IndexTable>>,
     rows: Vec<Row>,
     generators: Vec<K>,
 ) -> Result<Made<K>, StartFault>
-    requires rows { length rows.items ≡ length nodes.items }
+    requires rows { Pairs HasLinksOf (map (λ v. v.items) rows.items) nodes.items }
+    requires generators { length generators.items ≡ length nodes.items }
     ensures nodes { IfOk result (λ made. map node_of_run made.runs.items ≡ nodes.items) }
     ensures rows { IfOk result (λ made. map row_of_run made.runs.items ≡ map (λ v. v.items) rows.items) }
     ensures unlogged { IfOk result (λ made. AllOf (λ run. log_of_run run ≡ []) made.runs.items) }
     ensures untold { IfOk result (λ made. AllOf (λ run. IsUntoldAt (told_of_run run)) made.runs.items) }
     ensures clients { IfOk result (λ made. Pairs IsOpened made.clients.items (ports_in_runs made.runs.items)) }
     ensures notices { IfOk result (λ made. Pairs IsFreshPair made.tellers.items (map notices_of_run made.runs.items)) }
+    ensures fault { IfErr result IsShort }
 {
     let mut made = Made {
         runs: Vec::new(alloc),
@@ -79,16 +86,13 @@ fn make_all<K: Rng + Drop>(
     let mut rows = rows.into_iter();
     let mut generators = generators.into_iter();
     for node in nodes {
-        let Some(row) = rows.next() else {
-            drop(node);
-            drop(made);
-            return Err(StartFault::World(WorldFault::BadConfig));
+        let row = match rows.next() {
+            Some(row) => row,
+            None => unreachable!(),
         };
-        let Some(generator) = generators.next() else {
-            drop(node);
-            drop(row);
-            drop(made);
-            return Err(StartFault::World(WorldFault::BadConfig));
+        let generator = match generators.next() {
+            Some(generator) => generator,
+            None => unreachable!(),
         };
         match made.add(alloc, node, row, generator) {
             Ok(()) => {}
@@ -102,16 +106,19 @@ fn make_all<K: Rng + Drop>(
 }
 
 impl<K: Rng + Drop> Made<K> {
-    ghost use Rattle.std.specs.Prelude.{◌≡◌, ◌<◌, ◌++◌, ◌∷◌, [], IfOk, OnOk, length, map, vec_capacity, vec_len};
+    ghost use Rattle.std.specs.Prelude.{◌≡◌, ◌<◌, ◌++◌, ◌∷◌, [], IfOk, IfErr, OnOk, length, map, vec_capacity, vec_len};
     ghost use Rattle.std.specs.List.{All};
     ghost use Rattle.pg_cluster.specs.Clients.{AllPairs, IsOpen, OpensMore};
+    ghost use Rattle.pg_cluster.specs.Fault.{IsShortage};
     ghost use Rattle.pg_ring.specs.Slots.{taken};
     ghost use Rattle.pg_run.specs.Notices.{IsUntold};
     ghost use Rattle.pg_run.specs.Runs.{notices_at, notices_of};
     ghost use Rattle.pg_cluster.specs.Notices.{IsFresh};
-    ghost use Rattle.pg_cluster.specs.Threads.{node_in, row_in, log_in, ports_of_runs};
+    ghost use Rattle.pg_cluster.specs.Threads.{HasLinks, node_in, row_in, log_in, ports_of_runs};
 
-    /// A further node, with its clients. It has as many links as the node has peers, else `BadConfig` is told.
+    /// A further node, which has a link to each of its peers, with its clients.
+    ///
+    /// Fault: `World` of `OutOfMemory`.
     fn add(
         &mut self,
         alloc: Global,
@@ -119,19 +126,15 @@ impl<K: Rng + Drop> Made<K> {
         row: Row,
         generator: K,
     ) -> Result<(), StartFault>
+        requires links { HasLinks row.items node }
         ensures nodes { OnOk result (map node_in self.new.runs.items ≡ map node_in self.old.runs.items ++ node ∷ []) }
         ensures rows { OnOk result (map row_in self.new.runs.items ≡ map row_in self.old.runs.items ++ row.items ∷ []) }
         ensures unlogged { OnOk result (All (λ run. log_in run ≡ []) self.old.runs.items → All (λ run. log_in run ≡ []) self.new.runs.items) }
         ensures untold { OnOk result (All (λ run. IsUntold (notices_of run)) self.old.runs.items → All (λ run. IsUntold (notices_of run)) self.new.runs.items) }
         ensures clients { OnOk result (AllPairs IsOpen self.old.clients.items (ports_of_runs self.old.runs.items) → AllPairs IsOpen self.new.clients.items (ports_of_runs self.new.runs.items)) }
         ensures notices { OnOk result (AllPairs IsFresh self.old.tellers.items (map notices_at self.old.runs.items) → AllPairs IsFresh self.new.tellers.items (map notices_at self.new.runs.items)) }
+        ensures fault { IfErr result IsShortage }
     {
-        if row.len() != node.state().peer_count() {
-            drop(node);
-            drop(row);
-            drop(generator);
-            return Err(StartFault::World(WorldFault::BadConfig));
-        }
         match self.open(alloc, node.state().port_count()) {
             Ok(
                 Ends {
@@ -163,6 +166,7 @@ impl<K: Rng + Drop> Made<K> {
         ensures clients { IfOk result (λ ends. OpensMore self.old.clients.items self.new.clients.items ends.ports.items) }
         ensures tellers { IfOk result (λ ends. (teller : _) × (self.new.tellers.items ≡ self.old.tellers.items ++ teller ∷ []) × IsFresh teller ends.notices) }
         ensures untaken { IfOk result (λ ends. taken ends.notices ≡ []) }
+        ensures fault { IfErr result IsShortage }
     {
         self.runs.reserve(1)?;
         self.stops.reserve(1)?;

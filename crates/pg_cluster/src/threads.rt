@@ -1,6 +1,7 @@
 //! How the threads of a cluster are started and stopped.
 
-ghost use Rattle.std.specs.Prelude.{◌≡◌, false, Err, IfOk};
+ghost use Rattle.std.specs.Prelude.{◌≡◌, false, Err, IfErr, IfOk};
+ghost use Rattle.pg_cluster.specs.Fault.{IsShortage};
 ghost use Rattle.pg_cluster.specs.Members.{is_lost, losses_in, thread_of, threads_in};
 ghost use Rattle.pg_cluster.specs.Notices.{NobodyLost};
 ghost use Rattle.pg_cluster.specs.Promises.{RanAs};
@@ -67,6 +68,7 @@ pub(crate) fn start_all<
 ) -> Result<Vec<Member<K>>, StartFault>
     ensures started { IfOk result (λ members. StartedWith runs.items limit (threads_in members.items)) }
     ensures lost { IfOk result (λ members. NobodyLost (losses_in members.items)) }
+    ensures fault { IfErr result IsShortage }
 {
     let mut members: Vec<Member<K>> = Vec::with_capacity(alloc, runs.len())?;
     for run in runs {
@@ -91,6 +93,7 @@ fn start_one<K: Rng + Drop + Send + 'static, G: Gate + Drop + Send + Sync + 'sta
     ensures begun { IfOk result (λ member. begun_by (thread_of member) ≡ run) }
     ensures limit { IfOk result (λ member. limit_of (thread_of member) ≡ limit) }
     ensures lost { IfOk result (λ member. is_lost member ≡ false) }
+    ensures fault { IfErr result IsShortage }
 {
     let Ok(gate) = Arc::try_clone(gate) else {
         drop(run);

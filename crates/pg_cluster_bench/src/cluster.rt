@@ -131,9 +131,7 @@ fn run_setting<R: Threads + Clock + Eprint + AllocGlobal>(rt: &R, setting: Setti
     let Ok(config) = config(rt.alloc(), setting.nodes, setting.clients) else {
         return false;
     };
-    let started = Running::start(rt, rt.alloc(), &config);
-    drop(config);
-    match started {
+    match Running::start(rt, rt.alloc(), config) {
         Some(mut running) => {
             let is_done = measure_talkers(rt, rt.alloc(), &mut running, setting);
             running.close(rt);

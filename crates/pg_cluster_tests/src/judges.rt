@@ -53,8 +53,8 @@ impl Judged {
 }
 
 fn closed(rt: &impl Threads, started: Started) -> Option<Judged> {
-    let Started { running, config } = started;
-    match running.close(rt) {
+    let (closed, config) = started.running.close(rt);
+    match closed {
         Ok(closed) => Some(Judged { closed, config }),
         Err(stopped) => {
             drop(stopped);

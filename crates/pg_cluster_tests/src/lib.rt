@@ -16,10 +16,10 @@ mod memory;
 #[cfg(test)]
 mod merges;
 #[cfg(test)]
-mod programs;
-#[cfg(test)]
 mod rings;
 #[cfg(test)]
 mod setting;
+#[cfg(test)]
+mod turns;
 #[cfg(test)]
 mod verdicts;

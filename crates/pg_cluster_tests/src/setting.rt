@@ -1,15 +1,10 @@
 //! Clusters that tests begin with, and how they end.
 
-ghost use Rattle.std.specs.Prelude.{◌≡◌, IfOk, length};
-ghost use Rattle.pg_cluster.specs.Clients.{AreClients};
-ghost use Rattle.pg_cluster.specs.Closed.{threads_of};
-
-use pg_cluster::{Client, Closed, Cluster, Gate, StartFault, Stopped};
+use pg_cluster::{Closed, Gate, StartFault, Stopped};
 use pg_node::NodeFault;
 use pg_step::{Answer, Command, Reply, Start};
 use pg_term::{Atom, Items, Term, TermFault};
 use pg_world::{Config, FrameStep, WorldFault};
-use rand_pcg::Pcg32;
 use std::alloc::{AllocError, Global};
 use std::sync::Wait;
 use std::thread;
@@ -85,7 +80,8 @@ pub struct Setting<'a> {
     pub limit: u64,
 }
 
-fn config(alloc: Global, setting: Setting<'_>) -> Result<Config, TermFault> {
+/// The configuration of a setting.
+pub fn config(alloc: Global, setting: Setting<'_>) -> Result<Config, TermFault> {
     let mut starts = Vec::new(alloc);
     match put_names(alloc, &mut starts, setting.names, setting.ports) {
         Ok(()) => Ok(Config {
@@ -99,23 +95,10 @@ fn config(alloc: Global, setting: Setting<'_>) -> Result<Config, TermFault> {
     }
 }
 
-/// So many generators.
-pub fn generators(alloc: Global, count: usize) -> Result<Vec<Pcg32>, AllocError>
-    ensures { IfOk result (λ all. length all.items ≡ count) }
-{
-    let mut all = Vec::new(alloc);
-    for place in 0..count {
-        all.push(Pcg32::new(place as u64, 2))?;
-    }
-    Ok(all)
-}
-
-/// A cluster with its clients.
+/// A cluster with its clients, of which one that is not there hands back and gives nothing.
 #[derive(Drop)]
 pub struct Running {
-    cluster: Cluster<Pcg32>,
-    clients: Vec<Client>,
-    ghost own: { AreClients (threads_of cluster) clients.items },
+    cluster: pg_cluster::Running,
 }
 
 impl Running {
@@ -123,30 +106,27 @@ impl Running {
     fn start<R: Threads, G: Gate + Drop + Send + Sync + 'static>(
         rt: &R,
         alloc: Global,
-        config: &Config,
+        config: Config,
         gate: G,
         limit: u64,
     ) -> Result<Running, StartFault> {
-        match generators(alloc, config.starts.len()) {
-            Ok(generators) => match Cluster::start(rt, alloc, config, generators, gate, limit) {
-                Ok((cluster, clients)) => Ok(Running { cluster, clients }),
-                Err(fault) => Err(fault),
-            },
-            Err(AllocError) => Err(StartFault::World(WorldFault::OutOfMemory)),
+        match pg_cluster::Running::start(rt, alloc, config, 0, gate, limit) {
+            Ok(cluster) => Ok(Running { cluster }),
+            Err(fault) => Err(fault),
         }
     }
 
     /// How many clients it has.
     pub fn client_count(&self) -> usize {
-        self.clients.len()
+        self.cluster.client_count()
     }
 
     /// Submits a command at the client at a place, or hands it back.
     pub fn submit(&mut self, place: usize, command: Command) -> Result<(), Command> {
-        if place >= self.clients.len() {
+        if place >= self.cluster.client_count() {
             return Err(command);
         }
-        self.clients[place].submit(command)
+        self.cluster.submit(place, command)
     }
 
     /// Whether the client at a place takes a command.
@@ -162,10 +142,10 @@ impl Running {
 
     /// The next answer of the client at a place, if one is there.
     fn poll(&mut self, place: usize) -> Option<Answer> {
-        if place >= self.clients.len() {
+        if place >= self.cluster.client_count() {
             return None;
         }
-        self.clients[place].poll()
+        self.cluster.poll(place)
     }
 
     /// The next reply, once it is there; none after very many looks.
@@ -193,33 +173,16 @@ impl Running {
         self.cluster.lose(rt, node)
     }
 
-    /// Closes the cluster.
-    pub fn close<R: Threads>(self, rt: &R) -> Result<Closed, Stopped> {
-        self.cluster.close(rt, self.clients)
+    /// Closes the cluster: what it ended as, and what it began with.
+    pub fn close<R: Threads>(self, rt: &R) -> (Result<Closed, Stopped>, Config) {
+        self.cluster.close(rt)
     }
 }
 
-/// A cluster that runs, and what it began with.
+/// A cluster that runs.
 #[derive(Drop)]
 pub struct Started {
     pub running: Running,
-    pub config: Config,
-}
-
-fn start_config<R: Threads, G: Gate + Drop + Send + Sync + 'static>(
-    rt: &R,
-    alloc: Global,
-    config: Config,
-    gate: G,
-    limit: u64,
-) -> Result<Started, StartFault> {
-    match Running::start(rt, alloc, &config, gate, limit) {
-        Ok(running) => Ok(Started { running, config }),
-        Err(fault) => {
-            drop(config);
-            Err(fault)
-        }
-    }
 }
 
 /// The nodes of a setting as a cluster.
@@ -230,7 +193,10 @@ pub fn start<R: Threads, G: Gate + Drop + Send + Sync + 'static>(
     gate: G,
 ) -> Result<Started, StartFault> {
     match config(alloc, setting) {
-        Ok(config) => start_config(rt, alloc, config, gate, setting.limit),
+        Ok(config) => match Running::start(rt, alloc, config, gate, setting.limit) {
+            Ok(running) => Ok(Started { running }),
+            Err(fault) => Err(fault),
+        },
         Err(_) => Err(StartFault::World(WorldFault::OutOfMemory)),
     }
 }
@@ -291,20 +257,18 @@ pub fn end_of_closed(alloc: Global, closed: &Closed, config: &Config) -> End {
     }
 }
 
-fn end_of_running<R: Threads>(
-    rt: &R,
-    alloc: Global,
-    running: Running,
-    config: &Config,
-) -> Option<End> {
-    match running.close(rt) {
+fn end_of_running<R: Threads>(rt: &R, alloc: Global, running: Running) -> Option<End> {
+    let (closed, config) = running.close(rt);
+    let end = match closed {
         Ok(closed) => {
-            let end = end_of_closed(alloc, &closed, config);
+            let end = end_of_closed(alloc, &closed, &config);
             drop(closed);
             Some(end)
         }
-        Err(stopped) => end_of_stopped(alloc, stopped, config),
-    }
+        Err(stopped) => end_of_stopped(alloc, stopped, &config),
+    };
+    drop(config);
+    end
 }
 
 // What stopped is finished a second time where memory was refused.
@@ -324,8 +288,5 @@ fn end_of_stopped(alloc: Global, stopped: Stopped, config: &Config) -> Option<En
 
 /// Closes the cluster: how it ended; none where there is no schedule.
 pub fn end_of<R: Threads>(rt: &R, alloc: Global, started: Started) -> Option<End> {
-    let Started { running, config } = started;
-    let end = end_of_running(rt, alloc, running, &config);
-    drop(config);
-    end
+    end_of_running(rt, alloc, started.running)
 }

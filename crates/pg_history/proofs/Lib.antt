@@ -2,6 +2,7 @@ pub mod commands
 pub mod ends
 pub mod locks
 pub mod places
+pub mod quiet
 pub mod references
 pub mod steps
 pub mod tables

@@ -4,6 +4,7 @@ pub mod Fresh
 pub mod Headline
 pub mod History
 pub mod Lasting
+pub mod Quiet
 pub mod Reached
 pub mod RealTime
 pub mod ReferencesFit

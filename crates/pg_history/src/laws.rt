@@ -1,4 +1,4 @@
-ghost use Rattle.std.specs.Prelude.{◌≡◌, ◌≢◌, ℕ, ◌+◌, ◌*◌, ◌≤◌, true, false, cond, take, length, List, [], ◌∷◌, Err};
+ghost use Rattle.std.specs.Prelude.{◌≡◌, ◌≢◌, ℕ, ◌+◌, ◌*◌, ◌≤◌, true, false, cond, take, length, List, [], ◌∷◌, Some, Err};
 ghost use Rattle.std.specs.List.{AllByRecursion, IsDistinct};
 ghost use Rattle.pg_term.specs.declared.pid.Pid.{Pid};
 ghost use Rattle.pg_term.specs.Same.{same_atom};
@@ -7,7 +7,7 @@ ghost use Rattle.pg_group.specs.Value.{NoneEnded};
 ghost use Rattle.pg_exchange.specs.GroupList.{GroupList};
 ghost use Rattle.pg_message.specs.declared.message.Message.{Message};
 ghost use Rattle.pg_message.specs.declared.message.Message.TheVariants.{Exchange};
-ghost use Rattle.pg_machine.specs.Machine.{Event, Input, Turn, Taken, start_of};
+ghost use Rattle.pg_machine.specs.Machine.{Do, Event, Input, Take, Turn, Taken, happens, start_of};
 ghost use Rattle.pg_step.specs.Nodes.{Node};
 ghost use Rattle.pg_step.specs.Peers.{is_bad_exchange};
 ghost use Rattle.pg_machine.specs.Clocked.{Timed, Stamped, plain};
@@ -16,12 +16,15 @@ ghost use Rattle.pg_machine.specs.Runs.{Leads, run, ran};
 ghost use Rattle.pg_machine.specs.Places.{is_place, is_pair};
 ghost use Rattle.pg_step.specs.State.{State, left};
 ghost use Rattle.pg_step.specs.Turns.{Report};
-ghost use Rattle.pg_step.specs.Step.{Action, step_take};
+ghost use Rattle.pg_step.specs.Step.{Action, Retry, step_take};
 ghost use Rattle.pg_step.specs.declared.refusal.Refusal.TheVariants.{NotAMessage};
 ghost use Rattle.pg_step.specs.Config.{Config, names_of, name_at, nodes_at, groups_at};
+ghost use Rattle.pg_step.specs.declared.command.OpId.{OpId};
 ghost use Rattle.pg_step.specs.FrameMachine.{node_step, frame_machine, losing_frame_machine, last_notice, sent_packet};
+ghost use Rattle.pg_history.specs.Counted.{is_open};
 ghost use Rattle.pg_history.specs.History.{LockFree, is_formed, history, updates_of, applied_count, applied_by};
 ghost use Rattle.pg_history.specs.Fresh.{MakesFresh};
+ghost use Rattle.pg_history.specs.Quiet.{AllFormed, HasRoom, IsQuiet, NoLockHeld, NoneOpen, NothingUnderWay, OnlyTakes, OnlyTakesAndRetries, RetryGoes, most_events, most_takes, peer_count};
 ghost use Rattle.pg_history.specs.Headline.{OneHistory, HoldsAnswered, AppliesHistory, HasTables, HarmsNobody, GoesOn};
 ghost use Rattle.pg_history.specs.Exclusive.{ExclusiveLocks};
 ghost use Rattle.pg_history.specs.RealTime.{InRealTime};
@@ -110,8 +113,10 @@ pub fn locks_are_exclusive()
 /// whatever node, stands before it; and from then on its update is among those that each node has applied, so that a formed
 /// node answers queries from a table that has it. No node goes back.
 ///
-/// So the changes of a group that go through its lock, and the queries after them, are linearizable. A create that is
-/// answered ok by the look, and a join or a leave that the look finds no group for, promise nothing of other nodes.
+/// So the changes of a group that go through its lock are linearizable. Of queries it says no more than this: one that comes
+/// in after such a change was answered reads a table that has it. Two queries while a change is under way may disagree, and
+/// the later one may read the older table. A create that is answered ok by the look, and a join or a leave that the look
+/// finds no group for, promise nothing of other nodes.
 pub fn updates_go_by_real_time()
     ensures { (config : Config) (w : TimedFrameWorld) (events : List (Event Action))
         → IsDistinct same_atom (names_of config) → Reaches config events w
@@ -239,4 +244,76 @@ pub fn references_within_the_clock()
         → t.state.references ≤ s.references + 2 }
     ensures reached { (config : Config) (w : TimedFrameWorld) (events : List (Event Action)) (i : ℕ)
         → Reaches config events w → (w.node i).state.references ≤ 2 * (w.node i).clock }
+{}
+
+/// A world comes to rest. Before a command comes in or one is tried again no more packets are taken than twice those on the
+/// way, and five for each peer of each open command, whatever their order. While one is on the way each that is next can be
+/// taken, where no clock is full. So where no clock comes near its limit takes lead to a world in which no packet is on the way.
+pub fn a_world_comes_to_rest()
+    ensures ends { (config : Config) (w v : TimedFrameWorld) (events takes : List (Event Action))
+        → IsDistinct same_atom (names_of config) → Reaches config events w
+        → OnlyTakes takes → Leads (frame_machine config) w takes v
+        → length takes ≤ most_takes config (plain w) }
+    ensures goes_on { (config : Config) (w : TimedFrameWorld) (events : List (Event Action))
+        (x y : ℕ) (packet : Stamped Message) (rest : List (Stamped Message))
+        → IsDistinct same_atom (names_of config) → Reaches config events w → HasRoom config w 1
+        → is_pair (length config) x y ≡ true → w.wire x y ≡ packet ∷ rest
+        → (v : TimedFrameWorld) × (happens (frame_machine config) w (Take y x) ≡ Some v) }
+    ensures rests { (config : Config) (w : TimedFrameWorld) (events : List (Event Action))
+        → IsDistinct same_atom (names_of config) → Reaches config events w
+        → HasRoom config w (most_takes config (plain w))
+        → (takes : List (Event Action)) × (v : TimedFrameWorld) × OnlyTakes takes
+        × Leads (frame_machine config) w takes v × IsQuiet config (plain v) }
+{}
+
+/// Where no packet is on the way each node is formed: none waits for the exchange of a peer.
+pub fn a_quiet_world_is_formed()
+    ensures { (config : Config) (w : TimedFrameWorld) (events : List (Event Action))
+        → IsDistinct same_atom (names_of config) → Reaches config events w → IsQuiet config (plain w)
+        → AllFormed config (plain w) }
+{}
+
+/// Where no packet is on the way no node holds a lock, of whatever name and for whomever.
+pub fn a_quiet_world_holds_no_lock()
+    ensures { (config : Config) (w : TimedFrameWorld) (events : List (Event Action))
+        → IsDistinct same_atom (names_of config) → Reaches config events w → IsQuiet config (plain w)
+        → NoLockHeld config (plain w) }
+{}
+
+/// Where no packet is on the way no command has an attempt under way: each open one waits for its retry, and no node waits
+/// for a reply.
+pub fn a_quiet_world_waits_for_retries()
+    ensures { (config : Config) (w : TimedFrameWorld) (events : List (Event Action)) (i : ℕ)
+        → IsDistinct same_atom (names_of config) → Reaches config events w → IsQuiet config (plain w)
+        → is_place (length config) i ≡ true → NothingUnderWay ((plain w).node i) }
+{}
+
+/// A retry is answered. Where no packet is on the way, and no clock is within `5 (n - 1) + 1` of its limit, each open command
+/// can be tried again. From then on as long as packets are on the way each that is next can be taken. In whatever order they
+/// are, and whatever node takes them, the command is answered ok when `4 (n - 1)` are, and after `n - 1` more no packet is
+/// on the way.
+///
+/// It is about takes alone: where other commands come in meanwhile, they may have the lock, and this one waits again.
+pub fn a_retry_is_answered()
+    ensures begins { (config : Config) (w : TimedFrameWorld) (events : List (Event Action)) (i : ℕ) (op : OpId)
+        → IsDistinct same_atom (names_of config) → Reaches config events w → IsQuiet config (plain w)
+        → is_place (length config) i ≡ true → is_open (((plain w).node i).stages op) ≡ true
+        → HasRoom config w 1
+        → (v : TimedFrameWorld) × (happens (frame_machine config) w (Do i (Retry op)) ≡ Some v) }
+    ensures goes { (config : Config) (w v : TimedFrameWorld) (events takes : List (Event Action)) (i : ℕ) (op : OpId)
+        → IsDistinct same_atom (names_of config) → Reaches config events w → IsQuiet config (plain w)
+        → is_place (length config) i ≡ true → is_open (((plain w).node i).stages op) ≡ true
+        → HasRoom config w (1 + 5 * peer_count config)
+        → OnlyTakes takes → Leads (frame_machine config) w (Do i (Retry op) ∷ takes) v
+        → RetryGoes config i op (length takes) v }
+{}
+
+/// Nothing is stuck. From each world takes and retries alone lead to one in which each command that came in is answered, and
+/// no packet is on the way, where no clock comes near its limit.
+pub fn every_command_can_be_answered()
+    ensures { (config : Config) (w : TimedFrameWorld) (events : List (Event Action))
+        → IsDistinct same_atom (names_of config) → Reaches config events w
+        → HasRoom config w (most_events config (plain w))
+        → (more : List (Event Action)) × (v : TimedFrameWorld) × OnlyTakesAndRetries more
+        × Leads (frame_machine config) w more v × NoneOpen config (plain v) × IsQuiet config (plain v) }
 {}

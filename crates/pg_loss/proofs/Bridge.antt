@@ -69,10 +69,10 @@ more_left way all more e = ap (λ z. z ++ map Sent more) e ∙ sym (map-append S
 pub cut_left : (k : ℕ) (way : List (Noticed Message)) (all : List Message) → Left false way all → Left true (take k way ++ Last ∷ []) all
 cut_left k way all e = (take k all, drop k all, ap (λ z. z ++ Last ∷ []) (ap (take k) e ∙ take-map Sent k all), sym (take-append-drop k all))
 
-left_same : (m : Nodes) (s t : State) → t.lost ≡ s.lost → left m s ≡ left m t
+pub left_same : (m : Nodes) (s t : State) → t.lost ≡ s.lost → left m s ≡ left m t
 left_same m s t same = ap (λ (lost : Node → Bool). record { own = m.own; peers = filter (λ q. not (lost q)) m.peers }) (sym same)
 
-any_filter : (f : Node → Bool) (q : Node) (xs : List Node) → list_any (same_atom q) (filter f xs) ≡ (list_any (same_atom q) xs && f q)
+pub any_filter : (f : Node → Bool) (q : Node) (xs : List Node) → list_any (same_atom q) (filter f xs) ≡ (list_any (same_atom q) xs && f q)
 any_filter f q [] = refl
 any_filter f q (x ∷ xs) = go (f x) refl (same_atom q x) refl (any_filter f q xs)
   where

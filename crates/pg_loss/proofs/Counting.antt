@@ -63,11 +63,12 @@ counts_kept config = record {
   };
 }
 
-pub commands_counted : (config : Config) (es : List (LosingEvent Action)) (w : LosingFrameWorld) (i : ℕ) → LosingReaches config es w → CountsCommands config (heard (bare w)) i
+pub all_count : (config : Config) (es : List (LosingEvent Action)) (w : LosingFrameWorld) (i : ℕ) → LosingReaches config es w → AllCounts config (heard (bare w)) i
 unfolding AllCount
-commands_counted config es w i l =
-    let all = carried_past config (AllCount config) (counts_kept config) es w l (start_counts config) in
-    record { answered = (all i).answered; open_ones = (all i).counts.all }
+all_count config es w i l = carried_past config (AllCount config) (counts_kept config) es w l (start_counts config) i
+
+pub commands_counted : (config : Config) (es : List (LosingEvent Action)) (w : LosingFrameWorld) (i : ℕ) → LosingReaches config es w → CountsCommands config (heard (bare w)) i
+commands_counted config es w i l = let all = all_count config es w i l in record { answered = all.answered; open_ones = all.counts.all }
 
 -- ---- who has ended
 

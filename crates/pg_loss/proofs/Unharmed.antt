@@ -82,10 +82,10 @@ rest_post config p merged later x xs (inr one) = inl (cc (one.0))
 abbrev pub Posts : Config → Lossy → Type 0
 Posts config w = (p i : ℕ) → is_pair (length config) i p ≡ true → (w.world.node i).lost (name_at config p) ≡ false → Post config p ((w.world.node i).merged (name_at config p)) (told (w.world.wire p i))
 
-same_input : {p q : ℕ} {x z : Noticed Message} → ◌≡◌ {A = Input (Noticed Message) Action} (Taken p x) (Taken q z) → (p ≡ q) × (x ≡ z)
+pub same_input : {p q : ℕ} {x z : Noticed Message} → ◌≡◌ {A = Input (Noticed Message) Action} (Taken p x) (Taken q z) → (p ≡ q) × (x ≡ z)
 same_input e = (cc, cc)
 
-noted_packet : (given : Input Message Action) (p : ℕ) (packet : Noticed Message) → noted given ≡ Taken p packet → (x : Message) × (given ≡ Taken p x) × (packet ≡ Sent x)
+pub noted_packet : (given : Input Message Action) (p : ℕ) (packet : Noticed Message) → noted given ≡ Taken p packet → (x : Message) × (given ≡ Taken p x) × (packet ≡ Sent x)
 noted_packet (Taken q x) p packet e =
     let from : q ≡ p = cc in
     let is : Sent x ≡ packet = cc in
@@ -175,12 +175,12 @@ module _ (config : Config) (apart : IsDistinct same_atom (names_of config)) (w v
         stays (h.turn.state.merged (name_at config p)) (ap (λ (u : Turn State (Noticed Message) Report). u.state.merged (name_at config p)) same
         ∙ read_other same_atom atoms (w.world.node (node_of d)).merged (name_at config q) true (name_at config p) names) way
 
-  elsewhere : (p j : ℕ) → j ≢ node_of d → WayAfter (node_of d) h.input p j (h.turn.sends j) (w.world.wire p j) (v.world.wire p j) → told (v.world.wire p j) ≡ told (w.world.wire p j)
+  pub elsewhere : (p j : ℕ) → j ≢ node_of d → WayAfter (node_of d) h.input p j (h.turn.sends j) (w.world.wire p j) (v.world.wire p j) → told (v.world.wire p j) ≡ told (w.world.wire p j)
   elsewhere p j other (Grown own new) = ap told new ∙ told_nothing told_of (w.world.wire p j) (h.turn.sends j) (none_sent made j)
   elsewhere p j other (Shorter packet apart_ here taken_ old) = absurd (other here)
   elsewhere p j other (Unchanged apart_ untaken same) = ap told same
 
-  event_posts : Posts config v
+  pub event_posts : Posts config v
   event_posts p j pair = state_after (losing_machine_of config) w.world v.world d h (λ u. u.lost (name_at config p) ≡ false → Post config p (u.merged (name_at config p)) (told (v.world.wire p j))) j
       (λ own known.
       let here : is_pair (length config) (node_of d) p ≡ true = subst (λ z. is_pair (length config) z p ≡ true) own pair in
@@ -193,7 +193,7 @@ module _ (config : Config) (apart : IsDistinct same_atom (names_of config)) (w v
       absurd_so e f = absurd (cc (sym e ∙ f))
 
 module _ (config : Config) (apart : IsDistinct same_atom (names_of config)) where
-  passed_posts : (w v : Lossy) (e : LosingEvent Action) → Passed config w v e → Posts config w → Posts config v
+  pub passed_posts : (w v : Lossy) (e : LosingEvent Action) → Passed config w v e → Posts config w → Posts config v
   passed_posts w v e (Went d is lives h same) old = event_posts config apart w v d h old
   passed_posts w v e (Died i keep is there lives cut gone) old = died_posts
     where
@@ -214,7 +214,7 @@ module _ (config : Config) (apart : IsDistinct same_atom (names_of config)) wher
               ap (λ xs. xs ++ told (drop k way)) (told_nothing told_of (take k way) (Last ∷ []) refl) ∙ (sym (told_append told_of (take k way) (drop k way)) ∙ ap told (take-append-drop k way)) in
               part_post config p ((w.world.node j).merged (name_at config p)) (told way) (told (take k way ++ Last ∷ [])) (told (drop k way)) all post
 
-  start_posts : Posts config (nobody_gone (start_of (losing_machine_of config)))
+  pub start_posts : Posts config (nobody_gone (start_of (losing_machine_of config)))
   start_posts p i pair known = go (is_pair (length config) p i)
     where
       go : (b : Bool) → Post config p false (told (map Sent (cond b (Exchange (name_at config p) (groups_at config p) ∷ []) [])))

@@ -1,4 +1,5 @@
 pub mod Agreeing
+pub mod Quiet
 pub mod Reached
 pub mod Survived
 pub mod Thinned

@@ -13,8 +13,10 @@ pub use lasting::{
     lost_nodes_do_nothing, seen_losses_stay_seen,
 };
 pub use survival::{
-    ended_processes_were_made_past_losses, ends_at_home_past_losses, histories_are_thinned,
-    locks_are_exclusive_past_losses, losses_are_survived, no_lock_of_the_lost,
-    no_packet_is_refused, no_reply_is_odd, nodes_left_agree, unanswered_changes_are_last,
+    a_quiet_node_is_formed_past_losses, ended_processes_were_made_past_losses,
+    ends_at_home_past_losses, histories_are_thinned, locks_are_exclusive_past_losses,
+    losses_are_survived, no_lock_of_the_lost, no_packet_is_refused, no_reply_is_odd,
+    nodes_left_agree, open_commands_wait_for_retries_past_losses, takes_end_past_losses,
+    unanswered_changes_are_last,
 };
 pub use world::each_world_past_losses;

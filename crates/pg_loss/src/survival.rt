@@ -1,4 +1,4 @@
-ghost use Rattle.std.specs.Prelude.{◌≡◌, ◌≢◌, ◌++◌, ℕ, true, false, length, List, [], ◌∷◌, None};
+ghost use Rattle.std.specs.Prelude.{◌≡◌, ◌≢◌, ◌≤◌, ◌++◌, ℕ, true, false, length, List, [], ◌∷◌, None};
 ghost use Rattle.std.specs.List.{AllByRecursion, IsDistinct};
 ghost use Rattle.pg_term.specs.declared.pid.Pid.{Pid};
 ghost use Rattle.pg_term.specs.declared.term.Term.{Term};
@@ -8,19 +8,21 @@ ghost use Rattle.pg_refs.specs.Numbered.{numbered};
 ghost use Rattle.pg_lock.specs.Locks.{is_holder};
 ghost use Rattle.pg_message.specs.declared.message.Message.{Message};
 ghost use Rattle.pg_machine.specs.Clocked.{plain};
-ghost use Rattle.pg_machine.specs.Losing.{LosingEvent, Noticed};
-ghost use Rattle.pg_machine.specs.Machine.{Taken};
+ghost use Rattle.pg_machine.specs.Losing.{LosingEvent, LosingLeads, Noticed, all_steps};
+ghost use Rattle.pg_machine.specs.Machine.{Event, Taken};
 ghost use Rattle.pg_machine.specs.Places.{is_pair, is_place};
 ghost use Rattle.pg_step.specs.Config.{Config, name_at, names_of, nodes_at};
-ghost use Rattle.pg_step.specs.FrameMachine.{losing_machine_of};
+ghost use Rattle.pg_step.specs.FrameMachine.{last_notice, losing_frame_machine, losing_machine_of};
 ghost use Rattle.pg_step.specs.LossLaws.{LosingFrameWorld};
 ghost use Rattle.pg_step.specs.State.{formed};
 ghost use Rattle.pg_step.specs.Step.{Action};
 ghost use Rattle.pg_step.specs.Turns.{Report};
 ghost use Rattle.pg_history.specs.History.{Entry, answered_count, applied_by, history};
 ghost use Rattle.pg_history.specs.Exclusive.{ExclusiveLocks};
+ghost use Rattle.pg_history.specs.Quiet.{OnlyTakes};
 ghost use Rattle.pg_history.specs.WithLosses.{FormedAtLosses, NoLockOfLost, NonePendingLeft, SurvivesLosses};
 ghost use Rattle.pg_loss.specs.Agreeing.{EndedHome, SawAll};
+ghost use Rattle.pg_loss.specs.Quiet.{IsQuietLeft, WaitsForRetries, most_takes_left};
 ghost use Rattle.pg_loss.specs.Reached.{LosingReaches, lives_in, nodes_of};
 ghost use Rattle.pg_loss.specs.Thinned.{AppliesThinned};
 
@@ -119,4 +121,31 @@ pub fn nodes_left_agree()
         → SawAll config w i → SawAll config w j
         → applied_by i name w.world.reported ≡ applied_by j name w.world.reported
         → (w.world.node i).state.table name ≡ (w.world.node j).state.table name }
+{}
+
+/// Where nothing is on the way to a node that is not lost, each open command of such a node waits for its retry: it waits for
+/// nobody, also not for a node that was lost.
+pub fn open_commands_wait_for_retries_past_losses()
+    ensures { (config : Config) (w : LosingFrameWorld) (events : List (LosingEvent Action)) (i : ℕ)
+        → IsDistinct same_atom (names_of config) → LosingReaches config events w → IsQuietLeft config w
+        → is_place (length config) i ≡ true → w.gone i ≡ false → WaitsForRetries config w i }
+{}
+
+/// Takes alone come to an end, whoever was lost. Before a command comes in, one is tried again, or a node is lost, no more packets
+/// and last notices are taken than twice those on the way, and five for each peer of each open command, whatever their order.
+pub fn takes_end_past_losses()
+    ensures { (config : Config) (w v : LosingFrameWorld)
+        (events : List (LosingEvent Action)) (takes : List (Event Action))
+        → IsDistinct same_atom (names_of config) → LosingReaches config events w → OnlyTakes takes
+        → LosingLeads (losing_frame_machine config) last_notice w (all_steps takes) v
+        → length takes ≤ most_takes_left config w }
+{}
+
+/// Where nothing is on the way to a node that is not lost, that node is formed: it waits for the exchange of nobody, also not of
+/// a node that was lost.
+pub fn a_quiet_node_is_formed_past_losses()
+    ensures { (config : Config) (w : LosingFrameWorld) (events : List (LosingEvent Action)) (i : ℕ)
+        → IsDistinct same_atom (names_of config) → LosingReaches config events w → IsQuietLeft config w
+        → is_place (length config) i ≡ true → w.gone i ≡ false
+        → formed (nodes_at config i) (w.world.node i).state ≡ true }
 {}

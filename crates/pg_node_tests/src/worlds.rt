@@ -1,16 +1,13 @@
 //! Three nodes and the packets between them: what one does reaches the others.
 
-ghost use Rattle.std.specs.Prelude.{◌≡◌, true, length};
-ghost use Rattle.std.specs.List.{All};
-ghost use Rattle.pg_node.specs.States.{names_of};
-
-use crate::nodes::{Sight, Who, formed_node, sees};
+use crate::nodes::{Sight, atom, sees};
 use crate::texts::{command_of, has_answered};
 use crate::verdicts::holds;
 use pg_index::IndexTable;
-use pg_node::{NodeFault, NodeState};
-use pg_step::{OpId, Refusal};
-use pg_world::{FrameStep, FrameWorld, Stepped};
+use pg_node::NodeFault;
+use pg_step::{OpId, Refusal, Start};
+use pg_term::Items;
+use pg_world::{Config, FrameStep, FrameWorld, Stepped};
 use std::alloc::Global;
 use std::process::Abort;
 
@@ -19,27 +16,29 @@ type World = FrameWorld<IndexTable>;
 /// What a step did.
 type Told = Result<Stepped, NodeFault>;
 
-/// Whether each of the nodes knows as many as there are.
-fn know_each_other(nodes: &[NodeState<IndexTable>]) -> bool
-    ensures { result ≡ true → All (λ node. length (names_of node) ≡ length nodes.now) nodes.now }
-{
-    for node in nodes {
-        if node.peer_count() != nodes.len() - 1 {
-            return false;
-        }
+// The node of this name as it starts, with one port.
+fn start(rt: &impl Abort, alloc: Global, name: &str) -> Start {
+    let name = atom(alloc, name).expect(rt, "memory");
+    Start {
+        name,
+        made: 0,
+        ports: 1,
+        groups: Items::from_vec(Vec::new(alloc)),
     }
-    true
 }
 
-// Three formed nodes, between which nothing is on the way.
+// Three nodes that have formed, between which nothing is on the way.
 fn three(rt: &impl Abort, alloc: Global) -> World {
-    let mut nodes = Vec::new(alloc);
-    for who in [Who::A, Who::B, Who::C] {
-        let node = formed_node(alloc, who).expect(rt, "memory");
-        nodes.push(node).ok().expect(rt, "memory");
+    let mut starts = Vec::new(alloc);
+    for name in ["a", "b", "c"] {
+        let start = start(rt, alloc, name);
+        starts.push(start).ok().expect(rt, "memory");
     }
-    assert!(rt; know_each_other(nodes.as_slice()));
-    FrameWorld::idle(alloc, nodes).ok().expect(rt, "memory")
+    let config = Config { ring: 1, starts };
+    let mut world = FrameWorld::new(alloc, &config).ok().expect(rt, "a world");
+    drop(config);
+    assert!(rt; settle(&mut world) == 6);
+    world
 }
 
 /// What happens in a world, or is seen there.

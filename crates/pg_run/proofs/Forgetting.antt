@@ -1,12 +1,12 @@
 -- Pauses of commands of which answers are handed over.
-use Rattle.std.proofs.Common.{◌≡◌, ◌≢◌, ◌<◌, ◌∙◌, ◌⊎◌, ℕ, get_or, length, List, [], ◌∷◌, ◌++◌, refl, sym, ap, subst, inl, inr}
+use Rattle.std.proofs.Common.{◌≡◌, ◌≢◌, ◌<◌, ◌+◌, ◌∙◌, ◌⊎◌, ℕ, get_or, length, List, [], ◌∷◌, ◌++◌, refl, sym, ap, subst, inl, inr}
 use Rattle.std.specs.Prelude.{Bool, true, false, nat_eq, slice_set, ◌||◌, Option, Some}
 use Rattle.std.proofs.lemmas.Bool.{cases_eq, eq-eqb}
 use Rattle.std.proofs.lemmas.List.{get_or-set_same, get_or-set_other, get_or_default}
 use Rattle.pg_run.specs.declared.pauses.Pauses.{Pauses}
 use Rattle.pg_run.specs.declared.port.Port.{Port}
 use Rattle.pg_run.specs.Pauses.{wait_of}
-use Rattle.pg_run.specs.Ports.{ForgetsHanded, HandsNext, handed, has_number, was_handed}
+use Rattle.pg_run.specs.Ports.{ForgetsHanded, HandsNext, handed, handed_count, has_number, was_handed}
 use Rattle.pg_run.specs.Served.{AllForgetHanded}
 use Rattle.pg_step.specs.declared.answer.Answer.{Answer}
 use Rattle.pg_step.specs.declared.command.OpId.{OpId}
@@ -63,6 +63,10 @@ pub forgets_next : (place number : ℕ) (next : Option ℕ) (a b c : Port) (p q 
 forgets_next place number next a b c p q r is hands h others =
     let one : HandsNext (Some number) b c = subst (λ n. HandsNext n b c) is hands in
     forgets_one place number a b c p q r one.0 h one.1 one.2 others
+
+-- and one more is counted
+pub hands_count : (number : ℕ) (next : Option ℕ) (b c : Port) → next ≡ Some number → HandsNext next b c → handed_count c ≡ handed_count b + 1
+hands_count number next b c is hands = let one : HandsNext (Some number) b c = subst (λ n. HandsNext n b c) is hands in one.3
 
 -- ---- all ports
 

@@ -14,3 +14,4 @@ pub mod Served
 pub mod Taking
 pub mod Trying
 pub mod Turning
+pub mod Wanting

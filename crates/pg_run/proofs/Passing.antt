@@ -1,6 +1,7 @@
 -- What a put and a pull have moved.
-use Rattle.std.proofs.Common.{◌≡◌, ◌<◌, ◌≤◌, ◌+◌, ◌∙◌, ℕ, get_or, take, drop, length, List, [], refl, sym, ap, subst, arith, length-drop, append-nil}
-use Rattle.std.specs.Prelude.{slice_set, Result, Ok, Err, IfOk, OnErr}
+use Rattle.std.proofs.Common.{◌≡◌, ◌<◌, ◌≤◌, ◌+◌, ◌∙◌, ℕ, get_or, take, drop, length, List, [], ◌++◌, refl, sym, ap, subst, arith, length-append, length-drop, append-nil}
+use Rattle.std.proofs.lemmas.Option.{slice_get-get_or}
+use Rattle.std.specs.Prelude.{slice_get, slice_set, IfSome, Result, Ok, Err, IfOk, OnErr}
 use Rattle.pg_node.specs.declared.state.fault.NodeFault.{NodeFault}
 use Rattle.pg_node.specs.Links.{Link, at_link, without_front, with_fed}
 use Rattle.pg_run.specs.declared.linked.Peer.{Peer}
@@ -13,6 +14,23 @@ put_count links links2 k n is some =
     let out : (links2 k).outbox ≡ drop n (links k).outbox = ap (λ (ls : ℕ → Link). (ls k).outbox) is ∙ ap (λ (l : Link). l.outbox) (link_there k (λ l. without_front l n) links) in
     let len = ap length out in
     omega (arith, len, some, length-drop n (links k).outbox)
+
+pub pull_count : {I : Type 0} (gives : I → List ℕ → I → Type 0) (links links2 : ℕ → Link) (k : ℕ) (r : Result ℕ NodeFault) (inlet inlet2 : I)
+    → IfOk r (λ count. (piece : List ℕ) × (length piece ≡ count) × gives inlet piece inlet2 × (links2 ≡ at_link k (λ l. with_fed l piece) links))
+    → IfOk r (λ count. length (links2 k).unread ≡ length (links k).unread + count)
+pull_count gives links links2 k (Ok count) inlet inlet2 fed =
+    let came : (links2 k).unread ≡ (links k).unread ++ fed.0 = ap (λ (ls : ℕ → Link). (ls k).unread) fed.3 ∙ ap (λ (l : Link). l.unread) (link_there k (λ l. with_fed l fed.0) links) in
+    ap length came ∙ (length-append (links k).unread fed.0 ∙ ap (λ n. length (links k).unread + n) fed.1)
+pull_count gives links links2 k (Err fault) inlet inlet2 fed = tt
+
+-- the peer of which bytes are moved, and what holds of it
+pub peer_holds : {P : Type 0} (peers : List P) (k : ℕ) (peer : P) (Holds : P → Type 0) → k < length peers → peer ≡ get_or peers k peer → Holds peer → IfSome (slice_get peers k) Holds
+peer_holds peers k peer Holds within is holds = subst (λ o. IfSome o Holds) (sym (slice_get-get_or peers k peer within)) (subst Holds is holds)
+
+pub pull_many : {P : Type 0} (peers : List P) (k : ℕ) (peer : P) (Holds : ℕ → P → Type 0) (r : Result ℕ NodeFault) → k < length peers → peer ≡ get_or peers k peer
+    → IfOk r (λ count. Holds count peer) → IfOk r (λ count. IfSome (slice_get peers k) (Holds count))
+pull_many peers k peer Holds (Ok count) within is holds = peer_holds peers k peer (Holds count) within is holds
+pull_many peers k peer Holds (Err fault) within is holds = tt
 
 -- a put makes no mark, nor does a pull
 pub put_marks : (links links2 : ℕ → Link) (k n : ℕ) → links2 ≡ at_link k (λ l. without_front l n) links → (place : ℕ) → (links2 place).damaged ≡ (links place).damaged

@@ -14,7 +14,7 @@ use Rattle.pg_ring.specs.Slots.{SameSlotIn, SameSlotOut}
 use Rattle.pg_run.specs.declared.port.Asked.{Asked}
 use Rattle.pg_run.specs.declared.port.Port.{Port}
 use Rattle.pg_run.specs.Acts.{Act, Standing, AllLead}
-use Rattle.pg_run.specs.Ports.{asked, handed, handed_count, kept_by, SamePort, HandedOver, Hands}
+use Rattle.pg_run.specs.Ports.{asked, handed, handed_count, kept_by, SamePort, HandedOver, Hands, KeepsSame}
 use Rattle.pg_run.specs.Turns.{PortFollows, PortsFollow, commands_at, command_at, gave_at, answered_at, AreLater}
 use Rattle.pg_step.specs.declared.answer.Answer.{Answer}
 use Rattle.pg_step.specs.declared.command.Command.{Command}
@@ -263,31 +263,35 @@ pub port_handed : (place : ℕ) (answers : List Answer) (a b : Port) → Hands a
 port_handed place answers a b hands = record {
   same = hands.same;
   given = [];
-  asked = λ before e. hands.asked ∙ (e ∙ (ap (λ w. w ++ kept_by a) (sym (append-nil before)) ∙ ap (λ w. (before ++ []) ++ w) (sym hands.kept)));
+  asked = λ before e. hands.keeps.asked ∙ (e ∙ (ap (λ w. w ++ kept_by a) (sym (append-nil before)) ∙ ap (λ w. (before ++ []) ++ w) (sym hands.keeps.kept)));
   commands = refl;
   later = λ over. tt;
   handed = hands.handed;
 }
 
+pub keeps_itself : (a : Port) → KeepsSame a a
+keeps_itself a = record { asked = refl; kept = refl; left = refl }
+
+pub keeps_on : (a b c : Port) → KeepsSame a b → KeepsSame b c → KeepsSame a c
+keeps_on a b c h k = record { asked = k.asked ∙ h.asked; kept = k.kept ∙ h.kept; left = k.left ∙ h.left }
+
 pub hands_none : (answers : List Answer) (a : Port) → Hands answers a a
-hands_none answers a = record { same = same_port a; asked = refl; kept = refl; handed = λ over. over }
+hands_none answers a = record { same = same_port a; keeps = keeps_itself a; handed = λ over. over }
 
 pub hands_on : (answers : List Answer) (a b c : Port) → Hands answers a b → Hands answers b c → Hands answers a c
 hands_on answers a b c h k = record {
   same = same_port_on a b c h.same k.same;
-  asked = k.asked ∙ h.asked;
-  kept = k.kept ∙ h.kept;
+  keeps = keeps_on a b c h.keeps k.keeps;
   handed = λ over. k.handed (h.handed over);
 }
 
 -- one answer more was handed over
-pub hands_one : (answers : List Answer) (a b : Port) (answer : Answer) → SamePort a b → asked b ≡ asked a → kept_by b ≡ kept_by a
+pub hands_one : (answers : List Answer) (a b : Port) (answer : Answer) → SamePort a b → KeepsSame a b
     → handed b ≡ handed a ++ answer ∷ [] → handed_count b ≡ handed_count a + 1 → slice_get answers (handed_count a) ≡ Some answer → Hands answers a b
-hands_one answers a b answer same came kept out count there =
+hands_one answers a b answer same keeps out count there =
     let place = get_at answers (handed_count a) answer there in record {
       same = same;
-      asked = came;
-      kept = kept;
+      keeps = keeps;
       handed = λ over. record {
         first = out ∙ (ap (λ w. w ++ answer ∷ []) over.first ∙ (ap (λ x. take (handed_count a) answers ++ x ∷ []) (sym place.1)
             ∙ (sym (take_more answers (handed_count a) answer place.0) ∙ ap (λ n. take n answers) (sym count))));
@@ -296,6 +300,5 @@ hands_one answers a b answer same came kept out count there =
     }
 
 -- none was
-pub hands_same : (answers : List Answer) (a b : Port) → SamePort a b → asked b ≡ asked a → kept_by b ≡ kept_by a → handed b ≡ handed a → handed_count b ≡ handed_count a
-    → Hands answers a b
-hands_same answers a b same came kept out count = record { same = same; asked = came; kept = kept; handed = handed_alike answers a b out count }
+pub hands_same : (answers : List Answer) (a b : Port) → SamePort a b → KeepsSame a b → handed b ≡ handed a → handed_count b ≡ handed_count a → Hands answers a b
+hands_same answers a b same keeps out count = record { same = same; keeps = keeps; handed = handed_alike answers a b out count }

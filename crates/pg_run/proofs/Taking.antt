@@ -5,6 +5,7 @@ use Rattle.std.proofs.lemmas.Bool.{cases_eq, eq-eqb, ne_eqb}
 use Rattle.pg_frame.specs.declared.fault.TooLong as frame
 use Rattle.pg_frame.specs.Frames.{front_of, after_front}
 use Rattle.pg_group.specs.declared.table.GroupTable.{Ghosts}
+use Rattle.pg_machine.specs.Clocked.{Timed}
 use Rattle.pg_message.specs.declared.fault.MessageFault.{MessageFault}
 use Rattle.pg_message.specs.declared.packet.Packet.{Packet}
 use Rattle.pg_message.specs.Reading.{packet_spelled}
@@ -15,9 +16,9 @@ use Rattle.pg_node.specs.declared.state.fault.NodeFault.TheVariants.{Damaged}
 use Rattle.pg_node.specs.Bytes.{next_packet, packet_at, packet_in, passed, closed, is_drained}
 use Rattle.pg_node.specs.Issued.{ports_of}
 use Rattle.pg_node.specs.Links.{Link, at_link, AreSmallFrames}
-use Rattle.pg_node.specs.Nodes.{held_by, links_of, sent_out, step_link, ComesInRoom}
+use Rattle.pg_node.specs.Nodes.{held_by, has_lost, links_of, sent_out, step_link, ComesInRoom}
 use Rattle.pg_node.specs.Sendable.{AreSendable}
-use Rattle.pg_node.specs.States.{names_of, nodes_of, kept_by, state_of, answers_of, stamped_of, step_see_loss, Gave, Comes}
+use Rattle.pg_node.specs.States.{names_of, nodes_of, state_of, answers_of, stamped_of, step_see_loss, Gave, Comes}
 use Rattle.pg_opens.specs.Places.{name_at}
 use Rattle.pg_run.specs.declared.linked.LinkedNode.{LinkedNode}
 use Rattle.pg_run.specs.Acts.{Act, Took, Saw, Did, event_of, is_from}
@@ -28,7 +29,9 @@ use Rattle.pg_run.specs.Follows.{Follows, node_of, peers_of, log_of}
 use Rattle.pg_run.proofs.Acting.{happened_by, acts_once}
 use Rattle.pg_run.proofs.Fronts.{front_alone, front_alone_len, front_taken}
 use Rattle.pg_run.proofs.Moving.{link_there, link_else, marks_kept}
+use Rattle.pg_step.specs.declared.answer.Answer.{Answer}
 use Rattle.pg_step.specs.declared.refusal.Refusal.{Refusal}
+use Rattle.pg_step.specs.State.{State}
 use Rattle.pg_step.specs.declared.refusal.Refusal.TheVariants.{NodeLost, NotDrained, ClockFull}
 use Rattle.pg_step.specs.Losses.{see_loss}
 use Rattle.pg_step.specs.Step.{Action, TimedTurn, CLOCK_LIMIT, at_clock, step_take, step_act, timed}
@@ -263,6 +266,18 @@ module _ {T L I : Type 0} {g : Ghosts T} (accepts : L → List ℕ → L → Typ
   }
   took_from link_composes inlet_composes peer (Ok false) a m b h took = follows_on accepts gives link_composes inlet_composes [] [] a m b h took
   took_from link_composes inlet_composes peer (Err fault) a m b h took = follows_on accepts gives link_composes inlet_composes [] [] a m b h took
+
+-- a loss is seen where the link is drained
+drained_by : (lost drained : Bool) (rest : Result TimedTurn Refusal) (turn : TimedTurn) → cond lost (Err NodeLost) (cond drained rest (Err NotDrained)) ≡ Ok turn → drained ≡ true
+drained_by true drained rest turn made = absurd (cc)
+drained_by false true rest turn made = refl
+drained_by false false rest turn made = absurd (cc)
+
+pub was_drained : {T : Type 0} {g : Ghosts T} (node : Node T g) (peer last : ℕ) (done : Done) (s : Timed State) (before after : ℕ → List Answer)
+    → Comes (names_of (held_by node)) (told_of_loss node peer last) (Ok done) s before after → is_drained (links_of node peer) ≡ true
+was_drained node peer last done s before after came =
+    let happened = happened_by (names_of (held_by node)) (told_of_loss node peer last) done s before after came in
+    drained_by (has_lost (held_by node) peer) (is_drained (links_of node peer)) _ happened.turn happened.made
 
 -- what is told of a peer goes by the node over packets and by the link
 module _ {T : Type 0} {g : Ghosts T} (peer : ℕ) where

@@ -91,8 +91,9 @@ shorts_push (Whole ∷ others) t = shorts_push others t
 shorts_push (Short ∷ others) t = let e = shorts_push others t in omega (arith, e)
 shorts_push (Stopped ∷ others) t = shorts_push others t
 
-module _ {T L I K : Type 0} {g : Ghosts T} (accepts : L → List ℕ → L → Type 0) (gives : I → List ℕ → I → Type 0) where
-  pub turns_push : (turned : List Turned) (t : Turned) (a b c : NodeRun T L I K g) → TurnsMade accepts gives turned a b → TurnMade accepts gives t b c
-      → TurnsMade accepts gives (turned ++ t ∷ []) a c
-  turns_push [] t a b c same made = (c, subst (λ (x : NodeRun T L I K g). TurnMade accepts gives t x c) same made, refl)
+module _ {T L I K : Type 0} {g : Ghosts T} (accepts : L → List ℕ → L → Type 0) (gives : I → List ℕ → I → Type 0) (link_moves : L → ℕ → ℕ → Type 0)
+    (inlet_moves : I → ℕ → ℕ → Type 0) where
+  pub turns_push : (turned : List Turned) (t : Turned) (a b c : NodeRun T L I K g) → TurnsMade accepts gives link_moves inlet_moves turned a b → TurnMade accepts gives link_moves inlet_moves t b c
+      → TurnsMade accepts gives link_moves inlet_moves (turned ++ t ∷ []) a c
+  turns_push [] t a b c same made = (c, subst (λ (x : NodeRun T L I K g). TurnMade accepts gives link_moves inlet_moves t x c) same made, refl)
   turns_push (first ∷ others) t a b c (m, one, rest) made = (m, one, turns_push others t m b c rest made)

@@ -12,7 +12,7 @@ use Rattle.pg_run.specs.Logs.{IsCommand, IsDueRetry, IsTake, LogsLoss, LogsOnly}
 use Rattle.pg_run.specs.Pauses.{Waits, is_due, wait_of}
 use Rattle.pg_run.specs.Ports.{was_handed}
 use Rattle.pg_run.specs.Runs.{TurnedTo}
-use Rattle.pg_run.specs.Tries.{ComesTo, HasDone, HasRetried, HasRetriedDue, RetriedBy, WholeTurn, waits_at}
+use Rattle.pg_run.specs.Tries.{ComesTo, HasDone, HasRetried, HasRetriedDue, HasWanted, RetriedBy, SawDrained, TurnDid, waits_at}
 use Rattle.pg_run.specs.declared.run.Turned.{Turned}
 use Rattle.pg_run.specs.declared.run.Turned.TheVariants.{Whole, Short}
 use Rattle.pg_run.proofs.Logging.{logs_still}
@@ -24,18 +24,20 @@ use Rattle.pg_step.specs.declared.command.OpId.{OpId}
 module _ {T L I K : Type 0} {g : Ghosts T} (accepts : L → List ℕ → L → Type 0) (gives : I → List ℕ → I → Type 0)
     (link_rests : (a : L) → accepts a [] a) (inlet_rests : (a : I) → gives a [] a)
     (link_composes : (a b c : L) (xs ys : List ℕ) → accepts a xs b → accepts b ys c → accepts a (xs ++ ys) c)
-    (inlet_composes : (a b c : I) (xs ys : List ℕ) → gives a xs b → gives b ys c → gives a (xs ++ ys) c) where
+    (inlet_composes : (a b c : I) (xs ys : List ℕ) → gives a xs b → gives b ys c → gives a (xs ++ ys) c) (link_moves : L → ℕ → ℕ → Type 0) (inlet_moves : I → ℕ → ℕ → Type 0) where
   -- From the node m on commands are tried, by n all are, and then bytes are put.
   pub retried_due : (whole phase lost : Bool) (a b : NodeRun T L I K g) (m n : LinkedNode T L I g) (between : Pauses) (taken seen : List (ℕ × NodeEvent)) → (whole ≡ true → phase ≡ true)
+      → (lost ≡ true → SawDrained accepts gives inlet_moves a.linked b.linked)
       → ComesTo accepts gives a.linked m → ComesTo accepts gives m n → ComesTo accepts gives n b.linked
       → (phase ≡ true → (op : OpId) → waits_at (node_of m) op ≡ true → is_due lost (wait_of a.pauses op) ≡ true → HasRetried accepts gives op m n)
       → ((op : OpId) → waits_at (node_of m) op ≡ true → Waits lost phase (wait_of a.pauses op) (wait_of between op))
       → ((op : OpId) → waits_at (node_of m) op ≡ false → wait_of between op ≡ wait_of a.pauses op)
       → LogsOnly IsTake (log_of a.linked) taken → LogsLoss lost taken seen → LogsOnly IsCommand seen (log_of m) → LogsOnly (IsDueRetry lost a.pauses between) (log_of m) (log_of n)
       → log_of b.linked ≡ log_of n → ((op : OpId) (none : Port) → was_handed op (get_or b.ports.items op.port none) ≡ false → wait_of b.pauses op ≡ wait_of between op)
-      → HasRetriedDue accepts gives whole a b
-  retried_due whole phase lost a b m n between taken seen is first retries put tried waits others takes sees commands retried still forgot = record {
+      → HasRetriedDue accepts gives link_moves inlet_moves whole a b
+  retried_due whole phase lost a b m n between taken seen is drained first retries put tried waits others takes sees commands retried still forgot = record {
     lost = lost;
+    drained = drained;
     middle = m;
     first = first;
     rest = comes_on accepts gives link_rests inlet_rests link_composes inlet_composes m n b.linked retries put;
@@ -56,21 +58,24 @@ module _ {T L I K : Type 0} {g : Ghosts T} (accepts : L → List ℕ → L → T
     forgot = forgot;
   }
 
-module _ {T L I K : Type 0} {g : Ghosts T} (accepts : L → List ℕ → L → Type 0) (gives : I → List ℕ → I → Type 0) where
+module _ {T L I K : Type 0} {g : Ghosts T} (accepts : L → List ℕ → L → Type 0) (gives : I → List ℕ → I → Type 0) (link_moves : L → ℕ → ℕ → Type 0)
+    (inlet_moves : I → ℕ → ℕ → Type 0) where
   -- ---- by how it went
 
-  pub whole_turn : (turned : Turned) (phase : Bool) (a b : NodeRun T L I K g) → turned ≡ cond phase Whole Short → (phase ≡ true → HasDone accepts gives a b) → WholeTurn accepts gives turned a b
-  whole_turn turned phase a b is done = subst (λ t. WholeTurn accepts gives t a b) (sym is) (go phase done)
+  pub turn_did : (turned : Turned) (phase : Bool) (a b : NodeRun T L I K g) → turned ≡ cond phase Whole Short → (phase ≡ true → HasDone accepts gives link_moves inlet_moves a b)
+      → (phase ≡ false → HasWanted accepts gives link_moves inlet_moves a b) → TurnDid accepts gives link_moves inlet_moves turned a b
+  turn_did turned phase a b is done wanted = subst (λ t. TurnDid accepts gives link_moves inlet_moves t a b) (sym is) (go phase done wanted)
     where
-      go : (w : Bool) → (w ≡ true → HasDone accepts gives a b) → WholeTurn accepts gives (cond w Whole Short) a b
-      go true done = done refl
-      go false done = tt
+      go : (w : Bool) → (w ≡ true → HasDone accepts gives link_moves inlet_moves a b) → (w ≡ false → HasWanted accepts gives link_moves inlet_moves a b)
+          → TurnDid accepts gives link_moves inlet_moves (cond w Whole Short) a b
+      go true done wanted = done refl
+      go false done wanted = wanted refl
 
   pub retried_by : (turned : Turned) (phase : Bool) (a b : NodeRun T L I K g) → turned ≡ cond phase Whole Short
-      → ((whole : Bool) → (whole ≡ true → phase ≡ true) → HasRetriedDue accepts gives whole a b) → RetriedBy accepts gives turned a b
-  retried_by turned phase a b is retried = subst (λ t. RetriedBy accepts gives t a b) (sym is) (go phase retried)
+      → ((whole : Bool) → (whole ≡ true → phase ≡ true) → HasRetriedDue accepts gives link_moves inlet_moves whole a b) → RetriedBy accepts gives link_moves inlet_moves turned a b
+  retried_by turned phase a b is retried = subst (λ t. RetriedBy accepts gives link_moves inlet_moves t a b) (sym is) (go phase retried)
     where
-      go : (w : Bool) → ((whole : Bool) → (whole ≡ true → w ≡ true) → HasRetriedDue accepts gives whole a b) → RetriedBy accepts gives (cond w Whole Short) a b
+      go : (w : Bool) → ((whole : Bool) → (whole ≡ true → w ≡ true) → HasRetriedDue accepts gives link_moves inlet_moves whole a b) → RetriedBy accepts gives link_moves inlet_moves (cond w Whole Short) a b
       go true retried = retried true (λ all. refl)
       go false retried = retried false (λ all. absurd (cc))
 

@@ -1,7 +1,7 @@
 -- What a clause sees of the two ends of a port.
-use Rattle.std.specs.Prelude.{◌≡◌, ℕ, ◌<◌, ◌≤◌, ◌-◌, ◌^◌, Bool, false, nat_eq, List, [], ◌∷◌, ◌++◌, Option, Some, None, length, min, take}
+use Rattle.std.specs.Prelude.{◌≡◌, ◌⊎◌, ℕ, ◌<◌, ◌≤◌, ◌+◌, ◌-◌, ◌^◌, Bool, false, nat_eq, List, [], ◌∷◌, ◌++◌, Option, Some, None, length, min, take}
 use Rattle.std.specs.List.{list_any}
-use Rattle.pg_ring.specs.Slots.{given, taken, AreSlots, SameSlotOut, SameSlotIn}
+use Rattle.pg_ring.specs.Slots.{given, taken, slots_free, slots_left, AreSlots, SameSlotOut, SameSlotIn}
 use Rattle.pg_run.specs.declared.pauses.Pauses.{Pauses}
 use Rattle.pg_run.specs.declared.port.Asked.{Asked}
 use Rattle.pg_run.specs.declared.port.Client.{Client}
@@ -24,6 +24,14 @@ polled client = taken client.answers
 abbrev pub polled_count : Client → ℕ
 polled_count client = min (length (polled client)) (2 ^ 64 - 1)
 
+-- for how many commands it knows a free place
+abbrev pub places_free : Client → ℕ
+places_free client = slots_free client.commands
+
+-- the answers that it knows to be there
+abbrev pub answers_left : Client → List Answer
+answers_left client = slots_left client.answers
+
 -- the same end of the same port
 abbrev pub SameClient : Client → Client → Type 0
 SameClient a b = SameSlotOut a.commands b.commands × SameSlotIn a.answers b.answers
@@ -34,10 +42,12 @@ pub record ClientRests (a b : Client) : Type 0 where
   pub submitted : submitted b ≡ submitted a
   pub polled : polled b ≡ polled a
 
--- nothing was ever submitted or polled
+-- Nothing was ever submitted or polled: it knows all 64 places to be free, and of no answer.
 pub record IsSilent (client : Client) : Type 0 where
   pub submitted : submitted client ≡ []
   pub polled : polled client ≡ []
+  pub free : places_free client ≡ 64
+  pub left : answers_left client ≡ []
 
 -- ---- the node's end
 
@@ -60,6 +70,14 @@ kept_in (Some next) = next ∷ []
 -- the command that came and was not taken, if there is one
 abbrev pub kept_by : Port → List Asked
 kept_by port = kept_in port.kept
+
+-- the commands that it knows to be there
+abbrev pub commands_left : Port → List Asked
+commands_left port = slots_left port.commands
+
+-- for how many answers it knows a free place
+abbrev pub answers_free : Port → ℕ
+answers_free port = slots_free port.answers
 
 -- the same end of the same port
 abbrev pub SamePort : Port → Port → Type 0
@@ -94,16 +112,35 @@ pub record GivesNext (a b : Port) (next : Asked) : Type 0 where
 abbrev pub KeepsAll : Port → Port → Type 0
 KeepsAll a b = (before : List Asked) → asked a ≡ before ++ kept_by a → asked b ≡ before ++ kept_by b
 
--- It was served: what it keeps, if anything, is a command whose client had polled more answers than were handed over before.
-abbrev pub IsServed : Port → Port → Type 0
-IsServed a b = (next : Asked) → kept_by b ≡ next ∷ [] → handed_count a < next.polled
+-- a command came, or none is found to be there
+abbrev pub HasLookedIn : Port → Port → Type 0
+HasLookedIn a b = (commands_left b ≡ []) ⊎ (length (asked a) < length (asked b))
+
+-- It was served: what it keeps, if anything, is a command whose client had polled more answers than were handed over before; where it
+-- kept none before, one came, or none was found.
+pub record IsServed (a b : Port) : Type 0 where
+  pub early : (next : Asked) → kept_by b ≡ next ∷ [] → handed_count a < next.polled
+  pub looked : kept_by a ≡ [] → HasLookedIn a b
+
+-- it stays where commands come
+pub record KeepsSame (a b : Port) : Type 0 where
+  pub asked : asked b ≡ asked a
+  pub kept : kept_by b ≡ kept_by a
+  pub left : commands_left b ≡ commands_left a
 
 -- some of these answers were handed over
 pub record Hands (answers : List Answer) (a b : Port) : Type 0 where
   pub same : SamePort a b
-  pub asked : asked b ≡ asked a
-  pub kept : kept_by b ≡ kept_by a
+  pub keeps : KeepsSame a b
   pub handed : HandedOver answers a → HandedOver answers b
+
+-- none of these answers is left to be handed over, or no place is found to be free
+abbrev pub HandsNoMore : List Answer → Port → Type 0
+HandsNoMore answers port = (length answers ≤ handed_count port) ⊎ (answers_free port ≡ 0)
+
+-- they were handed over until then, or 64 of them
+abbrev pub HandsAll : List Answer → Port → Port → Type 0
+HandsAll answers a b = HandsNoMore answers b ⊎ (handed_count b ≡ handed_count a + 64)
 
 -- an answer to a command of this number was handed over
 abbrev pub has_number : ℕ → List Answer → Bool
@@ -115,7 +152,7 @@ was_handed op port = has_number op.number (handed port)
 
 -- an answer of this number was handed over, or none
 abbrev pub HandsNext : Option ℕ → Port → Port → Type 0
-HandsNext (Some number) a b = (answer : Answer) × (answer.number ≡ number) × (handed b ≡ handed a ++ answer ∷ [])
+HandsNext (Some number) a b = (answer : Answer) × (answer.number ≡ number) × (handed b ≡ handed a ++ answer ∷ []) × (handed_count b ≡ handed_count a + 1)
 HandsNext None a b = handed b ≡ handed a
 
 -- Where answers were handed over at the port at a place: what was handed over is so still, and how any other command waits stays.

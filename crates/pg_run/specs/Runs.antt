@@ -11,7 +11,7 @@ use Rattle.pg_run.specs.declared.run.Turned.{Turned}
 use Rattle.pg_run.specs.declared.run.Turned.TheVariants.{Whole, Short, Stopped}
 use Rattle.pg_run.specs.declared.running.Ran.{Ran}
 use Rattle.pg_run.specs.Notices.{NoticesGo, inlet_of}
-use Rattle.pg_run.specs.Tries.{RetriedBy, WholeTurn}
+use Rattle.pg_run.specs.Tries.{RetriedBy, TurnDid}
 use Rattle.pg_run.specs.Turns.{ServesSeeing}
 
 module _ {T L I K : Type 0} {g : Ghosts T} where
@@ -69,13 +69,14 @@ shorts (Whole ∷ others) = shorts others
 shorts (Short ∷ others) = shorts others + 1
 shorts (Stopped ∷ others) = shorts others
 
-module _ {T L I K : Type 0} {g : Ghosts T} (accepts : L → List ℕ → L → Type 0) (gives : I → List ℕ → I → Type 0) where
+module _ {T L I K : Type 0} {g : Ghosts T} (accepts : L → List ℕ → L → Type 0) (gives : I → List ℕ → I → Type 0) (link_moves : L → ℕ → ℕ → Type 0)
+    (inlet_moves : I → ℕ → ℕ → Type 0) where
   -- what a turn made of a node
   pub record TurnMade (turned : Turned) (a b : NodeRun T L I K g) : Type 0 where
     pub runs : Runs accepts gives a b
     pub stop : TurnedTo gives (stop_of a) turned (stop_of b)
-    pub done : WholeTurn accepts gives turned a b
-    pub retried : RetriedBy accepts gives turned a b
+    pub did : TurnDid accepts gives link_moves inlet_moves turned a b
+    pub retried : RetriedBy accepts gives link_moves inlet_moves turned a b
 
   -- these turns, one after another
   abbrev pub TurnsMade : List Turned → NodeRun T L I K g → NodeRun T L I K g → Type 0

@@ -1,6 +1,6 @@
 //! The events of a node with its links, each of which is logged.
 
-ghost use Rattle.std.specs.Prelude.{◌≡◌, ◌<◌, ◌+◌, ◌^◌, ◌++◌, [], ◌∷◌, true, false, Ok, None, Some, IfOk, IfErr, IfSome, length, vec_len, vec_capacity};
+ghost use Rattle.std.specs.Prelude.{◌≡◌, ◌<◌, ◌+◌, ◌^◌, ◌++◌, [], ◌∷◌, true, false, Ok, None, Some, IfOk, IfErr, IfSome, OnOk, length, vec_len, vec_capacity};
 
 use crate::linked::LinkedNode;
 use crate::log::NodeEvent;
@@ -12,7 +12,7 @@ use pg_step::{Command, OpId};
 
 impl<T: GroupTable + Drop, L: Link + Drop, I: Inlet + Drop> LinkedNode<T, L, I> {
     ghost use Rattle.pg_message.specs.Members.{IsShort};
-    ghost use Rattle.pg_node.specs.Bytes.{next_packet};
+    ghost use Rattle.pg_node.specs.Bytes.{next_packet, is_drained};
     ghost use Rattle.pg_node.specs.Issued.{ports_of};
     ghost use Rattle.pg_node.specs.Nodes.{held_by, links_of};
     ghost use Rattle.pg_node.specs.States.{names_of, kept_by, state_of};
@@ -138,6 +138,7 @@ impl<T: GroupTable + Drop, L: Link + Drop, I: Inlet + Drop> LinkedNode<T, L, I> 
     pub fn see_loss(&mut self, peer: usize, last: u32) -> Result<(), NodeFault>
         requires place { peer < length (peers_of self.old) }
         ensures acted { Acted L.accepts I.gives (Saw peer last) result self.old self.new }
+        ensures drained { OnOk result (is_drained (links_of (node_of self.old) peer) ≡ true) }
         ensures fault { IfErr result (IsRefusedAs (told_of_loss (node_of self.old) peer last)) }
     {
         if self.log.reserve(1).is_err() {

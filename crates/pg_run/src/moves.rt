@@ -1,6 +1,6 @@
 //! How bytes move between a node and its links. No event happens.
 
-ghost use Rattle.std.specs.Prelude.{◌≡◌, ◌<◌, ◌≤◌, ◌+◌, [], true, false, Err, length, IfOk, IfErr};
+ghost use Rattle.std.specs.Prelude.{◌≡◌, ◌<◌, ◌≤◌, ◌+◌, ◌-◌, ◌^◌, [], true, false, Err, length, min, slice_get, IfOk, IfErr, IfSome};
 
 use crate::linked::LinkedNode;
 use pg_group::GroupTable;
@@ -19,6 +19,8 @@ impl<T: GroupTable + Drop, L: Link + Drop, I: Inlet + Drop> LinkedNode<T, L, I> 
         requires place { peer < length (peers_of self.old) }
         ensures follows { Follows L.accepts I.gives [] self.old self.new }
         ensures count { length (links_of (node_of self.new) peer).outbox + result ≡ length (links_of (node_of self.old) peer).outbox }
+        ensures many { IfSome (slice_get (peers_of self.old) peer)
+            (λ of. L.moves of.link (min (2 ^ 64 - 1) (length (links_of (node_of self.old) peer).outbox)) result) }
     {
         let links = &mut self.peers[peer];
         self.node.put(peer, &mut links.link, usize::MAX)
@@ -33,6 +35,8 @@ impl<T: GroupTable + Drop, L: Link + Drop, I: Inlet + Drop> LinkedNode<T, L, I> 
         requires place { peer < length (peers_of self.old) }
         ensures follows { Follows L.accepts I.gives [] self.old self.new }
         ensures within { IfOk result (λ count. (count ≤ max) × (count ≤ 65536)) }
+        ensures count { IfOk result (λ count. length (links_of (node_of self.new) peer).unread ≡ length (links_of (node_of self.old) peer).unread + count) }
+        ensures many { IfOk result (λ count. IfSome (slice_get (peers_of self.old) peer) (λ of. I.moves of.inlet (min max 65536) count)) }
         ensures lost { has_lost (held_by (node_of self.old)) peer ≡ true → result ≡ Err (Refused NodeLost) }
         ensures damaged { has_lost (held_by (node_of self.old)) peer ≡ false → (links_of (node_of self.old) peer).damaged ≡ true → result ≡ Err Damaged }
         ensures memory { has_lost (held_by (node_of self.old)) peer ≡ false → (links_of (node_of self.old) peer).damaged ≡ false

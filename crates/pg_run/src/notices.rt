@@ -1,6 +1,6 @@
 //! Where a node is told of the losses of its peers.
 
-ghost use Rattle.std.specs.Prelude.{◌≡◌, [], ◌∷◌, IfSome};
+ghost use Rattle.std.specs.Prelude.{◌≡◌, ◌⊎◌, ◌<◌, [], ◌∷◌, length, IfSome, IfNone};
 
 use pg_ring::SlotIn;
 
@@ -24,6 +24,7 @@ pub(crate) struct Notices {
 }
 
 impl Notices {
+    ghost use Rattle.pg_ring.specs.Slots.{slots_left, taken};
     ghost use Rattle.pg_run.specs.Notices.{NoticesGo, inlet_of, kept_of};
 
     /// Where notices come, of which none is to be seen yet. It takes no memory.
@@ -38,6 +39,9 @@ impl Notices {
     pub fn next(&mut self) -> Option<Notice>
         ensures goes { NoticesGo [] self.old self.new }
         ensures some { IfSome result (λ notice. kept_of self.new ≡ notice ∷ []) }
+        ensures none { IfNone result (kept_of self.new ≡ []) }
+        ensures looked { kept_of self.old ≡ []
+            → (slots_left (inlet_of self.new) ≡ []) ⊎ (length (taken (inlet_of self.old)) < length (taken (inlet_of self.new))) }
     {
         match self.next {
             Some(notice) => Some(notice),

@@ -1,7 +1,7 @@
 //! The phases of a turn that are between a node and its peers.
 
-ghost use Rattle.std.specs.Prelude.{◌≡◌, ◌<◌, true, false, length, IfErr, IfSome};
-ghost use Rattle.pg_run.specs.Tries.{IsNoWant};
+ghost use Rattle.std.specs.Prelude.{◌≡◌, ◌⊎◌, ◌<◌, [], true, false, length, IfErr, IfSome, IfNone, IsErrAnd, IsSomeAnd};
+ghost use Rattle.pg_run.specs.Tries.{IsNoWant, IsWant};
 
 use crate::linked::LinkedNode;
 use pg_group::GroupTable;
@@ -36,6 +36,8 @@ impl Phase {
     /// Something happened, or nothing was there to do, or this fault was told.
     pub(crate) fn of(busy: bool, fault: Option<NodeFault>) -> Phase
         ensures no_want { result.whole ≡ true → IfSome fault IsNoWant }
+        ensures want { result.whole ≡ false → IsSomeAnd fault IsWant }
+        ensures none { IfNone fault (result.whole ≡ true) }
         ensures busy { result.busy ≡ busy }
     {
         match fault {
@@ -47,7 +49,10 @@ impl Phase {
     }
 
     /// So many bytes came in, or this fault was told.
-    fn of_pull(pulled: Result<usize, NodeFault>) -> Phase {
+    fn of_pull(pulled: Result<usize, NodeFault>) -> Phase
+        ensures no_want { result.whole ≡ true → IfErr pulled IsNoWant }
+        ensures want { result.whole ≡ false → IsErrAnd pulled IsWant }
+    {
         match pulled {
             Ok(count) => Phase::of(count > 0, None),
             Err(fault) => Phase::of(false, Some(fault)),
@@ -56,7 +61,8 @@ impl Phase {
 
     /// A packet was taken, or none was there, or this fault was told.
     fn of_take(taken: Result<bool, NodeFault>) -> Phase
-        ensures { result.whole ≡ true → IfErr taken IsNoWant }
+        ensures no_want { result.whole ≡ true → IfErr taken IsNoWant }
+        ensures want { result.whole ≡ false → IsErrAnd taken IsWant }
     {
         match taken {
             Ok(happened) => Phase {
@@ -75,6 +81,8 @@ impl Phase {
     pub(crate) fn and(self, other: Phase) -> Phase
         ensures first { result.whole ≡ true → self.whole ≡ true }
         ensures second { result.whole ≡ true → other.whole ≡ true }
+        ensures both { self.whole ≡ true → other.whole ≡ true → result.whole ≡ true }
+        ensures either { result.whole ≡ false → (self.whole ≡ false) ⊎ (other.whole ≡ false) }
     {
         Phase {
             whole: self.whole && other.whole,
@@ -86,13 +94,15 @@ impl Phase {
 impl<T: GroupTable + Drop, L: Link + Drop, I: Inlet + Drop> LinkedNode<T, L, I> {
     ghost use Rattle.pg_run.specs.Follows.{log_of, peers_of};
     ghost use Rattle.pg_run.specs.Logs.{IsTake, LogsOnly};
-    ghost use Rattle.pg_run.specs.Tries.{HasTried, HasTriedAll};
+    ghost use Rattle.pg_run.specs.Tries.{HasPulled, HasPulledAll, HasPutAll, HasTried, HasTriedAll, WasWanting};
     ghost use Rattle.pg_run.specs.Turns.{GoesOn};
 
     /// Of each peer up to 4,096 bytes come in, and the next packet is taken; what it makes the node send is put at once.
     pub(crate) fn take_all(&mut self) -> Phase
         ensures goes { GoesOn L.accepts I.gives self.old self.new }
+        ensures pulled { result.whole ≡ true → HasPulledAll L.accepts I.gives I.moves self.old self.new }
         ensures tried { result.whole ≡ true → HasTriedAll L.accepts I.gives self.old self.new }
+        ensures wanting { result.whole ≡ false → WasWanting L.accepts I.gives self.old self.new }
         ensures logs { LogsOnly IsTake (log_of self.old) (log_of self.new) }
     {
         let mut phase = Phase::idle();
@@ -106,7 +116,9 @@ impl<T: GroupTable + Drop, L: Link + Drop, I: Inlet + Drop> LinkedNode<T, L, I> 
     fn pull_and_take(&mut self, peer: usize) -> Phase
         requires place { peer < length (peers_of self.old) }
         ensures goes { GoesOn L.accepts I.gives self.old self.new }
+        ensures pulled { result.whole ≡ true → HasPulled L.accepts I.gives I.moves peer self.old self.new }
         ensures tried { result.whole ≡ true → HasTried L.accepts I.gives peer self.old self.new }
+        ensures wanting { result.whole ≡ false → WasWanting L.accepts I.gives self.old self.new }
         ensures logs { LogsOnly IsTake (log_of self.old) (log_of self.new) }
     {
         let pulled = Phase::of_pull(self.pull(peer, PULL_LEN));
@@ -121,6 +133,8 @@ impl<T: GroupTable + Drop, L: Link + Drop, I: Inlet + Drop> LinkedNode<T, L, I> 
     pub(crate) fn put_all(&mut self) -> Phase
         ensures goes { GoesOn L.accepts I.gives self.old self.new }
         ensures log { log_of self.new ≡ log_of self.old }
+        ensures put { HasPutAll L.accepts I.gives L.moves self.old self.new }
+        ensures whole { result.whole ≡ true }
     {
         let mut phase = Phase::idle();
         for peer in 0..self.peer_count() {

@@ -1,6 +1,7 @@
 //! A port, at which the commands of a client come in: the client's end, and the node's.
 
-ghost use Rattle.std.specs.Prelude.{◌≡◌, ◌<◌, ◌≤◌, ◌+◌, ◌-◌, ◌^◌, [], ◌∷◌, ◌++◌, min, length, IsTrue, IsFalse, IfOk, IfErr, IfSome, IfNone, OnOk, OnErr};
+ghost use Rattle.std.specs.Prelude.{◌≡◌, ◌<◌, ◌≤◌, ◌+◌, ◌-◌, ◌^◌, [], ◌∷◌, ◌++◌, true, false, min, length, None, Ok, IsTrue, IsFalse, IsOk, IsSome, IfOk, IfErr, IfSome, IfNone, OnOk, OnErr};
+ghost use mathlib.Core.List.{IsPrefix};
 ghost use Rattle.pg_ring.specs.Slots.{taken};
 
 use crate::pauses::Pauses;
@@ -41,16 +42,20 @@ pub struct Port {
 }
 
 impl Client {
-    ghost use Rattle.pg_run.specs.Ports.{SameClient, submitted, polled, polled_count};
+    ghost use Rattle.pg_run.specs.Ports.{SameClient, submitted, polled, polled_count, places_free, answers_left};
 
-    /// Submits a command, with the count of the answers that were polled before it, or hands it back where 64 are on their way;
-    /// then nothing was submitted. It waits for nobody, and takes no memory. O(1).
+    /// Submits a command, with the count of the answers that were polled before it, or hands it back where no place is found to be
+    /// free; then nothing was submitted. It waits for nobody, and takes no memory. O(1).
     pub fn submit(&mut self, command: Command) -> Result<(), Command>
         ensures same { SameClient self.old self.new }
         ensures polled { polled self.new ≡ polled self.old }
         ensures ok { OnOk result (submitted self.new ≡ submitted self.old ++ record { command = command; polled = polled_count self.old } ∷ []) }
+        ensures free { OnOk result (places_free self.old ≤ places_free self.new + 1) }
         ensures back { IfErr result (λ back. back ≡ command) }
         ensures err { OnErr result (submitted self.new ≡ submitted self.old) }
+        ensures full { OnErr result (places_free self.new ≡ 0) }
+        ensures succeeds { 0 < places_free self.old → IsOk result }
+        ensures left { answers_left self.new ≡ answers_left self.old }
     {
         let asked = Asked {
             command,
@@ -62,12 +67,17 @@ impl Client {
         }
     }
 
-    /// The next answer, if one is there. It waits for nobody, and takes no memory. O(1).
+    /// The next answer, or `None` where none is found to be there. It waits for nobody, and takes no memory. O(1).
     pub fn poll(&mut self) -> Option<Answer>
         ensures same { SameClient self.old self.new }
         ensures submitted { submitted self.new ≡ submitted self.old }
         ensures some { IfSome result (λ answer. polled self.new ≡ polled self.old ++ answer ∷ []) }
+        // The answers that are known to be there come first.
+        ensures known { IfSome result (λ answer. IsPrefix (answers_left self.old) (answer ∷ answers_left self.new)) }
         ensures none { IfNone result (polled self.new ≡ polled self.old) }
+        ensures empty { IfNone result (answers_left self.new ≡ []) }
+        ensures succeeds { 0 < length (answers_left self.old) → IsSome result }
+        ensures free { places_free self.new ≡ places_free self.old }
     {
         let answer = self.answers.take_one()?;
         self.polled = self.polled.saturating_add(1);
@@ -76,7 +86,7 @@ impl Client {
 }
 
 impl Port {
-    ghost use Rattle.pg_run.specs.Ports.{SamePort, ForgetsHanded, Hands, HandsNext, GivesNext, KeepsAll, IsServed, asked, handed, kept_by, handed_count};
+    ghost use Rattle.pg_run.specs.Ports.{SamePort, ForgetsHanded, Hands, HandsNext, GivesNext, KeepsAll, KeepsSame, IsServed, asked, handed, kept_by, handed_count, HandsNoMore, HandsAll, HasLookedIn, answers_free, commands_left};
 
     /// The next command, if one is there whose client had polled no more answers than were handed over; else it is kept, if there
     /// is one. It takes no memory.
@@ -86,6 +96,7 @@ impl Port {
         ensures waited { IfSome result (λ next. next.polled ≤ handed_count self.new) }
         ensures none { IfNone result (KeepsAll self.old self.new) }
         ensures served { IfNone result (IsServed self.old self.new) }
+        ensures looked { kept_by self.old ≡ [] → HasLookedIn self.old self.new }
         ensures handed { handed self.new ≡ handed self.old }
         ensures count { handed_count self.new ≡ handed_count self.old }
     {
@@ -104,6 +115,7 @@ impl Port {
         ensures some { IfSome result (GivesNext self.old self.new) }
         ensures none { IfNone result (KeepsAll self.old self.new) }
         ensures kept { kept_by self.new ≡ [] }
+        ensures looked { kept_by self.old ≡ [] → HasLookedIn self.old self.new }
         ensures handed { handed self.new ≡ handed self.old }
         ensures count { handed_count self.new ≡ handed_count self.old }
     {
@@ -117,6 +129,7 @@ impl Port {
     pub(crate) fn keep(&mut self, next: Asked)
         ensures same { SamePort self.old self.new }
         ensures asked { asked self.new ≡ asked self.old }
+        ensures left { commands_left self.new ≡ commands_left self.old }
         ensures kept { kept_by self.new ≡ next ∷ [] }
         ensures handed { handed self.new ≡ handed self.old }
         ensures count { handed_count self.new ≡ handed_count self.old }
@@ -130,7 +143,9 @@ impl Port {
     fn hand(&mut self, alloc: Global, answers: &[Answer]) -> Result<Option<u32>, AllocError>
         ensures hands { Hands answers.now self.old self.new }
         ensures number { IfOk result (λ number. HandsNext number self.old self.new) }
+        ensures none { result ≡ Ok None → HandsNoMore answers.now self.new }
         ensures err { OnErr result (handed self.new ≡ handed self.old) }
+        ensures left { OnErr result (handed_count self.new < length answers.now) }
     {
         let Some(answer) = answers.get(self.handed) else {
             return Ok(None);
@@ -148,10 +163,10 @@ impl Port {
     fn give(&mut self, answer: Answer) -> bool
         requires { handed_count self.old + 1 < 2 ^ 64 }
         ensures same { SamePort self.old self.new }
-        ensures asked { asked self.new ≡ asked self.old }
-        ensures kept { kept_by self.new ≡ kept_by self.old }
+        ensures keeps { KeepsSame self.old self.new }
         ensures yes { IsTrue result → (handed self.new ≡ handed self.old ++ answer ∷ []) × (handed_count self.new ≡ handed_count self.old + 1) }
         ensures no { IsFalse result → (handed self.new ≡ handed self.old) × (handed_count self.new ≡ handed_count self.old) }
+        ensures full { IsFalse result → answers_free self.new ≡ 0 }
     {
         match self.answers.give(answer) {
             Ok(()) => {
@@ -176,6 +191,8 @@ impl Port {
     ) -> Phase
         ensures hands { Hands answers.now self.old self.new }
         ensures forgets { ForgetsHanded place self.old self.new pauses.old pauses.new }
+        ensures all { result.whole ≡ true → HandsAll answers.now self.old self.new }
+        ensures left { result.whole ≡ false → handed_count self.new < length answers.now }
     {
         let mut phase = Phase::idle();
         for _ in 0..PORT_PLACES {

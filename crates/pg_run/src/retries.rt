@@ -6,7 +6,7 @@ ghost use Rattle.pg_run.specs.declared.pauses.Wait.TheVariants.{Tried};
 ghost use Rattle.pg_run.specs.Follows.{log_of, node_of};
 ghost use Rattle.pg_run.specs.Logs.{IsDueRetry, LogsOnly, MayLogRetry};
 ghost use Rattle.pg_run.specs.Pauses.{Waits, is_due, wait_of};
-ghost use Rattle.pg_run.specs.Tries.{HasRetried, waits_at};
+ghost use Rattle.pg_run.specs.Tries.{HasRetried, WasWanting, waits_at};
 ghost use Rattle.pg_run.specs.Turns.{GoesOn};
 ghost use Rattle.pg_step.specs.declared.command.OpId.{OpId};
 ghost use Rattle.pg_step.specs.Attempts.{same_op};
@@ -29,6 +29,7 @@ pub(crate) fn retry_all<T: GroupTable + Drop, L: Link + Drop, I: Inlet + Drop, K
     at_once: bool,
 ) -> Phase
     ensures goes { GoesOn L.accepts I.gives linked.old linked.new }
+    ensures wanting { result.whole ≡ false → WasWanting L.accepts I.gives linked.old linked.new }
     ensures tried { result.whole ≡ true → (op : OpId) → waits_at (node_of linked.old) op ≡ true → is_due at_once (wait_of pauses.old op) ≡ true
         → HasRetried L.accepts I.gives op linked.old linked.new }
     ensures waits { (op : OpId) → waits_at (node_of linked.old) op ≡ true → Waits at_once result.whole (wait_of pauses.old op) (wait_of pauses.new op) }
@@ -51,6 +52,7 @@ fn retry_each<T: GroupTable + Drop, L: Link + Drop, I: Inlet + Drop, K: Rng>(
 ) -> Phase
     requires once { IsDistinct same_op ops.now }
     ensures goes { GoesOn L.accepts I.gives linked.old linked.new }
+    ensures wanting { result.whole ≡ false → WasWanting L.accepts I.gives linked.old linked.new }
     ensures tried { result.whole ≡ true → (k : ℕ) (op : OpId) → slice_get ops.now k ≡ Some op → is_due at_once (wait_of pauses.old op) ≡ true
         → HasRetried L.accepts I.gives op linked.old linked.new }
     ensures waits { (k : ℕ) (op : OpId) → slice_get ops.now k ≡ Some op → Waits at_once result.whole (wait_of pauses.old op) (wait_of pauses.new op) }
@@ -74,6 +76,7 @@ fn retry_when_due<T: GroupTable + Drop, L: Link + Drop, I: Inlet + Drop, K: Rng>
     op: OpId,
 ) -> Phase
     ensures goes { GoesOn L.accepts I.gives linked.old linked.new }
+    ensures wanting { result.whole ≡ false → WasWanting L.accepts I.gives linked.old linked.new }
     ensures tried { result.whole ≡ true → is_due at_once (wait_of pauses.old op) ≡ true → HasRetried L.accepts I.gives op linked.old linked.new }
     ensures waits { Waits at_once result.whole (wait_of pauses.old op) (wait_of pauses.new op) }
     ensures logs { MayLogRetry op pauses.new (log_of linked.old) (log_of linked.new) }
@@ -97,6 +100,7 @@ fn retry_of<T: GroupTable + Drop, L: Link + Drop, I: Inlet + Drop>(
     op: OpId,
 ) -> Phase
     ensures goes { GoesOn L.accepts I.gives linked.old linked.new }
+    ensures wanting { result.whole ≡ false → WasWanting L.accepts I.gives linked.old linked.new }
     ensures tried { result.whole ≡ true → HasRetried L.accepts I.gives op linked.old linked.new }
     ensures waits { (wait_of pauses.new op ≡ wait_of pauses.old op) ⊎ (wait_of pauses.new op ≡ Some Tried) }
     ensures logs { MayLogRetry op pauses.new (log_of linked.old) (log_of linked.new) }

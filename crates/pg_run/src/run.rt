@@ -59,7 +59,7 @@ pub struct NodeRun<T: GroupTable, L: Drop, I: Drop, K: Drop> {
 impl<T: GroupTable + Drop, L: Link + Drop, I: Inlet + Drop, K: Rng + Drop> NodeRun<T, L, I, K> {
     ghost use Rattle.std.specs.Prelude.{[], false};
     ghost use Rattle.pg_run.specs.Notices.{kept_of};
-    ghost use Rattle.pg_run.specs.Tries.{RetriedBy, WholeTurn};
+    ghost use Rattle.pg_run.specs.Tries.{RetriedBy, TurnDid};
     ghost use Rattle.pg_run.specs.Runs.{linked_of, ports_at, stop_of, notices_at, notices_of, busy_of, Runs, TurnedTo};
 
     /// A node that has made no turn. It takes no memory.
@@ -122,8 +122,8 @@ impl<T: GroupTable + Drop, L: Link + Drop, I: Inlet + Drop, K: Rng + Drop> NodeR
     pub fn turn(&mut self) -> Turned
         ensures runs { Runs L.accepts I.gives self.old self.new }
         ensures stop { TurnedTo I.gives (stop_of self.old) result (stop_of self.new) }
-        ensures done { WholeTurn L.accepts I.gives result self.old self.new }
-        ensures retried { RetriedBy L.accepts I.gives result self.old self.new }
+        ensures did { TurnDid L.accepts I.gives L.moves I.moves result self.old self.new }
+        ensures retried { RetriedBy L.accepts I.gives L.moves I.moves result self.old self.new }
     {
         let mut stop = [0u8; 1];
         if self.stop.take(&mut stop) > 0 {

@@ -36,7 +36,7 @@ pub fn run_node<T: GroupTable + Drop, L: Link + Drop, I: Inlet + Drop, K: Rng + 
     ensures runs { Runs L.accepts I.gives run result.run }
     ensures turns { result.turns ≤ limit }
     ensures short { result.short ≤ result.turns }
-    ensures made { RanBy L.accepts I.gives run result }
+    ensures made { RanBy L.accepts I.gives L.moves I.moves run result }
     ensures ended { Ended I.gives (stop_of run) (stop_of result.run) limit result.turns }
 {
     let mut run = run;

@@ -1,12 +1,14 @@
 //! The phases of a turn that are between a node and its clients.
 
-ghost use Rattle.std.specs.Prelude.{◌≡◌, ◌<◌, ◌^◌, true, length};
+ghost use Rattle.std.specs.Prelude.{◌≡◌, ◌<◌, ◌^◌, true, false, length};
 ghost use Rattle.pg_node.specs.Issued.{ports_of};
 ghost use Rattle.pg_node.specs.Nodes.{held_by};
+ghost use Rattle.pg_node.specs.States.{answers_of};
 ghost use Rattle.pg_run.specs.Follows.{log_of, node_of};
 ghost use Rattle.pg_run.specs.Logs.{IsCommand, LogsOnly};
-ghost use Rattle.pg_run.specs.Ports.{IsServed};
-ghost use Rattle.pg_run.specs.Served.{AllForgetHanded, AreServed, IsServedAt, StayBut, KeepTheSame};
+ghost use Rattle.pg_run.specs.Ports.{IsServed, handed_count};
+ghost use Rattle.pg_run.specs.Served.{AllForgetHanded, AreHanded, AreServed, HandNone, IsHandedAt, IsServedAt, LeavesAnswer, LeavesAnswerAt, StayBut, KeepTheSame};
+ghost use Rattle.pg_run.specs.Tries.{WasWanting};
 ghost use Rattle.pg_run.specs.Turns.{Serves, ServesPort};
 
 use crate::linked::LinkedNode;
@@ -25,6 +27,8 @@ pub(crate) fn command_all<T: GroupTable + Drop, L: Link + Drop, I: Inlet + Drop>
     requires { length ports.old.items ≡ ports_of (held_by (node_of linked.old)) }
     ensures serves { Serves L.accepts I.gives linked.old ports.old.items linked.new ports.new.items }
     ensures served { result.whole ≡ true → AreServed ports.old.items ports.new.items }
+    ensures wanting { result.whole ≡ false → WasWanting L.accepts I.gives linked.old linked.new }
+    ensures count { HandNone ports.old.items ports.new.items }
     ensures logs { LogsOnly IsCommand (log_of linked.old) (log_of linked.new) }
 {
     let mut phase = Phase::idle();
@@ -44,6 +48,8 @@ fn command_of<T: GroupTable + Drop, L: Link + Drop, I: Inlet + Drop>(
     requires place { port < length ports.old.items }
     ensures serves { Serves L.accepts I.gives linked.old ports.old.items linked.new ports.new.items }
     ensures served { result.whole ≡ true → port < 2 ^ 16 → IsServedAt port ports.old.items ports.new.items }
+    ensures wanting { result.whole ≡ false → WasWanting L.accepts I.gives linked.old linked.new }
+    ensures count { HandNone ports.old.items ports.new.items }
     ensures others { StayBut port ports.old.items ports.new.items }
     ensures logs { LogsOnly IsCommand (log_of linked.old) (log_of linked.new) }
 {
@@ -63,6 +69,8 @@ fn command_at<T: GroupTable + Drop, L: Link + Drop, I: Inlet + Drop>(
     requires place { place < length ports.old.items }
     ensures serves { Serves L.accepts I.gives linked.old ports.old.items linked.new ports.new.items }
     ensures served { result.whole ≡ true → IsServedAt place ports.old.items ports.new.items }
+    ensures wanting { result.whole ≡ false → WasWanting L.accepts I.gives linked.old linked.new }
+    ensures count { HandNone ports.old.items ports.new.items }
     ensures others { StayBut place ports.old.items ports.new.items }
     ensures logs { LogsOnly IsCommand (log_of linked.old) (log_of linked.new) }
 {
@@ -83,6 +91,8 @@ fn serve<T: GroupTable + Drop, L: Link + Drop, I: Inlet + Drop>(
     requires { place < ports_of (held_by (node_of linked.old)) }
     ensures serves { ServesPort L.accepts I.gives place linked.old port.old linked.new port.new }
     ensures served { result.whole ≡ true → IsServed port.old port.new }
+    ensures wanting { result.whole ≡ false → WasWanting L.accepts I.gives linked.old linked.new }
+    ensures count { handed_count port.new ≡ handed_count port.old }
     ensures logs { LogsOnly IsCommand (log_of linked.old) (log_of linked.new) }
 {
     match port.next() {
@@ -107,6 +117,8 @@ pub(crate) fn hand_all<T: GroupTable + Drop, L: Link + Drop, I: Inlet + Drop>(
     requires { length ports.old.items ≡ ports_of (held_by (node_of linked.now)) }
     ensures serves { Serves L.accepts I.gives linked.now ports.old.items linked.now ports.new.items }
     ensures kept { KeepTheSame ports.old.items ports.new.items }
+    ensures all { result.whole ≡ true → AreHanded (answers_of (held_by (node_of linked.now))) ports.old.items ports.new.items }
+    ensures left { result.whole ≡ false → LeavesAnswer (answers_of (held_by (node_of linked.now))) ports.new.items }
     ensures forgets { AllForgetHanded ports.old.items ports.new.items pauses.old pauses.new }
 {
     let mut phase = Phase::idle();
@@ -128,6 +140,9 @@ fn hand_of<T: GroupTable + Drop, L: Link + Drop, I: Inlet + Drop>(
     requires place { port < length ports.old.items }
     ensures serves { Serves L.accepts I.gives linked.now ports.old.items linked.now ports.new.items }
     ensures kept { KeepTheSame ports.old.items ports.new.items }
+    ensures all { result.whole ≡ true → port < 2 ^ 16 → IsHandedAt (answers_of (held_by (node_of linked.now))) port ports.old.items ports.new.items }
+    ensures left { result.whole ≡ false → LeavesAnswerAt (answers_of (held_by (node_of linked.now))) port ports.new.items }
+    ensures others { StayBut port ports.old.items ports.new.items }
     ensures forgets { AllForgetHanded ports.old.items ports.new.items pauses.old pauses.new }
 {
     match u16::try_from(port) {
@@ -148,6 +163,9 @@ fn hand_at<T: GroupTable + Drop, L: Link + Drop, I: Inlet + Drop>(
     requires place { place < length ports.old.items }
     ensures serves { Serves L.accepts I.gives linked.now ports.old.items linked.now ports.new.items }
     ensures kept { KeepTheSame ports.old.items ports.new.items }
+    ensures all { result.whole ≡ true → IsHandedAt (answers_of (held_by (node_of linked.now))) place ports.old.items ports.new.items }
+    ensures left { result.whole ≡ false → LeavesAnswerAt (answers_of (held_by (node_of linked.now))) place ports.new.items }
+    ensures others { StayBut place ports.old.items ports.new.items }
     ensures forgets { AllForgetHanded ports.old.items ports.new.items pauses.old pauses.new }
 {
     let answers = linked.node().state().answers(place);

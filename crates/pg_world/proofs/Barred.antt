@@ -1,5 +1,5 @@
 -- Steps that are refused where nodes may be lost, and what comes of those that know of no loss.
-use Rattle.std.proofs.Common.{◌≡◌, ◌≢◌, ℕ, ◌+◌, ◌-◌, ◌<◌, ◌≤◌, Bool, true, false, not, ◌&&◌, ◌||◌, cond, nat_eq, nat_lt, map, length, get_or, List, [], ◌∷◌, ◌++◌, Option, Some, None, Result, Ok, Err, refl, sym, ap, ◌∙◌, inl, inr, ◌⊎◌, arith, subst}
+use Rattle.std.proofs.Common.{◌≡◌, ℕ, ◌+◌, ◌-◌, ◌<◌, ◌≤◌, Bool, true, false, not, ◌&&◌, ◌||◌, cond, nat_eq, nat_lt, map, length, get_or, List, [], ◌∷◌, ◌++◌, Some, None, Result, Ok, Err, refl, sym, ap, ◌∙◌, inl, inr, ◌⊎◌, arith, subst}
 use Rattle.std.specs.Prelude.{slice_get, OnErr}
 use Rattle.std.specs.Option.{option_map_or}
 use Rattle.std.proofs.lemmas.Bool.{lt-ltb}
@@ -17,7 +17,7 @@ use Rattle.pg_step.specs.FrameMachine.{frame_machine, losing_frame_machine, last
 use Rattle.pg_step.specs.LossLaws.{LosingFrameWorld, is_drained, clock_after}
 use Rattle.pg_step.specs.Nodes.{Node, Nodes}
 use Rattle.pg_step.specs.State.{State}
-use Rattle.pg_step.specs.Step.{Action, Issue, Retry, TimedTurn, step_take, step_act}
+use Rattle.pg_step.specs.Step.{Action, Issue, Retry, step_take, step_act}
 use Rattle.pg_step.specs.StepLaws.{refusal_of, port_of, is_full}
 use Rattle.pg_step.specs.declared.refusal.Refusal.{Refusal}
 use Rattle.pg_step.specs.declared.refusal.Refusal.TheVariants.{NoSuchPlace, NodeLost, NotLost, NotDrained, ClockFull}

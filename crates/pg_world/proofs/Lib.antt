@@ -7,13 +7,15 @@ mod Deciding
 mod Dropped
 mod Fitted
 mod Harmless
-mod Idle
+mod Leading
 mod Linked
 mod Listed
 mod LosingRunning
 mod Lossy
+pub mod OneList
 mod Opened
 pub mod Ordered
+pub mod OrderedOnce
 mod Passing
 mod Past
 pub mod Peering
@@ -24,6 +26,7 @@ mod Rowed
 mod Running
 mod Seeing
 mod Sending
+mod Sets
 mod Shortened
 mod Sighted
 mod Starting

@@ -13,7 +13,6 @@ use Rattle.pg_message.specs.declared.packet.Packet.{Packet}
 use Rattle.pg_machine.specs.Places.{is_pair}
 use Rattle.pg_machine.specs.Machine.{Take, Do}
 use Rattle.pg_frame.specs.Pieces.{put, pull}
-use Rattle.pg_step.specs.Config.{Config}
 use Rattle.pg_step.specs.Step.{Action}
 use Rattle.pg_node.specs.declared.node.Node.{Node}
 use Rattle.pg_node.specs.declared.state.fault.NodeFault.{NodeFault}
@@ -354,6 +353,11 @@ crossing_same nodes rings i x node node2 row row2 l at lx here held links bytes 
   links = map_same links_of nodes i node node2 l at links j;
   rings = map_same bytes_of rings x row row2 lx here bytes j;
 }
+
+-- a node that is seen as before
+pub nodes_kept : {T : Type 0} {g : Ghosts T} (nodes : List (Node T g)) (i : ℕ) (node node2 : Node T g) → i < length nodes → node ≡ get_or nodes i node → node_of node2 ≡ node_of node
+    → map node_of (slice_set nodes i node2) ≡ map node_of nodes
+nodes_kept nodes i node node2 l at seen = map_same node_of nodes i node node2 l at seen
 
 pub node_same : {T : Type 0} {g : Ghosts T} (nodes : List (Node T g)) (rings : List Rings) (i : ℕ) (node node2 : Node T g) → i < length nodes → node ≡ get_or nodes i node
     → node_of node2 ≡ node_of node → links_of node2 ≡ links_of node → crossing_in (slice_set nodes i node2) rings ≡ crossing_in nodes rings

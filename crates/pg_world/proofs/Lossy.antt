@@ -9,12 +9,11 @@ use Rattle.pg_machine.specs.Places.{is_pair}
 use Rattle.pg_machine.specs.Machine.{Event, Input, Turn, World, Take, Do, Taken, Own, node_of, first_from, input_of, without_input, perform, happens}
 use Rattle.pg_machine.specs.Happened.{Happened, Changes, Takes}
 use Rattle.pg_machine.specs.Clocked.{Timed, Stamped, unstamped, next_clock, timed_turn, timed}
-use Rattle.pg_machine.specs.Losing.{Noticed, LosingWorld, Step, losing_happens, mapped_turn}
+use Rattle.pg_machine.specs.Losing.{Noticed, Step, losing_happens, mapped_turn}
 use Rattle.pg_machine.proofs.Options.{some_is}
 use Rattle.pg_machine.proofs.Steps.{changes, turn_changes, happens_so}
 use Rattle.pg_step.specs.Config.{Config, name_at}
 use Rattle.pg_step.specs.FrameMachine.{node_step, frame_machine, losing_frame_machine, last_notice, sent_packet}
-use Rattle.pg_step.specs.Nodes.{Node}
 use Rattle.pg_step.specs.State.{State}
 use Rattle.pg_step.specs.Step.{CLOCK_LIMIT, Action}
 use Rattle.pg_step.specs.Turns.{Report}

@@ -1,11 +1,11 @@
 -- A packet that a node takes off the bytes that came.
-use Rattle.std.proofs.Common.{◌≡◌, ◌≢◌, ◌+◌, ℕ, Bool, true, false, ◌||◌, cond, nat_eq, map, length, List, [], ◌∷◌, ◌++◌, Option, Some, None, Result, Ok, Err, refl, sym, ap, ◌∙◌, inl, inr, ◌⊎◌, subst}
+use Rattle.std.proofs.Common.{◌≡◌, ◌≢◌, ◌+◌, ℕ, Bool, true, false, ◌||◌, cond, nat_eq, map, length, List, [], ◌∷◌, Option, Some, None, Result, Ok, Err, refl, sym, ap, ◌∙◌, inl, inr, ◌⊎◌, subst}
 use Rattle.std.specs.Prelude.{slice_get, slice_set}
 use Rattle.std.specs.List.{AllByRecursion}
 use Rattle.std.proofs.Math.Path.{fun_ext}
 use Rattle.std.proofs.lemmas.Bool.{cases_eq, eqb-true}
 use Rattle.pg_frame.specs.declared.fault.TooLong.{TooLong}
-use Rattle.pg_frame.specs.Frames.{front_of, too_long}
+use Rattle.pg_frame.specs.Frames.{front_of}
 use Rattle.pg_group.specs.Functions.{upd}
 use Rattle.pg_message.specs.declared.fault.MessageFault.{MessageFault}
 use Rattle.pg_message.specs.declared.message.Message.{Message}
@@ -14,7 +14,7 @@ use Rattle.pg_message.specs.Reading.{packet_spelled}
 use Rattle.pg_machine.specs.Places.{is_pair}
 use Rattle.pg_machine.specs.Machine.{Event, Take, Do}
 use Rattle.pg_machine.specs.Clocked.{Timed, Stamped}
-use Rattle.pg_frame.specs.Pieces.{Bytes, taken as bytes_taken}
+use Rattle.pg_frame.specs.Pieces.{taken as bytes_taken}
 use Rattle.pg_opens.specs.Places.{whole_in, name_at as place_name}
 use Rattle.pg_step.specs.declared.answer.Answer.{Answer}
 use Rattle.pg_step.specs.declared.refusal.Refusal.{Refusal}
@@ -37,7 +37,7 @@ use Rattle.pg_world.specs.Histories.{asked_by}
 use Rattle.pg_world.specs.Views.{Seen, Account, peer_place}
 use Rattle.pg_world.specs.Worlds.{TimedFrameWorld, ComesTo}
 use Rattle.pg_world.proofs.Crossed.{Acts, all_short, event_shown}
-use Rattle.pg_world.proofs.Past.{Adds, FirstOnWay, ReadsFirst, ReadsLawful}
+use Rattle.pg_world.proofs.Past.{Adds, ReadsFirst, ReadsLawful}
 use Rattle.pg_world.proofs.Recording.{Grew, updates_after}
 use Rattle.pg_world.proofs.Turning.{Left, pair_turned, pair_there, own_left, own_refused, taken_refused, taken_told, take_left}
 

@@ -1,5 +1,5 @@
 -- What is on the way between two nodes of which some are lost, as bytes move, are sent, are taken and are cut off.
-use Rattle.std.proofs.Common.{◌≡◌, ◌≢◌, ℕ, Bool, true, false, take, map, length, List, [], ◌∷◌, ◌++◌, Some, Ok, Err, refl, sym, ap, ◌∙◌, subst}
+use Rattle.std.proofs.Common.{◌≡◌, ◌≢◌, ℕ, Bool, true, false, List, ◌∷◌, ◌++◌, Some, Ok, Err}
 use Rattle.pg_frame.specs.Frames.{front_of, too_long}
 use Rattle.pg_message.specs.declared.packet.Packet.{Packet}
 use Rattle.pg_frame.specs.Pieces.{Bytes, ArePackets, AreShort, AreCut, FirstPacket, FirstOfCut, frames_of, put, pull, sent as bytes_sent, taken as bytes_taken}

@@ -1,6 +1,6 @@
 -- Steps that are made one after another.
 use Rattle.std.proofs.Common.{◌≡◌, ℕ, ◌+◌, ◌<◌, List, [], ◌∷◌, ◌++◌, Ok, Err, Result, take, length, get_or, refl, sym, ap, ◌∙◌, inl, inr, subst}
-use Rattle.std.specs.Prelude.{slice_set, not, Bool, true, false, Option, Some}
+use Rattle.std.specs.Prelude.{slice_set, not, Bool, true, false, Some}
 use Rattle.std.specs.List.{IsDistinct, AllPass}
 use Rattle.std.proofs.lemmas.List.{take_more, take_more_set}
 use Rattle.std.proofs.Math.Seq.{take-length}

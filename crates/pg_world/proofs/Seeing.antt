@@ -1,5 +1,5 @@
 -- What a world of packets shows once a node would see the loss of a peer.
-use Rattle.std.proofs.Common.{◌≡◌, ◌≢◌, ℕ, ◌+◌, ◌<◌, Bool, true, false, not, ◌&&◌, ◌||◌, cond, max, nat_le, map, length, get_or, List, [], ◌∷◌, ◌++◌, Option, Some, None, Result, Ok, Err, refl, sym, ap, ◌∙◌, subst}
+use Rattle.std.proofs.Common.{◌≡◌, ℕ, ◌+◌, Bool, true, false, not, ◌&&◌, ◌||◌, cond, nat_le, map, length, List, [], ◌∷◌, ◌++◌, Option, Some, Ok, Err, refl, sym, ap, ◌∙◌, subst}
 use Rattle.std.specs.Prelude.{slice_get, slice_set}
 use Rattle.std.proofs.lemmas.List.{map-set}
 use Rattle.pg_group.specs.declared.table.GroupTable.{Ghosts}
@@ -14,7 +14,6 @@ use Rattle.pg_step.specs.Config.{Config, names_of, name_at}
 use Rattle.pg_step.specs.Faults.{first_that_holds}
 use Rattle.pg_step.specs.FrameMachine.{last_notice, sent_packet}
 use Rattle.pg_step.specs.LossLaws.{LosingFrameWorld, is_drained, clock_after, see_refusal}
-use Rattle.pg_step.specs.Nodes.{Node}
 use Rattle.pg_step.specs.State.{State}
 use Rattle.pg_step.specs.Step.{CLOCK_LIMIT, TimedTurn, at_clock, timed}
 use Rattle.pg_step.specs.StepLaws.{is_full}

@@ -1,5 +1,5 @@
 -- What is left where a node has seen the loss of a peer.
-use Rattle.std.proofs.Common.{◌≡◌, ◌≢◌, ℕ, ◌+◌, ◌<◌, Bool, true, false, not, ◌&&◌, ◌||◌, cond, max, nat_le, map, drop, length, List, [], ◌∷◌, ◌++◌, Option, Some, None, Result, Ok, Err, refl, sym, ap, ◌∙◌, inl, inr, ◌⊎◌, arith, subst}
+use Rattle.std.proofs.Common.{◌≡◌, ◌≢◌, ℕ, ◌+◌, ◌<◌, Bool, true, false, not, ◌&&◌, cond, max, nat_le, map, drop, length, List, [], ◌∷◌, ◌++◌, Some, None, refl, sym, ap, ◌∙◌, inl, inr, ◌⊎◌, arith, subst}
 use Rattle.std.specs.Prelude.{slice_get, slice_set, option_map}
 use Rattle.std.specs.List.{IsDistinct}
 use Rattle.std.proofs.Math.Path.{fun_ext}
@@ -9,29 +9,23 @@ use Rattle.pg_term.specs.Same.{same_atom}
 use Rattle.pg_group.specs.Functions.{upd}
 use Rattle.pg_message.specs.declared.message.Message.{Message}
 use Rattle.pg_machine.specs.Places.{is_place, is_pair}
-use Rattle.pg_machine.specs.Machine.{Event, Turn, Input, World, Take, Do, Taken, Own, first_from, without_input, perform, happens}
+use Rattle.pg_machine.specs.Machine.{Event, Turn, World, Take, Do, Taken, Own, first_from, without_input, perform, happens}
 use Rattle.pg_machine.specs.Happened.{Changes}
 use Rattle.pg_machine.specs.Clocked.{Timed, Stamped, stamped, timed_turn, timed as timed_if}
-use Rattle.pg_machine.specs.Losing.{Noticed, Sent, Last, Step, losing_happens, mapped_turn}
+use Rattle.pg_machine.specs.Losing.{Noticed, Sent, Step, losing_happens, mapped_turn}
 use Rattle.pg_machine.proofs.Steps.{turn_changes, happens_so}
-use Rattle.pg_step.specs.declared.command.OpId.{OpId}
-use Rattle.pg_step.specs.declared.answer.Answer.{Answer}
-use Rattle.pg_step.specs.declared.refusal.Refusal.{Refusal}
-use Rattle.pg_step.specs.declared.refusal.Refusal.TheVariants.{NoSuchPlace, NodeLost, NotLost, NotDrained, ClockFull}
-use Rattle.pg_step.specs.Config.{Config, names_of, name_at, nodes_at}
-use Rattle.pg_step.specs.Faults.{first_that_holds}
-use Rattle.pg_step.specs.FrameMachine.{losing_frame_machine, last_notice, sent_packet, see_step, place_turn}
+use Rattle.pg_step.specs.Config.{Config, names_of, name_at}
+use Rattle.pg_step.specs.FrameMachine.{losing_frame_machine, last_notice, sent_packet, place_turn}
 use Rattle.pg_step.specs.Losses.{see_loss}
-use Rattle.pg_step.specs.LossLaws.{is_drained, clock_after}
 use Rattle.pg_step.specs.Nodes.{Node}
 use Rattle.pg_step.specs.State.{State}
-use Rattle.pg_step.specs.Step.{CLOCK_LIMIT, Action, Retry, TimedTurn, at_clock, timed}
-use Rattle.pg_step.specs.StepLaws.{is_full, place_timed}
+use Rattle.pg_step.specs.Step.{CLOCK_LIMIT, Action, Retry, TimedTurn, at_clock}
+use Rattle.pg_step.specs.StepLaws.{place_timed}
 use Rattle.pg_step.specs.Turns.{Report, NodeTurn}
 use Rattle.pg_opens.proofs.Named.{atom_self, names_differ}
 use Rattle.pg_node.specs.declared.state.done.Done.{Done}
-use Rattle.pg_node.specs.States.{Happens, step_see_loss}
-use Rattle.pg_world.specs.Losing.{SeenAreLost, notices, losing_of, ShowsLosing, LosingLed}
+use Rattle.pg_node.specs.States.{Happens}
+use Rattle.pg_world.specs.Losing.{SeenAreLost, notices, losing_of}
 use Rattle.pg_world.specs.Losses.{is_lost}
 use Rattle.pg_world.specs.Views.{Seen, Account}
 use Rattle.pg_world.specs.Worlds.{TimedFrameWorld, ShowsNodes, ShowsUpdates}

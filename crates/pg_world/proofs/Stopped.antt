@@ -1,14 +1,13 @@
 -- What is left where a node is lost.
 use Rattle.std.proofs.Common.{◌≡◌, ◌≢◌, ℕ, zero, suc, ◌+◌, ◌-◌, ◌<◌, ◌≤◌, Bool, true, false, not, ◌&&◌, ◌||◌, cond, nat_eq, nat_lt, nat_le, map, take, length, get_or, List, [], ◌∷◌, ◌++◌, Option, Some, None, refl, sym, ap, ◌∙◌, inl, inr, ◌⊎◌, arith, subst}
-use Rattle.std.specs.Prelude.{slice_get}
 use Rattle.std.proofs.Math.Path.{fun_ext}
-use Rattle.std.proofs.lemmas.Bool.{cases_eq, eq-eqb, ne_eqb, eqb-true, leb-true, le-leb, lt-ltb, ltb-true}
-use Rattle.std.proofs.lemmas.List.{append-nil, length-append, length-map, take-map}
+use Rattle.std.proofs.lemmas.Bool.{cases_eq, eq-eqb, ne_eqb, leb-true, le-leb, lt-ltb, ltb-true}
+use Rattle.std.proofs.lemmas.List.{append-nil, length-map, take-map}
 use Rattle.pg_message.specs.declared.message.Message.{Message}
-use Rattle.pg_machine.specs.Places.{is_place, is_pair, set_at}
+use Rattle.pg_machine.specs.Places.{is_pair, set_at}
 use Rattle.pg_machine.specs.Machine.{World}
 use Rattle.pg_machine.specs.Clocked.{Timed, Stamped}
-use Rattle.pg_machine.specs.Losing.{Noticed, LosingWorld, Lose, losing_happens, each_place, can_keep, stopped}
+use Rattle.pg_machine.specs.Losing.{Noticed, Lose, losing_happens, each_place, can_keep, stopped}
 use Rattle.pg_machine.proofs.Places.{set_at_here, set_at_other}
 use Rattle.pg_step.specs.declared.refusal.Refusal.{Refusal}
 use Rattle.pg_step.specs.declared.refusal.Refusal.TheVariants.{NoSuchPlace, NodeLost}
@@ -16,10 +15,9 @@ use Rattle.pg_step.specs.Config.{Config, name_at}
 use Rattle.pg_step.specs.Faults.{first_that_holds}
 use Rattle.pg_step.specs.FrameMachine.{losing_frame_machine, last_notice, sent_packet}
 use Rattle.pg_step.specs.LossLaws.{LosingFrameWorld}
-use Rattle.pg_step.specs.Nodes.{Node}
 use Rattle.pg_step.specs.State.{State}
 use Rattle.pg_step.specs.Turns.{Report}
-use Rattle.pg_world.specs.Losing.{SeenAreLost, notices, losing_of, keep_of, loss_refusal}
+use Rattle.pg_world.specs.Losing.{SeenAreLost, losing_of, keep_of, loss_refusal}
 use Rattle.pg_world.specs.Losses.{is_lost}
 use Rattle.pg_world.specs.Views.{Seen, View, Account, CanStay, peer_place, place_of_peer, on_the_way}
 use Rattle.pg_world.specs.Worlds.{TimedFrameWorld, Shows, ShowsNodes, ShowsUpdates}

@@ -1,6 +1,6 @@
 -- What a world is seen as where one of its nodes, or what is on the way from it, is another.
 use Rattle.std.proofs.Common.{◌≡◌, ◌≢◌, ℕ, ◌+◌, ◌<◌, Bool, true, false, IsTrue, Bor, map, get_or, length, List, [], ◌++◌, Option, Some, None, refl, sym, ap, ◌∙◌, inl, inr, ◌⊎◌, arith, subst}
-use Rattle.std.specs.Prelude.{slice_get, slice_set, not}
+use Rattle.std.specs.Prelude.{slice_get, slice_set, not, is_none}
 use Rattle.std.specs.Option.{is_some, option_copied}
 use Rattle.std.proofs.lemmas.Bool.{cases_eq}
 use Rattle.std.proofs.lemmas.Option.{slice_get_read}
@@ -142,6 +142,12 @@ module _ {T : Type 0} {g : Ghosts T} (nodes : List (NodeState T g)) (outs outs1 
   way_as x k = ap (λ (v : Traffic). way_at v x k) same
 
 -- a lock that a node is seen to leave free
+pub none_is : (o : Option (Bor RefParts)) (b : Bool) → is_some o ≡ not b → (held : Option RefParts) → option_copied o ≡ held → b ≡ is_none held
+none_is None true e held is = ap is_none is
+none_is None false e held is = absurd (cc)
+none_is (Some r) true e held is = absurd (cc)
+none_is (Some r) false e held is = ap is_none is
+
 pub none_held : (o : Option (Bor RefParts)) (b : Bool) → is_some o ≡ not b → (held : Option RefParts) → option_copied o ≡ held → (IsTrue b → held ≡ None) × (held ≡ None → IsTrue b)
 none_held None true e held is = (λ t. sym is, λ n. refl)
 none_held None false e held is = absurd (cc)

@@ -1,4 +1,6 @@
+pub mod Chained
 pub mod Drained
+pub mod Leading
 pub mod Lost
 pub mod Opened
 pub mod Past

@@ -1,10 +1,10 @@
 -- Worlds over bytes whose nodes may be lost: the world with losses that they show, and what a step makes of it.
-use Rattle.std.specs.Prelude.{◌≡◌, ℕ, true, ◌||◌, cond, length, List, Option, Some, None, Result, Ok, Err}
+use Rattle.std.specs.Prelude.{◌≡◌, ℕ, ◌||◌, cond, length, List, Option, Some, None, Result, Ok, Err}
 use Rattle.pg_machine.specs.Places.{is_place, is_pair}
 use Rattle.pg_machine.specs.Losing.{LosingEvent, Lose}
 use Rattle.pg_step.specs.declared.refusal.Refusal.{Refusal}
 use Rattle.pg_step.specs.declared.refusal.Refusal.TheVariants.{NoSuchPlace, NodeLost, NotDrained}
-use Rattle.pg_step.specs.Config.{Config, name_at}
+use Rattle.pg_step.specs.Config.{Config}
 use Rattle.pg_step.specs.LossLaws.{LosingFrameWorld}
 use Rattle.pg_step.specs.Step.{Action, Issue, Retry}
 use Rattle.pg_history.specs.WithLosses.{has_seen}
@@ -19,7 +19,6 @@ use Rattle.pg_world.specs.declared.step.Stepped.{Stepped}
 use Rattle.pg_world.specs.declared.step.Stepped.TheVariants.{Nothing, Moved, Gone}
 use Rattle.pg_world.specs.Crossings.{Crossing, ShowsBytesPast}
 use Rattle.pg_world.specs.Losing.{SeenAreLost, Telling, losing_of, told_take, told_own, told_sight, LosingLed, LosingComesTo}
-use Rattle.pg_world.specs.Losses.{is_lost}
 use Rattle.pg_world.specs.Views.{Account}
 use Rattle.pg_world.specs.Worlds.{TimedFrameWorld}
 

@@ -1,5 +1,5 @@
 -- How a world of bytes begins: what each node tells stands in the outboxes to its peers.
-use Rattle.std.specs.Prelude.{◌≡◌, ◌<◌, ◌-◌, ℕ, List, [], length, replicate}
+use Rattle.std.specs.Prelude.{◌≡◌, ◌<◌, ◌-◌, ℕ, [], length, replicate}
 use Rattle.pg_machine.specs.Machine.{start_of}
 use Rattle.pg_step.specs.Config.{Config}
 use Rattle.pg_step.specs.FrameMachine.{frame_machine}

@@ -50,9 +50,10 @@ abbrev pub HasNone : Crossing → Event Action → Type 0
 HasNone crossing (Take i p) = next_packet (link_at crossing i p) ≡ Ok None
 HasNone crossing (Do i action) = ⊥
 
--- an event changes its node alone, and nothing is told only where no whole frame has come
+-- An event changes its node alone. Nothing is told only where no whole frame has come, and where it is refused no node changes.
 abbrev pub EventChanges : Crossing → Crossing → Event Action → Result Stepped NodeFault → Type 0
 EventChanges old new e (Ok Nothing) = HasNone old e × ChangesAlone (place_of e) old new
+EventChanges old new e (Err fault) = (new.nodes ≡ old.nodes) × ChangesAlone (place_of e) old new
 EventChanges old new e result = ChangesAlone (place_of e) old new
 
 -- what seeing a loss changes: its node alone, and nothing where it is refused

@@ -29,7 +29,7 @@ use Rattle.pg_world.specs.declared.step.Step.{Step}
 use Rattle.pg_world.specs.declared.step.Step.TheVariants as steps
 use Rattle.pg_world.specs.declared.step.Stepped.{Stepped}
 use Rattle.pg_world.specs.declared.step.Stepped.TheVariants.{Nothing, Moved, Happened}
-use Rattle.pg_world.specs.declared.bytes.World.{World}
+use Rattle.pg_world.specs.declared.bytes.ByteNodes.{ByteNodes}
 use Rattle.pg_world.specs.Losses.{is_lost}
 use Rattle.pg_world.specs.Views.{Seen, Account, seen_of, peer_place}
 use Rattle.pg_world.specs.Worlds.{TimedFrameWorld, ShowsNodes, ShowsUpdates, IsUnseen, is_loss, told}
@@ -53,11 +53,11 @@ node_of node = seen_of (held_by node)
 abbrev pub crossing_in : {T : Type 0} {g : Ghosts T} → List (Node T g) → List Rings → Crossing
 crossing_in nodes rings = record { nodes = map node_of nodes; links = map links_of nodes; rings = map bytes_of rings }
 
-abbrev pub crossing_of : {T : Type 0} {g : Ghosts T} → World T g → Crossing
+abbrev pub crossing_of : {T : Type 0} {g : Ghosts T} → ByteNodes T g → Crossing
 crossing_of world = crossing_in world.nodes.items world.rings.items
 
 -- how much room each ring has, in bytes
-abbrev pub room_of : {T : Type 0} {g : Ghosts T} → World T g → ℕ
+abbrev pub room_of : {T : Type 0} {g : Ghosts T} → ByteNodes T g → ℕ
 room_of world = world.ring
 
 -- nodes between which the rings are empty

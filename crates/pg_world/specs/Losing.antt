@@ -25,7 +25,7 @@ use Rattle.pg_world.specs.declared.step.FrameStep.{FrameStep}
 use Rattle.pg_world.specs.declared.step.FrameStep.TheVariants as steps
 use Rattle.pg_world.specs.declared.step.Stepped.{Stepped}
 use Rattle.pg_world.specs.declared.step.Stepped.TheVariants.{Nothing, Happened, Gone}
-use Rattle.pg_world.specs.declared.world.FrameWorld.{FrameWorld}
+use Rattle.pg_world.specs.declared.world.FrameNodes.{FrameNodes}
 use Rattle.pg_world.specs.Losses.{is_lost, lost_in}
 use Rattle.pg_world.specs.Views.{Seen, View, peer_place}
 use Rattle.pg_world.specs.Worlds.{TimedFrameWorld, Shows}
@@ -62,7 +62,7 @@ pub record ShowsLosing (config : Config) (view : View) (lost : List ℕ) (u : Lo
 -- ---- what a world knows of its losses
 
 -- the nodes of a world that are lost
-abbrev pub lost_of : {T : Type 0} {g : Ghosts T} → FrameWorld T g → List ℕ
+abbrev pub lost_of : {T : Type 0} {g : Ghosts T} → FrameNodes T g → List ℕ
 lost_of world = lost_in world.losses
 
 -- node i has seen the loss of node p

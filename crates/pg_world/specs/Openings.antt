@@ -7,7 +7,8 @@ use Rattle.pg_message.specs.Members.{HasFewMembers}
 use Rattle.pg_group.specs.Table.{Table}
 use Rattle.pg_exchange.specs.GroupList.{GroupList, IsSnapshot, announced_names}
 use Rattle.pg_message.specs.declared.packet.Packet.{Packet}
-use Rattle.pg_step.specs.Config.{Config, names_of, groups_at, made_at}
+use Rattle.pg_ring.specs.Capacity.{IsCapacity}
+use Rattle.pg_step.specs.Config.{Config, IsConfig, names_of, groups_at, made_at}
 use Rattle.pg_opens.specs.Places.{name_at}
 use Rattle.pg_node.specs.declared.state.fault.NodeFault.{NodeFault}
 use Rattle.pg_node.specs.declared.state.fault.NodeFault.TheVariants as faults
@@ -67,6 +68,14 @@ are_few groups = list_all (λ group. nat_le (length group.1) 4294967296) groups
 
 abbrev pub have_few : Config → Bool
 have_few config = list_all (λ start. are_few start.groups) config
+
+-- A world of a configuration, whose rings have this capacity, can begin unless memory runs out: the configuration is one, and what each
+-- node tells of its groups fits into a frame, with at most 2^32 members of each group.
+pub record CanBegin (ring : ℕ) (given : Config) : Type 0 where
+  pub good : IsConfig given
+  pub capacity : IsCapacity ring
+  pub fits : AllFit given
+  pub few : have_few given ≡ true
 
 -- one of them takes more, or one of its groups has more than 2^32 members, each of which takes some bytes
 abbrev pub SomeIsTooLong : Config → Type 0

@@ -1,8 +1,10 @@
 -- The ends that are pending: each is one that the home of its process has and another node has not. Of lost nodes nothing counts.
-use Rattle.std.specs.Prelude.{◌≡◌, ℕ, zero, suc, ◌+◌, Bool, true, false, not, ◌&&◌, cond, length, map, List, [], ◌∷◌, ◌++◌}
+use Rattle.std.specs.Prelude.{◌≡◌, ℕ, zero, suc, ◌+◌, Bool, true, false, not, ◌&&◌, cond, drop, is_none, length, map, slice_get, List, [], ◌∷◌, ◌++◌, Some}
 use Rattle.std.specs.Borrow.{Bor}
-use Rattle.std.specs.List.{filter, list_any}
+use Rattle.std.specs.List.{filter, list_all, list_any}
+use Rattle.std.specs.Option.{option_map_or}
 use Rattle.pg_term.specs.declared.pid.Pid.{Pid}
+use Rattle.pg_term.specs.declared.term.Term.{Term}
 use Rattle.pg_group.specs.declared.table.GroupTable.{Ghosts}
 use Rattle.pg_ends.specs.Numbers.{pid_of}
 use Rattle.pg_machine.specs.Places.{is_place}
@@ -72,3 +74,18 @@ pending_among left (home ∷ homes) = pending_at left home ++ pending_among left
 -- The ends that are pending where nodes are as they are seen, of which these are lost: home by home, and at each by number.
 abbrev pub pending_of : List Seen → List ℕ → List Pid
 pending_of nodes lost = pending_among (nodes_left nodes lost) (nodes_left nodes lost)
+
+-- ---- what nodes agree on, as they are seen
+
+-- a node that has seen no loss has formed: it took the exchange of each of its peers, who stand behind its own name
+abbrev pub has_formed : Seen → Bool
+has_formed node = list_all node.state.state.merged (drop 1 node.names)
+
+-- the node at a place sees the lock of a group free
+abbrev pub sees_free : List Seen → ℕ → Term → Bool
+sees_free nodes x name = option_map_or (λ node. is_none (node.state.state.locks name)) (slice_get nodes x) false
+
+-- formed nodes have the same of a group
+abbrev pub AgreeOn : List Seen → Term → Type 0
+AgreeOn nodes name = (i j : ℕ) (one other : Seen) → slice_get nodes i ≡ Some one → slice_get nodes j ≡ Some other → has_formed one ≡ true → has_formed other ≡ true
+    → one.state.state.table name ≡ other.state.state.table name

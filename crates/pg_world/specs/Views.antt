@@ -1,5 +1,5 @@
 -- What nodes and the packets on the way between them are seen as.
-use Rattle.std.specs.Prelude.{◌≡◌, ℕ, ◌+◌, ◌-◌, ◌<◌, ◌≤◌, cond, nat_eq, nat_lt, map, length, replicate, get_or, slice_get, List, [], ◌∷◌, ◌++◌, Option, Some, None}
+use Rattle.std.specs.Prelude.{◌≡◌, ℕ, ◌+◌, ◌-◌, ◌<◌, ◌≤◌, cond, nat_eq, nat_lt, map, length, get_or, slice_get, List, [], ◌∷◌, ◌++◌, Option, Some, None}
 use Rattle.std.specs.VecDeque.{deque_len, deque_capacity}
 use Rattle.pg_term.specs.declared.term.Term.{Term}
 use Rattle.pg_group.specs.declared.table.GroupTable.{Ghosts}
@@ -92,10 +92,6 @@ pub record View : Type 0 where
 -- a world where nothing has begun
 abbrev pub fresh_view : Traffic → View
 fresh_view traffic = record { traffic = traffic; account = no_account }
-
--- nodes between which nothing is on the way, and at which nothing has begun
-abbrev pub idle_view : {T : Type 0} {g : Ghosts T} → List (NodeState T g) → View
-idle_view nodes = fresh_view (record { nodes = map seen_of nodes; ways = replicate (length nodes) (replicate (length nodes - 1) []) })
 
 -- the place of another node among the peers of a node, which are the others in their order
 abbrev pub peer_place : ℕ → ℕ → ℕ

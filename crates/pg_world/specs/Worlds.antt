@@ -25,16 +25,16 @@ use Rattle.pg_node.specs.declared.state.fault.NodeFault.TheVariants.{Refused, Ou
 use Rattle.pg_world.specs.declared.step.FrameStep.{FrameStep}
 use Rattle.pg_world.specs.declared.step.FrameStep.TheVariants as steps
 use Rattle.pg_world.specs.declared.step.Stepped.{Stepped}
-use Rattle.pg_world.specs.declared.step.Stepped.TheVariants.{Nothing, Moved, Happened}
-use Rattle.pg_world.specs.declared.world.FrameWorld.{FrameWorld}
+use Rattle.pg_world.specs.declared.step.Stepped.TheVariants.{Nothing, Happened}
+use Rattle.pg_world.specs.declared.world.FrameNodes.{FrameNodes}
 use Rattle.pg_world.specs.Histories.{account_of}
 use Rattle.pg_world.specs.Views.{Seen, Traffic, Account, View, traffic_in, on_the_way}
 
 -- a world as it is seen
-abbrev pub traffic_of : {T : Type 0} {g : Ghosts T} → FrameWorld T g → Traffic
+abbrev pub traffic_of : {T : Type 0} {g : Ghosts T} → FrameNodes T g → Traffic
 traffic_of world = traffic_in world.nodes.items world.outgoing.items
 
-abbrev pub view_of : {T : Type 0} {g : Ghosts T} → FrameWorld T g → View
+abbrev pub view_of : {T : Type 0} {g : Ghosts T} → FrameNodes T g → View
 view_of world = record { traffic = traffic_of world; account = account_of world.histories }
 
 -- ---- the frame world that it shows

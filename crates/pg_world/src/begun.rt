@@ -8,13 +8,13 @@ ghost use Rattle.pg_world.specs.Configs.{refusal_of};
 use crate::config::Config;
 use crate::fault::WorldFault;
 use crate::starts::{nodes_of, openings};
-use crate::world::FrameWorld;
+use crate::world::FrameNodes;
 use pg_index::IndexTable;
 use pg_step::Start;
 use pg_term::{Items, Pid, Term};
 use std::alloc::Global;
 
-impl FrameWorld<IndexTable> {
+impl FrameNodes<IndexTable> {
     ghost use Rattle.pg_world.specs.Openings.{AreReady, AllFit, CantBegin, CantStart};
     ghost use Rattle.pg_world.specs.Starts.{Begins};
     ghost use Rattle.pg_world.specs.Worlds.{view_of};
@@ -26,21 +26,22 @@ impl FrameWorld<IndexTable> {
     ///
     /// Faults, the first that holds: those of `Config::check`; `TooLong`, where what a node tells takes more than a frame, as a
     /// group of more than 2^32 members does; `OutOfMemory` in the place of each.
-    pub fn new(alloc: Global, config: &Config) -> Result<FrameWorld<IndexTable>, WorldFault>
+    pub(crate) fn new(alloc: Global, config: &Config) -> Result<FrameNodes<IndexTable>, WorldFault>
         ensures good { IfOk result (λ world. IsConfig config.now.starts.items × IsCapacity config.now.ring) }
         ensures fits { IfOk result (λ world. AllFit config.now.starts.items) }
+        ensures few { IfOk result (λ world. have_few config.now.starts.items ≡ true) }
         ensures begins { IfOk result (λ world. Begins config.now.starts.items (view_of world)) }
         ensures lost { IfOk result (λ world. lost_of world ≡ []) }
         ensures fault { IfErr result (CantBegin config.now.ring config.now.starts.items) }
     {
         match ready(alloc, config) {
-            Ok(()) => FrameWorld::begun(alloc, config.starts.as_slice()),
+            Ok(()) => FrameNodes::begun(alloc, config.starts.as_slice()),
             Err(fault) => Err(fault),
         }
     }
 
     /// The same of nodes that can start.
-    fn begun(alloc: Global, starts: &[Start]) -> Result<FrameWorld<IndexTable>, WorldFault>
+    fn begun(alloc: Global, starts: &[Start]) -> Result<FrameNodes<IndexTable>, WorldFault>
         requires ready { AreReady starts.now }
         ensures begins { IfOk result (λ world. Begins starts.now (view_of world)) }
         ensures lost { IfOk result (λ world. lost_of world ≡ []) }
@@ -49,7 +50,7 @@ impl FrameWorld<IndexTable> {
     {
         let nodes = nodes_of(alloc, starts)?;
         match openings(alloc, nodes.as_slice()) {
-            Ok(outgoing) => Ok(FrameWorld::of_parts(alloc, nodes, outgoing)),
+            Ok(outgoing) => Ok(FrameNodes::of_parts(alloc, nodes, outgoing)),
             Err(fault) => Err(fault),
         }
     }

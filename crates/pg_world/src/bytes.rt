@@ -1,8 +1,7 @@
 //! Nodes whose packets cross as bytes, by rings between them, and what a step makes of them.
 
-ghost use Rattle.std.specs.Prelude.{◌≡◌, ◌↔◌, ◌<◌, ◌+◌, ◌^◌, ◌++◌, ℕ, List, IsTrue, true, false, [], Ok, Some, None, IfOk, length, map, option_map, slice_get};
+ghost use Rattle.std.specs.Prelude.{◌≡◌, ◌+◌, ◌^◌, ℕ, List, true, false, [], Ok, Some, None, IfOk, length};
 ghost use Rattle.std.specs.List.{All};
-ghost use Rattle.std.specs.Option.{option_copied};
 ghost use Rattle.pg_node.specs.Nodes.{held_by};
 ghost use Rattle.pg_node.specs.States.{names_of};
 ghost use Rattle.pg_world.specs.declared.rings.Rings.{Rings};
@@ -13,7 +12,6 @@ mod losing;
 mod pending;
 mod runs;
 
-use crate::entry::Entry;
 use crate::histories::Histories;
 use crate::losses::Losses;
 use crate::rings::{Rings, rings_between};
@@ -30,19 +28,18 @@ use pg_loss::no_packet_is_refused;
 use pg_message::Packet;
 use pg_node::{Node, NodeFault};
 use pg_step::{Command, OpId, Refusal};
-use pg_term::Term;
 pub use runs::run;
 use std::alloc::{AllocError, Global};
 
 /// Nodes whose packets cross as bytes, and the rings between them.
 #[derive(Drop)]
-pub struct World<T: GroupTable> {
-    nodes: Vec<Node<T>>,
+pub(crate) struct ByteNodes<T: GroupTable> {
+    pub(crate) nodes: Vec<Node<T>>,
     // The rings from each of them, each with room for as many bytes.
     rings: Vec<Rings>,
     ring: usize,
-    histories: Histories,
-    losses: Losses,
+    pub(crate) histories: Histories,
+    pub(crate) losses: Losses,
     ghost rows: { length rings.items ≡ length nodes.items },
     // Each node knows as many as there are, and has a ring to each other.
     ghost known: { All (λ node. length (names_of (held_by node)) ≡ length rings.items) nodes.items },
@@ -50,17 +47,15 @@ pub struct World<T: GroupTable> {
     ghost sized: { All (HaveRoomFor ring) rings.items },
 }
 
-impl<T: GroupTable + Drop> World<T> {
+impl<T: GroupTable + Drop> ByteNodes<T> {
     ghost use Rattle.pg_ring.specs.Capacity.{IsCapacity};
-    ghost use Rattle.pg_machine.specs.Clocked.{plain};
     ghost use Rattle.pg_machine.specs.Places.{is_pair};
-    ghost use Rattle.pg_history.specs.History.{LockFree};
     ghost use Rattle.pg_machine.specs.Machine.{Take, Do};
     ghost use Rattle.pg_step.specs.Config.{Config, name_at};
     ghost use Rattle.pg_step.specs.Step.{Issue, Retry};
     ghost use Rattle.pg_message.specs.Members.{IsShort};
     ghost use Rattle.pg_node.specs.Bytes.{next_packet};
-    ghost use Rattle.pg_world.specs.Histories.{IsSettled, as_entry, last_entries, account_of};
+    ghost use Rattle.pg_world.specs.Histories.{IsSettled, account_of};
     ghost use Rattle.pg_step.specs.LossLaws.{LosingFrameWorld};
     ghost use Rattle.pg_world.specs.BytesLosing.{IsReachedLosing, ShowsLosingBytes, MoveLeaves, EventLeaves, StepLeaves};
     ghost use Rattle.pg_world.specs.Losses.{lost_in, is_lost};
@@ -70,13 +65,13 @@ impl<T: GroupTable + Drop> World<T> {
     ghost use Rattle.pg_world.specs.Views.{no_account};
     ghost use Rattle.pg_world.specs.Changes.{Moves, put_count, pull_count, MoveChanges, EventChanges, FrameChanges, StepChanges};
     ghost use Rattle.pg_frame.specs.Pieces.{put, pull};
-    ghost use Rattle.pg_world.specs.Crossings.{crossing_of, room_of, idle_crossing, node_of, link_at, bytes_at, IsReached, IsWelcome, ShowsCrossing, ShowsPast, ShowsBytes, ShowsBytesPast, EventComesTo, FrameComesTo, StepComesTo};
+    ghost use Rattle.pg_world.specs.Crossings.{crossing_of, room_of, idle_crossing, link_at, bytes_at, IsReached, IsWelcome, ShowsPast, ShowsBytes, ShowsBytesPast, EventComesTo, FrameComesTo, StepComesTo};
 
     /// A world of these nodes, with an empty ring from each to each other, which has room for `ring` bytes, and where nothing has
     /// begun. Its cost is one allocation for each node and for each ring, and one.
     ///
     /// Error: `AllocError`.
-    pub fn idle(alloc: Global, nodes: Vec<Node<T>>, ring: usize) -> Result<World<T>, AllocError>
+    fn idle(alloc: Global, nodes: Vec<Node<T>>, ring: usize) -> Result<ByteNodes<T>, AllocError>
         requires known { All (λ node. length (names_of (held_by node)) ≡ length nodes.items) nodes.items }
         requires capacity { IsCapacity ring }
         ensures crossing { IfOk result (λ world. crossing_of world ≡ idle_crossing nodes.items) }
@@ -85,46 +80,13 @@ impl<T: GroupTable + Drop> World<T> {
         ensures lost { IfOk result (λ world. lost_in world.losses ≡ []) }
     {
         let rings = rings_between(alloc, nodes.len(), ring)?;
-        Ok(World {
+        Ok(ByteNodes {
             nodes,
             rings,
             ring,
             histories: Histories::new(alloc),
             losses: Losses::new(alloc),
         })
-    }
-
-    /// The node at a place. It takes no memory.
-    pub fn node(&self, place: usize) -> Option<&Node<T>>
-        ensures { option_map node_of (option_copied result) ≡ slice_get (crossing_of self.now).nodes place }
-    {
-        self.nodes.get(place)
-    }
-
-    /// The updates of a group in the order in which they got their last grant, each with its node and its command: a slice, and
-    /// one more behind it, where the last event began it. It takes no memory: O(log n) in the groups that were named.
-    pub fn history(&self, name: &Term) -> (&[Entry], Option<&Entry>)
-        ensures { map as_entry result.0.now ++ last_entries (option_copied result.1) ≡ (account_of self.now.histories).histories name.now }
-    {
-        self.histories.history(name)
-    }
-
-    /// How many updates of a group a node has applied: those that it began, and those that it took of its peers. It takes no
-    /// memory: O(log n) in the groups that were named.
-    pub fn applied(&self, node: usize, name: &Term) -> u128
-        ensures { result ≡ (account_of self.now.histories).applied node name.now }
-    {
-        self.histories.applied(node, name)
-    }
-
-    /// Whether a node sees the lock of a group free. It takes no memory: O(log n) in the names that have a holder there.
-    pub fn lock_free(&self, node: usize, name: &Term) -> bool
-        requires place { node < length (crossing_of self.now).nodes }
-        ensures { (config : Config) (w : TimedFrameWorld) → ShowsCrossing config (crossing_of self.now) w
-            → IsTrue result ↔ LockFree (plain w) node name.now }
-    {
-        let over = &self.nodes[node];
-        over.state().holder(name).is_none()
     }
 
     /// Makes one step. Whatever frame world the world shows, as events lead to it from the start of a configuration: an event
@@ -140,7 +102,7 @@ impl<T: GroupTable + Drop> World<T> {
     /// behind `NoSuchPlace`, and so is a pull or a take of a peer whose loss was seen. `SeeLoss`: `NoSuchPlace`; `NodeLost`, also
     /// where it was seen before; `NotLost`; `NotDrained` where bytes of the peer are on the ring, or a whole frame of it has come;
     /// `ClockFull`. `Lose`: `NoSuchPlace`, `NodeLost`.
-    pub fn step(&mut self, step: &Step) -> Result<Stepped, NodeFault>
+    pub(crate) fn step(&mut self, step: &Step) -> Result<Stepped, NodeFault>
         ensures came { (config : Config) (w : TimedFrameWorld) → lost_in self.old.losses ≡ [] → IsReached config w
             → ShowsBytes config (crossing_of self.old) (account_of self.old.histories) w
             → StepComesTo config w step.now result (ShowsBytes config (crossing_of self.new) (account_of self.new.histories)) }

@@ -15,7 +15,10 @@ ghost use Rattle.pg_history.specs.Reached.{Reaches};
 ghost use Rattle.pg_history.specs.WithLosses.{NonePendingLeft};
 ghost use Rattle.pg_loss.specs.Reached.{LosingReaches};
 ghost use Rattle.pg_world.specs.Configs.{refusal_of};
+ghost use Rattle.pg_world.specs.declared.fault.WorldFault.{WorldFault};
+ghost use Rattle.pg_world.specs.declared.fault.WorldFault.TheVariants.{OutOfMemory};
 ghost use Rattle.pg_world.specs.Losing.{losing_of};
+ghost use Rattle.pg_world.specs.Openings.{CanBegin, CantBegin};
 ghost use Rattle.pg_world.specs.Pending.{IsPending, pending_of};
 ghost use Rattle.pg_world.specs.Starts.{Orders};
 ghost use Rattle.pg_world.specs.Views.{Seen};
@@ -41,6 +44,14 @@ pub fn orders_keep_tables()
 pub fn configs_are_decided()
     ensures { (ring : ℕ) (config : Config) → (refusal_of ring config ≡ None) ↔ (IsConfig config × IsCapacity ring) }
 {}
+
+/// A world of a configuration can begin, or there is a fault by which it is refused, and never both: where it can begin it is refused for
+/// memory alone. So each fault of `FrameWorld::new` and `World::new` but that is told exactly where it is the first that holds.
+pub fn refusals_are_exact()
+    ensures { (ring : ℕ) (config : Config) (fault : WorldFault) → CanBegin ring config → CantBegin ring config fault → fault ≡ OutOfMemory }
+{
+    configs_are_decided();
+}
 
 /// The ends that are pending are listed, and no others: in each world that is shown to which events lead, whoever is lost and whenever.
 /// The list is empty exactly where no end is pending among the nodes that are left; where no node is lost, exactly where none is.

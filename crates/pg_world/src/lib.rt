@@ -2,10 +2,12 @@
 #![tactic(auto)]
 
 mod begun;
+mod byte_world;
 mod bytes;
 mod config;
 mod entry;
 mod fault;
+mod frame_world;
 mod frames;
 mod histories;
 mod laws;
@@ -21,11 +23,14 @@ mod tally;
 mod way;
 mod world;
 
-pub use bytes::{World, run, starting_nodes};
+pub use byte_world::World;
+pub use bytes::{run, starting_nodes};
 pub use config::{Config, MAX_NODES, MAX_PORTS};
 pub use entry::Entry;
 pub use fault::WorldFault;
+pub use frame_world::FrameWorld;
 pub use frames::run_frames;
-pub use laws::{configs_are_decided, orders_keep_tables, pending_ends_are_listed};
+pub use laws::{
+    configs_are_decided, orders_keep_tables, pending_ends_are_listed, refusals_are_exact,
+};
 pub use step::{FrameStep, Step, Stepped};
-pub use world::FrameWorld;

@@ -1,14 +1,11 @@
 //! Nodes and the packets on the way between them, and what a step makes of them.
 
-ghost use Rattle.std.specs.Prelude.{◌≡◌, ◌≢◌, ◌<◌, ◌↔◌, ◌-◌, ◌++◌, [], true, IsTrue, Ok, IfOk, OnErr, length, map, option_map, replicate, slice_get};
-ghost use Rattle.std.specs.List.{All};
-ghost use Rattle.std.specs.Option.{option_copied};
+ghost use Rattle.std.specs.Prelude.{◌≡◌, ◌≢◌, [], true, Ok, OnErr, length};
 ghost use Rattle.pg_world.specs.Views.{IsWhole, traffic_in};
 
 mod losing;
 mod pending;
 
-use crate::entry::Entry;
 use crate::histories::Histories;
 use crate::losses::Losses;
 use crate::outgoing::Outgoing;
@@ -16,100 +13,46 @@ use crate::step::{FrameStep, Stepped};
 use pg_group::GroupTable;
 use pg_node::{Done, NodeFault, NodeState};
 use pg_step::{Command, OpId, Refusal};
-use pg_term::Term;
 use std::alloc::{AllocError, Global};
 
 /// Nodes over packets, and the packets on the way between them.
 #[derive(Drop)]
-pub struct FrameWorld<T: GroupTable> {
-    nodes: Vec<NodeState<T>>,
+pub(crate) struct FrameNodes<T: GroupTable> {
+    pub(crate) nodes: Vec<NodeState<T>>,
     // What is on the way from each of them.
     outgoing: Vec<Outgoing>,
-    histories: Histories,
-    losses: Losses,
+    pub(crate) histories: Histories,
+    pub(crate) losses: Losses,
     ghost whole: { IsWhole (traffic_in nodes.items outgoing.items) },
 }
 
-impl<T: GroupTable + Drop> FrameWorld<T> {
-    ghost use Rattle.pg_node.specs.States.{names_of};
-    ghost use Rattle.pg_world.specs.Views.{fresh_view, idle_view, seen_of};
+impl<T: GroupTable + Drop> FrameNodes<T> {
+    ghost use Rattle.pg_world.specs.Views.{fresh_view};
     ghost use Rattle.pg_machine.specs.Places.{is_pair};
     ghost use Rattle.pg_machine.specs.Machine.{Take, Do};
-    ghost use Rattle.pg_machine.specs.Clocked.{plain};
     ghost use Rattle.pg_step.specs.Config.{Config};
-    ghost use Rattle.pg_history.specs.History.{LockFree};
     ghost use Rattle.pg_step.specs.Step.{Issue, Retry};
-    ghost use Rattle.pg_world.specs.Histories.{IsSettled, as_entry, last_entries};
+    ghost use Rattle.pg_world.specs.Histories.{IsSettled};
     ghost use Rattle.pg_world.specs.Worlds.{traffic_of, view_of, has_port, has_places, TimedFrameWorld, Shows, ComesTo, StepComesTo};
     ghost use Rattle.pg_step.specs.LossLaws.{LosingFrameWorld};
     ghost use Rattle.pg_world.specs.Losing.{lost_of, lost_after, told_of, ShowsLosing, LosingComesTo};
-
-    /// A world of these nodes, between which nothing is on the way. Its cost is one allocation for each node, and one.
-    ///
-    /// Error: `AllocError`.
-    pub fn idle(alloc: Global, nodes: Vec<NodeState<T>>) -> Result<FrameWorld<T>, AllocError>
-        requires { All (λ node. length (names_of node) ≡ length nodes.items) nodes.items }
-        ensures view { IfOk result (λ world. view_of world ≡ idle_view nodes.items) }
-        ensures lost { IfOk result (λ world. lost_of world ≡ []) }
-    {
-        let outgoing = no_packets(alloc, nodes.len())?;
-        Ok(FrameWorld {
-            nodes,
-            outgoing,
-            histories: Histories::new(alloc),
-            losses: Losses::new(alloc),
-        })
-    }
 
     /// These nodes, and what is on the way from each of them, where nothing has begun. It takes no memory.
     pub(crate) fn of_parts(
         alloc: Global,
         nodes: Vec<NodeState<T>>,
         outgoing: Vec<Outgoing>,
-    ) -> FrameWorld<T>
+    ) -> FrameNodes<T>
         requires { IsWhole (traffic_in nodes.items outgoing.items) }
         ensures view { view_of result ≡ fresh_view (traffic_in nodes.items outgoing.items) }
         ensures lost { lost_of result ≡ [] }
     {
-        FrameWorld {
+        FrameNodes {
             nodes,
             outgoing,
             histories: Histories::new(alloc),
             losses: Losses::new(alloc),
         }
-    }
-
-    /// The node at a place. It takes no memory.
-    pub fn node(&self, place: usize) -> Option<&NodeState<T>>
-        ensures { option_map seen_of (option_copied result) ≡ slice_get (view_of self.now).traffic.nodes place }
-    {
-        self.nodes.get(place)
-    }
-
-    /// The updates of a group in the order in which they got their last grant, each with its node and its command: a slice, and
-    /// one more behind it, where the last event began it. It takes no memory: O(log n) in the groups that were named.
-    pub fn history(&self, name: &Term) -> (&[Entry], Option<&Entry>)
-        ensures { map as_entry result.0.now ++ last_entries (option_copied result.1) ≡ (view_of self.now).account.histories name.now }
-    {
-        self.histories.history(name)
-    }
-
-    /// How many updates of a group a node has applied: those that it began, and those that it took of its peers. It takes no
-    /// memory: O(log n) in the groups that were named.
-    pub fn applied(&self, node: usize, name: &Term) -> u128
-        ensures { result ≡ (view_of self.now).account.applied node name.now }
-    {
-        self.histories.applied(node, name)
-    }
-
-    /// Whether a node sees the lock of a group free. It takes no memory: O(log n) in the names that have a holder there.
-    pub fn lock_free(&self, node: usize, name: &Term) -> bool
-        requires place { node < length (traffic_of self.now).nodes }
-        ensures { (config : Config) (w : TimedFrameWorld) → Shows config (view_of self.now) w
-            → IsTrue result ↔ LockFree (plain w) node name.now }
-    {
-        let state = &self.nodes[node];
-        state.holder(name).is_none()
     }
 
     /// Makes one step. Whatever frame world the world shows, as the nodes of a configuration come to, the step is the event of
@@ -124,7 +67,7 @@ impl<T: GroupTable + Drop> FrameWorld<T> {
     /// where it was seen before; `NotLost`; `NotDrained` where a packet of the peer is on the way; `ClockFull`. `Lose`:
     /// `NoSuchPlace`, also where `keep` has not one number for each peer; `NodeLost`; `NoSuchPlace` where more should stay than are on
     /// the way.
-    pub fn step(&mut self, step: &FrameStep) -> Result<Stepped, NodeFault>
+    pub(crate) fn step(&mut self, step: &FrameStep) -> Result<Stepped, NodeFault>
         ensures event { (config : Config) (w : TimedFrameWorld) → lost_of self.old ≡ [] → Shows config (view_of self.old) w
             → StepComesTo config w step.now result (Shows config (view_of self.new)) }
         ensures losing { (config : Config) (u : LosingFrameWorld) → ShowsLosing config (view_of self.old) (lost_of self.old) u
@@ -283,18 +226,7 @@ impl<T: GroupTable + Drop> FrameWorld<T> {
     }
 }
 
-ghost use Rattle.pg_world.specs.Views.{peer_place, ways_of};
-
-/// Nothing is on the way between so many nodes.
-fn no_packets(alloc: Global, count: usize) -> Result<Vec<Outgoing>, AllocError>
-    ensures { IfOk result (λ outgoing. map ways_of outgoing.items ≡ replicate count (replicate (count - 1) [])) }
-{
-    let mut outgoing = Vec::with_capacity(alloc, count)?;
-    for _ in 0..count {
-        outgoing.push(Outgoing::new(alloc, count - 1)?)?;
-    }
-    Ok(outgoing)
-}
+ghost use Rattle.pg_world.specs.Views.{peer_place};
 
 /// The place of another node among the peers of a node, which are the others in their order.
 pub(crate) fn peer_place(node: usize, other: usize) -> usize

@@ -1,7 +1,10 @@
 //! What a test gives the program in the place of an input, an output, a terminal, files, threads and a clock.
 
 use crate::system::System;
-use pg_cluster::{Conversation, Outcome, StartFault};
+use pg_cluster::StartFault;
+use pg_node::Sink;
+use pg_talk::{Conversation, Outcome, Served, Service, ServiceFault};
+use std::alloc::Global;
 use std::io;
 use std::io::{ErrorKind, IsTerminal, Read, Write};
 use std::process::Abort;
@@ -93,13 +96,16 @@ impl IsTerminal for Output {
     }
 }
 
-/// Holds one file, which can't be made where `is_full` is set, and tells of a conversation that went so, if it did.
+/// Holds one file, which can't be made where `is_full` is set, and two that tell of members; tells of a conversation that went so, if it
+/// did, and of a service that went so.
 #[derive(Drop)]
 pub(crate) struct Desk {
     pub(crate) name: Vec<u8>,
     pub(crate) bytes: Vec<u8>,
     pub(crate) is_full: bool,
+    pub(crate) alloc: Global,
     pub(crate) outcome: Option<Outcome>,
+    pub(crate) served: Result<Served, ServiceFault>,
     pub(crate) microseconds: u64,
 }
 
@@ -118,6 +124,25 @@ impl System for Desk {
             Some(outcome) => Ok(outcome),
             None => Err(StartFault::NoThread),
         }
+    }
+
+    fn get(&mut self, name: &str) -> io::Result<Vec<u8>> {
+        let text: &[u8] = match name {
+            "members" => b"[{n1,1,[{g,[<n1.1.0>]}]}]\n",
+            "none" => b"[{n1,1",
+            "bytes" => b"\xff",
+            _ => return Err(io::Error::from(ErrorKind::NotFound)),
+        };
+        Ok(text.to_vec(self.alloc)?)
+    }
+
+    fn serve<W: Sink>(
+        &mut self,
+        service: Service,
+        _writer: &mut W,
+    ) -> Result<Served, ServiceFault> {
+        drop(service);
+        self.served
     }
 
     fn microseconds(&mut self) -> u64 {

@@ -4,9 +4,11 @@ use crate::input::MAX_SCRIPT_LEN;
 use crate::run::{refuse_given, run_words};
 use crate::system::{HostSystem, Shown, System};
 use crate::tests::fakes::{ANY, Desk, Input, Limits, Output, holds};
-use pg_cluster::Outcome;
+use pg_cluster::StartFault;
 use pg_node::{AnyReader, AnyWriter};
 use pg_progress::Progress;
+use pg_talk::{Outcome, Served, ServiceFault, Verdict};
+use pg_world::WorldFault;
 use std::alloc::{AllocError, Global};
 use std::io;
 use std::io::ErrorKind;
@@ -26,6 +28,7 @@ struct Row<'a> {
     limits: Limits,
     is_full: bool,
     outcome: Option<Outcome>,
+    served: Result<Served, ServiceFault>,
     output: &'a [u8],
     told: &'a str,
     status: u8,
@@ -40,6 +43,7 @@ const BYTES: Row = Row {
     limits: ANY,
     is_full: false,
     outcome: None,
+    served: Ok(WELL),
     output: CREATED,
     told: "",
     status: 0,
@@ -80,6 +84,26 @@ const SLACK: Outcome = Outcome {
     asked: 607,
     agree: true,
     replay: false,
+};
+
+const WELL: Served = Served {
+    verdict: Verdict {
+        agree: true,
+        replay: true,
+    },
+    fault: None,
+};
+
+const SERVICE: Row = Row {
+    words: &["serve"],
+    told: "agree yes\nreplay yes\n",
+    ..TALK
+};
+
+// A service that is refused.
+const NO_SERVICE: Row = Row {
+    status: 2,
+    ..SERVICE
 };
 
 const ROOM_OF_40: Limits = Limits {
@@ -234,6 +258,74 @@ const ROWS: &[Row] = &[
         status: 1,
         ..TALK
     },
+    SERVICE,
+    Row {
+        words: &[
+            "serve",
+            "--nodes",
+            "2",
+            "--name",
+            "a",
+            "--name",
+            "b",
+            "--members",
+            "other",
+        ],
+        told: "refused 31\n",
+        status: 1,
+        ..SERVICE
+    },
+    Row {
+        words: &["serve", "--members", "members"],
+        ..SERVICE
+    },
+    Row {
+        served: Ok(Served {
+            verdict: Verdict {
+                agree: false,
+                replay: true,
+            },
+            fault: None,
+        }),
+        told: "agree no\nreplay yes\n",
+        status: 1,
+        ..SERVICE
+    },
+    Row {
+        served: Ok(Served {
+            fault: Some(2),
+            ..WELL
+        }),
+        told: "agree yes\nreplay yes\nrefused 2\n",
+        status: 1,
+        ..SERVICE
+    },
+    Row {
+        served: Err(ServiceFault::WriteFault),
+        told: "refused 32\n",
+        status: 1,
+        ..SERVICE
+    },
+    Row {
+        served: Err(ServiceFault::Start(StartFault::World(WorldFault::BadConfig))),
+        told: "refused 15\n",
+        ..NO_SERVICE
+    },
+    Row {
+        words: &["serve", "--members", "none"],
+        told: "refused 40\n",
+        ..NO_SERVICE
+    },
+    Row {
+        words: &["serve", "--members", "bytes"],
+        told: "refused 40\n",
+        ..NO_SERVICE
+    },
+    Row {
+        words: &["serve", "--name", "a"],
+        told: "refused 15\n",
+        ..NO_SERVICE
+    },
 ];
 
 fn words_of(alloc: Global, given: &[&str]) -> Result<Vec<String>, AllocError> {
@@ -265,8 +357,15 @@ fn output(alloc: Global, limits: Limits) -> AnyWriter<Output> {
     }
 }
 
-fn desk(alloc: Global, is_full: bool, outcome: Option<Outcome>) -> Desk {
+fn desk(
+    alloc: Global,
+    is_full: bool,
+    outcome: Option<Outcome>,
+    served: Result<Served, ServiceFault>,
+) -> Desk {
     Desk {
+        alloc,
+        served,
         name: Vec::new(alloc),
         bytes: Vec::new(alloc),
         is_full,
@@ -306,7 +405,7 @@ fn prints_with<D: System>(alloc: Global, row: &Row<'_>, system: &mut D) -> bool 
 }
 
 fn is_right(alloc: Global, row: &Row<'_>) -> bool {
-    let mut system = desk(alloc, row.is_full, row.outcome);
+    let mut system = desk(alloc, row.is_full, row.outcome, row.served);
     let is_right = prints_with(alloc, row, &mut system);
     drop(system);
     is_right
@@ -322,7 +421,12 @@ fn rows(rt: HostRuntime) {
 // What the text of refused words begins with.
 const WORDS: &str = "error: ";
 
-const OTHER_WORDS: &[&[&str]] = &[&["byte"], &["threads", "--nodes", "17"], &[]];
+const OTHER_WORDS: &[&[&str]] = &[
+    &["byte"],
+    &["threads", "--nodes", "17"],
+    &["serve", "--ports", "65"],
+    &[],
+];
 
 #[test]
 fn other_words(rt: HostRuntime) {
@@ -343,7 +447,7 @@ fn is_whole(alloc: Global, words: &[String]) -> bool {
     let mut reader = CREATE;
     let mut writer = output(alloc, ANY);
     let mut faults = output(alloc, ANY);
-    let mut system = desk(alloc, true, None);
+    let mut system = desk(alloc, true, None, Ok(WELL));
     let status = run_words(
         alloc,
         words,
@@ -437,7 +541,7 @@ fn shows_all(picture: &[u8]) -> bool {
 }
 
 fn is_drawn(alloc: Global, row: &Row<'_>, name: &[u8]) -> bool {
-    let mut files = desk(alloc, row.is_full, None);
+    let mut files = desk(alloc, row.is_full, None, row.served);
     let is_printed = prints_with(alloc, row, &mut files);
     let is_named = files.name.as_slice() == name;
     let is_shown = name.is_empty() || shows_all(files.bytes.as_slice());

@@ -181,8 +181,10 @@ start_counts config i = record {
   answered = λ port. refl;
 }
 
+pub all_counted : (config : Config) (w : TimedFrameWorld) (es : List (Event Action)) (i : ℕ) → Reaches config es w → AllCounts config (plain w) i
+all_counted config w es i l =
+    kept (machine_of config) (λ v. (j : ℕ) → AllCounts config v j) (event_counts config) es (start_of (machine_of config)) (plain w)
+    (plain_from_start (machine_of config) CLOCK_LIMIT es w l) (start_counts config) i
+
 pub counted : (config : Config) (w : TimedFrameWorld) (es : List (Event Action)) (i : ℕ) → Reaches config es w → CountsCommands config (plain w) i
-counted config w es i l =
-    let all = kept (machine_of config) (λ v. (j : ℕ) → AllCounts config v j) (event_counts config) es (start_of (machine_of config)) (plain w)
-    (plain_from_start (machine_of config) CLOCK_LIMIT es w l) (start_counts config) in
-    record { answered = (all i).answered; open_ones = (all i).counts.all }
+counted config w es i l = let all = all_counted config w es i l in record { answered = all.answered; open_ones = all.counts.all }

@@ -207,7 +207,7 @@ start_stands config = record {
   stands = λ i op. record { once = omega arith; balanced = refl };
 }
 
-standing : (config : Config) (es : List (Event Action)) (w : TimedFrameWorld) → Reaches config es w → Standing (plain w)
+pub standing : (config : Config) (es : List (Event Action)) (w : TimedFrameWorld) → Reaches config es w → Standing (plain w)
 standing config es w l =
     kept (machine_of config) Standing (event_stands config) es (start_of (machine_of config)) (plain w)
     (plain_from_start (machine_of config) CLOCK_LIMIT es w l) (start_stands config)

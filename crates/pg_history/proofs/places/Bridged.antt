@@ -281,7 +281,7 @@ module _ (config : Config) (apart : IsDistinct same_atom (names_of config)) wher
 
   -- ---- a run
 
-  first_bridged : Bridged (start_of (machine_of config))
+  pub first_bridged : Bridged (start_of (machine_of config))
   first_bridged = record {
     has = record { world = first_world config; shows = shows_first; inv = first_holds (first_world config) first_is };
     nobody = λ i. refl;

@@ -68,7 +68,7 @@ all_stay f g [] stays all = refl
 all_stay f g (q ∷ qs) stays all =
     ap (λ b. b && list_all g qs) (stays q (first_so (f q) (list_all f qs) all)) ∙ all_stay f g qs stays (second_so (f q) (list_all f qs) all)
 
-event_lasts : (config : Config) (w v : FrameWorld) (e : Event Action) → Happened (machine_of config) w e v → (i : ℕ) → Lasts (w.node i) (v.node i)
+pub event_lasts : (config : Config) (w v : FrameWorld) (e : Event Action) → Happened (machine_of config) w e v → (i : ℕ) → Lasts (w.node i) (v.node i)
 event_lasts config w v e h i = state_after (machine_of config) w v e h (Lasts (w.node i)) i
     (λ own.
     let t = step_tables config (node_of e) (w.node (node_of e)) h.input h.turn h.made in

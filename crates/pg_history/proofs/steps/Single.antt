@@ -67,7 +67,7 @@ pub counts_new : (b : Bool) → what_of {R = Said} true (Some (cond b (Some Appl
 counts_new true e = absurd (cc)
 counts_new false e = refl
 
-none_counted : (p : Node) (used : Use) → used ≡ Spent → what_of true (gathered used p) ≡ what.Counted → ⊥
+pub none_counted : (p : Node) (used : Use) → used ≡ Spent → what_of true (gathered used p) ≡ what.Counted → ⊥
 none_counted p used spent counts = absurd (cc (sym (ap (λ x. what_of true (gathered x p)) spent) ∙ counts))
 
 -- a reply is odd, or it is counted

@@ -23,7 +23,7 @@ all_there test [] p below all = absurd (omega arith)
 all_there test (x ∷ xs) zero below all = first_so (test x) (list_all test xs) all
 all_there test (x ∷ xs) (suc p) below all = all_there test xs p (omega arith) (second_so (test x) (list_all test xs) all)
 
-all_others : (test : Node → Bool) (names : List Node) (i p : ℕ) → p < length names → i ≢ p → list_all test (remove names i) ≡ true → test (name_of_place names p) ≡ true
+pub all_others : (test : Node → Bool) (names : List Node) (i p : ℕ) → p < length names → i ≢ p → list_all test (remove names i) ≡ true → test (name_of_place names p) ≡ true
 all_others test [] i p below other all = absurd (omega arith)
 all_others test (x ∷ xs) zero zero below other all = absurd (other refl)
 all_others test (x ∷ xs) zero (suc p) below other all = all_there test xs p (omega arith) all

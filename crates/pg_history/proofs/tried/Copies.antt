@@ -12,7 +12,8 @@ use Rattle.pg_group.specs.declared.update.Update.{Update}
 use Rattle.pg_group.specs.Functions.{upd}
 use Rattle.pg_group.specs.Value.{Counts, Value, less, listed, name_of}
 use Rattle.pg_group.specs.Table.{Table, changed}
-use Rattle.pg_lock.specs.Locks.{Locks, after_ask, is_free}
+use Rattle.pg_lock.specs.Attempts.{after_round, does_wait}
+use Rattle.pg_lock.specs.Locks.{Locks, after_ask, given_up, is_free, is_holder}
 use Rattle.pg_exchange.specs.GroupList.{GroupList}
 use Rattle.pg_message.specs.declared.message.Message.TheVariants.{Call, Reply}
 use Rattle.pg_message.specs.declared.message.Request.TheVariants.{Change}
@@ -25,7 +26,7 @@ use Rattle.pg_step.specs.State.Use.{Locking, Owning, Updating}
 use Rattle.pg_step.specs.State.Stage.{Asking, Changing}
 use Rattle.pg_step.specs.Turns.{NodeTurn, nothing, becomes, becomes_and_sends, and_then}
 use Rattle.pg_step.specs.Peers.{verdict}
-use Rattle.pg_step.specs.Attempts.{same_op, own_reference, is_yes, none_missing, give_up, finish, replies_in, begin}
+use Rattle.pg_step.specs.Attempts.{same_op, own_reference, is_yes, none_denied, none_missing, round_of, ask, give_up, finish, replies_in, locks_in, begin}
 
 -- ---- what a peer asks for
 
@@ -46,6 +47,9 @@ copied_update_request p reference update s = record {
   sends = to_one p (Reply reference Applied);
   reported = record nothing { applied = Some update };
 }
+
+abbrev pub copied_lock_freed : Term → RefParts → State → NodeTurn
+copied_lock_freed name reference s = becomes (record s { locks = given_up (is_holder (s.locks name) reference) s.locks name })
 
 -- ---- an exchange
 
@@ -108,3 +112,15 @@ copied_locks_in m c (Locking op update lead st) s =
     (and_then (begin m c op update s) (λ t. replies_in m t.references (t.uses t.references) t))
     (cond (none_missing m st) (give_up m c op update st s) (becomes s))
 copied_locks_in m c _ s = becomes s
+
+-- what follows a round in which one has denied
+abbrev pub copied_denied_round : Nodes → ℕ → OpId → Update → (Node → Status) → State → NodeTurn
+copied_denied_round m c op update st s = give_up m c op update st s
+
+abbrev pub copied_go_on : Nodes → ℕ → Use → State → NodeTurn
+copied_go_on m c (Locking op update first st) s =
+    cond (none_missing m st)
+    (cond (does_wait (after_round (round_of first st) (none_denied m st))) (copied_denied_round m c op update st s)
+    (and_then (ask m (λ q. true) c op update first st s) (λ t. locks_in m c (t.uses c) t)))
+    (becomes s)
+copied_go_on m c _ s = becomes s

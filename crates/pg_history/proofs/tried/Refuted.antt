@@ -1,5 +1,5 @@
 -- Wrong turns, and what each leaves: of that the invariant, or the law, says the contrary.
-use Rattle.std.proofs.Common.{◌≡◌, ℕ, ◌+◌, ◌<◌, Bool, true, false, cond, List, [], ◌∷◌, ◌++◌, Some, None, ap, sym, ◌∙◌, subst, inl, inr, arith}
+use Rattle.std.proofs.Common.{◌≡◌, ℕ, ◌+◌, ◌*◌, ◌<◌, ◌≤◌, Bool, true, false, cond, List, [], ◌∷◌, ◌++◌, Some, None, ap, sym, ◌∙◌, subst, inl, inr, arith}
 use Rattle.pg_term.specs.declared.pid.Pid.{Pid}
 use Rattle.pg_term.specs.declared.term.Term.{Term}
 use Rattle.pg_term.specs.RefParts.{RefParts, ref_eq}
@@ -13,15 +13,23 @@ use Rattle.pg_group.specs.Table.{Table, applied, changed}
 use Rattle.pg_group.proofs.Changes.{upd_at}
 use Rattle.pg_lock.specs.Locks.{Locks, after_ask, held, is_free, is_holder}
 use Rattle.pg_message.specs.declared.message.Message.{Message}
-use Rattle.pg_message.specs.declared.message.Message.TheVariants.{Call, Reply}
+use Rattle.pg_message.specs.declared.message.Message.TheVariants.{Call, Reply, Exchange}
 use Rattle.pg_message.specs.declared.message.Request.TheVariants.{Change}
-use Rattle.pg_message.specs.declared.message.Said.TheVariants.{Applied}
+use Rattle.pg_message.specs.declared.message.Said.TheVariants.{Applied, Denied}
 use Rattle.pg_step.specs.declared.command.OpId.{OpId}
-use Rattle.pg_step.specs.Nodes.{Node}
-use Rattle.pg_step.specs.State.{State, Status}
+use Rattle.pg_step.specs.Attempts.{is_complete, none_missing}
+use Rattle.pg_step.specs.Config.{Config, groups_at, name_at}
+use Rattle.pg_step.specs.Nodes.{Node, Nodes}
+use Rattle.pg_step.specs.State.{State, Status, Use}
 use Rattle.pg_step.specs.State.Use.{Fresh, Spent, Locking, Owning, Updating}
 use Rattle.pg_step.proofs.Once.{clash}
 use Rattle.pg_history.specs.ReferencesFit.{ReferencesFit}
+use Rattle.pg_history.specs.Sent.{exchanges_in}
+use Rattle.pg_history.proofs.ends.Posts.{post}
+use Rattle.pg_history.proofs.quiet.Gathering.{AllGather}
+use Rattle.pg_history.proofs.quiet.Phases.{Phase, backs}
+use Rattle.pg_history.proofs.quiet.Phases.Phase.{Ahead, Wanted, Given, Owned, Told, Confirmed, Done, Freed, Over}
+use Rattle.pg_history.proofs.quiet.Rest.{holds_nothing}
 use Rattle.pg_history.proofs.references.Keys.{terms}
 use Rattle.pg_history.proofs.references.References.{about}
 use Rattle.pg_history.proofs.locks.Lines.{Talk, shows, sent_has, IsIdle}
@@ -112,3 +120,33 @@ uncounted s op u lead st used fitting = let fresh : s.uses (s.references + 1) �
 -- an update that goes out under the reference of its lock: none owns the lock any more
 pub owned_by_none : (s : State) (op : OpId) (u : Update) (c : ℕ) (replied : Node → Bool) → s.uses c ≡ Updating op u c replied → ReferencesFit s → ⊥
 owned_by_none s op u c replied used fitting = let owns : s.uses c ≡ Owning (name_of u) c = (fit_at s fitting c (Updating op u c replied) used).1 in absurd (cc)
+
+-- ---- what stays behind
+
+-- an exchange that is merged and not noted: it is still on the way
+pub unnoted : (config : Config) (p : ℕ) (rest : List Message) → exchanges_in (Exchange (name_at config p) (groups_at config p) ∷ rest) ≡ post config p false → exchanges_in rest ≡ post config p false → ⊥
+unnoted config p rest before later = absurd (cc)
+
+-- a lock that is given back and not freed: nothing is on the way about its reference, which is spent
+pub kept_by_spent : (N : Term) {p : Node} {r : RefParts} {back : List Message} {locks : Locks} → is_holder (locks N) r ≡ true → Talk Spent p r [] back locks → ⊥
+kept_by_spent N {p} {r} holder t = clash (sym holder ∙ t.hold_is N ∙ holds_nothing Spent p r t.line N tt t.fits t.out_is)
+
+-- an attempt that is denied and not given up: all that it asks for has come
+pub denied_and_open : (m : Nodes) (c : ℕ) (uses : ℕ → Use) (op : OpId) (u : Update) (lead : Node) (st : Node → Status) → none_missing m st ≡ true → uses c ≡ Locking op u lead st → AllGather m uses → ⊥
+denied_and_open m c uses op u lead st all is gather = clash (sym all ∙ ap (is_complete m) (sym is) ∙ gather c)
+
+-- a free lock that is denied: no such reply comes back to the one command that is tried
+pub denied_back : (own : Node) (c : ℕ) (u : Update) (phase : Phase) → backs own c u phase ≡ Reply (numbered own c) Denied ∷ [] → ⊥
+denied_back own c u Given e = cc
+denied_back own c u (Confirmed n) e = cc
+denied_back own c u Ahead e = cc
+denied_back own c u Wanted e = cc
+denied_back own c u Owned e = cc
+denied_back own c u (Told n) e = cc
+denied_back own c u Done e = cc
+denied_back own c u Freed e = cc
+denied_back own c u Over e = cc
+
+-- an attempt that is denied and begins anew at once: what it frees and what the new one leads to are more than the old one led to
+pub anew_is_more : (peers granted : ℕ) → 0 < peers → granted + 5 * peers ≤ 3 * peers → ⊥
+anew_is_more peers granted some pays = absurd (omega (arith, some, pays))

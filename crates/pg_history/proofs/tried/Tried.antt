@@ -12,7 +12,8 @@ use Rattle.pg_group.specs.declared.update.Update.{Update}
 use Rattle.pg_group.specs.Functions.{upd}
 use Rattle.pg_group.specs.Value.{Counts, Value, less, listed, merge}
 use Rattle.pg_group.specs.Table.{Table, merged}
-use Rattle.pg_lock.specs.Locks.{Locks, after_ask}
+use Rattle.pg_lock.specs.Attempts.{after_round, does_wait}
+use Rattle.pg_lock.specs.Locks.{Locks, after_ask, given_up, held, is_holder}
 use Rattle.pg_exchange.specs.GroupList.{GroupList, all_merged}
 use Rattle.pg_message.specs.declared.message.Message.{Message}
 use Rattle.pg_message.specs.declared.message.Message.TheVariants.{Call}
@@ -25,7 +26,7 @@ use Rattle.pg_step.specs.State.Status.{Yes}
 use Rattle.pg_step.specs.State.Use.{Locking, Updating}
 use Rattle.pg_step.specs.State.Stage.{Waiting}
 use Rattle.pg_step.specs.Turns.{NodeTurn, becomes, and_then}
-use Rattle.pg_step.specs.Attempts.{is_yes, none_missing, begin, finish, give_up, replies_in}
+use Rattle.pg_step.specs.Attempts.{own_reference, is_yes, none_denied, none_missing, round_of, ask, begin, finish, give_up, replies_in, locks_in}
 use Rattle.pg_step.specs.Config.{Config, names_of, name_at, groups_at}
 use Rattle.pg_history.specs.ReferencesFit.{ReferencesFit}
 use Rattle.pg_history.proofs.locks.Named.{World, perform, popped}
@@ -42,7 +43,11 @@ use Rattle.pg_history.proofs.tables.Living.{Lives, changed_living}
 use Rattle.pg_history.proofs.tables.Applied.{Tables, Applying}
 use Rattle.pg_history.proofs.tables.Tabled.{TableIs, exchange_step}
 use Rattle.pg_history.proofs.references.FittingTurns.{attempted_at, begun_at}
-use Rattle.pg_history.proofs.tried.Copies.{copied_grants, copied_would_grant, copied_lock_request, copied_update_request, copied_greater, copied_merge, copied_all_merged, copied_exchange, copied_new_attempt, copied_begin, copied_all_replied, copied_replies_in, copied_all_granted, copied_locks_in}
+use Rattle.pg_history.proofs.references.Keys.{atoms, terms, upd_same}
+use Rattle.pg_history.proofs.references.References.{references}
+use Rattle.pg_history.proofs.quiet.Weights.{Made, Pays, gives_up_pay, round_goes_pay, stays}
+use Rattle.pg_history.proofs.quiet.Gathering.{Settled, Unsettled, asked_settled, given_up_settled, missing_settled}
+use Rattle.pg_history.proofs.tried.Copies.{copied_grants, copied_would_grant, copied_lock_request, copied_update_request, copied_greater, copied_merge, copied_all_merged, copied_exchange, copied_new_attempt, copied_begin, copied_all_replied, copied_replies_in, copied_all_granted, copied_locks_in, copied_lock_freed, copied_denied_round, copied_go_on}
 
 -- ---- a lock is asked for
 
@@ -56,6 +61,10 @@ granted_free false (Some r) name e = absurd (cc)
 unformed_denies : (holder : Option RefParts) (name : Term) → copied_grants false (λ n. holder) name ≡ false
 unformed_denies None name = refl
 unformed_denies (Some r) name = refl
+
+-- a formed node grants what is free
+pub free_granted : (m : Nodes) (s : State) (name : Term) → formed m s ≡ true → s.locks name ≡ None → copied_would_grant m s name ≡ true
+free_granted m s name full free = λ i. copied_grants (full i) (λ n. free i) name
 
 -- so the lock protocol goes on
 pub request_keeps : (w : World) (a p : Node) (m : Nodes) (c : ℕ) (N : Term) (rest : List Message) → Inv w → near w p a → w.wire p a ≡ Call (numbered p c) (SetLock N) ∷ rest
@@ -71,6 +80,11 @@ denied_none true locks name r e none = absurd (cc)
 pub request_unlocked : (m : Nodes) (p : Node) (r : RefParts) (name : Term) (s : State) → Unlocked m s → Unlocked m ((copied_lock_request m p r name s).state)
 request_unlocked m p r name s free unformed = denied_none (copied_would_grant m s name) s.locks name r
     (ap (λ b. copied_grants b s.locks name) unformed ∙ unformed_denies (s.locks name) name) (free unformed)
+
+-- a lock that its holder gives back is free
+pub freed_free : (name : Term) (r : RefParts) (s : State) → s.locks name ≡ Some r → (copied_lock_freed name r s).state.locks name ≡ None
+unfolding held
+freed_free name r s is = ap (λ o. given_up (is_holder o r) s.locks name name) is ∙ ap (λ b. given_up b s.locks name name) (references.refl r) ∙ ap (λ b. cond b None (s.locks name)) (terms.refl name)
 
 -- ---- an update is told
 
@@ -109,6 +123,10 @@ pub exchange_tabled : (config : Config) → IsDistinct same_atom (names_of confi
     → TableIs config i name s [] → TableIs config i name ((copied_exchange (name_at config p) (groups_at config p) s).state) []
 exchange_tabled config apart i p pair s new name is =
     ap (λ (f : Table). f name) (merges_all s.table (groups_at config p) s.ended) ∙ exchange_step config apart i p pair s new name is
+
+-- and its node is noted, so that a node to which none is on the way is formed
+pub exchange_noted : (p : Node) (groups : GroupList) (s : State) → ((copied_exchange p groups s).state).merged p ≡ true
+exchange_noted p groups s = upd_same same_atom atoms s.merged p true
 
 -- ---- an attempt
 
@@ -158,3 +176,35 @@ module _ (w : World) (a : Node) (peers : List Node) (sits : Sits w.nodes w.seen 
           (begin_keeps w a peers sits c op u lead st la is (all refl) inv)
           (λ x y l h z d k i. replies_in_keeps (remade w x y l h z) a peers sits la i (x a).references ((x a).uses (x a).references) refl)
       go false all = fails w a peers sits la inv c op u lead st is (none_missing m st) refl
+
+-- ---- a round
+
+-- where one has denied no reference has all that it gathers any more
+denied_settled : (m : Nodes) (P : RefParts → Type 0) → ((c : ℕ) → P (own_reference m c)) → (c : ℕ) (op : OpId) (u : Update) (st : Node → Status) (s : State) → Unsettled m P c s
+    → Settled m P ((copied_denied_round m c op u st s).state)
+denied_settled m P own c op u st s before = given_up_settled m P own c op u st s before
+
+-- so it is whatever a round leads to
+pub round_settled : (m : Nodes) (P : RefParts → Type 0) → ((c : ℕ) → P (own_reference m c)) → (c : ℕ) (op : OpId) (u : Update) (lead : Node) (st : Node → Status) (s : State) → s.uses c ≡ Locking op u lead st
+    → Unsettled m P c s → Settled m P ((copied_go_on m c (Locking op u lead st) s).state)
+round_settled m P own c op u lead st s is before = go (none_missing m st) (does_wait (after_round (round_of lead st) (none_denied m st))) refl
+  where
+    go : (b d : Bool) → none_missing m st ≡ b
+        → Settled m P ((cond b (cond d (copied_denied_round m c op u st s) (and_then (ask m (λ q. true) c op u lead st s) (λ t. locks_in m c (t.uses c) t))) (becomes s)).state)
+    go true true _ = denied_settled m P own c op u st s before
+    go true false _ = asked_settled m P own c op u lead st s before
+    go false d some = missing_settled m P own c op u lead st s is some before
+
+-- and what follows a denial is no more than what the reference led to before, so that takes alone come to an end
+denied_pays : (m : Nodes) (n : ℕ) (name : ℕ → Node) (c : ℕ) (op : OpId) (u : Update) (lead : Node) (st : Node → Status) (s : State) → s.uses c ≡ Locking op u lead st → Made m n name s
+    → Pays m n name s (copied_denied_round m c op u st s)
+denied_pays m n name c op u lead st s is made = gives_up_pay m n name s c op u lead st made is
+
+pub round_pays : (m : Nodes) (n : ℕ) (name : ℕ → Node) (c : ℕ) (op : OpId) (u : Update) (lead : Node) (st : Node → Status) (s : State) → s.uses c ≡ Locking op u lead st → Made m n name s
+    → Pays m n name s (copied_go_on m c (Locking op u lead st) s)
+round_pays m n name c op u lead st s is made = go (none_missing m st) (does_wait (after_round (round_of lead st) (none_denied m st)))
+  where
+    go : (b d : Bool) → Pays m n name s (cond b (cond d (copied_denied_round m c op u st s) (and_then (ask m (λ q. true) c op u lead st s) (λ t. locks_in m c (t.uses c) t))) (becomes s))
+    go true true = denied_pays m n name c op u lead st s is made
+    go true false = round_goes_pay m n name s c op u lead st made is
+    go false d = stays m n name s made

@@ -1,6 +1,7 @@
 -- Steps of losses once more, and why a command is refused, word for word, each to be made wrong by an edit of edits/. What the laws
 -- need of them is proved in `Tried`.
-use Rattle.std.specs.Prelude.{true, cond, [], ◌∷◌, Option, None, Result, Err, option_map}
+use Rattle.std.specs.Prelude.{true, not, cond, [], ◌∷◌, Option, None, Result, Err, option_map}
+use Rattle.std.specs.List.{filter}
 use Rattle.pg_term.specs.Same.{same_atom}
 use Rattle.pg_group.specs.Ended.{ended_with}
 use Rattle.pg_group.specs.Functions.{upd}
@@ -13,7 +14,8 @@ use Rattle.pg_step.specs.Commands.{ends_again, ends_unformed, ends_unmade, has_f
 use Rattle.pg_step.specs.Faults.{first_that_holds}
 use Rattle.pg_step.specs.Losses.{forgets}
 use Rattle.pg_step.specs.Nodes.{Node, Nodes}
-use Rattle.pg_step.specs.State.{State, left}
+use Rattle.pg_step.specs.State.{State, Status, left}
+use Rattle.pg_step.specs.State.Status.{Unasked}
 use Rattle.pg_step.specs.Step.{taken}
 use Rattle.pg_step.specs.Turns.{NodeTurn, becomes}
 use Rattle.pg_step.specs.declared.command.Command.{Command}
@@ -46,3 +48,11 @@ abbrev pub copied_fault_of : Nodes → State → Command → Option CommandFault
 copied_fault_of m s c = first_that_holds (
     (has_large_name c, NameTooLarge) ∷ (has_foreign_pid m c, ForeignPid) ∷ (ends_unformed m s c, NotFormed)
     ∷ (ends_unmade s c, NotMade) ∷ (ends_again s c, AlreadyEnded) ∷ (passes_limit s c, ProcessLimit) ∷ [])
+
+-- the nodes that count for a node
+abbrev pub copied_left : Nodes → State → Nodes
+copied_left m s = record { own = m.own; peers = filter (λ q. not (s.lost q)) m.peers }
+
+-- what comes of the nodes that are asked for a lock, where the loss of one is seen
+abbrev pub copied_forgotten : Node → (Node → Status) → Node → Status
+copied_forgotten peer st = upd same_atom st peer Unasked

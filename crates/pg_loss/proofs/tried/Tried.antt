@@ -1,6 +1,7 @@
 -- What the laws of losses need of the copied steps, proved of each as of the machine's own.
-use Rattle.std.proofs.Common.{◌≡◌, ◌≢◌, ◌⊎◌, inl, inr, Bool, true, false, ◌||◌, cond, Some, None, Ok, Err, refl, ap, sym, ◌∙◌}
+use Rattle.std.proofs.Common.{◌≡◌, ◌≢◌, ◌⊎◌, inl, inr, ◌≤◌, Bool, true, false, not, ◌||◌, cond, Some, None, Ok, Err, refl, ap, sym, ◌∙◌, subst, arith}
 use Rattle.std.specs.Prelude.{option_map}
+use Rattle.std.specs.List.{list_all}
 use Rattle.pg_term.specs.declared.pid.Pid.{Pid}
 use Rattle.pg_term.specs.Same.{same_atom}
 use Rattle.pg_group.specs.Functions.{upd}
@@ -11,16 +12,20 @@ use Rattle.pg_message.specs.declared.message.Message.{Message}
 use Rattle.pg_machine.specs.Losing.{LosingWorld}
 use Rattle.pg_machine.specs.Machine.{Event, Machine, happens, node_of}
 use Rattle.pg_step.specs.Nodes.{Node, Nodes}
-use Rattle.pg_step.specs.State.{State, formed, left}
+use Rattle.pg_step.specs.State.{State, Status, formed, left}
+use Rattle.pg_step.specs.State.Status.{Unasked}
 use Rattle.pg_step.specs.Step.{taken}
 use Rattle.pg_step.specs.Turns.{NodeTurn}
 use Rattle.pg_step.specs.declared.command.Command.TheVariants.{Finish}
 use Rattle.pg_step.specs.declared.refusal.Refusal.TheVariants.{NodeLost}
+use Rattle.pg_history.proofs.quiet.Weights.{status_weight}
 use Rattle.pg_history.proofs.references.Keys.{atoms, read_other, split}
+use Rattle.pg_history.proofs.references.Keys.{upd_other as upd_not, upd_same}
 use Rattle.pg_loss.proofs.OwnEnds.{was_made}
+use Rattle.pg_loss.proofs.Retries.{every_left}
 use Rattle.pg_loss.proofs.Tabled.{HasEndedLost}
 use Rattle.pg_loss.proofs.Unheld.{Clear, freed_is}
-use Rattle.pg_loss.proofs.tried.Copies.{copied_fault_of, copied_goes, copied_see_loss, copied_takes}
+use Rattle.pg_loss.proofs.tried.Copies.{copied_fault_of, copied_forgotten, copied_goes, copied_left, copied_see_loss, copied_takes}
 
 -- who sees a loss holds no lock for the lost
 pub loss_frees : (own peer : Node) (s : State) → same_atom peer own ≡ false → Clear own s → Clear own (copied_see_loss peer s).state
@@ -56,3 +61,15 @@ lost_stops m w v e gone is = absurd (cc (sym is ∙ ap (λ b. cond b None (optio
 -- a process that is told to end, and not refused, was made
 pub end_was_made : (m : Nodes) (s : State) (pid : Pid) → copied_fault_of m s (Finish pid) ≡ None → is_among s.processes pid ≡ true
 end_was_made m s pid free = was_made (same_atom pid.node m.own) (formed m s) (is_among s.processes pid) (s.ended pid) free
+
+-- nobody waits for a node whose loss was seen: what all nodes pass that are not lost, each node passes that counts
+pub left_pass : (m : Nodes) (test : Node → Bool) (s : State) → list_all (λ q. cond (not (s.lost q)) (test q) true) m.peers ≡ true → list_all test (copied_left m s).peers ≡ true
+left_pass m test s all = every_left (λ q. not (s.lost q)) test m.peers all
+
+-- nor does a loss lead to more packets with the others
+pub others_remembered : (peer q : Node) (st : Node → Status) → peer ≢ q → status_weight (copied_forgotten peer st q) ≤ status_weight (st q)
+others_remembered peer q st other = subst (λ v. status_weight v ≤ status_weight (st q)) (sym (upd_not same_atom atoms st peer Unasked q other)) (omega arith)
+
+-- and the exchange of the lost node is not waited for
+pub loss_noted : (peer : Node) (s : State) → (copied_see_loss peer s).state.merged peer ≡ true
+loss_noted peer s = upd_same same_atom atoms s.merged peer true

@@ -1,5 +1,5 @@
 -- What a world of bytes shows once one of its nodes is lost, or a loss is seen.
-use Rattle.std.proofs.Common.{◌≡◌, ◌≢◌, ◌⊎◌, inl, inr, ℕ, zero, suc, ◌+◌, ◌<◌, ◌≤◌, Bool, true, false, not, ◌||◌, cond, map, take, length, List, [], ◌∷◌, ◌++◌, Option, Some, None, Result, Ok, Err, refl, sym, ap, ◌∙◌, arith, subst}
+use Rattle.std.proofs.Common.{◌≡◌, ◌≢◌, ◌⊎◌, inl, inr, ℕ, zero, suc, ◌+◌, ◌<◌, ◌≤◌, Bool, true, false, not, ◌||◌, cond, map, take, length, List, [], ◌∷◌, ◌++◌, Option, Some, Result, Ok, Err, refl, sym, ap, ◌∙◌, arith, subst}
 use Rattle.std.specs.Prelude.{slice_get, slice_set}
 use Rattle.std.specs.List.{AllByRecursion}
 use Rattle.std.proofs.lemmas.Bool.{cases_eq}
@@ -8,21 +8,20 @@ use Rattle.pg_frame.specs.declared.fault.TooLong.{TooLong}
 use Rattle.pg_frame.specs.Frames.{front_of}
 use Rattle.pg_message.specs.declared.message.Message.{Message}
 use Rattle.pg_message.specs.declared.packet.Packet.{Packet}
-use Rattle.pg_machine.specs.Places.{is_place, is_pair}
+use Rattle.pg_machine.specs.Places.{is_pair}
 use Rattle.pg_machine.specs.Clocked.{Timed, Stamped}
-use Rattle.pg_machine.specs.Losing.{Lose, can_keep}
+use Rattle.pg_machine.specs.Losing.{can_keep}
 use Rattle.pg_frame.specs.Pieces.{Bytes, ArePackets, AreCut, AreShort, StayWhole}
 use Rattle.pg_opens.specs.Places.{name_at as place_name}
 use Rattle.pg_step.specs.declared.answer.Answer.{Answer}
-use Rattle.pg_step.specs.declared.refusal.Refusal.{Refusal}
-use Rattle.pg_step.specs.declared.refusal.Refusal.TheVariants.{NoSuchPlace, NodeLost, NotLost, NotDrained}
+use Rattle.pg_step.specs.declared.refusal.Refusal.TheVariants.{NodeLost, NotLost, NotDrained}
 use Rattle.pg_step.specs.Config.{Config, name_at, names_of}
 use Rattle.pg_step.specs.LossLaws.{LosingFrameWorld, see_refusal}
 use Rattle.pg_step.specs.State.{State}
 use Rattle.pg_step.specs.Step.{TimedTurn, at_clock}
 use Rattle.pg_node.specs.declared.state.done.Done.{Done}
 use Rattle.pg_node.specs.declared.state.fault.NodeFault.{NodeFault}
-use Rattle.pg_node.specs.declared.state.fault.NodeFault.TheVariants.{Refused, OutOfMemory, Message as BadMessage, TooLong as FrameTooLong, Damaged}
+use Rattle.pg_node.specs.declared.state.fault.NodeFault.TheVariants.{Refused}
 use Rattle.pg_node.specs.Bytes.{is_drained, is_whole}
 use Rattle.pg_node.specs.Links.{Link}
 use Rattle.pg_node.specs.Nodes.{step_lose}
@@ -30,11 +29,11 @@ use Rattle.pg_node.specs.States.{Comes, Happens, step_see_loss}
 use Rattle.pg_world.specs.declared.step.Stepped.TheVariants.{Happened, Gone}
 use Rattle.pg_world.specs.Bars.{has_bytes}
 use Rattle.pg_world.specs.BytesLosing.{ShowsLosingBytes, SightComesTo, LossComesTo}
-use Rattle.pg_world.specs.Crossings.{Crossing, link_at, bytes_at, packet_as, packets_between, written_of, CanCross, IsOnWay, ShowsBytesPast}
+use Rattle.pg_world.specs.Crossings.{Crossing, link_at, bytes_at, packet_as, packets_between, written_of, CanCross, IsOnWay}
 use Rattle.pg_world.specs.Losing.{losing_of, is_cut_off, told_sight, LosingComesTo}
 use Rattle.pg_world.specs.Losses.{is_lost}
 use Rattle.pg_world.specs.Views.{Seen, Account, peer_place}
-use Rattle.pg_world.specs.Worlds.{TimedFrameWorld, ShowsNodes, ShowsNode}
+use Rattle.pg_world.specs.Worlds.{TimedFrameWorld, ShowsNodes}
 use Rattle.pg_world.proofs.over_bytes.Past.{sight_from}
 use Rattle.pg_world.proofs.Crossed.{all_short}
 use Rattle.pg_world.proofs.Peering.{named, peer_name, there_and_back}

@@ -20,11 +20,11 @@ use Rattle.pg_world.specs.declared.step.FrameStep.TheVariants as frames
 use Rattle.pg_world.specs.declared.step.Stepped.{Stepped}
 use Rattle.pg_world.specs.declared.step.Stepped.TheVariants.{Happened, Moved, Nothing, Gone}
 use Rattle.pg_world.specs.Bars.{put_bar, pull_bar}
-use Rattle.pg_world.specs.BytesLosing.{ShowsLosingBytes, MoveLeaves, WholeComesTo, SightComesTo, LossComesTo, EventLeaves, put_refusal, pull_refusal, gone_refusal}
+use Rattle.pg_world.specs.BytesLosing.{ShowsLosingBytes, MoveLeaves, WholeComesTo, SightComesTo, EventLeaves, put_refusal, pull_refusal, gone_refusal}
 use Rattle.pg_world.specs.Crossings.{Crossing, ShowsBytesPast, EventComesTo, MoveComesTo, is_take}
 use Rattle.pg_world.specs.Losing.{SeenAreLost, losing_of, is_cut_off, is_barred, Telling, told_take, told_own, told_of, LosingLed, LosingComesTo}
 use Rattle.pg_world.specs.Losses.{is_lost}
-use Rattle.pg_world.specs.Views.{Seen, Account}
+use Rattle.pg_world.specs.Views.{Account}
 use Rattle.pg_world.specs.Worlds.{TimedFrameWorld, ShowsNodes, has_port, has_places, told}
 use Rattle.pg_world.proofs.Barred.{cut_is, barred_told, unplaced_told, take_cut, either_stays, take_refused_so, take_busy_so, own_refused_so}
 use Rattle.pg_world.proofs.Lossy.{lifted, lost_kept}

@@ -1,5 +1,5 @@
 -- What steps over bytes come to where nodes may be lost, by their numbers.
-use Rattle.std.proofs.Common.{◌≡◌, ◌⊎◌, inl, inr, ℕ, true, false, cond, Option, Some, None, Result, Ok, Err, refl, sym, ap, ◌∙◌, subst}
+use Rattle.std.proofs.Common.{◌≡◌, inl, inr, ℕ, cond, Option, Result, Ok, Err, refl, sym, ap, subst}
 use Rattle.std.specs.Option.{option_map_or}
 use Rattle.pg_machine.specs.Losing.{LosingEvent, Lose}
 use Rattle.pg_step.specs.declared.refusal.Refusal.{Refusal}
@@ -11,16 +11,15 @@ use Rattle.pg_step.specs.Step.{Action}
 use Rattle.pg_node.specs.NodeFault.{node_number_of}
 use Rattle.pg_node.specs.declared.state.fault.NodeFault.{NodeFault}
 use Rattle.pg_node.specs.declared.state.fault.NodeFault.TheVariants.{Refused, OutOfMemory, Message as BadMessage, TooLong, Damaged}
-use Rattle.pg_world.specs.declared.step.FrameStep.{FrameStep}
 use Rattle.pg_world.specs.declared.step.FrameStep.TheVariants as frames
 use Rattle.pg_world.specs.declared.step.Step.{Step}
 use Rattle.pg_world.specs.declared.step.Step.TheVariants as steps
 use Rattle.pg_world.specs.declared.step.Stepped.{Stepped}
 use Rattle.pg_world.specs.declared.step.Stepped.TheVariants.{Happened, Moved, Nothing, Gone}
-use Rattle.pg_world.specs.BytesLosing.{MoveLeaves, WholeComesTo, SightComesTo, LossComesTo, EventLeaves, StepLeaves, put_refusal, pull_refusal, gone_refusal}
+use Rattle.pg_world.specs.BytesLosing.{MoveLeaves, WholeComesTo, SightComesTo, LossComesTo, StepLeaves, put_refusal, pull_refusal, gone_refusal}
 use Rattle.pg_world.specs.BytesLosingRuns.{bytes_past_losses, IsBytesEvent, IsBytesLeftOut, HasNumber, IsLossOf}
 use Rattle.pg_world.specs.Losing.{Telling, LosingComesTo, told_of, told_take, told_sight}
-use Rattle.pg_world.specs.LosingRuns.{LosingStepsTo, IsToldEvent, IsLeftOut, number_left}
+use Rattle.pg_world.specs.LosingRuns.{LosingStepsTo, IsToldEvent, IsLeftOut}
 
 -- what came of a step, by its number: it is no fault, or the fault's number
 abbrev numbered : Result Stepped NodeFault → ℕ

@@ -1,7 +1,6 @@
 -- A node over bytes that would see the loss of a peer: what it is given, and which bytes stay.
-use Rattle.std.proofs.Common.{◌≡◌, ◌≢◌, ◌⊎◌, inl, inr, ℕ, ◌+◌, ◌<◌, true, false, get_or, length, List, Result, Ok, Err, refl, sym, ap, ◌∙◌, subst}
+use Rattle.std.proofs.Common.{◌≡◌, ◌≢◌, ℕ, ◌+◌, ◌<◌, true, false, get_or, length, List, Result, refl, sym, ap, ◌∙◌, subst}
 use Rattle.std.specs.Prelude.{slice_set}
-use Rattle.std.proofs.lemmas.Bool.{cases_eq}
 use Rattle.pg_group.specs.declared.table.GroupTable.{Ghosts}
 use Rattle.pg_machine.specs.Places.{is_pair}
 use Rattle.pg_machine.specs.Clocked.{Timed}
@@ -16,7 +15,6 @@ use Rattle.pg_node.specs.Links.{Link, at_link}
 use Rattle.pg_node.specs.Nodes.{held_by, links_of, step_lose}
 use Rattle.pg_node.specs.States.{names_of, state_of, answers_of, Comes}
 use Rattle.pg_world.specs.declared.rings.Rings.{Rings}
-use Rattle.pg_world.specs.Changes.{links_at}
 use Rattle.pg_world.specs.Crossings.{crossing_in, node_of, link_at, bytes_at}
 use Rattle.pg_world.specs.Losses.{is_lost}
 use Rattle.pg_world.specs.Views.{peer_place, place_of_peer}

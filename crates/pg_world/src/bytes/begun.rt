@@ -11,7 +11,7 @@ ghost use Rattle.pg_world.specs.Starts.{seen_first, firsts};
 ghost use Rattle.pg_world.specs.BytesStart.{OpensLinks};
 
 use crate::begun::ready;
-use crate::bytes::World;
+use crate::bytes::ByteNodes;
 use crate::config::Config;
 use crate::fault::WorldFault;
 use crate::starts::node_at;
@@ -20,7 +20,7 @@ use pg_node::{Node, NodeFault};
 use pg_step::Start;
 use std::alloc::Global;
 
-impl World<IndexTable> {
+impl ByteNodes<IndexTable> {
     ghost use Rattle.pg_world.specs.Histories.{account_of};
     ghost use Rattle.pg_world.specs.BytesStart.{BytesBegin, OpensBytes};
     ghost use Rattle.pg_world.specs.Crossings.{crossing_of, room_of};
@@ -31,9 +31,10 @@ impl World<IndexTable> {
     /// and the ring from each to each other is empty. Its cost is that of `FrameWorld::new`, and of the rings.
     ///
     /// Faults: those of `FrameWorld::new`.
-    pub fn new(alloc: Global, config: &Config) -> Result<World<IndexTable>, WorldFault>
+    pub(crate) fn new(alloc: Global, config: &Config) -> Result<ByteNodes<IndexTable>, WorldFault>
         ensures good { IfOk result (λ world. IsConfig config.now.starts.items × IsCapacity config.now.ring) }
         ensures fits { IfOk result (λ world. AllFit config.now.starts.items) }
+        ensures few { IfOk result (λ world. have_few config.now.starts.items ≡ true) }
         ensures begins { IfOk result (λ world. BytesBegin config.now.starts.items (crossing_of world) (account_of world.histories)) }
         ensures opens { IfOk result (λ world. OpensBytes config.now.starts.items (crossing_of world)) }
         ensures room { IfOk result (λ world. room_of world ≡ config.now.ring) }
@@ -41,13 +42,17 @@ impl World<IndexTable> {
         ensures fault { IfErr result (CantBegin config.now.ring config.now.starts.items) }
     {
         match ready(alloc, config) {
-            Ok(()) => World::begun(alloc, config.starts.as_slice(), config.ring),
+            Ok(()) => ByteNodes::begun(alloc, config.starts.as_slice(), config.ring),
             Err(fault) => Err(fault),
         }
     }
 
     /// The same of nodes that can start.
-    fn begun(alloc: Global, starts: &[Start], ring: usize) -> Result<World<IndexTable>, WorldFault>
+    fn begun(
+        alloc: Global,
+        starts: &[Start],
+        ring: usize,
+    ) -> Result<ByteNodes<IndexTable>, WorldFault>
         requires ready { AreReady starts.now }
         requires capacity { IsCapacity ring }
         ensures fits { IfOk result (λ world. AllFit starts.now) }
@@ -58,7 +63,7 @@ impl World<IndexTable> {
         ensures fault { IfErr result (CantStart starts.now) }
     {
         match opened_nodes(alloc, starts) {
-            Ok(nodes) => Ok(World::idle(alloc, nodes, ring)?),
+            Ok(nodes) => Ok(ByteNodes::idle(alloc, nodes, ring)?),
             Err(fault) => Err(fault),
         }
     }

@@ -2,7 +2,7 @@
 
 ghost use Rattle.std.specs.Prelude.{◌≡◌, true, false, Err, length};
 
-use crate::bytes::World;
+use crate::bytes::ByteNodes;
 use crate::losses::let_go;
 use crate::step::{FrameStep, Stepped};
 use crate::world::peer_place;
@@ -13,7 +13,7 @@ use pg_node::NodeFault;
 use pg_step::Refusal;
 use std::alloc::AllocError;
 
-impl<T: GroupTable + Drop> World<T> {
+impl<T: GroupTable + Drop> ByteNodes<T> {
     ghost use Rattle.pg_machine.specs.Places.{is_pair};
     ghost use Rattle.pg_step.specs.Config.{Config};
     ghost use Rattle.pg_step.specs.LossLaws.{LosingFrameWorld};
@@ -28,13 +28,6 @@ impl<T: GroupTable + Drop> World<T> {
     ghost use Rattle.pg_world.specs.Losses.{lost_in, is_lost};
     ghost use Rattle.pg_world.specs.Losing.{told_sight, lost_with, seen_at, is_cut_off, is_barred};
     ghost use Rattle.pg_world.specs.Worlds.{has_places};
-
-    /// Whether a node is lost. It takes no memory: O(n) in the nodes that are lost.
-    pub fn is_lost(&self, node: usize) -> bool
-        ensures { result ≡ is_lost (lost_in self.now.losses) node }
-    {
-        self.losses.has(node)
-    }
 
     /// Whether an event is one of a node that is lost, or one with a peer whose loss the node has seen.
     pub(crate) fn is_barred(&self, event: &FrameStep) -> bool

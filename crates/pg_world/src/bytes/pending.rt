@@ -2,14 +2,14 @@
 
 ghost use Rattle.std.specs.Prelude.{◌≡◌, IfOk};
 
-use crate::bytes::World;
+use crate::bytes::ByteNodes;
 use crate::pending::pending_among;
 use pg_group::GroupTable;
 use pg_node::NodeState;
 use pg_term::Pid;
 use std::alloc::AllocError;
 
-impl<T: GroupTable + Drop> World<T> {
+impl<T: GroupTable + Drop> ByteNodes<T> {
     ghost use Rattle.pg_world.specs.Crossings.{crossing_of};
     ghost use Rattle.pg_world.specs.Losses.{lost_in};
     ghost use Rattle.pg_world.specs.Pending.{lent_as, nodes_left, pending_of};
@@ -19,7 +19,7 @@ impl<T: GroupTable + Drop> World<T> {
     /// process that was made at one, and the memory of the list.
     ///
     /// Error: `AllocError`.
-    pub fn pending_ends(&self) -> Result<Vec<Pid>, AllocError>
+    pub(crate) fn pending_ends(&self) -> Result<Vec<Pid>, AllocError>
         ensures list { IfOk result (λ pids. pids.items ≡ pending_of (crossing_of self.now).nodes (lost_in self.now.losses)) }
     {
         let left = self.nodes_left()?;

@@ -5,14 +5,14 @@ ghost use Rattle.pg_ring.specs.Capacity.{IsCapacity};
 ghost use Rattle.pg_step.specs.Config.{Config as Configuration, IsConfig};
 ghost use Rattle.pg_world.specs.BytesLosing.{ShowsLosingBytes as shows_losing};
 ghost use Rattle.pg_world.specs.BytesLosingRuns.{bytes_past_losses as over_bytes_past};
-ghost use Rattle.pg_world.specs.Crossings.{ShowsBytes as shows_bytes, crossing_of as shown_by, room_of as room_in};
-ghost use Rattle.pg_world.specs.Histories.{account_of as kept_of};
-ghost use Rattle.pg_world.specs.Losses.{lost_in as lost_by};
+ghost use Rattle.pg_world.specs.ByteWorlds.{account_of as kept_of, crossing_of as shown_by, given_of as given_by, lost_of as lost_by, room_of as room_in};
+ghost use Rattle.pg_world.specs.Crossings.{ShowsBytes as shows_bytes};
+ghost use Rattle.pg_world.specs.CrossingRuns.{AreLeft as AreLeftBy, RanCrossing};
 ghost use Rattle.pg_world.specs.LosingRuns.{RanLosing};
 ghost use Rattle.pg_world.specs.Openings.{AllFit, CantBegin};
 ghost use Rattle.pg_world.specs.Runs.{Ran, NobodyLost as NoneIsLost, over_bytes};
 
-use crate::bytes::World;
+use crate::byte_world::World;
 use crate::config::Config;
 use crate::fault::WorldFault;
 use crate::step::Step;
@@ -23,31 +23,41 @@ use pg_loss::each_world_past_losses;
 use std::alloc::Global;
 
 impl<T: GroupTable + Drop> World<T> {
-    ghost use Rattle.pg_world.specs.Crossings.{IsReached, ShowsBytes, crossing_of, room_of, is_loss_in};
+    ghost use Rattle.pg_world.specs.ByteWorlds.{account_of, crossing_of, given_of, lost_of, room_of};
+    ghost use Rattle.pg_world.specs.Crossings.{IsReached, ShowsBytes, is_loss_in};
     ghost use Rattle.pg_step.specs.LossLaws.{LosingFrameWorld};
     ghost use Rattle.pg_world.specs.BytesLosing.{IsReachedLosing, ShowsLosingBytes};
     ghost use Rattle.pg_world.specs.BytesLosingRuns.{bytes_past_losses};
     ghost use Rattle.pg_world.specs.LosingRuns.{LosingStepsTo, LosingGoesTo};
-    ghost use Rattle.pg_world.specs.Losses.{lost_in};
-    ghost use Rattle.pg_world.specs.Histories.{account_of};
+    ghost use Rattle.pg_world.specs.CrossingRuns.{AreLeft, Crosses, CrossesAll};
+    ghost use Rattle.pg_world.specs.Past.{BytesCrossOn, HistoriesGrow};
     ghost use Rattle.pg_world.specs.Runs.{StepsTo, GoesTo, NobodyLost, over_bytes};
     ghost use Rattle.pg_world.specs.Worlds.{TimedFrameWorld};
 
     /// Makes steps, one after another, and writes the number of each in its place: 0 where it happened, bytes moved, or no whole
     /// packet had come; else that of its fault. A step that is refused changes nothing of what the world shows, and the others
     /// follow. Its cost is that of the steps.
+    ///
+    /// The events that led to the world lead on by those of the steps that happened, and of all of them holds what `step` says.
     pub fn run(&mut self, steps: &[Step], numbers: &mut Vec<u8>)
         requires { length numbers.old.items ≡ length steps.now }
         ensures len { length numbers.new.items ≡ length steps.now }
+        ensures runs_on { ∥ BytesCrossOn (given_of self.old) (room_of self.old) (crossing_of self.old) (account_of self.old) (lost_of self.old) steps.now numbers.new.items (crossing_of self.new) (account_of self.new) (lost_of self.new) ∥₁ }
+        ensures grows { HistoriesGrow (account_of self.old) (account_of self.new) }
+        ensures given { given_of self.new ≡ given_of self.old }
         ensures room { room_of self.new ≡ room_of self.old }
-        ensures ran { NobodyLost steps.now → (config : Configuration) (w : TimedFrameWorld) → lost_in self.old.losses ≡ [] → IsReached config w
-            → ShowsBytes config (crossing_of self.old) (account_of self.old.histories) w
-            → GoesTo over_bytes config w steps.now numbers.new.items (ShowsBytes config (crossing_of self.new) (account_of self.new.histories)) }
-        ensures lost { NobodyLost steps.now → lost_in self.new.losses ≡ lost_in self.old.losses }
+        ensures ran { NobodyLost steps.now → (config : Configuration) (w : TimedFrameWorld) → lost_of self.old ≡ [] → IsReached config w
+            → ShowsBytes config (crossing_of self.old) (account_of self.old) w
+            → GoesTo over_bytes config w steps.now numbers.new.items (ShowsBytes config (crossing_of self.new) (account_of self.new)) }
+        ensures lost { NobodyLost steps.now → lost_of self.new ≡ lost_of self.old }
         ensures losing { (config : Configuration) (u : LosingFrameWorld) → IsReachedLosing config u
-            → ShowsLosingBytes config (crossing_of self.old) (account_of self.old.histories) (lost_in self.old.losses) u
-            → LosingGoesTo bytes_past_losses config u steps.now numbers.new.items (ShowsLosingBytes config (crossing_of self.new) (account_of self.new.histories) (lost_in self.new.losses)) }
+            → ShowsLosingBytes config (crossing_of self.old) (account_of self.old) (lost_of self.old) u
+            → LosingGoesTo bytes_past_losses config u steps.now numbers.new.items (ShowsLosingBytes config (crossing_of self.new) (account_of self.new) (lost_of self.new)) }
+        ensures crosses { (config : Configuration) (u : LosingFrameWorld) → IsReachedLosing config u
+            → ShowsLosingBytes config (crossing_of self.old) (account_of self.old) (lost_of self.old) u
+            → CrossesAll config (room_of self.old) (crossing_of self.old) u steps.now numbers.new.items (AreLeft config (crossing_of self.new) (account_of self.new) (lost_of self.new)) }
     {
+        each_world_past_losses();
         for place in 0..steps.len() {
             let number = self.step_number(&steps[place]);
             numbers[place] = number;
@@ -56,14 +66,18 @@ impl<T: GroupTable + Drop> World<T> {
 
     /// Makes one step, and tells its number.
     fn step_number(&mut self, step: &Step) -> u8
+        ensures given { given_of self.new ≡ given_of self.old }
         ensures room { room_of self.new ≡ room_of self.old }
-        ensures steps { is_loss_in step.now ≡ false → (config : Configuration) (w : TimedFrameWorld) → lost_in self.old.losses ≡ [] → IsReached config w
-            → ShowsBytes config (crossing_of self.old) (account_of self.old.histories) w
-            → StepsTo over_bytes config w step.now result (ShowsBytes config (crossing_of self.new) (account_of self.new.histories)) }
-        ensures lost { is_loss_in step.now ≡ false → lost_in self.new.losses ≡ lost_in self.old.losses }
+        ensures steps { is_loss_in step.now ≡ false → (config : Configuration) (w : TimedFrameWorld) → lost_of self.old ≡ [] → IsReached config w
+            → ShowsBytes config (crossing_of self.old) (account_of self.old) w
+            → StepsTo over_bytes config w step.now result (ShowsBytes config (crossing_of self.new) (account_of self.new)) }
+        ensures lost { is_loss_in step.now ≡ false → lost_of self.new ≡ lost_of self.old }
         ensures losing { (config : Configuration) (u : LosingFrameWorld) → IsReachedLosing config u
-            → ShowsLosingBytes config (crossing_of self.old) (account_of self.old.histories) (lost_in self.old.losses) u
-            → LosingStepsTo bytes_past_losses config u step.now result (ShowsLosingBytes config (crossing_of self.new) (account_of self.new.histories) (lost_in self.new.losses)) }
+            → ShowsLosingBytes config (crossing_of self.old) (account_of self.old) (lost_of self.old) u
+            → LosingStepsTo bytes_past_losses config u step.now result (ShowsLosingBytes config (crossing_of self.new) (account_of self.new) (lost_of self.new)) }
+        ensures crosses { (config : Configuration) (u : LosingFrameWorld) → IsReachedLosing config u
+            → ShowsLosingBytes config (crossing_of self.old) (account_of self.old) (lost_of self.old) u
+            → Crosses config (room_of self.old) (crossing_of self.old) u step.now result (AreLeft config (crossing_of self.new) (account_of self.new) (lost_of self.new)) }
     {
         match self.step(step) {
             Ok(_) => 0,
@@ -81,6 +95,8 @@ impl<T: GroupTable + Drop> World<T> {
 /// Whoever is lost, and wherever its bytes are cut then, the steps that happened are the events of a run of the machine with losses, and
 /// everything holds that `LossesSurvived` says of the world to which they lead.
 ///
+/// Each step did what its number tells: it moved as many bytes as it has to move, or its event happened, or nothing changed.
+///
 /// Faults: those of `World::new`.
 pub fn run(
     alloc: Global,
@@ -89,11 +105,14 @@ pub fn run(
 ) -> Result<(World<IndexTable>, Vec<u8>), WorldFault>
     ensures good { IfOk result (λ ran. IsConfig config.now.starts.items × IsCapacity config.now.ring) }
     ensures fits { IfOk result (λ ran. AllFit config.now.starts.items) }
+    ensures given { IfOk result (λ ran. given_by ran.0 ≡ config.now.starts.items) }
     ensures room { IfOk result (λ ran. room_in ran.0 ≡ config.now.ring) }
     ensures ran { IfOk result (λ ran. NoneIsLost steps.now → Ran over_bytes config.now.starts.items steps.now ran.1.items
-        (λ given. shows_bytes given (shown_by ran.0) (kept_of ran.0.histories))) }
+        (λ given. shows_bytes given (shown_by ran.0) (kept_of ran.0))) }
     ensures losing { IfOk result (λ ran. RanLosing over_bytes_past config.now.starts.items steps.now ran.1.items
-        (λ given. shows_losing given (shown_by ran.0) (kept_of ran.0.histories) (lost_by ran.0.losses))) }
+        (λ given. shows_losing given (shown_by ran.0) (kept_of ran.0) (lost_by ran.0))) }
+    ensures crosses { IfOk result (λ ran. RanCrossing config.now.starts.items config.now.ring steps.now ran.1.items
+        (λ given. AreLeftBy given (shown_by ran.0) (kept_of ran.0) (lost_by ran.0))) }
     ensures fault { IfErr result (CantBegin config.now.ring config.now.starts.items) }
 {
     one_history();

@@ -4,13 +4,13 @@ ghost use Rattle.std.specs.Prelude.{◌≡◌, ◌≢◌, ◌<◌, ◌+◌, ◌�
 
 use crate::losses::let_go;
 use crate::step::{FrameStep, Stepped};
-use crate::world::{FrameWorld, peer_place};
+use crate::world::{FrameNodes, peer_place};
 use pg_group::GroupTable;
 use pg_node::NodeFault;
 use pg_step::Refusal;
 use std::alloc::AllocError;
 
-impl<T: GroupTable + Drop> FrameWorld<T> {
+impl<T: GroupTable + Drop> FrameNodes<T> {
     ghost use Rattle.pg_machine.specs.Places.{is_pair};
     ghost use Rattle.pg_step.specs.Config.{Config};
     ghost use Rattle.pg_step.specs.LossLaws.{LosingFrameWorld};
@@ -20,13 +20,6 @@ impl<T: GroupTable + Drop> FrameWorld<T> {
     ghost use Rattle.pg_world.specs.Losing.{lost_of, lost_with, seen_at, is_cut_off, is_barred, told_sight, told_loss, ShowsLosing, LosingComesTo};
     ghost use Rattle.pg_world.specs.Views.{CanStay, on_the_way};
     ghost use Rattle.pg_world.specs.Worlds.{traffic_of, view_of, has_places};
-
-    /// Whether a node is lost. It takes no memory: O(n) in the nodes that are lost.
-    pub fn is_lost(&self, node: usize) -> bool
-        ensures { result ≡ is_lost (lost_of self.now) node }
-    {
-        self.losses.has(node)
-    }
 
     /// Whether a step is one of a node that is lost, or one with a peer whose loss the node has seen.
     pub(crate) fn is_barred(&self, step: &FrameStep) -> bool

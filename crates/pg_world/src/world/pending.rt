@@ -3,13 +3,13 @@
 ghost use Rattle.std.specs.Prelude.{◌≡◌, IfOk};
 
 use crate::pending::pending_among;
-use crate::world::FrameWorld;
+use crate::world::FrameNodes;
 use pg_group::GroupTable;
 use pg_node::NodeState;
 use pg_term::Pid;
 use std::alloc::AllocError;
 
-impl<T: GroupTable + Drop> FrameWorld<T> {
+impl<T: GroupTable + Drop> FrameNodes<T> {
     ghost use Rattle.pg_world.specs.Losing.{lost_of};
     ghost use Rattle.pg_world.specs.Pending.{lent_as, nodes_left, pending_of};
     ghost use Rattle.pg_world.specs.Worlds.{traffic_of};
@@ -19,7 +19,7 @@ impl<T: GroupTable + Drop> FrameWorld<T> {
     /// process that was made at one, and the memory of the list.
     ///
     /// Error: `AllocError`.
-    pub fn pending_ends(&self) -> Result<Vec<Pid>, AllocError>
+    pub(crate) fn pending_ends(&self) -> Result<Vec<Pid>, AllocError>
         ensures list { IfOk result (λ pids. pids.items ≡ pending_of (traffic_of self.now).nodes (lost_of self.now)) }
     {
         let left = self.nodes_left()?;

@@ -1,7 +1,7 @@
 use Rattle.std.proofs.Common.{map, refl, string_bytes}
 use Rattle.clap.specs.Words.{fault_of, kind_of, subcommand_of}
 use Rattle.pg2sim.specs.CommandLine.{command_line}
-use Rattle.pg2sim.proofs.Ends.{not_other, not_read, not_spoken, only_memory, same_names, script_not_read, spoken, script_no_bytes, script_no_threads, threads_no_bytes, threads_no_script}
+use Rattle.pg2sim.proofs.Ends.{not_other, not_read, not_spoken, only_memory, same_names, script_not_read, spoken, script_no_bytes, script_no_threads, serve_no_bytes, serve_no_script, serve_no_script_word, serve_no_threads, serve_word, not_served, threads_no_bytes, threads_no_script}
 use Rattle.pg2sim.proofs.Numbers.{same_talk}
 use Rattle.pg2sim.proofs.run.run_words.Goals as goal
 
@@ -24,7 +24,39 @@ returns-in-Ok-Bytes-clause-threads g c =
     λ talk none is.
     absurd (threads_no_bytes (subcommand_of command_line (map string_bytes c.args.words.now)) talk c.in-Ok-Bytes.own.now c.in-Ok-Bytes.peer.now is (rw c.in-Ok-Bytes.field-0-is at c.in-Ok-Bytes.ensures.asked))
 
+pub returns-in-Ok-Bytes-clause-serve : goal.returns-in-Ok-Bytes-clause-serve
+returns-in-Ok-Bytes-clause-serve g c =
+    λ none is.
+    absurd (serve_no_bytes (subcommand_of command_line (map string_bytes c.args.words.now)) c.in-Ok-Bytes.own.now c.in-Ok-Bytes.peer.now is (rw c.in-Ok-Bytes.field-0-is at c.in-Ok-Bytes.ensures.asked))
+
+-- ---- `serve`
+
+pub returns-in-Ok-Serve-clause-bytes : goal.returns-in-Ok-Serve-clause-bytes
+returns-in-Ok-Serve-clause-bytes g c =
+    λ own peer none is.
+    absurd (not_other (subcommand_of command_line (map string_bytes c.args.words.now)) own peer is (rw c.in-Ok-Serve.field-0-is at c.in-Ok-Serve.ensures.asked).0)
+
+pub returns-in-Ok-Serve-clause-script : goal.returns-in-Ok-Serve-clause-script
+returns-in-Ok-Serve-clause-script g c =
+    λ none is.
+    let asked = rw c.in-Ok-Serve.field-0-is at c.in-Ok-Serve.ensures.asked in
+    let words = subcommand_of command_line (map string_bytes c.args.words.now) in
+    absurd (serve_no_script_word words (serve_word words c.in-Ok-Serve.offer asked.1) is)
+
+pub returns-in-Ok-Serve-clause-threads : goal.returns-in-Ok-Serve-clause-threads
+returns-in-Ok-Serve-clause-threads g c =
+    λ talk none is.
+    let asked = rw c.in-Ok-Serve.field-0-is at c.in-Ok-Serve.ensures.asked in
+    let words = subcommand_of command_line (map string_bytes c.args.words.now) in
+    absurd (serve_no_threads words talk (serve_word words c.in-Ok-Serve.offer asked.1) is)
+
 -- ---- `script`
+
+pub returns-in-Ok-Script-clause-serve : goal.returns-in-Ok-Script-clause-serve
+returns-in-Ok-Script-clause-serve g c =
+    λ none is.
+    let asked = rw c.in-Ok-Script.field-0-is at c.in-Ok-Script.ensures.asked in
+    absurd (serve_no_script (subcommand_of command_line (map string_bytes c.args.words.now)) c.in-Ok-Script.aids is asked.1)
 
 pub returns-in-Ok-Script-clause-bytes : goal.returns-in-Ok-Script-clause-bytes
 returns-in-Ok-Script-clause-bytes g c =
@@ -57,7 +89,19 @@ returns-in-Ok-Threads-clause-threads g c =
     let e = same_talk (subcommand_of command_line (map string_bytes c.args.words.now)) talk c.in-Ok-Threads.talk is asked.1 in
     rw e (spoken _ _ _ c.run_conversation.result c.run_conversation.ensures)
 
+pub returns-in-Ok-Threads-clause-serve : goal.returns-in-Ok-Threads-clause-serve
+returns-in-Ok-Threads-clause-serve g c =
+    λ none is.
+    let asked = rw c.in-Ok-Threads.field-0-is at c.in-Ok-Threads.ensures.asked in
+    absurd (serve_no_threads (subcommand_of command_line (map string_bytes c.args.words.now)) c.in-Ok-Threads.talk is asked.1)
+
 -- ---- no words
+
+pub returns-in-Err-clause-serve : goal.returns-in-Err-clause-serve
+returns-in-Err-clause-serve g c =
+    λ none is.
+    let ended = c.refuse_words.ensures.memory (only_memory (fault_of command_line (map string_bytes c.args.words.now)) (kind_of c.in-Err.error) none c.in-Err.ensures.refused) in
+    not_served _ _ c.refuse_words.result ended.0 ended.1
 
 pub returns-in-Err-clause-bytes : goal.returns-in-Err-clause-bytes
 returns-in-Err-clause-bytes g c =

@@ -11,4 +11,6 @@ returns c =
     let threads_is = ap (λ (a : App). a.top) c.in_ok-threads.ensures.app in
     let first_is = c.in_ok-command-2.ensures.shape c.in_ok-bytes.ensures.local ∙ ap₂ with_subcommand c.in_ok-command.ensures bytes_is in
     let second_is = c.in_ok-command-3.ensures.shape c.in_ok-script.ensures.local ∙ ap₂ with_subcommand first_is script_is in
-    IfOk-weaker c.subcommand-3.result _ _ (λ m h. h.shape c.in_ok-threads.ensures.local ∙ ap₂ with_subcommand second_is threads_is) c.subcommand-3.ensures
+    let serve_is = ap (λ (a : App). a.top) c.in_ok-serve.ensures.app in
+    let third_is = c.in_ok-command-4.ensures.shape c.in_ok-threads.ensures.local ∙ ap₂ with_subcommand second_is threads_is in
+    IfOk-weaker c.subcommand-4.result _ _ (λ m h. h.shape c.in_ok-serve.ensures.local ∙ ap₂ with_subcommand third_is serve_is) c.subcommand-4.ensures

@@ -13,15 +13,15 @@ is_simple_known : is_simple command_line ≡ true
 unfolding clap_on_literals
 is_simple_known = refl
 
-pub returns-in-Ok-clause-asked : goal.returns-in-Ok-clause-asked
-returns-in-Ok-clause-asked c =
+pub returns-in_ok-task_of-in-Ok-clause-asked : goal.returns-in_ok-task_of-in-Ok-clause-asked
+returns-in_ok-task_of-in-Ok-clause-asked c =
     let words = map string_bytes c.args.words.now in
     let app : app_of c.in_ok-command.command ≡ command_line = c.in_ok-command.ensures in
-    subst (λ (rows : Option (Text × List Row)). IsAsked rows c.task_of.result)
-    ((c.in-Ok.ensures.matches (ap is_simple app ∙ is_simple_known)).1 ∙ ap (λ (a : App). subcommand_of a words) app) c.task_of.ensures
+    subst (λ (rows : Option (Text × List Row)). IsAsked rows c.in_ok-task_of-in-Ok.field-0)
+    ((c.in-Ok.ensures.matches (ap is_simple app ∙ is_simple_known)).1 ∙ ap (λ (a : App). subcommand_of a words) app) c.in_ok-task_of-in-Ok.ensures
 
-pub returns-in-Ok-clause-refused : goal.returns-in-Ok-clause-refused
-returns-in-Ok-clause-refused c =
+pub returns-in_ok-task_of-in-Ok-clause-refused : goal.returns-in_ok-task_of-in-Ok-clause-refused
+returns-in_ok-task_of-in-Ok-clause-refused c =
     let words = map string_bytes c.args.words.now in
     let app : app_of c.in_ok-command.command ≡ command_line = c.in_ok-command.ensures in
     ap (λ (a : App). fault_of a words) (sym app) ∙ c.in-Ok.ensures.kinds (ap is_simple_and_free app ∙ is_known)

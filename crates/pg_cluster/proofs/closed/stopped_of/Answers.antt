@@ -1,10 +1,10 @@
-use Rattle.std.proofs.Common.{◌≡◌, length, map, ap, sym, ◌∙◌, subst}
+use Rattle.std.proofs.Common.{◌≡◌, length, ap, sym, ◌∙◌, subst}
 use Rattle.std.proofs.lemmas.List.{length-map}
 use Rattle.pg_ring.specs.Slots.{AreSlots}
 use Rattle.pg_run.specs.Ports.{ArePort, Meets}
 use Rattle.pg_cluster.specs.Clients.{AllPairs}
 use Rattle.pg_cluster.specs.Ended.{AreJoined, AllArrived}
-use Rattle.pg_cluster.specs.Notices.{Untold}
+use Rattle.pg_cluster.specs.Notices.{Told}
 use Rattle.pg_cluster.specs.Threads.{row_in, rows_ended}
 use Rattle.pg_cluster.proofs.closed.stopped_of.Goals as goal
 
@@ -33,5 +33,5 @@ returns-clause-arrived g c =
 pub returns-clause-meets : goal.returns-clause-meets
 returns-clause-meets g c = subst (AllPairs Meets c.args.clients.items) c.parts_of-nodes.ensures.ports c.settle_ports.ensures.meets
 
-pub returns-clause-untold : goal.returns-clause-untold
-returns-clause-untold g c = subst (AllPairs Untold c.args.tellers.items) c.parts_of-nodes.ensures.notices c.settle_notices.ensures
+pub returns-clause-told : goal.returns-clause-told
+returns-clause-told g c = subst (AllPairs Told c.args.tellers.items) c.parts_of-nodes.ensures.notices c.settle_notices.ensures

@@ -1,7 +1,7 @@
-use Rattle.std.proofs.Common.{arith, ◌≡◌, ◌<◌, length, sym, ◌∙◌}
-use Rattle.pg_ring.specs.Slots.{given, taken}
-use Rattle.pg_cluster.specs.Notices.{Untold}
-use Rattle.pg_cluster.proofs.Telling.{tellers_more, inlets_more, untold_more, untold_whole}
+use Rattle.std.proofs.Common.{arith, ◌≡◌, ◌<◌, ◌++◌, ap, length, sym, ◌∙◌}
+use Rattle.pg_ring.specs.Slots.{slots_left}
+use Rattle.pg_cluster.specs.Notices.{Told}
+use Rattle.pg_cluster.proofs.Telling.{tellers_more, inlets_more, told_more}
 use Rattle.pg_cluster.proofs.notices.settle_notices.Goals as goal
 
 pub loop-place-preserved : goal.loop-place-preserved
@@ -21,8 +21,9 @@ loop-place-preserved c =
     let teller_is = c.index_mut.ensures.value in
     let inlet_is = c.index_mut-in-loop-place.ensures.value in
     let looked = c.slots_together.ensures in
-    let here : Untold teller inlet = λ none. sym looked.taken ∙ untold_whole (taken c.slots_together.new.inlet) _ (given c.slots_together.new.out) looked.whole (looked.given ∙ none) in (
+    let left = slots_left c.slots_together.new.inlet in
+    let here : Told teller inlet = record { on_the_way = left; is = sym looked.given ∙ (sym looked.whole ∙ ap (λ w. w ++ left) looked.taken) } in (
       tellers_more tellers tellers2 inlets inlets2 c.requires was.0 was.1 place low teller inlet teller_is inlet_is _ looked.out looked.given,
       inlets_more tellers tellers2 inlets inlets2 c.requires was.0 was.1 place low teller inlet teller_is inlet_is _ looked.inlet looked.taken,
-      untold_more tellers tellers2 inlets inlets2 c.requires was.0 was.1 place low teller inlet teller_is inlet_is here was.2,
+      told_more tellers tellers2 inlets inlets2 c.requires was.0 was.1 place low teller inlet teller_is inlet_is here was.2,
     )

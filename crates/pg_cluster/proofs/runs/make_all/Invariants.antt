@@ -19,3 +19,4 @@ invariant-loop-node g l =
     × AllPairs IsOpen l.made.clients.items (ports_of_runs l.made.runs.items)
     × AllPairs IsFresh l.made.tellers.items (map notices_at l.made.runs.items)
     × All (λ run. IsUntold (notices_of run)) l.made.runs.items
+    × (length l.made.runs.items + length (into_iter_items l.generators) ≡ length l.fn.generators.items)

@@ -1,5 +1,6 @@
 use Rattle.std.proofs.Common.{rules, arith, ◌≡◌, ◌+◌, length, ◌∷◌, ap, sym, subst, ◌∙◌, [], length-append}
-use Rattle.std.specs.Prelude.{false}
+use Rattle.std.specs.Prelude.{false, IfErr}
+use Rattle.pg_cluster.specs.Fault.{IsShortage}
 use Rattle.std.specs.List.{All}
 use Rattle.pg_cluster.specs.Members.{is_lost, thread_of}
 use Rattle.pg_cluster.specs.Threads.{begun_by, limit_of}
@@ -38,3 +39,6 @@ returns-clause-started g c =
 
 pub returns-clause-lost : goal.returns-clause-lost
 returns-clause-lost g c = losses_none c.loop-run.members.items c.loop-run.invariant.6
+
+pub returns-in-Err-clause-fault : goal.returns-in-Err-clause-fault
+returns-in-Err-clause-fault g c = subst (λ r. IfErr r IsShortage) (sym c.give_up.ensures) c.in-Err.ensures.fault

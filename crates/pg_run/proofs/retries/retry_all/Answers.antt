@@ -10,6 +10,7 @@ use Rattle.pg_run.proofs.GoingOn.{goes_itself}
 use Rattle.pg_run.proofs.Logging.{logs_same}
 use Rattle.pg_run.proofs.Pausing.{waits_still}
 use Rattle.pg_run.proofs.Retrying.{tried_where_waits, where_waits}
+use Rattle.pg_run.proofs.Wanting.{listing_wants}
 use Rattle.pg_run.proofs.retries.retry_all.Goals as goal
 
 pub returns-in-Err-clause-goes : goal.returns-in-Err-clause-goes
@@ -41,3 +42,6 @@ returns-in-Ok-clause-others g c = λ op waits_not.
     c.retry_each.ensures.others op
     (ap (list_any (λ other. same_op other op)) c.as_slice.ensures.value
     ∙ (c.in-Ok.ensures.each op ∙ (ap (λ s. waits (left_of s) ((kept_by s).stages op) (kept_by s)) (c.state.ensures ∙ ap held_by c.node.ensures) ∙ waits_not)))
+
+pub returns-in-Err-clause-wanting : goal.returns-in-Err-clause-wanting
+returns-in-Err-clause-wanting g c = λ short. listing_wants g.L.Link.accepts g.I.Inlet.gives g.met.L.Link.rests g.met.I.Inlet.rests g.met.L.Link.composes g.met.I.Inlet.composes c.args.linked.now

@@ -5,6 +5,7 @@ use Rattle.pg_run.specs.Follows.{node_of}
 use Rattle.pg_run.proofs.GoingOn.{goes_itself, goes_on, goes_by_retry}
 use Rattle.pg_run.proofs.Retrying.{retried_ok, retried_err, retried_nowhere, retried_between}
 use Rattle.pg_run.proofs.Trying.{stays}
+use Rattle.pg_run.proofs.Wanting.{not_both, retrying_wants}
 use Rattle.pg_run.proofs.retries.retry_of.Goals as goal
 
 pub returns-then-from-port_count-clause-goes : goal.returns-then-from-port_count-clause-goes
@@ -30,3 +31,17 @@ returns-in-Ok-clause-tried g c = λ whole.
 pub returns-in-Err-clause-tried : goal.returns-in-Err-clause-tried
 returns-in-Err-clause-tried g c = λ whole.
     retried_err g.L.Link.accepts g.I.Inlet.gives g.met.L.Link.rests g.met.I.Inlet.rests g.met.L.Link.composes g.met.I.Inlet.composes c.args.op c.retry.result c.in-Err.fault c.args.linked.now c.retry.new.self c.in-Err.is c.retry.ensures.acted c.retry.ensures.fault (c.of-in-Err.ensures.no_want whole)
+
+pub returns-then-from-port_count-clause-wanting : goal.returns-then-from-port_count-clause-wanting
+returns-then-from-port_count-clause-wanting g c = λ short. not_both _ c.idle.ensures.whole short
+
+pub returns-in-Ok-clause-wanting : goal.returns-in-Ok-clause-wanting
+returns-in-Ok-clause-wanting g c = λ short. absurd (c.of.ensures.want short)
+
+pub returns-in-Err-clause-wanting : goal.returns-in-Err-clause-wanting
+returns-in-Err-clause-wanting g c = λ short.
+    let count : c.port_count.result ≡ ports_of (held_by (node_of c.args.linked.now)) = c.port_count.ensures ∙ ap ports_of (c.state.ensures ∙ ap held_by c.node.ensures) in
+    let below = c.if-from-port_count.false in
+    let port = c.from.ensures in
+    retrying_wants g.L.Link.accepts g.I.Inlet.gives g.met.L.Link.rests g.met.I.Inlet.rests g.met.L.Link.composes g.met.I.Inlet.composes c.args.op c.retry.result c.in-Err.fault c.args.linked.now c.retry.new.self (omega (arith, count, below, port))
+    c.in-Err.is c.retry.ensures.acted c.retry.ensures.fault (c.of-in-Err.ensures.want short)

@@ -30,7 +30,7 @@ loop-turn-preserved g c =
       | in-Short w ↦ rw w.in-Short.is at c.turn.ensures.stop
     ] in
     let ts = was.4.0 in
-    let traced : (turned : List Turned) × TurnsMade g.L.Link.accepts g.I.Inlet.gives turned c.args.run c.turn.new.self × (shorts turned ≡ c.match-turn.short)
+    let traced : (turned : List Turned) × TurnsMade g.L.Link.accepts g.I.Inlet.gives g.L.Link.moves g.I.Inlet.moves turned c.args.run c.turn.new.self × (shorts turned ≡ c.match-turn.short)
     × (wholes turned + c.match-turn.short ≡ c.loop-turn.turn + 1) × (length turned ≡ c.loop-turn.turn + 1) = elim c.match-turn.branch [
       | in-Whole w ↦
           let a = shorts_push ts Whole in
@@ -40,8 +40,8 @@ loop-turn-preserved g c =
           let f = was.4.3 in
           let h = was.4.4 in (
             ts ++ Whole ∷ [],
-            turns_push g.L.Link.accepts g.I.Inlet.gives ts Whole c.args.run c.loop-turn.run c.turn.new.self was.4.1
-                (record { runs = c.turn.ensures.runs; stop = rw w.in-Whole.is at c.turn.ensures.stop; done = rw w.in-Whole.is at c.turn.ensures.done; retried = rw w.in-Whole.is at c.turn.ensures.retried }),
+            turns_push g.L.Link.accepts g.I.Inlet.gives g.L.Link.moves g.I.Inlet.moves ts Whole c.args.run c.loop-turn.run c.turn.new.self was.4.1
+                (record { runs = c.turn.ensures.runs; stop = rw w.in-Whole.is at c.turn.ensures.stop; did = rw w.in-Whole.is at c.turn.ensures.did; retried = rw w.in-Whole.is at c.turn.ensures.retried }),
             omega arith,
             omega arith,
             omega arith,
@@ -54,8 +54,8 @@ loop-turn-preserved g c =
           let f = was.4.3 in
           let h = was.4.4 in (
             ts ++ Short ∷ [],
-            turns_push g.L.Link.accepts g.I.Inlet.gives ts Short c.args.run c.loop-turn.run c.turn.new.self was.4.1
-                (record { runs = c.turn.ensures.runs; stop = rw w.in-Short.is at c.turn.ensures.stop; done = rw w.in-Short.is at c.turn.ensures.done; retried = rw w.in-Short.is at c.turn.ensures.retried }),
+            turns_push g.L.Link.accepts g.I.Inlet.gives g.L.Link.moves g.I.Inlet.moves ts Short c.args.run c.loop-turn.run c.turn.new.self was.4.1
+                (record { runs = c.turn.ensures.runs; stop = rw w.in-Short.is at c.turn.ensures.stop; did = rw w.in-Short.is at c.turn.ensures.did; retried = rw w.in-Short.is at c.turn.ensures.retried }),
             omega arith,
             omega arith,
             omega arith,
@@ -100,6 +100,6 @@ returns-clause-made g c =
         short = was.4.2;
         whole = was.4.3;
         count = was.4.4;
-        ends = inr (rw w.run-is (record { runs = w.turn.ensures.runs; stop = rw w.in-Stopped.is at w.turn.ensures.stop; done = rw w.in-Stopped.is at w.turn.ensures.done; retried = rw w.in-Stopped.is at w.turn.ensures.retried }));
+        ends = inr (rw w.run-is (record { runs = w.turn.ensures.runs; stop = rw w.in-Stopped.is at w.turn.ensures.stop; did = rw w.in-Stopped.is at w.turn.ensures.did; retried = rw w.in-Stopped.is at w.turn.ensures.retried }));
       }
     ]

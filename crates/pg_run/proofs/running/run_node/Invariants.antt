@@ -10,7 +10,7 @@ invariant-loop-turn g l =
     × (l.short ≤ l.turns)
     × g.I.Inlet.gives (stop_of l.fn.run) [] (stop_of l.run)
     × ((turned : List Turned)
-    × TurnsMade g.L.Link.accepts g.I.Inlet.gives turned l.fn.run l.run
+    × TurnsMade g.L.Link.accepts g.I.Inlet.gives g.L.Link.moves g.I.Inlet.moves turned l.fn.run l.run
     × (shorts turned ≡ l.short)
     × (wholes turned + l.short ≡ l.turns)
     × (length turned ≡ l.turns))

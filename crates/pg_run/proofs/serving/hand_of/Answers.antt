@@ -1,6 +1,8 @@
 use Rattle.pg_run.proofs.Forgetting.{all_forget_none}
 use Rattle.pg_run.proofs.GoingOn.{goes_itself, serves_going}
 use Rattle.pg_run.proofs.Served.{keep_themselves}
+use Rattle.std.proofs.Common.{refl}
+use Rattle.pg_run.proofs.Wanting.{not_both}
 use Rattle.pg_run.proofs.serving.hand_of.Goals as goal
 
 pub returns-in-Err-clause-serves : goal.returns-in-Err-clause-serves
@@ -11,3 +13,9 @@ returns-in-Err-clause-kept g c = keep_themselves c.args.ports.now.items
 
 pub returns-in-Err-clause-forgets : goal.returns-in-Err-clause-forgets
 returns-in-Err-clause-forgets g c = all_forget_none c.args.ports.now.items c.args.pauses.now
+
+pub returns-in-Err-clause-left : goal.returns-in-Err-clause-left
+returns-in-Err-clause-left g c = λ short. not_both _ c.idle.ensures.whole short
+
+pub returns-in-Err-clause-others : goal.returns-in-Err-clause-others
+returns-in-Err-clause-others g c = λ other none apart. refl

@@ -6,6 +6,7 @@ use Rattle.pg_run.specs.Logs.{IsCommand}
 use Rattle.pg_run.proofs.Logging.{logs_command, logs_same}
 use Rattle.pg_run.proofs.GoingOn.{served_none, served_command, served_kept}
 use Rattle.pg_run.proofs.Served.{serves_all, no_command_refused}
+use Rattle.pg_run.proofs.Wanting.{commanding_wants, not_both}
 use Rattle.pg_run.proofs.serving.serve.Goals as goal
 
 -- the command that is handed back, to be kept
@@ -25,7 +26,7 @@ returns-in-Ok-clause-serves g c =
     c.next.ensures.same c.in-Some.ensures.some.came c.in-Some.ensures.some.none c.next.ensures.handed c.next.ensures.count c.in-Some.ensures.waited _ c.in-Ok.is c.command.ensures.acted
 
 pub returns-in-Ok-clause-served : goal.returns-in-Ok-clause-served
-returns-in-Ok-clause-served g c = λ whole. serves_all c.args.port.now c.next.new.self c.in-Some.ensures.some.none
+returns-in-Ok-clause-served g c = λ whole. serves_all c.args.port.now c.next.new.self c.in-Some.ensures.some.none c.next.ensures.looked
 
 pub returns-in-Err-clause-serves : goal.returns-in-Err-clause-serves
 returns-in-Err-clause-serves g c =
@@ -44,3 +45,14 @@ returns-in-Ok-clause-logs g c = logs_command g.L.Link.accepts g.I.Inlet.gives c.
 
 pub returns-in-Err-clause-logs : goal.returns-in-Err-clause-logs
 returns-in-Err-clause-logs g c = logs_command g.L.Link.accepts g.I.Inlet.gives c.args.place _ c.command.result c.args.linked.now c.command.new.self c.command.ensures.acted
+
+pub returns-in-None-clause-wanting : goal.returns-in-None-clause-wanting
+returns-in-None-clause-wanting g c = λ short. not_both _ c.idle.ensures.whole short
+
+pub returns-in-Ok-clause-wanting : goal.returns-in-Ok-clause-wanting
+returns-in-Ok-clause-wanting g c = λ short. absurd (c.of.ensures.want short)
+
+pub returns-in-Err-clause-wanting : goal.returns-in-Err-clause-wanting
+returns-in-Err-clause-wanting g c = λ short.
+    commanding_wants g.L.Link.accepts g.I.Inlet.gives g.met.L.Link.rests g.met.I.Inlet.rests g.met.L.Link.composes g.met.I.Inlet.composes c.args.place _ c.command.result _ c.args.linked.now c.command.new.self c.requires
+    c.in-Err.is c.command.ensures.acted c.in-Err.ensures.fault (c.of-in-Err.ensures.want short)

@@ -2,9 +2,10 @@ use Rattle.std.proofs.Common.{List, ℕ, sym, subst}
 use Rattle.pg_step.specs.Config.{Config}
 use Rattle.pg_step.specs.FrameMachine.{frame_machine}
 use Rattle.pg_machine.specs.Machine.{start_of}
-use Rattle.pg_world.specs.Losing.{lost_of, ShowsLosing}
+use Rattle.pg_world.specs.FrameWorlds.{lost_of, view_of}
+use Rattle.pg_world.specs.Losing.{ShowsLosing}
 use Rattle.pg_world.specs.Runs.{over_packets}
-use Rattle.pg_world.specs.Worlds.{Shows, view_of}
+use Rattle.pg_world.specs.Worlds.{Shows}
 use Rattle.pg_world.proofs.LosingRunning.{ran_losing_so}
 use Rattle.pg_world.proofs.Running.{ran_so}
 use Rattle.pg_world.proofs.frames.run_frames.Goals as goal

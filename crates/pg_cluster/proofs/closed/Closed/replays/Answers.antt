@@ -1,10 +1,11 @@
 use Rattle.std.proofs.Common.{◌≡◌, false, map, subst}
 use Rattle.std.specs.Prelude.{IfOk}
 use Rattle.pg_world.specs.Runs.{Ran, LosesNone, over_packets}
-use Rattle.pg_world.specs.Worlds.{Shows, view_of}
+use Rattle.pg_world.specs.FrameWorlds.{view_of}
+use Rattle.pg_world.specs.Worlds.{Shows}
 use Rattle.pg_cluster.specs.Judges.{ran_out}
 use Rattle.pg_cluster.proofs.Judging.{replays_so}
-use Rattle.pg_cluster.proofs.OrderedOnce.{only_memory}
+use Rattle.pg_world.proofs.OrderedOnce.{only_memory}
 use Rattle.pg_cluster.proofs.Replaying.{never_no, unbegun_so}
 use Rattle.pg_cluster.proofs.closed.Closed.replays.Goals as goal
 

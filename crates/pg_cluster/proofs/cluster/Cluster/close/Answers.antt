@@ -1,6 +1,6 @@
 use Rattle.pg_cluster.specs.Closed.{lost_of, threads_of}
 use Rattle.pg_cluster.proofs.Agreed.{closed_agree}
-use Rattle.pg_cluster.proofs.Finishing.{finished_ended, finished_run, finished_clients, finished_lost, finished_schedule, ended_merely, heard_merely}
+use Rattle.pg_cluster.proofs.Finishing.{finished_ended, finished_run, finished_clients, finished_lost, finished_schedule, ended_merely, heard_merely, stopped_joins}
 use Rattle.pg_cluster.proofs.cluster.Cluster.close.Goals as goal
 
 pub returns-clause-ended : goal.returns-clause-ended
@@ -32,7 +32,11 @@ pub returns-clause-schedule : goal.returns-clause-schedule
 returns-clause-schedule g c = finished_schedule (lost_of c.args.self) c.stop-stopped.result c.finish.result c.stop-stopped.ensures.lost c.finish.ensures.schedule
 
 pub returns-clause-lost : goal.returns-clause-lost
-returns-clause-lost g c = finished_lost (lost_of c.args.self) c.stop-stopped.result c.finish.result c.stop-stopped.ensures.lost c.finish.ensures.err
+returns-clause-lost g c = finished_lost (lost_of c.args.self) c.stop-stopped.result c.finish.result c.stop-stopped.ensures.lost c.finish.ensures.lost c.finish.ensures.err
 
 pub returns-clause-clients : goal.returns-clause-clients
 returns-clause-clients g c = finished_clients c.args.clients.items c.stop-stopped.result c.finish.result c.stop-stopped.ensures.clients c.finish.ensures.clients c.finish.ensures.err
+
+pub returns-clause-joins : goal.returns-clause-joins
+returns-clause-joins g c =
+    stopped_joins c.threads_are_one_run.ensures (lost_of c.args.self) (threads_of c.args.self) c.stop-stopped.result c.finish.result c.stop-stopped.ensures.alone c.finish.ensures.err

@@ -1,4 +1,4 @@
-use Rattle.std.proofs.Common.{rules, arith, ◌≡◌, length, vec_len, sym, ◌∙◌, subst}
+use Rattle.std.proofs.Common.{arith, ◌≡◌, length, vec_len, sym, ◌∙◌, subst}
 use Rattle.pg_ring.specs.Slots.{AreSlots}
 use Rattle.pg_cluster.specs.Members.{thread_of, threads_in}
 use Rattle.pg_cluster.specs.Notices.{IsFresh, IsSilent as IsSilentTeller}

@@ -6,7 +6,7 @@ use Rattle.std.proofs.lemmas.List.{nil_from_length}
 use mathlib.Core.Logic.{∥∥₁_elim, ∥∥₁_map, ∥∥₁_map₂}
 use Rattle.pg_ring.specs.Slots.{taken}
 use Rattle.pg_cluster.specs.Clients.{ports_begun, ports_ended}
-use Rattle.pg_cluster.specs.Closed.{logs_of, nodes_of}
+use Rattle.pg_cluster.specs.Closed.{NoticesCame, logs_of, nodes_of}
 use Rattle.pg_cluster.specs.Ended.{AreWired, AllArrived}
 use Rattle.pg_cluster.specs.Members.{is_lost, losses_in, threads_in}
 use Rattle.pg_cluster.specs.Notices.{NobodyLost}
@@ -122,7 +122,7 @@ returns-clause-ended g c =
     let joined : ∥ Joined threads rans ∥₁ = ∥∥₁_map was.6 (λ all. joined_members members rans whole all) in
     let lost = losses_in members in
     let stopped = c.stopped_of.ensures in
-    let untold : NobodyLost lost → All (λ inlet. taken inlet ≡ []) (notices_ended rans) = λ nobody. nothing_came c.args.self.tellers.items (notices_ended rans) (c.args.self.untold nobody) stopped.untold in
+    let untold : NobodyLost lost → All (λ inlet. taken inlet ≡ []) (notices_ended rans) = λ nobody. nothing_came c.args.self.tellers.items (notices_ended rans) (c.args.self.untold nobody) stopped.told in
     let ended : Joined threads rans → EndedWith lost threads (nodes_of c.stopped_of.result) (logs_of c.stopped_of.result) = λ joined.
     stopped_ended lost threads rans c.stopped_of.result c.args.self.wired joined (subst (λ n. AllArrived n (rows_ended rans)) joined.0 stopped.arrived) stopped.nodes stopped.logs untold in
     ∥∥₁_map joined ended
@@ -138,7 +138,7 @@ returns-clause-alone g c =
     let whole : length rans ≡ length members = omega arith in
     let lost = losses_in members in
     let stopped = c.stopped_of.ensures in
-    let untold : NobodyLost lost → All (λ inlet. taken inlet ≡ []) (notices_ended rans) = λ nobody. nothing_came c.args.self.tellers.items (notices_ended rans) (c.args.self.untold nobody) stopped.untold in
+    let untold : NobodyLost lost → All (λ inlet. taken inlet ≡ []) (notices_ended rans) = λ nobody. nothing_came c.args.self.tellers.items (notices_ended rans) (c.args.self.untold nobody) stopped.told in
     let ended : Joined threads rans → EndedWith lost threads (nodes_of c.stopped_of.result) (logs_of c.stopped_of.result) = λ joined.
     stopped_ended lost threads rans c.stopped_of.result c.args.self.wired joined (subst (λ n. AllArrived n (rows_ended rans)) joined.0 stopped.arrived) stopped.nodes stopped.logs untold in
     λ nobody. ended (joined_members members rans whole (was.5 nobody))
@@ -165,3 +165,16 @@ returns-clause-lost g c =
     let lost = losses_in c.args.self.members.items in
     let marks : c.loop-member.lost.items ≡ lost = all_moved is_lost c.loop-member.lost.items left.items lost no_more was.8 in
     c.stopped_of.ensures.lost ∙ marks
+
+pub returns-clause-told : goal.returns-clause-told
+returns-clause-told g c =
+    let was = c.loop-member.invariant in
+    let members = c.args.self.members.items in
+    let threads = threads_in members in
+    let rans = c.loop-member.rans.items in
+    let none = c.in-None.ensures.steps.0 in
+    let size = was.3 in
+    let whole : length rans ≡ length members = omega arith in
+    let joined : ∥ Joined threads rans ∥₁ = ∥∥₁_map was.6 (λ all. joined_members members rans whole all) in
+    let came : Joined threads rans → NoticesCame c.args.self.tellers.items threads = λ j. record { rans = rans; joined = j; told = c.stopped_of.ensures.told } in
+    ∥∥₁_map joined came

@@ -3,7 +3,7 @@ use Rattle.pg_node.specs.Nodes.{held_by}
 use Rattle.pg_node.specs.States.{names_of, state_of, answers_of}
 use Rattle.pg_run.specs.Events.{told_of_loss}
 use Rattle.pg_run.proofs.Acting.{nothing_done, nothing_held, refused_as, in_room, log_after}
-use Rattle.pg_run.proofs.Taking.{loss_acts}
+use Rattle.pg_run.proofs.Taking.{loss_acts, was_drained}
 use Rattle.pg_run.proofs.linked.LinkedNode.see_loss.Goals as goal
 
 pub returns-then-is_err-clause-acted : goal.returns-then-is_err-clause-acted
@@ -28,3 +28,9 @@ returns-in-Err-clause-fault g c =
     let after = answers_of (held_by c.see_loss.new.self) in
     refused_as (names_of (held_by n)) told c.in-Err.fault s (answers_of (held_by n)) after
     (in_room (names_of (held_by n)) told c.in-Err.fault s (answers_of (held_by n)) after c.in-Err.ensures.event)
+
+pub returns-in-Ok-clause-drained : goal.returns-in-Ok-clause-drained
+returns-in-Ok-clause-drained g c =
+    let n = c.args.self.now.node in
+    let m = c.see_loss.new.self in
+    was_drained n c.args.peer c.args.last _ (state_of (held_by m)) (answers_of (held_by n)) (answers_of (held_by m)) c.in-Ok.ensures.event

@@ -1,4 +1,4 @@
-use Rattle.std.proofs.Common.{◌≡◌, ◌<◌, ◌≤◌, ℕ, [], get_or, length, map}
+use Rattle.std.proofs.Common.{◌<◌, ◌≤◌, ℕ, [], get_or, length, map}
 use Rattle.pg_world.specs.Views.{packets_of}
 use Rattle.pg_world.proofs.outgoing.Outgoing.can_keep.Given as goal
 

@@ -1,0 +1,22 @@
+-- What a cluster in one hand ends as, of what it began with.
+use Rattle.std.proofs.Common.{◌≡◌}
+use Rattle.std.specs.Prelude.{Result, Ok, Err, IfOk, MatchResult}
+use mathlib.Core.Logic.{∥∥₁_elim, ∥∥₁_map}
+use Rattle.std.proofs.Props.{props}
+use Rattle.pg_step.specs.Config.{Config}
+use Rattle.pg_cluster.specs.declared.closed.Closed.{Closed}
+use Rattle.pg_cluster.specs.declared.closed.Stopped.{Stopped}
+
+module _ (Made : Config → Type 0) (given : Config) (made : ∥ Made given ∥₁) where
+  -- what follows of each configuration that made the threads follows of the one that did, as a fact
+  pub of_its_own : (Then : Type 0) (Shown : Config → Closed → Type 0) (closed : Result Closed Stopped)
+      → IfOk closed (λ closed. Then → (given : Config) → Made given → Shown given closed) → IfOk closed (λ closed. Then → ∥ Shown given closed ∥₁)
+  of_its_own Then Shown (Ok closed) all = λ then. ∥∥₁_map made (λ (m : Made given). all then given m)
+  of_its_own Then Shown (Err stopped) all = tt
+
+  -- a fact that follows so, whatever became of the schedule
+  pub fact_of_its_own : (A : Closed → Type 0) (B : Stopped → Type 0) (closed : Result Closed Stopped)
+      → MatchResult closed (λ closed. (given : Config) → Made given → ∥ A closed ∥₁) (λ stopped. (given : Config) → Made given → ∥ B stopped ∥₁)
+      → MatchResult closed (λ closed. ∥ A closed ∥₁) (λ stopped. ∥ B stopped ∥₁)
+  fact_of_its_own A B (Ok closed) all = ∥∥₁_elim made (hlevel props) (λ (m : Made given). all given m)
+  fact_of_its_own A B (Err stopped) all = ∥∥₁_elim made (hlevel props) (λ (m : Made given). all given m)

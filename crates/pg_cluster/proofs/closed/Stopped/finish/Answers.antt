@@ -1,0 +1,11 @@
+use Rattle.pg_cluster.proofs.Finishing.{joined_agree, joined_run}
+use Rattle.pg_cluster.proofs.closed.Stopped.finish.Goals as goal
+
+pub returns-clause-one_run : goal.returns-clause-one_run
+returns-clause-one_run c =
+    joined_run c.args.self c.with_schedule.result c.with_schedule.ensures.nodes c.with_schedule.ensures.logs c.with_schedule.ensures.schedule
+
+pub returns-clause-agree : goal.returns-clause-agree
+returns-clause-agree c =
+    joined_agree c.nodes_of_one_run_agree.ensures c.args.self c.with_schedule.result
+    (joined_run c.args.self c.with_schedule.result c.with_schedule.ensures.nodes c.with_schedule.ensures.logs c.with_schedule.ensures.schedule)

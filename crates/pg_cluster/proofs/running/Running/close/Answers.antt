@@ -1,0 +1,25 @@
+use Rattle.std.proofs.Common.{map}
+use Rattle.pg_cluster.specs.Clients.{AllHeard}
+use Rattle.pg_cluster.specs.Closed.{logs_of, nodes_of, threads_of, lost_of}
+use Rattle.pg_cluster.specs.Judges.{Agree}
+use Rattle.pg_cluster.specs.Notices.{NobodyLost}
+use Rattle.pg_cluster.specs.Threads.{AreMade, begun_by}
+use Rattle.pg_cluster.specs.Together.{AreOneRun}
+use Rattle.pg_cluster.proofs.Handing.{of_its_own, fact_of_its_own}
+use Rattle.pg_cluster.proofs.running.Running.close.Goals as goal
+
+pub returns-clause-one_run : goal.returns-clause-one_run
+returns-clause-one_run g c =
+    of_its_own (λ given. AreMade given (map begun_by (threads_of c.args.self.cluster))) c.args.self.config.starts.items c.args.self.made (NobodyLost (lost_of c.args.self.cluster))
+    (λ given closed. AreOneRun given closed.nodes.items (map (λ v. v.items) closed.logs.items) closed.schedule.items) c.close-closed.result c.close-closed.ensures.one_run
+
+pub returns-clause-agree : goal.returns-clause-agree
+returns-clause-agree g c =
+    of_its_own (λ given. AreMade given (map begun_by (threads_of c.args.self.cluster))) c.args.self.config.starts.items c.args.self.made (NobodyLost (lost_of c.args.self.cluster))
+    (λ given closed. Agree closed.nodes.items closed.logs.items) c.close-closed.result c.close-closed.ensures.agree
+
+pub returns-clause-heard : goal.returns-clause-heard
+returns-clause-heard g c =
+    fact_of_its_own (λ given. AreMade given (map begun_by (threads_of c.args.self.cluster))) c.args.self.config.starts.items c.args.self.made
+    (λ closed. AllHeard (threads_of c.args.self.cluster) closed.nodes.items (map (λ v. v.items) closed.logs.items) c.args.self.clients.items)
+    (λ stopped. AllHeard (threads_of c.args.self.cluster) (nodes_of stopped) (logs_of stopped) c.args.self.clients.items) c.close-closed.result c.close-closed.ensures.heard

@@ -1,0 +1,49 @@
+-- A cluster with its clients and its configuration, in one hand.
+use Rattle.std.specs.Prelude.{◌≡◌, ◌≢◌, ℕ, Bool, List, get_or, length}
+use Rattle.rand_pcg.specs.Lcg.{Lcg}
+use Rattle.pg_run.specs.declared.port.Asked.{Asked}
+use Rattle.pg_run.specs.declared.port.Client.{Client}
+use Rattle.pg_run.specs.Ports.{submitted, polled}
+use Rattle.pg_step.specs.declared.answer.Answer.{Answer}
+use Rattle.pg_world.specs.declared.config.Config.{Config}
+use Rattle.pg_cluster.specs.declared.cluster.Cluster.{Cluster}
+use Rattle.pg_cluster.specs.declared.running.Running.{Running}
+use Rattle.pg_cluster.specs.Clients.{SameClients}
+use Rattle.pg_cluster.specs.Closed.{threads_of, lost_of}
+use Rattle.pg_cluster.specs.Threads.{Thread}
+
+-- its clients, those of the first node first
+abbrev pub clients_in : Running → List Client
+clients_in running = running.clients.items
+
+-- the configuration that it was started with
+abbrev pub config_in : Running → Config
+config_in running = running.config
+
+-- its threads, by the places of their nodes, and which nodes were lost
+abbrev pub threads_in : Running → List (Thread Lcg)
+threads_in running = threads_of running.cluster
+
+abbrev pub losses_in : Running → List Bool
+losses_in running = lost_of running.cluster
+
+-- nothing but what the client at a place said and heard is changed
+pub record OnlyClient (place : ℕ) (a b : Running) : Type 0 where
+  pub count : length (clients_in b) ≡ length (clients_in a)
+  pub same : SameClients (clients_in a) (clients_in b)
+  pub others : (i : ℕ) (none : Client) → i ≢ place → get_or (clients_in b) i none ≡ get_or (clients_in a) i none
+  pub cluster : b.cluster ≡ a.cluster
+  pub config : b.config ≡ a.config
+
+-- what the client at a place submitted, and what it polled
+abbrev pub submitted_at : ℕ → Client → Running → List Asked
+submitted_at place none running = submitted (get_or (clients_in running) place none)
+
+abbrev pub polled_at : ℕ → Client → Running → List Answer
+polled_at place none running = polled (get_or (clients_in running) place none)
+
+-- nothing but what the clients said and heard is changed
+pub record Goes (a b : Running) : Type 0 where
+  pub same : SameClients (clients_in a) (clients_in b)
+  pub cluster : b.cluster ≡ a.cluster
+  pub config : b.config ≡ a.config

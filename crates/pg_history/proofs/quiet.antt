@@ -1,0 +1,15 @@
+pub mod Answering
+pub mod Bounds
+pub mod Ending
+pub mod Gathering
+pub mod Home
+pub mod Linked
+pub mod Phases
+pub mod Rest
+pub mod Retry
+pub mod Room
+pub mod Runs
+pub mod Solo
+pub mod Sums
+pub mod Taken
+pub mod Weights

@@ -1,0 +1,24 @@
+use Rattle.std.proofs.Common.{refl, ◌∙◌, subst}
+use Rattle.pg_cluster.specs.Closed.{lost_of}
+use Rattle.pg_cluster.specs.Notices.{NobodyLost}
+use Rattle.pg_cluster.specs.Running.{clients_in, losses_in, threads_in}
+use Rattle.pg_talk.specs.Verdicts.{IsJudged}
+use Rattle.pg_talk.proofs.conversation.run_threads.Goals as goal
+
+pub returns : goal.returns
+returns g c =
+    let running = c.converse-heard.new.running in
+    let same = c.converse-heard.ensures.same in
+    let config = same.config ∙ c.in_ok-running.ensures.config in record {
+      given = c.in_ok-config.config.starts.items;
+      are = c.in_ok-config.ensures;
+      lost = losses_in running;
+      nobody = rw same.cluster c.in_ok-running.ensures.lost;
+      threads = threads_in running;
+      clients = clients_in running;
+      judged = rw config at c.in_ok-agree.ensures;
+      nodes_told = refl;
+      clients_told = c.all_clients.ensures;
+      answered_told = c.in_ok-heard.ensures.answered;
+      asked_told = c.commands.ensures;
+    }

@@ -1,0 +1,80 @@
+-- What a conversation of clients with a cluster came to.
+use Rattle.std.specs.Prelude.{◌≡◌, ◌⊎◌, ℕ, Bool, ◌<◌, ◌+◌, ◌*◌, ◌-◌, ◌^◌, min, true, List, [], ◌∷◌, ◌++◌, chars, codes, decimal, get_or, length, map}
+use Rattle.std.specs.List.{sum_by}
+use Rattle.pg_run.specs.Ports.{polled, polled_count}
+use Rattle.pg_run.specs.declared.port.Client.{Client}
+use Rattle.pg_step.specs.declared.answer.Answer.{Answer}
+use Rattle.pg_step.specs.Config.{Config}
+use Rattle.pg_step.specs.declared.start.Start.{Start}
+use Rattle.rand_pcg.specs.Lcg.{Lcg}
+use Rattle.pg_cluster.specs.Notices.{NobodyLost}
+use Rattle.pg_cluster.specs.Threads.{Thread}
+use Rattle.pg_talk.specs.declared.conversation.Conversation.{Conversation}
+use Rattle.pg_talk.specs.declared.conversation.Outcome.{Outcome}
+use Rattle.pg_talk.specs.declared.speaker.Speaker.{Speaker}
+use Rattle.pg_talk.specs.Verdicts.{IsJudged}
+
+-- the name of the node of this number: `n1`, `n2` and so on
+abbrev pub node_name : ℕ → List ℕ
+node_name number = chars (codes "n" ++ decimal number)
+
+-- the node of this number, with so many ports, no group, and no process
+pub record IsBare (ports number : ℕ) (start : Start) : Type 0 where
+  pub named : start.name ≡ node_name number
+  pub ports_are : start.ports ≡ ports
+  pub no_process : start.made ≡ 0
+  pub no_group : start.groups ≡ []
+
+-- nodes that are numbered from 1 on, each with so many ports
+abbrev pub AreBare : ℕ → List Start → Type 0
+AreBare ports starts = (i : ℕ) (none : Start) → i < length starts → IsBare ports (i + 1) (get_or starts i none)
+
+-- the nodes that are asked for: each has a port for each of its clients
+pub record AreAsked (asked : Conversation) (given : Config) : Type 0 where
+  pub count : length given ≡ asked.nodes
+  pub each : AreBare asked.clients given
+
+-- a number of 64 bits at most
+abbrev pub saturated : ℕ → ℕ
+saturated n = min n (2 ^ 64 - 1)
+
+-- how many clients all nodes have
+abbrev pub all_clients : Conversation → ℕ
+all_clients asked = saturated (asked.nodes * asked.clients)
+
+-- how many commands each client asks but for the create: a make, and a join and a leave in each round
+abbrev pub each_asks : Conversation → ℕ
+each_asks asked = saturated (saturated (asked.rounds * 2) + 1)
+
+-- how many commands are asked
+abbrev pub all_commands : Conversation → ℕ
+all_commands asked = saturated (saturated (all_clients asked * each_asks asked) + 1)
+
+-- one more answer was polled, and it is counted; or none was, and none is
+abbrev pub Counts : ℕ → ℕ → List Answer → List Answer → Type 0
+Counts count count2 answers answers2 =
+    ((answer : Answer) × (answers2 ≡ answers ++ answer ∷ []) × (count2 ≡ saturated (count + 1))) ⊎ ((answers2 ≡ answers) × (count2 ≡ count))
+
+-- all that a client polled is counted
+abbrev pub HasCounted : Speaker → Client → Type 0
+HasCounted speaker client = speaker.answered ≡ polled_count client
+
+-- how many answers all clients polled
+abbrev pub all_polled : List Client → ℕ
+all_polled clients = sum_by (λ client. length (polled client)) clients
+
+-- The clients spoke with a cluster of the nodes that were asked for, and it was closed. It was one run, of which the headline holds;
+-- its nodes agree; and the schedule replays. Both are told so. What the clients said and heard is in it, and what is told to be
+-- answered is all that they heard.
+pub record TookPlace (asked : Conversation) (outcome : Outcome) : Type 0 where
+  pub given : Config
+  pub are : AreAsked asked given
+  pub lost : List Bool
+  pub nobody : NobodyLost lost
+  pub threads : List (Thread Lcg)
+  pub clients : List Client
+  pub judged : IsJudged given lost threads clients (record { agree = outcome.agree; replay = outcome.replay })
+  pub nodes_told : outcome.nodes ≡ asked.nodes
+  pub clients_told : outcome.clients ≡ all_clients asked
+  pub answered_told : outcome.answered ≡ saturated (all_polled clients)
+  pub asked_told : outcome.asked ≡ all_commands asked

@@ -1,0 +1,279 @@
+//! A conversation of clients with a cluster: what the program's `threads` does.
+
+ghost use Rattle.std.specs.Prelude.{◌≡◌, ◌++◌, IfOk, OnOk, length, map};
+ghost use Rattle.std.specs.Io.KnownBytes.{Appends};
+ghost use Rattle.std.specs.List.{All, sum_by};
+ghost use Rattle.pg_run.specs.Ports.{IsSilent};
+ghost use Rattle.pg_cluster.specs.Clients.{AllPairs};
+ghost use Rattle.pg_cluster.specs.Running.{clients_in, Goes};
+ghost use Rattle.pg_talk.specs.Conversations.{AreAsked, HasCounted, IsBare, TookPlace, all_polled, saturated};
+ghost use Rattle.pg_talk.specs.Outcomes.{agree_line, answered_line, is_good, nodes_line, outcome_lines, replay_line, yes_or_no};
+
+use crate::onlooker::Onlooker;
+use crate::speaker::Speaker;
+use crate::verdict::{Verdict, close_and_judge};
+use pg_cluster::{OpenGate, Running, StartFault};
+use pg_step::Start;
+use pg_term::{Atom, Items};
+use pg_world::{Config, MAX_NODES, WorldFault};
+use std::alloc::{AllocError, Global};
+use std::io::Write;
+use std::thread::Threads;
+use std::{io, thread};
+
+/// How many bytes a ring between two nodes has room for.
+const RING: usize = 65_536;
+
+/// How a conversation is to be.
+#[derive(Clone, Copy, Debug, PartialEq, Eq)]
+pub struct Conversation {
+    /// How many nodes the cluster has, 1 to 16.
+    pub nodes: u16,
+    /// How many clients each node has, 1 to 16.
+    pub clients: u16,
+    /// How often each client joins the group and leaves it.
+    pub rounds: u32,
+    /// The seed of the pauses of the first node; that of each further node is one more, and wraps.
+    pub seed: u64,
+    /// How many turns each node makes at most, and how often the clients are looked at.
+    pub turns: u64,
+}
+
+impl Conversation {
+    ghost use Rattle.pg_talk.specs.Conversations.{all_clients, all_commands};
+
+    /// How many clients all nodes have.
+    fn all_clients(&self) -> u64
+        ensures { result ≡ all_clients self.now }
+    {
+        u64::from(self.nodes).saturating_mul(u64::from(self.clients))
+    }
+
+    /// How many commands are to be asked: the create, and of each client a make and its rounds.
+    fn commands(&self) -> u64
+        ensures { result ≡ all_commands self.now }
+    {
+        let each = u64::from(self.rounds).saturating_mul(2).saturating_add(1);
+        self.all_clients().saturating_mul(each).saturating_add(1)
+    }
+}
+
+/// How a conversation went.
+#[derive(Clone, Copy, Debug, PartialEq, Eq)]
+pub struct Outcome {
+    /// How many nodes the cluster had.
+    pub nodes: u16,
+    /// How many clients all of them had.
+    pub clients: u64,
+    /// How many commands were answered.
+    pub answered: u64,
+    /// How many there were to be asked.
+    pub asked: u64,
+    /// Whether the nodes agree: `Closed::agrees`.
+    pub agree: bool,
+    /// Whether the schedule comes to the nodes as they ended: `Closed::replays`.
+    pub replay: bool,
+}
+
+impl Outcome {
+    /// Whether all was answered, the nodes agree, and the schedule replays.
+    pub fn is_good(&self) -> bool
+        ensures { result ≡ is_good self.now }
+    {
+        self.answered == self.asked && self.agree && self.replay
+    }
+
+    /// Writes it in four lines.
+    ///
+    /// Error: that of the writer.
+    pub fn write<W: Write>(&self, out: &mut W) -> io::Result<()>
+        ensures { OnOk result (Appends (W.contents out.old) (W.contents out.new) (outcome_lines self.now)) }
+    {
+        self.write_counts(out)?;
+        self.write_verdicts(out)
+    }
+
+    fn write_counts<W: Write>(&self, out: &mut W) -> io::Result<()>
+        ensures { OnOk result (Appends (W.contents out.old) (W.contents out.new) (nodes_line self.now ++ answered_line self.now)) }
+    {
+        self.write_size(out)?;
+        self.write_answered(out)
+    }
+
+    fn write_verdicts<W: Write>(&self, out: &mut W) -> io::Result<()>
+        ensures { OnOk result (Appends (W.contents out.old) (W.contents out.new) (agree_line self.now ++ replay_line self.now)) }
+    {
+        self.write_agree(out)?;
+        self.write_replay(out)
+    }
+
+    fn write_size<W: Write>(&self, out: &mut W) -> io::Result<()>
+        ensures { OnOk result (Appends (W.contents out.old) (W.contents out.new) (nodes_line self.now)) }
+    {
+        writeln!(out, "nodes {} clients {}", self.nodes, self.clients)
+    }
+
+    fn write_answered<W: Write>(&self, out: &mut W) -> io::Result<()>
+        ensures { OnOk result (Appends (W.contents out.old) (W.contents out.new) (answered_line self.now)) }
+    {
+        writeln!(out, "answered {} of {}", self.answered, self.asked)
+    }
+
+    fn write_agree<W: Write>(&self, out: &mut W) -> io::Result<()>
+        ensures { OnOk result (Appends (W.contents out.old) (W.contents out.new) (agree_line self.now)) }
+    {
+        writeln!(out, "agree {}", yes_or_no(self.agree))
+    }
+
+    fn write_replay<W: Write>(&self, out: &mut W) -> io::Result<()>
+        ensures { OnOk result (Appends (W.contents out.old) (W.contents out.new) (replay_line self.now)) }
+    {
+        writeln!(out, "replay {}", yes_or_no(self.replay))
+    }
+}
+
+fn yes_or_no(holds: bool) -> &'static str
+    ensures { result.now ≡ yes_or_no holds }
+{
+    if holds { "yes" } else { "no" }
+}
+
+/// Starts the cluster and lets its clients speak: the first client of the first node creates a group; once that is answered each
+/// client makes a process, and then joins the group and leaves it so many times, each command once the former is answered. The
+/// cluster is closed once all is answered, or after as many looks as there are turns. `onlooker`: who is told at each look how far
+/// they are. It may wait for threads.
+///
+/// Faults: those of `Cluster::start`, where `BadConfig` is told of more than 16 nodes, or of none.
+pub fn run_threads<R: Threads, O: Onlooker>(
+    rt: &R,
+    alloc: Global,
+    asked: Conversation,
+    onlooker: &mut O,
+) -> Result<Outcome, StartFault>
+    ensures { IfOk result (TookPlace asked) }
+{
+    let config = config_of(alloc, asked)?;
+    let mut running = Running::start(rt, alloc, config, asked.seed, OpenGate, asked.turns)?;
+    let heard = converse(alloc, &mut running, asked, onlooker);
+    let verdict = close_and_judge(rt, alloc, running);
+    let Verdict { agree, replay } = verdict?;
+    Ok(Outcome {
+        nodes: asked.nodes,
+        clients: asked.all_clients(),
+        answered: heard?,
+        asked: asked.commands(),
+        agree,
+        replay,
+    })
+}
+
+/// The nodes `n1`, `n2` and so on, with as many ports as clients.
+fn config_of(alloc: Global, asked: Conversation) -> Result<Config, StartFault>
+    ensures { IfOk result (λ config. AreAsked asked config.starts.items) }
+{
+    let mut starts = Vec::with_capacity(alloc, MAX_NODES)?;
+    for place in 0..asked.nodes {
+        starts.push(start_of(alloc, u32::from(place) + 1, asked.clients)?)?;
+    }
+    Ok(Config { ring: RING, starts })
+}
+
+fn start_of(alloc: Global, number: u32, ports: u16) -> Result<Start, StartFault>
+    ensures { IfOk result (IsBare ports number) }
+{
+    let text = format!(in alloc; "n{number}")?;
+    let Ok(name) = Atom::new(alloc, text.as_str()) else {
+        return Err(StartFault::World(WorldFault::OutOfMemory));
+    };
+    Ok(Start {
+        name,
+        made: 0,
+        ports,
+        groups: Items::from_vec(Vec::new(alloc)),
+    })
+}
+
+/// The clients speak until all is answered, or for so many looks; how many commands were answered.
+fn converse<O: Onlooker>(
+    alloc: Global,
+    running: &mut Running,
+    asked: Conversation,
+    onlooker: &mut O,
+) -> Result<u64, AllocError>
+    requires silent { All IsSilent (clients_in running.old) }
+    ensures same { Goes running.old running.new }
+    ensures answered { IfOk result (λ answered. answered ≡ saturated (all_polled (clients_in running.new))) }
+{
+    let mut speakers = speakers(alloc, running.client_count(), asked.rounds)?;
+    let commands = asked.commands();
+    for _ in 0..asked.turns {
+        let moved = speak_all(alloc, running, &mut speakers)?;
+        onlooker.look(answered_by(speakers.as_slice()), commands);
+        if speakers.iter().all(|speaker| speaker.is_silent()) {
+            break;
+        }
+        if !moved {
+            thread::yield_now();
+        }
+    }
+    Ok(answered_by(speakers.as_slice()))
+}
+
+/// So many clients, of which the first creates the group.
+fn speakers(alloc: Global, count: usize, rounds: u32) -> Result<Vec<Speaker>, AllocError>
+    ensures count { IfOk result (λ speakers. length speakers.items ≡ count) }
+    ensures none { IfOk result (λ speakers. All (λ speaker. speaker.answered ≡ 0) speakers.items) }
+{
+    let mut speakers = Vec::with_capacity(alloc, count)?;
+    for place in 0..count {
+        speakers.push(if place == 0 {
+            Speaker::creating(rounds)
+        } else {
+            Speaker::waiting(rounds)
+        })?;
+    }
+    Ok(speakers)
+}
+
+/// Each client speaks once; whether something moved.
+fn speak_all(
+    alloc: Global,
+    running: &mut Running,
+    speakers: &mut Vec<Speaker>,
+) -> Result<bool, AllocError>
+    requires counted { AllPairs HasCounted speakers.old.items (clients_in running.old) }
+    ensures same { Goes running.old running.new }
+    ensures counted { OnOk result (AllPairs HasCounted speakers.new.items (clients_in running.new)) }
+{
+    let mut moved = false;
+    for place in 0..running.client_count().min(speakers.len()) {
+        let speaker = &mut speakers[place];
+        if speaker.speak(alloc, running, place)? {
+            moved = true;
+        }
+    }
+    if speakers.first().is_some_and(|first| first.answered > 0) {
+        begin_all(speakers);
+    }
+    Ok(moved)
+}
+
+/// The group is there.
+fn begin_all(speakers: &mut Vec<Speaker>)
+    ensures { map (λ speaker. speaker.answered) speakers.new.items ≡ map (λ speaker. speaker.answered) speakers.old.items }
+{
+    for place in 0..speakers.len() {
+        speakers[place].begin();
+    }
+}
+
+/// How many commands of these clients were answered.
+fn answered_by(speakers: &[Speaker]) -> u64
+    ensures { result ≡ saturated (sum_by (λ speaker. speaker.answered) speakers.now) }
+{
+    let mut answered: u64 = 0;
+    for speaker in speakers {
+        answered = answered.saturating_add(speaker.answered);
+    }
+    answered
+}

@@ -1,0 +1,16 @@
+//! What speaks with a cluster: a conversation that shows it, and a service that other programs use over bytes.
+#![tactic(auto)]
+
+mod conversation;
+mod onlooker;
+mod service;
+mod speaker;
+mod verdict;
+
+pub use conversation::{Conversation, Outcome, run_threads};
+pub use onlooker::{Onlooker, Quiet};
+pub use service::fault::ServiceFault;
+pub use service::members::{config_of, node_names};
+pub use service::run::{Served, serve_cluster};
+pub use service::{MAX_WAITING, Service};
+pub use verdict::Verdict;

@@ -1,0 +1,31 @@
+//! A service: requests of a stream go to the ports of a cluster, and their replies come back on another.
+
+pub(crate) mod desk;
+pub(crate) mod fault;
+pub(crate) mod input;
+pub(crate) mod layout;
+pub(crate) mod members;
+pub(crate) mod outlet;
+pub(crate) mod parts;
+pub(crate) mod reader;
+pub(crate) mod reading;
+pub(crate) mod reply;
+pub(crate) mod request;
+pub(crate) mod run;
+pub(crate) mod serving;
+
+use pg_world::Config;
+
+/// How many requests wait for their turn at one port at most.
+pub const MAX_WAITING: usize = 1024;
+
+/// How a service is to be.
+#[derive(Debug, Drop)]
+pub struct Service {
+    /// The nodes of its cluster, with their ports.
+    pub config: Config,
+    /// After how many requests the input counts as ended.
+    pub requests: u64,
+    /// The seed of the pauses of the first node; that of each further node is one more, and wraps.
+    pub seed: u64,
+}

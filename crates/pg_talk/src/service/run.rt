@@ -1,0 +1,128 @@
+//! A service from its start to its end.
+
+ghost use Rattle.std.specs.Prelude.{IfOk};
+ghost use Rattle.pg_cluster.specs.Running.{config_in};
+ghost use Rattle.pg_talk.specs.Services.{WasJudged, running_of};
+
+use crate::service::Service;
+use crate::service::fault::ServiceFault;
+use crate::service::layout::Layout;
+use crate::service::reader::Reader;
+use crate::service::serving::{Desks, Serving};
+use crate::verdict::{Verdict, close_and_judge};
+use pg_cluster::{OpenGate, Running};
+use pg_node::{Sink, Source};
+use pg_step::Start;
+use std::alloc::{AllocError, Global};
+use std::thread::Threads;
+
+/// How a service went that came to its end.
+#[derive(Clone, Copy, Debug, PartialEq, Eq)]
+pub struct Served {
+    /// What the cluster is found to be.
+    pub verdict: Verdict,
+    /// By which fault the input ended, if it was broken or could not be read.
+    pub fault: Option<u8>,
+}
+
+/// Starts the cluster of a service, reads requests from `source`, and writes the replies to `writer`, until the input is over and each
+/// request was replied to. Then the cluster is closed and judged. A request of a port is handed over once the one before it there was
+/// replied to. Each reply is in a frame, and all are passed on whenever no further one is at hand. It may wait for threads.
+///
+/// Faults: `Start`, where no cluster was started, or no thread that reads; `WriteFault`, where a write or a flush fails, also while more
+/// could be read; `OutOfMemory`.
+pub fn serve_cluster<R: Threads, S: Source + Send + Drop + 'static, W: Sink>(
+    rt: &R,
+    alloc: Global,
+    service: Service,
+    source: S,
+    writer: &mut W,
+) -> Result<Served, ServiceFault>
+    ensures { IfOk result (λ served. WasJudged service.config.starts.items served.verdict) }
+{
+    let Service {
+        config,
+        requests,
+        seed,
+    } = service;
+    let (layout, desks) = match rooms_of(alloc, config.starts.as_slice()) {
+        Ok(rooms) => rooms,
+        Err(AllocError) => {
+            drop(config);
+            drop(source);
+            return Err(ServiceFault::OutOfMemory);
+        }
+    };
+    match Running::start(rt, alloc, config, seed, OpenGate, u64::MAX) {
+        Ok(running) => {
+            let serving = Serving::new(alloc, running, desks);
+            serve_by(rt, alloc, serving, layout, requests, source, writer)
+        }
+        Err(fault) => {
+            drop(layout);
+            drop(desks);
+            drop(source);
+            Err(ServiceFault::Start(fault))
+        }
+    }
+}
+
+/// Starts the thread that reads, and serves; the cluster is closed.
+fn serve_by<R: Threads, S: Source + Send + Drop + 'static, W: Sink>(
+    rt: &R,
+    alloc: Global,
+    serving: Serving,
+    layout: Layout,
+    requests: u64,
+    source: S,
+    writer: &mut W,
+) -> Result<Served, ServiceFault>
+    ensures { IfOk result (λ served. WasJudged (config_in (running_of serving)).starts.items served.verdict) }
+{
+    match Reader::start(rt, alloc, source, layout, requests) {
+        Ok(reader) => serve_all(rt, alloc, serving, reader, writer),
+        Err(fault) => {
+            drop(serving.into_running().close(rt));
+            Err(fault)
+        }
+    }
+}
+
+/// What a service of such nodes looks up.
+///
+/// Error: `AllocError`.
+fn rooms_of(alloc: Global, starts: &[Start]) -> Result<(Layout, Desks), AllocError> {
+    let layout = Layout::of(alloc, starts)?;
+    let desks = Desks::of(alloc, starts)?;
+    Ok((layout, desks))
+}
+
+/// Serves until the input is over and each request was replied to, and closes and judges the cluster.
+fn serve_all<R: Threads, W: Sink>(
+    rt: &R,
+    alloc: Global,
+    serving: Serving,
+    reader: Reader,
+    writer: &mut W,
+) -> Result<Served, ServiceFault>
+    ensures { IfOk result (λ served. WasJudged (config_in (running_of serving)).starts.items served.verdict) }
+{
+    let mut serving = serving;
+    let mut reader = reader;
+    let served = serving.run(rt, &mut reader, writer);
+    let fault = serving.fault();
+    let verdict = close_and_judge(rt, alloc, serving.into_running());
+    match served {
+        Ok(()) => {
+            reader.join(rt);
+            Ok(Served {
+                verdict: verdict?,
+                fault,
+            })
+        }
+        Err(fault) => {
+            reader.leave();
+            Err(fault)
+        }
+    }
+}

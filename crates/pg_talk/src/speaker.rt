@@ -1,0 +1,185 @@
+//! What a client of a conversation says next.
+
+ghost use Rattle.std.specs.Prelude.{◌≡◌, ◌<◌, ◌+◌, length};
+ghost use Rattle.pg_run.specs.declared.port.Client.{Client};
+ghost use Rattle.pg_cluster.specs.Running.{clients_in, polled_at, OnlyClient};
+ghost use Rattle.pg_talk.specs.Conversations.{Counts, saturated};
+
+use pg_cluster::Running;
+use pg_step::{Answer, Command, Reply};
+use pg_term::{Atom, Pid, Term};
+use std::alloc::{AllocError, Global};
+
+/// Where a client is in its conversation.
+#[derive(Clone, Copy, Debug, PartialEq, Eq)]
+enum Stage {
+    /// It waits for the group.
+    Waiting,
+    /// It creates the group.
+    Creating,
+    /// It makes a process.
+    Making,
+    /// It joins the group with the process.
+    Joining,
+    /// It leaves the group with the process.
+    Leaving,
+    /// All is said.
+    Silent,
+}
+
+/// A client of a conversation: it makes a process and then joins the group and leaves it, again and again.
+#[derive(Debug, Drop)]
+pub(crate) struct Speaker {
+    stage: Stage,
+    // The command of the stage was submitted.
+    is_asked: bool,
+    pid: Option<Pid>,
+    rounds: u32,
+    // How many commands were answered.
+    pub(crate) answered: u64,
+}
+
+impl Speaker {
+    /// A client that creates the group first.
+    pub(crate) fn creating(rounds: u32) -> Speaker
+        ensures { result.answered ≡ 0 }
+    {
+        Speaker {
+            stage: Stage::Creating,
+            is_asked: false,
+            pid: None,
+            rounds,
+            answered: 0,
+        }
+    }
+
+    /// A client that waits for the group.
+    pub(crate) fn waiting(rounds: u32) -> Speaker
+        ensures { result.answered ≡ 0 }
+    {
+        Speaker {
+            stage: Stage::Waiting,
+            is_asked: false,
+            pid: None,
+            rounds,
+            answered: 0,
+        }
+    }
+
+    /// The group is there.
+    pub(crate) fn begin(&mut self)
+        ensures { self.new.answered ≡ self.old.answered }
+    {
+        if self.stage == Stage::Waiting {
+            self.stage = Stage::Making;
+        }
+    }
+
+    /// Whether all is said and answered.
+    pub(crate) fn is_silent(&self) -> bool {
+        matches!(self.stage, Stage::Silent)
+    }
+
+    /// Polls an answer, and counts it, or submits the next command; whether something moved.
+    ///
+    /// Error: `AllocError`.
+    pub(crate) fn speak(
+        &mut self,
+        alloc: Global,
+        running: &mut Running,
+        place: usize,
+    ) -> Result<bool, AllocError>
+        requires { place < length (clients_in running.old) }
+        ensures only { OnlyClient place running.old running.new }
+        ensures counts { (none : Client) → Counts self.old.answered self.new.answered (polled_at place none running.old) (polled_at place none running.new) }
+    {
+        if self.is_asked {
+            match running.poll(place) {
+                Some(answer) => {
+                    self.hear(answer);
+                    Ok(true)
+                }
+                None => Ok(false),
+            }
+        } else {
+            self.ask(alloc, running, place)
+        }
+    }
+
+    // Submits the command of the stage.
+    fn ask(
+        &mut self,
+        alloc: Global,
+        running: &mut Running,
+        place: usize,
+    ) -> Result<bool, AllocError>
+        requires { place < length (clients_in running.old) }
+        ensures only { OnlyClient place running.old running.new }
+        ensures polled { (none : Client) → polled_at place none running.new ≡ polled_at place none running.old }
+        ensures answered { self.new.answered ≡ self.old.answered }
+    {
+        match self.command(alloc)? {
+            Some(command) => {
+                self.is_asked = match running.submit(place, command) {
+                    Ok(()) => true,
+                    Err(command) => {
+                        drop(command);
+                        false
+                    }
+                };
+                Ok(self.is_asked)
+            }
+            None => Ok(false),
+        }
+    }
+
+    // The command of the stage.
+    fn command(&self, alloc: Global) -> Result<Option<Command>, AllocError> {
+        Ok(match (self.stage, &self.pid) {
+            (Stage::Creating, _) => Some(Command::Create(group(alloc)?)),
+            (Stage::Making, _) => Some(Command::Make),
+            (Stage::Joining, Some(pid)) => {
+                let pid = pid.copy()?;
+                Some(Command::Join(group(alloc)?, pid))
+            }
+            (Stage::Leaving, Some(pid)) => {
+                let pid = pid.copy()?;
+                Some(Command::Leave(group(alloc)?, pid))
+            }
+            _ => None,
+        })
+    }
+
+    // Takes in the answer to the command of the stage.
+    fn hear(&mut self, answer: Answer)
+        ensures { self.new.answered ≡ saturated (self.old.answered + 1) }
+    {
+        self.answered = self.answered.saturating_add(1);
+        self.is_asked = false;
+        match answer.reply {
+            Reply::Made(pid) => drop(self.pid.replace(pid)),
+            other => drop(other),
+        }
+        self.stage = match self.stage {
+            Stage::Waiting | Stage::Creating => Stage::Making,
+            Stage::Joining => Stage::Leaving,
+            Stage::Making | Stage::Leaving => {
+                if self.rounds > 0 {
+                    self.rounds -= 1;
+                    Stage::Joining
+                } else {
+                    Stage::Silent
+                }
+            }
+            Stage::Silent => Stage::Silent,
+        };
+    }
+}
+
+// The name of the group.
+fn group(alloc: Global) -> Result<Term, AllocError> {
+    match Atom::new(alloc, "g") {
+        Ok(name) => Ok(Term::Atom(name)),
+        Err(_) => Err(AllocError),
+    }
+}

@@ -1,0 +1,13 @@
+//! How a test ends that finds another thing than it should.
+
+use std::process::Abort;
+
+/// Ends the test where something does not hold, and tells of it.
+pub fn holds(rt: &impl Abort, holds: bool, said: &str) {
+    assert!(rt; holds, "{said}");
+}
+
+/// The same, of what holds at a number.
+pub fn holds_at(rt: &impl Abort, holds: bool, said: &str, at: u64) {
+    assert!(rt; holds, "{said} {at}");
+}

@@ -1,0 +1,127 @@
+use Rattle.std.proofs.Common.{◌≡◌, ◌∙◌, Bool, [], true, false, refl, sym, ap, subst}
+use Rattle.pg_machine.specs.Places.{is_pair}
+use Rattle.pg_history.proofs.steps.Lossless.{nobody_timed}
+use Rattle.pg_loss.specs.Reached.{LosingReaches}
+use Rattle.pg_step.specs.Config.{name_at}
+use Rattle.pg_step.specs.Nodes.{Node}
+use Rattle.pg_step.specs.Step.{Issue, Retry}
+use Rattle.pg_world.specs.declared.step.FrameStep.{FrameStep}
+use Rattle.pg_world.specs.BytesLosing.{ShowsLosingBytes, EventLeaves}
+use Rattle.pg_world.specs.Crossings.{crossing_of, ShowsBytes, FrameComesTo}
+use Rattle.pg_world.specs.Histories.{account_of}
+use Rattle.pg_world.specs.Losing.{losing_of, is_barred, is_cut_off}
+use Rattle.pg_world.specs.Losses.{lost_in, is_lost}
+use Rattle.pg_world.specs.Views.{Account}
+use Rattle.pg_world.specs.Worlds.{has_places}
+use Rattle.pg_world.proofs.Barred.{either_stays, either_unseen, take_cut}
+use Rattle.pg_world.proofs.over_bytes.Past.{take_past, own_past, unplaced_past, barred_past, starved_past}
+use Rattle.pg_world.proofs.Harmless.{welcome_there, welcome_left}
+use Rattle.pg_world.proofs.Turning.{pair_there}
+use Rattle.pg_world.proofs.Unplaced.{unplaced_event}
+use Rattle.pg_world.proofs.bytes.ByteNodes.event.Goals as goal
+
+pub returns-then-not-has_places-clause-came : goal.returns-then-not-has_places-clause-came
+returns-then-not-has_places-clause-came g c = λ config w nobody reached shows.
+    unplaced_event config (crossing_of c.args.self.now).nodes w shows.traffic.nodes c.args.event.now (ShowsBytes config (crossing_of c.args.self.now) (account_of c.args.self.now.histories))
+    (sym c.has_places.ensures ∙ c.if-not-has_places.true) shows
+
+pub returns-then-not-has_places-clause-losing : goal.returns-then-not-has_places-clause-losing
+returns-then-not-has_places-clause-losing g c = λ config u reached shows.
+    unplaced_past config (crossing_of c.args.self.now) (account_of c.args.self.now.histories) u (lost_in c.args.self.now.losses) shows c.args.event.now (sym c.has_places.ensures ∙ c.if-not-has_places.true)
+
+pub returns-then-is_barred-clause-losing : goal.returns-then-is_barred-clause-losing
+returns-then-is_barred-clause-losing g c = λ config u reached shows.
+    barred_past config (crossing_of c.args.self.now) (account_of c.args.self.now.histories) u (lost_in c.args.self.now.losses) shows c.args.event.now
+    (sym c.has_places.ensures ∙ c.if-not-has_places.false) (sym c.is_barred.ensures ∙ c.if-is_barred.true)
+
+pub returns-in-Take-clause-came : goal.returns-in-Take-clause-came
+returns-in-Take-clause-came g c = λ config w nobody reached shows.
+    let nodes = (crossing_of c.args.self.now).nodes in
+    let places = sym c.has_places.ensures ∙ c.if-not-has_places.false in
+    let pair : is_pair _ c.in-Take.node c.in-Take.peer ≡ true = subst (λ (s : FrameStep). has_places nodes s ≡ true) c.in-Take.is places in
+    let settled : account_of c.settle.new.self ≡ account_of c.args.self.now.histories = λ j. record { histories = c.settle.ensures.history j; applied = c.settle.ensures.applied j } in
+    let now = subst (λ (a : Account). ShowsBytes config (crossing_of c.args.self.now) a w) (sym settled) shows in
+    let harmless = c.nobody_is_harmed.ensures config w reached.0 shows.traffic.nodes.apart reached.1 in
+    subst (λ (s : FrameStep). FrameComesTo config w s c.take.result (ShowsBytes config (crossing_of c.take.new.self) (account_of c.take.new.self.histories))) (sym c.in-Take.is)
+    (c.take.ensures.event config [] w refl (ap (λ (f : Node → Bool). f (name_at config c.in-Take.peer)) (nobody_timed config reached.0 w reached.1 c.in-Take.node)) (welcome_there config w c.in-Take.node c.in-Take.peer harmless (pair_there config nodes w c.in-Take.node c.in-Take.peer shows.traffic.nodes pair)) now)
+
+pub returns-in-Take-clause-losing : goal.returns-in-Take-clause-losing
+returns-in-Take-clause-losing g c = λ config u reached shows.
+    let crossing = crossing_of c.args.self.now in
+    let nodes = crossing.nodes in
+    let lost = lost_in c.args.self.now.losses in
+    let i = c.in-Take.node in
+    let p = c.in-Take.peer in
+    let places = sym c.has_places.ensures ∙ c.if-not-has_places.false in
+    let bars = sym c.is_barred.ensures ∙ c.if-is_barred.false in
+    let pair : is_pair _ i p ≡ true = subst (λ (s : FrameStep). has_places nodes s ≡ true) c.in-Take.is places in
+    let lives : is_cut_off nodes lost i p ≡ false = subst (λ (s : FrameStep). is_barred nodes lost s ≡ false) c.in-Take.is bars in
+    let settled : account_of c.settle.new.self ≡ account_of c.args.self.now.histories = λ j. record { histories = c.settle.ensures.history j; applied = c.settle.ensures.applied j } in
+    let now = subst (λ (a : Account). ShowsLosingBytes config crossing a lost u) (sym settled) shows in
+    let w = now.frames in
+    let its = now.shows.traffic.nodes in
+    let cut = take_cut config nodes w lost its now.seen i p pair lives in
+    let stays = either_stays config nodes w lost its now.seen (is_lost lost i) _ cut in
+    let unseen = either_unseen config nodes w lost its now.seen (is_lost lost i) _ cut in
+    let led = subst (LosingReaches config reached.0) now.is reached.1 in
+    let welcome = welcome_left config w lost i p (λ packet rest begins. c.no_packet_is_refused.ensures config (losing_of config w lost) reached.0 i p packet rest its.apart led (pair_there config nodes w i p its pair) stays unseen begins) in
+    subst (λ (s : FrameStep). EventLeaves config u s c.take.result (ShowsLosingBytes config (crossing_of c.take.new.self) (account_of c.take.new.self.histories) (lost_in c.take.new.self.losses))) (sym c.in-Take.is)
+    (take_past config crossing (crossing_of c.take.new.self) _ (account_of c.take.new.self.histories) u lost _ now c.take.ensures.lost c.take.result i p pair lives
+    (c.take.ensures.event config lost w stays unseen welcome now.shows))
+
+pub returns-in-Command-clause-came : goal.returns-in-Command-clause-came
+returns-in-Command-clause-came g c = λ config w nobody reached shows.
+    let settled : account_of c.settle.new.self ≡ account_of c.args.self.now.histories = λ j. record { histories = c.settle.ensures.history j; applied = c.settle.ensures.applied j } in
+    let now = subst (λ (a : Account). ShowsBytes config (crossing_of c.args.self.now) a w) (sym settled) shows in
+    subst (λ (s : FrameStep). FrameComesTo config w s c.command.result (ShowsBytes config (crossing_of c.command.new.self) (account_of c.command.new.self.histories))) (sym c.in-Command.is)
+    (c.command.ensures.event config [] w refl now)
+
+pub returns-in-Command-clause-losing : goal.returns-in-Command-clause-losing
+returns-in-Command-clause-losing g c = λ config u reached shows.
+    let crossing = crossing_of c.args.self.now in
+    let nodes = crossing.nodes in
+    let lost = lost_in c.args.self.now.losses in
+    let places = subst (λ (s : FrameStep). has_places nodes s ≡ true) c.in-Command.is (sym c.has_places.ensures ∙ c.if-not-has_places.false) in
+    let stays : is_lost lost c.in-Command.node ≡ false = subst (λ (s : FrameStep). is_barred nodes lost s ≡ false) c.in-Command.is (sym c.is_barred.ensures ∙ c.if-is_barred.false) in
+    let settled : account_of c.settle.new.self ≡ account_of c.args.self.now.histories = λ j. record { histories = c.settle.ensures.history j; applied = c.settle.ensures.applied j } in
+    let now = subst (λ (a : Account). ShowsLosingBytes config crossing a lost u) (sym settled) shows in
+    subst (λ (s : FrameStep). EventLeaves config u s c.command.result (ShowsLosingBytes config (crossing_of c.command.new.self) (account_of c.command.new.self.histories) (lost_in c.command.new.self.losses))) (sym c.in-Command.is)
+    (own_past config crossing (crossing_of c.command.new.self) _ (account_of c.command.new.self.histories) u lost _ now c.command.ensures.lost c.command.result c.in-Command.node (Issue c.in-Command.port c.in-Command.command) places stays
+    (c.command.ensures.event config lost now.frames stays now.shows))
+
+pub returns-in-Retry-clause-came : goal.returns-in-Retry-clause-came
+returns-in-Retry-clause-came g c = λ config w nobody reached shows.
+    let settled : account_of c.settle.new.self ≡ account_of c.args.self.now.histories = λ j. record { histories = c.settle.ensures.history j; applied = c.settle.ensures.applied j } in
+    let now = subst (λ (a : Account). ShowsBytes config (crossing_of c.args.self.now) a w) (sym settled) shows in
+    subst (λ (s : FrameStep). FrameComesTo config w s c.retry.result (ShowsBytes config (crossing_of c.retry.new.self) (account_of c.retry.new.self.histories))) (sym c.in-Retry.is)
+    (c.retry.ensures.event config [] w refl now)
+
+pub returns-in-Retry-clause-losing : goal.returns-in-Retry-clause-losing
+returns-in-Retry-clause-losing g c = λ config u reached shows.
+    let crossing = crossing_of c.args.self.now in
+    let nodes = crossing.nodes in
+    let lost = lost_in c.args.self.now.losses in
+    let places = subst (λ (s : FrameStep). has_places nodes s ≡ true) c.in-Retry.is (sym c.has_places.ensures ∙ c.if-not-has_places.false) in
+    let stays : is_lost lost c.in-Retry.node ≡ false = subst (λ (s : FrameStep). is_barred nodes lost s ≡ false) c.in-Retry.is (sym c.is_barred.ensures ∙ c.if-is_barred.false) in
+    let settled : account_of c.settle.new.self ≡ account_of c.args.self.now.histories = λ j. record { histories = c.settle.ensures.history j; applied = c.settle.ensures.applied j } in
+    let now = subst (λ (a : Account). ShowsLosingBytes config crossing a lost u) (sym settled) shows in
+    subst (λ (s : FrameStep). EventLeaves config u s c.retry.result (ShowsLosingBytes config (crossing_of c.retry.new.self) (account_of c.retry.new.self.histories) (lost_in c.retry.new.self.losses))) (sym c.in-Retry.is)
+    (own_past config crossing (crossing_of c.retry.new.self) _ (account_of c.retry.new.self.histories) u lost _ now c.retry.ensures.lost c.retry.result c.in-Retry.node (Retry c.in-Retry.op) places stays
+    (c.retry.ensures.event config lost now.frames stays now.shows))
+
+pub returns-in-SeeLoss-clause-losing : goal.returns-in-SeeLoss-clause-losing
+returns-in-SeeLoss-clause-losing g c = λ config u reached shows.
+    let settled : account_of c.settle.new.self ≡ account_of c.args.self.now.histories = λ j. record { histories = c.settle.ensures.history j; applied = c.settle.ensures.applied j } in
+    subst (λ (s : FrameStep). EventLeaves config u s c.see_loss.result (ShowsLosingBytes config (crossing_of c.see_loss.new.self) (account_of c.see_loss.new.self.histories) (lost_in c.see_loss.new.self.losses))) (sym c.in-SeeLoss.is)
+    (c.see_loss.ensures.losing config u (subst (λ (a : Account). ShowsLosingBytes config (crossing_of c.args.self.now) a (lost_in c.args.self.now.losses) u) (sym settled) shows))
+
+pub returns-in-Lose-clause-losing : goal.returns-in-Lose-clause-losing
+returns-in-Lose-clause-losing g c = λ config u reached shows.
+    let settled : account_of c.settle.new.self ≡ account_of c.args.self.now.histories = λ j. record { histories = c.settle.ensures.history j; applied = c.settle.ensures.applied j } in
+    subst (λ (s : FrameStep). EventLeaves config u s c.lose.result (ShowsLosingBytes config (crossing_of c.lose.new.self) (account_of c.lose.new.self.histories) (lost_in c.lose.new.self.losses))) (sym c.in-Lose.is)
+    (c.lose.ensures.losing config u (subst (λ (a : Account). ShowsLosingBytes config (crossing_of c.args.self.now) a (lost_in c.args.self.now.losses) u) (sym settled) shows))
+
+pub returns-in-Err-clause-losing : goal.returns-in-Err-clause-losing
+returns-in-Err-clause-losing g c = λ config u reached shows.
+    let settled : account_of c.settle.new.self ≡ account_of c.args.self.now.histories = λ j. record { histories = c.in-Err.ensures.history j; applied = c.in-Err.ensures.applied j } in
+    starved_past config u c.args.event.now _ (subst (λ (a : Account). ShowsLosingBytes config (crossing_of c.args.self.now) a (lost_in c.args.self.now.losses) u) (sym settled) shows)

@@ -1,0 +1,29 @@
+use Rattle.std.proofs.Common.{◌<◌, ◌≤◌, ◌∙◌, length, sym, arith}
+use Rattle.std.proofs.lemmas.Bool.{lt-ltb}
+use Rattle.std.proofs.lemmas.List.{length-map}
+use Rattle.pg_world.specs.Crossings.{crossing_of, node_of, written_of}
+use Rattle.pg_world.specs.Histories.{account_of}
+use Rattle.pg_world.specs.Losses.{lost_in}
+use Rattle.pg_world.proofs.over_bytes.Lost.{lost_bytes}
+use Rattle.pg_world.proofs.over_bytes.Past.{gone_unplaced, gone_before}
+use Rattle.pg_world.proofs.Peering.{lt_false}
+use Rattle.pg_world.proofs.bytes.ByteNodes.lose.Goals as goal
+
+pub returns-then-node-len-clause-losing : goal.returns-then-node-len-clause-losing
+returns-then-node-len-clause-losing g c = λ config u shows.
+    let many = length-map c.args.self.now.nodes.items node_of in
+    let none : length (crossing_of c.args.self.now).nodes ≤ c.args.node = omega (arith, many, c.if-node-len.true, c.len.ensures, c.args.self.now.nodes.ok) in
+    (gone_unplaced config (crossing_of c.args.self.now) (account_of c.args.self.now.histories) u (lost_in c.args.self.now.losses) shows c.args.node (lt_false c.args.node _ none), shows)
+
+pub returns-then-has-clause-losing : goal.returns-then-has-clause-losing
+returns-then-has-clause-losing g c = λ config u shows.
+    let many = length-map c.args.self.now.nodes.items node_of in
+    let within : c.args.node < length (crossing_of c.args.self.now).nodes = omega (arith, many, c.if-node-len.false, c.len.ensures, c.args.self.now.nodes.ok) in
+    (gone_before config (crossing_of c.args.self.now) (account_of c.args.self.now.histories) u (lost_in c.args.self.now.losses) shows c.args.node (lt-ltb c.args.node _ within) (sym c.has.ensures ∙ c.if-has.true), shows)
+
+pub returns-in-Ok-clause-losing : goal.returns-in-Ok-clause-losing
+returns-in-Ok-clause-losing g c = λ config u shows.
+    let many = length-map c.args.self.now.nodes.items node_of in
+    let within : c.args.node < length (crossing_of c.args.self.now).nodes = omega (arith, many, c.if-node-len.false, c.len.ensures, c.args.self.now.nodes.ok) in
+    lost_bytes config (crossing_of c.args.self.now) (account_of c.args.self.now.histories) u c.args.node (lost_in c.args.self.now.losses) (lost_in c.add.new.self) shows
+    (λ packets bytes. c.loss_cuts_packets.ensures.cut written_of packets bytes) within (sym c.has.ensures ∙ c.if-has.false) c.in-Ok.ensures.added

@@ -1,0 +1,55 @@
+use Rattle.std.proofs.Common.{refl, sym, subst}
+use Rattle.pg_step.specs.Step.{Retry}
+use Rattle.pg_node.specs.Nodes.{held_by}
+use Rattle.pg_node.specs.States.{state_of, answers_of}
+use Rattle.pg_world.specs.Crossings.{Crossing, crossing_of, node_of, written_of, ShowsBytesPast}
+use Rattle.pg_world.specs.Histories.{account_of}
+use Rattle.pg_world.proofs.Linked.{alone, port_place, seen_there, nodes_set, seen_kept, own_acts, node_same, nodes_kept}
+use Rattle.pg_world.proofs.Passing.{own_shown, own_err}
+use Rattle.pg_world.proofs.Recording.{grew_own}
+use Rattle.pg_world.proofs.bytes.ByteNodes.retry.Goals as goal
+
+pub returns-in-Ok : goal.returns-in-Ok
+returns-in-Ok g c = record {
+  event = λ config lost w stays shows.
+      let nodes = c.args.self.now.nodes.items in
+      let rings = c.args.self.now.rings.items in
+      let i = c.args.node in
+      let node = c.index_mut-state.result.now in
+      let node2 = c.retry.new.self in
+      let at = c.index_mut-state.ensures.value in
+      let l = port_place nodes i c.args.op.port c.requires.port in
+      own_shown config lost (crossing_of c.args.self.now) _ (account_of c.args.self.now.histories) _ w shows (λ packets others bytes are. c.sending_adds_packets.ensures written_of packets others bytes are)
+      i stays (Retry c.args.op) (node_of node) (node_of node2) c.in-Ok.done (seen_there nodes rings i node l at) (nodes_set nodes rings i node2) c.in-Ok.ensures.names c.in-Ok.ensures.ports c.in-Ok.ensures.fits c.in-Ok.ensures.small
+      (own_acts nodes rings i node node2 c.in-Ok.done.sends.items l at (Retry c.args.op) c.in-Ok.ensures.sent)
+      (grew_own (account_of c.args.self.now.histories) _ i c.in-Ok.done.began c.in-Ok.done.began refl c.begin.ensures.history c.begin.ensures.applied) c.in-Ok.ensures.event;
+  changes = alone c.args.self.now.nodes.items c.args.self.now.rings.items c.args.node c.retry.new.self;
+  lost = refl;
+  room = refl;
+}
+
+pub returns-in-Err : goal.returns-in-Err
+returns-in-Err g c = record {
+  event = λ config lost w stays shows.
+      let nodes = c.args.self.now.nodes.items in
+      let rings = c.args.self.now.rings.items in
+      let i = c.args.node in
+      let node = c.index_mut-state.result.now in
+      let node2 = c.retry.new.self in
+      let at = c.index_mut-state.ensures.value in
+      let l = port_place nodes i c.args.op.port c.requires.port in
+      let seen = seen_kept node node2 c.in-Err.ensures.names c.in-Err.ensures.ports c.in-Err.ensures.err c.in-Err.ensures.err_answers in
+      let same = node_same nodes rings i node node2 l at seen c.in-Err.ensures.kept in
+      own_err config lost (crossing_of c.args.self.now) w shows.traffic _ i (Retry c.args.op) (node_of node) (state_of (held_by node2)) (answers_of (held_by node2)) (seen_there nodes rings i node l at) c.in-Err.fault c.in-Err.ensures.event
+      (subst (λ (crossing : Crossing). ShowsBytesPast config lost crossing (account_of c.args.self.now.histories) w) (sym same) shows);
+  changes =
+      let nodes = c.args.self.now.nodes.items in
+      let i = c.args.node in
+      let node = c.index_mut-state.result.now in
+      let node2 = c.retry.new.self in
+      let l = port_place nodes i c.args.op.port c.requires.port in
+      let seen = seen_kept node node2 c.in-Err.ensures.names c.in-Err.ensures.ports c.in-Err.ensures.err c.in-Err.ensures.err_answers in
+      (nodes_kept nodes i node node2 l c.index_mut-state.ensures.value seen, alone nodes c.args.self.now.rings.items i node2);
+  lost = refl;
+  room = refl;
+}

@@ -1,0 +1,61 @@
+use Rattle.std.proofs.Common.{◌≡◌, ◌∙◌, List, ℕ, Bool, true, false, [], sym, ap, subst}
+use Rattle.pg_history.proofs.steps.Lossless.{nobody_timed}
+use Rattle.pg_step.specs.Config.{name_at}
+use Rattle.pg_step.specs.Nodes.{Node}
+use Rattle.pg_world.specs.declared.step.Step.{Step}
+use Rattle.pg_world.specs.BytesLosing.{ShowsLosingBytes, StepLeaves}
+use Rattle.pg_world.specs.Crossings.{crossing_of, ShowsBytes, ShowsBytesPast, StepComesTo}
+use Rattle.pg_world.specs.Histories.{account_of}
+use Rattle.pg_world.specs.Losing.{SeenAreLost}
+use Rattle.pg_world.specs.Losses.{lost_in}
+use Rattle.pg_world.specs.Bars.{put_bar, pull_bar}
+use Rattle.pg_world.specs.BytesLosing.{MoveLeaves}
+use Rattle.pg_world.proofs.over_bytes.Past.{move_came, put_in, pull_in}
+use Rattle.pg_world.proofs.bytes.ByteNodes.step.Goals as goal
+
+pub returns-in-Put-clause-came : goal.returns-in-Put-clause-came
+returns-in-Put-clause-came g c = λ config w nobody reached shows.
+    let from = c.in-Put.from in
+    let to = c.in-Put.to in
+    let crossing = crossing_of c.args.self.now in
+    let Shown = λ (l : List ℕ). ShowsBytesPast config l (crossing_of c.put.new.self) (account_of c.put.new.self.histories) w in
+    let came = c.put.ensures.came config w (subst (λ (l : List ℕ). ShowsBytesPast config l crossing (account_of c.args.self.now.histories) w) (sym nobody) shows) in
+    subst (λ (s : Step). StepComesTo config w s c.put.result (ShowsBytes config (crossing_of c.put.new.self) (account_of c.put.new.self.histories))) (sym c.in-Put.is)
+    (move_came config _ from to (Shown []) c.put.result shows.traffic.nodes.size
+    (subst (λ (l : List ℕ). MoveLeaves (put_bar crossing l from to) c.put.result (Shown l)) nobody came))
+
+pub returns-in-Put-clause-losing : goal.returns-in-Put-clause-losing
+returns-in-Put-clause-losing g c = λ config u reached shows.
+    subst (λ (s : Step). StepLeaves config u s c.put.result (ShowsLosingBytes config (crossing_of c.put.new.self) (account_of c.put.new.self.histories) (lost_in c.put.new.self.losses))) (sym c.in-Put.is)
+    (put_in config (crossing_of c.args.self.now) (crossing_of c.put.new.self) (account_of c.args.self.now.histories) (account_of c.put.new.self.histories) u (lost_in c.args.self.now.losses) _ shows c.put.ensures.lost
+    c.put.result c.in-Put.from c.in-Put.to (c.put.ensures.came config shows.frames shows.shows))
+
+pub returns-in-Pull-clause-came : goal.returns-in-Pull-clause-came
+returns-in-Pull-clause-came g c = λ config w nobody reached shows.
+    let from = c.in-Pull.from in
+    let to = c.in-Pull.to in
+    let crossing = crossing_of c.args.self.now in
+    let Shown = λ (l : List ℕ). ShowsBytesPast config l (crossing_of c.pull.new.self) (account_of c.pull.new.self.histories) w in
+    let unseen : SeenAreLost config w (lost_in c.args.self.now.losses) = λ i p pair has. (
+    let none = ap (λ (f : Node → Bool). f (name_at config p)) (nobody_timed config reached.0 w reached.1 i) in
+    let e : true ≡ false = sym has ∙ none in absurd (cc)) in
+    let came = c.pull.ensures.came config w unseen (subst (λ (l : List ℕ). ShowsBytesPast config l crossing (account_of c.args.self.now.histories) w) (sym nobody) shows) in
+    subst (λ (s : Step). StepComesTo config w s c.pull.result (ShowsBytes config (crossing_of c.pull.new.self) (account_of c.pull.new.self.histories))) (sym c.in-Pull.is)
+    (move_came config _ from to (Shown []) c.pull.result shows.traffic.nodes.size
+    (subst (λ (l : List ℕ). MoveLeaves (pull_bar crossing l to from) c.pull.result (Shown l)) nobody came))
+
+pub returns-in-Pull-clause-losing : goal.returns-in-Pull-clause-losing
+returns-in-Pull-clause-losing g c = λ config u reached shows.
+    subst (λ (s : Step). StepLeaves config u s c.pull.result (ShowsLosingBytes config (crossing_of c.pull.new.self) (account_of c.pull.new.self.histories) (lost_in c.pull.new.self.losses))) (sym c.in-Pull.is)
+    (pull_in config (crossing_of c.args.self.now) (crossing_of c.pull.new.self) (account_of c.args.self.now.histories) (account_of c.pull.new.self.histories) u (lost_in c.args.self.now.losses) _ shows c.pull.ensures.lost
+    c.pull.result c.in-Pull.to c.in-Pull.from (c.pull.ensures.came config shows.frames shows.seen shows.shows))
+
+pub returns-in-Event-clause-losing : goal.returns-in-Event-clause-losing
+returns-in-Event-clause-losing g c = λ config u reached shows.
+    subst (λ (s : Step). StepLeaves config u s c.event.result (ShowsLosingBytes config (crossing_of c.event.new.self) (account_of c.event.new.self.histories) (lost_in c.event.new.self.losses))) (sym c.in-Event.is)
+    (c.event.ensures.losing config u reached shows)
+
+pub returns-in-Lose-clause-losing : goal.returns-in-Lose-clause-losing
+returns-in-Lose-clause-losing g c = λ config u reached shows.
+    subst (λ (s : Step). StepLeaves config u s c.lose.result (ShowsLosingBytes config (crossing_of c.lose.new.self) (account_of c.lose.new.self.histories) (lost_in c.lose.new.self.losses))) (sym c.in-Lose.is)
+    (c.lose.ensures.losing config u shows)

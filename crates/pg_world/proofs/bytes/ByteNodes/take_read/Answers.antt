@@ -1,0 +1,98 @@
+use Rattle.std.proofs.Common.{◌≡◌, ◌∙◌, ◌+◌, ℕ, Ok, Err, refl, sym, ap, subst}
+use Rattle.std.specs.Prelude.{slice_set}
+use Rattle.pg_opens.specs.Places.{name_at}
+use Rattle.pg_step.specs.Step.{step_take}
+use Rattle.pg_node.specs.Bytes.{next_packet, passed}
+use Rattle.pg_node.specs.Links.{Link, at_link}
+use Rattle.pg_node.specs.Nodes.{held_by, links_of, sent_out, ComesInRoom}
+use Rattle.pg_node.specs.States.{names_of, nodes_of, state_of, answers_of, stamped_of}
+use Rattle.pg_world.specs.Crossings.{Crossing, crossing_in, crossing_of, node_of, written_of, ShowsBytesPast}
+use Rattle.pg_world.specs.Histories.{account_of, asked_by}
+use Rattle.pg_world.specs.Views.{Account, peer_place}
+use Rattle.pg_world.proofs.Linked.{alone, first_there, seen_there, links_here, nodes_set, seen_kept, take_acts, node_same, nodes_kept}
+use Rattle.pg_world.proofs.Passing.{first_read, taken_shown, take_err, unmarked}
+use Rattle.pg_world.proofs.Past.{reads_first}
+use Rattle.pg_world.proofs.Recording.{grew_taken}
+use Rattle.pg_world.proofs.Turning.{pair_is}
+use Rattle.pg_world.proofs.bytes.ByteNodes.take_read.Goals as goal
+
+pub take_read-requires-clause-next : goal.take_read-requires-clause-next
+take_read-requires-clause-next g c =
+    let nodes = c.args.self.now.nodes.items in
+    let rings = c.args.self.now.rings.items in
+    let i = c.args.node in
+    let p = c.args.peer in
+    let node = c.index_mut-taker.result.now in
+    let l = first_there nodes rings i p c.requires.pair c.args.self.now.rows in
+    ap (λ k. next_packet (links_of node k)) c.peer_place.ensures
+    ∙ (ap (λ (ls : ℕ → Link). next_packet (ls (peer_place i p))) (sym (links_here nodes rings i node l c.index_mut-taker.ensures.value)) ∙ c.requires.front)
+
+pub returns-in-Ok-take_read : goal.returns-in-Ok-take_read
+returns-in-Ok-take_read g c = record {
+  event = λ config lost w stays welcome shows.
+      let nodes = c.args.self.now.nodes.items in
+      let rings = c.args.self.now.rings.items in
+      let crossing = crossing_of c.args.self.now in
+      let i = c.args.node in
+      let p = c.args.peer in
+      let packet = c.args.packet.now in
+      let node = c.index_mut-taker.result.now in
+      let node2 = c.take_read.new.self in
+      let at = c.index_mut-taker.ensures.value in
+      let l = first_there nodes rings i p c.requires.pair c.args.self.now.rows in
+      let apart = (pair_is _ i p c.requires.pair).2 in
+      let place = c.peer_place.ensures in
+      let done = c.in-Ok-take_read.done in
+      let first = first_read config lost crossing w i p shows.traffic c.requires.pair stays
+      (reads_first (λ packets bytes body. c.front_is_first_packet.ensures.first written_of packets bytes body) (λ packets bytes body. c.front_is_first_of_cut.ensures.first written_of packets bytes body)) packet c.requires.front in
+      taken_shown config lost crossing _ (account_of c.args.self.now.histories) _ w shows (λ packets others bytes are. c.sending_adds_packets.ensures written_of packets others bytes are)
+      i p stays c.requires.pair packet first (node_of node) (seen_there nodes rings i node l at) (node_of node2) done (nodes_set nodes rings i node2)
+      c.in-Ok-take_read.ensures.names c.in-Ok-take_read.ensures.ports c.in-Ok-take_read.ensures.fits c.in-Ok-take_read.ensures.small
+      (take_acts nodes rings i node node2 done.sends.items l at p apart
+      (subst (λ k. (j : ℕ) → links_of node2 j ≡ at_link k passed (sent_out done.sends.items (links_of node)) j) place c.in-Ok-take_read.ensures.sent))
+      (grew_taken (account_of c.args.self.now.histories) _ i (asked_by packet.message) done.began done.began _ _ _ _ refl
+      c.make_room.ensures.history c.make_room.ensures.applied c.serve.ensures.history c.serve.ensures.applied c.begin.ensures.history c.begin.ensures.applied)
+      (subst (λ k. ComesInRoom (names_of (held_by node)) (step_take (nodes_of (held_by node)) (name_at (names_of (held_by node)) (k + 1)) (stamped_of packet) (state_of (held_by node))) (Ok done) (state_of (held_by node2)) (answers_of (held_by node)) (answers_of (held_by node2)))
+      place c.in-Ok-take_read.ensures.event);
+  changes = alone c.args.self.now.nodes.items c.args.self.now.rings.items c.args.node c.take_read.new.self;
+  lost = refl;
+  room = refl;
+}
+
+pub returns-in-Err-take_read : goal.returns-in-Err-take_read
+returns-in-Err-take_read g c = record {
+  event = λ config lost w stays welcome shows.
+      let nodes = c.args.self.now.nodes.items in
+      let rings = c.args.self.now.rings.items in
+      let crossing = crossing_of c.args.self.now in
+      let i = c.args.node in
+      let p = c.args.peer in
+      let packet = c.args.packet.now in
+      let node = c.index_mut-taker.result.now in
+      let node2 = c.take_read.new.self in
+      let at = c.index_mut-taker.ensures.value in
+      let l = first_there nodes rings i p c.requires.pair c.args.self.now.rows in
+      let place = c.peer_place.ensures in
+      let fault = c.in-Err-take_read.fault in
+      let first = first_read config lost crossing w i p shows.traffic c.requires.pair stays
+      (reads_first (λ packets bytes body. c.front_is_first_packet.ensures.first written_of packets bytes body) (λ packets bytes body. c.front_is_first_of_cut.ensures.first written_of packets bytes body)) packet c.requires.front in
+      let seen = seen_kept node node2 c.in-Err-take_read.ensures.names c.in-Err-take_read.ensures.ports c.in-Err-take_read.ensures.err c.in-Err-take_read.ensures.err_answers in
+      let account : account_of c.make_room.new.self ≡ account_of c.args.self.now.histories = λ j. record { histories = c.make_room.ensures.history j; applied = c.make_room.ensures.applied j } in
+      take_err config lost crossing w shows.traffic _ i p c.requires.pair packet first welcome (node_of node) (seen_there nodes rings i node l at) (state_of (held_by node2)) (answers_of (held_by node2)) fault
+      (subst (λ k. ComesInRoom (names_of (held_by node)) (step_take (nodes_of (held_by node)) (name_at (names_of (held_by node)) (k + 1)) (stamped_of packet) (state_of (held_by node))) (Err fault) (state_of (held_by node2)) (answers_of (held_by node)) (answers_of (held_by node2)))
+      place c.in-Err-take_read.ensures.event)
+      (λ harms. subst (λ (a : Account). ShowsBytesPast config lost (crossing_in (slice_set nodes i node2) rings) a w) (sym account)
+      (subst (λ (x : Crossing). ShowsBytesPast config lost x (account_of c.args.self.now.histories) w)
+      (sym (node_same nodes rings i node node2 l at seen (c.in-Err-take_read.ensures.marked ∙ unmarked (links_of node) c.peer_place.result fault harms))) shows));
+  changes =
+      let nodes = c.args.self.now.nodes.items in
+      let rings = c.args.self.now.rings.items in
+      let i = c.args.node in
+      let node = c.index_mut-taker.result.now in
+      let node2 = c.take_read.new.self in
+      let l = first_there nodes rings i c.args.peer c.requires.pair c.args.self.now.rows in
+      let seen = seen_kept node node2 c.in-Err-take_read.ensures.names c.in-Err-take_read.ensures.ports c.in-Err-take_read.ensures.err c.in-Err-take_read.ensures.err_answers in
+      (nodes_kept nodes i node node2 l c.index_mut-taker.ensures.value seen, alone nodes rings i node2);
+  lost = refl;
+  room = refl;
+}

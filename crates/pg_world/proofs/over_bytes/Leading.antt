@@ -1,0 +1,195 @@
+-- The past of a world of bytes, and what a step adds to it.
+use Rattle.std.proofs.Common.{◌≡◌, ◌<◌, ℕ, false, true, length, List, [], Option, Some, None, Result, Ok, Err, refl, sym, subst}
+use Rattle.std.specs.Prelude.{slice_get}
+use Rattle.pg_term.specs.declared.term.Term.{Term}
+use Rattle.pg_machine.specs.Losing.{Lose, nobody_gone}
+use Rattle.pg_machine.specs.Machine.{start_of}
+use Rattle.pg_step.specs.declared.refusal.Refusal.{Refusal}
+use Rattle.pg_step.specs.declared.refusal.Refusal.TheVariants.{NotDrained}
+use Rattle.pg_step.specs.Config.{Config}
+use Rattle.pg_step.specs.FrameMachine.{frame_machine, losing_frame_machine}
+use Rattle.pg_step.specs.LossLaws.{LosingFrameWorld}
+use Rattle.pg_step.specs.Step.{Issue, Retry}
+use Rattle.pg_history.specs.History.{history}
+use Rattle.pg_node.specs.declared.state.fault.NodeFault.{NodeFault}
+use Rattle.pg_node.specs.declared.state.fault.NodeFault.TheVariants.{Refused, OutOfMemory, Message as BadMessage, TooLong, Damaged}
+use Rattle.pg_world.specs.declared.step.FrameStep.{FrameStep}
+use Rattle.pg_world.specs.declared.step.FrameStep.TheVariants as frames
+use Rattle.pg_world.specs.declared.step.Step.{Step}
+use Rattle.pg_world.specs.declared.step.Step.TheVariants as steps
+use Rattle.pg_world.specs.declared.step.Stepped.{Stepped}
+use Rattle.pg_world.specs.declared.step.Stepped.TheVariants.{Happened, Moved, Nothing, Gone}
+use Rattle.pg_world.specs.BytesLosing.{IsReachedLosing, ShowsLosingBytes, MoveLeaves, WholeComesTo, SightComesTo, LossComesTo, EventLeaves, StepLeaves, put_refusal, pull_refusal}
+use Rattle.pg_world.specs.BytesLosingRuns.{bytes_past_losses}
+use Rattle.pg_world.specs.BytesStart.{BytesBegin}
+use Rattle.pg_world.specs.Crossings.{Crossing}
+use Rattle.pg_world.specs.Losing.{Telling, told_take, told_own, told_sight}
+use Rattle.pg_world.specs.LosingRuns.{LosingGoesTo}
+use Rattle.pg_world.specs.Past.{BytesHavePast, BytesGoOn, BytesRunOn, HistoriesGrow}
+use Rattle.pg_world.specs.Pending.{AgreeOn, pending_of, sees_free}
+use Rattle.pg_world.specs.Views.{Seen, Account}
+use Rattle.pg_world.proofs.Leading.{Near, Here, Next, Lists, Survive, AreApart, goes_on, past_after, past_of, runs_on, comes_on, some_comes, histories_grow, history_is, applied_there, agreed_there}
+use Rattle.pg_world.proofs.LosingRunning.{losing_leads, start_is}
+use Rattle.pg_world.proofs.over_bytes.Past.{move_mapped}
+
+-- ---- the worlds to which a step leads
+
+module _ (config : Config) (u : LosingFrameWorld) (P Q : LosingFrameWorld → Type 0) (onward : (v : LosingFrameWorld) → Near config u v → P v → Q v) where
+  whole_on : (told : Telling) (result : Result Stepped NodeFault) → WholeComesTo config u told result P → WholeComesTo config u told result Q
+  whole_on told (Ok Nothing) shown = onward u (Here refl) shown
+  whole_on told result comes = comes_on config u told P Q onward result comes
+
+  sight_on : (told : Telling) (result : Result Stepped NodeFault) → SightComesTo config u told result P → SightComesTo config u told result Q
+  sight_on told (Err (Refused NotDrained)) shown = onward u (Here refl) shown
+  sight_on told result comes = comes_on config u told P Q onward result comes
+
+  loss_on : (i : ℕ) (result : Result Stepped NodeFault) → LossComesTo config u i result P → LossComesTo config u i result Q
+  loss_on i (Ok Gone) (keep, (v, happened, shown)) = (keep, (v, happened, onward v (Next (Lose i keep) happened) shown))
+  loss_on i (Ok Happened) comes = absurd comes
+  loss_on i (Ok Nothing) comes = absurd comes
+  loss_on i (Ok (Moved count)) comes = absurd comes
+  loss_on i (Err OutOfMemory) shown = onward u (Here refl) shown
+  loss_on i (Err (Refused refusal)) (is, shown) = (is, onward u (Here refl) shown)
+  loss_on i (Err (BadMessage m)) comes = absurd comes
+  loss_on i (Err TooLong) comes = absurd comes
+  loss_on i (Err Damaged) comes = absurd comes
+
+  event_on : (step : FrameStep) (result : Result Stepped NodeFault) → EventLeaves config u step result P → EventLeaves config u step result Q
+  event_on (frames.Take i p) result comes = whole_on (told_take config u i p) result comes
+  event_on (frames.Command i port command) result comes = comes_on config u (told_own config u i (Issue port command)) P Q onward result comes
+  event_on (frames.Retry i op) result comes = comes_on config u (told_own config u i (Retry op)) P Q onward result comes
+  event_on (frames.SeeLoss i p) result comes = sight_on (told_sight config u i p) result comes
+  event_on (frames.Lose i keep) result comes = loss_on i result comes
+
+  pub leaves_on : (step : Step) (result : Result Stepped NodeFault) → StepLeaves config u step result P → StepLeaves config u step result Q
+  leaves_on (steps.Put x y max) result leaves = move_mapped (put_refusal config u x y) (put_refusal config u x y) (P u) (Q u) result refl (onward u (Here refl)) leaves
+  leaves_on (steps.Pull y x max) result leaves = move_mapped (pull_refusal config u y x) (pull_refusal config u y x) (P u) (Q u) result refl (onward u (Here refl)) leaves
+  leaves_on (steps.Event step) result leaves = event_on step result leaves
+  leaves_on (steps.Lose i) result leaves = loss_on i result leaves
+
+-- one of them
+module _ (config : Config) (u : LosingFrameWorld) (Q : LosingFrameWorld → Type 0) where
+  some_moved : (refusal : Option Refusal) (result : Result Stepped NodeFault) → MoveLeaves refusal result (Q u) → Q u
+  some_moved refusal (Ok (Moved count)) leaves = leaves.1
+  some_moved refusal (Ok Happened) leaves = absurd leaves
+  some_moved refusal (Ok Nothing) leaves = absurd leaves
+  some_moved refusal (Ok Gone) leaves = absurd leaves
+  some_moved refusal (Err OutOfMemory) leaves = leaves.1
+  some_moved refusal (Err (Refused r)) leaves = leaves.1
+  some_moved refusal (Err (BadMessage m)) leaves = absurd leaves
+  some_moved refusal (Err TooLong) leaves = absurd leaves
+  some_moved refusal (Err Damaged) leaves = absurd leaves
+
+  abbrev Some_world : Type 0
+  Some_world = (v : LosingFrameWorld) × Q v
+
+  some_whole : (told : Telling) (result : Result Stepped NodeFault) → WholeComesTo config u told result Q → Some_world
+  some_whole told (Ok Nothing) shown = (u, shown)
+  some_whole told result comes = some_comes config u told Q result comes
+
+  some_sight : (told : Telling) (result : Result Stepped NodeFault) → SightComesTo config u told result Q → Some_world
+  some_sight told (Err (Refused NotDrained)) shown = (u, shown)
+  some_sight told result comes = some_comes config u told Q result comes
+
+  some_loss : (i : ℕ) (result : Result Stepped NodeFault) → LossComesTo config u i result Q → Some_world
+  some_loss i (Ok Gone) comes = (comes.1.0, comes.1.2)
+  some_loss i (Ok Happened) comes = absurd comes
+  some_loss i (Ok Nothing) comes = absurd comes
+  some_loss i (Ok (Moved count)) comes = absurd comes
+  some_loss i (Err OutOfMemory) shown = (u, shown)
+  some_loss i (Err (Refused refusal)) comes = (u, comes.1)
+  some_loss i (Err (BadMessage m)) comes = absurd comes
+  some_loss i (Err TooLong) comes = absurd comes
+  some_loss i (Err Damaged) comes = absurd comes
+
+  some_event : (step : FrameStep) (result : Result Stepped NodeFault) → EventLeaves config u step result Q → Some_world
+  some_event (frames.Take i p) result comes = some_whole (told_take config u i p) result comes
+  some_event (frames.Command i port command) result comes = some_comes config u (told_own config u i (Issue port command)) Q result comes
+  some_event (frames.Retry i op) result comes = some_comes config u (told_own config u i (Retry op)) Q result comes
+  some_event (frames.SeeLoss i p) result comes = some_sight (told_sight config u i p) result comes
+  some_event (frames.Lose i keep) result comes = some_loss i result comes
+
+  some_leaves : (step : Step) (result : Result Stepped NodeFault) → StepLeaves config u step result Q → Some_world
+  some_leaves (steps.Put x y max) result leaves = (u, some_moved (put_refusal config u x y) result leaves)
+  some_leaves (steps.Pull y x max) result leaves = (u, some_moved (pull_refusal config u y x) result leaves)
+  some_leaves (steps.Event step) result leaves = some_event step result leaves
+  some_leaves (steps.Lose i) result leaves = some_loss i result leaves
+
+-- ---- a step
+
+module _ (given : Config) (survive : Survive) (old : Crossing) (account : Account) (lost : List ℕ) (step : Step) (result : Result Stepped NodeFault) (new : Crossing) (later : Account) (now : List ℕ)
+    (came : (config : Config) (u : LosingFrameWorld) → IsReachedLosing config u → ShowsLosingBytes config old account lost u → StepLeaves config u step result (ShowsLosingBytes config new later now)) where
+  abbrev Before : Config → LosingFrameWorld → Type 0
+  Before config u = ShowsLosingBytes config old account lost u
+
+  abbrev After : Config → LosingFrameWorld → Type 0
+  After config u = ShowsLosingBytes config new later now u
+
+  abbrev Comes : Config → LosingFrameWorld → (LosingFrameWorld → Type 0) → Type 0
+  Comes config u Shown = StepLeaves config u step result Shown
+
+  apart : AreApart After
+  apart config u shows = shows.shows.traffic.nodes.apart
+
+  pub bytes_go_on : BytesHavePast given old account lost → BytesGoOn given old account lost step result new later now
+  bytes_go_on past =
+      goes_on given After apart survive Before Comes (λ config u P Q onward leaves. leaves_on config u P Q onward step result leaves) past (λ config u events reached shows. came config u (events, reached) shows)
+
+  pub bytes_past : BytesHavePast given old account lost → BytesHavePast given new later now
+  bytes_past past =
+      past_after given After apart survive Before Comes (λ config u P Q onward leaves. leaves_on config u P Q onward step result leaves) (λ config u Q leaves. some_leaves config u Q step result leaves) (bytes_go_on past)
+
+-- ---- steps, one after another, and the start
+
+pub bytes_run_on : (given : Config) → Survive → (old : Crossing) (account : Account) (lost : List ℕ) (all : List Step) (numbers : List ℕ) (new : Crossing) (later : Account) (now : List ℕ)
+    → ((config : Config) (u : LosingFrameWorld) → IsReachedLosing config u → ShowsLosingBytes config old account lost u → LosingGoesTo bytes_past_losses config u all numbers (ShowsLosingBytes config new later now))
+    → BytesHavePast given old account lost → BytesRunOn given old account lost all numbers new later now
+bytes_run_on given survive old account lost all numbers new later now came past =
+    runs_on bytes_past_losses given (λ config u. ShowsLosingBytes config old account lost u) (λ config u. ShowsLosingBytes config new later now u) all numbers (λ config u shows. shows.shows.traffic.nodes.apart) survive past
+    (λ config u events reached shows. came config u (events, reached) shows)
+
+pub bytes_begin : (survive : Survive) (given : Config) (crossing : Crossing) (account : Account) (lost : List ℕ) → lost ≡ [] → BytesBegin given crossing account → BytesHavePast given crossing account lost
+bytes_begin survive given crossing account lost none begins =
+    let config = begins.0 in
+    let start = nobody_gone (start_of (losing_frame_machine config)) in
+    record {
+      config = config;
+      events = [];
+      u = start;
+      is = past_of given (λ c u. ShowsLosingBytes c crossing account lost u) (λ c u shows. shows.shows.traffic.nodes.apart) survive config [] start begins.1 refl
+          (subst (λ (l : List ℕ). ShowsLosingBytes config crossing account l start) (sym none)
+          (record {
+            frames = start_of (frame_machine config);
+            shows = begins.2;
+            seen = λ i p pair saw. let no : false ≡ true = saw in absurd (cc);
+            is = start_is config;
+          }));
+    }
+
+-- ---- what is known of a world with a past
+
+shown_history : (config : Config) (crossing : Crossing) (account : Account) (lost : List ℕ) (u : LosingFrameWorld) → ShowsLosingBytes config crossing account lost u → (name : Term) → account.histories name ≡ history name u.world.reported
+shown_history config crossing account lost u shows = history_is config crossing.nodes account lost shows.frames u shows.shows.traffic.nodes shows.shows.updates shows.is
+
+pub bytes_step_grows : (given : Config) (old new : Crossing) (account later : Account) (lost now : List ℕ) (step : Step) (result : Result Stepped NodeFault) → BytesGoOn given old account lost step result new later now → HistoriesGrow account later
+bytes_step_grows given old new account later lost now step result goes =
+    let led = some_leaves goes.config goes.u _ step result goes.comes in
+    histories_grow goes.config account later goes.u led.0 led.1.more (shown_history goes.config old account lost goes.u goes.past.shows) (shown_history goes.config new later now led.0 led.1.past.shows) led.1.led
+
+pub bytes_run_grows : (given : Config) (old new : Crossing) (account later : Account) (lost now : List ℕ) (all : List Step) (numbers : List ℕ) → BytesRunOn given old account lost all numbers new later now → HistoriesGrow account later
+bytes_run_grows given old new account later lost now all numbers ran =
+    histories_grow ran.config account later ran.u ran.v ran.more (shown_history ran.config old account lost ran.u ran.past.shows) (shown_history ran.config new later now ran.v ran.later.shows)
+    (losing_leads bytes_past_losses ran.config all numbers ran.u ran.v ran.more ran.runs)
+
+pub bytes_applied_all : (given : Config) (crossing : Crossing) (account : Account) (lost : List ℕ) (x : ℕ) (node : Seen) (name : Term) → BytesHavePast given crossing account lost → lost ≡ [] → slice_get crossing.nodes x ≡ Some node
+    → node.state.state.locks name ≡ None → x < length crossing.nodes → (i : ℕ) → i < length crossing.nodes → account.applied i name ≡ length (account.histories name)
+bytes_applied_all given crossing account lost x node name past none at free inside =
+    let shows = past.is.shows in
+    applied_there past.config crossing.nodes account lost shows.frames past.u shows.shows.traffic.nodes shows.shows.updates shows.is past.events past.is.history none x node name at free inside
+
+pub bytes_agreed_all : Lists → (given : Config) (crossing : Crossing) (account : Account) (lost : List ℕ) (x : ℕ) (name : Term) → BytesHavePast given crossing account lost → pending_of crossing.nodes lost ≡ [] → lost ≡ []
+    → sees_free crossing.nodes x name ≡ true → AgreeOn crossing.nodes name
+bytes_agreed_all lists given crossing account lost x name past empty none free =
+    let shows = past.is.shows in
+    agreed_there past.config crossing.nodes account lost shows.frames past.u shows.shows.traffic.nodes shows.shows.updates shows.is past.events past.is.history none
+    ((lists past.config crossing.nodes lost shows.frames past.u past.events shows.shows.traffic.nodes shows.is past.is.reached).0 empty) x name free

@@ -1,0 +1,178 @@
+//! Worlds of bytes: nodes to which events led from the start of a configuration, however the bytes between them were cut.
+
+ghost use Rattle.pg_world.specs.Crossings.{crossing_of as seen_as};
+ghost use Rattle.pg_world.specs.Histories.{account_of as kept_by};
+ghost use Rattle.pg_world.specs.Losses.{lost_in};
+ghost use Rattle.pg_world.specs.Past.{BytesHavePast};
+
+use crate::bytes::ByteNodes;
+use crate::config::Config;
+use crate::entry::Entry;
+use crate::fault::WorldFault;
+use crate::laws::pending_ends_are_listed;
+use crate::step::{Step, Stepped};
+use pg_group::GroupTable;
+use pg_index::IndexTable;
+use pg_loss::each_world_past_losses;
+use pg_node::{Node, NodeFault};
+use pg_term::{Pid, Term};
+use std::alloc::{AllocError, Global};
+use std::snapshot::Snapshot;
+
+/// Nodes whose packets cross as bytes, as they have come from the start of a configuration, and the rings between them.
+#[derive(Drop)]
+pub struct World<T: GroupTable> {
+    bytes: ByteNodes<T>,
+    // The configuration, as clauses see it.
+    given: Snapshot<Config>,
+    pub ghost past: { ∥ BytesHavePast given.value.starts.items (seen_as bytes) (kept_by bytes.histories) (lost_in bytes.losses) ∥₁ },
+}
+
+impl World<IndexTable> {
+    ghost use Rattle.std.specs.Prelude.{◌≡◌, [], true, IfOk, IfErr};
+    ghost use Rattle.pg_ring.specs.Capacity.{IsCapacity};
+    ghost use Rattle.pg_step.specs.Config.{IsConfig};
+    ghost use Rattle.pg_world.specs.BytesStart.{BytesBegin, OpensBytes};
+    ghost use Rattle.pg_world.specs.ByteWorlds.{account_of, crossing_of, given_of, lost_of, room_of};
+    ghost use Rattle.pg_world.specs.Openings.{AllFit, CantBegin, have_few};
+
+    /// The nodes of a configuration as they start, where what each of them tells of its groups stands in its outbox to each other,
+    /// and the ring from each to each other is empty. Its cost is that of `FrameWorld::new`, and of the rings.
+    ///
+    /// Faults: those of `FrameWorld::new`.
+    pub fn new(alloc: Global, config: &Config) -> Result<World<IndexTable>, WorldFault>
+        ensures good { IfOk result (λ world. IsConfig config.now.starts.items × IsCapacity config.now.ring) }
+        ensures fits { IfOk result (λ world. AllFit config.now.starts.items) }
+        ensures few { IfOk result (λ world. have_few config.now.starts.items ≡ true) }
+        ensures begins { IfOk result (λ world. BytesBegin config.now.starts.items (crossing_of world) (account_of world)) }
+        ensures opens { IfOk result (λ world. OpensBytes config.now.starts.items (crossing_of world)) }
+        ensures given { IfOk result (λ world. given_of world ≡ config.now.starts.items) }
+        ensures room { IfOk result (λ world. room_of world ≡ config.now.ring) }
+        ensures lost { IfOk result (λ world. lost_of world ≡ []) }
+        ensures fault { IfErr result (CantBegin config.now.ring config.now.starts.items) }
+    {
+        each_world_past_losses();
+        let given = Snapshot::of(config);
+        match ByteNodes::new(alloc, config) {
+            Ok(bytes) => Ok(World { bytes, given }),
+            Err(fault) => Err(fault),
+        }
+    }
+}
+
+impl<T: GroupTable + Drop> World<T> {
+    ghost use Rattle.std.specs.Prelude.{◌≡◌, ◌<◌, ◌↔◌, ◌++◌, [], true, IsTrue, IfOk, ℕ, length, map, option_map, slice_get};
+    ghost use Rattle.std.specs.Option.{option_copied};
+    ghost use Rattle.pg_term.specs.declared.term.Term.{Term};
+    ghost use Rattle.pg_machine.specs.Clocked.{plain};
+    ghost use Rattle.pg_history.specs.History.{LockFree};
+    ghost use Rattle.pg_step.specs.Config.{Config as Configuration};
+    ghost use Rattle.pg_step.specs.LossLaws.{LosingFrameWorld};
+    ghost use Rattle.pg_world.specs.Bars.{IsHeld, StepTellsUndrained, bar_of, bytes_lost_after};
+    ghost use Rattle.pg_world.specs.BytesLosing.{IsReachedLosing, ShowsLosingBytes, StepLeaves};
+    ghost use Rattle.pg_world.specs.ByteWorlds.{account_of, crossing_of, given_of, lost_of, room_of};
+    ghost use Rattle.pg_world.specs.Changes.{StepChanges};
+    ghost use Rattle.pg_world.specs.Crossings.{node_of, IsReached, ShowsCrossing, ShowsBytes, StepComesTo};
+    ghost use Rattle.pg_world.specs.Histories.{as_entry, last_entries};
+    ghost use Rattle.pg_world.specs.Losses.{is_lost};
+    ghost use Rattle.pg_world.specs.Past.{BytesGoOn, HistoriesGrow};
+    ghost use Rattle.pg_world.specs.Pending.{AgreeOn, pending_of, sees_free};
+    ghost use Rattle.pg_world.specs.Worlds.{TimedFrameWorld};
+
+    /// The node at a place. It takes no memory.
+    pub fn node(&self, place: usize) -> Option<&Node<T>>
+        ensures { option_map node_of (option_copied result) ≡ slice_get (crossing_of self.now).nodes place }
+    {
+        self.bytes.nodes.get(place)
+    }
+
+    /// The updates of a group in the order in which they got their last grant, each with its node and its command: a slice, and
+    /// one more behind it, where the last event began it. It takes no memory: O(log n) in the groups that were named.
+    pub fn history(&self, name: &Term) -> (&[Entry], Option<&Entry>)
+        ensures { map as_entry result.0.now ++ last_entries (option_copied result.1) ≡ (account_of self.now).histories name.now }
+    {
+        self.bytes.histories.history(name)
+    }
+
+    /// How many updates of a group a node has applied: those that it began, and those that it took of its peers. It takes no
+    /// memory: O(log n) in the groups that were named.
+    pub fn applied(&self, node: usize, name: &Term) -> u128
+        ensures { result ≡ (account_of self.now).applied node name.now }
+    {
+        self.bytes.histories.applied(node, name)
+    }
+
+    /// Whether a node sees the lock of a group free. Where it does, and no node is lost, each node has applied all of the group's
+    /// history. It takes no memory: O(log n) in the names that have a holder there.
+    pub fn lock_free(&self, node: usize, name: &Term) -> bool
+        requires place { node < length (crossing_of self.now).nodes }
+        ensures sees { result ≡ sees_free (crossing_of self.now).nodes node name.now }
+        ensures free { (config : Configuration) (w : TimedFrameWorld) → ShowsCrossing config (crossing_of self.now) w
+            → IsTrue result ↔ LockFree (plain w) node name.now }
+        ensures applied { IsTrue result → lost_of self.now ≡ [] → (i : ℕ) → i < length (crossing_of self.now).nodes
+            → (account_of self.now).applied i name.now ≡ length ((account_of self.now).histories name.now) }
+    {
+        let bytes = &self.bytes;
+        let over = &bytes.nodes[node];
+        over.state().holder(name).is_none()
+    }
+
+    /// Whether a node is lost. It takes no memory: O(n) in the nodes that are lost.
+    pub fn is_lost(&self, node: usize) -> bool
+        ensures { result ≡ is_lost (lost_of self.now) node }
+    {
+        self.bytes.losses.has(node)
+    }
+
+    /// The ends that are pending: each is that of a process whose home has it, and which some node has not. Of nodes that are lost
+    /// nothing counts. They stand home by home, and by number at each. Its cost is a search at each node that is left for each
+    /// process that was made at one, and the memory of the list.
+    ///
+    /// Where the list is empty, no node is lost and one node sees the lock of a group free, formed nodes have the same of that group.
+    ///
+    /// Error: `AllocError`.
+    pub fn pending_ends(&self) -> Result<Vec<Pid>, AllocError>
+        ensures list { IfOk result (λ pids. pids.items ≡ pending_of (crossing_of self.now).nodes (lost_of self.now)) }
+        ensures agree { IfOk result (λ pids. pids.items ≡ [] → lost_of self.now ≡ [] → (x : ℕ) (name : Term)
+            → sees_free (crossing_of self.now).nodes x name ≡ true → AgreeOn (crossing_of self.now).nodes name) }
+    {
+        pending_ends_are_listed();
+        self.bytes.pending_ends()
+    }
+
+    /// Makes one step. The events that led to the world lead on: where the step is an event that happened, it is one more, and the
+    /// last; bytes that move add none. Of all of them, and of the world to which they lead, everything holds that `LossesSurvived`
+    /// says, and where no node is lost all that `OneHistory` says. Each history grows.
+    ///
+    /// Whatever frame world the world shows, as events lead to it from the start of a configuration: an event that happens is the event
+    /// of the frame machine there, and the world shows what it leaves; bytes that move leave the frame world as it is.
+    ///
+    /// Faults, by which the frame world stays, the first that holds: `Refused` by `NoSuchPlace` where a node, a port or a peer is
+    /// not there, or a node and its peer are one; those of `NodeState::take`, `command` and `retry`, of which `NotAMessage` never
+    /// comes; `OutOfMemory` may be told in the place of each behind `NoSuchPlace`. No link is ever damaged.
+    ///
+    /// Where nodes are lost, the same holds of whatever world with losses the world shows, as events lead to it from the start: a step is
+    /// the event of the machine with losses. A step of a node that is lost, and a put from it, is refused by `NodeLost`,
+    /// behind `NoSuchPlace`, and so is a pull or a take of a peer whose loss was seen. `SeeLoss`: `NoSuchPlace`; `NodeLost`, also
+    /// where it was seen before; `NotLost`; `NotDrained` where bytes of the peer are on the ring, or a whole frame of it has come;
+    /// `ClockFull`. `Lose`: `NoSuchPlace`, `NodeLost`.
+    pub fn step(&mut self, step: &Step) -> Result<Stepped, NodeFault>
+        ensures goes_on { ∥ BytesGoOn (given_of self.old) (crossing_of self.old) (account_of self.old) (lost_of self.old) step.now result (crossing_of self.new) (account_of self.new) (lost_of self.new) ∥₁ }
+        ensures grows { HistoriesGrow (account_of self.old) (account_of self.new) }
+        ensures given { given_of self.new ≡ given_of self.old }
+        ensures came { (config : Configuration) (w : TimedFrameWorld) → lost_of self.old ≡ [] → IsReached config w
+            → ShowsBytes config (crossing_of self.old) (account_of self.old) w
+            → StepComesTo config w step.now result (ShowsBytes config (crossing_of self.new) (account_of self.new)) }
+        ensures losing { (config : Configuration) (u : LosingFrameWorld) → IsReachedLosing config u
+            → ShowsLosingBytes config (crossing_of self.old) (account_of self.old) (lost_of self.old) u
+            → StepLeaves config u step.now result (ShowsLosingBytes config (crossing_of self.new) (account_of self.new) (lost_of self.new)) }
+        ensures changes { StepChanges (room_of self.old) (crossing_of self.old) (crossing_of self.new) step.now result }
+        ensures barred { IsHeld (bar_of (crossing_of self.old) (lost_of self.old) step.now) result }
+        ensures undrained { StepTellsUndrained (crossing_of self.old) step.now result }
+        ensures lost { lost_of self.new ≡ bytes_lost_after step.now result (lost_of self.old) }
+        ensures room { room_of self.new ≡ room_of self.old }
+    {
+        each_world_past_losses();
+        self.bytes.step(step)
+    }
+}
