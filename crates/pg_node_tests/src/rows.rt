@@ -55,6 +55,8 @@ pub enum Deed {
 
 /// A table of rows, and the two nodes at which they hold, one after another.
 pub struct Table<'a> {
+    /// What it is of.
+    pub of: &'a str,
     pub kind: Kind,
     pub rows: &'a [Row<'a>],
 }
@@ -216,10 +218,10 @@ pub fn check(rt: &impl Abort, alloc: Global, table: &Table<'_>) {
     match new_twins(alloc, table.kind) {
         Some(mut twins) => {
             for (place, row) in table.rows.iter().enumerate() {
-                holds(rt, twins.holds(alloc, row), place);
+                holds(rt, twins.holds(alloc, row), table.of, place);
             }
             drop(twins);
         }
-        None => holds(rt, false, table.rows.len()),
+        None => holds(rt, false, table.of, table.rows.len()),
     }
 }
