@@ -1,6 +1,5 @@
 //! What the judges of a cluster say of one that was tampered with after it was closed.
 
-use crate::asks::{Asked, asks};
 use crate::setting::{End, Open, Setting, Started, end_of_closed, start};
 use crate::verdicts::holds;
 use pg_cluster::Closed;
@@ -53,7 +52,7 @@ impl Judged {
 }
 
 fn closed(rt: &impl Threads, started: Started) -> Option<Judged> {
-    let (closed, config) = started.running.close(rt);
+    let (closed, config) = started.close(rt);
     match closed {
         Ok(closed) => Some(Judged { closed, config }),
         Err(stopped) => {
@@ -64,12 +63,12 @@ fn closed(rt: &impl Threads, started: Started) -> Option<Judged> {
     }
 }
 
-// Two nodes, of which the second was asked to create the group of this name.
-fn closed_cluster(rt: &(impl Threads + Wait), alloc: Global, name: &str) -> Option<Judged> {
+// Two nodes, of which the second was asked by this line.
+fn closed_cluster(rt: &(impl Threads + Wait), alloc: Global, line: &str) -> Option<Judged> {
     match start(rt, alloc, TWO, Open) {
         Ok(begun) => {
             let mut started = begun;
-            asks(rt, alloc, &mut started.running, 1, Asked::Create(name));
+            started.asks(rt, alloc, 1, line, "ok");
             closed(rt, started)
         }
         Err(_) => None,
@@ -78,7 +77,7 @@ fn closed_cluster(rt: &(impl Threads + Wait), alloc: Global, name: &str) -> Opti
 
 #[test]
 fn a_step_less(rt: HostRuntime) {
-    let Some(told) = closed_cluster(&rt, rt.alloc(), "g") else {
+    let Some(told) = closed_cluster(&rt, rt.alloc(), "create b g") else {
         return holds(&rt, false, "it is closed");
     };
     let mut cluster = told;
@@ -92,11 +91,11 @@ fn a_step_less(rt: HostRuntime) {
 
 #[test]
 fn a_node_of_another_cluster(rt: HostRuntime) {
-    let Some(told) = closed_cluster(&rt, rt.alloc(), "g") else {
+    let Some(told) = closed_cluster(&rt, rt.alloc(), "create b g") else {
         return holds(&rt, false, "it is closed");
     };
     let mut cluster = told;
-    let Some(beside) = closed_cluster(&rt, rt.alloc(), "h") else {
+    let Some(beside) = closed_cluster(&rt, rt.alloc(), "create b h") else {
         drop(cluster);
         return holds(&rt, false, "the other is closed");
     };
