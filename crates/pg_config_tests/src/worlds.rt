@@ -58,14 +58,15 @@ const LOST: Told = Err(NodeFault::Refused(Refusal::NodeLost));
 
 fn command_of(alloc: Global, line: &str) -> Option<Command> {
     match read_line(alloc, line) {
-        Ok(
-            Line::At {
-                node,
-                form: NodeForm::Command(command),
-            },
-        ) => {
+        Ok(Line::At { node, form }) => {
             drop(node);
-            Some(command)
+            match form {
+                NodeForm::Command(command) => Some(command),
+                other => {
+                    drop(other);
+                    None
+                }
+            }
         }
         Ok(other) => {
             drop(other);

@@ -109,7 +109,8 @@ impl Chance {
             56..88 => Some(Step::Event(FrameStep::Take { node, peer })),
             88..96 => {
                 self.asked = self.asked.saturating_add(1);
-                let (port, command) = (0, self.command(pids)?);
+                let command = self.command(pids)?;
+                let port = 0;
                 Some(Step::Event(FrameStep::Command {
                     node,
                     port,
@@ -130,12 +131,13 @@ impl Chance {
 
     // The node that is lost at a step, if one is.
     fn lost_at(&self, step: usize) -> Option<usize> {
-        match LOSSES {
-            [first, _] if self.is_lossy && step == first => {
-                Some((self.nodes as usize).saturating_sub(1))
-            }
-            [_, second] if self.is_lossy && step == second => Some(1),
-            _ => None,
+        let [first, second] = LOSSES;
+        if self.is_lossy && step == first {
+            Some((self.nodes as usize).saturating_sub(1))
+        } else if self.is_lossy && step == second {
+            Some(1)
+        } else {
+            None
         }
     }
 }
