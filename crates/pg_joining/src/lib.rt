@@ -7,6 +7,7 @@ mod order;
 
 pub use history::joined_history;
 pub use laws::{
-    logs_join, losing_logs_join, merge_is_one, merges_are_sorted, seen_logs_merge_alike,
+    logs_join, losing_logs_join, losses_stand_last, merge_is_one, merges_are_sorted,
+    seen_logs_merge_alike,
 };
 pub use order::order_of_logs;
