@@ -254,14 +254,16 @@ module _ {K : Type 0} (given : Config) (lost : List Bool) (threads : List (Threa
 
   apart : RanApart config (map node_in (map begun_by threads)) begun end
   apart = record {
-    starts = made.begins.2;
-    held = held;
-    unlogged = unlogged;
-    linked = linked;
-    acts = λ i. (acts_and i).0;
-    follows = λ i. (acts_and i).1;
+    ran = record {
+      starts = made.begins.2;
+      held = held;
+      unlogged = unlogged;
+      linked = linked;
+      acts = λ i. (acts_and i).0;
+      follows = λ i. (acts_and i).1;
+      crossed = crossed;
+    };
     unseen = λ i. (acts_and i).2;
-    crossed = crossed;
   }
 
   merges : Merges (length config) (λ i. clocks_of (log_of (end i))) is.order

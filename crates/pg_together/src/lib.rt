@@ -3,4 +3,4 @@
 
 mod laws;
 
-pub use laws::nodes_ran_together;
+pub use laws::{nodes_ran_together, nodes_ran_together_past_losses};
