@@ -6,6 +6,8 @@ mod asks;
 #[cfg(test)]
 mod conversation;
 #[cfg(test)]
+mod dropped;
+#[cfg(test)]
 mod gates;
 #[cfg(test)]
 mod judges;
