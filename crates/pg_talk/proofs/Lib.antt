@@ -1,5 +1,6 @@
-pub mod Collected
 pub mod Conversing
 pub mod Judging
-pub mod Placing
+pub mod Opening
+pub mod Replying
 pub mod Sent
+pub mod Spoken

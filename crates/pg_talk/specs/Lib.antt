@@ -1,10 +1,8 @@
 pub mod Conversations
 pub mod Desks
 pub mod Frames
-pub mod Layouts
-pub mod Members
 pub mod Outcomes
-pub mod Replies
-pub mod Requests
 pub mod Services
+pub mod Servings
 pub mod Verdicts
+pub mod Written

@@ -1,12 +1,11 @@
 //! Where what the thread that reads gives comes in.
 
 use crate::service::fault::ServiceFault;
-use crate::service::input::Input;
-use crate::service::layout::Layout;
 use crate::service::reading::Reading;
 use pg_cluster::StartFault;
 use pg_frame::Deframer;
 use pg_node::Source;
+use pg_requests::{Input, Layout};
 use pg_ring::{SlotIn, slot_pair};
 use std::alloc::Global;
 use std::sync::Arc;
@@ -26,6 +25,9 @@ pub(crate) struct Reader {
 }
 
 impl Reader {
+    ghost use Rattle.std.specs.Prelude.{◌≡◌, ◌∷◌, ◌++◌, [], IfOk, IfSome, IfNone};
+    ghost use Rattle.pg_talk.specs.Servings.{came_in};
+
     /// Starts a thread that reads requests to the ports of a layout from a source. `requests`: after how many the input counts as ended.
     ///
     /// Faults: `Start` of `NoThread`; `OutOfMemory`.
@@ -35,7 +37,9 @@ impl Reader {
         source: S,
         layout: Layout,
         requests: u64,
-    ) -> Result<Reader, ServiceFault> {
+    ) -> Result<Reader, ServiceFault>
+        ensures { IfOk result (λ reader. came_in reader ≡ []) }
+    {
         let is_over = Arc::new(alloc, AtomicBool::new(false))?;
         let told = Arc::try_clone(&is_over)?;
         let Ok((out, inlet)) = slot_pair(alloc, INPUT_PLACES) else {
@@ -61,7 +65,10 @@ impl Reader {
     }
 
     /// The next input, if one is there. It waits for nobody.
-    pub(crate) fn next(&mut self) -> Option<Input> {
+    pub(crate) fn next(&mut self) -> Option<Input>
+        ensures some { IfSome result (λ input. came_in self.new ≡ came_in self.old ++ input ∷ []) }
+        ensures none { IfNone result (came_in self.new ≡ came_in self.old) }
+    {
         self.inlet.take_one()
     }
 

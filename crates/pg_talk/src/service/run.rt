@@ -1,17 +1,20 @@
 //! A service from its start to its end.
 
-ghost use Rattle.std.specs.Prelude.{IfOk};
-ghost use Rattle.pg_cluster.specs.Running.{config_in};
-ghost use Rattle.pg_talk.specs.Services.{WasJudged, running_of};
+ghost use Rattle.std.specs.Prelude.{◌≡◌, [], false, IfOk, map};
+ghost use Rattle.std.specs.List.{All};
+ghost use Rattle.pg_talk.specs.Desks.{waiting_at};
+ghost use Rattle.pg_talk.specs.Services.{WasServed};
+ghost use Rattle.pg_talk.specs.Servings.{AllThere, EndsSo, came_in, port_at, view_of};
+ghost use Rattle.pg_talk.specs.Written.{ports_in};
 
 use crate::service::Service;
 use crate::service::fault::ServiceFault;
-use crate::service::layout::Layout;
 use crate::service::reader::Reader;
 use crate::service::serving::{Desks, Serving};
 use crate::verdict::{Verdict, close_and_judge};
 use pg_cluster::{OpenGate, Running};
 use pg_node::{Sink, Source};
+use pg_requests::Layout;
 use pg_step::Start;
 use std::alloc::{AllocError, Global};
 use std::thread::Threads;
@@ -38,7 +41,7 @@ pub fn serve_cluster<R: Threads, S: Source + Send + Drop + 'static, W: Sink>(
     source: S,
     writer: &mut W,
 ) -> Result<Served, ServiceFault>
-    ensures { IfOk result (λ served. WasJudged service.config.starts.items served.verdict) }
+    ensures { IfOk result (λ served. WasServed service.config.starts.items (W.contents writer.old) (W.contents writer.new) served.verdict) }
 {
     let Service {
         config,
@@ -77,7 +80,7 @@ fn serve_by<R: Threads, S: Source + Send + Drop + 'static, W: Sink>(
     source: S,
     writer: &mut W,
 ) -> Result<Served, ServiceFault>
-    ensures { IfOk result (λ served. WasJudged (config_in (running_of serving)).starts.items served.verdict) }
+    ensures { IfOk result (λ served. EndsSo (view_of serving) (W.contents writer.old) (W.contents writer.new) served.verdict) }
 {
     match Reader::start(rt, alloc, source, layout, requests) {
         Ok(reader) => serve_all(rt, alloc, serving, reader, writer),
@@ -91,7 +94,13 @@ fn serve_by<R: Threads, S: Source + Send + Drop + 'static, W: Sink>(
 /// What a service of such nodes looks up.
 ///
 /// Error: `AllocError`.
-fn rooms_of(alloc: Global, starts: &[Start]) -> Result<(Layout, Desks), AllocError> {
+fn rooms_of(alloc: Global, starts: &[Start]) -> Result<(Layout, Desks), AllocError>
+    ensures ports { IfOk result (λ rooms. map port_at rooms.1.desks.items ≡ ports_in starts.now) }
+    ensures new { IfOk result (λ rooms. All (λ desk. desk.replied ≡ 0) rooms.1.desks.items) }
+    ensures idle { IfOk result (λ rooms. All (λ desk. desk.is_asked ≡ false) rooms.1.desks.items) }
+    ensures empty { IfOk result (λ rooms. All (λ desk. waiting_at desk ≡ []) rooms.1.desks.items) }
+    ensures there { IfOk result (λ rooms. AllThere rooms.1.nodes.items) }
+{
     let layout = Layout::of(alloc, starts)?;
     let desks = Desks::of(alloc, starts)?;
     Ok((layout, desks))
@@ -105,7 +114,8 @@ fn serve_all<R: Threads, W: Sink>(
     reader: Reader,
     writer: &mut W,
 ) -> Result<Served, ServiceFault>
-    ensures { IfOk result (λ served. WasJudged (config_in (running_of serving)).starts.items served.verdict) }
+    requires { came_in reader ≡ [] }
+    ensures { IfOk result (λ served. EndsSo (view_of serving) (W.contents writer.old) (W.contents writer.new) served.verdict) }
 {
     let mut serving = serving;
     let mut reader = reader;

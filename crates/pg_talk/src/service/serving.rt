@@ -1,14 +1,19 @@
 //! A service that runs: what comes in goes to its port, and replies go out.
 
+ghost use Rattle.std.specs.Prelude.{◌≡◌, ◌++◌, [], false, OnOk, map};
+ghost use Rattle.std.specs.List.{All as AllOf};
+ghost use Rattle.pg_talk.specs.Desks.{waiting_at as waiting_of};
+ghost use Rattle.pg_talk.specs.Servings.{port_at as port_of_desk};
+ghost use Rattle.pg_talk.specs.Written.{ports_from};
+
 use crate::service::MAX_WAITING;
 use crate::service::desk::Desk;
 use crate::service::fault::ServiceFault;
-use crate::service::input::Input;
 use crate::service::outlet::{Address, Outlet};
 use crate::service::reader::Reader;
-use crate::service::reply::{bad_request, lost, node_lost, reply_term};
 use pg_cluster::Running;
 use pg_node::Sink;
+use pg_requests::{Input, bad_request, lost, node_lost, reply_term};
 use pg_step::{Command, Start};
 use pg_term::{Atom, Term};
 use std::alloc::{AllocError, Global};
@@ -33,10 +38,22 @@ pub(crate) struct Desks {
 }
 
 impl Desks {
+    ghost use Rattle.std.specs.Prelude.{◌≡◌, [], false, IfOk, map};
+    ghost use Rattle.std.specs.List.{All};
+    ghost use Rattle.pg_talk.specs.Desks.{waiting_at};
+    ghost use Rattle.pg_talk.specs.Servings.{AllThere, port_at};
+    ghost use Rattle.pg_talk.specs.Written.{ports_in};
+
     /// Those of nodes as they start, to which nothing came.
     ///
     /// Error: `AllocError`.
-    pub(crate) fn of(alloc: Global, starts: &[Start]) -> Result<Desks, AllocError> {
+    pub(crate) fn of(alloc: Global, starts: &[Start]) -> Result<Desks, AllocError>
+        ensures ports { IfOk result (λ made. map port_at made.desks.items ≡ ports_in starts.now) }
+        ensures new { IfOk result (λ made. All (λ desk. desk.replied ≡ 0) made.desks.items) }
+        ensures idle { IfOk result (λ made. All (λ desk. desk.is_asked ≡ false) made.desks.items) }
+        ensures empty { IfOk result (λ made. All (λ desk. waiting_at desk ≡ []) made.desks.items) }
+        ensures there { IfOk result (λ made. AllThere made.nodes.items) }
+    {
         let mut nodes = Vec::with_capacity(alloc, starts.len())?;
         let mut desks = Vec::new(alloc);
         for node in 0..starts.len() {
@@ -45,21 +62,27 @@ impl Desks {
                 name,
                 is_lost: false,
             })?;
-            open_ports(alloc, &mut desks, node, starts[node].ports)?;
+            open_ports(alloc, &mut desks, &starts[node], node)?;
         }
         Ok(Desks { nodes, desks })
     }
 }
 
-/// A desk for each port of a node.
+/// A desk for each port of a node at a place.
 fn open_ports(
     alloc: Global,
     desks: &mut Vec<Desk>,
+    start: &Start,
     node: usize,
-    ports: u16,
-) -> Result<(), AllocError> {
-    for port in 0..ports {
-        desks.push(Desk::new(alloc, node, port + 1))?;
+) -> Result<(), AllocError>
+    ensures ports { OnOk result (map port_of_desk desks.new.items ≡ map port_of_desk desks.old.items ++ ports_from 1 start.now.name start.now.ports) }
+    ensures new { OnOk result (AllOf (λ desk. desk.replied ≡ 0) desks.old.items → AllOf (λ desk. desk.replied ≡ 0) desks.new.items) }
+    ensures idle { OnOk result (AllOf (λ desk. desk.is_asked ≡ false) desks.old.items → AllOf (λ desk. desk.is_asked ≡ false) desks.new.items) }
+    ensures empty { OnOk result (AllOf (λ desk. waiting_of desk ≡ []) desks.old.items → AllOf (λ desk. waiting_of desk ≡ []) desks.new.items) }
+{
+    for port in 0..start.ports {
+        let name = start.name.copy()?;
+        desks.push(Desk::new(alloc, name, node, port + 1))?;
     }
     Ok(())
 }
@@ -82,12 +105,18 @@ pub(crate) struct Serving {
 }
 
 impl Serving {
-    ghost use Rattle.std.specs.Prelude.{◌≡◌};
-    ghost use Rattle.pg_talk.specs.Services.{SameCluster, running_of};
+    ghost use Rattle.std.specs.Prelude.{◌≡◌, ◌<◌, ◌∷◌, [], true, false, None, IsTrue, OnOk, length, map};
+    ghost use Rattle.pg_requests.specs.declared.input.Input.TheVariants.{Ask, Lose, Bad};
+    ghost use Rattle.pg_cluster.specs.Notices.{NobodyLost};
+    ghost use Rattle.pg_cluster.specs.Running.{clients_in, losses_in};
+    ghost use Rattle.pg_talk.specs.Servings.{AllThere, Comes, RepliesNext, Rests, Says, Serves, asked_at, desks_of, nodes_of, port_at, running_of};
 
     /// One to which nothing came. It takes no memory.
     pub(crate) fn new(alloc: Global, running: Running, desks: Desks) -> Serving
-        ensures { running_of result ≡ running }
+        ensures running { running_of result ≡ running }
+        ensures desks { desks_of result ≡ desks.desks.items }
+        ensures nodes { nodes_of result ≡ desks.nodes.items }
+        ensures kept { result.kept ≡ None }
     {
         Serving {
             running,
@@ -134,20 +163,36 @@ impl Serving {
         reader: &mut Reader,
         writer: &mut W,
     ) -> Result<(), ServiceFault>
-        ensures same { SameCluster (running_of self.old) (running_of self.new) }
+        ensures { OnOk result (Serves self.old self.new reader.old reader.new (W.contents writer.old) (W.contents writer.new)) }
     {
         for _ in 0..u64::MAX {
-            let took = self.take_inputs(rt, reader, writer)?;
-            let attended = self.attend_all(writer)?;
-            if !took && !attended {
-                self.outlet.flush(writer)?;
-                if self.is_done() {
-                    return Ok(());
-                }
-                thread::yield_now();
+            if self.turn(rt, reader, writer)? {
+                return Ok(());
             }
         }
         Ok(())
+    }
+
+    /// Takes in what came, and looks at each client; whether the input is over and each request was replied to.
+    fn turn<R: Threads, W: Sink>(
+        &mut self,
+        rt: &R,
+        reader: &mut Reader,
+        writer: &mut W,
+    ) -> Result<bool, ServiceFault>
+        ensures { OnOk result (Serves self.old self.new reader.old reader.new (W.contents writer.old) (W.contents writer.new)) }
+    {
+        let took = self.take_inputs(rt, reader, writer)?;
+        let attended = self.attend_all(writer)?;
+        if took || attended {
+            return Ok(false);
+        }
+        self.outlet.flush(writer)?;
+        if self.is_done() {
+            return Ok(true);
+        }
+        thread::yield_now();
+        Ok(false)
     }
 
     /// Whether the input is over and each request was replied to.
@@ -162,7 +207,7 @@ impl Serving {
         reader: &mut Reader,
         writer: &mut W,
     ) -> Result<bool, ServiceFault>
-        ensures same { SameCluster (running_of self.old) (running_of self.new) }
+        ensures { OnOk result (Serves self.old self.new reader.old reader.new (W.contents writer.old) (W.contents writer.new)) }
     {
         for count in 0..INPUTS_AT_ONCE {
             let Some(input) = self.next_input(reader) else {
@@ -177,7 +222,7 @@ impl Serving {
 
     /// The input that was kept, or else the next one, if it is there.
     fn next_input(&mut self, reader: &mut Reader) -> Option<Input>
-        ensures same { SameCluster (running_of self.old) (running_of self.new) }
+        ensures { Comes result self.old self.new reader.old reader.new }
     {
         match self.kept.take() {
             Some(input) => Some(input),
@@ -192,18 +237,13 @@ impl Serving {
         input: Input,
         writer: &mut W,
     ) -> Result<bool, ServiceFault>
-        ensures same { SameCluster (running_of self.old) (running_of self.new) }
+        requires { self.old.kept ≡ None }
+        ensures { OnOk result (Says (input ∷ []) self.old self.new (W.contents writer.old) (W.contents writer.new)) }
     {
         match input {
             Input::Ask { client, command } => self.take_request(client, command),
-            Input::Lose { node } => {
-                self.bodies = self.bodies.saturating_add(1);
-                self.lose(rt, node, writer)
-            }
-            Input::Bad => {
-                self.bodies = self.bodies.saturating_add(1);
-                self.tell_bad(writer)
-            }
+            Input::Lose { node } => self.lose(rt, node, writer),
+            Input::Bad => self.take_bad(writer),
             Input::End => {
                 self.end = Some(None);
                 Ok(true)
@@ -217,21 +257,30 @@ impl Serving {
 
     /// A request waits for its turn at its port, if it has room there; else it is kept. Whether it has.
     fn take_request(&mut self, client: usize, command: Command) -> Result<bool, ServiceFault>
-        ensures same { SameCluster (running_of self.old) (running_of self.new) }
+        requires { self.old.kept ≡ None }
+        ensures { OnOk result (Rests (Ask client command ∷ []) self.old self.new) }
     {
-        let Some(desk) = self.desks.get_mut(client) else {
+        if client >= self.desks.len() {
             drop(command);
             return Ok(true);
-        };
-        if desk.waiting_count() >= MAX_WAITING {
+        }
+        if self.desks[client].waiting_count() >= MAX_WAITING {
             drop(self.kept.replace(Input::Ask { client, command }));
             return Ok(false);
         }
         self.bodies = self.bodies.saturating_add(1);
-        match desk.wait(command) {
+        match self.desks[client].wait(command) {
             Ok(()) => Ok(true),
             Err(AllocError) => Err(ServiceFault::OutOfMemory),
         }
+    }
+
+    /// A body asks for nothing.
+    fn take_bad<W: Sink>(&mut self, writer: &mut W) -> Result<bool, ServiceFault>
+        ensures { OnOk result (Says (Bad ∷ []) self.old self.new (W.contents writer.old) (W.contents writer.new)) }
+    {
+        self.bodies = self.bodies.saturating_add(1);
+        self.tell_bad(writer)
     }
 
     /// A node is lost, unless it was before.
@@ -241,8 +290,9 @@ impl Serving {
         node: usize,
         writer: &mut W,
     ) -> Result<bool, ServiceFault>
-        ensures same { SameCluster (running_of self.old) (running_of self.new) }
+        ensures { OnOk result (Says (Lose node ∷ []) self.old self.new (W.contents writer.old) (W.contents writer.new)) }
     {
+        self.bodies = self.bodies.saturating_add(1);
         match self.running.lose(rt, node) {
             Ok(()) => self.tell_lost(node, writer),
             Err(_) => self.tell_bad(writer),
@@ -251,13 +301,14 @@ impl Serving {
 
     /// A node was lost.
     fn tell_lost<W: Sink>(&mut self, node: usize, writer: &mut W) -> Result<bool, ServiceFault>
-        ensures same { SameCluster (running_of self.old) (running_of self.new) }
+        requires { NobodyLost (losses_in (running_of self.old)) → ⊥ }
+        ensures { OnOk result (Says [] self.old self.new (W.contents writer.old) (W.contents writer.new)) }
     {
-        let Some(served) = self.nodes.get_mut(node) else {
+        if node >= self.nodes.len() {
             return Ok(true);
-        };
-        served.is_lost = true;
-        let term = lost(self.alloc, &served.name)?;
+        }
+        self.nodes[node].is_lost = true;
+        let term = lost(self.alloc, &self.nodes[node].name)?;
         let told = self.outlet.put(writer, &term);
         drop(term);
         told?;
@@ -266,7 +317,7 @@ impl Serving {
 
     /// The last body asks for nothing.
     fn tell_bad<W: Sink>(&mut self, writer: &mut W) -> Result<bool, ServiceFault>
-        ensures same { SameCluster (running_of self.old) (running_of self.new) }
+        ensures { OnOk result (Says [] self.old self.new (W.contents writer.old) (W.contents writer.new)) }
     {
         let term = bad_request(self.alloc, self.bodies)?;
         let told = self.outlet.put(writer, &term);
@@ -277,7 +328,7 @@ impl Serving {
 
     /// Looks at each client once; whether something moved.
     fn attend_all<W: Sink>(&mut self, writer: &mut W) -> Result<bool, ServiceFault>
-        ensures same { SameCluster (running_of self.old) (running_of self.new) }
+        ensures { OnOk result (Says [] self.old self.new (W.contents writer.old) (W.contents writer.new)) }
     {
         let mut moved = false;
         for client in 0..self.running.client_count() {
@@ -290,13 +341,13 @@ impl Serving {
 
     /// Looks at a client: hears its answer, or hands over its next request; whether something moved.
     fn attend<W: Sink>(&mut self, client: usize, writer: &mut W) -> Result<bool, ServiceFault>
-        ensures same { SameCluster (running_of self.old) (running_of self.new) }
+        ensures { OnOk result (Says [] self.old self.new (W.contents writer.old) (W.contents writer.new)) }
     {
-        let (is_asked, is_lost) = match self.desks.get(client) {
-            Some(desk) => (desk.is_asked(), self.is_lost(desk.node())),
-            None => return Ok(false),
-        };
-        if is_asked {
+        if client >= self.desks.len() || client >= self.running.client_count() {
+            return Ok(false);
+        }
+        let is_lost = self.is_lost(self.desks[client].node());
+        if self.desks[client].is_asked() {
             self.hear(client, is_lost, writer)
         } else if is_lost {
             self.refuse_next(client, writer)
@@ -306,7 +357,9 @@ impl Serving {
     }
 
     /// Whether a node was lost.
-    fn is_lost(&self, node: usize) -> bool {
+    fn is_lost(&self, node: usize) -> bool
+        ensures { IsTrue result → AllThere (nodes_of self.now) → ⊥ }
+    {
         match self.nodes.get(node) {
             Some(served) => served.is_lost,
             None => false,
@@ -320,11 +373,12 @@ impl Serving {
         is_lost: bool,
         writer: &mut W,
     ) -> Result<bool, ServiceFault>
-        ensures same { SameCluster (running_of self.old) (running_of self.new) }
+        requires desk { client < length (desks_of self.old) }
+        requires client { client < length (clients_in (running_of self.old)) }
+        requires asked { asked_at client (desks_of self.old) ≡ true }
+        requires lost { IsTrue is_lost → AllThere (nodes_of self.old) → ⊥ }
+        ensures { OnOk result (Says [] self.old self.new (W.contents writer.old) (W.contents writer.new)) }
     {
-        if client >= self.running.client_count() {
-            return Ok(false);
-        }
         match self.running.poll(client) {
             Some(answer) => {
                 let reply = reply_term(self.alloc, answer.reply)?;
@@ -342,13 +396,11 @@ impl Serving {
 
     /// Replies to the next request of a client, if one waits, that its node was lost.
     fn refuse_next<W: Sink>(&mut self, client: usize, writer: &mut W) -> Result<bool, ServiceFault>
-        ensures same { SameCluster (running_of self.old) (running_of self.new) }
+        requires desk { client < length (desks_of self.old) }
+        requires lost { AllThere (nodes_of self.old) → ⊥ }
+        ensures { OnOk result (Says [] self.old self.new (W.contents writer.old) (W.contents writer.new)) }
     {
-        let next = match self.desks.get_mut(client) {
-            Some(desk) => desk.next(),
-            None => None,
-        };
-        match next {
+        match self.desks[client].next() {
             Some(command) => {
                 drop(command);
                 self.reply_lost(client, writer)
@@ -359,23 +411,20 @@ impl Serving {
 
     /// Hands over the next request of a client; whether one was there and was taken.
     fn hand_over(&mut self, client: usize) -> Result<bool, ServiceFault>
-        ensures same { SameCluster (running_of self.old) (running_of self.new) }
+        requires desk { client < length (desks_of self.old) }
+        requires client { client < length (clients_in (running_of self.old)) }
+        requires idle { asked_at client (desks_of self.old) ≡ false }
+        ensures { OnOk result (Rests [] self.old self.new) }
     {
-        if client >= self.running.client_count() {
-            return Ok(false);
-        }
-        let Some(desk) = self.desks.get_mut(client) else {
-            return Ok(false);
-        };
-        let Some(command) = desk.next() else {
+        let Some(command) = self.desks[client].next() else {
             return Ok(false);
         };
         match self.running.submit(client, command) {
             Ok(()) => {
-                desk.ask();
+                self.desks[client].ask();
                 Ok(true)
             }
-            Err(command) => match desk.put_back(command) {
+            Err(command) => match self.desks[client].put_back(command) {
                 Ok(()) => Ok(false),
                 Err(AllocError) => Err(ServiceFault::OutOfMemory),
             },
@@ -384,25 +433,12 @@ impl Serving {
 
     /// Replies to the next request of a client that its node was lost.
     fn reply_lost<W: Sink>(&mut self, client: usize, writer: &mut W) -> Result<bool, ServiceFault>
-        ensures same { SameCluster (running_of self.old) (running_of self.new) }
+        requires desk { client < length (desks_of self.old) }
+        requires lost { AllThere (nodes_of self.old) → ⊥ }
+        ensures { OnOk result (Says [] self.old self.new (W.contents writer.old) (W.contents writer.new)) }
     {
-        match self.lost_reply(client)? {
-            Some(reply) => self.reply(client, reply, writer),
-            None => Ok(false),
-        }
-    }
-
-    /// That the node of a client was lost, as a reply.
-    ///
-    /// Error: `AllocError`.
-    fn lost_reply(&self, client: usize) -> Result<Option<Term>, AllocError> {
-        let Some(desk) = self.desks.get(client) else {
-            return Ok(None);
-        };
-        match self.nodes.get(desk.node()) {
-            Some(served) => Ok(Some(node_lost(self.alloc, &served.name)?)),
-            None => Ok(None),
-        }
+        let reply = node_lost(self.alloc, self.desks[client].name())?;
+        self.reply(client, reply, writer)
     }
 
     /// Writes the reply to the next request of a client.
@@ -412,19 +448,17 @@ impl Serving {
         reply: Term,
         writer: &mut W,
     ) -> Result<bool, ServiceFault>
-        ensures same { SameCluster (running_of self.old) (running_of self.new) }
+        requires desk { client < length (desks_of self.old) }
+        ensures running { running_of self.new ≡ running_of self.old }
+        ensures nodes { nodes_of self.new ≡ nodes_of self.old }
+        ensures kept { self.new.kept ≡ self.old.kept }
+        ensures ports { map port_at (desks_of self.new) ≡ map port_at (desks_of self.old) }
+        ensures next { OnOk result (RepliesNext client reply (desks_of self.old) (desks_of self.new) (W.contents writer.old) (W.contents writer.new)) }
     {
-        let Some(desk) = self.desks.get_mut(client) else {
-            drop(reply);
-            return Ok(false);
-        };
-        let number = desk.reply();
-        let Some(served) = self.nodes.get(desk.node()) else {
-            drop(reply);
-            return Ok(false);
-        };
+        let number = self.desks[client].reply();
+        let desk = &self.desks[client];
         let address = Address {
-            name: &served.name,
+            name: desk.name(),
             port: desk.port(),
             number,
         };
