@@ -433,6 +433,9 @@ writes_kept xs ys k running desks nodes c x y whole w = record {
 
 -- ---- what one call does
 
+true_is_not_false : true ≡ false → ⊥
+true_is_not_false e = absurd (cc)
+
 -- nothing but what a client said and heard is changed in the cluster, and of the desks and nodes nothing that is told here
 pub remains_by : (client : ℕ) (a b : View) → OnlyClient client a.running b.running → b.nodes ≡ a.nodes → ports_of b.desks ≡ ports_of a.desks → Remains a b
 remains_by client a b only nodes ports =
@@ -650,6 +653,64 @@ request_back running running2 d nodes kept k x x1 y x2 command low value front s
       | inl e ↦ subst (λ j. polled_at j none running2 ≡ polled_at j none running) (sym e) (heard none)
       | inr n ↦ ap polled (only.others i none n)
     ]
+
+-- a cluster whose clients said nothing meanwhile, and whose nodes that were lost stay so
+pub still_but_losses : (a : View) (running : Running) → clients_in running ≡ clients_in a.running → threads_in running ≡ threads_in a.running → config_in running ≡ config_in a.running
+    → (NobodyLost (losses_in running) → NobodyLost (losses_in a.running)) → Stays [] a (record a { running = running })
+still_but_losses a running clients threads config losses = record {
+  remains = record {
+    config = config;
+    threads = threads;
+    count = ap length clients;
+    losses = losses;
+    knows = λ knows nobody. knows (losses nobody);
+    ports = refl;
+  };
+  polled = heard;
+  counts = refl;
+  balanced = balanced_same a (record a { running = running }) (ap length clients) refl said heard;
+  lines = lines_rest a (record a { running = running }) said refl refl;
+}
+  where
+    heard : (i : ℕ) (none : Client) → polled_at i none running ≡ polled_at i none a.running
+    heard i none = ap (λ (all : List Client). polled (get_or all i none)) clients
+    said : (i : ℕ) (none : Client) → submitted_at i none running ≡ submitted_at i none a.running
+    said i none = ap (λ (all : List Client). submitted (get_or all i none)) clients
+
+-- where a node is lost, not all are there
+lost_at : (lost : List Bool) (node : ℕ) → node < length lost → NobodyLost (set lost node true) → ⊥
+lost_at lost node low nobody =
+    let there : get_or (set lost node true) node false ≡ false = nobody node false (omega (arith, low, length-set lost node true)) in
+    absurd (true_is_not_false (sym (get_or-set_same lost node true false low) ∙ there))
+
+pub node_lost_now : (lost lost2 : List Bool) (node : ℕ) → node < length lost → lost2 ≡ set lost node true → NobodyLost lost2 → ⊥
+node_lost_now lost lost2 node low is nobody = lost_at lost node low (subst NobodyLost is nobody)
+
+pub same_but_lost : (a : View) (running : Running) (node : ℕ) → node < length (losses_in a.running) → clients_in running ≡ clients_in a.running → threads_in running ≡ threads_in a.running
+    → config_in running ≡ config_in a.running → losses_in running ≡ set (losses_in a.running) node true → Stays [] a (record a { running = running })
+same_but_lost a running node low clients threads config losses =
+    still_but_losses a running clients threads config (λ nobody. absurd (node_lost_now (losses_in a.running) (losses_in running) node low losses nobody))
+
+pub none_is_lost : (a : View) (running : Running) → running ≡ a.running → Stays [] a (record a { running = running })
+none_is_lost a running same =
+    still_but_losses a running (ap clients_in same) (ap threads_in same) (ap config_in same) (λ nobody. subst (λ (one : Running). NobodyLost (losses_in one)) same nobody)
+
+-- a node is held for lost, which some are
+pub loss_told : (a : View) (nodes : List ServedNode) → (NobodyLost (losses_in a.running) → ⊥) → Stays [] a (record a { nodes = nodes })
+loss_told a nodes lost = record {
+  remains = record {
+    config = refl;
+    threads = refl;
+    count = refl;
+    losses = λ nobody. nobody;
+    knows = λ knows nobody. absurd (lost nobody);
+    ports = refl;
+  };
+  polled = λ client none. refl;
+  counts = refl;
+  balanced = λ was. was;
+  lines = lines_rest a (record a { nodes = nodes }) (λ i none. refl) refl refl;
+}
 
 pub on_ok : {T E : Type 0} (r : Result T E) (P Q : Type 0) → (P → Q) → OnOk r P → OnOk r Q
 on_ok (Ok t) P Q f p = f p
