@@ -1,14 +1,16 @@
 -- A cluster that is closed.
 use Rattle.std.proofs.Common.{◌≡◌, ◌<◌, ℕ, List, [], ◌∷◌, ◌++◌, length, map, get_or, refl, sym, ◌∙◌, ap, subst, arith, inl, inr, length-append}
-use Rattle.std.specs.Prelude.{Bool, Result, Ok, Err, IfOk, IfErr, MatchResult}
+use Rattle.std.specs.Prelude.{Bool, false, Result, Ok, Err, IfOk, IfErr, MatchResult}
 use Rattle.std.proofs.lemmas.Bool.Decides.{eqb_tells}
-use Rattle.std.specs.List.{All}
+use Rattle.std.specs.List.{All, AllByRecursion}
 use Rattle.std.specs.declared.alloc.Global.{Global}
 use Rattle.std.specs.declared.vec.Vec.{Vec}
 use Rattle.std.proofs.lemmas.List.{length-map, get_or-map}
 use Rattle.std.proofs.Math.ListN.{get_or-append}
 use Rattle.std.proofs.Math.Seq.{get_or-append_seam}
+use Rattle.pg_ring.specs.declared.slot_in.SlotIn.{SlotIn}
 use Rattle.pg_run.specs.declared.log.NodeEvent.{NodeEvent}
+use Rattle.pg_run.specs.declared.notices.Notice.{Notice}
 use Rattle.pg_run.specs.declared.port.Client.{Client}
 use Rattle.pg_ring.specs.Slots.{taken}
 use Rattle.pg_run.specs.Ports.{Meets}
@@ -20,10 +22,11 @@ use Rattle.pg_cluster.specs.Clients.{AllPairs, AllHeard, ClientsRest, ports_ende
 use Rattle.pg_cluster.specs.Closed.{JoinsToOneRun, nodes_of, logs_of, losses_of, clients_of}
 use Rattle.pg_cluster.specs.Judges.{Agree}
 use Rattle.pg_cluster.specs.Ended.{AreWired, AllArrived}
-use Rattle.pg_cluster.specs.Notices.{NobodyLost}
-use Rattle.pg_cluster.specs.Schedule.{IsSchedule}
-use Rattle.pg_cluster.specs.Threads.{NodeOf, RunOf, RanOf, Thread, AreMade, EndedWith, Joined, begun_by, node_in, log_in, rows_begun, rows_ended, notices_ended}
-use Rattle.pg_cluster.specs.Together.{AreOneRun}
+use Rattle.pg_cluster.specs.Notices.{IsOfLost, NobodyLost}
+use Rattle.pg_cluster.specs.Schedule.{IsLosingSchedule, IsSchedule}
+use mathlib.Core.Logic.{∥∥₁_map}
+use Rattle.pg_cluster.specs.Threads.{NodeOf, RunOf, RanOf, Thread, AreMade, EndedWith, Joined, begun_by, lasts_ended, node_in, log_in, rows_begun, rows_ended, notices_ended}
+use Rattle.pg_cluster.specs.Together.{AreOneLosingRun, AreOneRun}
 use Rattle.pg_cluster.proofs.Closing.{crossed_after}
 use Rattle.pg_cluster.proofs.Hearing.{heard_all}
 
@@ -47,14 +50,19 @@ one_more_stands P hs rs x r at here all i h d low = elim (eqb_tells i (length rs
 pub stopped_ended : {K : Type 0} (lost : List Bool) (threads : List (Thread K)) (rans : List (RanOf K)) (stopped : Stopped)
     → AreWired (length threads) (rows_begun threads) → Joined threads rans → AllArrived (length threads) (rows_ended rans)
     → nodes_of stopped ≡ map (λ ran. node_in ran.run) rans → logs_of stopped ≡ map (λ ran. log_in ran.run) rans
+    → length lost ≡ length threads
+    → ((place : ℕ) (none : SlotIn Notice) → place < length lost
+    → AllByRecursion (IsOfLost (length lost) (λ node. get_or lost node false) (λ node. get_or (lasts_ended rans) node 0) place) (taken (get_or (notices_ended rans) place none)))
     → (NobodyLost lost → All (λ inlet. taken inlet ≡ []) (notices_ended rans))
     → EndedWith lost threads (nodes_of stopped) (logs_of stopped)
-stopped_ended lost threads rans stopped wired joined arrived nodes logs untold = record {
+stopped_ended lost threads rans stopped wired joined arrived nodes logs marked told untold = record {
   rans = rans;
   joined = joined;
   ended = nodes;
   logged = logs;
   crossed = crossed_after (length threads) threads rans refl wired joined arrived;
+  marked = marked;
+  told = told;
   untold = untold;
 }
 
@@ -112,6 +120,25 @@ pub finished_lost : (lost : List Bool) (stopped : Stopped) (result : Result Clos
     → MatchResult result (λ closed. closed.lost.items ≡ lost) (λ other. losses_of other ≡ lost)
 finished_lost lost stopped (Ok closed) are told same = told ∙ are
 finished_lost lost stopped (Err other) are told same = ap losses_of same ∙ are
+
+-- the schedule, whoever was lost
+pub finished_losing : (lost : List Bool) (stopped : Stopped) (result : Result Closed Stopped) → losses_of stopped ≡ lost
+    → IfOk result (λ closed. IsLosingSchedule (map (λ v. v.items) closed.logs.items) (losses_of stopped) closed.schedule.items)
+    → IfOk result (λ closed. IsLosingSchedule (map (λ v. v.items) closed.logs.items) lost closed.schedule.items)
+finished_losing lost stopped (Ok closed) are is = subst (λ marks. IsLosingSchedule (map (λ v. v.items) closed.logs.items) marks closed.schedule.items) are is
+finished_losing lost stopped (Err other) are is = tt
+
+-- it is one run
+pub finished_losing_run : {K : Type 0}
+    → ((given : Config) (lost : List Bool) (threads : List (Thread K)) (nodes : List NodeOf) (logs : List (List (ℕ × NodeEvent))) (schedule : List FrameStep)
+    → AreMade given (map begun_by threads) → EndedWith lost threads nodes logs → IsLosingSchedule logs lost schedule → AreOneLosingRun given lost nodes schedule)
+    → (lost : List Bool) (threads : List (Thread K)) (result : Result Closed Stopped)
+    → MatchResult result (λ closed. ∥ EndedWith lost threads closed.nodes.items (map (λ v. v.items) closed.logs.items) ∥₁) (λ other. ∥ EndedWith lost threads (nodes_of other) (logs_of other) ∥₁)
+    → IfOk result (λ closed. IsLosingSchedule (map (λ v. v.items) closed.logs.items) lost closed.schedule.items)
+    → IfOk result (λ closed. (given : Config) → AreMade given (map begun_by threads) → ∥ AreOneLosingRun given lost closed.nodes.items closed.schedule.items ∥₁)
+finished_losing_run law lost threads (Ok closed) ended is = λ given made.
+    ∥∥₁_map ended (λ e. law given lost threads closed.nodes.items (map (λ v. v.items) closed.logs.items) closed.schedule.items made e is)
+finished_losing_run law lost threads (Err other) ended is = tt
 
 -- the schedule, where none was lost
 pub finished_schedule : (lost : List Bool) (stopped : Stopped) (result : Result Closed Stopped) → losses_of stopped ≡ lost

@@ -1,11 +1,12 @@
 -- What a node of a cluster holds, and lists of them of which one is lost.
-use Rattle.std.proofs.Common.{◌≡◌, ◌<◌, ℕ, zero, suc, List, [], ◌∷◌, length, map, get_or, set, sym, ◌∙◌, ap, subst, arith}
+use Rattle.std.proofs.Common.{◌≡◌, ◌<◌, ℕ, zero, suc, List, [], ◌∷◌, length, map, get_or, set, refl, sym, ◌∙◌, ap, subst, arith}
 use Rattle.std.specs.Prelude.{true, false, Option, Some, None, option_map, slice_get}
 use Rattle.std.proofs.lemmas.Option.{slice_get-map, slice_get-get_or}
 use Rattle.pg_cluster.specs.declared.member.Member.{Member}
-use Rattle.pg_cluster.specs.Members.{is_lost, last_of, losses_in, thread_of, threads_in}
+use Rattle.pg_cluster.specs.Members.{clock_of, is_lost, last_of, lasts_in, losses_in, thread_of, threads_in}
 use Rattle.pg_cluster.specs.Promises.{RanAs}
-use Rattle.pg_cluster.specs.Threads.{Holds, RanOf, Thread, begun_by, limit_of, thread_or}
+use Rattle.pg_cluster.specs.Threads.{Holds, RanOf, Thread, begun_by, lasts_ended, limit_of, thread_or}
+use Rattle.std.proofs.lemmas.List.{get_or-map, length-map}
 
 module _ {K : Type 0} where
   -- the thread that runs
@@ -65,3 +66,25 @@ module _ {K : Type 0} where
   last_set [] k member last low is = absurd (omega (arith, low))
   last_set (m ∷ ms) zero member last low is = ap Some (sym is)
   last_set (m ∷ ms) (suc k) member last low is = last_set ms k member last (omega (arith, low)) is
+
+  -- the clocks at last
+  pub lasts_set : (members : List (Member K)) (k : ℕ) (member : Member K) → k < length members → lasts_in (set members k member) ≡ set (lasts_in members) k (last_of member)
+  lasts_set [] k member low = absurd (omega (arith, low))
+  lasts_set (m ∷ ms) zero member low = refl
+  lasts_set (m ∷ ms) (suc k) member low = ap (λ ls. last_of m ∷ ls) (lasts_set ms k member (omega (arith, low)))
+
+  -- those of the nodes that were lost, as their threads ended
+  pub lasts_kept : (members : List (Member K)) (rans : List (RanOf K)) → length rans ≡ length members
+      → ((i : ℕ) (m : Member K) (d : RanOf K) → i < length rans → is_lost (get_or members i m) ≡ true → clock_of (get_or rans i d) ≡ last_of (get_or members i m))
+      → (i : ℕ) → i < length (losses_in members) → get_or (losses_in members) i false ≡ true → get_or (lasts_in members) i 0 ≡ get_or (lasts_ended rans) i 0
+  lasts_kept members rans count kept i low gone =
+      let within : i < length members = let n = length-map members is_lost in omega (arith, low, n) in
+      let there : i < length rans = omega (arith, within, count) in
+      let m = one_of members i within in
+      let d = one_of rans i there in
+      get_or-map last_of members i m 0 within
+      ∙ (sym (kept i m d there (sym (get_or-map is_lost members i m false within) ∙ gone)) ∙ sym (get_or-map clock_of rans i d 0 there))
+    where
+      one_of : {A : Type 0} (xs : List A) (k : ℕ) → k < length xs → A
+      one_of [] k low = absurd (omega (arith, low))
+      one_of (x ∷ xs) k low = x

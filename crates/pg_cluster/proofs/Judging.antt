@@ -1,5 +1,5 @@
 -- Nodes that are compared.
-use Rattle.std.proofs.Common.{◌≡◌, ◌↔◌, ℕ, List, Bool, Option, Some, Result, Ok, Err, sym, ap, ◌∙◌}
+use Rattle.std.proofs.Common.{◌≡◌, ◌↔◌, ℕ, List, Bool, true, Option, Some, Result, Ok, Err, sym, ap, subst, ◌∙◌}
 use Rattle.std.specs.Prelude.{IfOk, IsTrue}
 use Rattle.pg_group.specs.declared.table.GroupTable.{Ghosts}
 use Rattle.pg_node.specs.declared.state.NodeState.{NodeState}
@@ -12,14 +12,29 @@ use Rattle.pg_world.specs.declared.frame_world.FrameWorld.{FrameWorld}
 use Rattle.pg_world.specs.Crossings.{node_of}
 use Rattle.pg_world.specs.Runs.{Ran, LosesNone, over_packets}
 use Rattle.pg_world.specs.Views.{Seen, seen_of}
-use Rattle.pg_world.specs.FrameWorlds.{view_of}
-use Rattle.pg_world.specs.Worlds.{Shows}
-use Rattle.pg_cluster.specs.Judges.{AreShown, Replays}
+use Rattle.pg_world.specs.FrameWorlds.{lost_of, view_of}
+use Rattle.pg_world.specs.Worlds.{Shows, ShowsNode, TimedFrameWorld}
+use Rattle.pg_step.specs.LossLaws.{LosingFrameWorld}
+use Rattle.pg_together.specs.Losses.{nodes_in}
+use Rattle.pg_world.specs.Losing.{ShowsLosing, losing_of}
+use Rattle.pg_world.specs.LosingRuns.{RanLosing, packets_past_losses}
+use Rattle.pg_cluster.specs.Judges.{AreShown, Replays, ReplaysPastLosses, all_made}
 
 -- what holds of each answer
 pub of_ok : {X E : Type 0} {P : Type 0} (result : Result X E) → P → IfOk result (λ x. P)
 of_ok (Ok x) p = p
 of_ok (Err e) p = tt
+
+-- nodes that the world shows are those of the world with losses that it shows
+shows_there : (config : Config) (frames : TimedFrameWorld) (lost : List ℕ) (u : LosingFrameWorld) (i : ℕ) (seen : Seen) → u ≡ losing_of config frames lost → ShowsNode config frames i seen
+    → ShowsNode config (nodes_in u) i seen
+shows_there config frames lost u i seen is shows =
+    subst (λ (v : LosingFrameWorld). ShowsNode config (nodes_in v) i seen) (sym is) (record { names = shows.names; ports = shows.ports; state = shows.state; answers = shows.answers })
+
+-- a part that is so anyway
+pub both_so : {E : Type 0} {b : Bool} (P : Type 0) (result : Result Bool E) → b ≡ true → IfOk result (λ yes. IsTrue yes ↔ P) → IfOk result (λ yes. IsTrue yes ↔ ((b ≡ true) × P))
+both_so P (Ok told) is both = (λ holds. (is, both.0 holds), λ p. both.1 p.1)
+both_so P (Err e) is both = tt
 
 module _ {T : Type 0} {g : Ghosts T} where
   -- nodes that are the same are seen alike
@@ -39,7 +54,7 @@ module _ {T : Type 0} {g : Ghosts T} where
   -- a world that the schedule leads to, and that shows these nodes
   pub replays_so : {E : Type 0} (given : Config) (schedule : List FrameStep) (nodes : List (Node T g)) (world : FrameWorld T g) (numbers : List ℕ) (result : Result Bool E)
       → (LosesNone schedule → Ran over_packets given schedule numbers (λ config. Shows config (view_of world)))
-      → IfOk result (λ yes. IsTrue yes ↔ AreShown (view_of world).traffic.nodes nodes)
+      → IfOk result (λ yes. IsTrue yes ↔ ((all_made numbers ≡ true) × AreShown (view_of world).traffic.nodes nodes))
       → IfOk result (λ yes. IsTrue yes → LosesNone schedule → Replays given schedule nodes)
   replays_so given schedule nodes world numbers (Ok told) ran shown = λ holds none. let r = ran none in record {
     numbers = numbers;
@@ -49,8 +64,28 @@ module _ {T : Type 0} {g : Ghosts T} where
       events = r.events;
       w = r.w;
       runs = r.runs;
-      shows = λ i node at. r.shows.traffic.nodes.each i (node_of node) (shown.0 holds i node at);
+      shows = λ i node at. r.shows.traffic.nodes.each i (node_of node) ((shown.0 holds).1 i node at);
       history = r.history;
     };
   }
   replays_so given schedule nodes world numbers (Err e) ran shown = tt
+
+  pub replays_losing : {E : Type 0} (given : Config) (schedule : List FrameStep) (nodes : List (Node T g)) (world : FrameWorld T g) (numbers : List ℕ) (result : Result Bool E)
+      → RanLosing packets_past_losses given schedule numbers (λ config. ShowsLosing config (view_of world) (lost_of world))
+      → IfOk result (λ yes. IsTrue yes ↔ ((all_made numbers ≡ true) × AreShown (view_of world).traffic.nodes nodes))
+      → IfOk result (λ yes. IsTrue yes → ReplaysPastLosses given schedule nodes)
+  replays_losing given schedule nodes world numbers (Ok told) ran shown = λ holds. record {
+    numbers = numbers;
+    made = (shown.0 holds).0;
+    ran = record {
+      config = ran.config;
+      orders = ran.orders;
+      events = ran.events;
+      u = ran.u;
+      runs = ran.runs;
+      shows = λ i node at. shows_there ran.config ran.shows.frames (lost_of world) ran.u i (node_of node) ran.shows.is
+          (ran.shows.shows.traffic.nodes.each i (node_of node) ((shown.0 holds).1 i node at));
+      survived = ran.survived;
+    };
+  }
+  replays_losing given schedule nodes world numbers (Err e) ran shown = tt

@@ -1,6 +1,8 @@
 pub mod Agreed
 pub mod Agreeing
+pub mod Alike
 pub mod Closing
+pub mod Counted
 pub mod Finishing
 pub mod Handing
 pub mod Hearing
@@ -16,6 +18,7 @@ pub mod Paired
 pub mod PartsSent
 pub mod Popping
 pub mod Replaying
+pub mod Scheduled
 pub mod Scheduling
 pub mod Settling
 pub mod SettlingPorts

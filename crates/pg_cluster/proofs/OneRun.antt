@@ -1,11 +1,15 @@
 -- A cluster that has ended, as one run of its configuration.
-use Rattle.std.proofs.Common.{◌≡◌, ◌<◌, ◌≤◌, ◌+◌, ◌-◌, ◌^◌, ℕ, Bool, true, false, cond, nat_lt, min, List, [], ◌∷◌, ◌++◌, length, map, drop, get_or, Some, zero, suc, refl, sym, ◌∙◌, ap, subst, arith, inl, inr}
+use Rattle.std.proofs.Common.{◌≡◌, ◌≢◌, ◌⊎◌, ◌<◌, ◌≤◌, ◌+◌, ◌-◌, ◌^◌, ℕ, Bool, true, false, cond, nat_eq, nat_lt, min, List, [], ◌∷◌, ◌++◌, length, map, drop, get_or, Some, zero, suc, refl, sym, ◌∙◌, ap, subst, arith, inl, inr}
 use Rattle.std.specs.Prelude.{slice_get}
-use Rattle.std.specs.List.{All, AllByRecursion}
+use Rattle.std.specs.List.{All, AllByRecursion, IsDistinct}
+use Rattle.std.proofs.lemmas.Bool.{cases_eq, eq-eqb, ne_eqb}
 use Rattle.std.proofs.lemmas.Bool.Decides.{leb_tells}
 use Rattle.std.proofs.lemmas.List.{get_or-map, length-map, map-append, append-nil}
 use Rattle.std.proofs.lemmas.Option.{slice_get-get_or, slice_get_within, get_or_from_slice_get}
 use Rattle.pg_machine.specs.Machine.{Machine, Event, World, is_there, start_of}
+use Rattle.pg_loss.specs.Reached.{LosingReaches}
+use Rattle.pg_loss.specs.Survived.{LossesSurvived}
+use Rattle.pg_machine.specs.Losing.{LosingEvent, nobody_gone}
 use Rattle.pg_machine.specs.Places.{is_pair, set_at}
 use Rattle.pg_machine.specs.Runs.{Leads}
 use Rattle.pg_machine.proofs.Steps.{happened}
@@ -13,34 +17,42 @@ use Rattle.pg_index.specs.declared.index_table.IndexTable.{IndexTable}
 use Rattle.pg_index.specs.contracts.index_table.IndexTableGroupTable.TheImpl.{ghosts}
 use Rattle.pg_joining.specs.Merge.{Merges, MergesRest, IsNext, rest_of, clocks_of, clocks_in, log_at, entry_at, merged, seen_log}
 use Rattle.pg_joining.proofs.Seen.{same_merge}
-use Rattle.pg_node.specs.Nodes.{links_of}
+use Rattle.pg_node.specs.Nodes.{held_by, links_of}
+use Rattle.pg_node.specs.States.{state_of}
 use Rattle.pg_ring.specs.Ends.{Sends, Receives}
 use Rattle.pg_run.specs.declared.log.NodeEvent.{NodeEvent}
 use Rattle.pg_run.specs.declared.log.NodeEvent.TheVariants as entries
 use Rattle.pg_ring.specs.Slots.{taken}
-use Rattle.pg_run.specs.Acts.{Act, Given, Took, Saw, Did, SawNone, entry_of, event_of as entry_event}
+use Rattle.pg_run.specs.declared.notices.Notice.{Notice}
+use Rattle.pg_run.specs.Acts.{Act, AllLead, Given, IsFromPeer, Took, Saw, Did, SawNone, Standing, entry_of, event_of as entry_event, loss_of, losses_of, seen_by, seen_in}
 use Rattle.pg_run.specs.Follows.{Follows, node_of as node_at, log_of}
-use Rattle.pg_run.specs.Notices.{IsUntold}
+use Rattle.pg_run.specs.Notices.{IsUntold, NoticesGo, kept_of}
 use Rattle.pg_run.specs.Runs.{linked_of, notices_at, notices_of}
 use Rattle.pg_run.proofs.GoingOn.{seen_none}
-use Rattle.pg_step.specs.Config.{Config}
-use Rattle.pg_step.specs.FrameMachine.{frame_machine}
-use Rattle.pg_step.specs.Step.{Issue, Retry}
+use Rattle.pg_step.specs.Config.{Config, names_of}
+use Rattle.pg_step.specs.FrameMachine.{frame_machine, last_notice, losing_frame_machine}
+use Rattle.pg_step.specs.LossLaws.{LosingFrameWorld}
+use Rattle.pg_step.specs.Step.{Action, Issue, Retry}
 use Rattle.pg_together.proofs.Turns.{first_none, others_none, saw_none, SeesNone}
-use Rattle.pg_together.specs.Apart.{End, Linked as LinkedBy, Crossed, RanApart, RanTogether, event_at, events_in, end_of}
+use Rattle.pg_together.specs.Apart.{End, HaveRun, Linked as LinkedBy, Crossed, RanApart, RanTogether, event_at, events_in, end_of}
+use Rattle.pg_together.specs.Losses.{RanLosing, RanPastLosses, SeesLost, clock_of, losing_events, nodes_in}
 use Rattle.pg_world.specs.declared.step.FrameStep.{FrameStep}
 use Rattle.pg_world.specs.declared.step.FrameStep.TheVariants as steps
 use Rattle.pg_world.specs.Crossings.{node_of}
 use Rattle.pg_world.specs.Views.{peer_place, place_of_peer}
 use Rattle.pg_world.specs.Worlds.{ShowsNode, event_of}
 use Rattle.pg_world.proofs.Ordered.{ordered_length}
+use Rattle.pg_world.proofs.Peering.{peers_differ}
 use Rattle.pg_world.proofs.Turning.{pair_is}
+use Rattle.pg_term.specs.Same.{same_atom}
 use Rattle.pg_cluster.specs.Ended.{row_at}
-use Rattle.pg_cluster.specs.Notices.{NobodyLost}
-use Rattle.pg_cluster.specs.Schedule.{IsSchedule, node_of_peer, step_as, steps_of}
-use Rattle.pg_cluster.specs.Threads.{NodeOf, RunOf, RanOf, Thread, AreMade, EndedWith, begun_by, node_in, row_in, log_in, rows_begun, rows_ended, notices_ended}
-use Rattle.pg_cluster.specs.Together.{AreOneRun}
-use Rattle.pg_cluster.proofs.Telling.{none_seen}
+use Rattle.pg_cluster.specs.Notices.{IsOfLost, NobodyLost}
+use Rattle.pg_cluster.specs.Schedule.{IsLosingSchedule, IsSchedule, is_lost_in, node_of_peer, step_as, steps_of}
+use Rattle.pg_cluster.specs.Threads.{NodeOf, RunOf, RanOf, Thread, AreMade, EndedWith, begun_by, lasts_ended, node_in, row_in, log_in, rows_begun, rows_ended, notices_ended}
+use Rattle.pg_cluster.specs.Together.{AreOneLosingRun, AreOneRun, losing_event}
+use Rattle.pg_cluster.proofs.Alike.{leads_alike}
+use Rattle.pg_cluster.proofs.Scheduled.{IsSmall, steps_alike}
+use Rattle.pg_cluster.proofs.Telling.{all_first, none_seen}
 
 abbrev pub Linked : Type 0
 Linked = LinkedBy IndexTable ghosts
@@ -148,8 +160,8 @@ schedule_is size n logs at clocks read (x ∷ order) few same plain merges all =
 all_at : {A : Type 0} (P : A → Type 0) (xs : List A) (i : ℕ) (d : A) → All P xs → i < length xs → P (get_or xs i d)
 all_at P xs i d all low = all i d low
 
-module _ {K : Type 0} (given : Config) (lost : List Bool) (threads : List (Thread K)) (nodes : List NodeOf) (logs : List (List (ℕ × NodeEvent))) (schedule : List FrameStep)
-    (nobody : NobodyLost lost) (made : AreMade given (map begun_by threads)) (ended : EndedWith lost threads nodes logs) (is : IsSchedule logs (length logs) schedule) (thread : Thread K) (ran : RanOf K) where
+module _ {K : Type 0} (given : Config) (lost : List Bool) (threads : List (Thread K)) (nodes : List NodeOf) (logs : List (List (ℕ × NodeEvent)))
+    (made : AreMade given (map begun_by threads)) (ended : EndedWith lost threads nodes logs) (thread : Thread K) (ran : RanOf K) where
   abbrev pub config : Config
   config = made.begins.0
 
@@ -221,14 +233,20 @@ module _ {K : Type 0} (given : Config) (lost : List Bool) (threads : List (Threa
       (all_at (λ (r : RunOf K). IsUntold (notices_of r)) (map begun_by threads) i (begun_by thread) made.untold (omega (arith, low, thread_count, count)))
 
   -- no notice came to it
-  untold : (i : ℕ) → i < length ended.rans → taken (notices_at (get_or ended.rans i ran).run) ≡ []
-  untold i low =
+  untold : NobodyLost lost → (i : ℕ) → i < length ended.rans → taken (notices_at (get_or ended.rans i ran).run) ≡ []
+  untold nobody i low =
       let count : length (notices_ended ended.rans) ≡ length ended.rans = length-map ended.rans (λ r. notices_at r.run) in
       sym (ap taken (get_or-map (λ (r : RanOf K). notices_at r.run) ended.rans i ran (notices_at ran.run) low))
       ∙ ended.untold nobody i (notices_at ran.run) (omega (arith, low, count))
 
-  -- what it did, without a sight of a loss
-  acts_and : (i : ℕ) → (acts : List Act) × (i < length config → Follows Sends Receives acts (begun i) (end i)) × (i < length config → SawNone acts)
+  -- the losses that some acts saw are, in their order, the next of those that were told
+  record Sees (i : ℕ) (acts : List Act) : Type 0 where
+    losses : List Notice
+    seen : seen_by acts ≡ losses
+    told : NoticesGo losses (notices_of (begun_by (get_or threads i thread))) (notices_of (get_or ended.rans i ran).run)
+
+  -- what it did
+  acts_and : (i : ℕ) → (acts : List Act) × (i < length config → Follows Sends Receives acts (begun i) (end i)) × (i < length config → Sees i acts)
   acts_and i = elim (leb_tells (length config) i) [
     | inl t ↦ ([], λ low. absurd (omega (arith, low, t.1)), λ low. absurd (omega (arith, low, t.1)))
     | inr f ↦
@@ -236,37 +254,46 @@ module _ {K : Type 0} (given : Config) (lost : List Bool) (threads : List (Threa
         let kept = ended.joined.1 i thread ran low in (
           kept.runs.serves.acts,
           λ within. kept.runs.serves.follows,
-          λ within.
-              seen_none kept.runs.serves.acts (kept.runs.serves.seen
-              ∙ none_seen kept.runs.losses (notices_of (begun_by (get_or threads i thread))) (notices_of (get_or ended.rans i ran).run) kept.runs.told (begun_untold i within) (untold i low)),
+          λ within. record { losses = kept.runs.losses; seen = kept.runs.serves.seen; told = kept.runs.told },
         )
   ]
 
-  log_plain : (i : ℕ) → i < length config → AllPlain (log_of (end i))
-  log_plain i low =
-      let d = acts_and i in
-      subst AllPlain (sym ((d.1 low).log ∙ ap (λ w. w ++ map entry_of d.0) (unlogged i low))) (acts_plain d.0 (d.2 low))
+  -- where nobody was lost it saw no loss
+  unseen : NobodyLost lost → (i : ℕ) → i < length config → SawNone (acts_and i).0
+  unseen nobody i within =
+      let sees = (acts_and i).2 within in
+      seen_none (acts_and i).0 (sees.seen
+      ∙ none_seen sees.losses (notices_of (begun_by (get_or threads i thread))) (notices_of (get_or ended.rans i ran).run) sees.told (begun_untold i within) (untold nobody i (omega (arith, within, ran_count))))
+
+  log_is_of : (i : ℕ) → i < length config → log_of (end i) ≡ map entry_of (acts_and i).0
+  log_is_of i low = ((acts_and i).1 low).log ∙ ap (λ w. w ++ map entry_of (acts_and i).0) (unlogged i low)
+
+  log_plain : NobodyLost lost → (i : ℕ) → i < length config → AllPlain (log_of (end i))
+  log_plain nobody i low = subst AllPlain (sym (log_is_of i low)) (acts_plain (acts_and i).0 (unseen nobody i low))
 
   crossed : (x y : ℕ) (none : End) → is_pair (length config) x y ≡ true → Crossed (end_of (begun x) x y none) (end_of (begun y) y x none) (end_of (end x) x y none) (end_of (end y) y x none)
   crossed x y none pair =
       let p = pair_is (length config) x y pair in
       rw (← begun_row x p.0, ← begun_row y p.1, ← ended_row x p.0, ← ended_row y p.1) (ended.crossed x y none (subst (λ n. is_pair n x y ≡ true) (sym thread_count) pair))
 
-  apart : RanApart config (map node_in (map begun_by threads)) begun end
-  apart = record {
+  have_run : HaveRun config (map node_in (map begun_by threads)) begun end
+  have_run = record {
     starts = made.begins.2;
     held = held;
     unlogged = unlogged;
     linked = linked;
     acts = λ i. (acts_and i).0;
     follows = λ i. (acts_and i).1;
-    unseen = λ i. (acts_and i).2;
     crossed = crossed;
   }
 
-  merges : Merges (length config) (λ i. clocks_of (log_of (end i))) is.order
-  merges = merges_alike (length config) (clocks_in logs) (λ i. clocks_of (log_of (end i))) is.order (λ i. 0) (λ i low. ap clocks_of (log_is i low))
-      (subst (λ n. Merges n (clocks_in logs) is.order) log_count is.merges)
+  apart : NobodyLost lost → RanApart config (map node_in (map begun_by threads)) begun end
+  unfolding have_run acts_and
+  apart nobody = record { ran = have_run; unseen = unseen nobody }
+
+  merges : (order : List (ℕ × ℕ)) → Merges (length logs) (clocks_in logs) order → Merges (length config) (λ i. clocks_of (log_of (end i))) order
+  merges order are = merges_alike (length config) (clocks_in logs) (λ i. clocks_of (log_of (end i))) order (λ i. 0) (λ i low. ap clocks_of (log_is i low))
+      (subst (λ n. Merges n (clocks_in logs) order) log_count are)
 
   within : (i : ℕ) (node : NodeOf) → slice_get nodes i ≡ Some node → i < length config
   within i node at = let l = slice_get_within nodes i node at in omega (arith, l, node_count)
@@ -280,13 +307,13 @@ module _ {K : Type 0} (given : Config) (lost : List Bool) (threads : List (Threa
   few : length config ≤ 16
   few = let f = made.few in omega (arith, f, size)
 
-  pub one_run_by : RanTogether config end (events_in end is.order) → AreOneRun given nodes logs schedule
-  one_run_by together = record {
+  pub one_run_by : NobodyLost lost → (schedule : List FrameStep) (is : IsSchedule logs (length logs) schedule) → RanTogether config end (events_in end is.order) → AreOneRun given nodes logs schedule
+  one_run_by nobody schedule is together = record {
     config = config;
     orders = made.begins.1;
     apart = made.begins.2.traffic.nodes.apart;
     events = events_in end is.order;
-    are = ap (map event_of) is.is ∙ schedule_is (length config) (length config) logs (λ i. log_of (end i)) (λ i. clocks_of (log_of (end i))) (λ i. 0) is.order few log_is log_plain merges
+    are = ap (map event_of) is.is ∙ schedule_is (length config) (length config) logs (λ i. log_of (end i)) (λ i. clocks_of (log_of (end i))) (λ i. 0) is.order few log_is (log_plain nobody) (merges is.order is.merges)
         (all_there (frame_machine config) (start_of (frame_machine config)) together.w (events_in end is.order) together.leads);
     w = together.w;
     leads = together.leads;
@@ -296,6 +323,109 @@ module _ {K : Type 0} (given : Config) (lost : List Bool) (threads : List (Threa
     history = together.history;
     sound = λ i j node at pair. ap (λ (x : NodeOf). (links_of x (peer_place i j)).damaged) (is_node i node at) ∙ together.sound i j pair;
   }
+
+  -- ---- where nodes were lost
+
+  -- the notices that came at a node are of those that were lost, and so are the losses that it saw
+  abbrev Of : ℕ → Notice → Type 0
+  Of x = IsOfLost (length lost) (λ node. get_or lost node false) (λ node. get_or (lasts_ended ended.rans) node 0) x
+
+  mark_count : length lost ≡ length config
+  mark_count = ended.marked ∙ thread_count
+
+  seen_of_lost : (x : ℕ) → x < length config → AllByRecursion (Of x) (seen_by (acts_and x).0)
+  seen_of_lost x low =
+      let sees = (acts_and x).2 low in
+      let first = begun_untold x low in
+      let count : length (notices_ended ended.rans) ≡ length ended.rans = length-map ended.rans (λ r. notices_at r.run) in
+      let here : get_or (notices_ended ended.rans) x (notices_at ran.run) ≡ notices_at (get_or ended.rans x ran).run =
+      get_or-map (λ (r : RanOf K). notices_at r.run) ended.rans x ran (notices_at ran.run) (omega (arith, low, ran_count)) in
+      let came : taken (get_or (notices_ended ended.rans) x (notices_at ran.run)) ≡ sees.losses ++ kept_of (notices_of (get_or ended.rans x ran).run) =
+      ap taken here ∙ sees.told.came [] (first.came ∙ sym first.kept) in
+      subst (AllByRecursion (Of x)) (sym sees.seen)
+      (all_first (Of x) sees.losses (kept_of (notices_of (get_or ended.rans x ran).run)) (subst (AllByRecursion (Of x)) came (ended.told x (notices_at ran.run) (omega (arith, low, mark_count)))))
+
+  sees_lost : SeesLost config (map node_in (map begun_by threads)) begun end have_run (is_lost_in lost)
+  unfolding have_run acts_and
+  sees_lost x y pair =
+      let p = pair_is (length config) x y pair in
+      losses_so (acts_and x).0 (seen_of_lost x p.0)
+    where
+      one : (p last : ℕ) → p ≡ peer_place x y → Of x (record { peer = p; last = last }) → (is_lost_in lost y ≡ true) × (last ≡ clock_of (end y))
+      one p last here of = go (cases_eq of.node y)
+        where
+          q : (x < length config) × (y < length config) × (y ≢ x)
+          q = pair_is (length config) x y pair
+
+          go : (of.node ≡ y) ⊎ (of.node ≢ y) → (is_lost_in lost y ≡ true) × (last ≡ clock_of (end y))
+          go (inl e) = (
+            ap (is_lost_in lost) (sym e) ∙ of.gone,
+            of.clock ∙ (ap (λ i. get_or (lasts_ended ended.rans) i 0) e
+                ∙ get_or-map (λ (r : RanOf K). (state_of (held_by (node_in r.run))).clock) ended.rans y ran 0 (let l = q.1 in omega (arith, l, ran_count))),
+          )
+          go (inr n) = absurd (peers_differ x of.node y of.other q.2 n (sym of.peer ∙ here))
+
+      losses_so : (acts : List Act) → AllByRecursion (Of x) (seen_by acts) → AllByRecursion (λ last. (is_lost_in lost y ≡ true) × (last ≡ clock_of (end y))) (losses_of (peer_place x y) acts)
+      losses_so [] all = tt
+      losses_so (act ∷ acts) all = by act.input all (losses_so acts)
+        where
+          by : (input : Given) → AllByRecursion (Of x) (seen_in input ++ seen_by acts)
+              → (AllByRecursion (Of x) (seen_by acts) → AllByRecursion (λ last. (is_lost_in lost y ≡ true) × (last ≡ clock_of (end y))) (losses_of (peer_place x y) acts))
+              → AllByRecursion (λ last. (is_lost_in lost y ≡ true) × (last ≡ clock_of (end y))) (loss_of (peer_place x y) input ++ losses_of (peer_place x y) acts)
+          by (Took p z) all rest = rest all
+          by (Did action) all rest = rest all
+          by (Saw p last) all rest = at (cases_eq p (peer_place x y))
+            where
+              at : (p ≡ peer_place x y) ⊎ (p ≢ peer_place x y) → AllByRecursion (λ last. (is_lost_in lost y ≡ true) × (last ≡ clock_of (end y))) (cond (nat_eq p (peer_place x y)) (last ∷ []) [] ++ losses_of (peer_place x y) acts)
+              at (inl e) =
+                  subst (λ b. AllByRecursion (λ last. (is_lost_in lost y ≡ true) × (last ≡ clock_of (end y))) (cond b (last ∷ []) [] ++ losses_of (peer_place x y) acts)) (sym (eq-eqb p (peer_place x y) e))
+                  (one p last e all.0, rest all.1)
+              at (inr n) =
+                  subst (λ b. AllByRecursion (λ last. (is_lost_in lost y ≡ true) × (last ≡ clock_of (end y))) (cond b (last ∷ []) [] ++ losses_of (peer_place x y) acts)) (sym (ne_eqb p (peer_place x y) n))
+                  (rest all.1)
+
+  pub ran_losing : RanLosing config (map node_in (map begun_by threads)) begun end (is_lost_in lost)
+  ran_losing = record { ran = have_run; seen = sees_lost }
+
+  -- the peers that its log names are few
+  acts_small : (names : List (List ℕ)) (ports : ℕ) (a : Standing) (acts : List Act) (b : Standing) → length names ≤ 17 → AllLead names ports a acts b → AllByRecursion (λ entry. IsSmall entry.1) (map entry_of acts)
+  acts_small names ports a [] b low lead = tt
+  acts_small names ports a (act ∷ acts) b low (m, lead, later) = (one act.input lead.there, acts_small names ports m acts b low later)
+    where
+      one : (input : Given) → IsFromPeer names input → IsSmall (entry_event input)
+      one (Took p x) there = let t : p + 1 < length names = there in omega (arith, t, low)
+      one (Saw p last) there = let t : p + 1 < length names = there in omega (arith, t, low)
+      one (Did (Issue port command)) there = tt
+      one (Did (Retry op)) there = tt
+
+  log_small : (i : ℕ) → i < length config → AllByRecursion (λ entry. IsSmall entry.1) (log_of (end i))
+  log_small i low =
+      let h = (acts_and i).1 low in
+      let n = linked i low in
+      let own = (end i).linked in
+      let same = h.moved.len in
+      let names = ap length h.names in
+      subst (AllByRecursion (λ entry. IsSmall entry.1)) (sym (log_is_of i low))
+      (acts_small _ _ _ (acts_and i).0 _ (omega (arith, n, own, same, names, few)) h.lead)
+
+  pub losing_run_by : (schedule : List FrameStep) (is : IsLosingSchedule logs lost schedule)
+      → ((u : LosingFrameWorld) (events : List (LosingEvent Action)) → LosingReaches config events u → LossesSurvived config events u)
+      → RanPastLosses config (is_lost_in lost) end (losing_events (length config) (λ i. log_of (end i)) (is_lost_in lost) is.order) → AreOneLosingRun given lost nodes schedule
+  losing_run_by schedule is survive past =
+      let alike = steps_alike (length config) logs (λ i. log_of (end i)) lost log_count log_is log_small (λ i. clocks_of (log_of (end i))) is.order schedule (merges is.order is.merges) is.is in
+      let reached : LosingReaches config (map losing_event schedule) past.u =
+      leads_alike (losing_frame_machine config) last_notice (nobody_gone (start_of (losing_frame_machine config))) (losing_events (length config) (λ i. log_of (end i)) (is_lost_in lost) is.order)
+      (map losing_event schedule) past.u alike past.reached in record {
+        config = config;
+        orders = made.begins.1;
+        apart = made.begins.2.traffic.nodes.apart;
+        u = past.u;
+        reached = reached;
+        gone = past.gone;
+        size = node_count;
+        shown = λ i node at. subst (λ (x : NodeOf). ShowsNode config (nodes_in past.u) i (node_of x)) (sym (is_node i node at)) (past.nodes i (within i node at));
+        survived = survive past.u (map losing_event schedule) reached;
+      }
 
 -- There is a first thread, and it has run.
 first_of : {K : Type 0} (threads : List (Thread K)) (rans : List (RanOf K)) → 0 < length threads → length rans ≡ length threads → Thread K × RanOf K
@@ -313,6 +443,22 @@ one_run law given lost threads nodes logs schedule nobody made ended is =
     let s = made.some in
     let m = made.count in
     let first = first_of threads ended.rans (omega (arith, s, m, count)) ended.joined.0 in
-    one_run_by given lost threads nodes logs schedule nobody made ended is first.0 first.1
-    (law (config given lost threads nodes logs schedule nobody made ended is first.0 first.1) _ _ _ is.order
-    (apart given lost threads nodes logs schedule nobody made ended is first.0 first.1) (merges given lost threads nodes logs schedule nobody made ended is first.0 first.1))
+    one_run_by given lost threads nodes logs made ended first.0 first.1 nobody schedule is
+    (law (config given lost threads nodes logs made ended first.0 first.1) _ _ _ is.order
+    (apart given lost threads nodes logs made ended first.0 first.1 nobody) (merges given lost threads nodes logs made ended first.0 first.1 is.order is.merges))
+
+pub losing_run : {K : Type 0}
+    → ((config : Config) (begun_nodes : List NodeOf) (begun ended : ℕ → Linked) (lost : ℕ → Bool) (order : List (ℕ × ℕ)) → RanLosing config begun_nodes begun ended lost
+    → Merges (length config) (λ i. clocks_of (log_of (ended i))) order → RanPastLosses config lost ended (losing_events (length config) (λ i. log_of (ended i)) lost order))
+    → ((config : Config) (u : LosingFrameWorld) (events : List (LosingEvent Action)) → IsDistinct same_atom (names_of config) → LosingReaches config events u → LossesSurvived config events u)
+    → (given : Config) (lost : List Bool) (threads : List (Thread K)) (nodes : List NodeOf) (logs : List (List (ℕ × NodeEvent))) (schedule : List FrameStep)
+    → AreMade given (map begun_by threads) → EndedWith lost threads nodes logs → IsLosingSchedule logs lost schedule → AreOneLosingRun given lost nodes schedule
+losing_run law survive given lost threads nodes logs schedule made ended is =
+    let count = length-map threads begun_by in
+    let s = made.some in
+    let m = made.count in
+    let first = first_of threads ended.rans (omega (arith, s, m, count)) ended.joined.0 in
+    losing_run_by given lost threads nodes logs made ended first.0 first.1 schedule is
+    (λ u events. survive (config given lost threads nodes logs made ended first.0 first.1) u events made.begins.2.traffic.nodes.apart)
+    (law (config given lost threads nodes logs made ended first.0 first.1) _ _ _ (is_lost_in lost) is.order
+    (ran_losing given lost threads nodes logs made ended first.0 first.1) (merges given lost threads nodes logs made ended first.0 first.1 is.order is.merges))

@@ -1,5 +1,5 @@
 -- A schedule that leads from the start does so again, unless memory runs out.
-use Rattle.std.proofs.Common.{◌≡◌, ◌≢◌, ◌↔◌, ◌+◌, max, inl, inr, ℕ, nat_le, nat_eq, Bool, true, false, ◌||◌, cond, get_or, List, [], ◌∷◌, length, map, Some, None, Result, Ok, Err, refl, sym, ap, subst, ◌∙◌, arith}
+use Rattle.std.proofs.Common.{◌≡◌, ◌≢◌, ◌↔◌, ◌+◌, max, inl, inr, ℕ, nat_le, nat_eq, Bool, true, false, ◌&&◌, ◌||◌, cond, get_or, List, [], ◌∷◌, length, map, Some, None, Result, Ok, Err, refl, sym, ap, subst, ◌∙◌, arith}
 use Rattle.std.specs.Prelude.{IfOk, IsTrue, slice_get}
 use Rattle.std.proofs.lemmas.Option.{slice_get-get_or, slice_get_within}
 use Rattle.pg_group.specs.declared.table.GroupTable.{Ghosts}
@@ -27,7 +27,7 @@ use Rattle.pg_world.specs.Openings.{CantBegin}
 use Rattle.pg_world.specs.Runs.{IsTold, IsPassed, LosesNone, Ran, RunsTo, over_packets, number_told}
 use Rattle.pg_world.specs.Views.{Seen, View}
 use Rattle.pg_world.specs.Worlds.{TimedFrameWorld, Shows, ShowsNode, ShowsNodes, event_of, told, told_of_first}
-use Rattle.pg_cluster.specs.Judges.{AreShown, Replays, ran_out}
+use Rattle.pg_cluster.specs.Judges.{AreShown, Replays, all_made, ran_out}
 use Rattle.pg_cluster.specs.Threads.{NodeOf}
 use Rattle.pg_cluster.specs.Together.{AreOneRun}
 use Rattle.pg_cluster.proofs.NoneLost.{none_lost}
@@ -107,6 +107,27 @@ led_again config (step ∷ schedule) (number ∷ numbers) (e ∷ events) others 
 led_again config (step ∷ schedule) (number ∷ numbers) (e ∷ events) others w u v are (x, happened, leads) (inr (passed, runs)) none =
     absurd (none_first number (ran_out numbers) none (passed_ten config w x step e number (let first : event_of step ≡ Some e = cc in first) happened passed))
 
+-- and each number is that of a step that was made
+pub all_numbers : (config : Config) (schedule : List FrameStep) (numbers : List ℕ) (events others : List (Event Action)) (w u v : TimedFrameWorld)
+    → map event_of schedule ≡ map Some events → Leads (frame_machine config) w events u → RunsTo over_packets config w schedule numbers others v
+    → ran_out numbers ≡ false → all_made numbers ≡ true
+all_numbers config [] [] [] others w u v are leads runs none = refl
+all_numbers config [] [] (e ∷ events) others w u v are leads runs none = absurd cc
+all_numbers config [] (number ∷ numbers) events others w u v are leads runs none = absurd runs
+all_numbers config (step ∷ schedule) [] events others w u v are leads runs none = absurd runs
+all_numbers config (step ∷ schedule) (number ∷ numbers) [] others w u v are leads runs none = absurd cc
+all_numbers config (step ∷ schedule) (number ∷ numbers) (e ∷ events) others w u v are (x, happened, leads) (inl goes) none =
+    let first : event_of step ≡ Some e = cc in
+    let rest : map event_of schedule ≡ map Some events = cc in
+    let same : goes.e ≡ e = some_is (sym goes.is ∙ first) in
+    let left : goes.left ≡ x = some_is (sym goes.happened ∙ (ap (happens (frame_machine config) w) same ∙ happened)) in
+    let later : all_made numbers ≡ true = all_numbers config schedule numbers events goes.rest.later x u v rest leads
+    (subst (λ (y : TimedFrameWorld). RunsTo over_packets config y schedule numbers goes.rest.later v) left goes.rest.rest)
+    (none_later (nat_eq number 10) (ran_out numbers) none) in
+    ap (λ n. nat_eq n 0 && all_made numbers) goes.listed ∙ later
+all_numbers config (step ∷ schedule) (number ∷ numbers) (e ∷ events) others w u v are (x, happened, leads) (inr (passed, runs)) none =
+    absurd (none_first number (ran_out numbers) none (passed_ten config w x step e number (let first : event_of step ≡ Some e = cc in first) happened passed))
+
 -- ---- the nodes
 
 module _ {T : Type 0} {g : Ghosts T} (config : Config) (seen : List Seen) (nodes : List (Node T g)) (w : TimedFrameWorld) (shows : ShowsNodes config seen w) (size : length nodes ≡ length config)
@@ -132,13 +153,23 @@ module _ (given : Config) (nodes : List NodeOf) (logs : List (List (ℕ × NodeE
           let world : ran.w ≡ run.w = led_again run.config schedule numbers run.events events (start_of (frame_machine run.config)) run.w ran.w run.are run.leads here none in
           subst (ShowsNodes run.config view.traffic.nodes) world (subst (λ (config : Config). ShowsNodes config view.traffic.nodes ran.w) same shows)
 
+  pub run_numbers : (view : View) (numbers : List ℕ) → Ran over_packets given schedule numbers (λ config. Shows config view) → ran_out numbers ≡ false → all_made numbers ≡ true
+  run_numbers view numbers ran none = by (ordered_once given ran.config run.config ran.orders run.orders) ran.events ran.runs
+    where
+      by : ran.config ≡ run.config → (events : List (Event Action)) → RunsTo over_packets ran.config (start_of (frame_machine ran.config)) schedule numbers events ran.w → all_made numbers ≡ true
+      by same events runs =
+          let here = subst (λ (config : Config). RunsTo over_packets config (start_of (frame_machine config)) schedule numbers events ran.w) same runs in
+          all_numbers run.config schedule numbers run.events events (start_of (frame_machine run.config)) run.w ran.w run.are run.leads here none
+
 -- so a look at a run of it never tells no
 pub never_no : {E : Type 0} (ring : ℕ) (given : Config) (nodes : List NodeOf) (logs : List (List (ℕ × NodeEvent))) (schedule : List FrameStep) (view : View) (numbers : List ℕ) (result : Result Bool E)
     → (LosesNone schedule → Ran over_packets given schedule numbers (λ config. Shows config view))
-    → IfOk result (λ yes. IsTrue yes ↔ AreShown view.traffic.nodes nodes) → IfOk result (λ yes. ran_out numbers ≡ false)
+    → IfOk result (λ yes. IsTrue yes ↔ ((all_made numbers ≡ true) × AreShown view.traffic.nodes nodes)) → IfOk result (λ yes. ran_out numbers ≡ false)
     → IfOk result (λ yes. CanBegin ring given → AreOneRun given nodes logs schedule → yes ≡ true)
 never_no ring given nodes logs schedule view numbers (Ok answer) ran shown none =
-    λ can run. shown.1 (run_seen given nodes logs schedule run view numbers (ran (none_lost schedule run.events run.are)) none)
+    λ can run.
+    let led = ran (none_lost schedule run.events run.are) in
+    shown.1 (run_numbers given nodes logs schedule run view numbers led none, run_seen given nodes logs schedule run view numbers led none)
 never_no ring given nodes logs schedule view numbers (Err e) ran shown none = tt
 
 -- no is told where no world could begin, which is so of no configuration of which one can

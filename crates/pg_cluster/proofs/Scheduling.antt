@@ -1,47 +1,90 @@
--- The steps of a schedule that are no losses.
-use Rattle.std.proofs.Common.{◌≡◌, ◌∙◌, ◌++◌, ℕ, List, [], ◌∷◌, cond, map, append-nil, refl, ap}
-use Rattle.std.specs.Prelude.{true, false, not, Result, Ok, Err, IfOk}
-use Rattle.std.proofs.lemmas.List.Elements.{filter-append}
+-- A schedule in which nobody is lost.
+use Rattle.std.proofs.Common.{◌≡◌, ◌≤◌, ◌<◌, ◌⊎◌, ◌∙◌, ◌&&◌, ◌++◌, ◌+◌, ℕ, Bool, true, false, List, [], ◌∷◌, cond, get_or, length, map, nat_eq, append-nil, refl, sym, ap, subst, inl, inr, arith, suc, zero}
+use Rattle.std.specs.Prelude.{Result, Ok, Err, IfOk}
+use Rattle.std.proofs.lemmas.Bool.{cases_lt}
+use Rattle.std.proofs.lemmas.List.{length-map, map-append}
 use Rattle.pg_joining.specs.Merge.{Merges, clocks_in, entry_at, log_at}
 use Rattle.pg_run.specs.declared.log.NodeEvent.{NodeEvent}
-use Rattle.pg_run.specs.declared.log.NodeEvent.TheVariants as events
 use Rattle.pg_world.specs.declared.step.FrameStep.{FrameStep}
-use Rattle.pg_cluster.specs.Schedule.{IsSchedule, but_losses, is_loss, step_as, steps_of}
+use Rattle.pg_world.specs.declared.step.FrameStep.TheVariants as steps
+use Rattle.pg_cluster.specs.declared.closed.Closed.{Closed}
+use Rattle.pg_cluster.specs.declared.closed.Stopped.{Stopped}
+use Rattle.pg_cluster.specs.Notices.{NobodyLost}
+use Rattle.pg_cluster.specs.Schedule.{IsLosingSchedule, IsSchedule, SeenStep, Turned, is_lost_in, losing_steps, loss_seen, losses_first, seen_step, step_as, steps_behind, steps_of}
 
-no_loss : (node : ℕ) (event : NodeEvent) → is_loss (step_as node event) ≡ false
-no_loss node (events.Take peer) = refl
-no_loss node (events.Command port command) = refl
-no_loss node (events.Retry op) = refl
-no_loss node (events.SeeLoss peer) = refl
+turned_is : (a b : FrameStep) → Turned a ≡ Turned b → a ≡ b
+turned_is a b e = cc
 
--- the events of a node are no losses
-pub events_stay : (node : ℕ) (entries : List NodeEvent) → but_losses (map (step_as node) entries) ≡ map (step_as node) entries
-events_stay node [] = refl
-events_stay node (event ∷ entries) =
-    ap (λ b. cond (not b) (step_as node event ∷ but_losses (map (step_as node) entries)) (but_losses (map (step_as node) entries))) (no_loss node event)
-    ∙ ap (λ steps. step_as node event ∷ steps) (events_stay node entries)
+turned_only : (step other : FrameStep) → seen_step step ≡ Turned other → step ≡ other
+turned_only (steps.Take node peer) other e = turned_is (steps.Take node peer) other e
+turned_only (steps.Command node port command) other e = turned_is (steps.Command node port command) other e
+turned_only (steps.Retry node op) other e = turned_is (steps.Retry node op) other e
+turned_only (steps.SeeLoss node peer) other e = turned_is (steps.SeeLoss node peer) other e
+turned_only (steps.Lose node keep) other e = absurd (cc)
 
-pub one_more_event : (node : ℕ) (entries : List NodeEvent) (before after : List FrameStep) → after ≡ before ++ map (step_as node) entries
-    → but_losses after ≡ but_losses before ++ map (step_as node) entries
-one_more_event node entries before after is =
-    ap but_losses is ∙ (filter-append (λ step. not (is_loss step)) before (map (step_as node) entries) ∙ ap (λ w. but_losses before ++ w) (events_stay node entries))
+heads : (a b : SeenStep) (as_ bs : List SeenStep) → a ∷ as_ ≡ b ∷ bs → (a ≡ b) × (as_ ≡ bs)
+heads a b as_ bs e = (cc, cc)
 
-pub one_more_loss : (before after : List FrameStep) (loss : FrameStep) → is_loss loss ≡ true → after ≡ before ++ loss ∷ [] → but_losses after ≡ but_losses before
-one_more_loss before after loss lost is =
-    ap but_losses is ∙ (filter-append (λ step. not (is_loss step)) before (loss ∷ []) ∙ (ap (λ b. but_losses before ++ cond (not b) (loss ∷ []) []) lost ∙ append-nil (but_losses before)))
+steps_only : (schedule others : List FrameStep) → map seen_step schedule ≡ map Turned others → schedule ≡ others
+steps_only [] [] e = refl
+steps_only [] (other ∷ others) e = absurd (cc)
+steps_only (step ∷ schedule) [] e = absurd (cc)
+steps_only (step ∷ schedule) (other ∷ others) e =
+    let h = heads (seen_step step) (Turned other) (map seen_step schedule) (map Turned others) e in
+    (λ j. turned_only step other h.0 j ∷ steps_only schedule others h.1 j)
 
-pub all_events : (logs : List (List (ℕ × NodeEvent))) (order : List (ℕ × ℕ)) → but_losses (steps_of logs order) ≡ steps_of logs order
-all_events logs [] = refl
-all_events logs (x ∷ order) =
-    filter-append (λ step. not (is_loss step)) (map (step_as x.0) (entry_at (log_at logs x.0) x.1)) (steps_of logs order)
-    ∙ (ap (λ w. w ++ but_losses (steps_of logs order)) (events_stay x.0 (entry_at (log_at logs x.0) x.1))
-    ∙ ap (λ w. map (step_as x.0) (entry_at (log_at logs x.0) x.1) ++ w) (all_events logs order))
+-- ---- where nobody is lost
 
--- of a schedule without losses
-pub events_of : (logs : List (List (ℕ × NodeEvent))) (size : ℕ) (schedule : List FrameStep) → IsSchedule logs size schedule → IsSchedule logs size (but_losses schedule)
-events_of logs size schedule is = record { order = is.order; merges = is.merges; is = ap but_losses is.is ∙ all_events logs is.order }
+past : (xs : List Bool) (i : ℕ) → length xs ≤ i → get_or xs i false ≡ false
+past [] i low = refl
+past (x ∷ xs) zero low = absurd (omega (arith, low))
+past (x ∷ xs) (suc i) low = past xs i (omega (arith, low))
 
-pub events_in : {S E : Type 0} (items : S → List FrameStep) (logs : List (List (ℕ × NodeEvent))) (size : ℕ) (order : List (ℕ × ℕ)) (made : Result S E) → Merges size (clocks_in logs) order
-    → IfOk made (λ schedule. items schedule ≡ steps_of logs order) → IfOk made (λ schedule. IsSchedule logs size (but_losses (items schedule)))
-events_in items logs size order (Ok schedule) merges is = events_of logs size (items schedule) (record { order = order; merges = merges; is = is })
-events_in items logs size order (Err fault) merges is = tt
+nobody_at : (lost : List Bool) → NobodyLost lost → (i : ℕ) → is_lost_in lost i ≡ false
+nobody_at lost nobody i = go (cases_lt i (length lost))
+  where
+    go : (i < length lost) ⊎ (length lost ≤ i) → is_lost_in lost i ≡ false
+    go (inl low) = nobody i false low
+    go (inr high) = past lost i high
+
+module _ (logs : List (List (ℕ × NodeEvent))) (lost : List Bool) (none : (i : ℕ) → is_lost_in lost i ≡ false) where
+  none_first : (order : List (ℕ × ℕ)) (n : ℕ) → losses_first logs lost order n ≡ []
+  none_first order zero = refl
+  none_first order (suc n) =
+      ap (λ b. losses_first logs lost order n ++ cond (b && nat_eq (length (log_at logs n)) 0) (loss_seen logs n order ∷ []) []) (none n)
+      ∙ (append-nil (losses_first logs lost order n) ∙ none_first order n)
+
+  turned_all : (node : ℕ) (es : List NodeEvent) → map (λ event. Turned (step_as node event)) es ≡ map Turned (map (step_as node) es)
+  turned_all node [] = refl
+  turned_all node (e ∷ es) = ap (λ w. Turned (step_as node e) ∷ w) (turned_all node es)
+
+  none_behind : (order : List (ℕ × ℕ)) → steps_behind logs lost order ≡ map Turned (steps_of logs order)
+  none_behind [] = refl
+  none_behind (x ∷ order) =
+      let es = entry_at (log_at logs x.0) x.1 in
+      ap (λ b. (map (λ event. Turned (step_as x.0 event)) es ++ cond (b && nat_eq (x.1 + 1) (length (log_at logs x.0))) (loss_seen logs x.0 order ∷ []) []) ++ steps_behind logs lost order) (none x.0)
+      ∙ (ap (λ w. w ++ steps_behind logs lost order) (append-nil (map (λ event. Turned (step_as x.0 event)) es))
+      ∙ ((λ j. turned_all x.0 es j ++ none_behind order j) ∙ sym (map-append Turned (map (step_as x.0) es) (steps_of logs order))))
+
+  none_lost : (order : List (ℕ × ℕ)) → losing_steps logs lost order ≡ map Turned (steps_of logs order)
+  none_lost order = (λ j. none_first order (length logs) j ++ none_behind order j)
+
+-- it is that of the logs alone
+pub all_events : (logs : List (List (ℕ × NodeEvent))) (lost : List Bool) (schedule : List FrameStep) → IsLosingSchedule logs lost schedule → NobodyLost lost → IsSchedule logs (length logs) schedule
+all_events logs lost schedule is nobody = record {
+  order = is.order;
+  merges = is.merges;
+  is = steps_only schedule (steps_of logs is.order) (is.is ∙ none_lost logs lost (nobody_at lost nobody) is.order);
+}
+
+pub events_alone : (lost : List Bool) (result : Result Closed Stopped) → IfOk result (λ closed. IsLosingSchedule (map (λ v. v.items) closed.logs.items) lost closed.schedule.items)
+    → IfOk result (λ closed. NobodyLost lost → IsSchedule (map (λ v. v.items) closed.logs.items) (length closed.logs.items) closed.schedule.items)
+events_alone lost (Ok closed) is = λ nobody.
+    let count : length (map (λ v. v.items) closed.logs.items) ≡ length closed.logs.items = length-map closed.logs.items (λ v. v.items) in
+    subst (λ n. IsSchedule (map (λ v. v.items) closed.logs.items) n closed.schedule.items) count (all_events (map (λ v. v.items) closed.logs.items) lost closed.schedule.items is nobody)
+events_alone lost (Err other) is = tt
+
+pub in_order : {S E : Type 0} (items : S → List FrameStep) (logs : List (List (ℕ × NodeEvent))) (lost : List Bool) (order : List (ℕ × ℕ)) (made : Result S E) → Merges (length logs) (clocks_in logs) order
+    → IfOk made (λ schedule. map seen_step (items schedule) ≡ losing_steps logs lost order) → IfOk made (λ schedule. IsLosingSchedule logs lost (items schedule))
+in_order items logs lost order (Ok schedule) merges is = record { order = order; merges = merges; is = is }
+in_order items logs lost order (Err fault) merges is = tt

@@ -1,7 +1,7 @@
 -- Lemmas on a list of threads that grows as the list of their nodes shrinks.
 use Rattle.std.proofs.Common.{◌≡◌, ◌<◌, ◌+◌, ℕ, List, [], ◌∷◌, ◌++◌, length, map, drop, get_or, sym, ◌∙◌, ap, arith, inl, inr, length-append, length-drop, suc, add-one, add-zero, subst}
 use Rattle.std.specs.List.{All}
-use Rattle.std.specs.Prelude.{false}
+use Rattle.std.specs.Prelude.{true, false}
 use Rattle.std.proofs.lemmas.List.{get_or-drop, get_or-map, get_or_push, length-map, nil_from_length}
 use lib.Seq.{ext_get_or}
 use mathlib.Core.List.{append-nil, append_assoc, map-map}
@@ -17,7 +17,7 @@ use Rattle.pg_step.specs.Config.{Config}
 use Rattle.pg_cluster.specs.Clients.{AllPairs, IsOpen, ports_begun}
 use Rattle.pg_cluster.specs.Ended.{AreWired}
 use Rattle.pg_cluster.specs.declared.member.Member.{Member}
-use Rattle.pg_cluster.specs.Members.{is_lost, losses_in, thread_of, threads_in}
+use Rattle.pg_cluster.specs.Members.{clock_of, is_lost, last_of, losses_in, thread_of, threads_in}
 use Rattle.pg_cluster.specs.Notices.{NobodyLost}
 use Rattle.pg_cluster.specs.Promises.{RanAs}
 use Rattle.pg_cluster.specs.Threads.{AreMade, RunOf, RanOf, Thread, StartedWith, Joined, begun_by, limit_of as turns_of, row_in, rows_begun, notices_begun, ports_of_runs}
@@ -107,6 +107,13 @@ module _ {K : Type 0} where
 
   abbrev pub GiveBack : List (Member K) → List (RanOf K) → Type 0
   GiveBack members rans = (i : ℕ) (m : Member K) (ran : RanOf K) → i < length rans → GivesBack (get_or members i m) (get_or rans i ran)
+
+  -- the clock of one that was lost is that at which it stopped
+  abbrev pub KeepsClock : Member K → RanOf K → Type 0
+  KeepsClock member ran = is_lost member ≡ true → clock_of ran ≡ last_of member
+
+  abbrev pub ClocksKept : List (Member K) → List (RanOf K) → Type 0
+  ClocksKept members rans = (i : ℕ) (m : Member K) (d : RanOf K) → i < length rans → KeepsClock (get_or members i m) (get_or rans i d)
 
   -- each gave back what its thread promised
   pub joined_members : (members : List (Member K)) (rans : List (RanOf K)) → length rans ≡ length members → GiveBack members rans → Joined (threads_in members) rans

@@ -1,21 +1,23 @@
 -- How the nodes of a cluster are told of losses.
-use Rattle.std.proofs.Common.{◌≡◌, ◌<◌, ◌+◌, ℕ, List, [], ◌∷◌, ◌++◌, length, get_or, set, refl, sym, ◌∙◌, ap, subst, arith, inl, inr}
+use Rattle.std.proofs.Common.{◌≡◌, ◌≢◌, ◌⊎◌, ◌<◌, ◌≤◌, ◌+◌, ℕ, cond, List, [], ◌∷◌, ◌++◌, length, get_or, set, refl, sym, ◌∙◌, ap, subst, arith, inl, inr}
 use Rattle.std.specs.Prelude.{Bool, true, false}
-use Rattle.std.specs.List.{All}
+use Rattle.std.specs.List.{All, AllByRecursion}
+use Rattle.std.proofs.lemmas.Bool.{cases_eq, cases_lt, eq-eqb, ne_eqb}
 use Rattle.std.proofs.lemmas.Bool.Decides.{eqb_tells}
-use Rattle.std.proofs.lemmas.List.{get_or-set_same, get_or_default, length-set}
+use Rattle.std.proofs.lemmas.List.{get_or-set_same, get_or-set_other, get_or_default, length-set}
 use Rattle.pg_ring.specs.declared.slot_in.SlotIn.{SlotIn}
 use Rattle.pg_ring.specs.declared.slot_out.SlotOut.{SlotOut}
 use Rattle.pg_ring.specs.Slots.{AreSlots, SameSlotIn, SameSlotOut, given, taken}
 use Rattle.pg_ring.specs.SlotsLaws.{AreSlots-later}
 use Rattle.pg_run.specs.declared.notices.Notice.{Notice}
+use Rattle.pg_world.specs.Views.{peer_place}
 use Rattle.pg_run.specs.declared.notices.Notices.{Notices}
 use Rattle.pg_run.specs.Notices.{IsUntold, NoticesGo, inlet_of, kept_of}
 use Rattle.pg_run.proofs.Moving.{nil_first}
 use Rattle.pg_run.specs.Runs.{notices_at}
 use Rattle.pg_cluster.specs.Clients.{AllPairs}
 use Rattle.pg_cluster.specs.ClientsLaws.{each_set, slot_in_on, slot_out_on}
-use Rattle.pg_cluster.specs.Notices.{NobodyLost, IsSilent, Told, SameTellers}
+use Rattle.pg_cluster.specs.Notices.{IsOfLost, NobodyLost, IsSilent, Notified, NotifiedUpTo, SaysLost, Told, SameTellers, notice_for}
 use Rattle.pg_cluster.specs.Threads.{Thread, RanOf, Joined, begun_by, notices_begun, notices_ended}
 use Rattle.pg_cluster.proofs.Hearing.{first_ran, others_ran}
 use Rattle.pg_cluster.proofs.Paired.{pairs_none, pairs_push, pairs_append, pairs_by}
@@ -53,6 +55,94 @@ somebody_lost lost k low nobody =
     let there : get_or (set lost k true) k false ≡ true = get_or-set_same lost k true false low in
     let no : get_or (set lost k true) k false ≡ false = nobody k false (let n = length-set lost k true in omega (arith, low, n)) in
     absurd (cc)
+
+-- ---- what they say
+
+pub all_first : {A : Type 0} (P : A → Type 0) (xs ys : List A) → AllByRecursion P (xs ++ ys) → AllByRecursion P xs
+all_first P [] ys all = tt
+all_first P (x ∷ xs) ys all = (all.0, all_first P xs ys all.1)
+
+all_both : {A : Type 0} (P : A → Type 0) (xs ys : List A) → AllByRecursion P xs → AllByRecursion P ys → AllByRecursion P (xs ++ ys)
+all_both P [] ys a b = b
+all_both P (x ∷ xs) ys a b = (a.0, all_both P xs ys a.1 b)
+
+all_turned : {A : Type 0} (P Q : A → Type 0) (xs : List A) → ((x : A) → P x → Q x) → AllByRecursion P xs → AllByRecursion Q xs
+all_turned P Q [] f all = tt
+all_turned P Q (x ∷ xs) f all = (f x all.0, all_turned P Q xs f all.1)
+
+-- nothing
+pub says_none : (lost : List Bool) (lasts : List ℕ) (tellers : List (SlotOut Notice)) → length tellers ≡ length lost → All IsSilent tellers → SaysLost lost lasts tellers
+says_none lost lasts tellers count silent place none low =
+    subst (AllByRecursion (IsOfLost (length lost) (λ node. get_or lost node false) (λ node. get_or lasts node 0) place)) (sym (silent place none (omega (arith, low, count)))) tt
+
+-- one more loss
+module _ (lost : List Bool) (lasts lasts2 : List ℕ) (tellers tellers2 : List (SlotOut Notice)) (k last : ℕ) (within : k < length lost) (runs : get_or lost k false ≡ false)
+    (here : get_or lasts2 k 0 ≡ last) (others : (i : ℕ) → i ≢ k → get_or lasts2 i 0 ≡ get_or lasts i 0) where
+  abbrev Old : ℕ → Notice → Type 0
+  Old place = IsOfLost (length lost) (λ node. get_or lost node false) (λ node. get_or lasts node 0) place
+
+  abbrev New : ℕ → Notice → Type 0
+  New place = IsOfLost (length (set lost k true)) (λ node. get_or (set lost k true) node false) (λ node. get_or lasts2 node 0) place
+
+  still_lost : (place : ℕ) (notice : Notice) → Old place notice → New place notice
+  still_lost place notice old = record {
+    node = old.node;
+    there = let n = length-set lost k true in let l = old.there in omega (arith, n, l);
+    other = old.other;
+    gone = get_or-set_other lost k old.node true false apart ∙ old.gone;
+    peer = old.peer;
+    clock = old.clock ∙ sym (others old.node apart);
+  }
+    where
+      apart : old.node ≢ k
+      apart e = let clash : false ≡ true = sym runs ∙ (ap (λ i. get_or lost i false) (sym e) ∙ old.gone) in absurd (cc)
+
+  new_lost : (place : ℕ) → (place ≡ k) ⊎ (place ≢ k) → AllByRecursion (New place) (notice_for place k last)
+  new_lost place (inl e) = subst (λ b. AllByRecursion (New place) (cond b [] (record { peer = peer_place place k; last = last } ∷ []))) (sym (eq-eqb place k e)) tt
+  new_lost place (inr n) = subst (λ b. AllByRecursion (New place) (cond b [] (record { peer = peer_place place k; last = last } ∷ []))) (sym (ne_eqb place k n)) (
+    record {
+      node = k;
+      there = let m = length-set lost k true in omega (arith, within, m);
+      other = λ e. n (sym e);
+      gone = get_or-set_same lost k true false within;
+      peer = refl;
+      clock = sym here;
+    },
+    tt,
+  )
+
+  pub says_on : NotifiedUpTo k last (length tellers) tellers tellers2 → SaysLost lost lasts tellers → SaysLost (set lost k true) lasts2 tellers2
+  says_on told says place none low = go (cases_lt place (length tellers))
+    where
+      old : AllByRecursion (New place) (given (get_or tellers place none))
+      old = all_turned (Old place) (New place) (given (get_or tellers place none)) (still_lost place) (says place none (let n = length-set lost k true in omega (arith, low, n)))
+
+      by : Notified place k last (get_or tellers place none) (get_or tellers2 place none) → AllByRecursion (New place) (given (get_or tellers2 place none))
+      by (inl is) = subst (AllByRecursion (New place)) (sym is) (all_both (New place) (given (get_or tellers place none)) (notice_for place k last) old (new_lost place (cases_eq place k)))
+      by (inr full) = subst (AllByRecursion (New place)) (sym full.0) old
+
+      go : (place < length tellers) ⊎ (length tellers ≤ place) → AllByRecursion (New place) (given (get_or tellers2 place none))
+      go (inl less) = by (told.told place none less)
+      go (inr more) = subst (λ (t : SlotOut Notice). AllByRecursion (New place) (given t)) (sym (told.rest place none more)) old
+
+one_of : {A : Type 0} (xs : List A) (k : ℕ) → k < length xs → A
+one_of [] k low = absurd (omega (arith, low))
+one_of (x ∷ xs) k low = x
+
+-- and so what came of it
+pub came_lost : (lost : List Bool) (lasts lasts2 : List ℕ) (tellers : List (SlotOut Notice)) (inlets : List (SlotIn Notice)) → length inlets ≡ length lost
+    → ((i : ℕ) → i < length lost → get_or lost i false ≡ true → get_or lasts i 0 ≡ get_or lasts2 i 0) → SaysLost lost lasts tellers → AllPairs Told tellers inlets
+    → (place : ℕ) (none : SlotIn Notice) → place < length lost
+    → AllByRecursion (IsOfLost (length lost) (λ node. get_or lost node false) (λ node. get_or lasts2 node 0) place) (taken (get_or inlets place none))
+came_lost lost lasts lasts2 tellers inlets count same says all place none low =
+    let within : place < length inlets = omega (arith, low, count) in
+    let teller : SlotOut Notice = one_of tellers place (let l = all.len in omega (arith, within, l)) in
+    let told = all.each place teller none within in
+    all_turned (IsOfLost (length lost) (λ node. get_or lost node false) (λ node. get_or lasts node 0) place) (IsOfLost (length lost) (λ node. get_or lost node false) (λ node. get_or lasts2 node 0) place)
+    (taken (get_or inlets place none))
+    (λ notice of. record { node = of.node; there = of.there; other = of.other; gone = of.gone; peer = of.peer; clock = of.clock ∙ same of.node of.there of.gone })
+    (all_first (IsOfLost (length lost) (λ node. get_or lost node false) (λ node. get_or lasts node 0) place) (taken (get_or inlets place none)) told.on_the_way
+    (subst (AllByRecursion (IsOfLost (length lost) (λ node. get_or lost node false) (λ node. get_or lasts node 0) place)) told.is (says place teller low)))
 
 -- ---- once the threads have ended
 

@@ -17,12 +17,18 @@ use Rattle.pg_step.specs.Config.{Config}
 use Rattle.pg_world.specs.declared.step.FrameStep.{FrameStep}
 use Rattle.pg_world.specs.Crossings.{node_of}
 use Rattle.pg_world.specs.Runs.{Ran, over_packets}
+use Rattle.pg_together.specs.Losses.{nodes_in}
+use Rattle.pg_world.specs.LosingRuns.{RanLosing, packets_past_losses}
 use Rattle.pg_world.specs.Views.{Seen}
 use Rattle.pg_world.specs.Worlds.{ShowsNode}
 
 -- one of the steps that have these numbers was refused since memory ran out
 abbrev pub ran_out : List ℕ → Bool
 ran_out numbers = list_any (λ number. nat_eq number 10) numbers
+
+-- each of the steps that have these numbers was made, or took nothing where nothing was on the way
+abbrev pub all_made : List ℕ → Bool
+all_made numbers = list_all (λ number. nat_eq number 0) numbers
 
 module _ {T : Type 0} {g : Ghosts T} where
   -- each node is seen as the one at its place
@@ -34,6 +40,14 @@ module _ {T : Type 0} {g : Ghosts T} where
   pub record Replays (given : Config) (schedule : List FrameStep) (nodes : List (Node T g)) : Type 0 where
     pub numbers : List ℕ
     pub ran : Ran over_packets given schedule numbers (λ config w. (i : ℕ) (node : Node T g) → slice_get nodes i ≡ Some node → ShowsNode config w i (node_of node))
+
+  -- The same of a schedule in which nodes may be lost: the run is one of the machine with losses, of which all holds that survives losses
+  -- (`RanLosing`), and each step was made.
+  pub record ReplaysPastLosses (given : Config) (schedule : List FrameStep) (nodes : List (Node T g)) : Type 0 where
+    pub numbers : List ℕ
+    pub made : all_made numbers ≡ true
+    pub ran : RanLosing packets_past_losses given schedule numbers
+        (λ config u. (i : ℕ) (node : Node T g) → slice_get nodes i ≡ Some node → ShowsNode config (nodes_in u) i (node_of node))
 
   -- ---- one opinion
 

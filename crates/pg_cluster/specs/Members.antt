@@ -27,3 +27,10 @@ module _ {K : Type 0} where
 
   abbrev pub last_of : Member K → ℕ
   last_of member = last_in member.ran
+
+  abbrev pub lasts_in : List (Member K) → List ℕ
+  lasts_in members = map last_of members
+
+  -- the clock of a node that has run
+  abbrev pub clock_of : RanOf K → ℕ
+  clock_of ran = (state_of (held_by (node_in ran.run))).clock

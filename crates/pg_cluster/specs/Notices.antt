@@ -1,6 +1,6 @@
 -- Which nodes of a cluster were lost, and what the others were told of it.
-use Rattle.std.specs.Prelude.{◌≡◌, ◌⊎◌, ◌<◌, ◌≤◌, ℕ, nat_eq, Bool, false, cond, List, [], ◌∷◌, ◌++◌, get_or, length}
-use Rattle.std.specs.List.{All}
+use Rattle.std.specs.Prelude.{◌≡◌, ◌≢◌, ◌⊎◌, ◌<◌, ◌≤◌, ℕ, nat_eq, Bool, true, false, cond, List, [], ◌∷◌, ◌++◌, get_or, length}
+use Rattle.std.specs.List.{All, AllByRecursion}
 use Rattle.pg_ring.specs.declared.slot_in.SlotIn.{SlotIn}
 use Rattle.pg_ring.specs.declared.slot_out.SlotOut.{SlotOut}
 use Rattle.pg_ring.specs.Slots.{AreSlots, SameSlotOut, given, slots_free, taken}
@@ -32,6 +32,20 @@ pub record SameTellers (a b : List (SlotOut Notice)) : Type 0 where
 -- what the node at a place is told of the loss of another, whose clock was this at last; the lost one is told nothing
 abbrev pub notice_for : (place node last : ℕ) → List Notice
 notice_for place node last = cond (nat_eq place node) [] (record { peer = peer_place place node; last = last } ∷ [])
+
+-- What the node at a place is told is the loss of another of so many nodes that is lost, with its clock at last.
+pub record IsOfLost (size : ℕ) (lost : ℕ → Bool) (last : ℕ → ℕ) (place : ℕ) (notice : Notice) : Type 0 where
+  pub node : ℕ
+  pub there : node < size
+  pub other : node ≢ place
+  pub gone : lost node ≡ true
+  pub peer : notice.peer ≡ peer_place place node
+  pub clock : notice.last ≡ last node
+
+-- All that the nodes were told is of those that were lost, each with its clock at last.
+abbrev pub SaysLost : List Bool → List ℕ → List (SlotOut Notice) → Type 0
+SaysLost lost lasts tellers = (place : ℕ) (none : SlotOut Notice) → place < length lost
+    → AllByRecursion (IsOfLost (length lost) (λ node. get_or lost node false) (λ node. get_or lasts node 0) place) (given (get_or tellers place none))
 
 -- it was told so, or no room was left for that
 abbrev pub Notified : (place node last : ℕ) → SlotOut Notice → SlotOut Notice → Type 0

@@ -1,12 +1,12 @@
 -- The threads of a cluster, and what comes back from them.
-use Rattle.std.specs.Prelude.{◌≡◌, ℕ, ◌<◌, ◌≤◌, ◌+◌, Bool, List, [], Option, Some, None, length, map, slice_index_or}
-use Rattle.std.specs.List.{All, flat_map}
+use Rattle.std.specs.Prelude.{◌≡◌, ℕ, ◌<◌, ◌≤◌, ◌+◌, Bool, false, List, [], Option, Some, None, get_or, length, map, slice_index_or}
+use Rattle.std.specs.List.{All, AllByRecursion, flat_map}
 use Rattle.std.specs.declared.thread.PromisedHandle.{PromisedHandle}
 use Rattle.pg_index.specs.declared.index_table.IndexTable.{IndexTable}
 use Rattle.pg_index.specs.contracts.index_table.IndexTableGroupTable.TheImpl.{ghosts}
 use Rattle.pg_node.specs.declared.node.Node.{Node}
 use Rattle.pg_node.specs.Nodes.{held_by}
-use Rattle.pg_node.specs.States.{names_of}
+use Rattle.pg_node.specs.States.{names_of, state_of}
 use Rattle.pg_ring.specs.declared.ring_out.RingOut.{RingOut}
 use Rattle.pg_ring.specs.declared.ring_in.RingIn.{RingIn}
 use Rattle.pg_ring.specs.declared.slot_in.SlotIn.{SlotIn}
@@ -27,7 +27,7 @@ use Rattle.pg_world.specs.BytesStart.{BytesBegin}
 use Rattle.pg_world.specs.Crossings.{idle_crossing}
 use Rattle.pg_world.specs.Views.{no_account}
 use Rattle.pg_cluster.specs.Ended.{AreWired, AllCrossed}
-use Rattle.pg_cluster.specs.Notices.{NobodyLost}
+use Rattle.pg_cluster.specs.Notices.{IsOfLost, NobodyLost}
 use Rattle.pg_cluster.specs.Promises.{RanAs}
 
 abbrev pub NodeOf : Type 0
@@ -123,12 +123,20 @@ module _ {K : Type 0} where
   abbrev pub notices_ended : List (RanOf K) → List (SlotIn Notice)
   notices_ended rans = map (λ ran. notices_at ran.run) rans
 
+  -- the clocks of the nodes as the threads ended
+  abbrev pub lasts_ended : List (RanOf K) → List ℕ
+  lasts_ended rans = map (λ ran. (state_of (held_by (node_in ran.run))).clock) rans
+
   -- Each thread ran its node, from where it began, to one of these nodes, with one of these logs; what crossed between each two is
-  -- what was sent; and where no node was lost no notice of a loss came.
+  -- what was sent; the notices that came at each node are of nodes that were lost, with their clocks at last; and where no node was
+  -- lost no notice of a loss came.
   pub record EndedWith (lost : List Bool) (threads : List (Thread K)) (nodes : List NodeOf) (logs : List (List (ℕ × NodeEvent))) : Type 0 where
     pub rans : List (RanOf K)
     pub joined : Joined threads rans
     pub ended : nodes ≡ map (λ ran. node_in ran.run) rans
     pub logged : logs ≡ map (λ ran. log_in ran.run) rans
     pub crossed : AllCrossed (length threads) (rows_begun threads) (rows_ended rans)
+    pub marked : length lost ≡ length threads
+    pub told : (place : ℕ) (none : SlotIn Notice) → place < length lost
+        → AllByRecursion (IsOfLost (length lost) (λ node. get_or lost node false) (λ node. get_or (lasts_ended rans) node 0) place) (taken (get_or (notices_ended rans) place none))
     pub untold : NobodyLost lost → All (λ inlet. taken inlet ≡ []) (notices_ended rans)

@@ -1,5 +1,5 @@
 -- What a cluster that has ended did, as one run of its configuration.
-use Rattle.std.specs.Prelude.{◌≡◌, ℕ, ◌<◌, true, false, length, map, slice_get, List, Some}
+use Rattle.std.specs.Prelude.{◌≡◌, ℕ, ◌<◌, Bool, true, false, length, map, slice_get, List, Some}
 use Rattle.std.specs.List.{IsDistinct}
 use Rattle.pg_term.specs.Same.{same_atom}
 use Rattle.pg_machine.specs.Machine.{Event, start_of}
@@ -19,6 +19,16 @@ use Rattle.pg_world.specs.Crossings.{node_of}
 use Rattle.pg_world.specs.Starts.{Orders}
 use Rattle.pg_world.specs.Views.{peer_place}
 use Rattle.pg_world.specs.Worlds.{TimedFrameWorld, ShowsNode, event_of}
+use Rattle.pg_machine.specs.Losing.{LosingEvent, Step, Lose}
+use Rattle.pg_machine.specs.Machine.{Take, Do}
+use Rattle.pg_loss.specs.Reached.{LosingReaches}
+use Rattle.pg_loss.specs.Survived.{LossesSurvived}
+use Rattle.pg_step.specs.LossLaws.{LosingFrameWorld}
+use Rattle.pg_step.specs.Step.{Issue, Retry}
+use Rattle.pg_together.specs.Losses.{nodes_in}
+use Rattle.pg_world.specs.declared.step.FrameStep.TheVariants as steps
+use Rattle.pg_world.specs.Losing.{keep_of}
+use Rattle.pg_cluster.specs.Schedule.{is_lost_in}
 use Rattle.pg_cluster.specs.Threads.{NodeOf}
 
 -- The steps of a schedule are events that happen one after another from the start of a configuration. They are, of each node, the
@@ -39,3 +49,28 @@ pub record AreOneRun (given : Config) (nodes : List NodeOf) (logs : List (List (
   pub history : OneHistory config events (plain w)
   -- no link from one node to another is
   pub sound : (i j : ℕ) (node : NodeOf) → slice_get nodes i ≡ Some node → is_pair (length config) i j ≡ true → (links_of node (peer_place i j)).damaged ≡ false
+
+-- ---- where nodes were lost
+
+-- the event of the machine with losses that a step is
+abbrev pub losing_event : FrameStep → LosingEvent Action
+losing_event (steps.Take i p) = Step (Take i p)
+losing_event (steps.Command i port command) = Step (Do i (Issue port command))
+losing_event (steps.Retry i op) = Step (Do i (Retry op))
+losing_event (steps.SeeLoss i p) = Step (Take i p)
+losing_event (steps.Lose i keep) = Lose i (keep_of i keep.items)
+
+-- The steps of a schedule are events of the machine with losses that happen one after another from the start of a configuration. They
+-- lead to a world in which just these nodes are lost, that shows each node as it ended, and of which all holds that survives losses.
+pub record AreOneLosingRun (given : Config) (lost : List Bool) (nodes : List NodeOf) (schedule : List FrameStep) : Type 0 where
+  -- the configuration with the groups of each node in order
+  pub config : Config
+  pub orders : Orders given config
+  -- its nodes have different names
+  pub apart : IsDistinct same_atom (names_of config)
+  pub u : LosingFrameWorld
+  pub reached : LosingReaches config (map losing_event schedule) u
+  pub gone : (i : ℕ) → i < length config → u.gone i ≡ is_lost_in lost i
+  pub size : length nodes ≡ length config
+  pub shown : (i : ℕ) (node : NodeOf) → slice_get nodes i ≡ Some node → ShowsNode config (nodes_in u) i (node_of node)
+  pub survived : LossesSurvived config (map losing_event schedule) u

@@ -3,13 +3,13 @@
 ghost use Rattle.std.specs.Prelude.{◌≡◌, IfOk, IfErr, map, length};
 ghost use Rattle.pg_cluster.specs.Notices.{NobodyLost};
 ghost use Rattle.pg_cluster.specs.Room.{HasRoom};
-ghost use Rattle.pg_cluster.specs.Schedule.{IsSchedule, but_losses};
+ghost use Rattle.pg_cluster.specs.Schedule.{IsSchedule, IsLosingSchedule};
 
 use crate::laws::nodes_of_one_run_agree;
 use crate::notices::{Teller, settle_notices};
 use crate::pairs::{move_ports, settle_all, settle_ports};
 use crate::promise::NodeRan;
-use crate::schedule::{steps_in, steps_with_losses};
+use crate::schedule::steps_with_losses;
 use crate::wires::Row;
 use pg_index::IndexTable;
 use pg_joining::order_of_logs;
@@ -83,7 +83,7 @@ impl Stopped {
         ensures logs { IfOk result (λ closed. map (λ v. v.items) closed.logs.items ≡ logs_of self) }
         ensures schedule { IfOk result (λ closed. NobodyLost (losses_of self)
             → IsSchedule (map (λ v. v.items) closed.logs.items) (length closed.logs.items) closed.schedule.items) }
-        ensures events { IfOk result (λ closed. IsSchedule (map (λ v. v.items) closed.logs.items) (length closed.logs.items) (but_losses closed.schedule.items)) }
+        ensures events { IfOk result (λ closed. IsLosingSchedule (map (λ v. v.items) closed.logs.items) (losses_of self) closed.schedule.items) }
         ensures one_run { IfOk result (λ closed. NobodyLost (losses_of self) → (given : Configuration) → JoinsToOneRun given (nodes_of self) (logs_of self)
             → AreOneRun given closed.nodes.items (map (λ v. v.items) closed.logs.items) closed.schedule.items) }
         ensures agree { IfOk result (λ closed. NobodyLost (losses_of self) → (given : Configuration) → JoinsToOneRun given (nodes_of self) (logs_of self)
@@ -102,9 +102,7 @@ impl Stopped {
     fn with_schedule(self) -> Result<Closed, Stopped>
         ensures nodes { IfOk result (λ closed. closed.nodes.items ≡ nodes_of self) }
         ensures logs { IfOk result (λ closed. map (λ v. v.items) closed.logs.items ≡ logs_of self) }
-        ensures schedule { IfOk result (λ closed. NobodyLost (losses_of self)
-            → IsSchedule (map (λ v. v.items) closed.logs.items) (length closed.logs.items) closed.schedule.items) }
-        ensures events { IfOk result (λ closed. IsSchedule (map (λ v. v.items) closed.logs.items) (length closed.logs.items) (but_losses closed.schedule.items)) }
+        ensures events { IfOk result (λ closed. IsLosingSchedule (map (λ v. v.items) closed.logs.items) (losses_of self) closed.schedule.items) }
         ensures clients { IfOk result (λ closed. closed.clients.items ≡ clients_of self) }
         ensures lost { IfOk result (λ closed. closed.lost.items ≡ losses_of self) }
         ensures err { IfErr result (λ stopped. stopped ≡ self) }
@@ -128,15 +126,10 @@ fn schedule_of(
     logs: &[Vec<LogEntry>],
     lost: &[bool],
 ) -> Result<Vec<FrameStep>, AllocError>
-    ensures schedule { IfOk result (λ schedule. NobodyLost lost.now → IsSchedule (map (λ v. v.items) logs.now) (length logs.now) schedule.items) }
-    ensures events { IfOk result (λ schedule. IsSchedule (map (λ v. v.items) logs.now) (length logs.now) (but_losses schedule.items)) }
+    ensures { IfOk result (λ schedule. IsLosingSchedule (map (λ v. v.items) logs.now) lost.now schedule.items) }
 {
     let order = order_of_logs(alloc, logs)?;
-    if lost.iter().any(|lost| *lost) {
-        steps_with_losses(alloc, logs, lost, order.as_slice())
-    } else {
-        steps_in(alloc, logs, order.as_slice())
-    }
+    steps_with_losses(alloc, logs, lost, order.as_slice())
 }
 
 ghost use Rattle.pg_ring.specs.Slots.{AreSlots};

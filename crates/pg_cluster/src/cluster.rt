@@ -5,14 +5,14 @@ ghost use Rattle.std.specs.List.{All as AllOf};
 ghost use Rattle.pg_ring.specs.Slots.{AreSlots};
 ghost use Rattle.pg_cluster.specs.Clients.{AllPairs, ports_begun};
 ghost use Rattle.pg_cluster.specs.Ended.{AreWired};
-ghost use Rattle.pg_cluster.specs.Members.{losses_in, threads_in};
-ghost use Rattle.pg_cluster.specs.Notices.{IsSilent as IsSilentTeller, NobodyLost as IsNobodyLost};
+ghost use Rattle.pg_cluster.specs.Members.{lasts_in, losses_in, threads_in};
+ghost use Rattle.pg_cluster.specs.Notices.{IsSilent as IsSilentTeller, NobodyLost as IsNobodyLost, SaysLost};
 ghost use Rattle.pg_cluster.specs.Room.{HasRoom};
 ghost use Rattle.pg_cluster.specs.Threads.{rows_begun, notices_begun};
 
 use crate::closed::{Closed, Room, Stopped, stopped_of};
 use crate::fault::StartFault;
-use crate::laws::{nodes_of_one_run_agree, threads_are_one_run};
+use crate::laws::{nodes_of_one_run_agree, threads_are_one_losing_run, threads_are_one_run};
 use crate::member::Member;
 use crate::notices::{Teller, tell_all};
 use crate::promise::NodeRan;
@@ -46,6 +46,7 @@ pub struct Cluster<K: Rng + Drop> {
     ghost wired: { AreWired (length (threads_in members.items)) (rows_begun (threads_in members.items)) },
     ghost told: { AllPairs AreSlots tellers.items (notices_begun (threads_in members.items)) },
     ghost untold: { IsNobodyLost (losses_in members.items) → AllOf IsSilentTeller tellers.items },
+    ghost says: { ∥ SaysLost (losses_in members.items) (lasts_in members.items) tellers.items ∥₁ },
 }
 
 /// Room for what the threads of a cluster give back, and for which of its nodes were lost.
@@ -88,8 +89,8 @@ impl<K: Rng + Drop + Send + 'static> Cluster<K> {
     ghost use Rattle.pg_step.specs.Config.{Config as Configuration};
     ghost use Rattle.pg_cluster.specs.Judges.{Agree};
     ghost use Rattle.pg_world.specs.Openings.{CanBegin};
-    ghost use Rattle.pg_cluster.specs.Schedule.{IsSchedule, but_losses};
-    ghost use Rattle.pg_cluster.specs.Together.{AreOneRun};
+    ghost use Rattle.pg_cluster.specs.Schedule.{IsSchedule, IsLosingSchedule};
+    ghost use Rattle.pg_cluster.specs.Together.{AreOneRun, AreOneLosingRun};
 
     /// Starts a thread for each node of a configuration, with rings of so many bytes between them: the cluster, and a client for
     /// each port, those of the first node first. `generators`: of the pauses, one for each node. `gate`: what each node passes at
@@ -192,7 +193,9 @@ impl<K: Rng + Drop + Send + 'static> Cluster<K> {
         ensures agree { IfOk result (λ closed. NobodyLost (lost_of self) → (given : Configuration) → AreMade given (map begun_by (threads_of self))
             → Agree closed.nodes.items closed.logs.items) }
         ensures schedule { IfOk result (λ closed. NobodyLost (lost_of self) → IsSchedule (map (λ v. v.items) closed.logs.items) (length closed.logs.items) closed.schedule.items) }
-        ensures events { IfOk result (λ closed. IsSchedule (map (λ v. v.items) closed.logs.items) (length closed.logs.items) (but_losses closed.schedule.items)) }
+        ensures events { IfOk result (λ closed. IsLosingSchedule (map (λ v. v.items) closed.logs.items) (lost_of self) closed.schedule.items) }
+        ensures losing_run { IfOk result (λ closed. (given : Configuration) → AreMade given (map begun_by (threads_of self))
+            → ∥ AreOneLosingRun given (lost_of self) closed.nodes.items closed.schedule.items ∥₁) }
         ensures heard { MatchResult result
             (λ closed. (given : Configuration) → AreMade given (map begun_by (threads_of self))
             → ∥ AllHeard (threads_of self) closed.nodes.items (map (λ v. v.items) closed.logs.items) clients.items ∥₁)
@@ -206,6 +209,7 @@ impl<K: Rng + Drop + Send + 'static> Cluster<K> {
     {
         let stopped = self.stop(rt, clients);
         threads_are_one_run::<K>();
+        threads_are_one_losing_run::<K>();
         nodes_of_one_run_agree();
         stopped.finish()
     }

@@ -6,6 +6,7 @@ ghost use Rattle.pg_world.specs.Crossings.{node_of};
 ghost use Rattle.pg_world.specs.FrameWorlds.{view_of as view_of_world};
 ghost use Rattle.pg_cluster.specs.Judges.{
   AreShown as AreShownAll,
+  all_made as were_all_made,
   AgreesWith,
   AreOne,
   HasAs,
@@ -32,7 +33,7 @@ use std::alloc::{AllocError, Global};
 impl Closed {
     ghost use Rattle.pg_world.specs.FrameWorlds.{view_of};
     ghost use Rattle.pg_world.specs.Runs.{LosesNone};
-    ghost use Rattle.pg_cluster.specs.Judges.{Agree, AreShown, Replays, ran_out};
+    ghost use Rattle.pg_cluster.specs.Judges.{Agree, AreShown, Replays, ReplaysPastLosses, all_made, ran_out};
     ghost use Rattle.pg_world.specs.Openings.{CanBegin};
     ghost use Rattle.pg_cluster.specs.Together.{AreOneRun};
 
@@ -50,8 +51,8 @@ impl Closed {
         are_one(alloc, nodes)
     }
 
-    /// Whether the schedule, made step by step from the start of this configuration, comes to the same nodes: never no of what
-    /// `Cluster::close` gives and the configuration that was started. Its cost is that of the steps, and of `NodeState::same` of
+    /// Whether the schedule, made step by step from the start of this configuration, comes to the same nodes, and no step of it is
+    /// refused: never no of what `Cluster::close` gives, where no node was lost, and the configuration that was started. Its cost is that of the steps, and of `NodeState::same` of
     /// each node.
     ///
     /// Error: `AllocError`, also where a step was refused for memory.
@@ -59,6 +60,7 @@ impl Closed {
         ensures one_run { IfOk result (λ yes. CanBegin config.now.ring config.now.starts.items
             → AreOneRun config.now.starts.items self.now.nodes.items (map (λ v. v.items) self.now.logs.items) self.now.schedule.items → yes ≡ true) }
         ensures replays { IfOk result (λ yes. IsTrue yes → LosesNone self.now.schedule.items → Replays config.now.starts.items self.now.schedule.items self.now.nodes.items) }
+        ensures losing { IfOk result (λ yes. IsTrue yes → ReplaysPastLosses config.now.starts.items self.now.schedule.items self.now.nodes.items) }
     {
         configs_are_decided();
         match run_frames(alloc, config, self.schedule.as_slice()) {
@@ -74,11 +76,14 @@ impl Closed {
 
     /// Whether a world shows the nodes, where its steps had these numbers.
     fn is_shown(&self, world: &FrameWorld<IndexTable>, numbers: &[u8]) -> Result<bool, AllocError>
-        ensures shown { IfOk result (λ yes. IsTrue yes ↔ AreShown (view_of world.now).traffic.nodes self.now.nodes.items) }
+        ensures shown { IfOk result (λ yes. IsTrue yes ↔ ((all_made numbers.now ≡ true) × AreShown (view_of world.now).traffic.nodes self.now.nodes.items)) }
         ensures all_made { IfOk result (λ yes. ran_out numbers.now ≡ false) }
     {
         if ran_out(numbers) {
             return Err(AllocError);
+        }
+        if !all_made(numbers) {
+            return Ok(false);
         }
         shows_all(world, self.nodes.as_slice())
     }
@@ -101,6 +106,13 @@ fn ran_out(numbers: &[u8]) -> bool
     ensures { result ≡ has_run_out numbers.now }
 {
     numbers.iter().any(|number| *number == 10)
+}
+
+/// Whether each step was made, or took nothing where nothing was on the way, by the numbers of all steps.
+fn all_made(numbers: &[u8]) -> bool
+    ensures { result ≡ were_all_made numbers.now }
+{
+    numbers.iter().all(|number| *number == 0)
 }
 
 /// Whether a world shows these nodes.

@@ -6,12 +6,13 @@ ghost use Rattle.pg_step.specs.Config.{Config};
 ghost use Rattle.pg_world.specs.declared.step.FrameStep.{FrameStep};
 ghost use Rattle.pg_cluster.specs.Judges.{Agree, Replays};
 ghost use Rattle.pg_cluster.specs.Notices.{NobodyLost};
-ghost use Rattle.pg_cluster.specs.Schedule.{IsSchedule};
+ghost use Rattle.pg_cluster.specs.Schedule.{IsSchedule, IsLosingSchedule};
 ghost use Rattle.pg_cluster.specs.Threads.{NodeOf, Thread, AreMade, EndedWith, begun_by};
-ghost use Rattle.pg_cluster.specs.Together.{AreOneRun};
+ghost use Rattle.pg_cluster.specs.Together.{AreOneRun, AreOneLosingRun};
 
 use pg_history::{ended_processes_were_finished, no_loss_is_seen};
-use pg_together::nodes_ran_together;
+use pg_loss::each_world_past_losses;
+use pg_together::{nodes_ran_together, nodes_ran_together_past_losses};
 
 /// The nodes of a configuration that ran as threads, with rings between them, and of which none was lost, made one run: their schedule is events that happen one
 /// after another from the start, each node does there what its log tells and comes to where it ended, and of the world to which
@@ -22,6 +23,18 @@ pub fn threads_are_one_run<K>()
         → AreOneRun given nodes logs schedule }
 {
     nodes_ran_together();
+}
+
+/// The same, whoever was lost: their schedule is events of the machine with losses that happen one after another from the start. They
+/// lead to a world in which just those nodes are lost, that shows each node as it ended, and of which everything holds that survives
+/// losses.
+pub fn threads_are_one_losing_run<K>()
+    ensures { (given : Config) (lost : List Bool) (threads : List (Thread K)) (nodes : List NodeOf) (logs : List (List (ℕ × NodeEvent))) (schedule : List FrameStep)
+        → AreMade given (map begun_by threads) → EndedWith lost threads nodes logs → IsLosingSchedule logs lost schedule
+        → AreOneLosingRun given lost nodes schedule }
+{
+    nodes_ran_together_past_losses();
+    each_world_past_losses();
 }
 
 /// The nodes of one run agree.

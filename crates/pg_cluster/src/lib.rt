@@ -1,4 +1,7 @@
 //! A cluster: the nodes of a configuration in threads of their own, with rings between them, and a client at each port.
+//!
+//! `Running::start(rt, alloc, config, seed, OpenGate, u64::MAX)?` starts one, `submit` and `poll` speak with it, and `close` ends it. Begin
+//! with CALLING.md, then `src/running.rt`; the contract of its end is in `specs/Together.antt`.
 #![tactic(auto)]
 
 mod closed;
@@ -20,6 +23,8 @@ mod wires;
 pub use closed::{Closed, Stopped};
 pub use cluster::Cluster;
 pub use fault::StartFault;
-pub use laws::{nodes_of_one_run_agree, one_run_replays, threads_are_one_run};
+pub use laws::{
+    nodes_of_one_run_agree, one_run_replays, threads_are_one_losing_run, threads_are_one_run,
+};
 pub use pg_run::{Client, Gate, LogEntry, NodeEvent};
 pub use running::{OpenGate, Running};

@@ -19,7 +19,7 @@ pub(crate) struct Member<K: Rng + Drop> {
 }
 
 impl<K: Rng + Drop + Send + 'static> Member<K> {
-    ghost use Rattle.pg_cluster.specs.Members.{thread_of, is_lost, last_of};
+    ghost use Rattle.pg_cluster.specs.Members.{thread_of, is_lost, last_of, clock_of};
     ghost use Rattle.pg_cluster.specs.Promises.{RanAs};
     ghost use Rattle.pg_cluster.specs.Threads.{begun_by, limit_of};
 
@@ -65,6 +65,7 @@ impl<K: Rng + Drop + Send + 'static> Member<K> {
     pub fn join<R: Threads>(self, rt: &R) -> NodeRan<K>
         ensures ran { ∥ RanAs (begun_by (thread_of self)) (limit_of (thread_of self)) result ∥₁ }
         ensures alone { is_lost self ≡ false → RanAs (begun_by (thread_of self)) (limit_of (thread_of self)) result }
+        ensures last { is_lost self ≡ true → clock_of result ≡ last_of self }
     {
         match (self.thread, self.ran) {
             (Some(thread), _) => thread.join(rt),

@@ -1,8 +1,10 @@
 //! The schedule to which logs join.
 
-ghost use Rattle.std.specs.Prelude.{◌≡◌, ◌++◌, true, IfOk, OnOk, map};
+ghost use Rattle.std.specs.Prelude.{◌≡◌, ◌++◌, ◌+◌, ◌∷◌, [], IfOk, OnOk, cond, length, map, nat_eq};
 ghost use Rattle.pg_joining.specs.Merge.{log_at, entry_at};
-ghost use Rattle.pg_cluster.specs.Schedule.{but_losses, is_loss, node_of_peer, step_as, steps_of};
+ghost use Rattle.pg_together.specs.Losses.{is_take, takes_in, takes_of, takes_one};
+ghost use Rattle.pg_world.specs.Views.{place_of_peer};
+ghost use Rattle.pg_cluster.specs.Schedule.{is_alone, is_lost_in, keeps, loss_if, loss_seen, losing_steps, node_of_peer, seen_step, step_as, steps_at};
 
 use pg_run::{LogEntry, NodeEvent};
 use pg_step::Command;
@@ -70,23 +72,6 @@ fn step_of(alloc: Global, node: usize, event: &NodeEvent) -> Result<FrameStep, A
     })
 }
 
-/// The steps that the entries of these logs are, in this order, each given by its log and its place there.
-///
-/// Error: `AllocError`.
-pub(crate) fn steps_in(
-    alloc: Global,
-    logs: &[Vec<LogEntry>],
-    order: &[(usize, usize)],
-) -> Result<Vec<FrameStep>, AllocError>
-    ensures { IfOk result (λ steps. steps.items ≡ steps_of (map (λ v. v.items) logs.now) order.now) }
-{
-    let mut steps = Vec::new(alloc);
-    for at in order {
-        add_step(alloc, logs, at.0, at.1, &mut steps)?;
-    }
-    Ok(steps)
-}
-
 /// Adds the step that the entry at a place of a log is, if one is there.
 ///
 /// Error: `AllocError`.
@@ -108,7 +93,10 @@ fn add_step(
     Ok(())
 }
 
-/// The same where nodes were lost: the loss of each stands behind its last entry, and those of nodes that did nothing come first.
+/// The steps that the entries of these logs are, in this order, each given by its log and its place there, with the losses of the nodes
+/// that were lost. Each loss stands behind the node's last entry, and those of nodes that did nothing come first. Of
+/// what is on the way from a lost node to each other as many packets stay as that takes by the entries that follow. Takes a look at
+/// the entries behind each loss for each node.
 ///
 /// Error: `AllocError`.
 pub(crate) fn steps_with_losses(
@@ -117,41 +105,154 @@ pub(crate) fn steps_with_losses(
     lost: &[bool],
     order: &[(usize, usize)],
 ) -> Result<Vec<FrameStep>, AllocError>
-    ensures { IfOk result (λ steps. but_losses steps.items ≡ steps_of (map (λ v. v.items) logs.now) order.now) }
+    ensures { IfOk result (λ steps. map seen_step steps.items ≡ losing_steps (map (λ v. v.items) logs.now) lost.now order.now) }
 {
     let mut steps = Vec::new(alloc);
     for node in 0..logs.len() {
-        if is_lost(lost, node) && entry_count(logs, node) == 0 {
-            add_loss(alloc, logs, node, &mut steps)?;
-        }
+        add_if_alone(alloc, logs, lost, node, order, &mut steps)?;
     }
-    for at in order {
-        add_step(alloc, logs, at.0, at.1, &mut steps)?;
-        if is_lost(lost, at.0) && at.1 >= entry_count(logs, at.0).saturating_sub(1) {
-            add_loss(alloc, logs, at.0, &mut steps)?;
-        }
+    for place in 0..order.len() {
+        let later = &order[place + 1..];
+        add_with_loss(alloc, logs, lost, order[place], later, &mut steps)?;
     }
     Ok(steps)
 }
 
-/// Adds the loss of a node.
+/// Adds the loss of a node, if it was lost and did nothing.
+///
+/// Error: `AllocError`.
+fn add_if_alone(
+    alloc: Global,
+    logs: &[Vec<LogEntry>],
+    lost: &[bool],
+    node: usize,
+    order: &[(usize, usize)],
+    steps: &mut Vec<FrameStep>,
+) -> Result<(), AllocError>
+    ensures { OnOk result (map seen_step steps.new.items ≡ map seen_step steps.old.items
+        ++ loss_if (is_alone (map (λ v. v.items) logs.now) lost.now node) (map (λ v. v.items) logs.now) node order.now) }
+{
+    if is_lost(lost, node) && entry_count(logs, node) == 0 {
+        add_loss(alloc, logs, node, order, steps)?;
+    }
+    Ok(())
+}
+
+/// Adds the step that the entry at a place of a log is, and if it is the last of a node that was lost, the loss of that. `later`: the
+/// entries that follow.
+///
+/// Error: `AllocError`.
+fn add_with_loss(
+    alloc: Global,
+    logs: &[Vec<LogEntry>],
+    lost: &[bool],
+    at: (usize, usize),
+    later: &[(usize, usize)],
+    steps: &mut Vec<FrameStep>,
+) -> Result<(), AllocError>
+    ensures { OnOk result (map seen_step steps.new.items ≡ map seen_step steps.old.items ++ steps_at (map (λ v. v.items) logs.now) lost.now at later.now) }
+{
+    add_step(alloc, logs, at.0, at.1, steps)?;
+    if is_lost(lost, at.0) && is_last(logs, at.0, at.1) {
+        add_loss(alloc, logs, at.0, later, steps)?;
+    }
+    Ok(())
+}
+
+/// Adds the loss of a node, behind which these entries follow.
 ///
 /// Error: `AllocError`.
 fn add_loss(
     alloc: Global,
     logs: &[Vec<LogEntry>],
     node: usize,
+    later: &[(usize, usize)],
     steps: &mut Vec<FrameStep>,
 ) -> Result<(), AllocError>
-    ensures { OnOk result (but_losses steps.new.items ≡ but_losses steps.old.items) }
+    ensures { OnOk result (map seen_step steps.new.items ≡ map seen_step steps.old.items ++ loss_seen (map (λ v. v.items) logs.now) node later.now ∷ []) }
 {
-    let loss = loss_of(alloc, logs, node)?;
-    steps.push(loss)?;
+    let keep = kept(alloc, logs, node, later)?;
+    steps.push(FrameStep::Lose { node, keep })?;
     Ok(())
 }
 
+/// How many packets of a node each other takes by these entries, by the places of its peers.
+///
+/// Error: `AllocError`.
+fn kept(
+    alloc: Global,
+    logs: &[Vec<LogEntry>],
+    node: usize,
+    later: &[(usize, usize)],
+) -> Result<Vec<usize>, AllocError>
+    ensures { IfOk result (λ keep. keep.items ≡ keeps (map (λ v. v.items) logs.now) node later.now (length logs.now)) }
+{
+    let mut keep = Vec::new(alloc);
+    for other in 0..logs.len() {
+        if other != node {
+            keep.push(taken_in(logs, node, other, later))?;
+        }
+    }
+    Ok(keep)
+}
+
+/// How many packets of a peer a node takes by these entries.
+fn taken_in(logs: &[Vec<LogEntry>], peer: usize, node: usize, later: &[(usize, usize)]) -> usize
+    ensures { result ≡ takes_in (log_at (map (λ v. v.items) logs.now)) peer node later.now }
+{
+    let mut count: usize = 0;
+    for place in 0..later.len() {
+        if takes_at(logs, peer, node, later[place]) {
+            count += 1;
+        }
+    }
+    count
+}
+
+/// Whether a node takes a packet of a peer by this entry.
+fn takes_at(logs: &[Vec<LogEntry>], peer: usize, node: usize, at: (usize, usize)) -> bool
+    ensures { takes_one (log_at (map (λ v. v.items) logs.now)) peer node at ≡ cond result 1 0 }
+{
+    at.0 == node && takes(logs, node, at.1, peer)
+}
+
+/// Whether the entry at a place of the log of a node is that it took a packet of a peer.
+fn takes(logs: &[Vec<LogEntry>], node: usize, place: usize, peer: usize) -> bool
+    ensures { takes_of peer node (entry_at (log_at (map (λ v. v.items) logs.now) node) place) ≡ cond result 1 0 }
+{
+    if let Some(log) = logs.get(node) {
+        if let Some(entry) = log.get(place) {
+            return is_packet_of(&entry.1, node, peer);
+        }
+    }
+    false
+}
+
+/// Whether an event of a node is that it took a packet of another.
+fn is_packet_of(event: &NodeEvent, node: usize, other: usize) -> bool
+    ensures { result ≡ is_take other node event.now }
+{
+    match event {
+        NodeEvent::Take(peer) => is_peer_at(node, *peer, other),
+        _ => false,
+    }
+}
+
+/// Whether the peer at a place among the peers of a node is another.
+fn is_peer_at(node: usize, peer: usize, other: usize) -> bool
+    ensures { result ≡ nat_eq (place_of_peer node peer) other }
+{
+    if peer < node {
+        peer == other
+    } else {
+        other > 0 && peer == other - 1
+    }
+}
+
 /// Whether the node at a place was lost.
-fn is_lost(lost: &[bool], node: usize) -> bool {
+fn is_lost(lost: &[bool], node: usize) -> bool
+    ensures { result ≡ is_lost_in lost.now node }
+{
     match lost.get(node) {
         Some(lost) => *lost,
         None => false,
@@ -159,56 +260,19 @@ fn is_lost(lost: &[bool], node: usize) -> bool {
 }
 
 /// How many entries the log of a node has.
-fn entry_count(logs: &[Vec<LogEntry>], node: usize) -> usize {
+fn entry_count(logs: &[Vec<LogEntry>], node: usize) -> usize
+    ensures { result ≡ length (log_at (map (λ v. v.items) logs.now) node) }
+{
     match logs.get(node) {
         Some(log) => log.len(),
         None => 0,
     }
 }
 
-/// The loss of a node. Of what is on the way from it to each other node as many packets stay as that takes later.
-///
-/// Error: `AllocError`.
-fn loss_of(alloc: Global, logs: &[Vec<LogEntry>], node: usize) -> Result<FrameStep, AllocError>
-    ensures { IfOk result (λ step. is_loss step ≡ true) }
+/// Whether the place is that of the last entry of a node's log.
+fn is_last(logs: &[Vec<LogEntry>], node: usize, place: usize) -> bool
+    ensures { result ≡ nat_eq (place + 1) (length (log_at (map (λ v. v.items) logs.now) node)) }
 {
-    let last = last_clock(logs, node);
-    let mut keep = Vec::with_capacity(alloc, logs.len())?;
-    for other in 0..logs.len() {
-        if other != node {
-            keep.push(taken_later(logs[other].as_slice(), other, node, last))?;
-        }
-    }
-    Ok(FrameStep::Lose { node, keep })
-}
-
-/// The clock of a node at last; 0 where it did nothing.
-fn last_clock(logs: &[Vec<LogEntry>], node: usize) -> u32 {
-    match logs.get(node) {
-        Some(log) => match log.last() {
-            Some(entry) => entry.0,
-            None => 0,
-        },
-        None => 0,
-    }
-}
-
-/// How many packets of a lost node, whose clock was `last`, this log of another node takes behind the last entry of that.
-fn taken_later(log: &[LogEntry], other: usize, node: usize, last: u32) -> usize {
-    let mut count: usize = 0;
-    for entry in log {
-        let is_later = entry.0 > last || (entry.0 == last && other > node);
-        if is_later && is_packet_of(&entry.1, other, node) {
-            count = count.saturating_add(1);
-        }
-    }
-    count
-}
-
-/// Whether an event of a node is that it took a packet of another.
-fn is_packet_of(event: &NodeEvent, node: usize, other: usize) -> bool {
-    match event {
-        NodeEvent::Take(peer) => node_of_peer(node, *peer) == other,
-        _ => false,
-    }
+    let count = entry_count(logs, node);
+    count > 0 && place == count - 1
 }

@@ -1,6 +1,5 @@
 //! What the judges of a cluster say of one that was tampered with after it was closed.
 
-use crate::asks::{Asked, asks};
 use crate::setting::{End, Open, Setting, Started, end_of_closed, start};
 use crate::verdicts::holds;
 use pg_cluster::Closed;
@@ -11,6 +10,13 @@ use std::thread::Threads;
 
 const TWO: Setting = Setting {
     names: &["a", "b"],
+    ports: 1,
+    ring: 65536,
+    limit: 100_000_000,
+};
+
+const THREE: Setting = Setting {
+    names: &["a", "b", "c"],
     ports: 1,
     ring: 65536,
     limit: 100_000_000,
@@ -53,7 +59,7 @@ impl Judged {
 }
 
 fn closed(rt: &impl Threads, started: Started) -> Option<Judged> {
-    let (closed, config) = started.running.close(rt);
+    let (closed, config) = started.close(rt);
     match closed {
         Ok(closed) => Some(Judged { closed, config }),
         Err(stopped) => {
@@ -64,39 +70,66 @@ fn closed(rt: &impl Threads, started: Started) -> Option<Judged> {
     }
 }
 
-// Two nodes, of which the second was asked to create the group of this name.
-fn closed_cluster(rt: &(impl Threads + Wait), alloc: Global, name: &str) -> Option<Judged> {
-    match start(rt, alloc, TWO, Open) {
+// Nodes of which these were lost, and then the second was asked by this line.
+fn closed_cluster(
+    rt: &(impl Threads + Wait),
+    alloc: Global,
+    setting: Setting<'_>,
+    lost: &[usize],
+    line: &str,
+) -> Option<Judged> {
+    match start(rt, alloc, setting, Open) {
         Ok(begun) => {
             let mut started = begun;
-            asks(rt, alloc, &mut started.running, 1, Asked::Create(name));
+            for node in lost {
+                drop(started.lose(rt, *node));
+            }
+            started.asks(rt, alloc, 1, line, "ok");
             closed(rt, started)
         }
         Err(_) => None,
     }
 }
 
+// How a cluster ended, and how it is judged without its last step.
+fn step_less(
+    rt: &(impl Threads + Wait),
+    alloc: Global,
+    setting: Setting<'_>,
+    lost: &[usize],
+) -> Option<(End, End)> {
+    let mut cluster = closed_cluster(rt, alloc, setting, lost, "create b g")?;
+    let before = cluster.end(alloc);
+    let is_less = cluster.forget_step();
+    let after = cluster.end(alloc);
+    drop(cluster);
+    if is_less { Some((before, after)) } else { None }
+}
+
+// The last step is one behind each loss, since as many losses are left.
 #[test]
 fn a_step_less(rt: HostRuntime) {
-    let Some(told) = closed_cluster(&rt, rt.alloc(), "g") else {
-        return holds(&rt, false, "it is closed");
-    };
-    let mut cluster = told;
-    let before = cluster.end(rt.alloc());
-    let is_less = cluster.forget_step();
-    let after = cluster.end(rt.alloc());
-    drop(cluster);
-    holds(&rt, before.is_well(), "it replays");
-    holds(&rt, is_less && !after.replays, "a step less does not");
+    const NONE: &[usize] = &[];
+    const LAST: &[usize] = &[2];
+    for (setting, lost) in [(TWO, NONE), (THREE, LAST)] {
+        match step_less(&rt, rt.alloc(), setting, lost) {
+            Some((before, after)) => {
+                holds(&rt, before.replays, "it replays");
+                holds(&rt, !after.replays, "a step less does not");
+                holds(&rt, after.losses == lost.len(), "no loss is left out");
+            }
+            None => holds(&rt, false, "it is closed"),
+        }
+    }
 }
 
 #[test]
 fn a_node_of_another_cluster(rt: HostRuntime) {
-    let Some(told) = closed_cluster(&rt, rt.alloc(), "g") else {
+    let Some(told) = closed_cluster(&rt, rt.alloc(), TWO, &[], "create b g") else {
         return holds(&rt, false, "it is closed");
     };
     let mut cluster = told;
-    let Some(beside) = closed_cluster(&rt, rt.alloc(), "h") else {
+    let Some(beside) = closed_cluster(&rt, rt.alloc(), TWO, &[], "create b h") else {
         drop(cluster);
         return holds(&rt, false, "the other is closed");
     };

@@ -2,8 +2,6 @@
 #![tactic(auto)]
 
 #[cfg(test)]
-mod asks;
-#[cfg(test)]
 mod conversation;
 #[cfg(test)]
 mod gates;
@@ -16,7 +14,7 @@ mod memory;
 #[cfg(test)]
 mod merges;
 #[cfg(test)]
-mod rings;
+mod rows;
 #[cfg(test)]
 mod setting;
 #[cfg(test)]

@@ -1,9 +1,10 @@
-//! Clusters that tests begin with, and how they end.
+//! Clusters that tests begin with, what their clients ask, and how they end.
 
-use pg_cluster::{Closed, Gate, StartFault, Stopped};
+use pg_cluster::{Closed, Gate, Running, StartFault, Stopped};
+use pg_lines::{Line, NodeForm, print_reply, read_line};
 use pg_node::NodeFault;
-use pg_step::{Answer, Command, Reply, Start};
-use pg_term::{Atom, Items, Term, TermFault};
+use pg_step::{Answer, Command, Start};
+use pg_term::{Atom, Items};
 use pg_world::{Config, FrameStep, WorldFault};
 use std::alloc::{AllocError, Global};
 use std::sync::Wait;
@@ -18,58 +19,6 @@ impl Gate for Open {
     fn pass(&self, _node: usize, _turn: u64) {}
 }
 
-/// An atom.
-pub fn name_of(alloc: Global, name: &str) -> Result<Term, TermFault> {
-    match Atom::new(alloc, name) {
-        Ok(name) => Ok(Term::Atom(name)),
-        Err(fault) => Err(fault),
-    }
-}
-
-/// A node of this name that has no group.
-fn start_node(alloc: Global, name: &str, ports: u16) -> Result<Start, TermFault> {
-    match Atom::new(alloc, name) {
-        Ok(name) => Ok(Start {
-            name,
-            made: 0,
-            ports,
-            groups: Items::from_vec(Vec::new(alloc)),
-        }),
-        Err(fault) => Err(fault),
-    }
-}
-
-fn put_node(starts: &mut Vec<Start>, start: Start) -> Result<(), TermFault> {
-    match starts.push(start) {
-        Ok(()) => Ok(()),
-        Err(_) => Err(TermFault::OutOfMemory),
-    }
-}
-
-fn put_name(
-    alloc: Global,
-    starts: &mut Vec<Start>,
-    name: &str,
-    ports: u16,
-) -> Result<(), TermFault> {
-    match start_node(alloc, name, ports) {
-        Ok(start) => put_node(starts, start),
-        Err(fault) => Err(fault),
-    }
-}
-
-fn put_names(
-    alloc: Global,
-    starts: &mut Vec<Start>,
-    names: &[&str],
-    ports: u16,
-) -> Result<(), TermFault> {
-    for name in names {
-        put_name(alloc, starts, name, ports)?;
-    }
-    Ok(())
-}
-
 /// What a cluster begins with: nodes of these names, of which each has so many ports, rings of so many bytes, and at most so many
 /// turns of each node.
 #[derive(Clone, Copy)]
@@ -80,109 +29,154 @@ pub struct Setting<'a> {
     pub limit: u64,
 }
 
-/// The configuration of a setting.
-pub fn config(alloc: Global, setting: Setting<'_>) -> Result<Config, TermFault> {
+// Whether a node of this name that has no group comes behind the others.
+fn is_put(alloc: Global, starts: &mut Vec<Start>, name: &str, ports: u16) -> bool {
+    match Atom::new(alloc, name) {
+        Ok(name) => {
+            let groups = Items::from_vec(Vec::new(alloc));
+            let start = Start {
+                name,
+                made: 0,
+                ports,
+                groups,
+            };
+            starts.push(start).is_ok()
+        }
+        Err(_) => false,
+    }
+}
+
+/// The configuration of a setting; none where memory was refused.
+pub fn config(alloc: Global, setting: Setting<'_>) -> Option<Config> {
     let mut starts = Vec::new(alloc);
-    match put_names(alloc, &mut starts, setting.names, setting.ports) {
-        Ok(()) => Ok(Config {
-            ring: setting.ring,
-            starts,
-        }),
-        Err(fault) => {
-            drop(starts);
-            Err(fault)
-        }
+    let mut are_put = true;
+    for name in setting.names {
+        are_put = are_put && is_put(alloc, &mut starts, name, setting.ports);
+    }
+    let ring = setting.ring;
+    let config = Config { ring, starts };
+    if are_put {
+        Some(config)
+    } else {
+        drop(config);
+        None
     }
 }
 
-/// A cluster with its clients, of which one that is not there hands back and gives nothing.
-#[derive(Drop)]
-pub struct Running {
-    cluster: pg_cluster::Running,
-}
-
-impl Running {
-    /// The nodes of a configuration as a cluster, and its clients.
-    fn start<R: Threads, G: Gate + Drop + Send + Sync + 'static>(
-        rt: &R,
-        alloc: Global,
-        config: Config,
-        gate: G,
-        limit: u64,
-    ) -> Result<Running, StartFault> {
-        match pg_cluster::Running::start(rt, alloc, config, 0, gate, limit) {
-            Ok(cluster) => Ok(Running { cluster }),
-            Err(fault) => Err(fault),
-        }
-    }
-
-    /// How many clients it has.
-    pub fn client_count(&self) -> usize {
-        self.cluster.client_count()
-    }
-
-    /// Submits a command at the client at a place, or hands it back.
-    pub fn submit(&mut self, place: usize, command: Command) -> Result<(), Command> {
-        if place >= self.cluster.client_count() {
-            return Err(command);
-        }
-        self.cluster.submit(place, command)
-    }
-
-    /// Whether the client at a place takes a command.
-    pub fn takes(&mut self, place: usize, command: Command) -> bool {
-        match self.submit(place, command) {
-            Ok(()) => true,
-            Err(command) => {
-                drop(command);
-                false
+fn read(alloc: Global, line: &str) -> Option<Command> {
+    match read_line(alloc, line) {
+        Ok(Line::At { node, form }) => {
+            drop(node);
+            match form {
+                NodeForm::Command(command) => Some(command),
+                other => {
+                    drop(other);
+                    None
+                }
             }
         }
-    }
-
-    /// The next answer of the client at a place, if one is there.
-    fn poll(&mut self, place: usize) -> Option<Answer> {
-        if place >= self.cluster.client_count() {
-            return None;
+        Ok(other) => {
+            drop(other);
+            None
         }
-        self.cluster.poll(place)
+        Err(_) => None,
+    }
+}
+
+/// The command of a line of a script, which is read a second time where memory was refused.
+pub fn command_of(alloc: Global, line: &str) -> Option<Command> {
+    match read(alloc, line) {
+        Some(command) => Some(command),
+        None => read(alloc, line),
+    }
+}
+
+/// Whether the text of a reply begins so. It is asked a second time where memory was refused.
+pub fn is_reply(alloc: Global, answer: &Answer, begin: &str) -> bool {
+    let mut out = String::new(alloc);
+    let mut told = print_reply(&mut out, &answer.reply);
+    if told.is_err() {
+        out.clear();
+        told = print_reply(&mut out, &answer.reply);
+    }
+    let is_reply = told.is_ok() && out.as_str().starts_with(begin);
+    drop(out);
+    is_reply
+}
+
+/// A cluster that runs. A client that is not there hands back, and gives nothing.
+#[derive(Drop)]
+pub struct Started {
+    running: Running,
+}
+
+impl Started {
+    /// Submits a command at the client at a place, or hands it back.
+    pub fn submit(&mut self, place: usize, command: Command) -> Result<(), Command> {
+        if place >= self.running.client_count() {
+            return Err(command);
+        }
+        self.running.submit(place, command)
     }
 
-    /// The next reply, once it is there; none after very many looks.
-    fn reply(&mut self, rt: &impl Wait, place: usize) -> Option<Reply> {
+    /// Whether the client at a place takes the command of a line.
+    pub fn takes(&mut self, alloc: Global, place: usize, line: &str) -> bool {
+        match command_of(alloc, line) {
+            Some(command) => match self.submit(place, command) {
+                Ok(()) => true,
+                Err(command) => {
+                    drop(command);
+                    false
+                }
+            },
+            None => false,
+        }
+    }
+
+    /// The next answer of the client at a place, once it is there; none after very many looks.
+    fn answer(&mut self, rt: &impl Wait, place: usize) -> Option<Answer> {
         for _ in 0..1_000_000_000u64 {
-            if let Some(answer) = self.poll(place) {
-                return Some(answer.reply);
+            if place < self.running.client_count() {
+                if let Some(answer) = self.running.poll(place) {
+                    return Some(answer);
+                }
             }
             thread::yield_now();
         }
         None
     }
 
-    /// Submits a command at the client at a place, and gives what it is answered.
-    pub fn ask(&mut self, rt: &impl Wait, place: usize, command: Command) -> Option<Reply> {
-        if self.takes(place, command) {
-            self.reply(rt, place)
-        } else {
-            None
+    /// Whether the client at a place takes the command of a line, and is answered by what begins so.
+    pub fn asks(
+        &mut self,
+        rt: &impl Wait,
+        alloc: Global,
+        place: usize,
+        line: &str,
+        begin: &str,
+    ) -> bool {
+        if !self.takes(alloc, place, line) {
+            return false;
+        }
+        match self.answer(rt, place) {
+            Some(answer) => {
+                let is_reply = is_reply(alloc, &answer, begin);
+                drop(answer);
+                is_reply
+            }
+            None => false,
         }
     }
 
     /// The node at a place is lost.
     pub fn lose<R: Threads>(&mut self, rt: &R, node: usize) -> Result<(), NodeFault> {
-        self.cluster.lose(rt, node)
+        self.running.lose(rt, node)
     }
 
     /// Closes the cluster: what it ended as, and what it began with.
     pub fn close<R: Threads>(self, rt: &R) -> (Result<Closed, Stopped>, Config) {
-        self.cluster.close(rt)
+        self.running.close(rt)
     }
-}
-
-/// A cluster that runs.
-#[derive(Drop)]
-pub struct Started {
-    pub running: Running,
 }
 
 /// The nodes of a setting as a cluster.
@@ -193,11 +187,11 @@ pub fn start<R: Threads, G: Gate + Drop + Send + Sync + 'static>(
     gate: G,
 ) -> Result<Started, StartFault> {
     match config(alloc, setting) {
-        Ok(config) => match Running::start(rt, alloc, config, gate, setting.limit) {
+        Some(config) => match Running::start(rt, alloc, config, 0, gate, setting.limit) {
             Ok(running) => Ok(Started { running }),
             Err(fault) => Err(fault),
         },
-        Err(_) => Err(StartFault::World(WorldFault::OutOfMemory)),
+        None => Err(StartFault::World(WorldFault::OutOfMemory)),
     }
 }
 
@@ -257,36 +251,31 @@ pub fn end_of_closed(alloc: Global, closed: &Closed, config: &Config) -> End {
     }
 }
 
-fn end_of_running<R: Threads>(rt: &R, alloc: Global, running: Running) -> Option<End> {
-    let (closed, config) = running.close(rt);
-    let end = match closed {
-        Ok(closed) => {
-            let end = end_of_closed(alloc, &closed, &config);
-            drop(closed);
-            Some(end)
-        }
-        Err(stopped) => end_of_stopped(alloc, stopped, &config),
-    };
-    drop(config);
-    end
-}
-
 // What stopped is finished a second time where memory was refused.
-fn end_of_stopped(alloc: Global, stopped: Stopped, config: &Config) -> Option<End> {
-    match stopped.finish() {
-        Ok(closed) => {
-            let end = end_of_closed(alloc, &closed, config);
-            drop(closed);
-            Some(end)
-        }
-        Err(stopped) => {
-            drop(stopped);
-            None
-        }
+fn finished(closed: Result<Closed, Stopped>) -> Option<Closed> {
+    match closed {
+        Ok(closed) => Some(closed),
+        Err(stopped) => match stopped.finish() {
+            Ok(closed) => Some(closed),
+            Err(stopped) => {
+                drop(stopped);
+                None
+            }
+        },
     }
 }
 
 /// Closes the cluster: how it ended; none where there is no schedule.
 pub fn end_of<R: Threads>(rt: &R, alloc: Global, started: Started) -> Option<End> {
-    end_of_running(rt, alloc, started.running)
+    let (closed, config) = started.close(rt);
+    let end = match finished(closed) {
+        Some(closed) => {
+            let end = end_of_closed(alloc, &closed, &config);
+            drop(closed);
+            Some(end)
+        }
+        None => None,
+    };
+    drop(config);
+    end
 }

@@ -1,13 +1,12 @@
 //! A node that one thread runs over rings in memory: none of its turns is short.
 
-use crate::asks::{Asked, command};
-use crate::setting::{Open, Setting, config};
+use crate::setting::{Open, Setting, command_of, config, is_reply};
 use crate::verdicts::holds;
 use pg_index::IndexTable;
 use pg_node::Node;
 use pg_ring::{MemRing, SlotIn, slot_pair};
 use pg_run::{Client, LinkedNode, NOTICE_PLACES, NodeRun, Notice, Port, port_pair, run_node};
-use pg_step::{Answer, Reply};
+use pg_step::Answer;
 use pg_world::{Config, starting_nodes};
 use rand_pcg::Pcg32;
 use std::alloc::Global;
@@ -39,12 +38,12 @@ fn last_node(alloc: Global, config: &Config) -> Option<Node<IndexTable>> {
 // A node that has no peer.
 fn node_alone(alloc: Global) -> Option<Node<IndexTable>> {
     match config(alloc, ALONE) {
-        Ok(config) => {
+        Some(config) => {
             let node = last_node(alloc, &config);
             drop(config);
             node
         }
-        Err(_) => None,
+        None => None,
     }
 }
 
@@ -120,22 +119,22 @@ fn begun(alloc: Global) -> Option<(Run, Client)> {
 
 // Whether the client asks for a group.
 fn asks_for_group(alloc: Global, client: &mut Client) -> bool {
-    match command(alloc, Asked::Create("g")) {
-        Ok(command) => match client.submit(command) {
+    match command_of(alloc, "create a g") {
+        Some(command) => match client.submit(command) {
             Ok(()) => true,
             Err(command) => {
                 drop(command);
                 false
             }
         },
-        Err(_) => false,
+        None => false,
     }
 }
 
-fn is_ok(answer: Option<Answer>) -> bool {
+fn is_ok(alloc: Global, answer: Option<Answer>) -> bool {
     match answer {
         Some(answer) => {
-            let is_ok = matches!(&answer.reply, Reply::Ok);
+            let is_ok = is_reply(alloc, &answer, "ok");
             drop(answer);
             is_ok
         }
@@ -150,7 +149,7 @@ fn goes_on_whole(alloc: Global, run: Run, client: Client) -> bool {
     let ran = run_node(0, run, &Open, TURNS);
     let is_whole = ran.turns == TURNS && ran.short == 0;
     drop(ran);
-    let is_answered = is_ok(client.poll());
+    let is_answered = is_ok(alloc, client.poll());
     drop(client);
     is_asked && is_answered && is_whole
 }

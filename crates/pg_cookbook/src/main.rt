@@ -4,12 +4,14 @@
 mod block;
 mod narrow;
 mod play;
+mod texts;
 
 use anyhow::Result;
 use block::{Example, next_example};
 use play::{drawn, played, played_over, traced};
 use std::rt::{Env, Files};
 use std::{env, fs, vec};
+use texts::{cuts, random_lines};
 
 /// Runs each example of a page, and tells those that print something else than the page says.
 fn run_page(rt: &HostRuntime, name: &str) -> Result<()> {
@@ -117,6 +119,23 @@ fn run_line(rt: &HostRuntime, number: &str, line: &str) -> Result<()> {
     Ok(())
 }
 
+/// Reads each beginning of a text, and tells how many there are, and of which another line than the last is told.
+fn run_cuts(rt: &HostRuntime, name: &str) -> Result<()> {
+    let text = fs::read_to_string(rt, name)?;
+    let (all, wrong) = cuts(rt.alloc(), text.as_str());
+    println!(rt; "{name}: {all} cuts, {wrong} of them wrong")?;
+    Ok(())
+}
+
+/// Reads lines by chance of the parts that a file has, and tells whether some of them have a form, and how many are read in two ways.
+fn run_random(rt: &HostRuntime, name: &str) -> Result<()> {
+    let parts = fs::read_to_string(rt, name)?;
+    let told = random_lines(rt.alloc(), parts.as_str())?;
+    let (read, unlike) = (told.read, told.unlike);
+    println!(rt; "{name}: {read} of 10000 lines have a form, {unlike} are told in two ways")?;
+    Ok(())
+}
+
 /// Runs what a name of a file, or of a script with its output, stands for.
 fn run(rt: &HostRuntime, name: &str) -> Result<()> {
     if name.ends_with(".md") {
@@ -124,6 +143,12 @@ fn run(rt: &HostRuntime, name: &str) -> Result<()> {
     }
     if name.ends_with(".lines") {
         return run_lines(rt, name);
+    }
+    if name.ends_with(".cut") {
+        return run_cuts(rt, name);
+    }
+    if name.ends_with(".random") {
+        return run_random(rt, name);
     }
     if let Some(script) = name.strip_suffix(".trace") {
         return run_trace(rt, script, name);

@@ -1,4 +1,6 @@
 //! Sequence diagrams as SVG: a lifeline for each node, and an arrow for each packet from where it was sent to where it was taken.
+//!
+//! `write_svg(alloc, &diagram, &mut file)?` draws a diagram. Begin with `src/data.rt`, what a diagram is, then `src/draw.rt`.
 #![tactic(auto)]
 
 mod adding;

@@ -1,4 +1,7 @@
 //! The processes of a node: which were made, and what their ends change.
+//!
+//! `processes.make()` makes a process, and `take_end(&pid, &mut table, &mut ended)?` takes it out of all groups. Begin with
+//! `src/processes.rt`.
 #![tactic(auto)]
 
 mod end;

@@ -2,8 +2,10 @@ ghost use Rattle.std.specs.Prelude.{◌≡◌, ◌≤◌};
 ghost use Rattle.pg_ends.specs.declared.processes.TheConstants.{MAX_PROCESSES};
 
 use crate::fault::EndFault;
+use crate::laws::numbered_from_one;
 use pg_group::Ended;
 use pg_term::{Atom, Pid};
+use std::alloc::{AllocError, Global};
 
 /// How many processes a node can make.
 pub const MAX_PROCESSES: u32 = 268_435_455;
@@ -18,9 +20,9 @@ pub struct Processes {
 }
 
 impl Processes {
-    ghost use Rattle.std.specs.Prelude.{◌≡◌, ◌≤◌, ◌+◌, ◌↔◌, nat_le, Err, IfOk, OnOk, OnErr};
-    ghost use Rattle.pg_group.specs.Ended.{ended_of};
-    ghost use Rattle.pg_ends.specs.Numbers.{pid_of, is_among};
+    ghost use Rattle.std.specs.Prelude.{◌≡◌, ◌≤◌, ◌+◌, ◌↔◌, nat_le, false, Err, IfOk, OnOk, OnErr};
+    ghost use Rattle.pg_group.specs.Ended.{ended_of, is_whole};
+    ghost use Rattle.pg_ends.specs.Numbers.{pid_of, is_among, first_pids, ended_among};
     ghost use Rattle.pg_ends.specs.Processes.{node_of, made_of, finish_of};
     ghost use Rattle.pg_ends.specs.declared.fault.EndFault.TheVariants.{ProcessLimit};
 
@@ -31,6 +33,25 @@ impl Processes {
         ensures made { made_of result ≡ made }
     {
         Processes { node, made }
+    }
+
+    /// As many processes of the same node. Error: `AllocError`.
+    pub fn copy(&self) -> Result<Processes, AllocError>
+        ensures node { IfOk result (λ copy. node_of copy ≡ node_of self.now) }
+        ensures made { IfOk result (λ copy. made_of copy ≡ made_of self.now) }
+    {
+        let node = self.node.copy()?;
+        Ok(Processes {
+            node,
+            made: self.made,
+        })
+    }
+
+    /// The name of the node. It takes no memory.
+    pub fn node(&self) -> &Atom
+        ensures { result.now ≡ node_of self.now }
+    {
+        &self.node
     }
 
     /// How many were made. It takes no memory.
@@ -87,6 +108,53 @@ impl Processes {
             return Err(EndFault::AlreadyEnded);
         }
         Ok(())
+    }
+
+    /// The processes that were made and have ended, by their numbers. Its cost is that of `Ended::pids_of`; where the node was put
+    /// in as a whole, it lists each process that was made.
+    ///
+    /// Error: `AllocError`.
+    pub fn ended(&self, alloc: Global, ended: &Ended) -> Result<Vec<Pid>, AllocError>
+        ensures { IfOk result (λ pids. pids.items ≡ ended_among (node_of self.now) (made_of self.now) (ended_of ended.now)) }
+    {
+        if ended.has_node(&self.node) {
+            self.all(alloc)
+        } else {
+            self.singles(alloc, ended)
+        }
+    }
+
+    /// All processes that were made.
+    fn all(&self, alloc: Global) -> Result<Vec<Pid>, AllocError>
+        ensures { IfOk result (λ pids. pids.items ≡ first_pids (node_of self.now) (made_of self.now)) }
+    {
+        let mut pids = Vec::new(alloc);
+        for before in 0..self.made {
+            let number = before + 1;
+            pids.push(Pid {
+                node: self.node.copy()?,
+                serial: number / 32768,
+                id: number % 32768,
+                creation: 1,
+            })?;
+        }
+        Ok(pids)
+    }
+
+    /// Those that were put in one by one, and were made.
+    fn singles(&self, alloc: Global, ended: &Ended) -> Result<Vec<Pid>, AllocError>
+        requires { is_whole ended.now (node_of self.now) ≡ false }
+        ensures { IfOk result (λ pids. pids.items ≡ ended_among (node_of self.now) (made_of self.now) (ended_of ended.now)) }
+    {
+        numbered_from_one();
+        let singles = ended.pids_of(alloc, &self.node)?;
+        let mut pids = Vec::new(alloc);
+        for pid in singles {
+            if self.has_made(&pid) {
+                pids.push(pid)?;
+            }
+        }
+        Ok(pids)
     }
 
     /// Whether the number of a pid of this node is one of those that were made.

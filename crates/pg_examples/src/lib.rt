@@ -1,4 +1,6 @@
 //! Worked examples of the step, as laws: lists of events, each of which happens, and what they lead to.
+//!
+//! There is no code: `two_creators()` and its like are laws. Begin with `specs/Examples.antt`, then `src/examples.rt`.
 #![tactic(auto)]
 
 mod commands;

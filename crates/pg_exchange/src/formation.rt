@@ -53,6 +53,20 @@ impl Formation {
         self.marks.len()
     }
 
+    /// The same peers are merged, of as many. One allocation.
+    ///
+    /// Error: `AllocError`.
+    pub fn copy(&self) -> Result<Formation, AllocError>
+        ensures { IfOk result (λ copy. copy ≡ self.now) }
+    {
+        let marks = self.marks.clone()?;
+        Ok(Formation {
+            marks,
+            missing: self.missing,
+            alloc: self.alloc,
+        })
+    }
+
     /// Whether the same peers are merged, of as many. It takes no memory: O(n) in the peers.
     pub fn same(&self, other: &Formation) -> bool
         ensures { IsTrue result ↔ (self.now ≡ other.now) }

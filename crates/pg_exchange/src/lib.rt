@@ -1,4 +1,6 @@
 //! How a node forms: it announces its groups to each peer, and merges what each peer announces, once.
+//!
+//! `snapshot(alloc, &table)?` is what a node announces, and `formation.take(..)` merges what a peer announced. Begin with `src/formation.rt`.
 #![tactic(auto)]
 
 mod fault;

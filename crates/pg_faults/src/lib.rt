@@ -1,5 +1,7 @@
 //! The numbers of faults: one list for all crates. Each enum of faults tells them by its method `number`; a program prints
 //! `refused N` with the number. `docs/FAULTS.md` says which enum tells which, and where.
+//!
+//! `READ_FAULT` is such a number. Begin with docs/FAULTS.md.
 
 /// The bytes end within a term, or the input ends within a frame.
 pub const TRUNCATED: u8 = 1;

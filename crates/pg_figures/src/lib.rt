@@ -1,4 +1,6 @@
 //! What measurements share: words that choose a figure, watches, lines, and small values that figures are about.
+//!
+//! `Watch` measures, and `report` prints a line. Begin with `src/figures.rt`.
 #![tactic(auto)]
 
 mod changes;

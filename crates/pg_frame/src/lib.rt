@@ -1,4 +1,7 @@
 //! Packets out of bytes: frames, each a length and that many bytes.
+//!
+//! `deframer.feed(bytes)?` takes bytes in, and `deframer.front()?` lends the first whole body. Begin with `specs/Frames.antt`, then
+//! `src/deframer.rt`.
 #![tactic(auto)]
 
 mod deframer;

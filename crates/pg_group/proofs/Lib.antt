@@ -2,6 +2,7 @@ pub mod Changes
 pub mod Copies
 pub mod Drops
 pub mod EndedSets
+pub mod EndedCopies
 pub mod EndedListed
 pub mod EndedWithin
 pub mod Exchanges

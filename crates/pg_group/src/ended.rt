@@ -1,4 +1,4 @@
-ghost use Rattle.std.specs.Prelude.{◌≡◌, true, false, IsTrue, ◌↔◌, IfOk, OnOk, OnErr};
+ghost use Rattle.std.specs.Prelude.{◌≡◌, ◌||◌, true, false, IsTrue, ◌↔◌, IfOk, OnOk, OnErr};
 
 use pg_term::{Atom, Pid};
 use std::alloc::{AllocError, Global};
@@ -13,8 +13,10 @@ pub struct Ended {
 }
 
 impl Ended {
+    ghost use Rattle.std.specs.BTreeSet.{contains};
     ghost use Rattle.std.specs.List.{list_all};
-    ghost use Rattle.pg_term.specs.Same.{same_pid};
+    ghost use Rattle.std.specs.List.Sorted.{IsStrictlySortedBy};
+    ghost use Rattle.pg_term.specs.Same.{same_pid, atom_cmp, pid_cmp};
     ghost use Rattle.pg_group.specs.Functions.{upd};
     ghost use Rattle.pg_group.specs.Ended.{ended_of, ended_with, is_whole, single_of, IsWithin};
 
@@ -47,7 +49,8 @@ impl Ended {
     ///
     /// Error: `AllocError`.
     pub fn pids_of(&self, alloc: Global, node: &Atom) -> Result<Vec<Pid>, AllocError>
-        ensures { IfOk result (λ pids. pids.items ≡ single_of self.now node.now) }
+        ensures pids { IfOk result (λ pids. pids.items ≡ single_of self.now node.now) }
+        ensures ordered { IfOk result (λ pids. IsStrictlySortedBy pid_cmp pids.items) }
     {
         let first = Pid {
             node: node.copy()?,
@@ -83,6 +86,38 @@ impl Ended {
         ensures { result ≡ list_all (ended_of self.now) pids.now.keys }
     {
         pids.iter().all(|pid| self.has(pid))
+    }
+
+    /// The same pids and nodes. O(n log n) in the pids and the nodes that were put in, with their copies.
+    ///
+    /// Error: `AllocError`.
+    pub fn copy(&self, alloc: Global) -> Result<Ended, AllocError>
+        ensures { IfOk result (λ copy. ended_of copy ≡ ended_of self.now) }
+    {
+        let mut copy = Ended::new(alloc);
+        copy.add_nodes(&self.nodes)?;
+        copy.add_pids(&self.pids)?;
+        Ok(copy)
+    }
+
+    /// Puts all pids of some nodes in.
+    fn add_nodes(&mut self, nodes: &BTreeSet<Atom>) -> Result<(), AllocError>
+        ensures { OnOk result ((pid : Pid) → ended_of self.new pid ≡ (contains atom_cmp nodes.now pid.node || ended_of self.old pid)) }
+    {
+        for node in nodes {
+            self.add_node(node)?;
+        }
+        Ok(())
+    }
+
+    /// Puts some pids in.
+    fn add_pids(&mut self, pids: &BTreeSet<Pid>) -> Result<(), AllocError>
+        ensures { OnOk result ((pid : Pid) → ended_of self.new pid ≡ (contains pid_cmp pids.now pid || ended_of self.old pid)) }
+    {
+        for pid in pids {
+            self.add(pid.copy()?)?;
+        }
+        Ok(())
     }
 
     /// Puts the pid in. An error changes nothing. O(log n).

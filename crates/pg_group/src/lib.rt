@@ -1,4 +1,7 @@
 //! Process groups: what updates make of them, and the tables that keep them.
+//!
+//! `table.apply(&Update::Create(name), &ended)?` makes a group. Begin with `src/update.rt`; `specs/Value.antt` says what an update makes of a
+//! group, and `src/table.rt` what each table keeps.
 #![tactic(auto)]
 
 mod append;

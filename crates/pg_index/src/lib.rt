@@ -1,4 +1,7 @@
 //! The table of groups for many members: groups by number, and the groups of each pid.
+//!
+//! `IndexTable::new(alloc)` is an empty table, which is called by `GroupTable` of pg_group. Begin with `src/index_table.rt`, then
+//! `specs/Index.antt`.
 #![tactic(auto)]
 
 mod groups;

@@ -1,4 +1,5 @@
 pub mod Acts
+pub mod Behind
 pub mod Joining
 pub mod Losing
 pub mod Moved

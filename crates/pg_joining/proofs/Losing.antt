@@ -9,13 +9,13 @@ use Rattle.pg_machine.specs.Machine.{Input, Machine, Taken, Own, is_there, node_
 use Rattle.pg_machine.specs.Runs.{reported_by}
 use Rattle.pg_machine.specs.Clocked.{Timed, Stamped, TimedWorld}
 use Rattle.pg_machine.specs.Timely.{KeepsTime}
-use Rattle.pg_machine.specs.Losing.{LosingWorld, LosingEvent, Step, Lose, LosingLeads, nobody_gone, each_place, can_keep, stopped, losing_happens}
+use Rattle.pg_machine.specs.Losing.{LosingWorld, Step, Lose, LosingLeads, nobody_gone, each_place, can_keep, stopped, losing_happens}
 use Rattle.pg_machine.proofs.Places.{set_at_here, set_at_other}
 use Rattle.pg_machine.proofs.Sequences.{told_by_append}
 use Rattle.pg_machine.proofs.Steps.{pair_apart}
 use Rattle.pg_joining.specs.Logs.{Act, event_of, NodeLeads, sent_to, packet_from, taken_from, reports_of}
 use Rattle.pg_joining.specs.Merge.{ComesFirst, IsNext, rest_of, MergesRest, Merges, clocks_of, entry_at, merged}
-use Rattle.pg_joining.specs.Losses.{Logged, Turned, Stopped, logged, turn_entry, losing_log, arriving, AreLosingLogs, LosingJoined}
+use Rattle.pg_joining.specs.Losses.{Logged, Turned, Stopped, still_kept, events_told, turn_entry, losing_log, arriving, AreLosingLogs, LosingJoined}
 use Rattle.pg_joining.proofs.Acts.{pair_places, drop_next, From, later_than_first, stamped_later}
 use Rattle.pg_joining.proofs.Moved.{Moved, own_moved, take_moved}
 
@@ -86,13 +86,26 @@ module _ {S P C O : Type 0} (limit : ℕ) (m : Machine (Timed S) (Stamped P) C O
 
       -- of what stays on a way so many are still to come
       abbrev kept_on : ℕ → ℕ → ℕ
-      kept_on p q = cond (nat_eq q i) (kept p q - length (packet_from p a.input)) (kept p q)
+      kept_on = still_kept (event_of i a.input) kept
 
       kept_here : (p q : ℕ) → q ≡ i → kept_on p q ≡ kept p i - length (packet_from p a.input)
-      kept_here p q same = ap (λ b. cond b (kept p q - length (packet_from p a.input)) (kept p q)) (eq-eqb q i same) ∙ ap (λ k. kept p k - length (packet_from p a.input)) same
+      kept_here p q same = go a.input
+        where
+          one : (x : Stamped P) (b : Bool) → kept p i - cond b 1 0 ≡ kept p i - length (cond b (x ∷ []) [])
+          one x true = refl
+          one x false = refl
+
+          go : (input : Input (Stamped P) C) → still_kept (event_of i input) kept p q ≡ kept p i - length (packet_from p input)
+          go (Taken from x) = ap (λ b. cond b (kept p q - cond (nat_eq from p) 1 0) (kept p q)) (eq-eqb q i same)
+              ∙ (ap (λ k. kept p k - cond (nat_eq from p) 1 0) same ∙ one x (nat_eq from p))
+          go (Own c) = ap (kept p) same ∙ omega arith
 
       kept_there : (p q : ℕ) → q ≢ i → kept_on p q ≡ kept p q
-      kept_there p q apart = ap (λ b. cond b (kept p q - length (packet_from p a.input)) (kept p q)) (ne_eqb q i apart)
+      kept_there p q apart = go a.input
+        where
+          go : (input : Input (Stamped P) C) → still_kept (event_of i input) kept p q ≡ kept p q
+          go (Taken from x) = ap (λ b. cond b (kept p q - cond (nat_eq from p) 1 0) (kept p q)) (ne_eqb q i apart)
+          go (Own c) = refl
 
       new_runs : (j : ℕ) → j < m.size → (j ≡ i) ⊎ (j ≡ i → ⊥) → NodeLeads m j (v.node j) (next j) (ends j)
       new_runs j low (inl same) =
@@ -379,21 +392,17 @@ module _ {S P C O : Type 0} (limit : ℕ) (m : Machine (Timed S) (Stamped P) C O
       }
 
     -- ---- the rest of the merge
-    record Reached (w : LosingWorld (Timed S) (Stamped P) O) (acts : ℕ → List (Act (Timed S) (Stamped P) C O)) (entries : List (Logged C)) : Type 0 where
-      events : List (LosingEvent C)
-      told : map logged events ≡ entries
+    record Reached (w : LosingWorld (Timed S) (Stamped P) O) (acts : ℕ → List (Act (Timed S) (Stamped P) C O)) (kept : ℕ → ℕ → ℕ) (entries : List (Logged C)) : Type 0 where
       world : LosingWorld (Timed S) (Stamped P) O
-      leads : LosingLeads m last w events world
+      leads : LosingLeads m last w (events_told kept entries) world
       gone : (i : ℕ) → i < m.size → world.gone i ≡ lost i
       nodes : (i : ℕ) → i < m.size → world.world.node i ≡ ends i
       ways : (p q : ℕ) → p < m.size → q < m.size → p ≢ q → world.world.wire p q ≡ left p q
       reported : (i : ℕ) → i < m.size → reported_by i world.world.reported ≡ reported_by i w.world.reported ++ reports_of (acts i)
 
     reached_nothing : (w : LosingWorld (Timed S) (Stamped P) O) (acts : ℕ → List (Act (Timed S) (Stamped P) C O)) (pending : ℕ → Bool) (kept : ℕ → ℕ → ℕ) → Ahead w acts pending kept
-        → ((i : ℕ) → i < m.size → acts i ≡ []) → ((i : ℕ) → i < m.size → pending i ≡ false) → Reached w acts []
+        → ((i : ℕ) → i < m.size → acts i ≡ []) → ((i : ℕ) → i < m.size → pending i ≡ false) → Reached w acts kept []
     reached_nothing w acts pending kept old none no_loss = record {
-      events = [];
-      told = refl;
       world = w;
       leads = refl;
       gone = λ i low. gone i low (old.losses i low);
@@ -412,7 +421,7 @@ module _ {S P C O : Type 0} (limit : ℕ) (m : Machine (Timed S) (Stamped P) C O
     module _ (w : LosingWorld (Timed S) (Stamped P) O) (v : TimedWorld S P O) (i : ℕ) (a : Act (Timed S) (Stamped P) C O) (more : List (Act (Timed S) (Stamped P) C O))
         (acts next : ℕ → List (Act (Timed S) (Stamped P) C O)) (here : acts i ≡ a ∷ more) (then_ : next i ≡ more) (others : (j : ℕ) → j ≢ i → next j ≡ acts j)
         (moved : Moved m w.world v i a.input a.turn) (does : losing_happens m last w (Step (event_of i a.input)) ≡ Some (record { world = v; gone = w.gone }))
-        (entries : List (Logged C)) (after : Reached (record { world = v; gone = w.gone }) next entries) where
+        (kept : ℕ → ℕ → ℕ) (entries : List (Logged C)) (after : Reached (record { world = v; gone = w.gone }) next (still_kept (event_of i a.input) kept) entries) where
       reports : (j : ℕ) → reported_by j v.reported ≡ reported_by j w.world.reported ++ cond (nat_eq i j) (a.turn.reported ∷ []) []
       reports j = ap (reported_by j) moved.reported ∙ told_by_append j w.world.reported ((i, a.turn.reported) ∷ [])
 
@@ -424,10 +433,8 @@ module _ {S P C O : Type 0} (limit : ℕ) (m : Machine (Timed S) (Stamped P) C O
       new_reports j (inr apart) =
           ap (λ b. cond b (a.turn.reported ∷ []) [] ++ reports_of (next j)) (ne_eqb i j (λ e. apart (sym e))) ∙ ap reports_of (others j apart)
 
-      reached_turn : Reached w acts (Turned (event_of i a.input) ∷ entries)
+      reached_turn : Reached w acts kept (Turned (event_of i a.input) ∷ entries)
       reached_turn = record {
-        events = Step (event_of i a.input) ∷ after.events;
-        told = ap (λ xs. Turned (event_of i a.input) ∷ xs) after.told;
         world = after.world;
         leads = (record { world = v; gone = w.gone }, does, after.leads);
         gone = after.gone;
@@ -439,11 +446,9 @@ module _ {S P C O : Type 0} (limit : ℕ) (m : Machine (Timed S) (Stamped P) C O
       }
 
     -- one more loss
-    reached_loss : (w u : LosingWorld (Timed S) (Stamped P) O) (i : ℕ) (keep : ℕ → ℕ) (acts : ℕ → List (Act (Timed S) (Stamped P) C O)) (entries : List (Logged C))
-        → losing_happens m last w (Lose i keep) ≡ Some u → u.world.reported ≡ w.world.reported → Reached u acts entries → Reached w acts (Stopped i ∷ entries)
-    reached_loss w u i keep acts entries does same after = record {
-      events = Lose i keep ∷ after.events;
-      told = ap (λ xs. Stopped i ∷ xs) after.told;
+    reached_loss : (w u : LosingWorld (Timed S) (Stamped P) O) (i : ℕ) (kept : ℕ → ℕ → ℕ) (acts : ℕ → List (Act (Timed S) (Stamped P) C O)) (entries : List (Logged C))
+        → losing_happens m last w (Lose i (kept i)) ≡ Some u → u.world.reported ≡ w.world.reported → Reached u acts kept entries → Reached w acts kept (Stopped i ∷ entries)
+    reached_loss w u i kept acts entries does same after = record {
       world = after.world;
       leads = (u, does, after.leads);
       gone = after.gone;
@@ -506,7 +511,7 @@ module _ {S P C O : Type 0} (limit : ℕ) (m : Machine (Timed S) (Stamped P) C O
       -- the rest of the merge, from wherever
       abbrev Rest : List (ℕ × ℕ) → Type 0
       Rest order = (read : ℕ → ℕ) (w : LosingWorld (Timed S) (Stamped P) O) (acts : ℕ → List (Act (Timed S) (Stamped P) C O)) (pending : ℕ → Bool) (kept : ℕ → ℕ → ℕ)
-          → Ahead w acts pending kept → Read read acts pending → MergesRest m.size clocks read order → Reached w acts (merged logs order)
+          → Ahead w acts pending kept → Read read acts pending → MergesRest m.size clocks read order → Reached w acts kept (merged logs order)
 
       one_entry : (x : ℕ × ℕ) (order : List (ℕ × ℕ)) → Rest order → Rest (x ∷ order)
       one_entry x order again read w acts pending kept old far merges = go (acts x.0) refl (pending x.0) refl
@@ -514,7 +519,7 @@ module _ {S P C O : Type 0} (limit : ℕ) (m : Machine (Timed S) (Stamped P) C O
           next : IsNext m.size (rest_of clocks read) x.0
           next = merges.1
 
-          go : (r : List (Act (Timed S) (Stamped P) C O)) → acts x.0 ≡ r → (b : Bool) → pending x.0 ≡ b → Reached w acts (merged logs (x ∷ order))
+          go : (r : List (Act (Timed S) (Stamped P) C O)) → acts x.0 ≡ r → (b : Bool) → pending x.0 ≡ b → Reached w acts kept (merged logs (x ∷ order))
           go [] is false is_b =
               let no : next.clock ∷ next.later ≡ [] = sym next.next ∙ (seen read acts pending far x.0 next.there
               ∙ (ap (λ b. clocks_of (losing_log x.0 b (ends x.0) (acts x.0))) is_b ∙ ap (λ r. clocks_of (losing_log x.0 false (ends x.0) r)) is)) in
@@ -525,11 +530,11 @@ module _ {S P C O : Type 0} (limit : ℕ) (m : Machine (Timed S) (Stamped P) C O
               let far_on : Read (set_at read x.0 (x.1 + 1)) acts (set_at pending x.0 false) = record {
                 rest = λ j low. loss_read j low (cases_eq j x.0) left_here is;
               } in
-              let after : Reached (lost_world w x.0 acts pending kept old next.there is is_b) acts (merged logs order) =
+              let after : Reached (lost_world w x.0 acts pending kept old next.there is is_b) acts kept (merged logs order) =
               again (set_at read x.0 (x.1 + 1)) (lost_world w x.0 acts pending kept old next.there is is_b) acts (set_at pending x.0 false) kept
               (loss_ahead w x.0 acts pending kept old next.there is is_b) far_on merges.2 in
-              subst (λ es. Reached w acts (es ++ merged logs order)) (sym (entry x.0 (read x.0) x.1 merges.0 ((ends x.0).clock, Stopped x.0) [] left_here))
-              (reached_loss w (lost_world w x.0 acts pending kept old next.there is is_b) x.0 (kept x.0) acts (merged logs order) (loss_happens w x.0 acts pending kept old next.there is is_b) refl after)
+              subst (λ es. Reached w acts kept (es ++ merged logs order)) (sym (entry x.0 (read x.0) x.1 merges.0 ((ends x.0).clock, Stopped x.0) [] left_here))
+              (reached_loss w (lost_world w x.0 acts pending kept old next.there is is_b) x.0 kept acts (merged logs order) (loss_happens w x.0 acts pending kept old next.there is is_b) refl after)
             where
               loss_read : (j : ℕ) → j < m.size → (j ≡ x.0) ⊎ (j ≡ x.0 → ⊥) → drop (read x.0) (logs x.0) ≡ ((ends x.0).clock, Stopped x.0) ∷ [] → acts x.0 ≡ []
                   → drop (set_at read x.0 (x.1 + 1) j) (logs j) ≡ losing_log j (set_at pending x.0 false j) (ends j) (acts j)
@@ -551,15 +556,15 @@ module _ {S P C O : Type 0} (limit : ℕ) (m : Machine (Timed S) (Stamped P) C O
               let then_ : acts_on x.0 ≡ more = set_at_here acts x.0 more x.0 refl in
               let others : (j : ℕ) → j ≢ x.0 → acts_on j ≡ acts j = λ j apart. set_at_other acts x.0 more j apart in
               let far_on : Read (set_at read x.0 (x.1 + 1)) acts_on pending = record { rest = λ j low. turn_read j low (cases_eq j x.0) left_here } in
-              let after : Reached (record { world = h.world; gone = w.gone }) acts_on (merged logs order) =
+              let after : Reached (record { world = h.world; gone = w.gone }) acts_on (still_kept (event_of x.0 a.input) kept) (merged logs order) =
               again (set_at read x.0 (x.1 + 1)) (record { world = h.world; gone = w.gone }) acts_on pending
               (kept_on w h.world x.0 a more acts acts_on pending kept is then_ others old h.moved next.there h.enough)
               (turn_ahead w h.world x.0 a more acts acts_on pending kept is then_ others old h.moved next.there h.enough) far_on merges.2 in
-              subst (λ es. Reached w acts (es ++ merged logs order)) (sym (entry x.0 (read x.0) x.1 merges.0 (turn_entry x.0 a) (losing_log x.0 (pending x.0) (ends x.0) more) left_here))
+              subst (λ es. Reached w acts kept (es ++ merged logs order)) (sym (entry x.0 (read x.0) x.1 merges.0 (turn_entry x.0 a) (losing_log x.0 (pending x.0) (ends x.0) more) left_here))
               (reached_turn w h.world x.0 a more acts acts_on is then_ others h.moved
               (turn_happens w x.0 acts pending kept old next.there a more is
               (λ p low. subst (λ c. From limit m keeps c (acts p)) clock (earliest read w acts pending kept old far x.0 next p low).0)
-              (λ p low still. subst (λ c. c ≤ (ends p).clock) clock ((earliest read w acts pending kept old far x.0 next p low).1 still)) h.world h.moved) (merged logs order) after)
+              (λ p low still. subst (λ c. c ≤ (ends p).clock) clock ((earliest read w acts pending kept old far x.0 next p low).1 still)) h.world h.moved) kept (merged logs order) after)
             where
               turn_read : (j : ℕ) → j < m.size → (j ≡ x.0) ⊎ (j ≡ x.0 → ⊥) → drop (read x.0) (logs x.0) ≡ turn_entry x.0 a ∷ losing_log x.0 (pending x.0) (ends x.0) more
                   → drop (set_at read x.0 (x.1 + 1) j) (logs j) ≡ losing_log j (pending j) (ends j) (set_at acts x.0 more j)
@@ -580,7 +585,7 @@ module _ {S P C O : Type 0} (limit : ℕ) (m : Machine (Timed S) (Stamped P) C O
 pub losing_joined : {S P C O : Type 0} (limit : ℕ) (m : Machine (Timed S) (Stamped P) C O) (last : Timed S → Stamped P) (lost : ℕ → Bool) (kept : ℕ → ℕ → ℕ)
     (logs : ℕ → List (ℕ × Logged C)) (acts : ℕ → List (Act (Timed S) (Stamped P) C O)) (ends : ℕ → Timed S) (left : ℕ → ℕ → List (Stamped P)) (order : List (ℕ × ℕ))
     → KeepsTime limit m → ((s : Timed S) → (last s).stamp ≡ s.clock) → AreLosingLogs m last lost kept logs acts ends left → Merges m.size (λ i. clocks_of (logs i)) order
-    → LosingJoined m last lost acts ends left (merged logs order)
+    → LosingJoined m last lost kept acts ends left (merged logs order)
 losing_joined {S} {P} {C} {O} limit m last lost kept logs acts ends left order keeps notice are merges =
     let start : Ahead limit m keeps last notice lost ends left (nobody_gone (start_of m)) acts lost kept = record {
       runs = are.runs;
@@ -590,8 +595,6 @@ losing_joined {S} {P} {C} {O} limit m last lost kept logs acts ends left order k
     } in
     let all = reached limit m keeps last notice lost ends left logs order (λ i. 0) (nobody_gone (start_of m)) acts lost kept start (record { rest = are.entries }) merges in
     record {
-      events = all.events;
-      told = all.told;
       world = all.world;
       leads = all.leads;
       gone = all.gone;

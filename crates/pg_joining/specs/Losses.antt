@@ -1,6 +1,7 @@
 -- The logs of nodes of which some were lost, and one run out of them.
-use Rattle.std.specs.Prelude.{◌≡◌, ◌≢◌, ℕ, ◌<◌, ◌≤◌, Bool, true, cond, map, take, length, List, [], ◌∷◌, ◌++◌}
-use Rattle.pg_machine.specs.Machine.{Machine, Event, start_of}
+use Rattle.std.specs.Prelude.{◌≡◌, ◌≢◌, ℕ, zero, suc, ◌+◌, ◌-◌, ◌<◌, ◌≤◌, Bool, true, ◌&&◌, cond, nat_eq, map, take, length, List, [], ◌∷◌, ◌++◌}
+use Rattle.std.specs.List.{flat_map}
+use Rattle.pg_machine.specs.Machine.{Machine, Event, Take, Do, start_of}
 use Rattle.pg_machine.specs.Clocked.{Timed, Stamped}
 use Rattle.pg_machine.specs.Runs.{reported_by}
 use Rattle.pg_machine.specs.Losing.{LosingWorld, LosingEvent, Step, Lose, LosingLeads, nobody_gone}
@@ -11,10 +12,17 @@ pub data Logged (Command : Type 0) : Type 0 where
   Turned : Event Command → Logged Command
   Stopped : (node : ℕ) → Logged Command
 
--- what a log says of an event: of a loss not how many packets stay
-abbrev pub logged : {C : Type 0} → LosingEvent C → Logged C
-logged (Step e) = Turned e
-logged (Lose i keep) = Stopped i
+-- how many packets of each way are still to be taken behind an event, where before it these were
+abbrev pub still_kept : {C : Type 0} → Event C → (ℕ → ℕ → ℕ) → ℕ → ℕ → ℕ
+still_kept (Take i from) kept p q = cond (nat_eq q i) (kept p q - cond (nat_eq from p) 1 0) (kept p q)
+still_kept (Do i c) kept p q = kept p q
+
+-- The events that entries tell, one after another, where of each way so many packets are still to be taken: as many stay of what a
+-- lost node had sent.
+abbrev pub events_told : {C : Type 0} → (ℕ → ℕ → ℕ) → List (Logged C) → List (LosingEvent C)
+events_told kept [] = []
+events_told kept (Turned e ∷ entries) = Step e ∷ events_told (still_kept e kept) entries
+events_told kept (Stopped i ∷ entries) = Lose i (kept i) ∷ events_told kept entries
 
 -- the entry of a turn
 abbrev pub turn_entry : {S P C O : Type 0} → ℕ → Act (Timed S) (Stamped P) C O → ℕ × Logged C
@@ -39,15 +47,41 @@ pub record AreLosingLogs {S P C O : Type 0} (m : Machine (Timed S) (Stamped P) C
   pub ways : (p q : ℕ) → p < m.size → q < m.size → p ≢ q
       → arriving (lost p) (kept p q) (last (ends p)) (m.opening p q ++ sent_to q (acts p)) ≡ taken_from p (acts q) ++ left p q
 
--- As `Joined`: the events are those that the entries tell, each loss with how many packets stayed on the way then.
+-- As `Joined`: the events are those that the entries tell, each loss with as many packets as are taken later.
 pub record LosingJoined {S P C O : Type 0} (m : Machine (Timed S) (Stamped P) C O) (last : Timed S → Stamped P) (lost : ℕ → Bool)
-    (acts : ℕ → List (Act (Timed S) (Stamped P) C O)) (ends : ℕ → Timed S) (left : ℕ → ℕ → List (Stamped P))
+    (kept : ℕ → ℕ → ℕ) (acts : ℕ → List (Act (Timed S) (Stamped P) C O)) (ends : ℕ → Timed S) (left : ℕ → ℕ → List (Stamped P))
     (entries : List (Logged C)) : Type 0 where
-  pub events : List (LosingEvent C)
-  pub told : map logged events ≡ entries
   pub world : LosingWorld (Timed S) (Stamped P) O
-  pub leads : LosingLeads m last (nobody_gone (start_of m)) events world
+  pub leads : LosingLeads m last (nobody_gone (start_of m)) (events_told kept entries) world
   pub gone : (i : ℕ) → i < m.size → world.gone i ≡ lost i
   pub nodes : (i : ℕ) → i < m.size → world.world.node i ≡ ends i
   pub ways : (p q : ℕ) → p < m.size → q < m.size → p ≢ q → world.world.wire p q ≡ left p q
   pub reported : (i : ℕ) → i < m.size → reported_by i world.world.reported ≡ reports_of (acts i)
+
+-- ---- where losses stand
+
+-- the clock of the last entry of a log, where it was this before the first
+abbrev pub last_from : ℕ → List ℕ → ℕ
+last_from clock [] = clock
+last_from clock (next ∷ clocks) = last_from next clocks
+
+-- the clocks of a log, and behind them that of the loss of its node, where that is lost
+abbrev pub with_loss : Bool → List ℕ → List ℕ
+with_loss lost clocks = clocks ++ cond lost (last_from 0 clocks ∷ []) []
+
+-- the loss of a node that did nothing
+abbrev pub loss_alone : (ℕ → Bool) → (ℕ → List ℕ) → ℕ → List (ℕ × ℕ)
+loss_alone lost clocks i = cond (lost i && nat_eq (length (clocks i)) 0) ((i, 0) ∷ []) []
+
+-- the losses of those of the first so many nodes that did nothing
+abbrev pub losses_alone : (ℕ → Bool) → (ℕ → List ℕ) → ℕ → List (ℕ × ℕ)
+losses_alone lost clocks zero = []
+losses_alone lost clocks (suc n) = losses_alone lost clocks n ++ loss_alone lost clocks n
+
+-- the loss of a node, where this entry of its log is the last
+abbrev pub loss_behind : (ℕ → Bool) → (ℕ → List ℕ) → ℕ × ℕ → List (ℕ × ℕ)
+loss_behind lost clocks x = cond (lost x.0 && nat_eq (x.1 + 1) (length (clocks x.0))) ((x.0, x.1 + 1) ∷ []) []
+
+-- An order, and the loss of each node that is lost right behind its last entry; those of nodes that did nothing come first.
+abbrev pub with_losses : ℕ → (ℕ → Bool) → (ℕ → List ℕ) → List (ℕ × ℕ) → List (ℕ × ℕ)
+with_losses size lost clocks order = losses_alone lost clocks size ++ flat_map (λ x. x ∷ loss_behind lost clocks x) order

@@ -6,7 +6,7 @@ ghost use Rattle.pg_machine.specs.Timely.{KeepsTime};
 ghost use Rattle.pg_joining.specs.Logs.{Act, AreLogs};
 ghost use Rattle.pg_joining.specs.Merge.{Merges, IsRising, IsSorted, places_of, clocks_of, merged, seen_log};
 ghost use Rattle.pg_joining.specs.Joined.{Joined};
-ghost use Rattle.pg_joining.specs.Losses.{Logged, AreLosingLogs, LosingJoined};
+ghost use Rattle.pg_joining.specs.Losses.{Logged, AreLosingLogs, LosingJoined, with_loss, with_losses};
 
 /// The logs of nodes that ran apart join to one run: their entries, merged by clock and then by node, happen one after another
 /// from the start, and lead each node to where its log ended. So it is for every machine that keeps time.
@@ -27,7 +27,15 @@ pub fn losing_logs_join<S, P, C, O>()
         (left : ℕ → ℕ → List (Stamped P)) (order : List (ℕ × ℕ)) → KeepsTime limit m
         → ((s : Timed S) → (last s).stamp ≡ s.clock) → AreLosingLogs m last lost kept logs acts ends left
         → Merges m.size (λ i. clocks_of (logs i)) order
-        → LosingJoined m last lost acts ends left (merged logs order) }
+        → LosingJoined m last lost kept acts ends left (merged logs order) }
+{}
+
+/// Where losses stand in a merge: each right behind the last entry of its node, at whose clock it is, and those of nodes that did
+/// nothing before all entries. So the order of logs without losses gives that of the logs with them.
+pub fn losses_stand_last()
+    ensures { (size : ℕ) (lost : ℕ → Bool) (clocks : ℕ → List ℕ) (order : List (ℕ × ℕ)) → Merges size clocks order
+        → ((i : ℕ) → i < size → AllByRecursion (λ clock. 0 < clock) (clocks i))
+        → Merges size (λ i. with_loss (lost i) (clocks i)) (with_losses size lost clocks order) }
 {}
 
 /// Logs are merged in one order.

@@ -1,4 +1,6 @@
 //! Lines of scripts: their words, and what each of them says.
+//!
+//! `read_line(alloc, "create a g")?` reads a line. Begin with `src/line.rt`, what a line is, then `specs/Forms.antt` beside docs/SCRIPTS.md.
 #![tactic(auto)]
 
 mod adding;

@@ -40,6 +40,21 @@ impl LockTable {
         }
     }
 
+    /// The same holders of the same names. Its cost is that of the copies: O(n log n) in the names that have a holder.
+    ///
+    /// Error: `AllocError`.
+    pub fn copy(&self) -> Result<LockTable, AllocError>
+        ensures { IfOk result (λ copy. locks_of copy ≡ locks_of self.now) }
+    {
+        let sorted = copy_sorted(self.alloc, &self.sorted)?;
+        let beyond = copy_beyond(self.alloc, &self.beyond)?;
+        Ok(LockTable {
+            sorted,
+            beyond,
+            alloc: self.alloc,
+        })
+    }
+
     /// Whether a request for the lock of a name would be granted: the node is formed and the name has no holder. It takes no
     /// memory: O(log n) in the names that have a holder.
     pub fn grants(&self, formed: bool, name: &Term) -> bool
@@ -186,4 +201,29 @@ impl LockTable {
             Err(_) => self.beyond.get(name),
         }
     }
+}
+
+/// The same holders in the same order.
+fn copy_sorted(alloc: Global, holders: &[Holder]) -> Result<Vec<Holder>, AllocError>
+    ensures { IfOk result (λ copies. copies.items ≡ holders.now) }
+{
+    let mut copies = Vec::with_capacity(alloc, holders.len())?;
+    for (name, reference) in holders {
+        copies.push((name.copy(alloc)?, reference.copy()?))?;
+    }
+    Ok(copies)
+}
+
+/// The same holders of the same names.
+fn copy_beyond(
+    alloc: Global,
+    holders: &BTreeMap<Term, Reference>,
+) -> Result<BTreeMap<Term, Reference>, AllocError>
+    ensures { IfOk result (λ copy. (name : Term) → get term_cmp copy name ≡ get term_cmp holders.now name) }
+{
+    let mut copy = BTreeMap::new(alloc);
+    for (name, reference) in holders {
+        copy.insert(name.copy(alloc)?, reference.copy()?)?;
+    }
+    Ok(copy)
 }

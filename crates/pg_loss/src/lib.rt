@@ -1,4 +1,6 @@
 //! What runs keep in which nodes are lost.
+//!
+//! There is no code: `losses_are_survived()` is the law of all of it. Begin with `specs/Survived.antt`, then `src/survival.rt`.
 #![tactic(auto)]
 
 mod lasting;

@@ -1,5 +1,8 @@
 //! Any machine of nodes that step one at a time, as definitions with laws: events, worlds, runs and what they report;
 //! clocks for a step that knows of none; nodes that may be lost.
+//!
+//! There is no code: `runs()` and its like are laws. Begin with `specs/Machine.antt`, then `specs/Runs.antt`; `src/laws.rt` has what holds of
+//! them.
 #![tactic(auto)]
 
 mod laws;

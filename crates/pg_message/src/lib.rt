@@ -1,4 +1,7 @@
 //! Packets: what nodes say to each other, as terms and as bytes.
+//!
+//! `check_name(&name)?` tests the name of a group. Begin with `src/message.rt`, which has each message, and then `specs/Writing.antt`, its
+//! term.
 #![tactic(auto)]
 
 mod fault;

@@ -10,6 +10,7 @@ pub mod Bodies
 pub mod Chains
 pub mod Coming
 pub mod Commanded
+pub mod Copied
 pub mod Counts
 pub mod Events
 pub mod First

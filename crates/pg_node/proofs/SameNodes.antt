@@ -10,7 +10,7 @@ use Rattle.pg_step.specs.Nodes.{Node}
 use Rattle.pg_step.specs.State.{State}
 use Rattle.pg_node.specs.declared.state.NodeState.{NodeState}
 use Rattle.pg_node.specs.Ports.{merged_in}
-use Rattle.pg_node.specs.Same.{AreSameNodes, AreSameBeside}
+use Rattle.pg_node.specs.Same.{AreSameNodes, AreAlike, AreSameBeside}
 use Rattle.pg_node.specs.States.{names_of}
 use Rattle.pg_node.proofs.Merged.{merged_at}
 
@@ -24,52 +24,68 @@ marks_by_merged names marks others apart mine theirs merged = same_lists marks o
         ∙ (ap (λ (f : Node → Bool). f (name_at names (k + 1))) merged ∙ (merged_at names others k apart theirs (omega (arith, mine, l)) ∙ get_or_default others k false d (omega (arith, mine, theirs, l)))))
 
 module _ {T : Type 0} {g : Ghosts T} (one other : NodeState T g) where
-  pub same_forth : AreSameBeside one other → g.contents one.table ≡ g.contents other.table → AreSameNodes one other
-  same_forth beside table = record {
+  pub alike_forth : AreSameBeside one other → g.contents one.table ≡ g.contents other.table → AreAlike one other
+  alike_forth beside table = record {
     names = beside.opens.names;
-    state = λ i. record {
-      clock = beside.clock i;
-      state = record {
-        table = table i;
-        ended = beside.ended i;
-        locks = beside.locks i;
-        merged = merged_in (beside.opens.names i) (beside.formation i);
-        lost = beside.opens.lost_peers i;
-        references = beside.opens.references i;
-        uses = beside.opens.uses i;
-        processes = beside.processes i;
-        opened = beside.opens.opened i;
-        stages = beside.opens.stages i;
-        counts = beside.ports.counts i;
-      };
+    kept = λ i. record {
+      table = table i;
+      ended = beside.ended i;
+      locks = beside.locks i;
+      merged = merged_in (beside.opens.names i) (beside.formation i);
+      lost = beside.opens.lost_peers i;
+      references = beside.opens.references i;
+      uses = beside.opens.uses i;
+      processes = beside.processes i;
+      opened = beside.opens.opened i;
+      stages = beside.opens.stages i;
+      counts = beside.ports.counts i;
     };
     ports = beside.ports.count;
     answers = beside.ports.answers;
   }
 
-  pub same_table : AreSameNodes one other → g.contents one.table ≡ g.contents other.table
-  same_table h = ap (λ (s : Timed State). s.state.table) h.state
+  pub same_table : AreAlike one other → g.contents one.table ≡ g.contents other.table
+  same_table h = ap (λ (s : State). s.table) h.kept
 
-  pub same_back : AreSameNodes one other → AreSameBeside one other
-  same_back h = record {
-    clock = ap (λ (s : Timed State). s.clock) h.state;
-    processes = ap (λ (s : Timed State). s.state.processes) h.state;
-    ended = ap (λ (s : Timed State). s.state.ended) h.state;
-    locks = ap (λ (s : Timed State). s.state.locks) h.state;
+  pub alike_back : AreAlike one other → AreSameBeside one other
+  alike_back h = record {
+    processes = ap (λ (s : State). s.processes) h.kept;
+    ended = ap (λ (s : State). s.ended) h.kept;
+    locks = ap (λ (s : State). s.locks) h.kept;
     formation = marks_by_merged (names_of one) one.formation other.formation one.opens.apart one.peers
         (other.peers ∙ ap (λ (ns : List Node). length ns) (sym h.names))
-        (ap (λ (s : Timed State). s.state.merged) h.state ∙ ap (λ (ns : List Node). merged_in ns other.formation) (sym h.names));
+        (ap (λ (s : State). s.merged) h.kept ∙ ap (λ (ns : List Node). merged_in ns other.formation) (sym h.names));
     opens = record {
       names = h.names;
-      lost_peers = ap (λ (s : Timed State). s.state.lost) h.state;
-      references = ap (λ (s : Timed State). s.state.references) h.state;
-      uses = ap (λ (s : Timed State). s.state.uses) h.state;
-      opened = ap (λ (s : Timed State). s.state.opened) h.state;
-      stages = ap (λ (s : Timed State). s.state.stages) h.state;
+      lost_peers = ap (λ (s : State). s.lost) h.kept;
+      references = ap (λ (s : State). s.references) h.kept;
+      uses = ap (λ (s : State). s.uses) h.kept;
+      opened = ap (λ (s : State). s.opened) h.kept;
+      stages = ap (λ (s : State). s.stages) h.kept;
     };
     ports = record {
       count = h.ports;
-      counts = ap (λ (s : Timed State). s.state.counts) h.state;
+      counts = ap (λ (s : State). s.counts) h.kept;
       answers = h.answers;
     };
   }
+
+  -- with the clock besides
+  pub same_of_alike : one.clock ≡ other.clock → AreAlike one other → AreSameNodes one other
+  same_of_alike clock h = record {
+    names = h.names;
+    state = λ i. record { clock = clock i; state = h.kept i };
+    ports = h.ports;
+    answers = h.answers;
+  }
+
+  pub alike_of_same : AreSameNodes one other → AreAlike one other
+  alike_of_same h = record {
+    names = h.names;
+    kept = ap (λ (s : Timed State). s.state) h.state;
+    ports = h.ports;
+    answers = h.answers;
+  }
+
+  pub clock_of_same : AreSameNodes one other → one.clock ≡ other.clock
+  clock_of_same h = ap (λ (s : Timed State). s.clock) h.state

@@ -1,10 +1,11 @@
 -- Ports that are the same one by one are the same.
 use Rattle.std.proofs.Common.{◌≡◌, ◌<◌, ◌≤◌, ◌+◌, ◌∙◌, ℕ, zero, suc, List, [], ◌∷◌, get_or, length, refl, sym, ap, subst, arith}
 use Rattle.std.proofs.Math.Path.{fun_ext}
+use Rattle.std.specs.List.{AllZip}
 use Rattle.pg_step.specs.declared.answer.Answer.{Answer}
 use Rattle.pg_node.specs.declared.state.port.Port.{Port}
 use Rattle.pg_node.specs.Ports.{counts_in, answers_in}
-use Rattle.pg_node.specs.Same.{AreSamePorts}
+use Rattle.pg_node.specs.Same.{AreSamePorts, IsSamePort}
 use Rattle.pg_node.proofs.Answered.{count_there, answers_there}
 
 -- the first ports of both are the same
@@ -60,3 +61,32 @@ all_below ports others n same l below = (fun_ext (each_count ports others n same
 -- the same ports by other names
 pub ports_along : (ports ports' others others' : List Port) → ports ≡ ports' → others ≡ others' → AreSamePorts ports others → AreSamePorts ports' others'
 ports_along ports ports' others others' e f h = subst (λ (qs : List Port). AreSamePorts ports' qs) f (subst (λ (ps : List Port). AreSamePorts ps others) e h)
+
+-- ---- ports that were copied one by one
+
+same_lengths : (ps qs : List Port) → AllZip IsSamePort ps qs → length ps ≡ length qs
+same_lengths [] [] z = refl
+same_lengths [] (q ∷ qs) z = absurd z
+same_lengths (p ∷ ps) [] z = absurd z
+same_lengths (p ∷ ps) (q ∷ qs) z = ap suc (same_lengths ps qs z.1)
+
+same_counts : (ps qs : List Port) → AllZip IsSamePort ps qs → (k : ℕ) → counts_in ps k ≡ counts_in qs k
+same_counts [] [] z k = refl
+same_counts [] (q ∷ qs) z k = absurd z
+same_counts (p ∷ ps) [] z k = absurd z
+same_counts (p ∷ ps) (q ∷ qs) z zero = sym z.0.count
+same_counts (p ∷ ps) (q ∷ qs) z (suc k) = same_counts ps qs z.1 k
+
+same_answers : (ps qs : List Port) → AllZip IsSamePort ps qs → (k : ℕ) → answers_in ps k ≡ answers_in qs k
+same_answers [] [] z k = refl
+same_answers [] (q ∷ qs) z k = absurd z
+same_answers (p ∷ ps) [] z k = absurd z
+same_answers (p ∷ ps) (q ∷ qs) z zero = sym z.0.answers
+same_answers (p ∷ ps) (q ∷ qs) z (suc k) = same_answers ps qs z.1 k
+
+pub same_of_copies : (ports copies : List Port) → AllZip IsSamePort ports copies → AreSamePorts ports copies
+same_of_copies ports copies zip = record {
+  count = same_lengths ports copies zip;
+  counts = fun_ext (same_counts ports copies zip);
+  answers = fun_ext (same_answers ports copies zip);
+}

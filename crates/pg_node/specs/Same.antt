@@ -9,7 +9,12 @@ use Rattle.pg_node.specs.declared.state.NodeState.{NodeState}
 use Rattle.pg_node.specs.declared.state.port.Port.{Port}
 use Rattle.pg_node.specs.Issued.{ports_of}
 use Rattle.pg_node.specs.Ports.{counts_in, answers_in}
-use Rattle.pg_node.specs.States.{names_of, state_of, answers_of}
+use Rattle.pg_node.specs.States.{names_of, kept_by, state_of, answers_of}
+
+-- as many commands came in, and the same answers were given
+pub record IsSamePort (port other : Port) : Type 0 where
+  pub count : other.count ≡ port.count
+  pub answers : other.answers.items ≡ port.answers.items
 
 -- as many ports, where as many commands came in and the same answers were given
 pub record AreSamePorts (ports others : List Port) : Type 0 where
@@ -24,9 +29,15 @@ pub record AreSameNodes {T : Type 0} {g : Ghosts T} (one other : NodeState T g) 
   pub ports : ports_of one ≡ ports_of other
   pub answers : answers_of one ≡ answers_of other
 
--- the same in each part but the table of groups
+-- the same but for their clocks
+pub record AreAlike {T : Type 0} {g : Ghosts T} (one other : NodeState T g) : Type 0 where
+  pub names : names_of one ≡ names_of other
+  pub kept : kept_by one ≡ kept_by other
+  pub ports : ports_of one ≡ ports_of other
+  pub answers : answers_of one ≡ answers_of other
+
+-- the same in each part but the clock and the table of groups
 pub record AreSameBeside {T : Type 0} {g : Ghosts T} (one other : NodeState T g) : Type 0 where
-  pub clock : one.clock ≡ other.clock
   pub processes : made_of one.processes ≡ made_of other.processes
   pub ended : ended_of one.ended ≡ ended_of other.ended
   pub locks : locks_of one.locks ≡ locks_of other.locks

@@ -1,4 +1,7 @@
 //! One node of a set: over packets, over bytes, and as a replica that is fed a stream of frames.
+//!
+//! `node.command(port, &command)?` gives a node a command, and `node.take(peer)?` has it take a packet. Begin with CALLING.md, then
+//! `src/node/events.rt` and `src/state.rt`; docs/STEP.md says what each does.
 #![tactic(auto)]
 
 mod answer;

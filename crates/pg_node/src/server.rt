@@ -175,7 +175,7 @@ impl<T: GroupTable + Drop> Server<T> {
 /// a write took nothing, and then what was written is a prefix of the replies' frames. Into a `Vec` a write fails only where it is
 /// full and can't grow.
 ///
-/// The time is that of the input, each update with a search of its group; an exchange copies the table and an end costs the
+/// The time is that of the input, each update with a search of its group; an exchange costs the groups that it lists, and an end the
 /// groups of its process. The memory is that of the longest frame, and of the groups with their members, the ended pids and the
 /// locks that are held.
 ///

@@ -16,6 +16,7 @@ mod attempts;
 mod calls;
 mod changes;
 mod command;
+mod copies;
 mod done;
 mod fault;
 mod first;

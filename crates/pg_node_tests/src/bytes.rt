@@ -106,7 +106,7 @@ fn is_part(alloc: Global, pair: &mut Pair, part: &Part<'_>, case: Case<'_>) -> b
 fn play(rt: &impl Abort, alloc: Global, pair: Pair, parts: &[Part<'_>], case: Case<'_>) {
     let mut pair = pair;
     for (place, part) in parts.iter().enumerate() {
-        holds(rt, is_part(alloc, &mut pair, part, case), place);
+        holds(rt, is_part(alloc, &mut pair, part, case), "row", place);
     }
     drop(pair);
 }
@@ -208,18 +208,7 @@ static FAULTS: &[Case<'static>] = &[
     // A tag that is not read.
     (3, &[0, 0, 0, 2, 131, 70]),
     // A term that nests 65 levels deep.
-    (
-        4,
-        &[
-            0, 0, 0, 131, 131, 104, 1, 104, 1, 104, 1, 104, 1, 104, 1, 104, 1, 104, 1, 104, 1, 104,
-            1, 104, 1, 104, 1, 104, 1, 104, 1, 104, 1, 104, 1, 104, 1, 104, 1, 104, 1, 104, 1, 104,
-            1, 104, 1, 104, 1, 104, 1, 104, 1, 104, 1, 104, 1, 104, 1, 104, 1, 104, 1, 104, 1, 104,
-            1, 104, 1, 104, 1, 104, 1, 104, 1, 104, 1, 104, 1, 104, 1, 104, 1, 104, 1, 104, 1, 104,
-            1, 104, 1, 104, 1, 104, 1, 104, 1, 104, 1, 104, 1, 104, 1, 104, 1, 104, 1, 104, 1, 104,
-            1, 104, 1, 104, 1, 104, 1, 104, 1, 104, 1, 104, 1, 104, 1, 104, 1, 104, 1, 104, 1, 104,
-            1, 97, 1,
-        ],
-    ),
+    (4, DEEP),
     // 2^64
     (5, &[0, 0, 0, 13, 131, 110, 9, 0, 0, 0, 0, 0, 0, 0, 0, 0, 1]),
     // An atom that is no UTF-8.
@@ -243,6 +232,12 @@ static FAULTS: &[Case<'static>] = &[
         ],
     ),
 ];
+
+const DEEP: &[u8] = b"\0\0\0\x83\x83\
+    h\x01h\x01h\x01h\x01h\x01h\x01h\x01h\x01h\x01h\x01h\x01h\x01h\x01h\x01h\x01h\x01\
+    h\x01h\x01h\x01h\x01h\x01h\x01h\x01h\x01h\x01h\x01h\x01h\x01h\x01h\x01h\x01h\x01\
+    h\x01h\x01h\x01h\x01h\x01h\x01h\x01h\x01h\x01h\x01h\x01h\x01h\x01h\x01h\x01h\x01\
+    h\x01h\x01h\x01h\x01h\x01h\x01h\x01h\x01h\x01h\x01h\x01h\x01h\x01h\x01h\x01h\x01a\x01";
 
 #[test]
 fn each_fault_damages_its_link(rt: HostRuntime) {

@@ -1,4 +1,4 @@
-//! What is only run of a node: its commands, what its peers make of them, nodes over bytes, and a world of three.
+//! What is only run of a node: its commands, what its peers make of them, and nodes over bytes.
 #![tactic(auto)]
 
 #[cfg(test)]
@@ -19,5 +19,3 @@ mod texts;
 mod told;
 #[cfg(test)]
 mod verdicts;
-#[cfg(test)]
-mod worlds;

@@ -8,6 +8,7 @@ use pg_message::Said;
 use pg_step::{Odd, Refusal};
 
 static GATHERED: Table<'static> = Table {
+    of: "gathered, row",
     kind: Kind::Formed(Who::A),
     rows: &[
         // The greatest node is asked alone.
@@ -58,6 +59,7 @@ fn gathered_replies(rt: HostRuntime) {
 }
 
 static GREATEST: Table<'static> = Table {
+    of: "greatest, row",
     kind: Kind::Formed(Who::C),
     rows: &[
         // The greatest node asks itself first, and all others where it grants.
@@ -81,6 +83,7 @@ static GREATEST: Table<'static> = Table {
 };
 
 static DENIED: Table<'static> = Table {
+    of: "denied, row",
     kind: Kind::Formed(Who::C),
     rows: &[
         Row::Told(Event::Command("create c 7")),
@@ -105,6 +108,7 @@ fn greatest_asks_itself_first(rt: HostRuntime) {
 
 // At a formed node: a process was not made, and then it has ended, of which both peers are told.
 static ENDS: Table<'static> = Table {
+    of: "ends, row",
     kind: Kind::Formed(Who::A),
     rows: &[
         Row::Asked("end a <a.1.0>", "a 1 refused 26"),
@@ -118,13 +122,9 @@ static ENDS: Table<'static> = Table {
     ],
 };
 
-#[test]
-fn refused_ends(rt: HostRuntime) {
-    check(&rt, rt.alloc(), &ENDS);
-}
-
 // A peer that is lost.
 static LOSS: Table<'static> = Table {
+    of: "loss, row",
     kind: Kind::Formed(Who::A),
     rows: &[
         // The greatest makes the group, which a process of it joins.
@@ -143,12 +143,8 @@ static LOSS: Table<'static> = Table {
     ],
 };
 
-#[test]
-fn loss_is_whole(rt: HostRuntime) {
-    check(&rt, rt.alloc(), &LOSS);
-}
-
 static QUERIES: Table<'static> = Table {
+    of: "queries, row",
     kind: Kind::Formed(Who::A),
     rows: &[
         Row::Told(Event::Command("members a 7")),
@@ -163,13 +159,9 @@ static QUERIES: Table<'static> = Table {
     ],
 };
 
-#[test]
-fn queries_are_whole(rt: HostRuntime) {
-    check(&rt, rt.alloc(), &QUERIES);
-}
-
 // No lock is granted before both peers have told their groups. One that is granted and freed is granted again.
 static FORMATION: Table<'static> = Table {
+    of: "formation, row",
     kind: Kind::New(Who::A),
     rows: &[
         Row::Told(Event::Take(0, "{1,{call,#<b/1.1.0.0>,{set_lock,7}}}")),
@@ -188,13 +180,9 @@ static FORMATION: Table<'static> = Table {
     ],
 };
 
-#[test]
-fn formation_and_locks_are_whole(rt: HostRuntime) {
-    check(&rt, rt.alloc(), &FORMATION);
-}
-
 // The group is made, a process joins it twice, and ends; a late join of it adds nothing.
 static UPDATES: Table<'static> = Table {
+    of: "updates, row",
     kind: Kind::Formed(Who::A),
     rows: &[
         Row::Told(Event::Take(0, "{3,{call,#<b/1.3.0.0>,{create,7}}}")),
@@ -210,6 +198,8 @@ static UPDATES: Table<'static> = Table {
 };
 
 #[test]
-fn updates_are_whole(rt: HostRuntime) {
-    check(&rt, rt.alloc(), &UPDATES);
+fn others_are_whole(rt: HostRuntime) {
+    for table in [&ENDS, &LOSS, &QUERIES, &FORMATION, &UPDATES] {
+        check(&rt, rt.alloc(), table);
+    }
 }

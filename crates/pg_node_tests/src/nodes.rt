@@ -26,40 +26,20 @@ pub enum Who {
 }
 
 /// The name of a node of three, those of its peers, and what they tell: that they have no group.
-struct Names {
-    own: &'static str,
-    one: &'static str,
-    two: &'static str,
-    told: [&'static str; 2],
-}
+type Names = (&'static str, [&'static str; 2], [&'static str; 2]);
 
-static OF_A: Names = Names {
-    own: "a",
-    one: "b",
-    two: "c",
-    told: ["{0,{cast,{exchange,b,[]}}}", "{0,{cast,{exchange,c,[]}}}"],
-};
+const FROM_A: &str = "{0,{cast,{exchange,a,[]}}}";
 
-static OF_B: Names = Names {
-    own: "b",
-    one: "a",
-    two: "c",
-    told: ["{0,{cast,{exchange,a,[]}}}", "{0,{cast,{exchange,c,[]}}}"],
-};
+const FROM_B: &str = "{0,{cast,{exchange,b,[]}}}";
 
-static OF_C: Names = Names {
-    own: "c",
-    one: "a",
-    two: "b",
-    told: ["{0,{cast,{exchange,a,[]}}}", "{0,{cast,{exchange,b,[]}}}"],
-};
+const FROM_C: &str = "{0,{cast,{exchange,c,[]}}}";
 
 impl Who {
-    fn names(self) -> &'static Names {
+    fn names(self) -> Names {
         match self {
-            Who::A => &OF_A,
-            Who::B => &OF_B,
-            Who::C => &OF_C,
+            Who::A => ("a", ["b", "c"], [FROM_B, FROM_C]),
+            Who::B => ("b", ["a", "c"], [FROM_A, FROM_C]),
+            Who::C => ("c", ["a", "b"], [FROM_A, FROM_B]),
         }
     }
 }
@@ -139,10 +119,10 @@ fn node_of_three(
 
 /// A node with two peers, which is not formed; none where memory was refused.
 pub fn new_node(alloc: Global, who: Who) -> Option<State> {
-    let names = who.names();
-    let own = atom(alloc, names.own)?;
-    let one = atom(alloc, names.one)?;
-    let two = atom(alloc, names.two)?;
+    let (own, [one, two], _) = who.names();
+    let own = atom(alloc, own)?;
+    let one = atom(alloc, one)?;
+    let two = atom(alloc, two)?;
     if own == one || own == two || one == two {
         return None;
     }
@@ -152,7 +132,7 @@ pub fn new_node(alloc: Global, who: Who) -> Option<State> {
 /// The same, formed.
 pub fn formed_node(alloc: Global, who: Who) -> Option<State> {
     let mut node = new_node(alloc, who)?;
-    let [one, two] = who.names().told;
+    let (_, _, [one, two]) = who.names();
     if happens(alloc, &mut node, Event::Take(0, one)).is_ok()
         && happens(alloc, &mut node, Event::Take(1, two)).is_ok()
     {

@@ -9,6 +9,7 @@ use pg_message::Said;
 use pg_node::NodeFault;
 use pg_step::{Odd, Refusal};
 use std::alloc::{AllocError, Global};
+use std::mem;
 use std::process::Abort;
 
 /// A row of a table.
@@ -24,8 +25,8 @@ pub enum Row<'a> {
     Creates(u32),
     /// The event is refused, and changes nothing.
     Refused(Event<'a>, Refusal),
-    /// The first node alone is told a command, or the other, and whether both are the same then.
-    Alone(bool, &'a str, bool),
+    /// The event happens at the first node alone, or at the other, and whether both are the same then, and but for their clocks.
+    Alone(bool, Event<'a>, bool, bool),
     /// What the last event did.
     Did(Deed),
     /// The last answer of the port, as a line.
@@ -55,11 +56,13 @@ pub enum Deed {
 
 /// A table of rows, and the two nodes at which they hold, one after another.
 pub struct Table<'a> {
+    /// What it is of.
+    pub of: &'a str,
     pub kind: Kind,
     pub rows: &'a [Row<'a>],
 }
 
-// Two nodes, the same but while an event is under way.
+// Two nodes, the same but while an event is under way; after each event the other is a copy of the first.
 #[derive(Drop)]
 struct Twins {
     one: State,
@@ -107,6 +110,14 @@ impl Twins {
         }
     }
 
+    // Whether both are the same but for their clocks.
+    fn are_alike(&self) -> bool {
+        match self.one.is_alike(&self.other) {
+            Ok(alike) => alike,
+            Err(AllocError) => self.one.is_alike(&self.other) == Ok(true),
+        }
+    }
+
     // What the event does at the first, which is told it a second time where memory was refused and it is as it was.
     fn tell_one(&mut self, alloc: Global, event: Event<'_>) -> Result<Did, NodeFault> {
         match happens(alloc, &mut self.one, event) {
@@ -131,11 +142,26 @@ impl Twins {
                 (Ok(did), Ok(_)) => self.did = did,
                 _ => return false,
             }
-            if !self.are_same() {
+            if !self.are_same() || !self.renew() {
                 return false;
             }
         }
         true
+    }
+
+    // From now on the other is a copy of the first, made a second time where memory was refused.
+    fn renew(&mut self) -> bool {
+        let copy = match self.one.copy() {
+            Ok(copy) => Some(copy),
+            Err(AllocError) => self.one.copy().ok(),
+        };
+        match copy {
+            Some(copy) => {
+                drop(mem::replace(&mut self.other, copy));
+                true
+            }
+            None => false,
+        }
     }
 
     // Whether both take the commands that create so many groups of different names.
@@ -164,16 +190,20 @@ impl Twins {
             && self.are_same()
     }
 
-    // Whether both are the same once one of them alone was told a command.
-    fn tell_alone(&mut self, alloc: Global, is_first: bool, line: &str) -> Option<bool> {
-        let event = Event::Command(line);
+    // Whether both are the same, and but for their clocks, once one of them alone was told an event.
+    fn tell_alone(
+        &mut self,
+        alloc: Global,
+        is_first: bool,
+        event: Event<'_>,
+    ) -> Option<(bool, bool)> {
         let told = if is_first {
             self.tell_one(alloc, event)
         } else {
             self.tell_other(alloc, event)
         };
         match told {
-            Ok(_) => Some(self.are_same()),
+            Ok(_) => Some((self.are_same(), self.are_alike())),
             Err(_) => None,
         }
     }
@@ -201,8 +231,8 @@ impl Twins {
                 self.tell(alloc, 1, Event::Command(line)) && has_answered(alloc, &self.one, answer)
             }
             Row::Refused(event, refusal) => self.refuse(alloc, *event, *refusal),
-            Row::Alone(is_first, line, same) => {
-                self.tell_alone(alloc, *is_first, line) == Some(*same)
+            Row::Alone(is_first, event, same, alike) => {
+                self.tell_alone(alloc, *is_first, *event) == Some((*same, *alike))
             }
             Row::Did(deed) => self.has_done(*deed),
             Row::Answered(line) => has_answered(alloc, &self.one, line),
@@ -216,10 +246,10 @@ pub fn check(rt: &impl Abort, alloc: Global, table: &Table<'_>) {
     match new_twins(alloc, table.kind) {
         Some(mut twins) => {
             for (place, row) in table.rows.iter().enumerate() {
-                holds(rt, twins.holds(alloc, row), place);
+                holds(rt, twins.holds(alloc, row), table.of, place);
             }
             drop(twins);
         }
-        None => holds(rt, false, table.rows.len()),
+        None => holds(rt, false, table.of, table.rows.len()),
     }
 }

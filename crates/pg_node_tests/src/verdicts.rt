@@ -3,6 +3,6 @@
 use std::process::Abort;
 
 /// Ends the test where a row of a table does not hold, and tells which.
-pub fn holds(rt: &impl Abort, holds: bool, row: usize) {
-    assert!(rt; holds, "row {row}");
+pub fn holds(rt: &impl Abort, holds: bool, said: &str, row: usize) {
+    assert!(rt; holds, "{said} {row}");
 }

@@ -1,3 +1,4 @@
+pub mod Copied
 pub mod Added
 pub mod Alike
 pub mod Asking

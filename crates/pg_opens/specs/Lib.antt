@@ -1,4 +1,5 @@
 pub mod Commands
+pub mod Copies
 pub mod Layers
 pub mod Marks
 pub mod Opens

@@ -9,6 +9,7 @@ use crate::outlook::Outlook;
 use pg_group::Update;
 use pg_multicall::Taken;
 use pg_step::OpId;
+use std::alloc::AllocError;
 
 /// How a command stands that is open, with the numbers of its references.
 #[derive(Clone, Copy, Debug, PartialEq, Eq)]
@@ -90,6 +91,23 @@ impl Gathering {
             Gathering::Update(_, _) => true,
             Gathering::Nothing | Gathering::Lock(_) => false,
         }
+    }
+}
+
+impl Clone for OpenCommand {
+    ghost use Rattle.pg_opens.specs.Copies.{IsCopy};
+
+    ghost is_clone = { IsCopy };
+
+    fn clone(&self) -> Result<OpenCommand, AllocError> {
+        let marks = self.marks.clone()?;
+        let update = self.update.copy(*marks.allocator())?;
+        Ok(OpenCommand {
+            op: self.op,
+            update,
+            phase: self.phase,
+            marks,
+        })
     }
 }
 

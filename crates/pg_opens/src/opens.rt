@@ -79,6 +79,23 @@ impl Opens {
         })
     }
 
+    /// The same nodes, and the same open commands with the same gathered. Its cost is that of the copies.
+    ///
+    /// Error: `AllocError`.
+    pub fn copy(&self) -> Result<Opens, AllocError>
+        ensures { IfOk result (AreSame self.now) }
+    {
+        let names = copy_names(&self.names)?;
+        let lost = self.lost.clone()?;
+        let commands = self.commands.clone()?;
+        Ok(Opens {
+            names,
+            lost,
+            references: self.references,
+            commands,
+        })
+    }
+
     /// How many commands are open. It takes no memory.
     pub fn open_count(&self) -> usize
         ensures { result ≡ opened_of self.now }
@@ -556,6 +573,16 @@ impl Opens {
         forget(&mut self.commands, place);
         set_lost(&mut self.lost, place);
     }
+}
+
+fn copy_names(names: &Vec<Atom>) -> Result<Vec<Atom>, AllocError>
+    ensures { IfOk result (λ copies. copies.items ≡ names.now.items) }
+{
+    let mut copies = Vec::with_capacity(*names.allocator(), names.len())?;
+    for name in names {
+        copies.push(name.copy()?)?;
+    }
+    Ok(copies)
 }
 
 fn set_lost(lost: &mut Vec<bool>, place: usize)

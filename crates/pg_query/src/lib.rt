@@ -1,4 +1,6 @@
 //! What a node tells of its groups: it reads its own table and takes no lock.
+//!
+//! `closest(&table, &own, &name, word)?` is the member that a word picks. Begin with `src/lists.rt`, then `specs/Closest.antt`.
 #![tactic(auto)]
 
 mod choice;

@@ -1,4 +1,6 @@
 //! Numbers that look random, for tests and figures: the same ones from the same seed (PCG32, `rand_pcg`).
+//!
+//! `Random::new(seed).below(6)` is a number below six. All is in this file.
 #![tactic(auto)]
 
 ghost use Rattle.std.specs.Prelude.{◌<◌};

@@ -1,4 +1,6 @@
 //! Fresh references: the references that one node makes, all different.
+//!
+//! `reference_of(&node, number)?` is the reference of a number. Begin with `specs/Numbered.antt`, then `src/numbers.rt`.
 #![tactic(auto)]
 
 mod fault;

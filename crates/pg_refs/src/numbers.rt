@@ -27,7 +27,8 @@ pub fn reference_of(node: &Atom, number: u32) -> Result<Reference, AllocError>
     Ok(reference)
 }
 
-/// The number of a reference that the node could make; `None` for any other. It takes no memory.
+/// The number that the words of a reference tell, where it has this node, creation 1 and such words as the node's references have; `None`
+/// for any other. The node has made those from 1 to as many as its source counts. It takes no memory.
 pub fn number_of(node: &Atom, reference: &Reference) -> Option<u32>
     ensures { result ≡ cond (ref_eq (numbered node.now (number_in reference.now)) reference.now
         && nat_lt (number_in reference.now) (2 ^ 32)) (Some (number_in reference.now)) None }

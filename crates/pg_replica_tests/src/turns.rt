@@ -279,54 +279,48 @@ fn is_so(alloc: Global, turns: Turns<'_>, input: &[u8], part: Part, at: usize) -
     }
 }
 
-fn check_input(rt: &impl Abort, alloc: Global, turns: Turns<'_>, input: &[u8], part: Part) {
+fn check_input(rt: &impl Abort, alloc: Global, row: &Row, input: &[u8]) {
+    let (said, turns, part) = *row;
     for at in 0..count_of(turns, input, part) {
-        holds_at(rt, is_so(alloc, turns, input, part, at), "at", at);
+        holds_at(rt, is_so(alloc, turns, input, part, at), said, at);
     }
 }
 
-fn check(rt: &impl Abort, alloc: Global, turns: Turns<'_>, part: Part) {
-    match joined(alloc, turns.sent) {
+fn check(rt: &impl Abort, alloc: Global, row: &Row) {
+    match joined(alloc, row.1.sent) {
         Ok(input) => {
-            check_input(rt, alloc, turns, input.as_slice(), part);
+            check_input(rt, alloc, row, input.as_slice());
             drop(input);
         }
         Err(AllocError) => holds_at(rt, false, "no memory", 0),
     }
 }
 
+// What is cut or fails, at each of its places.
+type Row = (&'static str, Turns<'static>, Part);
+
+const ROWS: &[Row] = &[
+    ("the prefix of a call", CALL, Part::Prefix),
+    ("the prefix of an exchange", FORMED, Part::Prefix),
+    ("the prefix of a lock", UNFORMED, Part::Prefix),
+    ("a piece of", CALL, Part::Piece),
+    ("bytes, of reads", CALL, Part::Bytes),
+    // The replies to what was read before are written and flushed, wherever a read fails.
+    ("each read fails, of", FORMED, Part::Sevens),
+    // What was written is a prefix of the replies, wherever a write or the flush fails.
+    ("each write fails, of", UNFORMED, Part::Writes),
+    // Wherever a write or a flush fails, no more was read before the replies to what came before were written and flushed.
+    (
+        "replies are out before the next read, of",
+        UNFORMED,
+        Part::Turns,
+    ),
+    ("served into memory", FORMED, Part::Memory),
+];
+
 #[test]
-fn every_prefix(rt: HostRuntime) {
-    for turns in [CALL, FORMED, UNFORMED] {
-        check(&rt, rt.alloc(), turns, Part::Prefix);
+fn inputs_that_are_cut_or_fail(rt: HostRuntime) {
+    for row in ROWS {
+        check(&rt, rt.alloc(), row);
     }
-}
-
-#[test]
-fn input_in_pieces(rt: HostRuntime) {
-    check(&rt, rt.alloc(), CALL, Part::Piece);
-    check(&rt, rt.alloc(), CALL, Part::Bytes);
-}
-
-// The replies to what was read before are written and flushed, wherever a read fails.
-#[test]
-fn each_read_fails(rt: HostRuntime) {
-    check(&rt, rt.alloc(), FORMED, Part::Sevens);
-}
-
-// What was written is a prefix of the replies, wherever a write or the flush fails.
-#[test]
-fn each_write_fails(rt: HostRuntime) {
-    check(&rt, rt.alloc(), UNFORMED, Part::Writes);
-}
-
-// Wherever a write or a flush fails, no more was read before the replies to what came before were written and flushed.
-#[test]
-fn replies_are_out_before_the_next_read(rt: HostRuntime) {
-    check(&rt, rt.alloc(), UNFORMED, Part::Turns);
-}
-
-#[test]
-fn served_into_memory(rt: HostRuntime) {
-    check(&rt, rt.alloc(), FORMED, Part::Memory);
 }

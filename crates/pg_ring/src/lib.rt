@@ -2,6 +2,9 @@
 //!
 //! Code that speaks over a link needs the traits `Link` and `Inlet` alone, so it runs over a ring in
 //! memory in a test and between threads in a program. Nothing here waits: a call moves what it can.
+//!
+//! `ring.put(bytes)` takes bytes in, and `ring.take(&mut piece)` gives them. Begin with `src/link.rt`, the two traits, then
+//! `src/mem_ring.rt`; `src/slots.rt` has the same for values between threads.
 #![tactic(auto)]
 
 mod capacity;

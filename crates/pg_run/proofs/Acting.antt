@@ -19,7 +19,7 @@ use Rattle.pg_run.specs.Acts.{Act, Standing, Leads, event_of, is_from, losses_of
 use Rattle.pg_opens.specs.Places.{name_at, whole_in}
 use Rattle.pg_run.specs.Events.{IsRefusedAs, IsTold, told_of_peer}
 use Rattle.pg_run.specs.Follows.{Follows, HaveMoved, WasMarked, node_of, peers_of, log_of, standing_of}
-use Rattle.pg_run.proofs.Moving.{act_moved, peers_kept, unmoved, link_there, link_else}
+use Rattle.pg_run.proofs.Moving.{Closes, act_moved, peers_kept, unmoved, link_there, link_else}
 use Rattle.pg_step.specs.declared.answer.Answer.{Answer}
 use Rattle.pg_step.specs.declared.refusal.Refusal.{Refusal}
 use Rattle.pg_step.specs.declared.refusal.Refusal.TheVariants.{NodeLost}
@@ -217,11 +217,12 @@ module _ {T L I : Type 0} {g : Ghosts T} (accepts : L → List ℕ → L → Typ
       → Leads (names_of (held_by (node_of a))) (ports_of (held_by (node_of a))) (standing_of (node_of a)) act (standing_of (node_of b))
       → log_of b ≡ log_of a ++ ((state_of (held_by (node_of b))).clock, event_of act.input) ∷ [] → peers_of b ≡ peers_of a
       → ((place : ℕ) → losses_of place (act ∷ []) ≡ [] → (links_of (node_of b) place).outbox ≡ (links_of (node_of a) place).outbox ++ frames_to act.sends place)
+      → ((place : ℕ) → Closes place act (links_of (node_of b) place))
       → ((place : ℕ) → (links_of (node_of a) place).unread ≡ cond (is_from place act.input) act.came [] ++ (links_of (node_of b) place).unread)
       → ((place : ℕ) → (links_of (node_of b) place).damaged ≡ (links_of (node_of a) place).damaged)
       → ((place : ℕ) → (links_of (node_of a) place).damaged ≡ true → cond (is_from place act.input) act.came [] ≡ [])
       → Follows accepts gives (act ∷ []) a b
-  acts_once a b act names ports leads log peers out came marks still = record {
+  acts_once a b act names ports leads log peers out shut came marks still = record {
     names = names;
     ports = ports;
     lead = (standing_of (node_of b), leads, refl);
@@ -230,6 +231,7 @@ module _ {T L I : Type 0} {g : Ghosts T} (accepts : L → List ℕ → L → Typ
         (peers_kept accepts gives (act ∷ []) (links_of (node_of a)) (links_of (node_of b)) (peers_of a)
         (λ place other. act_moved accepts gives link_rests inlet_rests place act (links_of (node_of a) place) (links_of (node_of b) place) other
         (λ none. out place none ∙ ap (λ w. (links_of (node_of a) place).outbox ++ w) (sym (append-nil (frames_to act.sends place))))
+        (shut place)
         (came place ∙ ap (λ w. w ++ (links_of (node_of b) place).unread) (sym (append-nil (cond (is_from place act.input) act.came []))))
         (λ damaged. marks place ∙ damaged) (λ damaged. append-nil (cond (is_from place act.input) act.came []) ∙ still place damaged)));
     marked = λ place low damaged. inl (sym (marks place) ∙ damaged);

@@ -1,6 +1,6 @@
 -- What the links of a node have moved where one peer's change, and one stretch after another.
 use Rattle.std.specs.Prelude.{true}
-use Rattle.std.proofs.Common.{◌≡◌, ◌≢◌, ◌<◌, ◌∙◌, ◌⊎◌, ℕ, cond, get_or, take, drop, length, List, [], ◌∷◌, ◌++◌, refl, sym, ap, subst, inl, inr, append_assoc, append-nil}
+use Rattle.std.proofs.Common.{◌≡◌, ◌≢◌, ◌<◌, ◌∙◌, ◌⊎◌, ℕ, cond, get_or, take, drop, length, List, [], ◌∷◌, ◌++◌, refl, sym, ap, subst, inl, inr, append_assoc, append-nil, zero, suc}
 use Rattle.std.specs.Prelude.{slice_set}
 use Rattle.std.proofs.lemmas.Bool.{cases_eq, eq-eqb, ne_eqb}
 use Rattle.std.proofs.lemmas.List.{get_or-set_same, get_or-set_other, get_or_default, take-append-drop}
@@ -9,8 +9,8 @@ use Rattle.std.proofs.lemmas.Grind.{flat_map-append}
 use Rattle.pg_group.specs.Functions.{upd}
 use Rattle.pg_node.specs.Links.{Link, at_link, frames_to}
 use Rattle.pg_run.specs.declared.linked.Peer.{Peer}
-use Rattle.pg_run.specs.Acts.{Act, frames_sent, frames_taken, is_from, loss_of, losses_of}
-use Rattle.pg_run.specs.Follows.{HasMoved, HaveMoved}
+use Rattle.pg_run.specs.Acts.{Act, Saw, frames_sent, frames_taken, is_from, loss_of, losses_of}
+use Rattle.pg_run.specs.Follows.{HasMoved, HaveMoved, WasClosed}
 
 -- a link of a node where one changes
 pub link_there : (k : ℕ) (change : Link → Link) (links : ℕ → Link) → at_link k change links k ≡ change (links k)
@@ -59,6 +59,22 @@ taken_join place first second = flat_map-append (λ (act : Act). cond (is_from p
 seam : (p b a f q c s : List ℕ) → p ++ b ≡ a ++ f → q ++ c ≡ b ++ s → (p ++ q) ++ c ≡ a ++ (f ++ s)
 seam p b a f q c s one two = append_assoc p q c ∙ (ap (λ w. p ++ w) two ∙ (sym (append_assoc p b s) ∙ (ap (λ w. w ++ s) one ∙ append_assoc a f s)))
 
+take_none : (n : ℕ) → ◌≡◌ {A = List ℕ} (take n []) []
+take_none zero = refl
+take_none (suc n) = refl
+
+drop_none : (n : ℕ) → ◌≡◌ {A = List ℕ} (drop n []) []
+drop_none zero = refl
+drop_none (suc n) = refl
+
+-- what two stretches sent, one behind the other
+sent_join : (place : ℕ) (first second : List Act) → frames_sent place (first ++ second) ≡ frames_sent place first ++ frames_sent place second
+sent_join place first second = flat_map-append (λ (act : Act). frames_to act.sends place) first second
+
+-- an act saw the loss of the peer at a place, by which nothing waits any more, or it did not
+abbrev pub Closes : ℕ → Act → Link → Type 0
+Closes place act bytes2 = (losses_of place (act ∷ []) ≡ []) ⊎ (((last : ℕ) × (act.input ≡ Saw place last)) × (bytes2.outbox ≡ []))
+
 module _ {L I : Type 0} (accepts : L → List ℕ → L → Type 0) (gives : I → List ℕ → I → Type 0) where
   -- nothing has moved
   pub unmoved : (link_rests : (a : L) → accepts a [] a) (inlet_rests : (a : I) → gives a [] a) (place : ℕ) (bytes bytes2 : Link) (peer : Peer L I)
@@ -67,6 +83,8 @@ module _ {L I : Type 0} (accepts : L → List ℕ → L → Type 0) (gives : I �
     put = [];
     accepted = link_rests peer.link;
     sent = λ none. out ∙ sym (append-nil bytes.outbox);
+    closed = inl refl;
+    idle = λ e _. (refl, out ∙ e);
     given = [];
     gave = inlet_rests peer.inlet;
     taken = append-nil bytes.unread ∙ sym came;
@@ -82,6 +100,8 @@ module _ {L I : Type 0} (accepts : L → List ℕ → L → Type 0) (gives : I �
     put = take n bytes.outbox;
     accepted = accepted;
     sent = λ none. ap (λ w. take n bytes.outbox ++ w) out ∙ (take-append-drop n bytes.outbox ∙ sym (append-nil bytes.outbox));
+    closed = inl refl;
+    idle = λ e _. (ap (take n) e ∙ take_none n, out ∙ (ap (drop n) e ∙ drop_none n));
     given = [];
     gave = subst (λ i. gives peer.inlet [] i) (sym same) (inlet_rests peer.inlet);
     taken = append-nil bytes.unread ∙ sym came;
@@ -97,6 +117,8 @@ module _ {L I : Type 0} (accepts : L → List ℕ → L → Type 0) (gives : I �
     put = [];
     accepted = subst (λ l. accepts peer.link [] l) (sym same) (link_rests peer.link);
     sent = λ none. out ∙ sym (append-nil bytes.outbox);
+    closed = inl refl;
+    idle = λ e _. (refl, out ∙ e);
     given = piece;
     gave = gave;
     taken = sym came;
@@ -106,18 +128,41 @@ module _ {L I : Type 0} (accepts : L → List ℕ → L → Type 0) (gives : I �
 
   -- an act took a frame, or none, and sent frames, unless it saw a loss
   pub act_moved : (link_rests : (a : L) → accepts a [] a) (inlet_rests : (a : I) → gives a [] a) (place : ℕ) (act : Act) (bytes bytes2 : Link) (peer : Peer L I)
-      → (losses_of place (act ∷ []) ≡ [] → bytes2.outbox ≡ bytes.outbox ++ frames_sent place (act ∷ [])) → bytes.unread ≡ frames_taken place (act ∷ []) ++ bytes2.unread
+      → (losses_of place (act ∷ []) ≡ [] → bytes2.outbox ≡ bytes.outbox ++ frames_sent place (act ∷ [])) → Closes place act bytes2 → bytes.unread ≡ frames_taken place (act ∷ []) ++ bytes2.unread
       → (bytes.damaged ≡ true → bytes2.damaged ≡ true) → (bytes.damaged ≡ true → frames_taken place (act ∷ []) ≡ []) → HasMoved accepts gives place (act ∷ []) bytes bytes2 peer peer
-  act_moved link_rests inlet_rests place act bytes bytes2 peer out came lasts still = record {
+  act_moved link_rests inlet_rests place act bytes bytes2 peer out shut came lasts still = record {
     put = [];
     accepted = link_rests peer.link;
     sent = out;
+    closed = by_it shut;
+    idle = λ e f. (refl, waits e f shut);
     given = [];
     gave = inlet_rests peer.inlet;
     taken = append-nil bytes.unread ∙ came;
     lasts = lasts;
     still = still;
   }
+    where
+      by_it : Closes place act bytes2 → (losses_of place (act ∷ []) ≡ []) ⊎ WasClosed place (act ∷ []) bytes.outbox [] bytes2.outbox
+      by_it (inl none) = inl none
+      by_it (inr (saw, gone)) = inr (record {
+        before = [];
+        saw = act;
+        after = [];
+        cut = refl;
+        last = saw.0;
+        is = saw.1;
+        first = [];
+        later = [];
+        parts = refl;
+        dropped = bytes.outbox;
+        sent = sym (append-nil bytes.outbox);
+        silent = λ _. (refl, gone);
+      })
+
+      waits : bytes.outbox ≡ [] → frames_sent place (act ∷ []) ≡ [] → Closes place act bytes2 → bytes2.outbox ≡ []
+      waits e f (inl none) = out none ∙ (ap (λ w. w ++ frames_sent place (act ∷ [])) e ∙ f)
+      waits e f (inr (saw, gone)) = gone
 
   -- the links of the peer at one place change
   pub peer_set : (acts : List Act) (links links2 : ℕ → Link) (peers : List (Peer L I)) (k : ℕ) (peer peer2 : Peer L I) → k < length peers → peer ≡ get_or peers k peer
@@ -159,7 +204,13 @@ module _ {L I : Type 0} (accepts : L → List ℕ → L → Type 0) (gives : I �
     accepted = link_composes peer.link peer2.link peer3.link h.put k.put h.accepted k.accepted;
     sent = λ none. seam h.put bytes2.outbox bytes.outbox (frames_sent place first) k.put bytes3.outbox (frames_sent place second)
         (h.sent (none_first place first second none)) (k.sent (none_second place first second none))
-        ∙ ap (λ w. bytes.outbox ++ w) (sym (flat_map-append (λ (act : Act). frames_to act.sends place) first second));
+        ∙ ap (λ w. bytes.outbox ++ w) (sym (sent_join place first second));
+    closed = either h.closed k.closed;
+    idle = λ e f.
+        let both = sym (sent_join place first second) ∙ f in
+        let one = h.idle e (nil_first (frames_sent place first) (frames_sent place second) both) in
+        let two = k.idle one.1 (nil_second (frames_sent place first) (frames_sent place second) both) in
+        (ap (λ w. w ++ k.put) one.0 ∙ two.0, two.1);
     given = h.given ++ k.given;
     gave = inlet_composes peer.inlet peer2.inlet peer3.inlet h.given k.given h.gave k.gave;
     taken = sym (seam (frames_taken place first) bytes2.unread bytes.unread h.given (frames_taken place second) bytes3.unread k.given (sym h.taken) (sym k.taken))
@@ -167,6 +218,43 @@ module _ {L I : Type 0} (accepts : L → List ℕ → L → Type 0) (gives : I �
     lasts = λ damaged. k.lasts (h.lasts damaged);
     still = λ damaged. taken_join place first second ∙ (ap (λ w. w ++ frames_taken place second) (h.still damaged) ∙ k.still (h.lasts damaged));
   }
+    where
+      either : (losses_of place first ≡ []) ⊎ WasClosed place first bytes.outbox h.put bytes2.outbox → (losses_of place second ≡ []) ⊎ WasClosed place second bytes2.outbox k.put bytes3.outbox
+          → (losses_of place (first ++ second) ≡ []) ⊎ WasClosed place (first ++ second) bytes.outbox (h.put ++ k.put) bytes3.outbox
+      either (inl none) (inl none2) = inl (losses_join place first second ∙ (ap (λ w. w ++ losses_of place second) none ∙ none2))
+      either (inl none) (inr shut) = inr (record {
+        before = first ++ shut.before;
+        saw = shut.saw;
+        after = shut.after;
+        cut = ap (λ w. first ++ w) shut.cut ∙ sym (append_assoc first shut.before (shut.saw ∷ shut.after));
+        last = shut.last;
+        is = shut.is;
+        first = h.put ++ shut.first;
+        later = shut.later;
+        parts = ap (λ w. h.put ++ w) shut.parts ∙ sym (append_assoc h.put shut.first shut.later);
+        dropped = shut.dropped;
+        sent = seam h.put bytes2.outbox bytes.outbox (frames_sent place first) shut.first shut.dropped (frames_sent place shut.before) (h.sent none) shut.sent
+            ∙ ap (λ w. bytes.outbox ++ w) (sym (sent_join place first shut.before));
+        silent = shut.silent;
+      })
+      either (inr shut) any = inr (record {
+        before = shut.before;
+        saw = shut.saw;
+        after = shut.after ++ second;
+        cut = ap (λ w. w ++ second) shut.cut ∙ append_assoc shut.before (shut.saw ∷ shut.after) second;
+        last = shut.last;
+        is = shut.is;
+        first = shut.first;
+        later = shut.later ++ k.put;
+        parts = ap (λ w. w ++ k.put) shut.parts ∙ append_assoc shut.first shut.later k.put;
+        dropped = shut.dropped;
+        sent = shut.sent;
+        silent = λ f.
+            let both = sym (sent_join place (shut.saw ∷ shut.after) second) ∙ f in
+            let one = shut.silent (nil_first (frames_sent place (shut.saw ∷ shut.after)) (frames_sent place second) both) in
+            let two = k.idle one.1 (nil_second (frames_sent place (shut.saw ∷ shut.after)) (frames_sent place second) both) in
+            (ap (λ w. w ++ k.put) one.0 ∙ two.0, two.1);
+      })
 
   pub have_moved_on : ((a b c : L) (xs ys : List ℕ) → accepts a xs b → accepts b ys c → accepts a (xs ++ ys) c)
       → ((a b c : I) (xs ys : List ℕ) → gives a xs b → gives b ys c → gives a (xs ++ ys) c)

@@ -1,5 +1,5 @@
 -- What a put and a pull have moved.
-use Rattle.std.proofs.Common.{◌≡◌, ◌<◌, ◌≤◌, ◌+◌, ◌∙◌, ℕ, get_or, take, drop, length, List, [], ◌++◌, refl, sym, ap, subst, arith, length-append, length-drop, append-nil}
+use Rattle.std.proofs.Common.{◌≡◌, ◌<◌, ◌≤◌, ◌+◌, ◌∙◌, ℕ, get_or, take, drop, length, List, [], ◌++◌, refl, sym, ap, subst, arith, length-append, length-drop, append-nil, inl}
 use Rattle.std.proofs.lemmas.Option.{slice_get-get_or}
 use Rattle.std.specs.Prelude.{slice_get, slice_set, IfSome, Result, Ok, Err, IfOk, OnErr}
 use Rattle.pg_node.specs.declared.state.fault.NodeFault.{NodeFault}
@@ -74,6 +74,8 @@ module _ {L I : Type 0} (accepts : L → List ℕ → L → Type 0) (gives : I �
         put = [];
         accepted = subst (λ l. accepts peer.link [] l) (sym same_link) (link_rests peer.link);
         sent = λ none. (ap (λ (ls : ℕ → Link). (ls k).outbox) is) ∙ sym (append-nil (links k).outbox);
+        closed = inl refl;
+        idle = λ e _. (refl, ap (λ (ls : ℕ → Link). (ls k).outbox) is ∙ e);
         given = [];
         gave = subst (λ i. gives peer.inlet [] i) (sym same_inlet) (inlet_rests peer.inlet);
         taken = append-nil (links k).unread ∙ sym (ap (λ (ls : ℕ → Link). (ls k).unread) is);

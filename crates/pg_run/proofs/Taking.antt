@@ -21,14 +21,14 @@ use Rattle.pg_node.specs.Sendable.{AreSendable}
 use Rattle.pg_node.specs.States.{names_of, nodes_of, state_of, answers_of, stamped_of, step_see_loss, Gave, Comes}
 use Rattle.pg_opens.specs.Places.{name_at}
 use Rattle.pg_run.specs.declared.linked.LinkedNode.{LinkedNode}
-use Rattle.pg_run.specs.Acts.{Act, Took, Saw, Did, event_of, is_from}
+use Rattle.pg_run.specs.Acts.{Act, Took, Saw, Did, event_of, is_from, loss_of}
 use Rattle.pg_node.specs.declared.state.NodeState.{NodeState}
 use Rattle.pg_run.specs.Events.{ActsOnce, IsOfPeer, TookNext, IsTold, told_of_peer, told_of_loss}
 use Rattle.pg_run.proofs.Following.{follows_on}
 use Rattle.pg_run.specs.Follows.{Follows, node_of, peers_of, log_of}
 use Rattle.pg_run.proofs.Acting.{happened_by, acts_once}
 use Rattle.pg_run.proofs.Fronts.{front_alone, front_alone_len, front_taken}
-use Rattle.pg_run.proofs.Moving.{link_there, link_else, marks_kept}
+use Rattle.pg_run.proofs.Moving.{Closes, link_there, link_else, marks_kept}
 use Rattle.pg_step.specs.declared.answer.Answer.{Answer}
 use Rattle.pg_step.specs.declared.refusal.Refusal.{Refusal}
 use Rattle.pg_step.specs.State.{State}
@@ -99,6 +99,18 @@ taken_unread k links links2 body same front place = go (cases_eq place k)
         ∙ ap (λ b. cond b (take (4 + length body) (links k).unread) [] ++ (at_link k passed links2 place).unread) (sym (ne_eqb k place (λ e. n (sym e)))))
 
 -- ---- the loss of a peer
+
+-- a loss is seen of the peer at a place, where nothing waits then, or of another
+closes_there : {T L I : Type 0} {g : Ghosts T} (peer last : ℕ) (links : ℕ → Link) (place : ℕ) (act : Act) (b : LinkedNode T L I g) → act.input ≡ Saw peer last
+    → links_of (node_of b) ≡ at_link peer closed links → Closes place act (links_of (node_of b) place)
+closes_there peer last links place act b saw shut = go (cases_eq peer place)
+  where
+    go : (peer ≡ place) ⊎ (peer ≢ place) → Closes place act (links_of (node_of b) place)
+    go (inl e) = inr (
+      (last, saw ∙ ap (λ p. Saw p last) e),
+      ap (λ (ls : ℕ → Link). (ls place).outbox) shut ∙ (ap (λ j. (at_link peer closed links j).outbox) (sym e) ∙ ap (λ (l : Link). l.outbox) (link_there peer closed links)),
+    )
+    go (inr n) = inl (ap (λ input. loss_of place input ++ []) saw ∙ ap (λ b. cond b (last ∷ []) [] ++ []) (ne_eqb peer place n))
 
 -- the turn is one that is in time
 in_time : (few : Bool) (t turn : TimedTurn) → cond few (Ok t) (Err ClockFull) ≡ Ok turn → t ≡ turn
@@ -174,6 +186,7 @@ module _ {T L I : Type 0} {g : Ghosts T} (accepts : L → List ℕ → L → Typ
             })
             (log ∙ ap (λ (n : Node T g). log_of a ++ ((state_of (held_by n)).clock, event_of (Took peer (stamped_of packet))) ∷ []) (sym node)) peers
             (λ place none. ap (λ (n : Node T g). (links_of n place).outbox) node ∙ (ap (λ (l : Link). l.outbox) (sent place) ∙ passed_outbox peer (sent_out done.sends.items links) place))
+            (λ place. inl refl)
             (λ place. taken_unread peer links (sent_out done.sends.items links) is.body (λ other. refl) is.front place
             ∙ (ap (λ (l : Link). cond (is_from place (Took peer (stamped_of packet))) (take (4 + length is.body) (links peer).unread) [] ++ l.unread) (sym (sent place))
             ∙ ap (λ (n : Node T g). cond (is_from place (Took peer (stamped_of packet))) (take (4 + length is.body) (links peer).unread) [] ++ (links_of n place).unread) (sym node)))
@@ -213,6 +226,7 @@ module _ {T L I : Type 0} {g : Ghosts T} (accepts : L → List ℕ → L → Typ
             })
             (log ∙ ap (λ (n : Node T g). log_of a ++ ((state_of (held_by n)).clock, event_of (Did action)) ∷ []) (sym node)) peers
             (λ place none. ap (λ (n : Node T g). (links_of n place).outbox) node ∙ ap (λ (l : Link). l.outbox) (sent place))
+            (λ place. inl refl)
             (λ place. ap (λ (l : Link). l.unread) (sym (sent place)) ∙ ap (λ (n : Node T g). (links_of n place).unread) (sym node))
             (λ place. ap (λ (n : Node T g). (links_of n place).damaged) node ∙ ap (λ (l : Link). l.damaged) (sent place)) (λ place damaged. refl);
       }
@@ -250,6 +264,7 @@ module _ {T L I : Type 0} {g : Ghosts T} (accepts : L → List ℕ → L → Typ
             (λ place none. ap (λ (n : Node T g). (links_of n place).outbox) node
             ∙ (ap (λ (ls : ℕ → Link). (ls place).outbox) shut
             ∙ (ap (λ (l : Link). l.outbox) (link_else peer place closed links (another place peer last none)) ∙ sym (append-nil (links place).outbox))))
+            (λ place. closes_there peer last links place act b refl (ap links_of node ∙ shut))
             (λ place. sym (ap (λ (n : Node T g). (links_of n place).unread) node ∙ (ap (λ (ls : ℕ → Link). (ls place).unread) shut ∙ closed_unread peer links place)))
             (λ place. ap (λ (n : Node T g). (links_of n place).damaged) node ∙ (ap (λ (ls : ℕ → Link). (ls place).damaged) shut ∙ marks_kept peer closed (λ l. refl) links place))
             (λ place damaged. refl);

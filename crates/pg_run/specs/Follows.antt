@@ -1,5 +1,5 @@
 -- A node that follows from another by its events, and by the bytes that its links moved.
-use Rattle.std.specs.Prelude.{◌≡◌, ◌⊎◌, ℕ, ◌+◌, ◌<◌, true, false, get_or, length, map, List, [], ◌++◌, Err}
+use Rattle.std.specs.Prelude.{◌≡◌, ◌⊎◌, ℕ, ◌+◌, ◌<◌, true, false, get_or, length, map, List, [], ◌∷◌, ◌++◌, Err}
 use Rattle.pg_group.specs.declared.table.GroupTable.{Ghosts}
 use Rattle.pg_node.specs.declared.node.Node.{Node}
 use Rattle.pg_node.specs.declared.state.fault.NodeFault.{NodeFault}
@@ -12,7 +12,7 @@ use Rattle.pg_opens.specs.Places.{name_at, whole_in}
 use Rattle.pg_run.specs.declared.log.NodeEvent.{NodeEvent}
 use Rattle.pg_run.specs.declared.linked.LinkedNode.{LinkedNode}
 use Rattle.pg_run.specs.declared.linked.Peer.{Peer}
-use Rattle.pg_run.specs.Acts.{Act, Standing, AllLead, entry_of, frames_sent, frames_taken, losses_of}
+use Rattle.pg_run.specs.Acts.{Act, Saw, Standing, AllLead, entry_of, frames_sent, frames_taken, losses_of}
 use Rattle.pg_step.specs.Nodes.{Node as Name}
 
 -- ---- a node as it is seen
@@ -54,6 +54,24 @@ pub record WasMarked (names : List Name) (ports place : ℕ) (acts : List Act) (
   pub told : step_link (whole_in names) (name_at names (place + 1)) (sound_link left) middle.state ≡ Err fault
   pub marks : damages fault ≡ true
 
+-- ---- how a link is closed
+
+-- The loss of the peer at a place was seen in the course of these acts: of what waited, and then was sent before, the link took in the
+-- first, and the rest was dropped. It took in nothing more, and nothing waits, where nothing was sent from then on.
+pub record WasClosed (place : ℕ) (acts : List Act) (outbox put outbox2 : List ℕ) : Type 0 where
+  pub before : List Act
+  pub saw : Act
+  pub after : List Act
+  pub cut : acts ≡ before ++ saw ∷ after
+  pub last : ℕ
+  pub is : saw.input ≡ Saw place last
+  pub first : List ℕ
+  pub later : List ℕ
+  pub parts : put ≡ first ++ later
+  pub dropped : List ℕ
+  pub sent : first ++ dropped ≡ outbox ++ frames_sent place before
+  pub silent : frames_sent place (saw ∷ after) ≡ [] → (later ≡ []) × (outbox2 ≡ [])
+
 -- ---- what follows
 
 module _ {L I : Type 0} (accepts : L → List ℕ → L → Type 0) (gives : I → List ℕ → I → Type 0) where
@@ -64,6 +82,9 @@ module _ {L I : Type 0} (accepts : L → List ℕ → L → Type 0) (gives : I �
     pub put : List ℕ
     pub accepted : accepts peer.link put peer2.link
     pub sent : losses_of place acts ≡ [] → put ++ bytes2.outbox ≡ bytes.outbox ++ frames_sent place acts
+    pub closed : (losses_of place acts ≡ []) ⊎ WasClosed place acts bytes.outbox put bytes2.outbox
+    -- where nothing waited and nothing was sent, nothing is put and nothing waits
+    pub idle : bytes.outbox ≡ [] → frames_sent place acts ≡ [] → (put ≡ []) × (bytes2.outbox ≡ [])
     pub given : List ℕ
     pub gave : gives peer.inlet given peer2.inlet
     pub taken : bytes.unread ++ given ≡ frames_taken place acts ++ bytes2.unread

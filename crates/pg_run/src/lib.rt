@@ -1,4 +1,7 @@
 //! One node with its links to its peers, its log and its ports: what a thread that owns the node does, turn by turn.
+//!
+//! `run_node(place, run, &gate, limit)` runs a node until it is told to stop. Begin with `src/run.rt`, one turn, then `src/port.rt`, where
+//! clients speak.
 #![tactic(auto)]
 
 mod events;

@@ -1,4 +1,6 @@
 //! Scripts: texts whose lines declare nodes and then make steps of a world of them, and what a run of them prints.
+//!
+//! `run_script(alloc, &read_script(alloc, text)?, &mut writer)?` runs a script. Begin with `src/script.rt`, then `src/running.rt`.
 #![tactic(auto)]
 
 mod act;

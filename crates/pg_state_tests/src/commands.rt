@@ -11,34 +11,12 @@ use crate::samples::row_holds;
 use std::alloc::Global;
 use std::process::Abort;
 
+/// Who is the greatest, who is asked, what is gathered, taken back and denied, and what a loss makes ready.
 #[test]
-fn new_greatest(rt: HostRuntime) {
-    run(&rt, rt.alloc(), LOST);
-}
-
-#[test]
-fn asked_place_by_place(rt: HostRuntime) {
-    run(&rt, rt.alloc(), ASKED);
-}
-
-#[test]
-fn gathered_replies(rt: HostRuntime) {
-    run(&rt, rt.alloc(), GATHERED);
-}
-
-#[test]
-fn taken_back_replies(rt: HostRuntime) {
-    run(&rt, rt.alloc(), TAKEN_BACK);
-}
-
-#[test]
-fn denied(rt: HostRuntime) {
-    run(&rt, rt.alloc(), DENIED);
-}
-
-#[test]
-fn ready_by_loss(rt: HostRuntime) {
-    run(&rt, rt.alloc(), READY);
+fn turns_of_commands(rt: HostRuntime) {
+    for rows in [LOST, ASKED, GATHERED, TAKEN_BACK, DENIED, READY] {
+        run(&rt, rt.alloc(), rows);
+    }
 }
 
 fn run(rt: &impl Abort, alloc: Global, rows: &[Row]) {

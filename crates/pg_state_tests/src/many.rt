@@ -21,8 +21,8 @@ fn reference_words(rt: HostRuntime) {
     drop(source);
 }
 
-/// A reference takes 501 locks, more than stand in a vector, and one of another node 500, which are denied to the first and free once the node is lost; then the
-/// first gives up its own.
+/// A reference takes 501 locks, more than stand in a vector, and one of another node 500, which are denied to the first and free once the node is lost, but not in a
+/// copy of before; then the first gives up its own.
 #[test]
 fn many_locks(rt: HostRuntime) {
     let mut locks = LockTable::new(rt.alloc());
@@ -41,7 +41,11 @@ fn change_hands(rt: &impl Abort, locks: &mut LockTable, first: &Reference, other
     for number in 501..1001 {
         check!(rt; !ask(rt, locks, true, number, first));
     }
+    let copy = locks.copy().expect(rt, "a copy");
+    check!(rt; copy.same(locks));
     locks.free_node(other.node());
+    check!(rt; !copy.same(locks));
+    drop(copy);
     for number in 501..1001 {
         check!(rt; is_held(locks, number, None));
     }

@@ -1,5 +1,8 @@
 //! The step of a node, as definitions: what it keeps, and what it makes of a packet, a command, a retry and a loss; the
 //! machine of a configuration of such nodes; and laws of one step.
+//!
+//! `Command::Create(name)` is a command, and what a node makes of it is said in `specs/`. Begin with `specs/Step.antt` beside docs/STEP.md,
+//! then `specs/State.antt`.
 #![tactic(auto)]
 
 mod answer;

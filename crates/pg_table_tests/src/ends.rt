@@ -3,7 +3,7 @@
 ghost use Rattle.std.specs.Prelude.{◌≤◌};
 
 use crate::change::merge_told;
-use crate::samples::{Cast, atom, holds, push, row_holds};
+use crate::samples::{Cast, atom, either, holds, push, row_holds};
 use crate::trial::{Trial, on_both};
 use pg_ends::{EndFault, MAX_PROCESSES, Processes, take_end};
 use pg_group::{Ended, GroupTable};
@@ -118,27 +118,14 @@ fn ends<T: GroupTable>(rt: &impl Abort, table: &mut T, name: &Term, pid: &Pid, e
     holds(rt, table.count(name, pid) == 0, "count");
 }
 
-/// Puts a pid in, a second time where memory was refused.
-fn put(rt: &impl Abort, ended: &mut Ended, pid: &Pid) {
-    let is_in = match pid.copy() {
-        Ok(pid) => ended.add(pid).is_ok(),
-        Err(_) => false,
-    };
-    if !is_in {
-        let pid = pid.copy().expect(rt, "again");
-        ended.add(pid).expect(rt, "again");
-    }
-}
-
-/// Whether these are the pids of a node that were put in one by one, by their ids.
-fn are_listed(rt: &impl Abort, alloc: Global, ended: &Ended, node: &Pid, ids: &[u32]) -> bool {
-    let pids = match ended.pids_of(alloc, &node.node) {
-        Ok(pids) => pids,
-        Err(_) => ended.pids_of(alloc, &node.node).expect(rt, "again"),
-    };
-    let mut are_listed = pids.len() == ids.len();
+/// Whether these are the ids of the pids of a node that have ended one by one, and the node has ended as a whole, or not.
+fn are_listed(rt: &impl Abort, cast: &Cast, place: usize, ids: &[u32], is_whole: bool) -> bool {
+    let node = &cast.pid(rt, place).node;
+    let first = cast.ended.pids_of(cast.alloc, node);
+    let pids = either(rt, first, cast.ended.pids_of(cast.alloc, node));
+    let mut are_listed = pids.len() == ids.len() && cast.ended.has_node(node) == is_whole;
     for (pid, id) in pids.iter().zip(ids) {
-        are_listed = are_listed && pid.node == node.node && pid.id == *id;
+        are_listed = are_listed && pid.node == *node && pid.id == *id;
     }
     drop(pids);
     are_listed
@@ -147,26 +134,16 @@ fn are_listed(rt: &impl Abort, alloc: Global, ended: &Ended, node: &Pid, ids: &[
 /// Of the ended pids those of one node are listed in their order, and a node that was put in as a whole adds none to them.
 #[test]
 fn ended_of_a_node(rt: HostRuntime) {
-    let cast = Cast::new(&rt, rt.alloc(), &[("b", 7), ("c", 1), ("a", 9), ("b", 2)]);
-    let [b, c, a, other] = cast.pids.as_slice() else {
-        holds(&rt, false, "four pids");
-        return;
-    };
-    let mut ended = Ended::new(rt.alloc());
-    for pid in [b, a, other] {
-        put(&rt, &mut ended, pid);
+    let mut cast = Cast::new(&rt, rt.alloc(), &[("b", 7), ("c", 1), ("a", 9), ("b", 2)]);
+    for place in [0, 2, 3] {
+        cast.end(&rt, place);
     }
-    for (pid, ids) in [(a, &[9][..]), (b, &[2, 7][..]), (c, &[][..])] {
-        holds(&rt, are_listed(&rt, rt.alloc(), &ended, pid, ids), "listed");
-        holds(&rt, !ended.has_node(&pid.node), "one by one");
+    for (place, ids) in [(2, &[9][..]), (0, &[2, 7][..]), (1, &[][..])] {
+        row_holds(&rt, are_listed(&rt, &cast, place, ids, false), &place);
     }
-    let is_in = ended.add_node(&b.node).is_ok() || ended.add_node(&b.node).is_ok();
-    holds(&rt, is_in && ended.has_node(&b.node), "as a whole");
-    holds(
-        &rt,
-        are_listed(&rt, rt.alloc(), &ended, b, &[2, 7]),
-        "still",
-    );
-    drop(ended);
+    let node = atom(&rt, rt.alloc(), "b");
+    either(&rt, cast.ended.add_node(&node), cast.ended.add_node(&node));
+    drop(node);
+    row_holds(&rt, are_listed(&rt, &cast, 0, &[2, 7], true), &"still");
     drop(cast);
 }

@@ -77,15 +77,6 @@ fn worked_examples(rt: HostRuntime) {
     }
 }
 
-/// A pid of the cast has ended.
-fn ends(rt: &impl Abort, cast: &mut Cast, place: usize) {
-    let pid = cast.copy(rt, place);
-    if cast.ended.add(pid).is_err() {
-        let again = cast.copy(rt, place);
-        cast.ended.add(again).expect(rt, "again");
-    }
-}
-
 /// What an example makes of a table is read of it.
 pub fn is_so<T: GroupTable>(rt: &impl Abort, alloc: Global, table: &mut T, place: usize) {
     let mut cast = Cast::new(rt, alloc, PIDS);
@@ -95,7 +86,7 @@ pub fn is_so<T: GroupTable>(rt: &impl Abort, alloc: Global, table: &mut T, place
         return;
     };
     for place in *ended {
-        ends(rt, &mut cast, *place);
+        cast.end(rt, *place);
     }
     perform_all(rt, table, &cast, changes);
     are_read(rt, table, &cast, readings);

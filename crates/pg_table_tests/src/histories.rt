@@ -58,8 +58,7 @@ pub fn agrees<T: GroupTable + Drop>(rt: &impl Abort, alloc: Global, empty: &T) {
     };
     walk(rt, UPDATES, empty, &cast, &reading, 5);
     walk(rt, MIXED, empty, &cast, &reading, 4);
-    let first = cast.copy(rt, 0);
-    cast.ended.add(first).expect(rt, "end");
+    cast.end(rt, 0);
     reading.first_ended = true;
     walk(rt, UPDATES, empty, &cast, &reading, 4);
     walk(rt, MIXED, empty, &cast, &reading, 4);

@@ -106,13 +106,6 @@ pub const READINGS: &[Reading] = &[
     (3, "a", (0, 0), (0, 0), &[(0, None)]),
 ];
 
-pub fn picks_closest<T: GroupTable>(rt: &impl Abort, alloc: Global, table: &mut T) {
-    let cast = Cast::new(rt, alloc, PIDS);
-    perform_all(rt, table, &cast, FILLED);
-    are_read(rt, table, &cast, READINGS);
-    drop(cast);
-}
-
 pub fn are_read<T: GroupTable>(rt: &impl Abort, table: &T, cast: &Cast, readings: &[Reading]) {
     for reading in readings {
         let name = Term::Int(reading.0);
@@ -183,7 +176,10 @@ fn members_in_order(rt: HostRuntime) {
 }
 
 pub fn names_in_order<T: GroupTable>(rt: &impl Abort, alloc: Global, table: &mut T) {
-    picks_closest(rt, alloc, table);
+    let cast = Cast::new(rt, alloc, PIDS);
+    perform_all(rt, table, &cast, FILLED);
+    are_read(rt, table, &cast, READINGS);
+    drop(cast);
     let absent = Term::Int(5);
     let fault = members(alloc, table, &absent).err();
     drop(absent);

@@ -98,4 +98,13 @@ impl Cast {
         let pid = self.pid(rt, place);
         either(rt, pid.copy(), pid.copy())
     }
+
+    /// The pid at a place has ended.
+    pub fn end(&mut self, rt: &impl Abort, place: usize) {
+        let pid = self.copy(rt, place);
+        if self.ended.add(pid).is_err() {
+            let again = self.copy(rt, place);
+            self.ended.add(again).expect(rt, "again");
+        }
+    }
 }

@@ -1,5 +1,5 @@
 -- What a conversation of clients with a cluster came to.
-use Rattle.std.specs.Prelude.{◌≡◌, ◌⊎◌, ℕ, Bool, ◌<◌, ◌+◌, ◌*◌, ◌-◌, ◌^◌, min, true, List, [], ◌∷◌, ◌++◌, chars, codes, decimal, get_or, length, map}
+use Rattle.std.specs.Prelude.{◌≡◌, ◌⊎◌, ℕ, Bool, ◌<◌, ◌+◌, ◌*◌, ◌-◌, ◌^◌, min, true, List, [], ◌∷◌, ◌++◌, get_or, length, map}
 use Rattle.std.specs.List.{sum_by}
 use Rattle.pg_run.specs.Ports.{polled, polled_count}
 use Rattle.pg_run.specs.declared.port.Client.{Client}
@@ -12,11 +12,8 @@ use Rattle.pg_cluster.specs.Threads.{Thread}
 use Rattle.pg_talk.specs.declared.conversation.Conversation.{Conversation}
 use Rattle.pg_talk.specs.declared.conversation.Outcome.{Outcome}
 use Rattle.pg_talk.specs.declared.speaker.Speaker.{Speaker}
+use Rattle.pg_requests.specs.Members.{node_name}
 use Rattle.pg_talk.specs.Verdicts.{IsJudged}
-
--- the name of the node of this number: `n1`, `n2` and so on
-abbrev pub node_name : ℕ → List ℕ
-node_name number = chars (codes "n" ++ decimal number)
 
 -- the node of this number, with so many ports, no group, and no process
 pub record IsBare (ports number : ℕ) (start : Start) : Type 0 where

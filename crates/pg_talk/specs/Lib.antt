@@ -1,10 +1,6 @@
 pub mod Conversations
 pub mod Desks
 pub mod Frames
-pub mod Layouts
-pub mod Members
 pub mod Outcomes
-pub mod Replies
-pub mod Requests
 pub mod Services
 pub mod Verdicts

@@ -13,9 +13,10 @@ use crate::onlooker::Onlooker;
 use crate::speaker::Speaker;
 use crate::verdict::{Verdict, close_and_judge};
 use pg_cluster::{OpenGate, Running, StartFault};
+use pg_requests::node_name;
 use pg_step::Start;
-use pg_term::{Atom, Items};
-use pg_world::{Config, MAX_NODES, WorldFault};
+use pg_term::Items;
+use pg_world::{Config, MAX_NODES};
 use std::alloc::{AllocError, Global};
 use std::io::Write;
 use std::thread::Threads;
@@ -181,10 +182,7 @@ fn config_of(alloc: Global, asked: Conversation) -> Result<Config, StartFault>
 fn start_of(alloc: Global, number: u32, ports: u16) -> Result<Start, StartFault>
     ensures { IfOk result (IsBare ports number) }
 {
-    let text = format!(in alloc; "n{number}")?;
-    let Ok(name) = Atom::new(alloc, text.as_str()) else {
-        return Err(StartFault::World(WorldFault::OutOfMemory));
-    };
+    let name = node_name(alloc, number)?;
     Ok(Start {
         name,
         made: 0,

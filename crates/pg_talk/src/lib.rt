@@ -9,8 +9,9 @@ mod verdict;
 
 pub use conversation::{Conversation, Outcome, run_threads};
 pub use onlooker::{Onlooker, Quiet};
+pub use pg_requests::node_names;
 pub use service::fault::ServiceFault;
-pub use service::members::{config_of, node_names};
+pub use service::members::config_of;
 pub use service::run::{Served, serve_cluster};
 pub use service::{MAX_WAITING, Service};
 pub use verdict::Verdict;

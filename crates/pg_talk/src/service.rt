@@ -2,15 +2,10 @@
 
 pub(crate) mod desk;
 pub(crate) mod fault;
-pub(crate) mod input;
-pub(crate) mod layout;
 pub(crate) mod members;
 pub(crate) mod outlet;
-pub(crate) mod parts;
 pub(crate) mod reader;
 pub(crate) mod reading;
-pub(crate) mod reply;
-pub(crate) mod request;
 pub(crate) mod run;
 pub(crate) mod serving;
 

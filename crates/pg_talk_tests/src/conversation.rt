@@ -1,74 +1,49 @@
 //! The conversation of the program.
 
-use crate::verdicts::{holds, holds_at};
+use crate::verdicts::holds_at;
 use pg_talk::{Conversation, Outcome, Quiet, run_threads};
 use std::alloc::Global;
-use std::process::Abort;
 use std::thread::Threads;
 
-const DEFAULTS: Conversation = Conversation {
-    nodes: 3,
-    clients: 2,
-    rounds: 50,
-    seed: 1,
-    turns: 100_000_000,
-};
+/// How many nodes there are, how many clients each has, how often these change, and how many turns there are; how many commands are
+/// answered, of how many.
+type Row = ((u16, u16, u32, u64), u64, u64);
+
+const ROWS: &[Row] = &[
+    ((3, 2, 50, 100_000_000), 607, 607),
+    ((1, 1, 0, 100_000_000), 2, 2),
+    ((3, 2, 50, 0), 0, 607),
+    ((16, 2, 2, 100_000_000), 161, 161),
+];
 
 // So many commands are answered, of so many, and all is well where all are.
-fn check_outcome(rt: &impl Abort, outcome: &Outcome, answered: u64, asked: u64) {
-    holds_at(
-        rt,
-        outcome.answered == answered,
-        "answers:",
-        outcome.answered,
-    );
-    holds_at(rt, outcome.asked == asked, "commands:", outcome.asked);
-    holds(rt, outcome.agree && outcome.replay, "they agree");
-    holds(rt, outcome.is_good() == (answered == asked), "all is well");
+fn is_so(outcome: &Outcome, answered: u64, asked: u64) -> bool {
+    outcome.answered == answered
+        && outcome.asked == asked
+        && outcome.agree
+        && outcome.replay
+        && outcome.is_good() == (answered == asked)
 }
 
-fn check(rt: &(impl Threads + Abort), alloc: Global, asked: Conversation, answers: u64, all: u64) {
+fn goes(rt: &impl Threads, alloc: Global, row: &Row) -> bool {
+    let ((nodes, clients, rounds, turns), answered, all) = *row;
+    let asked = Conversation {
+        nodes,
+        clients,
+        rounds,
+        seed: 1,
+        turns,
+    };
     match run_threads(rt, alloc, asked, &mut Quiet) {
-        Ok(outcome) => check_outcome(rt, &outcome, answers, all),
-        Err(_) => holds(rt, false, "refused"),
+        Ok(outcome) => is_so(&outcome, answered, all),
+        Err(_) => false,
     }
 }
 
 #[test]
-fn threads_default(rt: HostRuntime) {
-    check(&rt, rt.alloc(), DEFAULTS, 607, 607);
-}
-
-const LONELY: Conversation = Conversation {
-    nodes: 1,
-    clients: 1,
-    rounds: 0,
-    ..DEFAULTS
-};
-
-#[test]
-fn one_lonely_node(rt: HostRuntime) {
-    check(&rt, rt.alloc(), LONELY, 2, 2);
-}
-
-const NO_TURNS: Conversation = Conversation {
-    turns: 0,
-    ..DEFAULTS
-};
-
-#[test]
-fn no_turns(rt: HostRuntime) {
-    check(&rt, rt.alloc(), NO_TURNS, 0, 607);
-}
-
-const SIXTEEN: Conversation = Conversation {
-    nodes: 16,
-    clients: 2,
-    rounds: 2,
-    ..DEFAULTS
-};
-
-#[test]
-fn sixteen_nodes(rt: HostRuntime) {
-    check(&rt, rt.alloc(), SIXTEEN, 161, 161);
+fn clients_are_answered(rt: HostRuntime) {
+    for place in 0..ROWS.len() {
+        let goes = goes(&rt, rt.alloc(), &ROWS[place]);
+        holds_at(&rt, goes, "a conversation of row", place as u64);
+    }
 }

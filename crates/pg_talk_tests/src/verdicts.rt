@@ -2,12 +2,7 @@
 
 use std::process::Abort;
 
-/// Ends the test where something does not hold, and tells of it.
-pub fn holds(rt: &impl Abort, holds: bool, said: &str) {
-    assert!(rt; holds, "{said}");
-}
-
-/// The same, of what holds at a number.
+/// Ends the test where something does not hold, and tells of it, and of its number.
 pub fn holds_at(rt: &impl Abort, holds: bool, said: &str, at: u64) {
     assert!(rt; holds, "{said} {at}");
 }

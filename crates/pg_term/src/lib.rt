@@ -1,4 +1,7 @@
 //! Terms of Erlang as plain data: integers, atoms, references, pids, tuples, lists and binaries, with their order, equality and hash.
+//!
+//! `Term::Atom(Atom::new(alloc, "a")?)` is a term. Begin with `src/term.rt`, which has its forms; `specs/Same.antt` says when two terms are
+//! one, and `specs/Order.antt` which comes first.
 #![tactic(auto)]
 
 mod atom;

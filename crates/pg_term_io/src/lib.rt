@@ -1,4 +1,7 @@
 //! Bytes read as terms, in Erlang's External Term Format.
+//!
+//! `decode(alloc, bytes)?` reads a term. Begin with `specs/Spelling.antt`, which bytes spell a term, and then `src/reading.rt`. A tag more
+//! begins in `src/tag.rt`.
 #![tactic(auto)]
 
 mod element;

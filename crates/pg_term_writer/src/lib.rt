@@ -1,4 +1,7 @@
 //! Terms written as bytes, in Erlang's External Term Format.
+//!
+//! `encode(alloc, &term)?` gives the bytes of a term. Begin with `src/writing.rt`; what is written is said in `specs/Writing.antt` of
+//! pg_term_io.
 #![tactic(auto)]
 
 mod size;

@@ -1,4 +1,7 @@
 //! Text of terms: as scripts are written and answers are printed.
+//!
+//! `read_term(alloc, "{a,1}")?` reads a term, and `write_term(&term, &mut text)?` writes it. Begin with `specs/Reading.antt`, then
+//! `src/reading.rt`.
 #![tactic(auto)]
 
 mod again;

@@ -17,7 +17,7 @@ use Rattle.pg_step.specs.Config.{Config, names_of as names_in, nodes_at, ports_a
 use Rattle.pg_step.specs.FrameMachine.{frame_machine}
 use Rattle.pg_step.specs.Nodes.{all_of}
 use Rattle.pg_term.specs.Same.{same_atom}
-use Rattle.pg_together.specs.Apart.{Linked, RanApart}
+use Rattle.pg_together.specs.Apart.{Linked, HaveRun}
 use Rattle.pg_together.proofs.Sent.{frames_on}
 use Rattle.pg_world.specs.Crossings.{no_links, node_of as seen_node}
 use Rattle.pg_world.specs.Views.{peer_place}
@@ -25,7 +25,7 @@ use Rattle.pg_world.specs.Worlds.{ShowsNode}
 use Rattle.pg_world.proofs.Peering.{place_within}
 use Rattle.pg_world.proofs.Turning.{pair_is}
 
-module _ {T : Type 0} {g : Ghosts T} (config : Config) (nodes : List (Node T g)) (begun ended : ℕ → Linked T g) (ran : RanApart config nodes begun ended) where
+module _ {T : Type 0} {g : Ghosts T} (config : Config) (nodes : List (Node T g)) (begun ended : ℕ → Linked T g) (ran : HaveRun config nodes begun ended) where
   pub apart : IsDistinct same_atom (names_in config)
   apart = ran.starts.traffic.nodes.apart
 

@@ -14,7 +14,7 @@ use Rattle.pg_run.specs.Follows.{node_of, peers_of, standing_of}
 use Rattle.pg_step.specs.Config.{Config, nodes_at, ports_at}
 use Rattle.pg_step.specs.FrameMachine.{frame_machine}
 use Rattle.pg_step.specs.Nodes.{all_of}
-use Rattle.pg_together.specs.Apart.{End, Linked, RanApart}
+use Rattle.pg_together.specs.Apart.{End, Linked, HaveRun, Unseen}
 use Rattle.pg_together.proofs.Begun.{apart, leads, opened, place_there}
 use Rattle.pg_together.proofs.Came.{Leaves, all_acts, left_can_cross, packets_taken, taken_alike}
 use Rattle.pg_together.proofs.Sent.{CanAllCross, cross_join, frames_are, frames_join, frames_on, packets_sent, sent_alike, sent_can_cross}
@@ -42,7 +42,7 @@ seam unread outbox all written taken unread2 given left put outbox2 is out came 
 behind_first : {A : Type 0} (all first left : List A) → all ≡ first ++ left → all ≡ first ++ drop (length first) all
 behind_first all first left e = e ∙ ap (λ w. first ++ w) (sym (ap (drop (length first)) e ∙ drop-append_seam first left))
 
-module _ {T : Type 0} {g : Ghosts T} (config : Config) (nodes : List (Node T g)) (begun ended : ℕ → Linked T g) (ran : RanApart config nodes begun ended) where
+module _ {T : Type 0} {g : Ghosts T} (config : Config) (nodes : List (Node T g)) (begun ended : ℕ → Linked T g) (ran : HaveRun config nodes begun ended) where
   -- what node x was to send to node y by its acts, its opening before them
   abbrev pub sent_on : ℕ → ℕ → List (Stamped Message)
   sent_on x y = (frame_machine config).opening x y ++ sent_to y (map (act_at config x) (ran.acts x))
@@ -54,12 +54,23 @@ module _ {T : Type 0} {g : Ghosts T} (config : Config) (nodes : List (Node T g))
   abbrev pub left_on : ℕ → ℕ → List (Stamped Message)
   left_on x y = drop (length (taken_on x y)) (sent_on x y)
 
-  module _ (x y : ℕ) (pair : is_pair (length config) x y ≡ true) where
-    -- what came to node y and was not taken
-    abbrev pub unread_on : List ℕ
-    unread_on = (links_of (node_of (ended y)) (peer_place y x)).unread
+  -- what came to node y from node x and was not taken
+  abbrev pub unread_on : ℕ → ℕ → List ℕ
+  unread_on x y = (links_of (node_of (ended y)) (peer_place y x)).unread
 
-    pub bytes_cross : (behind : List ℕ) × (frames_taken (peer_place y x) (ran.acts y) ++ (unread_on ++ behind) ≡ frames_on ((frame_machine config).opening x y) ++ frames_sent (peer_place x y) (ran.acts x))
+  -- What node x put on its ring to node y is the first of what waited there, and then of the frames that it sent.
+  abbrev pub PutsFirst : ℕ → ℕ → Type 0
+  PutsFirst x y = (within : x < length config) (none : End) (low : peer_place x y < length (peers_of (begun x)))
+      → (rest : List ℕ) × (((ran.follows x within).moved.each (peer_place x y) none low).put ++ rest
+      ≡ (links_of (node_of (begun x)) (peer_place x y)).outbox ++ frames_sent (peer_place x y) (ran.acts x))
+
+  -- so it is where no loss was seen
+  pub puts_all : Unseen config nodes begun ended ran → (x y : ℕ) → PutsFirst x y
+  puts_all unseen x y within none low =
+      ((links_of (node_of (ended x)) (peer_place x y)).outbox, ((ran.follows x within).moved.each (peer_place x y) none low).sent (unseen x within (peer_place x y)))
+
+  module _ (x y : ℕ) (pair : is_pair (length config) x y ≡ true) (puts : PutsFirst x y) where
+    pub bytes_cross : (behind : List ℕ) × (frames_taken (peer_place y x) (ran.acts y) ++ (unread_on x y ++ behind) ≡ frames_on ((frame_machine config).opening x y) ++ frames_sent (peer_place x y) (ran.acts x))
     bytes_cross =
         let p = pair_is (length config) x y pair in
         let turned = pair_turned (length config) x y pair in
@@ -70,12 +81,12 @@ module _ {T : Type 0} {g : Ghosts T} (config : Config) (nodes : List (Node T g))
         let ring = ran.crossed x y none pair in
         let put = from.accepted.grown ∙ ap (λ w. w ++ from.put) ring.unsent in
         let given = to.gave.grown ∙ ap (λ w. w ++ to.given) ring.unreceived in
-        let outbox2 = (links_of (node_of (ended x)) (peer_place x y)).outbox in (
-          ring.left ++ outbox2,
+        let more = puts p.0 none from_there in (
+          ring.left ++ more.0,
           seam (links_of (node_of (begun y)) (peer_place y x)).unread (links_of (node_of (begun x)) (peer_place x y)).outbox
               (frames_on ((frame_machine config).opening x y)) (frames_sent (peer_place x y) (ran.acts x)) (frames_taken (peer_place y x) (ran.acts y))
-              unread_on to.given ring.left from.put outbox2
-              (opened config nodes begun ended ran x y pair) (from.sent (ran.unseen x p.0 (peer_place x y))) to.taken
+              (unread_on x y) to.given ring.left from.put more.0
+              (opened config nodes begun ended ran x y pair) more.1 to.taken
               (ap (λ w. w ++ ring.left) (sym given) ∙ (ring.sent ∙ put)),
         )
 
@@ -91,13 +102,13 @@ module _ {T : Type 0} {g : Ghosts T} (config : Config) (nodes : List (Node T g))
         (leads config nodes begun ended ran x p.0))
 
     module _ (more : PiecesContinue) (read : WrittenIsRead) where
-      packets_cross : Leaves packets_on (packets_taken (peer_place y x) (ran.acts y)) (unread_on ++ bytes_cross.0)
+      packets_cross : Leaves packets_on (packets_taken (peer_place y x) (ran.acts y)) (unread_on x y ++ bytes_cross.0)
       packets_cross =
           let p = pair_is (length config) x y pair in
           let opening = (frame_machine config).opening x y in
           let sent = packets_sent (peer_place x y) (ran.acts x) in
           all_acts more read (all_of (nodes_at config y)) (ports_at config y) (peer_place y x) (standing_of (node_of (begun y))) (ran.acts y) (standing_of (node_of (ended y)))
-          (unread_on ++ bytes_cross.0) packets_on (leads config nodes begun ended ran y p.1) all_can_cross
+          (unread_on x y ++ bytes_cross.0) packets_on (leads config nodes begun ended ran y p.1) all_can_cross
           (bytes_cross.1 ∙ (ap (λ w. frames_on opening ++ w) (frames_are (peer_place x y) (ran.acts x)) ∙ sym (frames_join opening sent)))
 
       split : sent_on x y ≡ taken_on x y ++ packets_cross.left
@@ -118,5 +129,5 @@ module _ {T : Type 0} {g : Ghosts T} (config : Config) (nodes : List (Node T g))
       pub left_crosses : CanAllCross (left_on x y)
       left_crosses = subst CanAllCross left_is (left_can_cross (packets_taken (peer_place y x) (ran.acts y)) packets_cross.left (subst CanAllCross packets_cross.are all_can_cross))
 
-      pub left_frames : unread_on ++ bytes_cross.0 ≡ frames_on (left_on x y)
+      pub left_frames : unread_on x y ++ bytes_cross.0 ≡ frames_on (left_on x y)
       left_frames = packets_cross.bytes_are ∙ ap frames_on left_is

@@ -2,8 +2,12 @@ pub mod Answered
 pub mod Begun
 pub mod Came
 pub mod Crossing
+pub mod Gone
 pub mod Logged
+pub mod Lost
 pub mod Next
+pub mod Noticed
 pub mod Sent
 pub mod Sound
+pub mod Told
 pub mod Turns

@@ -22,10 +22,10 @@ use Rattle.pg_step.specs.FrameMachine.{frame_machine}
 use Rattle.pg_step.specs.Nodes.{all_of}
 use Rattle.pg_step.specs.State.{Response, State}
 use Rattle.pg_step.specs.Step.{Action, Issue, Retry}
-use Rattle.pg_together.specs.Apart.{Linked, RanApart, RanTogether, event_at, events_in}
+use Rattle.pg_together.specs.Apart.{Linked, HaveRun, RanTogether, Unseen, event_at, events_in}
 use Rattle.pg_together.proofs.Answered.{answers_on, answers_reported, given_at}
 use Rattle.pg_together.proofs.Begun.{leads, shown}
-use Rattle.pg_together.proofs.Crossing.{first_taken, left_on}
+use Rattle.pg_together.proofs.Crossing.{first_taken, left_on, puts_all}
 use Rattle.pg_together.proofs.Turns.{act_at, first_none, input_at, leads_alike, others_none, saw_none, PlacedAct, SeesNone}
 use Rattle.pg_world.specs.Crossings.{node_of as seen_node}
 use Rattle.pg_world.specs.Views.{peer_place}
@@ -49,7 +49,7 @@ entries_alike config i (act ∷ acts) none = λ j. (act.turn.state.clock, one_ev
 clocks_alike : {E F : Type 0} (view : E → F) (log : List (ℕ × E)) → clocks_of (seen_log view log) ≡ clocks_of log
 clocks_alike {E} {F} view log = map-map (λ (x : ℕ × F). x.0) (λ (x : ℕ × E). (x.0, view x.1)) log
 
-module _ {T : Type 0} {g : Ghosts T} (config : Config) (nodes : List (Node T g)) (begun ended : ℕ → Linked T g) (ran : RanApart config nodes begun ended) where
+module _ {T : Type 0} {g : Ghosts T} (config : Config) (nodes : List (Node T g)) (begun ended : ℕ → Linked T g) (ran : HaveRun config nodes begun ended) (unseen : Unseen config nodes begun ended ran) where
   -- what the logs tell of all nodes
   abbrev pub logs_on : ℕ → List (ℕ × Event Action)
   logs_on i = seen_log (event_at i) (log_of (ended i))
@@ -63,18 +63,18 @@ module _ {T : Type 0} {g : Ghosts T} (config : Config) (nodes : List (Node T g))
   entries_on : (i : ℕ) → i < length config → logs_on i ≡ map (machine_entry i) (acts_on i)
   entries_on i within =
       ap (seen_log (event_at i)) ((ran.follows i within).log ∙ ap (λ w. w ++ map entry_of (ran.acts i)) (ran.unlogged i within))
-      ∙ entries_alike config i (ran.acts i) (ran.unseen i within)
+      ∙ entries_alike config i (ran.acts i) (unseen i within)
 
   runs_on : (i : ℕ) → i < length config → NodeLeads (frame_machine config) i ((frame_machine config).first i) (acts_on i) (ends_on i)
   runs_on i within =
       subst (λ s. NodeLeads (frame_machine config) i s (acts_on i) (ends_on i)) (sym (shown config nodes begun ended ran i within).state)
-      (leads_alike config i within (standing_of (node_of (begun i))) (ran.acts i) (standing_of (node_of (ended i))) (ran.unseen i within) (leads config nodes begun ended ran i within))
+      (leads_alike config i within (standing_of (node_of (begun i))) (ran.acts i) (standing_of (node_of (ended i))) (unseen i within) (leads config nodes begun ended ran i within))
 
   pub are_logs : PiecesContinue → WrittenIsRead → AreLogs (frame_machine config) logs_on acts_on ends_on (left_on config nodes begun ended ran)
   are_logs more read = record {
     runs = runs_on;
     entries = entries_on;
-    ways = λ p q from to other. first_taken config nodes begun ended ran p q (is_pair_so (length config) p q from to (λ e. other (sym e))) more read;
+    ways = λ p q from to other. first_taken config nodes begun ended ran p q (is_pair_so (length config) p q from to (λ e. other (sym e))) (puts_all config nodes begun ended ran unseen p q) more read;
   }
 
   pub merges_on : (order : List (ℕ × ℕ)) → Merges (length config) (λ i. clocks_of (log_of (ended i))) order → Merges (length config) (λ i. clocks_of (logs_on i)) order

@@ -26,9 +26,9 @@ use Rattle.pg_step.specs.FrameMachine.{frame_machine}
 use Rattle.pg_step.specs.Nodes.{Node as Name, all_of}
 use Rattle.pg_step.specs.Step.{Action, step_take}
 use Rattle.pg_step.specs.declared.refusal.Refusal.TheVariants.{NotAMessage}
-use Rattle.pg_together.specs.Apart.{Linked, RanApart}
+use Rattle.pg_together.specs.Apart.{Linked, HaveRun, Unseen}
 use Rattle.pg_together.proofs.Begun.{links_there, place_there, shown}
-use Rattle.pg_together.proofs.Crossing.{bytes_cross, left_crosses, left_frames, left_on, unread_on}
+use Rattle.pg_together.proofs.Crossing.{PutsFirst, bytes_cross, left_crosses, left_frames, left_on, puts_all, unread_on}
 use Rattle.pg_together.proofs.Logged.{acts_on, ends_on, logs_on}
 use Rattle.pg_together.proofs.Next.{refused_first}
 use Rattle.pg_together.proofs.Turns.{act_at, leads_alike}
@@ -42,14 +42,17 @@ WereWelcome config = (m w : TimedFrameWorld) (before events : List (Event Action
     → Reaches config before m → Leads (frame_machine config) m events w → is_pair (length config) i p ≡ true → w.wire p i ≡ x ∷ rest
     → step_take (nodes_at config i) (name_at config p) x (m.node i) ≢ Err NotAMessage
 
-module _ {T : Type 0} {g : Ghosts T} (config : Config) (nodes : List (Node T g)) (begun ended : ℕ → Linked T g) (ran : RanApart config nodes begun ended) (events : List (Event Action))
-    (run : Joined (frame_machine config) (logs_on config nodes begun ended ran) (acts_on config nodes begun ended ran) (ends_on config nodes begun ended ran) (left_on config nodes begun ended ran) events)
+module _ {T : Type 0} {g : Ghosts T} (config : Config) (nodes : List (Node T g)) (begun ended : ℕ → Linked T g) (ran : HaveRun config nodes begun ended) (unseen : Unseen config nodes begun ended ran) (events : List (Event Action))
+    (run : Joined (frame_machine config) (logs_on config nodes begun ended ran unseen) (acts_on config nodes begun ended ran unseen) (ends_on config nodes begun ended ran unseen) (left_on config nodes begun ended ran) events)
     (welcome : WereWelcome config) (more : PiecesContinue) (read : WrittenIsRead) (x y : ℕ) (pair : is_pair (length config) x y ≡ true) where
   within : x < length config
   within = (pair_is (length config) x y pair).0
 
   turned : is_pair (length config) y x ≡ true
   turned = pair_turned (length config) x y pair
+
+  puts : PutsFirst config nodes begun ended ran y x
+  puts = puts_all config nodes begun ended ran unseen y x
 
   abbrev names : List Name
   names = all_of (nodes_at config x)
@@ -64,7 +67,7 @@ module _ {T : Type 0} {g : Ghosts T} (config : Config) (nodes : List (Node T g))
   end = standing_of (node_of (ended x))
 
   abbrev Marked : Type 0
-  Marked = WasMarked names (ports_at config x) place (ran.acts x) start end (unread_on config nodes begun ended ran y x turned)
+  Marked = WasMarked names (ports_at config x) place (ran.acts x) start end (unread_on config nodes begun ended ran y x)
 
   peer_named : place_name names (place + 1) ≡ name_at config y
   peer_named = peer_name config x within place
@@ -75,17 +78,17 @@ module _ {T : Type 0} {g : Ghosts T} (config : Config) (nodes : List (Node T g))
   passes mark = run.passes x within (map (act_at config x) mark.before) (map (act_at config x) mark.after) mark.middle.state
       (ap (map (act_at config x)) mark.cut ∙ map-append (act_at config x) mark.before mark.after)
       (subst (λ s. NodeLeads (frame_machine config) x s (map (act_at config x) mark.before) mark.middle.state) (sym (shown config nodes begun ended ran x within).state)
-      (leads_alike config x within start mark.before mark.middle unseen mark.led))
+      (leads_alike config x within start mark.before mark.middle none_seen mark.led))
     where
-      unseen : SawNone mark.before
-      unseen p = none_first p mark.before mark.after (ap (losses_of p) (sym mark.cut) ∙ ran.unseen x within p)
+      none_seen : SawNone mark.before
+      none_seen p = none_first p mark.before mark.after (ap (losses_of p) (sym mark.cut) ∙ unseen x within p)
 
   never_marked : Marked → ⊥
   never_marked mark =
-      let bytes = bytes_cross config nodes begun ended ran y x turned in
-      let frames = sym (append_assoc mark.left mark.later bytes.0) ∙ (ap (λ w. w ++ bytes.0) (sym mark.came) ∙ left_frames config nodes begun ended ran y x turned more read) in
+      let bytes = bytes_cross config nodes begun ended ran y x turned puts in
+      let frames = sym (append_assoc mark.left mark.later bytes.0) ∙ (ap (λ w. w ++ bytes.0) (sym mark.came) ∙ left_frames config nodes begun ended ran y x turned puts more read) in
       let next = refused_first more read (nodes_at config x) (place_name names (place + 1)) mark.middle.state mark.left (mark.later ++ bytes.0) (left_on config nodes begun ended ran y x) mark.fault
-      (left_crosses config nodes begun ended ran y x turned more read) frames mark.told mark.marks in
+      (left_crosses config nodes begun ended ran y x turned puts more read) frames mark.told mark.marks in
       let at = passes mark in
       let p = pair_is (length config) x y pair in
       welcome at.world run.world at.before at.after x y next.0 next.1 at.led at.goes_on pair (run.ways y x p.1 p.0 p.2 ∙ next.2)
@@ -103,11 +106,11 @@ module _ {T : Type 0} {g : Ghosts T} (config : Config) (nodes : List (Node T g))
       from (inr mark) = never_marked mark
 
       as_named : ((links_of (node_of (begun x)) place).damaged ≡ true)
-          ⊎ WasMarked (names_of (held_by (node_of (begun x)))) (ports_of (held_by (node_of (begun x)))) place (ran.acts x) start end (unread_on config nodes begun ended ran y x turned)
+          ⊎ WasMarked (names_of (held_by (node_of (begun x)))) (ports_of (held_by (node_of (begun x)))) place (ran.acts x) start end (unread_on config nodes begun ended ran y x)
           → ((links_of (node_of (begun x)) place).damaged ≡ true) ⊎ Marked
       as_named either =
-          subst (λ n. ((links_of (node_of (begun x)) place).damaged ≡ true) ⊎ WasMarked names n place (ran.acts x) start end (unread_on config nodes begun ended ran y x turned)) (shown config nodes begun ended ran x within).ports
-          (subst (λ ns. ((links_of (node_of (begun x)) place).damaged ≡ true) ⊎ WasMarked ns (ports_of (held_by (node_of (begun x)))) place (ran.acts x) start end (unread_on config nodes begun ended ran y x turned))
+          subst (λ n. ((links_of (node_of (begun x)) place).damaged ≡ true) ⊎ WasMarked names n place (ran.acts x) start end (unread_on config nodes begun ended ran y x)) (shown config nodes begun ended ran x within).ports
+          (subst (λ ns. ((links_of (node_of (begun x)) place).damaged ≡ true) ⊎ WasMarked ns (ports_of (held_by (node_of (begun x)))) place (ran.acts x) start end (unread_on config nodes begun ended ran y x))
           (shown config nodes begun ended ran x within).names either)
 
       go : (b : Bool) → (links_of (node_of (ended x)) place).damaged ≡ b → (links_of (node_of (ended x)) place).damaged ≡ false

@@ -54,7 +54,7 @@ act_at config i act = record { input = input_at i act.input; turn = place_timed 
 
 module _ (config : Config) (i : ℕ) (within : i < length config) where
   -- the places that an input names are there
-  inputs_there : (input : Given) → IsFromPeer (all_of (nodes_at config i)) input → is_there (length config) (machine_event i (input_at i input)) ≡ true
+  pub inputs_there : (input : Given) → IsFromPeer (all_of (nodes_at config i)) input → is_there (length config) (machine_event i (input_at i input)) ≡ true
   inputs_there (Took p x) there =
       let low = peer_within config i within p there in
       let count = length-map config (λ start. start.name) in
@@ -63,7 +63,7 @@ module _ (config : Config) (i : ℕ) (within : i < length config) where
   inputs_there (Did action) there = lt-ltb i (length config) within
 
   -- what the step of the node makes of an input is what the machine's makes of it
-  steps_alike : (s : Timed State) (input : Given) (turn : TimedTurn) → SeesNone input → node_step (all_of (nodes_at config i)) (ports_at config i) s input ≡ Ok turn
+  pub steps_alike : (s : Timed State) (input : Given) (turn : TimedTurn) → SeesNone input → node_step (all_of (nodes_at config i)) (ports_at config i) s input ≡ Ok turn
       → (frame_machine config).step i s (input_at i input) ≡ Some (place_timed config turn)
   steps_alike s (Took p x) turn none made =
       let peer = config_name config (place_of_peer i p) in

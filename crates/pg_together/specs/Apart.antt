@@ -53,18 +53,26 @@ module _ {T : Type 0} {g : Ghosts T} where
   abbrev pub end_of : Linked T g → ℕ → ℕ → End → End
   end_of node x y none = get_or (peers_of node) (peer_place x y) none
 
-  -- Each of these nodes of a configuration ran, by acts of its own, of which none saw a loss, and by what its links moved, from its
-  -- start to its end, and what crossed between each two of them is what was sent.
-  pub record RanApart (config : Config) (nodes : List (Node T g)) (begun ended : ℕ → Linked T g) : Type 0 where
+  -- Each of these nodes of a configuration ran, by acts of its own and by what its links moved, from its start to its end, and what
+  -- crossed between each two of them is what was sent.
+  pub record HaveRun (config : Config) (nodes : List (Node T g)) (begun ended : ℕ → Linked T g) : Type 0 where
     pub starts : ShowsBytes config (idle_crossing nodes) no_account (start_of (frame_machine config))
     pub held : (i : ℕ) → i < length config → slice_get nodes i ≡ Some (node_of (begun i))
     pub unlogged : (i : ℕ) → i < length config → log_of (begun i) ≡ []
     pub linked : (i : ℕ) → i < length config → length (peers_of (begun i)) + 1 ≡ length config
     pub acts : ℕ → List Act
     pub follows : (i : ℕ) → i < length config → Follows Sends Receives (acts i) (begun i) (ended i)
-    pub unseen : (i : ℕ) → i < length config → SawNone (acts i)
     pub crossed : (x y : ℕ) (none : End) → is_pair (length config) x y ≡ true
         → Crossed (end_of (begun x) x y none) (end_of (begun y) y x none) (end_of (ended x) x y none) (end_of (ended y) y x none)
+
+  -- None of their acts saw a loss.
+  abbrev pub Unseen : (config : Config) (nodes : List (Node T g)) (begun ended : ℕ → Linked T g) → HaveRun config nodes begun ended → Type 0
+  Unseen config nodes begun ended ran = (i : ℕ) → i < length config → SawNone (ran.acts i)
+
+  -- They ran so, and none saw a loss.
+  pub record RanApart (config : Config) (nodes : List (Node T g)) (begun ended : ℕ → Linked T g) : Type 0 where
+    pub ran : HaveRun config nodes begun ended
+    pub unseen : Unseen config nodes begun ended ran
 
   -- the events of all logs, merged in an order
   abbrev pub events_in : (ℕ → Linked T g) → List (ℕ × ℕ) → List (Event Action)

@@ -11,7 +11,7 @@ use Rattle.std.proofs.lemmas.List.Elements.{filter-append}
 use Rattle.std.proofs.lemmas.Option.{get_or_from_slice_get, slice_get_within}
 use Rattle.pg_term.specs.declared.pid.Pid.{Pid}
 use Rattle.pg_group.specs.declared.table.GroupTable.{Ghosts}
-use Rattle.pg_ends.specs.Numbers.{is_among, number_in, pid_of}
+use Rattle.pg_ends.specs.Numbers.{first_pids, is_among, number_in, pid_of}
 use Rattle.pg_machine.specs.Clocked.{Timed, plain}
 use Rattle.pg_machine.specs.Losing.{LosingLeads, all_steps}
 use Rattle.pg_machine.specs.Machine.{Event, start_of}
@@ -31,7 +31,7 @@ use Rattle.pg_loss.specs.Reached.{LosingReaches}
 use Rattle.pg_node.specs.declared.state.NodeState.{NodeState}
 use Rattle.pg_world.specs.Losing.{losing_of}
 use Rattle.pg_world.specs.Losses.{is_lost}
-use Rattle.pg_world.specs.Pending.{IsPending, first_pids, has_end, is_pending, left_from, lent_as, nodes_left, own_of, pending_among, pending_at, pending_of}
+use Rattle.pg_world.specs.Pending.{IsPending, has_end, is_pending, is_untaken, left_from, lent_as, nodes_left, own_of, pending_among, pending_at, pending_of}
 use Rattle.pg_world.specs.Views.{Seen, seen_of}
 use Rattle.pg_world.specs.Worlds.{ShowsNodes, TimedFrameWorld}
 use Rattle.pg_world.proofs.LosingRunning.{start_is}
@@ -160,12 +160,6 @@ left_more p (first ∷ nodes) lost node =
 
 -- ---- the processes of a node
 
-pub first_more : (own : Node) (n : ℕ) → first_pids own (n + 1) ≡ first_pids own n ++ pid_of own (n + 1) ∷ []
-unfolding first_pids
-first_more own n =
-    let next : n + 1 ≡ suc n = omega arith in
-    ap (first_pids own) next ∙ ap (λ k. first_pids own n ++ pid_of own k ∷ []) (sym next)
-
 pids_named : (own : Node) (n : ℕ) (pid : Pid) → Among (first_pids own n) pid → pid.node ≡ own
 unfolding first_pids
 pids_named own zero pid is = absurd is
@@ -208,36 +202,33 @@ among_more left (first ∷ homes) home = ap (λ pids. pending_at left first ++ p
 
 -- ---- loops
 
--- of the first processes of a node, so many, those whose end is pending stand behind what was there; the last of them was looked at
-pub record Added (left : List Seen) (home : Seen) (number : ℕ) (before now : List Pid) (pid : Pid) : Type 0 where
-  pub items : now ≡ before ++ filter (is_pending left home) (first_pids (own_of home) number)
-  pub node : pid.node ≡ own_of home
-  pub creation : pid.creation ≡ 1
+-- those that pass both of two tests
+both_pass : (first second : Pid → Bool) (pids : List Pid) → filter second (filter first pids) ≡ filter (λ pid. first pid && second pid) pids
+both_pass first second [] = refl
+both_pass first second (pid ∷ pids) = go (first pid) (both_pass first second pids)
+  where
+    go : (b : Bool) → filter second (filter first pids) ≡ filter (λ pid. first pid && second pid) pids
+        → filter second (cond b (pid ∷ filter first pids) (filter first pids)) ≡ cond (b && second pid) (pid ∷ filter (λ pid. first pid && second pid) pids) (filter (λ pid. first pid && second pid) pids)
+    go true rest = ap (λ (l : List Pid). cond (second pid) (pid ∷ l) l) rest
+    go false rest = rest
 
-module _ (left : List Seen) (home : Seen) (before : List Pid) where
-  pub none_added : (pid : Pid) → pid.node ≡ own_of home → pid.creation ≡ 1 → Added left home 0 before before pid
-  unfolding first_pids
-  none_added pid node creation = record { items = sym (append-nil before); node = node; creation = creation }
+-- Of the ended of a home, those that are pending stand behind what was there, and others are still to be looked at.
+abbrev pub Added : List Seen → List Pid → List Pid → List Pid → List Pid → Type 0
+Added left before now rest ended = now ++ filter (is_untaken left) rest ≡ before ++ filter (is_untaken left) ended
 
-  more_pending : (number : ℕ) (now new : List Pid) (pid next : Pid) → Added left home number before now pid → next ≡ pid_of pid.node (number + 1)
-      → new ≡ now ++ filter (is_pending left home) (next ∷ []) → Added left home (number + 1) before new next
-  more_pending number now new pid next old put is = record {
-    items = is ∙ ap (λ (pids : List Pid). pids ++ filter (is_pending left home) (next ∷ [])) old.items
-        ∙ append_assoc before (filter (is_pending left home) (first_pids (own_of home) number)) (filter (is_pending left home) (next ∷ []))
-        ∙ ap (λ (pids : List Pid). before ++ pids) (sym (filter-append (is_pending left home) (first_pids (own_of home) number) (next ∷ []))
-        ∙ ap (λ (z : Pid). filter (is_pending left home) (first_pids (own_of home) number ++ z ∷ [])) (put ∙ ap (λ (node : Node). pid_of node (number + 1)) old.node)
-        ∙ ap (filter (is_pending left home)) (sym (first_more (own_of home) number)));
-    node = ap (λ (z : Pid). z.node) put ∙ old.node;
-    creation = ap (λ (z : Pid). z.creation) put;
-  }
+pub all_added : (left : List Seen) (home : Seen) (before now rest ended : List Pid) → rest ≡ [] → ended ≡ filter (has_end home) (first_pids (own_of home) home.state.state.processes) → Added left before now rest ended
+    → now ≡ before ++ pending_at left home
+all_added left home before now rest ended none is added =
+    sym (append-nil now) ∙ ap (λ (l : List Pid). now ++ filter (is_untaken left) l) (sym none) ∙ added
+    ∙ ap (λ (l : List Pid). before ++ l) (ap (filter (is_untaken left)) is ∙ both_pass (has_end home) (is_untaken left) (first_pids (own_of home) home.state.state.processes))
 
-  pub one_added : (number : ℕ) (now new : List Pid) (pid next : Pid) → Added left home number before now pid → next ≡ pid_of pid.node (number + 1)
-      → is_pending left home next ≡ true → new ≡ now ++ next ∷ [] → Added left home (number + 1) before new next
-  one_added number now new pid next old put pends is = more_pending number now new pid next old put (is ∙ ap (λ b. now ++ cond b (next ∷ []) []) (sym pends))
+module _ (left : List Seen) (before now old rest ended : List Pid) (pid : Pid) (is : old ≡ pid ∷ rest) where
+  pub one_added : is_untaken left pid ≡ true → Added left before now old ended → Added left before (now ++ pid ∷ []) rest ended
+  one_added pends added = append_assoc now (pid ∷ []) (filter (is_untaken left) rest)
+      ∙ ap (λ b. now ++ cond b (pid ∷ filter (is_untaken left) rest) (filter (is_untaken left) rest)) (sym pends) ∙ ap (λ (l : List Pid). now ++ filter (is_untaken left) l) (sym is) ∙ added
 
-  pub none_more : (number : ℕ) (now : List Pid) (pid next : Pid) → Added left home number before now pid → next ≡ pid_of pid.node (number + 1)
-      → is_pending left home next ≡ false → Added left home (number + 1) before now next
-  none_more number now pid next old put not_it = more_pending number now now pid next old put (sym (append-nil now) ∙ ap (λ b. now ++ cond b (next ∷ []) []) (sym not_it))
+  pub none_more : is_untaken left pid ≡ false → Added left before now old ended → Added left before now rest ended
+  none_more taken added = ap (λ b. now ++ cond b (pid ∷ filter (is_untaken left) rest) (filter (is_untaken left) rest)) (sym taken) ∙ ap (λ (l : List Pid). now ++ filter (is_untaken left) l) (sym is) ∙ added
 
 -- of elements as they are seen the first, with one more
 taken_more : {A B : Type 0} (view : A → B) (xs : List A) (k : ℕ) (x : A) → k < length xs → x ≡ get_or xs k x → take (k + 1) (map view xs) ≡ take k (map view xs) ++ view x ∷ []

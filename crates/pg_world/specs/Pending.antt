@@ -1,12 +1,12 @@
 -- The ends that are pending: each is one that the home of its process has and another node has not. Of lost nodes nothing counts.
-use Rattle.std.specs.Prelude.{◌≡◌, ℕ, zero, suc, ◌+◌, Bool, true, false, not, ◌&&◌, cond, drop, is_none, length, map, slice_get, List, [], ◌∷◌, ◌++◌, Some}
+use Rattle.std.specs.Prelude.{◌≡◌, ℕ, ◌+◌, Bool, true, false, not, ◌&&◌, cond, drop, is_none, length, map, slice_get, List, [], ◌∷◌, ◌++◌, Some}
 use Rattle.std.specs.Borrow.{Bor}
 use Rattle.std.specs.List.{filter, list_all, list_any}
 use Rattle.std.specs.Option.{option_map_or}
 use Rattle.pg_term.specs.declared.pid.Pid.{Pid}
 use Rattle.pg_term.specs.declared.term.Term.{Term}
 use Rattle.pg_group.specs.declared.table.GroupTable.{Ghosts}
-use Rattle.pg_ends.specs.Numbers.{pid_of}
+use Rattle.pg_ends.specs.Numbers.{first_pids}
 use Rattle.pg_machine.specs.Places.{is_place}
 use Rattle.pg_step.specs.Config.{Config, name_at}
 use Rattle.pg_step.specs.LossLaws.{LosingFrameWorld}
@@ -53,14 +53,13 @@ own_of node = place_name node.names 0
 abbrev pub has_end : Seen → Pid → Bool
 has_end node pid = node.state.state.ended pid
 
--- the pids of the first processes of a node, so many, in the order of their numbers
-unfoldable pub first_pids : Node → ℕ → List Pid
-first_pids own zero = []
-first_pids own (suc n) = first_pids own n ++ pid_of own (suc n) ∷ []
+-- one of the nodes has not taken the end of a process
+abbrev pub is_untaken : List Seen → Pid → Bool
+is_untaken left pid = list_any (λ node. not (has_end node pid)) left
 
 -- the home has the end, and one of the nodes that are left has not
 abbrev pub is_pending : List Seen → Seen → Pid → Bool
-is_pending left home pid = has_end home pid && list_any (λ node. not (has_end node pid)) left
+is_pending left home pid = has_end home pid && is_untaken left pid
 
 -- the processes that a node has made whose end is pending
 abbrev pub pending_at : List Seen → Seen → List Pid

@@ -126,7 +126,7 @@ impl<T: GroupTable + Drop> World<T> {
 
     /// The ends that are pending: each is that of a process whose home has it, and which some node has not. Of nodes that are lost
     /// nothing counts. They stand home by home, and by number at each. Its cost is a search at each node that is left for each
-    /// process that was made at one, and the memory of the list.
+    /// process that has ended at its home, and the memory of the list.
     ///
     /// Where the list is empty, no node is lost and one node sees the lock of a group free, formed nodes have the same of that group.
     ///

@@ -13,9 +13,11 @@ use crate::world::FrameNodes;
 use pg_group::GroupTable;
 use pg_index::IndexTable;
 use pg_loss::each_world_past_losses;
+use pg_message::Packet;
 use pg_node::{NodeFault, NodeState};
 use pg_term::{Pid, Term};
 use std::alloc::{AllocError, Global};
+use std::collections::VecDeque;
 use std::snapshot::Snapshot;
 
 /// Nodes over packets, as they have come from the start of a configuration, and the packets on the way between them.
@@ -60,8 +62,10 @@ impl FrameWorld<IndexTable> {
 }
 
 impl<T: GroupTable + Drop> FrameWorld<T> {
-    ghost use Rattle.std.specs.Prelude.{◌≡◌, ◌<◌, ◌↔◌, ◌++◌, [], true, IsTrue, Ok, IfOk, OnErr, ℕ, length, map, option_map, slice_get};
-    ghost use Rattle.std.specs.Option.{option_copied};
+    ghost use Rattle.std.specs.Prelude.{◌≡◌, ◌<◌, ◌↔◌, ◌++◌, [], true, IsTrue, Ok, IfOk, IfSome, OnErr, ℕ, length, map, option_map, slice_get};
+    ghost use Rattle.std.specs.Option.{is_some, option_copied};
+    ghost use Rattle.pg_machine.specs.Places.{is_pair};
+    ghost use Rattle.pg_node.specs.States.{stamped_of};
     ghost use Rattle.pg_term.specs.declared.term.Term.{Term};
     ghost use Rattle.pg_machine.specs.Clocked.{plain};
     ghost use Rattle.pg_history.specs.History.{LockFree};
@@ -73,7 +77,7 @@ impl<T: GroupTable + Drop> FrameWorld<T> {
     ghost use Rattle.pg_world.specs.Losses.{is_lost};
     ghost use Rattle.pg_world.specs.Past.{FramesGoOn, HistoriesGrow};
     ghost use Rattle.pg_world.specs.Pending.{AgreeOn, pending_of, sees_free};
-    ghost use Rattle.pg_world.specs.Views.{seen_of};
+    ghost use Rattle.pg_world.specs.Views.{on_the_way, seen_of};
     ghost use Rattle.pg_world.specs.Worlds.{TimedFrameWorld, Shows, StepComesTo};
 
     /// The node at a place. It takes no memory.
@@ -114,6 +118,15 @@ impl<T: GroupTable + Drop> FrameWorld<T> {
         state.holder(name).is_none()
     }
 
+    /// The packets on the way from one node to another, the first to be taken first; `None` unless both are there and differ. It
+    /// takes no memory.
+    pub fn on_way(&self, from: usize, to: usize) -> Option<&VecDeque<Packet>>
+        ensures there { is_some result ≡ is_pair (length (traffic_of self.now).nodes) to from }
+        ensures packets { IfSome result (λ packets. map stamped_of packets.now.items ≡ on_the_way (traffic_of self.now) from to) }
+    {
+        self.frames.on_way(from, to)
+    }
+
     /// Whether a node is lost. It takes no memory: O(n) in the nodes that are lost.
     pub fn is_lost(&self, node: usize) -> bool
         ensures { result ≡ is_lost (lost_of self.now) node }
@@ -123,7 +136,7 @@ impl<T: GroupTable + Drop> FrameWorld<T> {
 
     /// The ends that are pending: each is that of a process whose home has it, and which some node has not. Of nodes that are lost
     /// nothing counts. They stand home by home, and by number at each. Its cost is a search at each node that is left for each
-    /// process that was made at one, and the memory of the list.
+    /// process that has ended at its home, and the memory of the list.
     ///
     /// Where the list is empty, no node is lost and one node sees the lock of a group free, formed nodes have the same of that group.
     ///

@@ -1,4 +1,7 @@
 //! Worlds of nodes: the nodes of a configuration that step one at a time, and the packets on the way between them.
+//!
+//! `world.step(&step)?` makes a step, and `world.history(&name)` tells the history of a group. Begin with `src/frame_world.rt`; `history.rt`
+//! of pg_uses plays such a world.
 #![tactic(auto)]
 
 mod begun;

@@ -1,6 +1,6 @@
 //! The packets on the way from one node to each of its peers.
 
-ghost use Rattle.std.specs.Prelude.{◌≡◌, ◌↔◌, ◌<◌, ◌+◌, ◌++◌, ◌∷◌, ◌^◌, ℕ, [], Some, get_or, slice_set, drop, take, length, replicate, option_map, IsTrue, IfOk, OnOk};
+ghost use Rattle.std.specs.Prelude.{◌≡◌, ◌↔◌, ◌<◌, ◌+◌, ◌++◌, ◌∷◌, ◌^◌, ℕ, [], Some, get_or, slice_set, drop, take, length, map, replicate, option_map, IsTrue, IfOk, OnOk};
 ghost use Rattle.std.specs.Option.{option_copied};
 ghost use Rattle.pg_message.specs.declared.packet.Packet.{Packet};
 ghost use Rattle.pg_message.specs.Members.{IsShort};
@@ -12,6 +12,7 @@ use pg_message::Packet;
 use pg_node::Done;
 use pg_step::OpId;
 use std::alloc::{AllocError, Global};
+use std::collections::VecDeque;
 
 /// The packets on the way from one node to each of its peers.
 #[derive(Drop)]
@@ -93,6 +94,15 @@ impl Outgoing {
     {
         let way = &self.ways[peer];
         way.first()
+    }
+
+    /// The packets on the way to a peer, the first to be taken first. `peer`: its place among the peers. It takes no memory.
+    pub(crate) fn packets(&self, peer: usize) -> &VecDeque<Packet>
+        requires place { peer < length (ways_of self.now) }
+        ensures { map stamped_of result.now.items ≡ get_or (ways_of self.now) peer [] }
+    {
+        let way = &self.ways[peer];
+        way.packets()
     }
 
     /// Takes the first packet off the way to a peer. `peer`: its place among the peers. It takes no memory.

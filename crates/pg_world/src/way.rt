@@ -70,6 +70,13 @@ impl Way {
         self.packets.front()
     }
 
+    /// All of them, the first to be taken first. It takes no memory.
+    pub(crate) fn packets(&self) -> &VecDeque<Packet>
+        ensures { map stamped_of result.now.items ≡ packets_of self.now }
+    {
+        &self.packets
+    }
+
     /// How many packets there are. It takes no memory.
     pub(crate) fn len(&self) -> usize
         ensures { result ≡ length (packets_of self.now) }

@@ -1,6 +1,8 @@
 //! Nodes and the packets on the way between them, and what a step makes of them.
 
-ghost use Rattle.std.specs.Prelude.{◌≡◌, ◌≢◌, [], true, Ok, OnErr, length};
+ghost use Rattle.std.specs.Prelude.{◌≡◌, ◌≢◌, [], true, Ok, IfSome, OnErr, length, map};
+ghost use Rattle.std.specs.Option.{is_some};
+ghost use Rattle.pg_node.specs.States.{stamped_of};
 ghost use Rattle.pg_world.specs.Views.{IsWhole, traffic_in};
 
 mod losing;
@@ -11,9 +13,11 @@ use crate::losses::Losses;
 use crate::outgoing::Outgoing;
 use crate::step::{FrameStep, Stepped};
 use pg_group::GroupTable;
+use pg_message::Packet;
 use pg_node::{Done, NodeFault, NodeState};
 use pg_step::{Command, OpId, Refusal};
 use std::alloc::{AllocError, Global};
+use std::collections::VecDeque;
 
 /// Nodes over packets, and the packets on the way between them.
 #[derive(Drop)]
@@ -27,7 +31,7 @@ pub(crate) struct FrameNodes<T: GroupTable> {
 }
 
 impl<T: GroupTable + Drop> FrameNodes<T> {
-    ghost use Rattle.pg_world.specs.Views.{fresh_view};
+    ghost use Rattle.pg_world.specs.Views.{fresh_view, on_the_way};
     ghost use Rattle.pg_machine.specs.Places.{is_pair};
     ghost use Rattle.pg_machine.specs.Machine.{Take, Do};
     ghost use Rattle.pg_step.specs.Config.{Config};
@@ -122,6 +126,18 @@ impl<T: GroupTable + Drop> FrameNodes<T> {
     {
         let count = self.nodes.len();
         node < count && peer < count && node != peer
+    }
+
+    /// The packets on the way from one node to another, the first to be taken first; `None` unless both are there and differ.
+    pub(crate) fn on_way(&self, from: usize, to: usize) -> Option<&VecDeque<Packet>>
+        ensures there { is_some result ≡ is_pair (length (traffic_of self.now).nodes) to from }
+        ensures packets { IfSome result (λ packets. map stamped_of packets.now.items ≡ on_the_way (traffic_of self.now) from to) }
+    {
+        if !self.has_pair(to, from) {
+            return None;
+        }
+        let outgoing = &self.outgoing[from];
+        Some(outgoing.packets(peer_place(from, to)))
     }
 
     /// Whether a node has that port.

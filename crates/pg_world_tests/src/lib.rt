@@ -1,5 +1,4 @@
-//! What is only run of worlds of nodes and of scripts: examples as steps, random schedules, the headline by a slow reading of it, and
-//! texts that are scripts or are none.
+//! What is only run of worlds of nodes: examples as steps, random schedules, and the headline by a slow reading of it.
 #![tactic(auto)]
 
 #[cfg(test)]
@@ -12,8 +11,6 @@ mod prefixes;
 mod random;
 #[cfg(test)]
 mod schedules;
-#[cfg(test)]
-mod scripts;
 #[cfg(test)]
 mod slow;
 #[cfg(test)]

@@ -3,8 +3,8 @@
 
 use crate::examples::{
     CLOSEST_MEMBER, DELETE_BETWEEN_LOOK_AND_LOCK, END_BEATS_LATE_JOIN, Example, FORMATION,
-    INITIAL_TABLES, JOIN_TWICE_LEAVE_ONCE, LOSS_DROPS_MEMBERS, LOSS_FREES_LOCK, NEW_GREATEST,
-    TWO_CREATORS,
+    INITIAL_TABLES, JOIN_TWICE_LEAVE_ONCE, LOSS_DROPS_MEMBERS, LOSS_FREES_LOCK, LOSS_LEAVES_OUT,
+    NEW_GREATEST, TWO_CREATORS,
 };
 use crate::schedules::{are_same_worlds, schedule_of, state_of};
 use crate::verdicts::holds;
@@ -73,9 +73,9 @@ fn are_answers(alloc: Global, world: &World<IndexTable>, nodes: usize, answers: 
 }
 
 fn check(rt: &impl Abort, alloc: Global, example: &Example<'_>) {
-    let schedule = match schedule_of(alloc, example.script, example.nodes, 5) {
+    let schedule = match schedule_of(alloc, example.script, 5) {
         Some(schedule) => schedule,
-        None => schedule_of(alloc, example.script, example.nodes, 5).expect(rt, "memory"),
+        None => schedule_of(alloc, example.script, 5).expect(rt, "memory"),
     };
     let nodes = schedule.config.starts.len();
     let mut one = new_world(rt, alloc, &schedule.config);
@@ -137,16 +137,13 @@ fn formation_of_three(rt: HostRuntime) {
 }
 
 #[test]
-fn loss_drops_members(rt: HostRuntime) {
-    check(&rt, rt.alloc(), &LOSS_DROPS_MEMBERS);
-}
-
-#[test]
-fn loss_frees_lock(rt: HostRuntime) {
-    check(&rt, rt.alloc(), &LOSS_FREES_LOCK);
-}
-
-#[test]
 fn new_greatest(rt: HostRuntime) {
     check(&rt, rt.alloc(), &NEW_GREATEST);
+}
+
+#[test]
+fn losses(rt: HostRuntime) {
+    for example in [&LOSS_DROPS_MEMBERS, &LOSS_FREES_LOCK, &LOSS_LEAVES_OUT] {
+        check(&rt, rt.alloc(), example);
+    }
 }

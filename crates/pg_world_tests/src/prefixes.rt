@@ -1,8 +1,8 @@
-//! After each prefix of the steps of an example the headline holds, by a slow reading.
+//! After each prefix of the steps of an example the headline holds, or what survives losses, by a slow reading.
 
 use crate::examples::{
     DELETE_BETWEEN_LOOK_AND_LOCK, END_BEATS_LATE_JOIN, Example, INITIAL_TABLES,
-    JOIN_TWICE_LEAVE_ONCE, TWO_CREATORS,
+    JOIN_TWICE_LEAVE_ONCE, LOSS_DROPS_MEMBERS, LOSS_LEAVES_OUT, NEW_GREATEST, TWO_CREATORS,
 };
 use crate::schedules::{Schedule, schedule_of};
 use crate::slow::{Scene, are_answered, first_pids};
@@ -33,7 +33,7 @@ fn is_right(alloc: Global, schedule: &Schedule, pids: &[Pid], steps: &[Step]) ->
 }
 
 fn check(rt: &impl Abort, alloc: Global, example: &Example<'_>) {
-    let schedule = schedule_of(alloc, example.script, example.nodes, 4).expect(rt, "memory");
+    let schedule = schedule_of(alloc, example.script, 4).expect(rt, "memory");
     let starts = schedule.config.starts.as_slice();
     let pids = first_pids(alloc, starts, 2).expect(rt, "memory");
     let steps = schedule.steps.as_slice();
@@ -47,26 +47,21 @@ fn check(rt: &impl Abort, alloc: Global, example: &Example<'_>) {
 }
 
 #[test]
-fn join_twice_leave_once(rt: HostRuntime) {
-    check(&rt, rt.alloc(), &JOIN_TWICE_LEAVE_ONCE);
+fn each_prefix_has_one_history(rt: HostRuntime) {
+    for example in [
+        &JOIN_TWICE_LEAVE_ONCE,
+        &TWO_CREATORS,
+        &INITIAL_TABLES,
+        &END_BEATS_LATE_JOIN,
+        &DELETE_BETWEEN_LOOK_AND_LOCK,
+    ] {
+        check(&rt, rt.alloc(), example);
+    }
 }
 
 #[test]
-fn two_creators(rt: HostRuntime) {
-    check(&rt, rt.alloc(), &TWO_CREATORS);
-}
-
-#[test]
-fn initial_tables(rt: HostRuntime) {
-    check(&rt, rt.alloc(), &INITIAL_TABLES);
-}
-
-#[test]
-fn end_beats_late_join(rt: HostRuntime) {
-    check(&rt, rt.alloc(), &END_BEATS_LATE_JOIN);
-}
-
-#[test]
-fn delete_between_look_and_lock(rt: HostRuntime) {
-    check(&rt, rt.alloc(), &DELETE_BETWEEN_LOOK_AND_LOCK);
+fn each_prefix_survives_losses(rt: HostRuntime) {
+    for example in [&LOSS_DROPS_MEMBERS, &LOSS_LEAVES_OUT] {
+        check(&rt, rt.alloc(), example);
+    }
 }

@@ -1,6 +1,6 @@
 //! Random schedules of worlds over bytes, cut at random. Whatever moved when, packets that cross whole lead to the same nodes.
 
-use crate::schedules::{Schedule, are_same, are_same_worlds, read, state_of};
+use crate::schedules::{Schedule, are_same, are_same_worlds, schedule_of, state_of};
 use crate::slow::{GROUPS, Scene, are_answered, first_pids, len_of};
 use crate::verdicts::holds;
 use pg_index::IndexTable;
@@ -14,33 +14,11 @@ use std::process::Abort;
 /// How many steps a schedule has.
 const STEPS: usize = 10_000;
 
-// How the nodes start: two of them with groups.
-static BEGUN: [&str; 4] = [
-    "ring 150
-node a made 2
-node b made 2
-has a 1 <a.1.0> <a.1.0> <b.1.0>
-has a 3
-has b 1 <a.1.0> <b.1.0> <b.1.0>
-",
-    "ring 150
-node a made 2
-node b made 2
-node c made 2
-has a 1 <a.1.0> <a.1.0> <b.1.0>
-has a 3
-has b 1 <a.1.0> <b.1.0> <b.1.0>
-",
-    "ring 150
-node a made 2
-node b made 2
-node c made 2
-node d made 2
-has a 1 <a.1.0> <a.1.0> <b.1.0>
-has a 3
-has b 1 <a.1.0> <b.1.0> <b.1.0>
-",
-    "ring 150
+/// The steps at which nodes are lost where any is, all formed by then: the last of four nodes or five, and then the second.
+const LOSSES: [usize; 2] = [4_000, 7_000];
+
+// How nodes start, of which the first so many are taken: two of them with groups.
+const BEGUN: &str = "ring 150
 node a made 2
 node b made 2
 node c made 2
@@ -49,15 +27,15 @@ node e made 2
 has a 1 <a.1.0> <a.1.0> <b.1.0>
 has a 3
 has b 1 <a.1.0> <b.1.0> <b.1.0>
-",
-];
+";
 
 /// Steps by chance.
 #[derive(Drop)]
 struct Chance {
     random: Random,
-    // How many nodes there are, at least 1.
+    // How many nodes there are, at least 1, and whether some are lost.
     nodes: u32,
+    is_lossy: bool,
     // How many commands there were at all nodes.
     asked: u32,
 }
@@ -123,47 +101,63 @@ impl Chance {
 
     // A step; none where memory was refused.
     fn step(&mut self, pids: &[Pid]) -> Option<Step> {
-        let (one, other) = self.pair();
+        let (node, peer) = self.pair();
         let max = self.random.below(200) as usize;
         match self.random.below(100) {
-            0..28 => Some(Step::Put {
-                from: one,
-                to: other,
-                max,
-            }),
-            28..56 => Some(Step::Pull {
-                to: one,
-                from: other,
-                max,
-            }),
-            56..88 => Some(Step::Event(FrameStep::Take {
-                node: one,
-                peer: other,
-            })),
+            0..28 => Some(put(node, peer, max)),
+            28..56 => Some(pull(node, peer, max)),
+            56..88 => Some(Step::Event(FrameStep::Take { node, peer })),
             88..96 => {
                 self.asked = self.asked.saturating_add(1);
                 let command = self.command(pids)?;
+                let port = 0;
                 Some(Step::Event(FrameStep::Command {
-                    node: one,
-                    port: 0,
+                    node,
+                    port,
                     command,
                 }))
             }
-            _ => Some(Step::Event(FrameStep::Retry {
-                node: one,
-                op: OpId {
-                    port: 0,
-                    number: self.number(),
-                },
-            })),
+            // A loss is seen, or a command is tried again.
+            _ if self.is_lossy && self.random.below(2) > 0 => {
+                Some(Step::Event(FrameStep::SeeLoss { node, peer }))
+            }
+            _ => {
+                let (port, number) = (0, self.number());
+                let op = OpId { port, number };
+                Some(Step::Event(FrameStep::Retry { node, op }))
+            }
+        }
+    }
+
+    // The node that is lost at a step, if one is.
+    fn lost_at(&self, step: usize) -> Option<usize> {
+        let [first, second] = LOSSES;
+        if self.is_lossy && step == first {
+            Some((self.nodes as usize).saturating_sub(1))
+        } else if self.is_lossy && step == second {
+            Some(1)
+        } else {
+            None
         }
     }
 }
 
+fn put(from: usize, to: usize, max: usize) -> Step {
+    Step::Put { from, to, max }
+}
+
+fn pull(to: usize, from: usize, max: usize) -> Step {
+    Step::Pull { to, from, max }
+}
+
 // Puts steps by chance behind the others.
 fn put_steps(steps: &mut Vec<Step>, chance: &mut Chance, pids: &[Pid]) -> Result<(), AllocError> {
-    for _ in 0..STEPS {
-        match chance.step(pids) {
+    for place in 0..STEPS {
+        let step = match chance.lost_at(place) {
+            Some(node) => Some(Step::Lose { node }),
+            None => chance.step(pids),
+        };
+        match step {
             Some(step) => steps.push(step)?,
             None => return Err(AllocError),
         }
@@ -290,19 +284,57 @@ fn is_run_over_packets(
     }
 }
 
-// The nodes of a configuration make steps by chance.
-fn check_schedule(rt: &impl Abort, alloc: Global, nodes: Schedule, seed: u64) {
-    let mut schedule = nodes;
-    let count = schedule.config.starts.len();
-    let pids = first_pids(alloc, schedule.config.starts.as_slice(), 3).expect(rt, "memory");
+// The first so many of the nodes, and steps by chance.
+fn drawn(alloc: Global, nodes: usize, is_lossy: bool, seed: u64) -> Option<(Schedule, Vec<Pid>)> {
+    let mut schedule = schedule_of(alloc, BEGUN, 0)?;
+    schedule.config.starts.truncate(nodes);
+    let Some(pids) = first_pids(alloc, schedule.config.starts.as_slice(), 3) else {
+        drop(schedule);
+        return None;
+    };
     let mut chance = Chance {
         random: Random::new(seed),
-        nodes: u32::try_from(count).unwrap_or(1),
+        nodes: u32::try_from(nodes).unwrap_or(1),
+        is_lossy,
         asked: 0,
     };
     let told = put_steps(&mut schedule.steps, &mut chance, pids.as_slice());
     drop(chance);
-    told.expect(rt, "memory");
+    if told.is_ok() {
+        Some((schedule, pids))
+    } else {
+        drop(schedule);
+        drop(pids);
+        None
+    }
+}
+
+// A run of the steps that were made, and one of the events over packets, lead to the same nodes; of losses, which keep as many packets as
+// were put whole, the first alone.
+fn check_runs(
+    rt: &impl Abort,
+    alloc: Global,
+    schedule: Schedule,
+    is_lossy: bool,
+    world: &World<IndexTable>,
+    notes: &[Noted],
+) {
+    let is_run = is_run(alloc, &schedule, world, notes);
+    let Schedule { config, steps } = schedule;
+    let count = config.starts.len();
+    holds(rt, is_run, "the same by a run, nodes:", count);
+    let mut events = Vec::new(alloc);
+    let told = put_events(&mut events, steps, notes);
+    let is_run = told.is_ok()
+        && (is_lossy || is_run_over_packets(alloc, &config, world, events.as_slice()));
+    drop(events);
+    drop(config);
+    holds(rt, is_run, "the same over packets, nodes:", count);
+}
+
+// So many nodes make steps by chance.
+fn check(rt: &impl Abort, alloc: Global, nodes: usize, is_lossy: bool, seed: u64) {
+    let (schedule, pids) = drawn(alloc, nodes, is_lossy, seed).expect(rt, "memory");
     let mut world = World::new(alloc, &schedule.config)
         .ok()
         .expect(rt, "memory");
@@ -319,42 +351,31 @@ fn check_schedule(rt: &impl Abort, alloc: Global, nodes: Schedule, seed: u64) {
     // What was answered stands in the histories.
     let scene = looked_at(alloc, &schedule, pids.as_slice(), &world);
     check_headline(rt, scene, STEPS);
-    holds(
-        rt,
-        are_answered(scene, schedule.steps.as_slice()),
-        "answers of nodes:",
-        count,
-    );
+    let are_answered = are_answered(scene, schedule.steps.as_slice());
+    holds(rt, are_answered, "answers of nodes:", nodes);
+    holds(rt, scene.all_saw(), "the losses, nodes:", nodes);
     let begun = begun(&world);
     holds(rt, begun > 9, "updates begun:", begun);
-    // A run of the steps, and one of the events over packets, lead to the same nodes.
-    let is_run = is_run(alloc, &schedule, &world, notes.as_slice());
-    holds(rt, is_run, "the same by a run, nodes:", count);
-    let Schedule { config, steps } = schedule;
-    let mut events = Vec::new(alloc);
-    put_events(&mut events, steps, notes.as_slice()).expect(rt, "memory");
-    let is_run = is_run_over_packets(alloc, &config, &world, events.as_slice());
-    holds(rt, is_run, "the same over packets, nodes:", count);
-    drop(events);
-    drop(config);
+    check_runs(rt, alloc, schedule, is_lossy, &world, notes.as_slice());
     drop(world);
     drop(notes);
     drop(pids);
 }
 
-fn check(rt: &impl Abort, alloc: Global, nodes: &str, seed: u64) {
-    let nodes = read(alloc, nodes).expect(rt, "memory");
-    check_schedule(rt, alloc, nodes, seed);
-}
-
 #[test]
 fn two_and_three_nodes(rt: HostRuntime) {
-    check(&rt, rt.alloc(), BEGUN[0], 20_261_125);
-    check(&rt, rt.alloc(), BEGUN[1], 20_261_126);
+    check(&rt, rt.alloc(), 2, false, 20_261_125);
+    check(&rt, rt.alloc(), 3, false, 20_261_126);
 }
 
 #[test]
 fn four_and_five_nodes(rt: HostRuntime) {
-    check(&rt, rt.alloc(), BEGUN[2], 20_261_127);
-    check(&rt, rt.alloc(), BEGUN[3], 20_261_128);
+    check(&rt, rt.alloc(), 4, false, 20_261_127);
+    check(&rt, rt.alloc(), 5, false, 20_261_128);
+}
+
+#[test]
+fn nodes_are_lost(rt: HostRuntime) {
+    check(&rt, rt.alloc(), 4, true, 12);
+    check(&rt, rt.alloc(), 5, true, 3);
 }

@@ -3,7 +3,7 @@
 use pg_index::IndexTable;
 use pg_node::NodeState;
 use pg_script::{Act, Script, ScriptLine, read_script};
-use pg_world::{Config, Step, World};
+use pg_world::{Config, FrameStep, Step, World};
 use std::alloc::{AllocError, Global};
 
 /// A schedule.
@@ -13,89 +13,49 @@ pub struct Schedule {
     pub steps: Vec<Step>,
 }
 
-// What each node sends comes to the others, as far as there is room, which take up to two packets of it.
-const ROUND_OF_TWO: &str = "put a b
-pull b a
-take b a
-take b a
-put b a
-pull a b
-take a b
-take a b
-";
-
-const ROUND_OF_THREE: &str = "put a b
-pull b a
-take b a
-take b a
-put a c
-pull c a
-take c a
-take c a
-put b a
-pull a b
-take a b
-take a b
-put b c
-pull c b
-take c b
-take c b
-put c a
-pull a c
-take a c
-take a c
-put c b
-pull b c
-take b c
-take b c
-";
-
-// A line of a script, with so many rounds in the place of `settle`.
-fn put_line(text: &mut String, line: &str, round: &str, rounds: usize) -> Result<(), AllocError> {
-    if line == "settle" {
-        for _ in 0..rounds {
-            text.push_str(round)?;
-        }
-        Ok(())
-    } else {
-        text.push_str(line)?;
-        text.push('\n')
-    }
+// What a node sends comes to another, as far as there is room, which takes up to two packets of it.
+fn put_way(steps: &mut Vec<Step>, from: usize, to: usize) -> Result<(), AllocError> {
+    let (node, peer, max) = (to, from, 65_536);
+    steps.push(Step::Put { from, to, max })?;
+    steps.push(Step::Pull { to, from, max })?;
+    steps.push(Step::Event(FrameStep::Take { node, peer }))?;
+    Ok(steps.push(Step::Event(FrameStep::Take { node, peer }))?)
 }
 
-fn put_lines(
-    text: &mut String,
-    script: &str,
-    nodes: usize,
-    rounds: usize,
-) -> Result<(), AllocError> {
-    let round = if nodes == 2 {
-        ROUND_OF_TWO
-    } else {
-        ROUND_OF_THREE
-    };
-    for line in script.split('\n') {
-        put_line(text, line, round, rounds)?;
+// So many rounds, in each of which what each of these nodes sends comes to the others.
+fn put_rounds(steps: &mut Vec<Step>, nodes: usize, rounds: usize) -> Result<(), AllocError> {
+    let nodes = nodes.max(1);
+    for round in 0..rounds.saturating_mul(nodes).saturating_mul(nodes) {
+        let (from, to) = (round / nodes % nodes, round % nodes);
+        if from != to {
+            put_way(steps, from, to)?;
+        }
     }
     Ok(())
 }
 
-// The steps of lines of which each is one.
-fn put_steps(steps: &mut Vec<Step>, lines: Vec<ScriptLine>) -> Result<(), AllocError> {
+// The steps of lines of which each is one, or settles in so many rounds.
+fn put_steps(
+    steps: &mut Vec<Step>,
+    lines: Vec<ScriptLine>,
+    nodes: usize,
+    rounds: usize,
+) -> Result<(), AllocError> {
     for line in lines {
         let ScriptLine { number: _, act } = line;
         match act {
             Act::Step(step) => steps.push(step)?,
+            Act::Settle(_) => put_rounds(steps, nodes, rounds)?,
             other => drop(other),
         }
     }
     Ok(())
 }
 
-fn with_steps(alloc: Global, script: Script) -> Option<Schedule> {
+fn with_steps(alloc: Global, script: Script, rounds: usize) -> Option<Schedule> {
     let Script { config, lines } = script;
     let mut steps = Vec::new(alloc);
-    let told = put_steps(&mut steps, lines);
+    let told = put_steps(&mut steps, lines, config.starts.len(), rounds);
     let schedule = Schedule { config, steps };
     match told {
         Ok(()) => Some(schedule),
@@ -106,23 +66,12 @@ fn with_steps(alloc: Global, script: Script) -> Option<Schedule> {
     }
 }
 
-/// The schedule of a text, of which each line is one step. None where memory was refused.
-pub fn read(alloc: Global, text: &str) -> Option<Schedule> {
-    match read_script(alloc, text) {
-        Ok(script) => with_steps(alloc, script),
+/// The schedule of a script, which settles in so many rounds. None where memory was refused.
+pub fn schedule_of(alloc: Global, script: &str, rounds: usize) -> Option<Schedule> {
+    match read_script(alloc, script) {
+        Ok(script) => with_steps(alloc, script, rounds),
         Err(_) => None,
     }
-}
-
-/// The schedule of a script of two or three nodes, which settles in so many rounds. None where memory was refused.
-pub fn schedule_of(alloc: Global, script: &str, nodes: usize, rounds: usize) -> Option<Schedule> {
-    let mut text = String::new(alloc);
-    let schedule = match put_lines(&mut text, script, nodes, rounds) {
-        Ok(()) => read(alloc, text.as_str()),
-        Err(AllocError) => None,
-    };
-    drop(text);
-    schedule
 }
 
 /// The node at a place.

@@ -2,10 +2,12 @@
 
 mod answered;
 mod held;
+mod kept;
 
 use crate::schedules::state_of;
 pub use answered::are_answered;
 use held::{Held, count_in};
+use kept::{LeftOut, lost_to};
 use pg_group::{GroupTable, Scope};
 use pg_index::IndexTable;
 use pg_node::NodeState;
@@ -82,21 +84,28 @@ pub struct Scene<'a> {
 /// What the table of a node should hold.
 #[derive(Clone, Copy)]
 enum Wanted<'a> {
-    /// What the updates that the node at this place has applied make of what all began with, less the processes that it knows to
-    /// have ended.
-    Applied(usize),
+    /// What the updates of a history, but for these, make of what all began with, less the processes that it knows to have ended.
+    AllBut(LeftOut),
     /// What the table of another node holds.
     Of(&'a State),
 }
 
 impl<'a> Scene<'a> {
+    /// The node at a place, if it is not lost.
+    fn left_at(&self, place: usize) -> Option<&'a State> {
+        if self.world.is_lost(place) {
+            None
+        } else {
+            state_of(self.world, place)
+        }
+    }
+
     // What a node should hold of a process in a group.
     fn wanted(&self, node: &State, name: &Term, wanted: Wanted<'_>, pid: &Pid) -> Held {
         match wanted {
-            Wanted::Applied(place) => {
-                let applied = self.world.applied(place, name);
+            Wanted::AllBut(out) => {
                 let mut held = Held::begun(self.starts, name, pid);
-                held.replay(self.world.history(name), applied, pid);
+                self.replay(&mut held, self.world.history(name), out, pid);
                 if node.ended(pid) {
                     held.count = 0;
                 }
@@ -142,35 +151,48 @@ impl<'a> Scene<'a> {
         }
     }
 
-    // The first node that is formed, from a place on, and before another.
-    fn formed_in(&self, from: usize, end: usize) -> Option<&'a State> {
-        for place in from..end {
-            match state_of(self.world, place) {
-                Some(node) if node.formed() => return Some(node),
-                _ => {}
-            }
-        }
-        None
-    }
-
-    // Whether one node sees the lock of a group free.
-    fn is_free(&self, name: &Term) -> bool {
-        for place in 0..self.starts.len() {
-            match state_of(self.world, place) {
-                Some(node) if node.holder(name).is_none() => return true,
-                _ => {}
+    // Whether the table of a node is that of the updates that it has applied: the history, or all of it but the last, less one that is
+    // not answered of each lost node whose loss it saw. Where the lock is free the last is among them.
+    fn has_its_table(&self, place: usize, node: &State, name: &Term, is_free: bool) -> bool {
+        let seen = lost_to(place, node);
+        let applied = Some(self.world.applied(place, name));
+        for of_lost in 0..=seen {
+            for is_short in [false, true] {
+                let out = LeftOut { of_lost, is_short };
+                if of_lost | seen == seen
+                    && !(is_short && is_free)
+                    && self.kept(self.world.history(name), out) == applied
+                    && self.is_right(node, name, Wanted::AllBut(out))
+                {
+                    return true;
+                }
             }
         }
         false
     }
 
-    // Whether no process has ended at its home, and not everywhere.
+    // Whether one node sees the lock of a group free.
+    fn is_free(&self, name: &Term) -> bool {
+        for place in 0..self.starts.len() {
+            if self.sees_free(place, name) {
+                return true;
+            }
+        }
+        false
+    }
+
+    // Whether a node sees the lock of a group free.
+    fn sees_free(&self, place: usize, name: &Term) -> bool {
+        self.world.node(place).is_some() && self.world.lock_free(place, name)
+    }
+
+    // Whether no process has ended at its home, and not everywhere. Lost nodes do not count.
     fn none_pending(&self) -> bool {
         for pid in self.pids {
             let mut has_ended = false;
             let mut is_alive = false;
             for place in 0..self.starts.len() {
-                if let Some(node) = state_of(self.world, place) {
+                if let Some(node) = self.left_at(place) {
                     let ended = node.ended(pid);
                     has_ended = has_ended || ended && *node.own() == pid.node;
                     is_alive = is_alive || !ended;
@@ -183,48 +205,90 @@ impl<'a> Scene<'a> {
         true
     }
 
-    // What does not hold of a group at a node, if something does not. `is_free`: one node sees its lock free; `is_calm`: beside that, no
-    // end is pending.
+    // Whether a formed node that is left has applied the whole history of a group, and has seen each loss.
+    fn is_calm(&self, place: usize, node: &State, name: &Term) -> bool {
+        node.formed()
+            && self.world.applied(place, name) == len_of(self.world.history(name)) as u128
+            && lost_to(place, node) == self.lost()
+    }
+
+    // The first such node.
+    fn first_calm(&self, name: &Term) -> Option<&'a State> {
+        for place in 0..self.starts.len() {
+            match self.left_at(place) {
+                Some(node) if self.is_calm(place, node, name) => return Some(node),
+                _ => {}
+            }
+        }
+        None
+    }
+
+    // What does not hold of a group at a node, if something does not. `is_free`: its lock is free; `none_pending`: no end is pending.
     fn fault_at(
         &self,
         place: usize,
         name: &Term,
         is_free: bool,
-        is_calm: bool,
+        none_pending: bool,
     ) -> Option<&'static str> {
-        let len = len_of(self.world.history(name)) as u128;
-        let applied = self.world.applied(place, name);
-        if applied != len && (is_free || applied.saturating_add(1) != len) {
-            return Some("not all is applied");
+        let node = self.left_at(place)?;
+        if self.is_of_lost(node.holder(name), lost_to(place, node)) {
+            return Some("a lock of a lost node");
         }
-        let Some(node) = self.formed_in(place, place.saturating_add(1)) else {
-            return if len == 0 {
+        if !node.formed() {
+            return if len_of(self.world.history(name)) == 0 {
                 None
             } else {
                 Some("an update while a node is not formed")
             };
-        };
-        if !self.is_right(node, name, Wanted::Applied(place)) {
+        }
+        let is_free = is_free || self.sees_free(place, name);
+        if !self.has_its_table(place, node, name, is_free) {
             return Some("the table is another");
         }
-        match self.formed_in(0, self.starts.len()) {
-            Some(first) if is_calm && !self.is_right(node, name, Wanted::Of(first)) => {
+        match self.first_calm(name) {
+            Some(first)
+                if none_pending
+                    && self.is_calm(place, node, name)
+                    && !self.is_right(node, name, Wanted::Of(first)) => {
                 Some("the tables do not agree")
             }
             _ => None,
         }
     }
 
-    /// What does not hold of the headline, of some group at some node.
+    /// Whether each node that is left has seen each loss.
+    pub fn all_saw(&self) -> bool {
+        for place in 0..self.starts.len() {
+            match self.left_at(place) {
+                Some(node) if lost_to(place, node) != self.lost() => return false,
+                _ => {}
+            }
+        }
+        true
+    }
+
+    /// What does not hold of the headline, of some group at some node, or of what survives where nodes are lost.
     pub fn fault(&self) -> Option<&'static str> {
         let none_pending = self.none_pending();
+        match self.world.pending_ends() {
+            Ok(pids) => {
+                let is_told = pids.is_empty() == none_pending;
+                drop(pids);
+                if !is_told {
+                    return Some("other ends are pending");
+                }
+            }
+            Err(AllocError) => return Some("memory"),
+        }
         for group in GROUPS {
             let name = Term::Int(group);
-            let is_free = self.is_free(&name);
+            // Where none is lost, all have applied the whole history if one sees the lock free.
+            let is_free = self.lost() == 0 && self.is_free(&name);
             let mut fault = None;
             for place in 0..self.starts.len() {
                 if fault.is_none() {
-                    fault = self.fault_at(place, &name, is_free, is_free && none_pending);
+                    fault = self.fault_at(place, &name, is_free, none_pending);
                 }
             }
             drop(name);

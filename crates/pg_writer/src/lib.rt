@@ -1,4 +1,6 @@
 //! Packets to bodies and frames.
+//!
+//! `write_packet_into(&packet, &mut out)?` appends the frame of a packet. Begin with `src/frame.rt`, then `specs/Frames.antt`.
 #![tactic(auto)]
 
 mod frame;

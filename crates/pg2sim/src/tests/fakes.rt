@@ -7,12 +7,6 @@ use pg_talk::{Conversation, Outcome, Served, Service, ServiceFault};
 use std::alloc::Global;
 use std::io;
 use std::io::{ErrorKind, IsTerminal, Read, Write};
-use std::process::Abort;
-
-/// Ends the test where something does not hold, and says what, and in which row.
-pub(crate) fn holds(rt: &impl Abort, holds: bool, what: &str, row: usize) {
-    assert!(rt; holds, "{what} {row}");
-}
 
 /// Gives so many signs `%`, and then its text, in pieces of so many bytes at most; a read behind that fails by the fault, if there is one.
 #[derive(Drop)]

@@ -3,7 +3,7 @@
 use crate::input::MAX_SCRIPT_LEN;
 use crate::run::{refuse_given, run_words};
 use crate::system::{HostSystem, Shown, System};
-use crate::tests::fakes::{ANY, Desk, Input, Limits, Output, holds};
+use crate::tests::fakes::{ANY, Desk, Input, Limits, Output};
 use pg_cluster::StartFault;
 use pg_node::{AnyReader, AnyWriter};
 use pg_progress::Progress;
@@ -12,9 +12,7 @@ use pg_world::WorldFault;
 use std::alloc::{AllocError, Global};
 use std::io;
 use std::io::ErrorKind;
-use std::process::Abort;
 use std::test::*;
-use std::thread::Threads;
 use std::time::Instant;
 
 // What is run: words, an input, an output, what the system does; and what is printed, on standard error too, and the status.
@@ -32,6 +30,8 @@ struct Row<'a> {
     output: &'a [u8],
     told: &'a str,
     status: u8,
+    // The name of the file that there is then.
+    file: &'a str,
 }
 
 const BYTES: Row = Row {
@@ -47,6 +47,7 @@ const BYTES: Row = Row {
     output: CREATED,
     told: "",
     status: 0,
+    file: "",
 };
 
 // A call of `create g` by node a with stamp 0, framed, and the framed reply.
@@ -326,160 +327,52 @@ const ROWS: &[Row] = &[
         told: "refused 15\n",
         ..NO_SERVICE
     },
+    // Other words.
+    Row {
+        words: &["byte"],
+        ..NO_WORDS
+    },
+    Row {
+        words: &["threads", "--nodes", "17"],
+        ..NO_WORDS
+    },
+    Row {
+        words: &["serve", "--ports", "65"],
+        ..NO_WORDS
+    },
+    NO_WORDS,
+    // A trace, a diagram, and both where no file can be made: the trace alone.
+    ALONE,
+    Row {
+        words: &["script", "--trace"],
+        output: TRACE,
+        ..ALONE
+    },
+    Row {
+        words: &["script", "--diagram", "x.svg"],
+        file: "x.svg",
+        ..ALONE
+    },
+    Row {
+        words: &["script", "--trace", "--diagram", "x"],
+        is_full: true,
+        output: TRACE,
+        told: "refused 32\n",
+        status: 1,
+        ..ALONE
+    },
 ];
 
-fn words_of(alloc: Global, given: &[&str]) -> Result<Vec<String>, AllocError> {
-    let mut words = Vec::new(alloc);
-    for word in given {
-        words.push(String::from_str(alloc, word)?)?;
-    }
-    Ok(words)
-}
-
-// The input of a row.
-fn input_of<'a>(row: &Row<'a>) -> AnyReader<Input<'a>> {
-    AnyReader {
-        reader: Input {
-            signs: row.signs,
-            text: row.text,
-            piece: row.piece,
-            fault: row.fault,
-        },
-    }
-}
-
-fn output(alloc: Global, limits: Limits) -> AnyWriter<Output> {
-    AnyWriter {
-        writer: Output {
-            text: Vec::new(alloc),
-            limits,
-        },
-    }
-}
-
-fn desk(
-    alloc: Global,
-    is_full: bool,
-    outcome: Option<Outcome>,
-    served: Result<Served, ServiceFault>,
-) -> Desk {
-    Desk {
-        alloc,
-        served,
-        name: Vec::new(alloc),
-        bytes: Vec::new(alloc),
-        is_full,
-        outcome,
-        microseconds: 0,
-    }
-}
-
-// Whether a run prints what its row says, as much of it as there is room for. Words that are refused tell what begins with `told`, and nothing is read.
-fn prints<D: System>(alloc: Global, words: &[String], row: &Row<'_>, system: &mut D) -> bool {
-    let mut reader = input_of(row);
-    let mut writer = output(alloc, row.limits);
-    let mut faults = output(alloc, ANY);
-    let status = run_words(alloc, words, &mut reader, &mut writer, system, &mut faults);
-    let told = faults.writer.text.as_slice();
-    let is_told = if row.told == WORDS {
-        told.starts_with(WORDS.as_bytes()) && reader.reader.text.len() == row.text.len()
-    } else {
-        told == row.told.as_bytes()
-    };
-    let (wanted, _) = row.output.split_at(row.output.len().min(row.limits.room));
-    let is_written = writer.writer.text.as_slice() == wanted;
-    drop(writer);
-    drop(faults);
-    is_told && is_written && status == row.status
-}
-
-fn prints_with<D: System>(alloc: Global, row: &Row<'_>, system: &mut D) -> bool {
-    match words_of(alloc, row.words) {
-        Ok(words) => {
-            let prints = prints(alloc, words.as_slice(), row, system);
-            drop(words);
-            prints
-        }
-        Err(AllocError) => false,
-    }
-}
-
-fn is_right(alloc: Global, row: &Row<'_>) -> bool {
-    let mut system = desk(alloc, row.is_full, row.outcome, row.served);
-    let is_right = prints_with(alloc, row, &mut system);
-    drop(system);
-    is_right
-}
-
-#[test]
-fn rows(rt: HostRuntime) {
-    for (place, row) in ROWS.iter().enumerate() {
-        holds(&rt, is_right(rt.alloc(), row), "row", place);
-    }
-}
-
-// What the text of refused words begins with.
+// What the text of refused words begins with. Nothing is read then.
 const WORDS: &str = "error: ";
 
-const OTHER_WORDS: &[&[&str]] = &[
-    &["byte"],
-    &["threads", "--nodes", "17"],
-    &["serve", "--ports", "65"],
-    &[],
-];
-
-#[test]
-fn other_words(rt: HostRuntime) {
-    for (place, words) in OTHER_WORDS.iter().enumerate() {
-        let row = Row {
-            words,
-            output: b"",
-            told: WORDS,
-            status: 2,
-            ..BYTES
-        };
-        holds(&rt, is_right(rt.alloc(), &row), "words", place);
-    }
-}
-
-// Passes wherever an allocation is refused: nothing or all of a reply was written.
-fn is_whole(alloc: Global, words: &[String]) -> bool {
-    let mut reader = CREATE;
-    let mut writer = output(alloc, ANY);
-    let mut faults = output(alloc, ANY);
-    let mut system = desk(alloc, true, None, Ok(WELL));
-    let status = run_words(
-        alloc,
-        words,
-        &mut reader,
-        &mut writer,
-        &mut system,
-        &mut faults,
-    );
-    let len = writer.writer.text.len();
-    drop(writer);
-    drop(faults);
-    drop(system);
-    len == if status == 0 { CREATED.len() } else { 0 }
-}
-
-fn is_whole_or_refused(alloc: Global) -> bool {
-    match words_of(alloc, &["bytes"]) {
-        Ok(words) => {
-            let is_whole = is_whole(alloc, words.as_slice());
-            drop(words);
-            is_whole
-        }
-        Err(AllocError) => true,
-    }
-}
-
-#[test]
-fn refused_growth(rt: HostRuntime) {
-    for run in 0..2 {
-        holds(&rt, is_whole_or_refused(rt.alloc()), "run", run);
-    }
-}
+const NO_WORDS: Row = Row {
+    words: &[],
+    output: b"",
+    told: WORDS,
+    status: 2,
+    ..BYTES
+};
 
 const ALONE: Row = Row {
     text: b"node 'a<b'\ncreate 'a<b' g\nlose 'a<b'\n",
@@ -493,38 +386,6 @@ const TRACE: &[u8] = b"% line  node   clock  event  with        what
 %    3  'a<b'         lose               the node is lost
 ";
 
-// Of each run: its words, what it prints, and the name of the file that there is then.
-const AIDS: &[(Row, &[u8])] = &[
-    (ALONE, b""),
-    (
-        Row {
-            words: &["script", "--trace"],
-            output: TRACE,
-            ..ALONE
-        },
-        b"",
-    ),
-    (
-        Row {
-            words: &["script", "--diagram", "x.svg"],
-            ..ALONE
-        },
-        b"x.svg",
-    ),
-    // No file can be made: the trace alone.
-    (
-        Row {
-            words: &["script", "--trace", "--diagram", "x"],
-            is_full: true,
-            output: TRACE,
-            told: "refused 32\n",
-            status: 1,
-            ..ALONE
-        },
-        b"",
-    ),
-];
-
 // Texts in the picture.
 const SHOWN: &[&str] = &[
     ">&#39;a&lt;b&#39;</text>",
@@ -533,26 +394,105 @@ const SHOWN: &[&str] = &[
     ">lost</text>",
 ];
 
-fn shows_all(picture: &[u8]) -> bool {
-    match str::from_utf8(picture) {
-        Ok(picture) => SHOWN.iter().all(|shown| picture.contains(*shown)),
-        Err(_) => false,
+fn words_of(alloc: Global, given: &[&str]) -> Result<Vec<String>, AllocError> {
+    let mut words = Vec::new(alloc);
+    for word in given {
+        words.push(String::from_str(alloc, word)?)?;
     }
+    Ok(words)
 }
 
-fn is_drawn(alloc: Global, row: &Row<'_>, name: &[u8]) -> bool {
-    let mut files = desk(alloc, row.is_full, None, row.served);
-    let is_printed = prints_with(alloc, row, &mut files);
-    let is_named = files.name.as_slice() == name;
-    let is_shown = name.is_empty() || shows_all(files.bytes.as_slice());
-    drop(files);
-    is_printed && is_named && is_shown
+// How a run of a row ended, how much it wrote, and whether it printed what the row says, as much of it as there is room for. None where
+// there is no memory for the words.
+fn run<D: System>(alloc: Global, row: &Row<'_>, system: &mut D) -> Option<(u8, usize, bool)> {
+    let Ok(words) = words_of(alloc, row.words) else {
+        return None;
+    };
+    let mut reader = AnyReader {
+        reader: Input {
+            signs: row.signs,
+            text: row.text,
+            piece: row.piece,
+            fault: row.fault,
+        },
+    };
+    let mut writer = AnyWriter {
+        writer: Output {
+            text: Vec::new(alloc),
+            limits: row.limits,
+        },
+    };
+    let mut faults = Vec::new(alloc);
+    let status = run_words(
+        alloc,
+        words.as_slice(),
+        &mut reader,
+        &mut writer,
+        system,
+        &mut faults,
+    );
+    drop(words);
+    let told = faults.as_slice();
+    let is_told = if row.told == WORDS {
+        told.starts_with(WORDS.as_bytes()) && reader.reader.text.len() == row.text.len()
+    } else {
+        told == row.told.as_bytes()
+    };
+    let (wanted, _) = row.output.split_at(row.output.len().min(row.limits.room));
+    let is_written = writer.writer.text.as_slice() == wanted;
+    let len = writer.writer.text.len();
+    drop(writer);
+    drop(faults);
+    Some((status, len, is_told && is_written && status == row.status))
 }
 
 #[test]
-fn aids(rt: HostRuntime) {
-    for (place, (row, name)) in AIDS.iter().enumerate() {
-        holds(&rt, is_drawn(rt.alloc(), row, name), "row", place);
+fn rows(rt: HostRuntime) {
+    for (place, row) in ROWS.iter().enumerate() {
+        let mut desk = Desk {
+            name: Vec::new(rt.alloc()),
+            bytes: Vec::new(rt.alloc()),
+            is_full: row.is_full,
+            alloc: rt.alloc(),
+            outcome: row.outcome,
+            served: row.served,
+            microseconds: 0,
+        };
+        let is_printed = match run(rt.alloc(), row, &mut desk) {
+            Some((_, _, is_so)) => is_so,
+            None => false,
+        };
+        let is_named = desk.name.as_slice() == row.file.as_bytes();
+        let is_drawn = match str::from_utf8(desk.bytes.as_slice()) {
+            Ok(picture) => row.file.is_empty()
+                || SHOWN.iter().all(|shown| picture.contains(*shown)),
+            Err(_) => false,
+        };
+        drop(desk);
+        assert!(&rt; is_printed && is_named && is_drawn, "row {place}");
+    }
+}
+
+// Passes wherever an allocation is refused: nothing or all of a reply was written.
+#[test]
+fn refused_growth(rt: HostRuntime) {
+    for again in 0..2 {
+        let mut desk = Desk {
+            name: Vec::new(rt.alloc()),
+            bytes: Vec::new(rt.alloc()),
+            is_full: true,
+            alloc: rt.alloc(),
+            outcome: None,
+            served: Ok(WELL),
+            microseconds: 0,
+        };
+        let is_whole = match run(rt.alloc(), &BYTES, &mut desk) {
+            Some((0, len, _)) => len == CREATED.len(),
+            Some((_, len, _)) => len == 0,
+            None => true,
+        };
+        drop(desk);
+        assert!(&rt; is_whole, "run {again}");
     }
 }
 
@@ -563,23 +503,18 @@ const NOT_THERE: &[(ErrorKind, u8, &[u8], bool)] = &[
     (ErrorKind::Other, 1, b"refused 10\n", true),
 ];
 
-fn refuses(alloc: Global, kind: ErrorKind, status: u8, begin: &[u8], is_all: bool) -> bool {
-    let mut faults = output(alloc, ANY);
-    let error = io::Error::from(kind);
-    let got = refuse_given(&mut faults, &error);
-    drop(error);
-    let told = faults.writer.text.as_slice();
-    let is_told = told.starts_with(begin) && (told.len() == begin.len()) == is_all;
-    drop(faults);
-    is_told && got == status
-}
-
 // A word that is no text is refused as other words are; else there was no memory for the words.
 #[test]
 fn words_that_are_not_there(rt: HostRuntime) {
-    for (place, (kind, status, begin, is_all)) in NOT_THERE.iter().enumerate() {
-        let is_refused = refuses(rt.alloc(), *kind, *status, begin, *is_all);
-        holds(&rt, is_refused, "row", place);
+    for (kind, status, begin, is_all) in NOT_THERE {
+        let mut faults = Vec::new(rt.alloc());
+        let error = io::Error::from(*kind);
+        let got = refuse_given(&mut faults, &error);
+        drop(error);
+        let is_told = faults.as_slice().starts_with(begin)
+            && (faults.len() == begin.len()) == *is_all;
+        drop(faults);
+        assert!(&rt; is_told && got == *status, "status {status}");
     }
 }
 
@@ -598,11 +533,10 @@ const CLUSTERS: &[Row] = &[
     },
 ];
 
-fn is_progress(shown: &[u8]) -> bool {
-    shown.starts_with(b"\ranswered 0 of 2") && shown.ends_with(b"\r\x1b[K")
-}
-
-fn check_clusters(rt: &HostRuntime, threads: &(impl Threads + Abort), begun: Instant) {
+// What is shown on a terminal begins and ends so.
+#[test]
+fn clusters(rt: HostRuntime) {
+    let begun = Instant::now(&rt).ok().expect(&rt, "a clock");
     let screen = Output {
         text: Vec::new(rt.alloc()),
         limits: Limits {
@@ -612,23 +546,18 @@ fn check_clusters(rt: &HostRuntime, threads: &(impl Threads + Abort), begun: Ins
     };
     let mut system = HostSystem {
         alloc: rt.alloc(),
-        rt,
-        threads,
+        rt: &rt,
+        threads: &rt,
         begun,
-        progress: Shown(Progress::new(screen, rt)),
+        progress: Shown(Progress::new(screen, &rt)),
     };
     for (place, row) in CLUSTERS.iter().enumerate() {
-        let is_right = prints_with(rt.alloc(), row, &mut system);
-        holds(threads, is_right, "row", place);
-        let is_shown = is_progress(system.progress.0.terminal.text.as_slice());
-        holds(threads, is_shown, "what is shown after row", place);
-    }
-}
-
-#[test]
-fn clusters(rt: HostRuntime) {
-    match Instant::now(&rt) {
-        Ok(begun) => check_clusters(&rt, &rt, begun),
-        Err(_) => holds(&rt, false, "no clock", 0),
+        let is_printed = match run(rt.alloc(), row, &mut system) {
+            Some((_, _, is_so)) => is_so,
+            None => false,
+        };
+        let shown = system.progress.0.terminal.text.as_slice();
+        let is_shown = shown.starts_with(b"\ranswered 0 of 2") && shown.ends_with(b"\r\x1b[K");
+        assert!(&rt; is_printed && is_shown, "row {place}");
     }
 }

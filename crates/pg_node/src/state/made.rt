@@ -7,6 +7,7 @@ ghost use Rattle.pg_term.specs.Same.{same_atom};
 ghost use Rattle.pg_term.specs.declared.pid.Pid.{Pid};
 ghost use Rattle.pg_term.specs.declared.term.Term.{Term};
 ghost use Rattle.pg_group.specs.Value.{count_in};
+ghost use Rattle.pg_ends.specs.Numbers.{ended_among};
 ghost use Rattle.pg_ends.specs.declared.processes.TheConstants.{MAX_PROCESSES};
 ghost use Rattle.pg_node.specs.Ports.{counts_in, answers_in};
 
@@ -130,6 +131,16 @@ impl<T: GroupTable + Drop> NodeState<T> {
         ensures { result ≡ (kept_by self.now).processes }
     {
         self.processes.made()
+    }
+
+    /// The processes of its node that have ended, by their numbers. Its cost is that of a search in the ended, and of the list.
+    ///
+    /// Error: `AllocError`.
+    pub fn own_ended(&self) -> Result<Vec<Pid>, AllocError>
+        ensures { IfOk result (λ pids. pids.items
+            ≡ ended_among (name_at (names_of self.now) 0) (kept_by self.now).processes (kept_by self.now).ended) }
+    {
+        self.processes.ended(self.alloc, &self.ended)
     }
 
     /// Its table of groups. It takes no memory.

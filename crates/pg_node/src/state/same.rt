@@ -6,7 +6,7 @@ ghost use Rattle.pg_lock.specs.Locks.{locks_of};
 ghost use Rattle.pg_ends.specs.Processes.{made_of};
 ghost use Rattle.pg_opens.specs.Opens as opens;
 ghost use Rattle.pg_node.specs.Ports.{counts_in, answers_in};
-ghost use Rattle.pg_node.specs.Same.{AreSamePorts, AreSameNodes, AreSameBeside};
+ghost use Rattle.pg_node.specs.Same.{AreSamePorts, AreSameNodes, AreAlike, AreSameBeside};
 
 use crate::state::{NodeState, Port};
 use pg_group::GroupTable;
@@ -15,14 +15,25 @@ use pg_step::equal_answers;
 use std::alloc::AllocError;
 
 impl<T: GroupTable + Drop> NodeState<T> {
-    /// Whether both are one node to everybody: they know the same nodes by the same names, and have the same clock, the same
-    /// groups with the same members, the same ended processes, holders, merged and lost peers, as many processes and references
-    /// made, the same open commands with the same gathered, and as many ports, where as many commands came in and the same
-    /// answers were given.
+    /// Whether both are one node to everybody: they are alike, and have the same clock.
     ///
-    /// Error: `AllocError`. Its cost is that of `same_groups`, which alone takes memory, and of `same` of each other part.
+    /// Error: `AllocError`. Its cost is that of `is_alike`.
     pub fn same(&self, other: &NodeState<T>) -> Result<bool, AllocError>
         ensures { IfOk result (λ same. IsTrue same ↔ AreSameNodes self.now other.now) }
+    {
+        if self.clock != other.clock {
+            return Ok(false);
+        }
+        self.is_alike(other)
+    }
+
+    /// Whether both are the same but for their clocks: they know the same nodes by the same names, and have the same groups with the
+    /// same members, the same ended processes, holders, merged and lost peers, as many processes and references made, the same open
+    /// commands with the same gathered, and as many ports, where as many commands came in and the same answers were given.
+    ///
+    /// Error: `AllocError`. Its cost is that of `same_groups`, which alone takes memory, and of `same` of each other part.
+    pub fn is_alike(&self, other: &NodeState<T>) -> Result<bool, AllocError>
+        ensures { IfOk result (λ alike. IsTrue alike ↔ AreAlike self.now other.now) }
     {
         if self.same_beside(other) {
             same_groups(self.alloc, &self.table, &other.table)
@@ -31,18 +42,18 @@ impl<T: GroupTable + Drop> NodeState<T> {
         }
     }
 
-    /// Whether both are the same but for their groups. It takes no memory.
+    /// Whether both are the same but for their clocks and their groups. It takes no memory.
     fn same_beside(&self, other: &NodeState<T>) -> bool
         ensures { IsTrue result ↔ AreSameBeside self.now other.now }
     {
-        self.same_numbers(other) && self.same_sets(other) && self.same_commands(other)
+        self.same_processes(other) && self.same_sets(other) && self.same_commands(other)
     }
 
-    /// Whether both have the same clock, and made as many processes.
-    fn same_numbers(&self, other: &NodeState<T>) -> bool
-        ensures { IsTrue result ↔ (self.now.clock ≡ other.now.clock) × (made_of self.now.processes ≡ made_of other.now.processes) }
+    /// Whether both made as many processes.
+    fn same_processes(&self, other: &NodeState<T>) -> bool
+        ensures { IsTrue result ↔ (made_of self.now.processes ≡ made_of other.now.processes) }
     {
-        self.clock == other.clock && self.processes.made() == other.processes.made()
+        self.processes.made() == other.processes.made()
     }
 
     /// Whether the same processes have ended, the same references hold locks, and the same peers are merged.

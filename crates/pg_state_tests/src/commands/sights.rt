@@ -52,11 +52,8 @@ pub fn see(rt: &impl Abort, alloc: Global, opens: &Opens, sight: Sight) -> bool 
         Sight::Looks(number, granted, outlook) => looks(rt, opens, number, granted) == outlook,
         Sight::Hears(number, place, taken) => hears(rt, opens, number, place) == taken,
         Sight::IsComplete(number, is_complete) => opens.is_complete(number) == is_complete,
-        Sight::IsAsked(number, Some(only), place, asked) => {
-            is_asked_alone(rt, opens, number, only, place) == asked
-        }
-        Sight::IsAsked(number, None, place, asked) => {
-            is_asked_with_all(rt, opens, number, place) == asked
+        Sight::IsAsked(number, only, place, asked) => {
+            is_asked(rt, opens, number, only, place) == asked
         }
         Sight::Lost(place, is_lost, is_left) => is_lost_or_left(rt, opens, place)
             == (is_lost, is_left),
@@ -94,17 +91,22 @@ fn hears(rt: &impl Abort, opens: &Opens, number: u32, place: usize) -> Taken {
     opens.heard(number, place)
 }
 
-fn is_asked_alone(rt: &impl Abort, opens: &Opens, number: u32, only: usize, place: usize) -> bool {
+fn is_asked(
+    rt: &impl Abort,
+    opens: &Opens,
+    number: u32,
+    only: Option<usize>,
+    place: usize,
+) -> bool {
     assert!(rt; opens.is_locking(number));
-    assert!(rt; only < opens.node_count());
     assert!(rt; place < opens.node_count());
-    opens.is_asked_by(number, Asked::One(only), place)
-}
-
-fn is_asked_with_all(rt: &impl Abort, opens: &Opens, number: u32, place: usize) -> bool {
-    assert!(rt; opens.is_locking(number));
-    assert!(rt; place < opens.node_count());
-    opens.is_asked_by(number, Asked::All, place)
+    match only {
+        Some(only) => {
+            assert!(rt; only < opens.node_count());
+            opens.is_asked_by(number, Asked::One(only), place)
+        }
+        None => opens.is_asked_by(number, Asked::All, place),
+    }
 }
 
 fn is_lost_or_left(rt: &impl Abort, opens: &Opens, place: usize) -> (bool, bool) {

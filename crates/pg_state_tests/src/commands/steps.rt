@@ -47,13 +47,12 @@ pub fn go(rt: &impl Abort, alloc: Global, opens: &mut Opens, step: Step) {
         Step::Begins => (),
         Step::Opens(number) => open(rt, alloc, opens, op(number)),
         Step::Starts(number, first) => start(rt, opens, op(number), first),
-        Step::Asks(number, Some(place), granted) => ask_one(rt, opens, number, place, granted),
-        Step::Asks(number, None, granted) => ask_all(rt, opens, number, granted),
-        Step::Answers(number, place, granted) => answer(rt, opens, number, place, granted),
+        Step::Asks(number, asked, granted) => ask(rt, opens, number, asked, granted),
+        Step::Answers(number, place, granted) => answer(rt, opens, number, place, Some(granted)),
+        Step::TakesBackAnswer(number, place) => answer(rt, opens, number, place, None),
         Step::Updates(number) => update(rt, opens, number),
-        Step::Replies(number, place) => reply(rt, opens, number, place),
-        Step::TakesBackAnswer(number, place) => take_back_answer(rt, opens, number, place),
-        Step::TakesBackReply(number, place) => take_back_reply(rt, opens, number, place),
+        Step::Replies(number, place) => reply(rt, opens, number, place, true),
+        Step::TakesBackReply(number, place) => reply(rt, opens, number, place, false),
         Step::GivesUp(number) => give_up(rt, opens, number),
         Step::Finishes(number) => finish(rt, opens, number),
         Step::Loses(place) => lose(rt, opens, place),
@@ -86,27 +85,25 @@ fn start(rt: &impl Abort, opens: &mut Opens, op: OpId, first: usize) {
     opens.start(op, first);
 }
 
-fn ask_one(rt: &impl Abort, opens: &mut Opens, number: u32, place: usize, granted: bool) {
+fn ask(rt: &impl Abort, opens: &mut Opens, number: u32, asked: Option<usize>, granted: bool) {
     assert!(rt; opens.is_locking(number));
-    assert!(rt; place < opens.node_count());
-    opens.ask(number, Asked::One(place), granted);
+    match asked {
+        Some(place) => {
+            assert!(rt; place < opens.node_count());
+            opens.ask(number, Asked::One(place), granted);
+        }
+        None => opens.ask(number, Asked::All, granted),
+    }
 }
 
-fn ask_all(rt: &impl Abort, opens: &mut Opens, number: u32, granted: bool) {
-    assert!(rt; opens.is_locking(number));
-    opens.ask(number, Asked::All, granted);
-}
-
-fn answer(rt: &impl Abort, opens: &mut Opens, number: u32, place: usize, granted: bool) {
+/// Counts an answer, or takes one back.
+fn answer(rt: &impl Abort, opens: &mut Opens, number: u32, place: usize, granted: Option<bool>) {
     assert!(rt; opens.is_locking(number));
     assert!(rt; place < opens.node_count());
-    opens.count_answer(number, place, granted);
-}
-
-fn take_back_answer(rt: &impl Abort, opens: &mut Opens, number: u32, place: usize) {
-    assert!(rt; opens.is_locking(number));
-    assert!(rt; place < opens.node_count());
-    opens.take_back_answer(number, place);
+    match granted {
+        Some(granted) => opens.count_answer(number, place, granted),
+        None => opens.take_back_answer(number, place),
+    }
 }
 
 fn give_up(rt: &impl Abort, opens: &mut Opens, number: u32) {
@@ -120,16 +117,15 @@ fn update(rt: &impl Abort, opens: &mut Opens, number: u32) {
     opens.begin(number);
 }
 
-fn reply(rt: &impl Abort, opens: &mut Opens, number: u32, place: usize) {
+/// Counts a reply, or takes one back.
+fn reply(rt: &impl Abort, opens: &mut Opens, number: u32, place: usize, counts: bool) {
     assert!(rt; opens.is_updating(number));
     assert!(rt; place < opens.node_count());
-    opens.count_ok(number, place);
-}
-
-fn take_back_reply(rt: &impl Abort, opens: &mut Opens, number: u32, place: usize) {
-    assert!(rt; opens.is_updating(number));
-    assert!(rt; place < opens.node_count());
-    opens.take_back_ok(number, place);
+    if counts {
+        opens.count_ok(number, place);
+    } else {
+        opens.take_back_ok(number, place);
+    }
 }
 
 fn finish(rt: &impl Abort, opens: &mut Opens, number: u32) {

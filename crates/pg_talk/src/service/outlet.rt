@@ -1,10 +1,10 @@
 //! Where replies go.
 
 use crate::service::fault::ServiceFault;
-use crate::service::reply::{numbered, refused};
 use bytes::BytesMut;
 use pg_frame::{FrameFault, frame_into};
 use pg_node::Sink;
+use pg_requests::{numbered, refused};
 use pg_term::{Atom, Term, TermFault};
 use pg_term_writer::encode_into;
 use std::alloc::Global;
@@ -30,7 +30,7 @@ impl Outlet {
     ghost use Rattle.std.specs.Prelude.{◌≡◌, IfOk, IfSome, IfNone, OnOk};
     ghost use Rattle.std.specs.Io.KnownBytes.{Appends, Keeps};
     ghost use Rattle.pg_talk.specs.Frames.{framed, IsUntellable, WritesReply};
-    ghost use Rattle.pg_talk.specs.Replies.{numbered_term, refused_term};
+    ghost use Rattle.pg_requests.specs.Replies.{numbered_term, refused_term};
 
     /// One by which nothing was written. It takes no memory.
     pub(crate) fn new(alloc: Global) -> Outlet {

@@ -1,12 +1,11 @@
 //! Where what the thread that reads gives comes in.
 
 use crate::service::fault::ServiceFault;
-use crate::service::input::Input;
-use crate::service::layout::Layout;
 use crate::service::reading::Reading;
 use pg_cluster::StartFault;
 use pg_frame::Deframer;
 use pg_node::Source;
+use pg_requests::{Input, Layout};
 use pg_ring::{SlotIn, slot_pair};
 use std::alloc::Global;
 use std::sync::Arc;

@@ -1,11 +1,9 @@
 //! The thread that reads the input.
 
-use crate::service::input::Input;
-use crate::service::layout::Layout;
-use crate::service::request::read_request;
 use pg_faults::{OUT_OF_MEMORY, READ_FAULT, TRUNCATED};
 use pg_frame::Deframer;
 use pg_node::Source;
+use pg_requests::{Input, Layout, read_request};
 use pg_ring::SlotOut;
 use pg_term_io::decode;
 use std::alloc::Global;

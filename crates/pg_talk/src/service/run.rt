@@ -6,12 +6,12 @@ ghost use Rattle.pg_talk.specs.Services.{WasJudged, running_of};
 
 use crate::service::Service;
 use crate::service::fault::ServiceFault;
-use crate::service::layout::Layout;
 use crate::service::reader::Reader;
 use crate::service::serving::{Desks, Serving};
 use crate::verdict::{Verdict, close_and_judge};
 use pg_cluster::{OpenGate, Running};
 use pg_node::{Sink, Source};
+use pg_requests::Layout;
 use pg_step::Start;
 use std::alloc::{AllocError, Global};
 use std::thread::Threads;

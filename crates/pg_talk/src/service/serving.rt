@@ -3,12 +3,11 @@
 use crate::service::MAX_WAITING;
 use crate::service::desk::Desk;
 use crate::service::fault::ServiceFault;
-use crate::service::input::Input;
 use crate::service::outlet::{Address, Outlet};
 use crate::service::reader::Reader;
-use crate::service::reply::{bad_request, lost, node_lost, reply_term};
 use pg_cluster::Running;
 use pg_node::Sink;
+use pg_requests::{Input, bad_request, lost, node_lost, reply_term};
 use pg_step::{Command, Start};
 use pg_term::{Atom, Term};
 use std::alloc::{AllocError, Global};

@@ -16,7 +16,7 @@ impl<T: GroupTable + Drop> ByteNodes<T> {
 
     /// The ends that are pending: each is that of a process whose home has it, and which some node has not. Of nodes that are lost
     /// nothing counts. They stand home by home, and by number at each. Its cost is a search at each node that is left for each
-    /// process that was made at one, and the memory of the list.
+    /// process that has ended at its home, and the memory of the list.
     ///
     /// Error: `AllocError`.
     pub(crate) fn pending_ends(&self) -> Result<Vec<Pid>, AllocError>

@@ -1,6 +1,5 @@
 //! A group, as far as one process goes.
 
-use super::{History, entry_at, len_of};
 use pg_group::Update;
 use pg_step::Start;
 use pg_term::{Pid, Term};
@@ -41,8 +40,8 @@ impl Held {
         held
     }
 
-    // Changes it as an update does.
-    fn apply(&mut self, update: &Update, pid: &Pid) {
+    /// Changes it as an update does.
+    pub fn apply(&mut self, update: &Update, pid: &Pid) {
         match update {
             Update::Create(_) => self.is_there = true,
             Update::Delete(_) => {
@@ -58,16 +57,6 @@ impl Held {
                 if other == pid {
                     self.count = self.count.saturating_sub(1);
                 }
-            }
-        }
-    }
-
-    /// Changes it as the first so many updates of a history do.
-    pub fn replay(&mut self, history: History<'_>, count: u128, pid: &Pid) {
-        for place in 0..len_of(history) {
-            match entry_at(history, place) {
-                Some(entry) if (place as u128) < count => self.apply(&entry.update, pid),
-                _ => {}
             }
         }
     }

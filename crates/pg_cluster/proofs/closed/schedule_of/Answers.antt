@@ -1,9 +1,12 @@
-use Rattle.std.proofs.Common.{length, map, subst, sym}
+use Rattle.std.proofs.Common.{◌∙◌, length, map, subst, sym}
+use Rattle.std.proofs.lemmas.List.{length-map}
 use Rattle.pg_joining.specs.Merge.{Merges, clocks_in}
-use Rattle.pg_cluster.proofs.Scheduling.{events_in}
+use Rattle.pg_cluster.proofs.Scheduling.{in_order}
 use Rattle.pg_cluster.proofs.closed.schedule_of.Goals as goal
 
-pub returns-clause-events : goal.returns-clause-events
-returns-clause-events c =
-    events_in (λ schedule. schedule.items) (map (λ v. v.items) c.args.logs.now) (length c.args.logs.now) c.as_slice-else-any.result.now c.steps_in.result
-    (subst (Merges (length c.args.logs.now) (clocks_in (map (λ v. v.items) c.args.logs.now))) (sym c.as_slice-else-any.ensures.value) c.in_ok-order.ensures.ok) c.steps_in.ensures
+pub returns : goal.returns
+returns c =
+    let logs = map (λ v. v.items) c.args.logs.now in
+    in_order (λ schedule. schedule.items) logs c.args.lost.now c.as_slice.result.now c.steps_with_losses.result
+    (subst (λ n. Merges n (clocks_in logs) c.as_slice.result.now) (sym (length-map c.args.logs.now (λ v. v.items)))
+    (subst (Merges (length c.args.logs.now) (clocks_in logs)) (sym c.as_slice.ensures.value) c.in_ok-order.ensures.ok)) c.steps_with_losses.ensures

@@ -1,9 +1,10 @@
-use Rattle.std.proofs.Common.{◌≡◌, [], take, map}
-use Rattle.pg_cluster.specs.Schedule.{but_losses, steps_of}
+use Rattle.std.proofs.Common.{◌≡◌, ◌++◌, drop, map}
+use Rattle.pg_cluster.specs.Schedule.{losing_steps, losses_first, seen_step, steps_behind}
 use Rattle.pg_cluster.proofs.schedule.steps_with_losses.Given as goal
 
 abbrev pub invariant-loop-node : goal.invariant-loop-node
-invariant-loop-node l = but_losses l.steps.items ≡ []
+invariant-loop-node l = map seen_step l.steps.items ≡ losses_first (map (λ v. v.items) l.logs) l.lost l.order l.node
 
-abbrev pub invariant-loop-at : goal.invariant-loop-at
-invariant-loop-at l = but_losses l.steps.items ≡ steps_of (map (λ v. v.items) l.logs) (take l.at-index l.order)
+-- what the entries that are left are goes behind the steps so far
+abbrev pub invariant-loop-place : goal.invariant-loop-place
+invariant-loop-place l = map seen_step l.steps.items ++ steps_behind (map (λ v. v.items) l.logs) l.lost (drop l.place l.order) ≡ losing_steps (map (λ v. v.items) l.logs) l.lost l.order

@@ -1,10 +1,12 @@
-use Rattle.std.proofs.Common.{◌≡◌, false, map, subst}
-use Rattle.std.specs.Prelude.{IfOk}
+use Rattle.std.proofs.Common.{◌≡◌, ◌↔◌, true, false, map, subst}
+use Rattle.std.specs.Prelude.{IfOk, IsTrue}
 use Rattle.pg_world.specs.Runs.{Ran, LosesNone, over_packets}
-use Rattle.pg_world.specs.FrameWorlds.{view_of}
+use Rattle.pg_world.specs.FrameWorlds.{lost_of, view_of}
+use Rattle.pg_world.specs.Losing.{ShowsLosing}
+use Rattle.pg_world.specs.LosingRuns.{RanLosing, packets_past_losses}
 use Rattle.pg_world.specs.Worlds.{Shows}
-use Rattle.pg_cluster.specs.Judges.{ran_out}
-use Rattle.pg_cluster.proofs.Judging.{replays_so}
+use Rattle.pg_cluster.specs.Judges.{AreShown, all_made, ran_out}
+use Rattle.pg_cluster.proofs.Judging.{replays_losing, replays_so}
 use Rattle.pg_world.proofs.OrderedOnce.{only_memory}
 use Rattle.pg_cluster.proofs.Replaying.{never_no, unbegun_so}
 use Rattle.pg_cluster.proofs.closed.Closed.replays.Goals as goal
@@ -17,9 +19,12 @@ returns-in-Ok c =
     let numbers = c.in-Ok.numbers.items in
     let told = c.is_shown-told.ensures in
     let ran = subst (λ steps. LosesNone steps → Ran over_packets given steps numbers (λ config. Shows config (view_of c.in-Ok.world))) c.as_slice.ensures.value c.in-Ok.ensures.ran in
+    let ran_losing = subst (λ steps. RanLosing packets_past_losses given steps numbers (λ config. ShowsLosing config (view_of c.in-Ok.world) (lost_of c.in-Ok.world))) c.as_slice.ensures.value c.in-Ok.ensures.losing in
+    let shown = subst (λ ns. IfOk c.is_shown-told.result (λ yes. IsTrue yes ↔ ((all_made ns ≡ true) × AreShown (view_of c.in-Ok.world).traffic.nodes nodes))) c.as_slice-in-Ok.ensures.value told.shown in
     let made = subst (λ ns. IfOk c.is_shown-told.result (λ yes. ran_out ns ≡ false)) c.as_slice-in-Ok.ensures.value told.all_made in record {
-      one_run = never_no c.args.config.now.ring given nodes (map (λ v. v.items) c.args.self.now.logs.items) schedule (view_of c.in-Ok.world) numbers c.is_shown-told.result ran told.shown made;
-      replays = replays_so given schedule nodes c.in-Ok.world numbers c.is_shown-told.result ran told.shown;
+      one_run = never_no c.args.config.now.ring given nodes (map (λ v. v.items) c.args.self.now.logs.items) schedule (view_of c.in-Ok.world) numbers c.is_shown-told.result ran shown made;
+      losing = replays_losing given schedule nodes c.in-Ok.world numbers c.is_shown-told.result ran_losing shown;
+      replays = replays_so given schedule nodes c.in-Ok.world numbers c.is_shown-told.result ran shown;
     }
 
 pub returns-in-Err-clause-one_run : goal.returns-in-Err-clause-one_run

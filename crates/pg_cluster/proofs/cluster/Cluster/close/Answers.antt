@@ -1,6 +1,6 @@
 use Rattle.pg_cluster.specs.Closed.{lost_of, threads_of}
 use Rattle.pg_cluster.proofs.Agreed.{closed_agree}
-use Rattle.pg_cluster.proofs.Finishing.{finished_ended, finished_run, finished_clients, finished_lost, finished_schedule, ended_merely, heard_merely, stopped_joins}
+use Rattle.pg_cluster.proofs.Finishing.{finished_ended, finished_run, finished_clients, finished_losing, finished_losing_run, finished_lost, finished_schedule, ended_merely, heard_merely, stopped_joins}
 use Rattle.pg_cluster.proofs.cluster.Cluster.close.Goals as goal
 
 pub returns-clause-ended : goal.returns-clause-ended
@@ -30,6 +30,15 @@ returns-clause-heard g c =
 
 pub returns-clause-schedule : goal.returns-clause-schedule
 returns-clause-schedule g c = finished_schedule (lost_of c.args.self) c.stop-stopped.result c.finish.result c.stop-stopped.ensures.lost c.finish.ensures.schedule
+
+pub returns-clause-events : goal.returns-clause-events
+returns-clause-events g c = finished_losing (lost_of c.args.self) c.stop-stopped.result c.finish.result c.stop-stopped.ensures.lost c.finish.ensures.events
+
+pub returns-clause-losing_run : goal.returns-clause-losing_run
+returns-clause-losing_run g c =
+    finished_losing_run c.threads_are_one_losing_run.ensures (lost_of c.args.self) (threads_of c.args.self) c.finish.result
+    (ended_merely (lost_of c.args.self) (threads_of c.args.self) c.stop-stopped.result c.finish.result c.stop-stopped.ensures.ended c.finish.ensures.nodes c.finish.ensures.logs c.finish.ensures.err)
+    (finished_losing (lost_of c.args.self) c.stop-stopped.result c.finish.result c.stop-stopped.ensures.lost c.finish.ensures.events)
 
 pub returns-clause-lost : goal.returns-clause-lost
 returns-clause-lost g c = finished_lost (lost_of c.args.self) c.stop-stopped.result c.finish.result c.stop-stopped.ensures.lost c.finish.ensures.lost c.finish.ensures.err

@@ -1,15 +1,16 @@
-use Rattle.std.proofs.Common.{false, rules, arith, ◌≡◌, ◌<◌, ◌∙◌, length, vec_len, ap, sym, subst}
-use Rattle.std.proofs.lemmas.List.{length-map}
+use Rattle.std.proofs.Common.{false, rules, arith, ◌≡◌, ◌≢◌, ◌<◌, ◌∙◌, ℕ, List, get_or, set, length, vec_len, ap, sym, subst}
+use Rattle.std.proofs.lemmas.List.{get_or-map, get_or-set_other, get_or-set_same, length-map}
+use mathlib.Core.Logic.{∥∥₁_map}
 use Rattle.pg_ring.specs.Slots.{AreSlots}
 use Rattle.pg_cluster.specs.Clients.{AllPairs, ports_begun}
 use Rattle.pg_cluster.specs.Ended.{AreWired}
-use Rattle.pg_cluster.specs.Members.{is_lost, losses_in}
-use Rattle.pg_cluster.specs.Notices.{NobodyLost}
+use Rattle.pg_cluster.specs.Members.{is_lost, last_of, lasts_in, losses_in}
+use Rattle.pg_cluster.specs.Notices.{NobodyLost, SaysLost}
 use Rattle.pg_cluster.specs.Room.{HasRoom}
 use Rattle.pg_cluster.specs.Threads.{rows_begun, notices_begun}
 use Rattle.std.proofs.lemmas.List.{get_or_default}
-use Rattle.pg_cluster.proofs.Holding.{last_set, losses_set, not_lost_again, threads_set}
-use Rattle.pg_cluster.proofs.Telling.{somebody_lost, tellers_later}
+use Rattle.pg_cluster.proofs.Holding.{last_set, lasts_set, losses_set, not_lost_again, threads_set}
+use Rattle.pg_cluster.proofs.Telling.{says_on, somebody_lost, tellers_later}
 use Rattle.pg_cluster.proofs.cluster.Cluster.lose.Goals as goal
 
 pub invariant_of-self : goal.invariant_of-self
@@ -18,12 +19,29 @@ invariant_of-self g c =
     let members = self.members.items in
     let low : c.args.node < length members = search rules in
     let threads = threads_set members c.args.node c.index_mut-member.result.now c.stop-last.new.self low c.index_mut-member.ensures.value c.stop-last.ensures.thread in
-    let losses = losses_set members c.args.node c.stop-last.new.self low c.stop-last.ensures.lost in record {
+    let losses = losses_set members c.args.node c.stop-last.new.self low c.stop-last.ensures.lost in
+    let runs : is_lost c.index_mut-member.result.now ≡ false =
+    let no = c.if-is_lost.false in
+    let told = c.is_lost.ensures in
+    ap is_lost (c.index_mut-member.ensures.value ∙ (get_or_default members c.args.node c.index_mut-member.result.now c.index.result.now low ∙ sym c.index.ensures)) ∙ cc in
+    let marks : get_or (losses_in members) c.args.node false ≡ false =
+    get_or-map is_lost members c.args.node c.index_mut-member.result.now false low ∙ (sym (ap is_lost c.index_mut-member.ensures.value) ∙ runs) in
+    let lasts = lasts_set members c.args.node c.stop-last.new.self low in
+    let clocks = length-map members last_of in
+    let here : get_or (lasts_in (set members c.args.node c.stop-last.new.self)) c.args.node 0 ≡ c.stop-last.result =
+    ap (λ (ls : List ℕ). get_or ls c.args.node 0) lasts
+    ∙ (get_or-set_same (lasts_in members) c.args.node (last_of c.stop-last.new.self) 0 (omega (arith, low, clocks)) ∙ sym (c.stop-last.ensures.last runs)) in
+    let others : (i : ℕ) → i ≢ c.args.node → get_or (lasts_in (set members c.args.node c.stop-last.new.self)) i 0 ≡ get_or (lasts_in members) i 0 = λ i n.
+    ap (λ (ls : List ℕ). get_or ls i 0) lasts ∙ get_or-set_other (lasts_in members) c.args.node i (last_of c.stop-last.new.self) 0 n in
+    let marked : c.args.node < length (losses_in members) = let n = length-map members is_lost in omega (arith, low, n) in record {
       lost_fit = self.lost_fit;
       rans_fit = self.rans_fit;
       room_fits = subst (λ ts. HasRoom self.room (vec_len self.members) (length (ports_begun ts))) (sym threads) self.room_fits;
       wired = subst (λ ts. AreWired (length ts) (rows_begun ts)) (sym threads) self.wired;
       told = tellers_later self.tellers.items c.tell_all.new.tellers.items _ (subst (λ ts. AllPairs AreSlots self.tellers.items (notices_begun ts)) (sym threads) self.told) c.tell_all.ensures.same;
+      says = subst (λ lost. ∥ SaysLost lost (lasts_in (set members c.args.node c.stop-last.new.self)) c.tell_all.new.tellers.items ∥₁) (sym losses)
+          (∥∥₁_map self.says (says_on (losses_in members) (lasts_in members) (lasts_in (set members c.args.node c.stop-last.new.self)) self.tellers.items c.tell_all.new.tellers.items c.args.node c.stop-last.result marked marks
+          here others c.tell_all.ensures.told));
       untold = λ nobody. somebody_lost (losses_in members) c.args.node (let n = length-map members is_lost in omega (arith, low, n)) (subst NobodyLost losses nobody);
     }
 

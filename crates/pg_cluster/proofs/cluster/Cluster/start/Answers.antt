@@ -1,6 +1,6 @@
 use Rattle.std.proofs.Common.{arith, ◌≡◌, length, vec_len, sym, ◌∙◌, subst}
 use Rattle.pg_ring.specs.Slots.{AreSlots}
-use Rattle.pg_cluster.specs.Members.{thread_of, threads_in}
+use Rattle.pg_cluster.specs.Members.{is_lost, lasts_in, losses_in, thread_of, threads_in}
 use Rattle.pg_cluster.specs.Notices.{IsFresh, IsSilent as IsSilentTeller}
 use Rattle.pg_cluster.specs.Threads.{notices_begun}
 use Rattle.std.proofs.lemmas.List.{length-map}
@@ -9,6 +9,9 @@ use Rattle.pg_cluster.specs.Clients.{IsOpen, ports_begun}
 use Rattle.pg_cluster.specs.Room.{HasRoom}
 use Rattle.pg_cluster.specs.Threads.{AreMade}
 use Rattle.pg_cluster.proofs.Paired.{pairs_left, pairs_so}
+use Rattle.pg_cluster.proofs.Telling.{says_none}
+use Rattle.pg_run.specs.Runs.{notices_at}
+use Rattle.pg_cluster.specs.Threads.{begun_by}
 use Rattle.pg_cluster.proofs.Starts.{started_runs, started_limits, started_wired, started_clients, started_notices}
 use Rattle.pg_cluster.proofs.cluster.Cluster.start.Goals as goal
 
@@ -37,6 +40,9 @@ invariant_of-cluster g c =
       room_fits = subst (λ n. HasRoom kept.room n (length (ports_begun threads))) (count ∙ sym size) (subst (HasRoom kept.room c.len.result) places has.room);
       wired = started_wired c.args.config.now.starts.items runs.items c.args.limit threads c.in_ok-made.ensures.made started;
       told = pairs_so IsFresh AreSlots (λ teller inlet both. both.0) tellers (notices_begun threads) fresh;
+      says = ∣ says_none (losses_in members.items) (lasts_in members.items) tellers
+          (let marks = length-map members.items is_lost in let all = length-map threads (λ t. notices_at (begun_by t)) in fresh.len ∙ (all ∙ (mapped ∙ sym marks)))
+          (pairs_left IsFresh IsSilentTeller (λ teller inlet both. both.1) tellers (notices_begun threads) fresh) ∣₁;
       untold = λ nobody. pairs_left IsFresh IsSilentTeller (λ teller inlet both. both.1) tellers (notices_begun threads) fresh;
     }
 

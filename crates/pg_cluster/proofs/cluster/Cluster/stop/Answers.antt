@@ -1,22 +1,26 @@
-use Rattle.std.proofs.Common.{rules, arith, ◌≡◌, ◌+◌, ◌∷◌, [], length, vec_len, ap, sym, ◌∙◌, subst, length-append}
-use Rattle.std.specs.List.{All}
+use Rattle.std.proofs.Common.{rules, arith, ◌≡◌, ◌<◌, ◌+◌, ℕ, ◌∷◌, [], false, get_or, length, vec_len, ap, sym, ◌∙◌, subst, length-append}
+use Rattle.std.specs.List.{All, AllByRecursion}
 use Rattle.std.specs.Vec.Iter.{into_iter_items}
 use Rattle.std.proofs.Props.{props}
-use Rattle.std.proofs.lemmas.List.{nil_from_length}
+use Rattle.std.proofs.lemmas.List.{length-map, nil_from_length}
 use mathlib.Core.Logic.{∥∥₁_elim, ∥∥₁_map, ∥∥₁_map₂}
+use Rattle.pg_ring.specs.declared.slot_in.SlotIn.{SlotIn}
 use Rattle.pg_ring.specs.Slots.{taken}
+use Rattle.pg_run.specs.declared.notices.Notice.{Notice}
+use Rattle.pg_run.specs.Runs.{notices_at}
 use Rattle.pg_cluster.specs.Clients.{ports_begun, ports_ended}
 use Rattle.pg_cluster.specs.Closed.{NoticesCame, logs_of, nodes_of}
 use Rattle.pg_cluster.specs.Ended.{AreWired, AllArrived}
-use Rattle.pg_cluster.specs.Members.{is_lost, losses_in, threads_in}
-use Rattle.pg_cluster.specs.Notices.{NobodyLost}
+use Rattle.pg_cluster.specs.Members.{is_lost, lasts_in, losses_in, thread_of, threads_in}
+use Rattle.pg_cluster.specs.Notices.{IsOfLost, NobodyLost, SaysLost}
 use Rattle.pg_cluster.specs.Room.{HasRoom}
-use Rattle.pg_cluster.specs.Threads.{EndedWith, Joined, rows_begun, rows_ended, notices_ended}
+use Rattle.pg_cluster.specs.Threads.{EndedWith, Joined, lasts_ended, rows_begun, rows_ended, notices_ended}
 use Rattle.pg_cluster.proofs.Closing.{joined_after}
 use Rattle.pg_cluster.proofs.Finishing.{one_more_stands, stopped_ended, stopped_heard}
 use Rattle.pg_cluster.proofs.Hearing.{same_ports, clients_still}
-use Rattle.pg_cluster.proofs.Starts.{GiveBack, GivesBack, all_moved, next_at, next_below, none_moved, pushed_moves, rest_after, runs_still, joined_members}
-use Rattle.pg_cluster.proofs.Telling.{notices_still, nothing_came}
+use Rattle.pg_cluster.proofs.Holding.{lasts_kept}
+use Rattle.pg_cluster.proofs.Starts.{ClocksKept, GiveBack, GivesBack, KeepsClock, all_moved, next_at, next_below, none_moved, pushed_moves, rest_after, runs_still, joined_members}
+use Rattle.pg_cluster.proofs.Telling.{came_lost, notices_still, nothing_came}
 use Rattle.pg_cluster.proofs.cluster.Cluster.stop.Goals as goal
 
 pub loop-member-init : goal.loop-member-init
@@ -26,7 +30,8 @@ loop-member-init g c =
     let same : left ≡ members = search rules in
     let no_ran : c.args.self.rans.items ≡ [] = nil_from_length c.args.self.rans.items (sym c.args.self.rans.ok.0 ∙ c.args.self.rans_fit.0) in
     let no_mark : c.args.self.lost.items ≡ [] = nil_from_length c.args.self.lost.items (sym c.args.self.lost.ok.0 ∙ c.args.self.lost_fit.0) in
-    let nothing : GiveBack members c.args.self.rans.items = λ i m d low. absurd (let e = ap length no_ran in omega (arith, low, e)) in (
+    let nothing : GiveBack members c.args.self.rans.items = λ i m d low. absurd (let e = ap length no_ran in omega (arith, low, e)) in
+    let no_clock : ClocksKept members c.args.self.rans.items = λ i m d low. absurd (let e = ap length no_ran in omega (arith, low, e)) in (
       tt,
       tt,
       search rules,
@@ -36,6 +41,7 @@ loop-member-init g c =
       ∣ nothing ∣₁,
       search rules,
       none_moved is_lost c.args.self.lost.items left members no_mark same,
+      no_clock,
     )
 
 pub loop-member-preserved : goal.loop-member-preserved
@@ -58,6 +64,7 @@ loop-member-preserved g c =
       search rules,
       pushed_moves is_lost c.loop-member.lost.items c.push_reserved.new.self.items _ (into_iter_items c.loop-member.member-iterator) (into_iter_items c.next.new.self) member _ c.push_reserved.ensures.items
           c.is_lost.ensures c.in-Some.ensures.steps.0 was.8,
+      rw items (one_more_stands KeepsClock members rans member c.join.result (λ m. next_at members _ member (length rans) m step) c.join.ensures.last was.9),
     )
 
 pub stopped_of-requires-clause-joined : goal.stopped_of-requires-clause-joined
@@ -123,9 +130,14 @@ returns-clause-ended g c =
     let lost = losses_in members in
     let stopped = c.stopped_of.ensures in
     let untold : NobodyLost lost → All (λ inlet. taken inlet ≡ []) (notices_ended rans) = λ nobody. nothing_came c.args.self.tellers.items (notices_ended rans) (c.args.self.untold nobody) stopped.told in
-    let ended : Joined threads rans → EndedWith lost threads (nodes_of c.stopped_of.result) (logs_of c.stopped_of.result) = λ joined.
-    stopped_ended lost threads rans c.stopped_of.result c.args.self.wired joined (subst (λ n. AllArrived n (rows_ended rans)) joined.0 stopped.arrived) stopped.nodes stopped.logs untold in
-    ∥∥₁_map joined ended
+    let marked : length lost ≡ length threads = length-map members is_lost ∙ sym (length-map members thread_of) in
+    let inlets : length (notices_ended rans) ≡ length lost = length-map rans (λ ran. notices_at ran.run) ∙ (whole ∙ sym (length-map members is_lost)) in
+    let came : SaysLost lost (lasts_in members) c.args.self.tellers.items → (place : ℕ) (none : SlotIn Notice) → place < length lost
+    → AllByRecursion (IsOfLost (length lost) (λ node. get_or lost node false) (λ node. get_or (lasts_ended rans) node 0) place) (taken (get_or (notices_ended rans) place none)) = λ says.
+    came_lost lost (lasts_in members) (lasts_ended rans) c.args.self.tellers.items (notices_ended rans) inlets (lasts_kept members rans whole was.9) says stopped.told in
+    let ended : Joined threads rans → SaysLost lost (lasts_in members) c.args.self.tellers.items → EndedWith lost threads (nodes_of c.stopped_of.result) (logs_of c.stopped_of.result) = λ joined says.
+    stopped_ended lost threads rans c.stopped_of.result c.args.self.wired joined (subst (λ n. AllArrived n (rows_ended rans)) joined.0 stopped.arrived) stopped.nodes stopped.logs marked (came says) untold in
+    ∥∥₁_map₂ joined c.args.self.says ended
 
 pub returns-clause-alone : goal.returns-clause-alone
 returns-clause-alone g c =
@@ -139,9 +151,14 @@ returns-clause-alone g c =
     let lost = losses_in members in
     let stopped = c.stopped_of.ensures in
     let untold : NobodyLost lost → All (λ inlet. taken inlet ≡ []) (notices_ended rans) = λ nobody. nothing_came c.args.self.tellers.items (notices_ended rans) (c.args.self.untold nobody) stopped.told in
-    let ended : Joined threads rans → EndedWith lost threads (nodes_of c.stopped_of.result) (logs_of c.stopped_of.result) = λ joined.
-    stopped_ended lost threads rans c.stopped_of.result c.args.self.wired joined (subst (λ n. AllArrived n (rows_ended rans)) joined.0 stopped.arrived) stopped.nodes stopped.logs untold in
-    λ nobody. ended (joined_members members rans whole (was.5 nobody))
+    let marked : length lost ≡ length threads = length-map members is_lost ∙ sym (length-map members thread_of) in
+    let inlets : length (notices_ended rans) ≡ length lost = length-map rans (λ ran. notices_at ran.run) ∙ (whole ∙ sym (length-map members is_lost)) in
+    let none_came : NobodyLost lost → (place : ℕ) (none : SlotIn Notice) → place < length lost
+    → AllByRecursion (IsOfLost (length lost) (λ node. get_or lost node false) (λ node. get_or (lasts_ended rans) node 0) place) (taken (get_or (notices_ended rans) place none)) = λ nobody place none low.
+    subst (AllByRecursion (IsOfLost (length lost) (λ node. get_or lost node false) (λ node. get_or (lasts_ended rans) node 0) place)) (sym (untold nobody place none (omega (arith, low, inlets)))) tt in
+    let ended : NobodyLost lost → Joined threads rans → EndedWith lost threads (nodes_of c.stopped_of.result) (logs_of c.stopped_of.result) = λ nobody joined.
+    stopped_ended lost threads rans c.stopped_of.result c.args.self.wired joined (subst (λ n. AllArrived n (rows_ended rans)) joined.0 stopped.arrived) stopped.nodes stopped.logs marked (none_came nobody) untold in
+    λ nobody. ended nobody (joined_members members rans whole (was.5 nobody))
 
 pub returns-clause-heard : goal.returns-clause-heard
 returns-clause-heard g c =

@@ -3,7 +3,7 @@ use Rattle.std.specs.Prelude.{vec_capacity, drop}
 use Rattle.std.specs.Vec.Iter.{into_iter_items, into_iter_len}
 use Rattle.pg_cluster.specs.Members.{is_lost, losses_in}
 use Rattle.pg_cluster.specs.Notices.{NobodyLost}
-use Rattle.pg_cluster.proofs.Starts.{GiveBack}
+use Rattle.pg_cluster.proofs.Starts.{ClocksKept, GiveBack}
 use Rattle.pg_cluster.proofs.cluster.Cluster.stop.Given as goal
 
 abbrev pub invariant-loop-member : goal.invariant-loop-member
@@ -17,3 +17,4 @@ invariant-loop-member g l =
     × ∥ GiveBack l.fn.self.members.items l.rans.items ∥₁
     × (vec_len l.lost + into_iter_len l.member-iterator ≤ vec_capacity l.lost)
     × (l.lost.items ++ map is_lost (into_iter_items l.member-iterator) ≡ losses_in l.fn.self.members.items)
+    × ClocksKept l.fn.self.members.items l.rans.items

@@ -1,5 +1,8 @@
-use Rattle.std.proofs.Common.{◌≡◌, ◌++◌, [], ◌∷◌, List, Bool, true, false, not, refl, ap, ◌∙◌}
+use Rattle.std.proofs.Common.{◌≡◌, ◌++◌, [], ◌∷◌, List, Bool, true, false, not, refl, sym, ap, subst, ◌∙◌}
 use Rattle.std.specs.List.{filter}
+use Rattle.std.specs.List.Sorted.{IsStrictlySortedBy}
+use Rattle.std.proofs.lemmas.List.Kept.{IsStrictlySortedBy-filter}
+use Rattle.pg_term.specs.Same.{pid_cmp}
 use Rattle.pg_term.specs.declared.pid.Pid.{Pid}
 use Rattle.pg_group.specs.Scope.{at_node}
 use Rattle.pg_group.proofs.EndedListed.{front_of, is_from, listed, front_more, front_ends, front_none}
@@ -25,8 +28,12 @@ loop-pid-preserved c =
     ∙ front_more c.args.node.now c.loop-pid.pids.items c.loop-pid.pid-iterator c.next.new.self c.in-Some.pid.now c.in-Some.ensures.steps (is_not_false (at_node c.args.node.now c.in-Some.pid.now) c.if-ne.ensures)
     ∙ c.loop-pid.invariant
 
-pub returns : goal.returns
-returns c = elim c.match-next.branch [
+pub returns-clause-pids : goal.returns-clause-pids
+returns-clause-pids c = elim c.match-next.branch [
   | in-None w ↦ front_none c.args.node.now c.loop-pid.pids.items c.loop-pid.pid-iterator w.in-None.ensures.steps.0 ∙ c.loop-pid.invariant
   | in-Some+then-ne w ↦ front_ends c.args.node.now c.loop-pid.pids.items c.loop-pid.pid-iterator c.next.new.self w.in-Some.pid.now w.in-Some.ensures.steps (is_not_true (at_node c.args.node.now w.in-Some.pid.now) w.if-ne.ensures) ∙ c.loop-pid.invariant
 ]
+
+pub returns-clause-ordered : goal.returns-clause-ordered
+returns-clause-ordered c =
+    subst (IsStrictlySortedBy pid_cmp) (sym (returns-clause-pids c)) (IsStrictlySortedBy-filter pid_cmp (at_node c.args.node.now) c.args.self.now.pids.keys c.range-pid-items.ensures.ordered)

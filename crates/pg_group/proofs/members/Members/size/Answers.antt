@@ -1,4 +1,4 @@
-use Rattle.std.proofs.Common.{length, sym, ◌∙◌, arith}
+use Rattle.std.proofs.Common.{sym, ◌∙◌, arith}
 use Rattle.pg_group.specs.Scope.{in_scope}
 use Rattle.pg_group.proofs.Spread.{spread, sized_more, sized_none, members-spread}
 use Rattle.pg_group.proofs.members.Members.size.Goals as goal

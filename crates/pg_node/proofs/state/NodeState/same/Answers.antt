@@ -1,19 +1,12 @@
-use Rattle.std.proofs.Common.{◌∙◌, sym}
+use Rattle.std.proofs.Common.{◌≡◌, arith}
 use Rattle.std.proofs.lemmas.Result.{IfOk-weaker}
-use Rattle.pg_opens.proofs.Named.{clash}
-use Rattle.pg_node.proofs.SameNodes.{same_forth, same_back, same_table}
+use Rattle.pg_node.proofs.SameNodes.{alike_of_same, same_of_alike}
 use Rattle.pg_node.proofs.state.NodeState.same.Goals as goal
 
-pub returns-then-same_beside : goal.returns-then-same_beside
-returns-then-same_beside g c =
+pub returns : goal.returns
+returns g c =
     let one = c.args.self.now in
     let other = c.args.other.now in
-    IfOk-weaker c.same_groups.result _ _
-    (λ same h. (λ t. same_forth one other (c.same_beside.ensures.0 c.if-same_beside.true) (h.0 t), λ s. h.1 (same_table one other s)))
-    c.same_groups.ensures
-
-pub returns-else-same_beside : goal.returns-else-same_beside
-returns-else-same_beside g c = (
-  λ e. absurd (clash (sym e)),
-  λ s. sym c.if-same_beside.false ∙ c.same_beside.ensures.1 (same_back c.args.self.now c.args.other.now s),
-)
+    let e = c.if-self-other.false in
+    let clock : one.clock ≡ other.clock = omega (arith, e) in
+    IfOk-weaker c.is_alike.result _ _ (λ same h. (λ t. same_of_alike one other clock (h.0 t), λ s. h.1 (alike_of_same one other s))) c.is_alike.ensures

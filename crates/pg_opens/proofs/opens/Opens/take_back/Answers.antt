@@ -5,7 +5,7 @@ use Rattle.pg_opens.specs.Opens.{Says}
 use Rattle.pg_opens.specs.TakenBack.{command_taken_back}
 use Rattle.pg_opens.proofs.Layered.{others_remove}
 use Rattle.pg_opens.proofs.Uses.{known_ended}
-use Rattle.pg_opens.proofs.Found.{StandsFor, stands_for, no_waiting}
+use Rattle.pg_opens.proofs.Found.{stands_for, no_waiting}
 use Rattle.pg_opens.proofs.Followed.{take_back_follows}
 use Rattle.pg_opens.proofs.opens.Opens.take_back.Goals as goal
 

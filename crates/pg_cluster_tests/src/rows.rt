@@ -1,0 +1,109 @@
+//! Tables of what happens in clusters, and how they end then.
+
+use crate::setting::{End, Open, Setting, Started, end_of, start};
+use crate::verdicts::{holds, holds_at};
+use pg_cluster::StartFault;
+use pg_node::NodeFault;
+use pg_step::Refusal;
+use pg_world::WorldFault;
+use std::alloc::Global;
+use std::process::Abort;
+use std::sync::Wait;
+use std::thread::Threads;
+
+/// What happens in a cluster.
+#[derive(Clone, Copy)]
+pub enum Row<'a> {
+    /// The client at this place asks by a line of a script, and is answered by what begins so.
+    Asks(usize, &'a str, &'a str),
+    /// The client at this place asks, and waits for no answer.
+    Submits(usize, &'a str),
+    /// The node is lost.
+    Lose(usize),
+    /// The loss of the node is refused.
+    NoLoss(usize, Refusal),
+}
+
+/// How often some rows happen, one after another.
+pub type Part<'a> = (u32, &'a [Row<'a>]);
+
+// Where memory is refused no thread goes on, and a second start starts all.
+fn start_again<R: Threads>(
+    rt: &R,
+    alloc: Global,
+    setting: Setting<'_>,
+) -> Result<Started, StartFault> {
+    match start(rt, alloc, setting, Open) {
+        Err(StartFault::World(WorldFault::OutOfMemory)) => start(rt, alloc, setting, Open),
+        Err(StartFault::NoThread) => start(rt, alloc, setting, Open),
+        started => started,
+    }
+}
+
+fn is_refused(lost: Result<(), NodeFault>, wanted: Refusal) -> bool {
+    match lost {
+        Err(NodeFault::Refused(refusal)) => refusal == wanted,
+        _ => false,
+    }
+}
+
+fn holds_in(
+    rt: &(impl Threads + Wait),
+    alloc: Global,
+    started: &mut Started,
+    row: &Row<'_>,
+) -> bool {
+    match row {
+        Row::Asks(place, line, begin) => started.asks(rt, alloc, *place, line, begin),
+        Row::Submits(place, line) => started.takes(alloc, *place, line),
+        Row::Lose(node) => started.lose(rt, *node).is_ok(),
+        Row::NoLoss(node, refusal) => is_refused(started.lose(rt, *node), *refusal),
+    }
+}
+
+// Each row holds, one after another.
+fn play(
+    rt: &(impl Threads + Wait + Abort),
+    alloc: Global,
+    started: &mut Started,
+    rows: &[Row<'_>],
+) {
+    for (place, row) in rows.iter().enumerate() {
+        holds_at(rt, holds_in(rt, alloc, started, row), "row", place as u64);
+    }
+}
+
+// Whether so many nodes were closed, of which so many were lost, and the schedule leads to them; they agree where none was lost.
+fn is_end(end: Option<End>, nodes: usize, losses: usize) -> bool {
+    match end {
+        Some(end) => {
+            end.nodes == nodes
+                && end.events > 0
+                && end.losses == losses
+                && end.replays
+                && (end.agrees || losses > 0)
+        }
+        None => false,
+    }
+}
+
+/// Each row of each part holds in a cluster, of which so many nodes are lost then, and its schedule leads to its nodes.
+pub fn check(
+    rt: &(impl Threads + Wait + Abort),
+    alloc: Global,
+    setting: Setting<'_>,
+    parts: &[Part<'_>],
+    losses: usize,
+) {
+    let Ok(begun) = start_again(rt, alloc, setting) else {
+        return holds(rt, false, "it starts");
+    };
+    let mut started = begun;
+    for (times, rows) in parts {
+        for _ in 0..*times {
+            play(rt, alloc, &mut started, rows);
+        }
+    }
+    let end = end_of(rt, alloc, started);
+    holds(rt, is_end(end, setting.names.len(), losses), "the end");
+}

@@ -1,0 +1,341 @@
+//! Three nodes and the packets between them: what one does reaches the others, and what a world tells of it.
+
+use crate::verdicts::holds;
+use pg_group::GroupTable;
+use pg_index::IndexTable;
+use pg_lines::{Line, NodeForm, read_line};
+use pg_node::NodeFault;
+use pg_script::read_script;
+use pg_step::{Command, OpId, Refusal, Reply};
+use pg_term::{Pid, Term};
+use pg_world::{Entry, FrameStep, FrameWorld, Stepped};
+use std::alloc::{AllocError, Global};
+use std::process::Abort;
+
+type World = FrameWorld<IndexTable>;
+
+/// What a step did.
+type Told = Result<Stepped, NodeFault>;
+
+/// What happens in a world, or is seen there. The group is the one named 7.
+#[derive(Clone, Copy)]
+enum Row<'a> {
+    /// A command comes in at the first node: a line of a script.
+    Given(&'a str),
+    /// A node takes the next packet of a peer.
+    Take(usize, usize, Told),
+    /// The first command of a port of a node is tried again.
+    Retry(usize, u16, Told),
+    /// Each node takes what is on the way, until nothing is: so many packets.
+    Settle(u32),
+    /// A node is lost, and nothing stays of what is on the way from it.
+    Lose(usize, Told),
+    /// A node sees the loss of a peer.
+    See(usize, usize, Told),
+    /// Whether a node has the group.
+    Group(usize, bool),
+    /// Whether a node sees the group's lock free.
+    Free(usize, bool),
+    /// The updates of the group, each by its node and the number of its command there.
+    History(&'a [(usize, u32)]),
+    /// So many of these a node has applied.
+    Applied(usize, u128),
+    /// The first node has answered `ok` at last, to the command of this number.
+    Answered(u32),
+    /// The ends that are pending are those of these processes of the first node.
+    Pending(&'a [u32]),
+}
+
+const HAPPENED: Told = Ok(Stepped::Happened);
+
+const NO_PLACE: Told = Err(NodeFault::Refused(Refusal::NoSuchPlace));
+
+const NOT_WAITING: Told = Err(NodeFault::Refused(Refusal::NotWaiting));
+
+const NOT_LOST: Told = Err(NodeFault::Refused(Refusal::NotLost));
+
+const LOST: Told = Err(NodeFault::Refused(Refusal::NodeLost));
+
+fn command_of(alloc: Global, line: &str) -> Option<Command> {
+    match read_line(alloc, line) {
+        Ok(Line::At { node, form }) => {
+            drop(node);
+            match form {
+                NodeForm::Command(command) => Some(command),
+                other => {
+                    drop(other);
+                    None
+                }
+            }
+        }
+        Ok(other) => {
+            drop(other);
+            None
+        }
+        Err(_) => None,
+    }
+}
+
+fn step(world: &mut World, step: FrameStep) -> Told {
+    let stepped = world.step(&step);
+    drop(step);
+    stepped
+}
+
+fn given(alloc: Global, world: &mut World, line: &str) -> bool {
+    match command_of(alloc, line) {
+        Some(command) => {
+            let (node, port) = (0, 0);
+            step(
+                world,
+                FrameStep::Command {
+                    node,
+                    port,
+                    command,
+                },
+            ) == HAPPENED
+        }
+        None => false,
+    }
+}
+
+static WAYS: [(usize, usize); 6] = [(1, 0), (2, 0), (0, 1), (2, 1), (0, 2), (1, 2)];
+
+// Each node takes what is on the way, until nothing is; how many packets there were. A fault counts as many.
+fn settle(world: &mut World) -> u32 {
+    let mut count = 0u32;
+    for _ in 0..50 {
+        for (node, peer) in &WAYS {
+            let (node, peer) = (*node, *peer);
+            count = count.saturating_add(match step(world, FrameStep::Take { node, peer }) {
+                Ok(Stepped::Happened) => 1,
+                Ok(_) => 0,
+                Err(_) => 1_000,
+            });
+        }
+    }
+    count
+}
+
+fn lose(alloc: Global, world: &mut World, node: usize) -> Told {
+    match Vec::from_array(alloc, [0, 0]) {
+        Ok(keep) => step(world, FrameStep::Lose { node, keep }),
+        Err(_) => Err(NodeFault::OutOfMemory),
+    }
+}
+
+// Whether these are the numbers of the processes, each of the first node.
+fn are_numbered(pids: &[Pid], numbers: &[u32]) -> bool {
+    let mut are_same = pids.len() == numbers.len();
+    for (pid, number) in pids.iter().zip(numbers) {
+        are_same = are_same && pid.node.as_str() == "a" && pid.serial == 0 && pid.id == *number;
+    }
+    are_same
+}
+
+fn are_pending(world: &World, numbers: &[u32]) -> bool {
+    match world.pending_ends() {
+        Ok(pids) => {
+            let are_pending = are_numbered(pids.as_slice(), numbers);
+            drop(pids);
+            are_pending
+        }
+        Err(AllocError) => false,
+    }
+}
+
+fn is_entry(entry: Option<&Entry>, (node, number): (usize, u32)) -> bool {
+    match entry {
+        Some(entry) => entry.node == node && entry.op.number == number,
+        None => false,
+    }
+}
+
+// Whether the updates of a history are of these commands, in this order: those of a slice, and one more where there is one.
+fn are_entries(history: (&[Entry], Option<&Entry>), wanted: &[(usize, u32)]) -> bool {
+    let (first, last) = history;
+    let mut are_same = wanted.len() == first.len().saturating_add(usize::from(last.is_some()));
+    for (place, wanted) in wanted.iter().enumerate() {
+        let entry = if place < first.len() {
+            first.get(place)
+        } else {
+            last
+        };
+        are_same = are_same && is_entry(entry, *wanted);
+    }
+    are_same
+}
+
+// Whether a world tells so of the group: what is `None` is not asked.
+fn is_told(world: &World, name: &Term, row: &Row<'_>) -> bool {
+    match row {
+        Row::Group(node, has) => match world.node(*node) {
+            Some(node) => node.table().has(name) == *has,
+            None => false,
+        },
+        Row::Free(node, is_free) => {
+            world.node(*node).is_some() && world.lock_free(*node, name) == *is_free
+        }
+        Row::History(wanted) => are_entries(world.history(name), wanted),
+        Row::Applied(node, count) => world.applied(*node, name) == *count,
+        _ => false,
+    }
+}
+
+// Whether the last answer of the first node is `ok`, and that to the command of this number.
+fn has_answered(world: &World, number: u32) -> bool {
+    match world.node(0) {
+        Some(node) if node.port_count() == 1 => match node.answers(0).last() {
+            Some(answer) => answer.number == number && matches!(&answer.reply, Reply::Ok),
+            None => false,
+        },
+        _ => false,
+    }
+}
+
+// Whether a row holds.
+fn is_row(alloc: Global, world: &mut World, row: &Row<'_>) -> bool {
+    match row {
+        Row::Given(line) => given(alloc, world, line),
+        Row::Take(node, peer, told) => {
+            let (node, peer) = (*node, *peer);
+            step(world, FrameStep::Take { node, peer }) == *told
+        }
+        Row::Retry(node, port, told) => {
+            let (node, port) = (*node, *port);
+            let op = OpId { port, number: 1 };
+            step(world, FrameStep::Retry { node, op }) == *told
+        }
+        Row::See(node, peer, told) => {
+            let (node, peer) = (*node, *peer);
+            step(world, FrameStep::SeeLoss { node, peer }) == *told
+        }
+        Row::Settle(count) => settle(world) == *count,
+        Row::Lose(node, told) => lose(alloc, world, *node) == *told,
+        Row::Answered(number) => has_answered(world, *number),
+        Row::Pending(numbers) => are_pending(world, numbers),
+        told => {
+            let name = Term::Int(7);
+            let is_told = is_told(world, &name, told);
+            drop(name);
+            is_told
+        }
+    }
+}
+
+// Three nodes that have formed, between which nothing is on the way.
+fn three(alloc: Global) -> Option<World> {
+    match read_script(alloc, "ring 1\nnode a\nnode b\nnode c") {
+        Ok(script) => {
+            let world = World::new(alloc, &script.config);
+            drop(script);
+            world.ok()
+        }
+        Err(_) => None,
+    }
+}
+
+// Each row of the table holds in a new world of three nodes, one after another.
+fn check(rt: &impl Abort, alloc: Global, rows: &[Row<'_>]) {
+    let mut world = three(alloc).expect(rt, "a world");
+    holds(rt, settle(&mut world) == 6, "packets at first:", 6);
+    for (place, row) in rows.iter().enumerate() {
+        holds(rt, is_row(alloc, &mut world, row), "row", place);
+    }
+    drop(world);
+}
+
+// A create at one node: it asks c, then b, for the lock, tells both the update, and frees the lock there.
+static CREATE: &[Row<'static>] = &[
+    Row::Given("create a 7"),
+    Row::Group(0, false),
+    Row::History(&[]),
+    Row::Settle(10),
+    Row::Group(0, true),
+    Row::Group(1, true),
+    Row::Group(2, true),
+    Row::History(&[(0, 1)]),
+    Row::Answered(1),
+    Row::Settle(0),
+];
+
+// Its history has the update once the last grant has come, and each node applies it as it takes it.
+static APPLIED: &[Row<'static>] = &[
+    Row::Given("create a 7"),
+    Row::Free(2, true),
+    Row::Take(2, 0, HAPPENED),
+    Row::Free(2, false),
+    Row::Take(0, 2, HAPPENED),
+    Row::Take(1, 0, HAPPENED),
+    Row::History(&[]),
+    Row::Take(0, 1, HAPPENED),
+    Row::History(&[(0, 1)]),
+    Row::Applied(0, 1),
+    Row::Applied(1, 0),
+    Row::Take(1, 0, HAPPENED),
+    Row::Applied(1, 1),
+    Row::Applied(2, 0),
+    Row::Settle(5),
+    Row::Applied(2, 1),
+    Row::Free(0, true),
+    Row::Free(2, true),
+    Row::Given("delete a 7"),
+    Row::Settle(10),
+    Row::History(&[(0, 1), (0, 2)]),
+    Row::Applied(2, 2),
+    Row::Applied(3, 0),
+];
+
+// Steps of places that are not there, and a retry of what does not wait; what a lost node would do, and a second loss.
+static REFUSALS: &[Row<'static>] = &[
+    Row::Take(3, 0, NO_PLACE),
+    Row::Take(0, 3, NO_PLACE),
+    Row::Take(1, 1, NO_PLACE),
+    Row::Retry(3, 0, NO_PLACE),
+    Row::Retry(0, 1, NO_PLACE),
+    Row::Retry(0, 0, NOT_WAITING),
+    Row::Take(1, 0, Ok(Stepped::Nothing)),
+    Row::See(0, 2, NOT_LOST),
+    Row::Lose(3, NO_PLACE),
+    Row::Lose(2, Ok(Stepped::Gone)),
+    Row::Lose(2, LOST),
+    Row::Take(2, 0, LOST),
+    Row::See(0, 2, HAPPENED),
+    Row::See(0, 2, LOST),
+];
+
+// An end is pending until each node was told, or is lost that was not.
+static LOSS: &[Row<'static>] = &[
+    Row::Given("make a"),
+    Row::Given("end a <a.1.0>"),
+    Row::Take(1, 0, HAPPENED),
+    Row::Pending(&[1]),
+    Row::Lose(2, Ok(Stepped::Gone)),
+    Row::Pending(&[]),
+];
+
+// The list has the pid of the process, until both others were told.
+static LISTED: &[Row<'static>] = &[
+    Row::Given("make a"),
+    Row::Given("end a <a.1.0>"),
+    Row::Pending(&[1]),
+    Row::Settle(2),
+    Row::Pending(&[]),
+];
+
+#[test]
+fn create_reaches_all(rt: HostRuntime) {
+    check(&rt, rt.alloc(), CREATE);
+    check(&rt, rt.alloc(), APPLIED);
+}
+
+#[test]
+fn steps_are_refused(rt: HostRuntime) {
+    check(&rt, rt.alloc(), REFUSALS);
+}
+
+#[test]
+fn ends_are_pending(rt: HostRuntime) {
+    check(&rt, rt.alloc(), LOSS);
+    check(&rt, rt.alloc(), LISTED);
+}

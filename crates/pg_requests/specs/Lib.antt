@@ -1,0 +1,4 @@
+pub mod Layouts
+pub mod Members
+pub mod Replies
+pub mod Requests

@@ -1,0 +1,18 @@
+//! What a service is asked and what it replies, as terms; and what the nodes of a service know at first, as text.
+//!
+//! `read_request(term, &layout)` is what a term asks for, and `reply_term(alloc, reply)?` a reply as a term. Begin with `src/request.rt`, then
+//! `specs/Requests.antt`; replies are in `specs/Replies.antt`, what nodes know in `specs/Members.antt`.
+#![tactic(auto)]
+
+mod input;
+mod layout;
+mod members;
+mod parts;
+mod reply;
+mod request;
+
+pub use input::Input;
+pub use layout::{Layout, NodePorts};
+pub use members::{node_name, node_names, starts_of};
+pub use reply::{bad_request, lost, node_lost, numbered, refused, reply_term};
+pub use request::read_request;

@@ -1,0 +1,63 @@
+//! A world: two nodes that make one step after another, and the history of a group.
+
+use crate::setting::{two_nodes, workers};
+use pg_index::IndexTable;
+use pg_step::Command;
+use pg_text::write_update;
+use pg_world::{FrameStep, FrameWorld, Stepped};
+use std::alloc::Global;
+
+/// `a` makes a group and `b` deletes it: the history of the group.
+pub(crate) fn history(alloc: Global) -> Option<String> {
+    let config = two_nodes(alloc)?;
+    let world = FrameWorld::new(alloc, &config);
+    drop(config);
+    let mut world = world.ok()?;
+    settle(&mut world);
+    command(&mut world, 0, Command::Create(workers(alloc)?));
+    settle(&mut world);
+    command(&mut world, 1, Command::Delete(workers(alloc)?));
+    settle(&mut world);
+    told(alloc, &world)
+}
+
+/// A command comes in at the port of a node; whether it did.
+fn command(world: &mut FrameWorld<IndexTable>, node: usize, command: Command) -> bool {
+    let step = FrameStep::Command {
+        node,
+        port: 0,
+        command,
+    };
+    is_made(world, step)
+}
+
+/// Each node takes the packets on the way to it, until there are none.
+fn settle(world: &mut FrameWorld<IndexTable>) {
+    for _ in 0..1_000 {
+        let at_a = is_made(world, FrameStep::Take { node: 0, peer: 1 });
+        let at_b = is_made(world, FrameStep::Take { node: 1, peer: 0 });
+        if !at_a && !at_b {
+            return;
+        }
+    }
+}
+
+/// Makes a step; whether it happened. A step that is refused changes nothing.
+fn is_made(world: &mut FrameWorld<IndexTable>, step: FrameStep) -> bool {
+    let stepped = world.step(&step);
+    drop(step);
+    stepped == Ok(Stepped::Happened)
+}
+
+/// The updates of the group, in their order, each behind a space.
+fn told(alloc: Global, world: &FrameWorld<IndexTable>) -> Option<String> {
+    let name = workers(alloc)?;
+    let (entries, last) = world.history(&name);
+    let mut text = String::new(alloc);
+    for entry in entries.iter().chain(last) {
+        text.push(' ').ok()?;
+        write_update(&entry.update, &mut text).ok()?;
+    }
+    drop(name);
+    Some(text)
+}
