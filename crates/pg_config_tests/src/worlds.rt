@@ -8,8 +8,9 @@ use pg_node::NodeFault;
 use pg_script::read_script;
 use pg_step::{Command, OpId, Refusal, Reply};
 use pg_term::{Pid, Term};
-use pg_world::{Entry, FrameStep, FrameWorld, Stepped};
+use pg_world::{Config, Entry, FrameStep, FrameWorld, Stepped};
 use std::alloc::{AllocError, Global};
+use std::mem;
 use std::process::Abort;
 
 type World = FrameWorld<IndexTable>;
@@ -44,6 +45,12 @@ enum Row<'a> {
     Answered(u32),
     /// The ends that are pending are those of these processes of the first node.
     Pending(&'a [u32]),
+    /// The world is copied. Each row that follows holds in the copy, too, and the two are alike then.
+    Copied,
+    /// The row holds in the world, and not in the copy, and whether they are alike then.
+    Alone(&'a Row<'a>, bool),
+    /// The row holds in the copy, and whether the world is alike then.
+    Beside(&'a Row<'a>, bool),
 }
 
 const HAPPENED: Told = Ok(Stepped::Happened);
@@ -223,26 +230,82 @@ fn is_row(alloc: Global, world: &mut World, row: &Row<'_>) -> bool {
     }
 }
 
-// Three nodes that have formed, between which nothing is on the way.
-fn three(alloc: Global) -> Option<World> {
-    match read_script(alloc, "ring 1\nnode a\nnode b\nnode c") {
-        Ok(script) => {
-            let world = World::new(alloc, &script.config);
-            drop(script);
-            world.ok()
+// A world, and its copy, which is there from the start.
+#[derive(Drop)]
+struct Twins {
+    config: Config,
+    world: World,
+    copy: World,
+}
+
+impl Twins {
+    // Whether the world is copied.
+    fn renew(&mut self) -> bool {
+        match self.world.copy(&self.config) {
+            Ok(copy) => {
+                drop(mem::replace(&mut self.copy, copy));
+                true
+            }
+            Err(AllocError) => false,
         }
+    }
+
+    // Whether a row holds in the world and in the copy, which are alike then.
+    fn agree_on(&mut self, alloc: Global, row: &Row<'_>) -> bool {
+        is_row(alloc, &mut self.world, row)
+            && is_row(alloc, &mut self.copy, row)
+            && self.world.is_alike(&self.copy) == Ok(true)
+    }
+
+    // Whether a row holds.
+    fn holds(&mut self, alloc: Global, row: &Row<'_>) -> bool {
+        match row {
+            Row::Copied => self.renew() && self.world.is_alike(&self.copy) == Ok(true),
+            Row::Alone(row, alike) => {
+                is_row(alloc, &mut self.world, row) && self.world.is_alike(&self.copy) == Ok(*alike)
+            }
+            Row::Beside(row, alike) => {
+                is_row(alloc, &mut self.copy, row) && self.copy.is_alike(&self.world) == Ok(*alike)
+            }
+            row => self.agree_on(alloc, row),
+        }
+    }
+}
+
+fn twins_of(alloc: Global, config: Config) -> Option<Twins> {
+    let world = World::new(alloc, &config);
+    let copy = World::new(alloc, &config);
+    match (world, copy) {
+        (Ok(world), Ok(copy)) => Some(Twins {
+            config,
+            world,
+            copy,
+        }),
+        _ => None,
+    }
+}
+
+// Three nodes as they start, twice.
+fn three(alloc: Global) -> Option<Twins> {
+    match read_script(alloc, "ring 1\nnode a\nnode b\nnode c") {
+        Ok(script) => twins_of(alloc, script.config),
         Err(_) => None,
     }
 }
 
-// Each row of the table holds in a new world of three nodes, one after another.
+// Each row of the table holds in a new world of three nodes that have formed, between which nothing is on the way, one after another.
 fn check(rt: &impl Abort, alloc: Global, rows: &[Row<'_>]) {
-    let mut world = three(alloc).expect(rt, "a world");
-    holds(rt, settle(&mut world) == 6, "packets at first:", 6);
+    let mut twins = three(alloc).expect(rt, "a world");
+    holds(
+        rt,
+        twins.holds(alloc, &Row::Settle(6)),
+        "packets at first:",
+        6,
+    );
     for (place, row) in rows.iter().enumerate() {
-        holds(rt, is_row(alloc, &mut world, row), "row", place);
+        holds(rt, twins.holds(alloc, row), "row", place);
     }
-    drop(world);
+    drop(twins);
 }
 
 // A create at one node: it asks c, then b, for the lock, tells both the update, and frees the lock there.
@@ -322,6 +385,44 @@ static LISTED: &[Row<'static>] = &[
     Row::Settle(2),
     Row::Pending(&[]),
 ];
+
+// A create that is under way as the world is copied, and a process that ends.
+static COPIES: &[Row<'static>] = &[
+    Row::Given("create a 7"),
+    Row::Take(2, 0, HAPPENED),
+    Row::Copied,
+    Row::Take(0, 2, HAPPENED),
+    Row::Take(1, 0, HAPPENED),
+    Row::Take(0, 1, HAPPENED),
+    Row::Copied,
+    Row::History(&[(0, 1)]),
+    Row::Settle(6),
+    Row::Given("make a"),
+    Row::Given("end a <a.1.0>"),
+    Row::Lose(2, Ok(Stepped::Gone)),
+    Row::Copied,
+    Row::Take(2, 0, LOST),
+    Row::Pending(&[1]),
+    Row::Take(1, 0, HAPPENED),
+    Row::See(0, 2, HAPPENED),
+    Row::Applied(1, 1),
+];
+
+// What is not alike, and what is: two packets that one node takes in either order, by which its clocks differ.
+static ALIKE: &[Row<'static>] = &[
+    Row::Alone(&Row::Given("create a 7"), false),
+    Row::Beside(&Row::Given("create a 7"), true),
+    Row::Alone(&Row::Take(2, 0, HAPPENED), false),
+    Row::Copied,
+    Row::Alone(&Row::Lose(1, Ok(Stepped::Gone)), false),
+    Row::Beside(&Row::Lose(1, Ok(Stepped::Gone)), true),
+];
+
+#[test]
+fn copies_go_on(rt: HostRuntime) {
+    check(&rt, rt.alloc(), COPIES);
+    check(&rt, rt.alloc(), ALIKE);
+}
 
 #[test]
 fn create_reaches_all(rt: HostRuntime) {

@@ -1,3 +1,4 @@
+pub mod Alike
 pub mod Bars
 pub mod ByteWorlds
 pub mod BytesLosing

@@ -71,6 +71,7 @@ impl<T: GroupTable + Drop> FrameWorld<T> {
     ghost use Rattle.pg_history.specs.History.{LockFree};
     ghost use Rattle.pg_step.specs.Config.{Config as Configuration};
     ghost use Rattle.pg_step.specs.LossLaws.{LosingFrameWorld};
+    ghost use Rattle.pg_world.specs.Alike.{AreAlikeWorlds};
     ghost use Rattle.pg_world.specs.FrameWorlds.{view_of, traffic_of, lost_of, given_of};
     ghost use Rattle.pg_world.specs.Histories.{as_entry, last_entries};
     ghost use Rattle.pg_world.specs.Losing.{lost_after, told_of, ShowsLosing, LosingComesTo};
@@ -79,6 +80,34 @@ impl<T: GroupTable + Drop> FrameWorld<T> {
     ghost use Rattle.pg_world.specs.Pending.{AgreeOn, pending_of, sees_free};
     ghost use Rattle.pg_world.specs.Views.{on_the_way, seen_of};
     ghost use Rattle.pg_world.specs.Worlds.{TimedFrameWorld, Shows, StepComesTo};
+
+    /// The same world: a step makes the same of both. The caller lends the configuration from which it began. Its cost is that of the
+    /// copies of all that the world keeps.
+    ///
+    /// Error: `AllocError`.
+    pub fn copy(&self, config: &Config) -> Result<FrameWorld<T>, AllocError>
+        requires given { given_of self.now ≡ config.now.starts.items }
+        ensures view { IfOk result (λ copy. view_of copy ≡ view_of self.now) }
+        ensures lost { IfOk result (λ copy. lost_of copy ≡ lost_of self.now) }
+        ensures given { IfOk result (λ copy. given_of copy ≡ given_of self.now) }
+    {
+        let given = Snapshot::of(config);
+        let frames = self.frames.copy()?;
+        Ok(FrameWorld { frames, given })
+    }
+
+    /// Whether both worlds are the same but for clocks and stamps: as many nodes, each the same as the one at its place but for the
+    /// clocks; the same packets on each way but for their stamps; the same nodes lost; the same history of each group, and as many of
+    /// its updates applied at each node.
+    ///
+    /// Error: `AllocError`. Its cost is that of `NodeState::is_alike` for each node, which alone takes memory; a walk over the packets
+    /// on the way; and for each group a walk over its history and O(log n) in the groups that were named for each node. Where the
+    /// worlds differ it ends at the first difference.
+    pub fn is_alike(&self, other: &FrameWorld<T>) -> Result<bool, AllocError>
+        ensures { IfOk result (λ alike. IsTrue alike ↔ AreAlikeWorlds (view_of self.now) (lost_of self.now) (view_of other.now) (lost_of other.now)) }
+    {
+        self.frames.is_alike(&other.frames)
+    }
 
     /// The node at a place. It takes no memory.
     pub fn node(&self, place: usize) -> Option<&NodeState<T>>

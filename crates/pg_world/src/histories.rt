@@ -1,11 +1,13 @@
 //! What began and what was applied in a world, by group.
 
-ghost use Rattle.std.specs.Prelude.{◌≡◌, ℕ, ◌+◌, ◌++◌, ◌∷◌, [], map, OnOk};
+ghost use Rattle.std.specs.Prelude.{◌≡◌, ◌↔◌, ℕ, ◌<◌, ◌+◌, ◌++◌, ◌∷◌, [], map, IsTrue, IsSome, IfOk, OnOk};
+ghost use Rattle.std.specs.BTreeMap.{get};
 ghost use Rattle.std.specs.Option.{option_copied};
 ghost use Rattle.pg_term.specs.declared.term.Term.{Term};
+ghost use Rattle.pg_term.specs.Same.{term_cmp};
 ghost use Rattle.pg_world.specs.Histories.{asked_by};
 
-use crate::entry::Entry;
+use crate::entry::{Entry, same_with_last};
 use crate::rows::{self, Rows};
 use pg_group::Update;
 use pg_message::{Message, Packet, Request};
@@ -28,7 +30,8 @@ pub(crate) struct Histories {
 
 impl Histories {
     ghost use Rattle.pg_history.specs.History.{of_group, entry_of};
-    ghost use Rattle.pg_world.specs.Histories.{history_in, applied_in, begun_by, one_of, last_entries, last_count, as_entry, entries_in, counts_in, IsSettled, LastHasRow, CanServe};
+    ghost use Rattle.pg_world.specs.Alike.{HaveSameUpdates, IsNamedLast, AgreeOnNamed};
+    ghost use Rattle.pg_world.specs.Histories.{account_of, history_in, applied_in, begun_by, one_of, last_entries, last_count, as_entry, entries_in, counts_in, IsSettled, LastHasRow, CanServe};
 
     /// Nothing has begun. It takes no memory.
     pub(crate) fn new(alloc: Global) -> Histories
@@ -40,6 +43,87 @@ impl Histories {
             last: None,
             alloc,
         }
+    }
+
+    /// The same histories and counts. Its cost grows with the entries.
+    ///
+    /// Error: `AllocError`.
+    pub(crate) fn copy(&self) -> Result<Histories, AllocError>
+        ensures history { IfOk result (λ copy. history_in copy ≡ history_in self.now) }
+        ensures applied { IfOk result (λ copy. applied_in copy ≡ applied_in self.now) }
+    {
+        let last = copy_last(self.alloc, &self.last)?;
+        let rows = rows::copy(&self.rows, self.alloc)?;
+        Ok(Histories {
+            rows,
+            last,
+            alloc: self.alloc,
+        })
+    }
+
+    /// Whether both have the same history of each group, and so many nodes have applied as many of its updates. It takes no memory:
+    /// O(log n) in the groups that were named for each of them and each node, and a walk over the entries.
+    pub(crate) fn agree(&self, other: &Histories, nodes: usize) -> bool
+        ensures { IsTrue result ↔ ((name : Term) → HaveSameUpdates nodes (account_of self.now) (account_of other.now) name) }
+    {
+        self.agree_on_own(other, nodes) && other.agree_on_own(self, nodes)
+    }
+
+    /// Whether both agree on each group that is named here.
+    fn agree_on_own(&self, other: &Histories, nodes: usize) -> bool
+        ensures { IsTrue result ↔ AgreeOnNamed nodes self.now other.now }
+    {
+        self.agree_on_last(other, nodes) && self.agree_on_rows(other, nodes)
+    }
+
+    /// Whether both agree on the group of the entry that is not in its row yet.
+    fn agree_on_last(&self, other: &Histories, nodes: usize) -> bool
+        ensures { IsTrue result ↔ ((name : Term) → IsNamedLast self.now.last name → HaveSameUpdates nodes (account_of self.now) (account_of other.now) name) }
+    {
+        match &self.last {
+            Some(entry) => self.agree_on(other, nodes, entry.update.name()),
+            None => true,
+        }
+    }
+
+    /// Whether both agree on each group that has a row here.
+    fn agree_on_rows(&self, other: &Histories, nodes: usize) -> bool
+        ensures { IsTrue result ↔ ((name : Term) → IsSome (get term_cmp self.now.rows name) → HaveSameUpdates nodes (account_of self.now) (account_of other.now) name) }
+    {
+        for name in self.rows.keys() {
+            if !self.agree_on(other, nodes, name) {
+                return false;
+            }
+        }
+        true
+    }
+
+    /// Whether both have the same history of a group, and each of so many nodes has applied as many of its updates.
+    fn agree_on(&self, other: &Histories, nodes: usize, name: &Term) -> bool
+        ensures { IsTrue result ↔ HaveSameUpdates nodes (account_of self.now) (account_of other.now) name.now }
+    {
+        self.same_history(other, name) && self.same_counts(other, nodes, name)
+    }
+
+    /// Whether both have the same history of a group.
+    fn same_history(&self, other: &Histories, name: &Term) -> bool
+        ensures { IsTrue result ↔ (history_in self.now name.now ≡ history_in other.now name.now) }
+    {
+        let (entries, last) = self.history(name);
+        let (others, other_last) = other.history(name);
+        same_with_last(entries, last, others, other_last)
+    }
+
+    /// Whether each of so many nodes has applied as many updates of a group.
+    fn same_counts(&self, other: &Histories, nodes: usize, name: &Term) -> bool
+        ensures { IsTrue result ↔ ((i : ℕ) → i < nodes → applied_in self.now i name.now ≡ applied_in other.now i name.now) }
+    {
+        for node in 0..nodes {
+            if self.applied(node, name) != other.applied(node, name) {
+                return false;
+            }
+        }
+        true
     }
 
     /// Makes room for the last entry in its row.
@@ -160,6 +244,18 @@ impl Histories {
             Some(entry) if name == entry.update.name() => Some(entry),
             _ => None,
         }
+    }
+}
+
+/// The same entry, where there is one.
+///
+/// Error: `AllocError`.
+fn copy_last(alloc: Global, last: &Option<Entry>) -> Result<Option<Entry>, AllocError>
+    ensures { IfOk result (λ copy. copy ≡ last.now) }
+{
+    match last {
+        Some(entry) => Ok(Some(entry.copy(alloc)?)),
+        None => Ok(None),
     }
 }
 

@@ -15,6 +15,7 @@ mod frames;
 mod histories;
 mod laws;
 mod losses;
+mod message;
 mod outgoing;
 mod pending;
 mod rings;

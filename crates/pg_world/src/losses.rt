@@ -1,6 +1,6 @@
 //! The nodes of a world that are lost.
 
-ghost use Rattle.std.specs.Prelude.{◌≡◌, ◌∷◌, ◌++◌, [], OnOk, OnErr};
+ghost use Rattle.std.specs.Prelude.{◌≡◌, ◌∷◌, ◌++◌, [], ℕ, ◌↔◌, true, IsTrue, IfOk, OnOk, OnErr};
 
 use pg_node::Done;
 use std::alloc::{AllocError, Global};
@@ -12,6 +12,7 @@ pub(crate) struct Losses {
 }
 
 impl Losses {
+    ghost use Rattle.pg_world.specs.Alike.{AreSameLost};
     ghost use Rattle.pg_world.specs.Losses.{lost_in, is_lost};
 
     /// No node is lost. It takes no memory.
@@ -21,6 +22,36 @@ impl Losses {
         Losses {
             places: Vec::new(alloc),
         }
+    }
+
+    /// The same nodes are lost.
+    ///
+    /// Error: `AllocError`.
+    pub(crate) fn copy(&self) -> Result<Losses, AllocError>
+        ensures { IfOk result (λ copy. lost_in copy ≡ lost_in self.now) }
+    {
+        Ok(Losses {
+            places: self.places.clone()?,
+        })
+    }
+
+    /// Whether the same nodes are lost. It takes no memory: O(n^2) in the nodes that are lost.
+    pub(crate) fn same(&self, other: &Losses) -> bool
+        ensures { IsTrue result ↔ AreSameLost (lost_in self.now) (lost_in other.now) }
+    {
+        self.are_among(other) && other.are_among(self)
+    }
+
+    /// Whether each node that is lost here is lost there.
+    fn are_among(&self, other: &Losses) -> bool
+        ensures { IsTrue result ↔ ((node : ℕ) → is_lost (lost_in self.now) node ≡ true → is_lost (lost_in other.now) node ≡ true) }
+    {
+        for place in &self.places {
+            if !other.has(*place) {
+                return false;
+            }
+        }
+        true
     }
 
     /// Whether a node is lost. It takes no memory: O(n) in the nodes that are lost.

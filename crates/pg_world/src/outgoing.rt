@@ -22,6 +22,7 @@ pub(crate) struct Outgoing {
 }
 
 impl Outgoing {
+    ghost use Rattle.pg_world.specs.Alike.{without_stamps};
     ghost use Rattle.pg_world.specs.Views.{ways_of, first_of, packets_to, CanStay, HaveRoom, FitWays};
 
     /// Nothing is on the way to so many peers. One allocation.
@@ -53,6 +54,35 @@ impl Outgoing {
             ways.push(Way::opened(alloc, packet)?)?;
         }
         Ok(Outgoing { ways })
+    }
+
+    /// The same packets on the way to each peer. Its cost is that of the copies.
+    ///
+    /// Error: `AllocError`.
+    pub(crate) fn copy(&self) -> Result<Outgoing, AllocError>
+        ensures { IfOk result (λ copy. ways_of copy ≡ ways_of self.now) }
+    {
+        let mut ways = Vec::with_capacity(*self.ways.allocator(), self.ways.len())?;
+        for way in &self.ways {
+            ways.push(way.copy()?)?;
+        }
+        Ok(Outgoing { ways })
+    }
+
+    /// Whether both have the same packets on the way to each of as many peers, but for their stamps. It takes no memory.
+    pub(crate) fn is_alike(&self, other: &Outgoing) -> bool
+        ensures { IsTrue result ↔ (without_stamps (ways_of self.now) ≡ without_stamps (ways_of other.now)) }
+    {
+        if self.ways.len() != other.ways.len() {
+            return false;
+        }
+        for place in 0..self.ways.len() {
+            let way = &self.ways[place];
+            if !way.is_alike(&other.ways[place]) {
+                return false;
+            }
+        }
+        true
     }
 
     /// Makes room for one more packet to each peer.

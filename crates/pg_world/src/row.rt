@@ -1,8 +1,8 @@
 //! What began of one group, and what was applied of it.
 
-ghost use Rattle.std.specs.Prelude.{◌≡◌, ℕ, ◌+◌, ◌++◌, ◌∷◌, [], nat_eq, OnOk};
+ghost use Rattle.std.specs.Prelude.{◌≡◌, ℕ, ◌+◌, ◌++◌, ◌∷◌, [], nat_eq, IfOk, OnOk};
 
-use crate::entry::Entry;
+use crate::entry::{Entry, copy_entries};
 use crate::tally::Tally;
 use std::alloc::{AllocError, Global};
 
@@ -26,6 +26,18 @@ impl Row {
             entries: Vec::new(alloc),
             tally: Tally::new(alloc),
         }
+    }
+
+    /// The same entries and counts. Its cost grows with the entries.
+    ///
+    /// Error: `AllocError`.
+    pub(crate) fn copy(&self, alloc: Global) -> Result<Row, AllocError>
+        ensures entries { IfOk result (λ copy. entries_of copy ≡ entries_of self.now) }
+        ensures counts { IfOk result (λ copy. count_at copy.tally ≡ count_at self.now.tally) }
+    {
+        let entries = copy_entries(alloc, &self.entries)?;
+        let tally = self.tally.copy()?;
+        Ok(Row { entries, tally })
     }
 
     /// Makes room for one more entry of a node.

@@ -1,6 +1,6 @@
 //! What began and what was applied, by group.
 
-ghost use Rattle.std.specs.Prelude.{◌≡◌, ℕ, ◌+◌, ◌++◌, ◌∷◌, [], map, Some, IsSome, OnOk};
+ghost use Rattle.std.specs.Prelude.{◌≡◌, ℕ, ◌+◌, ◌++◌, ◌∷◌, [], map, Some, IsSome, IfOk, OnOk};
 ghost use Rattle.std.specs.BTreeMap.{get};
 ghost use Rattle.pg_term.specs.declared.term.Term.{Term};
 ghost use Rattle.pg_term.specs.Same.{term_cmp};
@@ -17,6 +17,20 @@ use std::collections::BTreeMap;
 
 /// The row of each group that was named.
 pub(crate) type Rows = BTreeMap<Term, Row>;
+
+/// The same entries and counts of each group. Its cost is that of the copies: O(n log n) in the groups that were named.
+///
+/// Error: `AllocError`.
+pub(crate) fn copy(rows: &Rows, alloc: Global) -> Result<Rows, AllocError>
+    ensures entries { IfOk result (λ copy. entries_in copy ≡ entries_in rows.now) }
+    ensures counts { IfOk result (λ copy. counts_in copy ≡ counts_in rows.now) }
+{
+    let mut copy = BTreeMap::new(alloc);
+    for (name, row) in rows {
+        copy.insert(name.copy(alloc)?, row.copy(alloc)?)?;
+    }
+    Ok(copy)
+}
 
 /// A group has a row, which is empty where it had none.
 ///

@@ -1,6 +1,6 @@
 //! How many updates of one group each node has applied.
 
-ghost use Rattle.std.specs.Prelude.{◌≡◌, ℕ, ◌+◌, nat_eq, OnOk};
+ghost use Rattle.std.specs.Prelude.{◌≡◌, ℕ, ◌+◌, nat_eq, IfOk, OnOk};
 
 use std::alloc::{AllocError, Global};
 
@@ -22,6 +22,17 @@ impl Tally {
         Tally {
             counts: Vec::new(alloc),
         }
+    }
+
+    /// The same counts.
+    ///
+    /// Error: `AllocError`.
+    pub(crate) fn copy(&self) -> Result<Tally, AllocError>
+        ensures { IfOk result (λ copy. count_at copy ≡ count_at self.now) }
+    {
+        Ok(Tally {
+            counts: self.counts.clone()?,
+        })
     }
 
     /// How many a node has applied. It takes no memory.

@@ -1,11 +1,12 @@
 //! The packets on the way from one node to another.
 
-ghost use Rattle.std.specs.Prelude.{◌≡◌, ◌++◌, ◌∷◌, ◌^◌, [], drop, take, length, map, option_map, IfOk, OnOk};
+ghost use Rattle.std.specs.Prelude.{◌≡◌, ◌↔◌, IsTrue, ◌++◌, ◌∷◌, ◌^◌, [], drop, take, length, map, option_map, IfOk, OnOk};
 ghost use Rattle.std.specs.Option.{option_copied};
 ghost use Rattle.pg_message.specs.declared.packet.Packet.{Packet};
 ghost use Rattle.pg_message.specs.Members.{IsShort};
 ghost use Rattle.pg_world.specs.Short.{AreShort, AreShort-prop};
 
+use crate::message::same_message;
 use pg_message::Packet;
 use std::alloc::{AllocError, Global};
 use std::collections::VecDeque;
@@ -19,6 +20,7 @@ pub(crate) struct Way {
 
 impl Way {
     ghost use Rattle.pg_world.specs.Views.{packets_of, first_of, HasRoom};
+    ghost use Rattle.pg_machine.specs.Clocked.{packets_of as unstamped};
     ghost use Rattle.pg_node.specs.States.{stamped_of};
 
     /// Nothing is on the way. It takes no memory.
@@ -41,6 +43,35 @@ impl Way {
         way.reserve()?;
         way.send(packet.copy(alloc)?);
         Ok(way)
+    }
+
+    /// The same packets in the same order. Its cost is that of the copies.
+    ///
+    /// Error: `AllocError`.
+    pub(crate) fn copy(&self) -> Result<Way, AllocError>
+        ensures { IfOk result (λ copy. packets_of copy ≡ packets_of self.now) }
+    {
+        let packets = copy_packets(*self.packets.allocator(), &self.packets)?;
+        Ok(Way {
+            packets: VecDeque::from_vec(packets),
+        })
+    }
+
+    /// Whether both have the same packets in the same order, but for their stamps. It takes no memory.
+    pub(crate) fn is_alike(&self, other: &Way) -> bool
+        ensures { IsTrue result ↔ (unstamped (packets_of self.now) ≡ unstamped (packets_of other.now)) }
+    {
+        if self.packets.len() != other.packets.len() {
+            return false;
+        }
+        for place in 0..self.packets.len() {
+            let packet = &self.packets[place];
+            let twin = &other.packets[place];
+            if !same_message(&packet.message, &twin.message) {
+                return false;
+            }
+        }
+        true
     }
 
     /// Makes room for one more packet.
@@ -97,4 +128,17 @@ impl Way {
     {
         drop(self.packets.pop_front());
     }
+}
+
+/// The same packets in the same order.
+///
+/// Error: `AllocError`.
+fn copy_packets(alloc: Global, packets: &VecDeque<Packet>) -> Result<Vec<Packet>, AllocError>
+    ensures { IfOk result (λ copies. copies.items ≡ packets.now.items) }
+{
+    let mut copies = Vec::with_capacity(alloc, packets.len())?;
+    for packet in packets {
+        copies.push(packet.copy(alloc)?)?;
+    }
+    Ok(copies)
 }

@@ -5,6 +5,8 @@ ghost use Rattle.std.specs.Option.{is_some};
 ghost use Rattle.pg_node.specs.States.{stamped_of};
 ghost use Rattle.pg_world.specs.Views.{IsWhole, traffic_in};
 
+mod alike;
+mod copies;
 mod losing;
 mod pending;
 
