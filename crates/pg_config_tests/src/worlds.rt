@@ -55,6 +55,9 @@ enum Row<'a> {
 
 const HAPPENED: Told = Ok(Stepped::Happened);
 
+// What each node tells as it starts has come to the others.
+const FORMED: Row<'static> = Row::Settle(6);
+
 const NO_PLACE: Told = Err(NodeFault::Refused(Refusal::NoSuchPlace));
 
 const NOT_WAITING: Told = Err(NodeFault::Refused(Refusal::NotWaiting));
@@ -293,15 +296,9 @@ fn three(alloc: Global) -> Option<Twins> {
     }
 }
 
-// Each row of the table holds in a new world of three nodes that have formed, between which nothing is on the way, one after another.
+// Each row of the table holds in a new world of three nodes, one after another.
 fn check(rt: &impl Abort, alloc: Global, rows: &[Row<'_>]) {
     let mut twins = three(alloc).expect(rt, "a world");
-    holds(
-        rt,
-        twins.holds(alloc, &Row::Settle(6)),
-        "packets at first:",
-        6,
-    );
     for (place, row) in rows.iter().enumerate() {
         holds(rt, twins.holds(alloc, row), "row", place);
     }
@@ -310,6 +307,7 @@ fn check(rt: &impl Abort, alloc: Global, rows: &[Row<'_>]) {
 
 // A create at one node: it asks c, then b, for the lock, tells both the update, and frees the lock there.
 static CREATE: &[Row<'static>] = &[
+    FORMED,
     Row::Given("create a 7"),
     Row::Group(0, false),
     Row::History(&[]),
@@ -324,6 +322,7 @@ static CREATE: &[Row<'static>] = &[
 
 // Its history has the update once the last grant has come, and each node applies it as it takes it.
 static APPLIED: &[Row<'static>] = &[
+    FORMED,
     Row::Given("create a 7"),
     Row::Free(2, true),
     Row::Take(2, 0, HAPPENED),
@@ -351,6 +350,7 @@ static APPLIED: &[Row<'static>] = &[
 
 // Steps of places that are not there, and a retry of what does not wait; what a lost node would do, and a second loss.
 static REFUSALS: &[Row<'static>] = &[
+    FORMED,
     Row::Take(3, 0, NO_PLACE),
     Row::Take(0, 3, NO_PLACE),
     Row::Take(1, 1, NO_PLACE),
@@ -369,6 +369,7 @@ static REFUSALS: &[Row<'static>] = &[
 
 // An end is pending until each node was told, or is lost that was not.
 static LOSS: &[Row<'static>] = &[
+    FORMED,
     Row::Given("make a"),
     Row::Given("end a <a.1.0>"),
     Row::Take(1, 0, HAPPENED),
@@ -379,6 +380,7 @@ static LOSS: &[Row<'static>] = &[
 
 // The list has the pid of the process, until both others were told.
 static LISTED: &[Row<'static>] = &[
+    FORMED,
     Row::Given("make a"),
     Row::Given("end a <a.1.0>"),
     Row::Pending(&[1]),
@@ -388,6 +390,7 @@ static LISTED: &[Row<'static>] = &[
 
 // A create that is under way as the world is copied, and a process that ends.
 static COPIES: &[Row<'static>] = &[
+    FORMED,
     Row::Given("create a 7"),
     Row::Take(2, 0, HAPPENED),
     Row::Copied,
@@ -408,12 +411,24 @@ static COPIES: &[Row<'static>] = &[
     Row::Applied(1, 1),
 ];
 
-// What is not alike, and what is: two packets that one node takes in either order, by which its clocks differ.
+// A node takes what the others have sent in another order than its copy, by which its clock differs, and then what it sends has another
+// stamp; and what is not alike.
 static ALIKE: &[Row<'static>] = &[
-    Row::Alone(&Row::Given("create a 7"), false),
-    Row::Beside(&Row::Given("create a 7"), true),
+    Row::Take(0, 1, HAPPENED),
+    Row::Take(0, 2, HAPPENED),
+    Row::Given("make a"),
+    Row::Given("end a <a.1.0>"),
     Row::Alone(&Row::Take(2, 0, HAPPENED), false),
-    Row::Copied,
+    Row::Alone(&Row::Take(2, 0, HAPPENED), false),
+    Row::Alone(&Row::Take(2, 1, HAPPENED), false),
+    Row::Beside(&Row::Take(2, 1, HAPPENED), false),
+    Row::Beside(&Row::Take(2, 0, HAPPENED), false),
+    Row::Beside(&Row::Take(2, 0, HAPPENED), true),
+    Row::Settle(3),
+    Row::Given("create a 7"),
+    Row::Take(2, 0, HAPPENED),
+    Row::Settle(9),
+    Row::History(&[(0, 3)]),
     Row::Alone(&Row::Lose(1, Ok(Stepped::Gone)), false),
     Row::Beside(&Row::Lose(1, Ok(Stepped::Gone)), true),
 ];

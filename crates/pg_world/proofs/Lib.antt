@@ -2,6 +2,8 @@ pub mod Answering
 mod Applying
 mod Barred
 pub mod Crossed
+mod Compared
+mod Copied
 mod Cutting
 mod Deciding
 mod Dropped
@@ -10,9 +12,12 @@ mod Harmless
 mod Leading
 mod Linked
 mod Listed
+mod LongGroups
 mod LosingRunning
 mod Lossy
 pub mod OneList
+mod Messages
+mod NamedGroups
 mod Opened
 pub mod Ordered
 pub mod OrderedOnce

@@ -69,7 +69,7 @@ announced_one table own packet other a b =
 both_lengths : (packet other : Packet) → packet ≡ other → IsOverlong packet → FitsFrame other → ⊥
 both_lengths packet other same long fits = absurd (let l : FitsFrame packet = subst FitsFrame (sym same) fits in omega (arith, long, l))
 
-fits_once : (node : Seen) → Fits node → IsTooLong node → ⊥
+pub fits_once : (node : Seen) → Fits node → IsTooLong node → ⊥
 fits_once node fits long = both_lengths long.0 fits.0 (announced_one node.state.state.table (name_of node.names 0) long.0 fits.0 long.1 fits.1) long.2 fits.2
 
 few_each : (config : Config) (i : ℕ) → i < length config → have_few config ≡ true → are_few (groups_at config i) ≡ true

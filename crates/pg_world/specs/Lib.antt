@@ -18,6 +18,7 @@ pub mod Past
 pub mod Pending
 pub mod Rooms
 pub mod Runs
+pub mod Sameness
 pub mod Short
 pub mod Starts
 pub mod Views

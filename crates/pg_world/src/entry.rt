@@ -1,6 +1,8 @@
 ghost use Rattle.std.specs.Prelude.{◌≡◌, ◌↔◌, ◌++◌, ◌∷◌, [], IsTrue, IfOk, map};
 ghost use Rattle.std.specs.Option.{option_copied};
+ghost use Rattle.pg_step.specs.Attempts.{same_op};
 ghost use Rattle.pg_world.specs.Histories.{as_entry, last_entries};
+ghost use Rattle.pg_world.specs.Sameness.{same_entry};
 
 use crate::message::same_update;
 use pg_group::Update;
@@ -35,10 +37,19 @@ impl Entry {
 
     /// Whether both are one. It takes no memory.
     pub(crate) fn same(&self, other: &Entry) -> bool
-        ensures { IsTrue result ↔ (as_entry self.now ≡ as_entry other.now) }
+        ensures { result ≡ same_entry self.now other.now }
     {
-        self.node == other.node && self.op == other.op && same_update(&self.update, &other.update)
+        self.node == other.node
+            && same_op(self.op, other.op)
+            && same_update(&self.update, &other.update)
     }
+}
+
+/// Whether both are one command.
+fn same_op(op: OpId, other: OpId) -> bool
+    ensures { result ≡ same_op op other }
+{
+    op.port == other.port && op.number == other.number
 }
 
 /// The same entries in the same order.
@@ -90,8 +101,8 @@ pub(crate) fn same_with_last(
 fn ends_with(entries: &[Entry], others: &[Entry], last: &Entry) -> bool
     ensures { IsTrue result ↔ (map as_entry entries.now ≡ map as_entry others.now ++ as_entry last.now ∷ []) }
 {
-    match entries {
-        [rest @ .., end] => end.same(last) && same_entries(rest, others),
-        [] => false,
+    match entries.split_last() {
+        Some((end, rest)) => end.same(last) && same_entries(rest, others),
+        None => false,
     }
 }

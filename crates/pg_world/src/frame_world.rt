@@ -81,8 +81,8 @@ impl<T: GroupTable + Drop> FrameWorld<T> {
     ghost use Rattle.pg_world.specs.Views.{on_the_way, seen_of};
     ghost use Rattle.pg_world.specs.Worlds.{TimedFrameWorld, Shows, StepComesTo};
 
-    /// The same world: a step makes the same of both. The caller lends the configuration from which it began. Its cost is that of the
-    /// copies of all that the world keeps.
+    /// The same world: it is seen as the same, and the same nodes are lost. The caller lends the configuration from which it began. Its
+    /// cost is that of the copies of all that the world keeps.
     ///
     /// Error: `AllocError`.
     pub fn copy(&self, config: &Config) -> Result<FrameWorld<T>, AllocError>
@@ -96,13 +96,13 @@ impl<T: GroupTable + Drop> FrameWorld<T> {
         Ok(FrameWorld { frames, given })
     }
 
-    /// Whether both worlds are the same but for clocks and stamps: as many nodes, each the same as the one at its place but for the
-    /// clocks; the same packets on each way but for their stamps; the same nodes lost; the same history of each group, and as many of
-    /// its updates applied at each node.
+    /// Whether both worlds are alike: the same but for clocks and stamps. They have as many nodes, each the same as the one at its place
+    /// but for its clock, and the same packets on each way but for their stamps. The same nodes are lost, each group has the same
+    /// history, and each node has applied as many of its updates.
     ///
-    /// Error: `AllocError`. Its cost is that of `NodeState::is_alike` for each node, which alone takes memory; a walk over the packets
-    /// on the way; and for each group a walk over its history and O(log n) in the groups that were named for each node. Where the
-    /// worlds differ it ends at the first difference.
+    /// Error: `AllocError`. Its cost is that of `NodeState::is_alike` for each node, which alone takes memory, and a walk over the packets
+    /// on the way and over the histories, with O(log n) in the groups that were named for each group and each node. It ends at the
+    /// first difference.
     pub fn is_alike(&self, other: &FrameWorld<T>) -> Result<bool, AllocError>
         ensures { IfOk result (λ alike. IsTrue alike ↔ AreAlikeWorlds (view_of self.now) (lost_of self.now) (view_of other.now) (lost_of other.now)) }
     {

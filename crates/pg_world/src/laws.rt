@@ -1,4 +1,4 @@
-ghost use Rattle.std.specs.Prelude.{◌≡◌, ◌↔◌, Bool, ℕ, None, List, []};
+ghost use Rattle.std.specs.Prelude.{◌≡◌, ◌↔◌, Bool, true, ℕ, None, List, []};
 ghost use Rattle.std.specs.List.{Contains};
 ghost use Rattle.pg_term.specs.declared.pid.Pid.{Pid};
 ghost use Rattle.pg_term.specs.declared.term.Term.{Term};
@@ -18,9 +18,9 @@ ghost use Rattle.pg_world.specs.Configs.{refusal_of};
 ghost use Rattle.pg_world.specs.declared.fault.WorldFault.{WorldFault};
 ghost use Rattle.pg_world.specs.declared.fault.WorldFault.TheVariants.{OutOfMemory};
 ghost use Rattle.pg_world.specs.Losing.{losing_of};
-ghost use Rattle.pg_world.specs.Openings.{CanBegin, CantBegin};
+ghost use Rattle.pg_world.specs.Openings.{AllFit, CanBegin, CantBegin, Fits, SomeIsTooLong, are_few, have_few};
 ghost use Rattle.pg_world.specs.Pending.{IsPending, pending_of};
-ghost use Rattle.pg_world.specs.Starts.{Orders};
+ghost use Rattle.pg_world.specs.Starts.{Orders, seen_first};
 ghost use Rattle.pg_world.specs.Views.{Seen};
 ghost use Rattle.pg_world.specs.Worlds.{ShowsNodes, TimedFrameWorld};
 
@@ -52,6 +52,15 @@ pub fn refusals_are_exact()
 {
     configs_are_decided();
 }
+
+/// What is told as too long does not fit: the groups of some node take more than a frame, and so does one group of more than 2^32 members.
+/// So `FrameWorld::new` and `World::new` tell `TooLong` exactly where a configuration has no fault and what a node tells does not fit,
+/// unless memory runs out.
+pub fn long_groups_do_not_fit()
+    ensures each { (config : Config) (i : ℕ) → Fits (seen_first config i) → are_few (groups_at config i) ≡ true }
+    ensures all { (config : Config) → AllFit config → have_few config ≡ true }
+    ensures too_long { (config : Config) → SomeIsTooLong config → AllFit config → ⊥ }
+{}
 
 /// The ends that are pending are listed, and no others: in each world that is shown to which events lead, whoever is lost and whenever.
 /// The list is empty exactly where no end is pending among the nodes that are left; where no node is lost, exactly where none is.

@@ -35,6 +35,7 @@ pub use fault::WorldFault;
 pub use frame_world::FrameWorld;
 pub use frames::run_frames;
 pub use laws::{
-    configs_are_decided, orders_keep_tables, pending_ends_are_listed, refusals_are_exact,
+    configs_are_decided, long_groups_do_not_fit, orders_keep_tables, pending_ends_are_listed,
+    refusals_are_exact,
 };
 pub use step::{FrameStep, Step, Stepped};

@@ -1,6 +1,7 @@
 //! The nodes of a world that are lost.
 
-ghost use Rattle.std.specs.Prelude.{◌≡◌, ◌∷◌, ◌++◌, [], ℕ, ◌↔◌, true, IsTrue, IfOk, OnOk, OnErr};
+ghost use Rattle.std.specs.Prelude.{◌≡◌, ◌∷◌, ◌++◌, ◌↔◌, [], IsTrue, IfOk, OnOk, OnErr};
+ghost use Rattle.std.specs.List.{list_all};
 
 use pg_node::Done;
 use std::alloc::{AllocError, Global};
@@ -44,7 +45,7 @@ impl Losses {
 
     /// Whether each node that is lost here is lost there.
     fn are_among(&self, other: &Losses) -> bool
-        ensures { IsTrue result ↔ ((node : ℕ) → is_lost (lost_in self.now) node ≡ true → is_lost (lost_in other.now) node ≡ true) }
+        ensures { result ≡ list_all (is_lost (lost_in other.now)) (lost_in self.now) }
     {
         for place in &self.places {
             if !other.has(*place) {

@@ -137,8 +137,8 @@ fn copy_packets(alloc: Global, packets: &VecDeque<Packet>) -> Result<Vec<Packet>
     ensures { IfOk result (λ copies. copies.items ≡ packets.now.items) }
 {
     let mut copies = Vec::with_capacity(alloc, packets.len())?;
-    for packet in packets {
-        copies.push(packet.copy(alloc)?)?;
+    for place in 0..packets.len() {
+        copies.push(packets[place].copy(alloc)?)?;
     }
     Ok(copies)
 }
