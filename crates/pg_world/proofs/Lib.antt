@@ -9,6 +9,7 @@ mod Deciding
 mod Dropped
 mod Fitted
 mod Harmless
+mod LastEntries
 mod Leading
 mod Linked
 mod Listed
