@@ -1,9 +1,8 @@
 -- Histories that are compared: the entries of a row, and one more behind them where there is one.
-use Rattle.std.proofs.Common.{◌≡◌, Option, Some, None, List, [], ◌∷◌, ◌++◌, map, true, false, Bool, refl, sym, ap, subst, ◌∙◌, append-nil}
+use Rattle.std.proofs.Common.{◌≡◌, Option, Some, None, List, [], ◌∷◌, ◌++◌, map, sym, ap, subst, ◌∙◌, append-nil}
 use Rattle.std.specs.Prelude.{◌↔◌}
 use Rattle.std.proofs.lemmas.List.{map-append, same_from_push}
 use Rattle.pg_history.specs.History.{Entry as Recorded}
-use Rattle.pg_opens.proofs.Named.{clash}
 use Rattle.pg_world.specs.declared.entry.Entry.{Entry}
 use Rattle.pg_world.specs.Histories.{as_entry, last_entries}
 

@@ -19,6 +19,7 @@ mod Lossy
 pub mod OneList
 mod Messages
 mod NamedGroups
+mod NodesAlike
 mod Opened
 pub mod Ordered
 pub mod OrderedOnce

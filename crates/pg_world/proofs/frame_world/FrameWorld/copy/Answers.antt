@@ -12,5 +12,5 @@ invariant_of-result g c =
     let world = c.args.self.now in
     record {
       past = ∥∥₁_map world.past (past_too (given_of world) c.of-given.result.value.starts.items (view_of world) (nodes.view_of c.in_ok-frames.frames) (lost_of world) (losing.lost_of c.in_ok-frames.frames)
-          (ap (λ (config : Given). config.starts.items) c.of-given.ensures ∙ sym c.requires) c.in_ok-frames.ensures.view c.in_ok-frames.ensures.lost);
+          (ap (λ (config : Given). config.starts.items) c.of-given.ensures ∙ sym c.requires.given) c.in_ok-frames.ensures.view c.in_ok-frames.ensures.lost);
     }

@@ -13,8 +13,8 @@ said way = unstamped (packets_of way)
 abbrev all_said : List Way → List (List Message)
 all_said ways = map unstamped (map packets_of ways)
 
-pub returns-then-len-len : goal.returns-then-len-len
-returns-then-len-len c =
+pub returns-then-len : goal.returns-then-len
+returns-then-len c =
     let ways = c.args.self.now.ways in
     let others = c.args.other.now.ways in
     let ok = ways.ok in
@@ -22,7 +22,7 @@ returns-then-len-len c =
       λ e. absurd (clash (sym e)),
       λ h.
           let same : length ways.items ≡ length others.items = same_length said all_said (twice_length packets_of unstamped) (twice_at packets_of unstamped) ways.items others.items h in
-          absurd (omega (arith, same, ok, other_ok, c.if-len-len.true)),
+          absurd (omega (arith, same, ok, other_ok, c.len.ensures, c.len-2.ensures, c.if-len.true)),
     )
 
 pub loop-place-preserved : goal.loop-place-preserved
@@ -32,8 +32,8 @@ loop-place-preserved c =
     let place = c.loop-place.place in
     let ok = ways.ok in
     let other_ok = others.ok in
-    let within : place < length ways.items = omega (arith, c.loop-place-test.true, ok) in
-    let beside : place < length others.items = omega (arith, within, ok, other_ok, c.if-len-len.false) in
+    let within : place < length ways.items = omega (arith, c.loop-place-test.true, c.loop-place.auto.place-end, c.len-place-end.ensures, ok) in
+    let beside : place < length others.items = omega (arith, within, ok, other_ok, c.len.ensures, c.len-2.ensures, c.if-len.false) in
     same_more said all_said (twice_length packets_of unstamped) (twice_at packets_of unstamped) ways.items others.items place c.index-way.result.now c.index-twin.result.now within beside
     c.index-way.ensures c.index-twin.ensures (c.is_alike.ensures.0 c.if-not-is_alike.false) c.loop-place.invariant
 
@@ -44,8 +44,8 @@ returns-then-not-is_alike c =
     let place = c.loop-place.place in
     let ok = ways.ok in
     let other_ok = others.ok in
-    let within : place < length ways.items = omega (arith, c.loop-place-test.true, ok) in
-    let beside : place < length others.items = omega (arith, within, ok, other_ok, c.if-len-len.false) in (
+    let within : place < length ways.items = omega (arith, c.loop-place-test.true, c.loop-place.auto.place-end, c.len-place-end.ensures, ok) in
+    let beside : place < length others.items = omega (arith, within, ok, other_ok, c.len.ensures, c.len-2.ensures, c.if-len.false) in (
       λ e. absurd (clash (sym e)),
       λ h. sym c.if-not-is_alike.true ∙ c.is_alike.ensures.1
           (same_at said all_said (twice_length packets_of unstamped) (twice_at packets_of unstamped) ways.items others.items place c.index-way.result.now c.index-twin.result.now within beside
@@ -58,6 +58,6 @@ returns c =
     let others = c.args.other.now.ways in
     let ok = ways.ok in
     let other_ok = others.ok in
-    let count : length ways.items ≡ length others.items = omega (arith, ok, other_ok, c.if-len-len.false) in
-    let past : length ways.items ≤ c.loop-place.place = omega (arith, ok, c.loop-place-test.false) in
+    let count : length ways.items ≡ length others.items = omega (arith, ok, other_ok, c.len.ensures, c.len-2.ensures, c.if-len.false) in
+    let past : length ways.items ≤ c.loop-place.place = omega (arith, ok, c.len-place-end.ensures, c.loop-place.auto.place-end, c.loop-place-test.false) in
     (λ e. same_all said all_said (twice_length packets_of unstamped) (twice_at packets_of unstamped) ways.items others.items c.loop-place.place count past c.loop-place.invariant, λ h. refl)
