@@ -40,6 +40,12 @@ pub struct Watch {
 }
 
 impl Watch {
+    ghost use Rattle.std.specs.Prelude.{◌≡◌, IfOk};
+    ghost use Rattle.pg_world.specs.Bars.{bytes_lost_after};
+    ghost use Rattle.pg_world.specs.ByteWorlds.{account_of, crossing_of, given_of, lost_of, room_of};
+    ghost use Rattle.pg_world.specs.Changes.{StepChanges};
+    ghost use Rattle.pg_world.specs.Past.{BytesGoOn};
+
     /// Watches a world that begins: the packets that stand in the outboxes of its nodes are sent.
     ///
     /// Error: `AllocError`.
@@ -119,7 +125,13 @@ impl Watch {
         world: &mut World<T>,
         step: &Step,
         is_quiet: bool,
-    ) -> Result<Result<Stepped, NodeFault>, AllocError> {
+    ) -> Result<Result<Stepped, NodeFault>, AllocError>
+        ensures goes_on { IfOk result (λ made. ∥ BytesGoOn (given_of world.old) (crossing_of world.old) (account_of world.old) (lost_of world.old) step.now made (crossing_of world.new) (account_of world.new) (lost_of world.new) ∥₁) }
+        ensures changes { IfOk result (λ made. StepChanges (room_of world.old) (crossing_of world.old) (crossing_of world.new) step.now made) }
+        ensures lost { IfOk result (λ made. lost_of world.new ≡ bytes_lost_after step.now made (lost_of world.old)) }
+        ensures given { given_of world.new ≡ given_of world.old }
+        ensures room { room_of world.new ≡ room_of world.old }
+    {
         self.measure(world, step)?;
         match world.step(step) {
             Ok(stepped) => match self.see(world, step, stepped, is_quiet) {
