@@ -40,7 +40,8 @@ pub struct Watch {
 }
 
 impl Watch {
-    ghost use Rattle.std.specs.Prelude.{◌≡◌, IfOk};
+    ghost use Rattle.std.specs.Prelude.{◌≡◌, ◌++◌, ◌∷◌, [], IfOk, OnOk};
+    ghost use Rattle.pg_trace.specs.Watched.{SawAnswer};
     ghost use Rattle.pg_world.specs.Bars.{bytes_lost_after};
     ghost use Rattle.pg_world.specs.ByteWorlds.{account_of, crossing_of, given_of, lost_of, room_of};
     ghost use Rattle.pg_world.specs.Changes.{StepChanges};
@@ -99,14 +100,21 @@ impl Watch {
     }
 
     /// What is seen from now on belongs to this line.
-    pub fn begin(&mut self, line: usize) {
+    pub fn begin(&mut self, line: usize)
+        ensures line { self.new.line ≡ line }
+        ensures sights { self.new.sights ≡ self.old.sights }
+        ensures letters { self.new.letters ≡ self.old.letters }
+    {
         self.line = line;
     }
 
     /// A node has answered a command.
     ///
     /// Error: `AllocError`.
-    pub fn answered(&mut self, node: usize, answer: &Answer) -> Result<(), AllocError> {
+    pub fn answered(&mut self, node: usize, answer: &Answer) -> Result<(), AllocError>
+        ensures seen { OnOk result (∥ SawAnswer node answer.now self.old self.new ∥₁) }
+        ensures letters { self.new.letters ≡ self.old.letters }
+    {
         let mut text = String::new(self.alloc);
         print_reply(&mut text, &answer.reply)?;
         self.add(Seen::Answered {
@@ -158,7 +166,11 @@ impl Watch {
         Ok(())
     }
 
-    fn add(&mut self, seen: Seen) -> Result<(), AllocError> {
+    fn add(&mut self, seen: Seen) -> Result<(), AllocError>
+        ensures added { OnOk result (self.new.sights.items ≡ self.old.sights.items ++ record { line = self.old.line; seen = seen } ∷ []) }
+        ensures letters { self.new.letters ≡ self.old.letters }
+        ensures line { self.new.line ≡ self.old.line }
+    {
         Ok(
             self.sights.push(Sight {
                 line: self.line,
