@@ -6,6 +6,9 @@ use Rattle.std.proofs.lemmas.List.{append-nil, get_or_default, get_or-map, get_o
 use Rattle.std.proofs.lemmas.Option.{get_or_from_slice_get}
 use Rattle.std.proofs.Math.ListN.{get_or-eq_default}
 use Rattle.pg_node.proofs.Streams.{appends_kept}
+use Rattle.pg_node.specs.declared.state.fault.NodeFault.{NodeFault}
+use Rattle.pg_node.specs.declared.state.fault.NodeFault.TheVariants.{Refused}
+use Rattle.pg_step.specs.declared.refusal.Refusal.TheVariants.{NoSuchPlace, NodeLost}
 use Rattle.pg_step.specs.Config.{Config}
 use Rattle.pg_term.specs.declared.term.Term.{Term}
 use Rattle.pg_requests.specs.declared.input.Input.{Input}
@@ -148,3 +151,17 @@ not_lost_before (one ∷ lost) (suc node) place again = not_lost_before lost nod
 pub lost_before : (lost : List Bool) (node : ℕ) → (length lost ≤ node) ⊎ (slice_get lost node ≡ Some true) → get_or lost node true ≡ true
 lost_before lost node (inl beyond) = get_or-eq_default lost true beyond
 lost_before lost node (inr there) = get_or_from_slice_get lost node true true there
+
+pub was_lost : (lost : List Bool) (node : ℕ) (fault : NodeFault) → (fault ≡ Refused NoSuchPlace) ⊎ (fault ≡ Refused NodeLost) → (fault ≡ Refused NoSuchPlace → length lost ≤ node)
+    → (fault ≡ Refused NodeLost → slice_get lost node ≡ Some true) → get_or lost node true ≡ true
+was_lost lost node fault (inl e) place again = lost_before lost node (inl (place e))
+was_lost lost node fault (inr e) place again = lost_before lost node (inr (again e))
+
+-- ---- a turn
+
+module _ (a b c : Serving) (came came2 : List Input) (x y z : Option (List ℕ)) (took : Advances a b came came2 x y) (goes : Goes b c y z) where
+  pub turn_moved : Advances a c came came2 x z
+  turn_moved given first s = advances_by b c came2 came2 y z goes refl given first (took given first s)
+
+  pub turn_flushed : (d : Serving) (t : Option (List ℕ)) → view_of d ≡ view_of c → d.kept ≡ c.kept → Keeps z t → Advances a d came came2 x t
+  turn_flushed d t view kept keeps given first s = advances_flushed c d came2 came2 z t view kept keeps refl given first (turn_moved given first s)

@@ -1,10 +1,11 @@
 -- A service at its start and at its end.
 use Rattle.std.proofs.Common.{◌≡◌, ◌<◌, ◌+◌, ℕ, zero, suc, Bool, true, false, not, List, [], ◌∷◌, ◌++◌, length, get_or, map, Some, None, Option, refl, sym, ap, subst, ◌∙◌, arith}
 use Rattle.std.specs.Prelude.{◌&&◌}
-use Rattle.std.specs.List.{All}
+use Rattle.std.specs.List.{All, list_all}
 use Rattle.std.proofs.Props.{props}
 use Rattle.std.proofs.lemmas.List.{append-nil, get_or-map, length-map}
 use Rattle.std.proofs.lemmas.List.Elements.{All-nil, All-tail}
+use Rattle.std.proofs.lemmas.List.Folds.{list_all_at}
 use mathlib.Core.Logic.{∥∥₁_elim}
 use Rattle.pg_node.proofs.Streams.{appends_none}
 use Rattle.pg_run.specs.Ports.{IsSilent, polled, submitted}
@@ -93,13 +94,20 @@ idle_parts false [] e = (refl, refl)
 idle_parts false (command ∷ waiting) e = absurd (true_is_not_false (sym e))
 idle_parts true waiting e = absurd (true_is_not_false (sym e))
 
+idle_at : (desks : List Desk) (i : ℕ) (d : Desk) → i < length desks → list_all is_idle desks ≡ true → is_idle (get_or desks i d) ≡ true
+idle_at desks i d low all = go (is_idle (get_or desks i d)) refl
+  where
+    go : (yes : Bool) → is_idle (get_or desks i d) ≡ yes → is_idle (get_or desks i d) ≡ true
+    go true e = e
+    go false e = absurd (true_is_not_false (sym all ∙ list_all_at is_idle desks i d low e))
+
 served_whole : (port : PortName) (lost : Bool) (requests waiting : List Command) (asked : Bool) (replied : ℕ) (said : List Asked) (heard : List Answer) (replies : List Term) → asked ≡ false → waiting ≡ []
     → IsKept port lost requests waiting asked replied said heard replies → IsServed port lost requests 0 said heard replies
 served_whole port lost requests waiting asked replied said heard replies idle empty k =
     subst (λ (all : List Command). IsServed port lost all 0 said heard replies) (sym (k.line ∙ ap (λ (cs : List Command). k.up ++ cs) empty ∙ append-nil k.up))
     (subst (λ n. IsServed port lost k.up n said heard replies) (ap with_node idle) k.served)
 
-pub all_served : (given : Config) (before after : Option (List ℕ)) (inputs : List Input) (view : View) → All (λ (desk : Desk). is_idle desk ≡ true) view.desks → Serves given before inputs view after
+pub all_served : (given : Config) (before after : Option (List ℕ)) (inputs : List Input) (view : View) → list_all is_idle view.desks ≡ true → Serves given before inputs view after
     → AllServed given inputs (clients_in view.running) before after
 all_served given before after inputs view idle s = record {
   frames = s.frames;
@@ -118,14 +126,14 @@ all_served given before after inputs view idle s = record {
         let within : client < length view.desks = omega (arith, low, count) in
         let some = some_desk view.desks client within in
         let desk = get_or view.desks client some in
-        let parts = idle_parts desk.is_asked (waiting_at desk) (idle client some within) in
+        let parts = idle_parts desk.is_asked (waiting_at desk) (idle_at view.desks client some within idle) in
         let named : port_at desk ≡ port = sym (get_or-map port_at view.desks client some none within) ∙ ap (λ (all : List PortName). get_or all client none) s.knows.ports ∙ sym is in
         subst (λ (one : PortName). IsServed one (is_lost_at one.node (told_by given inputs).lost) (requests_to client inputs) 0 (said_at client (clients_in view.running)) (heard_at client (clients_in view.running)) (replies_to client s.frames)) named
         (served_whole (port_at desk) (is_lost_at desk.node (told_by given inputs).lost) (requests_to client inputs) (waiting_at desk) desk.is_asked desk.replied
           (said_at client (clients_in view.running)) (heard_at client (clients_in view.running)) (replies_to client s.frames) parts.0 parts.1 (s.kept client some within))
 
 -- the cluster was closed, and judged so
-pub served_to_the_end : (given : Config) (before after : Option (List ℕ)) (inputs : List Input) (view : View) (served : Served) → view.over ≡ Some served.fault → All (λ (desk : Desk). is_idle desk ≡ true) view.desks
+pub served_to_the_end : (given : Config) (before after : Option (List ℕ)) (inputs : List Input) (view : View) (served : Served) → view.over ≡ Some served.fault → list_all is_idle view.desks ≡ true
     → IsJudged (config_in view.running).starts.items (losses_in view.running) (threads_in view.running) (clients_in view.running) served.verdict → Serves given before inputs view after
     → WasServed given before after served
 served_to_the_end given before after inputs view served over idle judged s = record {

@@ -1,7 +1,7 @@
 -- A service that runs, and what it made of its input so far.
 use Rattle.std.specs.Prelude.{◌≡◌, ◌<◌, ℕ, Bool, true, false, List, [], ◌∷◌, ◌+◌, ◌++◌, Option, Some, None, get_or, length, map, set}
 use Rattle.std.specs.Io.KnownBytes.{Appends}
-use Rattle.std.specs.List.{All}
+use Rattle.std.specs.List.{All, list_all}
 use Rattle.pg_cluster.specs.declared.running.Running.{Running}
 use Rattle.pg_cluster.specs.Running.{clients_in, config_in, losses_in}
 use Rattle.pg_run.specs.declared.port.Asked.{Asked}
@@ -142,7 +142,7 @@ pub record IsOver (serving : Serving) : Type 0 where
   pub fault : Option ℕ
   pub over : serving.end ≡ Some fault
   pub kept : serving.kept ≡ None
-  pub idle : All (λ desk. is_idle desk ≡ true) (desks_of serving)
+  pub idle : list_all is_idle (desks_of serving) ≡ true
 
 -- ---- its steps
 
@@ -195,5 +195,4 @@ pub record LosesNode (node : ℕ) (a b : Serving) (before after : Option (List �
   pub served : ServedNode
   pub was : served ≡ get_or (nodes_of a) node served
   pub view : view_of b ≡ record (view_of a) { nodes = set (nodes_of a) node (record served { is_lost = true }); bodies = saturated (a.bodies + 1) }
-  pub kept : b.kept ≡ a.kept
   pub wrote : Appends before after (framed (lost_term served.name))

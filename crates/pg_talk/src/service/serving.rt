@@ -1,7 +1,8 @@
 //! A service that runs: what comes in goes to its port, and replies go out.
 
 ghost use Rattle.std.specs.Prelude.{◌≡◌, ◌++◌, OnOk};
-ghost use Rattle.std.specs.List.{All as AllOf};
+ghost use Rattle.std.specs.List.{All as AllOf, list_all};
+ghost use Rattle.pg_talk.specs.Desks.{is_idle as is_idle_desk};
 ghost use Rattle.pg_talk.specs.Servings.{IsNew as IsNewDesk, ports_of as ports_of_desks};
 ghost use Rattle.pg_talk.specs.Written.{ports_from};
 
@@ -80,6 +81,13 @@ fn open_ports(
         desks.push(Desk::new(alloc, name, node, port + 1))?;
     }
     Ok(())
+}
+
+/// Whether each request that came to desks was replied to.
+fn are_idle(desks: &[Desk]) -> bool
+    ensures { result ≡ list_all is_idle_desk desks.now }
+{
+    desks.iter().all(|desk| desk.is_idle())
 }
 
 /// A service that runs.
@@ -199,7 +207,7 @@ impl Serving {
     fn is_done(&self) -> bool
         ensures { IsTrue result → IsOver self.now }
     {
-        self.end.is_some() && self.kept.is_none() && self.desks.iter().all(|desk| desk.is_idle())
+        self.end.is_some() && self.kept.is_none() && are_idle(self.desks.as_slice())
     }
 
     /// Takes in what came; whether something did.
@@ -316,7 +324,8 @@ impl Serving {
 
     /// Tells that a node was lost.
     fn tell_lost<W: Sink>(&mut self, node: usize, writer: &mut W) -> Result<(), ServiceFault>
-        ensures { OnOk result (node < length (nodes_of self.old) → LosesNode node self.old self.new (W.contents writer.old) (W.contents writer.new)) }
+        ensures kept { self.new.kept ≡ self.old.kept }
+        ensures loses { OnOk result (node < length (nodes_of self.old) → LosesNode node self.old self.new (W.contents writer.old) (W.contents writer.new)) }
     {
         if node >= self.nodes.len() {
             return Ok(());

@@ -1,4 +1,4 @@
-use Rattle.std.proofs.Common.{arith, refl, set, subst, sym}
+use Rattle.std.proofs.Common.{arith, [], ◌∷◌, ◌++◌, refl, set, subst, sym}
 use Rattle.pg_requests.specs.declared.input.Input.TheVariants.{Ask}
 use Rattle.pg_talk.specs.Servings.{Serves, Takes, TellsBad, view_of}
 use Rattle.pg_talk.proofs.Spoken.{request_served, request_to_nobody}
@@ -13,7 +13,7 @@ returns-then-client-len g c =
     let after = g.W.Sink.contents c.tell_bad.new.writer in
     on_ok c.tell_bad.result (TellsBad self new before after) (Takes (Ask c.args.client c.args.command) self new before after)
     (λ bad. takes_to (Ask c.args.client c.args.command) self new before after bad.kept
-      (λ given first inputs s. subst (λ view. Serves given first _ view after) (sym bad.view)
+      (λ given first inputs s. subst (λ view. Serves given first (inputs ++ Ask c.args.client c.args.command ∷ []) view after) (sym bad.view)
         (request_to_nobody given first before inputs (view_of self) s after c.args.client c.args.command (omega (arith, c.if-client-len.true, c.len.ensures)) bad.wrote)))
     c.tell_bad.ensures
 
