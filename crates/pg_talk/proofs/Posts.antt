@@ -1,5 +1,5 @@
 -- What is done at one port.
-use Rattle.std.proofs.Common.{◌≡◌, ◌≢◌, ◌⊎◌, ◌<◌, ◌≤◌, ◌+◌, ℕ, zero, suc, Bool, true, false, List, [], ◌∷◌, ◌++◌, length, get_or, map, Option, inl, inr, refl, sym, ap, subst, ◌∙◌, arith, append_assoc, length-append}
+use Rattle.std.proofs.Common.{◌≡◌, ◌<◌, ◌+◌, ℕ, zero, suc, Bool, true, false, List, [], ◌∷◌, ◌++◌, length, get_or, map, Option, inl, inr, refl, sym, ap, subst, ◌∙◌, arith, append_assoc, length-append}
 use Rattle.std.proofs.Math.ListN.{get_or-append}
 use Rattle.std.proofs.lemmas.Bool.Decides.{eqb_tells}
 use Rattle.std.proofs.lemmas.List.{append-nil, get_or_push, length-map, length-replicate, map-append, nil_from_length, replicate_more}
@@ -15,7 +15,7 @@ use Rattle.std.specs.Str.{chars}
 use Rattle.pg_talk.specs.Conversations.{saturated}
 use Rattle.pg_talk.specs.Frames.{framed, IsUntellable, WritesReply}
 use Rattle.pg_talk.specs.Servings.{IsKept, with_node}
-use Rattle.pg_talk.specs.Written.{AreReplies, InTurn, IsReply, IsServed, PortName, commands_of, outcomes}
+use Rattle.pg_talk.specs.Written.{AreReplies, InTurn, IsReply, PortName, commands_of, outcomes}
 
 pub true_is_not_false : true ≡ false → ⊥
 true_is_not_false e = absurd (cc)

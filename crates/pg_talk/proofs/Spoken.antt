@@ -1,17 +1,17 @@
 -- What a service makes of its input, one step after another.
-use Rattle.std.proofs.Common.{eqb, ltb, ◌≡◌, ◌≢◌, ◌⊎◌, ◌<◌, ◌≤◌, ◌+◌, ℕ, zero, suc, Bool, true, false, cond, List, [], ◌∷◌, ◌++◌, length, get_or, map, Some, None, Option, set, inl, inr, refl, sym, ap, subst, ◌∙◌, arith, append_assoc, length-append}
-use Rattle.std.specs.Prelude.{OnOk, Result, Ok, Err, if◌then◌else◌}
-use Rattle.std.specs.Io.KnownBytes.{Appends, Keeps}
+use Rattle.std.proofs.Common.{◌≡◌, ◌≢◌, ◌⊎◌, ◌<◌, ◌≤◌, ◌+◌, ℕ, zero, suc, Bool, true, false, cond, List, [], ◌∷◌, ◌++◌, length, get_or, map, Some, None, Option, set, inl, inr, refl, sym, ap, subst, ◌∙◌, arith}
+use Rattle.std.specs.Prelude.{if◌then◌else◌}
+use Rattle.std.specs.Io.KnownBytes.{Appends}
 use Rattle.std.specs.List.{All}
 use Rattle.std.proofs.Math.ListN.{get_or-eq_default}
 use Rattle.std.proofs.Math.Seq.{map-set_same}
-use Rattle.std.proofs.lemmas.Bool.{cases_eq, lt-ltb}
-use Rattle.std.proofs.lemmas.Bool.Decides.{eqb_tells, ltb_tells}
+use Rattle.std.proofs.lemmas.Bool.{cases_eq, le-ltb, lt-ltb}
+use Rattle.std.proofs.lemmas.Bool.Decides.{eqb_tells, leb_tells}
 use Rattle.std.proofs.lemmas.List.{append-nil, get_or-map, get_or-set_same, get_or-set_other, length-map, length-set, map-set, set-set}
 use Rattle.std.proofs.lemmas.List.Concat.{flat_map-append}
 use Rattle.std.proofs.lemmas.List.Elements.{All-append, All-cons, All-nil}
-use Rattle.pg_node.proofs.Streams.{appends_then, appends_kept, appends_none}
-use Rattle.pg_run.specs.Ports.{IsSilent, polled, polled_count, submitted}
+use Rattle.pg_node.proofs.Streams.{appends_then}
+use Rattle.pg_run.specs.Ports.{polled, polled_count, submitted}
 use Rattle.pg_run.specs.declared.port.Asked.{Asked}
 use Rattle.pg_run.specs.declared.port.Client.{Client}
 use Rattle.pg_step.specs.Config.{Config}
@@ -29,9 +29,9 @@ use Rattle.pg_talk.specs.declared.service.serving.ServedNode.{ServedNode}
 use Rattle.pg_talk.specs.Conversations.{saturated}
 use Rattle.pg_talk.specs.Desks.{SameDesk, waiting_at}
 use Rattle.pg_talk.specs.Frames.{framed, WritesReply}
-use Rattle.pg_talk.specs.Servings.{AreKept, IsKept, IsKeptAt, IsNew, Knows, Serves, ServesTold, View, asked_at, is_known_lost, known_lost, names_of, node_at, port_at, ports_of, replied_at, with_node}
+use Rattle.pg_talk.specs.Servings.{AreKept, IsKept, IsKeptAt, Knows, Serves, ServesTold, View, asked_at, is_known_lost, known_lost, node_at, port_at, replied_at}
 use Rattle.pg_talk.specs.Written.{IsAddressed, IsReply, PortName, Told, Written, bytes_of, heard_at, is_lost_at, none_told, notices_in, ports_in, replies_to, request_to, requests_to, said_at, tell_bad, tell_lost, tell_next, tell_on, told_by}
-use Rattle.pg_talk.proofs.Posts.{bad_same, kept_answers, kept_hands, kept_later, kept_loses, kept_new, kept_refuses, kept_waits, reply_written, true_is_not_false}
+use Rattle.pg_talk.proofs.Posts.{bad_same, kept_answers, kept_hands, kept_later, kept_loses, kept_refuses, kept_waits, reply_written, true_is_not_false}
 
 -- ---- clients
 
@@ -107,15 +107,15 @@ kept_same : (lost : List Bool) (requests waiting : List Command) (a b : Desk) (s
     → IsKept (port_at a) (is_lost_at a.node lost) requests waiting a.is_asked a.replied said heard replies → IsKept (port_at b) (is_lost_at b.node lost) requests waiting b.is_asked b.replied said heard replies
 kept_same lost requests waiting a b said heard replies same k =
     subst (λ (port : PortName). IsKept port (is_lost_at port.node lost) requests waiting b.is_asked b.replied said heard replies) (sym (same_port a b same))
-    (subst (λ (yes : Bool). IsKept (port_at a) (is_lost_at a.node lost) requests waiting yes b.replied said heard replies) (sym same.asked)
-      (subst (λ (n : ℕ). IsKept (port_at a) (is_lost_at a.node lost) requests waiting a.is_asked n said heard replies) (sym same.replied) k))
+    (subst (λ (here : Bool). IsKept (port_at a) (is_lost_at a.node lost) requests waiting here b.replied said heard replies) (sym same.asked)
+    (subst (λ (n : ℕ). IsKept (port_at a) (is_lost_at a.node lost) requests waiting a.is_asked n said heard replies) (sym same.replied) k))
 
 kept_by : (lost : List Bool) (desk : Desk) (r r2 : List Command) (s s2 : List Asked) (h h2 : List Answer) (p p2 : List Term) → r2 ≡ r → s2 ≡ s → h2 ≡ h → p2 ≡ p
     → IsKeptAt lost r desk s h p → IsKeptAt lost r2 desk s2 h2 p2
 kept_by lost desk r r2 s s2 h h2 p p2 er es eh ep k =
     subst (λ (x : List Command). IsKeptAt lost x desk s2 h2 p2) (sym er)
     (subst (λ (x : List Asked). IsKeptAt lost r desk x h2 p2) (sym es)
-      (subst (λ (x : List Answer). IsKeptAt lost r desk s x p2) (sym eh) (subst (λ (x : List Term). IsKeptAt lost r desk s h x) (sym ep) k)))
+    (subst (λ (x : List Answer). IsKeptAt lost r desk s x p2) (sym eh) (subst (λ (x : List Term). IsKeptAt lost r desk s h x) (sym ep) k)))
 
 -- one desk is changed
 kept_step : (lost : List Bool) (inputs inputs2 : List Input) (d : List Desk) (clients clients2 : List Client) (frames frames2 : List Written) (k : ℕ) (x2 : Desk) → k < length d
@@ -132,7 +132,7 @@ kept_step lost inputs inputs2 d clients clients2 frames frames2 k x2 low request
         kept_by lost (get_or (set d k x2) i none) (requests_to i inputs) (requests_to i inputs2) (said_at i clients) (said_at i clients2) (heard_at i clients) (heard_at i clients2)
         (replies_to i frames) (replies_to i frames2) (requests i n) (said i n) (heard i n) (replies i n)
         (subst (λ (x : Desk). IsKeptAt lost (requests_to i inputs) x (said_at i clients) (heard_at i clients) (replies_to i frames)) (sym (get_or-set_other d k i x2 none n))
-          (all i none (let e = length-set d k x2 in omega (arith, within, e))))
+        (all i none (let e = length-set d k x2 in omega (arith, within, e))))
 
 -- none is
 kept_all : (lost lost2 : List Bool) (inputs inputs2 : List Input) (d : List Desk) (clients clients2 : List Client) (frames frames2 : List Written)
@@ -143,8 +143,8 @@ kept_all lost lost2 inputs inputs2 d clients clients2 frames frames2 later reque
     let desk = get_or d i none in
     kept_by lost2 desk (requests_to i inputs) (requests_to i inputs2) (said_at i clients) (said_at i clients2) (heard_at i clients) (heard_at i clients2)
     (replies_to i frames) (replies_to i frames2) (requests i low) (said i) (heard i) (replies i)
-    (kept_later (port_at desk) (is_lost_at desk.node lost) (is_lost_at desk.node lost2) (requests_to i inputs) (waiting_at desk) desk.is_asked desk.replied (said_at i clients) (heard_at i clients)
-      (replies_to i frames) (later desk.node) (all i none low))
+    (kept_later (port_at desk) (is_lost_at desk.node lost) (requests_to i inputs) (waiting_at desk) desk.is_asked desk.replied (said_at i clients) (heard_at i clients)
+    (replies_to i frames) (all i none low) (is_lost_at desk.node lost2) (later desk.node))
 
 -- ---- frames
 
@@ -177,7 +177,7 @@ to_its_own frames client term = replies-append client frames (reply_frame client
   where
     one : replies_to client (reply_frame client term ∷ []) ≡ term ∷ []
     one = elim (eqb_tells client client) [
-      | inl t ↦ ap (λ yes. cond yes (term ∷ []) [] ++ []) t.0
+      | inl t ↦ ap (λ here. cond here (term ∷ []) [] ++ []) t.0
       | inr f ↦ absurd (f.1 refl)
     ]
 
@@ -188,7 +188,7 @@ to_no_other frames client i term n =
     one : replies_to i (reply_frame client term ∷ []) ≡ []
     one = elim (eqb_tells client i) [
       | inl t ↦ absurd (n (sym t.1))
-      | inr f ↦ ap (λ yes. cond yes (term ∷ []) [] ++ []) f.0
+      | inr f ↦ ap (λ here. cond here (term ∷ []) [] ++ []) f.0
     ]
 
 to_nobody : (frames : List Written) (i : ℕ) (term : Term) → replies_to i (frames ++ notice_frame term ∷ []) ≡ replies_to i frames
@@ -199,7 +199,7 @@ addressed_more : (count count2 : ℕ) (frames : List Written) (frame : Written) 
 addressed_more count count2 frames frame same is all =
     subst (λ n. All (λ (frame : Written). IsAddressed n frame.client) (frames ++ frame ∷ [])) (sym same)
     (All-append (λ (frame : Written). IsAddressed count frame.client) frames (frame ∷ []) all
-      (All-cons (λ (frame : Written). IsAddressed count frame.client) frame [] is (All-nil (λ (frame : Written). IsAddressed count frame.client))))
+    (All-cons (λ (frame : Written). IsAddressed count frame.client) frame [] is (All-nil (λ (frame : Written). IsAddressed count frame.client))))
 
 -- ---- the inputs
 
@@ -222,14 +222,14 @@ asked_of inputs client command = requests-append client inputs (forms.Ask client
   where
     one : requests_to client (forms.Ask client command ∷ []) ≡ command ∷ []
     one = elim (eqb_tells client client) [
-      | inl t ↦ ap (λ yes. cond yes (command ∷ []) [] ++ []) t.0
+      | inl t ↦ ap (λ here. cond here (command ∷ []) [] ++ []) t.0
       | inr f ↦ absurd (f.1 refl)
     ]
 
 not_asked_of : (client i : ℕ) (command : Command) → i ≢ client → request_to i (forms.Ask client command) ≡ []
 not_asked_of client i command n = elim (eqb_tells client i) [
   | inl t ↦ absurd (n (sym t.1))
-  | inr f ↦ ap (λ yes. cond yes (command ∷ []) []) f.0
+  | inr f ↦ ap (λ here. cond here (command ∷ []) []) f.0
 ]
 
 -- ---- one desk
@@ -292,13 +292,13 @@ abbrev reply_at : Option (List ℕ) → Option (List ℕ) → Desk → Term → 
 reply_at before after desk outcome = WritesReply before after desk.name desk.port (saturated (desk.replied + 1)) outcome
 
 -- whether its node is held for lost is whether it was lost
-lost_told : (given : Config) (told : Told) (a : View) (k : ℕ) (x : Desk) (yes : Bool) → k < length a.desks → x ≡ get_or a.desks k x → is_known_lost (node_at k a.desks) a.nodes ≡ yes
-    → Knows given told a → is_lost_at x.node told.lost ≡ yes
-lost_told given told a k x yes low value lost knows =
+lost_told : (given : Config) (told : Told) (a : View) (k : ℕ) (x : Desk) (so : Bool) → k < length a.desks → x ≡ get_or a.desks k x → is_known_lost (node_at k a.desks) a.nodes ≡ so
+    → Knows given told a → is_lost_at x.node told.lost ≡ so
+lost_told given told a k x so low value lost knows =
     ap (λ (all : List Bool). get_or all x.node false) (sym knows.known) ∙ ap (λ (node : ℕ). get_or (known_lost a.nodes) node false) (sym (found (λ (desk : Desk). desk.node) a.desks k x 0 low value)) ∙ lost
 
-asked_told : (a : View) (k : ℕ) (x : Desk) (yes : Bool) → k < length a.desks → x ≡ get_or a.desks k x → asked_at k a.desks ≡ yes → x.is_asked ≡ yes
-asked_told a k x yes low value is = sym (found (λ (desk : Desk). desk.is_asked) a.desks k x false low value) ∙ is
+asked_told : (a : View) (k : ℕ) (x : Desk) (so : Bool) → k < length a.desks → x ≡ get_or a.desks k x → asked_at k a.desks ≡ so → x.is_asked ≡ so
+asked_told a k x so low value is = sym (found (λ (desk : Desk). desk.is_asked) a.desks k x false low value) ∙ is
 
 replied_same : (a b : Desk) → SameDesk a b → SameDesk (replied_at a) (replied_at b)
 replied_same a b same = record { name = same.name; node = same.node; port = same.port; asked = refl; replied = ap (λ n. saturated (n + 1)) same.replied }
@@ -320,9 +320,9 @@ module _ (given : Config) (first before : Option (List ℕ)) (inputs : List Inpu
         let reply = reply_written (port_at x) (reply_term answer.reply) before after x.replied (length (replies_to k s.frames)) was_here.count wrote in
         replied_so given first before inputs told_here a k x low value s running (replied_at x) (beside_only k a.running running only) refl after reply.0 reply.2
         (subst (λ (all : List Asked). IsKeptAt told_here.lost (requests_to k inputs) (replied_at x) all (heard_at k (clients_in running)) (replies_to k s.frames ++ reply.0 ∷ [])) (sym said)
-          (subst (λ (all : List Answer). IsKeptAt told_here.lost (requests_to k inputs) (replied_at x) (said_at k (clients_in a.running)) all (replies_to k s.frames ++ reply.0 ∷ [])) (sym heard)
-            (kept_answers (port_at x) (is_lost_at x.node told_here.lost) (requests_to k inputs) (waiting_at x) x.is_asked x.replied (said_at k (clients_in a.running)) (heard_at k (clients_in a.running))
-              (replies_to k s.frames) was_here answer reply.0 (asked_told a k x true low value busy) reply.1)))
+        (subst (λ (all : List Answer). IsKeptAt told_here.lost (requests_to k inputs) (replied_at x) (said_at k (clients_in a.running)) all (replies_to k s.frames ++ reply.0 ∷ [])) (sym heard)
+        (kept_answers (port_at x) (is_lost_at x.node told_here.lost) (requests_to k inputs) (waiting_at x) x.is_asked x.replied (said_at k (clients_in a.running)) (heard_at k (clients_in a.running))
+        (replies_to k s.frames) was_here answer reply.0 (asked_told a k x true low value busy) reply.1)))
       where
         said : said_at k (clients_in running) ≡ said_at k (clients_in a.running)
         said = same_at submitted (clients_in a.running) (clients_in running) k low_client only.count same
@@ -370,14 +370,14 @@ module _ (given : Config) (first before : Option (List ℕ)) (inputs : List Inpu
     handed_served x1 y x2 command front same again is idle there more rest =
         subst (λ (desks : List Desk). Serves given first inputs (record a { running = running; desks = desks }) before) (sym (set-set a.desks k x1 x2))
         (unreplied_so given first before inputs told_here a k x low value s running x2 (beside_only k a.running running only) port
-          (subst (λ (all : List Asked). IsKeptAt told_here.lost (requests_to k inputs) x2 all (heard_at k (clients_in running)) (replies_to k s.frames)) (sym said.1)
-            (subst (λ (all : List Answer). IsKeptAt told_here.lost (requests_to k inputs) x2 (said_at k (clients_in a.running) ++ one ∷ []) all (replies_to k s.frames)) (sym heard)
-              (subst (λ (desk : Desk). IsKeptAt told_here.lost (requests_to k inputs) desk (said_at k (clients_in a.running) ++ one ∷ []) (heard_at k (clients_in a.running)) (replies_to k s.frames)) (sym now)
-                (kept_same told_here.lost (requests_to k inputs) (waiting_at x1) (record x { is_asked = true }) (record x1 { is_asked = true }) (said_at k (clients_in a.running) ++ one ∷ [])
-                  (heard_at k (clients_in a.running)) (replies_to k s.frames) (record { name = same.name; node = same.node; port = same.port; asked = refl; replied = same.replied })
-                  (kept_hands (port_at x) (is_lost_at x.node told_here.lost) (requests_to k inputs) (waiting_at x) x.is_asked x.replied (said_at k (clients_in a.running))
-                    (heard_at k (clients_in a.running)) (replies_to k s.frames) was_here one (waiting_at x1) front (lost_told given told_here a k x false low value there s.knows)
-                    (asked_told a k x false low value idle) turn))))))
+        (subst (λ (all : List Asked). IsKeptAt told_here.lost (requests_to k inputs) x2 all (heard_at k (clients_in running)) (replies_to k s.frames)) (sym said.1)
+        (subst (λ (all : List Answer). IsKeptAt told_here.lost (requests_to k inputs) x2 (said_at k (clients_in a.running) ++ one ∷ []) all (replies_to k s.frames)) (sym heard)
+        (subst (λ (desk : Desk). IsKeptAt told_here.lost (requests_to k inputs) desk (said_at k (clients_in a.running) ++ one ∷ []) (heard_at k (clients_in a.running)) (replies_to k s.frames)) (sym now)
+        (kept_same told_here.lost (requests_to k inputs) (waiting_at x1) (record x { is_asked = true }) (record x1 { is_asked = true }) (said_at k (clients_in a.running) ++ one ∷ [])
+        (heard_at k (clients_in a.running)) (replies_to k s.frames) (record { name = same.name; node = same.node; port = same.port; asked = refl; replied = same.replied })
+        (kept_hands (port_at x) (is_lost_at x.node told_here.lost) (requests_to k inputs) (waiting_at x) x.is_asked x.replied (said_at k (clients_in a.running))
+        (heard_at k (clients_in a.running)) (replies_to k s.frames) was_here one (waiting_at x1) front (lost_told given told_here a k x false low value there s.knows)
+        (asked_told a k x false low value idle) turn))))))
       where
         now : x2 ≡ record x1 { is_asked = true }
         now = is ∙ ap (λ (desk : Desk). record desk { is_asked = true }) (again ∙ get_or-set_same a.desks k x1 y low)
@@ -404,11 +404,11 @@ module _ (given : Config) (first before : Option (List ℕ)) (inputs : List Inpu
     back_served x1 y x2 command front same again back same2 kept rest =
         subst (λ (desks : List Desk). Serves given first inputs (record a { running = running; desks = desks }) before) (sym (set-set a.desks k x1 x2))
         (unreplied_so given first before inputs told_here a k x low value s running x2 (beside_only k a.running running only) (same_port x x2 all)
-          (subst (λ (all : List Asked). IsKeptAt told_here.lost (requests_to k inputs) x2 all (heard_at k (clients_in running)) (replies_to k s.frames)) (sym said)
-            (subst (λ (all : List Answer). IsKeptAt told_here.lost (requests_to k inputs) x2 (said_at k (clients_in a.running)) all (replies_to k s.frames)) (sym heard)
-              (subst (λ (waiting : List Command). IsKept (port_at x2) (is_lost_at x2.node told_here.lost) (requests_to k inputs) waiting x2.is_asked x2.replied (said_at k (clients_in a.running))
-                  (heard_at k (clients_in a.running)) (replies_to k s.frames)) (sym waits)
-                (kept_same told_here.lost (requests_to k inputs) (waiting_at x) x x2 (said_at k (clients_in a.running)) (heard_at k (clients_in a.running)) (replies_to k s.frames) all was_here)))))
+        (subst (λ (all : List Asked). IsKeptAt told_here.lost (requests_to k inputs) x2 all (heard_at k (clients_in running)) (replies_to k s.frames)) (sym said)
+        (subst (λ (all : List Answer). IsKeptAt told_here.lost (requests_to k inputs) x2 (said_at k (clients_in a.running)) all (replies_to k s.frames)) (sym heard)
+        (subst (λ (waiting : List Command). IsKept (port_at x2) (is_lost_at x2.node told_here.lost) (requests_to k inputs) waiting x2.is_asked x2.replied (said_at k (clients_in a.running))
+        (heard_at k (clients_in a.running)) (replies_to k s.frames)) (sym waits)
+        (kept_same told_here.lost (requests_to k inputs) (waiting_at x) x x2 (said_at k (clients_in a.running)) (heard_at k (clients_in a.running)) (replies_to k s.frames) all was_here)))))
       where
         is : y ≡ x1
         is = again ∙ get_or-set_same a.desks k x1 y low
@@ -438,7 +438,7 @@ module _ (given : Config) (first before : Option (List ℕ)) (inputs : List Inpu
       let reply = reply_written (port_at x) (node_lost_term x.name) before after x.replied (length (replies_to k s.frames)) was_here.count wrote in
       replied_so given first before inputs told_here a k x low value s a.running (replied_at x) (beside_itself k a.running) refl after reply.0 reply.2
       (kept_loses (port_at x) (is_lost_at x.node told_here.lost) (requests_to k inputs) (waiting_at x) x.is_asked x.replied (said_at k (clients_in a.running)) (heard_at k (clients_in a.running))
-        (replies_to k s.frames) was_here reply.0 (lost_told given told_here a k x true low value gone s.knows) (asked_told a k x true low value busy) reply.1)
+      (replies_to k s.frames) was_here reply.0 (lost_told given told_here a k x true low value gone s.knows) (asked_told a k x true low value busy) reply.1)
 
   -- or to the next that waits
   pub refusal_served : (after : Option (List ℕ)) (x1 y : Desk) (command : Command) → waiting_at x ≡ command ∷ waiting_at x1 → SameDesk x x1 → y ≡ get_or (set a.desks k x1) k y
@@ -447,11 +447,11 @@ module _ (given : Config) (first before : Option (List ℕ)) (inputs : List Inpu
   refusal_served after x1 y command front same again idle gone wrote =
       subst (λ (desks : List Desk). Serves given first inputs (record a { desks = desks }) after) (sym (set-set a.desks k x1 (replied_at y)))
       (subst (λ (desk : Desk). Serves given first inputs (record a { desks = set a.desks k (replied_at desk) }) after) (sym is)
-        (replied_so given first before inputs told_here a k x low value s a.running (replied_at x1) (beside_itself k a.running) (same_port x x1 same) after reply.0 reply.2
-          (kept_same told_here.lost (requests_to k inputs) (waiting_at x1) (replied_at x) (replied_at x1) (said_at k (clients_in a.running)) (heard_at k (clients_in a.running))
-            (replies_to k s.frames ++ reply.0 ∷ []) (replied_same x x1 same)
-            (kept_refuses (port_at x) (is_lost_at x.node told_here.lost) (requests_to k inputs) (waiting_at x) x.is_asked x.replied (said_at k (clients_in a.running)) (heard_at k (clients_in a.running))
-              (replies_to k s.frames) was_here command (waiting_at x1) reply.0 front (lost_told given told_here a k x true low value gone s.knows) (asked_told a k x false low value idle) reply.1))))
+      (replied_so given first before inputs told_here a k x low value s a.running (replied_at x1) (beside_itself k a.running) (same_port x x1 same) after reply.0 reply.2
+      (kept_same told_here.lost (requests_to k inputs) (waiting_at x1) (replied_at x) (replied_at x1) (said_at k (clients_in a.running)) (heard_at k (clients_in a.running))
+      (replies_to k s.frames ++ reply.0 ∷ []) (replied_same x x1 same)
+      (kept_refuses (port_at x) (is_lost_at x.node told_here.lost) (requests_to k inputs) (waiting_at x) x.is_asked x.replied (said_at k (clients_in a.running)) (heard_at k (clients_in a.running))
+      (replies_to k s.frames) was_here command (waiting_at x1) reply.0 front (lost_told given told_here a k x true low value gone s.knows) (asked_told a k x false low value idle) reply.1))))
     where
       is : y ≡ x1
       is = again ∙ get_or-set_same a.desks k x1 y low
@@ -460,7 +460,7 @@ module _ (given : Config) (first before : Option (List ℕ)) (inputs : List Inpu
       here =
           subst (λ n. WritesReply before after x.name x.port (saturated (n + 1)) (node_lost_term x.name)) (ap (λ (desk : Desk). desk.replied) is ∙ same.replied)
           (subst (λ port. WritesReply before after x.name port (saturated (y.replied + 1)) (node_lost_term x.name)) (ap (λ (desk : Desk). desk.port) is ∙ same.port)
-            (subst (λ (name : List ℕ). WritesReply before after name y.port (saturated (y.replied + 1)) (node_lost_term name)) (ap (λ (desk : Desk). desk.name) is ∙ same.name) wrote))
+          (subst (λ (name : List ℕ). WritesReply before after name y.port (saturated (y.replied + 1)) (node_lost_term name)) (ap (λ (desk : Desk). desk.name) is ∙ same.name) wrote))
 
       reply : (term : Term) × IsReply (port_at x) (length (replies_to k s.frames) + 1) (node_lost_term x.name) term × Appends before after (framed term)
       reply = reply_written (port_at x) (node_lost_term x.name) before after x.replied (length (replies_to k s.frames)) was_here.count here
@@ -470,42 +470,42 @@ module _ (given : Config) (first before : Option (List ℕ)) (inputs : List Inpu
   looked_served x2 waits same =
       unreplied_so given first before inputs told_here a k x low value s a.running x2 (beside_itself k a.running) (same_port x x2 same)
       (subst (λ (waiting : List Command). IsKept (port_at x2) (is_lost_at x2.node told_here.lost) (requests_to k inputs) waiting x2.is_asked x2.replied (said_at k (clients_in a.running))
-          (heard_at k (clients_in a.running)) (replies_to k s.frames)) (sym waits)
-        (kept_same told_here.lost (requests_to k inputs) (waiting_at x) x x2 (said_at k (clients_in a.running)) (heard_at k (clients_in a.running)) (replies_to k s.frames) same was_here))
+      (heard_at k (clients_in a.running)) (replies_to k s.frames)) (sym waits)
+      (kept_same told_here.lost (requests_to k inputs) (waiting_at x) x x2 (said_at k (clients_in a.running)) (heard_at k (clients_in a.running)) (replies_to k s.frames) same was_here))
 
   -- a request waits for its turn
-  pub request_served : (x2 : Desk) (command : Command) → waiting_at x2 ≡ waiting_at x ++ command ∷ [] → SameDesk x x2
-      → Serves given first (inputs ++ forms.Ask k command ∷ []) (record a { desks = set a.desks k x2; bodies = saturated (a.bodies + 1) }) before
-  request_served x2 command waits same =
-      takes_by given first before inputs (forms.Ask k command) (record a { desks = set a.desks k x2; bodies = saturated (a.bodies + 1) }) (record told_here { bodies = told_here.bodies + 1 }) (sym counted)
+  pub request_served : (x2 : Desk) (command : Command) (bodies : ℕ) → bodies ≡ saturated (a.bodies + 1) → waiting_at x2 ≡ waiting_at x ++ command ∷ [] → SameDesk x x2
+      → Serves given first (inputs ++ forms.Ask k command ∷ []) (record a { desks = set a.desks k x2; bodies = bodies }) before
+  request_served x2 command bodies more waits same =
+      takes_by given first before inputs (forms.Ask k command) (record a { desks = set a.desks k x2; bodies = bodies }) (record told_here { bodies = told_here.bodies + 1 }) (sym counted)
       (record {
-          knows = record {
-            config = s.knows.config;
-            ports = kept_at port_at a.desks k x x2 value (same_port x x2 same) ∙ s.knows.ports;
-            names = s.knows.names;
-            bodies = let e = s.knows.bodies in omega (arith, e);
-            lost = s.knows.lost;
-            known = s.knows.known;
-            over = s.knows.over;
-          };
-          frames = s.frames;
-          wrote = s.wrote;
-          addressed = subst (λ n. All (λ (frame : Written). IsAddressed n frame.client) s.frames) (sym (length-set a.desks k x2)) s.addressed;
-          notices = s.notices;
-          kept = kept_step told_here.lost inputs (inputs ++ forms.Ask k command ∷ []) a.desks (clients_in a.running) (clients_in a.running) s.frames s.frames k x2 low
-              (λ i n. unasked inputs (forms.Ask k command) i (not_asked_of k i command n)) (λ i n. refl) (λ i n. refl) (λ i n. refl)
-              (subst (λ (requests : List Command). IsKeptAt told_here.lost requests x2 (said_at k (clients_in a.running)) (heard_at k (clients_in a.running)) (replies_to k s.frames)) (sym (asked_of inputs k command))
-                (kept_same told_here.lost (requests_to k inputs ++ command ∷ []) (waiting_at x2) x x2 (said_at k (clients_in a.running)) (heard_at k (clients_in a.running)) (replies_to k s.frames) same
-                  (kept_waits (port_at x) (is_lost_at x.node told_here.lost) (requests_to k inputs) (waiting_at x) x.is_asked x.replied (said_at k (clients_in a.running))
-                    (heard_at k (clients_in a.running)) (replies_to k s.frames) was_here command (waiting_at x2) waits)))
-              s.kept;
-        })
+        knows = record {
+          config = s.knows.config;
+          ports = kept_at port_at a.desks k x x2 value (same_port x x2 same) ∙ s.knows.ports;
+          names = s.knows.names;
+          bodies = let e = s.knows.bodies in omega (arith, e, more);
+          lost = s.knows.lost;
+          known = s.knows.known;
+          over = s.knows.over;
+        };
+        frames = s.frames;
+        wrote = s.wrote;
+        addressed = subst (λ n. All (λ (frame : Written). IsAddressed n frame.client) s.frames) (sym (length-set a.desks k x2)) s.addressed;
+        notices = s.notices;
+        kept = kept_step told_here.lost inputs (inputs ++ forms.Ask k command ∷ []) a.desks (clients_in a.running) (clients_in a.running) s.frames s.frames k x2 low
+            (λ i n. unasked inputs (forms.Ask k command) i (not_asked_of k i command n)) (λ i n. refl) (λ i n. refl) (λ i n. refl)
+            (subst (λ (requests : List Command). IsKeptAt told_here.lost requests x2 (said_at k (clients_in a.running)) (heard_at k (clients_in a.running)) (replies_to k s.frames)) (sym (asked_of inputs k command))
+            (kept_same told_here.lost (requests_to k inputs ++ command ∷ []) (waiting_at x2) x x2 (said_at k (clients_in a.running)) (heard_at k (clients_in a.running)) (replies_to k s.frames) same
+            (kept_waits (port_at x) (is_lost_at x.node told_here.lost) (requests_to k inputs) (waiting_at x) x.is_asked x.replied (said_at k (clients_in a.running))
+            (heard_at k (clients_in a.running)) (replies_to k s.frames) was_here command (waiting_at x2) waits)))
+            s.kept;
+      })
     where
       within : k < length (ports_in 0 given)
       within = let e = ap length s.knows.ports in let n = length-map a.desks port_at in omega (arith, e, n, low)
 
       counted : tell_next given told_here (forms.Ask k command) ≡ record told_here { bodies = told_here.bodies + 1 }
-      counted = ap (λ (yes : Bool). if yes then record told_here { bodies = told_here.bodies + 1 } else tell_bad told_here) (lt-ltb k (length (ports_in 0 given)) within)
+      counted = ap (λ (here : Bool). if here then record told_here { bodies = told_here.bodies + 1 } else tell_bad told_here) (lt-ltb k (length (ports_in 0 given)) within)
 
 -- ---- other inputs
 
@@ -519,22 +519,22 @@ module _ (given : Config) (first before : Option (List ℕ)) (inputs : List Inpu
   bad_served after input is nothing wrote =
       takes_by given first after inputs input (record a { bodies = saturated (a.bodies + 1) }) (tell_bad told_now) is
       (record {
-          knows = record {
-            config = s.knows.config;
-            ports = s.knows.ports;
-            names = s.knows.names;
-            bodies = let e = s.knows.bodies in omega (arith, e);
-            lost = s.knows.lost;
-            known = s.knows.known;
-            over = s.knows.over;
-          };
-          frames = s.frames ++ frame ∷ [];
-          wrote = wrote_more first before after s.frames frame s.wrote wrote;
-          addressed = addressed_more (length a.desks) (length a.desks) s.frames frame refl tt s.addressed;
-          notices = notices-append s.frames (frame ∷ []) ∙ ap (λ (terms : List Term). terms ++ frame.term ∷ []) s.notices ∙ ap (λ (term : Term). told_now.notices ++ term ∷ []) same;
-          kept = kept_all told_now.lost told_now.lost inputs (inputs ++ input ∷ []) a.desks (clients_in a.running) (clients_in a.running) s.frames (s.frames ++ frame ∷ []) (λ node gone. gone)
-              (λ i low. unasked inputs input i (nothing i low)) (λ i. refl) (λ i. refl) (λ i. to_nobody s.frames i frame.term) s.kept;
-        })
+        knows = record {
+          config = s.knows.config;
+          ports = s.knows.ports;
+          names = s.knows.names;
+          bodies = let e = s.knows.bodies in omega (arith, e);
+          lost = s.knows.lost;
+          known = s.knows.known;
+          over = s.knows.over;
+        };
+        frames = s.frames ++ frame ∷ [];
+        wrote = wrote_more first before after s.frames frame s.wrote wrote;
+        addressed = addressed_more (length a.desks) (length a.desks) s.frames frame refl tt s.addressed;
+        notices = notices-append s.frames (frame ∷ []) ∙ ap (λ (terms : List Term). terms ++ frame.term ∷ []) s.notices ∙ ap (λ (term : Term). told_now.notices ++ term ∷ []) same;
+        kept = kept_all told_now.lost told_now.lost inputs (inputs ++ input ∷ []) a.desks (clients_in a.running) (clients_in a.running) s.frames (s.frames ++ frame ∷ []) (λ node gone. gone)
+            (λ i low. unasked inputs input i (nothing i low)) (λ i. refl) (λ i. refl) (λ i. to_nobody s.frames i frame.term) s.kept;
+      })
     where
       frame : Written
       frame = notice_frame (bad_request_term (saturated (a.bodies + 1)))
@@ -549,10 +549,11 @@ module _ (given : Config) (first before : Option (List ℕ)) (inputs : List Inpu
       bad_served after (forms.Ask client command) (sym is) (λ i low. not_asked_of client i command (λ e. absurd (omega (arith, e, low, beyond)))) wrote
     where
       is : tell_next given told_now (forms.Ask client command) ≡ tell_bad told_now
-      is = elim (ltb_tells client (length (ports_in 0 given))) [
-        | inl t ↦ let e = ap length s.knows.ports in let n = length-map a.desks port_at in let low = t.1 in absurd (omega (arith, e, n, low, beyond))
-        | inr f ↦ ap (λ (yes : Bool). if yes then record told_now { bodies = told_now.bodies + 1 } else tell_bad told_now) f.0
-      ]
+      is =
+          let e = ap length s.knows.ports in
+          let n = length-map a.desks port_at in
+          let far : length (ports_in 0 given) ≤ client = omega (arith, e, n, beyond) in
+          ap (λ (here : Bool). if here then record told_now { bodies = told_now.bodies + 1 } else tell_bad told_now) (le-ltb client (length (ports_in 0 given)) far)
 
   -- and of the loss of a node that is not there any more
   pub loss_of_nobody : (after : Option (List ℕ)) (running : Running) (node : ℕ) → running ≡ a.running → get_or (losses_in a.running) node true ≡ true
@@ -562,7 +563,7 @@ module _ (given : Config) (first before : Option (List ℕ)) (inputs : List Inpu
       (bad_served after (forms.Lose node) (sym is) (λ i low. refl) wrote)
     where
       is : tell_next given told_now (forms.Lose node) ≡ tell_bad told_now
-      is = ap (λ (yes : Bool). if yes then tell_bad told_now else tell_lost given node told_now) (ap (λ (lost : List Bool). get_or lost node true) (sym s.knows.lost) ∙ gone)
+      is = ap (λ (here : Bool). if here then tell_bad told_now else tell_lost given node told_now) (ap (λ (lost : List Bool). get_or lost node true) (sym s.knows.lost) ∙ gone)
 
   -- a node is lost
   pub node_loss_served : (after : Option (List ℕ)) (running : Running) (node : ℕ) (served : ServedNode) → clients_in running ≡ clients_in a.running → config_in running ≡ config_in a.running
@@ -572,23 +573,23 @@ module _ (given : Config) (first before : Option (List ℕ)) (inputs : List Inpu
   node_loss_served after running node served clients config losses there value low wrote =
       takes_by given first after inputs (forms.Lose node) view (tell_lost given node told_now) (sym is)
       (record {
-          knows = record {
-            config = ap (λ config. config.starts.items) config ∙ s.knows.config;
-            ports = s.knows.ports;
-            names = map-set_same (λ (node : ServedNode). node.name) a.nodes node (record served { is_lost = true }) served (ap (λ (node : ServedNode). node.name) value) ∙ s.knows.names;
-            bodies = let e = s.knows.bodies in omega (arith, e);
-            lost = losses ∙ ap (λ (lost : List Bool). set lost node true) s.knows.lost;
-            known = map-set (λ (node : ServedNode). node.is_lost) a.nodes node (record served { is_lost = true }) ∙ ap (λ (lost : List Bool). set lost node true) s.knows.known;
-            over = s.knows.over;
-          };
-          frames = s.frames ++ frame ∷ [];
-          wrote = wrote_more first before after s.frames frame s.wrote wrote;
-          addressed = addressed_more (length a.desks) (length a.desks) s.frames frame refl tt s.addressed;
-          notices = notices-append s.frames (frame ∷ []) ∙ ap (λ (terms : List Term). terms ++ frame.term ∷ []) s.notices ∙ ap (λ (name : List ℕ). told_now.notices ++ lost_term name ∷ []) named;
-          kept = kept_all told_now.lost (set told_now.lost node true) inputs (inputs ++ forms.Lose node ∷ []) a.desks (clients_in a.running) (clients_in running) s.frames (s.frames ++ frame ∷ [])
-              (λ other gone. later other gone (cases_eq other node)) (λ i low. unasked inputs (forms.Lose node) i refl) (λ i. ap (said_at i) clients) (λ i. ap (heard_at i) clients)
-              (λ i. to_nobody s.frames i frame.term) s.kept;
-        })
+        knows = record {
+          config = ap (λ config. config.starts.items) config ∙ s.knows.config;
+          ports = s.knows.ports;
+          names = map-set_same (λ (node : ServedNode). node.name) a.nodes node (record served { is_lost = true }) served (ap (λ (node : ServedNode). node.name) value) ∙ s.knows.names;
+          bodies = let e = s.knows.bodies in omega (arith, e);
+          lost = losses ∙ ap (λ (lost : List Bool). set lost node true) s.knows.lost;
+          known = map-set (λ (node : ServedNode). node.is_lost) a.nodes node (record served { is_lost = true }) ∙ ap (λ (lost : List Bool). set lost node true) s.knows.known;
+          over = s.knows.over;
+        };
+        frames = s.frames ++ frame ∷ [];
+        wrote = wrote_more first before after s.frames frame s.wrote wrote;
+        addressed = addressed_more (length a.desks) (length a.desks) s.frames frame refl tt s.addressed;
+        notices = notices-append s.frames (frame ∷ []) ∙ ap (λ (terms : List Term). terms ++ frame.term ∷ []) s.notices ∙ ap (λ (name : List ℕ). told_now.notices ++ lost_term name ∷ []) named;
+        kept = kept_all told_now.lost (set told_now.lost node true) inputs (inputs ++ forms.Lose node ∷ []) a.desks (clients_in a.running) (clients_in running) s.frames (s.frames ++ frame ∷ [])
+            (λ other gone. later other gone (cases_eq other node)) (λ i low. unasked inputs (forms.Lose node) i refl) (λ i. ap (said_at i) clients) (λ i. ap (heard_at i) clients)
+            (λ i. to_nobody s.frames i frame.term) s.kept;
+      })
     where
       view : View
       view = record a { running = running; nodes = set a.nodes node (record served { is_lost = true }); bodies = saturated (a.bodies + 1) }
@@ -597,7 +598,7 @@ module _ (given : Config) (first before : Option (List ℕ)) (inputs : List Inpu
       frame = notice_frame (lost_term served.name)
 
       is : tell_next given told_now (forms.Lose node) ≡ tell_lost given node told_now
-      is = ap (λ (yes : Bool). if yes then tell_bad told_now else tell_lost given node told_now) (ap (λ (lost : List Bool). get_or lost node true) (sym s.knows.lost) ∙ there)
+      is = ap (λ (here : Bool). if here then tell_bad told_now else tell_lost given node told_now) (ap (λ (lost : List Bool). get_or lost node true) (sym s.knows.lost) ∙ there)
 
       named : served.name ≡ get_or (map (λ start. start.name) given) node []
       named = ap (λ (node : ServedNode). node.name) value ∙ sym (get_or-map (λ (node : ServedNode). node.name) a.nodes node served [] low) ∙ ap (λ (names : List (List ℕ)). get_or names node []) s.knows.names
@@ -611,14 +612,15 @@ module _ (given : Config) (first before : Option (List ℕ)) (inputs : List Inpu
 
   -- as many nodes are known as may be lost
   pub nodes_there : (node : ℕ) → get_or (losses_in a.running) node true ≡ false → node < length a.nodes
-  nodes_there node there = go (ltb_tells node (length a.nodes))
-    where
-      go : ((ltb node (length a.nodes) ≡ true) × (node < length a.nodes)) ⊎ ((ltb node (length a.nodes) ≡ false) × (length a.nodes ≤ node)) → node < length a.nodes
-      go (inl t) = t.1
-      go (inr f) =
-          let beyond : length (losses_in a.running) ≤ node =
-          (let e = ap length (s.knows.known ∙ sym s.knows.lost) in let n = length-map a.nodes (λ (node : ServedNode). node.is_lost) in let low = f.1 in omega (arith, e, n, low)) in
-          absurd (true_is_not_false (sym (get_or-eq_default (losses_in a.running) true beyond) ∙ there))
+  nodes_there node there = elim (leb_tells (length a.nodes) node) [
+    | inl t ↦
+        let e = ap length (s.knows.known ∙ sym s.knows.lost) in
+        let n = length-map a.nodes (λ (node : ServedNode). node.is_lost) in
+        let far = t.1 in
+        let beyond : length (losses_in a.running) ≤ node = omega (arith, e, n, far) in
+        absurd (true_is_not_false (sym (get_or-eq_default (losses_in a.running) true beyond) ∙ there))
+    | inr f ↦ f.1
+  ]
 
   -- the input is over
   pub end_served : (input : Input) (fault : Option ℕ) → tell_next given told_now input ≡ record told_now { over = Some fault } → ((i : ℕ) → request_to i input ≡ [])
@@ -626,19 +628,19 @@ module _ (given : Config) (first before : Option (List ℕ)) (inputs : List Inpu
   end_served input fault is nothing =
       takes_by given first before inputs input (record a { over = Some fault }) (record told_now { over = Some fault }) (sym is)
       (record {
-          knows = record {
-            config = s.knows.config;
-            ports = s.knows.ports;
-            names = s.knows.names;
-            bodies = s.knows.bodies;
-            lost = s.knows.lost;
-            known = s.knows.known;
-            over = refl;
-          };
-          frames = s.frames;
-          wrote = s.wrote;
-          addressed = s.addressed;
-          notices = s.notices;
-          kept = kept_all told_now.lost told_now.lost inputs (inputs ++ input ∷ []) a.desks (clients_in a.running) (clients_in a.running) s.frames s.frames (λ node gone. gone)
-              (λ i low. unasked inputs input i (nothing i)) (λ i. refl) (λ i. refl) (λ i. refl) s.kept;
-        })
+        knows = record {
+          config = s.knows.config;
+          ports = s.knows.ports;
+          names = s.knows.names;
+          bodies = s.knows.bodies;
+          lost = s.knows.lost;
+          known = s.knows.known;
+          over = refl;
+        };
+        frames = s.frames;
+        wrote = s.wrote;
+        addressed = s.addressed;
+        notices = s.notices;
+        kept = kept_all told_now.lost told_now.lost inputs (inputs ++ input ∷ []) a.desks (clients_in a.running) (clients_in a.running) s.frames s.frames (λ node gone. gone)
+            (λ i low. unasked inputs input i (nothing i)) (λ i. refl) (λ i. refl) (λ i. refl) s.kept;
+      })

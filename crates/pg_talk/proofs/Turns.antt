@@ -1,6 +1,6 @@
 -- The steps of a service that runs, one after another.
-use Rattle.std.proofs.Common.{◌≡◌, ◌<◌, ◌+◌, ℕ, ◌≤◌, ◌⊎◌, zero, suc, inl, inr, Bool, true, false, List, [], ◌∷◌, ◌++◌, length, get_or, map, set, Some, None, Option, refl, sym, ap, subst, ◌∙◌, arith}
-use Rattle.std.specs.Prelude.{OnOk, Result, Ok, Err, slice_get}
+use Rattle.std.proofs.Common.{◌≡◌, ◌<◌, ◌+◌, ℕ, ◌≤◌, ◌⊎◌, zero, suc, inl, inr, Bool, true, false, List, [], ◌∷◌, ◌++◌, length, get_or, set, Some, None, Option, refl, sym, ap, subst, ◌∙◌, arith}
+use Rattle.std.specs.Prelude.{IfOk, OnOk, Result, Ok, Err, slice_get}
 use Rattle.std.specs.Io.KnownBytes.{Keeps}
 use Rattle.std.proofs.lemmas.List.{append-nil, get_or_default, get_or-map, get_or-set_same}
 use Rattle.std.proofs.lemmas.Option.{get_or_from_slice_get}
@@ -17,11 +17,11 @@ use Rattle.pg_talk.specs.declared.service.desk.Desk.{Desk}
 use Rattle.pg_talk.specs.declared.service.serving.Serving.{Serving}
 use Rattle.pg_talk.specs.Conversations.{saturated}
 use Rattle.pg_talk.specs.Frames.{WritesReply}
-use Rattle.pg_talk.specs.Servings.{Advances, Comes, Goes, RepliesLost, RepliesNext, Serves, Stands, Takes, asked_at, desks_of, is_known_lost, kept_in, lost_at, nodes_of, replied_at, view_of}
+use Rattle.pg_talk.specs.Servings.{Advances, Comes, Goes, RepliesLost, RepliesNext, Serves, Takes, asked_at, desks_of, is_known_lost, kept_in, lost_at, nodes_of, replied_at, view_of}
 
-pub on_ok : {T E : Type 0} (r : Result T E) (P Q : Type 0) → (P → Q) → OnOk r P → OnOk r Q
-on_ok (Ok t) P Q f p = f p
-on_ok (Err e) P Q f p = tt
+pub on_ok : {T E : Type 0} (r : Result T E) (P Q : Type 0) → OnOk r P → (P → Q) → OnOk r Q
+on_ok (Ok t) P Q p f = f p
+on_ok (Err e) P Q p f = tt
 
 pub goes_itself : (a : Serving) (x : Option (List ℕ)) → Goes a a x x
 goes_itself a x = record { kept = refl; goes = λ given first inputs s. s }
@@ -39,12 +39,12 @@ pub some_desk : (desks : List Desk) (client : ℕ) → client < length desks →
 some_desk [] client low = absurd (omega (arith, low))
 some_desk (desk ∷ desks) client low = desk
 
-pub lost_here : (a : Serving) (client node : ℕ) (x : Desk) (yes : Bool) → client < length (desks_of a) → x ≡ get_or (desks_of a) client x → node ≡ x.node → is_known_lost node (nodes_of a) ≡ yes → lost_at client a ≡ yes
-lost_here a client node x yes low value is lost =
+pub lost_here : (a : Serving) (client node : ℕ) (x : Desk) (told : Bool) → client < length (desks_of a) → x ≡ get_or (desks_of a) client x → node ≡ x.node → is_known_lost node (nodes_of a) ≡ told → lost_at client a ≡ told
+lost_here a client node x told low value is lost =
     ap (λ (n : ℕ). is_known_lost n (nodes_of a)) (get_or-map (λ (desk : Desk). desk.node) (desks_of a) client x 0 low ∙ ap (λ (desk : Desk). desk.node) (sym value) ∙ sym is) ∙ lost
 
-pub asked_here : (a : Serving) (client : ℕ) (x : Desk) (yes : Bool) → client < length (desks_of a) → x ≡ get_or (desks_of a) client x → x.is_asked ≡ yes → asked_at client (desks_of a) ≡ yes
-asked_here a client x yes low value is = get_or-map (λ (desk : Desk). desk.is_asked) (desks_of a) client x false low ∙ ap (λ (desk : Desk). desk.is_asked) (sym value) ∙ is
+pub asked_here : (a : Serving) (client : ℕ) (x : Desk) (told : Bool) → client < length (desks_of a) → x ≡ get_or (desks_of a) client x → x.is_asked ≡ told → asked_at client (desks_of a) ≡ told
+asked_here a client x told low value is = get_or-map (λ (desk : Desk). desk.is_asked) (desks_of a) client x false low ∙ ap (λ (desk : Desk). desk.is_asked) (sym value) ∙ is
 
 -- ---- what comes in
 
@@ -94,13 +94,13 @@ module _ (a b : Serving) (came came2 : List Input) (x y : Option (List ℕ)) whe
     inputs = s.inputs;
     whole = same ∙ s.whole ∙ ap (λ k. s.inputs ++ kept_in k) (sym kept);
     serves = subst (λ view. Serves given before s.inputs view y) (sym view) (record {
-          knows = s.serves.knows;
-          frames = s.serves.frames;
-          wrote = appends_kept before x y _ s.serves.wrote keeps;
-          addressed = s.serves.addressed;
-          notices = s.serves.notices;
-          kept = s.serves.kept;
-        });
+      knows = s.serves.knows;
+      frames = s.serves.frames;
+      wrote = appends_kept before x y _ s.serves.wrote keeps;
+      addressed = s.serves.addressed;
+      notices = s.serves.notices;
+      kept = s.serves.kept;
+    });
   }
 
 -- ---- what one call does
@@ -165,3 +165,7 @@ module _ (a b c : Serving) (came came2 : List Input) (x y z : Option (List ℕ))
 
   pub turn_flushed : (d : Serving) (t : Option (List ℕ)) → view_of d ≡ view_of c → d.kept ≡ c.kept → Keeps z t → Advances a d came came2 x t
   turn_flushed d t view kept keeps given first s = advances_flushed c d came2 came2 z t view kept keeps refl given first (turn_moved given first s)
+
+pub if_ok : {T E : Type 0} (r : Result T E) (P Q : T → Type 0) → IfOk r P → ((t : T) → P t → Q t) → IfOk r Q
+if_ok (Ok t) P Q p f = f t p
+if_ok (Err e) P Q p f = tt

@@ -1,5 +1,5 @@
 -- A service at its start and at its end.
-use Rattle.std.proofs.Common.{◌≡◌, ◌<◌, ◌+◌, ℕ, zero, suc, Bool, true, false, not, List, [], ◌∷◌, ◌++◌, length, get_or, map, Some, None, Option, refl, sym, ap, subst, ◌∙◌, arith}
+use Rattle.std.proofs.Common.{◌≡◌, ◌<◌, ℕ, Bool, true, false, not, List, [], ◌∷◌, ◌++◌, length, get_or, map, Some, None, Option, refl, sym, ap, subst, ◌∙◌, arith}
 use Rattle.std.specs.Prelude.{◌&&◌}
 use Rattle.std.specs.List.{All, list_all}
 use Rattle.std.proofs.Props.{props}
@@ -10,14 +10,11 @@ use mathlib.Core.Logic.{∥∥₁_elim}
 use Rattle.pg_node.proofs.Streams.{appends_none}
 use Rattle.pg_run.specs.Ports.{IsSilent, polled, submitted}
 use Rattle.pg_run.specs.declared.port.Asked.{Asked}
-use Rattle.pg_run.specs.declared.port.Client.{Client}
 use Rattle.pg_step.specs.Config.{Config}
 use Rattle.pg_step.specs.declared.answer.Answer.{Answer}
 use Rattle.pg_step.specs.declared.command.Command.{Command}
 use Rattle.pg_step.specs.declared.start.Start.{Start}
 use Rattle.pg_term.specs.declared.term.Term.{Term}
-use Rattle.rand_pcg.specs.Lcg.{Lcg}
-use Rattle.pg_cluster.specs.declared.member.Member.{Member}
 use Rattle.pg_cluster.specs.declared.running.Running.{Running}
 use Rattle.pg_cluster.specs.Members.{is_lost, thread_of}
 use Rattle.pg_cluster.specs.Notices.{NobodyLost}
@@ -31,7 +28,7 @@ use Rattle.pg_talk.specs.Desks.{is_idle, is_none, waiting_at}
 use Rattle.pg_talk.specs.Services.{WasServed}
 use Rattle.pg_talk.specs.Servings.{IsKept, IsKeptAt, IsNew, Serves, View, known_lost, names_of, port_at, ports_of, with_node}
 use Rattle.pg_talk.specs.Verdicts.{IsJudged}
-use Rattle.pg_talk.specs.Written.{AllServed, IsAddressed, IsServed, PortName, Written, heard_at, is_lost_at, none_told, ports_in, replies_to, requests_to, said_at, told_by}
+use Rattle.pg_talk.specs.Written.{AllServed, IsAddressed, IsServed, PortName, Written, heard_at, is_lost_at, ports_in, replies_to, requests_to, said_at, told_by}
 use Rattle.pg_talk.proofs.Posts.{kept_new, true_is_not_false}
 use Rattle.pg_talk.proofs.Spoken.{silent_at}
 use Rattle.pg_talk.proofs.Turns.{some_desk}
@@ -58,8 +55,8 @@ none_lost (one ∷ lost) (start ∷ starts) n nobody =
 kept_at_first : (lost : List Bool) (desk : Desk) → IsNew desk → IsKeptAt lost [] desk [] [] []
 kept_at_first lost desk new =
     subst (λ (waiting : List Command). IsKept (port_at desk) (is_lost_at desk.node lost) [] waiting desk.is_asked desk.replied [] [] []) (sym new.empty)
-    (subst (λ (yes : Bool). IsKept (port_at desk) (is_lost_at desk.node lost) [] [] yes desk.replied [] [] []) (sym new.idle)
-      (subst (λ n. IsKept (port_at desk) (is_lost_at desk.node lost) [] [] false n [] [] []) (sym new.replied) (kept_new (port_at desk) (is_lost_at desk.node lost))))
+    (subst (λ (now : Bool). IsKept (port_at desk) (is_lost_at desk.node lost) [] [] now desk.replied [] [] []) (sym new.idle)
+    (subst (λ n. IsKept (port_at desk) (is_lost_at desk.node lost) [] [] false n [] [] []) (sym new.replied) (kept_new (port_at desk) (is_lost_at desk.node lost))))
 
 pub served_at_first : (given : Config) (before : Option (List ℕ)) (running : Running) (desks : List Desk) (nodes : List ServedNode) → (config_in running).starts.items ≡ given
     → ports_of desks ≡ ports_in 0 given → All IsNew desks → names_of nodes ≡ map (λ start. start.name) given → known_lost nodes ≡ map (λ start. false) given → NobodyLost (losses_in running)
@@ -82,8 +79,8 @@ served_at_first given before running desks nodes config ports new names there no
       subst (λ (all : List Asked). IsKeptAt (map (λ (start : Start). false) given) [] (get_or desks client none) all (heard_at client (clients_in running)) [])
       (sym (silent_at submitted (clients_in running) client (λ k one within. (silent k one within).submitted)))
       (subst (λ (all : List Answer). IsKeptAt (map (λ (start : Start). false) given) [] (get_or desks client none) [] all [])
-        (sym (silent_at polled (clients_in running) client (λ k one within. (silent k one within).polled)))
-        (kept_at_first (map (λ (start : Start). false) given) (get_or desks client none) (new client none low)));
+      (sym (silent_at polled (clients_in running) client (λ k one within. (silent k one within).polled)))
+      (kept_at_first (map (λ (start : Start). false) given) (get_or desks client none) (new client none low)));
 }
 
 -- ---- at the end
@@ -97,7 +94,7 @@ idle_parts true waiting e = absurd (true_is_not_false (sym e))
 idle_at : (desks : List Desk) (i : ℕ) (d : Desk) → i < length desks → list_all is_idle desks ≡ true → is_idle (get_or desks i d) ≡ true
 idle_at desks i d low all = go (is_idle (get_or desks i d)) refl
   where
-    go : (yes : Bool) → is_idle (get_or desks i d) ≡ yes → is_idle (get_or desks i d) ≡ true
+    go : (now : Bool) → is_idle (get_or desks i d) ≡ now → is_idle (get_or desks i d) ≡ true
     go true e = e
     go false e = absurd (true_is_not_false (sym all ∙ list_all_at is_idle desks i d low e))
 
@@ -130,7 +127,7 @@ all_served given before after inputs view idle s = record {
         let named : port_at desk ≡ port = sym (get_or-map port_at view.desks client some none within) ∙ ap (λ (all : List PortName). get_or all client none) s.knows.ports ∙ sym is in
         subst (λ (one : PortName). IsServed one (is_lost_at one.node (told_by given inputs).lost) (requests_to client inputs) 0 (said_at client (clients_in view.running)) (heard_at client (clients_in view.running)) (replies_to client s.frames)) named
         (served_whole (port_at desk) (is_lost_at desk.node (told_by given inputs).lost) (requests_to client inputs) (waiting_at desk) desk.is_asked desk.replied
-          (said_at client (clients_in view.running)) (heard_at client (clients_in view.running)) (replies_to client s.frames) parts.0 parts.1 (s.kept client some within))
+        (said_at client (clients_in view.running)) (heard_at client (clients_in view.running)) (replies_to client s.frames) parts.0 parts.1 (s.kept client some within))
 
 -- the cluster was closed, and judged so
 pub served_to_the_end : (given : Config) (before after : Option (List ℕ)) (inputs : List Input) (view : View) (served : Served) → view.over ≡ Some served.fault → list_all is_idle view.desks ≡ true

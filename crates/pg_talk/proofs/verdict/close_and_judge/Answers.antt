@@ -1,4 +1,4 @@
-use Rattle.std.proofs.Common.{map, true}
+use Rattle.std.proofs.Common.{map}
 use Rattle.pg_cluster.specs.Judges.{Agree}
 use Rattle.pg_world.specs.Openings.{CanBegin}
 use Rattle.pg_cluster.specs.Running.{config_in}

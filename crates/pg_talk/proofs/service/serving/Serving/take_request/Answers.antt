@@ -1,8 +1,8 @@
-use Rattle.std.proofs.Common.{arith, [], ◌∷◌, ◌++◌, refl, set, subst, sym}
+use Rattle.std.proofs.Common.{arith, [], ◌∷◌, ◌++◌, refl, subst, sym}
 use Rattle.pg_requests.specs.declared.input.Input.TheVariants.{Ask}
-use Rattle.pg_talk.specs.Servings.{Serves, Takes, TellsBad, view_of}
+use Rattle.pg_talk.specs.Servings.{Serves, Takes, view_of}
 use Rattle.pg_talk.proofs.Spoken.{request_served, request_to_nobody}
-use Rattle.pg_talk.proofs.Turns.{on_ok, takes_to}
+use Rattle.pg_talk.proofs.Turns.{on_ok}
 use Rattle.pg_talk.proofs.service.serving.Serving.take_request.Goals as goal
 
 pub returns-then-client-len : goal.returns-then-client-len
@@ -11,17 +11,17 @@ returns-then-client-len g c =
     let new = c.tell_bad.new.self in
     let before = g.W.Sink.contents c.args.writer.now in
     let after = g.W.Sink.contents c.tell_bad.new.writer in
-    on_ok c.tell_bad.result (TellsBad self new before after) (Takes (Ask c.args.client c.args.command) self new before after)
-    (λ bad. takes_to (Ask c.args.client c.args.command) self new before after bad.kept
-      (λ given first inputs s. subst (λ view. Serves given first (inputs ++ Ask c.args.client c.args.command ∷ []) view after) (sym bad.view)
-        (request_to_nobody given first before inputs (view_of self) s after c.args.client c.args.command (omega (arith, c.if-client-len.true, c.len.ensures)) bad.wrote)))
-    c.tell_bad.ensures
+    on_ok c.tell_bad.result _ (Takes (Ask c.args.client c.args.command) self new before after) c.tell_bad.ensures
+    (λ bad. record {
+      kept = bad.kept;
+      takes = λ given first inputs s. subst (λ view. Serves given first (inputs ++ Ask c.args.client c.args.command ∷ []) view after) (sym bad.view)
+          (request_to_nobody given first before inputs (view_of self) s after c.args.client c.args.command (omega (arith, c.if-client-len.true, c.len.ensures)) bad.wrote);
+    })
 
 pub returns-in-Ok : goal.returns-in-Ok
-returns-in-Ok g c =
-    let self = c.args.self.now in
-    let before = g.W.Sink.contents c.args.writer.now in
-    takes_to (Ask c.args.client c.args.command) self _ before before refl
-    (λ given first inputs s.
-        request_served given first before inputs (view_of self) c.args.client c.index_mut.result.now (omega (arith, c.if-client-len.false, c.len.ensures)) c.index_mut.ensures.value s c.wait.new.self c.args.command
-        c.in-Ok.ensures.ok c.in-Ok.ensures.same)
+returns-in-Ok g c = record {
+  kept = refl;
+  takes = λ given first inputs s.
+      request_served given first (g.W.Sink.contents c.args.writer.now) inputs (view_of c.args.self.now) c.args.client c.index_mut.result.now (omega (arith, c.if-client-len.false, c.len.ensures))
+      c.index_mut.ensures.value s c.wait.new.self c.args.command c.saturating_add-self.result c.saturating_add-self.ensures c.in-Ok.ensures.ok c.in-Ok.ensures.same;
+}
