@@ -30,8 +30,11 @@ pub struct Served {
 }
 
 /// Starts the cluster of a service, reads requests from `source`, and writes the replies to `writer`, until the input is over and each
-/// request was replied to. Then the cluster is closed and judged. A request of a port is handed over once the one before it there was
-/// replied to. Each reply is in a frame, and all are passed on whenever no further one is at hand. It may wait for threads.
+/// request was replied to. Then the cluster is closed and judged. It may wait for threads.
+///
+/// A request of a port is handed over once the one before it there was replied to. Each has one reply in a frame, in their order and
+/// numbered from 1: what the node answered, or, once it is lost, that it is. Losses and bodies that ask for nothing are told, and nothing
+/// else is written (`AllServed`). What was written is passed on whenever no further reply is at hand.
 ///
 /// Faults: `Start`, where no cluster was started, or no thread that reads; `WriteFault`, where a write or a flush fails, also while more
 /// could be read; `OutOfMemory`.
