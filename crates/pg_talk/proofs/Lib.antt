@@ -2,6 +2,7 @@ pub mod Conversing
 pub mod Judging
 pub mod Opening
 pub mod Posts
+pub mod Reads
 pub mod Sent
 pub mod Spoken
 pub mod Turns

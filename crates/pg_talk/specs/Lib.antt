@@ -2,6 +2,8 @@ pub mod Conversations
 pub mod Desks
 pub mod Frames
 pub mod Outcomes
+pub mod Readers
+pub mod Readings
 pub mod Services
 pub mod Servings
 pub mod Verdicts

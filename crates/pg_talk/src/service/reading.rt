@@ -1,5 +1,9 @@
 //! The thread that reads the input.
 
+ghost use Rattle.std.specs.Prelude.{◌≡◌};
+ghost use Rattle.pg_requests.specs.declared.input.Input.{Input as InputValue};
+ghost use Rattle.pg_talk.specs.Readings.{EndsAt as ReadsToItsEnd, IsAsked, breaks as is_broken};
+
 use pg_faults::{OUT_OF_MEMORY, READ_FAULT, TRUNCATED};
 use pg_frame::Deframer;
 use pg_node::Source;
@@ -7,9 +11,11 @@ use pg_requests::{Input, Layout, read_request};
 use pg_ring::SlotOut;
 use pg_term_io::decode;
 use std::alloc::Global;
+use std::snapshot::Snapshot;
 use std::sync::Arc;
 use std::sync::atomic::{AtomicBool, Ordering};
 use std::thread;
+use std::thread::Promise;
 
 /// How many bytes one read asks for.
 const PIECE_LEN: usize = 65_536;
@@ -28,9 +34,37 @@ pub(crate) struct Reading<S: Drop> {
     pub alloc: Global,
 }
 
+/// What the thread promises: that it read its source to the end, and gave on what it read.
+#[derive(Drop)]
+pub(crate) struct ReadOf<S: Drop> {
+    pub reading: Snapshot<Reading<S>>,
+}
+
+impl<S: Source + Drop> Promise<Reading<S>> for ReadOf<S> {
+    ghost use Rattle.pg_talk.specs.Readings.{EndsAt};
+
+    ghost kept_by = { λ p r. EndsAt S.remaining p.reading.value r };
+}
+
+/// Reads the input to its end, and gives on what comes in.
+pub(crate) fn read_all<S: Source + Drop>(reading: Reading<S>) -> Reading<S>
+    ensures { ReadsToItsEnd S.remaining reading result }
+{
+    let mut reading = reading;
+    reading.run();
+    reading
+}
+
 impl<S: Source + Drop> Reading<S> {
+    ghost use Rattle.std.specs.Prelude.{◌≡◌, ◌⊎◌, ◌<◌, ◌∷◌, ◌++◌, ◌-◌, [], false, IsTrue, IfSome, IfNone, length};
+    ghost use Rattle.std.specs.Io.KnownBytes.{IsAtEnd};
+    ghost use Rattle.pg_ring.specs.Slots.{SameSlotOut, given};
+    ghost use Rattle.pg_talk.specs.Readings.{EndsAt, GoesOn, TakesFront, asks};
+
     /// Reads the input to its end, and gives on what comes in.
-    pub(crate) fn run(&mut self) {
+    fn run(&mut self)
+        ensures { EndsAt S.remaining self.old self.new }
+    {
         let mut piece = [0; PIECE_LEN];
         for _ in 0..u64::MAX {
             if !self.read(&mut piece) {
@@ -40,7 +74,12 @@ impl<S: Source + Drop> Reading<S> {
     }
 
     /// Reads a piece of the input, and gives on what is whole; whether more is to be read.
-    fn read(&mut self, piece: &mut [u8]) -> bool {
+    fn read(&mut self, piece: &mut [u8]) -> bool
+        requires { 0 < length piece.old }
+        ensures on { IsTrue result → GoesOn S.remaining self.old self.new }
+        ensures end { result ≡ false → EndsAt S.remaining self.old self.new }
+        ensures len { length piece.new ≡ length piece.old }
+    {
         if self.requests == 0 {
             return self.end(Input::End);
         }
@@ -58,7 +97,11 @@ impl<S: Source + Drop> Reading<S> {
     }
 
     /// Gives on that the input is over, or broken where a frame is cut.
-    fn end_of_input(&mut self) -> bool {
+    fn end_of_input(&mut self) -> bool
+        requires { IsAtEnd (S.remaining self.old.source) }
+        ensures value { result ≡ false }
+        ensures end { EndsAt S.remaining self.old self.new }
+    {
         if self.deframer.rest_len() == 0 {
             self.end(Input::End)
         } else {
@@ -67,13 +110,20 @@ impl<S: Source + Drop> Reading<S> {
     }
 
     /// Gives on what ends the input.
-    fn end(&mut self, input: Input) -> bool {
+    fn end(&mut self, input: Input) -> bool
+        ensures value { result ≡ false }
+        ensures same { SameSlotOut self.old.out self.new.out }
+        ensures gave { (given self.new.out ≡ given self.old.out ++ input ∷ []) ⊎ (given self.new.out ≡ given self.old.out) }
+    {
         self.give(input);
         false
     }
 
     /// Gives on what each whole frame asks for; whether more is to be read.
-    fn give_all(&mut self) -> bool {
+    fn give_all(&mut self) -> bool
+        ensures on { IsTrue result → GoesOn S.remaining self.old self.new }
+        ensures end { result ≡ false → EndsAt S.remaining self.old self.new }
+    {
         for _ in 0..u64::MAX {
             if self.requests == 0 {
                 return true;
@@ -81,10 +131,8 @@ impl<S: Source + Drop> Reading<S> {
             let Some(input) = self.front() else {
                 return true;
             };
-            let is_last = matches!(input, Input::Broken(_));
-            if matches!(input, Input::Ask { .. }) {
-                self.requests = self.requests.saturating_sub(1);
-            }
+            let is_last = breaks(&input);
+            self.count(&input);
             if !self.give(input) || is_last {
                 return false;
             }
@@ -93,7 +141,11 @@ impl<S: Source + Drop> Reading<S> {
     }
 
     /// What the next frame asks for, if it is whole.
-    fn front(&mut self) -> Option<Input> {
+    fn front(&mut self) -> Option<Input>
+        ensures some { IfSome result (λ input. TakesFront self.old.layout.nodes.items self.old.deframer.unread self.new.deframer.unread input) }
+        ensures none { IfNone result (self.new ≡ self.old) }
+        ensures rest { self.new ≡ record self.old { deframer = self.new.deframer } }
+    {
         let input = match self.deframer.front() {
             Ok(Some(body)) => input_of(self.alloc, body, &self.layout),
             Ok(None) => return None,
@@ -103,8 +155,22 @@ impl<S: Source + Drop> Reading<S> {
         Some(input)
     }
 
+    /// One request fewer is wanted, if the input is one.
+    fn count(&mut self, input: &Input)
+        ensures { self.new ≡ record self.old { requests = self.old.requests - asks input.now } }
+    {
+        if let Input::Ask { .. } = input {
+            self.requests = self.requests.saturating_sub(1);
+        }
+    }
+
     /// Gives on one input, once there is a place; whether it did.
-    fn give(&mut self, input: Input) -> bool {
+    fn give(&mut self, input: Input) -> bool
+        ensures same { SameSlotOut self.old.out self.new.out }
+        ensures ok { IsTrue result → given self.new.out ≡ given self.old.out ++ input ∷ [] }
+        ensures err { result ≡ false → given self.new.out ≡ given self.old.out }
+        ensures rest { self.new ≡ record self.old { out = self.new.out } }
+    {
         let mut kept = input;
         for _ in 0..u64::MAX {
             match self.out.give(kept) {
@@ -121,8 +187,17 @@ impl<S: Source + Drop> Reading<S> {
     }
 }
 
+/// Whether an input is the last, since it tells that the input is broken.
+fn breaks(input: &Input) -> bool
+    ensures { result ≡ is_broken input.now }
+{
+    matches!(input, Input::Broken(_))
+}
+
 /// What a body asks for, or why it is no term.
-fn input_of(alloc: Global, body: &[u8], layout: &Layout) -> Input {
+fn input_of(alloc: Global, body: &[u8], layout: &Layout) -> Input
+    ensures { IsAsked layout.now.nodes.items body.now result }
+{
     match decode(alloc, body) {
         Ok(term) => read_request(term, layout),
         Err(fault) => Input::Broken(fault.number()),

@@ -5,6 +5,8 @@ ghost use Rattle.std.specs.List.{All};
 ghost use Rattle.pg_ring.specs.Slots.{taken};
 ghost use Rattle.pg_step.specs.Config.{Config as Starts};
 ghost use Rattle.pg_talk.specs.Written.{ports_in};
+ghost use Rattle.pg_requests.specs.Layouts.{placed};
+ghost use Rattle.pg_talk.specs.Readers.{IsPaired, Reads};
 ghost use Rattle.pg_talk.specs.Services.{WasServed};
 ghost use Rattle.pg_talk.specs.Servings.{IsNew, Serves, known_lost, names_of, ports_of, view_of};
 
@@ -42,7 +44,7 @@ pub fn serve_cluster<R: Threads, S: Source + Send + Drop + 'static, W: Sink>(
     source: S,
     writer: &mut W,
 ) -> Result<Served, ServiceFault>
-    ensures { IfOk result (WasServed service.config.starts.items (W.contents writer.old) (W.contents writer.new)) }
+    ensures { IfOk result (WasServed service.config.starts.items service.requests (S.remaining source) (W.contents writer.old) (W.contents writer.new)) }
 {
     let Service {
         config,
@@ -82,8 +84,8 @@ fn serve_by<R: Threads, S: Source + Send + Drop + 'static, W: Sink>(
     writer: &mut W,
 ) -> Result<Served, ServiceFault>
     requires { serving.kept ≡ None }
-    ensures { IfOk result (λ served. (given : Starts) → Serves given (W.contents writer.old) [] (view_of serving) (W.contents writer.old)
-        → WasServed given (W.contents writer.old) (W.contents writer.new) served) }
+    ensures { IfOk result (λ served. (given : Starts) → layout.nodes.items ≡ placed 0 given → Serves given (W.contents writer.old) [] (view_of serving) (W.contents writer.old)
+        → WasServed given requests (S.remaining source) (W.contents writer.old) (W.contents writer.new) served) }
 {
     match Reader::start(rt, alloc, source, layout, requests) {
         Ok(reader) => serve_all(rt, alloc, serving, reader, writer),
@@ -98,6 +100,7 @@ fn serve_by<R: Threads, S: Source + Send + Drop + 'static, W: Sink>(
 ///
 /// Error: `AllocError`.
 fn rooms_of(alloc: Global, starts: &[Start]) -> Result<(Layout, Desks), AllocError>
+    ensures layout { IfOk result (λ rooms. rooms.0.nodes.items ≡ placed 0 starts.now) }
     ensures ports { IfOk result (λ rooms. ports_of rooms.1.desks.items ≡ ports_in 0 starts.now) }
     ensures new { IfOk result (λ rooms. All IsNew rooms.1.desks.items) }
     ensures names { IfOk result (λ rooms. names_of rooms.1.nodes.items ≡ map (λ start. start.name) starts.now) }
@@ -109,17 +112,18 @@ fn rooms_of(alloc: Global, starts: &[Start]) -> Result<(Layout, Desks), AllocErr
 }
 
 /// Serves until the input is over and each request was replied to, and closes and judges the cluster.
-fn serve_all<R: Threads, W: Sink>(
+fn serve_all<R: Threads, S: Source + Send + Drop + 'static, W: Sink>(
     rt: &R,
     alloc: Global,
     serving: Serving,
-    reader: Reader,
+    reader: Reader<S>,
     writer: &mut W,
 ) -> Result<Served, ServiceFault>
     requires kept { serving.kept ≡ None }
     requires came { taken reader.inlet ≡ [] }
-    ensures { IfOk result (λ served. (given : Starts) → Serves given (W.contents writer.old) [] (view_of serving) (W.contents writer.old)
-        → WasServed given (W.contents writer.old) (W.contents writer.new) served) }
+    requires paired { IsPaired reader }
+    ensures { IfOk result (λ served. (given : Starts) (wanted : ℕ) (input : Option (List ℕ)) → Reads S.remaining (placed 0 given) input wanted reader
+        → Serves given (W.contents writer.old) [] (view_of serving) (W.contents writer.old) → WasServed given wanted input (W.contents writer.old) (W.contents writer.new) served) }
 {
     let mut serving = serving;
     let mut reader = reader;
