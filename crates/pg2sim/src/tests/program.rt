@@ -544,12 +544,17 @@ fn clusters(rt: HostRuntime) {
             ..ANY
         },
     };
+    let other = Output {
+        text: Vec::new(rt.alloc()),
+        limits: ANY,
+    };
     let mut system = HostSystem {
         alloc: rt.alloc(),
         rt: &rt,
         threads: &rt,
         begun,
-        progress: Shown(Progress::new(screen, &rt)),
+        progress: Shown(Progress::new(screen, &rt, "answered")),
+        exploring: Progress::new(other, &rt, "explored"),
     };
     for (place, row) in CLUSTERS.iter().enumerate() {
         let is_printed = match run(rt.alloc(), row, &mut system) {
