@@ -2,7 +2,7 @@
 
 use crate::scenario::Scenario;
 use crate::tally::{Counter, Tally};
-use pg_explore::{ExploreFault, Explored, Limits, explore};
+use pg_explore::{ExploreFault, Explored, Limits, Moment, explore};
 use std::alloc::Global;
 
 /// Watches a survey.
@@ -24,6 +24,13 @@ impl Findings<'_, '_> {
     /// Whether all worlds were explored.
     pub fn is_whole(&self) -> bool {
         self.explored.is_whole()
+    }
+
+    /// The moment of an end, from 1 on.
+    pub fn end(&self, number: usize) -> Option<&Moment> {
+        let place = self.tally.ends.as_slice().get(number.saturating_sub(1))?;
+        let met = self.explored.met().get(*place)?;
+        Some(&met.moment)
     }
 
     /// How many ends were met.

@@ -32,7 +32,7 @@ impl Findings<'_, '_> {
     ///
     /// Error: `AllocError`.
     pub fn script_to_end(&self, number: usize) -> Result<Option<String>, AllocError> {
-        let Some(place) = self.tally.ends.as_slice().get(number.wrapping_sub(1)) else {
+        let Some(place) = self.tally.ends.as_slice().get(number.saturating_sub(1)) else {
             return Ok(None);
         };
         let hops = self.run_to(*place)?;
