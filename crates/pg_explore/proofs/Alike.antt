@@ -7,7 +7,7 @@ use mathlib.Core.Logic.{∥∥₁_elim}
 use Rattle.pg_group.specs.declared.table.GroupTable.{Ghosts}
 use Rattle.pg_world.proofs.Ordered.{ordered_length}
 use Rattle.pg_world.specs.declared.frame_world.FrameWorld.{FrameWorld}
-use Rattle.pg_world.specs.Alike.{AreAlikeWorlds, HaveSameUpdates, without_clock, without_stamps}
+use Rattle.pg_explore.specs.AlikeStub.{AreAlikeWorlds, HaveSameUpdates, without_clock, without_stamps}
 use Rattle.pg_world.specs.FrameWorlds.{traffic_of, given_of}
 use Rattle.pg_world.specs.Views.{Account, Seen, View}
 use Rattle.pg_term.specs.declared.term.Term.{Term}
@@ -40,3 +40,14 @@ alike_back one other h = record {
 
 pub same_number : (one other : Sight) → AreAlike one other → number_in one ≡ number_in other
 same_number one other h = λ i. fold mixed_node (fold mixed_row (fold mixed_progress 0 (h.progress i)) (h.worlds.ways i)) (h.worlds.nodes i)
+
+pub alike_self : (sight : Sight) → AreAlike sight sight
+alike_self sight = record {
+  worlds = record {
+    nodes = refl;
+    ways = refl;
+    updates = λ name. record { history = refl; applied = λ i inside. refl };
+    losses = λ node. refl;
+  };
+  progress = refl;
+}

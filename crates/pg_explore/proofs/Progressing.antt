@@ -6,11 +6,16 @@ use Rattle.pg_explore.specs.declared.moves.Move.TheVariants.{Take, Next, Loss, R
 use Rattle.pg_explore.specs.Moments.{Progress, change_at, progress_after}
 
 -- what a write at a place changes
-pub changed : {A B : Type 0} (f : A → B) (change : B → B) (xs : List A) (i : ℕ) (x y : A) → i < length xs → x ≡ get_or xs i x → f y ≡ change (f x)
+pub changed : {A B : Type 0} (f : A → B) (change : B → B) (xs : List A) (i : ℕ) (x y : A) → i < length xs → f y ≡ change (f (get_or xs i x))
     → map f (slice_set xs i y) ≡ change_at i change (map f xs)
-changed f change [] i x y l at e = absurd (omega (arith, l))
-changed f change (a ∷ xs) zero x y l at e = λ j. (e ∙ ap (λ z. change (f z)) at) j ∷ map f xs
-changed f change (a ∷ xs) (suc i) x y l at e = ap (λ ys. f a ∷ ys) (changed f change xs i x y (omega (arith, l)) at e)
+changed f change [] i x y l e = absurd (omega (arith, l))
+changed f change (a ∷ xs) zero x y l e = λ j. e j ∷ map f xs
+changed f change (a ∷ xs) (suc i) x y l e = ap (λ ys. f a ∷ ys) (changed f change xs i x y (omega (arith, l)) e)
+
+pub changed_plain : {A : Type 0} (change : A → A) (xs : List A) (i : ℕ) (x y : A) → i < length xs → y ≡ change (get_or xs i x) → slice_set xs i y ≡ change_at i change xs
+changed_plain change [] i x y l e = absurd (omega (arith, l))
+changed_plain change (a ∷ xs) zero x y l e = λ j. e j ∷ xs
+changed_plain change (a ∷ xs) (suc i) x y l e = ap (λ ys. a ∷ ys) (changed_plain change xs i x y (omega (arith, l)) e)
 
 -- past the end nothing is changed
 pub unchanged : {A : Type 0} (change : A → A) (xs : List A) (i : ℕ) → length xs ≤ i → change_at i change xs ≡ xs

@@ -26,7 +26,7 @@ pub grows_on : (one two three : List Met) → Grows one two → Grows two three 
 grows_on one two three h k = λ place met at. k place met (h place met at)
 
 pub known_on : (old new : List Met) (sight : Sight) → Grows old new → IsKnown old sight → IsKnown new sight
-known_on old new sight grows h = (h.0, h.1.0, grows h.0 h.1.0 h.1.1, h.1.2)
+known_on old new sight grows h = (h.0, (h.1.0, grows h.0 h.1.0 h.1.1, h.1.2))
 
 pub followed_on : (plans : List Plan) (old new : List Met) (sight : Sight) (step : Move) → Grows old new → IsFollowed plans old sight step → IsFollowed plans new sight step
 followed_on plans old new sight step grows (inl stays) = inl stays
@@ -38,19 +38,18 @@ module _ (config : Config) (plans : List Plan) (most : ℕ) where
   reached_on : (old new : List Met) (place : ℕ) (sight : Sight) (before : Option Before) → Grows old new
       → IsReached config plans most old place sight before → IsReached config plans most new place sight before
   reached_on old new place sight None grows h = h
-  reached_on old new place sight (Some before) grows h = (h.0, h.1.0, grows before.place h.1.0 h.1.1, h.1.2, h.1.3)
+  reached_on old new place sight (Some before) grows h = (h.0, (h.1.0, grows before.place h.1.0 h.1.1, h.1.2, h.1.3))
 
   -- a moment that is led to by a step from an earlier one is reached
   pub reached_by : (mets : List Met) (place : ℕ) (step : Move) (sight : Sight) → place < length mets → IsOpenAt plans most mets place step → LeadsFrom plans mets place step sight
       → IsReached config plans most mets (length mets) sight (Some (record { place = place; step = step }))
-  reached_by mets place step sight inside open leads = (inside, open.0, open.1, open.2, leads open.0 open.1)
+  reached_by mets place step sight inside can leads = (inside, (can.0, can.1, can.2, leads can.0 can.1))
 
   module _ (bins others : Bins) (mets : List Met) (met : Met) (sound : IsSound config plans most bins mets) where
-    all : List Met
+    abbrev pub all : List Met
     all = mets ++ met ∷ []
 
     of_push : IsOf config met.moment → AreOf config all
-    unfolding all
     of_push of place other at = go (get_push mets met place other at)
       where
         go : (slice_get mets place ≡ Some other) ⊎ ((place ≡ length mets) × (met ≡ other)) → IsOf config other.moment
@@ -58,7 +57,6 @@ module _ (config : Config) (plans : List Plan) (most : ℕ) where
         go (inr h) = subst (λ m. IsOf config m.moment) h.1 of
 
     reached_push : IsReached config plans most mets (length mets) (sight_in met) met.before → AreReached config plans most all
-    unfolding all
     reached_push new place other at = go (get_push mets met place other at)
       where
         go : (slice_get mets place ≡ Some other) ⊎ ((place ≡ length mets) × (met ≡ other)) → IsReached config plans most (mets ++ met ∷ []) place (sight_in other) other.before
@@ -68,7 +66,6 @@ module _ (config : Config) (plans : List Plan) (most : ℕ) where
             (reached_on mets (mets ++ met ∷ []) (length mets) (sight_in met) met.before (grows_push mets met) new))
 
     apart_push : IsFound mets (sight_in met) None → AreApart all
-    unfolding all
     apart_push fresh i j one other at here alike = go (get_push mets met i one at) (get_push mets met j other here)
       where
         go : (slice_get mets i ≡ Some one) ⊎ ((i ≡ length mets) × (met ≡ one)) → (slice_get mets j ≡ Some other) ⊎ ((j ≡ length mets) × (met ≡ other)) → i ≡ j

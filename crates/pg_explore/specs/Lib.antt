@@ -1,3 +1,4 @@
+pub mod AlikeStub
 pub mod Bins
 pub mod Explorations
 pub mod Faults

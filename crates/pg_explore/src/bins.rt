@@ -20,6 +20,22 @@ pub(crate) struct Bin {
     spots: Vec<Spot>,
 }
 
+impl Bin {
+    ghost use Rattle.std.specs.Prelude.{◌++◌, ◌∷◌, [], OnOk, OnErr};
+    ghost use Rattle.pg_explore.specs.Bins.{spots_in};
+
+    /// One more.
+    ///
+    /// Error: `AllocError`, by which nothing changes.
+    fn add(&mut self, spot: Spot) -> Result<(), AllocError>
+        ensures ok { OnOk result (spots_in self.new ≡ spots_in self.old ++ spot ∷ []) }
+        ensures err { OnErr result (spots_in self.new ≡ spots_in self.old) }
+    {
+        self.spots.push(spot)?;
+        Ok(())
+    }
+}
+
 /// Places by a number: those of one number are in one bin.
 #[derive(Drop)]
 pub(crate) struct Bins {
@@ -28,7 +44,7 @@ pub(crate) struct Bins {
 }
 
 impl Bins {
-    ghost use Rattle.std.specs.Prelude.{OnOk};
+    ghost use Rattle.std.specs.Prelude.{◌<◌, OnOk};
     ghost use Rattle.std.specs.List.{Contains};
     ghost use Rattle.pg_explore.specs.Bins.{Keeps, bin_of, spots_of};
 
@@ -61,13 +77,13 @@ impl Bins {
         ensures kept { Keeps self.old self.new }
     {
         let bin = &mut self.bins[Bins::bin_of(number)];
-        bin.spots.push(Spot { number, place })?;
-        Ok(())
+        bin.add(Spot { number, place })
     }
 
     /// Which bin is that of a number.
     fn bin_of(number: u64) -> usize
-        ensures { result ≡ bin_of number }
+        ensures value { result ≡ bin_of number }
+        ensures small { result < 65_536 }
     {
         (number >> 48) as usize
     }

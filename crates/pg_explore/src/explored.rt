@@ -208,7 +208,7 @@ impl Explored {
         step: &Move,
     ) -> Result<Arrival, AllocError>
         requires holds { Holds config.now.starts.items plans.now limits.retries self.old }
-        requires open { IsOpenAt plans.now limits.retries (met_of self.old) place step.now }
+        requires can { IsOpenAt plans.now limits.retries (met_of self.old) place step.now }
         requires place { place < length (met_of self.old) }
         ensures holds { Holds config.now.starts.items plans.now limits.retries self.new }
         ensures grows { Grows (met_of self.old) (met_of self.new) }
@@ -238,7 +238,7 @@ impl Explored {
         moment: Moment,
     ) -> Result<Arrival, AllocError>
         requires holds { Holds config.now.starts.items plans.now limits.retries self.old }
-        requires open { IsOpenAt plans.now limits.retries (met_of self.old) place step.now }
+        requires can { IsOpenAt plans.now limits.retries (met_of self.old) place step.now }
         requires place { place < length (met_of self.old) }
         requires leads { LeadsFrom plans.now (met_of self.old) place step.now (sight_of moment) }
         requires of { IsOf config.now.starts.items moment }
@@ -277,7 +277,7 @@ impl Explored {
         number: u64,
     ) -> Result<Arrival, AllocError>
         requires holds { Holds config.now.starts.items plans.now limits.retries self.old }
-        requires open { IsOpenAt plans.now limits.retries (met_of self.old) place step.now }
+        requires can { IsOpenAt plans.now limits.retries (met_of self.old) place step.now }
         requires place { place < length (met_of self.old) }
         requires leads { LeadsFrom plans.now (met_of self.old) place step.now (sight_of moment) }
         requires of { IsOf config.now.starts.items moment }

@@ -1,11 +1,11 @@
 //! All runs of a configuration within limits: each order in which packets are taken, commands come in, waiting commands are tried again and
 //! losses happen and are seen, where worlds that are alike are met once.
 //!
-//! `explore(alloc, &config, &plans, limits, &mut visitor)?` meets them. Begin with `src/explore.rt`, then `specs/Explorations.antt`.
+//! `explore(alloc, &config, &plans, limits, &mut visitor)?` meets them. Begin with `src/exploration.rt`, then `specs/Explorations.antt`.
 #![tactic(auto)]
 
 mod bins;
-mod explore;
+mod exploration;
 mod explored;
 mod fault;
 mod listing;
@@ -17,10 +17,11 @@ mod number;
 mod plan;
 mod strand;
 mod strands;
+mod stub;
 mod visitor;
 mod ways;
 
-pub use explore::explore;
+pub use exploration::explore;
 pub use explored::{Before, Explored, Met};
 pub use fault::ExploreFault;
 pub use moment::Moment;

@@ -57,7 +57,8 @@ fn add_moves(
 {
     add_peers(moves, moment, plans, limits, node)?;
     add_planned(moves, alloc, moment, plans, limits, node)?;
-    add_retries(moves, moment, plans, limits, node)
+    add_retries(moves, moment, plans, limits, node)?;
+    Ok(())
 }
 
 /// Adds the packets that a node can take, and the losses that it can see.
@@ -156,8 +157,14 @@ fn add_planned(
     ensures { OnOk result (AddsOpen plans.now limits.retries (sight_of moment.now) (IsPlannedOf node) moves.old.items moves.new.items) }
 {
     match planned_next(plans, moment.strands.as_slice(), node) {
-        Some(Planned::Step(_)) => Ok(moves.push(Move::Next { node })?),
-        Some(Planned::Loss) => add_losses(moves, alloc, moment, node),
+        Some(Planned::Step(_)) => {
+            moves.push(Move::Next { node })?;
+            Ok(())
+        }
+        Some(Planned::Loss) => {
+            add_losses(moves, alloc, moment, node)?;
+            Ok(())
+        }
         None => Ok(()),
     }
 }
@@ -176,9 +183,10 @@ fn add_retries(
     requires there { IsThere (sight_of moment.now) node }
     ensures { OnOk result (AddsOpen plans.now limits.retries (sight_of moment.now) (IsRetryOf node) moves.old.items moves.new.items) }
 {
-    for op in waiting_at(moment, node)? {
+    let ops = waiting_at(moment, node)?;
+    for op in ops.as_slice() {
         if may_retry(moment, limits, node, op.number) {
-            moves.push(Move::Retry { node, op })?;
+            moves.push(Move::Retry { node, op: *op })?;
         }
     }
     Ok(())

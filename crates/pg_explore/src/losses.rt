@@ -96,10 +96,26 @@ fn add_longer(
 ) -> Result<(), AllocError>
     ensures { OnOk result (AddsLonger most keep.now all.old.items all.new.items) }
 {
-    for count in 0..=most {
-        let mut more = Vec::from_slice(alloc, keep)?;
-        more.push(count)?;
-        all.push(Items::from_vec(more))?;
+    for count in 0..most {
+        add_with(all, alloc, keep, count)?;
     }
+    add_with(all, alloc, keep, most)?;
+    Ok(())
+}
+
+/// Adds a list with a number more at its end.
+///
+/// Error: `AllocError`.
+fn add_with(
+    all: &mut Vec<Items<usize>>,
+    alloc: Global,
+    keep: &[usize],
+    count: usize,
+) -> Result<(), AllocError>
+    ensures { OnOk result (all.new.items ≡ all.old.items ++ (keep.now ++ count ∷ []) ∷ []) }
+{
+    let mut more = Vec::from_slice(alloc, keep)?;
+    more.push(count)?;
+    all.push(Items::from_vec(more))?;
     Ok(())
 }

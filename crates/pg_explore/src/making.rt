@@ -1,10 +1,12 @@
 //! What a step makes of a world.
 
-ghost use Rattle.std.specs.Prelude.{◌≡◌, IfOk, map};
+ghost use Rattle.std.specs.Prelude.{◌≡◌, Some, IfOk, map};
 ghost use Rattle.std.specs.Option.{option_copied};
 ghost use Rattle.pg_world.specs.FrameWorlds.{view_of, lost_of, given_of};
 ghost use Rattle.pg_explore.specs.Moments.{progress_of};
-ghost use Rattle.pg_explore.specs.Moves.{IsOutcome, Makes, MakesLoss, MakesPlanned, MakesStep};
+ghost use Rattle.pg_step.specs.Step.{Retry as tried_again};
+ghost use Rattle.pg_world.specs.Losing.{told_take, told_own, told_sight};
+ghost use Rattle.pg_explore.specs.Moves.{IsOutcome, Makes, MakesLoss, MakesPlanned, MakesStep, MakesTold};
 
 use crate::moves::Move;
 use crate::plan::{Plan, Planned};
@@ -12,6 +14,7 @@ use crate::strand::Strand;
 use crate::strands::planned_next;
 use pg_index::IndexTable;
 use pg_node::NodeFault;
+use pg_step::OpId;
 use pg_world::{FrameStep, FrameWorld, Stepped};
 use std::alloc::{AllocError, Global};
 
@@ -29,21 +32,49 @@ pub(crate) fn make(
     ensures given { given_of world.new ≡ given_of world.old }
 {
     match step {
-        Move::Take { node, peer } => {
-            let (node, peer) = (*node, *peer);
-            make_step(world, &FrameStep::Take { node, peer })
-        }
+        Move::Take { node, peer } => take(world, *node, *peer),
         Move::Next { node } => make_planned(world, planned_next(plans, strands, *node)),
         Move::Loss { node, keep } => lose(world, alloc, *node, keep.as_slice()),
-        Move::Retry { node, op } => {
-            let (node, op) = (*node, *op);
-            make_step(world, &FrameStep::Retry { node, op })
-        }
-        Move::SeeLoss { node, peer } => {
-            let (node, peer) = (*node, *peer);
-            make_step(world, &FrameStep::SeeLoss { node, peer })
-        }
+        Move::Retry { node, op } => retry(world, *node, *op),
+        Move::SeeLoss { node, peer } => see_loss(world, *node, *peer),
     }
+}
+
+/// Has a node take the first packet of a peer; whether it happened.
+///
+/// Error: `AllocError`.
+fn take(world: &mut FrameWorld<IndexTable>, node: usize, peer: usize) -> Result<bool, AllocError>
+    ensures made { IfOk result (MakesTold (λ config u. Some (told_take config u node peer)) (view_of world.old) (lost_of world.old) (view_of world.new) (lost_of world.new)) }
+    ensures given { given_of world.new ≡ given_of world.old }
+{
+    let step = FrameStep::Take { node, peer };
+    make_step(world, &step)
+}
+
+/// Has a node try a command again; whether it happened.
+///
+/// Error: `AllocError`.
+fn retry(world: &mut FrameWorld<IndexTable>, node: usize, op: OpId) -> Result<bool, AllocError>
+    ensures made { IfOk result (MakesTold (λ config u. Some (told_own config u node (tried_again op))) (view_of world.old) (lost_of world.old) (view_of world.new) (lost_of world.new)) }
+    ensures given { given_of world.new ≡ given_of world.old }
+{
+    let step = FrameStep::Retry { node, op };
+    make_step(world, &step)
+}
+
+/// Has a node see the loss of a peer; whether it happened.
+///
+/// Error: `AllocError`.
+fn see_loss(
+    world: &mut FrameWorld<IndexTable>,
+    node: usize,
+    peer: usize,
+) -> Result<bool, AllocError>
+    ensures made { IfOk result (MakesTold (λ config u. Some (told_sight config u node peer)) (view_of world.old) (lost_of world.old) (view_of world.new) (lost_of world.new)) }
+    ensures given { given_of world.new ≡ given_of world.old }
+{
+    let step = FrameStep::SeeLoss { node, peer };
+    make_step(world, &step)
 }
 
 /// Makes the step that is planned, where it is one; whether it happened.
@@ -75,7 +106,8 @@ fn lose(
     ensures given { given_of world.new ≡ given_of world.old }
 {
     let keep = Vec::from_slice(alloc, keep)?;
-    make_step(world, &FrameStep::Lose { node, keep })
+    let step = FrameStep::Lose { node, keep };
+    make_step(world, &step)
 }
 
 /// Makes a step; whether it happened.

@@ -36,7 +36,8 @@ fn agree(strands: &[Strand], others: &[Strand]) -> bool
     ensures { IsTrue result ↔ (map progress_of strands.now ≡ map progress_of others.now) }
 {
     for place in 0..strands.len() {
-        if !strands[place].same(&others[place]) {
+        let strand = &strands[place];
+        if !strand.same(&others[place]) {
             return false;
         }
     }

@@ -1,6 +1,7 @@
 //! What is on the way from a node.
 
-ghost use Rattle.std.specs.Prelude.{◌≡◌, ◌<◌, ◌+◌, [], get_or, length, map};
+ghost use Rattle.std.specs.Prelude.{◌≡◌, ◌≢◌, ◌<◌, ◌≤◌, ◌+◌, ◌^◌, [], get_or, length, map};
+ghost use Rattle.pg_world.specs.Views.{peer_place};
 ghost use Rattle.pg_node.specs.States.{stamped_of};
 ghost use Rattle.pg_world.specs.FrameWorlds.{traffic_of};
 ghost use Rattle.pg_explore.specs.Moments.{IsSized};
@@ -16,6 +17,16 @@ pub(crate) fn way(moment: &Moment, node: usize, place: usize) -> &VecDeque<Packe
     requires peer { place + 1 < length moment.now.strands.items }
     ensures { map stamped_of result.now.items ≡ get_or (get_or (traffic_of moment.now.world).ways node []) place [] }
 {
-    let peer = if place < node { place } else { place + 1 };
+    let peer = peer_at(node, place);
     moment.world.on_way(node, peer).unwrap()
+}
+
+/// The peer of a node at a place.
+fn peer_at(node: usize, place: usize) -> usize
+    requires { place + 1 < 2 ^ 64 }
+    ensures place { peer_place node result ≡ place }
+    ensures other { result ≢ node }
+    ensures near { result ≤ place + 1 }
+{
+    if place < node { place } else { place + 1 }
 }

@@ -78,7 +78,10 @@ fn lend_all<V: Visitor>(
     ensures lent { OnOk result (AreLent (V.lent visitor.old) (V.lent visitor.new) (take explored.new.lent (met_of explored.new))) }
 {
     for turn in 0..limits.worlds {
-        if explored.is_whole() || !explored.lend(config, plans, limits, visitor)? {
+        if explored.is_whole() {
+            return Ok(());
+        }
+        if !explored.lend(config, plans, limits, visitor)? {
             return Ok(());
         }
     }
