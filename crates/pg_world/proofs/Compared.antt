@@ -1,9 +1,9 @@
 -- Lists that are compared place by place, sets of places, and what is kept of groups that are named.
-use Rattle.std.proofs.Common.{◌≡◌, ℕ, ◌+◌, ◌<◌, ◌≤◌, Bool, true, false, ◌&&◌, ◌||◌, nat_eq, List, [], ◌∷◌, ◌++◌, map, take, get_or, length, refl, sym, ap, subst, ◌∙◌, arith, append-nil}
+use Rattle.std.proofs.Common.{◌≡◌, ℕ, ◌+◌, ◌<◌, ◌≤◌, Bool, true, false, ◌||◌, nat_eq, List, [], ◌∷◌, map, take, get_or, length, refl, sym, ap, ◌∙◌, arith}
 use Rattle.std.specs.Cmp.{first_so, second_so}
-use Rattle.std.specs.List.{list_all, list_any}
+use Rattle.std.specs.List.{list_all}
 use Rattle.std.proofs.lemmas.Bool.{eqb-true, eq-eqb}
-use Rattle.std.proofs.lemmas.List.{take_more_same, take_all, length-map, get_or-map, get_or_default, same_from_push}
+use Rattle.std.proofs.lemmas.List.{take_more_same, take_all, length-map, get_or-map}
 use Rattle.pg_opens.proofs.Alike.{both_true}
 use Rattle.pg_opens.proofs.Named.{clash}
 use Rattle.pg_world.specs.Alike.{AreSameLost}
@@ -39,27 +39,16 @@ module _ {A B C : Type 0} (f : A → B) (g : B → C) where
   pub twice_at : (xs : List A) (k : ℕ) (d : A) (e : C) → k < length xs → get_or (map g (map f xs)) k e ≡ g (f (get_or xs k d))
   twice_at xs k d e within = get_or-map g (map f xs) k (f d) e (omega (arith, length-map xs f, within)) ∙ ap g (get_or-map f xs k d (f d) within)
 
--- ---- one more behind a list
-
-module _ {A : Type 0} (xs ys : List A) where
-  pub none_behind : xs ++ [] ≡ ys ++ [] → xs ≡ ys
-  none_behind e = sym (append-nil xs) ∙ (e ∙ append-nil ys)
-
-  pub none_before : xs ≡ ys → xs ++ [] ≡ ys ++ []
-  none_before e = append-nil xs ∙ (e ∙ sym (append-nil ys))
-
-  pub one_behind : (x y : A) → x ≡ y → xs ≡ ys → xs ++ x ∷ [] ≡ ys ++ y ∷ []
-  one_behind x y e f = λ i. f i ++ e i ∷ []
-
 -- ---- the nodes that are lost
 
 among_all : (others places : List ℕ) → list_all (is_lost others) places ≡ true → (node : ℕ) → is_lost places node ≡ true → is_lost others node ≡ true
 among_all others [] all node lost = absurd (clash (sym lost))
-among_all others (place ∷ places) all node lost = go (nat_eq place node) refl lost
+among_all others (place ∷ places) all node lost =
+    go (nat_eq place node) refl lost (among_all others places (second_so (is_lost others place) (list_all (is_lost others) places) all) node)
   where
-    go : (b : Bool) → nat_eq place node ≡ b → (b || is_lost places node) ≡ true → is_lost others node ≡ true
-    go true e l = ap (is_lost others) (sym (eqb-true place node e)) ∙ first_so (is_lost others place) (list_all (is_lost others) places) all
-    go false e l = among_all others places (second_so (is_lost others place) (list_all (is_lost others) places) all) node l
+    go : (b : Bool) → nat_eq place node ≡ b → (b || is_lost places node) ≡ true → (is_lost places node ≡ true → is_lost others node ≡ true) → is_lost others node ≡ true
+    go true e l later = ap (is_lost others) (sym (eqb-true place node e)) ∙ first_so (is_lost others place) (list_all (is_lost others) places) all
+    go false e l later = later l
 
 all_among : (others places : List ℕ) → ((node : ℕ) → is_lost places node ≡ true → is_lost others node ≡ true) → list_all (is_lost others) places ≡ true
 all_among others [] h = refl

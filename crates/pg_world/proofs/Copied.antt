@@ -1,5 +1,5 @@
 -- A world whose parts were copied is the same world.
-use Rattle.std.proofs.Common.{◌≡◌, ℕ, suc, Bool, true, false, cond, Option, Some, None, List, [], ◌∷◌, ◌++◌, map, refl, sym, ap, subst, ◌∙◌, arith}
+use Rattle.std.proofs.Common.{◌≡◌, ℕ, suc, Bool, true, false, cond, Option, Some, None, List, [], ◌∷◌, map, refl, sym, ap, subst, ◌∙◌, arith}
 use Rattle.std.proofs.Math.Path.{fun_ext}
 use Rattle.std.specs.List.{All, AllZip}
 use Rattle.std.specs.BTreeMap.{BTreeMap, is_at, get, UpdatesBy}
@@ -109,25 +109,25 @@ all_told whole done left is copied q =
     sym (or_none (option_map told_of (get term_cmp done q))) ∙ here.overlaid q
 
 -- one thing that is told of a row, where there is one
-through : {A : Type 0} (f : Told → A) (none : A) (o : Option Row) → option_map_or (λ (row : Row). f (told_of row)) o none ≡ option_map_or f (option_map told_of o) none
-through f none None = refl
-through f none (Some row) = refl
+through : (A : Type 0) (f : Told → A) (none : A) (o : Option Row) → option_map_or (λ (row : Row). f (told_of row)) o none ≡ option_map_or f (option_map told_of o) none
+through A f none None = refl
+through A f none (Some row) = refl
 
 pub entries_copied : (whole done : Rows) (left : List (Term × Row)) → left ≡ [] → RowsCopied whole done left → entries_in done ≡ entries_in whole
-entries_copied whole done left is copied = fun_ext (λ q. through (λ t. t.0) [] (get term_cmp done q)
-    ∙ (ap (λ (o : Option Told). option_map_or (λ t. t.0) o []) (all_told whole done left is copied q) ∙ sym (through (λ t. t.0) [] (get term_cmp whole q))))
+entries_copied whole done left is copied = fun_ext (λ q. through (List Entry) (λ t. t.0) [] (get term_cmp done q)
+    ∙ (ap (λ (o : Option Told). option_map_or (λ (t : Told). t.0) o []) (all_told whole done left is copied q) ∙ sym (through (List Entry) (λ t. t.0) [] (get term_cmp whole q))))
 
 pub counts_copied : (whole done : Rows) (left : List (Term × Row)) → left ≡ [] → RowsCopied whole done left → counts_in done ≡ counts_in whole
-counts_copied whole done left is copied = fun_ext (λ i. fun_ext (λ q. through (λ t. t.1 i) 0 (get term_cmp done q)
-    ∙ (ap (λ (o : Option Told). option_map_or (λ t. t.1 i) o 0) (all_told whole done left is copied q) ∙ sym (through (λ t. t.1 i) 0 (get term_cmp whole q)))))
+counts_copied whole done left is copied = fun_ext (λ i. fun_ext (λ q. through ℕ (λ t. t.1 i) 0 (get term_cmp done q)
+    ∙ (ap (λ (o : Option Told). option_map_or (λ (t : Told). t.1 i) o 0) (all_told whole done left is copied q) ∙ sym (through ℕ (λ t. t.1 i) 0 (get term_cmp whole q)))))
 
 -- ---- worlds
 
 pub whole_too : (one other : Traffic) → other ≡ one → IsWhole one → IsWhole other
 whole_too one other same whole = subst IsWhole (sym same) whole
 
-pub past_too : (given lent : Config) (view copy : View) (lost gone : List ℕ) → lent ≡ given → copy ≡ view → gone ≡ lost → ∥ FramesHavePast given view lost ∥₁ → ∥ FramesHavePast lent copy gone ∥₁
+pub past_too : (given lent : Config) (view copy : View) (lost gone : List ℕ) → lent ≡ given → copy ≡ view → gone ≡ lost → FramesHavePast given view lost → FramesHavePast lent copy gone
 past_too given lent view copy lost gone same seen away past =
-    subst (λ (c : Config). ∥ FramesHavePast c copy gone ∥₁) (sym same)
-    (subst (λ (v : View). ∥ FramesHavePast given v gone ∥₁) (sym seen)
-    (subst (λ (l : List ℕ). ∥ FramesHavePast given view l ∥₁) (sym away) past))
+    subst (λ (c : Config). FramesHavePast c copy gone) (sym same)
+    (subst (λ (v : View). FramesHavePast given v gone) (sym seen)
+    (subst (λ (l : List ℕ). FramesHavePast given view l) (sym away) past))

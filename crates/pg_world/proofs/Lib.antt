@@ -9,6 +9,7 @@ mod Deciding
 mod Dropped
 mod Fitted
 mod Harmless
+mod LastEntries
 mod Leading
 mod Linked
 mod Listed
@@ -18,6 +19,7 @@ mod Lossy
 pub mod OneList
 mod Messages
 mod NamedGroups
+mod NodesAlike
 mod Opened
 pub mod Ordered
 pub mod OrderedOnce

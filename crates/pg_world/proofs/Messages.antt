@@ -1,17 +1,16 @@
 -- Messages that compare as one are one, and so are entries.
-use Rattle.std.proofs.Common.{◌≡◌, ℕ, Bool, true, false, ◌&&◌, nat_eq, List, [], ◌∷◌, refl, sym, ap, ◌∙◌}
+use Rattle.std.proofs.Common.{◌≡◌, Bool, true, ◌&&◌, nat_eq, List, refl, sym, ap, ◌∙◌}
 use Rattle.std.specs.Cmp.{first_so, second_so}
 use Rattle.std.specs.Cmp.Lexicographic.{pointwise}
 use Rattle.std.proofs.lemmas.Bool.{eqb-true, eq-eqb}
 use Rattle.pg_term.specs.declared.pid.Pid.{Pid}
 use Rattle.pg_term.specs.declared.term.Term.{Term}
-use Rattle.pg_term.specs.RefParts.{RefParts, ref_eq}
+use Rattle.pg_term.specs.RefParts.{ref_eq}
 use Rattle.pg_term.specs.Same.{same_atom, same_pid, same_term}
 use Rattle.pg_term.specs.contracts.pid.PidEq.TheImpl.Laws.{laws-law as pids}
 use Rattle.pg_term.specs.contracts.reference.ReferenceEq.TheImpl.Laws.{laws-law as references}
 use Rattle.pg_term.specs.contracts.term.TermEq.TheImpl.Laws.{laws-law as terms}
 use Rattle.pg_term.proofs.Same.{same_term as term_is, pid_is, ref_is}
-use Rattle.pg_group.specs.declared.update.Update.{Update}
 use Rattle.pg_message.specs.declared.message.Message.{Message}
 use Rattle.pg_message.specs.declared.message.Message.TheVariants.{Call, Reply, DelLock, Exchange, Down}
 use Rattle.pg_message.specs.declared.message.Request.{Request}

@@ -1,5 +1,5 @@
 -- Worlds that have the same of each group that is named have the same of every group.
-use Rattle.std.proofs.Common.{◌≡◌, ℕ, ◌+◌, ◌<◌, suc, Bool, true, false, cond, nat_eq, ◌&&◌, ◌||◌, Option, Some, None, List, [], ◌∷◌, ◌++◌, length, refl, sym, ap, subst, ◌∙◌, arith}
+use Rattle.std.proofs.Common.{◌≡◌, ℕ, suc, Bool, true, false, cond, nat_eq, ◌&&◌, ◌||◌, Option, Some, None, List, [], ◌∷◌, ◌++◌, refl, sym, ap, subst, ◌∙◌, arith}
 use Rattle.std.specs.Prelude.{is_some, IsSome}
 use Rattle.std.specs.BTreeMap.{BTreeMap, get, keys}
 use Rattle.std.specs.List.{All, AllByRecursion, list_any}
@@ -43,11 +43,12 @@ module _ (h : Histories) (name : Term) (no_row : get term_cmp h.rows name ≡ No
   no_count : (i : ℕ) (last : Option Entry) → is_last last name ≡ false → ◌≡◌ {A = ℕ} (last_count last i name) 0
   unfolding is_last
   no_count i None e = refl
-  no_count i (Some entry) e = ap (λ b. cond (nat_eq entry.node i && b) 1 0) e ∙ zero_of (nat_eq entry.node i)
+  no_count i (Some entry) e = zero_of (nat_eq entry.node i) (same_term name (name_of entry.update)) e
     where
-      zero_of : (b : Bool) → ◌≡◌ {A = ℕ} (cond (b && false) 1 0) 0
-      zero_of true = refl
-      zero_of false = refl
+      zero_of : (b d : Bool) → d ≡ false → ◌≡◌ {A = ℕ} (cond (b && d) 1 0) 0
+      zero_of true true f = absurd (clash f)
+      zero_of true false f = refl
+      zero_of false d f = refl
 
   unnamed_history : history_in h name ≡ []
   unnamed_history = (λ j. option_map_or entries_of (no_row j) [] ++ no_entries h.last not_last j)
@@ -121,11 +122,11 @@ names_decide x y e = term_is x y (term_order.matches_eq-law x y ∙ e)
 module _ (P : Term → Type 0) (rows : BTreeMap Term Row) where
   among : (names : List Term) (q : Term) → list_any (eq_by_cmp term_cmp q) names ≡ true → AllByRecursion P names → P q
   among [] q e all = absurd (clash (sym e))
-  among (name ∷ names) q e all = go (eq_by_cmp term_cmp q name) refl e
+  among (name ∷ names) q e all = go (eq_by_cmp term_cmp q name) refl e (λ h. among names q h all.1)
     where
-      go : (b : Bool) → eq_by_cmp term_cmp q name ≡ b → (b || list_any (eq_by_cmp term_cmp q) names) ≡ true → P q
-      go true is h = subst P (sym (names_decide q name is)) all.0
-      go false is h = among names q h all.1
+      go : (b : Bool) → eq_by_cmp term_cmp q name ≡ b → (b || list_any (eq_by_cmp term_cmp q) names) ≡ true → (list_any (eq_by_cmp term_cmp q) names ≡ true → P q) → P q
+      go true is h later = subst P (sym (names_decide q name is)) all.0
+      go false is h later = later h
 
   pub of_rows : ((q : Term) → is_some (get term_cmp rows q) ≡ list_any (eq_by_cmp term_cmp q) (keys rows)) → AllByRecursion P (keys rows) → (name : Term) → IsSome (get term_cmp rows name) → P name
   of_rows has all name there = among (keys rows) name (sym (has name) ∙ there) all

@@ -1,5 +1,5 @@
 -- When two worlds are alike: the same but for clocks and stamps.
-use Rattle.std.specs.Prelude.{◌≡◌, ◌<◌, ℕ, true, map, length, List, Option, Some, None, IsSome}
+use Rattle.std.specs.Prelude.{◌≡◌, ◌<◌, ℕ, map, length, List, Option, Some, None, IsSome}
 use Rattle.std.specs.BTreeMap.{get}
 use Rattle.pg_term.specs.declared.term.Term.{Term}
 use Rattle.pg_term.specs.Same.{term_cmp}

@@ -87,7 +87,7 @@ pub(crate) fn same_with_last(
     others: &[Entry],
     other_last: Option<&Entry>,
 ) -> bool
-    ensures { IsTrue result ↔ (map as_entry entries.now ++ last_entries (option_copied last) ≡ map as_entry others.now ++ last_entries (option_copied other_last)) }
+    ensures { IsTrue result ↔ (map as_entry entries.now ++ last_entries (option_copied last.entry) ≡ map as_entry others.now ++ last_entries (option_copied other_last.entry)) }
 {
     match (last, other_last) {
         (None, None) => same_entries(entries, others),

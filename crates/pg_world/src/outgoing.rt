@@ -78,7 +78,8 @@ impl Outgoing {
         }
         for place in 0..self.ways.len() {
             let way = &self.ways[place];
-            if !way.is_alike(&other.ways[place]) {
+            let twin = &other.ways[place];
+            if !way.is_alike(twin) {
                 return false;
             }
         }

@@ -1,4 +1,4 @@
-use Rattle.std.proofs.Common.{◌∙◌, sym, refl, subst}
+use Rattle.std.proofs.Common.{sym, refl, subst}
 use Rattle.pg_term.specs.declared.term.Term.{Term}
 use Rattle.pg_world.specs.Alike.{HaveSameUpdates}
 use Rattle.pg_world.specs.Histories.{account_of}

@@ -1,7 +1,7 @@
 use Rattle.std.proofs.Common.{◌≡◌, ◌∙◌, List, sym, refl, subst}
-use Rattle.std.specs.Prelude.{is_some, IsSome}
+use Rattle.std.specs.Prelude.{is_some}
 use Rattle.std.specs.BTreeMap.{get, keys}
-use Rattle.std.specs.List.{All, list_any}
+use Rattle.std.specs.List.{list_any}
 use Rattle.std.specs.Ordering.{eq_by_cmp}
 use Rattle.pg_term.specs.declared.term.Term.{Term}
 use Rattle.pg_term.specs.Same.{term_cmp}
@@ -14,7 +14,7 @@ use Rattle.pg_world.proofs.histories.Histories.agree_on_rows.Goals as goal
 pub loop-name-init : goal.loop-name-init
 loop-name-init c =
     let P = HaveSameUpdates c.args.nodes (account_of c.args.self.now) (account_of c.args.other.now) in
-    all_left P (keys c.args.self.now.rows) c.keys-name-items.result c.keys-name-items.ensures.rest
+    all_left P (keys c.args.self.now.rows) c.into_iter-name-iterator.result (c.into_iter-name-iterator.ensures.into_iter_gives ∙ c.keys-name-items.ensures.rest)
 
 pub loop-name-preserved : goal.loop-name-preserved
 loop-name-preserved c =
