@@ -7,7 +7,7 @@ use mathlib.Core.Logic.{∥∥₁_elim}
 use Rattle.pg_group.specs.declared.table.GroupTable.{Ghosts}
 use Rattle.pg_world.proofs.Ordered.{ordered_length}
 use Rattle.pg_world.specs.declared.frame_world.FrameWorld.{FrameWorld}
-use Rattle.pg_explore.specs.AlikeStub.{AreAlikeWorlds, HaveSameUpdates, without_clock, without_stamps}
+use Rattle.pg_world.specs.Alike.{AreAlikeWorlds, HaveSameUpdates, without_clock, without_stamps}
 use Rattle.pg_world.specs.FrameWorlds.{traffic_of, given_of}
 use Rattle.pg_world.specs.Views.{Account, Seen, View}
 use Rattle.pg_term.specs.declared.term.Term.{Term}

@@ -1,4 +1,3 @@
-pub mod AlikeStub
 pub mod Bins
 pub mod Explorations
 pub mod Faults

@@ -1,7 +1,7 @@
 -- Moments of runs, as they are seen.
 use Rattle.std.specs.Prelude.{◌≡◌, ℕ, ◌+◌, ◌-◌, zero, suc, map, length, replicate, List, [], ◌∷◌, ◌++◌}
 use Rattle.pg_step.specs.Config.{Config}
-use Rattle.pg_explore.specs.AlikeStub.{AreAlikeWorlds}
+use Rattle.pg_world.specs.Alike.{AreAlikeWorlds}
 use Rattle.pg_world.specs.FrameWorlds.{view_of, lost_of, given_of}
 use Rattle.pg_world.specs.Starts.{Begins}
 use Rattle.pg_world.specs.Views.{View}

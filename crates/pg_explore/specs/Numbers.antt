@@ -6,7 +6,7 @@ use Rattle.pg_machine.specs.Clocked.{Stamped, packets_of}
 use Rattle.pg_message.specs.declared.message.Message.{Message}
 use Rattle.pg_message.specs.declared.message.Message.TheVariants.{Call, Reply, DelLock, Exchange, Down}
 use Rattle.pg_message.specs.declared.message.Request.TheVariants.{SetLock, Change}
-use Rattle.pg_explore.specs.AlikeStub.{without_clock, without_stamps}
+use Rattle.pg_world.specs.Alike.{without_clock, without_stamps}
 use Rattle.pg_world.specs.Views.{Seen}
 use Rattle.pg_explore.specs.Moments.{Progress, Sight}
 

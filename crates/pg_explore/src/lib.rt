@@ -17,7 +17,6 @@ mod number;
 mod plan;
 mod strand;
 mod strands;
-mod stub;
 mod visitor;
 mod ways;
 

@@ -13,7 +13,6 @@ use crate::moves::Move;
 use crate::plan::Plan;
 use crate::strand::Strand;
 use crate::strands::{idle_strands, same_strands, strands_after};
-use crate::stub::{are_alike, copy_world};
 use pg_index::IndexTable;
 use pg_world::{Config, FrameWorld};
 use std::alloc::{AllocError, Global};
@@ -48,7 +47,7 @@ impl Moment {
         ensures { IfOk result (λ alike. IsTrue alike ↔ AreAlike (sight_of self.now) (sight_of other.now)) }
     {
         if same_strands(self.strands.as_slice(), other.strands.as_slice()) {
-            are_alike(&self.world, &other.world)
+            self.world.is_alike(&other.world)
         } else {
             Ok(false)
         }
@@ -69,7 +68,7 @@ impl Moment {
         ensures of { IfOk result (λ after. ForSome after (IsOf config.now.starts.items)) }
     {
         let strands = strands_after(alloc, self.strands.as_slice(), step)?;
-        let copy = copy_world(&self.world, config);
+        let copy = self.world.copy(config);
         match copy {
             Ok(world) => made(world, strands, alloc, self.strands.as_slice(), plans, step),
             Err(fault) => Err(fault),

@@ -3,7 +3,7 @@
 ghost use Rattle.std.specs.Prelude.{◌≡◌, ◌<◌, [], fold, get_or, length, map};
 ghost use Rattle.std.specs.Option.{option_copied, option_map_or};
 ghost use Rattle.pg_node.specs.States.{stamped_of};
-ghost use Rattle.pg_explore.specs.AlikeStub.{without_clock, without_stamps};
+ghost use Rattle.pg_world.specs.Alike.{without_clock, without_stamps};
 ghost use Rattle.pg_world.specs.Views.{seen_of};
 ghost use Rattle.pg_world.specs.FrameWorlds.{traffic_of};
 ghost use Rattle.pg_explore.specs.Moments.{IsSized, progress_of, sight_of};

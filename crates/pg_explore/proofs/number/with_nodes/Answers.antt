@@ -1,7 +1,7 @@
 use Rattle.std.proofs.Common.{◌≡◌, ◌<◌, ◌≤◌, ◌∙◌, ap, arith, map, length}
 use Rattle.std.proofs.lemmas.List.{length-map}
 use Rattle.std.specs.Option.{option_copied}
-use Rattle.pg_explore.specs.AlikeStub.{without_clock}
+use Rattle.pg_world.specs.Alike.{without_clock}
 use Rattle.pg_world.specs.FrameWorlds.{traffic_of}
 use Rattle.pg_world.specs.Views.{seen_of}
 use Rattle.pg_explore.specs.Numbers.{mixed_node}

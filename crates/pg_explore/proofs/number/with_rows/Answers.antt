@@ -1,7 +1,7 @@
 use Rattle.std.proofs.Common.{◌≡◌, ◌<◌, ◌≤◌, ◌∙◌, ap, arith, map, get_or, [], length}
 use Rattle.std.proofs.lemmas.List.{length-map}
 use Rattle.std.proofs.lemmas.Option.{slice_get-get_or}
-use Rattle.pg_explore.specs.AlikeStub.{without_stamps}
+use Rattle.pg_world.specs.Alike.{without_stamps}
 use Rattle.pg_world.specs.FrameWorlds.{traffic_of}
 use Rattle.pg_explore.specs.Numbers.{mixed_row}
 use Rattle.pg_explore.proofs.Counting.{fold_all, fold_more, map_at}
