@@ -68,7 +68,7 @@ serve_line = with_rule (with_rule served_line (number_rule (codes "commands") (c
 
 -- the program, without its commands
 abbrev pub top_line : App
-top_line = on_top (λ top. record top { no_binary_name = true; subcommand_required = true; disable_help_subcommand = true }) (new_app (codes "pg2sim"))
+top_line = on_top (λ top. record top { has_version = true; no_binary_name = true; subcommand_required = true; disable_help_subcommand = true }) (new_app (codes "pg2sim"))
 
 -- one of the four
 abbrev pub command_line : App

@@ -1,5 +1,8 @@
 //! The texts of help.
 
+/// What the program is, and what it is proved with: the line of `rt version`.
+pub(crate) const VERSION: &str = "of Zulayefi, proved with rattle-kit-13f logic dac8208d650f15bf";
+
 /// What the program is.
 pub(crate) const ABOUT: &str =
     "Process groups over nodes that packets link, as Erlang's pg2 has them.

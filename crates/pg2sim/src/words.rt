@@ -9,7 +9,7 @@ use crate::help::{
     ABOUT, BYTES_ABOUT, CLIENTS_HELP, COMMANDS_HELP, DIAGRAM_HELP, JSON_HELP, MEMBERS_HELP,
     NAME_HELP, NODE_HELP, NODES_HELP, PEER_HELP, PORTS_HELP, ROUNDS_HELP, SCRIPT_ABOUT,
     SCRIPT_FORMS, SEED_HELP, SERVE_ABOUT, SERVE_LINES, THREADS_ABOUT, THREADS_LINES, TRACE_HELP,
-    TURNS_HELP,
+    TURNS_HELP, VERSION,
 };
 use clap::builder::ValueParser;
 use clap::{Arg, ArgAction, ArgMatches, Command, Error};
@@ -219,6 +219,7 @@ fn top_command<'a>(alloc: Global) -> Result<Command<'a>, AllocError>
 {
     Command::new(alloc, "pg2sim")
         .about(ABOUT)
+        .version(VERSION)
         .no_binary_name(true)
         .subcommand_required(true)
         .disable_help_subcommand(true)

@@ -25,8 +25,8 @@ use Rattle.pg_step.specs.Config.{Config, name_at, names_of, nodes_at}
 use Rattle.pg_step.specs.State.{State, formed, left}
 use Rattle.pg_step.specs.Step.{Action, Issue}
 use Rattle.pg_step.specs.declared.command.Command.TheVariants.{Finish}
-use Rattle.pg_together.specs.Apart.{event_at}
-use Rattle.pg_world.specs.declared.step.FrameStep.{FrameStep}
+use Rattle.pg_joining.specs.Apart.{event_at}
+use Rattle.pg_frame_world.specs.declared.step.FrameStep.{FrameStep}
 use Rattle.pg_cluster.specs.Judges.{Agree, formed_in, is_end_pending, is_pending_end, is_taken_by_some, state_in}
 use Rattle.pg_cluster.specs.Notices.{NobodyLost}
 use Rattle.pg_cluster.specs.Threads.{NodeOf, Thread, AreMade, begun_by}

@@ -4,10 +4,10 @@ use Rattle.std.proofs.lemmas.List.{get_or-map, length-map}
 use Rattle.pg_machine.specs.Places.{is_pair}
 use Rattle.pg_ring.specs.Ends.{AreEnds, Sends, Receives}
 use Rattle.pg_ring.specs.EndsLaws.{AreEnds-later}
-use Rattle.pg_together.specs.Apart.{End, Crossed}
-use Rattle.pg_world.proofs.Peering.{place_within}
-use Rattle.pg_world.proofs.Turning.{pair_is, pair_turned}
-use Rattle.pg_world.specs.Views.{peer_place}
+use Rattle.pg_joining.specs.Apart.{End, Crossed}
+use Rattle.pg_frame_world.proofs.Peering.{place_within}
+use Rattle.pg_frame_world.proofs.Turning.{pair_is, pair_turned}
+use Rattle.pg_frame_world.specs.Views.{peer_place}
 use Rattle.pg_cluster.specs.Ended.{Arrived, AreJoined, AreWired, AllArrived, AllCrossed, row_at, end_at}
 use Rattle.pg_cluster.specs.Promises.{RanAs}
 use Rattle.pg_cluster.specs.Threads.{Thread, RanOf, Joined, row_in, begun_by, limit_of, rows_begun, rows_ended}

@@ -15,7 +15,7 @@ use Rattle.pg_run.specs.declared.port.Client.{Client}
 use Rattle.pg_ring.specs.Slots.{taken}
 use Rattle.pg_run.specs.Ports.{Meets}
 use Rattle.pg_step.specs.Config.{Config}
-use Rattle.pg_world.specs.declared.step.FrameStep.{FrameStep}
+use Rattle.pg_frame_world.specs.declared.step.FrameStep.{FrameStep}
 use Rattle.pg_cluster.specs.declared.closed.Closed.{Closed}
 use Rattle.pg_cluster.specs.declared.closed.Stopped.{Stopped}
 use Rattle.pg_cluster.specs.Clients.{AllPairs, AllHeard, ClientsRest, ports_ended}

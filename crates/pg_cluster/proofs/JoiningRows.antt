@@ -4,7 +4,7 @@ use Rattle.std.proofs.lemmas.Bool.Decides.{eqb_tells, leb_tells}
 use Rattle.std.proofs.lemmas.List.{append-nil, get_or-set_same, get_or-set_other, get_or_default}
 use Rattle.std.proofs.Math.ListN.{get_or-append, length-set}
 use Rattle.std.proofs.Math.Seq.{get_or-append_seam}
-use Rattle.pg_together.specs.Apart.{End}
+use Rattle.pg_joining.specs.Apart.{End}
 use Rattle.pg_cluster.specs.Ended.{Row}
 use Rattle.pg_cluster.specs.Rows.{Wired, Joins, Joined, PairAt, SoFar}
 

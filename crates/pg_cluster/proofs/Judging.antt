@@ -7,17 +7,17 @@ use Rattle.pg_node.specs.Same.{AreSameNodes}
 use Rattle.pg_node.specs.declared.node.Node.{Node}
 use Rattle.pg_machine.proofs.Options.{some_is}
 use Rattle.pg_step.specs.Config.{Config}
-use Rattle.pg_world.specs.declared.step.FrameStep.{FrameStep}
-use Rattle.pg_world.specs.declared.frame_world.FrameWorld.{FrameWorld}
+use Rattle.pg_frame_world.specs.declared.step.FrameStep.{FrameStep}
+use Rattle.pg_frame_world.specs.declared.frame_world.FrameWorld.{FrameWorld}
 use Rattle.pg_world.specs.Crossings.{node_of}
-use Rattle.pg_world.specs.Runs.{Ran, LosesNone, over_packets}
-use Rattle.pg_world.specs.Views.{Seen, seen_of}
-use Rattle.pg_world.specs.FrameWorlds.{lost_of, view_of}
-use Rattle.pg_world.specs.Worlds.{Shows, ShowsNode, TimedFrameWorld}
+use Rattle.pg_frame_world.specs.Runs.{Ran, LosesNone, over_packets}
+use Rattle.pg_frame_world.specs.Views.{Seen, seen_of}
+use Rattle.pg_frame_world.specs.FrameWorlds.{lost_of, view_of}
+use Rattle.pg_frame_world.specs.Worlds.{Shows, ShowsNode, TimedFrameWorld}
 use Rattle.pg_step.specs.LossLaws.{LosingFrameWorld}
-use Rattle.pg_together.specs.Losses.{nodes_in}
-use Rattle.pg_world.specs.Losing.{ShowsLosing, losing_of}
-use Rattle.pg_world.specs.LosingRuns.{RanLosing, packets_past_losses}
+use Rattle.pg_joining.specs.ApartWithLosses.{nodes_in}
+use Rattle.pg_frame_world.specs.Losing.{ShowsLosing, losing_of}
+use Rattle.pg_frame_world.specs.LosingRuns.{RanLosing, packets_past_losses}
 use Rattle.pg_cluster.specs.Judges.{AreShown, Replays, ReplaysPastLosses, all_made}
 
 -- what holds of each answer

@@ -13,13 +13,14 @@ use Rattle.pg_run.specs.Notices.{IsUntold}
 use Rattle.pg_run.specs.Ports.{IsUnused}
 use Rattle.pg_run.specs.Runs.{notices_of}
 use Rattle.pg_step.specs.Config.{Config, IsConfig}
-use Rattle.pg_together.specs.Apart.{End}
-use Rattle.pg_world.proofs.Peering.{known, place_low, place_high}
-use Rattle.pg_world.proofs.Turning.{pair_is}
+use Rattle.pg_joining.specs.Apart.{End}
+use Rattle.pg_frame_world.proofs.Peering.{known, place_low, place_high}
+use Rattle.pg_frame_world.proofs.Turning.{pair_is}
 use Rattle.pg_world.specs.BytesStart.{BytesBegin}
 use Rattle.pg_world.specs.Crossings.{idle_crossing, node_of as seen_node}
-use Rattle.pg_world.specs.Views.{no_account, peer_place}
-use Rattle.pg_world.specs.declared.fault.WorldFault.TheVariants.{OutOfMemory}
+use Rattle.pg_frame_world.specs.Views.{peer_place}
+use Rattle.pg_account.specs.Histories.{no_account}
+use Rattle.pg_config.specs.declared.fault.WorldFault.TheVariants.{OutOfMemory}
 use Rattle.pg_cluster.specs.declared.fault.StartFault.{StartFault}
 use Rattle.pg_cluster.specs.declared.fault.StartFault.TheVariants.{World, NoThread}
 use Rattle.pg_cluster.specs.declared.runs.Made.{Made}

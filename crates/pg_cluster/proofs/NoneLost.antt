@@ -2,10 +2,10 @@
 use Rattle.std.proofs.Common.{◌≡◌, ◌<◌, ℕ, true, not, List, [], ◌∷◌, map, Some, refl, zero, suc, arith}
 use Rattle.pg_machine.specs.Machine.{Event}
 use Rattle.pg_step.specs.Step.{Action}
-use Rattle.pg_world.specs.Runs.{LosesNone}
-use Rattle.pg_world.specs.Worlds.{event_of, is_loss}
-use Rattle.pg_world.specs.declared.step.FrameStep.{FrameStep}
-use Rattle.pg_world.specs.declared.step.FrameStep.TheVariants as steps
+use Rattle.pg_frame_world.specs.Runs.{LosesNone}
+use Rattle.pg_frame_world.specs.Worlds.{event_of, is_loss}
+use Rattle.pg_frame_world.specs.declared.step.FrameStep.{FrameStep}
+use Rattle.pg_frame_world.specs.declared.step.FrameStep.TheVariants as steps
 
 -- a step that is an event is no loss
 no_loss : (step : FrameStep) (e : Event Action) → event_of step ≡ Some e → not (is_loss step) ≡ true

@@ -33,17 +33,17 @@ use Rattle.pg_step.specs.Config.{Config, names_of}
 use Rattle.pg_step.specs.FrameMachine.{frame_machine, last_notice, losing_frame_machine}
 use Rattle.pg_step.specs.LossLaws.{LosingFrameWorld}
 use Rattle.pg_step.specs.Step.{Action, Issue, Retry}
-use Rattle.pg_together.proofs.Turns.{first_none, others_none, saw_none, SeesNone}
-use Rattle.pg_together.specs.Apart.{End, HaveRun, Linked as LinkedBy, Crossed, RanApart, RanTogether, event_at, events_in, end_of}
-use Rattle.pg_together.specs.Losses.{RanLosing, RanPastLosses, SeesLost, clock_of, losing_events, nodes_in}
-use Rattle.pg_world.specs.declared.step.FrameStep.{FrameStep}
-use Rattle.pg_world.specs.declared.step.FrameStep.TheVariants as steps
+use Rattle.pg_joining.proofs.Turns.{first_none, others_none, saw_none, SeesNone}
+use Rattle.pg_joining.specs.Apart.{End, HaveRun, Linked as LinkedBy, Crossed, RanApart, RanTogether, event_at, events_in, end_of}
+use Rattle.pg_joining.specs.ApartWithLosses.{RanLosing, RanPastLosses, SeesLost, clock_of, losing_events, nodes_in}
+use Rattle.pg_frame_world.specs.declared.step.FrameStep.{FrameStep}
+use Rattle.pg_frame_world.specs.declared.step.FrameStep.TheVariants as steps
 use Rattle.pg_world.specs.Crossings.{node_of}
-use Rattle.pg_world.specs.Views.{peer_place, place_of_peer}
-use Rattle.pg_world.specs.Worlds.{ShowsNode, event_of}
-use Rattle.pg_world.proofs.Ordered.{ordered_length}
-use Rattle.pg_world.proofs.Peering.{peers_differ}
-use Rattle.pg_world.proofs.Turning.{pair_is}
+use Rattle.pg_frame_world.specs.Views.{peer_place, place_of_peer}
+use Rattle.pg_frame_world.specs.Worlds.{ShowsNode, event_of}
+use Rattle.pg_frame_world.proofs.Ordered.{ordered_length}
+use Rattle.pg_frame_world.proofs.Peering.{peers_differ}
+use Rattle.pg_frame_world.proofs.Turning.{pair_is}
 use Rattle.pg_term.specs.Same.{same_atom}
 use Rattle.pg_cluster.specs.Ended.{row_at}
 use Rattle.pg_cluster.specs.Notices.{IsOfLost, NobodyLost}

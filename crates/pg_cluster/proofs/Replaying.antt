@@ -18,21 +18,21 @@ use Rattle.pg_step.specs.FrameMachine.{frame_machine, place_turn, placed}
 use Rattle.pg_step.specs.State.{State}
 use Rattle.pg_step.specs.Step.{Action, CLOCK_LIMIT, TimedTurn, at_clock, node_takes, node_acts, step_act, timed as node_turn}
 use Rattle.pg_step.specs.Turns.{NodeTurn, Report}
-use Rattle.pg_world.specs.declared.step.FrameStep.{FrameStep}
-use Rattle.pg_world.specs.declared.step.FrameStep.TheVariants as steps
-use Rattle.pg_world.specs.declared.fault.WorldFault.{WorldFault}
-use Rattle.pg_world.specs.declared.fault.WorldFault.TheVariants.{OutOfMemory}
+use Rattle.pg_frame_world.specs.declared.step.FrameStep.{FrameStep}
+use Rattle.pg_frame_world.specs.declared.step.FrameStep.TheVariants as steps
+use Rattle.pg_config.specs.declared.fault.WorldFault.{WorldFault}
+use Rattle.pg_config.specs.declared.fault.WorldFault.TheVariants.{OutOfMemory}
 use Rattle.pg_world.specs.Crossings.{node_of}
-use Rattle.pg_world.specs.Openings.{CantBegin}
-use Rattle.pg_world.specs.Runs.{IsTold, IsPassed, LosesNone, Ran, RunsTo, over_packets, number_told}
-use Rattle.pg_world.specs.Views.{Seen, View}
-use Rattle.pg_world.specs.Worlds.{TimedFrameWorld, Shows, ShowsNode, ShowsNodes, event_of, told, told_of_first}
+use Rattle.pg_frame_world.specs.Openings.{CantBegin}
+use Rattle.pg_frame_world.specs.Runs.{IsTold, IsPassed, LosesNone, Ran, RunsTo, over_packets, number_told}
+use Rattle.pg_frame_world.specs.Views.{Seen, View}
+use Rattle.pg_frame_world.specs.Worlds.{TimedFrameWorld, Shows, ShowsNode, ShowsNodes, event_of, told, told_of_first}
 use Rattle.pg_cluster.specs.Judges.{AreShown, Replays, all_made, ran_out}
 use Rattle.pg_cluster.specs.Threads.{NodeOf}
 use Rattle.pg_cluster.specs.Together.{AreOneRun}
 use Rattle.pg_cluster.proofs.NoneLost.{none_lost}
-use Rattle.pg_world.specs.Openings.{CanBegin}
-use Rattle.pg_world.proofs.OrderedOnce.{ordered_once}
+use Rattle.pg_frame_world.specs.Openings.{CanBegin}
+use Rattle.pg_frame_world.proofs.OrderedOnce.{ordered_once}
 use Rattle.pg_cluster.proofs.ShownOnce.{shown_once}
 
 -- ---- what is told of an event that happens

@@ -11,13 +11,13 @@ use Rattle.pg_machine.specs.Places.{is_pair, set_at}
 use Rattle.pg_run.specs.declared.log.NodeEvent.{NodeEvent}
 use Rattle.pg_run.specs.declared.log.NodeEvent.TheVariants as entries
 use Rattle.pg_step.specs.Step.{Action}
-use Rattle.pg_together.specs.Apart.{event_at}
-use Rattle.pg_together.specs.Losses.{Logs, events_behind, loss_before, losses_first as events_first, losing_events, takes_in, takes_of}
-use Rattle.pg_world.specs.declared.step.FrameStep.{FrameStep}
-use Rattle.pg_world.specs.declared.step.FrameStep.TheVariants as steps
-use Rattle.pg_world.specs.Losing.{keep_of}
-use Rattle.pg_world.specs.Views.{peer_place, place_of_peer}
-use Rattle.pg_world.proofs.Turning.{pair_is}
+use Rattle.pg_joining.specs.Apart.{event_at}
+use Rattle.pg_joining.specs.ApartWithLosses.{Logs, events_behind, loss_before, losses_first as events_first, losing_events, takes_in, takes_of}
+use Rattle.pg_frame_world.specs.declared.step.FrameStep.{FrameStep}
+use Rattle.pg_frame_world.specs.declared.step.FrameStep.TheVariants as steps
+use Rattle.pg_frame_world.specs.Losing.{keep_of}
+use Rattle.pg_frame_world.specs.Views.{peer_place, place_of_peer}
+use Rattle.pg_frame_world.proofs.Turning.{pair_is}
 use Rattle.pg_cluster.specs.Schedule.{SeenStep, Lost, Turned, is_alone, is_last_of, is_lost_in, keeps, loss_if, loss_seen, losing_steps, losses_first, node_of_peer, seen_step, step_as, steps_at, steps_behind}
 use Rattle.pg_cluster.specs.Together.{losing_event}
 use Rattle.pg_cluster.proofs.Alike.{AreAlike, IsAlike, alike_append}

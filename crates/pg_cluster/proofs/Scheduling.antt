@@ -5,8 +5,8 @@ use Rattle.std.proofs.lemmas.Bool.{cases_lt}
 use Rattle.std.proofs.lemmas.List.{length-map, map-append}
 use Rattle.pg_joining.specs.Merge.{Merges, clocks_in, entry_at, log_at}
 use Rattle.pg_run.specs.declared.log.NodeEvent.{NodeEvent}
-use Rattle.pg_world.specs.declared.step.FrameStep.{FrameStep}
-use Rattle.pg_world.specs.declared.step.FrameStep.TheVariants as steps
+use Rattle.pg_frame_world.specs.declared.step.FrameStep.{FrameStep}
+use Rattle.pg_frame_world.specs.declared.step.FrameStep.TheVariants as steps
 use Rattle.pg_cluster.specs.declared.closed.Closed.{Closed}
 use Rattle.pg_cluster.specs.declared.closed.Stopped.{Stopped}
 use Rattle.pg_cluster.specs.Notices.{NobodyLost}

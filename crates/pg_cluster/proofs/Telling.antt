@@ -10,7 +10,7 @@ use Rattle.pg_ring.specs.declared.slot_out.SlotOut.{SlotOut}
 use Rattle.pg_ring.specs.Slots.{AreSlots, SameSlotIn, SameSlotOut, given, taken}
 use Rattle.pg_ring.specs.SlotsLaws.{AreSlots-later}
 use Rattle.pg_run.specs.declared.notices.Notice.{Notice}
-use Rattle.pg_world.specs.Views.{peer_place}
+use Rattle.pg_frame_world.specs.Views.{peer_place}
 use Rattle.pg_run.specs.declared.notices.Notices.{Notices}
 use Rattle.pg_run.specs.Notices.{IsUntold, NoticesGo, inlet_of, kept_of}
 use Rattle.pg_run.proofs.Moving.{nil_first}

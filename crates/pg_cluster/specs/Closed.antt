@@ -13,7 +13,7 @@ use Rattle.pg_cluster.specs.Schedule.{IsSchedule}
 use Rattle.pg_cluster.specs.Threads.{Joined, NodeOf, RanOf, Thread, notices_ended}
 use Rattle.pg_cluster.specs.Together.{AreOneRun}
 use Rattle.pg_step.specs.Config.{Config}
-use Rattle.pg_world.specs.declared.step.FrameStep.{FrameStep}
+use Rattle.pg_frame_world.specs.declared.step.FrameStep.{FrameStep}
 
 -- the threads of a cluster, by the places of their nodes
 abbrev pub threads_of : {K : Type 0} → Cluster K → List (Thread K)

@@ -14,13 +14,13 @@ use Rattle.pg_run.specs.declared.log.NodeEvent.TheVariants as events
 use Rattle.pg_step.specs.declared.command.Command.TheVariants.{Finish}
 use Rattle.pg_step.specs.State.{State, formed}
 use Rattle.pg_step.specs.Config.{Config}
-use Rattle.pg_world.specs.declared.step.FrameStep.{FrameStep}
+use Rattle.pg_frame_world.specs.declared.step.FrameStep.{FrameStep}
 use Rattle.pg_world.specs.Crossings.{node_of}
-use Rattle.pg_world.specs.Runs.{Ran, over_packets}
-use Rattle.pg_together.specs.Losses.{nodes_in}
-use Rattle.pg_world.specs.LosingRuns.{RanLosing, packets_past_losses}
-use Rattle.pg_world.specs.Views.{Seen}
-use Rattle.pg_world.specs.Worlds.{ShowsNode}
+use Rattle.pg_frame_world.specs.Runs.{Ran, over_packets}
+use Rattle.pg_joining.specs.ApartWithLosses.{nodes_in}
+use Rattle.pg_frame_world.specs.LosingRuns.{RanLosing, packets_past_losses}
+use Rattle.pg_frame_world.specs.Views.{Seen}
+use Rattle.pg_frame_world.specs.Worlds.{ShowsNode}
 
 -- one of the steps that have these numbers was refused since memory ran out
 abbrev pub ran_out : List ℕ → Bool

@@ -1,7 +1,7 @@
 -- The links of each node to its peers, as the rings are made.
 use Rattle.std.specs.Prelude.{◌≡◌, ◌≢◌, ℕ, ◌<◌, ◌≤◌, ◌+◌, ◌-◌, List, [], ◌∷◌, ◌++◌, length, slice_index_or}
 use Rattle.pg_ring.specs.Ends.{AreEnds, bytes_sent, bytes_received}
-use Rattle.pg_together.specs.Apart.{End}
+use Rattle.pg_joining.specs.Apart.{End}
 use Rattle.pg_cluster.specs.Ended.{Row}
 
 -- The ring from the peer at one place of a node to the peer at another of another node, over which nothing went.

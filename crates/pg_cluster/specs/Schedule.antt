@@ -4,9 +4,9 @@ use Rattle.std.specs.List.{filter, flat_map}
 use Rattle.pg_joining.specs.Merge.{Merges, clocks_in, log_at, entry_at}
 use Rattle.pg_run.specs.declared.log.NodeEvent.{NodeEvent}
 use Rattle.pg_run.specs.declared.log.NodeEvent.TheVariants as events
-use Rattle.pg_together.specs.Losses.{takes_in}
-use Rattle.pg_world.specs.declared.step.FrameStep.{FrameStep}
-use Rattle.pg_world.specs.declared.step.FrameStep.TheVariants as steps
+use Rattle.pg_joining.specs.ApartWithLosses.{takes_in}
+use Rattle.pg_frame_world.specs.declared.step.FrameStep.{FrameStep}
+use Rattle.pg_frame_world.specs.declared.step.FrameStep.TheVariants as steps
 
 -- which node the peer at a place among the peers of a node is, as a machine word counts
 abbrev pub node_of_peer : ℕ → ℕ → ℕ

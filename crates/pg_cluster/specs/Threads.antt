@@ -22,10 +22,10 @@ use Rattle.pg_run.specs.Notices.{IsUntold}
 use Rattle.pg_run.specs.Runs.{linked_of, ports_at, notices_at, notices_of}
 use Rattle.pg_cluster.specs.declared.promise.RanFrom.{RanFrom}
 use Rattle.pg_step.specs.Config.{Config}
-use Rattle.pg_together.specs.Apart.{End}
+use Rattle.pg_joining.specs.Apart.{End}
 use Rattle.pg_world.specs.BytesStart.{BytesBegin}
 use Rattle.pg_world.specs.Crossings.{idle_crossing}
-use Rattle.pg_world.specs.Views.{no_account}
+use Rattle.pg_account.specs.Histories.{no_account}
 use Rattle.pg_cluster.specs.Ended.{AreWired, AllCrossed}
 use Rattle.pg_cluster.specs.Notices.{IsOfLost, NobodyLost}
 use Rattle.pg_cluster.specs.Promises.{RanAs}

@@ -13,21 +13,21 @@ use Rattle.pg_run.specs.declared.log.NodeEvent.{NodeEvent}
 use Rattle.pg_step.specs.Config.{Config, names_of}
 use Rattle.pg_step.specs.FrameMachine.{frame_machine}
 use Rattle.pg_step.specs.Step.{Action}
-use Rattle.pg_together.specs.Apart.{event_at}
-use Rattle.pg_world.specs.declared.step.FrameStep.{FrameStep}
+use Rattle.pg_joining.specs.Apart.{event_at}
+use Rattle.pg_frame_world.specs.declared.step.FrameStep.{FrameStep}
 use Rattle.pg_world.specs.Crossings.{node_of}
-use Rattle.pg_world.specs.Starts.{Orders}
-use Rattle.pg_world.specs.Views.{peer_place}
-use Rattle.pg_world.specs.Worlds.{TimedFrameWorld, ShowsNode, event_of}
+use Rattle.pg_frame_world.specs.Starts.{Orders}
+use Rattle.pg_frame_world.specs.Views.{peer_place}
+use Rattle.pg_frame_world.specs.Worlds.{TimedFrameWorld, ShowsNode, event_of}
 use Rattle.pg_machine.specs.Losing.{LosingEvent, Step, Lose}
 use Rattle.pg_machine.specs.Machine.{Take, Do}
 use Rattle.pg_loss.specs.Reached.{LosingReaches}
 use Rattle.pg_loss.specs.Survived.{LossesSurvived}
 use Rattle.pg_step.specs.LossLaws.{LosingFrameWorld}
 use Rattle.pg_step.specs.Step.{Issue, Retry}
-use Rattle.pg_together.specs.Losses.{nodes_in}
-use Rattle.pg_world.specs.declared.step.FrameStep.TheVariants as steps
-use Rattle.pg_world.specs.Losing.{keep_of}
+use Rattle.pg_joining.specs.ApartWithLosses.{nodes_in}
+use Rattle.pg_frame_world.specs.declared.step.FrameStep.TheVariants as steps
+use Rattle.pg_frame_world.specs.Losing.{keep_of}
 use Rattle.pg_cluster.specs.Schedule.{is_lost_in}
 use Rattle.pg_cluster.specs.Threads.{NodeOf}
 

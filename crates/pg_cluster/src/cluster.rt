@@ -88,7 +88,7 @@ impl<K: Rng + Drop + Send + 'static> Cluster<K> {
     ghost use Rattle.pg_cluster.specs.Threads.{AreMade, EndedWith, begun_by, limit_of};
     ghost use Rattle.pg_step.specs.Config.{Config as Configuration};
     ghost use Rattle.pg_cluster.specs.Judges.{Agree};
-    ghost use Rattle.pg_world.specs.Openings.{CanBegin};
+    ghost use Rattle.pg_frame_world.specs.Openings.{CanBegin};
     ghost use Rattle.pg_cluster.specs.Schedule.{IsSchedule, IsLosingSchedule};
     ghost use Rattle.pg_cluster.specs.Together.{AreOneRun, AreOneLosingRun};
 

@@ -32,7 +32,7 @@ impl StartFault {
 
 impl From<AllocError> for StartFault {
     ghost use Rattle.std.specs.Prelude.{◌≡◌};
-    ghost use Rattle.pg_world.specs.declared.fault.WorldFault.TheVariants.{OutOfMemory};
+    ghost use Rattle.pg_config.specs.declared.fault.WorldFault.TheVariants.{OutOfMemory};
     ghost use Rattle.pg_cluster.specs.declared.fault.StartFault.TheVariants as faults;
 
     ghost from_gives = { λ _ e. e ≡ faults.World OutOfMemory };
@@ -44,7 +44,7 @@ impl From<AllocError> for StartFault {
 
 impl<T: Drop> From<AllocFailed<T>> for StartFault {
     ghost use Rattle.std.specs.Prelude.{◌≡◌};
-    ghost use Rattle.pg_world.specs.declared.fault.WorldFault.TheVariants.{OutOfMemory};
+    ghost use Rattle.pg_config.specs.declared.fault.WorldFault.TheVariants.{OutOfMemory};
     ghost use Rattle.pg_cluster.specs.declared.fault.StartFault.TheVariants as faults;
 
     ghost from_gives = { λ _ e. e ≡ faults.World OutOfMemory };

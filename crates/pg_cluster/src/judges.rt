@@ -3,7 +3,7 @@
 ghost use Rattle.std.specs.Prelude.{◌≡◌, ◌≢◌, ◌↔◌, true, false, IsTrue, IfOk, Some, map, slice_get};
 ghost use Rattle.std.specs.List.{All, list_all, list_any};
 ghost use Rattle.pg_world.specs.Crossings.{node_of};
-ghost use Rattle.pg_world.specs.FrameWorlds.{view_of as view_of_world};
+ghost use Rattle.pg_frame_world.specs.FrameWorlds.{view_of as view_of_world};
 ghost use Rattle.pg_cluster.specs.Judges.{
   AreShown as AreShownAll,
   all_made as were_all_made,
@@ -31,10 +31,10 @@ use pg_world::{Config, FrameWorld, WorldFault, configs_are_decided, run_frames};
 use std::alloc::{AllocError, Global};
 
 impl Closed {
-    ghost use Rattle.pg_world.specs.FrameWorlds.{view_of};
-    ghost use Rattle.pg_world.specs.Runs.{LosesNone};
+    ghost use Rattle.pg_frame_world.specs.FrameWorlds.{view_of};
+    ghost use Rattle.pg_frame_world.specs.Runs.{LosesNone};
     ghost use Rattle.pg_cluster.specs.Judges.{Agree, AreShown, Replays, ReplaysPastLosses, all_made, ran_out};
-    ghost use Rattle.pg_world.specs.Openings.{CanBegin};
+    ghost use Rattle.pg_frame_world.specs.Openings.{CanBegin};
     ghost use Rattle.pg_cluster.specs.Together.{AreOneRun};
 
     /// Whether the nodes agree: formed nodes have the same of each group whose lock one node sees free, or an end is pending that

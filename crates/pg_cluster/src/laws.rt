@@ -3,7 +3,7 @@ ghost use Rattle.std.specs.declared.alloc.Global.{Global};
 ghost use Rattle.std.specs.declared.vec.Vec.{Vec};
 ghost use Rattle.pg_run.specs.declared.log.NodeEvent.{NodeEvent};
 ghost use Rattle.pg_step.specs.Config.{Config};
-ghost use Rattle.pg_world.specs.declared.step.FrameStep.{FrameStep};
+ghost use Rattle.pg_frame_world.specs.declared.step.FrameStep.{FrameStep};
 ghost use Rattle.pg_cluster.specs.Judges.{Agree, Replays};
 ghost use Rattle.pg_cluster.specs.Notices.{NobodyLost};
 ghost use Rattle.pg_cluster.specs.Schedule.{IsSchedule, IsLosingSchedule};
@@ -11,8 +11,8 @@ ghost use Rattle.pg_cluster.specs.Threads.{NodeOf, Thread, AreMade, EndedWith, b
 ghost use Rattle.pg_cluster.specs.Together.{AreOneRun, AreOneLosingRun};
 
 use pg_history::{ended_processes_were_finished, no_loss_is_seen};
+use pg_joining::{nodes_ran_together, nodes_ran_together_past_losses};
 use pg_loss::each_world_past_losses;
-use pg_together::{nodes_ran_together, nodes_ran_together_past_losses};
 
 /// The nodes of a configuration that ran as threads, with rings between them, and of which none was lost, made one run: their schedule is events that happen one
 /// after another from the start, each node does there what its log tells and comes to where it ended, and of the world to which

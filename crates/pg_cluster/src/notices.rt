@@ -1,7 +1,7 @@
 //! How the nodes of a cluster are told of losses.
 
 ghost use Rattle.std.specs.Prelude.{◌≡◌, length};
-ghost use Rattle.pg_world.specs.Views.{peer_place};
+ghost use Rattle.pg_frame_world.specs.Views.{peer_place};
 ghost use Rattle.pg_ring.specs.Slots.{AreSlots, SameSlotOut};
 ghost use Rattle.pg_cluster.specs.Clients.{AllPairs};
 ghost use Rattle.pg_cluster.specs.Notices.{SameTellers, Notified, NotifiedUpTo, Told};

@@ -3,7 +3,7 @@
 ghost use Rattle.std.specs.Prelude.{map, IfOk, length, ◌≡◌};
 ghost use Rattle.pg_cluster.specs.Clients.{AreClients};
 ghost use Rattle.pg_cluster.specs.Closed.{threads_of};
-ghost use Rattle.pg_world.specs.Openings.{CanBegin};
+ghost use Rattle.pg_frame_world.specs.Openings.{CanBegin};
 ghost use Rattle.pg_cluster.specs.Threads.{AreMade, begun_by};
 
 use crate::closed::{Closed, Stopped};

@@ -7,7 +7,7 @@ ghost use Rattle.pg_run.specs.Notices.{IsUntold as IsUntoldAt};
 ghost use Rattle.pg_run.specs.Runs.{notices_at as notices_of_run, notices_of as told_of_run};
 ghost use Rattle.pg_cluster.specs.Notices.{IsFresh as IsFreshPair};
 ghost use Rattle.pg_cluster.specs.Fault.{CantRun, IsShortage as IsShort};
-ghost use Rattle.pg_world.specs.Openings.{CanBegin};
+ghost use Rattle.pg_frame_world.specs.Openings.{CanBegin};
 ghost use Rattle.pg_cluster.specs.Threads.{AreMade, HasLinks as HasLinksOf, node_in as node_of_run, row_in as row_of_run, log_in as log_of_run, ports_of_runs as ports_in_runs};
 
 use crate::fault::StartFault;

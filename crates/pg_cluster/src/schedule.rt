@@ -2,8 +2,8 @@
 
 ghost use Rattle.std.specs.Prelude.{◌≡◌, ◌++◌, ◌+◌, ◌∷◌, [], IfOk, OnOk, cond, length, map, nat_eq};
 ghost use Rattle.pg_joining.specs.Merge.{log_at, entry_at};
-ghost use Rattle.pg_together.specs.Losses.{is_take, takes_in, takes_of, takes_one};
-ghost use Rattle.pg_world.specs.Views.{place_of_peer};
+ghost use Rattle.pg_joining.specs.ApartWithLosses.{is_take, takes_in, takes_of, takes_one};
+ghost use Rattle.pg_frame_world.specs.Views.{place_of_peer};
 ghost use Rattle.pg_cluster.specs.Schedule.{is_alone, is_lost_in, keeps, loss_if, loss_seen, losing_steps, node_of_peer, seen_step, step_as, steps_at};
 
 use pg_run::{LogEntry, NodeEvent};

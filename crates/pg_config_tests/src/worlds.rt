@@ -8,7 +8,7 @@ use pg_node::NodeFault;
 use pg_script::read_script;
 use pg_step::{Command, OpId, Refusal, Reply};
 use pg_term::{Pid, Term};
-use pg_world::{Entry, FrameStep, FrameWorld, Stepped};
+use pg_world::{Config, Entry, FrameStep, FrameWorld, Stepped};
 use std::alloc::{AllocError, Global};
 use std::process::Abort;
 
@@ -44,9 +44,16 @@ enum Row<'a> {
     Answered(u32),
     /// The ends that are pending are those of these processes of the first node.
     Pending(&'a [u32]),
+    /// The row holds in the world alone, and whether the copy is alike then.
+    Alone(&'a Row<'a>, bool),
+    /// The row holds in the copy alone, and whether the world is alike then.
+    Beside(&'a Row<'a>, bool),
 }
 
 const HAPPENED: Told = Ok(Stepped::Happened);
+
+// All that each node tells as it starts has come to the others.
+const FORMED: Row<'static> = Row::Settle(5);
 
 const NO_PLACE: Told = Err(NodeFault::Refused(Refusal::NoSuchPlace));
 
@@ -223,30 +230,77 @@ fn is_row(alloc: Global, world: &mut World, row: &Row<'_>) -> bool {
     }
 }
 
-// Three nodes that have formed, between which nothing is on the way.
-fn three(alloc: Global) -> Option<World> {
-    match read_script(alloc, "ring 1\nnode a\nnode b\nnode c") {
-        Ok(script) => {
-            let world = World::new(alloc, &script.config);
-            drop(script);
-            world.ok()
+// A world, and its copy.
+#[derive(Drop)]
+struct Twins {
+    world: World,
+    copy: World,
+}
+
+impl Twins {
+    // Whether a row holds in the world and in the copy, which are alike then.
+    fn agree_on(&mut self, alloc: Global, row: &Row<'_>) -> bool {
+        is_row(alloc, &mut self.world, row)
+            && is_row(alloc, &mut self.copy, row)
+            && self.world.is_alike(&self.copy) == Ok(true)
+    }
+
+    // Whether a row holds.
+    fn holds(&mut self, alloc: Global, row: &Row<'_>) -> bool {
+        match row {
+            Row::Alone(row, alike) => {
+                is_row(alloc, &mut self.world, row) && self.world.is_alike(&self.copy) == Ok(*alike)
+            }
+            Row::Beside(row, alike) => {
+                is_row(alloc, &mut self.copy, row) && self.copy.is_alike(&self.world) == Ok(*alike)
+            }
+            row => self.agree_on(alloc, row),
+        }
+    }
+}
+
+// A world in which one step was made and which was copied then.
+fn twins_of(alloc: Global, config: &Config) -> Option<Twins> {
+    match World::new(alloc, config) {
+        Ok(begun) => {
+            let mut world = begun;
+            let (node, peer) = (2, 0);
+            let step = FrameStep::Take { node, peer };
+            let stepped = world.step(&step);
+            drop(step);
+            match world.copy(config) {
+                Ok(copy) if stepped == HAPPENED => Some(Twins { world, copy }),
+                _ => None,
+            }
         }
         Err(_) => None,
     }
 }
 
-// Each row of the table holds in a new world of three nodes, one after another.
-fn check(rt: &impl Abort, alloc: Global, rows: &[Row<'_>]) {
-    let mut world = three(alloc).expect(rt, "a world");
-    holds(rt, settle(&mut world) == 6, "packets at first:", 6);
-    for (place, row) in rows.iter().enumerate() {
-        holds(rt, is_row(alloc, &mut world, row), "row", place);
+// Three nodes, the last of which has taken what the first told as it started, and their copy.
+fn three(alloc: Global) -> Option<Twins> {
+    match read_script(alloc, "ring 1\nnode a\nnode b\nnode c") {
+        Ok(script) => {
+            let twins = twins_of(alloc, &script.config);
+            drop(script);
+            twins
+        }
+        Err(_) => None,
     }
-    drop(world);
+}
+
+// Each row of the table holds in a new world of three nodes and in its copy, one after another.
+fn check(rt: &impl Abort, alloc: Global, rows: &[Row<'_>]) {
+    let mut twins = three(alloc).expect(rt, "a world");
+    for (place, row) in rows.iter().enumerate() {
+        holds(rt, twins.holds(alloc, row), "row", place);
+    }
+    drop(twins);
 }
 
 // A create at one node: it asks c, then b, for the lock, tells both the update, and frees the lock there.
 static CREATE: &[Row<'static>] = &[
+    FORMED,
     Row::Given("create a 7"),
     Row::Group(0, false),
     Row::History(&[]),
@@ -261,6 +315,7 @@ static CREATE: &[Row<'static>] = &[
 
 // Its history has the update once the last grant has come, and each node applies it as it takes it.
 static APPLIED: &[Row<'static>] = &[
+    FORMED,
     Row::Given("create a 7"),
     Row::Free(2, true),
     Row::Take(2, 0, HAPPENED),
@@ -288,6 +343,7 @@ static APPLIED: &[Row<'static>] = &[
 
 // Steps of places that are not there, and a retry of what does not wait; what a lost node would do, and a second loss.
 static REFUSALS: &[Row<'static>] = &[
+    FORMED,
     Row::Take(3, 0, NO_PLACE),
     Row::Take(0, 3, NO_PLACE),
     Row::Take(1, 1, NO_PLACE),
@@ -306,6 +362,7 @@ static REFUSALS: &[Row<'static>] = &[
 
 // An end is pending until each node was told, or is lost that was not.
 static LOSS: &[Row<'static>] = &[
+    FORMED,
     Row::Given("make a"),
     Row::Given("end a <a.1.0>"),
     Row::Take(1, 0, HAPPENED),
@@ -316,12 +373,59 @@ static LOSS: &[Row<'static>] = &[
 
 // The list has the pid of the process, until both others were told.
 static LISTED: &[Row<'static>] = &[
+    FORMED,
     Row::Given("make a"),
     Row::Given("end a <a.1.0>"),
     Row::Pending(&[1]),
     Row::Settle(2),
     Row::Pending(&[]),
 ];
+
+// A create, an end and a loss, in a world and its copy.
+static COPIES: &[Row<'static>] = &[
+    FORMED,
+    Row::Given("create a 7"),
+    Row::Take(2, 0, HAPPENED),
+    Row::Take(0, 2, HAPPENED),
+    Row::Take(1, 0, HAPPENED),
+    Row::Take(0, 1, HAPPENED),
+    Row::History(&[(0, 1)]),
+    Row::Settle(6),
+    Row::Given("make a"),
+    Row::Given("end a <a.1.0>"),
+    Row::Lose(2, Ok(Stepped::Gone)),
+    Row::Take(2, 0, LOST),
+    Row::Pending(&[1]),
+    Row::Take(1, 0, HAPPENED),
+    Row::See(0, 2, HAPPENED),
+    Row::Applied(1, 1),
+];
+
+// A node takes what the others have sent in another order than its copy, by which its clock differs, and then what it sends has another
+// stamp; and what is not alike.
+static ALIKE: &[Row<'static>] = &[
+    Row::Take(0, 1, HAPPENED),
+    Row::Take(0, 2, HAPPENED),
+    Row::Given("make a"),
+    Row::Given("end a <a.1.0>"),
+    Row::Alone(&Row::Take(2, 0, HAPPENED), false),
+    Row::Alone(&Row::Take(2, 1, HAPPENED), false),
+    Row::Beside(&Row::Take(2, 1, HAPPENED), false),
+    Row::Beside(&Row::Take(2, 0, HAPPENED), true),
+    Row::Settle(3),
+    Row::Given("create a 7"),
+    Row::Take(2, 0, HAPPENED),
+    Row::Settle(9),
+    Row::History(&[(0, 3)]),
+    Row::Alone(&Row::Lose(1, Ok(Stepped::Gone)), false),
+    Row::Beside(&Row::Lose(1, Ok(Stepped::Gone)), true),
+];
+
+#[test]
+fn copies_go_on(rt: HostRuntime) {
+    check(&rt, rt.alloc(), COPIES);
+    check(&rt, rt.alloc(), ALIKE);
+}
 
 #[test]
 fn create_reaches_all(rt: HostRuntime) {

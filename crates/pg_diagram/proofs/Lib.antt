@@ -1,2 +1,5 @@
-pub mod Adds
-pub mod Pieces
+mod Adds
+mod Drawing
+mod Landing
+mod Penned
+mod Pieces

@@ -1,7 +1,7 @@
 //! Where things stand, in pixels.
 
-ghost use Rattle.std.specs.Prelude.{◌≡◌, ◌+◌, min};
-ghost use Rattle.pg_diagram.specs.Rows.{row_y};
+ghost use Rattle.std.specs.Prelude.{◌≡◌, length};
+ghost use Rattle.pg_diagram.specs.Rows.{row_y, x_of, y_of};
 
 use crate::cut::cells;
 use crate::data::{Diagram, Event};
@@ -42,7 +42,9 @@ pub(crate) struct Layout {
 
 impl Layout {
     /// The layout of a diagram with so many rows, without the legend's room.
-    pub(crate) fn new(diagram: &Diagram, rows: usize) -> Layout {
+    pub(crate) fn new(diagram: &Diagram, rows: usize) -> Layout
+        ensures { result.nodes ≡ length diagram.now.nodes.items }
+    {
         let mut most = MIN_CELLS;
         for name in diagram.nodes.iter() {
             most = most.max(cells(name.as_str()).min(MAX_NAME_CELLS));
@@ -59,13 +61,15 @@ impl Layout {
     }
 
     /// Where the lifeline of a node stands.
-    pub(crate) fn x_of(&self, node: usize) -> u128 {
+    pub(crate) fn x_of(&self, node: usize) -> u128
+        ensures { result ≡ x_of self.now.gap node }
+    {
         GUTTER.saturating_add(self.gap.saturating_mul(node as u128))
     }
 
     /// Where a row stands.
     pub(crate) fn y_of(&self, row: usize) -> u128
-        ensures { result ≡ min (self.now.top + row_y row) u128.MAX }
+        ensures { result ≡ y_of self.now.top row }
     {
         self.top.saturating_add(row_y(row))
     }

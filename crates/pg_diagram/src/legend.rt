@@ -1,6 +1,7 @@
 //! The legend: what the colours and the marks mean.
 
-ghost use Rattle.std.specs.Prelude.{◌<◌};
+ghost use Rattle.std.specs.Prelude.{◌≡◌, ◌<◌};
+ghost use Rattle.pg_diagram.specs.Lines.{class_of};
 
 use crate::data::Topic;
 use crate::pen::Pen;
@@ -20,7 +21,9 @@ const FIRST: u128 = 24;
 const ENTRIES: u128 = 9;
 
 /// The name of a topic in the style of the picture.
-pub(crate) fn class_of(topic: Topic) -> &'static str {
+pub(crate) fn class_of(topic: Topic) -> &'static str
+    ensures { result.now ≡ class_of topic }
+{
     match topic {
         Topic::Lock => "lock",
         Topic::Update => "update",

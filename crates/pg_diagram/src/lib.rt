@@ -1,4 +1,5 @@
-//! Sequence diagrams as SVG: a lifeline for each node, and an arrow for each packet from where it was sent to where it was taken.
+//! Sequence diagrams as SVG: a lifeline for each node, and an arrow for each packet from where it was sent to where it was taken. Graphs of
+//! worlds, too.
 //!
 //! `write_svg(alloc, &diagram, &mut file)?` draws a diagram. Begin with `src/data.rt`, what a diagram is, then `src/draw.rt`.
 #![tactic(auto)]
@@ -9,6 +10,7 @@ mod cut;
 mod data;
 mod draw;
 mod escape;
+mod graph;
 mod head;
 mod laws;
 mod layout;
@@ -19,4 +21,5 @@ mod tags;
 
 pub use data::{Diagram, Event, Topic};
 pub use draw::{svg_of, write_svg};
+pub use graph::{Graph, Link, LinkKind, Spot, graph_svg};
 pub use laws::{rows_go_down, texts_are_escaped};

@@ -1,7 +1,11 @@
 //! The shapes of a picture.
 
-use crate::arrows::Arrow;
+ghost use Rattle.std.specs.Prelude.{◌≡◌, ◌+◌, ◌-◌, min};
+ghost use Rattle.pg_diagram.specs.Lines.{arrow_text, class_of, near, third, way_text};
+ghost use Rattle.pg_diagram.specs.Pens.{Writes};
+
 use crate::cut::{add_cut, cells};
+use crate::data::Topic;
 use crate::layout::{MAX_CELLS, MAX_NAME_CELLS, text_width};
 use crate::legend::class_of;
 use crate::pen::Pen;
@@ -18,7 +22,10 @@ pub(crate) struct Point {
 
 impl Point {
     /// So far to the left of it.
-    fn left(self, by: u128) -> Point {
+    fn left(self, by: u128) -> Point
+        ensures x { result.x ≡ self.x - by }
+        ensures y { result.y ≡ self.y }
+    {
         Point {
             x: self.x.saturating_sub(by),
             y: self.y,
@@ -26,10 +33,23 @@ impl Point {
     }
 
     /// So far to the right of it.
-    pub(crate) fn right(self, by: u128) -> Point {
+    pub(crate) fn right(self, by: u128) -> Point
+        ensures x { result.x ≡ min (self.x + by) u128.MAX }
+        ensures y { result.y ≡ self.y }
+    {
         Point {
             x: self.x.saturating_add(by),
             y: self.y,
+        }
+    }
+
+    /// A third of the way to another place.
+    fn near(self, other: Point) -> Point
+        ensures { result ≡ near self other }
+    {
+        Point {
+            x: third(self.x, other.x),
+            y: third(self.y, other.y),
         }
     }
 
@@ -111,37 +131,48 @@ fn line_cells(line: usize) -> usize {
 }
 
 /// An arrow from one place to another, where its packet was taken.
-pub(crate) fn add_arrow(pen: &mut Pen, arrow: &Arrow, start: Point, end: Point) {
+pub(crate) fn add_arrow(pen: &mut Pen, topic: Topic, start: Point, end: Point)
+    ensures { Writes (arrow_text (class_of topic) start end) pen.old pen.new }
+{
     let tip = if start.x < end.x {
         end.left(2)
     } else {
         end.right(2)
     };
-    add_arrow_line(pen, class_of(arrow.topic), start, tip);
+    add_arrow_line(pen, class_of(topic), start, tip);
 }
 
-/// An arrow whose packet was not taken: it ends dashed, before it is there.
-pub(crate) fn add_way(pen: &mut Pen, arrow: &Arrow, start: Point, end: Point) {
-    let class = class_of(arrow.topic);
-    let mid = between(start, end, 1);
+/// An arrow whose packet is still on its way: it ends dashed, before it is there.
+pub(crate) fn add_way(pen: &mut Pen, topic: Topic, start: Point, end: Point)
+    ensures { Writes (way_text (class_of topic) start (near start end) (near end start)) pen.old pen.new }
+{
+    add_broken_line(pen, topic, start, start.near(end), end.near(start));
+}
+
+/// An arrow whose packet goes to a lost node: it ends dashed, at the node's lifeline.
+pub(crate) fn add_lost_way(pen: &mut Pen, topic: Topic, start: Point, end: Point)
+    ensures { Writes (way_text (class_of topic) start (near start end) end) pen.old pen.new }
+{
+    add_broken_line(pen, topic, start, start.near(end), end);
+}
+
+/// A line that is dashed from `mid` on.
+fn add_broken_line(pen: &mut Pen, topic: Topic, start: Point, mid: Point, end: Point)
+    ensures { Writes (way_text (class_of topic) start mid end) pen.old pen.new }
+{
+    let class = class_of(topic);
     add_line(pen, class, start, mid);
-    add_dashed_line(pen, class, mid, between(start, end, 2));
+    add_dashed_line(pen, class, mid, end);
 }
 
-/// The place so many thirds of the way.
-fn between(start: Point, end: Point, thirds: u128) -> Point {
-    Point {
-        x: part(start.x, end.x, thirds),
-        y: part(start.y, end.y, thirds),
-    }
-}
-
-/// The number so many thirds of the way.
-fn part(start: u128, end: u128, thirds: u128) -> u128 {
+/// A third of the way from one number to another.
+fn third(start: u128, end: u128) -> u128
+    ensures { result ≡ third start end }
+{
     if start < end {
-        start.saturating_add(((end - start) / 3).saturating_mul(thirds))
+        start + (end - start) / 3
     } else {
-        start.saturating_sub(((start - end) / 3).saturating_mul(thirds))
+        start - (start - end) / 3
     }
 }
 

@@ -1,33 +1,43 @@
 //! The tags of a picture.
 
+ghost use Rattle.std.specs.Prelude.{[], codes};
+ghost use Rattle.pg_diagram.specs.Lines.{CLOSED, head_of, line_text};
+ghost use Rattle.pg_diagram.specs.Pens.{Writes};
+
 use crate::pen::Pen;
 use crate::shapes::Point;
 
 /// Appends a line.
-pub(crate) fn add_line(pen: &mut Pen, class: &str, start: Point, end: Point) {
+pub(crate) fn add_line(pen: &mut Pen, class: &str, start: Point, end: Point)
+    ensures { Writes (line_text class.now [] start end CLOSED) pen.old pen.new }
+{
     begin_line(pen, class, "", start, end);
     pen.add("/>\n");
 }
 
 /// Appends a dashed line.
-pub(crate) fn add_dashed_line(pen: &mut Pen, class: &str, start: Point, end: Point) {
+pub(crate) fn add_dashed_line(pen: &mut Pen, class: &str, start: Point, end: Point)
+    ensures { Writes (line_text class.now (codes " way") start end CLOSED) pen.old pen.new }
+{
     begin_line(pen, class, " way", start, end);
     pen.add("/>\n");
 }
 
 /// Appends a line that ends in the head of an arrow.
-pub(crate) fn add_arrow_line(pen: &mut Pen, class: &str, start: Point, end: Point) {
+pub(crate) fn add_arrow_line(pen: &mut Pen, class: &str, start: Point, end: Point)
+    ensures { Writes (line_text class.now [] start end (head_of class.now)) pen.old pen.new }
+{
     begin_line(pen, class, "", start, end);
     write!(pen, " marker-end=\"url(#{class})\"/>\n");
 }
 
 /// Appends a line: all but the end of its tag. `more`: its further classes.
-fn begin_line(pen: &mut Pen, class: &str, more: &str, start: Point, end: Point) {
-    write!(
-        pen,
-        "<line class=\"{class}{more}\" x1=\"{}\" y1=\"{}\" x2=\"{}\" y2=\"{}\"",
-        start.x, start.y, end.x, end.y
-    );
+fn begin_line(pen: &mut Pen, class: &str, more: &str, start: Point, end: Point)
+    ensures { Writes (line_text class.now more.now start end []) pen.old pen.new }
+{
+    write!(pen, "<line class=\"{class}{more}\"");
+    write!(pen, " x1=\"{}\" y1=\"{}\"", start.x, start.y);
+    write!(pen, " x2=\"{}\" y2=\"{}\"", end.x, end.y);
 }
 
 /// Appends two places of a line that is bent.

@@ -1,3 +1,5 @@
+pub mod Apart
+pub mod ApartWithLosses
 pub mod Joined
 pub mod Logs
 pub mod Losses

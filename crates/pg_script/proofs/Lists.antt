@@ -2,7 +2,7 @@
 use Rattle.std.proofs.Common.{◌≡◌, ℕ, ◌≤◌, List, [], ◌∷◌, ◌++◌, ◌-◌, take, drop, length, get_or, arith, ap, ap₂}
 use Rattle.std.proofs.lemmas.Grind.{common_steps}
 use Rattle.pg_text.specs.Writing.{update_text}
-use Rattle.pg_world.specs.declared.entry.Entry.{Entry}
+use Rattle.pg_account.specs.declared.entry.Entry.{Entry}
 use Rattle.pg_script.specs.Histories.{more_entries, listed_entries}
 
 rest_of : {X : Type 0} (y : X) (ys : List X) → take (length (y ∷ ys) - 1) (drop 1 (y ∷ ys)) ≡ ys

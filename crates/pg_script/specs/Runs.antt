@@ -5,8 +5,8 @@ use Rattle.pg_step.specs.Config as starts
 use Rattle.pg_step.specs.Config.{IsConfig}
 use Rattle.pg_step.specs.declared.answer.Answer.{Answer}
 use Rattle.pg_lines.specs.Printing.{answer_line}
-use Rattle.pg_world.specs.declared.config.Config.{Config}
-use Rattle.pg_world.specs.Openings.{AllFit, CantBegin}
+use Rattle.pg_config.specs.declared.config.Config.{Config}
+use Rattle.pg_frame_world.specs.Openings.{AllFit, CantBegin}
 use Rattle.pg_script.specs.declared.fault.RunFault.{RunFault}
 use Rattle.pg_script.specs.declared.fault.RunFault.TheVariants.{World, OutOfMemory, WriteFault}
 

@@ -6,7 +6,7 @@ use Rattle.pg_term.specs.declared.pid.Pid.{Pid}
 use Rattle.pg_term.specs.declared.term.Term.{Term}
 use Rattle.pg_term.specs.Same.{same_atom, atom_cmp}
 use Rattle.pg_step.specs.declared.start.Start.{Start}
-use Rattle.pg_world.specs.declared.step.FrameStep.TheVariants as events
+use Rattle.pg_frame_world.specs.declared.step.FrameStep.TheVariants as events
 use Rattle.pg_world.specs.declared.step.Step.TheVariants as steps
 use Rattle.pg_lines.specs.declared.line.Line.{Line}
 use Rattle.pg_lines.specs.declared.line.Line.TheVariants.{Ring, Node, Has, Pair, At, Settle, History}

@@ -1,9 +1,7 @@
 -- What a cluster that was closed is found to be.
-use Rattle.std.proofs.Common.{◌≡◌, Bool, true, ◌∙◌}
+use Rattle.std.proofs.Common.{◌≡◌, Bool, true}
 use mathlib.Core.Logic.{∥∥₁_elim}
 use Rattle.std.proofs.Props.{props}
-use Rattle.pg_cluster.specs.declared.running.Running.{Running}
-use Rattle.pg_talk.specs.Services.{SameCluster}
 
 -- what is told of a fact that holds is told
 pub told_so : (F : Type 0) (told : Bool) → ∥ F ∥₁ → (F → told ≡ true) → told ≡ true
@@ -11,9 +9,3 @@ told_so F told fact tells = ∥∥₁_elim fact (hlevel props) (λ (f : F). tell
 
 pub told_of_two : (F G : Type 0) (told : Bool) → ∥ F ∥₁ → ∥ G ∥₁ → (F → G → told ≡ true) → told ≡ true
 told_of_two F G told first second tells = ∥∥₁_elim first (hlevel props) (λ (f : F). ∥∥₁_elim second (hlevel props) (λ (g : G). tells f g))
-
--- ---- the cluster of a service
-
--- what happens there one after another leaves it the same cluster
-pub same_on : (a b c : Running) → SameCluster a b → SameCluster b c → SameCluster a c
-same_on a b c first second = record { config = second.config ∙ first.config; threads = second.threads ∙ first.threads }

@@ -1,5 +1,5 @@
 -- What a conversation of clients with a cluster came to.
-use Rattle.std.specs.Prelude.{◌≡◌, ◌⊎◌, ℕ, Bool, ◌<◌, ◌+◌, ◌*◌, ◌-◌, ◌^◌, min, true, List, [], ◌∷◌, ◌++◌, get_or, length, map}
+use Rattle.std.specs.Prelude.{◌≡◌, ◌⊎◌, ℕ, Bool, ◌<◌, ◌+◌, ◌*◌, ◌-◌, ◌^◌, min, List, [], ◌∷◌, ◌++◌, get_or, length}
 use Rattle.std.specs.List.{sum_by}
 use Rattle.pg_run.specs.Ports.{polled, polled_count}
 use Rattle.pg_run.specs.declared.port.Client.{Client}

@@ -17,6 +17,7 @@ is_idle desk = not desk.is_asked && is_none (waiting_at desk)
 
 -- the desk of the same port, at which as much was asked and replied to
 pub record SameDesk (a b : Desk) : Type 0 where
+  pub name : b.name ≡ a.name
   pub node : b.node ≡ a.node
   pub port : b.port ≡ a.port
   pub asked : b.is_asked ≡ a.is_asked

@@ -1,5 +1,5 @@
 -- Terms in frames.
-use Rattle.std.specs.Prelude.{◌≡◌, ◌⊎◌, ℕ, ◌<◌, List, Option, length}
+use Rattle.std.specs.Prelude.{◌⊎◌, ℕ, ◌<◌, List, Option, length}
 use Rattle.std.specs.Io.KnownBytes.{Appends}
 use Rattle.pg_frame.specs.Frames.{frame}
 use Rattle.pg_frame.specs.declared.TheConstants.{MAX_BODY}

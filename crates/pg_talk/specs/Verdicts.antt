@@ -3,8 +3,8 @@ use Rattle.std.specs.Prelude.{◌≡◌, ℕ, Bool, true, List, map}
 use Rattle.pg_run.specs.declared.log.NodeEvent.{NodeEvent}
 use Rattle.pg_run.specs.declared.port.Client.{Client}
 use Rattle.pg_step.specs.Config.{Config}
-use Rattle.pg_world.specs.Runs.{LosesNone}
-use Rattle.pg_world.specs.declared.step.FrameStep.{FrameStep}
+use Rattle.pg_frame_world.specs.Runs.{LosesNone}
+use Rattle.pg_frame_world.specs.declared.step.FrameStep.{FrameStep}
 use Rattle.rand_pcg.specs.Lcg.{Lcg}
 use Rattle.pg_cluster.specs.Clients.{AllHeard}
 use Rattle.pg_cluster.specs.Judges.{Replays}

@@ -1,1 +1,3 @@
+pub mod Happenings
 pub mod Topics
+pub mod Watched

@@ -1,14 +1,21 @@
 //! The sequence diagram of a run.
 
+ghost use Rattle.std.specs.Prelude.{◌≡◌, ◌++◌, IfOk, OnOk, map, slice_get, string_bytes};
+ghost use Rattle.std.specs.List.{flat_map};
+ghost use Rattle.pg_trace.specs.Happenings.{noted, noted_at, seen_as, sent as sent_as, shown, shown_if};
+
 use crate::seen::{Seen, Sight};
 use crate::watch::Watch;
 use pg_diagram::{Diagram, Event};
 use std::alloc::{AllocError, Global};
 
-/// What was seen of a run, as a diagram shows it: packets, commands with their answers, and losses.
+/// What was seen of a run, as a diagram shows it: packets, commands with their answers, and losses, in the order in which they were seen.
 ///
 /// Error: `AllocError`.
-pub fn diagram_of(alloc: Global, watch: &Watch) -> Result<Diagram, AllocError> {
+pub fn diagram_of(alloc: Global, watch: &Watch) -> Result<Diagram, AllocError>
+    ensures names { IfOk result (λ diagram. map string_bytes diagram.nodes.items ≡ map string_bytes watch.now.names.items) }
+    ensures happened { IfOk result (λ diagram. flat_map shown diagram.events.items ≡ flat_map (λ sight. seen_as watch.now.letters.items sight.seen) watch.now.sights.items) }
+{
     let mut diagram = Diagram {
         nodes: Vec::new(alloc),
         events: Vec::new(alloc),
@@ -23,13 +30,37 @@ pub fn diagram_of(alloc: Global, watch: &Watch) -> Result<Diagram, AllocError> {
 }
 
 /// Adds the nodes and the events of a watch.
-fn fill(diagram: &mut Diagram, alloc: Global, watch: &Watch) -> Result<(), AllocError> {
-    for name in watch.names.iter() {
-        diagram.nodes.push(name.clone()?)?;
+fn fill(diagram: &mut Diagram, alloc: Global, watch: &Watch) -> Result<(), AllocError>
+    ensures names { OnOk result (map string_bytes diagram.new.nodes.items ≡ map string_bytes diagram.old.nodes.items ++ map string_bytes watch.now.names.items) }
+    ensures happened { OnOk result (flat_map shown diagram.new.events.items
+        ≡ flat_map shown diagram.old.events.items ++ flat_map (λ sight. seen_as watch.now.letters.items sight.seen) watch.now.sights.items) }
+{
+    add_names(&mut diagram.nodes, watch.names.as_slice())?;
+    add_sights(&mut diagram.events, alloc, watch, watch.sights.as_slice())
+}
+
+/// Adds the names of nodes.
+fn add_names(nodes: &mut Vec<String>, names: &[String]) -> Result<(), AllocError>
+    ensures { OnOk result (map string_bytes nodes.new.items ≡ map string_bytes nodes.old.items ++ map string_bytes names.now) }
+{
+    for place in 0..names.len() {
+        nodes.push(names[place].clone()?)?;
     }
+    Ok(())
+}
+
+/// Adds the events of sights.
+fn add_sights(
+    events: &mut Vec<Event>,
+    alloc: Global,
+    watch: &Watch,
+    sights: &[Sight],
+) -> Result<(), AllocError>
+    ensures { OnOk result (flat_map shown events.new.items ≡ flat_map shown events.old.items ++ flat_map (λ sight. seen_as watch.now.letters.items sight.seen) sights.now) }
+{
     let mut line = 0;
-    for sight in watch.sights.iter() {
-        line = add_sight(&mut diagram.events, alloc, watch, sight, line)?;
+    for place in 0..sights.len() {
+        line = add_sight(events, alloc, watch, &sights[place], line)?;
     }
     Ok(())
 }
@@ -42,8 +73,10 @@ fn add_sight(
     watch: &Watch,
     sight: &Sight,
     line: usize,
-) -> Result<usize, AllocError> {
-    match event_of(alloc, watch, sight)? {
+) -> Result<usize, AllocError>
+    ensures { IfOk result (λ last. flat_map shown events.new.items ≡ flat_map shown events.old.items ++ seen_as watch.now.letters.items sight.now.seen) }
+{
+    match event_of(alloc, watch, &sight.seen)? {
         Some(event) => {
             add_event(events, event, line, sight.line)?;
             Ok(sight.line)
@@ -58,7 +91,9 @@ fn add_event(
     event: Event,
     before: usize,
     line: usize,
-) -> Result<(), AllocError> {
+) -> Result<(), AllocError>
+    ensures { OnOk result (flat_map shown events.new.items ≡ flat_map shown events.old.items ++ shown event) }
+{
     if line != before {
         if let Err(_) = events.push(Event::Line(line)) {
             drop(event);
@@ -69,8 +104,10 @@ fn add_event(
 }
 
 /// How a diagram shows what was seen, if it does.
-fn event_of(alloc: Global, watch: &Watch, sight: &Sight) -> Result<Option<Event>, AllocError> {
-    match &sight.seen {
+fn event_of(alloc: Global, watch: &Watch, seen: &Seen) -> Result<Option<Event>, AllocError>
+    ensures { IfOk result (λ event. shown_if event ≡ seen_as watch.now.letters.items seen.now) }
+{
+    match seen {
         Seen::Taken { packet, .. } => Ok(Some(Event::Taken { packet: *packet })),
         Seen::Sent { packet } => sent(watch, *packet),
         Seen::Lost { node } => Ok(Some(Event::Lost { node: *node })),
@@ -79,7 +116,9 @@ fn event_of(alloc: Global, watch: &Watch, sight: &Sight) -> Result<Option<Event>
 }
 
 /// A packet was sent.
-fn sent(watch: &Watch, packet: usize) -> Result<Option<Event>, AllocError> {
+fn sent(watch: &Watch, packet: usize) -> Result<Option<Event>, AllocError>
+    ensures { IfOk result (λ event. shown_if event ≡ sent_as (slice_get watch.now.letters.items packet)) }
+{
     match watch.letters.get(packet) {
         Some(letter) => Ok(Some(Event::Sent {
             from: letter.from,
@@ -92,7 +131,9 @@ fn sent(watch: &Watch, packet: usize) -> Result<Option<Event>, AllocError> {
 }
 
 /// What happened at one node.
-fn note(alloc: Global, watch: &Watch, seen: &Seen) -> Result<Option<Event>, AllocError> {
+fn note(alloc: Global, watch: &Watch, seen: &Seen) -> Result<Option<Event>, AllocError>
+    ensures { IfOk result (λ event. shown_if event ≡ noted (noted_at seen.now)) }
+{
     match noted_at(seen) {
         Some(node) => {
             let label = label_of(alloc, watch, seen)?;
@@ -103,7 +144,9 @@ fn note(alloc: Global, watch: &Watch, seen: &Seen) -> Result<Option<Event>, Allo
 }
 
 /// The node at which something happened that is told there.
-fn noted_at(seen: &Seen) -> Option<usize> {
+fn noted_at(seen: &Seen) -> Option<usize>
+    ensures { result ≡ noted_at seen.now }
+{
     match seen {
         Seen::Came { node, .. }
         | Seen::Tried { node, .. }

@@ -63,6 +63,8 @@ fn asked_of(alloc: Global, message: &Message) -> Result<Option<Asked>, AllocErro
 }
 
 /// The packet whose body this is, from one node to another.
+///
+/// Error: `AllocError`, also for a body that is no packet: a node writes none.
 fn letter_of(alloc: Global, from: usize, to: usize, body: &[u8]) -> Result<Letter, AllocError> {
     match read_packet(alloc, body) {
         Ok(packet) => {
@@ -102,6 +104,8 @@ fn is_denial(message: &Message) -> bool {
 }
 
 /// The text of the message of the packet whose body this is: the second part of its tuple.
+///
+/// Error: `AllocError`, also for a body that is no term: a node writes none.
 fn message_text(alloc: Global, body: &[u8]) -> Result<String, AllocError> {
     match decode(alloc, body) {
         Ok(term) => {

@@ -40,6 +40,13 @@ pub struct Watch {
 }
 
 impl Watch {
+    ghost use Rattle.std.specs.Prelude.{◌≡◌, ◌++◌, ◌∷◌, [], IfOk, OnOk};
+    ghost use Rattle.pg_trace.specs.Watched.{SawAnswer};
+    ghost use Rattle.pg_world.specs.Bars.{bytes_lost_after};
+    ghost use Rattle.pg_world.specs.ByteWorlds.{account_of, crossing_of, given_of, lost_of, room_of};
+    ghost use Rattle.pg_world.specs.Changes.{StepChanges};
+    ghost use Rattle.pg_world.specs.BytesPast.{BytesGoOn};
+
     /// Watches a world that begins: the packets that stand in the outboxes of its nodes are sent.
     ///
     /// Error: `AllocError`.
@@ -93,14 +100,21 @@ impl Watch {
     }
 
     /// What is seen from now on belongs to this line.
-    pub fn begin(&mut self, line: usize) {
+    pub fn begin(&mut self, line: usize)
+        ensures line { self.new.line ≡ line }
+        ensures sights { self.new.sights ≡ self.old.sights }
+        ensures letters { self.new.letters ≡ self.old.letters }
+    {
         self.line = line;
     }
 
     /// A node has answered a command.
     ///
     /// Error: `AllocError`.
-    pub fn answered(&mut self, node: usize, answer: &Answer) -> Result<(), AllocError> {
+    pub fn answered(&mut self, node: usize, answer: &Answer) -> Result<(), AllocError>
+        ensures seen { OnOk result (∥ SawAnswer node answer.now self.old self.new ∥₁) }
+        ensures letters { self.new.letters ≡ self.old.letters }
+    {
         let mut text = String::new(self.alloc);
         print_reply(&mut text, &answer.reply)?;
         self.add(Seen::Answered {
@@ -119,7 +133,13 @@ impl Watch {
         world: &mut World<T>,
         step: &Step,
         is_quiet: bool,
-    ) -> Result<Result<Stepped, NodeFault>, AllocError> {
+    ) -> Result<Result<Stepped, NodeFault>, AllocError>
+        ensures goes_on { IfOk result (λ made. ∥ BytesGoOn (given_of world.old) (crossing_of world.old) (account_of world.old) (lost_of world.old) step.now made (crossing_of world.new) (account_of world.new) (lost_of world.new) ∥₁) }
+        ensures changes { IfOk result (λ made. StepChanges (room_of world.old) (crossing_of world.old) (crossing_of world.new) step.now made) }
+        ensures lost { IfOk result (λ made. lost_of world.new ≡ bytes_lost_after step.now made (lost_of world.old)) }
+        ensures given { given_of world.new ≡ given_of world.old }
+        ensures room { room_of world.new ≡ room_of world.old }
+    {
         self.measure(world, step)?;
         match world.step(step) {
             Ok(stepped) => match self.see(world, step, stepped, is_quiet) {
@@ -146,7 +166,11 @@ impl Watch {
         Ok(())
     }
 
-    fn add(&mut self, seen: Seen) -> Result<(), AllocError> {
+    fn add(&mut self, seen: Seen) -> Result<(), AllocError>
+        ensures added { OnOk result (self.new.sights.items ≡ self.old.sights.items ++ record { line = self.old.line; seen = seen } ∷ []) }
+        ensures letters { self.new.letters ≡ self.old.letters }
+        ensures line { self.new.line ≡ self.old.line }
+    {
         Ok(
             self.sights.push(Sight {
                 line: self.line,

@@ -15,13 +15,13 @@ use Rattle.pg_step.specs.Config.{Config}
 use Rattle.pg_step.specs.Step.{Action}
 use Rattle.pg_node.specs.Links.{Link, IsSmallFrame, AreSmallFrames, frame_of, frames_to}
 use Rattle.pg_node.specs.States.{stamped_of}
-use Rattle.pg_world.specs.Views.{Seen, peer_place, packets_to}
-use Rattle.pg_world.specs.Worlds.{TimedFrameWorld, ShowsNodes}
+use Rattle.pg_frame_world.specs.Views.{Seen, peer_place, packets_to}
+use Rattle.pg_frame_world.specs.Worlds.{TimedFrameWorld, ShowsNodes}
 use Rattle.pg_world.specs.Crossings.{Crossing, link_at, bytes_at, packet_as, packets_between, written_of, CanCross, IsOnWay, ShowsPast}
 use Rattle.pg_world.specs.Changes.{Moves, links_at}
-use Rattle.pg_world.specs.Losses.{is_lost}
+use Rattle.pg_account.specs.Losses.{is_lost}
 use Rattle.pg_world.proofs.Past.{Adds, way_sent}
-use Rattle.pg_world.proofs.Turning.{Passes, pair_is}
+use Rattle.pg_frame_world.proofs.Turning.{Passes, pair_is}
 
 -- ---- bytes move
 

@@ -8,16 +8,17 @@ use Rattle.pg_step.specs.Faults.{refusal_number_of}
 use Rattle.pg_node.specs.NodeFault.{node_number_of}
 use Rattle.pg_node.specs.declared.state.fault.NodeFault.{NodeFault}
 use Rattle.pg_node.specs.declared.state.fault.NodeFault.TheVariants.{Refused, OutOfMemory, Message as BadMessage, TooLong, Damaged}
-use Rattle.pg_world.specs.declared.step.FrameStep.TheVariants as frames
+use Rattle.pg_frame_world.specs.declared.step.FrameStep.TheVariants as frames
 use Rattle.pg_world.specs.declared.step.Step.{Step}
 use Rattle.pg_world.specs.declared.step.Step.TheVariants as steps
-use Rattle.pg_world.specs.declared.step.Stepped.{Stepped}
-use Rattle.pg_world.specs.declared.step.Stepped.TheVariants.{Happened, Moved, Nothing, Gone}
+use Rattle.pg_frame_world.specs.declared.step.Stepped.{Stepped}
+use Rattle.pg_frame_world.specs.declared.step.Stepped.TheVariants.{Happened, Moved, Nothing, Gone}
 use Rattle.pg_world.specs.Bars.{bytes_lost_after}
-use Rattle.pg_world.proofs.Running.{none_more}
+use Rattle.pg_frame_world.proofs.Running.{none_more}
 use Rattle.pg_world.specs.Crossings.{MoveComesTo, EventComesTo, StepComesTo, is_loss_in}
-use Rattle.pg_world.specs.Runs.{over_bytes, event_in, IsLeft, IsStill, IsMove, SeesNone, StepsTo}
-use Rattle.pg_world.specs.Worlds.{TimedFrameWorld, IsUnseen}
+use Rattle.pg_frame_world.specs.Runs.{SeesNone, StepsTo}
+use Rattle.pg_world.specs.BytesRuns.{over_bytes, event_in, IsLeft, IsStill, IsMove}
+use Rattle.pg_frame_world.specs.Worlds.{TimedFrameWorld, IsUnseen}
 
 module _ (config : Config) (w : TimedFrameWorld) (Shown : TimedFrameWorld → Type 0) where
   moved_so : (x y : ℕ) (stepped : Stepped) → MoveComesTo config x y (Ok stepped) (Shown w) → IsMove config x y 0 × Shown w

@@ -14,8 +14,8 @@ use Rattle.pg_step.specs.Step.{CLOCK_LIMIT, TimedTurn, at_clock, timed, step_tak
 use Rattle.pg_step.specs.Turns.{NodeTurn}
 use Rattle.pg_history.specs.Headline.{HarmsNobody}
 use Rattle.pg_world.specs.Crossings.{IsWelcome}
-use Rattle.pg_world.specs.Losing.{losing_of, notices}
-use Rattle.pg_world.specs.Worlds.{TimedFrameWorld}
+use Rattle.pg_frame_world.specs.Losing.{losing_of, notices}
+use Rattle.pg_frame_world.specs.Worlds.{TimedFrameWorld}
 
 -- what is refused so is refused without a clock
 refused_so : (config : Config) (clock : ℕ) (r : Result NodeTurn Refusal) → timed clock r ≡ Err NotAMessage → placed config r ≡ None

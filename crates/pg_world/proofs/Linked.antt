@@ -26,14 +26,14 @@ use Rattle.pg_world.specs.declared.rings.Rings.{Rings}
 use Rattle.pg_world.specs.Rooms.{HaveRoomFor}
 use Rattle.pg_world.specs.BytesLosing.{MoveLeaves}
 use Rattle.pg_world.specs.Crossings.{Crossing, bytes_of, bytes_at, node_of, crossing_in}
-use Rattle.pg_world.specs.Views.{Seen, seen_of, peer_place}
-use Rattle.pg_world.specs.Worlds.{has_port}
+use Rattle.pg_frame_world.specs.Views.{Seen, seen_of, peer_place}
+use Rattle.pg_frame_world.specs.Worlds.{has_port}
 use Rattle.pg_world.specs.Changes.{Moves, put_count, pull_count, ChangesAlone, links_at}
 use Rattle.pg_world.proofs.Crossed.{Acts}
-use Rattle.pg_world.proofs.Ported.{test_of}
-use Rattle.pg_world.proofs.Peering.{place_within, peers_differ}
-use Rattle.pg_world.proofs.Turning.{pair_is, pair_turned, set_other}
-use Rattle.pg_world.proofs.Viewing.{read_here, map_same}
+use Rattle.pg_frame_world.proofs.Ported.{test_of}
+use Rattle.pg_frame_world.proofs.Peering.{place_within, peers_differ}
+use Rattle.pg_frame_world.proofs.Turning.{pair_is, pair_turned, set_other}
+use Rattle.pg_frame_world.proofs.Viewing.{read_here, map_same}
 
 take_front : {A : Type 0} (xs ys : List A) → take (length xs) (xs ++ ys) ≡ xs
 take_front [] ys = refl

@@ -30,16 +30,17 @@ use Rattle.pg_node.specs.Links.{Link, at_link, AreSmallFrames}
 use Rattle.pg_node.specs.Nodes.{read_next, ComesInRoom}
 use Rattle.pg_node.specs.Sendable.{AreSendable}
 use Rattle.pg_node.specs.States.{stamped_of, Comes}
-use Rattle.pg_world.specs.declared.step.Stepped.TheVariants.{Happened}
+use Rattle.pg_frame_world.specs.declared.step.Stepped.TheVariants.{Happened}
 use Rattle.pg_world.specs.Crossings.{Crossing, link_at, bytes_at, packet_as, packets_between, CanCross, IsOnWay, IsWelcome, ShowsPast, ShowsBytesPast, EventComesTo}
-use Rattle.pg_world.specs.Losses.{is_lost}
-use Rattle.pg_world.specs.Histories.{asked_by}
-use Rattle.pg_world.specs.Views.{Seen, Account, peer_place}
-use Rattle.pg_world.specs.Worlds.{TimedFrameWorld, ComesTo}
+use Rattle.pg_account.specs.Losses.{is_lost}
+use Rattle.pg_account.specs.Histories.{asked_by}
+use Rattle.pg_frame_world.specs.Views.{Seen, peer_place}
+use Rattle.pg_account.specs.Histories.{Account}
+use Rattle.pg_frame_world.specs.Worlds.{TimedFrameWorld, ComesTo}
 use Rattle.pg_world.proofs.Crossed.{Acts, all_short, event_shown}
 use Rattle.pg_world.proofs.Past.{Adds, ReadsFirst, ReadsLawful}
-use Rattle.pg_world.proofs.Recording.{Grew, updates_after}
-use Rattle.pg_world.proofs.Turning.{Left, pair_turned, pair_there, own_left, own_refused, taken_refused, taken_told, take_left}
+use Rattle.pg_frame_world.proofs.Recording.{Grew, updates_after}
+use Rattle.pg_frame_world.proofs.Turning.{Left, pair_turned, pair_there, own_left, own_refused, taken_refused, taken_told, take_left}
 
 -- ---- links
 

@@ -6,3 +6,4 @@ pub mod Opened
 pub mod Past
 pub mod Running
 pub mod Seen
+pub mod Unplaced

@@ -7,15 +7,15 @@ use Rattle.pg_step.specs.Faults.{first_that_holds}
 use Rattle.pg_node.specs.declared.state.fault.NodeFault.{NodeFault}
 use Rattle.pg_node.specs.declared.state.fault.NodeFault.TheVariants.{Refused, OutOfMemory}
 use Rattle.pg_node.specs.Bytes.{is_drained}
-use Rattle.pg_world.specs.declared.step.FrameStep.{FrameStep}
-use Rattle.pg_world.specs.declared.step.FrameStep.TheVariants as frames
+use Rattle.pg_frame_world.specs.declared.step.FrameStep.{FrameStep}
+use Rattle.pg_frame_world.specs.declared.step.FrameStep.TheVariants as frames
 use Rattle.pg_world.specs.declared.step.Step.{Step}
 use Rattle.pg_world.specs.declared.step.Step.TheVariants as steps
-use Rattle.pg_world.specs.declared.step.Stepped.{Stepped}
+use Rattle.pg_frame_world.specs.declared.step.Stepped.{Stepped}
 use Rattle.pg_world.specs.Crossings.{Crossing, bytes_at, link_at}
-use Rattle.pg_world.specs.Losing.{is_cut_off, is_barred, lost_with, lost_after}
-use Rattle.pg_world.specs.Losses.{is_lost}
-use Rattle.pg_world.specs.Worlds.{has_places}
+use Rattle.pg_frame_world.specs.Losing.{is_cut_off, is_barred, lost_with, lost_after}
+use Rattle.pg_account.specs.Losses.{is_lost}
+use Rattle.pg_frame_world.specs.Worlds.{has_places}
 
 -- a ring has bytes that were not pulled
 abbrev pub has_bytes : List ℕ → Bool

@@ -5,9 +5,9 @@ use Rattle.pg_step.specs.Config.{Config}
 use Rattle.pg_world.specs.declared.byte_world.World.{World}
 use Rattle.pg_world.specs.Crossings as nodes
 use Rattle.pg_world.specs.Crossings.{Crossing}
-use Rattle.pg_world.specs.Histories as kept
-use Rattle.pg_world.specs.Losses.{lost_in}
-use Rattle.pg_world.specs.Views.{Account}
+use Rattle.pg_account.specs.Histories as kept
+use Rattle.pg_account.specs.Losses.{lost_in}
+use Rattle.pg_account.specs.Histories.{Account}
 
 -- its nodes, their links, and the bytes on each ring
 abbrev pub crossing_of : {T : Type 0} {g : Ghosts T} → World T g → Crossing

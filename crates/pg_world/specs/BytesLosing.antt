@@ -1,26 +1,25 @@
 -- Worlds over bytes whose nodes may be lost: the world with losses that they show, and what a step makes of it.
 use Rattle.std.specs.Prelude.{◌≡◌, ℕ, ◌||◌, cond, length, List, Option, Some, None, Result, Ok, Err}
 use Rattle.pg_machine.specs.Places.{is_place, is_pair}
-use Rattle.pg_machine.specs.Losing.{LosingEvent, Lose}
+use Rattle.pg_machine.specs.Losing.{Lose}
 use Rattle.pg_step.specs.declared.refusal.Refusal.{Refusal}
 use Rattle.pg_step.specs.declared.refusal.Refusal.TheVariants.{NoSuchPlace, NodeLost, NotDrained}
 use Rattle.pg_step.specs.Config.{Config}
 use Rattle.pg_step.specs.LossLaws.{LosingFrameWorld}
-use Rattle.pg_step.specs.Step.{Action, Issue, Retry}
+use Rattle.pg_step.specs.Step.{Issue, Retry}
 use Rattle.pg_history.specs.WithLosses.{has_seen}
-use Rattle.pg_loss.specs.Reached.{LosingReaches}
 use Rattle.pg_node.specs.declared.state.fault.NodeFault.{NodeFault}
 use Rattle.pg_node.specs.declared.state.fault.NodeFault.TheVariants.{Refused, OutOfMemory}
-use Rattle.pg_world.specs.declared.step.FrameStep.{FrameStep}
-use Rattle.pg_world.specs.declared.step.FrameStep.TheVariants as frames
+use Rattle.pg_frame_world.specs.declared.step.FrameStep.{FrameStep}
+use Rattle.pg_frame_world.specs.declared.step.FrameStep.TheVariants as frames
 use Rattle.pg_world.specs.declared.step.Step.{Step}
 use Rattle.pg_world.specs.declared.step.Step.TheVariants as steps
-use Rattle.pg_world.specs.declared.step.Stepped.{Stepped}
-use Rattle.pg_world.specs.declared.step.Stepped.TheVariants.{Nothing, Moved, Gone}
+use Rattle.pg_frame_world.specs.declared.step.Stepped.{Stepped}
+use Rattle.pg_frame_world.specs.declared.step.Stepped.TheVariants.{Nothing, Moved, Gone}
 use Rattle.pg_world.specs.Crossings.{Crossing, ShowsBytesPast}
-use Rattle.pg_world.specs.Losing.{SeenAreLost, Telling, losing_of, told_take, told_own, told_sight, LosingLed, LosingComesTo}
-use Rattle.pg_world.specs.Views.{Account}
-use Rattle.pg_world.specs.Worlds.{TimedFrameWorld}
+use Rattle.pg_frame_world.specs.Losing.{SeenAreLost, Telling, losing_of, told_take, told_own, told_sight, LosingLed, LosingComesTo}
+use Rattle.pg_account.specs.Histories.{Account}
+use Rattle.pg_frame_world.specs.Worlds.{TimedFrameWorld}
 
 -- ---- the world with losses that a world shows
 
@@ -31,10 +30,6 @@ pub record ShowsLosingBytes (config : Config) (crossing : Crossing) (account : A
   pub shows : ShowsBytesPast config lost crossing account frames
   pub seen : SeenAreLost config frames lost
   pub is : u ≡ losing_of config frames lost
-
--- a world with losses that events lead to from the start
-abbrev pub IsReachedLosing : Config → LosingFrameWorld → Type 0
-IsReachedLosing config u = (events : List (LosingEvent Action)) × LosingReaches config events u
 
 -- ---- bytes that should move
 

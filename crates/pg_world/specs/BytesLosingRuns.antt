@@ -8,13 +8,13 @@ use Rattle.pg_step.specs.Config.{Config}
 use Rattle.pg_step.specs.Faults.{refusal_number_of}
 use Rattle.pg_step.specs.LossLaws.{LosingFrameWorld}
 use Rattle.pg_step.specs.Step.{Action}
-use Rattle.pg_world.specs.declared.step.FrameStep.{FrameStep}
-use Rattle.pg_world.specs.declared.step.FrameStep.TheVariants as frames
+use Rattle.pg_frame_world.specs.declared.step.FrameStep.{FrameStep}
+use Rattle.pg_frame_world.specs.declared.step.FrameStep.TheVariants as frames
 use Rattle.pg_world.specs.declared.step.Step.{Step}
 use Rattle.pg_world.specs.declared.step.Step.TheVariants as steps
 use Rattle.pg_world.specs.BytesLosing.{put_refusal, pull_refusal, gone_refusal}
-use Rattle.pg_world.specs.Losing.{told_of, told_take, told_sight}
-use Rattle.pg_world.specs.LosingRuns.{LosingKind, IsLeftOut, IsToldEvent}
+use Rattle.pg_frame_world.specs.Losing.{told_of, told_take, told_sight}
+use Rattle.pg_frame_world.specs.LosingRuns.{LosingKind, IsLeftOut, IsToldEvent}
 
 -- the loss of a node, whatever stays on the ways from it
 abbrev pub IsLossOf : ℕ → LosingEvent Action → Type 0

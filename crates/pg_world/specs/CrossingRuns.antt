@@ -8,13 +8,14 @@ use Rattle.pg_step.specs.LossLaws.{LosingFrameWorld}
 use Rattle.pg_node.specs.NodeFault.{node_number_of}
 use Rattle.pg_node.specs.declared.state.fault.NodeFault.{NodeFault}
 use Rattle.pg_world.specs.declared.step.Step.{Step}
-use Rattle.pg_world.specs.declared.step.Stepped.{Stepped}
-use Rattle.pg_world.specs.BytesLosing.{IsReachedLosing, ShowsLosingBytes, StepLeaves}
+use Rattle.pg_frame_world.specs.declared.step.Stepped.{Stepped}
+use Rattle.pg_world.specs.BytesLosing.{ShowsLosingBytes, StepLeaves}
+use Rattle.pg_frame_world.specs.Losing.{IsReachedLosing}
 use Rattle.pg_world.specs.BytesStart.{OpensBytes}
 use Rattle.pg_world.specs.Changes.{StepChanges}
 use Rattle.pg_world.specs.Crossings.{Crossing}
-use Rattle.pg_world.specs.Starts.{Orders}
-use Rattle.pg_world.specs.Views.{Account}
+use Rattle.pg_frame_world.specs.Starts.{Orders}
+use Rattle.pg_account.specs.Histories.{Account}
 
 -- the number of what a step did
 abbrev pub number_of : Result Stepped NodeFault → ℕ

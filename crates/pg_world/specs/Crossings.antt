@@ -21,18 +21,18 @@ use Rattle.pg_node.specs.declared.state.fault.NodeFault.{NodeFault}
 use Rattle.pg_node.specs.declared.state.fault.NodeFault.TheVariants.{Refused, OutOfMemory}
 use Rattle.pg_node.specs.Links.{Link, idle_link}
 use Rattle.pg_node.specs.Nodes.{held_by, links_of}
-use Rattle.pg_history.specs.Reached.{Reaches}
 use Rattle.pg_world.specs.declared.rings.Rings.{Rings}
-use Rattle.pg_world.specs.declared.step.FrameStep.{FrameStep}
-use Rattle.pg_world.specs.declared.step.FrameStep.TheVariants as frames
+use Rattle.pg_frame_world.specs.declared.step.FrameStep.{FrameStep}
+use Rattle.pg_frame_world.specs.declared.step.FrameStep.TheVariants as frames
 use Rattle.pg_world.specs.declared.step.Step.{Step}
 use Rattle.pg_world.specs.declared.step.Step.TheVariants as steps
-use Rattle.pg_world.specs.declared.step.Stepped.{Stepped}
-use Rattle.pg_world.specs.declared.step.Stepped.TheVariants.{Nothing, Moved, Happened}
+use Rattle.pg_frame_world.specs.declared.step.Stepped.{Stepped}
+use Rattle.pg_frame_world.specs.declared.step.Stepped.TheVariants.{Nothing, Moved, Happened}
 use Rattle.pg_world.specs.declared.bytes.ByteNodes.{ByteNodes}
-use Rattle.pg_world.specs.Losses.{is_lost}
-use Rattle.pg_world.specs.Views.{Seen, Account, seen_of, peer_place}
-use Rattle.pg_world.specs.Worlds.{TimedFrameWorld, ShowsNodes, ShowsUpdates, IsUnseen, is_loss, told}
+use Rattle.pg_account.specs.Losses.{is_lost}
+use Rattle.pg_frame_world.specs.Views.{Seen, seen_of, peer_place}
+use Rattle.pg_account.specs.Histories.{Account}
+use Rattle.pg_frame_world.specs.Worlds.{TimedFrameWorld, ShowsNodes, ShowsUpdates, IsUnseen, is_loss, told}
 
 -- ---- a world as it is seen
 
@@ -128,10 +128,6 @@ ShowsBytes config crossing account w = ShowsBytesPast config [] crossing account
 abbrev pub IsWelcome : Config → TimedFrameWorld → ℕ → ℕ → Type 0
 IsWelcome config w i p = (x : Stamped Message) (rest : List (Stamped Message)) → w.wire p i ≡ x ∷ rest
     → step_take (nodes_at config i) (name_at config p) x (w.node i) ≢ Err NotAMessage
-
--- a frame world that events lead to from the start
-abbrev pub IsReached : Config → TimedFrameWorld → Type 0
-IsReached config w = (events : List (Event Action)) × Reaches config events w
 
 -- ---- steps
 

@@ -1,16 +1,15 @@
 //! Worlds of bytes: nodes to which events led from the start of a configuration, however the bytes between them were cut.
 
 ghost use Rattle.pg_world.specs.Crossings.{crossing_of as seen_as};
-ghost use Rattle.pg_world.specs.Histories.{account_of as kept_by};
-ghost use Rattle.pg_world.specs.Losses.{lost_in};
-ghost use Rattle.pg_world.specs.Past.{BytesHavePast};
+ghost use Rattle.pg_account.specs.Histories.{account_of as kept_by};
+ghost use Rattle.pg_account.specs.Losses.{lost_in};
+ghost use Rattle.pg_world.specs.BytesPast.{BytesHavePast};
 
 use crate::bytes::ByteNodes;
-use crate::config::Config;
-use crate::entry::Entry;
-use crate::fault::WorldFault;
-use crate::laws::pending_ends_are_listed;
-use crate::step::{Step, Stepped};
+use crate::step::Step;
+use pg_account::Entry;
+use pg_config::{Config, WorldFault};
+use pg_frame_world::{Stepped, pending_ends_are_listed};
 use pg_group::GroupTable;
 use pg_index::IndexTable;
 use pg_loss::each_world_past_losses;
@@ -34,7 +33,7 @@ impl World<IndexTable> {
     ghost use Rattle.pg_step.specs.Config.{IsConfig};
     ghost use Rattle.pg_world.specs.BytesStart.{BytesBegin, OpensBytes};
     ghost use Rattle.pg_world.specs.ByteWorlds.{account_of, crossing_of, given_of, lost_of, room_of};
-    ghost use Rattle.pg_world.specs.Openings.{AllFit, CantBegin, have_few};
+    ghost use Rattle.pg_frame_world.specs.Openings.{AllFit, CantBegin, have_few};
 
     /// The nodes of a configuration as they start, where what each of them tells of its groups stands in its outbox to each other,
     /// and the ring from each to each other is empty. Its cost is that of `FrameWorld::new`, and of the rings.
@@ -69,15 +68,18 @@ impl<T: GroupTable + Drop> World<T> {
     ghost use Rattle.pg_step.specs.Config.{Config as Configuration};
     ghost use Rattle.pg_step.specs.LossLaws.{LosingFrameWorld};
     ghost use Rattle.pg_world.specs.Bars.{IsHeld, StepTellsUndrained, bar_of, bytes_lost_after};
-    ghost use Rattle.pg_world.specs.BytesLosing.{IsReachedLosing, ShowsLosingBytes, StepLeaves};
+    ghost use Rattle.pg_world.specs.BytesLosing.{ShowsLosingBytes, StepLeaves};
+    ghost use Rattle.pg_frame_world.specs.Losing.{IsReachedLosing};
     ghost use Rattle.pg_world.specs.ByteWorlds.{account_of, crossing_of, given_of, lost_of, room_of};
     ghost use Rattle.pg_world.specs.Changes.{StepChanges};
-    ghost use Rattle.pg_world.specs.Crossings.{node_of, IsReached, ShowsCrossing, ShowsBytes, StepComesTo};
-    ghost use Rattle.pg_world.specs.Histories.{as_entry, last_entries};
-    ghost use Rattle.pg_world.specs.Losses.{is_lost};
-    ghost use Rattle.pg_world.specs.Past.{BytesGoOn, HistoriesGrow};
-    ghost use Rattle.pg_world.specs.Pending.{AgreeOn, pending_of, sees_free};
-    ghost use Rattle.pg_world.specs.Worlds.{TimedFrameWorld};
+    ghost use Rattle.pg_world.specs.Crossings.{node_of, ShowsCrossing, ShowsBytes, StepComesTo};
+    ghost use Rattle.pg_frame_world.specs.Worlds.{IsReached};
+    ghost use Rattle.pg_account.specs.Histories.{as_entry, last_entries};
+    ghost use Rattle.pg_account.specs.Losses.{is_lost};
+    ghost use Rattle.pg_frame_world.specs.Past.{HistoriesGrow};
+    ghost use Rattle.pg_world.specs.BytesPast.{BytesGoOn};
+    ghost use Rattle.pg_frame_world.specs.Pending.{AgreeOn, pending_of, sees_free};
+    ghost use Rattle.pg_frame_world.specs.Worlds.{TimedFrameWorld};
 
     /// The node at a place. It takes no memory.
     pub fn node(&self, place: usize) -> Option<&Node<T>>

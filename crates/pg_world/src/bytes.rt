@@ -12,16 +12,15 @@ mod losing;
 mod pending;
 mod runs;
 
-use crate::histories::Histories;
-use crate::losses::Losses;
 use crate::rings::{Rings, rings_between};
-use crate::step::{FrameStep, Step, Stepped};
-use crate::world::peer_place;
+use crate::step::Step;
 pub use begun::starting_nodes;
+use pg_account::{Histories, Losses};
 use pg_frame::{
     front_is_first_of_cut, front_is_first_packet, loss_cuts_packets, moving_keeps_packets,
     sending_adds_packets,
 };
+use pg_frame_world::{FrameStep, Stepped, peer_place};
 use pg_group::GroupTable;
 use pg_history::nobody_is_harmed;
 use pg_loss::no_packet_is_refused;
@@ -55,17 +54,19 @@ impl<T: GroupTable + Drop> ByteNodes<T> {
     ghost use Rattle.pg_step.specs.Step.{Issue, Retry};
     ghost use Rattle.pg_message.specs.Members.{IsShort};
     ghost use Rattle.pg_node.specs.Bytes.{next_packet};
-    ghost use Rattle.pg_world.specs.Histories.{IsSettled, account_of};
+    ghost use Rattle.pg_account.specs.Histories.{IsSettled, account_of};
     ghost use Rattle.pg_step.specs.LossLaws.{LosingFrameWorld};
-    ghost use Rattle.pg_world.specs.BytesLosing.{IsReachedLosing, ShowsLosingBytes, MoveLeaves, EventLeaves, StepLeaves};
-    ghost use Rattle.pg_world.specs.Losses.{lost_in, is_lost};
-    ghost use Rattle.pg_world.specs.Losing.{SeenAreLost, lost_after};
+    ghost use Rattle.pg_world.specs.BytesLosing.{ShowsLosingBytes, MoveLeaves, EventLeaves, StepLeaves};
+    ghost use Rattle.pg_frame_world.specs.Losing.{IsReachedLosing};
+    ghost use Rattle.pg_account.specs.Losses.{lost_in, is_lost};
+    ghost use Rattle.pg_frame_world.specs.Losing.{SeenAreLost, lost_after};
     ghost use Rattle.pg_world.specs.Bars.{IsHeld, StepTellsUndrained, TellsUndrained, put_bar, pull_bar, event_bar, bar_of, bytes_lost_after};
-    ghost use Rattle.pg_world.specs.Worlds.{has_port, has_places, TimedFrameWorld};
-    ghost use Rattle.pg_world.specs.Views.{no_account};
+    ghost use Rattle.pg_frame_world.specs.Worlds.{has_port, has_places, TimedFrameWorld};
+    ghost use Rattle.pg_account.specs.Histories.{no_account};
     ghost use Rattle.pg_world.specs.Changes.{Moves, put_count, pull_count, MoveChanges, EventChanges, FrameChanges, StepChanges};
     ghost use Rattle.pg_frame.specs.Pieces.{put, pull};
-    ghost use Rattle.pg_world.specs.Crossings.{crossing_of, room_of, idle_crossing, link_at, bytes_at, IsReached, IsWelcome, ShowsPast, ShowsBytes, ShowsBytesPast, EventComesTo, FrameComesTo, StepComesTo};
+    ghost use Rattle.pg_world.specs.Crossings.{crossing_of, room_of, idle_crossing, link_at, bytes_at, IsWelcome, ShowsPast, ShowsBytes, ShowsBytesPast, EventComesTo, FrameComesTo, StepComesTo};
+    ghost use Rattle.pg_frame_world.specs.Worlds.{IsReached};
 
     /// A world of these nodes, with an empty ring from each to each other, which has room for `ring` bytes, and where nothing has
     /// begun. Its cost is one allocation for each node and for each ring, and one.

@@ -1,13 +1,15 @@
 //! The requests of one port.
 
 use pg_step::Command;
+use pg_term::Atom;
 use std::alloc::{AllocError, Global};
 use std::collections::VecDeque;
 
 /// The requests of one port, of which one at a time is with its node.
 #[derive(Drop)]
 pub(crate) struct Desk {
-    // The place of the node, and the port's number, from 1.
+    // The name of the node and its place, and the port's number, from 1.
+    name: Atom,
     node: usize,
     port: u16,
     // The requests that wait for their turn.
@@ -23,7 +25,8 @@ impl Desk {
     ghost use Rattle.pg_talk.specs.Desks.{is_idle, waiting_at, SameDesk};
 
     /// One to which nothing came. It takes no memory.
-    pub(crate) fn new(alloc: Global, node: usize, port: u16) -> Desk
+    pub(crate) fn new(alloc: Global, name: Atom, node: usize, port: u16) -> Desk
+        ensures name { result.name ≡ name }
         ensures node { result.node ≡ node }
         ensures port { result.port ≡ port }
         ensures waiting { waiting_at result ≡ [] }
@@ -31,12 +34,20 @@ impl Desk {
         ensures replied { result.replied ≡ 0 }
     {
         Desk {
+            name,
             node,
             port,
             waiting: VecDeque::new(alloc),
             is_asked: false,
             replied: 0,
         }
+    }
+
+    /// The name of the node. It takes no memory.
+    pub(crate) fn name(&self) -> &Atom
+        ensures { result.now ≡ self.now.name }
+    {
+        &self.name
     }
 
     /// The place of the node. It takes no memory.

@@ -19,12 +19,16 @@ const INPUT_PLACES: usize = 1024;
 /// The thread that reads, and where what it gives comes in.
 #[derive(Drop)]
 pub(crate) struct Reader {
-    inlet: SlotIn<Input>,
+    /// Where it comes in.
+    pub inlet: SlotIn<Input>,
     thread: JoinHandle<()>,
     is_over: Arc<AtomicBool, Global>,
 }
 
 impl Reader {
+    ghost use Rattle.std.specs.Prelude.{◌≡◌, [], IfOk};
+    ghost use Rattle.pg_ring.specs.Slots.{taken};
+
     /// Starts a thread that reads requests to the ports of a layout from a source. `requests`: after how many the input counts as ended.
     ///
     /// Faults: `Start` of `NoThread`; `OutOfMemory`.
@@ -34,7 +38,9 @@ impl Reader {
         source: S,
         layout: Layout,
         requests: u64,
-    ) -> Result<Reader, ServiceFault> {
+    ) -> Result<Reader, ServiceFault>
+        ensures { IfOk result (λ reader. taken reader.inlet ≡ []) }
+    {
         let is_over = Arc::new(alloc, AtomicBool::new(false))?;
         let told = Arc::try_clone(&is_over)?;
         let Ok((out, inlet)) = slot_pair(alloc, INPUT_PLACES) else {
@@ -57,11 +63,6 @@ impl Reader {
             }),
             Err(_) => Err(ServiceFault::Start(StartFault::NoThread)),
         }
-    }
-
-    /// The next input, if one is there. It waits for nobody.
-    pub(crate) fn next(&mut self) -> Option<Input> {
-        self.inlet.take_one()
     }
 
     /// The input is over: the thread is joined. It may wait for it.

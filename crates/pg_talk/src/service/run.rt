@@ -1,8 +1,12 @@
 //! A service from its start to its end.
 
-ghost use Rattle.std.specs.Prelude.{IfOk};
-ghost use Rattle.pg_cluster.specs.Running.{config_in};
-ghost use Rattle.pg_talk.specs.Services.{WasJudged, running_of};
+ghost use Rattle.std.specs.Prelude.{◌≡◌, [], None, Option, ℕ, List, false, IfOk, map};
+ghost use Rattle.std.specs.List.{All};
+ghost use Rattle.pg_ring.specs.Slots.{taken};
+ghost use Rattle.pg_step.specs.Config.{Config as Starts};
+ghost use Rattle.pg_talk.specs.Written.{ports_in};
+ghost use Rattle.pg_talk.specs.Services.{WasServed};
+ghost use Rattle.pg_talk.specs.Servings.{IsNew, Serves, known_lost, names_of, ports_of, view_of};
 
 use crate::service::Service;
 use crate::service::fault::ServiceFault;
@@ -26,8 +30,11 @@ pub struct Served {
 }
 
 /// Starts the cluster of a service, reads requests from `source`, and writes the replies to `writer`, until the input is over and each
-/// request was replied to. Then the cluster is closed and judged. A request of a port is handed over once the one before it there was
-/// replied to. Each reply is in a frame, and all are passed on whenever no further one is at hand. It may wait for threads.
+/// request was replied to. Then the cluster is closed and judged. It may wait for threads.
+///
+/// A request of a port is handed over once the one before it there was replied to. Each has one reply in a frame, in their order and
+/// numbered from 1: what the node answered, or, once it is lost, that it is. Losses and bodies that ask for nothing are told, and nothing
+/// else is written (`AllServed`). What was written is passed on whenever no further reply is at hand.
 ///
 /// Faults: `Start`, where no cluster was started, or no thread that reads; `WriteFault`, where a write or a flush fails, also while more
 /// could be read; `OutOfMemory`.
@@ -38,7 +45,7 @@ pub fn serve_cluster<R: Threads, S: Source + Send + Drop + 'static, W: Sink>(
     source: S,
     writer: &mut W,
 ) -> Result<Served, ServiceFault>
-    ensures { IfOk result (λ served. WasJudged service.config.starts.items served.verdict) }
+    ensures { IfOk result (WasServed service.config.starts.items (W.contents writer.old) (W.contents writer.new)) }
 {
     let Service {
         config,
@@ -77,7 +84,9 @@ fn serve_by<R: Threads, S: Source + Send + Drop + 'static, W: Sink>(
     source: S,
     writer: &mut W,
 ) -> Result<Served, ServiceFault>
-    ensures { IfOk result (λ served. WasJudged (config_in (running_of serving)).starts.items served.verdict) }
+    requires { serving.kept ≡ None }
+    ensures { IfOk result (λ served. (given : Starts) → Serves given (W.contents writer.old) [] (view_of serving) (W.contents writer.old)
+        → WasServed given (W.contents writer.old) (W.contents writer.new) served) }
 {
     match Reader::start(rt, alloc, source, layout, requests) {
         Ok(reader) => serve_all(rt, alloc, serving, reader, writer),
@@ -91,7 +100,12 @@ fn serve_by<R: Threads, S: Source + Send + Drop + 'static, W: Sink>(
 /// What a service of such nodes looks up.
 ///
 /// Error: `AllocError`.
-fn rooms_of(alloc: Global, starts: &[Start]) -> Result<(Layout, Desks), AllocError> {
+fn rooms_of(alloc: Global, starts: &[Start]) -> Result<(Layout, Desks), AllocError>
+    ensures ports { IfOk result (λ rooms. ports_of rooms.1.desks.items ≡ ports_in 0 starts.now) }
+    ensures new { IfOk result (λ rooms. All IsNew rooms.1.desks.items) }
+    ensures names { IfOk result (λ rooms. names_of rooms.1.nodes.items ≡ map (λ start. start.name) starts.now) }
+    ensures there { IfOk result (λ rooms. known_lost rooms.1.nodes.items ≡ map (λ start. false) starts.now) }
+{
     let layout = Layout::of(alloc, starts)?;
     let desks = Desks::of(alloc, starts)?;
     Ok((layout, desks))
@@ -105,11 +119,14 @@ fn serve_all<R: Threads, W: Sink>(
     reader: Reader,
     writer: &mut W,
 ) -> Result<Served, ServiceFault>
-    ensures { IfOk result (λ served. WasJudged (config_in (running_of serving)).starts.items served.verdict) }
+    requires kept { serving.kept ≡ None }
+    requires came { taken reader.inlet ≡ [] }
+    ensures { IfOk result (λ served. (given : Starts) → Serves given (W.contents writer.old) [] (view_of serving) (W.contents writer.old)
+        → WasServed given (W.contents writer.old) (W.contents writer.new) served) }
 {
     let mut serving = serving;
     let mut reader = reader;
-    let served = serving.run(rt, &mut reader, writer);
+    let served = serving.run(rt, &mut reader.inlet, writer);
     let fault = serving.fault();
     let verdict = close_and_judge(rt, alloc, serving.into_running());
     match served {

@@ -1,13 +1,19 @@
 //! A service that runs: what comes in goes to its port, and replies go out.
 
+ghost use Rattle.std.specs.Prelude.{◌≡◌, ◌++◌, OnOk};
+ghost use Rattle.std.specs.List.{All as AllOf, list_all};
+ghost use Rattle.pg_talk.specs.Desks.{is_idle as is_idle_desk};
+ghost use Rattle.pg_talk.specs.Servings.{IsNew as IsNewDesk, ports_of as ports_of_desks};
+ghost use Rattle.pg_talk.specs.Written.{ports_from};
+
 use crate::service::MAX_WAITING;
 use crate::service::desk::Desk;
 use crate::service::fault::ServiceFault;
 use crate::service::outlet::{Address, Outlet};
-use crate::service::reader::Reader;
 use pg_cluster::Running;
 use pg_node::Sink;
 use pg_requests::{Input, bad_request, lost, node_lost, reply_term};
+use pg_ring::SlotIn;
 use pg_step::{Command, Start};
 use pg_term::{Atom, Term};
 use std::alloc::{AllocError, Global};
@@ -32,10 +38,20 @@ pub(crate) struct Desks {
 }
 
 impl Desks {
+    ghost use Rattle.std.specs.Prelude.{◌≡◌, false, IfOk, map};
+    ghost use Rattle.std.specs.List.{All};
+    ghost use Rattle.pg_talk.specs.Servings.{IsNew, known_lost, names_of, ports_of};
+    ghost use Rattle.pg_talk.specs.Written.{ports_in};
+
     /// Those of nodes as they start, to which nothing came.
     ///
     /// Error: `AllocError`.
-    pub(crate) fn of(alloc: Global, starts: &[Start]) -> Result<Desks, AllocError> {
+    pub(crate) fn of(alloc: Global, starts: &[Start]) -> Result<Desks, AllocError>
+        ensures ports { IfOk result (λ made. ports_of made.desks.items ≡ ports_in 0 starts.now) }
+        ensures new { IfOk result (λ made. All IsNew made.desks.items) }
+        ensures names { IfOk result (λ made. names_of made.nodes.items ≡ map (λ start. start.name) starts.now) }
+        ensures there { IfOk result (λ made. known_lost made.nodes.items ≡ map (λ start. false) starts.now) }
+    {
         let mut nodes = Vec::with_capacity(alloc, starts.len())?;
         let mut desks = Vec::new(alloc);
         for node in 0..starts.len() {
@@ -44,23 +60,34 @@ impl Desks {
                 name,
                 is_lost: false,
             })?;
-            open_ports(alloc, &mut desks, node, starts[node].ports)?;
+            open_ports(alloc, &mut desks, &starts[node], node)?;
         }
         Ok(Desks { nodes, desks })
     }
 }
 
-/// A desk for each port of a node.
+/// A desk for each port of a node at a place.
 fn open_ports(
     alloc: Global,
     desks: &mut Vec<Desk>,
+    start: &Start,
     node: usize,
-    ports: u16,
-) -> Result<(), AllocError> {
-    for port in 0..ports {
-        desks.push(Desk::new(alloc, node, port + 1))?;
+) -> Result<(), AllocError>
+    ensures ports { OnOk result (ports_of_desks desks.new.items ≡ ports_of_desks desks.old.items ++ ports_from 1 node start.now.name start.now.ports) }
+    ensures new { OnOk result (AllOf IsNewDesk desks.old.items → AllOf IsNewDesk desks.new.items) }
+{
+    for port in 0..start.ports {
+        let name = start.name.copy()?;
+        desks.push(Desk::new(alloc, name, node, port + 1))?;
     }
     Ok(())
+}
+
+/// Whether each request that came to desks was replied to.
+fn are_idle(desks: &[Desk]) -> bool
+    ensures { result ≡ list_all is_idle_desk desks.now }
+{
+    desks.iter().all(|desk| desk.is_idle())
 }
 
 /// A service that runs.
@@ -81,12 +108,16 @@ pub(crate) struct Serving {
 }
 
 impl Serving {
-    ghost use Rattle.std.specs.Prelude.{◌≡◌};
-    ghost use Rattle.pg_talk.specs.Services.{SameCluster, running_of};
+    ghost use Rattle.std.specs.Prelude.{◌≡◌, ◌<◌, ◌∷◌, true, false, Option, ℕ, None, Some, IsTrue, IfOk, OnOk, length};
+    ghost use Rattle.pg_requests.specs.declared.input.Input.TheVariants.{Ask, Lose};
+    ghost use Rattle.pg_cluster.specs.Running.{clients_in};
+    ghost use Rattle.pg_ring.specs.Slots.{taken};
+    ghost use Rattle.pg_talk.specs.Servings.{Advances, Comes, Goes, IsOver, LosesNode, RepliesLost, RepliesNext, Rests, Takes, TellsBad, asked_at, desks_of, is_known_lost, kept_in, lost_at, nodes_of, running_of, view_of};
 
     /// One to which nothing came. It takes no memory.
     pub(crate) fn new(alloc: Global, running: Running, desks: Desks) -> Serving
-        ensures { running_of result ≡ running }
+        ensures view { view_of result ≡ record { running = running; desks = desks.desks.items; nodes = desks.nodes.items; bodies = 0; over = None } }
+        ensures kept { result.kept ≡ None }
     {
         Serving {
             running,
@@ -120,127 +151,170 @@ impl Serving {
     }
 
     /// By which fault the input ended, if it was broken or could not be read. It takes no memory.
-    pub(crate) fn fault(&self) -> Option<u8> {
-        self.end.flatten()
+    pub(crate) fn fault(&self) -> Option<u8>
+        ensures { (fault : Option ℕ) → self.now.end ≡ Some fault → result ≡ fault }
+    {
+        match self.end {
+            Some(fault) => fault,
+            None => None,
+        }
     }
 
     /// Serves until the input is over and each request was replied to. It may wait for threads.
     ///
-    /// Faults: `WriteFault`, where a write or a flush fails; `OutOfMemory`.
+    /// Faults: `WriteFault`, where a write or a flush fails; `OutOfMemory`, also after 2^64 turns, which none makes.
     pub(crate) fn run<R: Threads, W: Sink>(
         &mut self,
         rt: &R,
-        reader: &mut Reader,
+        inlet: &mut SlotIn<Input>,
         writer: &mut W,
     ) -> Result<(), ServiceFault>
-        ensures same { SameCluster (running_of self.old) (running_of self.new) }
+        ensures advances { OnOk result (Advances self.old self.new (taken inlet.old) (taken inlet.new) (W.contents writer.old) (W.contents writer.new)) }
+        ensures over { OnOk result (IsOver self.new) }
     {
         for _ in 0..u64::MAX {
-            let took = self.take_inputs(rt, reader, writer)?;
-            let attended = self.attend_all(writer)?;
-            if !took && !attended {
-                self.outlet.flush(writer)?;
-                if self.is_done() {
-                    return Ok(());
-                }
-                thread::yield_now();
+            if self.turn(rt, inlet, writer)? {
+                return Ok(());
             }
         }
-        Ok(())
+        Err(ServiceFault::OutOfMemory)
+    }
+
+    /// Takes in what came, and looks at each client; whether the input is over and each request was replied to.
+    fn turn<R: Threads, W: Sink>(
+        &mut self,
+        rt: &R,
+        inlet: &mut SlotIn<Input>,
+        writer: &mut W,
+    ) -> Result<bool, ServiceFault>
+        ensures advances { OnOk result (Advances self.old self.new (taken inlet.old) (taken inlet.new) (W.contents writer.old) (W.contents writer.new)) }
+        ensures over { IfOk result (λ over. IsTrue over → IsOver self.new) }
+    {
+        let took = self.take_inputs(rt, inlet, writer)?;
+        let attended = self.attend_all(writer)?;
+        if took || attended {
+            return Ok(false);
+        }
+        self.outlet.flush(writer)?;
+        if self.is_done() {
+            return Ok(true);
+        }
+        thread::yield_now();
+        Ok(false)
     }
 
     /// Whether the input is over and each request was replied to.
-    fn is_done(&self) -> bool {
-        self.end.is_some() && self.kept.is_none() && self.desks.iter().all(|desk| desk.is_idle())
+    fn is_done(&self) -> bool
+        ensures { IsTrue result → IsOver self.now }
+    {
+        self.end.is_some() && self.kept.is_none() && are_idle(self.desks.as_slice())
     }
 
     /// Takes in what came; whether something did.
     fn take_inputs<R: Threads, W: Sink>(
         &mut self,
         rt: &R,
-        reader: &mut Reader,
+        inlet: &mut SlotIn<Input>,
         writer: &mut W,
     ) -> Result<bool, ServiceFault>
-        ensures same { SameCluster (running_of self.old) (running_of self.new) }
+        ensures { OnOk result (Advances self.old self.new (taken inlet.old) (taken inlet.new) (W.contents writer.old) (W.contents writer.new)) }
     {
         for count in 0..INPUTS_AT_ONCE {
-            let Some(input) = self.next_input(reader) else {
+            let Some(input) = self.next_input(inlet) else {
                 return Ok(count > 0);
             };
-            if !self.take_input(rt, input, writer)? {
+            if !self.has_room(&input) {
+                self.keep(input);
                 return Ok(count > 0);
             }
+            self.take_input(rt, input, writer)?;
         }
         Ok(true)
     }
 
-    /// The input that was kept, or else the next one, if it is there.
-    fn next_input(&mut self, reader: &mut Reader) -> Option<Input>
-        ensures same { SameCluster (running_of self.old) (running_of self.new) }
+    /// The input that was kept, or else the next one, if it is there. None is kept then.
+    fn next_input(&mut self, inlet: &mut SlotIn<Input>) -> Option<Input>
+        ensures view { view_of self.new ≡ view_of self.old }
+        ensures kept { self.new.kept ≡ None }
+        ensures came { Comes (taken inlet.old) (kept_in self.old.kept) (taken inlet.new) (kept_in result) }
     {
         match self.kept.take() {
             Some(input) => Some(input),
-            None => reader.next(),
+            None => inlet.take_one(),
         }
     }
 
-    /// Takes in an input; whether it had room, else it is kept.
+    /// Whether an input can be taken: all but a request whose port has as many as may wait.
+    fn has_room(&self, input: &Input) -> bool {
+        match input {
+            Input::Ask { client, .. } => match self.desks.get(*client) {
+                Some(desk) => desk.waiting_count() < MAX_WAITING,
+                None => true,
+            },
+            _ => true,
+        }
+    }
+
+    /// Keeps an input until there is room. None is kept so far.
+    fn keep(&mut self, input: Input)
+        ensures view { view_of self.new ≡ view_of self.old }
+        ensures kept { self.new.kept ≡ Some input }
+    {
+        drop(self.kept.replace(input));
+    }
+
+    /// Takes in an input.
     fn take_input<R: Threads, W: Sink>(
         &mut self,
         rt: &R,
         input: Input,
         writer: &mut W,
-    ) -> Result<bool, ServiceFault>
-        ensures same { SameCluster (running_of self.old) (running_of self.new) }
+    ) -> Result<(), ServiceFault>
+        ensures { OnOk result (Takes input self.old self.new (W.contents writer.old) (W.contents writer.new)) }
     {
         match input {
-            Input::Ask { client, command } => self.take_request(client, command),
-            Input::Lose { node } => {
-                self.bodies = self.bodies.saturating_add(1);
-                self.lose(rt, node, writer)
-            }
-            Input::Bad => {
-                self.bodies = self.bodies.saturating_add(1);
-                self.tell_bad(writer)
-            }
+            Input::Ask { client, command } => self.take_request(client, command, writer),
+            Input::Lose { node } => self.lose(rt, node, writer),
+            Input::Bad => self.tell_bad(writer),
             Input::End => {
                 self.end = Some(None);
-                Ok(true)
+                Ok(())
             }
             Input::Broken(number) => {
                 self.end = Some(Some(number));
-                Ok(true)
+                Ok(())
             }
         }
     }
 
-    /// A request waits for its turn at its port, if it has room there; else it is kept. Whether it has.
-    fn take_request(&mut self, client: usize, command: Command) -> Result<bool, ServiceFault>
-        ensures same { SameCluster (running_of self.old) (running_of self.new) }
+    /// A request waits for its turn at its port; where there is no such port, it asks for nothing.
+    fn take_request<W: Sink>(
+        &mut self,
+        client: usize,
+        command: Command,
+        writer: &mut W,
+    ) -> Result<(), ServiceFault>
+        ensures { OnOk result (Takes (Ask client command) self.old self.new (W.contents writer.old) (W.contents writer.new)) }
     {
-        let Some(desk) = self.desks.get_mut(client) else {
+        if client >= self.desks.len() {
             drop(command);
-            return Ok(true);
-        };
-        if desk.waiting_count() >= MAX_WAITING {
-            drop(self.kept.replace(Input::Ask { client, command }));
-            return Ok(false);
+            return self.tell_bad(writer);
         }
         self.bodies = self.bodies.saturating_add(1);
-        match desk.wait(command) {
-            Ok(()) => Ok(true),
+        match self.desks[client].wait(command) {
+            Ok(()) => Ok(()),
             Err(AllocError) => Err(ServiceFault::OutOfMemory),
         }
     }
 
-    /// A node is lost, unless it was before.
+    /// A node is lost; where there is no such node, or it was lost before, the input asks for nothing.
     fn lose<R: Threads, W: Sink>(
         &mut self,
         rt: &R,
         node: usize,
         writer: &mut W,
-    ) -> Result<bool, ServiceFault>
-        ensures same { SameCluster (running_of self.old) (running_of self.new) }
+    ) -> Result<(), ServiceFault>
+        ensures { OnOk result (Takes (Lose node) self.old self.new (W.contents writer.old) (W.contents writer.new)) }
     {
         match self.running.lose(rt, node) {
             Ok(()) => self.tell_lost(node, writer),
@@ -248,35 +322,36 @@ impl Serving {
         }
     }
 
-    /// A node was lost.
-    fn tell_lost<W: Sink>(&mut self, node: usize, writer: &mut W) -> Result<bool, ServiceFault>
-        ensures same { SameCluster (running_of self.old) (running_of self.new) }
+    /// Tells that a node was lost.
+    fn tell_lost<W: Sink>(&mut self, node: usize, writer: &mut W) -> Result<(), ServiceFault>
+        ensures kept { self.new.kept ≡ self.old.kept }
+        ensures loses { OnOk result (node < length (nodes_of self.old) → LosesNode node self.old self.new (W.contents writer.old) (W.contents writer.new)) }
     {
-        let Some(served) = self.nodes.get_mut(node) else {
-            return Ok(true);
-        };
-        served.is_lost = true;
-        let term = lost(self.alloc, &served.name)?;
+        if node >= self.nodes.len() {
+            return Ok(());
+        }
+        self.bodies = self.bodies.saturating_add(1);
+        self.nodes[node].is_lost = true;
+        let term = lost(self.alloc, &self.nodes[node].name)?;
         let told = self.outlet.put(writer, &term);
         drop(term);
-        told?;
-        Ok(true)
+        told
     }
 
-    /// The last body asks for nothing.
-    fn tell_bad<W: Sink>(&mut self, writer: &mut W) -> Result<bool, ServiceFault>
-        ensures same { SameCluster (running_of self.old) (running_of self.new) }
+    /// Tells that a body asks for nothing.
+    fn tell_bad<W: Sink>(&mut self, writer: &mut W) -> Result<(), ServiceFault>
+        ensures { OnOk result (TellsBad self.old self.new (W.contents writer.old) (W.contents writer.new)) }
     {
+        self.bodies = self.bodies.saturating_add(1);
         let term = bad_request(self.alloc, self.bodies)?;
         let told = self.outlet.put(writer, &term);
         drop(term);
-        told?;
-        Ok(true)
+        told
     }
 
     /// Looks at each client once; whether something moved.
     fn attend_all<W: Sink>(&mut self, writer: &mut W) -> Result<bool, ServiceFault>
-        ensures same { SameCluster (running_of self.old) (running_of self.new) }
+        ensures { OnOk result (Goes self.old self.new (W.contents writer.old) (W.contents writer.new)) }
     {
         let mut moved = false;
         for client in 0..self.running.client_count() {
@@ -289,13 +364,13 @@ impl Serving {
 
     /// Looks at a client: hears its answer, or hands over its next request; whether something moved.
     fn attend<W: Sink>(&mut self, client: usize, writer: &mut W) -> Result<bool, ServiceFault>
-        ensures same { SameCluster (running_of self.old) (running_of self.new) }
+        ensures { OnOk result (Goes self.old self.new (W.contents writer.old) (W.contents writer.new)) }
     {
-        let (is_asked, is_lost) = match self.desks.get(client) {
-            Some(desk) => (desk.is_asked(), self.is_lost(desk.node())),
-            None => return Ok(false),
-        };
-        if is_asked {
+        if client >= self.desks.len() || client >= self.running.client_count() {
+            return Ok(false);
+        }
+        let is_lost = self.is_lost(self.desks[client].node());
+        if self.desks[client].is_asked() {
             self.hear(client, is_lost, writer)
         } else if is_lost {
             self.refuse_next(client, writer)
@@ -305,7 +380,9 @@ impl Serving {
     }
 
     /// Whether a node was lost.
-    fn is_lost(&self, node: usize) -> bool {
+    fn is_lost(&self, node: usize) -> bool
+        ensures { result ≡ is_known_lost node (nodes_of self.now) }
+    {
         match self.nodes.get(node) {
             Some(served) => served.is_lost,
             None => false,
@@ -319,11 +396,12 @@ impl Serving {
         is_lost: bool,
         writer: &mut W,
     ) -> Result<bool, ServiceFault>
-        ensures same { SameCluster (running_of self.old) (running_of self.new) }
+        requires desk { client < length (desks_of self.old) }
+        requires client { client < length (clients_in (running_of self.old)) }
+        requires asked { asked_at client (desks_of self.old) ≡ true }
+        requires lost { is_lost ≡ lost_at client self.old }
+        ensures { OnOk result (Goes self.old self.new (W.contents writer.old) (W.contents writer.new)) }
     {
-        if client >= self.running.client_count() {
-            return Ok(false);
-        }
         match self.running.poll(client) {
             Some(answer) => {
                 let reply = reply_term(self.alloc, answer.reply)?;
@@ -341,13 +419,12 @@ impl Serving {
 
     /// Replies to the next request of a client, if one waits, that its node was lost.
     fn refuse_next<W: Sink>(&mut self, client: usize, writer: &mut W) -> Result<bool, ServiceFault>
-        ensures same { SameCluster (running_of self.old) (running_of self.new) }
+        requires desk { client < length (desks_of self.old) }
+        requires idle { asked_at client (desks_of self.old) ≡ false }
+        requires lost { lost_at client self.old ≡ true }
+        ensures { OnOk result (Goes self.old self.new (W.contents writer.old) (W.contents writer.new)) }
     {
-        let next = match self.desks.get_mut(client) {
-            Some(desk) => desk.next(),
-            None => None,
-        };
-        match next {
+        match self.desks[client].next() {
             Some(command) => {
                 drop(command);
                 self.reply_lost(client, writer)
@@ -358,23 +435,21 @@ impl Serving {
 
     /// Hands over the next request of a client; whether one was there and was taken.
     fn hand_over(&mut self, client: usize) -> Result<bool, ServiceFault>
-        ensures same { SameCluster (running_of self.old) (running_of self.new) }
+        requires desk { client < length (desks_of self.old) }
+        requires client { client < length (clients_in (running_of self.old)) }
+        requires idle { asked_at client (desks_of self.old) ≡ false }
+        requires there { lost_at client self.old ≡ false }
+        ensures { OnOk result (Rests self.old self.new) }
     {
-        if client >= self.running.client_count() {
-            return Ok(false);
-        }
-        let Some(desk) = self.desks.get_mut(client) else {
-            return Ok(false);
-        };
-        let Some(command) = desk.next() else {
+        let Some(command) = self.desks[client].next() else {
             return Ok(false);
         };
         match self.running.submit(client, command) {
             Ok(()) => {
-                desk.ask();
+                self.desks[client].ask();
                 Ok(true)
             }
-            Err(command) => match desk.put_back(command) {
+            Err(command) => match self.desks[client].put_back(command) {
                 Ok(()) => Ok(false),
                 Err(AllocError) => Err(ServiceFault::OutOfMemory),
             },
@@ -383,25 +458,11 @@ impl Serving {
 
     /// Replies to the next request of a client that its node was lost.
     fn reply_lost<W: Sink>(&mut self, client: usize, writer: &mut W) -> Result<bool, ServiceFault>
-        ensures same { SameCluster (running_of self.old) (running_of self.new) }
+        requires { client < length (desks_of self.old) }
+        ensures { OnOk result (RepliesLost client self.old self.new (W.contents writer.old) (W.contents writer.new)) }
     {
-        match self.lost_reply(client)? {
-            Some(reply) => self.reply(client, reply, writer),
-            None => Ok(false),
-        }
-    }
-
-    /// That the node of a client was lost, as a reply.
-    ///
-    /// Error: `AllocError`.
-    fn lost_reply(&self, client: usize) -> Result<Option<Term>, AllocError> {
-        let Some(desk) = self.desks.get(client) else {
-            return Ok(None);
-        };
-        match self.nodes.get(desk.node()) {
-            Some(served) => Ok(Some(node_lost(self.alloc, &served.name)?)),
-            None => Ok(None),
-        }
+        let reply = node_lost(self.alloc, self.desks[client].name())?;
+        self.reply(client, reply, writer)
     }
 
     /// Writes the reply to the next request of a client.
@@ -411,19 +472,13 @@ impl Serving {
         reply: Term,
         writer: &mut W,
     ) -> Result<bool, ServiceFault>
-        ensures same { SameCluster (running_of self.old) (running_of self.new) }
+        requires { client < length (desks_of self.old) }
+        ensures { OnOk result (RepliesNext client reply self.old self.new (W.contents writer.old) (W.contents writer.new)) }
     {
-        let Some(desk) = self.desks.get_mut(client) else {
-            drop(reply);
-            return Ok(false);
-        };
-        let number = desk.reply();
-        let Some(served) = self.nodes.get(desk.node()) else {
-            drop(reply);
-            return Ok(false);
-        };
+        let number = self.desks[client].reply();
+        let desk = &self.desks[client];
         let address = Address {
-            name: &served.name,
+            name: desk.name(),
             port: desk.port(),
             number,
         };

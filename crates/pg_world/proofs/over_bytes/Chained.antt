@@ -10,15 +10,16 @@ use Rattle.pg_step.specs.FrameMachine.{frame_machine, losing_frame_machine}
 use Rattle.pg_step.specs.LossLaws.{LosingFrameWorld}
 use Rattle.pg_node.specs.declared.state.fault.NodeFault.{NodeFault}
 use Rattle.pg_world.specs.declared.step.Step.{Step}
-use Rattle.pg_world.specs.declared.step.Stepped.{Stepped}
-use Rattle.pg_world.specs.BytesLosing.{IsReachedLosing, ShowsLosingBytes, StepLeaves}
+use Rattle.pg_frame_world.specs.declared.step.Stepped.{Stepped}
+use Rattle.pg_world.specs.BytesLosing.{ShowsLosingBytes, StepLeaves}
+use Rattle.pg_frame_world.specs.Losing.{IsReachedLosing}
 use Rattle.pg_world.specs.BytesStart.{BytesBegin, OpensBytes}
 use Rattle.pg_world.specs.Changes.{StepChanges}
 use Rattle.pg_world.specs.Crossings.{Crossing}
 use Rattle.pg_world.specs.CrossingRuns.{AreLeft, Crosses, CrossesAll, IsShown, RanCrossing, number_of}
-use Rattle.pg_world.specs.Views.{Account}
-use Rattle.pg_world.proofs.Leading.{Near, Here, Next}
-use Rattle.pg_world.proofs.LosingRunning.{losing_reached_on, start_is}
+use Rattle.pg_account.specs.Histories.{Account}
+use Rattle.pg_frame_world.proofs.Leading.{Near, Here, Next}
+use Rattle.pg_frame_world.proofs.LosingRunning.{losing_reached_on, start_is}
 use Rattle.pg_world.proofs.over_bytes.Leading.{leaves_on}
 
 reached_near : (config : Config) (u v : LosingFrameWorld) → IsReachedLosing config u → Near config u v → IsReachedLosing config v

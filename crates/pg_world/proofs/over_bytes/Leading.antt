@@ -13,23 +13,26 @@ use Rattle.pg_step.specs.Step.{Issue, Retry}
 use Rattle.pg_history.specs.History.{history}
 use Rattle.pg_node.specs.declared.state.fault.NodeFault.{NodeFault}
 use Rattle.pg_node.specs.declared.state.fault.NodeFault.TheVariants.{Refused, OutOfMemory, Message as BadMessage, TooLong, Damaged}
-use Rattle.pg_world.specs.declared.step.FrameStep.{FrameStep}
-use Rattle.pg_world.specs.declared.step.FrameStep.TheVariants as frames
+use Rattle.pg_frame_world.specs.declared.step.FrameStep.{FrameStep}
+use Rattle.pg_frame_world.specs.declared.step.FrameStep.TheVariants as frames
 use Rattle.pg_world.specs.declared.step.Step.{Step}
 use Rattle.pg_world.specs.declared.step.Step.TheVariants as steps
-use Rattle.pg_world.specs.declared.step.Stepped.{Stepped}
-use Rattle.pg_world.specs.declared.step.Stepped.TheVariants.{Happened, Moved, Nothing, Gone}
-use Rattle.pg_world.specs.BytesLosing.{IsReachedLosing, ShowsLosingBytes, MoveLeaves, WholeComesTo, SightComesTo, LossComesTo, EventLeaves, StepLeaves, put_refusal, pull_refusal}
+use Rattle.pg_frame_world.specs.declared.step.Stepped.{Stepped}
+use Rattle.pg_frame_world.specs.declared.step.Stepped.TheVariants.{Happened, Moved, Nothing, Gone}
+use Rattle.pg_world.specs.BytesLosing.{ShowsLosingBytes, MoveLeaves, WholeComesTo, SightComesTo, LossComesTo, EventLeaves, StepLeaves, put_refusal, pull_refusal}
+use Rattle.pg_frame_world.specs.Losing.{IsReachedLosing}
 use Rattle.pg_world.specs.BytesLosingRuns.{bytes_past_losses}
 use Rattle.pg_world.specs.BytesStart.{BytesBegin}
 use Rattle.pg_world.specs.Crossings.{Crossing}
-use Rattle.pg_world.specs.Losing.{Telling, told_take, told_own, told_sight}
-use Rattle.pg_world.specs.LosingRuns.{LosingGoesTo}
-use Rattle.pg_world.specs.Past.{BytesHavePast, BytesGoOn, BytesRunOn, HistoriesGrow}
-use Rattle.pg_world.specs.Pending.{AgreeOn, pending_of, sees_free}
-use Rattle.pg_world.specs.Views.{Seen, Account}
-use Rattle.pg_world.proofs.Leading.{Near, Here, Next, Lists, Survive, AreApart, goes_on, past_after, past_of, runs_on, comes_on, some_comes, histories_grow, history_is, applied_there, agreed_there}
-use Rattle.pg_world.proofs.LosingRunning.{losing_leads, start_is}
+use Rattle.pg_frame_world.specs.Losing.{Telling, told_take, told_own, told_sight}
+use Rattle.pg_frame_world.specs.LosingRuns.{LosingGoesTo}
+use Rattle.pg_frame_world.specs.Past.{HistoriesGrow}
+use Rattle.pg_world.specs.BytesPast.{BytesHavePast, BytesGoOn, BytesRunOn}
+use Rattle.pg_frame_world.specs.Pending.{AgreeOn, pending_of, sees_free}
+use Rattle.pg_frame_world.specs.Views.{Seen}
+use Rattle.pg_account.specs.Histories.{Account}
+use Rattle.pg_frame_world.proofs.Leading.{Near, Here, Next, Lists, Survive, AreApart, goes_on, past_after, past_of, runs_on, comes_on, some_comes, histories_grow, history_is, applied_there, agreed_there}
+use Rattle.pg_frame_world.proofs.LosingRunning.{losing_leads, start_is}
 use Rattle.pg_world.proofs.over_bytes.Past.{move_mapped}
 
 -- ---- the worlds to which a step leads

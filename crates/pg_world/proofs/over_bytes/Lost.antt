@@ -26,21 +26,22 @@ use Rattle.pg_node.specs.Bytes.{is_drained, is_whole}
 use Rattle.pg_node.specs.Links.{Link}
 use Rattle.pg_node.specs.Nodes.{step_lose}
 use Rattle.pg_node.specs.States.{Comes, Happens, step_see_loss}
-use Rattle.pg_world.specs.declared.step.Stepped.TheVariants.{Happened, Gone}
+use Rattle.pg_frame_world.specs.declared.step.Stepped.TheVariants.{Happened, Gone}
 use Rattle.pg_world.specs.Bars.{has_bytes}
 use Rattle.pg_world.specs.BytesLosing.{ShowsLosingBytes, SightComesTo, LossComesTo}
 use Rattle.pg_world.specs.Crossings.{Crossing, link_at, bytes_at, packet_as, packets_between, written_of, CanCross, IsOnWay}
-use Rattle.pg_world.specs.Losing.{losing_of, is_cut_off, told_sight, LosingComesTo}
-use Rattle.pg_world.specs.Losses.{is_lost}
-use Rattle.pg_world.specs.Views.{Seen, Account, peer_place}
-use Rattle.pg_world.specs.Worlds.{TimedFrameWorld, ShowsNodes}
+use Rattle.pg_frame_world.specs.Losing.{losing_of, is_cut_off, told_sight, LosingComesTo}
+use Rattle.pg_account.specs.Losses.{is_lost}
+use Rattle.pg_frame_world.specs.Views.{Seen, peer_place}
+use Rattle.pg_account.specs.Histories.{Account}
+use Rattle.pg_frame_world.specs.Worlds.{TimedFrameWorld, ShowsNodes}
 use Rattle.pg_world.proofs.over_bytes.Past.{sight_from}
 use Rattle.pg_world.proofs.Crossed.{all_short}
-use Rattle.pg_world.proofs.Peering.{named, peer_name, there_and_back}
-use Rattle.pg_world.proofs.Seeing.{there, turned, stays, unseen, not_lost, sight_refused, sight_seen}
-use Rattle.pg_world.proofs.Sighted.{sight, sight_clock, sighted, same_wire, seen_then, nodes_sighted, updates_sighted}
-use Rattle.pg_world.proofs.Stopped.{cut_off, cut_here, cut_else, nodes_cut, updates_cut, can_so, loss_happens, seen_more, lost_it, lost_others}
-use Rattle.pg_world.proofs.Turning.{pair_is}
+use Rattle.pg_frame_world.proofs.Peering.{named, peer_name, there_and_back}
+use Rattle.pg_frame_world.proofs.Seeing.{there, turned, stays, unseen, not_lost, sight_refused, sight_seen}
+use Rattle.pg_frame_world.proofs.Sighted.{sight, sight_clock, sighted, same_wire, seen_then, nodes_sighted, updates_sighted}
+use Rattle.pg_frame_world.proofs.Stopped.{cut_off, cut_here, cut_else, nodes_cut, updates_cut, can_so, loss_happens, seen_more, lost_it, lost_others}
+use Rattle.pg_frame_world.proofs.Turning.{pair_is}
 
 -- ---- a loss is seen
 

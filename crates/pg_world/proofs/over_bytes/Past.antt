@@ -15,20 +15,20 @@ use Rattle.pg_step.specs.Step.{Action}
 use Rattle.pg_step.specs.StepLaws.{port_of}
 use Rattle.pg_node.specs.declared.state.fault.NodeFault.{NodeFault}
 use Rattle.pg_node.specs.declared.state.fault.NodeFault.TheVariants.{Refused, OutOfMemory, Message as BadMessage, TooLong, Damaged}
-use Rattle.pg_world.specs.declared.step.FrameStep.{FrameStep}
-use Rattle.pg_world.specs.declared.step.FrameStep.TheVariants as frames
-use Rattle.pg_world.specs.declared.step.Stepped.{Stepped}
-use Rattle.pg_world.specs.declared.step.Stepped.TheVariants.{Happened, Moved, Nothing, Gone}
+use Rattle.pg_frame_world.specs.declared.step.FrameStep.{FrameStep}
+use Rattle.pg_frame_world.specs.declared.step.FrameStep.TheVariants as frames
+use Rattle.pg_frame_world.specs.declared.step.Stepped.{Stepped}
+use Rattle.pg_frame_world.specs.declared.step.Stepped.TheVariants.{Happened, Moved, Nothing, Gone}
 use Rattle.pg_world.specs.Bars.{put_bar, pull_bar}
 use Rattle.pg_world.specs.BytesLosing.{ShowsLosingBytes, MoveLeaves, WholeComesTo, SightComesTo, EventLeaves, put_refusal, pull_refusal, gone_refusal}
 use Rattle.pg_world.specs.Crossings.{Crossing, ShowsBytesPast, EventComesTo, MoveComesTo, is_take}
-use Rattle.pg_world.specs.Losing.{SeenAreLost, losing_of, is_cut_off, is_barred, Telling, told_take, told_own, told_of, LosingLed, LosingComesTo}
-use Rattle.pg_world.specs.Losses.{is_lost}
-use Rattle.pg_world.specs.Views.{Account}
-use Rattle.pg_world.specs.Worlds.{TimedFrameWorld, ShowsNodes, has_port, has_places, told}
-use Rattle.pg_world.proofs.Barred.{cut_is, barred_told, unplaced_told, take_cut, either_stays, take_refused_so, take_busy_so, own_refused_so}
-use Rattle.pg_world.proofs.Lossy.{lifted, lost_kept}
-use Rattle.pg_world.proofs.Turning.{pair_turned}
+use Rattle.pg_frame_world.specs.Losing.{SeenAreLost, losing_of, is_cut_off, is_barred, Telling, told_take, told_own, told_of, LosingLed, LosingComesTo}
+use Rattle.pg_account.specs.Losses.{is_lost}
+use Rattle.pg_account.specs.Histories.{Account}
+use Rattle.pg_frame_world.specs.Worlds.{TimedFrameWorld, ShowsNodes, has_port, has_places, told}
+use Rattle.pg_frame_world.proofs.Barred.{cut_is, barred_told, unplaced_told, take_cut, either_stays, take_refused_so, take_busy_so, own_refused_so}
+use Rattle.pg_frame_world.proofs.Lossy.{lifted, lost_kept}
+use Rattle.pg_frame_world.proofs.Turning.{pair_turned}
 
 -- ---- bytes that should move
 

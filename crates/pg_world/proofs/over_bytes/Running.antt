@@ -1,25 +1,35 @@
 -- What steps over bytes come to where nodes may be lost, by their numbers.
-use Rattle.std.proofs.Common.{◌≡◌, inl, inr, ℕ, cond, Option, Result, Ok, Err, refl, sym, ap, subst}
+use Rattle.std.proofs.Common.{◌≡◌, inl, inr, ℕ, cond, Option, Result, Ok, Err, refl, sym, ap, subst, true, false, List, []}
 use Rattle.std.specs.Option.{option_map_or}
-use Rattle.pg_machine.specs.Losing.{LosingEvent, Lose}
+use Rattle.pg_machine.specs.Losing.{LosingEvent, Lose, nobody_gone}
 use Rattle.pg_step.specs.declared.refusal.Refusal.{Refusal}
 use Rattle.pg_step.specs.declared.refusal.Refusal.TheVariants.{NoSuchPlace, NodeLost, NotDrained, NotAMessage, NotWaiting, ClockFull, NotLost}
-use Rattle.pg_step.specs.Config.{Config}
+use Rattle.pg_step.specs.Config.{Config, names_of}
 use Rattle.pg_step.specs.Faults.{refusal_number_of}
 use Rattle.pg_step.specs.LossLaws.{LosingFrameWorld}
 use Rattle.pg_step.specs.Step.{Action}
 use Rattle.pg_node.specs.NodeFault.{node_number_of}
 use Rattle.pg_node.specs.declared.state.fault.NodeFault.{NodeFault}
 use Rattle.pg_node.specs.declared.state.fault.NodeFault.TheVariants.{Refused, OutOfMemory, Message as BadMessage, TooLong, Damaged}
-use Rattle.pg_world.specs.declared.step.FrameStep.TheVariants as frames
+use Rattle.pg_frame_world.specs.declared.step.FrameStep.TheVariants as frames
 use Rattle.pg_world.specs.declared.step.Step.{Step}
 use Rattle.pg_world.specs.declared.step.Step.TheVariants as steps
-use Rattle.pg_world.specs.declared.step.Stepped.{Stepped}
-use Rattle.pg_world.specs.declared.step.Stepped.TheVariants.{Happened, Moved, Nothing, Gone}
-use Rattle.pg_world.specs.BytesLosing.{MoveLeaves, WholeComesTo, SightComesTo, LossComesTo, StepLeaves, put_refusal, pull_refusal, gone_refusal}
+use Rattle.pg_frame_world.specs.declared.step.Stepped.{Stepped}
+use Rattle.pg_frame_world.specs.declared.step.Stepped.TheVariants.{Happened, Moved, Nothing, Gone}
+use Rattle.pg_world.specs.BytesLosing.{MoveLeaves, WholeComesTo, SightComesTo, LossComesTo, StepLeaves, put_refusal, pull_refusal, gone_refusal, ShowsLosingBytes}
 use Rattle.pg_world.specs.BytesLosingRuns.{bytes_past_losses, IsBytesEvent, IsBytesLeftOut, HasNumber, IsLossOf}
-use Rattle.pg_world.specs.Losing.{Telling, LosingComesTo, told_of, told_take, told_sight}
-use Rattle.pg_world.specs.LosingRuns.{LosingStepsTo, IsToldEvent, IsLeftOut}
+use Rattle.pg_frame_world.specs.Losing.{Telling, LosingComesTo, told_of, told_take, told_sight, IsReachedLosing}
+use Rattle.pg_frame_world.specs.LosingRuns.{LosingStepsTo, IsToldEvent, IsLeftOut, LosingGoesTo, RanLosing}
+use Rattle.std.specs.List.{IsDistinct}
+use Rattle.pg_term.specs.Same.{same_atom}
+use Rattle.pg_machine.specs.Machine.{start_of}
+use Rattle.pg_step.specs.FrameMachine.{frame_machine, losing_frame_machine}
+use Rattle.pg_loss.specs.Reached.{LosingReaches}
+use Rattle.pg_loss.specs.Survived.{LossesSurvived}
+use Rattle.pg_world.specs.BytesStart.{BytesBegin}
+use Rattle.pg_world.specs.Crossings.{Crossing}
+use Rattle.pg_account.specs.Histories.{Account}
+use Rattle.pg_frame_world.proofs.LosingRunning.{ran_past_so, start_is}
 
 -- what came of a step, by its number: it is no fault, or the fault's number
 abbrev numbered : Result Stepped NodeFault → ℕ
@@ -122,3 +132,21 @@ module _ (config : Config) (u : LosingFrameWorld) (Shown : LosingFrameWorld → 
 
   pub left_err : (step : Step) (result : Result Stepped NodeFault) (fault : NodeFault) → result ≡ Err fault → StepLeaves config u step result Shown → LosingStepsTo bytes_past_losses config u step (node_number_of fault) Shown
   left_err step result fault is comes = step_left step (Err fault) (subst (λ r. StepLeaves config u step r Shown) is comes)
+
+-- a run over bytes from the start of a configuration, where what is kept is known of each world
+pub ran_bytes_so : (given : Config) (before new : Crossing) (account account2 : Account) (now : List ℕ) (steps : List Step) (numbers : List ℕ) → BytesBegin given before account
+    → ((config : Config) (u : LosingFrameWorld) → IsReachedLosing config u → ShowsLosingBytes config before account [] u
+    → LosingGoesTo bytes_past_losses config u steps numbers (ShowsLosingBytes config new account2 now))
+    → ((config : Config) (u : LosingFrameWorld) (events : List (LosingEvent Action)) → IsDistinct same_atom (names_of config) → LosingReaches config events u → LossesSurvived config events u)
+    → RanLosing bytes_past_losses given steps numbers (λ config. ShowsLosingBytes config new account2 now)
+ran_bytes_so given before new account account2 now steps numbers begins goes kept =
+    let config = begins.0 in
+    ran_past_so bytes_past_losses given config (λ (c : Config). ShowsLosingBytes c new account2 now) steps numbers begins.1
+    (goes config (nobody_gone (start_of (losing_frame_machine config))) ([], refl)
+    (record {
+      frames = start_of (frame_machine config);
+      shows = begins.2;
+      seen = λ i p pair saw. let no : false ≡ true = saw in absurd (cc);
+      is = start_is config;
+    }))
+    (λ u shown. shown.shows.traffic.nodes.apart) (kept config)

@@ -16,12 +16,12 @@ use Rattle.pg_node.specs.Nodes.{held_by, links_of, step_lose}
 use Rattle.pg_node.specs.States.{names_of, state_of, answers_of, Comes}
 use Rattle.pg_world.specs.declared.rings.Rings.{Rings}
 use Rattle.pg_world.specs.Crossings.{crossing_in, node_of, link_at, bytes_at}
-use Rattle.pg_world.specs.Losses.{is_lost}
-use Rattle.pg_world.specs.Views.{peer_place, place_of_peer}
-use Rattle.pg_world.specs.Worlds.{TimedFrameWorld, ShowsNodes}
+use Rattle.pg_account.specs.Losses.{is_lost}
+use Rattle.pg_frame_world.specs.Views.{peer_place, place_of_peer}
+use Rattle.pg_frame_world.specs.Worlds.{TimedFrameWorld, ShowsNodes}
 use Rattle.pg_world.proofs.Linked.{seen_there, changed_else, part_kept}
-use Rattle.pg_world.proofs.Peering.{there_and_back}
-use Rattle.pg_world.proofs.Turning.{pair_is}
+use Rattle.pg_frame_world.proofs.Peering.{there_and_back}
+use Rattle.pg_frame_world.proofs.Turning.{pair_is}
 
 -- the clock of a peer
 pub peer_clock : (config : Config) {T : Type 0} {g : Ghosts T} (nodes : List (Node T g)) (rings : List Rings) (p : ℕ) (node : Node T g) (w : TimedFrameWorld)

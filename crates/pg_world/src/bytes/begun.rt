@@ -5,27 +5,25 @@ ghost use Rattle.pg_ring.specs.Capacity.{IsCapacity};
 ghost use Rattle.pg_step.specs.Config.{IsConfig};
 ghost use Rattle.pg_node.specs.Nodes.{links_of};
 ghost use Rattle.pg_world.specs.Crossings.{node_of, no_links, idle_crossing};
-ghost use Rattle.pg_world.specs.Views.{no_account};
-ghost use Rattle.pg_world.specs.Openings.{AreReady, CantOpen, CantStart, opening_fault_of};
-ghost use Rattle.pg_world.specs.Starts.{seen_first, firsts};
+ghost use Rattle.pg_account.specs.Histories.{no_account};
+ghost use Rattle.pg_frame_world.specs.Openings.{AreReady, CantOpen, CantStart, opening_fault_of};
+ghost use Rattle.pg_frame_world.specs.Starts.{seen_first, firsts};
 ghost use Rattle.pg_world.specs.BytesStart.{OpensLinks};
 
-use crate::begun::ready;
 use crate::bytes::ByteNodes;
-use crate::config::Config;
-use crate::fault::WorldFault;
-use crate::starts::node_at;
+use pg_config::{Config, WorldFault};
+use pg_frame_world::{node_at, ready};
 use pg_index::IndexTable;
 use pg_node::{Node, NodeFault};
 use pg_step::Start;
 use std::alloc::Global;
 
 impl ByteNodes<IndexTable> {
-    ghost use Rattle.pg_world.specs.Histories.{account_of};
+    ghost use Rattle.pg_account.specs.Histories.{account_of};
     ghost use Rattle.pg_world.specs.BytesStart.{BytesBegin, OpensBytes};
     ghost use Rattle.pg_world.specs.Crossings.{crossing_of, room_of};
-    ghost use Rattle.pg_world.specs.Losses.{lost_in};
-    ghost use Rattle.pg_world.specs.Openings.{AllFit, CantBegin, CantStart, AreReady};
+    ghost use Rattle.pg_account.specs.Losses.{lost_in};
+    ghost use Rattle.pg_frame_world.specs.Openings.{AllFit, CantBegin, CantStart, AreReady};
 
     /// The nodes of a configuration as they start, where what each of them tells of its groups stands in its outbox to each other,
     /// and the ring from each to each other is empty. Its cost is that of `FrameWorld::new`, and of the rings.
@@ -69,7 +67,7 @@ impl ByteNodes<IndexTable> {
     }
 }
 
-ghost use Rattle.pg_world.specs.Openings.{AllFit as AllFitFrames, CantBegin as CantBeginWith, have_few};
+ghost use Rattle.pg_frame_world.specs.Openings.{AllFit as AllFitFrames, CantBegin as CantBeginWith, have_few};
 ghost use Rattle.pg_world.specs.BytesStart.{BytesBegin as BytesBeginOf};
 
 /// The nodes of a configuration as they start over bytes, by their places, for who moves the bytes between them: what each of them

@@ -3,7 +3,7 @@
 ghost use Rattle.std.specs.Prelude.{◌≡◌, IfOk};
 
 use crate::bytes::ByteNodes;
-use crate::pending::pending_among;
+use pg_frame_world::pending_among;
 use pg_group::GroupTable;
 use pg_node::NodeState;
 use pg_term::Pid;
@@ -11,8 +11,8 @@ use std::alloc::AllocError;
 
 impl<T: GroupTable + Drop> ByteNodes<T> {
     ghost use Rattle.pg_world.specs.Crossings.{crossing_of};
-    ghost use Rattle.pg_world.specs.Losses.{lost_in};
-    ghost use Rattle.pg_world.specs.Pending.{lent_as, nodes_left, pending_of};
+    ghost use Rattle.pg_account.specs.Losses.{lost_in};
+    ghost use Rattle.pg_frame_world.specs.Pending.{lent_as, nodes_left, pending_of};
 
     /// The ends that are pending: each is that of a process whose home has it, and which some node has not. Of nodes that are lost
     /// nothing counts. They stand home by home, and by number at each. Its cost is a search at each node that is left for each

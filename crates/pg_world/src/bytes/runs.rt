@@ -8,14 +8,14 @@ ghost use Rattle.pg_world.specs.BytesLosingRuns.{bytes_past_losses as over_bytes
 ghost use Rattle.pg_world.specs.ByteWorlds.{account_of as kept_of, crossing_of as shown_by, given_of as given_by, lost_of as lost_by, room_of as room_in};
 ghost use Rattle.pg_world.specs.Crossings.{ShowsBytes as shows_bytes};
 ghost use Rattle.pg_world.specs.CrossingRuns.{AreLeft as AreLeftBy, RanCrossing};
-ghost use Rattle.pg_world.specs.LosingRuns.{RanLosing};
-ghost use Rattle.pg_world.specs.Openings.{AllFit, CantBegin};
-ghost use Rattle.pg_world.specs.Runs.{Ran, NobodyLost as NoneIsLost, over_bytes};
+ghost use Rattle.pg_frame_world.specs.LosingRuns.{RanLosing};
+ghost use Rattle.pg_frame_world.specs.Openings.{AllFit, CantBegin};
+ghost use Rattle.pg_frame_world.specs.Runs.{Ran};
+ghost use Rattle.pg_world.specs.BytesRuns.{NobodyLost as NoneIsLost, over_bytes};
 
 use crate::byte_world::World;
-use crate::config::Config;
-use crate::fault::WorldFault;
 use crate::step::Step;
+use pg_config::{Config, WorldFault};
 use pg_group::GroupTable;
 use pg_history::one_history;
 use pg_index::IndexTable;
@@ -24,15 +24,19 @@ use std::alloc::Global;
 
 impl<T: GroupTable + Drop> World<T> {
     ghost use Rattle.pg_world.specs.ByteWorlds.{account_of, crossing_of, given_of, lost_of, room_of};
-    ghost use Rattle.pg_world.specs.Crossings.{IsReached, ShowsBytes, is_loss_in};
+    ghost use Rattle.pg_world.specs.Crossings.{ShowsBytes, is_loss_in};
+    ghost use Rattle.pg_frame_world.specs.Worlds.{IsReached};
     ghost use Rattle.pg_step.specs.LossLaws.{LosingFrameWorld};
-    ghost use Rattle.pg_world.specs.BytesLosing.{IsReachedLosing, ShowsLosingBytes};
+    ghost use Rattle.pg_world.specs.BytesLosing.{ShowsLosingBytes};
+    ghost use Rattle.pg_frame_world.specs.Losing.{IsReachedLosing};
     ghost use Rattle.pg_world.specs.BytesLosingRuns.{bytes_past_losses};
-    ghost use Rattle.pg_world.specs.LosingRuns.{LosingStepsTo, LosingGoesTo};
+    ghost use Rattle.pg_frame_world.specs.LosingRuns.{LosingStepsTo, LosingGoesTo};
     ghost use Rattle.pg_world.specs.CrossingRuns.{AreLeft, Crosses, CrossesAll};
-    ghost use Rattle.pg_world.specs.Past.{BytesCrossOn, HistoriesGrow};
-    ghost use Rattle.pg_world.specs.Runs.{StepsTo, GoesTo, NobodyLost, over_bytes};
-    ghost use Rattle.pg_world.specs.Worlds.{TimedFrameWorld};
+    ghost use Rattle.pg_frame_world.specs.Past.{HistoriesGrow};
+    ghost use Rattle.pg_world.specs.BytesPast.{BytesCrossOn};
+    ghost use Rattle.pg_frame_world.specs.Runs.{StepsTo, GoesTo};
+    ghost use Rattle.pg_world.specs.BytesRuns.{NobodyLost, over_bytes};
+    ghost use Rattle.pg_frame_world.specs.Worlds.{TimedFrameWorld};
 
     /// Makes steps, one after another, and writes the number of each in its place: 0 where it happened, bytes moved, or no whole
     /// packet had come; else that of its fault. A step that is refused changes nothing of what the world shows, and the others

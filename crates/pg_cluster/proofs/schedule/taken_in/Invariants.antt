@@ -1,6 +1,6 @@
 use Rattle.std.proofs.Common.{◌≡◌, ◌≤◌, map, take}
 use Rattle.pg_joining.specs.Merge.{log_at}
-use Rattle.pg_together.specs.Losses.{takes_in}
+use Rattle.pg_joining.specs.ApartWithLosses.{takes_in}
 use Rattle.pg_cluster.proofs.schedule.taken_in.Given as goal
 
 -- no more than the entries so far

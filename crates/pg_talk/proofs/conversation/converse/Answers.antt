@@ -1,4 +1,4 @@
-use Rattle.std.proofs.Common.{rules, ap, List, ◌∙◌}
+use Rattle.std.proofs.Common.{ap, List, ◌∙◌}
 use Rattle.std.specs.List.{sum_by}
 use Rattle.pg_cluster.specs.Clients.{AllPairs}
 use Rattle.pg_cluster.specs.Running.{clients_in}

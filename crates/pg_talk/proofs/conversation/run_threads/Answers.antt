@@ -1,8 +1,5 @@
-use Rattle.std.proofs.Common.{refl, ◌∙◌, subst}
-use Rattle.pg_cluster.specs.Closed.{lost_of}
-use Rattle.pg_cluster.specs.Notices.{NobodyLost}
+use Rattle.std.proofs.Common.{refl, ◌∙◌}
 use Rattle.pg_cluster.specs.Running.{clients_in, losses_in, threads_in}
-use Rattle.pg_talk.specs.Verdicts.{IsJudged}
 use Rattle.pg_talk.proofs.conversation.run_threads.Goals as goal
 
 pub returns : goal.returns

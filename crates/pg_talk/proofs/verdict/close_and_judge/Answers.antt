@@ -1,6 +1,6 @@
-use Rattle.std.proofs.Common.{map, true}
+use Rattle.std.proofs.Common.{map}
 use Rattle.pg_cluster.specs.Judges.{Agree}
-use Rattle.pg_world.specs.Openings.{CanBegin}
+use Rattle.pg_frame_world.specs.Openings.{CanBegin}
 use Rattle.pg_cluster.specs.Running.{config_in}
 use Rattle.pg_cluster.specs.Together.{AreOneRun}
 use Rattle.pg_talk.proofs.Judging.{told_so, told_of_two}

@@ -1,13 +1,13 @@
 use Rattle.std.proofs.Common.{◌≡◌, ◌↔◌, true, false, map, subst}
 use Rattle.std.specs.Prelude.{IfOk, IsTrue}
-use Rattle.pg_world.specs.Runs.{Ran, LosesNone, over_packets}
-use Rattle.pg_world.specs.FrameWorlds.{lost_of, view_of}
-use Rattle.pg_world.specs.Losing.{ShowsLosing}
-use Rattle.pg_world.specs.LosingRuns.{RanLosing, packets_past_losses}
-use Rattle.pg_world.specs.Worlds.{Shows}
+use Rattle.pg_frame_world.specs.Runs.{Ran, LosesNone, over_packets}
+use Rattle.pg_frame_world.specs.FrameWorlds.{lost_of, view_of}
+use Rattle.pg_frame_world.specs.Losing.{ShowsLosing}
+use Rattle.pg_frame_world.specs.LosingRuns.{RanLosing, packets_past_losses}
+use Rattle.pg_frame_world.specs.Worlds.{Shows}
 use Rattle.pg_cluster.specs.Judges.{AreShown, all_made, ran_out}
 use Rattle.pg_cluster.proofs.Judging.{replays_losing, replays_so}
-use Rattle.pg_world.proofs.OrderedOnce.{only_memory}
+use Rattle.pg_frame_world.proofs.OrderedOnce.{only_memory}
 use Rattle.pg_cluster.proofs.Replaying.{never_no, unbegun_so}
 use Rattle.pg_cluster.proofs.closed.Closed.replays.Goals as goal
 

@@ -8,9 +8,9 @@ use Rattle.pg_node.specs.declared.state.NodeState.{NodeState}
 use Rattle.pg_node.specs.States.{state_of}
 use Rattle.pg_world.specs.ByteWorlds.{account_of, crossing_of, given_of, lost_of}
 use Rattle.pg_world.specs.Crossings.{node_of}
-use Rattle.pg_world.specs.Views.{Seen}
+use Rattle.pg_frame_world.specs.Views.{Seen}
 use Rattle.pg_world.proofs.Linked.{seen_there}
-use Rattle.pg_world.proofs.Viewing.{none_held, none_is}
+use Rattle.pg_frame_world.proofs.Viewing.{none_held, none_is}
 use Rattle.pg_world.proofs.over_bytes.Leading.{bytes_applied_all}
 use Rattle.pg_world.proofs.byte_world.World.lock_free.Goals as goal
 

@@ -4,16 +4,16 @@ use Rattle.std.proofs.lemmas.List.{length-set}
 use mathlib.Core.Logic.{∥∥₁_elim, ∥∥₁_map}
 use Rattle.pg_world.specs.Crossings.{ShowsBytes, is_loss_in}
 use Rattle.pg_world.specs.ByteWorlds.{account_of, crossing_of, given_of, lost_of, room_of}
-use Rattle.pg_world.specs.Runs.{over_bytes}
+use Rattle.pg_world.specs.BytesRuns.{over_bytes}
 use Rattle.pg_world.specs.BytesLosing.{ShowsLosingBytes}
 use Rattle.pg_world.specs.BytesLosingRuns.{bytes_past_losses}
 use Rattle.pg_world.specs.Crossings.{Crossing}
 use Rattle.pg_world.specs.CrossingRuns.{AreLeft, Crosses}
 use Rattle.pg_world.proofs.over_bytes.Chained.{chain_all, chain_steps_more}
-use Rattle.pg_world.proofs.LosingRunning.{losing_steps_more, all_made, losing_reached_on}
+use Rattle.pg_frame_world.proofs.LosingRunning.{losing_steps_more, all_made, losing_reached_on}
 use Rattle.pg_world.proofs.over_bytes.Leading.{bytes_run_on, bytes_run_grows}
-use Rattle.pg_world.proofs.Running.{passes_at, steps_more, all_taken, reached_on}
-use Rattle.pg_world.proofs.Sets.{update_set}
+use Rattle.pg_frame_world.proofs.Running.{passes_at, steps_more, all_taken, reached_on}
+use Rattle.pg_frame_world.proofs.Sets.{update_set}
 use Rattle.pg_world.proofs.byte_world.World.run.Goals as goal
 
 pub loop-place-preserved : goal.loop-place-preserved

@@ -3,10 +3,10 @@ use Rattle.pg_step.specs.Step.{Issue}
 use Rattle.pg_node.specs.Nodes.{held_by}
 use Rattle.pg_node.specs.States.{state_of, answers_of}
 use Rattle.pg_world.specs.Crossings.{Crossing, crossing_of, node_of, written_of, ShowsBytesPast}
-use Rattle.pg_world.specs.Histories.{account_of}
+use Rattle.pg_account.specs.Histories.{account_of}
 use Rattle.pg_world.proofs.Linked.{alone, port_place, seen_there, nodes_set, seen_kept, own_acts, node_same, nodes_kept}
 use Rattle.pg_world.proofs.Passing.{own_shown, own_err}
-use Rattle.pg_world.proofs.Recording.{grew_own}
+use Rattle.pg_frame_world.proofs.Recording.{grew_own}
 use Rattle.pg_world.proofs.bytes.ByteNodes.command.Goals as goal
 
 pub returns-in-Ok : goal.returns-in-Ok

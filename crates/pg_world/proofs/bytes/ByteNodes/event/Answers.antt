@@ -5,19 +5,19 @@ use Rattle.pg_loss.specs.Reached.{LosingReaches}
 use Rattle.pg_step.specs.Config.{name_at}
 use Rattle.pg_step.specs.Nodes.{Node}
 use Rattle.pg_step.specs.Step.{Issue, Retry}
-use Rattle.pg_world.specs.declared.step.FrameStep.{FrameStep}
+use Rattle.pg_frame_world.specs.declared.step.FrameStep.{FrameStep}
 use Rattle.pg_world.specs.BytesLosing.{ShowsLosingBytes, EventLeaves}
 use Rattle.pg_world.specs.Crossings.{crossing_of, ShowsBytes, FrameComesTo}
-use Rattle.pg_world.specs.Histories.{account_of}
-use Rattle.pg_world.specs.Losing.{losing_of, is_barred, is_cut_off}
-use Rattle.pg_world.specs.Losses.{lost_in, is_lost}
-use Rattle.pg_world.specs.Views.{Account}
-use Rattle.pg_world.specs.Worlds.{has_places}
-use Rattle.pg_world.proofs.Barred.{either_stays, either_unseen, take_cut}
+use Rattle.pg_account.specs.Histories.{account_of}
+use Rattle.pg_frame_world.specs.Losing.{losing_of, is_barred, is_cut_off}
+use Rattle.pg_account.specs.Losses.{lost_in, is_lost}
+use Rattle.pg_account.specs.Histories.{Account}
+use Rattle.pg_frame_world.specs.Worlds.{has_places}
+use Rattle.pg_frame_world.proofs.Barred.{either_stays, either_unseen, take_cut}
 use Rattle.pg_world.proofs.over_bytes.Past.{take_past, own_past, unplaced_past, barred_past, starved_past}
 use Rattle.pg_world.proofs.Harmless.{welcome_there, welcome_left}
-use Rattle.pg_world.proofs.Turning.{pair_there}
-use Rattle.pg_world.proofs.Unplaced.{unplaced_event}
+use Rattle.pg_frame_world.proofs.Turning.{pair_there}
+use Rattle.pg_world.proofs.over_bytes.Unplaced.{unplaced_event}
 use Rattle.pg_world.proofs.bytes.ByteNodes.event.Goals as goal
 
 pub returns-then-not-has_places-clause-came : goal.returns-then-not-has_places-clause-came

@@ -2,7 +2,7 @@ use Rattle.std.proofs.Common.{◌+◌, ◌∙◌, false, sym, ap}
 use Rattle.std.specs.Option.{option_map_or}
 use Rattle.pg_opens.specs.Places.{name_at}
 use Rattle.pg_node.specs.States.{names_of, state_of}
-use Rattle.pg_world.specs.Views.{Seen, peer_place}
+use Rattle.pg_frame_world.specs.Views.{Seen, peer_place}
 use Rattle.pg_world.proofs.Linked.{first_there, seen_there}
 use Rattle.pg_world.proofs.bytes.ByteNodes.has_seen.Goals as goal
 

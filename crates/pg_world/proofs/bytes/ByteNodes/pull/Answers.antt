@@ -3,10 +3,10 @@ use Rattle.pg_step.specs.declared.refusal.Refusal.TheVariants.{NoSuchPlace, Node
 use Rattle.pg_step.specs.Faults.{first_that_holds}
 use Rattle.pg_world.specs.Bars.{pull_bar}
 use Rattle.pg_world.specs.Crossings.{crossing_of}
-use Rattle.pg_world.specs.Losing.{is_cut_off}
-use Rattle.pg_world.specs.Losses.{lost_in, is_lost}
-use Rattle.pg_world.proofs.Barred.{take_cut, either_unseen}
-use Rattle.pg_world.proofs.Turning.{pair_turned}
+use Rattle.pg_frame_world.specs.Losing.{is_cut_off}
+use Rattle.pg_account.specs.Losses.{lost_in, is_lost}
+use Rattle.pg_frame_world.proofs.Barred.{take_cut, either_unseen}
+use Rattle.pg_frame_world.proofs.Turning.{pair_turned}
 use Rattle.pg_world.proofs.over_bytes.Past.{move_mapped}
 use Rattle.pg_world.proofs.bytes.ByteNodes.pull.Goals as goal
 

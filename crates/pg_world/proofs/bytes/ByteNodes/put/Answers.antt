@@ -3,9 +3,9 @@ use Rattle.pg_step.specs.declared.refusal.Refusal.TheVariants.{NoSuchPlace, Node
 use Rattle.pg_step.specs.Faults.{first_that_holds}
 use Rattle.pg_world.specs.Bars.{put_bar}
 use Rattle.pg_world.specs.Crossings.{crossing_of}
-use Rattle.pg_world.specs.Losses.{lost_in, is_lost}
-use Rattle.pg_world.specs.Views.{Account}
-use Rattle.pg_world.specs.Worlds.{ShowsUpdates}
+use Rattle.pg_account.specs.Losses.{lost_in, is_lost}
+use Rattle.pg_account.specs.Histories.{Account}
+use Rattle.pg_frame_world.specs.Worlds.{ShowsUpdates}
 use Rattle.pg_world.proofs.bytes.ByteNodes.put.Goals as goal
 
 pub returns-then-not-has_pair-clause-came : goal.returns-then-not-has_pair-clause-came

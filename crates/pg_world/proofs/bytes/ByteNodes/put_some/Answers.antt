@@ -5,8 +5,8 @@ use Rattle.pg_frame.specs.Pieces.{put}
 use Rattle.pg_node.specs.Links.{at_link, without_front}
 use Rattle.pg_node.specs.Nodes.{links_of}
 use Rattle.pg_world.specs.Crossings.{written_of}
-use Rattle.pg_world.specs.Views.{peer_place}
-use Rattle.pg_world.specs.Losses.{is_lost}
+use Rattle.pg_frame_world.specs.Views.{peer_place}
+use Rattle.pg_account.specs.Losses.{is_lost}
 use Rattle.pg_world.proofs.Crossed.{moved_shown}
 use Rattle.pg_world.proofs.Linked.{ring_there, put_moves, put_many}
 use Rattle.pg_world.proofs.Past.{way_put}

@@ -2,22 +2,22 @@ use Rattle.std.proofs.Common.{◌≡◌, ◌∙◌, ◌∷◌, [], Option, None,
 use Rattle.pg_step.specs.declared.refusal.Refusal.{Refusal}
 use Rattle.pg_step.specs.declared.refusal.Refusal.TheVariants.{NoSuchPlace, NodeLost, NotLost, NotDrained}
 use Rattle.pg_step.specs.Faults.{first_that_holds}
-use Rattle.pg_world.specs.declared.step.Stepped.TheVariants.{Happened}
+use Rattle.pg_frame_world.specs.declared.step.Stepped.TheVariants.{Happened}
 use Rattle.pg_world.specs.Bars.{IsHeld, sight_bar}
 use Rattle.pg_world.specs.Crossings.{crossing_of, link_at, node_of, written_of}
-use Rattle.pg_world.specs.Losses.{lost_in}
+use Rattle.pg_account.specs.Losses.{lost_in}
 use Rattle.pg_node.specs.Bytes.{closed}
 use Rattle.pg_node.specs.Links.{Link, at_link}
 use Rattle.pg_node.specs.Nodes.{held_by, links_of}
 use Rattle.pg_node.specs.States.{names_of, state_of, answers_of}
-use Rattle.pg_world.specs.Histories.{account_of}
-use Rattle.pg_world.specs.Views.{peer_place}
+use Rattle.pg_account.specs.Histories.{account_of}
+use Rattle.pg_frame_world.specs.Views.{peer_place}
 use Rattle.pg_node.specs.declared.state.fault.NodeFault.TheVariants.{Refused}
 use Rattle.pg_world.proofs.over_bytes.Drained.{bytes_there, left_there, undrained_told}
 use Rattle.pg_world.proofs.over_bytes.Lost.{sight_not_lost, sight_made, sight_held}
 use Rattle.pg_world.proofs.over_bytes.Seen.{peer_clock, closed_bytes, step_there}
 use Rattle.pg_world.proofs.Linked.{alone, first_there, second_there, node_same, seen_kept, seen_there, nodes_set, links_here, part_kept}
-use Rattle.pg_world.proofs.Turning.{pair_is}
+use Rattle.pg_frame_world.proofs.Turning.{pair_is}
 use Rattle.pg_world.proofs.bytes.ByteNodes.see_loss.Goals as goal
 
 pub returns-in-Ok-clause-changes : goal.returns-in-Ok-clause-changes

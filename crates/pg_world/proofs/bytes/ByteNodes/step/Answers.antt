@@ -5,9 +5,9 @@ use Rattle.pg_step.specs.Nodes.{Node}
 use Rattle.pg_world.specs.declared.step.Step.{Step}
 use Rattle.pg_world.specs.BytesLosing.{ShowsLosingBytes, StepLeaves}
 use Rattle.pg_world.specs.Crossings.{crossing_of, ShowsBytes, ShowsBytesPast, StepComesTo}
-use Rattle.pg_world.specs.Histories.{account_of}
-use Rattle.pg_world.specs.Losing.{SeenAreLost}
-use Rattle.pg_world.specs.Losses.{lost_in}
+use Rattle.pg_account.specs.Histories.{account_of}
+use Rattle.pg_frame_world.specs.Losing.{SeenAreLost}
+use Rattle.pg_account.specs.Losses.{lost_in}
 use Rattle.pg_world.specs.Bars.{put_bar, pull_bar}
 use Rattle.pg_world.specs.BytesLosing.{MoveLeaves}
 use Rattle.pg_world.proofs.over_bytes.Past.{move_came, put_in, pull_in}

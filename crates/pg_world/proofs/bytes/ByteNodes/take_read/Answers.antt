@@ -7,13 +7,14 @@ use Rattle.pg_node.specs.Links.{Link, at_link}
 use Rattle.pg_node.specs.Nodes.{held_by, links_of, sent_out, ComesInRoom}
 use Rattle.pg_node.specs.States.{names_of, nodes_of, state_of, answers_of, stamped_of}
 use Rattle.pg_world.specs.Crossings.{Crossing, crossing_in, crossing_of, node_of, written_of, ShowsBytesPast}
-use Rattle.pg_world.specs.Histories.{account_of, asked_by}
-use Rattle.pg_world.specs.Views.{Account, peer_place}
+use Rattle.pg_account.specs.Histories.{account_of, asked_by}
+use Rattle.pg_frame_world.specs.Views.{peer_place}
+use Rattle.pg_account.specs.Histories.{Account}
 use Rattle.pg_world.proofs.Linked.{alone, first_there, seen_there, links_here, nodes_set, seen_kept, take_acts, node_same, nodes_kept}
 use Rattle.pg_world.proofs.Passing.{first_read, taken_shown, take_err, unmarked}
 use Rattle.pg_world.proofs.Past.{reads_first}
-use Rattle.pg_world.proofs.Recording.{grew_taken}
-use Rattle.pg_world.proofs.Turning.{pair_is}
+use Rattle.pg_frame_world.proofs.Recording.{grew_taken}
+use Rattle.pg_frame_world.proofs.Turning.{pair_is}
 use Rattle.pg_world.proofs.bytes.ByteNodes.take_read.Goals as goal
 
 pub take_read-requires-clause-next : goal.take_read-requires-clause-next

@@ -4,10 +4,10 @@ use Rattle.pg_node.specs.Begun.{CantBegin}
 use Rattle.pg_node.specs.Nodes.{links_of}
 use Rattle.pg_node.specs.States.{names_of}
 use Rattle.pg_world.specs.BytesStart.{OpensLinks}
-use Rattle.pg_world.specs.Openings.{CantOpen}
-use Rattle.pg_world.specs.Starts.{seen_first}
-use Rattle.pg_world.specs.Views.{Seen, seen_of}
-use Rattle.pg_world.proofs.Peering.{known}
+use Rattle.pg_frame_world.specs.Openings.{CantOpen}
+use Rattle.pg_frame_world.specs.Starts.{seen_first}
+use Rattle.pg_frame_world.specs.Views.{Seen, seen_of}
+use Rattle.pg_frame_world.proofs.Peering.{known}
 use Rattle.pg_world.proofs.over_bytes.Opened.{cant_open_so, named_first}
 use Rattle.pg_world.proofs.bytes.begun.opened_node.Goals as goal
 

@@ -4,11 +4,11 @@ use Rattle.pg_step.specs.FrameMachine.{frame_machine}
 use Rattle.pg_machine.specs.Machine.{start_of}
 use Rattle.pg_world.specs.Crossings.{ShowsBytes}
 use Rattle.pg_world.specs.ByteWorlds.{account_of, crossing_of, lost_of, room_of}
-use Rattle.pg_world.specs.Runs.{over_bytes}
+use Rattle.pg_world.specs.BytesRuns.{over_bytes}
 use Rattle.pg_world.specs.BytesLosing.{ShowsLosingBytes}
 use Rattle.pg_world.proofs.over_bytes.Chained.{ran_crossing_so}
-use Rattle.pg_world.proofs.LosingRunning.{ran_bytes_so}
-use Rattle.pg_world.proofs.Running.{ran_so}
+use Rattle.pg_world.proofs.over_bytes.Running.{ran_bytes_so}
+use Rattle.pg_frame_world.proofs.Running.{ran_so}
 use Rattle.pg_world.proofs.bytes.runs.run.Goals as goal
 
 pub returns-in-Ok-clause-ran : goal.returns-in-Ok-clause-ran

@@ -1,0 +1,7 @@
+pub mod Compared
+mod CopiedRows
+mod LastEntries
+mod NamedGroups
+mod OneEntry
+mod Rowed
+mod Tallies

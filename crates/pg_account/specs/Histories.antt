@@ -1,0 +1,113 @@
+-- What a world keeps of what began and of what was applied, by group.
+use Rattle.std.specs.Prelude.{◌≡◌, ℕ, ◌+◌, ◌<◌, ◌^◌, ◌&&◌, cond, nat_eq, map, length, get_or, List, [], ◌∷◌, ◌++◌, Option, Some, None}
+use Rattle.std.specs.Option.{option_map_or}
+use Rattle.std.specs.BTreeMap.{BTreeMap, get}
+use Rattle.std.specs.Vec.{vec_len, vec_capacity}
+use Rattle.pg_term.specs.declared.term.Term.{Term}
+use Rattle.pg_term.specs.Same.{term_cmp}
+use Rattle.pg_group.specs.declared.update.Update.{Update}
+use Rattle.pg_group.specs.Value.{name_of}
+use Rattle.pg_message.specs.declared.message.Message.{Message}
+use Rattle.pg_message.specs.declared.message.Message.TheVariants.{Call}
+use Rattle.pg_message.specs.declared.message.Request.TheVariants.{Change}
+use Rattle.pg_step.specs.declared.command.OpId.{OpId}
+use Rattle.pg_history.specs.History as history
+use Rattle.pg_history.specs.History.{of_group, is_update_of}
+use Rattle.pg_account.specs.declared.entry.Entry.{Entry}
+use Rattle.pg_account.specs.declared.histories.Histories.{Histories}
+use Rattle.pg_account.specs.declared.row.Row.{Row}
+use Rattle.pg_account.specs.declared.tally.Tally.{Tally}
+
+-- ---- how many updates each node has applied
+
+-- of one group, by the places of the nodes
+abbrev pub count_at : Tally → ℕ → ℕ
+count_at tally node = get_or tally.counts.items node 0
+
+-- one more of a node needs no memory
+abbrev pub CanCount : Tally → ℕ → Type 0
+CanCount tally node = (node < length tally.counts.items) × (count_at tally node + 1 < 2 ^ 64)
+
+-- ---- a group
+
+abbrev pub as_entry : Entry → history.Entry
+as_entry entry = record { node = entry.node; op = entry.op; update = entry.update }
+
+abbrev pub entries_of : Row → List history.Entry
+entries_of row = map as_entry row.entries.items
+
+-- one more entry of a node needs no memory
+abbrev pub HasRoom : Row → ℕ → Type 0
+HasRoom row node = (vec_len row.entries < vec_capacity row.entries) × CanCount row.tally node
+
+-- ---- all groups
+
+abbrev pub entries_in : BTreeMap Term Row → Term → List history.Entry
+entries_in rows name = option_map_or entries_of (get term_cmp rows name) []
+
+abbrev pub counts_in : BTreeMap Term Row → ℕ → Term → ℕ
+counts_in rows node name = option_map_or (λ row. count_at row.tally node) (get term_cmp rows name) 0
+
+-- one more entry of a group and a node needs no memory
+abbrev pub HasRow : BTreeMap Term Row → Term → ℕ → Type 0
+HasRow rows name node = (row : Row) × (get term_cmp rows name ≡ Some row) × HasRoom row node
+
+-- 1 where it is that node and an update of that group
+abbrev pub one_of : ℕ → ℕ → Term → Option Update → ℕ
+one_of node i name update = cond (nat_eq node i && is_update_of name update) 1 0
+
+-- the entry that is not in its row yet
+abbrev pub last_entries : Option Entry → List history.Entry
+last_entries None = []
+last_entries (Some entry) = as_entry entry ∷ []
+
+abbrev pub last_count : Option Entry → ℕ → Term → ℕ
+last_count None i name = 0
+last_count (Some entry) i name = one_of entry.node i name (Some entry.update)
+
+-- the history of each group
+abbrev pub history_in : Histories → Term → List history.Entry
+history_in histories name = entries_in histories.rows name ++ of_group name (last_entries histories.last)
+
+-- how many updates of a group a node has applied
+abbrev pub applied_in : Histories → ℕ → Term → ℕ
+applied_in histories i name = counts_in histories.rows i name + last_count histories.last i name
+
+-- the history of each group, and how many of its updates each node has applied
+pub record Account : Type 0 where
+  pub histories : Term → List history.Entry
+  pub applied : ℕ → Term → ℕ
+
+-- nothing has begun
+abbrev pub no_account : Account
+no_account = record { histories = λ name. []; applied = λ i name. 0 }
+
+-- what is kept
+abbrev pub account_of : Histories → Account
+account_of histories = record { histories = history_in histories; applied = applied_in histories }
+
+-- each entry is in its row
+abbrev pub IsSettled : Histories → Type 0
+IsSettled histories = histories.last ≡ None
+
+-- there is room in its row for the entry that is not there yet
+abbrev pub LastHasRow : BTreeMap Term Row → Option Entry → Type 0
+LastHasRow rows None = Unit {0}
+LastHasRow rows (Some entry) = HasRow rows (name_of entry.update) entry.node
+
+-- ---- what an event applies
+
+-- the update that a packet asks for
+abbrev pub asked_by : Message → Option Update
+asked_by (Call reference (Change update)) = Some update
+asked_by message = None
+
+-- the update of what began
+abbrev pub begun_by : Option (OpId × Update) → Option Update
+begun_by None = None
+begun_by (Some began) = Some began.1
+
+-- one more of the update that a packet asks for, if it does, needs no memory
+abbrev pub CanServe : BTreeMap Term Row → ℕ → Option Update → Type 0
+CanServe rows node None = Unit {0}
+CanServe rows node (Some update) = HasRow rows (name_of update) node

@@ -1,0 +1,116 @@
+//! What began and what was applied, by group.
+
+ghost use Rattle.std.specs.Prelude.{◌≡◌, ℕ, ◌+◌, ◌++◌, ◌∷◌, [], map, Some, IsSome, IfOk, OnOk};
+ghost use Rattle.std.specs.BTreeMap.{get};
+ghost use Rattle.pg_term.specs.declared.term.Term.{Term};
+ghost use Rattle.pg_term.specs.Same.{term_cmp};
+ghost use Rattle.pg_group.specs.Value.{name_of};
+ghost use Rattle.pg_history.specs.History.{of_group};
+ghost use Rattle.pg_account.specs.Histories.{as_entry, entries_in, counts_in, one_of, HasRow};
+
+use crate::entry::Entry;
+use crate::row::Row;
+use pg_group::Update;
+use pg_term::Term;
+use std::alloc::{AllocError, Global};
+use std::collections::BTreeMap;
+
+/// The row of each group that was named.
+pub(crate) type Rows = BTreeMap<Term, Row>;
+
+/// The same entries and counts of each group. Its cost is that of the copies: O(n log n) in the groups that were named.
+///
+/// Error: `AllocError`.
+pub(crate) fn copy(rows: &Rows, alloc: Global) -> Result<Rows, AllocError>
+    ensures entries { IfOk result (λ copy. entries_in copy ≡ entries_in rows.now) }
+    ensures counts { IfOk result (λ copy. counts_in copy ≡ counts_in rows.now) }
+{
+    let mut copy = BTreeMap::new(alloc);
+    for (name, row) in rows {
+        copy.insert(name.copy(alloc)?, row.copy(alloc)?)?;
+    }
+    Ok(copy)
+}
+
+/// A group has a row, which is empty where it had none.
+///
+/// Error: `AllocError`, by which nothing changes either.
+fn open_row(rows: &mut Rows, alloc: Global, name: &Term) -> Result<(), AllocError>
+    ensures entries { entries_in rows.new ≡ entries_in rows.old }
+    ensures counts { counts_in rows.new ≡ counts_in rows.old }
+    ensures there { OnOk result (IsSome (get term_cmp rows.new name.now)) }
+{
+    if rows.contains_key(name) {
+        return Ok(());
+    }
+    let key = name.copy(alloc)?;
+    rows.insert(key, Row::new(alloc))?;
+    Ok(())
+}
+
+/// Makes room for one more entry of a group and a node.
+///
+/// Error: `AllocError`, by which nothing changes either.
+pub(crate) fn make_room(
+    rows: &mut Rows,
+    alloc: Global,
+    name: &Term,
+    node: usize,
+) -> Result<(), AllocError>
+    ensures entries { entries_in rows.new ≡ entries_in rows.old }
+    ensures counts { counts_in rows.new ≡ counts_in rows.old }
+    ensures room { OnOk result (HasRow rows.new name.now node) }
+{
+    open_row(rows, alloc, name)?;
+    match rows.get_mut(name) {
+        Some(row) => row.make_room(node),
+        None => Err(AllocError),
+    }
+}
+
+/// A node applies an update of a peer, where there is room. It takes no memory.
+pub(crate) fn serve(rows: &mut Rows, update: &Update, node: usize)
+    requires { HasRow rows.old (name_of update.now) node }
+    ensures entries { entries_in rows.new ≡ entries_in rows.old }
+    ensures counts { (i : ℕ) (name : Term) → counts_in rows.new i name
+        ≡ counts_in rows.old i name + one_of node i name (Some update.now) }
+{
+    match rows.get_mut(update.name()) {
+        Some(row) => row.serve(node),
+        None => {}
+    }
+}
+
+/// An update begins, and its node applies it, where there is room. It takes no memory.
+pub(crate) fn begin(rows: &mut Rows, entry: Entry)
+    requires { HasRow rows.old (name_of entry.update) entry.node }
+    ensures entries { (name : Term) → entries_in rows.new name
+        ≡ entries_in rows.old name ++ of_group name (as_entry entry ∷ []) }
+    ensures counts { (i : ℕ) (name : Term) → counts_in rows.new i name
+        ≡ counts_in rows.old i name + one_of entry.node i name (Some entry.update) }
+{
+    match rows.get_mut(entry.update.name()) {
+        Some(row) => row.begin(entry),
+        None => drop(entry),
+    }
+}
+
+/// The entries of a group. It takes no memory.
+pub(crate) fn entries<'a>(rows: &'a Rows, name: &Term) -> &'a [Entry]
+    ensures { map as_entry result.now ≡ entries_in rows.now name.now }
+{
+    match rows.get(name) {
+        Some(row) => row.entries.as_slice(),
+        None => &[],
+    }
+}
+
+/// How many updates of a group a node has applied. It takes no memory.
+pub(crate) fn count(rows: &Rows, node: usize, name: &Term) -> u64
+    ensures { result ≡ counts_in rows.now node name.now }
+{
+    match rows.get(name) {
+        Some(row) => row.tally.count(node),
+        None => 0,
+    }
+}

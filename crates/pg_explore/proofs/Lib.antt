@@ -1,0 +1,15 @@
+pub mod Alike
+pub mod Binned
+pub mod Counting
+pub mod Expanding
+pub mod Getting
+pub mod Lending
+pub mod Lengthening
+pub mod Listed
+pub mod Outcomes
+pub mod Progressing
+pub mod Sized
+pub mod Sound
+pub mod Optional
+pub mod Reached
+pub mod Opening

@@ -1,0 +1,9 @@
+pub mod Bins
+pub mod Explorations
+pub mod Faults
+pub mod Keeping
+pub mod Lent
+pub mod Listings
+pub mod Moments
+pub mod Moves
+pub mod Numbers

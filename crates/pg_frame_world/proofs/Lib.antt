@@ -1,0 +1,33 @@
+pub mod Answering
+mod Applying
+pub mod Barred
+mod Copied
+mod Dropped
+pub mod Fitted
+pub mod Leading
+pub mod Listed
+mod LongGroups
+pub mod LosingRunning
+pub mod Lossy
+mod Messages
+mod NodesAlike
+pub mod OneList
+pub mod Opened
+pub mod Ordered
+pub mod OrderedOnce
+pub mod Peering
+pub mod Ported
+mod Queued
+pub mod Recording
+pub mod Running
+pub mod Seeing
+mod Sending
+pub mod Sets
+mod Shortened
+pub mod Sighted
+pub mod Starting
+pub mod Stopped
+mod Taking
+pub mod Turning
+pub mod Unplaced
+pub mod Viewing

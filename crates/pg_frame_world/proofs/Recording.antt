@@ -1,0 +1,108 @@
+-- What an event adds to the histories, and to what each node has applied.
+use Rattle.std.proofs.Common.{◌≡◌, ℕ, ◌+◌, Bool, true, false, cond, nat_eq, ◌&&◌, List, [], ◌∷◌, ◌++◌, Option, None, Ok, refl, ap, sym, ◌∙◌, inl, inr, arith}
+use Rattle.std.proofs.lemmas.List.{append-nil}
+use Rattle.pg_term.specs.declared.term.Term.{Term}
+use Rattle.pg_group.specs.declared.update.Update.{Update}
+use Rattle.pg_machine.specs.Machine.{Event}
+use Rattle.pg_step.specs.declared.command.OpId.{OpId}
+use Rattle.pg_step.specs.Config.{Config}
+use Rattle.pg_step.specs.Step.{Action}
+use Rattle.pg_step.specs.Turns.{Report}
+use Rattle.pg_history.specs.History.{Entry, entries, entry_of, history, of_group, applied_count}
+use Rattle.pg_history.proofs.steps.Grows.{entries_append, of_group_append}
+use Rattle.pg_frame_world.specs.declared.step.Stepped.TheVariants.{Happened}
+use Rattle.pg_account.specs.Histories.{begun_by, one_of}
+use Rattle.pg_frame_world.specs.Views.{View}
+use Rattle.pg_account.specs.Histories.{Account}
+use Rattle.pg_frame_world.specs.Worlds.{TimedFrameWorld, Shows, ShowsTraffic, ShowsUpdates, ComesTo}
+use Rattle.pg_frame_world.proofs.Applying.{Applies}
+
+-- what an event of node i, by which an update that was asked for was applied or another began, adds to what is reported
+pub record Records (w v : TimedFrameWorld) (i : ℕ) (asked : Option Update) (began : Option (OpId × Update)) : Type 0 where
+  pub history : (name : Term) → history name v.reported ≡ history name w.reported ++ of_group name (entry_of i began)
+  pub applied : (j : ℕ) (name : Term) → applied_count j name v.reported ≡ applied_count j name w.reported + (one_of i j name asked + one_of i j name (begun_by began))
+
+pub none_of : (i j : ℕ) (name : Term) → one_of i j name None ≡ 0
+none_of i j name = go (nat_eq i j)
+  where
+    go : (b : Bool) → ◌≡◌ {A = ℕ} (cond (b && false) 1 0) 0
+    go true = refl
+    go false = refl
+
+history_more : (name : Term) (i : ℕ) (r : Report) (ts : List (ℕ × Report)) → history name (ts ++ (i, r) ∷ []) ≡ history name ts ++ of_group name (entry_of i r.began)
+history_more name i r ts = ap (of_group name) (entries_append ts ((i, r) ∷ []) ∙ ap (λ es. entries ts ++ es) (append-nil (entry_of i r.began)))
+    ∙ of_group_append name (entries ts) (entry_of i r.began)
+
+applied_more : (j : ℕ) (name : Term) (i : ℕ) (r : Report) (ts : List (ℕ × Report)) → applied_count j name (ts ++ (i, r) ∷ []) ≡ applied_count j name ts + one_of i j name r.applied
+applied_more j name i r [] = omega arith
+applied_more j name i r (t ∷ ts) = let more = applied_more j name i r ts in omega (arith, more)
+
+-- what was applied is what was asked for or what began
+applied_as : (i j : ℕ) (name : Term) (asked : Option Update) (r : Report) → Applies asked r → one_of i j name r.applied ≡ one_of i j name asked + one_of i j name (begun_by r.began)
+applied_as i j name asked r (inl is) =
+    let one : one_of i j name r.applied ≡ one_of i j name asked = ap (one_of i j name) is.0 in
+    let none : one_of i j name (begun_by r.began) ≡ 0 = ap (λ b. one_of i j name (begun_by b)) is.1 ∙ none_of i j name in
+    omega (arith, one, none)
+applied_as i j name asked r (inr is) =
+    let one : one_of i j name r.applied ≡ one_of i j name (begun_by r.began) = ap (one_of i j name) is.1 in
+    let none : one_of i j name asked ≡ 0 = ap (one_of i j name) is.0 ∙ none_of i j name in
+    omega (arith, one, none)
+
+-- the world behind a turn with this report
+pub records_so : (w v : TimedFrameWorld) (i : ℕ) (asked : Option Update) (r : Report) (began : Option (OpId × Update)) → v.reported ≡ w.reported ++ (i, r) ∷ [] → began ≡ r.began → Applies asked r
+    → Records w v i asked began
+records_so w v i asked r began is same applies = record {
+  history = λ name. ap (history name) is ∙ history_more name i r w.reported ∙ ap (λ b. history name w.reported ++ of_group name (entry_of i b)) (sym same);
+  applied = λ j name. ap (applied_count j name) is ∙ applied_more j name i r w.reported
+      ∙ ap (λ n. applied_count j name w.reported + n) (applied_as i j name asked r applies ∙ ap (λ b. one_of i j name asked + one_of i j name (begun_by b)) (sym same));
+}
+
+-- what is kept of the updates has grown so
+pub record Grew (old new : Account) (i : ℕ) (asked : Option Update) (began : Option (OpId × Update)) : Type 0 where
+  pub history : (name : Term) → new.histories name ≡ old.histories name ++ of_group name (entry_of i began)
+  pub applied : (j : ℕ) (name : Term) → new.applied j name ≡ old.applied j name + (one_of i j name asked + one_of i j name (begun_by began))
+
+-- what is kept is what is told behind the event
+pub updates_after : (old new : Account) (w v : TimedFrameWorld) (i : ℕ) (asked : Option Update) (began : Option (OpId × Update)) → ShowsUpdates old w → Grew old new i asked began
+    → Records w v i asked began → ShowsUpdates new v
+updates_after old new w v i asked began shows grew kept = record {
+  history = λ name. grew.history name ∙ ap (λ es. es ++ of_group name (entry_of i began)) (shows.history name) ∙ sym (kept.history name);
+  applied = λ j name. grew.applied j name ∙ ap (λ n. n + (one_of i j name asked + one_of i j name (begun_by began))) (shows.applied j name) ∙ sym (kept.applied j name);
+}
+
+-- the whole is shown
+pub shows_all : (config : Config) (old new : View) (w : TimedFrameWorld) (e : Event Action) (i : ℕ) (asked : Option Update) (began : Option (OpId × Update)) → Shows config old w → Grew old.account new.account i asked began
+    → ComesTo config w e (Ok Happened) (λ v. ShowsTraffic config new.traffic v × Records w v i asked began) → ComesTo config w e (Ok Happened) (Shows config new)
+shows_all config old new w e i asked began shows grew comes =
+    let v = comes.0 in
+    (v, comes.1, record { traffic = comes.2.0; updates = updates_after old.account new.account w v i asked began shows.updates grew comes.2.1 })
+
+-- ---- views
+
+-- views are the same where their parts are
+pub view_is : (a b : View) → a.traffic ≡ b.traffic → a.account.histories ≡ b.account.histories → a.account.applied ≡ b.account.applied → a ≡ b
+view_is a b traffic histories applied = λ j. record { traffic = traffic j; account = record { histories = histories j; applied = applied j } }
+
+-- of an event that was asked for no update
+pub grew_own : (old new : Account) (i : ℕ) (began b : Option (OpId × Update)) → b ≡ began
+    → ((name : Term) → new.histories name ≡ old.histories name ++ of_group name (entry_of i b))
+    → ((j : ℕ) (name : Term) → new.applied j name ≡ old.applied j name + one_of i j name (begun_by b)) → Grew old new i None began
+grew_own old new i began b same histories applied = record {
+  history = λ name. histories name ∙ ap (λ x. old.histories name ++ of_group name (entry_of i x)) same;
+  applied = λ j name. let more = applied j name in let none = none_of i j name in
+      let begun : one_of i j name (begun_by b) ≡ one_of i j name (begun_by began) = ap (λ x. one_of i j name (begun_by x)) same in
+      omega (arith, more, none, begun);
+}
+
+-- of a packet that was taken, by what is kept before and behind the update that it asks for
+pub grew_taken : (old new : Account) (i : ℕ) (asked : Option Update) (began b : Option (OpId × Update)) (h1 h2 : Term → List Entry) (a1 a2 : ℕ → Term → ℕ) → b ≡ began
+    → h1 ≡ old.histories → a1 ≡ old.applied → h2 ≡ h1 → ((j : ℕ) (name : Term) → a2 j name ≡ a1 j name + one_of i j name asked)
+    → ((name : Term) → new.histories name ≡ h2 name ++ of_group name (entry_of i b))
+    → ((j : ℕ) (name : Term) → new.applied j name ≡ a2 j name + one_of i j name (begun_by b)) → Grew old new i asked began
+grew_taken old new i asked began b h1 h2 a1 a2 same h1s a1s h2s a2s histories applied = record {
+  history = λ name. histories name ∙ ((λ j. (h2s ∙ h1s) j name ++ of_group name (entry_of i (same j))));
+  applied = λ j name. let last = applied j name in let asks = a2s j name in
+      let first : a1 j name ≡ old.applied j name = ap (λ (a : ℕ → Term → ℕ). a j name) a1s in
+      let begun : one_of i j name (begun_by b) ≡ one_of i j name (begun_by began) = ap (λ x. one_of i j name (begun_by x)) same in
+      omega (arith, last, asks, first, begun);
+}

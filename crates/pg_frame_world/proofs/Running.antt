@@ -1,0 +1,200 @@
+-- Steps that are made one after another.
+use Rattle.std.proofs.Common.{◌≡◌, ℕ, ◌+◌, ◌<◌, List, [], ◌∷◌, ◌++◌, Ok, Err, Result, take, length, get_or, refl, sym, ap, ◌∙◌, inl, inr, subst}
+use Rattle.std.specs.Prelude.{slice_set, not, Bool, true, false, Some}
+use Rattle.std.specs.List.{IsDistinct, AllPass}
+use Rattle.std.proofs.lemmas.List.{take_more, take_more_set}
+use Rattle.std.proofs.Math.Seq.{take-length}
+use Rattle.pg_machine.specs.Machine.{Event, Take, Do, happens, start_of}
+use Rattle.pg_machine.specs.Clocked.{plain}
+use Rattle.pg_machine.specs.Runs.{Leads}
+use Rattle.pg_step.specs.Config.{Config, names_of}
+use Rattle.pg_machine.specs.Places.{is_pair}
+use Rattle.pg_step.specs.Faults.{refusal_number_of}
+use Rattle.pg_step.specs.FrameMachine.{frame_machine}
+use Rattle.pg_step.specs.Step.{Action, Issue, Retry}
+use Rattle.pg_term.specs.Same.{same_atom}
+use Rattle.pg_history.specs.Headline.{OneHistory}
+use Rattle.pg_history.specs.Reached.{Reaches}
+use Rattle.pg_node.specs.NodeFault.{node_number_of}
+use Rattle.pg_node.specs.declared.state.fault.NodeFault.{NodeFault}
+use Rattle.pg_node.specs.declared.state.fault.NodeFault.TheVariants.{Refused, OutOfMemory, Message as BadMessage, TooLong, Damaged}
+use Rattle.pg_frame_world.specs.declared.step.FrameStep.{FrameStep}
+use Rattle.pg_frame_world.specs.declared.step.FrameStep.TheVariants as frames
+use Rattle.pg_frame_world.specs.declared.step.Stepped.{Stepped}
+use Rattle.pg_frame_world.specs.declared.step.Stepped.TheVariants.{Happened, Moved, Nothing, Gone}
+use Rattle.pg_frame_world.specs.Worlds.{IsReached}
+use Rattle.pg_frame_world.specs.Losing.{lost_after}
+use Rattle.pg_frame_world.specs.Views.{View}
+use Rattle.pg_frame_world.specs.Worlds.{TimedFrameWorld, Shows, ComesTo, IsUnseen, StepComesTo, is_loss, event_of}
+use Rattle.pg_frame_world.specs.Runs.{Kind, over_packets, IsTold, IsPassed, SeesNone, number_told, StepsTo, RunsTo, GoesTo, Ran}
+use Rattle.pg_frame_world.specs.Starts.{Orders}
+
+-- a step of some of which none is a loss is none
+pub passes_at : {S : Type 0} (loses : S → Bool) (steps : List S) (k : ℕ) (s : S) → k < length steps → s ≡ get_or steps k s → AllPass (λ x. not (loses x)) steps → loses s ≡ false
+passes_at loses steps k s within here all = go (loses s) (ap (λ x. not (loses x)) here ∙ all k s within)
+  where
+    go : (b : Bool) → not b ≡ true → b ≡ false
+    go true e = absurd (cc)
+    go false e = refl
+
+-- no more nodes are lost by a step that is no loss
+pub none_more : (step : FrameStep) (result : Result Stepped NodeFault) (lost : List ℕ) → is_loss step ≡ false → lost_after step result lost ≡ lost
+none_more (frames.Take i p) result lost keeps = refl
+none_more (frames.Command i port c) result lost keeps = refl
+none_more (frames.Retry i op) result lost keeps = refl
+none_more (frames.SeeLoss i p) result lost keeps = refl
+none_more (frames.Lose i keep) result lost keeps = absurd (cc)
+
+-- events that lead on from where others led
+leads_on : (config : Config) (es fs : List (Event Action)) (w u v : TimedFrameWorld) → Leads (frame_machine config) w es u → Leads (frame_machine config) u fs v → Leads (frame_machine config) w (es ++ fs) v
+leads_on config [] fs w u v same led = subst (λ (x : TimedFrameWorld). Leads (frame_machine config) x fs v) (sym same) led
+leads_on config (e ∷ es) fs w u v (x, happened, rest) led = (x, happened, leads_on config es fs x u v rest led)
+
+pub reached_on : (config : Config) (w v : TimedFrameWorld) (events : List (Event Action)) → IsReached config w → Leads (frame_machine config) w events v → IsReached config v
+reached_on config w v events reached led = (reached.0 ++ events, leads_on config reached.0 events (start_of (frame_machine config)) w v reached.1 led)
+
+module _ {S : Type 0} (kind : Kind S) (config : Config) where
+  -- the events that happened lead on
+  pub leads : (steps : List S) (numbers : List ℕ) (w v : TimedFrameWorld) (events : List (Event Action)) → RunsTo kind config w steps numbers events v → Leads (frame_machine config) w events v
+  leads [] [] w v events (none, same) = subst (λ (es : List (Event Action)). Leads (frame_machine config) w es v) (sym none) same
+  leads [] (number ∷ numbers) w v events runs = absurd runs
+  leads (step ∷ steps) [] w v events runs = absurd runs
+  leads (step ∷ steps) (number ∷ numbers) w v events (inl goes) =
+      subst (λ (es : List (Event Action)). Leads (frame_machine config) w es v) (sym goes.rest.first) (goes.left, goes.happened, leads steps numbers goes.left v goes.rest.later goes.rest.rest)
+  leads (step ∷ steps) (number ∷ numbers) w v events (inr passed) = leads steps numbers w v events passed.1
+
+  module _ (step : S) (number : ℕ) (Shown : TimedFrameWorld → Type 0) where
+    -- one more step
+    one_step : (w u : TimedFrameWorld) → w ≡ u → StepsTo kind config u step number Shown → GoesTo kind config w (step ∷ []) (number ∷ []) Shown
+    one_step w u same (inl goes) = record {
+      events = goes.e ∷ [];
+      left = goes.left;
+      runs = inl (record {
+        listed = goes.listed;
+        e = goes.e;
+        is = goes.is;
+        left = goes.left;
+        happened = ap (λ (x : TimedFrameWorld). happens (frame_machine config) x goes.e) same ∙ goes.happened;
+        rest = record { later = []; first = refl; rest = (refl, refl) };
+      });
+      shown = goes.rest;
+    }
+    one_step w u same (inr passed) = record {
+      events = [];
+      left = u;
+      runs = inr (subst (λ (x : TimedFrameWorld). kind.Passed config x step number) (sym same) passed.0, (refl, same));
+      shown = passed.1;
+    }
+
+    pub step_more : (steps : List S) (numbers : List ℕ) (w u : TimedFrameWorld) (events : List (Event Action)) → RunsTo kind config w steps numbers events u → StepsTo kind config u step number Shown
+        → GoesTo kind config w (steps ++ step ∷ []) (numbers ++ number ∷ []) Shown
+    step_more [] [] w u events (none, same) steps_to = one_step w u same steps_to
+    step_more [] (n ∷ ns) w u events runs steps_to = absurd runs
+    step_more (s ∷ ss) [] w u events runs steps_to = absurd runs
+    step_more (s ∷ ss) (n ∷ ns) w u events (inl goes) steps_to =
+        let rest = step_more ss ns goes.left u goes.rest.later goes.rest.rest steps_to in
+        record {
+          events = goes.e ∷ rest.events;
+          left = rest.left;
+          runs = inl (record { listed = goes.listed; e = goes.e; is = goes.is; left = goes.left; happened = goes.happened; rest = record { later = rest.events; first = refl; rest = rest.runs } });
+          shown = rest.shown;
+        }
+    step_more (s ∷ ss) (n ∷ ns) w u events (inr passed) steps_to =
+        let rest = step_more ss ns w u events passed.1 steps_to in
+        record { events = rest.events; left = rest.left; runs = inr (passed.0, rest.runs); shown = rest.shown }
+
+  -- the steps so far, and one more, whose number was put in its place
+  pub steps_more : (steps : List S) (numbers : List ℕ) (k number : ℕ) (step : S) (w : TimedFrameWorld) (Before Shown : TimedFrameWorld → Type 0) → k < length steps → k < length numbers
+      → step ≡ get_or steps k step → GoesTo kind config w (take k steps) (take k numbers) Before
+      → ((u : TimedFrameWorld) (events : List (Event Action)) → Leads (frame_machine config) w events u → Before u → StepsTo kind config u step number Shown)
+      → GoesTo kind config w (take (k + 1) steps) (take (k + 1) (slice_set numbers k number)) Shown
+  steps_more steps numbers k number step w Before Shown within inside here before then =
+      let led = leads (take k steps) (take k numbers) w before.left before.events before.runs in
+      let goes = step_more step number Shown (take k steps) (take k numbers) w before.left before.events before.runs (then before.left before.events led before.shown) in
+      subst (λ (ss : List S). GoesTo kind config w ss (take (k + 1) (slice_set numbers k number)) Shown) (ap (λ s. take k steps ++ s ∷ []) here ∙ sym (take_more steps k step within))
+      (subst (λ (ns : List ℕ). GoesTo kind config w (take k steps ++ step ∷ []) ns Shown) (sym (put numbers k number inside)) goes)
+    where
+      put : (ns : List ℕ) (k n : ℕ) → k < length ns → take (k + 1) (slice_set ns k n) ≡ take k ns ++ n ∷ []
+      put ns k n l = take_more_set ns k n l
+
+  -- all steps were made
+  pub all_taken : (w : TimedFrameWorld) (steps : List S) (numbers : List ℕ) (k : ℕ) (Shown : TimedFrameWorld → Type 0) → k ≡ length steps → length numbers ≡ length steps
+      → GoesTo kind config w (take k steps) (take k numbers) Shown → GoesTo kind config w steps numbers Shown
+  all_taken w steps numbers k Shown last same goes =
+      subst (λ (ns : List ℕ). GoesTo kind config w steps ns Shown) (ap (λ n. take n numbers) (last ∙ sym same) ∙ take-length numbers)
+      (subst (λ (ss : List S). GoesTo kind config w ss (take k numbers) Shown) (ap (λ n. take n steps) last ∙ take-length steps) goes)
+
+-- what a step came to, by its number
+module _ (config : Config) (w : TimedFrameWorld) (old new : View) where
+  module _ (step : FrameStep) (e : Event Action) (is : event_of step ≡ Some e) (passes : (number : ℕ) → IsTold config w e number → IsPassed config w step number) where
+    event_so : (result : Result Stepped NodeFault) (stepped : Stepped) → result ≡ Ok stepped → Shows config old w
+        → ComesTo config w e result (Shows config new) → (result ≡ Ok Nothing → new ≡ old) → StepsTo over_packets config w step 0 (Shows config new)
+    event_so (Ok Happened) stepped r shows (v, happened, shown) nothing = inl (record { listed = refl; e = e; is = is; left = v; happened = happened; rest = shown })
+    event_so (Ok Nothing) stepped r shows comes nothing =
+        inr (passes 0 (inl (sym (ap number_told comes))), subst (λ (view : View). Shows config view w) (sym (nothing refl)) shows)
+    event_so (Ok (Moved count)) stepped r shows comes nothing = absurd comes
+    event_so (Ok Gone) stepped r shows comes nothing = absurd comes
+    event_so (Err fault) stepped r shows comes nothing = absurd (cc)
+
+    event_refused : (result : Result Stepped NodeFault) (fault : NodeFault) → result ≡ Err fault → Shows config old w
+        → ComesTo config w e result (Shows config new) → new ≡ old → StepsTo over_packets config w step (node_number_of fault) (Shows config new)
+    event_refused (Ok stepped) fault r shows comes same = absurd (cc)
+    event_refused (Err OutOfMemory) fault r shows comes same =
+        let one : OutOfMemory ≡ fault = cc in
+        inr (passes (node_number_of fault) (inr (ap node_number_of (sym one))), subst (λ (view : View). Shows config view w) (sym same) shows)
+    event_refused (Err (Refused refusal)) fault r shows comes same =
+        let one : Refused refusal ≡ fault = cc in
+        inr (passes (node_number_of fault) (inl (ap node_number_of (sym one) ∙ sym (ap number_told comes))), subst (λ (view : View). Shows config view w) (sym same) shows)
+    event_refused (Err (BadMessage m)) fault r shows comes same = absurd comes
+    event_refused (Err TooLong) fault r shows comes same = absurd comes
+    event_refused (Err Damaged) fault r shows comes same = absurd comes
+
+  -- no loss is seen
+  pub unseen_never : (pair : Bool) (result : Result Stepped NodeFault) (stepped : Stepped) → result ≡ Ok stepped → IsUnseen pair result → ⊥
+  unseen_never pair (Ok other) stepped r unseen = unseen
+  unseen_never pair (Err fault) stepped r unseen = absurd (cc)
+
+  pub unseen_number : (pair : Bool) (result : Result Stepped NodeFault) (fault : NodeFault) → result ≡ Err fault → IsUnseen pair result → SeesNone pair (node_number_of fault)
+  unseen_number pair (Ok other) fault r unseen = absurd (cc)
+  unseen_number pair (Err OutOfMemory) fault r unseen = let one : OutOfMemory ≡ fault = cc in inr (unseen, ap node_number_of (sym one))
+  unseen_number pair (Err (Refused refusal)) fault r unseen = let one : Refused refusal ≡ fault = cc in inl (ap node_number_of (sym one) ∙ ap refusal_number_of unseen)
+  unseen_number pair (Err (BadMessage m)) fault r unseen = absurd unseen
+  unseen_number pair (Err TooLong) fault r unseen = absurd unseen
+  unseen_number pair (Err Damaged) fault r unseen = absurd unseen
+
+  pub happened_so : (step : FrameStep) → is_loss step ≡ false → (result : Result Stepped NodeFault) (stepped : Stepped) → result ≡ Ok stepped → Shows config old w
+      → StepComesTo config w step result (Shows config new) → (result ≡ Ok Nothing → new ≡ old) → StepsTo over_packets config w step 0 (Shows config new)
+  happened_so (frames.Take i p) keeps = event_so (frames.Take i p) (Take i p) refl (λ number told. told)
+  happened_so (frames.Command i port c) keeps = event_so (frames.Command i port c) (Do i (Issue port c)) refl (λ number told. told)
+  happened_so (frames.Retry i op) keeps = event_so (frames.Retry i op) (Do i (Retry op)) refl (λ number told. told)
+  happened_so (frames.SeeLoss i p) keeps = λ result stepped r shows comes nothing. absurd (unseen_never (is_pair (length config) i p) result stepped r comes)
+  happened_so (frames.Lose i keep) keeps = absurd (cc)
+
+  pub refused_so : (step : FrameStep) → is_loss step ≡ false → (result : Result Stepped NodeFault) (fault : NodeFault) → result ≡ Err fault → Shows config old w
+      → StepComesTo config w step result (Shows config new) → new ≡ old → StepsTo over_packets config w step (node_number_of fault) (Shows config new)
+  refused_so (frames.Take i p) keeps = event_refused (frames.Take i p) (Take i p) refl (λ number told. told)
+  refused_so (frames.Command i port c) keeps = event_refused (frames.Command i port c) (Do i (Issue port c)) refl (λ number told. told)
+  refused_so (frames.Retry i op) keeps = event_refused (frames.Retry i op) (Do i (Retry op)) refl (λ number told. told)
+  refused_so (frames.SeeLoss i p) keeps = λ result fault r shows comes same.
+      inr (unseen_number (is_pair (length config) i p) result fault r comes, subst (λ (view : View). Shows config view w) (sym same) shows)
+  refused_so (frames.Lose i keep) keeps = absurd (cc)
+
+-- a run from the start of a configuration, where one history is known of each world
+pub ran_so : {S : Type 0} (kind : Kind S) (given : Config) (Before Shown : Config → TimedFrameWorld → Type 0) (steps : List S) (numbers : List ℕ)
+    → ((config : Config) × Orders given config × Before config (start_of (frame_machine config)))
+    → ((config : Config) → Before config (start_of (frame_machine config)) → GoesTo kind config (start_of (frame_machine config)) steps numbers (Shown config))
+    → ((config : Config) (w : TimedFrameWorld) → Shown config w → IsDistinct same_atom (names_of config))
+    → ((config : Config) (w : TimedFrameWorld) (events : List (Event Action)) → IsDistinct same_atom (names_of config) → Reaches config events w → OneHistory config events (plain w))
+    → Ran kind given steps numbers Shown
+ran_so kind given Before Shown steps numbers begins goes apart history =
+    let config = begins.0 in
+    let run = goes config begins.2 in
+    record {
+      config = config;
+      orders = begins.1;
+      events = run.events;
+      w = run.left;
+      runs = run.runs;
+      shows = run.shown;
+      history = history config run.left run.events (apart config run.left run.shown) (leads kind config steps numbers (start_of (frame_machine config)) run.left run.events run.runs);
+    }

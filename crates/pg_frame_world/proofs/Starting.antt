@@ -1,0 +1,340 @@
+-- What the world shows in which all nodes start.
+use Rattle.std.proofs.Common.{◌≡◌, ℕ, zero, suc, ◌+◌, ◌-◌, ◌<◌, ◌≤◌, ◌^◌, true, false, cond, map, get_or, take, length, replicate, List, [], ◌∷◌, ◌++◌, Option, Some, None, refl, sym, ap, ◌∙◌, inl, inr, ◌⊎◌, arith, subst}
+use Rattle.std.specs.Prelude.{slice_get, option_map, Result, Ok, Err, IfOk}
+use Rattle.std.specs.List.{All, AllByRecursion, IsDistinct, remove}
+use Rattle.std.proofs.lemmas.Map.Keys.{IsDistinct-head, IsDistinct-tail}
+use Rattle.std.proofs.lemmas.List.{get_or-map, get_or-replicate, length-replicate, length-map, length-append, map-append, take_more, get_or_default}
+use Rattle.std.proofs.lemmas.Option.{slice_get-map, slice_get-get_or, unwrap_or-slice_get}
+use Rattle.pg_term.specs.Same.{same_atom, same_term}
+use Rattle.pg_term.specs.declared.pid.Pid.{Pid}
+use Rattle.pg_term.specs.declared.term.Term.{Term}
+use Rattle.pg_group.specs.Value.{count_in}
+use Rattle.pg_group.specs.Table.{Table}
+use Rattle.pg_step.specs.State.{new_state}
+use Rattle.pg_group.specs.declared.table.GroupTable.{Ghosts}
+use Rattle.pg_exchange.specs.GroupList.{GroupList, IsSnapshot, announced_names}
+use Rattle.pg_message.specs.declared.message.Message.{Message}
+use Rattle.pg_message.specs.declared.message.Message.TheVariants.{Exchange}
+use Rattle.pg_message.specs.Members.{HasFewMembers}
+use Rattle.pg_machine.specs.Places.{is_pair}
+use Rattle.pg_machine.specs.Machine.{start_of}
+use Rattle.pg_machine.specs.Clocked.{Stamped, stamped}
+use Rattle.pg_step.specs.declared.start.Start.{Start}
+use Rattle.pg_step.specs.Nodes.{Node}
+use Rattle.pg_step.specs.Config.{Config, names_of, name_at, groups_at, made_at, ports_at, first_table}
+use Rattle.pg_step.specs.FrameMachine.{frame_machine}
+use Rattle.pg_opens.specs.Places.{name_at as place_name}
+use Rattle.pg_opens.proofs.Named.{names_differ}
+use Rattle.pg_node.specs.declared.state.NodeState.{NodeState}
+use Rattle.pg_node.specs.Issued.{ports_of}
+use Rattle.pg_node.specs.States.{kept_by, stamped_of, state_of, answers_of, names_of as known_names}
+use Rattle.pg_frame_world.specs.declared.outgoing.Outgoing.{Outgoing}
+use Rattle.pg_frame_world.specs.Views.{Seen, seen_of, ways_of, fresh_view, traffic_in, peer_place, on_the_way, IsWhole}
+use Rattle.pg_frame_world.specs.Worlds.{ShowsNode, TimedFrameWorld}
+use Rattle.pg_frame_world.specs.Starts.{seen_first, firsts, TellsFew, Opens, AllOpen, Orders, Begins}
+use Rattle.pg_node.proofs.Counts.{few_merged}
+use Rattle.pg_node.proofs.Apart.{few_in_none}
+use Rattle.pg_frame_world.proofs.Ordered.{itself_le, ordered_names, ordered_length, same_first, tells_few}
+use Rattle.pg_frame_world.proofs.Peering.{known, place_within}
+use Rattle.pg_frame_world.proofs.Turning.{pair_is}
+
+-- ---- the nodes
+
+-- what stands at a place of a list with one more behind it
+at_end : {A : Type 0} (xs : List A) (x y : A) (i : ℕ) → slice_get (xs ++ x ∷ []) i ≡ Some y → (slice_get xs i ≡ Some y) ⊎ ((i ≡ length xs) × (x ≡ y))
+at_end [] x y zero e = inr (refl, cc)
+at_end [] x y (suc i) e = absurd (cc)
+at_end (z ∷ zs) x y zero e = inl e
+at_end (z ∷ zs) x y (suc i) e = go (at_end zs x y i e)
+  where
+    go : (slice_get zs i ≡ Some y) ⊎ ((i ≡ length zs) × (x ≡ y)) → (slice_get zs i ≡ Some y) ⊎ ((suc i ≡ suc (length zs)) × (x ≡ y))
+    go (inl h) = inl h
+    go (inr h) = inr (ap suc h.0, h.1)
+
+pub firsts_length : (config : Config) (n : ℕ) → length (firsts config n) ≡ n
+firsts_length config zero = refl
+firsts_length config (suc n) = length-append (firsts config n) (seen_first config n ∷ []) ∙ (λ j. one (firsts_length config n j) j)
+  where
+    one : (k : ℕ) → k + 1 ≡ suc k
+    one k = omega arith
+
+pub firsts_are : (config : Config) (n i : ℕ) (node : Seen) → slice_get (firsts config n) i ≡ Some node → (i < n) × (node ≡ seen_first config i)
+firsts_are config zero i node at = absurd (cc)
+firsts_are config (suc n) i node at = go (firsts_are config n i node) (at_end (firsts config n) (seen_first config n) node i at)
+  where
+    go : (slice_get (firsts config n) i ≡ Some node → (i < n) × (node ≡ seen_first config i)) → (slice_get (firsts config n) i ≡ Some node) ⊎ ((i ≡ length (firsts config n)) × (seen_first config n ≡ node))
+        → (i < suc n) × (node ≡ seen_first config i)
+    go below (inl h) = let before = below h in (omega (arith, before.0), before.1)
+    go below (inr h) = let last : i ≡ n = h.0 ∙ firsts_length config n in (omega (arith, last), sym h.1 ∙ ap (seen_first config) (sym last))
+
+-- one more node
+pub firsts_more : {T : Type 0} {g : Ghosts T} (config : Config) (nodes : List (NodeState T g)) (node : NodeState T g) (n : ℕ) → map seen_of nodes ≡ firsts config n → seen_of node ≡ seen_first config n
+    → map seen_of (nodes ++ node ∷ []) ≡ firsts config (n + 1)
+firsts_more config nodes node n before is = map-append seen_of nodes (node ∷ []) ∙ ((λ j. before j ++ is j ∷ []) ∙ ap (firsts config) (next n))
+  where
+    next : (k : ℕ) → suc k ≡ k + 1
+    next k = omega arith
+
+-- ---- the packets
+
+-- one more node whose packets are on the way
+pub open_more : (peers : ℕ) (nodes : List Seen) (rows : List (List (List (Stamped Message)))) (node : Seen) (row : List (List (Stamped Message)))
+    → AllOpen peers nodes rows → Opens peers node row → AllOpen peers (nodes ++ node ∷ []) (rows ++ row ∷ [])
+open_more peers [] [] node row going one = (one, tt)
+open_more peers [] (r ∷ rows) node row going one = absurd going
+open_more peers (n ∷ nodes) [] node row going one = absurd going
+open_more peers (n ∷ nodes) (r ∷ rows) node row going one = (going.0, open_more peers nodes rows node row going.1 one)
+
+-- the same of the code's nodes
+pub opening_more : {T : Type 0} {g : Ghosts T} (peers : ℕ) (nodes : List (NodeState T g)) (outs : List Outgoing) (k : ℕ) (node : NodeState T g) (out : Outgoing) → k < length nodes → node ≡ get_or nodes k node
+    → AllOpen peers (map seen_of (take k nodes)) (map ways_of outs) → Opens peers (seen_of node) (ways_of out) → AllOpen peers (map seen_of (take (k + 1) nodes)) (map ways_of (outs ++ out ∷ []))
+opening_more {T} {g} peers nodes outs k node out within here before one =
+    let nodes_are : map seen_of (take (k + 1) nodes) ≡ map seen_of (take k nodes) ++ seen_of node ∷ [] =
+    ap (map seen_of) (take_more nodes k node within ∙ ap (λ (x : NodeState T g). take k nodes ++ x ∷ []) (sym here)) ∙ map-append seen_of (take k nodes) (node ∷ []) in
+    let outs_are : map ways_of (outs ++ out ∷ []) ≡ map ways_of outs ++ ways_of out ∷ [] = map-append ways_of outs (out ∷ []) in
+    subst (λ (seens : List Seen). AllOpen peers seens (map ways_of (outs ++ out ∷ []))) (sym nodes_are)
+    (subst (λ (rows : List (List (List (Stamped Message)))). AllOpen peers (map seen_of (take k nodes) ++ seen_of node ∷ []) rows) (sym outs_are)
+    (open_more peers (map seen_of (take k nodes)) (map ways_of outs) (seen_of node) (ways_of out) before one))
+
+-- each node of the configuration tells its groups to each of so many peers
+abbrev pub AreTold : ℕ → Config → List (List (List (Stamped Message))) → Type 0
+AreTold peers [] [] = Unit {0}
+AreTold peers (start ∷ starts) (row ∷ rows) = (row ≡ replicate peers (stamped 0 (Exchange start.name start.groups ∷ []))) × AreTold peers starts rows
+AreTold peers starts rows = ⊥
+
+-- these are the tables and the names of the nodes of a configuration
+abbrev pub HaveTables : Config → List Seen → Type 0
+HaveTables [] [] = Unit {0}
+HaveTables (start ∷ starts) (node ∷ nodes) = (node.state.state.table ≡ first_table start.groups) × (place_name node.names 0 ≡ start.name) × HaveTables starts nodes
+HaveTables starts nodes = ⊥
+
+pub have_tables : (config : Config) (nodes : List Seen) → length nodes ≡ length config
+    → ((i : ℕ) (node : Seen) → slice_get nodes i ≡ Some node → (node.state.state.table ≡ first_table (groups_at config i)) × (place_name node.names 0 ≡ name_at config i)) → HaveTables config nodes
+have_tables [] [] len each = tt
+have_tables [] (node ∷ nodes) len each = absurd (cc)
+have_tables (start ∷ starts) [] len each = absurd (cc)
+have_tables (start ∷ starts) (node ∷ nodes) len each =
+    let here = each 0 node refl in
+    (here.0, here.1, have_tables starts nodes (shorter (length nodes) (length starts) len) (λ i other at. each (suc i) other at))
+  where
+    shorter : (a b : ℕ) → suc a ≡ suc b → a ≡ b
+    shorter a b e = omega (arith, e)
+
+-- The configuration that is told.
+pub record HasConfig (peers : ℕ) (given : Config) (rows : List (List (List (Stamped Message)))) : Type 0 where
+  pub config : Config
+  pub orders : Orders given config
+  pub are : AreTold peers config rows
+
+pub told : (peers : ℕ) (given : Config) (nodes : List Seen) (rows : List (List (List (Stamped Message)))) → HaveTables given nodes → AllOpen peers nodes rows → HasConfig peers given rows
+told peers [] [] [] have going = record { config = []; orders = tt; are = tt }
+told peers [] [] (row ∷ rows) have going = absurd going
+told peers [] (node ∷ nodes) rows have going = absurd have
+told peers (start ∷ starts) [] rows have going = absurd have
+told peers (start ∷ starts) (node ∷ nodes) [] have going = absurd going
+told peers (start ∷ starts) (node ∷ nodes) (row ∷ rows) have going =
+    let rest = told peers starts nodes rows have.2 going.1 in
+    let groups = going.0.1.0 in
+    record {
+      config = record { name = start.name; made = start.made; ports = start.ports; groups = groups } ∷ rest.config;
+      orders = (record { name = refl; made = refl; ports = refl; groups = subst (λ table. IsSnapshot table groups) have.0 going.0.1.1 }, rest.orders);
+      are = (going.0.2 ∙ (λ j. replicate peers (stamped_of (going.0.1.2 j) ∷ [])) ∙ (λ j. replicate peers (stamped 0 (Exchange (have.1 j) groups ∷ []))), rest.are);
+    }
+
+told_length : (peers : ℕ) (config : Config) (rows : List (List (List (Stamped Message)))) → AreTold peers config rows → length rows ≡ length config
+told_length peers [] [] told = refl
+told_length peers [] (row ∷ rows) told = absurd told
+told_length peers (start ∷ starts) [] told = absurd told
+told_length peers (start ∷ starts) (row ∷ rows) told = ap suc (told_length peers starts rows told.1)
+
+told_row : (peers : ℕ) (config : Config) (rows : List (List (List (Stamped Message)))) (x : ℕ) → AreTold peers config rows → x < length config
+    → get_or rows x [] ≡ replicate peers (stamped 0 (Exchange (name_at config x) (groups_at config x) ∷ []))
+told_row peers [] [] x told l = absurd (omega (arith, l))
+told_row peers [] (row ∷ rows) x told l = absurd told
+told_row peers (start ∷ starts) [] x told l = absurd told
+told_row peers (start ∷ starts) (row ∷ rows) zero told l = told.0
+told_row peers (start ∷ starts) (row ∷ rows) (suc x) told l = told_row peers starts rows x told.1 (nearer x (length starts) l)
+  where
+    nearer : (a b : ℕ) → suc a < suc b → a < b
+    nearer a b l = omega (arith, l)
+
+-- ---- the world
+
+module _ (given : Config) (nodes : List Seen) (rows : List (List (List (Stamped Message)))) (are : nodes ≡ firsts given (length given)) (going : AllOpen (length nodes - 1) nodes rows) where
+  count : length nodes ≡ length given
+  count = ap length are ∙ firsts_length given (length given)
+
+  each_is : (i : ℕ) (node : Seen) → slice_get nodes i ≡ Some node → (i < length given) × (node ≡ seen_first given i)
+  each_is i node at = firsts_are given (length given) i node (ap (λ (xs : List Seen). slice_get xs i) (sym are) ∙ at)
+
+  the_told : HasConfig (length nodes - 1) given rows
+  the_told = told (length nodes - 1) given nodes rows (have_tables given nodes count (λ i node at. let is = (each_is i node at).1 in (ap (λ (s : Seen). s.state.state.table) is, ap (λ (s : Seen). place_name s.names 0) is))) going
+
+  size : length the_told.config ≡ length given
+  size = ordered_length given the_told.config the_told.orders
+
+  pub begins_whole : IsWhole (record { nodes = nodes; ways = rows })
+  begins_whole = record {
+    rows = told_length (length nodes - 1) the_told.config rows the_told.are ∙ (size ∙ sym count);
+    known = λ i node at. let is = each_is i node at in ap (λ (s : Seen). length s.names) is.1 ∙ (known given i is.0 ∙ sym count);
+    others = others;
+  }
+    where
+      others : (i : ℕ) → i < length nodes → length (get_or rows i []) + 1 ≡ length nodes
+      others i l =
+          let row : length (get_or rows i []) ≡ length nodes - 1 = ap length (told_row (length nodes - 1) the_told.config rows i the_told.are (omega (arith, l, size, count)))
+          ∙ length-replicate (length nodes - 1) (stamped 0 (Exchange (name_at the_told.config i) (groups_at the_told.config i) ∷ [])) in
+          omega (arith, row, l)
+
+  pub begins : IsDistinct same_atom (names_of given) → Begins given (fresh_view (record { nodes = nodes; ways = rows }))
+  begins apart = (
+    config,
+    the_told.orders,
+    record {
+      traffic = record {
+        nodes = record {
+          apart = subst (IsDistinct same_atom) (sym (ordered_names given config the_told.orders)) apart;
+          size = count ∙ sym size;
+          each = λ i node at. subst (ShowsNode config start i) (same_first given config i the_told.orders ∙ sym (each_is i node at).1) (as_first i);
+          nowhere = λ x y e. ap (λ b. stamped 0 (cond b (Exchange (name_at config x) (groups_at config x) ∷ []) [])) e;
+        };
+        ways = ways;
+      };
+      updates = record { history = λ name. refl; applied = λ i name. refl };
+    },
+  )
+    where
+      config : Config
+      config = the_told.config
+
+      start : TimedFrameWorld
+      start = start_of (frame_machine config)
+
+      as_first : (i : ℕ) → ShowsNode config start i (seen_first config i)
+      as_first i = record { names = refl; ports = refl; state = refl; answers = λ port. tt }
+
+      ways : (x y : ℕ) → is_pair (length config) x y ≡ true → start.wire x y ≡ on_the_way (record { nodes = nodes; ways = rows }) x y
+      ways x y e =
+          let pair = pair_is (length config) x y e in
+          let packets = stamped 0 (Exchange (name_at config x) (groups_at config x) ∷ []) in
+          let within = place_within x y (length config) pair.0 pair.1 pair.2 in
+          let inside : peer_place x y < length nodes - 1 = omega (arith, within, size, count) in
+          ap (λ b. stamped 0 (cond b (Exchange (name_at config x) (groups_at config x) ∷ []) [])) e
+          ∙ sym (ap (λ (row : List (List (Stamped Message))). get_or row (peer_place x y) []) (told_row (length nodes - 1) config rows x the_told.are pair.0) ∙ get_or-replicate (length nodes - 1) (peer_place x y) packets [] inside)
+
+-- ---- the code's nodes
+
+-- what each tells has few members
+pub all_few : {T : Type 0} {g : Ghosts T} (config : Config) (nodes : List (NodeState T g)) → map seen_of nodes ≡ firsts config (length config)
+    → ((i : ℕ) → IsDistinct same_term (announced_names (groups_at config i))) → ((i : ℕ) → HasFewMembers (2 ^ 32) (groups_at config i)) → All (λ (node : NodeState T g). TellsFew (kept_by node).table) nodes
+all_few {T} {g} config nodes are once few i d l =
+    let node = get_or nodes i d in
+    let at : slice_get (map seen_of nodes) i ≡ Some (seen_of node) = slice_get-map seen_of nodes i ∙ ap (λ (o : Option (NodeState T g)). option_map seen_of o) (slice_get-get_or nodes i d l) in
+    let is = firsts_are config (length config) i (seen_of node) (ap (λ (xs : List Seen). slice_get xs i) (sym are) ∙ at) in
+    subst TellsFew (sym (ap (λ (s : Seen). s.state.state.table) is.1)) (tells_few (groups_at config i) (once i) (few i))
+
+-- ---- one node of a configuration
+
+module _ (config : Config) (i : ℕ) (start : Start) (within : i < length config) (here : start ≡ get_or config i start) where
+  pub groups_here : groups_at config i ≡ start.groups
+  groups_here = unwrap_or-slice_get (map (λ (s : Start). s.groups) config) i [] ∙ (get_or-map (λ (s : Start). s.groups) config i start [] within ∙ ap (λ (s : Start). s.groups) (sym here))
+
+  pub made_here : made_at config i ≡ start.made
+  made_here = unwrap_or-slice_get (map (λ (s : Start). s.made) config) i 0 ∙ (get_or-map (λ (s : Start). s.made) config i start 0 within ∙ ap (λ (s : Start). s.made) (sym here))
+
+  pub ports_here : ports_at config i ≡ start.ports
+  ports_here = unwrap_or-slice_get (map (λ (s : Start). s.ports) config) i 0 ∙ (get_or-map (λ (s : Start). s.ports) config i start 0 within ∙ ap (λ (s : Start). s.ports) (sym here))
+
+-- no other place has the name of this one
+none_other : (names : List Node) (i : ℕ) → i < length names → IsDistinct same_atom names → AllByRecursion (λ other. same_atom (get_or names i []) other ≡ false) (remove names i)
+none_other [] i l apart = absurd (nowhere i l)
+  where
+    nowhere : (k : ℕ) → k < 0 → ⊥
+    nowhere k l = omega (arith, l)
+none_other (x ∷ xs) zero l apart = IsDistinct-head same_atom x xs apart
+none_other (x ∷ xs) (suc i) l apart = (first, none_other xs i (before i (length xs) l) (IsDistinct-tail same_atom x xs apart))
+  where
+    before : (a b : ℕ) → suc a < suc b → a < b
+    before a b l = omega (arith, l)
+
+    first : same_atom (get_or xs i []) x ≡ false
+    first = names_differ (x ∷ xs) (suc i) zero apart l (there (length xs)) (λ e. cc)
+      where
+        there : (n : ℕ) → 0 < suc n
+        there n = omega arith
+
+-- the others of some are as all of them
+others_all : (P : Node → Type 0) (names : List Node) (i : ℕ) → AllByRecursion P names → AllByRecursion P (remove names i)
+others_all P [] zero all = all
+others_all P [] (suc i) all = all
+others_all P (x ∷ xs) zero all = all.1
+others_all P (x ∷ xs) (suc i) all = (all.0, others_all P xs i all.1)
+
+others_apart : (names : List Node) (i : ℕ) → IsDistinct same_atom names → IsDistinct same_atom (remove names i)
+unfolding IsDistinct
+others_apart [] zero apart = apart
+others_apart [] (suc i) apart = apart
+others_apart (x ∷ xs) zero apart = apart.1
+others_apart (x ∷ xs) (suc i) apart = (others_all (λ other. same_atom x other ≡ false) xs i apart.0, others_apart xs i apart.1)
+
+pub apart_from : (names : List Node) (i : ℕ) → i < length names → IsDistinct same_atom names → IsDistinct same_atom (get_or names i [] ∷ remove names i)
+unfolding IsDistinct
+apart_from names i l apart = (none_other names i l apart, others_apart names i apart)
+
+-- the names of all, of which one was taken out
+module _ (config : Config) (i : ℕ) (within : i < length config) (names others : List Node) (own : Node) (are : names ≡ names_of config) (value : own ≡ get_or names i own) (rest : others ≡ remove names i) where
+  inside : i < length (names_of config)
+  inside = omega (arith, within, length-map config (λ (s : Start). s.name))
+
+  names_here : own ∷ others ≡ get_or (names_of config) i [] ∷ remove (names_of config) i
+  names_here =
+      let first : own ≡ get_or (names_of config) i [] = value ∙ (ap (λ (ns : List Node). get_or ns i own) are ∙ get_or_default (names_of config) i own [] inside) in
+      let more : others ≡ remove (names_of config) i = rest ∙ ap (λ (ns : List Node). remove ns i) are in
+      λ j. first j ∷ more j
+
+  pub apart_here : IsDistinct same_atom (names_of config) → IsDistinct same_atom (own ∷ others)
+  apart_here apart = subst (IsDistinct same_atom) (sym names_here) (apart_from (names_of config) i inside apart)
+
+  -- the node that was made
+  pub seen_here : {T E : Type 0} {g : Ghosts T} (start : Start) (table : Table) (r : Result (NodeState T g) E) → start ≡ get_or config i start → table ≡ first_table start.groups
+      → IfOk r (λ node. known_names node ≡ own ∷ others) → IfOk r (λ node. state_of node ≡ record { clock = 0; state = new_state table start.made }) → IfOk r (λ node. ports_of node ≡ start.ports)
+      → IfOk r (λ node. answers_of node ≡ (λ port. [])) → IfOk r (λ node. seen_of node ≡ seen_first config i)
+  seen_here start table (Err e) here is named stated ported answered = tt
+  seen_here start table (Ok node) here is named stated ported answered =
+      let names = named ∙ (names_here ∙ ap (λ (n : Node). n ∷ remove (names_of config) i) (sym (unwrap_or-slice_get (names_of config) i []))) in
+      let groups = sym (groups_here config i start within here) in
+      let tables = is ∙ ap first_table groups in
+      let made = sym (made_here config i start within here) in
+      let states = stated ∙ (λ j. record { clock = 0; state = new_state (tables j) (made j) }) in
+      let ports = ported ∙ sym (ports_here config i start within here) in
+      λ j. record { names = names j; ports = ports j; state = states j; answers = answered j }
+
+-- the counts of a table of groups with few members
+pub few_here : (full : Table) (groups : GroupList) → HasFewMembers (2 ^ 32) groups → full ≡ first_table groups → (name : Term) (pid : Pid) → count_in (full name) pid ≤ 2 ^ 32
+few_here full groups few is = few_merged (2 ^ 32) (2 ^ 32) (2 ^ 32) (λ name. None) full groups (λ pid. false) (itself_le (2 ^ 32)) (itself_le (2 ^ 32)) few (few_in_none (λ name. None) refl) is
+
+-- one more name
+pub names_more : (config : Config) (k : ℕ) (start : Start) (names after : List Node) (name : Node) → k < length config → start ≡ get_or config k start → names ≡ names_of (take k config) → after ≡ names ++ name ∷ [] → name ≡ start.name
+    → after ≡ names_of (take (k + 1) config)
+names_more config k start names after name within here before put is =
+    put ∙ ((λ j. before j ++ (is ∙ ap (λ (s : Start). s.name) here) j ∷ [])
+    ∙ (sym (map-append (λ (s : Start). s.name) (take k config) (get_or config k start ∷ [])) ∙ ap names_of (sym (take_more config k start within))))
+
+-- ---- the code's world
+
+-- The nodes as they start, and what they send then; the slice is that of the nodes.
+module _ {T : Type 0} {g : Ghosts T} (given : Config) (nodes slice : List (NodeState T g)) (outs : List Outgoing) (same : slice ≡ nodes) (are : map seen_of nodes ≡ firsts given (length given))
+    (going : AllOpen (length slice - 1) (map seen_of slice) (map ways_of outs)) where
+  all_open : AllOpen (length (map seen_of nodes) - 1) (map seen_of nodes) (map ways_of outs)
+  all_open = subst (λ n. AllOpen (n - 1) (map seen_of nodes) (map ways_of outs)) (sym (length-map nodes seen_of))
+      (subst (λ (ns : List (NodeState T g)). AllOpen (length ns - 1) (map seen_of ns) (map ways_of outs)) same going)
+
+  pub world_whole : IsWhole (traffic_in nodes outs)
+  world_whole = begins_whole given (map seen_of nodes) (map ways_of outs) are all_open
+
+  pub world_begins : IsDistinct same_atom (names_of given) → Begins given (fresh_view (traffic_in nodes outs))
+  world_begins apart = begins given (map seen_of nodes) (map ways_of outs) are all_open apart
+
+pub all_few_slice : {T : Type 0} {g : Ghosts T} (config : Config) (nodes slice : List (NodeState T g)) → slice ≡ nodes → map seen_of nodes ≡ firsts config (length config)
+    → ((i : ℕ) → IsDistinct same_term (announced_names (groups_at config i))) → ((i : ℕ) → HasFewMembers (2 ^ 32) (groups_at config i)) → All (λ (node : NodeState T g). TellsFew (kept_by node).table) slice
+all_few_slice {T} {g} config nodes slice same are once few = subst (λ (ns : List (NodeState T g)). All (λ (node : NodeState T g). TellsFew (kept_by node).table) ns) (sym same) (all_few config nodes are once few)

@@ -1,0 +1,14 @@
+pub mod Alike
+pub mod Fitting
+pub mod FrameWorlds
+pub mod Losing
+pub mod LosingRuns
+pub mod Openings
+pub mod Past
+pub mod Pending
+pub mod Runs
+pub mod Sameness
+pub mod Short
+pub mod Starts
+pub mod Views
+pub mod Worlds

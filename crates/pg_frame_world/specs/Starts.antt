@@ -1,0 +1,80 @@
+-- How a world begins: the nodes of a configuration as they start, and the packets that they send then.
+use Rattle.std.specs.Prelude.{◌≡◌, ◌^◌, ℕ, zero, suc, List, [], ◌∷◌, ◌++◌, replicate}
+use Rattle.std.specs.List.{AllByRecursion-prop}
+use Rattle.std.proofs.Math.Bridge.{le_prop}
+use Rattle.pg_group.specs.Table.{Table}
+use Rattle.pg_exchange.specs.GroupList.{GroupList, IsSnapshot}
+use Rattle.pg_message.specs.Members.{HasFewMembers}
+use Rattle.pg_message.specs.declared.message.Message.{Message}
+use Rattle.pg_message.specs.declared.packet.Packet.{Packet}
+use Rattle.pg_machine.specs.Machine.{start_of}
+use Rattle.pg_machine.specs.Clocked.{Stamped}
+use Rattle.pg_step.specs.declared.start.Start.{Start}
+use Rattle.pg_step.specs.Config.{Config, nodes_at, groups_at, made_at, ports_at, first_table}
+use Rattle.pg_step.specs.FrameMachine.{frame_machine}
+use Rattle.pg_step.specs.Nodes.{all_of}
+use Rattle.pg_step.specs.State.{new_state}
+use Rattle.pg_opens.specs.Places.{name_at}
+use Rattle.pg_node.specs.Opening.{IsAnnouncement}
+use Rattle.pg_node.specs.States.{stamped_of}
+use Rattle.pg_frame_world.specs.Fitting.{FitsFrame}
+use Rattle.pg_frame_world.specs.Views.{Seen, View}
+use Rattle.pg_frame_world.specs.Worlds.{Shows}
+
+-- ---- the nodes
+
+-- node i of a configuration as it starts: its clock is at 0, and it has taken nothing
+abbrev pub seen_first : Config → ℕ → Seen
+seen_first config i = record {
+  names = all_of (nodes_at config i);
+  ports = ports_at config i;
+  state = record { clock = 0; state = new_state (first_table (groups_at config i)) (made_at config i) };
+  answers = λ port. [];
+}
+
+-- the first so many of them
+abbrev pub firsts : Config → ℕ → List Seen
+firsts config zero = []
+firsts config (suc n) = firsts config n ++ seen_first config n ∷ []
+
+-- ---- the packets
+
+-- no group of the table has more than 2^32 members
+abbrev pub TellsFew : Table → Type 0
+TellsFew table = (groups : GroupList) → IsSnapshot table groups → HasFewMembers (2 ^ 32) groups
+
+pub HasFewMembers-prop : (limit : ℕ) (groups : GroupList) → (a b : HasFewMembers limit groups) → a ≡ b
+HasFewMembers-prop limit groups = AllByRecursion-prop _ (λ group. le_prop) groups
+
+pub TellsFew-prop : (table : Table) → (a b : TellsFew table) → a ≡ b
+TellsFew-prop table a b = λ i groups is. HasFewMembers-prop (2 ^ 32) groups (a groups is) (b groups is) i
+
+-- to each of so many peers one packet is on the way, which tells all groups of the node's table and fits into a frame
+abbrev pub Opens : ℕ → Seen → List (List (Stamped Message)) → Type 0
+Opens peers node row = (packet : Packet) × IsAnnouncement node.state.state.table (name_at node.names 0) packet × (row ≡ replicate peers (stamped_of packet ∷ [])) × FitsFrame packet
+
+-- the same of each node
+abbrev pub AllOpen : ℕ → List Seen → List (List (List (Stamped Message))) → Type 0
+AllOpen peers [] [] = Unit {0}
+AllOpen peers (node ∷ nodes) (row ∷ rows) = Opens peers node row × AllOpen peers nodes rows
+AllOpen peers nodes rows = ⊥
+
+-- ---- the configuration that is told
+
+-- The same node, which starts with the same table: its groups are in the order of terms, each with its members in the order of
+-- pids.
+pub record IsOrdered (given start : Start) : Type 0 where
+  pub name : start.name ≡ given.name
+  pub made : start.made ≡ given.made
+  pub ports : start.ports ≡ given.ports
+  pub groups : IsSnapshot (first_table given.groups) start.groups
+
+-- the same configuration, with the groups of each node in order, as it tells them
+abbrev pub Orders : Config → Config → Type 0
+Orders [] [] = Unit {0}
+Orders (given ∷ others) (start ∷ starts) = IsOrdered given start × Orders others starts
+Orders given config = ⊥
+
+-- a world shows the start of a configuration, with the groups of each node in order
+abbrev pub Begins : Config → View → Type 0
+Begins given view = (config : Config) × Orders given config × Shows config view (start_of (frame_machine config))

@@ -1,0 +1,102 @@
+-- What nodes and the packets on the way between them are seen as.
+use Rattle.std.specs.Prelude.{◌≡◌, ℕ, ◌+◌, ◌-◌, ◌<◌, ◌≤◌, cond, nat_eq, nat_lt, map, length, get_or, slice_get, List, [], ◌∷◌, ◌++◌, Option, Some, None}
+use Rattle.std.specs.VecDeque.{deque_len, deque_capacity}
+use Rattle.pg_group.specs.declared.table.GroupTable.{Ghosts}
+use Rattle.pg_message.specs.declared.message.Message.{Message}
+use Rattle.pg_message.specs.declared.packet.Packet.{Packet}
+use Rattle.pg_machine.specs.Clocked.{Timed, Stamped}
+use Rattle.pg_step.specs.declared.answer.Answer.{Answer}
+use Rattle.pg_step.specs.Nodes.{Node}
+use Rattle.pg_step.specs.State.{State}
+use Rattle.pg_node.specs.declared.state.NodeState.{NodeState}
+use Rattle.pg_node.specs.Issued.{ports_of}
+use Rattle.pg_node.specs.Sendable.{AreSendable}
+use Rattle.pg_node.specs.States.{names_of, state_of, answers_of, stamped_of}
+use Rattle.pg_frame_world.specs.declared.outgoing.Outgoing.{Outgoing}
+use Rattle.pg_frame_world.specs.declared.way.Way.{Way}
+use Rattle.pg_account.specs.Histories.{Account, no_account}
+
+-- ---- what is on the way
+
+-- the packets on a way, the first to be taken first
+abbrev pub packets_of : Way → List (Stamped Message)
+packets_of way = map stamped_of way.packets.items
+
+-- one more packet needs no memory
+abbrev pub HasRoom : Way → Type 0
+HasRoom way = deque_len way.packets < deque_capacity way.packets
+
+-- the packets on the way to each peer, by the places of the peers
+abbrev pub ways_of : Outgoing → List (List (Stamped Message))
+ways_of outgoing = map packets_of outgoing.ways.items
+
+-- one more packet to each peer needs no memory
+abbrev pub HaveRoom : Outgoing → Type 0
+HaveRoom outgoing = (place : ℕ) (way : Way) → slice_get outgoing.ways.items place ≡ Some way → HasRoom way
+
+-- the first of some packets
+abbrev pub first_of : List (Stamped Message) → Option (Stamped Message)
+first_of [] = None
+first_of (x ∷ rest) = Some x
+
+-- the packets that go to a place
+abbrev pub packets_to : List (ℕ × Packet) → ℕ → List (Stamped Message)
+packets_to [] place = []
+packets_to (sent ∷ others) place = cond (nat_eq sent.0 place) (stamped_of sent.1 ∷ []) [] ++ packets_to others place
+
+-- what is sent goes to places among so many peers, and to each at most once
+abbrev pub FitWays : ℕ → List (ℕ × Packet) → Type 0
+FitWays peers sends = (names : List Node) × (peers + 1 ≡ length names) × AreSendable names sends
+
+-- so many packets can stay on the ways to the peers, by their places: on each as many as are there at most
+pub record CanStay (keep : List ℕ) (ways : List (List (Stamped Message))) : Type 0 where
+  pub len : length keep ≡ length ways
+  pub fits : (place : ℕ) → place < length ways → get_or keep place 0 ≤ length (get_or ways place [])
+
+-- ---- a world as it is seen
+
+-- A node of a world: the names of all nodes as it knows them, its own first, how many ports it has, its state, and the
+-- answers that were given at each port.
+pub record Seen : Type 0 where
+  pub names : List Node
+  pub ports : ℕ
+  pub state : Timed State
+  pub answers : ℕ → List Answer
+
+abbrev pub seen_of : {T : Type 0} {g : Ghosts T} → NodeState T g → Seen
+seen_of node = record { names = names_of node; ports = ports_of node; state = state_of node; answers = answers_of node }
+
+-- the nodes of a world by their places, and the packets on the way from each of them to each of its peers
+pub record Traffic : Type 0 where
+  pub nodes : List Seen
+  pub ways : List (List (List (Stamped Message)))
+
+abbrev pub traffic_in : {T : Type 0} {g : Ghosts T} → List (NodeState T g) → List Outgoing → Traffic
+traffic_in nodes outgoing = record { nodes = map seen_of nodes; ways = map ways_of outgoing }
+
+-- a world as it is seen: its nodes and what is on the way, and what it has kept of its updates
+pub record View : Type 0 where
+  pub traffic : Traffic
+  pub account : Account
+
+-- a world where nothing has begun
+abbrev pub fresh_view : Traffic → View
+fresh_view traffic = record { traffic = traffic; account = no_account }
+
+-- the place of another node among the peers of a node, which are the others in their order
+abbrev pub peer_place : ℕ → ℕ → ℕ
+peer_place i other = cond (nat_lt other i) other (other - 1)
+
+-- and the other way: which node is the peer at a place
+abbrev pub place_of_peer : ℕ → ℕ → ℕ
+place_of_peer i place = cond (nat_lt place i) place (place + 1)
+
+-- the packets on the way from one node to another
+abbrev pub on_the_way : Traffic → ℕ → ℕ → List (Stamped Message)
+on_the_way traffic x y = get_or (get_or traffic.ways x []) (peer_place x y) []
+
+-- each node knows as many as there are, and has a way to each other
+pub record IsWhole (traffic : Traffic) : Type 0 where
+  pub rows : length traffic.ways ≡ length traffic.nodes
+  pub known : (i : ℕ) (node : Seen) → slice_get traffic.nodes i ≡ Some node → length node.names ≡ length traffic.nodes
+  pub others : (i : ℕ) → i < length traffic.nodes → length (get_or traffic.ways i []) + 1 ≡ length traffic.nodes

@@ -1,0 +1,58 @@
+//! The ends that are pending among nodes.
+
+ghost use Rattle.std.specs.Prelude.{◌≡◌, ◌++◌, IfOk, OnOk, not};
+ghost use Rattle.std.specs.List.{list_any};
+ghost use Rattle.pg_node.specs.States.{kept_by};
+ghost use Rattle.pg_frame_world.specs.Pending.{lent_as, pending_at, pending_among};
+ghost use Rattle.pg_frame_world.specs.Views.{seen_of};
+
+use pg_group::GroupTable;
+use pg_node::NodeState;
+use pg_term::Pid;
+use std::alloc::{AllocError, Global};
+
+/// The ends that are pending among the nodes that are left: node by node those of the processes that it made, by their numbers.
+///
+/// Error: `AllocError`.
+pub fn pending_among<T: GroupTable + Drop>(
+    alloc: Global,
+    left: &[&NodeState<T>],
+) -> Result<Vec<Pid>, AllocError>
+    ensures { IfOk result (λ pids. pids.items ≡ pending_among (lent_as left.now) (lent_as left.now)) }
+{
+    let mut pids = Vec::new(alloc);
+    for place in 0..left.len() {
+        add_pending(&mut pids, left[place], left)?;
+    }
+    Ok(pids)
+}
+
+/// Those of the processes that one of them made. Its cost is a search at each node for each of them that has ended.
+///
+/// Error: `AllocError`.
+fn add_pending<T: GroupTable + Drop>(
+    pids: &mut Vec<Pid>,
+    home: &NodeState<T>,
+    left: &[&NodeState<T>],
+) -> Result<(), AllocError>
+    ensures { OnOk result (pids.new.items ≡ pids.old.items ++ pending_at (lent_as left.now) (seen_of home.now)) }
+{
+    for pid in home.own_ended()? {
+        if is_untaken(&pid, left) {
+            pids.push(pid)?;
+        }
+    }
+    Ok(())
+}
+
+/// Whether one of the nodes that are left has not taken the end of a process.
+fn is_untaken<T: GroupTable + Drop>(pid: &Pid, left: &[&NodeState<T>]) -> bool
+    ensures { result ≡ list_any (λ node. not ((kept_by node.now).ended pid.now)) left.now }
+{
+    for node in left {
+        if !node.ended(pid) {
+            return true;
+        }
+    }
+    false
+}

@@ -1,0 +1,47 @@
+//! A copy of a world of packets.
+
+ghost use Rattle.std.specs.Prelude.{◌≡◌, IfOk, map};
+
+use crate::outgoing::Outgoing;
+use crate::world::FrameNodes;
+use pg_group::GroupTable;
+use std::alloc::{AllocError, Global};
+
+impl<T: GroupTable + Drop> FrameNodes<T> {
+    ghost use Rattle.pg_frame_world.specs.Losing.{lost_of};
+    ghost use Rattle.pg_frame_world.specs.Worlds.{view_of};
+
+    /// The same nodes, and the same on the way between them. Its cost is that of the copies of all that they keep.
+    ///
+    /// Error: `AllocError`.
+    pub(crate) fn copy(&self) -> Result<FrameNodes<T>, AllocError>
+        ensures view { IfOk result (λ copy. view_of copy ≡ view_of self.now) }
+        ensures lost { IfOk result (λ copy. lost_of copy ≡ lost_of self.now) }
+    {
+        let outgoing = copy_ways(*self.outgoing.allocator(), &self.outgoing)?;
+        let histories = self.histories.copy()?;
+        let losses = self.losses.copy()?;
+        let nodes = self.nodes.clone()?;
+        Ok(FrameNodes {
+            nodes,
+            outgoing,
+            histories,
+            losses,
+        })
+    }
+}
+
+ghost use Rattle.pg_frame_world.specs.Views.{ways_of};
+
+/// The same packets on each way.
+///
+/// Error: `AllocError`.
+fn copy_ways(alloc: Global, outgoing: &[Outgoing]) -> Result<Vec<Outgoing>, AllocError>
+    ensures { IfOk result (λ copies. map ways_of copies.items ≡ map ways_of outgoing.now) }
+{
+    let mut copies = Vec::with_capacity(alloc, outgoing.len())?;
+    for ways in outgoing {
+        copies.push(ways.copy()?)?;
+    }
+    Ok(copies)
+}

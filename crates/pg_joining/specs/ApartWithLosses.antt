@@ -1,0 +1,99 @@
+-- Nodes that ran apart, of which some were lost, and the one run that they made together.
+use Rattle.std.specs.Prelude.{◌≡◌, ℕ, zero, suc, ◌+◌, ◌<◌, Bool, true, false, ◌&&◌, cond, nat_eq, length, map, List, [], ◌∷◌, ◌++◌}
+use Rattle.std.specs.List.{AllByRecursion}
+use Rattle.pg_group.specs.declared.table.GroupTable.{Ghosts}
+use Rattle.pg_joining.specs.Merge.{entry_at}
+use Rattle.pg_loss.specs.Reached.{LosingReaches}
+use Rattle.pg_loss.specs.Survived.{LossesSurvived}
+use Rattle.pg_machine.specs.Losing.{LosingEvent, Step, Lose}
+use Rattle.pg_machine.specs.Places.{is_pair}
+use Rattle.pg_node.specs.declared.node.Node.{Node}
+use Rattle.pg_node.specs.Nodes.{held_by}
+use Rattle.pg_node.specs.States.{state_of}
+use Rattle.pg_run.specs.declared.log.NodeEvent.{NodeEvent}
+use Rattle.pg_run.specs.declared.log.NodeEvent.TheVariants as events
+use Rattle.pg_run.specs.Acts.{losses_of}
+use Rattle.pg_run.specs.Follows.{node_of}
+use Rattle.pg_step.specs.Config.{Config}
+use Rattle.pg_step.specs.LossLaws.{LosingFrameWorld}
+use Rattle.pg_step.specs.Step.{Action}
+use Rattle.pg_joining.specs.Apart.{HaveRun, Linked, event_at}
+use Rattle.pg_world.specs.Crossings.{node_of as seen_node}
+use Rattle.pg_frame_world.specs.Views.{peer_place, place_of_peer}
+use Rattle.pg_frame_world.specs.Worlds.{ShowsNode, TimedFrameWorld}
+
+-- ---- the events that logs tell
+
+-- the logs of the nodes, by their places
+abbrev pub Logs : Type 0
+Logs = ℕ → List (ℕ × NodeEvent)
+
+-- the event of node q is that it took a packet of node p
+abbrev pub is_take : (p q : ℕ) → NodeEvent → Bool
+is_take p q (events.Take peer) = nat_eq (place_of_peer q peer) p
+is_take p q (events.Command port command) = false
+is_take p q (events.Retry op) = false
+is_take p q (events.SeeLoss peer) = false
+
+-- how many of these events of node q are
+abbrev pub takes_of : (p q : ℕ) → List NodeEvent → ℕ
+takes_of p q [] = 0
+takes_of p q (e ∷ es) = cond (is_take p q e) 1 0 + takes_of p q es
+
+-- how many packets of node p node q takes by the entry at a place, and by the entries at these places
+abbrev pub takes_one : Logs → (p q : ℕ) → ℕ × ℕ → ℕ
+takes_one logs p q x = cond (nat_eq x.0 q) (takes_of p q (entry_at (logs q) x.1)) 0
+
+abbrev pub takes_in : Logs → (p q : ℕ) → List (ℕ × ℕ) → ℕ
+takes_in logs p q [] = 0
+takes_in logs p q (x ∷ order) = takes_one logs p q x + takes_in logs p q order
+
+-- The loss of a node: of what is on the way from it as many packets stay as are taken by the entries that follow.
+abbrev pub loss_before : Logs → ℕ → List (ℕ × ℕ) → LosingEvent Action
+loss_before logs i order = Lose i (λ q. takes_in logs i q order)
+
+-- the losses of those of the first so many nodes that did nothing, before all entries
+abbrev pub losses_first : Logs → (ℕ → Bool) → List (ℕ × ℕ) → ℕ → List (LosingEvent Action)
+losses_first logs lost order zero = []
+losses_first logs lost order (suc n) = losses_first logs lost order n ++ cond (lost n && nat_eq (length (logs n)) 0) (loss_before logs n order ∷ []) []
+
+-- the events that the entries at these places tell, and behind the last entry of a node that is lost its loss
+abbrev pub events_behind : Logs → (ℕ → Bool) → List (ℕ × ℕ) → List (LosingEvent Action)
+events_behind logs lost [] = []
+events_behind logs lost (x ∷ order) =
+    (map (λ e. Step (event_at x.0 e)) (entry_at (logs x.0) x.1) ++ cond (lost x.0 && nat_eq (x.1 + 1) (length (logs x.0))) (loss_before logs x.0 order ∷ []) [])
+    ++ events_behind logs lost order
+
+-- The events that the logs of so many nodes tell, merged in an order, with the losses of those that are lost.
+abbrev pub losing_events : ℕ → Logs → (ℕ → Bool) → List (ℕ × ℕ) → List (LosingEvent Action)
+losing_events size logs lost order = losses_first logs lost order size ++ events_behind logs lost order
+
+-- ---- the nodes
+
+-- the nodes of a world with losses, and what was reported there
+abbrev pub nodes_in : LosingFrameWorld → TimedFrameWorld
+nodes_in u = record { node = u.world.node; wire = λ x y. []; reported = u.world.reported }
+
+module _ {T : Type 0} {g : Ghosts T} where
+  -- the clock of a node
+  abbrev pub clock_of : Linked T g → ℕ
+  clock_of node = (state_of (held_by (node_of node))).clock
+
+  -- The acts of the nodes saw the losses of none but those that are lost, with their clocks at last.
+  abbrev pub SeesLost : (config : Config) (nodes : List (Node T g)) (begun ended : ℕ → Linked T g) → HaveRun config nodes begun ended → (ℕ → Bool) → Type 0
+  SeesLost config nodes begun ended ran lost = (x y : ℕ) → is_pair (length config) x y ≡ true
+      → AllByRecursion (λ last. (lost y ≡ true) × (last ≡ clock_of (ended y))) (losses_of (peer_place x y) (ran.acts x))
+
+  -- The nodes of a configuration ran as in `HaveRun`, and these were lost where they ended.
+  pub record RanLosing (config : Config) (nodes : List (Node T g)) (begun ended : ℕ → Linked T g) (lost : ℕ → Bool) : Type 0 where
+    pub ran : HaveRun config nodes begun ended
+    pub seen : SeesLost config nodes begun ended ran lost
+
+  -- These events are one run of the configuration, in which these nodes are lost. It leads to a world that shows each node as it
+  -- ended, and of which all holds that survives losses.
+  pub record RanPastLosses (config : Config) (lost : ℕ → Bool) (ended : ℕ → Linked T g) (events : List (LosingEvent Action)) : Type 0 where
+    pub u : LosingFrameWorld
+    pub reached : LosingReaches config events u
+    pub gone : (i : ℕ) → i < length config → u.gone i ≡ lost i
+    pub nodes : (i : ℕ) → i < length config → ShowsNode config (nodes_in u) i (seen_node (node_of (ended i)))
+    pub survived : LossesSurvived config events u

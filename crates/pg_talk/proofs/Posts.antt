@@ -1,0 +1,278 @@
+-- What is done at one port.
+use Rattle.std.proofs.Common.{◌≡◌, ◌<◌, ◌+◌, ℕ, zero, suc, Bool, true, false, List, [], ◌∷◌, ◌++◌, length, get_or, map, Option, inl, inr, refl, sym, ap, subst, ◌∙◌, arith, append_assoc, length-append}
+use Rattle.std.proofs.Math.ListN.{get_or-append}
+use Rattle.std.proofs.lemmas.Bool.Decides.{eqb_tells}
+use Rattle.std.proofs.lemmas.List.{append-nil, get_or_push, length-map, length-replicate, map-append, nil_from_length, replicate_more}
+use Rattle.std.specs.Prelude.{codes, pos, replicate}
+use Rattle.std.specs.Io.KnownBytes.{Appends}
+use Rattle.pg_run.specs.declared.port.Asked.{Asked}
+use Rattle.pg_step.specs.declared.answer.Answer.{Answer}
+use Rattle.pg_step.specs.declared.command.Command.{Command}
+use Rattle.pg_term.specs.declared.term.Term.{Term, Tuple}
+use Rattle.pg_term.specs.declared.term.Term.TheVariants.{Int, Atom}
+use Rattle.pg_requests.specs.Replies.{bad_request_term, counted, error_term, node_lost_term, numbered_term, refused_term, reply_term}
+use Rattle.std.specs.Str.{chars}
+use Rattle.pg_talk.specs.Conversations.{saturated}
+use Rattle.pg_talk.specs.Frames.{framed, IsUntellable, WritesReply}
+use Rattle.pg_talk.specs.Servings.{IsKept, with_node}
+use Rattle.pg_talk.specs.Written.{AreReplies, InTurn, IsReply, PortName, commands_of, outcomes}
+
+pub true_is_not_false : true ≡ false → ⊥
+true_is_not_false e = absurd (cc)
+
+-- ---- numbers, as terms have them
+
+counted_same : (a b : ℕ) → saturated a ≡ saturated b → counted a ≡ counted b
+counted_same a b e = ap (λ n. Int (pos n)) (omega (arith, e))
+
+pub numbered_same : (name : List ℕ) (port a b : ℕ) (reply : Term) → saturated a ≡ saturated b → numbered_term name port a reply ≡ numbered_term name port b reply
+numbered_same name port a b reply e = ap (λ n. Tuple (Atom name ∷ Int (pos port) ∷ n ∷ reply ∷ [])) (counted_same a b e)
+
+pub bad_same : (a b : ℕ) → saturated a ≡ saturated b → bad_request_term a ≡ bad_request_term b
+bad_same a b e = ap (λ n. error_term (chars (codes "bad_request")) n) (counted_same a b e)
+
+-- ---- lists that grow at their end
+
+abbrev answered : List Answer → List Term
+answered heard = map (λ (answer : Answer). reply_term answer.reply) heard
+
+length-outcomes : (name : List ℕ) (heard : List Answer) (n : ℕ) → length (outcomes name heard n) ≡ length heard + n
+length-outcomes name heard n =
+    let all = length-append (answered heard) (replicate n (node_lost_term name)) in
+    let first = length-map heard (λ (answer : Answer). reply_term answer.reply) in
+    let rest = length-replicate n (node_lost_term name) in
+    omega (arith, all, first, rest)
+
+answer_more : (name : List ℕ) (heard : List Answer) (answer : Answer) → outcomes name (heard ++ answer ∷ []) 0 ≡ outcomes name heard 0 ++ reply_term answer.reply ∷ []
+answer_more name heard answer =
+    append-nil (answered (heard ++ answer ∷ [])) ∙ map-append (λ (answer : Answer). reply_term answer.reply) heard (answer ∷ [])
+    ∙ ap (λ (terms : List Term). terms ++ reply_term answer.reply ∷ []) (sym (append-nil (answered heard)))
+
+loss_more : (name : List ℕ) (heard : List Answer) (n : ℕ) → outcomes name heard (n + 1) ≡ outcomes name heard n ++ node_lost_term name ∷ []
+loss_more name heard n =
+    ap (λ (terms : List Term). answered heard ++ terms) (sym (replicate_more n (node_lost_term name)))
+    ∙ sym (append_assoc (answered heard) (replicate n (node_lost_term name)) (node_lost_term name ∷ []))
+
+is_reply_by : (port : PortName) (k j : ℕ) (o p r s : Term) → j ≡ k → p ≡ o → s ≡ r → IsReply port k o r → IsReply port j p s
+is_reply_by port k j o p r s e f g is = subst (λ n. IsReply port n p s) (sym e) (subst (λ (t : Term). IsReply port k t s) (sym f) (subst (λ (t : Term). IsReply port k o t) (sym g) is))
+
+replies_more : (port : PortName) (os rs : List Term) (o r : Term) → AreReplies port os rs → IsReply port (length rs + 1) o r → AreReplies port (os ++ o ∷ []) (rs ++ r ∷ [])
+replies_more port os rs o r all is = record {
+  count = omega (arith, all.count, length-append rs (r ∷ []), length-append os (o ∷ []));
+  each = each;
+}
+  where
+    each : (k : ℕ) (none : Term) → k < length (os ++ o ∷ []) → IsReply port (k + 1) (get_or (os ++ o ∷ []) k none) (get_or (rs ++ r ∷ []) k none)
+    each k none low = elim (eqb_tells k (length rs)) [
+      | inl t ↦ is_reply_by port (length rs + 1) (k + 1) o (get_or (os ++ o ∷ []) k none) r (get_or (rs ++ r ∷ []) k none) (ap (λ n. n + 1) t.1)
+          (get_or_push os o none k (sym all.count ∙ sym t.1)) (get_or_push rs r none k (sym t.1)) is
+      | inr f ↦
+          let more = length-append os (o ∷ []) in
+          let less : k < length rs = let n = f.1 in let c = all.count in omega (arith, n, c, low, more) in
+          let less_too : k < length os = let c = all.count in omega (arith, less, c) in
+          is_reply_by port (k + 1) (k + 1) (get_or os k none) (get_or (os ++ o ∷ []) k none) (get_or rs k none) (get_or (rs ++ r ∷ []) k none) refl
+          (get_or-append os (o ∷ []) none k less_too) (get_or-append rs (r ∷ []) none k less) (all.each k none less_too)
+    ]
+
+turns_more : (asked : List Asked) (one : Asked) → InTurn asked → one.polled ≡ saturated (length asked) → InTurn (asked ++ one ∷ [])
+turns_more asked one all here k none low = elim (eqb_tells k (length asked)) [
+  | inl t ↦ ap (λ (x : Asked). x.polled) (get_or_push asked one none k (sym t.1)) ∙ here ∙ ap saturated (sym t.1)
+  | inr f ↦
+      let more = length-append asked (one ∷ []) in
+      let less : k < length asked = let n = f.1 in omega (arith, n, low, more) in
+      ap (λ (x : Asked). x.polled) (get_or-append asked (one ∷ []) none k less) ∙ all k none less
+]
+
+-- ---- a reply that was written
+
+pub reply_written : (port : PortName) (outcome : Term) (before after : Option (List ℕ)) (n r : ℕ) → n ≡ saturated r
+    → WritesReply before after port.name port.number (saturated (n + 1)) outcome → (term : Term) × IsReply port (r + 1) outcome term × Appends before after (framed term)
+reply_written port outcome before after n r is wrote = go wrote
+  where
+    same : (t : Term) → numbered_term port.name port.number (saturated (n + 1)) t ≡ numbered_term port.name port.number (r + 1) t
+    same t = let e : saturated (saturated (n + 1)) ≡ saturated (r + 1) = omega (arith, is) in numbered_same port.name port.number (saturated (n + 1)) (r + 1) t e
+
+    go : WritesReply before after port.name port.number (saturated (n + 1)) outcome → (term : Term) × IsReply port (r + 1) outcome term × Appends before after (framed term)
+    go (inl whole) = (numbered_term port.name port.number (saturated (n + 1)) outcome, inl (same outcome), whole)
+    go (inr refused) = (numbered_term port.name port.number (saturated (n + 1)) (refused_term refused.1.0), inr (subst IsUntellable (same outcome) refused.0, (refused.1.0, same (refused_term refused.1.0))), refused.1.1)
+
+-- ---- what is done
+
+no_losses : (lost : Bool) (n : ℕ) → lost ≡ false → (0 < n → lost ≡ true) → n ≡ 0
+no_losses lost zero there f = refl
+no_losses lost (suc n) there f = absurd (true_is_not_false (sym (f (omega arith)) ∙ there))
+
+one_more : (replied : ℕ) (replies : List Term) (term : Term) → replied ≡ saturated (length replies) → saturated (replied + 1) ≡ saturated (length (replies ++ term ∷ []))
+one_more replied replies term e = let n = length-append replies (term ∷ []) in omega (arith, n, e)
+
+module _ (port : PortName) (lost : Bool) (requests waiting : List Command) (is_asked : Bool) (replied : ℕ) (said : List Asked) (heard : List Answer) (replies : List Term)
+    (k : IsKept port lost requests waiting is_asked replied said heard replies) where
+  -- where more is known to be lost
+  pub kept_later : (lost2 : Bool) → (lost ≡ true → lost2 ≡ true) → IsKept port lost2 requests waiting is_asked replied said heard replies
+  kept_later lost2 later =
+      let s = k.served in record {
+        up = k.up;
+        line = k.line;
+        served = record {
+          refused = s.refused;
+          handed = s.handed;
+          turns = s.turns;
+          losses = s.losses;
+          lost = λ some. later (s.lost some);
+          replied = s.replied;
+          each = s.each;
+          few = s.few;
+          under_way = s.under_way;
+        };
+        count = k.count;
+        closed = k.closed;
+      }
+
+  -- a request waits for its turn
+  pub kept_waits : (command : Command) (waiting2 : List Command) → waiting2 ≡ waiting ++ command ∷ [] → IsKept port lost (requests ++ command ∷ []) waiting2 is_asked replied said heard replies
+  kept_waits command waiting2 is = record {
+    up = k.up;
+    line = ap (λ (cs : List Command). cs ++ command ∷ []) k.line ∙ append_assoc k.up waiting (command ∷ []) ∙ ap (λ (cs : List Command). k.up ++ cs) (sym is);
+    served = k.served;
+    count = k.count;
+    closed = k.closed;
+  }
+
+  -- the answer of the node is replied
+  pub kept_answers : (answer : Answer) (term : Term) → is_asked ≡ true → IsReply port (length replies + 1) (reply_term answer.reply) term
+      → IsKept port lost requests waiting false (saturated (replied + 1)) said (heard ++ answer ∷ []) (replies ++ term ∷ [])
+  kept_answers answer term busy is =
+      let s = k.served in
+      let none : s.losses ≡ 0 = k.closed busy in
+      let one = ap with_node busy in
+      let more = length-append replies (term ∷ []) in
+      let more_heard = length-append heard (answer ∷ []) in
+      let each = s.each in
+      let few = s.few in
+      let under_way = s.under_way in record {
+        up = k.up;
+        line = k.line;
+        served = record {
+          refused = s.refused;
+          handed = s.handed;
+          turns = s.turns;
+          losses = 0;
+          lost = λ some. absurd (omega (arith, some));
+          replied = subst (λ (terms : List Term). AreReplies port terms (replies ++ term ∷ [])) (sym (answer_more port.name heard answer))
+              (replies_more port (outcomes port.name heard 0) replies (reply_term answer.reply) term (subst (λ n. AreReplies port (outcomes port.name heard n) replies) none s.replied) is);
+          each = omega (arith, each, one, more);
+          few = omega (arith, few, none);
+          under_way = omega (arith, under_way, more_heard);
+        };
+        count = one_more replied replies term k.count;
+        closed = λ e. refl;
+      }
+
+  -- that the node is lost is replied to the request that is with it
+  pub kept_loses : (term : Term) → lost ≡ true → is_asked ≡ true → IsReply port (length replies + 1) (node_lost_term port.name) term
+      → IsKept port lost requests waiting false (saturated (replied + 1)) said heard (replies ++ term ∷ [])
+  kept_loses term gone busy is =
+      let s = k.served in
+      let one = ap with_node busy in
+      let more = length-append replies (term ∷ []) in
+      let each = s.each in
+      let few = s.few in record {
+        up = k.up;
+        line = k.line;
+        served = record {
+          refused = s.refused;
+          handed = s.handed;
+          turns = s.turns;
+          losses = s.losses + 1;
+          lost = λ some. gone;
+          replied = subst (λ (terms : List Term). AreReplies port terms (replies ++ term ∷ [])) (sym (loss_more port.name heard s.losses))
+              (replies_more port (outcomes port.name heard s.losses) replies (node_lost_term port.name) term s.replied is);
+          each = omega (arith, each, one, more);
+          few = omega (arith, few);
+          under_way = s.under_way;
+        };
+        count = one_more replied replies term k.count;
+        closed = λ e. absurd (true_is_not_false (sym e));
+      }
+
+  -- and to the next request that waits
+  pub kept_refuses : (command : Command) (rest : List Command) (term : Term) → waiting ≡ command ∷ rest → lost ≡ true → is_asked ≡ false → IsReply port (length replies + 1) (node_lost_term port.name) term
+      → IsKept port lost requests rest false (saturated (replied + 1)) said heard (replies ++ term ∷ [])
+  kept_refuses command rest term front gone idle is =
+      let s = k.served in
+      let none = ap with_node idle in
+      let more = length-append replies (term ∷ []) in
+      let more_refused = length-append s.refused (command ∷ []) in
+      let more_up = length-append k.up (command ∷ []) in
+      let each = s.each in
+      let few = s.few in record {
+        up = k.up ++ command ∷ [];
+        line = k.line ∙ ap (λ (cs : List Command). k.up ++ cs) front ∙ sym (append_assoc k.up (command ∷ []) rest);
+        served = record {
+          refused = s.refused ++ command ∷ [];
+          handed = ap (λ (cs : List Command). cs ++ command ∷ []) s.handed ∙ append_assoc (commands_of said) s.refused (command ∷ []);
+          turns = s.turns;
+          losses = s.losses + 1;
+          lost = λ some. gone;
+          replied = subst (λ (terms : List Term). AreReplies port terms (replies ++ term ∷ [])) (sym (loss_more port.name heard s.losses))
+              (replies_more port (outcomes port.name heard s.losses) replies (node_lost_term port.name) term s.replied is);
+          each = omega (arith, each, none, more, more_up);
+          few = omega (arith, few, more_refused);
+          under_way = s.under_way;
+        };
+        count = one_more replied replies term k.count;
+        closed = λ e. absurd (true_is_not_false (sym e));
+      }
+
+  -- the next request that waits is handed over
+  pub kept_hands : (one : Asked) (rest : List Command) → waiting ≡ one.command ∷ rest → lost ≡ false → is_asked ≡ false → one.polled ≡ saturated (length heard)
+      → IsKept port lost requests rest true replied (said ++ one ∷ []) heard replies
+  kept_hands one rest front there idle turn =
+      let s = k.served in
+      let none : s.losses ≡ 0 = no_losses lost s.losses there s.lost in
+      let nobody = ap with_node idle in
+      let few = s.few in
+      let all : s.refused ≡ [] = nil_from_length s.refused (omega (arith, few, none)) in
+      let whole : k.up ≡ commands_of said = s.handed ∙ ap (λ (cs : List Command). commands_of said ++ cs) all ∙ append-nil (commands_of said) in
+      let count = s.replied.count ∙ length-outcomes port.name heard s.losses in
+      let each = s.each in
+      let up = ap length whole ∙ length-map said (λ (x : Asked). x.command) in
+      let level : length said ≡ length heard = omega (arith, count, each, up, none, nobody) in
+      let more_up = length-append k.up (one.command ∷ []) in
+      let more_said = length-append said (one ∷ []) in record {
+        up = k.up ++ one.command ∷ [];
+        line = k.line ∙ ap (λ (cs : List Command). k.up ++ cs) front ∙ sym (append_assoc k.up (one.command ∷ []) rest);
+        served = record {
+          refused = [];
+          handed = ap (λ (cs : List Command). cs ++ one.command ∷ []) whole ∙ sym (map-append (λ (x : Asked). x.command) said (one ∷ [])) ∙ sym (append-nil (commands_of (said ++ one ∷ [])));
+          turns = turns_more said one s.turns (turn ∙ ap saturated (sym level));
+          losses = s.losses;
+          lost = s.lost;
+          replied = s.replied;
+          each = omega (arith, each, nobody, more_up);
+          few = omega arith;
+          under_way = omega (arith, level, more_said);
+        };
+        count = k.count;
+        closed = λ e. none;
+      }
+
+-- at first
+pub kept_new : (port : PortName) (lost : Bool) → IsKept port lost [] [] false 0 [] [] []
+kept_new port lost = record {
+  up = [];
+  line = refl;
+  served = record {
+    refused = [];
+    handed = refl;
+    turns = λ k none low. absurd (omega (arith, low));
+    losses = 0;
+    lost = λ some. absurd (omega (arith, some));
+    replied = record { count = refl; each = λ k none low. absurd (omega (arith, low)) };
+    each = refl;
+    few = omega arith;
+    under_way = omega arith;
+  };
+  count = refl;
+  closed = λ e. refl;
+}

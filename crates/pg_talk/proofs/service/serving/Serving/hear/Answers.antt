@@ -1,0 +1,48 @@
+use Rattle.std.proofs.Common.{get_or, refl, subst, sym, ◌∙◌}
+use Rattle.std.proofs.lemmas.List.{get_or_default}
+use Rattle.pg_talk.specs.Servings.{Goes, Serves, view_of}
+use Rattle.pg_talk.proofs.Spoken.{answer_served, loss_served, unheard_served}
+use Rattle.pg_talk.proofs.Turns.{on_ok, some_desk}
+use Rattle.pg_talk.proofs.service.serving.Serving.hear.Goals as goal
+
+pub returns-in_ok-reply-in-Some : goal.returns-in_ok-reply-in-Some
+returns-in_ok-reply-in-Some g c =
+    let self = c.args.self.now in
+    let new = c.reply.new.self in
+    let before = g.W.Sink.contents c.args.writer.now in
+    let after = g.W.Sink.contents c.reply.new.writer in
+    on_ok c.reply.result _ (Goes self new before after) c.reply.ensures
+    (λ next. record {
+      kept = next.kept;
+      goes = λ given first inputs s. subst (λ view. Serves given first inputs view after) (sym next.view)
+          (answer_served given first before inputs (view_of self) c.args.client next.desk c.requires.desk next.was s c.poll.new.self c.requires.client c.in-Some.ensures.only after c.in-Some.answer
+          c.requires.asked c.in-Some.ensures.some c.in-Some.ensures.submitted (rw c.in_ok-reply-in-Some.ensures at next.wrote));
+    })
+
+pub returns-then-is_lost : goal.returns-then-is_lost
+returns-then-is_lost g c =
+    let self = c.args.self.now in
+    let mid = record (view_of self) { running = c.poll.new.self } in
+    let new = c.reply_lost.new.self in
+    let before = g.W.Sink.contents c.args.writer.now in
+    let after = g.W.Sink.contents c.reply_lost.new.writer in
+    on_ok c.reply_lost.result _ (Goes self new before after) c.reply_lost.ensures
+    (λ next. record {
+      kept = next.kept;
+      goes = λ given first inputs s. subst (λ view. Serves given first inputs view after) (sym next.view)
+          (loss_served given first before inputs mid c.args.client next.desk c.requires.desk next.was
+          (unheard_served given first before inputs (view_of self) c.args.client next.desk c.requires.desk next.was s c.poll.new.self c.requires.client c.in-None.ensures.only c.in-None.ensures.none
+          c.in-None.ensures.submitted)
+          after c.requires.asked (sym c.requires.lost ∙ c.if-is_lost.true) next.wrote);
+    })
+
+pub returns-else-is_lost : goal.returns-else-is_lost
+returns-else-is_lost g c = record {
+  kept = refl;
+  goes = λ given first inputs s.
+      let self = c.args.self.now in
+      let desk = get_or self.desks.items c.args.client (some_desk self.desks.items c.args.client c.requires.desk) in
+      unheard_served given first (g.W.Sink.contents c.args.writer.now) inputs (view_of self) c.args.client desk c.requires.desk
+      (get_or_default self.desks.items c.args.client (some_desk self.desks.items c.args.client c.requires.desk) desk c.requires.desk) s c.poll.new.self c.requires.client c.in-None.ensures.only
+      c.in-None.ensures.none c.in-None.ensures.submitted;
+}

@@ -1,0 +1,30 @@
+-- What comes of an event over bytes that names a place that is not there, or for which memory ran out.
+use Rattle.std.proofs.Common.{◌≡◌, true, false, Err, sym, ap, ◌∙◌}
+use Rattle.std.specs.Prelude.{List}
+use Rattle.pg_machine.specs.Places.{is_pair}
+use Rattle.pg_step.specs.Config.{Config}
+use Rattle.pg_step.specs.Step.{Issue, Retry}
+use Rattle.pg_step.specs.declared.refusal.Refusal.TheVariants.{NoSuchPlace}
+use Rattle.pg_node.specs.declared.state.fault.NodeFault.TheVariants.{Refused, OutOfMemory}
+use Rattle.pg_frame_world.specs.declared.step.FrameStep.{FrameStep}
+use Rattle.pg_frame_world.specs.declared.step.FrameStep.TheVariants as steps
+use Rattle.pg_frame_world.specs.Views.{Seen}
+use Rattle.pg_frame_world.specs.Worlds.{TimedFrameWorld, ShowsNodes, has_places}
+use Rattle.pg_world.specs.Crossings.{FrameComesTo}
+use Rattle.pg_frame_world.proofs.Unplaced.{acts_nowhere, taken_nowhere, unseen_nowhere}
+
+module _ (config : Config) (nodes : List Seen) (w : TimedFrameWorld) (shows : ShowsNodes config nodes w) where
+  pub unplaced_event : (step : FrameStep) (Shown : TimedFrameWorld → Type 0) → has_places nodes step ≡ false → Shown w → FrameComesTo config w step (Err (Refused NoSuchPlace)) Shown
+  unplaced_event (steps.Take i p) Shown none shown = (taken_nowhere config nodes w shows i p none, shown)
+  unplaced_event (steps.Command i port c) Shown none shown = (acts_nowhere config nodes w shows i (Issue port c) none, shown)
+  unplaced_event (steps.Retry i op) Shown none shown = (acts_nowhere config nodes w shows i (Retry op) none, shown)
+  unplaced_event (steps.SeeLoss i p) Shown none shown = (unseen_nowhere config nodes w shows i p none, shown)
+  unplaced_event (steps.Lose i keep) Shown none shown = tt
+
+  -- memory ran out behind the places
+  pub starved_event : (step : FrameStep) (Shown : TimedFrameWorld → Type 0) → has_places nodes step ≡ true → Shown w → FrameComesTo config w step (Err OutOfMemory) Shown
+  starved_event (steps.Take i p) Shown places shown = shown
+  starved_event (steps.Command i port c) Shown places shown = shown
+  starved_event (steps.Retry i op) Shown places shown = shown
+  starved_event (steps.SeeLoss i p) Shown places shown = (ap (λ n. is_pair n i p) (sym shows.size) ∙ places, shown)
+  starved_event (steps.Lose i keep) Shown places shown = tt

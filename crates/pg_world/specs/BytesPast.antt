@@ -1,0 +1,31 @@
+-- What is behind a world of bytes: the events that led to it from the start of its configuration, and what holds of them.
+use Rattle.std.specs.Prelude.{ℕ, List, Result}
+use Rattle.pg_step.specs.Config.{Config}
+use Rattle.pg_node.specs.declared.state.fault.NodeFault.{NodeFault}
+use Rattle.pg_world.specs.declared.step.Step.{Step}
+use Rattle.pg_frame_world.specs.declared.step.Stepped.{Stepped}
+use Rattle.pg_world.specs.BytesLosing.{ShowsLosingBytes, StepLeaves}
+use Rattle.pg_world.specs.BytesLosingRuns.{bytes_past_losses}
+use Rattle.pg_world.specs.CrossingRuns.{AreLeft, CrossesAll}
+use Rattle.pg_world.specs.Crossings.{Crossing}
+use Rattle.pg_account.specs.Histories.{Account}
+use Rattle.pg_frame_world.specs.Past.{HasPast, GoesOn, RunsOn}
+
+-- nodes and the bytes on the way between them, of which these are lost, and what is kept of the updates, have a past
+abbrev pub BytesHavePast : Config → Crossing → Account → List ℕ → Type 0
+BytesHavePast given crossing account lost = HasPast given (λ config u. ShowsLosingBytes config crossing account lost u)
+
+-- what a step made of them
+abbrev pub BytesGoOn : Config → Crossing → Account → List ℕ → Step → Result Stepped NodeFault → Crossing → Account → List ℕ → Type 0
+BytesGoOn given old account lost step result new later now =
+    GoesOn given (λ config u. ShowsLosingBytes config old account lost u) (λ config u. ShowsLosingBytes config new later now u) (λ config u Shown. StepLeaves config u step result Shown)
+
+-- what steps made of them, one after another
+abbrev pub BytesRunOn : Config → Crossing → Account → List ℕ → List Step → List ℕ → Crossing → Account → List ℕ → Type 0
+BytesRunOn given old account lost all numbers new later now =
+    RunsOn bytes_past_losses given (λ config u. ShowsLosingBytes config old account lost u) (λ config u. ShowsLosingBytes config new later now u) all numbers
+
+-- the same, and what each step changed; the rings have room for so many bytes
+pub record BytesCrossOn (given : Config) (room : ℕ) (old : Crossing) (account : Account) (lost : List ℕ) (all : List Step) (numbers : List ℕ) (new : Crossing) (later : Account) (now : List ℕ) : Type 0 where
+  pub on : BytesRunOn given old account lost all numbers new later now
+  pub crosses : CrossesAll on.config room old on.u all numbers (AreLeft on.config new later now)
