@@ -12,12 +12,14 @@ use Rattle.pg_node.specs.declared.fault.ServeFault.TheVariants.{Message}
 use Rattle.pg2sim.specs.declared.bytes.BytesFault.{BytesFault}
 use Rattle.pg2sim.specs.declared.bytes.BytesFault.TheVariants.{Serve}
 use Rattle.pg2sim.specs.Bytes.{BytesCause, ServesAs}
-use Rattle.pg2sim.specs.CommandLine.{AsksBytes, IsOther, IsScript, IsScriptWord, IsServe, IsServeWord, IsThreads}
+use Rattle.pg2sim.specs.CommandLine.{AsksBytes, IsExplore, IsExploreWord, IsOther, IsScript, IsScriptWord, IsServe, IsServeWord, IsThreads}
+use Rattle.pg2sim.specs.Explorations.{WasAsked}
 use Rattle.pg2sim.specs.Scripts.{ScriptEnd}
 use Rattle.pg2sim.specs.Status.{BytesEnd, Ends, end_of_bytes, end_status}
 use Rattle.pg2sim.specs.Services.{EndsService, IsServed, service_end}
 use Rattle.pg2sim.specs.Talks.{EndsTalk, OrNoMemory}
 use Rattle.pg2sim.specs.declared.words.Offer.{Offer}
+use Rattle.pg2sim.specs.declared.words.Quest.{Quest}
 use Rattle.pg_talk.specs.declared.service.Service.{Service}
 use Rattle.pg_talk.specs.declared.service.fault.ServiceFault.{ServiceFault}
 use Rattle.pg_talk.specs.declared.service.run.Served.{Served}
@@ -101,6 +103,35 @@ serve_no_script (Some p) aids h k = k.1 h
 pub serve_word : (m : Option (Text × List Row)) (offer : Offer) → IsServe m offer → IsServeWord m
 serve_word None offer h = h
 serve_word (Some p) offer h = h.0
+
+pub explore_no_bytes : (m : Option (Text × List Row)) (own peer : List ℕ) → IsExploreWord m → AsksBytes m own peer → ⊥
+explore_no_bytes None own peer h k = h
+explore_no_bytes (Some p) own peer h k = let bad = ap length (sym h ∙ k.0) in absurd (omega (arith, bad))
+
+pub explore_no_threads : (m : Option (Text × List Row)) (talk : Talk) → IsExploreWord m → IsThreads m talk → ⊥
+explore_no_threads None talk h k = h
+explore_no_threads (Some p) talk h k = let bad = begins _ _ (sym h ∙ k.0) in absurd (omega (arith, bad))
+
+pub explore_no_script_word : (m : Option (Text × List Row)) → IsExploreWord m → IsScriptWord m → ⊥
+explore_no_script_word None h k = h
+explore_no_script_word (Some p) h k = let bad = ap length (sym h ∙ k) in absurd (omega (arith, bad))
+
+pub explore_no_serve_word : (m : Option (Text × List Row)) → IsExploreWord m → IsServeWord m → ⊥
+explore_no_serve_word None h k = h
+explore_no_serve_word (Some p) h k = let bad = ap length (sym h ∙ k) in absurd (omega (arith, bad))
+
+pub explore_no_script : (m : Option (Text × List Row)) (aids : Aids) → IsExploreWord m → IsScript m aids → ⊥
+explore_no_script None aids h k = h
+explore_no_script (Some p) aids h k = k.2 h
+
+pub explore_word : (m : Option (Text × List Row)) (quest : Quest) → IsExplore m quest → IsExploreWord m
+explore_word None quest h = h
+explore_word (Some p) quest h = h.0
+
+-- it was explored as it was asked
+pub asked_so : (unchanged : Type 0) (IsAsked : Quest → Type 0) (E : Quest → Result Bool Fault → Type 0) (T : End → Type 0) (status : ℕ) (quest : Quest) → IsAsked quest → EndsTalk (E quest) T status
+    → EndsTalk (OrNoMemory unchanged (WasAsked IsAsked E)) T status
+asked_so unchanged IsAsked E T status quest asked h = record { end = h.end; is = inr (record { quest = quest; asked = asked; ends = h.is }); told = h.told; status_is = h.status_is }
 
 -- a service was asked for
 pub it_was_served : {D : Type 0} (served : D → Service → Result Served ServiceFault → D → Type 0) (service : Service) (told : Result Served ServiceFault) (before after : D)

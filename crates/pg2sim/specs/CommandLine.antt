@@ -10,9 +10,10 @@ use Rattle.clap.specs.Simple.{on_top}
 use Rattle.pg_talk.specs.declared.conversation.Conversation.{Conversation}
 use Rattle.pg2sim.specs.declared.words.Aids.{Aids}
 use Rattle.pg2sim.specs.declared.words.Offer.{Offer}
+use Rattle.pg2sim.specs.declared.words.Quest.{Quest}
 use Rattle.pg2sim.specs.declared.words.Talk.{Talk}
 use Rattle.pg2sim.specs.declared.words.Task.{Task}
-use Rattle.pg2sim.specs.declared.words.Task.TheVariants.{Bytes, Script, Serve, Threads}
+use Rattle.pg2sim.specs.declared.words.Task.TheVariants.{Bytes, Explore, Script, Serve, Threads}
 
 -- `--ID NAME`, where this name stands for one that is not given
 abbrev pub name_rule : Text → Text → Rule
@@ -26,13 +27,13 @@ bytes_line = with_rule (with_rule (new_app (codes "bytes")) (name_rule (codes "n
 abbrev pub flag_rule : Text → Rule
 flag_rule id = record (new_rule id) { long = Some id; action = Some SetTrue }
 
--- `--diagram FILE`
-abbrev pub diagram_rule : Rule
-diagram_rule = record (new_rule (codes "diagram")) { long = Some (codes "diagram"); value_names = 1 }
+-- `--ID FILE`
+abbrev pub file_rule : Text → Rule
+file_rule id = record (new_rule id) { long = Some id; value_names = 1 }
 
 -- `script [--trace] [--diagram FILE]`
 abbrev pub script_line : App
-script_line = with_rule (with_rule (new_app (codes "script")) (flag_rule (codes "trace"))) diagram_rule
+script_line = with_rule (with_rule (new_app (codes "script")) (flag_rule (codes "trace"))) (file_rule (codes "diagram"))
 
 -- `--ID N`, a number within bounds, where this one stands for one that is not given
 abbrev pub number_rule : Text → Text → ℕ → ℕ → Rule
@@ -52,27 +53,32 @@ threads_line = with_rule (with_rule (with_rule cluster_line (number_rule (codes 
 abbrev pub names_rule : Rule
 names_rule = record (new_rule (codes "name")) { long = Some (codes "name"); value_names = 1; action = Some Append }
 
--- `--members FILE`
-abbrev pub members_rule : Rule
-members_rule = record (new_rule (codes "members")) { long = Some (codes "members"); value_names = 1 }
-
 -- `serve [--nodes N] [--ports N] [--name NAME].. [--members FILE]`
 abbrev pub served_line : App
 served_line = with_rule (with_rule (with_rule (with_rule (new_app (codes "serve")) (number_rule (codes "nodes") (codes "3") 1 16))
-    (number_rule (codes "ports") (codes "2") 1 64)) names_rule) members_rule
+    (number_rule (codes "ports") (codes "2") 1 64)) names_rule) (file_rule (codes "members"))
 
 -- and `[--commands N] [--seed N]`
 abbrev pub serve_line : App
 serve_line = with_rule (with_rule served_line (number_rule (codes "commands") (codes "1000000") 0 (2 ^ 64 - 1)))
     (number_rule (codes "seed") (codes "1") 0 (2 ^ 64 - 1))
 
+-- `explore [--retries N] [--limit N] [--show N]`
+abbrev pub explored_line : App
+explored_line = with_rule (with_rule (with_rule (new_app (codes "explore")) (number_rule (codes "retries") (codes "1") 0 1000))
+    (number_rule (codes "limit") (codes "1000000") 1 (2 ^ 64 - 1))) (number_rule (codes "show") (codes "0") 0 (2 ^ 64 - 1))
+
+-- and `[--differing] [--graph FILE]`
+abbrev pub explore_line : App
+explore_line = with_rule (with_rule explored_line (flag_rule (codes "differing"))) (file_rule (codes "graph"))
+
 -- the program, without its commands
 abbrev pub top_line : App
 top_line = on_top (λ top. record top { has_version = true; no_binary_name = true; subcommand_required = true; disable_help_subcommand = true }) (new_app (codes "pg2sim"))
 
--- one of the four
+-- one of the five
 abbrev pub command_line : App
-command_line = with_subcommand (with_subcommand (with_subcommand (with_subcommand top_line bytes_line.top) script_line.top) threads_line.top) serve_line.top
+command_line = with_subcommand (with_subcommand (with_subcommand (with_subcommand (with_subcommand top_line bytes_line.top) script_line.top) threads_line.top) serve_line.top) explore_line.top
 
 -- the name that was given, or this one
 abbrev pub given_name : Text → Text → List Row → Text
@@ -97,9 +103,9 @@ pub record AsksAids (rows : List Row) (aids : Aids) : Type 0 where
   pub traced : aids.is_traced ≡ is_flag (codes "trace") rows
   pub diagram : option_map (λ s. s.now) aids.diagram ≡ first_of (codes "diagram") rows
 
--- another than `threads` and `serve`, with these aids
+-- another than `threads`, `serve` and `explore`, with these aids
 abbrev pub IsScript : Option (Text × List Row) → Aids → Type 0
-IsScript (Some p) aids = (p.0 ≡ codes "threads" → ⊥) × (p.0 ≡ codes "serve" → ⊥) × AsksAids p.1 aids
+IsScript (Some p) aids = (p.0 ≡ codes "threads" → ⊥) × (p.0 ≡ codes "serve" → ⊥) × (p.0 ≡ codes "explore" → ⊥) × AsksAids p.1 aids
 IsScript None aids = Unit {0}
 
 -- a text is a number of so many bits, in decimal, and a plus may stand before it
@@ -138,6 +144,24 @@ abbrev pub IsServe : Option (Text × List Row) → Offer → Type 0
 IsServe (Some p) offer = (p.0 ≡ codes "serve") × AsksOffer p.1 offer
 IsServe None offer = ⊥
 
+-- what is asked of an exploration is what its options say
+pub record AsksQuest (rows : List Row) (quest : Quest) : Type 0 where
+  pub retries : GivesNumber 32 1 (one_of (codes "retries") rows) quest.retries
+  pub limit : GivesNumber 64 1000000 (one_of (codes "limit") rows) quest.limit
+  pub show : GivesNumber 64 0 (one_of (codes "show") rows) quest.show
+  pub differing : quest.is_differing ≡ is_flag (codes "differing") rows
+  pub graph : option_map (λ s. s.now) quest.graph ≡ first_of (codes "graph") rows
+
+-- `explore`, with this quest
+abbrev pub IsExplore : Option (Text × List Row) → Quest → Type 0
+IsExplore (Some p) quest = (p.0 ≡ codes "explore") × AsksQuest p.1 quest
+IsExplore None quest = ⊥
+
+-- the command is `explore`
+abbrev pub IsExploreWord : Option (Text × List Row) → Type 0
+IsExploreWord (Some p) = p.0 ≡ codes "explore"
+IsExploreWord None = ⊥
+
 -- the command is `serve`
 abbrev pub IsServeWord : Option (Text × List Row) → Type 0
 IsServeWord (Some p) = p.0 ≡ codes "serve"
@@ -154,3 +178,4 @@ IsAsked matches (Bytes own peer) = AsksBytes matches own.now peer.now
 IsAsked matches (Script aids) = IsOther matches × IsScript matches aids
 IsAsked matches (Threads talk) = IsOther matches × IsThreads matches talk
 IsAsked matches (Serve offer) = IsOther matches × IsServe matches offer
+IsAsked matches (Explore quest) = IsOther matches × IsExplore matches quest

@@ -1,3 +1,4 @@
+pub mod Explorations
 pub mod Bytes
 pub mod CommandLine
 pub mod Faults

@@ -53,7 +53,7 @@ one space. A NODE is an atom, as a or 'my node'. Terms: -7, a, 'A b', {t,1}, [1,
 
 A trace begins its lines with %, behind it the line of the script, the node, its clock, what it does, with
 whom, and the packet. Where a step is refused, `line L refused N` stands behind what its line printed, and the run goes on.
-docs/SCRIPTS.md shows each line with an example.";
+crates/pg_cookbook/README.md leads to pages that show each line with an example.";
 
 /// What `--trace` does.
 pub(crate) const TRACE_HELP: &str =
@@ -128,3 +128,34 @@ pub(crate) const MEMBERS_HELP: &str =
     "a file with the text of a list of {Node, Made, [{Name, [Pid, ..]}, ..]}: what the nodes know at first";
 
 pub(crate) const COMMANDS_HELP: &str = "after how many requests the input counts as ended";
+
+/// What `explore` does.
+pub(crate) const EXPLORE_ABOUT: &str =
+    "Go through every run of a script's commands from standard input, and tell what can come of them";
+
+/// What `explore` reads and prints.
+pub(crate) const EXPLORE_LINES: &str =
+    "The script has declarations, commands and losses alone: node and has; create, delete, join, leave, make,
+end, members, local, groups and closest; lose. A line of another form is refused by 40. Gone through is every
+order in which packets are taken, commands come in, each node's in its order, waiting commands are tried
+again and losses are seen; of a lost node each number of packets that stay on each way is a world of its
+own. Worlds that are the same but for clocks are met once. Printed are numbers, each before what it
+counts: worlds and ends, in which nothing is left to do; takes to an end; worlds in which nodes differ; and
+of the ends, which histories each group has there, and what each command is answered.
+
+Status 0: all worlds were met; 1: there are more than the limit.";
+
+/// The options of `explore`.
+pub(crate) const RETRIES_HELP: &str =
+    "how often each waiting command is tried again at most, 0 to 1000";
+
+pub(crate) const LIMIT_HELP: &str = "how many worlds are met at most";
+
+pub(crate) const SHOW_HELP: &str =
+    "print the shortest run to the end of this number, from 1 on, as a script; 0: print what was counted";
+
+pub(crate) const DIFFERING_HELP: &str =
+    "print a run in which two nodes differ for the most steps, as a script";
+
+pub(crate) const GRAPH_HELP: &str =
+    "write the worlds and the steps between them to this file, as SVG, where there are at most 60";

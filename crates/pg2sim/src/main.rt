@@ -1,7 +1,8 @@
-//! `pg2sim`: the replica of one node over bytes, runs of scripts, and nodes as threads.
+//! `pg2sim`: the replica of one node over bytes, runs of scripts, all runs of one, and nodes as threads.
 #![tactic(auto)]
 
 mod bytes;
+mod explore;
 mod fault;
 mod help;
 mod input;
@@ -48,7 +49,8 @@ fn status(rt: &HostRuntime, threads: &impl Threads, words: &[String]) -> io::Res
         rt,
         threads,
         begun: Instant::now(rt)?,
-        progress: Shown(Progress::new(rt.stderr(), rt)),
+        progress: Shown(Progress::new(rt.stderr(), rt, "answered")),
+        exploring: Progress::new(rt.stderr(), rt, "explored"),
     };
     Ok(run_words(
         rt.alloc(),

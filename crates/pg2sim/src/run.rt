@@ -7,7 +7,8 @@ ghost use Rattle.std.specs.declared.io.ErrorKind.TheVariants.{InvalidData};
 ghost use Rattle.clap.specs.Words.{fault_of, kind_of, subcommand_of};
 ghost use Rattle.pg_node.specs.Causes.{AllAnswered, FailedAt, Unread};
 ghost use Rattle.pg2sim.specs.Bytes.{BytesCause, pair_of_texts};
-ghost use Rattle.pg2sim.specs.CommandLine.{command_line, AsksBytes, IsScriptWord, IsServeWord, IsThreads};
+ghost use Rattle.pg2sim.specs.CommandLine.{command_line, AsksBytes, IsExplore, IsExploreWord, IsScriptWord, IsServeWord, IsThreads};
+ghost use Rattle.pg2sim.specs.Explorations.{ExploreEnd, WasAsked};
 ghost use Rattle.pg2sim.specs.Inputs.{IsInput, IsUnread};
 ghost use Rattle.pg2sim.specs.Scripts.{ScriptEnd};
 ghost use Rattle.pg2sim.specs.Services.{EndsService, ToldService, service_status};
@@ -17,12 +18,13 @@ ghost use Rattle.pg2sim.specs.declared.fault.Fault.TheVariants.{Run};
 ghost use Rattle.pg2sim.specs.declared.words.Talk.{Talk};
 
 use crate::bytes::{BytesFault, serve_input};
+use crate::explore::explore_input;
 use crate::fault::Fault;
 use crate::script::run_input;
 use crate::service::{print_verdict, serve};
 use crate::system::System;
 use crate::threads::converse;
-use crate::words::{Aids, Offer, Talk, Task, read_words};
+use crate::words::{Aids, Offer, Quest, Talk, Task, read_words};
 use clap::Error;
 use clap::error::ErrorKind;
 use pg_node::{Sink, Source};
@@ -48,7 +50,9 @@ const REFUSED_WORDS: u8 = 2;
 /// `pg_script::run_script` does; by `--trace` it tells what was seen, too, and by `--diagram` it makes a file in `system` once the run
 /// has ended. `threads` lets clients speak with a cluster of nodes in threads, as `pg_talk::run_threads` does, and prints how it went;
 /// status 1 where not all was well. `serve` takes requests for such a cluster from the system's input, and writes the replies to `writer`,
-/// as `pg_talk::serve_cluster` does; then two lines on `faults` tell what the cluster is found to be, and status 1 where not all is well. A fault stands in a line of `faults`: `refused N`, or `line L refused N` for a faulty line of a
+/// as `pg_talk::serve_cluster` does; then two lines on `faults` tell what the cluster is found to be, and status 1 where not all is well.
+/// `explore` reads a script of commands, goes through all their runs as `pg_survey::survey` does, and prints what was counted, or by `--show` and
+/// `--differing` one run as a script; by `--graph` it makes a file; status 1 where the limit was reached. A fault stands in a line of `faults`: `refused N`, or `line L refused N` for a faulty line of a
 /// script. Status 0: done; 1: the run was refused; 2: what was given was refused. Refused words print the text of `clap` on
 /// `faults`, status 2, and nothing is read or written.
 pub fn run_words<R: Source, W: Sink, D: System, F: Sink>(
@@ -81,11 +85,20 @@ pub fn run_words<R: Source, W: Sink, D: System, F: Sink>(
     ensures serve { fault_of command_line (map string_bytes words.now) ≡ []
         → IsServeWord (subcommand_of command_line (map string_bytes words.now))
         → EndsService D.served (ToldService F.fails F.contents faults.old faults.new) result }
+    ensures explore { fault_of command_line (map string_bytes words.now) ≡ []
+        → IsExploreWord (subcommand_of command_line (map string_bytes words.now))
+        → EndsTalk (OrNoMemory (writer.new ≡ writer.old) (WasAsked (IsExplore (subcommand_of command_line (map string_bytes words.now)))
+        (λ quest. ExploreEnd (IsInput R.remaining R.gives reader.old reader.new) (IsUnread R.gives R.fails reader.old reader.new) quest (writer.new ≡ writer.old)
+        (FailedAt W.fails writer.new ⊎ FailedAt D.fails system.new) (W.flushed writer.new) (W.contents writer.old) (W.contents writer.new))))
+        (ToldEnd F.fails F.contents faults.old faults.new) result }
 {
     match read_words(alloc, words) {
         Ok(Task::Bytes { own, peer }) => run_bytes(alloc, own, peer, reader, writer, faults),
         Ok(Task::Threads(talk)) => run_conversation(alloc, talk, writer, system, faults),
         Ok(Task::Serve(offer)) => run_service(alloc, offer, writer, system, faults),
+        Ok(Task::Explore(quest)) => {
+            run_exploration(alloc, quest, reader, writer, system, faults)
+        }
         Ok(Task::Script(aids)) => run_script(alloc, aids, reader, writer, system, faults),
         Err(error) => refuse_words(alloc, faults, &error),
     }
@@ -139,6 +152,26 @@ fn run_conversation<W: Sink, D: System, F: Sink>(
         (W.flushed writer.new) (W.contents writer.old) (W.contents writer.new)) (ToldEnd F.fails F.contents faults.old faults.new) result }
 {
     match converse(alloc, talk, writer, system) {
+        Ok(true) => DONE,
+        Ok(false) => NOT_GOOD,
+        Err(fault) => tell(faults, Err(fault)),
+    }
+}
+
+/// Explores the script that the input is, and gives the status.
+fn run_exploration<R: Source, W: Sink, D: System, F: Sink>(
+    alloc: Global,
+    quest: Quest<'_>,
+    reader: &mut R,
+    writer: &mut W,
+    system: &mut D,
+    faults: &mut F,
+) -> u8
+    ensures { EndsTalk (ExploreEnd (IsInput R.remaining R.gives reader.old reader.new) (IsUnread R.gives R.fails reader.old reader.new) quest.entry (writer.new ≡ writer.old)
+        (FailedAt W.fails writer.new ⊎ FailedAt D.fails system.new) (W.flushed writer.new) (W.contents writer.old) (W.contents writer.new))
+        (ToldEnd F.fails F.contents faults.old faults.new) result }
+{
+    match explore_input(alloc, quest, reader, writer, system) {
         Ok(true) => DONE,
         Ok(false) => NOT_GOOD,
         Err(fault) => tell(faults, Err(fault)),

@@ -121,7 +121,7 @@ fn script_of(alloc: Global, input: &[u8]) -> Result<Script, Fault>
 }
 
 /// What is told of a text that is no script.
-fn script_fault(fault: ScriptFault) -> Fault
+pub(crate) fn script_fault(fault: ScriptFault) -> Fault
     ensures { result ≡ script_fault_of fault }
 {
     match fault.fault {

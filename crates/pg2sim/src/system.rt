@@ -54,12 +54,18 @@ pub(crate) trait System {
     fn serve<W: Sink>(&mut self, service: Service, writer: &mut W) -> Result<Served, ServiceFault>
         ensures told { served self.old service result self.new };
 
+    /// Shows how many worlds were explored, of how many at most.
+    fn look(&mut self, explored: u64, limit: u64);
+
+    /// Shows it no more.
+    fn look_away(&mut self);
+
     /// How many microseconds went by since some moment that stays; 0 where no clock can be read.
     fn microseconds(&mut self) -> u64;
 }
 
-/// The system that runs the program: a conversation that it tells of took place. While one goes on, its progress is shown on the
-/// terminal. No clause says when a file can't be made.
+/// The system that runs the program: a conversation that it tells of took place. While one goes on, or an exploration, its progress is shown
+/// on the terminal. No clause says when a file can't be made.
 #[derive(Drop)]
 pub(crate) struct HostSystem<'a, R, T> {
     pub(crate) alloc: Global,
@@ -67,6 +73,7 @@ pub(crate) struct HostSystem<'a, R, T> {
     pub(crate) threads: &'a R,
     pub(crate) begun: Instant,
     pub(crate) progress: Shown<T, &'a HostRuntime>,
+    pub(crate) exploring: Progress<T, &'a HostRuntime>,
 }
 
 /// A conversation's progress, on a terminal.
@@ -104,6 +111,14 @@ impl<R: Threads, T: Write> System for HostSystem<'_, R, T> {
             reader: self.rt.stdin(),
         };
         serve_cluster(self.threads, self.alloc, service, source, writer)
+    }
+
+    fn look(&mut self, explored: u64, limit: u64) {
+        self.exploring.look(explored, limit);
+    }
+
+    fn look_away(&mut self) {
+        self.exploring.end();
     }
 
     fn microseconds(&mut self) -> u64 {

@@ -90,7 +90,7 @@ fn write_json(outcome: &Outcome, microseconds: u64, text: &mut Vec<u8>) -> io::R
 }
 
 /// Writes a text whole, and flushes it; whether all is well.
-fn print<W: Sink>(writer: &mut W, text: &[u8], is_good: bool) -> Result<bool, Fault>
+pub(crate) fn print<W: Sink>(writer: &mut W, text: &[u8], is_good: bool) -> Result<bool, Fault>
     ensures { Printed (writer.new ≡ writer.old) (FailedAt W.fails writer.new) (W.flushed writer.new)
         (W.contents writer.old) (W.contents writer.new) text.now is_good result }
 {

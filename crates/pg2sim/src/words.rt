@@ -3,12 +3,13 @@
 ghost use Rattle.std.specs.Prelude.{◌≡◌, false, IfOk, IfErr, codes, map, option_map, string_bytes};
 ghost use Rattle.clap.specs.Words.{rule_of, subcommand_rows_of, app_of, new_app, kind_of, found_of, rows_of, first_of, one_of, fault_of, subcommand_of, FailsBy};
 ghost use Rattle.clap.specs.declared.builder.Command.TheViews.{out-Command};
-ghost use Rattle.pg2sim.specs.CommandLine.{name_rule, bytes_line, script_line, flag_rule, diagram_rule, number_rule, cluster_line, threads_line, names_rule, members_rule, served_line, serve_line, top_line, command_line, given_name, is_flag, AsksAids, AsksOffer, AsksTalk, GivesNumber, IsAsked};
+ghost use Rattle.pg2sim.specs.CommandLine.{name_rule, bytes_line, script_line, flag_rule, file_rule, number_rule, cluster_line, threads_line, names_rule, served_line, serve_line, explored_line, explore_line, top_line, command_line, given_name, is_flag, AsksAids, AsksOffer, AsksQuest, AsksTalk, GivesNumber, IsAsked};
 
 use crate::help::{
-    ABOUT, BYTES_ABOUT, CLIENTS_HELP, COMMANDS_HELP, DIAGRAM_HELP, JSON_HELP, MEMBERS_HELP,
-    NAME_HELP, NODE_HELP, NODES_HELP, PEER_HELP, PORTS_HELP, ROUNDS_HELP, SCRIPT_ABOUT,
-    SCRIPT_FORMS, SEED_HELP, SERVE_ABOUT, SERVE_LINES, THREADS_ABOUT, THREADS_LINES, TRACE_HELP,
+    ABOUT, BYTES_ABOUT, CLIENTS_HELP, COMMANDS_HELP, DIAGRAM_HELP, DIFFERING_HELP, EXPLORE_ABOUT,
+    EXPLORE_LINES, GRAPH_HELP, JSON_HELP, LIMIT_HELP, MEMBERS_HELP, NAME_HELP, NODE_HELP,
+    NODES_HELP, PEER_HELP, PORTS_HELP, RETRIES_HELP, ROUNDS_HELP, SCRIPT_ABOUT, SCRIPT_FORMS,
+    SEED_HELP, SERVE_ABOUT, SERVE_LINES, SHOW_HELP, THREADS_ABOUT, THREADS_LINES, TRACE_HELP,
     TURNS_HELP, VERSION,
 };
 use clap::builder::ValueParser;
@@ -27,6 +28,23 @@ pub(crate) enum Task<'a> {
     Threads(Talk),
     /// A service over a cluster.
     Serve(Offer<'a>),
+    /// All runs of a script's commands.
+    Explore(Quest<'a>),
+}
+
+/// How far all runs of a script's commands are explored, and what is told of them.
+#[derive(Clone, Copy, Debug)]
+pub(crate) struct Quest<'a> {
+    /// How often each waiting command is tried again at most.
+    pub(crate) retries: u32,
+    /// How many worlds are met at most.
+    pub(crate) limit: u64,
+    /// The end to which a run is shown, from 1 on; 0: none.
+    pub(crate) show: u64,
+    /// A run is shown in which two nodes differ longest.
+    pub(crate) is_differing: bool,
+    /// The file that the state graph goes to.
+    pub(crate) graph: Option<&'a str>,
 }
 
 /// The cluster that a service has, and how much it serves.
@@ -88,6 +106,7 @@ fn task_of<'a>(alloc: Global, matches: &ArgMatches<'a>) -> Result<Task<'a>, Allo
             Ok(offer) => Ok(Task::Serve(offer)),
             Err(AllocError) => Err(AllocError),
         },
+        Some(("explore", given)) => Ok(Task::Explore(quest_of(given))),
         Some((_, given)) => Ok(Task::Script(aids_of(given))),
         None => Ok(Task::Script(Aids {
             is_traced: false,
@@ -114,6 +133,19 @@ fn offer_of<'a>(alloc: Global, given: &ArgMatches<'a>) -> Result<Offer<'a>, Allo
         requests: large_number(given, "commands", 1_000_000),
         seed: large_number(given, "seed", 1),
     })
+}
+
+/// What is asked of an exploration.
+fn quest_of<'a>(given: &ArgMatches<'a>) -> Quest<'a>
+    ensures { AsksQuest (rows_of (found_of given.now)) result }
+{
+    Quest {
+        retries: number(given, "retries", 1),
+        limit: large_number(given, "limit", 1_000_000),
+        show: large_number(given, "show", 0),
+        is_differing: is_given(given, "differing"),
+        graph: text_of(given, "graph"),
+    }
 }
 
 /// The aids that a run of a script is asked for.
@@ -210,7 +242,9 @@ fn command<'a>(alloc: Global) -> Result<Command<'a>, AllocError>
     let threads = threads_command(alloc)?;
     let command = command.subcommand(threads)?;
     let serve = serve_command(alloc)?;
-    command.subcommand(serve)
+    let command = command.subcommand(serve)?;
+    let explore = explore_command(alloc)?;
+    command.subcommand(explore)
 }
 
 /// The program, without its commands.
@@ -262,7 +296,7 @@ fn script_command<'a>(alloc: Global) -> Result<Command<'a>, AllocError>
     let command = new_command(alloc, "script", SCRIPT_ABOUT);
     let command = command.arg(flag(alloc, "trace", TRACE_HELP))?;
     let command = command.after_help(SCRIPT_FORMS);
-    command.arg(diagram_option(alloc))
+    command.arg(file_option(alloc, "diagram", DIAGRAM_HELP))
 }
 
 /// A flag.
@@ -276,15 +310,33 @@ fn flag<'a>(alloc: Global, id: &'a str, help: &'a str) -> Arg<'a>
         .help(help)
 }
 
-/// The option that asks for a diagram.
-fn diagram_option<'a>(alloc: Global) -> Arg<'a>
-    ensures rule { rule_of result ≡ diagram_rule }
+/// An option that gives a file.
+fn file_option<'a>(alloc: Global, id: &'a str, help: &'a str) -> Arg<'a>
+    ensures rule { rule_of result ≡ file_rule id.entry.now }
     ensures plain { result.global ≡ false }
 {
-    Arg::new(alloc, "diagram")
-        .long("diagram")
-        .value_name("FILE")
-        .help(DIAGRAM_HELP)
+    Arg::new(alloc, id).long(id).value_name("FILE").help(help)
+}
+
+fn explore_command<'a>(alloc: Global) -> Result<Command<'a>, AllocError>
+    ensures app { IfOk result (λ command. app_of command ≡ explore_line) }
+    ensures local { IfOk result (λ command. (out-Command command).has_globals ≡ false) }
+{
+    let command = explored_command(alloc)?;
+    let command = command.arg(flag(alloc, "differing", DIFFERING_HELP))?;
+    let command = command.after_help(EXPLORE_LINES);
+    command.arg(file_option(alloc, "graph", GRAPH_HELP))
+}
+
+/// The command `explore` with its numbers alone.
+fn explored_command<'a>(alloc: Global) -> Result<Command<'a>, AllocError>
+    ensures app { IfOk result (λ command. app_of command ≡ explored_line) }
+    ensures local { IfOk result (λ command. (out-Command command).has_globals ≡ false) }
+{
+    let command = new_command(alloc, "explore", EXPLORE_ABOUT);
+    let command = command.arg(number_option(alloc, "retries", "1", 0, 1000, RETRIES_HELP))?;
+    let command = command.arg(number_option(alloc, "limit", "1000000", 1, u64::MAX, LIMIT_HELP))?;
+    command.arg(number_option(alloc, "show", "0", 0, u64::MAX, SHOW_HELP))
 }
 
 fn threads_command<'a>(alloc: Global) -> Result<Command<'a>, AllocError>
@@ -335,7 +387,7 @@ fn served_command<'a>(alloc: Global) -> Result<Command<'a>, AllocError>
     let command = command.arg(number_option(alloc, "nodes", "3", 1, 16, NODES_HELP))?;
     let command = command.arg(number_option(alloc, "ports", "2", 1, 64, PORTS_HELP))?;
     let command = command.arg(names_option(alloc))?;
-    command.arg(members_option(alloc))
+    command.arg(file_option(alloc, "members", MEMBERS_HELP))
 }
 
 /// The option that names a node, as often as there are nodes.
@@ -348,17 +400,6 @@ fn names_option<'a>(alloc: Global) -> Arg<'a>
         .value_name("NAME")
         .action(ArgAction::Append)
         .help(NAME_HELP)
-}
-
-/// The option that gives the file of what the nodes know.
-fn members_option<'a>(alloc: Global) -> Arg<'a>
-    ensures rule { rule_of result ≡ members_rule }
-    ensures plain { result.global ≡ false }
-{
-    Arg::new(alloc, "members")
-        .long("members")
-        .value_name("FILE")
-        .help(MEMBERS_HELP)
 }
 
 /// An option that gives a number within bounds.

@@ -120,6 +120,10 @@ impl System for Desk {
         }
     }
 
+    fn look(&mut self, _explored: u64, _limit: u64) {}
+
+    fn look_away(&mut self) {}
+
     fn get(&mut self, name: &str) -> io::Result<Vec<u8>> {
         let text: &[u8] = match name {
             "members" => b"[{n1,1,[{g,[<n1.1.0>]}]}]\n",

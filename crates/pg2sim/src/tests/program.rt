@@ -12,6 +12,7 @@ use pg_world::WorldFault;
 use std::alloc::{AllocError, Global};
 use std::io;
 use std::io::ErrorKind;
+use std::process::Abort;
 use std::test::*;
 use std::time::Instant;
 
@@ -106,6 +107,60 @@ const NO_SERVICE: Row = Row {
     status: 2,
     ..SERVICE
 };
+
+const EXPLORE: Row = Row {
+    words: &["explore"],
+    text: b"node a\nnode b\ncreate a g\n",
+    output: b"     14  worlds
+      1  ends
+      7  takes to an end, the fewest
+      7  takes to an end, the most
+      0  ends at which a lock is held
+      1  worlds in which two formed nodes differ
+      0  of these, a node sees the lock free and no end is pending
+
+ends by the history of g
+      1  create a g
+
+ends by the answer to create a g
+      1  ok
+",
+    ..BYTES
+};
+
+// An exploration that is refused.
+const UNEXPLORED: Row = Row {
+    output: b"",
+    status: 2,
+    ..EXPLORE
+};
+
+const CUT: &[u8] = b"      1  worlds
+the limit of worlds was reached: there are more
+      0  ends
+      0  ends at which a lock is held
+      0  worlds in which two formed nodes differ
+      0  of these, a node sees the lock free and no end is pending
+
+ends by the history of g
+
+ends by the answer to create a g
+";
+
+const DIFFERING: &[u8] = b"node a
+node b
+put b a
+pull a b
+take a b
+create a g
+put a b
+pull b a
+take b a
+take b a
+put b a
+pull a b
+take a b
+";
 
 const ROOM_OF_40: Limits = Limits {
     piece: 5,
@@ -363,6 +418,65 @@ const ROWS: &[Row] = &[
     },
 ];
 
+// Explorations.
+const EXPLORATIONS: &[Row] = &[
+    EXPLORE,
+    Row {
+        words: &["explore", "--limit", "1"],
+        output: CUT,
+        status: 1,
+        ..EXPLORE
+    },
+    // The run in which two nodes differ plays as a script: then `a` has the group, and `b` has not.
+    Row {
+        words: &["explore", "--differing"],
+        output: DIFFERING,
+        ..EXPLORE
+    },
+    Row {
+        text: DIFFERING,
+        output: b"",
+        ..SCRIPT
+    },
+    Row {
+        words: &["explore", "--show", "2"],
+        told: "refused 16\n",
+        ..UNEXPLORED
+    },
+    Row {
+        text: b"node a\nnode b\nsettle\nfaulty\n",
+        told: "line 3 refused 40\n",
+        ..UNEXPLORED
+    },
+    Row {
+        text: b"create a g\n",
+        told: "line 1 refused 41\n",
+        ..UNEXPLORED
+    },
+    Row {
+        text: b"node \xff\n",
+        told: "refused 40\n",
+        ..UNEXPLORED
+    },
+    Row {
+        words: &["explore", "--graph", "x"],
+        is_full: true,
+        told: "refused 32\n",
+        status: 1,
+        ..UNEXPLORED
+    },
+    Row {
+        limits: NO_ROOM,
+        told: "refused 32\n",
+        status: 1,
+        ..EXPLORE
+    },
+    Row {
+        words: &["explore", "--retries", "1001"],
+        ..NO_WORDS
+    },
+];
+
 // What the text of refused words begins with. Nothing is read then.
 const WORDS: &str = "error: ";
 
@@ -446,19 +560,19 @@ fn run<D: System>(alloc: Global, row: &Row<'_>, system: &mut D) -> Option<(u8, u
     Some((status, len, is_told && is_written && status == row.status))
 }
 
-#[test]
-fn rows(rt: HostRuntime) {
-    for (place, row) in ROWS.iter().enumerate() {
+// Runs each of some rows, and ends the test where one prints something else.
+fn check_rows(rt: &impl Abort, alloc: Global, rows: &[Row<'_>]) {
+    for (place, row) in rows.iter().enumerate() {
         let mut desk = Desk {
-            name: Vec::new(rt.alloc()),
-            bytes: Vec::new(rt.alloc()),
+            name: Vec::new(alloc),
+            bytes: Vec::new(alloc),
             is_full: row.is_full,
-            alloc: rt.alloc(),
+            alloc,
             outcome: row.outcome,
             served: row.served,
             microseconds: 0,
         };
-        let is_printed = match run(rt.alloc(), row, &mut desk) {
+        let is_printed = match run(alloc, row, &mut desk) {
             Some((_, _, is_so)) => is_so,
             None => false,
         };
@@ -469,8 +583,14 @@ fn rows(rt: HostRuntime) {
             Err(_) => false,
         };
         drop(desk);
-        assert!(&rt; is_printed && is_named && is_drawn, "row {place}");
+        assert!(rt; is_printed && is_named && is_drawn, "row {place}");
     }
+}
+
+#[test]
+fn rows(rt: HostRuntime) {
+    check_rows(&rt, rt.alloc(), ROWS);
+    check_rows(&rt, rt.alloc(), EXPLORATIONS);
 }
 
 // Passes wherever an allocation is refused: nothing or all of a reply was written.
@@ -544,12 +664,17 @@ fn clusters(rt: HostRuntime) {
             ..ANY
         },
     };
+    let other = Output {
+        text: Vec::new(rt.alloc()),
+        limits: ANY,
+    };
     let mut system = HostSystem {
         alloc: rt.alloc(),
         rt: &rt,
         threads: &rt,
         begun,
-        progress: Shown(Progress::new(screen, &rt)),
+        progress: Shown(Progress::new(screen, &rt, "answered")),
+        exploring: Progress::new(other, &rt, "explored"),
     };
     for (place, row) in CLUSTERS.iter().enumerate() {
         let is_printed = match run(rt.alloc(), row, &mut system) {

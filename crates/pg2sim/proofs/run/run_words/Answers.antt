@@ -1,7 +1,7 @@
 use Rattle.std.proofs.Common.{map, refl, string_bytes}
 use Rattle.clap.specs.Words.{fault_of, kind_of, subcommand_of}
 use Rattle.pg2sim.specs.CommandLine.{command_line}
-use Rattle.pg2sim.proofs.Ends.{not_other, not_read, not_spoken, only_memory, same_names, script_not_read, spoken, script_no_bytes, script_no_threads, serve_no_bytes, serve_no_script, serve_no_script_word, serve_no_threads, serve_word, not_served, threads_no_bytes, threads_no_script}
+use Rattle.pg2sim.proofs.Ends.{explore_no_bytes, explore_no_script, explore_no_script_word, explore_no_serve_word, explore_no_threads, explore_word, asked_so, not_other, not_read, not_spoken, only_memory, same_names, script_not_read, spoken, script_no_bytes, script_no_threads, serve_no_bytes, serve_no_script, serve_no_script_word, serve_no_threads, serve_word, not_served, threads_no_bytes, threads_no_script}
 use Rattle.pg2sim.proofs.Numbers.{same_talk}
 use Rattle.pg2sim.proofs.run.run_words.Goals as goal
 
@@ -29,7 +29,53 @@ returns-in-Ok-Bytes-clause-serve g c =
     λ none is.
     absurd (serve_no_bytes (subcommand_of command_line (map string_bytes c.args.words.now)) c.in-Ok-Bytes.own.now c.in-Ok-Bytes.peer.now is (rw c.in-Ok-Bytes.field-0-is at c.in-Ok-Bytes.ensures.asked))
 
+pub returns-in-Ok-Bytes-clause-explore : goal.returns-in-Ok-Bytes-clause-explore
+returns-in-Ok-Bytes-clause-explore g c =
+    λ none is.
+    absurd (explore_no_bytes (subcommand_of command_line (map string_bytes c.args.words.now)) c.in-Ok-Bytes.own.now c.in-Ok-Bytes.peer.now is (rw c.in-Ok-Bytes.field-0-is at c.in-Ok-Bytes.ensures.asked))
+
+-- ---- `explore`
+
+pub returns-in-Ok-Explore-clause-bytes : goal.returns-in-Ok-Explore-clause-bytes
+returns-in-Ok-Explore-clause-bytes g c =
+    λ own peer none is.
+    absurd (not_other (subcommand_of command_line (map string_bytes c.args.words.now)) own peer is (rw c.in-Ok-Explore.field-0-is at c.in-Ok-Explore.ensures.asked).0)
+
+pub returns-in-Ok-Explore-clause-script : goal.returns-in-Ok-Explore-clause-script
+returns-in-Ok-Explore-clause-script g c =
+    λ none is.
+    let asked = rw c.in-Ok-Explore.field-0-is at c.in-Ok-Explore.ensures.asked in
+    let words = subcommand_of command_line (map string_bytes c.args.words.now) in
+    absurd (explore_no_script_word words (explore_word words c.in-Ok-Explore.quest asked.1) is)
+
+pub returns-in-Ok-Explore-clause-threads : goal.returns-in-Ok-Explore-clause-threads
+returns-in-Ok-Explore-clause-threads g c =
+    λ talk none is.
+    let asked = rw c.in-Ok-Explore.field-0-is at c.in-Ok-Explore.ensures.asked in
+    let words = subcommand_of command_line (map string_bytes c.args.words.now) in
+    absurd (explore_no_threads words talk (explore_word words c.in-Ok-Explore.quest asked.1) is)
+
+pub returns-in-Ok-Explore-clause-serve : goal.returns-in-Ok-Explore-clause-serve
+returns-in-Ok-Explore-clause-serve g c =
+    λ none is.
+    let asked = rw c.in-Ok-Explore.field-0-is at c.in-Ok-Explore.ensures.asked in
+    let words = subcommand_of command_line (map string_bytes c.args.words.now) in
+    absurd (explore_no_serve_word words (explore_word words c.in-Ok-Explore.quest asked.1) is)
+
+pub returns-in-Ok-Explore-clause-explore : goal.returns-in-Ok-Explore-clause-explore
+returns-in-Ok-Explore-clause-explore g c =
+    λ none is.
+    let asked = rw c.in-Ok-Explore.field-0-is at c.in-Ok-Explore.ensures.asked in
+    asked_so _ _ _ _ c.run_exploration.result c.in-Ok-Explore.quest asked.1 c.run_exploration.ensures
+
 -- ---- `serve`
+
+pub returns-in-Ok-Serve-clause-explore : goal.returns-in-Ok-Serve-clause-explore
+returns-in-Ok-Serve-clause-explore g c =
+    λ none is.
+    let asked = rw c.in-Ok-Serve.field-0-is at c.in-Ok-Serve.ensures.asked in
+    let words = subcommand_of command_line (map string_bytes c.args.words.now) in
+    absurd (explore_no_serve_word words is (serve_word words c.in-Ok-Serve.offer asked.1))
 
 pub returns-in-Ok-Serve-clause-bytes : goal.returns-in-Ok-Serve-clause-bytes
 returns-in-Ok-Serve-clause-bytes g c =
@@ -51,6 +97,12 @@ returns-in-Ok-Serve-clause-threads g c =
     absurd (serve_no_threads words talk (serve_word words c.in-Ok-Serve.offer asked.1) is)
 
 -- ---- `script`
+
+pub returns-in-Ok-Script-clause-explore : goal.returns-in-Ok-Script-clause-explore
+returns-in-Ok-Script-clause-explore g c =
+    λ none is.
+    let asked = rw c.in-Ok-Script.field-0-is at c.in-Ok-Script.ensures.asked in
+    absurd (explore_no_script (subcommand_of command_line (map string_bytes c.args.words.now)) c.in-Ok-Script.aids is asked.1)
 
 pub returns-in-Ok-Script-clause-serve : goal.returns-in-Ok-Script-clause-serve
 returns-in-Ok-Script-clause-serve g c =
@@ -95,7 +147,19 @@ returns-in-Ok-Threads-clause-serve g c =
     let asked = rw c.in-Ok-Threads.field-0-is at c.in-Ok-Threads.ensures.asked in
     absurd (serve_no_threads (subcommand_of command_line (map string_bytes c.args.words.now)) c.in-Ok-Threads.talk is asked.1)
 
+pub returns-in-Ok-Threads-clause-explore : goal.returns-in-Ok-Threads-clause-explore
+returns-in-Ok-Threads-clause-explore g c =
+    λ none is.
+    let asked = rw c.in-Ok-Threads.field-0-is at c.in-Ok-Threads.ensures.asked in
+    absurd (explore_no_threads (subcommand_of command_line (map string_bytes c.args.words.now)) c.in-Ok-Threads.talk is asked.1)
+
 -- ---- no words
+
+pub returns-in-Err-clause-explore : goal.returns-in-Err-clause-explore
+returns-in-Err-clause-explore g c =
+    λ none is.
+    let ended = c.refuse_words.ensures.memory (only_memory (fault_of command_line (map string_bytes c.args.words.now)) (kind_of c.in-Err.error) none c.in-Err.ensures.refused) in
+    not_spoken _ _ _ c.refuse_words.result refl ended.0 ended.1
 
 pub returns-in-Err-clause-serve : goal.returns-in-Err-clause-serve
 returns-in-Err-clause-serve g c =

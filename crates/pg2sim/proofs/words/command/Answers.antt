@@ -13,4 +13,6 @@ returns c =
     let second_is = c.in_ok-command-3.ensures.shape c.in_ok-script.ensures.local ∙ ap₂ with_subcommand first_is script_is in
     let serve_is = ap (λ (a : App). a.top) c.in_ok-serve.ensures.app in
     let third_is = c.in_ok-command-4.ensures.shape c.in_ok-threads.ensures.local ∙ ap₂ with_subcommand second_is threads_is in
-    IfOk-weaker c.subcommand-4.result _ _ (λ m h. h.shape c.in_ok-serve.ensures.local ∙ ap₂ with_subcommand third_is serve_is) c.subcommand-4.ensures
+    let fourth_is = c.in_ok-command-5.ensures.shape c.in_ok-serve.ensures.local ∙ ap₂ with_subcommand third_is serve_is in
+    let explore_is = ap (λ (a : App). a.top) c.in_ok-explore.ensures.app in
+    IfOk-weaker c.subcommand-5.result _ _ (λ m h. h.shape c.in_ok-explore.ensures.local ∙ ap₂ with_subcommand fourth_is explore_is) c.subcommand-5.ensures

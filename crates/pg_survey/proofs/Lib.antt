@@ -1,0 +1,5 @@
+pub mod Joining
+pub mod Looking
+pub mod Marking
+pub mod Naming
+pub mod Planning

@@ -1,0 +1,5 @@
+pub mod Differing
+pub mod Findings
+pub mod Names
+pub mod Scenarios
+pub mod Ways
