@@ -1,29 +1,20 @@
-//! `pg2sim`: the replica of one node over bytes, runs of scripts, and nodes as threads.
+//! `pg2sim`: the replica of one node over bytes, runs of scripts, all runs of one, and nodes as threads.
 #![tactic(auto)]
 
-mod bytes;
-mod fault;
-mod help;
-mod input;
-mod laws;
-mod run;
-mod script;
-mod service;
-mod system;
+mod host;
 #[cfg(test)]
 mod tests;
-mod threads;
-mod words;
 
+use host::{HostSystem, Shown};
+use pg_faults::OUT_OF_MEMORY;
 use pg_node::{AnyReader, AnyWriter};
+use pg_program::{refuse, refuse_given, run_words};
 use pg_progress::Progress;
-use run::{OUT_OF_MEMORY, refuse, refuse_given, run_words};
 use std::io::BufWriter;
 use std::process::ExitCode;
 use std::thread::Threads;
 use std::time::Instant;
 use std::{env, io, vec};
-use system::{HostSystem, Shown};
 
 /// The words behind the program's name.
 fn given_words(rt: &HostRuntime) -> io::Result<Vec<String>> {
@@ -48,7 +39,8 @@ fn status(rt: &HostRuntime, threads: &impl Threads, words: &[String]) -> io::Res
         rt,
         threads,
         begun: Instant::now(rt)?,
-        progress: Shown(Progress::new(rt.stderr(), rt)),
+        progress: Shown(Progress::new(rt.stderr(), rt, "answered")),
+        exploring: Progress::new(rt.stderr(), rt, "explored"),
     };
     Ok(run_words(
         rt.alloc(),

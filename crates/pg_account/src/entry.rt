@@ -23,7 +23,7 @@ pub struct Entry {
 impl Entry {
     /// The same entry. Its cost grows with the name.
     ///
-    /// Error: `AllocError`.
+    /// Errors: `AllocError`.
     pub(crate) fn copy(&self, alloc: Global) -> Result<Entry, AllocError>
         ensures { IfOk result (λ copy. copy ≡ self.now) }
     {
@@ -35,7 +35,9 @@ impl Entry {
         })
     }
 
-    /// Whether both are one. It takes no memory.
+    /// Whether both are one.
+    ///
+    /// Cost: no memory.
     pub(crate) fn same(&self, other: &Entry) -> bool
         ensures { result ≡ same_entry self.now other.now }
     {
@@ -54,7 +56,7 @@ fn same_op(op: OpId, other: OpId) -> bool
 
 /// The same entries in the same order.
 ///
-/// Error: `AllocError`.
+/// Errors: `AllocError`.
 pub(crate) fn copy_entries(alloc: Global, entries: &[Entry]) -> Result<Vec<Entry>, AllocError>
     ensures { IfOk result (λ copies. copies.items ≡ entries.now) }
 {
@@ -65,7 +67,9 @@ pub(crate) fn copy_entries(alloc: Global, entries: &[Entry]) -> Result<Vec<Entry
     Ok(copies)
 }
 
-/// Whether these are the same entries in the same order. It takes no memory.
+/// Whether these are the same entries in the same order.
+///
+/// Cost: no memory.
 pub(crate) fn same_entries(entries: &[Entry], others: &[Entry]) -> bool
     ensures { IsTrue result ↔ (map as_entry entries.now ≡ map as_entry others.now) }
 {
@@ -80,7 +84,9 @@ pub(crate) fn same_entries(entries: &[Entry], others: &[Entry]) -> bool
     true
 }
 
-/// Whether these are the same entries in the same order, each list with one more behind it where there is one. It takes no memory.
+/// Whether these are the same entries in the same order, each list with one more after it where there is one.
+///
+/// Cost: no memory.
 pub(crate) fn same_with_last(
     entries: &[Entry],
     last: Option<&Entry>,
@@ -97,7 +103,9 @@ pub(crate) fn same_with_last(
     }
 }
 
-/// Whether entries are these others, and one more behind them. It takes no memory.
+/// Whether entries are these others, and one more after them.
+///
+/// Cost: no memory.
 fn ends_with(entries: &[Entry], others: &[Entry], last: &Entry) -> bool
     ensures { IsTrue result ↔ (map as_entry entries.now ≡ map as_entry others.now ++ as_entry last.now ∷ []) }
 {
@@ -107,7 +115,9 @@ fn ends_with(entries: &[Entry], others: &[Entry], last: &Entry) -> bool
     }
 }
 
-/// Whether both are one change of a group. It takes no memory.
+/// Whether both are one change of a group.
+///
+/// Cost: no memory.
 pub fn same_update(update: &Update, other: &Update) -> bool
     ensures { result ≡ same_update update.now other.now }
 {

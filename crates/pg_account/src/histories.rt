@@ -33,7 +33,9 @@ impl Histories {
     ghost use Rattle.pg_account.specs.Agreeing.{HaveSameUpdates, IsNamedLast, AgreeOnNamed};
     ghost use Rattle.pg_account.specs.Histories.{account_of, history_in, applied_in, begun_by, one_of, last_entries, last_count, as_entry, entries_in, counts_in, IsSettled, LastHasRow, CanServe};
 
-    /// Nothing has begun. It takes no memory.
+    /// Nothing has begun.
+    ///
+    /// Cost: no memory.
     pub fn new(alloc: Global) -> Histories
         ensures history { history_in result ≡ (λ name. []) }
         ensures applied { applied_in result ≡ (λ i name. 0) }
@@ -47,7 +49,7 @@ impl Histories {
 
     /// The same histories and counts. Its cost grows with the entries.
     ///
-    /// Error: `AllocError`.
+    /// Errors: `AllocError`.
     pub fn copy(&self) -> Result<Histories, AllocError>
         ensures history { IfOk result (λ copy. history_in copy ≡ history_in self.now) }
         ensures applied { IfOk result (λ copy. applied_in copy ≡ applied_in self.now) }
@@ -61,8 +63,10 @@ impl Histories {
         })
     }
 
-    /// Whether both have the same history of each group, and so many nodes have applied as many of its updates. It takes no memory:
-    /// O(log n) in the groups that were named for each of them and each node, and a walk over the entries.
+    /// Whether both have the same history of each group, and so many nodes have applied as many of its updates.
+    ///
+    /// Cost: no memory; O(log n) in the groups that were named for each of them and each node, and a walk over the
+    /// entries.
     pub fn agree(&self, other: &Histories, nodes: usize) -> bool
         ensures { IsTrue result ↔ ((name : Term) → HaveSameUpdates nodes (account_of self.now) (account_of other.now) name) }
     {
@@ -128,7 +132,7 @@ impl Histories {
 
     /// Makes room for the last entry in its row.
     ///
-    /// Error: `AllocError`, by which nothing changes either.
+    /// Errors: `AllocError`, which changes nothing.
     fn make_room_for_last(&mut self) -> Result<(), AllocError>
         ensures last { self.new.last ≡ self.old.last }
         ensures entries { entries_in self.new.rows ≡ entries_in self.old.rows }
@@ -143,7 +147,9 @@ impl Histories {
         }
     }
 
-    /// Puts the last entry in its row, where there is room. It takes no memory.
+    /// Puts the last entry in its row, where there is room.
+    ///
+    /// Cost: no memory.
     fn put_last(&mut self)
         requires { LastHasRow self.old.rows self.old.last }
         ensures history { history_in self.new ≡ history_in self.old }
@@ -158,7 +164,7 @@ impl Histories {
 
     /// Puts the last entry in its row, as before an event.
     ///
-    /// Error: `AllocError`, by which nothing changes either.
+    /// Errors: `AllocError`, which changes nothing.
     pub fn settle(&mut self) -> Result<(), AllocError>
         ensures history { history_in self.new ≡ history_in self.old }
         ensures applied { applied_in self.new ≡ applied_in self.old }
@@ -171,7 +177,7 @@ impl Histories {
 
     /// Makes room for the update that a packet asks for, if it does, at the node that takes it.
     ///
-    /// Error: `AllocError`, by which nothing changes either.
+    /// Errors: `AllocError`, which changes nothing.
     pub fn make_room(&mut self, node: usize, packet: &Packet) -> Result<(), AllocError>
         ensures history { history_in self.new ≡ history_in self.old }
         ensures applied { applied_in self.new ≡ applied_in self.old }
@@ -184,7 +190,9 @@ impl Histories {
         }
     }
 
-    /// The update that a packet asks for, if it does, was applied by the node that has taken it. It takes no memory.
+    /// The update that a packet asks for, if it does, was applied by the node that has taken it.
+    ///
+    /// Cost: no memory.
     pub fn serve(&mut self, node: usize, packet: &Packet)
         requires { CanServe self.old.rows node (asked_by packet.now.message) }
         ensures history { history_in self.new ≡ history_in self.old }
@@ -198,7 +206,9 @@ impl Histories {
         }
     }
 
-    /// An update has begun at a node, if one has, which has applied it. It takes no memory.
+    /// An update has begun at a node, if one has, which has applied it.
+    ///
+    /// Cost: no memory.
     pub fn begin(&mut self, node: usize, began: Option<(OpId, Update)>)
         requires { IsSettled self.old }
         ensures history { (name : Term) → history_in self.new name
@@ -219,7 +229,9 @@ impl Histories {
         (rows::entries(&self.rows, name), self.last_of(name))
     }
 
-    /// How many updates of a group a node has applied. It takes no memory: O(log n) in the groups that were named.
+    /// How many updates of a group a node has applied.
+    ///
+    /// Cost: no memory; O(log n) in the groups that were named.
     pub fn applied(&self, node: usize, name: &Term) -> u128
         ensures { result ≡ applied_in self.now node name.now }
     {
@@ -249,7 +261,7 @@ impl Histories {
 
 /// The same entry, where there is one.
 ///
-/// Error: `AllocError`.
+/// Errors: `AllocError`.
 fn copy_last(alloc: Global, last: &Option<Entry>) -> Result<Option<Entry>, AllocError>
     ensures { IfOk result (λ copy. copy ≡ last.now) }
 {

@@ -1,6 +1,6 @@
 //! What a world keeps beside its nodes: what began and what was applied, by group, and which nodes are lost.
 //!
-//! `histories.history(&name)` tells the updates of a group in the order in which they began. Begin with `src/histories.rt`.
+//! `histories.history(&name)` gives the updates of a group in the order in which they began. Begin with `src/histories.rt`.
 #![tactic(auto)]
 
 mod entry;

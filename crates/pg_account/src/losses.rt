@@ -15,7 +15,9 @@ impl Losses {
     ghost use Rattle.pg_account.specs.Agreeing.{AreSameLost};
     ghost use Rattle.pg_account.specs.Losses.{lost_in, is_lost};
 
-    /// No node is lost. It takes no memory.
+    /// No node is lost.
+    ///
+    /// Cost: no memory.
     pub fn new(alloc: Global) -> Losses
         ensures { lost_in result ≡ [] }
     {
@@ -26,7 +28,7 @@ impl Losses {
 
     /// The same nodes are lost.
     ///
-    /// Error: `AllocError`.
+    /// Errors: `AllocError`.
     pub fn copy(&self) -> Result<Losses, AllocError>
         ensures { IfOk result (λ copy. lost_in copy ≡ lost_in self.now) }
     {
@@ -35,7 +37,9 @@ impl Losses {
         })
     }
 
-    /// Whether the same nodes are lost. It takes no memory: O(n^2) in the nodes that are lost.
+    /// Whether the same nodes are lost.
+    ///
+    /// Cost: no memory; O(n^2) in the nodes that are lost.
     pub fn same(&self, other: &Losses) -> bool
         ensures { IsTrue result ↔ AreSameLost (lost_in self.now) (lost_in other.now) }
     {
@@ -54,7 +58,9 @@ impl Losses {
         true
     }
 
-    /// Whether a node is lost. It takes no memory: O(n) in the nodes that are lost.
+    /// Whether a node is lost.
+    ///
+    /// Cost: no memory; O(n) in the nodes that are lost.
     pub fn has(&self, node: usize) -> bool
         ensures { result ≡ is_lost (lost_in self.now) node }
     {
@@ -63,7 +69,7 @@ impl Losses {
 
     /// A node is lost.
     ///
-    /// Error: `AllocError`, by which nothing changes.
+    /// Errors: `AllocError`, which changes nothing.
     pub fn add(&mut self, node: usize) -> Result<(), AllocError>
         ensures added { OnOk result (lost_in self.new ≡ lost_in self.old ++ node ∷ []) }
         ensures err { OnErr result (lost_in self.new ≡ lost_in self.old) }

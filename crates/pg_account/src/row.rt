@@ -17,7 +17,9 @@ impl Row {
     ghost use Rattle.pg_group.specs.Functions.{upd};
     ghost use Rattle.pg_account.specs.Histories.{count_at, as_entry, entries_of, HasRoom};
 
-    /// Nothing has begun. It takes no memory.
+    /// Nothing has begun.
+    ///
+    /// Cost: no memory.
     pub(crate) fn new(alloc: Global) -> Row
         ensures entries { entries_of result ≡ [] }
         ensures counts { count_at result.tally ≡ (λ node. 0) }
@@ -30,7 +32,7 @@ impl Row {
 
     /// The same entries and counts. Its cost grows with the entries.
     ///
-    /// Error: `AllocError`.
+    /// Errors: `AllocError`.
     pub(crate) fn copy(&self, alloc: Global) -> Result<Row, AllocError>
         ensures entries { IfOk result (λ copy. entries_of copy ≡ entries_of self.now) }
         ensures counts { IfOk result (λ copy. count_at copy.tally ≡ count_at self.now.tally) }
@@ -42,7 +44,7 @@ impl Row {
 
     /// Makes room for one more entry of a node.
     ///
-    /// Error: `AllocError`, by which nothing changes either.
+    /// Errors: `AllocError`, which changes nothing.
     pub(crate) fn make_room(&mut self, node: usize) -> Result<(), AllocError>
         ensures entries { entries_of self.new ≡ entries_of self.old }
         ensures counts { count_at self.new.tally ≡ count_at self.old.tally }
@@ -52,7 +54,9 @@ impl Row {
         self.tally.make_room(node)
     }
 
-    /// A node applies an update of a peer, where there is room. It takes no memory.
+    /// A node applies an update of a peer, where there is room.
+    ///
+    /// Cost: no memory.
     pub(crate) fn serve(&mut self, node: usize)
         requires { HasRoom self.old node }
         ensures entries { entries_of self.new ≡ entries_of self.old }
@@ -62,7 +66,9 @@ impl Row {
         self.tally.add(node);
     }
 
-    /// An update begins, and its node applies it, where there is room. It takes no memory.
+    /// An update begins, and its node applies it, where there is room.
+    ///
+    /// Cost: no memory.
     pub(crate) fn begin(&mut self, entry: Entry)
         requires { HasRoom self.old entry.node }
         ensures entries { entries_of self.new ≡ entries_of self.old ++ as_entry entry ∷ [] }

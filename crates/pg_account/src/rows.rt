@@ -18,9 +18,11 @@ use std::collections::BTreeMap;
 /// The row of each group that was named.
 pub(crate) type Rows = BTreeMap<Term, Row>;
 
-/// The same entries and counts of each group. Its cost is that of the copies: O(n log n) in the groups that were named.
+/// The same entries and counts of each group.
 ///
-/// Error: `AllocError`.
+/// Errors: `AllocError`.
+///
+/// Cost: that of the copies: O(n log n) in the groups that were named.
 pub(crate) fn copy(rows: &Rows, alloc: Global) -> Result<Rows, AllocError>
     ensures entries { IfOk result (λ copy. entries_in copy ≡ entries_in rows.now) }
     ensures counts { IfOk result (λ copy. counts_in copy ≡ counts_in rows.now) }
@@ -34,7 +36,7 @@ pub(crate) fn copy(rows: &Rows, alloc: Global) -> Result<Rows, AllocError>
 
 /// A group has a row, which is empty where it had none.
 ///
-/// Error: `AllocError`, by which nothing changes either.
+/// Errors: `AllocError`, which changes nothing.
 fn open_row(rows: &mut Rows, alloc: Global, name: &Term) -> Result<(), AllocError>
     ensures entries { entries_in rows.new ≡ entries_in rows.old }
     ensures counts { counts_in rows.new ≡ counts_in rows.old }
@@ -50,7 +52,7 @@ fn open_row(rows: &mut Rows, alloc: Global, name: &Term) -> Result<(), AllocErro
 
 /// Makes room for one more entry of a group and a node.
 ///
-/// Error: `AllocError`, by which nothing changes either.
+/// Errors: `AllocError`, which changes nothing.
 pub(crate) fn make_room(
     rows: &mut Rows,
     alloc: Global,
@@ -68,7 +70,9 @@ pub(crate) fn make_room(
     }
 }
 
-/// A node applies an update of a peer, where there is room. It takes no memory.
+/// A node applies an update of a peer, where there is room.
+///
+/// Cost: no memory.
 pub(crate) fn serve(rows: &mut Rows, update: &Update, node: usize)
     requires { HasRow rows.old (name_of update.now) node }
     ensures entries { entries_in rows.new ≡ entries_in rows.old }
@@ -81,7 +85,9 @@ pub(crate) fn serve(rows: &mut Rows, update: &Update, node: usize)
     }
 }
 
-/// An update begins, and its node applies it, where there is room. It takes no memory.
+/// An update begins, and its node applies it, where there is room.
+///
+/// Cost: no memory.
 pub(crate) fn begin(rows: &mut Rows, entry: Entry)
     requires { HasRow rows.old (name_of entry.update) entry.node }
     ensures entries { (name : Term) → entries_in rows.new name
@@ -95,7 +101,9 @@ pub(crate) fn begin(rows: &mut Rows, entry: Entry)
     }
 }
 
-/// The entries of a group. It takes no memory.
+/// The entries of a group.
+///
+/// Cost: no memory.
 pub(crate) fn entries<'a>(rows: &'a Rows, name: &Term) -> &'a [Entry]
     ensures { map as_entry result.now ≡ entries_in rows.now name.now }
 {
@@ -105,7 +113,9 @@ pub(crate) fn entries<'a>(rows: &'a Rows, name: &Term) -> &'a [Entry]
     }
 }
 
-/// How many updates of a group a node has applied. It takes no memory.
+/// How many updates of a group a node has applied.
+///
+/// Cost: no memory.
 pub(crate) fn count(rows: &Rows, node: usize, name: &Term) -> u64
     ensures { result ≡ counts_in rows.now node name.now }
 {

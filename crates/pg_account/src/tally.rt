@@ -15,7 +15,9 @@ impl Tally {
     ghost use Rattle.pg_group.specs.Functions.{upd};
     ghost use Rattle.pg_account.specs.Histories.{count_at, CanCount};
 
-    /// No node has applied any. It takes no memory.
+    /// No node has applied any.
+    ///
+    /// Cost: no memory.
     pub(crate) fn new(alloc: Global) -> Tally
         ensures { count_at result ≡ (λ node. 0) }
     {
@@ -26,7 +28,7 @@ impl Tally {
 
     /// The same counts.
     ///
-    /// Error: `AllocError`.
+    /// Errors: `AllocError`.
     pub(crate) fn copy(&self) -> Result<Tally, AllocError>
         ensures { IfOk result (λ copy. count_at copy ≡ count_at self.now) }
     {
@@ -35,7 +37,9 @@ impl Tally {
         })
     }
 
-    /// How many a node has applied. It takes no memory.
+    /// How many a node has applied.
+    ///
+    /// Cost: no memory.
     pub(crate) fn count(&self, node: usize) -> u64
         ensures { result ≡ count_at self.now node }
     {
@@ -47,7 +51,7 @@ impl Tally {
 
     /// Makes room for one more of a node.
     ///
-    /// Error: `AllocError`, by which no count changes; also where the count is 2^64 - 1.
+    /// Errors: `AllocError`, by which no count changes; also where the count is 2^64 - 1.
     pub(crate) fn make_room(&mut self, node: usize) -> Result<(), AllocError>
         ensures same { count_at self.new ≡ count_at self.old }
         ensures room { OnOk result (CanCount self.new node) }
@@ -66,7 +70,9 @@ impl Tally {
         }
     }
 
-    /// Counts one more of a node, where there is room. It takes no memory.
+    /// Counts one more of a node, where there is room.
+    ///
+    /// Cost: no memory.
     pub(crate) fn add(&mut self, node: usize)
         requires { CanCount self.old node }
         ensures { count_at self.new ≡ upd nat_eq (count_at self.old) node (count_at self.old node + 1) }

@@ -22,7 +22,7 @@ fn run(rt: &HostRuntime, words: &[String]) -> bool {
     }
 }
 
-// The same, each once and small, but for memory, which only Linux tells.
+// The same, each once and small, but for memory, which only Linux reports.
 fn run_each(rt: &HostRuntime) -> bool {
     values::run(rt, &[], TERMS) && values::run(rt, &[], PACKETS) && tables::run(rt, &[])
 }

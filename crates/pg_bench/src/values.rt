@@ -30,7 +30,7 @@ pub enum Sample {
     Deep,
     /// The same call, as a packet.
     Call,
-    /// What a node with 1,000 groups of 10 members each tells a peer.
+    /// What a node with 1,000 groups of 10 members each announces to a peer.
     Exchange,
 }
 
@@ -256,7 +256,7 @@ fn many(alloc: Global, work: Work<'_>, call: Call, buffer: &mut BytesMut, rounds
     done
 }
 
-// Makes each call so many times, timed. What a value can't do is not told.
+// Makes each call so many times, timed. What a value can't do has no line.
 fn measure(rt: &HostRuntime, work: Work<'_>, rounds: u64) {
     let mut buffer = BytesMut::new(rt.alloc());
     for (call, what, is_of_bytes) in CALLS {

@@ -19,7 +19,7 @@ use Rattle.pg_frame_world.specs.declared.step.FrameStep.{FrameStep}
 use Rattle.pg_cluster.specs.declared.closed.Closed.{Closed}
 use Rattle.pg_cluster.specs.declared.closed.Stopped.{Stopped}
 use Rattle.pg_cluster.specs.Clients.{AllPairs, AllHeard, ClientsRest, ports_ended}
-use Rattle.pg_cluster.specs.Closed.{JoinsToOneRun, nodes_of, logs_of, losses_of, clients_of}
+use Rattle.pg_cluster.specs.Closed.{JoinsToOneLosingRun, JoinsToOneRun, nodes_of, logs_of, losses_of, clients_of}
 use Rattle.pg_cluster.specs.Judges.{Agree}
 use Rattle.pg_cluster.specs.Ended.{AreWired, AllArrived}
 use Rattle.pg_cluster.specs.Notices.{IsOfLost, NobodyLost}
@@ -177,6 +177,17 @@ joined_run stopped (Ok closed) nodes logs is = λ nobody given joins.
     (joins closed.schedule.items (subst (λ ls. IsSchedule ls (length ls) closed.schedule.items) logs joined)))
 joined_run stopped (Err other) nodes logs is = tt
 
+-- the same, whoever was lost
+pub joined_losing_run : (stopped : Stopped) (result : Result Closed Stopped) → IfOk result (λ closed. closed.nodes.items ≡ nodes_of stopped)
+    → IfOk result (λ closed. map (λ v. v.items) closed.logs.items ≡ logs_of stopped)
+    → IfOk result (λ closed. IsLosingSchedule (map (λ v. v.items) closed.logs.items) (losses_of stopped) closed.schedule.items)
+    → IfOk result (λ closed. (given : Config) → JoinsToOneLosingRun given (losses_of stopped) (nodes_of stopped) (logs_of stopped)
+    → ∥ AreOneLosingRun given (losses_of stopped) closed.nodes.items closed.schedule.items ∥₁)
+joined_losing_run stopped (Ok closed) nodes logs is = λ given joins.
+    subst (λ ns. ∥ AreOneLosingRun given (losses_of stopped) ns closed.schedule.items ∥₁) (sym nodes)
+    (joins closed.schedule.items (subst (λ ls. IsLosingSchedule ls (losses_of stopped) closed.schedule.items) logs is))
+joined_losing_run stopped (Err other) nodes logs is = tt
+
 pub joined_agree : ((given : Config) (nodes : List NodeOf) (logs : List (Vec (ℕ × NodeEvent) Global)) (schedule : List FrameStep)
     → AreOneRun given nodes (map (λ v. v.items) logs) schedule → Agree nodes logs)
     → (stopped : Stopped) (result : Result Closed Stopped)
@@ -197,3 +208,15 @@ stopped_joins law lost threads stopped (Ok closed) ended same = tt
 stopped_joins law lost threads stopped (Err other) ended same = λ nobody given made.
     subst (λ (s : Stopped). JoinsToOneRun given (nodes_of s) (logs_of s)) (sym same)
     (λ schedule is. law given lost threads (nodes_of stopped) (logs_of stopped) schedule nobody made (ended nobody) is)
+
+-- what threads made joins to one run of the machine with losses, whoever was lost
+pub stopped_joins_losing : {K : Type 0}
+    → ((given : Config) (lost : List Bool) (threads : List (Thread K)) (nodes : List NodeOf) (logs : List (List (ℕ × NodeEvent))) (schedule : List FrameStep)
+    → AreMade given (map begun_by threads) → EndedWith lost threads nodes logs → IsLosingSchedule logs lost schedule → AreOneLosingRun given lost nodes schedule)
+    → (lost : List Bool) (threads : List (Thread K)) (stopped : Stopped) (result : Result Closed Stopped) → ∥ EndedWith lost threads (nodes_of stopped) (logs_of stopped) ∥₁
+    → IfErr result (λ other. other ≡ stopped)
+    → IfErr result (λ other. (given : Config) → AreMade given (map begun_by threads) → JoinsToOneLosingRun given lost (nodes_of other) (logs_of other))
+stopped_joins_losing law lost threads stopped (Ok closed) ended same = tt
+stopped_joins_losing law lost threads stopped (Err other) ended same = λ given made.
+    subst (λ (s : Stopped). JoinsToOneLosingRun given lost (nodes_of s) (logs_of s)) (sym same)
+    (λ schedule is. ∥∥₁_map ended (λ e. law given lost threads (nodes_of stopped) (logs_of stopped) schedule made e is))

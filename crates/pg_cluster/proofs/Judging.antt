@@ -2,8 +2,8 @@
 use Rattle.std.proofs.Common.{◌≡◌, ◌↔◌, ℕ, List, Bool, true, Option, Some, Result, Ok, Err, sym, ap, subst, ◌∙◌}
 use Rattle.std.specs.Prelude.{IfOk, IsTrue}
 use Rattle.pg_group.specs.declared.table.GroupTable.{Ghosts}
-use Rattle.pg_node.specs.declared.state.NodeState.{NodeState}
-use Rattle.pg_node.specs.Same.{AreSameNodes}
+use Rattle.pg_node_state.specs.declared.state.NodeState.{NodeState}
+use Rattle.pg_node_state.specs.Same.{AreSameNodes}
 use Rattle.pg_node.specs.declared.node.Node.{Node}
 use Rattle.pg_machine.proofs.Options.{some_is}
 use Rattle.pg_step.specs.Config.{Config}
@@ -11,7 +11,7 @@ use Rattle.pg_frame_world.specs.declared.step.FrameStep.{FrameStep}
 use Rattle.pg_frame_world.specs.declared.frame_world.FrameWorld.{FrameWorld}
 use Rattle.pg_world.specs.Crossings.{node_of}
 use Rattle.pg_frame_world.specs.Runs.{Ran, LosesNone, over_packets}
-use Rattle.pg_frame_world.specs.Views.{Seen, seen_of}
+use Rattle.pg_starts.specs.Seen.{Seen, seen_of}
 use Rattle.pg_frame_world.specs.FrameWorlds.{lost_of, view_of}
 use Rattle.pg_frame_world.specs.Worlds.{Shows, ShowsNode, TimedFrameWorld}
 use Rattle.pg_step.specs.LossLaws.{LosingFrameWorld}

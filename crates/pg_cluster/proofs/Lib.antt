@@ -18,12 +18,16 @@ pub mod Paired
 pub mod PartsSent
 pub mod Popping
 pub mod Replaying
+pub mod ReplayingLosses
+pub mod Rooms
 pub mod Scheduled
 pub mod Scheduling
 pub mod Settling
 pub mod SettlingPorts
 pub mod ShownOnce
 pub mod Starts
+pub mod Surviving
 pub mod Telling
 pub mod TellingAll
 pub mod TermsSent
+pub mod Unrefused

@@ -4,7 +4,7 @@ use Rattle.std.specs.Prelude.{slice_get, Some, IfErr, IfOk, Result, Ok, Err}
 use Rattle.std.specs.Option.{option_map}
 use Rattle.std.proofs.lemmas.Option.{slice_get-get_or, slice_get-map, slice_get_within}
 use Rattle.pg_node.specs.Nodes.{held_by}
-use Rattle.pg_node.specs.States.{names_of}
+use Rattle.pg_node_state.specs.States.{names_of}
 use Rattle.std.specs.List.{All}
 use Rattle.std.proofs.lemmas.Bool.Decides.{leb_tells}
 use Rattle.std.proofs.lemmas.List.{get_or-map, length-map}

@@ -8,7 +8,7 @@ use Rattle.rtrb.proofs.end.End.TheSendSync.{the_send as end_send}
 use Rattle.pg_frame.specs.contracts.deframer.Deframer as Deframer
 use Rattle.pg_group.specs.declared.table.GroupTable.{Ghosts}
 use Rattle.pg_node.specs.contracts.node.Node as Node
-use Rattle.pg_node.specs.contracts.state.NodeState as NodeState
+use Rattle.pg_node_state.specs.contracts.state.NodeState as NodeState
 use Rattle.pg_opens.specs.contracts.command.OpenCommand as OpenCommand
 use Rattle.pg_opens.specs.contracts.opens.Opens as Opens
 use Rattle.pg_ring.specs.contracts.ring_in.RingIn as RingIn

@@ -18,7 +18,7 @@ use Rattle.pg_index.specs.contracts.index_table.IndexTableGroupTable.TheImpl.{gh
 use Rattle.pg_joining.specs.Merge.{Merges, MergesRest, IsNext, rest_of, clocks_of, clocks_in, log_at, entry_at, merged, seen_log}
 use Rattle.pg_joining.proofs.Seen.{same_merge}
 use Rattle.pg_node.specs.Nodes.{held_by, links_of}
-use Rattle.pg_node.specs.States.{state_of}
+use Rattle.pg_node_state.specs.States.{state_of}
 use Rattle.pg_ring.specs.Ends.{Sends, Receives}
 use Rattle.pg_run.specs.declared.log.NodeEvent.{NodeEvent}
 use Rattle.pg_run.specs.declared.log.NodeEvent.TheVariants as entries
@@ -35,7 +35,7 @@ use Rattle.pg_step.specs.LossLaws.{LosingFrameWorld}
 use Rattle.pg_step.specs.Step.{Action, Issue, Retry}
 use Rattle.pg_joining.proofs.Turns.{first_none, others_none, saw_none, SeesNone}
 use Rattle.pg_joining.specs.Apart.{End, HaveRun, Linked as LinkedBy, Crossed, RanApart, RanTogether, event_at, events_in, end_of}
-use Rattle.pg_joining.specs.ApartWithLosses.{RanLosing, RanPastLosses, SeesLost, clock_of, losing_events, nodes_in}
+use Rattle.pg_joining.specs.ApartWithLosses.{MarkedReaches, RanLosing, RanPastLosses, SeesLost, clock_of, is_last_notice, losing_events, nodes_in}
 use Rattle.pg_frame_world.specs.declared.step.FrameStep.{FrameStep}
 use Rattle.pg_frame_world.specs.declared.step.FrameStep.TheVariants as steps
 use Rattle.pg_world.specs.Crossings.{node_of}
@@ -51,8 +51,9 @@ use Rattle.pg_cluster.specs.Schedule.{IsLosingSchedule, IsSchedule, is_lost_in, 
 use Rattle.pg_cluster.specs.Threads.{NodeOf, RunOf, RanOf, Thread, AreMade, EndedWith, begun_by, lasts_ended, node_in, row_in, log_in, rows_begun, rows_ended, notices_ended}
 use Rattle.pg_cluster.specs.Together.{AreOneLosingRun, AreOneRun, losing_event}
 use Rattle.pg_cluster.proofs.Alike.{leads_alike}
-use Rattle.pg_cluster.proofs.Scheduled.{IsSmall, steps_alike}
+use Rattle.pg_cluster.proofs.Scheduled.{IsSmall, marked_event, steps_alike, steps_keep}
 use Rattle.pg_cluster.proofs.Telling.{all_first, none_seen}
+use Rattle.pg_cluster.proofs.Unrefused.{all_made, events_lead}
 
 abbrev pub Linked : Type 0
 Linked = LinkedBy IndexTable ghosts
@@ -413,14 +414,19 @@ module _ {K : Type 0} (given : Config) (lost : List Bool) (threads : List (Threa
       → RanPastLosses config (is_lost_in lost) end (losing_events (length config) (λ i. log_of (end i)) (is_lost_in lost) is.order) → AreOneLosingRun given lost nodes schedule
   losing_run_by schedule is survive past =
       let alike = steps_alike (length config) logs (λ i. log_of (end i)) lost log_count log_is log_small (λ i. clocks_of (log_of (end i))) is.order schedule (merges is.order is.merges) is.is in
-      let reached : LosingReaches config (map losing_event schedule) past.u =
-      leads_alike (losing_frame_machine config) last_notice (nobody_gone (start_of (losing_frame_machine config))) (losing_events (length config) (λ i. log_of (end i)) (is_lost_in lost) is.order)
-      (map losing_event schedule) past.u alike past.reached in record {
+      let marked : MarkedReaches config (map marked_event schedule) past.u =
+      leads_alike (losing_frame_machine config) last_notice is_last_notice (nobody_gone (start_of (losing_frame_machine config)))
+      (losing_events (length config) (λ i. log_of (end i)) (is_lost_in lost) is.order) (map marked_event schedule) past.u alike past.marked in
+      let reached : LosingReaches config (map losing_event schedule) past.u = events_lead config schedule (nobody_gone (start_of (losing_frame_machine config))) past.u marked in
+      let keeps = steps_keep (length config) logs (λ i. log_of (end i)) lost log_count log_is log_small (λ i. clocks_of (log_of (end i))) is.order schedule (merges is.order is.merges) is.is in
+      let apart = made.begins.2.traffic.nodes.apart in
+      let in_turn = all_made config apart [] schedule (nobody_gone (start_of (losing_frame_machine config))) past.u refl marked keeps in record {
         config = config;
         orders = made.begins.1;
         apart = made.begins.2.traffic.nodes.apart;
         u = past.u;
         reached = reached;
+        made = in_turn;
         gone = past.gone;
         size = node_count;
         shown = λ i node at. subst (λ (x : NodeOf). ShowsNode config (nodes_in past.u) i (node_of x)) (sym (is_node i node at)) (past.nodes i (within i node at));

@@ -25,7 +25,8 @@ use Rattle.pg_config.specs.declared.fault.WorldFault.TheVariants.{OutOfMemory}
 use Rattle.pg_world.specs.Crossings.{node_of}
 use Rattle.pg_frame_world.specs.Openings.{CantBegin}
 use Rattle.pg_frame_world.specs.Runs.{IsTold, IsPassed, LosesNone, Ran, RunsTo, over_packets, number_told}
-use Rattle.pg_frame_world.specs.Views.{Seen, View}
+use Rattle.pg_starts.specs.Seen.{Seen}
+use Rattle.pg_frame_world.specs.Views.{View}
 use Rattle.pg_frame_world.specs.Worlds.{TimedFrameWorld, Shows, ShowsNode, ShowsNodes, event_of, told, told_of_first}
 use Rattle.pg_cluster.specs.Judges.{AreShown, Replays, all_made, ran_out}
 use Rattle.pg_cluster.specs.Threads.{NodeOf}
@@ -38,7 +39,7 @@ use Rattle.pg_cluster.proofs.ShownOnce.{shown_once}
 -- ---- what is told of an event that happens
 
 -- a turn of the machine is one that the node tells
-turn_told : (config : Config) (clock : ℕ) (made : Result NodeTurn Refusal) (turn : Turn (Timed State) (Stamped Message) Report)
+pub turn_told : (config : Config) (clock : ℕ) (made : Result NodeTurn Refusal) (turn : Turn (Timed State) (Stamped Message) Report)
     → clocked_turn CLOCK_LIMIT clock (placed config made) ≡ Some turn → (told : TimedTurn) × (node_turn clock made ≡ Ok told)
 turn_told config clock (Err refusal) turn e = absurd cc
 turn_told config clock (Ok made) turn e = (at_clock clock made, go (nat_le clock CLOCK_LIMIT) e)
@@ -80,10 +81,10 @@ passed_ten config w u (steps.Lose i keep) e number is happened passed = absurd p
 
 -- ---- the whole run
 
-none_first : (number : ℕ) (b : Bool) → (nat_eq number 10 || b) ≡ false → number ≡ 10 → ⊥
+pub none_first : (number : ℕ) (b : Bool) → (nat_eq number 10 || b) ≡ false → number ≡ 10 → ⊥
 none_first number b none is = absurd (let clash = sym none ∙ ap (λ n. nat_eq n 10 || b) is in cc)
 
-none_later : (a b : Bool) → (a || b) ≡ false → b ≡ false
+pub none_later : (a b : Bool) → (a || b) ≡ false → b ≡ false
 none_later true b e = absurd cc
 none_later false b e = e
 

@@ -3,16 +3,17 @@ use Rattle.std.proofs.Common.{◌≡◌, ◌≢◌, ◌<◌, ◌≤◌, ◌+◌,
 use Rattle.std.specs.List.{AllByRecursion}
 use Rattle.std.proofs.Math.ListN.{get_or-append}
 use Rattle.std.proofs.Math.Seq.{get_or-append_seam}
-use Rattle.std.proofs.lemmas.Bool.{cases_eq, cases_lt, eq-eqb, le-ltb, lt-ltb, ltb-false, ltb-true, ne_eqb}
-use Rattle.std.proofs.lemmas.List.{append-nil, map-append}
+use Rattle.std.proofs.lemmas.Bool.{cases_eq, cases_lt, eq-eqb, le-ltb, lt-ltb, ne_eqb}
+use Rattle.std.proofs.lemmas.List.{map-append}
 use Rattle.pg_joining.specs.Merge.{IsNext, Merges, MergesRest, entry_at, log_at, rest_of}
-use Rattle.pg_machine.specs.Losing.{LosingEvent, Lose, Step}
-use Rattle.pg_machine.specs.Places.{is_pair, set_at}
+use Rattle.pg_joining.specs.Losses.{Marked}
+use Rattle.pg_joining.proofs.Acts.{all_append}
+use Rattle.pg_machine.specs.Losing.{Lose}
+use Rattle.pg_machine.specs.Places.{set_at}
 use Rattle.pg_run.specs.declared.log.NodeEvent.{NodeEvent}
 use Rattle.pg_run.specs.declared.log.NodeEvent.TheVariants as entries
 use Rattle.pg_step.specs.Step.{Action}
-use Rattle.pg_joining.specs.Apart.{event_at}
-use Rattle.pg_joining.specs.ApartWithLosses.{Logs, events_behind, loss_before, losses_first as events_first, losing_events, takes_in, takes_of}
+use Rattle.pg_joining.specs.ApartWithLosses.{Logs, events_behind, loss_before, losses_first as events_first, losing_events, marked_at, takes_in, takes_of}
 use Rattle.pg_frame_world.specs.declared.step.FrameStep.{FrameStep}
 use Rattle.pg_frame_world.specs.declared.step.FrameStep.TheVariants as steps
 use Rattle.pg_frame_world.specs.Losing.{keep_of}
@@ -22,21 +23,42 @@ use Rattle.pg_cluster.specs.Schedule.{SeenStep, Lost, Turned, is_alone, is_last_
 use Rattle.pg_cluster.specs.Together.{losing_event}
 use Rattle.pg_cluster.proofs.Alike.{AreAlike, IsAlike, alike_append}
 
--- the event of a step as it is seen
-abbrev pub event_seen : SeenStep → LosingEvent Action
-event_seen (Turned step) = losing_event step
-event_seen (Lost node keep) = Lose node (keep_of node keep)
+-- a step sees a loss
+abbrev pub is_sight : FrameStep → Bool
+is_sight (steps.Take node peer) = false
+is_sight (steps.Command node port command) = false
+is_sight (steps.Retry node op) = false
+is_sight (steps.SeeLoss node peer) = true
+is_sight (steps.Lose node keep) = false
 
-seen_alike : (step : FrameStep) → losing_event step ≡ event_seen (seen_step step)
+-- the event of a step, and whether a last notice is taken by it
+abbrev pub marked_event : FrameStep → Marked Action
+marked_event step = (losing_event step, is_sight step)
+
+-- those of a step as it is seen
+abbrev pub event_seen : SeenStep → Marked Action
+event_seen (Turned step) = marked_event step
+event_seen (Lost node keep) = (Lose node (keep_of node keep), false)
+
+seen_alike : (step : FrameStep) → marked_event step ≡ event_seen (seen_step step)
 seen_alike (steps.Take node peer) = refl
 seen_alike (steps.Command node port command) = refl
 seen_alike (steps.Retry node op) = refl
 seen_alike (steps.SeeLoss node peer) = refl
 seen_alike (steps.Lose node keep) = refl
 
-pub all_seen : (schedule : List FrameStep) → map losing_event schedule ≡ map event_seen (map seen_step schedule)
+pub all_seen : (schedule : List FrameStep) → map marked_event schedule ≡ map event_seen (map seen_step schedule)
 all_seen [] = refl
 all_seen (step ∷ schedule) = λ j. seen_alike step j ∷ all_seen schedule j
+
+-- a loss keeps so many packets for each peer
+abbrev pub KeepsEach : ℕ → SeenStep → Type 0
+KeepsEach n (Turned step) = Unit {0}
+KeepsEach n (Lost node keep) = length keep ≡ n - 1
+
+each_seen : (n : ℕ) (schedule : List FrameStep) → AllByRecursion (KeepsEach n) (map seen_step schedule) → AllByRecursion (λ step. KeepsEach n (seen_step step)) schedule
+each_seen n [] all = tt
+each_seen n (step ∷ schedule) all = (all.0, each_seen n schedule all.1)
 
 -- the peer of an event is at a place that a machine word counts
 abbrev pub IsSmall : NodeEvent → Type 0
@@ -52,9 +74,9 @@ peer_small i peer low = go (nat_lt peer i)
     go true = refl
     go false = omega (arith, low)
 
-step_alike : (i : ℕ) (e : NodeEvent) → IsSmall e → Step (event_at i e) ≡ event_seen (Turned (step_as i e))
-step_alike i (entries.Take peer) low = ap (λ p. losing_event (steps.Take i p)) (sym (peer_small i peer low))
-step_alike i (entries.SeeLoss peer) low = ap (λ p. losing_event (steps.SeeLoss i p)) (sym (peer_small i peer low))
+step_alike : (i : ℕ) (e : NodeEvent) → IsSmall e → marked_at i e ≡ event_seen (Turned (step_as i e))
+step_alike i (entries.Take peer) low = ap (λ p. marked_event (steps.Take i p)) (sym (peer_small i peer low))
+step_alike i (entries.SeeLoss peer) low = ap (λ p. marked_event (steps.SeeLoss i p)) (sym (peer_small i peer low))
 step_alike i (entries.Command port command) low = refl
 step_alike i (entries.Retry op) low = refl
 
@@ -138,10 +160,13 @@ module _ (n : ℕ) (logs : List (List (ℕ × NodeEvent))) (at : Logs) (lost : L
 
   loss_alike : (i : ℕ) → i < n → (order : List (ℕ × ℕ)) → IsAlike n (loss_before at i order) (event_seen (loss_seen logs i order))
   loss_alike i low order = (
+    (
+      refl,
+      λ y pair.
+          let p = pair_is n i y pair in
+          takes_same i y p.1 order ∙ (sym (keeps_at logs i order y n p.1 p.2) ∙ ap (λ k. get_or (keeps logs i order k) (peer_place i y) 0) (sym size)),
+    ),
     refl,
-    λ y pair.
-        let p = pair_is n i y pair in
-        takes_same i y p.1 order ∙ (sym (keeps_at logs i order y n p.1 p.2) ∙ ap (λ k. get_or (keeps logs i order k) (peer_place i y) 0) (sym size)),
   )
 
   loss_if_alike : (i : ℕ) → i < n → (due : Bool) (order : List (ℕ × ℕ)) → AreAlike n (cond due (loss_before at i order ∷ []) []) (map event_seen (loss_if due logs i order))
@@ -157,12 +182,12 @@ module _ (n : ℕ) (logs : List (List (ℕ × NodeEvent))) (at : Logs) (lost : L
       (subst (λ log. AreAlike n (cond (is_lost_in lost k && nat_eq (length log) 0) (loss_before at k order ∷ []) []) (map event_seen (loss_if (is_alone logs lost k) logs k order))) (same k less)
       (loss_if_alike k less (is_alone logs lost k) order)))
 
-  entries_alike : (i : ℕ) (es : List NodeEvent) → AllByRecursion IsSmall es → AreAlike n (map (λ e. Step (event_at i e)) es) (map event_seen (map (λ e. Turned (step_as i e)) es))
+  entries_alike : (i : ℕ) (es : List NodeEvent) → AllByRecursion IsSmall es → AreAlike n (map (marked_at i) es) (map event_seen (map (λ e. Turned (step_as i e)) es))
   entries_alike i [] all = tt
   entries_alike i (e ∷ es) all = (step_so e (step_alike i e all.0), entries_alike i es all.1)
     where
-      step_so : (e : NodeEvent) → Step (event_at i e) ≡ event_seen (Turned (step_as i e)) → IsAlike n (Step (event_at i e)) (event_seen (Turned (step_as i e)))
-      step_so e is = subst (IsAlike n (Step (event_at i e))) is refl
+      step_so : (e : NodeEvent) → marked_at i e ≡ event_seen (Turned (step_as i e)) → IsAlike n (marked_at i e) (event_seen (Turned (step_as i e)))
+      step_so e is = subst (IsAlike n (marked_at i e)) is (refl, refl)
 
   entry_small : (log : List (ℕ × NodeEvent)) (place : ℕ) → AllByRecursion (λ entry. IsSmall entry.1) log → AllByRecursion IsSmall (entry_at log place)
   entry_small [] zero all = tt
@@ -180,15 +205,15 @@ module _ (n : ℕ) (logs : List (List (ℕ × NodeEvent))) (at : Logs) (lost : L
       subst (AreAlike n (events_behind at (is_lost_in lost) (x ∷ order))) (sym (map-append event_seen (steps_at logs lost x order) (steps_behind logs lost order)))
       (alike_append n _ (map event_seen (steps_at logs lost x order)) _ _
       (subst (AreAlike n _) (sym (map-append event_seen (map (λ event. Turned (step_as x.0 event)) (entry_at (log_at logs x.0) x.1)) (loss_if (is_last_of logs lost x) logs x.0 order)))
-      (alike_append n (map (λ e. Step (event_at x.0 e)) (entry_at (at x.0) x.1)) (map event_seen (map (λ event. Turned (step_as x.0 event)) (entry_at (log_at logs x.0) x.1))) _ _
-      (subst (λ log. AreAlike n (map (λ e. Step (event_at x.0 e)) (entry_at (at x.0) x.1)) (map event_seen (map (λ event. Turned (step_as x.0 event)) (entry_at log x.1)))) (sym here)
+      (alike_append n (map (marked_at x.0) (entry_at (at x.0) x.1)) (map event_seen (map (λ event. Turned (step_as x.0 event)) (entry_at (log_at logs x.0) x.1))) _ _
+      (subst (λ log. AreAlike n (map (marked_at x.0) (entry_at (at x.0) x.1)) (map event_seen (map (λ event. Turned (step_as x.0 event)) (entry_at log x.1)))) (sym here)
       (entries_alike x.0 (entry_at (at x.0) x.1) (entry_small (at x.0) x.1 (small x.0 low))))
       (subst (λ log. AreAlike n (cond (is_lost_in lost x.0 && nat_eq (x.1 + 1) (length log)) (loss_before at x.0 order ∷ []) []) (map event_seen (loss_if (is_last_of logs lost x) logs x.0 order))) here
       (loss_if_alike x.0 low (is_last_of logs lost x) order))))
       (behind_alike clocks order (set_at read x.0 (x.1 + 1)) merges.2))
 
   pub steps_alike : (clocks : ℕ → List ℕ) (order : List (ℕ × ℕ)) (schedule : List FrameStep) → Merges n clocks order → map seen_step schedule ≡ losing_steps logs lost order
-      → AreAlike n (losing_events n at (is_lost_in lost) order) (map losing_event schedule)
+      → AreAlike n (losing_events n at (is_lost_in lost) order) (map marked_event schedule)
   steps_alike clocks order schedule merges is =
       subst (AreAlike n (losing_events n at (is_lost_in lost) order))
       (sym (all_seen schedule ∙ (ap (map event_seen) is
@@ -196,3 +221,34 @@ module _ (n : ℕ) (logs : List (List (ℕ × NodeEvent))) (at : Logs) (lost : L
       ∙ ap (λ k. map event_seen (losses_first logs lost order k) ++ map event_seen (steps_behind logs lost order)) size))))
       (alike_append n (events_first at (is_lost_in lost) order n) (map event_seen (losses_first logs lost order n)) (events_behind at (is_lost_in lost) order) (map event_seen (steps_behind logs lost order))
       (first_alike order n (omega arith)) (behind_alike clocks order (λ i. 0) merges))
+
+  -- ---- what losses keep
+
+  loss_keeps : (i : ℕ) → i < n → (due : Bool) (order : List (ℕ × ℕ)) → AllByRecursion (KeepsEach n) (loss_if due logs i order)
+  loss_keeps i low true order = (ap (λ k. length (keeps logs i order k)) size ∙ (keeps_long logs i order n ∙ ap (λ b. cond {A = ℕ} b (n - 1) n) (lt-ltb i n low)), tt)
+  loss_keeps i low false order = tt
+
+  first_keeps : (order : List (ℕ × ℕ)) (k : ℕ) → k ≤ n → AllByRecursion (KeepsEach n) (losses_first logs lost order k)
+  first_keeps order zero low = tt
+  first_keeps order (suc k) low = all_append (KeepsEach n) (losses_first logs lost order k) (loss_if (is_alone logs lost k) logs k order)
+      (first_keeps order k (omega (arith, low))) (loss_keeps k (omega (arith, low)) (is_alone logs lost k) order)
+
+  entries_keep : (i : ℕ) (es : List NodeEvent) → AllByRecursion (KeepsEach n) (map (λ event. Turned (step_as i event)) es)
+  entries_keep i [] = tt
+  entries_keep i (e ∷ es) = (tt, entries_keep i es)
+
+  behind_keeps : (clocks : ℕ → List ℕ) (order : List (ℕ × ℕ)) (read : ℕ → ℕ) → MergesRest n clocks read order → AllByRecursion (KeepsEach n) (steps_behind logs lost order)
+  behind_keeps clocks [] read merges = tt
+  behind_keeps clocks (x ∷ order) read merges =
+      let next : IsNext n (rest_of clocks read) x.0 = merges.1 in
+      all_append (KeepsEach n) (steps_at logs lost x order) (steps_behind logs lost order)
+      (all_append (KeepsEach n) (map (λ event. Turned (step_as x.0 event)) (entry_at (log_at logs x.0) x.1)) (loss_if (is_last_of logs lost x) logs x.0 order)
+      (entries_keep x.0 (entry_at (log_at logs x.0) x.1)) (loss_keeps x.0 next.there (is_last_of logs lost x) order))
+      (behind_keeps clocks order (set_at read x.0 (x.1 + 1)) merges.2)
+
+  pub steps_keep : (clocks : ℕ → List ℕ) (order : List (ℕ × ℕ)) (schedule : List FrameStep) → Merges n clocks order → map seen_step schedule ≡ losing_steps logs lost order
+      → AllByRecursion (λ step. KeepsEach n (seen_step step)) schedule
+  steps_keep clocks order schedule merges is =
+      each_seen n schedule (subst (AllByRecursion (KeepsEach n)) (sym is)
+      (all_append (KeepsEach n) (losses_first logs lost order (length logs)) (steps_behind logs lost order)
+      (first_keeps order (length logs) (omega (arith, size))) (behind_keeps clocks order (λ i. 0) merges)))

@@ -21,7 +21,7 @@ use Rattle.pg_step.specs.Config.{Config, name_at}
 use Rattle.pg_step.specs.Nodes.{Node}
 use Rattle.pg_step.specs.State.{Response}
 use Rattle.pg_step.specs.State.Response.{Given, Read}
-use Rattle.pg_frame_world.specs.Views.{Seen}
+use Rattle.pg_starts.specs.Seen.{Seen}
 use Rattle.pg_frame_world.specs.Worlds.{TimedFrameWorld, AreAnswers, ShowsNode}
 use Rattle.pg_frame_world.proofs.OneList.{names_one}
 

@@ -17,7 +17,7 @@ use Rattle.pg_run.proofs.Moving.{nil_first}
 use Rattle.pg_run.specs.Runs.{notices_at}
 use Rattle.pg_cluster.specs.Clients.{AllPairs}
 use Rattle.pg_cluster.specs.ClientsLaws.{each_set, slot_in_on, slot_out_on}
-use Rattle.pg_cluster.specs.Notices.{IsOfLost, NobodyLost, IsSilent, Notified, NotifiedUpTo, SaysLost, Told, SameTellers, notice_for}
+use Rattle.pg_cluster.specs.Notices.{AllNotified, IsOfLost, NobodyLost, IsSilent, SaysLost, Told, SameTellers, notice_for}
 use Rattle.pg_cluster.specs.Threads.{Thread, RanOf, Joined, begun_by, notices_begun, notices_ended}
 use Rattle.pg_cluster.proofs.Hearing.{first_ran, others_ran}
 use Rattle.pg_cluster.proofs.Paired.{pairs_none, pairs_push, pairs_append, pairs_by}
@@ -111,19 +111,16 @@ module _ (lost : List Bool) (lasts lasts2 : List ℕ) (tellers tellers2 : List (
     tt,
   )
 
-  pub says_on : NotifiedUpTo k last (length tellers) tellers tellers2 → SaysLost lost lasts tellers → SaysLost (set lost k true) lasts2 tellers2
-  says_on told says place none low = go (cases_lt place (length tellers))
+  pub says_on : length tellers ≡ length lost → AllNotified k last tellers tellers2 → SaysLost lost lasts tellers → SaysLost (set lost k true) lasts2 tellers2
+  says_on count told says place none low =
+      subst (AllByRecursion (New place)) (sym (told place none (omega (arith, within_old, count))))
+      (all_both (New place) (given (get_or tellers place none)) (notice_for place k last) old (new_lost place (cases_eq place k)))
     where
+      within_old : place < length lost
+      within_old = let n = length-set lost k true in omega (arith, low, n)
+
       old : AllByRecursion (New place) (given (get_or tellers place none))
-      old = all_turned (Old place) (New place) (given (get_or tellers place none)) (still_lost place) (says place none (let n = length-set lost k true in omega (arith, low, n)))
-
-      by : Notified place k last (get_or tellers place none) (get_or tellers2 place none) → AllByRecursion (New place) (given (get_or tellers2 place none))
-      by (inl is) = subst (AllByRecursion (New place)) (sym is) (all_both (New place) (given (get_or tellers place none)) (notice_for place k last) old (new_lost place (cases_eq place k)))
-      by (inr full) = subst (AllByRecursion (New place)) (sym full.0) old
-
-      go : (place < length tellers) ⊎ (length tellers ≤ place) → AllByRecursion (New place) (given (get_or tellers2 place none))
-      go (inl less) = by (told.told place none less)
-      go (inr more) = subst (λ (t : SlotOut Notice). AllByRecursion (New place) (given t)) (sym (told.rest place none more)) old
+      old = all_turned (Old place) (New place) (given (get_or tellers place none)) (still_lost place) (says place none within_old)
 
 one_of : {A : Type 0} (xs : List A) (k : ℕ) → k < length xs → A
 one_of [] k low = absurd (omega (arith, low))

@@ -1,9 +1,9 @@
 -- The clients of a cluster: at which ports they are, and what of that which they said and heard its nodes did.
 use Rattle.std.specs.Prelude.{◌≡◌, ℕ, ◌<◌, cond, nat_eq, get_or, length, map, List, [], ◌∷◌, ◌++◌}
 use Rattle.std.specs.List.{flat_map}
-use Rattle.pg_node.specs.Issued.{ports_of}
+use Rattle.pg_node_state.specs.Issued.{ports_of}
 use Rattle.pg_node.specs.Nodes.{held_by}
-use Rattle.pg_node.specs.States.{names_of, answers_of}
+use Rattle.pg_node_state.specs.States.{names_of, answers_of}
 use Rattle.pg_run.specs.declared.log.NodeEvent.{NodeEvent}
 use Rattle.pg_run.specs.declared.log.NodeEvent.TheVariants as events
 use Rattle.pg_run.specs.declared.port.Asked.{Asked}

@@ -8,10 +8,10 @@ use Rattle.pg_cluster.specs.declared.closed.Stopped.{Stopped}
 use Rattle.pg_cluster.specs.declared.cluster.Cluster.{Cluster}
 use Rattle.pg_cluster.specs.Members.{last_of, threads_in, losses_in}
 use Rattle.pg_cluster.specs.Clients.{AllPairs}
-use Rattle.pg_cluster.specs.Notices.{NotifiedUpTo, Told}
-use Rattle.pg_cluster.specs.Schedule.{IsSchedule}
+use Rattle.pg_cluster.specs.Notices.{AllNotified, Told}
+use Rattle.pg_cluster.specs.Schedule.{IsSchedule, IsLosingSchedule}
 use Rattle.pg_cluster.specs.Threads.{Joined, NodeOf, RanOf, Thread, notices_ended}
-use Rattle.pg_cluster.specs.Together.{AreOneRun}
+use Rattle.pg_cluster.specs.Together.{AreOneLosingRun, AreOneRun}
 use Rattle.pg_step.specs.Config.{Config}
 use Rattle.pg_frame_world.specs.declared.step.FrameStep.{FrameStep}
 
@@ -26,11 +26,11 @@ tellers_of cluster = cluster.tellers.items
 abbrev pub lasts_of : {K : Type 0} → Cluster K → List ℕ
 lasts_of cluster = map last_of cluster.members.items
 
--- Each other node was told that this one was lost, with its clock at last.
+-- Each other node was told that this one was lost, with its clock at last, and nothing else.
 pub record AllTold {K : Type 0} (node : ℕ) (a b : Cluster K) : Type 0 where
   pub last : ℕ
   pub clock : slice_get (lasts_of b) node ≡ Some last
-  pub told : NotifiedUpTo node last (length (tellers_of a)) (tellers_of a) (tellers_of b)
+  pub told : AllNotified node last (tellers_of a) (tellers_of b)
 
 -- What came of the notices at each node, as its thread ended, is, in order, the first of what the node was told.
 pub record NoticesCame {K : Type 0} (tellers : List (SlotOut Notice)) (threads : List (Thread K)) : Type 0 where
@@ -58,3 +58,7 @@ clients_of stopped = stopped.clients.items
 -- where such logs join to a schedule, that is one run of the configuration, in which these nodes ended
 abbrev pub JoinsToOneRun : Config → List NodeOf → List (List (ℕ × NodeEvent)) → Type 0
 JoinsToOneRun given nodes logs = (schedule : List FrameStep) → IsSchedule logs (length logs) schedule → AreOneRun given nodes logs schedule
+
+-- where such logs, with the losses of these nodes, join to a schedule, that is one run of the machine with losses
+abbrev pub JoinsToOneLosingRun : Config → List Bool → List NodeOf → List (List (ℕ × NodeEvent)) → Type 0
+JoinsToOneLosingRun given lost nodes logs = (schedule : List FrameStep) → IsLosingSchedule logs lost schedule → ∥ AreOneLosingRun given lost nodes schedule ∥₁

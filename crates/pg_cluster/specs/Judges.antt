@@ -8,7 +8,7 @@ use Rattle.pg_term.specs.declared.term.Term.{Term}
 use Rattle.pg_group.specs.declared.table.GroupTable.{Ghosts}
 use Rattle.pg_node.specs.declared.node.Node.{Node}
 use Rattle.pg_node.specs.Nodes.{held_by}
-use Rattle.pg_node.specs.States.{kept_by, left_of}
+use Rattle.pg_node_state.specs.States.{kept_by, left_of}
 use Rattle.pg_run.specs.declared.log.NodeEvent.{NodeEvent}
 use Rattle.pg_run.specs.declared.log.NodeEvent.TheVariants as events
 use Rattle.pg_step.specs.declared.command.Command.TheVariants.{Finish}
@@ -19,7 +19,7 @@ use Rattle.pg_world.specs.Crossings.{node_of}
 use Rattle.pg_frame_world.specs.Runs.{Ran, over_packets}
 use Rattle.pg_joining.specs.ApartWithLosses.{nodes_in}
 use Rattle.pg_frame_world.specs.LosingRuns.{RanLosing, packets_past_losses}
-use Rattle.pg_frame_world.specs.Views.{Seen}
+use Rattle.pg_starts.specs.Seen.{Seen}
 use Rattle.pg_frame_world.specs.Worlds.{ShowsNode}
 
 -- one of the steps that have these numbers was refused since memory ran out

@@ -11,5 +11,6 @@ pub mod Room
 pub mod Rows
 pub mod Running
 pub mod Schedule
+pub mod Survivors
 pub mod Threads
 pub mod Together

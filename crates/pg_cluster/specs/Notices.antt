@@ -1,5 +1,5 @@
 -- Which nodes of a cluster were lost, and what the others were told of it.
-use Rattle.std.specs.Prelude.{◌≡◌, ◌≢◌, ◌⊎◌, ◌<◌, ◌≤◌, ℕ, nat_eq, Bool, true, false, cond, List, [], ◌∷◌, ◌++◌, get_or, length}
+use Rattle.std.specs.Prelude.{◌≡◌, ◌≢◌, ◌<◌, ◌≤◌, ℕ, nat_eq, Bool, true, false, cond, List, [], ◌∷◌, ◌++◌, ◌+◌, get_or, length}
 use Rattle.std.specs.List.{All, AllByRecursion}
 use Rattle.pg_ring.specs.declared.slot_in.SlotIn.{SlotIn}
 use Rattle.pg_ring.specs.declared.slot_out.SlotOut.{SlotOut}
@@ -15,9 +15,13 @@ NobodyLost lost = All (λ one. one ≡ false) lost
 abbrev pub IsSilent : SlotOut Notice → Type 0
 IsSilent teller = given teller ≡ []
 
--- the two ends of one ring, over which nothing went
+-- there is room for a notice of each of 16 nodes
+abbrev pub IsRoomy : SlotOut Notice → Type 0
+IsRoomy teller = slots_free teller ≡ 16
+
+-- the two ends of one ring, over which nothing went, with room for a notice of each node
 abbrev pub IsFresh : SlotOut Notice → SlotIn Notice → Type 0
-IsFresh teller inlet = AreSlots teller inlet × IsSilent teller
+IsFresh teller inlet = AreSlots teller inlet × IsSilent teller × IsRoomy teller
 
 -- what came is, in order, the first of what was told there
 pub record Told (teller : SlotOut Notice) (inlet : SlotIn Notice) : Type 0 where
@@ -47,11 +51,31 @@ abbrev pub SaysLost : List Bool → List ℕ → List (SlotOut Notice) → Type 
 SaysLost lost lasts tellers = (place : ℕ) (none : SlotOut Notice) → place < length lost
     → AllByRecursion (IsOfLost (length lost) (λ node. get_or lost node false) (λ node. get_or lasts node 0) place) (given (get_or tellers place none))
 
--- it was told so, or no room was left for that
+-- the node at a place was told so, after what it was told before
 abbrev pub Notified : (place node last : ℕ) → SlotOut Notice → SlotOut Notice → Type 0
-Notified place node last a b = (given b ≡ given a ++ notice_for place node last) ⊎ ((given b ≡ given a) × (slots_free b ≡ 0))
+Notified place node last a b = given b ≡ given a ++ notice_for place node last
 
--- each node before a place was told so, and none behind it was told anything
+-- each node was told so
+abbrev pub AllNotified : (node last : ℕ) (a b : List (SlotOut Notice)) → Type 0
+AllNotified node last a b = (place : ℕ) (none : SlotOut Notice) → place < length a → Notified place node last (get_or a place none) (get_or b place none)
+
+-- The node at a place was told so if there was room for a notice, of which at most one is gone.
+pub record NotifiedIfRoom (place node last : ℕ) (a b : SlotOut Notice) : Type 0 where
+  pub told : 0 < slots_free a → Notified place node last a b
+  pub room : slots_free a ≤ slots_free b + 1
+
+-- each node before a place was told so if there was room, and of the others none was told anything
 pub record NotifiedUpTo (node last place : ℕ) (a b : List (SlotOut Notice)) : Type 0 where
-  pub told : (i : ℕ) (none : SlotOut Notice) → i < place → Notified i node last (get_or a i none) (get_or b i none)
+  pub told : (i : ℕ) (none : SlotOut Notice) → i < place → NotifiedIfRoom i node last (get_or a i none) (get_or b i none)
   pub rest : (i : ℕ) (none : SlotOut Notice) → place ≤ i → get_or b i none ≡ get_or a i none
+
+-- how many nodes were not lost
+abbrev pub count_running : List Bool → ℕ
+count_running [] = 0
+count_running (true ∷ lost) = count_running lost
+count_running (false ∷ lost) = count_running lost + 1
+
+-- At each node there is room for a notice of each node that was not lost.
+pub record HaveRoom (lost : List Bool) (tellers : List (SlotOut Notice)) : Type 0 where
+  pub count : length tellers ≡ length lost
+  pub room : (place : ℕ) (none : SlotOut Notice) → place < length tellers → count_running lost ≤ slots_free (get_or tellers place none)

@@ -1,6 +1,8 @@
 -- A cluster with its clients and its configuration, in one hand.
 use Rattle.std.specs.Prelude.{◌≡◌, ◌≢◌, ℕ, Bool, List, get_or, length}
 use Rattle.rand_pcg.specs.Lcg.{Lcg}
+use Rattle.pg_ring.specs.declared.slot_out.SlotOut.{SlotOut}
+use Rattle.pg_run.specs.declared.notices.Notice.{Notice}
 use Rattle.pg_run.specs.declared.port.Asked.{Asked}
 use Rattle.pg_run.specs.declared.port.Client.{Client}
 use Rattle.pg_run.specs.Ports.{submitted, polled}
@@ -9,7 +11,7 @@ use Rattle.pg_config.specs.declared.config.Config.{Config}
 use Rattle.pg_cluster.specs.declared.cluster.Cluster.{Cluster}
 use Rattle.pg_cluster.specs.declared.running.Running.{Running}
 use Rattle.pg_cluster.specs.Clients.{SameClients}
-use Rattle.pg_cluster.specs.Closed.{threads_of, lost_of}
+use Rattle.pg_cluster.specs.Closed.{tellers_of, threads_of, lost_of}
 use Rattle.pg_cluster.specs.Threads.{Thread}
 
 -- its clients, those of the first node first
@@ -26,6 +28,10 @@ threads_in running = threads_of running.cluster
 
 abbrev pub losses_in : Running → List Bool
 losses_in running = lost_of running.cluster
+
+-- where each of its nodes is told of losses
+abbrev pub tellers_in : Running → List (SlotOut Notice)
+tellers_in running = tellers_of running.cluster
 
 -- nothing but what the client at a place said and heard is changed
 pub record OnlyClient (place : ℕ) (a b : Running) : Type 0 where

@@ -6,7 +6,7 @@ use Rattle.pg_index.specs.declared.index_table.IndexTable.{IndexTable}
 use Rattle.pg_index.specs.contracts.index_table.IndexTableGroupTable.TheImpl.{ghosts}
 use Rattle.pg_node.specs.declared.node.Node.{Node}
 use Rattle.pg_node.specs.Nodes.{held_by}
-use Rattle.pg_node.specs.States.{names_of, state_of}
+use Rattle.pg_node_state.specs.States.{names_of, state_of}
 use Rattle.pg_ring.specs.declared.ring_out.RingOut.{RingOut}
 use Rattle.pg_ring.specs.declared.ring_in.RingIn.{RingIn}
 use Rattle.pg_ring.specs.declared.slot_in.SlotIn.{SlotIn}

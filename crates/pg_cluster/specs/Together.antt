@@ -1,5 +1,5 @@
 -- What a cluster that has ended did, as one run of its configuration.
-use Rattle.std.specs.Prelude.{◌≡◌, ℕ, ◌<◌, Bool, true, false, length, map, slice_get, List, Some}
+use Rattle.std.specs.Prelude.{◌≡◌, ℕ, ◌<◌, Bool, true, false, length, map, slice_get, List, [], ◌∷◌, None, Some}
 use Rattle.std.specs.List.{IsDistinct}
 use Rattle.pg_term.specs.Same.{same_atom}
 use Rattle.pg_machine.specs.Machine.{Event, start_of}
@@ -11,7 +11,7 @@ use Rattle.pg_joining.specs.Merge.{log_at}
 use Rattle.pg_node.specs.Nodes.{links_of}
 use Rattle.pg_run.specs.declared.log.NodeEvent.{NodeEvent}
 use Rattle.pg_step.specs.Config.{Config, names_of}
-use Rattle.pg_step.specs.FrameMachine.{frame_machine}
+use Rattle.pg_step.specs.FrameMachine.{frame_machine, last_notice, losing_frame_machine}
 use Rattle.pg_step.specs.Step.{Action}
 use Rattle.pg_joining.specs.Apart.{event_at}
 use Rattle.pg_frame_world.specs.declared.step.FrameStep.{FrameStep}
@@ -19,7 +19,7 @@ use Rattle.pg_world.specs.Crossings.{node_of}
 use Rattle.pg_frame_world.specs.Starts.{Orders}
 use Rattle.pg_frame_world.specs.Views.{peer_place}
 use Rattle.pg_frame_world.specs.Worlds.{TimedFrameWorld, ShowsNode, event_of}
-use Rattle.pg_machine.specs.Losing.{LosingEvent, Step, Lose}
+use Rattle.pg_machine.specs.Losing.{LosingEvent, Step, Lose, losing_happens, nobody_gone}
 use Rattle.pg_machine.specs.Machine.{Take, Do}
 use Rattle.pg_loss.specs.Reached.{LosingReaches}
 use Rattle.pg_loss.specs.Survived.{LossesSurvived}
@@ -27,7 +27,7 @@ use Rattle.pg_step.specs.LossLaws.{LosingFrameWorld}
 use Rattle.pg_step.specs.Step.{Issue, Retry}
 use Rattle.pg_joining.specs.ApartWithLosses.{nodes_in}
 use Rattle.pg_frame_world.specs.declared.step.FrameStep.TheVariants as steps
-use Rattle.pg_frame_world.specs.Losing.{keep_of}
+use Rattle.pg_frame_world.specs.Losing.{Telling, keep_of, told_of}
 use Rattle.pg_cluster.specs.Schedule.{is_lost_in}
 use Rattle.pg_cluster.specs.Threads.{NodeOf}
 
@@ -60,6 +60,18 @@ losing_event (steps.Retry i op) = Step (Do i (Retry op))
 losing_event (steps.SeeLoss i p) = Step (Take i p)
 losing_event (steps.Lose i keep) = Lose i (keep_of i keep.items)
 
+-- nothing refuses a step, and a packet is on the way if it takes one
+pub record CanBeMade (told : Telling) : Type 0 where
+  pub allowed : told.refusal ≡ None
+  pub busy : told.is_idle ≡ false
+
+-- From the world u each of these steps can be made, one after another, and they lead to the world v.
+abbrev pub MadeInTurn : Config → LosingFrameWorld → List FrameStep → LosingFrameWorld → Type 0
+MadeInTurn config u [] v = u ≡ v
+MadeInTurn config u (step ∷ schedule) v =
+    CanBeMade (told_of config u step)
+    × (x : LosingFrameWorld) × (losing_happens (losing_frame_machine config) last_notice u (losing_event step) ≡ Some x) × MadeInTurn config x schedule v
+
 -- The steps of a schedule are events of the machine with losses that happen one after another from the start of a configuration. They
 -- lead to a world in which just these nodes are lost, that shows each node as it ended, and of which all holds that survives losses.
 pub record AreOneLosingRun (given : Config) (lost : List Bool) (nodes : List NodeOf) (schedule : List FrameStep) : Type 0 where
@@ -70,6 +82,8 @@ pub record AreOneLosingRun (given : Config) (lost : List Bool) (nodes : List Nod
   pub apart : IsDistinct same_atom (names_of config)
   pub u : LosingFrameWorld
   pub reached : LosingReaches config (map losing_event schedule) u
+  -- no step is refused or finds nothing on the way: a loss is seen by its last notice, and what is taken is a packet
+  pub made : MadeInTurn config (nobody_gone (start_of (losing_frame_machine config))) schedule u
   pub gone : (i : ℕ) → i < length config → u.gone i ≡ is_lost_in lost i
   pub size : length nodes ≡ length config
   pub shown : (i : ℕ) (node : NodeOf) → slice_get nodes i ≡ Some node → ShowsNode config (nodes_in u) i (node_of node)

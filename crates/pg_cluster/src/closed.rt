@@ -47,12 +47,14 @@ pub struct Closed {
 }
 
 impl Stopped {
-    ghost use Rattle.pg_cluster.specs.Closed.{JoinsToOneRun, nodes_of, logs_of, losses_of, clients_of};
+    ghost use Rattle.pg_cluster.specs.Closed.{JoinsToOneLosingRun, JoinsToOneRun, nodes_of, logs_of, losses_of, clients_of};
     ghost use Rattle.pg_cluster.specs.Judges.{Agree};
-    ghost use Rattle.pg_cluster.specs.Together.{AreOneRun};
+    ghost use Rattle.pg_cluster.specs.Together.{AreOneLosingRun, AreOneRun};
     ghost use Rattle.pg_step.specs.Config.{Config as Configuration};
 
-    /// A cluster whose threads have ended. It takes no memory.
+    /// A cluster whose threads have ended.
+    ///
+    /// Cost: no memory.
     pub(crate) fn new(
         alloc: Global,
         nodes: Vec<Node<IndexTable>>,
@@ -74,10 +76,10 @@ impl Stopped {
         }
     }
 
-    /// The nodes as they ended, their logs, and the schedule to which these join; the loss of each node that was lost stands behind
-    /// its last event.
+    /// The nodes as they ended, their logs, and the schedule to which these join; the loss of each node that was lost
+    /// comes after its last event.
     ///
-    /// Error: where there is no memory for the schedule, what stopped, unchanged.
+    /// Errors: where there is no memory for the schedule, what stopped, unchanged.
     pub fn finish(self) -> Result<Closed, Stopped>
         ensures nodes { IfOk result (λ closed. closed.nodes.items ≡ nodes_of self) }
         ensures logs { IfOk result (λ closed. map (λ v. v.items) closed.logs.items ≡ logs_of self) }
@@ -88,6 +90,8 @@ impl Stopped {
             → AreOneRun given closed.nodes.items (map (λ v. v.items) closed.logs.items) closed.schedule.items) }
         ensures agree { IfOk result (λ closed. NobodyLost (losses_of self) → (given : Configuration) → JoinsToOneRun given (nodes_of self) (logs_of self)
             → Agree closed.nodes.items closed.logs.items) }
+        ensures losing_run { IfOk result (λ closed. (given : Configuration) → JoinsToOneLosingRun given (losses_of self) (nodes_of self) (logs_of self)
+            → ∥ AreOneLosingRun given (losses_of self) closed.nodes.items closed.schedule.items ∥₁) }
         ensures clients { IfOk result (λ closed. closed.clients.items ≡ clients_of self) }
         ensures lost { IfOk result (λ closed. closed.lost.items ≡ losses_of self) }
         ensures err { IfErr result (λ stopped. stopped ≡ self) }
@@ -98,7 +102,7 @@ impl Stopped {
 
     /// The same, with the schedule to which the logs join.
     ///
-    /// Error: where there is no memory for the schedule, what stopped, unchanged.
+    /// Errors: where there is no memory for the schedule, what stopped, unchanged.
     fn with_schedule(self) -> Result<Closed, Stopped>
         ensures nodes { IfOk result (λ closed. closed.nodes.items ≡ nodes_of self) }
         ensures logs { IfOk result (λ closed. map (λ v. v.items) closed.logs.items ≡ logs_of self) }
@@ -176,7 +180,9 @@ pub(crate) fn stopped_of<K: Rng + Drop>(
     Stopped::new(alloc, nodes, logs, clients, lost)
 }
 
-/// What the threads gave back, taken apart, in the order of the nodes. It takes no memory.
+/// What the threads gave back, taken apart, in the order of the nodes.
+///
+/// Cost: no memory.
 fn parts_of<K: Rng + Drop>(rans: Vec<NodeRan<K>>, room: Room) -> Room
     requires { HasRoom room (length rans.items) (length (ports_ended rans.items)) }
     ensures nodes { result.nodes.items ≡ map (λ ran. node_in ran.run) rans.items }
@@ -214,7 +220,7 @@ impl Room {
 
     /// Room for so many nodes, with so many ports.
     ///
-    /// Error: `AllocError`.
+    /// Errors: `AllocError`.
     pub fn with_capacity(alloc: Global, count: usize, places: usize) -> Result<Room, AllocError>
         ensures { IfOk result (λ room. IsRoomFor room count places) }
     {

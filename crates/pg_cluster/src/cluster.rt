@@ -6,7 +6,7 @@ ghost use Rattle.pg_ring.specs.Slots.{AreSlots};
 ghost use Rattle.pg_cluster.specs.Clients.{AllPairs, ports_begun};
 ghost use Rattle.pg_cluster.specs.Ended.{AreWired};
 ghost use Rattle.pg_cluster.specs.Members.{lasts_in, losses_in, threads_in};
-ghost use Rattle.pg_cluster.specs.Notices.{IsSilent as IsSilentTeller, NobodyLost as IsNobodyLost, SaysLost};
+ghost use Rattle.pg_cluster.specs.Notices.{HaveRoom, IsSilent as IsSilentTeller, NobodyLost as IsNobodyLost, SaysLost};
 ghost use Rattle.pg_cluster.specs.Room.{HasRoom};
 ghost use Rattle.pg_cluster.specs.Threads.{rows_begun, notices_begun};
 
@@ -45,6 +45,7 @@ pub struct Cluster<K: Rng + Drop> {
     ghost room_fits: { HasRoom room (vec_len members) (length (ports_begun (threads_in members.items))) },
     ghost wired: { AreWired (length (threads_in members.items)) (rows_begun (threads_in members.items)) },
     ghost told: { AllPairs AreSlots tellers.items (notices_begun (threads_in members.items)) },
+    ghost roomy: { HaveRoom (losses_in members.items) tellers.items },
     ghost untold: { IsNobodyLost (losses_in members.items) → AllOf IsSilentTeller tellers.items },
     ghost says: { ∥ SaysLost (losses_in members.items) (lasts_in members.items) tellers.items ∥₁ },
 }
@@ -63,7 +64,7 @@ impl<K: Rng + Drop> Kept<K> {
 
     /// Room for so many nodes, with so many ports.
     ///
-    /// Error: `AllocError`.
+    /// Errors: `AllocError`.
     fn with_capacity(alloc: Global, nodes: usize, ports: usize) -> Result<Kept<K>, AllocError>
         ensures rans { IfOk result (λ kept. (vec_len kept.rans ≡ 0) × (nodes ≤ vec_capacity kept.rans)) }
         ensures lost { IfOk result (λ kept. (vec_len kept.lost ≡ 0) × (nodes ≤ vec_capacity kept.lost)) }
@@ -79,10 +80,10 @@ impl<K: Rng + Drop> Kept<K> {
 impl<K: Rng + Drop + Send + 'static> Cluster<K> {
     ghost use Rattle.pg_run.specs.Ports.{IsSilent};
     ghost use Rattle.pg_cluster.specs.Clients.{AreClients, ClientsRest, AllHeard};
-    ghost use Rattle.pg_cluster.specs.Closed.{AllTold, JoinsToOneRun, NoticesCame, tellers_of, threads_of, lost_of, nodes_of, logs_of, losses_of, clients_of};
+    ghost use Rattle.pg_cluster.specs.Closed.{AllTold, JoinsToOneLosingRun, JoinsToOneRun, NoticesCame, tellers_of, threads_of, lost_of, nodes_of, logs_of, losses_of, clients_of};
     ghost use Rattle.pg_cluster.specs.Fault.{CantRun};
     ghost use Rattle.pg_cluster.specs.Notices.{NobodyLost};
-    ghost use Rattle.pg_node.specs.declared.state.fault.NodeFault.TheVariants.{Refused};
+    ghost use Rattle.pg_node_state.specs.declared.state.fault.NodeFault.TheVariants.{Refused};
     ghost use Rattle.pg_step.specs.declared.refusal.Refusal.TheVariants.{NoSuchPlace, NodeLost};
     ghost use Rattle.std.specs.List.{All};
     ghost use Rattle.pg_cluster.specs.Threads.{AreMade, EndedWith, begun_by, limit_of};
@@ -92,12 +93,13 @@ impl<K: Rng + Drop + Send + 'static> Cluster<K> {
     ghost use Rattle.pg_cluster.specs.Schedule.{IsSchedule, IsLosingSchedule};
     ghost use Rattle.pg_cluster.specs.Together.{AreOneRun, AreOneLosingRun};
 
-    /// Starts a thread for each node of a configuration, with rings of so many bytes between them: the cluster, and a client for
-    /// each port, those of the first node first. `generators`: of the pauses, one for each node. `gate`: what each node passes at
-    /// the start of each turn. `limit`: how many turns a node makes at most. It may wait for threads.
+    /// Starts a thread for each node of a configuration, with rings of so many bytes between them: the cluster, and a
+    /// client for each port, those of the first node first. `generators`: of the pauses, one for each node. `gate`:
+    /// what each node passes at the start of each turn. `limit`: how many turns a node makes at most. It may wait for
+    /// threads.
     ///
-    /// Faults: `World`, exactly as `World::new` tells them; `NoThread`, where a thread can't be started: those that run are stopped and
-    /// joined.
+    /// Errors: `World`, exactly as `World::new` gives them; `NoThread`, where a thread can't be started: those that
+    /// run are stopped and joined.
     pub fn start<G: Gate + Drop + Send + Sync + 'static, R: Threads>(
         rt: &R,
         alloc: Global,
@@ -150,11 +152,12 @@ impl<K: Rng + Drop + Send + 'static> Cluster<K> {
         }
     }
 
-    /// A node is lost for good: its thread is stopped and joined, and each other node is told of it, with the clock of the node at
-    /// last. `node`: its place. What it had sent and what had reached the others by then they still take. It waits for the thread.
+    /// A node is lost for good: its thread is stopped and joined, and each other node is told of it, with the clock
+    /// of the node at last. `node`: its place. What it had sent and what had reached the others by then they still
+    /// take. It waits for the thread.
     ///
-    /// Faults, which change nothing: `Refused` by `NoSuchPlace` where there is no such node, and by `NodeLost` where it was lost
-    /// before.
+    /// Errors, which change nothing: `Refused` by `NoSuchPlace` where there is no such node, and by `NodeLost` where
+    /// it was lost before.
     pub fn lose<R: Threads>(&mut self, rt: &R, node: usize) -> Result<(), NodeFault>
         ensures place { (result ≡ Err (Refused NoSuchPlace)) ↔ (length (lost_of self.old) ≤ node) }
         ensures again { (result ≡ Err (Refused NodeLost)) ↔ (slice_get (lost_of self.old) node ≡ Some true) }
@@ -177,12 +180,13 @@ impl<K: Rng + Drop + Send + 'static> Cluster<K> {
         Ok(())
     }
 
-    /// Stops the threads and joins them: the nodes as they ended, their logs, and the schedule to which these join, which is one run
-    /// of the configuration that was started unless nodes were lost, and what of that which the clients said and heard is in it. The
-    /// loss of a node stands behind its last event, with as many packets kept for each other node as that takes later. `clients`:
-    /// those that `start` gave, in their order. It may wait for threads.
+    /// Stops the threads and joins them: the nodes as they ended, their logs, and the schedule to which these join,
+    /// which is one run of the configuration that was started unless nodes were lost, and what of that which the
+    /// clients said and heard is in it. The loss of a node comes after its last event, with as many packets kept
+    /// for each other node as that takes later. `clients`: those that `start` gave, in their order. It may wait for
+    /// threads.
     ///
-    /// Error: where there is no memory for the schedule, what stopped, of which `finish` tries again.
+    /// Errors: where there is no memory for the schedule, what stopped, of which `finish` tries again.
     pub fn close<R: Threads>(self, rt: &R, clients: Vec<Client>) -> Result<Closed, Stopped>
         requires clients { AreClients (threads_of self) clients.items }
         ensures ended { MatchResult result
@@ -204,6 +208,8 @@ impl<K: Rng + Drop + Send + 'static> Cluster<K> {
         ensures lost { MatchResult result (λ closed. closed.lost.items ≡ lost_of self) (λ stopped. losses_of stopped ≡ lost_of self) }
         ensures joins { IfErr result (λ stopped. NobodyLost (lost_of self) → (given : Configuration) → AreMade given (map begun_by (threads_of self))
             → JoinsToOneRun given (nodes_of stopped) (logs_of stopped)) }
+        ensures joins_losing { IfErr result (λ stopped. (given : Configuration) → AreMade given (map begun_by (threads_of self))
+            → JoinsToOneLosingRun given (lost_of self) (nodes_of stopped) (logs_of stopped)) }
         ensures told { ∥ NoticesCame (tellers_of self) (threads_of self) ∥₁ }
         ensures clients { MatchResult result (λ closed. ClientsRest clients.items closed.clients.items) (λ stopped. ClientsRest clients.items (clients_of stopped)) }
     {

@@ -1,6 +1,6 @@
 //! Whether a cluster that has ended came to what its schedule says, and to one opinion.
 
-ghost use Rattle.std.specs.Prelude.{◌≡◌, ◌≢◌, ◌↔◌, true, false, IsTrue, IfOk, Some, map, slice_get};
+ghost use Rattle.std.specs.Prelude.{◌≡◌, ◌≢◌, ◌↔◌, Bool, true, false, IsTrue, IfOk, List, Some, map, slice_get};
 ghost use Rattle.std.specs.List.{All, list_all, list_any};
 ghost use Rattle.pg_world.specs.Crossings.{node_of};
 ghost use Rattle.pg_frame_world.specs.FrameWorlds.{view_of as view_of_world};
@@ -35,12 +35,14 @@ impl Closed {
     ghost use Rattle.pg_frame_world.specs.Runs.{LosesNone};
     ghost use Rattle.pg_cluster.specs.Judges.{Agree, AreShown, Replays, ReplaysPastLosses, all_made, ran_out};
     ghost use Rattle.pg_frame_world.specs.Openings.{CanBegin};
-    ghost use Rattle.pg_cluster.specs.Together.{AreOneRun};
+    ghost use Rattle.pg_cluster.specs.Together.{AreOneRun, AreOneLosingRun};
 
-    /// Whether the nodes agree: formed nodes have the same of each group whose lock one node sees free, or an end is pending that
-    /// a log tells of. Its cost is that of the list of each group of each node, for each other node.
+    /// Whether the nodes agree: formed nodes have the same of each group whose lock one node sees free, or an end is
+    /// pending that a log has.
     ///
-    /// Error: `AllocError`.
+    /// Errors: `AllocError`.
+    ///
+    /// Cost: that of the list of each group of each node, for each other node.
     pub fn agrees(&self, alloc: Global) -> Result<bool, AllocError>
         ensures { IfOk result (λ yes. IsTrue yes ↔ Agree self.now.nodes.items self.now.logs.items) }
     {
@@ -51,14 +53,18 @@ impl Closed {
         are_one(alloc, nodes)
     }
 
-    /// Whether the schedule, made step by step from the start of this configuration, comes to the same nodes, and no step of it is
-    /// refused: never no of what `Cluster::close` gives, where no node was lost, and the configuration that was started. Its cost is that of the steps, and of `NodeState::same` of
-    /// each node.
+    /// Whether the schedule, made step by step from the start of this configuration, comes to the same nodes, and no
+    /// step of it is refused: never no of what `Cluster::close` gives, whoever was lost, and the configuration that was
+    /// started.
     ///
-    /// Error: `AllocError`, also where a step was refused for memory.
+    /// Errors: `AllocError`, also where a step was refused for memory.
+    ///
+    /// Cost: that of the steps, and of `NodeState::same` of each node.
     pub fn replays(&self, alloc: Global, config: &Config) -> Result<bool, AllocError>
         ensures one_run { IfOk result (λ yes. CanBegin config.now.ring config.now.starts.items
             → AreOneRun config.now.starts.items self.now.nodes.items (map (λ v. v.items) self.now.logs.items) self.now.schedule.items → yes ≡ true) }
+        ensures losing_run { IfOk result (λ yes. (lost : List Bool) → CanBegin config.now.ring config.now.starts.items
+            → AreOneLosingRun config.now.starts.items lost self.now.nodes.items self.now.schedule.items → yes ≡ true) }
         ensures replays { IfOk result (λ yes. IsTrue yes → LosesNone self.now.schedule.items → Replays config.now.starts.items self.now.schedule.items self.now.nodes.items) }
         ensures losing { IfOk result (λ yes. IsTrue yes → ReplaysPastLosses config.now.starts.items self.now.schedule.items self.now.nodes.items) }
     {
@@ -89,9 +95,9 @@ impl Closed {
     }
 }
 
-/// What is told of a schedule where no world could begin: it does not replay.
+/// What is said of a schedule where no world could begin: it does not replay.
 ///
-/// Error: `AllocError`, where that was for memory.
+/// Errors: `AllocError`, where that was for memory.
 fn unbegun(fault: WorldFault) -> Result<bool, AllocError>
     ensures { IfOk result (λ yes. (yes ≡ false) × (fault ≢ WorldFault.OutOfMemory)) }
 {
@@ -141,7 +147,7 @@ fn shows_one(
     }
 }
 
-/// Whether these logs tell of an end that some of these nodes have taken and not all.
+/// Whether these logs have an end that some of these nodes have taken and not all.
 fn is_end_pending(nodes: &[Node<IndexTable>], logs: &[Vec<LogEntry>]) -> bool
     ensures { result ≡ is_some_pending nodes.now logs.now }
 {

@@ -4,7 +4,7 @@ ghost use Rattle.std.specs.declared.vec.Vec.{Vec};
 ghost use Rattle.pg_run.specs.declared.log.NodeEvent.{NodeEvent};
 ghost use Rattle.pg_step.specs.Config.{Config};
 ghost use Rattle.pg_frame_world.specs.declared.step.FrameStep.{FrameStep};
-ghost use Rattle.pg_cluster.specs.Judges.{Agree, Replays};
+ghost use Rattle.pg_cluster.specs.Judges.{Agree, Replays, ReplaysPastLosses};
 ghost use Rattle.pg_cluster.specs.Notices.{NobodyLost};
 ghost use Rattle.pg_cluster.specs.Schedule.{IsSchedule, IsLosingSchedule};
 ghost use Rattle.pg_cluster.specs.Threads.{NodeOf, Thread, AreMade, EndedWith, begun_by};
@@ -15,7 +15,7 @@ use pg_joining::{nodes_ran_together, nodes_ran_together_past_losses};
 use pg_loss::each_world_past_losses;
 
 /// The nodes of a configuration that ran as threads, with rings between them, and of which none was lost, made one run: their schedule is events that happen one
-/// after another from the start, each node does there what its log tells and comes to where it ended, and of the world to which
+/// after another from the start, each node does there what its log has and comes to where it ended, and of the world to which
 /// they lead everything holds that `one_history` of pg_history says.
 pub fn threads_are_one_run<K>()
     ensures { (given : Config) (lost : List Bool) (threads : List (Thread K)) (nodes : List NodeOf) (logs : List (List (ℕ × NodeEvent))) (schedule : List FrameStep)
@@ -50,4 +50,10 @@ pub fn nodes_of_one_run_agree()
 pub fn one_run_replays()
     ensures { (given : Config) (nodes : List NodeOf) (logs : List (List (ℕ × NodeEvent))) (schedule : List FrameStep)
         → AreOneRun given nodes logs schedule → Replays given schedule nodes }
+{}
+
+/// So does that of one run in which nodes were lost.
+pub fn one_losing_run_replays()
+    ensures { (given : Config) (lost : List Bool) (nodes : List NodeOf) (schedule : List FrameStep)
+        → AreOneLosingRun given lost nodes schedule → ReplaysPastLosses given schedule nodes }
 {}

@@ -23,7 +23,9 @@ impl<K: Rng + Drop + Send + 'static> Member<K> {
     ghost use Rattle.pg_cluster.specs.Promises.{RanAs};
     ghost use Rattle.pg_cluster.specs.Threads.{begun_by, limit_of};
 
-    /// A node whose thread was started. It takes no memory.
+    /// A node whose thread was started.
+    ///
+    /// Cost: no memory.
     pub fn new(thread: NodeThread<K>) -> Member<K>
         ensures thread { thread_of result ≡ thread }
         ensures lost { is_lost result ≡ false }
@@ -36,7 +38,9 @@ impl<K: Rng + Drop + Send + 'static> Member<K> {
         }
     }
 
-    /// Whether the node was lost. It takes no memory.
+    /// Whether the node was lost.
+    ///
+    /// Cost: no memory.
     pub fn is_lost(&self) -> bool
         ensures { result ≡ is_lost self.now }
     {

@@ -4,7 +4,7 @@ ghost use Rattle.std.specs.Prelude.{◌≡◌, length};
 ghost use Rattle.pg_frame_world.specs.Views.{peer_place};
 ghost use Rattle.pg_ring.specs.Slots.{AreSlots, SameSlotOut};
 ghost use Rattle.pg_cluster.specs.Clients.{AllPairs};
-ghost use Rattle.pg_cluster.specs.Notices.{SameTellers, Notified, NotifiedUpTo, Told};
+ghost use Rattle.pg_cluster.specs.Notices.{SameTellers, NotifiedIfRoom, NotifiedUpTo, Told};
 
 use pg_ring::{SlotIn, SlotOut, slots_together};
 use pg_run::Notice;
@@ -23,7 +23,7 @@ fn place_among(other: usize, node: usize) -> usize
     }
 }
 
-/// Tells each other node that a node was lost, whose clock was this at last.
+/// Tells each other node that has room for a notice that a node was lost, whose clock was this at last.
 pub(crate) fn tell_all(tellers: &mut Vec<Teller>, node: usize, last: u32)
     ensures same { SameTellers tellers.old.items tellers.new.items }
     ensures told { NotifiedUpTo node last (length tellers.old.items) tellers.old.items tellers.new.items }
@@ -33,10 +33,10 @@ pub(crate) fn tell_all(tellers: &mut Vec<Teller>, node: usize, last: u32)
     }
 }
 
-/// Tells the node at a place of the loss of another.
+/// Tells the node at a place of the loss of another, if there is room for a notice.
 fn tell(teller: &mut Teller, place: usize, node: usize, last: u32)
     ensures same { SameSlotOut teller.old teller.new }
-    ensures told { Notified place node last teller.old teller.new }
+    ensures told { NotifiedIfRoom place node last teller.old teller.new }
 {
     if place != node {
         let peer = place_among(place, node);

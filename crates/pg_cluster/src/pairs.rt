@@ -59,7 +59,7 @@ pub(crate) fn settle_ports(ports: &mut Vec<Port>, clients: &mut Vec<Client>)
     }
 }
 
-/// Moves ports behind others, for which there is room.
+/// Moves ports after others, for which there is room.
 pub(crate) fn move_ports(all: &mut Vec<Port>, ports: Vec<Port>)
     requires room { vec_len all.old + vec_len ports ≤ vec_capacity all.old }
     ensures items { all.new.items ≡ all.old.items ++ ports.items }

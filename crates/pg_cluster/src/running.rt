@@ -43,24 +43,25 @@ pub struct Running {
 impl Running {
     ghost use Rattle.std.specs.Prelude.{◌<◌, ◌++◌, ◌∷◌, [], ◌↔◌, ◌≤◌, ◌⊎◌, true, get_or, IfErr, IfSome, IfNone, OnOk, OnErr, Some, Err, MatchResult, slice_get, slice_set};
     ghost use Rattle.std.specs.List.{All};
-    ghost use Rattle.pg_node.specs.declared.state.fault.NodeFault.TheVariants.{Refused};
+    ghost use Rattle.pg_node_state.specs.declared.state.fault.NodeFault.TheVariants.{Refused};
     ghost use Rattle.pg_run.specs.Ports.{IsSilent, polled_count};
     ghost use Rattle.pg_run.specs.declared.port.Client.{Client as ClientEnd};
     ghost use Rattle.pg_step.specs.declared.refusal.Refusal.TheVariants.{NoSuchPlace, NodeLost};
     ghost use Rattle.pg_cluster.specs.Clients.{AllHeard, ClientsRest};
-    ghost use Rattle.pg_cluster.specs.Closed.{nodes_of, logs_of, losses_of, clients_of};
+    ghost use Rattle.pg_cluster.specs.Closed.{AllTold, JoinsToOneLosingRun, JoinsToOneRun, NoticesCame, nodes_of, logs_of, losses_of, clients_of};
     ghost use Rattle.pg_cluster.specs.Fault.{CantRun};
     ghost use Rattle.pg_cluster.specs.Judges.{Agree};
     ghost use Rattle.pg_cluster.specs.Notices.{NobodyLost};
-    ghost use Rattle.pg_cluster.specs.Running.{clients_in, config_in, threads_in, losses_in, submitted_at, polled_at, OnlyClient};
+    ghost use Rattle.pg_cluster.specs.Running.{clients_in, config_in, tellers_in, threads_in, losses_in, submitted_at, polled_at, OnlyClient};
     ghost use Rattle.pg_cluster.specs.Threads.{limit_of, EndedWith};
-    ghost use Rattle.pg_cluster.specs.Together.{AreOneRun};
+    ghost use Rattle.pg_cluster.specs.Schedule.{IsSchedule, IsLosingSchedule};
+    ghost use Rattle.pg_cluster.specs.Together.{AreOneLosingRun, AreOneRun};
 
-    /// Starts a thread for each node of a configuration, and a client for each port. `seed`: of the pauses of the first node; that of
-    /// each further node is one more, and wraps. `gate`: what each node passes at the start of each turn. `limit`: how many turns a
-    /// node makes at most. It may wait for threads.
+    /// Starts a thread for each node of a configuration, and a client for each port. `seed`: of the pauses of the
+    /// first node; that of each further node is one more, and wraps. `gate`: what each node passes at the start of
+    /// each turn. `limit`: how many turns a node makes at most. It may wait for threads.
     ///
-    /// Faults: those of `Cluster::start`.
+    /// Errors: those of `Cluster::start`.
     pub fn start<G: Gate + Drop + Send + Sync + 'static, R: Threads>(
         rt: &R,
         alloc: Global,
@@ -93,14 +94,18 @@ impl Running {
         }
     }
 
-    /// How many clients there are. It takes no memory.
+    /// How many clients there are.
+    ///
+    /// Cost: no memory.
     pub fn client_count(&self) -> usize
         ensures { result ≡ length (clients_in self.now) }
     {
         self.clients.len()
     }
 
-    /// The configuration that it was started with. It takes no memory.
+    /// The configuration that it was started with.
+    ///
+    /// Cost: no memory.
     pub fn config(&self) -> &Config
         ensures { result.now ≡ config_in self.now }
     {
@@ -133,12 +138,13 @@ impl Running {
 
     /// A node is lost for good, as by `Cluster::lose`. It may wait for threads.
     ///
-    /// Faults: those of `Cluster::lose`, which change nothing.
+    /// Errors: those of `Cluster::lose`, which change nothing.
     pub fn lose<R: Threads>(&mut self, rt: &R, node: usize) -> Result<(), NodeFault>
         ensures place { (result ≡ Err (Refused NoSuchPlace)) ↔ (length (losses_in self.old) ≤ node) }
         ensures again { (result ≡ Err (Refused NodeLost)) ↔ (slice_get (losses_in self.old) node ≡ Some true) }
         ensures fault { IfErr result (λ fault. (fault ≡ Refused NoSuchPlace) ⊎ (fault ≡ Refused NodeLost)) }
         ensures lost { OnOk result (losses_in self.new ≡ slice_set (losses_in self.old) node true) }
+        ensures told { OnOk result (AllTold node self.old.cluster self.new.cluster) }
         ensures err { OnErr result (self.new ≡ self.old) }
         ensures clients { clients_in self.new ≡ clients_in self.old }
         ensures threads { threads_in self.new ≡ threads_in self.old }
@@ -158,6 +164,13 @@ impl Running {
         ensures one_run { IfOk result.0 (λ closed. NobodyLost (losses_in self)
             → ∥ AreOneRun (config_in self).starts.items closed.nodes.items (map (λ v. v.items) closed.logs.items) closed.schedule.items ∥₁) }
         ensures agree { IfOk result.0 (λ closed. NobodyLost (losses_in self) → ∥ Agree closed.nodes.items closed.logs.items ∥₁) }
+        ensures schedule { IfOk result.0 (λ closed. NobodyLost (losses_in self) → IsSchedule (map (λ v. v.items) closed.logs.items) (length closed.logs.items) closed.schedule.items) }
+        ensures events { IfOk result.0 (λ closed. IsLosingSchedule (map (λ v. v.items) closed.logs.items) (losses_in self) closed.schedule.items) }
+        ensures losing_run { IfOk result.0 (λ closed. ∥ AreOneLosingRun (config_in self).starts.items (losses_in self) closed.nodes.items closed.schedule.items ∥₁) }
+        ensures joins { IfErr result.0 (λ stopped. NobodyLost (losses_in self)
+            → ∥ JoinsToOneRun (config_in self).starts.items (nodes_of stopped) (logs_of stopped) ∥₁) }
+        ensures joins_losing { IfErr result.0 (λ stopped. ∥ JoinsToOneLosingRun (config_in self).starts.items (losses_in self) (nodes_of stopped) (logs_of stopped) ∥₁) }
+        ensures told { ∥ NoticesCame (tellers_in self) (threads_in self) ∥₁ }
         ensures heard { MatchResult result.0
             (λ closed. ∥ AllHeard (threads_in self) closed.nodes.items (map (λ v. v.items) closed.logs.items) (clients_in self) ∥₁)
             (λ stopped. ∥ AllHeard (threads_in self) (nodes_of stopped) (logs_of stopped) (clients_in self) ∥₁) }

@@ -33,9 +33,10 @@ pub(crate) struct Made<K: Drop> {
     pub clients: Vec<Client>,
 }
 
-/// The nodes of a configuration as they start, with rings between them and a client at each port. `generators`: one for each node.
+/// The nodes of a configuration as they start, with rings between them and a client at each port. `generators`: one
+/// for each node.
 ///
-/// Faults: those of `World::new`.
+/// Errors: those of `World::new`.
 pub(crate) fn make<K: Rng + Drop>(
     alloc: Global,
     config: &Config,
@@ -60,7 +61,7 @@ pub(crate) fn make<K: Rng + Drop>(
 
 /// The same of these nodes with these links, and a generator for each.
 ///
-/// Fault: `World` of `OutOfMemory`.
+/// Errors: `World` of `OutOfMemory`.
 fn make_all<K: Rng + Drop>(
     alloc: Global,
     nodes: Vec<Node<IndexTable>>,
@@ -118,7 +119,7 @@ impl<K: Rng + Drop> Made<K> {
 
     /// A further node, which has a link to each of its peers, with its clients.
     ///
-    /// Fault: `World` of `OutOfMemory`.
+    /// Errors: `World` of `OutOfMemory`.
     fn add(
         &mut self,
         alloc: Global,
@@ -158,7 +159,7 @@ impl<K: Rng + Drop> Made<K> {
     }
 
     /// Room for a further node, and what it is run with beside its links. Its clients, and where it is stopped and told of losses,
-    /// come behind the others.
+    /// come after the others.
     fn open(&mut self, alloc: Global, ports: usize) -> Result<Ends, StartFault>
         ensures runs { self.new.runs.items ≡ self.old.runs.items }
         ensures room { OnOk result (vec_len self.new.runs < vec_capacity self.new.runs) }
@@ -200,9 +201,9 @@ struct Ends {
     notices: SlotIn<Notice>,
 }
 
-/// So many ports; their clients come behind the others.
+/// So many ports; their clients come after the others.
 ///
-/// Error: `AllocError`.
+/// Errors: `AllocError`.
 fn open_ports(
     alloc: Global,
     count: usize,

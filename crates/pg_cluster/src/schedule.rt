@@ -13,7 +13,7 @@ use std::alloc::{AllocError, Global};
 
 /// An equal command.
 ///
-/// Error: `AllocError`.
+/// Errors: `AllocError`.
 fn copy_command(alloc: Global, command: &Command) -> Result<Command, AllocError>
     ensures { IfOk result (λ copy. copy ≡ command.now) }
 {
@@ -50,7 +50,7 @@ fn node_of_peer(node: usize, peer: usize) -> usize
 
 /// The step of a world that the event of a node is.
 ///
-/// Error: `AllocError`.
+/// Errors: `AllocError`.
 fn step_of(alloc: Global, node: usize, event: &NodeEvent) -> Result<FrameStep, AllocError>
     ensures { IfOk result (λ step. step ≡ step_as node event.now) }
 {
@@ -74,7 +74,7 @@ fn step_of(alloc: Global, node: usize, event: &NodeEvent) -> Result<FrameStep, A
 
 /// Adds the step that the entry at a place of a log is, if one is there.
 ///
-/// Error: `AllocError`.
+/// Errors: `AllocError`.
 fn add_step(
     alloc: Global,
     logs: &[Vec<LogEntry>],
@@ -93,12 +93,12 @@ fn add_step(
     Ok(())
 }
 
-/// The steps that the entries of these logs are, in this order, each given by its log and its place there, with the losses of the nodes
-/// that were lost. Each loss stands behind the node's last entry, and those of nodes that did nothing come first. Of
-/// what is on the way from a lost node to each other as many packets stay as that takes by the entries that follow. Takes a look at
-/// the entries behind each loss for each node.
+/// The steps that the entries of these logs are, in this order, each given by its log and its place there, with the
+/// losses of the nodes that were lost. Each loss comes after the node's last entry, and those of nodes that did
+/// nothing come first. Of what is on the way from a lost node to each other as many packets stay as that takes by the
+/// entries that follow. Takes a look at the entries after each loss for each node.
 ///
-/// Error: `AllocError`.
+/// Errors: `AllocError`.
 pub(crate) fn steps_with_losses(
     alloc: Global,
     logs: &[Vec<LogEntry>],
@@ -120,7 +120,7 @@ pub(crate) fn steps_with_losses(
 
 /// Adds the loss of a node, if it was lost and did nothing.
 ///
-/// Error: `AllocError`.
+/// Errors: `AllocError`.
 fn add_if_alone(
     alloc: Global,
     logs: &[Vec<LogEntry>],
@@ -138,10 +138,10 @@ fn add_if_alone(
     Ok(())
 }
 
-/// Adds the step that the entry at a place of a log is, and if it is the last of a node that was lost, the loss of that. `later`: the
-/// entries that follow.
+/// Adds the step that the entry at a place of a log is, and if it is the last of a node that was lost, the loss of
+/// that. `later`: the entries that follow.
 ///
-/// Error: `AllocError`.
+/// Errors: `AllocError`.
 fn add_with_loss(
     alloc: Global,
     logs: &[Vec<LogEntry>],
@@ -159,9 +159,9 @@ fn add_with_loss(
     Ok(())
 }
 
-/// Adds the loss of a node, behind which these entries follow.
+/// Adds the loss of a node, which these entries follow.
 ///
-/// Error: `AllocError`.
+/// Errors: `AllocError`.
 fn add_loss(
     alloc: Global,
     logs: &[Vec<LogEntry>],
@@ -178,7 +178,7 @@ fn add_loss(
 
 /// How many packets of a node each other takes by these entries, by the places of its peers.
 ///
-/// Error: `AllocError`.
+/// Errors: `AllocError`.
 fn kept(
     alloc: Global,
     logs: &[Vec<LogEntry>],

@@ -1,5 +1,25 @@
 //! Whether the nodes that outlived others came to one opinion.
 
+ghost use Rattle.std.specs.Prelude.{◌≡◌, ◌↔◌, true, IsTrue, IfOk};
+ghost use Rattle.std.specs.List.{All, list_all, list_any};
+ghost use Rattle.pg_frame_world.specs.Views.{peer_place};
+ghost use Rattle.pg_cluster.specs.Judges.{HasAs, formed_in, is_end_pending as is_some_pending, is_pending_end, is_seen_free as is_free, state_in};
+ghost use Rattle.pg_cluster.specs.Survivors.{
+  AgreesOf,
+  AreOneOf,
+  asks_of,
+  has_event,
+  is_change_of as is_change_of_event,
+  is_compared as is_compared_in,
+  is_loss_of as is_loss_of_event,
+  is_loss_pending as is_some_loss_pending,
+  is_missing,
+  is_of_lost as is_of_some_lost,
+  is_take_of as is_take_of_event,
+  survivors,
+  was_lost as is_lost_at,
+};
+
 use crate::closed::Closed;
 use pg_group::GroupTable;
 use pg_index::IndexTable;
@@ -11,185 +31,93 @@ use pg_term::{Pid, Term};
 use std::alloc::{AllocError, Global};
 
 impl Closed {
-    /// Whether the nodes that were not lost agree: those that are formed have the same of each group whose lock one of them sees free,
-    /// of which no lost node was asked for an update, and which each knows as the lost nodes told it at first. Yes, too, where an end
-    /// is pending among them, or a loss that one of them has not seen. Its cost is that of the list of each group of each node, for each
-    /// other node, and of a look at the logs of the lost nodes for each group.
+    ghost use Rattle.pg_cluster.specs.Survivors.{SurvivorsAgree};
+
+    /// Whether the nodes that were not lost agree: those that are formed have the same of each group whose lock one
+    /// of them sees free, of which no lost node was asked for an update, and which each knows as the lost nodes announced
+    /// it at first. Yes, too, where an end is pending among them, or a loss that one of them has not seen.
     ///
-    /// Error: `AllocError`.
-    pub fn survivors_agree(&self, alloc: Global) -> Result<bool, AllocError> {
-        let ended = Ended {
-            nodes: self.nodes.as_slice(),
-            lost: self.lost.as_slice(),
-            logs: self.logs.as_slice(),
-        };
-        if ended.is_loss_pending() || ended.is_end_pending() {
+    /// Errors: `AllocError`.
+    ///
+    /// Cost: that of the list of each group of each node, for each other node, and of a look at the logs of the lost
+    /// nodes for each group.
+    pub fn survivors_agree(&self, alloc: Global) -> Result<bool, AllocError>
+        ensures { IfOk result (λ yes. IsTrue yes ↔ SurvivorsAgree self.now.nodes.items self.now.lost.items self.now.logs.items) }
+    {
+        let nodes = self.nodes.as_slice();
+        let lost = self.lost.as_slice();
+        let logs = self.logs.as_slice();
+        if is_loss_pending(lost, logs) || is_end_pending(nodes, lost, logs) {
             return Ok(true);
         }
-        ended.agree(alloc)
+        are_one(alloc, nodes, lost, logs)
     }
 }
 
-/// The nodes as they ended, which of them were lost, and their logs.
-#[derive(Clone, Copy)]
-struct Ended<'a> {
-    nodes: &'a [Node<IndexTable>],
-    lost: &'a [bool],
-    logs: &'a [Vec<LogEntry>],
+/// Whether the node at a place was lost.
+fn was_lost(lost: &[bool], place: usize) -> bool
+    ensures { result ≡ is_lost_at lost.now place }
+{
+    match lost.get(place) {
+        Some(lost) => *lost,
+        None => false,
+    }
 }
 
-impl<'a> Ended<'a> {
-    /// The node at a place, if it was not lost.
-    fn survivor(&self, place: usize) -> Option<&'a Node<IndexTable>> {
-        match self.lost.get(place) {
-            Some(true) => None,
-            _ => self.nodes.get(place),
+/// Whether some node that was not lost has not seen some loss.
+fn is_loss_pending(lost: &[bool], logs: &[Vec<LogEntry>]) -> bool
+    ensures { result ≡ is_some_loss_pending lost.now logs.now }
+{
+    for node in 0..logs.len() {
+        if was_lost(lost, node) && misses_loss(lost, logs, node) {
+            return true;
         }
     }
+    false
+}
 
-    /// The log of the node at a place, if it was lost.
-    fn log_of_lost(&self, place: usize) -> Option<&'a [LogEntry]> {
-        match (self.lost.get(place), self.logs.get(place)) {
-            (Some(true), Some(log)) => Some(log.as_slice()),
-            _ => None,
+/// Whether some node that was not lost has not seen the loss of the node at a place.
+fn misses_loss(lost: &[bool], logs: &[Vec<LogEntry>], node: usize) -> bool
+    ensures { result ≡ is_missing is_loss_of_event lost.now logs.now node }
+{
+    for place in 0..logs.len() {
+        if !was_lost(lost, place) && !saw(logs[place].as_slice(), place_among(place, node)) {
+            return true;
         }
     }
+    false
+}
 
-    /// Whether some survivor has not seen some loss.
-    fn is_loss_pending(&self) -> bool {
-        for lost in 0..self.nodes.len() {
-            if self.log_of_lost(lost).is_some() && !self.all_saw(lost) {
-                return true;
-            }
+/// Whether some node that was not lost took no packet of the node at a place.
+fn misses_packets(lost: &[bool], logs: &[Vec<LogEntry>], node: usize) -> bool
+    ensures { result ≡ is_missing is_take_of_event lost.now logs.now node }
+{
+    for place in 0..logs.len() {
+        if !was_lost(lost, place) && !took(logs[place].as_slice(), place_among(place, node)) {
+            return true;
         }
-        false
     }
+    false
+}
 
-    /// Whether each survivor has seen the loss of the node at a place.
-    fn all_saw(&self, lost: usize) -> bool {
-        for place in 0..self.logs.len() {
-            if self.survivor(place).is_some() && !saw(self.logs[place].as_slice(), place, lost) {
-                return false;
-            }
+/// Whether a lost node was asked for an update of a group, or told of it to some of the others and not to all.
+fn is_of_lost(lost: &[bool], logs: &[Vec<LogEntry>], name: &Term) -> bool
+    ensures { result ≡ is_of_some_lost lost.now logs.now name.now }
+{
+    for node in 0..logs.len() {
+        if was_lost(lost, node)
+            && (asks(logs[node].as_slice(), name) || misses_packets(lost, logs, node))
+        {
+            return true;
         }
-        true
     }
-
-    /// Whether the end of a process is pending among the survivors.
-    fn is_end_pending(&self) -> bool {
-        for log in self.logs {
-            for entry in log {
-                if let NodeEvent::Command(_, Command::Finish(pid)) = &entry.1
-                    && self.is_taken_by_some(pid)
-                {
-                    return true;
-                }
-            }
-        }
-        false
-    }
-
-    /// Whether some survivor has taken the end of a process, and not each.
-    fn is_taken_by_some(&self, pid: &Pid) -> bool {
-        let mut one = false;
-        let mut all = true;
-        for place in 0..self.nodes.len() {
-            if let Some(node) = self.survivor(place) {
-                if node.state().ended(pid) {
-                    one = true;
-                } else {
-                    all = false;
-                }
-            }
-        }
-        one && !all
-    }
-
-    /// Whether the survivors that are formed have the same of each group that is compared.
-    fn agree(&self, alloc: Global) -> Result<bool, AllocError> {
-        for place in 0..self.nodes.len() {
-            if let Some(node) = self.survivor(place)
-                && node.state().formed()
-                && !self.agree_with(alloc, node)?
-            {
-                return Ok(false);
-            }
-        }
-        Ok(true)
-    }
-
-    /// Whether they have the same as this node of each of its groups that is compared.
-    fn agree_with(&self, alloc: Global, node: &Node<IndexTable>) -> Result<bool, AllocError> {
-        let names = node.state().table().groups()?;
-        for name in names.as_slice() {
-            if self.is_compared(name) && !self.agree_on(alloc, node, name)? {
-                return Ok(false);
-            }
-        }
-        Ok(true)
-    }
-
-    /// Whether they have the same as this node of a group.
-    fn agree_on(
-        &self,
-        alloc: Global,
-        node: &Node<IndexTable>,
-        name: &Term,
-    ) -> Result<bool, AllocError> {
-        for place in 0..self.nodes.len() {
-            if let Some(other) = self.survivor(place)
-                && other.state().formed()
-                && !same_group(alloc, node.state().table(), other.state().table(), name)?
-            {
-                return Ok(false);
-            }
-        }
-        Ok(true)
-    }
-
-    /// Whether a group is compared: a survivor sees its lock free, and no lost node was asked for an update of it, or told of it to some
-    /// survivors and not to all.
-    fn is_compared(&self, name: &Term) -> bool {
-        self.is_seen_free(name) && !self.is_of_lost(name)
-    }
-
-    /// Whether a survivor sees the lock of a group free.
-    fn is_seen_free(&self, name: &Term) -> bool {
-        for place in 0..self.nodes.len() {
-            if let Some(node) = self.survivor(place)
-                && node.state().holder(name).is_none()
-            {
-                return true;
-            }
-        }
-        false
-    }
-
-    /// Whether a lost node was asked for an update of a group, or told of it to some survivors and not to all.
-    fn is_of_lost(&self, name: &Term) -> bool {
-        for lost in 0..self.nodes.len() {
-            if let Some(log) = self.log_of_lost(lost)
-                && (asks(log, name) || !self.all_took(lost))
-            {
-                return true;
-            }
-        }
-        false
-    }
-
-    /// Whether each survivor took a packet of the node at a place, and so what that told at first.
-    fn all_took(&self, lost: usize) -> bool {
-        for place in 0..self.logs.len() {
-            if self.survivor(place).is_some() && !took(self.logs[place].as_slice(), place, lost) {
-                return false;
-            }
-        }
-        true
-    }
+    false
 }
 
 /// The place of a node among the peers of another.
-fn place_among(node: usize, peer: usize) -> usize {
+fn place_among(node: usize, peer: usize) -> usize
+    ensures { result ≡ peer_place node peer }
+{
     if peer < node {
         peer
     } else {
@@ -197,51 +125,229 @@ fn place_among(node: usize, peer: usize) -> usize {
     }
 }
 
-/// Whether a node saw the loss of another, by its log.
-fn saw(log: &[LogEntry], node: usize, lost: usize) -> bool {
-    let place = place_among(node, lost);
-    for entry in log {
-        if let NodeEvent::SeeLoss(peer) = &entry.1
-            && *peer == place
-        {
-            return true;
-        }
-    }
-    false
+/// Whether the loss of the peer at a place was seen, by the log of a node.
+fn saw(log: &[LogEntry], place: usize) -> bool
+    ensures { result ≡ has_event (is_loss_of_event place) log.now }
+{
+    log.iter().any(|entry| is_loss_of(&entry.1, place))
 }
 
-/// Whether a node took a packet of another, by its log.
-fn took(log: &[LogEntry], node: usize, lost: usize) -> bool {
-    let place = place_among(node, lost);
-    for entry in log {
-        if let NodeEvent::Take(peer) = &entry.1
-            && *peer == place
-        {
-            return true;
-        }
+/// Whether an event is that the loss of the peer at a place is seen.
+fn is_loss_of(event: &NodeEvent, place: usize) -> bool
+    ensures { result ≡ is_loss_of_event place event.now }
+{
+    match event {
+        NodeEvent::SeeLoss(peer) => *peer == place,
+        _ => false,
     }
-    false
+}
+
+/// Whether a packet of the peer at a place was taken, by the log of a node.
+fn took(log: &[LogEntry], place: usize) -> bool
+    ensures { result ≡ has_event (is_take_of_event place) log.now }
+{
+    log.iter().any(|entry| is_take_of(&entry.1, place))
+}
+
+/// Whether an event is that a packet of the peer at a place is taken.
+fn is_take_of(event: &NodeEvent, place: usize) -> bool
+    ensures { result ≡ is_take_of_event place event.now }
+{
+    match event {
+        NodeEvent::Take(peer) => *peer == place,
+        _ => false,
+    }
 }
 
 /// Whether a command of a log asks for an update of a group.
-fn asks(log: &[LogEntry], name: &Term) -> bool {
-    for entry in log {
-        if let NodeEvent::Command(_, command) = &entry.1
-            && changes(command, name)
-        {
-            return true;
-        }
+fn asks(log: &[LogEntry], name: &Term) -> bool
+    ensures { result ≡ has_event (is_change_of_event name.now) log.now }
+{
+    log.iter().any(|entry| is_change_of(&entry.1, name))
+}
+
+/// Whether an event is a command that asks for an update of a group.
+fn is_change_of(event: &NodeEvent, name: &Term) -> bool
+    ensures { result ≡ is_change_of_event name.now event.now }
+{
+    match event {
+        NodeEvent::Command(_, command) => changes(command, name),
+        _ => false,
     }
-    false
 }
 
 /// Whether a command asks for an update of a group.
-fn changes(command: &Command, name: &Term) -> bool {
+fn changes(command: &Command, name: &Term) -> bool
+    ensures { result ≡ asks_of name.now command.now }
+{
     match command {
         Command::Create(group)
         | Command::Delete(group)
         | Command::Join(group, _)
-        | Command::Leave(group, _) => group.is(name),
+        | Command::Leave(group, _) => group == name,
         _ => false,
     }
+}
+
+/// Whether the logs have the end of a process that some of the nodes that were not lost have taken, and not all.
+fn is_end_pending(nodes: &[Node<IndexTable>], lost: &[bool], logs: &[Vec<LogEntry>]) -> bool
+    ensures { result ≡ is_some_pending (survivors lost.now nodes.now) logs.now }
+{
+    logs.iter()
+        .any(|log| is_pending_in(nodes, lost, log.as_slice()))
+}
+
+/// The same of one log.
+fn is_pending_in(nodes: &[Node<IndexTable>], lost: &[bool], log: &[LogEntry]) -> bool
+    ensures { result ≡ list_any (λ entry. is_pending_end (survivors lost.now nodes.now) entry.1) log.now }
+{
+    log.iter().any(|entry| is_pending(nodes, lost, &entry.1))
+}
+
+/// Whether an event is the end of a process that some of them have taken, and not all.
+fn is_pending(nodes: &[Node<IndexTable>], lost: &[bool], event: &NodeEvent) -> bool
+    ensures { result ≡ is_pending_end (survivors lost.now nodes.now) event.now }
+{
+    match event {
+        NodeEvent::Command(_, Command::Finish(pid)) => {
+            is_taken_by_one(nodes, lost, pid) && !is_taken_by_each(nodes, lost, pid)
+        }
+        _ => false,
+    }
+}
+
+/// Whether one of the nodes that were not lost has taken the end of a process.
+fn is_taken_by_one(nodes: &[Node<IndexTable>], lost: &[bool], pid: &Pid) -> bool
+    ensures { result ≡ list_any (λ node. (state_in node).ended pid.now) (survivors lost.now nodes.now) }
+{
+    for place in 0..nodes.len() {
+        if !was_lost(lost, place) && nodes[place].state().ended(pid) {
+            return true;
+        }
+    }
+    false
+}
+
+/// Whether each of them has.
+fn is_taken_by_each(nodes: &[Node<IndexTable>], lost: &[bool], pid: &Pid) -> bool
+    ensures { result ≡ list_all (λ node. (state_in node).ended pid.now) (survivors lost.now nodes.now) }
+{
+    for place in 0..nodes.len() {
+        if !was_lost(lost, place) && !nodes[place].state().ended(pid) {
+            return false;
+        }
+    }
+    true
+}
+
+/// Whether one of the nodes that were not lost sees the lock of a group free.
+fn is_seen_free(nodes: &[Node<IndexTable>], lost: &[bool], name: &Term) -> bool
+    ensures { result ≡ is_free (survivors lost.now nodes.now) name.now }
+{
+    for place in 0..nodes.len() {
+        if !was_lost(lost, place) && nodes[place].state().holder(name).is_none() {
+            return true;
+        }
+    }
+    false
+}
+
+/// Whether a group is compared: one of the nodes that were not lost sees its lock free, and it is not of a lost node.
+fn is_compared(
+    nodes: &[Node<IndexTable>],
+    lost: &[bool],
+    logs: &[Vec<LogEntry>],
+    name: &Term,
+) -> bool
+    ensures { result ≡ is_compared_in (survivors lost.now nodes.now) lost.now logs.now name.now }
+{
+    is_seen_free(nodes, lost, name) && !is_of_lost(lost, logs, name)
+}
+
+/// Whether the nodes that were not lost, and are formed, have the same of each group that is compared.
+fn are_one(
+    alloc: Global,
+    nodes: &[Node<IndexTable>],
+    lost: &[bool],
+    logs: &[Vec<LogEntry>],
+) -> Result<bool, AllocError>
+    ensures { IfOk result (λ yes. IsTrue yes ↔ AreOneOf (is_compared_in (survivors lost.now nodes.now) lost.now logs.now) (survivors lost.now nodes.now)) }
+{
+    for place in 0..nodes.len() {
+        if !was_lost(lost, place) && !agrees_if_formed(alloc, nodes, lost, logs, &nodes[place])? {
+            return Ok(false);
+        }
+    }
+    Ok(true)
+}
+
+/// Whether a node, if it is formed, has the same as each that was not lost of each of its groups that is compared.
+fn agrees_if_formed(
+    alloc: Global,
+    nodes: &[Node<IndexTable>],
+    lost: &[bool],
+    logs: &[Vec<LogEntry>],
+    node: &Node<IndexTable>,
+) -> Result<bool, AllocError>
+    ensures { IfOk result (λ yes. IsTrue yes ↔ (formed_in node.now ≡ true
+        → AgreesOf (is_compared_in (survivors lost.now nodes.now) lost.now logs.now) (survivors lost.now nodes.now) node.now)) }
+{
+    if !node.state().formed() {
+        return Ok(true);
+    }
+    let names = node.state().table().groups()?;
+    agrees_on(alloc, nodes, lost, logs, node, names.as_slice())
+}
+
+/// The same of the groups of these names.
+fn agrees_on(
+    alloc: Global,
+    nodes: &[Node<IndexTable>],
+    lost: &[bool],
+    logs: &[Vec<LogEntry>],
+    node: &Node<IndexTable>,
+    names: &[Term],
+) -> Result<bool, AllocError>
+    ensures { IfOk result (λ yes. IsTrue yes ↔ All (λ name. is_compared_in (survivors lost.now nodes.now) lost.now logs.now name ≡ true
+        → All (HasAs node.now name) (survivors lost.now nodes.now)) names.now) }
+{
+    for name in names {
+        if is_compared(nodes, lost, logs, name) && !have_as(alloc, nodes, lost, node, name)? {
+            return Ok(false);
+        }
+    }
+    Ok(true)
+}
+
+/// Whether each node that was not lost, and is formed, has the same of a group as this one.
+fn have_as(
+    alloc: Global,
+    nodes: &[Node<IndexTable>],
+    lost: &[bool],
+    node: &Node<IndexTable>,
+    name: &Term,
+) -> Result<bool, AllocError>
+    ensures { IfOk result (λ yes. IsTrue yes ↔ All (HasAs node.now name.now) (survivors lost.now nodes.now)) }
+{
+    for place in 0..nodes.len() {
+        if !was_lost(lost, place) && !has_as(alloc, node, &nodes[place], name)? {
+            return Ok(false);
+        }
+    }
+    Ok(true)
+}
+
+/// Whether two nodes have the same of a group, or the second is not formed.
+fn has_as(
+    alloc: Global,
+    one: &Node<IndexTable>,
+    other: &Node<IndexTable>,
+    name: &Term,
+) -> Result<bool, AllocError>
+    ensures { IfOk result (λ yes. IsTrue yes ↔ HasAs one.now name.now other.now) }
+{
+    if !other.state().formed() {
+        return Ok(true);
+    }
+    same_group(alloc, one.state().table(), other.state().table(), name)
 }

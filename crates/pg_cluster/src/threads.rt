@@ -53,7 +53,7 @@ fn give_up<K: Rng + Drop + Send + 'static, R: Threads>(
 
 /// Starts a thread for each node. Where one can't be started, those that run are stopped and joined.
 ///
-/// Faults: `NoThread`; `World` of `OutOfMemory`.
+/// Errors: `NoThread`; `World` of `OutOfMemory`.
 pub(crate) fn start_all<
     K: Rng + Drop + Send + 'static,
     G: Gate + Drop + Send + Sync + 'static,
@@ -82,7 +82,7 @@ pub(crate) fn start_all<
 
 /// Starts the thread of the node at a place.
 ///
-/// Faults: `NoThread`; `World` of `OutOfMemory`.
+/// Errors: `NoThread`; `World` of `OutOfMemory`.
 fn start_one<K: Rng + Drop + Send + 'static, G: Gate + Drop + Send + Sync + 'static, R: Threads>(
     rt: &R,
     run: Run<K>,

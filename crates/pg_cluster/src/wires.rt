@@ -41,7 +41,7 @@ fn connect(
 
 /// The links of each of so many nodes to each other, with rings of so many bytes.
 ///
-/// Faults: those of `ring_pair`.
+/// Errors: those of `ring_pair`.
 pub(crate) fn wire_all(alloc: Global, nodes: usize, ring: usize) -> Result<Vec<Row>, RingFault>
     ensures { IfOk result (λ rows. RowsWired nodes rows.items) }
 {

@@ -17,6 +17,10 @@ fn start(alloc: Global, place: u16, ports: u16) -> Result<Start, TermFault> {
 }
 
 /// The nodes `n0`, `n1` and so on, with so many ports each; each has made one process.
+///
+/// Errors: those of `Atom::new`.
+///
+/// Cost: memory for each.
 pub fn config(alloc: Global, nodes: u16, ports: u16) -> Result<Config, TermFault> {
     let mut starts = Vec::new(alloc);
     for place in 0..nodes {

@@ -55,7 +55,7 @@ fn feed<P: Player>(alloc: Global, player: &mut P, peer: usize, load: Option<P::L
     }
 }
 
-// Both peers tell that they have no group.
+// Both peers announce that they have no group.
 fn form<P: Player>(alloc: Global, player: &mut P) -> bool {
     let one = loaded::<P, TermFault>(alloc, no_groups(alloc, "b"));
     let other = loaded::<P, TermFault>(alloc, no_groups(alloc, "c"));

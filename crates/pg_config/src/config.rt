@@ -32,10 +32,10 @@ pub struct Config {
 }
 
 impl Config {
-    /// Whether it is a configuration. It looks for each member at the nodes, at most 16, and walks over the name of each group;
-    /// where the groups of a node do not ascend in the order of terms, it takes memory for their names.
+    /// Whether it is a configuration. It looks for each member at the nodes, at most 16, and walks over the name of
+    /// each group; where the groups of a node do not ascend in the order of terms, it takes memory for their names.
     ///
-    /// Faults, the first that holds: `BadConfig`, `NameTooLarge`, `BadCapacity`; `OutOfMemory` in the place of each.
+    /// Errors, the first that holds: `BadConfig`, `NameTooLarge`, `BadCapacity`; `OutOfMemory` in the place of each.
     pub fn check(&self, alloc: Global) -> Result<(), WorldFault>
         ensures { IsJudged (refusal_of self.now.ring self.now.starts.items) result }
     {

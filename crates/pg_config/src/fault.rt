@@ -14,7 +14,7 @@ pub enum WorldFault {
     /// The capacity of the rings is 0 or above 65,536.
     #[error("a ring can't have this capacity")]
     BadCapacity,
-    /// What a node tells of its groups takes more than 16,777,216 bytes.
+    /// What a node announces of its groups takes more than 16,777,216 bytes.
     #[error("the groups of a node take more than one frame")]
     TooLong,
     #[error("out of memory")]

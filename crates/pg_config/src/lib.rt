@@ -1,6 +1,6 @@
 //! Configurations of worlds: the nodes as they start, and whether these are a configuration.
 //!
-//! `config.check(alloc)?` tells the first fault of a `Config`. Begin with `src/config.rt`.
+//! `config.check(alloc)?` gives the first fault of a `Config`. Begin with `src/config.rt`.
 #![tactic(auto)]
 
 mod config;

@@ -180,9 +180,7 @@ fn is_told(world: &World, name: &Term, row: &Row<'_>) -> bool {
             Some(node) => node.table().has(name) == *has,
             None => false,
         },
-        Row::Free(node, is_free) => {
-            world.node(*node).is_some() && world.lock_free(*node, name) == *is_free
-        }
+        Row::Free(node, is_free) => world.lock_free(*node, name) == *is_free,
         Row::History(wanted) => are_entries(world.history(name), wanted),
         Row::Applied(node, count) => world.applied(*node, name) == *count,
         _ => false,
@@ -317,6 +315,7 @@ static CREATE: &[Row<'static>] = &[
 static APPLIED: &[Row<'static>] = &[
     FORMED,
     Row::Given("create a 7"),
+    Row::Free(3, false),
     Row::Free(2, true),
     Row::Take(2, 0, HAPPENED),
     Row::Free(2, false),

@@ -1,7 +1,7 @@
 //! The examples of a page.
 
 /// A script, and what it prints.
-#[derive(Clone, Copy, Debug)]
+#[derive(Clone, Copy)]
 pub(crate) struct Example<'a> {
     pub(crate) script: &'a str,
     pub(crate) output: &'a str,

@@ -2,12 +2,14 @@
 #![tactic(auto)]
 
 mod block;
+mod explored;
 mod narrow;
 mod play;
 mod texts;
 
 use anyhow::Result;
 use block::{Example, next_example};
+use explored::{View, explored};
 use play::{drawn, played, played_over, traced};
 use std::rt::{Env, Files};
 use std::{env, fs, vec};
@@ -38,12 +40,21 @@ fn run_examples(rt: &HostRuntime, name: &str, page: &str) -> Result<u32> {
 
 /// Runs an example of a page. `count`: which it is, from 1 on.
 fn run_example(rt: &HostRuntime, name: &str, count: u32, example: Example<'_>) -> Result<()> {
-    let printed = played(rt.alloc(), example.script)?;
+    let printed = printed_by(rt, name, example.script)?;
     if printed.as_str() != example.output {
         println!(rt; "example {count} of {name} prints:")?;
         print!(rt; "{printed}")?;
     }
     Ok(())
+}
+
+/// What the script of an example prints: by an exploration on the page of these, else as it is played.
+fn printed_by(rt: &HostRuntime, name: &str, script: &str) -> Result<String> {
+    if name == "EXPLORE.md" {
+        explored(rt.alloc(), script, View::Report)
+    } else {
+        played(rt.alloc(), script)
+    }
 }
 
 /// The script of this name, as it stands in a file.
@@ -79,6 +90,13 @@ fn run_trace(rt: &HostRuntime, name: &str, file: &str) -> Result<()> {
 fn run_picture(rt: &HostRuntime, name: &str, file: &str) -> Result<()> {
     let script = script_of(rt, name)?;
     let picture = drawn(rt.alloc(), script.as_str())?;
+    tell(rt, file, file, picture.as_str())
+}
+
+/// The same of its state graph. `file`: the file of the graph.
+fn run_graph(rt: &HostRuntime, name: &str, file: &str) -> Result<()> {
+    let script = script_of(rt, name)?;
+    let picture = explored(rt.alloc(), script.as_str(), View::Graph)?;
     tell(rt, file, file, picture.as_str())
 }
 
@@ -152,6 +170,9 @@ fn run(rt: &HostRuntime, name: &str) -> Result<()> {
     }
     if let Some(script) = name.strip_suffix(".trace") {
         return run_trace(rt, script, name);
+    }
+    if let Some(script) = name.strip_suffix(".worlds.svg") {
+        return run_graph(rt, script, name);
     }
     if let Some(script) = name.strip_suffix(".svg") {
         return run_picture(rt, script, name);

@@ -1,5 +1,7 @@
 mod Adds
+mod Apart
 mod Drawing
 mod Landing
 mod Penned
 mod Pieces
+mod Worlds

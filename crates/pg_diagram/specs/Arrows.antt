@@ -1,5 +1,5 @@
 -- The packets of a diagram as arrows between rows: the row of an event is its place among all events.
-use Rattle.std.specs.Prelude.{ℕ, ◌+◌, Bool, false, ◌||◌, cond, nat_eq, max, List, [], ◌∷◌, ◌++◌, Option, Some, None}
+use Rattle.std.specs.Prelude.{ℕ, ◌+◌, Bool, false, cond, nat_eq, max, List, [], ◌∷◌, ◌++◌, Option, Some, None}
 use Rattle.pg_diagram.specs.declared.arrows.Arrow.{Arrow}
 use Rattle.pg_diagram.specs.declared.arrows.Ending.{Ending}
 use Rattle.pg_diagram.specs.declared.arrows.Ending.TheVariants as endings

@@ -1,6 +1,7 @@
 pub mod Arrows
 pub mod Drawn
 pub mod Escaping
+pub mod Graphs
 pub mod Lines
 pub mod Pens
 pub mod Rows

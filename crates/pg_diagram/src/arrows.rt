@@ -48,7 +48,7 @@ pub(crate) enum Ending {
 
 /// The arrows of these events, by the numbers of their packets.
 ///
-/// Error: `AllocError`.
+/// Errors: `AllocError`.
 pub(crate) fn arrows_of(alloc: Global, events: &[Event]) -> Result<Vec<Arrow>, AllocError>
     ensures { IfOk result (λ arrows. arrows.items ≡ arrows_from 0 0 events.now) }
 {

@@ -25,7 +25,7 @@ pub(crate) fn add_cut(pen: &mut Pen, text: &str, most: usize) {
     }
 }
 
-/// Appends as much of a text as leaves room for the ellipsis behind it.
+/// Appends as much of a text as leaves room for the ellipsis after it.
 fn add_front(pen: &mut Pen, text: &str, most: usize) {
     let mut count = 1usize;
     for character in text.chars() {

@@ -13,7 +13,7 @@ pub enum Topic {
     Free,
     /// A process has ended.
     End,
-    /// A node tells its groups.
+    /// A node announces its groups.
     Exchange,
 }
 

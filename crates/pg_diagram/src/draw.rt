@@ -25,12 +25,15 @@ struct Picture<'a> {
     arrows: Vec<Arrow>,
 }
 
-/// Draws a diagram as SVG, which is XML. Rows go down with the events; a label is cut where it would reach the next lifeline.
+/// Draws a diagram as SVG, which is XML. Rows go down with the events; a label is cut where it would reach the next
+/// lifeline.
 ///
-/// Each packet is one arrow, from the lifeline of its sender in the row in which it was sent to the lifeline of its receiver in the row in
-/// which it was taken.
+/// Each packet is one arrow, from the lifeline of its sender in the row in which it was sent to the lifeline of its
+/// receiver in the row in which it was taken.
 ///
-/// Error: `AllocError`.
+/// Errors: `AllocError`.
+///
+/// Cost: memory for the text; O(events + packets × events), as each end of a lifeline is looked for.
 pub fn svg_of(alloc: Global, diagram: &Diagram) -> Result<String, AllocError>
     ensures { IfOk result (λ text. ShowsPackets diagram.now (string_bytes text)) }
 {
@@ -44,7 +47,7 @@ pub fn svg_of(alloc: Global, diagram: &Diagram) -> Result<String, AllocError>
     picture.text(alloc)
 }
 
-/// Where the parts of a picture stand.
+/// Where the parts of a picture are.
 fn layout_of(diagram: &Diagram, arrows: &[Arrow]) -> Layout
     ensures { result.nodes ≡ length diagram.now.nodes.items }
 {
@@ -57,7 +60,10 @@ fn layout_of(diagram: &Diagram, arrows: &[Arrow]) -> Layout
 
 /// Draws a diagram as SVG, and writes it.
 ///
-/// Error: of the kind `OutOfMemory` where memory runs out; else that of the writer.
+/// Errors: of the kind `OutOfMemory` where memory runs out; else that of the writer. Some of it may have been
+/// written.
+///
+/// Cost: that of `svg_of`, and of one write.
 pub fn write_svg<W: Write>(alloc: Global, diagram: &Diagram, writer: &mut W) -> io::Result<()>
     ensures { OnOk result (IsWritten diagram.now (W.contents writer.old) (W.contents writer.new)) }
 {
@@ -85,7 +91,7 @@ impl Picture<'_> {
 
     /// The picture: what is under the arrows, the arrows, and what is over them.
     ///
-    /// Error: `AllocError`.
+    /// Errors: `AllocError`.
     fn text(&self, alloc: Global) -> Result<String, AllocError>
         ensures { IfOk result (λ text. Parts (all_drawn (places_of self.now.layout) self.now.diagram.now.events.items (length self.now.diagram.now.events.items) self.now.arrows.items) (string_bytes text)) }
     {

@@ -7,8 +7,8 @@ ghost use Rattle.pg_diagram.specs.Escaping.{Adds, allowed, escaped, escaped_char
 use crate::adding::{add_char, add_text};
 use std::alloc::AllocError;
 
-/// Appends a text so that XML reads it as this text, in an element and in a quoted attribute. A character that XML has not stands
-/// as U+FFFD.
+/// Appends a text so that XML reads it as this text, in an element and in a quoted attribute. A character that XML
+/// has not is written as U+FFFD.
 pub(crate) fn add_escaped(out: &mut String, text: &str) -> Result<(), AllocError>
     ensures { OnOk result (Adds (escaped (chars text.now)) (string_bytes out.old) (string_bytes out.new)) }
 {

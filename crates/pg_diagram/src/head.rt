@@ -1,10 +1,10 @@
-//! What stands before the shapes.
+//! What is before the shapes.
 
 use crate::data::Topic;
 use crate::legend::{TOPICS, class_of};
 use crate::pen::Pen;
 
-/// Appends what stands before the shapes: the size, the colours and the fonts.
+/// Appends what is before the shapes: the size, the colours and the fonts.
 pub(crate) fn add_head(pen: &mut Pen, width: u128, height: u128) {
     pen.add("<?xml version=\"1.0\" encoding=\"UTF-8\"?>\n");
     add_size(pen, width, height);
@@ -60,7 +60,7 @@ fn add_marker(pen: &mut Pen, topic: Topic) {
     );
 }
 
-/// What stands behind all shapes.
+/// What follows all shapes.
 fn add_page(pen: &mut Pen, width: u128, height: u128) {
     write!(
         pen,

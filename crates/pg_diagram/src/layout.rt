@@ -1,4 +1,4 @@
-//! Where things stand, in pixels.
+//! Where things are, in pixels.
 
 ghost use Rattle.std.specs.Prelude.{◌≡◌, length};
 ghost use Rattle.pg_diagram.specs.Rows.{row_y, x_of, y_of};
@@ -9,7 +9,7 @@ use crate::data::{Diagram, Event};
 /// How far a row is below the one before it.
 pub(crate) const PITCH: u128 = 20;
 
-/// How many rows stand under a line of names.
+/// How many rows are under a line of names.
 pub(crate) const ROWS_UNDER_NAMES: usize = 40;
 
 /// How much room a line of names takes.
@@ -60,14 +60,14 @@ impl Layout {
         }
     }
 
-    /// Where the lifeline of a node stands.
+    /// Where the lifeline of a node is.
     pub(crate) fn x_of(&self, node: usize) -> u128
         ensures { result ≡ x_of self.now.gap node }
     {
         GUTTER.saturating_add(self.gap.saturating_mul(node as u128))
     }
 
-    /// Where a row stands.
+    /// Where a row is.
     pub(crate) fn y_of(&self, row: usize) -> u128
         ensures { result ≡ y_of self.now.top row }
     {
@@ -85,7 +85,7 @@ impl Layout {
     }
 }
 
-/// How far a row is below the begin of the first line of names: a line of names stands above each forty rows.
+/// How far a row is below the begin of the first line of names: a line of names is above each forty rows.
 fn row_y(row: usize) -> u128
     ensures { result ≡ row_y row }
 {

@@ -14,7 +14,7 @@ const ENTRY_WIDTH: u128 = 172;
 /// How far a line of entries is below the one before it.
 const ENTRY_PITCH: u128 = 22;
 
-/// Where the first line of entries stands.
+/// Where the first line of entries is.
 const FIRST: u128 = 24;
 
 /// How many entries there are.
@@ -56,7 +56,7 @@ fn meaning_of(topic: Topic) -> &'static str {
     }
 }
 
-/// How many entries stand in a line of this width.
+/// How many entries are in a line of this width.
 fn per_line(width: u128) -> u128
     ensures some { 0 < result }
 {
@@ -69,7 +69,7 @@ pub(crate) fn legend_height(width: u128) -> u128 {
     FIRST.saturating_add(lines.saturating_mul(ENTRY_PITCH))
 }
 
-/// Where the entry of a number stands.
+/// Where the entry of a number is.
 fn entry_at(width: u128, number: u128) -> Point {
     let line = number / per_line(width);
     let column = number % per_line(width);

@@ -22,4 +22,4 @@ mod tags;
 pub use data::{Diagram, Event, Topic};
 pub use draw::{svg_of, write_svg};
 pub use graph::{Graph, Link, LinkKind, Spot, graph_svg};
-pub use laws::{rows_go_down, texts_are_escaped};
+pub use laws::{rows_go_down, texts_are_escaped, worlds_are_apart};

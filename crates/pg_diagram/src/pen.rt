@@ -8,7 +8,7 @@ use crate::escape::{add_escaped, add_escaped_char};
 use std::alloc::{AllocError, Global};
 use std::fmt::Display;
 
-/// Writes at the end of a text. That memory was short is kept, and told at the end.
+/// Writes at the end of a text. That memory was short is kept, and given at the end.
 #[derive(Drop)]
 pub(crate) struct Pen {
     out: String,
@@ -74,7 +74,7 @@ impl Pen {
 
     /// The text.
     ///
-    /// Error: where memory was short.
+    /// Errors: where memory was short.
     pub(crate) fn finish(self) -> Result<String, AllocError>
         ensures text { IfOk result (λ text. string_bytes text ≡ written self) }
         ensures enough { IfOk result (λ text. self.is_short ≡ false) }

@@ -62,7 +62,10 @@ impl Point {
     }
 
     /// So far below it.
-    pub(crate) fn below(self, by: u128) -> Point {
+    pub(crate) fn below(self, by: u128) -> Point
+        ensures x { result.x ≡ self.x }
+        ensures y { result.y ≡ min (self.y + by) u128.MAX }
+    {
         Point {
             x: self.x,
             y: self.y.saturating_add(by),
@@ -186,7 +189,7 @@ pub(crate) fn add_label(pen: &mut Pen, at: Point, is_right: bool, class: &str, l
     pen.add("</text>\n");
 }
 
-/// What stands behind a label of so many cells that begins here, or ends here.
+/// What follows a label of so many cells that begins here, or ends here.
 fn add_back(pen: &mut Pen, near: Point, is_right: bool, cells: usize) {
     let width = text_width(cells);
     let corner = if is_right { near } else { near.left(width) };
@@ -194,7 +197,7 @@ fn add_back(pen: &mut Pen, near: Point, is_right: bool, cells: usize) {
     pen.add("/>\n");
 }
 
-/// The end of the tag of a label: at which of its ends it stands where it stands.
+/// The end of the tag of a label: which of its ends is at its place.
 fn anchor_of(is_right: bool) -> &'static str {
     if is_right {
         " text-anchor=\"start\">"

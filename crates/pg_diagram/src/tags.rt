@@ -1,6 +1,7 @@
 //! The tags of a picture.
 
 ghost use Rattle.std.specs.Prelude.{[], codes};
+ghost use Rattle.pg_diagram.specs.Graphs.{text_begin};
 ghost use Rattle.pg_diagram.specs.Lines.{CLOSED, head_of, line_text};
 ghost use Rattle.pg_diagram.specs.Pens.{Writes};
 
@@ -55,7 +56,9 @@ pub(crate) fn begin_box(pen: &mut Pen, class: &str, corner: Point, width: u128, 
 }
 
 /// Appends the begin of a text: all but the end of its tag.
-pub(crate) fn begin_text(pen: &mut Pen, class: &str, at: Point) {
+pub(crate) fn begin_text(pen: &mut Pen, class: &str, at: Point)
+    ensures { Writes (text_begin class.now at) pen.old pen.new }
+{
     write!(pen, "<text class=\"{class}\" x=\"{}\" y=\"{}\"", at.x, at.y);
 }
 

@@ -8,8 +8,12 @@ use pg_group::{Ended, GroupTable};
 use pg_term::Pid;
 use std::alloc::AllocError;
 
-/// Takes the end of a process: its pid is one of the ended from then on, and a member of no group; all else of the table
-/// and of the ends stays as it was. An error changes nothing. Its cost is that of the table's `drop_pid`.
+/// Takes the end of a process: its pid is one of the ended from then on, and a member of no group; all else of the
+/// table and of the ends stays as it was.
+///
+/// Errors: `AllocError`, which changes nothing.
+///
+/// Cost: that of the table's `drop_pid`.
 pub fn take_end<T: GroupTable>(
     pid: &Pid,
     table: &mut T,

@@ -26,7 +26,9 @@ impl Processes {
     ghost use Rattle.pg_ends.specs.Processes.{node_of, made_of, finish_of};
     ghost use Rattle.pg_ends.specs.declared.fault.EndFault.TheVariants.{ProcessLimit};
 
-    /// The processes of a node that has made so many, at most 268,435,455. It takes no memory.
+    /// The processes of a node that has made so many, at most 268,435,455.
+    ///
+    /// Cost: no memory.
     pub fn new(node: Atom, made: u32) -> Processes
         requires { made ≤ MAX_PROCESSES }
         ensures node { node_of result ≡ node }
@@ -35,7 +37,11 @@ impl Processes {
         Processes { node, made }
     }
 
-    /// As many processes of the same node. Error: `AllocError`.
+    /// As many processes of the same node.
+    ///
+    /// Errors: `AllocError`.
+    ///
+    /// Cost: a copy of the name.
     pub fn copy(&self) -> Result<Processes, AllocError>
         ensures node { IfOk result (λ copy. node_of copy ≡ node_of self.now) }
         ensures made { IfOk result (λ copy. made_of copy ≡ made_of self.now) }
@@ -47,21 +53,27 @@ impl Processes {
         })
     }
 
-    /// The name of the node. It takes no memory.
+    /// The name of the node.
+    ///
+    /// Cost: no memory.
     pub fn node(&self) -> &Atom
         ensures { result.now ≡ node_of self.now }
     {
         &self.node
     }
 
-    /// How many were made. It takes no memory.
+    /// How many were made.
+    ///
+    /// Cost: no memory.
     pub fn made(&self) -> u32
         ensures { result ≡ made_of self.now }
     {
         self.made
     }
 
-    /// Whether as many were made as can be. It takes no memory.
+    /// Whether as many were made as can be.
+    ///
+    /// Cost: no memory.
     pub fn is_full(&self) -> bool
         ensures { result ≡ nat_le MAX_PROCESSES (made_of self.now) }
     {
@@ -70,7 +82,9 @@ impl Processes {
 
     /// Makes a process: it has the next number.
     ///
-    /// Faults, which change nothing: `ProcessLimit` where 268,435,455 were made; else `OutOfMemory`.
+    /// Errors: `ProcessLimit` where 268,435,455 were made; else `OutOfMemory`. They change nothing.
+    ///
+    /// Cost: a copy of the name of the node.
     pub fn make(&mut self) -> Result<Pid, EndFault>
         ensures pid { IfOk result (λ pid. pid ≡ pid_of (node_of self.old) (made_of self.old + 1)) }
         ensures made { OnOk result (made_of self.new ≡ made_of self.old + 1) }
@@ -91,10 +105,12 @@ impl Processes {
         })
     }
 
-    /// Whether a process can end; it tests and changes nothing. It takes no memory.
+    /// Whether a process can end; it tests and changes nothing.
     ///
-    /// Faults, the first that holds: `ForeignPid` for a pid of another node, `NotMade` for one that was not made here,
-    /// `AlreadyEnded` for one of a process that has ended.
+    /// Errors: `ForeignPid` for a pid of another node, `NotMade` for one that was not made here, `AlreadyEnded` for
+    /// one of a process that has ended.
+    ///
+    /// Cost: no memory.
     pub fn finish(&self, pid: &Pid, ended: &Ended) -> Result<(), EndFault>
         ensures { result ≡ finish_of self.now pid.now (ended_of ended.now) }
     {
@@ -110,10 +126,11 @@ impl Processes {
         Ok(())
     }
 
-    /// The processes that were made and have ended, by their numbers. Its cost is that of `Ended::pids_of`; where the node was put
-    /// in as a whole, it lists each process that was made.
+    /// The processes that were made and have ended, by their numbers.
     ///
-    /// Error: `AllocError`.
+    /// Errors: `AllocError`.
+    ///
+    /// Cost: that of `Ended::pids_of`; where the node was put in as a whole, it lists each process that was made.
     pub fn ended(&self, alloc: Global, ended: &Ended) -> Result<Vec<Pid>, AllocError>
         ensures { IfOk result (λ pids. pids.items ≡ ended_among (node_of self.now) (made_of self.now) (ended_of ended.now)) }
     {

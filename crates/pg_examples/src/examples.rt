@@ -27,8 +27,8 @@ pub fn delete_between_look_and_lock()
         (behind two_nodes (start two_nodes) (deleted_between g)) }
 {}
 
-/// Two nodes create one group at once. The greater wins the lock and creates it; the other waits, and its retry creates
-/// it once more, which leaves it as it is. Both creates stand in the history.
+/// Two nodes create one group at once. The greater wins the lock and creates it; the other waits, and its retry
+/// creates it once more, which leaves it as it is. Both creates are in the history.
 pub fn two_creators()
     ensures happen { (g : Term) → is_name g ≡ true →
         AllHappen two_nodes (start two_nodes) (created_by_two g) }
@@ -73,8 +73,8 @@ pub fn gathered_replies()
         (behind three_nodes with_replies (asked_greatest g ++ gathered ++ completed)) }
 {}
 
-/// A node of three is formed once it has taken both exchanges; until then it denies every lock. Each count becomes the
-/// greatest that was told.
+/// A node of three is formed once it has taken both exchanges; until then it denies every lock. Each count becomes
+/// the greatest that was announced.
 pub fn formation_of_three()
     ensures happen { (g : Term) → is_name g ≡ true →
         AllHappen (three_tables g) (start (three_tables g)) (met_one g ++ met_both) }

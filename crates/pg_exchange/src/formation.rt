@@ -34,6 +34,10 @@ impl Model for Formation {
 
 impl Formation {
     /// No peer of so many is merged.
+    ///
+    /// Errors: `AllocError`.
+    ///
+    /// Cost: one allocation.
     pub fn new(alloc: Global, peers: usize) -> Result<Formation, AllocError>
         ensures { IfOk result (λ formation. formation ≡ replicate peers false) }
     {
@@ -46,16 +50,20 @@ impl Formation {
         })
     }
 
-    /// How many peers there are. It takes no memory.
+    /// How many peers there are.
+    ///
+    /// Cost: no memory.
     pub fn peers(&self) -> usize
         ensures { result ≡ length self.now }
     {
         self.marks.len()
     }
 
-    /// The same peers are merged, of as many. One allocation.
+    /// The same peers are merged, of as many.
     ///
-    /// Error: `AllocError`.
+    /// Errors: `AllocError`.
+    ///
+    /// Cost: one allocation.
     pub fn copy(&self) -> Result<Formation, AllocError>
         ensures { IfOk result (λ copy. copy ≡ self.now) }
     {
@@ -67,18 +75,22 @@ impl Formation {
         })
     }
 
-    /// Whether the same peers are merged, of as many. It takes no memory: O(n) in the peers.
+    /// Whether the same peers are merged, of as many.
+    ///
+    /// Cost: no memory; O(n) in the peers.
     pub fn same(&self, other: &Formation) -> bool
         ensures { IsTrue result ↔ (self.now ≡ other.now) }
     {
         self.marks == other.marks
     }
 
-    /// Takes the groups that a peer announces: merges each into the table, and counts the peer as merged. `peer` is a place
-    /// among the peers. Each group becomes the merge of what it was and of what is announced of it, less the ended: the law
-    /// `exchange_merges_tables`. Its cost is that of the groups that are announced, however many more the table has.
+    /// Takes the groups that a peer announces: merges each into the table, and counts the peer as merged. `peer` is a
+    /// place among the peers. Each group becomes the merge of what it was and of what is announced of it, without the
+    /// ended: the law `exchange_merges_tables`.
     ///
-    /// Faults, which change nothing: `NotAMessage` where the peer is merged already; else `OutOfMemory`.
+    /// Errors: `NotAMessage` where the peer is merged already; else `OutOfMemory`. They change nothing.
+    ///
+    /// Cost: that of the groups that are announced, however many more the table has.
     pub fn take<T: GroupTable>(
         &mut self,
         peer: usize,
@@ -102,8 +114,10 @@ impl Formation {
         Ok(())
     }
 
-    /// Counts a peer as merged, as where it is lost, whether it has announced its groups or not; all else stays as it was.
-    /// `peer` is a place among the peers. It takes no memory, and can be called again.
+    /// Counts a peer as merged, as where it is lost, whether it has announced its groups or not; all else stays as it
+    /// was. `peer` is a place among the peers. It can be called again.
+    ///
+    /// Cost: no memory.
     pub fn forget(&mut self, peer: usize)
         requires { peer < length self.old }
         ensures { self.new ≡ slice_set self.old peer true }
@@ -114,7 +128,9 @@ impl Formation {
         }
     }
 
-    /// Whether every peer is merged: it has announced its groups, or was forgotten. It takes no memory.
+    /// Whether every peer is merged: it has announced its groups, or was forgotten.
+    ///
+    /// Cost: no memory.
     pub fn formed(&self) -> bool
         ensures { result ≡ list_all (λ marked. marked) self.now }
     {

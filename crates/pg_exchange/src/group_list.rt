@@ -8,7 +8,12 @@ use pg_query::{QueryFault, members, which_groups};
 use pg_term::{Items, Pid, Term};
 use std::alloc::{AllocError, Global};
 
-/// All that a table says, as a node announces it: its groups in the order of terms, each with its members in the order of pids.
+/// All that a table says, as a node announces it: its groups in the order of terms, each with its members in the
+/// order of pids.
+///
+/// Errors: `AllocError`.
+///
+/// Cost: that of the table's `groups`, and of its `list` for each group.
 pub fn snapshot<T: GroupTable>(
     alloc: Global,
     table: &T,

@@ -8,8 +8,8 @@ ghost use Rattle.pg_exchange.specs.GroupList.{GroupList, all_merged, announced_t
 use pg_group::{left_out_at_once, merged_in_any_order};
 use pg_term::equality;
 
-/// An exchange merges each group of a table with what is announced of it, less the ended; a snapshot announces the table
-/// that it was taken of.
+/// An exchange merges each group of a table with what is announced of it, without the ended; a snapshot announces the
+/// table that it was taken of.
 pub fn exchange_merges_tables()
     ensures taken { (table : Table) (groups : GroupList) (ended : Pid → Bool) (name : Term)
         → all_merged table groups ended name ≡ merge (table name) (less (announced_table groups name) ended) }

@@ -9,11 +9,15 @@ use pg_group::{Ended, GroupTable};
 use pg_term::{Items, Pid, Term};
 use std::alloc::{AllocError, Global};
 
-// How a group stood before it was merged: how often each pid that is announced was a member; `None` where it was absent.
+// How a group was before it was merged: how often each pid that is announced was a member; `None` where it was
+// absent.
 type Before = Option<Vec<u64>>;
 
-/// Takes in groups, one after the other. An error changes nothing: what was merged is taken back, which needs no memory.
-/// It notes how each group stood before, which costs a look-up for each pid of a group that is there.
+/// Takes in groups, one after the other. It notes how each group was before.
+///
+/// Errors: `AllocError`, which changes nothing: what was merged is taken back, which needs no memory.
+///
+/// Cost: that of merging them, and a look-up for each pid of a group that is there.
 pub fn merge_all<T: GroupTable>(
     alloc: Global,
     groups: &[(Term, Items<Pid>)],
@@ -32,7 +36,7 @@ pub fn merge_all<T: GroupTable>(
     merged
 }
 
-/// Merges group after group, and notes how each stood before.
+/// Merges group after group, and notes how each was before.
 fn merge_each<T: GroupTable>(
     alloc: Global,
     groups: &[(Term, Items<Pid>)],

@@ -10,7 +10,8 @@ use Rattle.pg_frame_world.specs.declared.frame_world.FrameWorld.{FrameWorld}
 use Rattle.pg_frame_world.specs.Alike.{AreAlikeWorlds, without_clock, without_stamps}
 use Rattle.pg_account.specs.Agreeing.{HaveSameUpdates}
 use Rattle.pg_frame_world.specs.FrameWorlds.{traffic_of, given_of}
-use Rattle.pg_frame_world.specs.Views.{Seen, View}
+use Rattle.pg_starts.specs.Seen.{Seen}
+use Rattle.pg_frame_world.specs.Views.{View}
 use Rattle.pg_account.specs.Histories.{Account}
 use Rattle.pg_term.specs.declared.term.Term.{Term}
 use Rattle.pg_explore.specs.Moments.{AreAlike, Sight}

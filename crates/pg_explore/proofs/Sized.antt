@@ -5,7 +5,8 @@ use Rattle.std.proofs.lemmas.Option.{slice_get_within}
 use Rattle.std.specs.Prelude.{slice_get}
 use Rattle.pg_machine.specs.Places.{is_pair}
 use Rattle.pg_frame_world.specs.FrameWorlds.{traffic_of}
-use Rattle.pg_frame_world.specs.Views.{Seen, peer_place}
+use Rattle.pg_starts.specs.Seen.{Seen}
+use Rattle.pg_frame_world.specs.Views.{peer_place}
 use Rattle.pg_explore.specs.declared.moment.Moment.{Moment}
 use Rattle.pg_explore.specs.Moments.{IsSized}
 use Rattle.pg_explore.proofs.Alike.{as_many}

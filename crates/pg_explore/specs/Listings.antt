@@ -12,7 +12,8 @@ use Rattle.pg_step.specs.State.{left}
 use Rattle.pg_frame_world.specs.declared.step.FrameStep.{FrameStep}
 use Rattle.pg_frame_world.specs.Losing.{seen_at}
 use Rattle.pg_account.specs.Losses.{is_lost}
-use Rattle.pg_frame_world.specs.Views.{CanStay, Seen, on_the_way}
+use Rattle.pg_starts.specs.Seen.{Seen}
+use Rattle.pg_frame_world.specs.Views.{CanStay, on_the_way}
 use Rattle.pg_explore.specs.declared.moves.Move.{Move}
 use Rattle.pg_explore.specs.declared.moves.Move.TheVariants.{Take, Next, Loss, Retry, SeeLoss}
 use Rattle.pg_explore.specs.declared.plan.Plan.{Plan}

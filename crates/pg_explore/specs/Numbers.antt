@@ -7,7 +7,7 @@ use Rattle.pg_message.specs.declared.message.Message.{Message}
 use Rattle.pg_message.specs.declared.message.Message.TheVariants.{Call, Reply, DelLock, Exchange, Down}
 use Rattle.pg_message.specs.declared.message.Request.TheVariants.{SetLock, Change}
 use Rattle.pg_frame_world.specs.Alike.{without_clock, without_stamps}
-use Rattle.pg_frame_world.specs.Views.{Seen}
+use Rattle.pg_starts.specs.Seen.{Seen}
 use Rattle.pg_explore.specs.Moments.{Progress, Sight}
 
 -- a mark mixed into a number of 64 bits

@@ -26,7 +26,7 @@ impl Bin {
 
     /// One more.
     ///
-    /// Error: `AllocError`, by which nothing changes.
+    /// Errors: `AllocError`, by which nothing changes.
     fn add(&mut self, spot: Spot) -> Result<(), AllocError>
         ensures ok { OnOk result (spots_in self.new ≡ spots_in self.old ++ spot ∷ []) }
         ensures err { OnErr result (spots_in self.new ≡ spots_in self.old) }
@@ -50,7 +50,7 @@ impl Bins {
 
     /// Empty bins.
     ///
-    /// Error: `AllocError`.
+    /// Errors: `AllocError`.
     pub(crate) fn new(alloc: Global) -> Result<Bins, AllocError> {
         let mut bins = Vec::with_capacity(alloc, BINS)?;
         for place in 0..BINS {
@@ -71,7 +71,7 @@ impl Bins {
 
     /// Puts a place into the bin of its number.
     ///
-    /// Error: `AllocError`.
+    /// Errors: `AllocError`.
     pub(crate) fn add(&mut self, number: u64, place: usize) -> Result<(), AllocError>
         ensures added { OnOk result (Contains (spots_of self.new number) (record { number = number; place = place })) }
         ensures kept { Keeps self.old self.new }

@@ -13,19 +13,19 @@ use crate::visitor::Visitor;
 use pg_world::Config;
 use std::alloc::{AllocError, Global};
 
-/// Meets the moments of a configuration, of whose nodes this is planned, by their places: each order in which packets are taken, what is
-/// planned comes in, waiting commands are tried again and losses are seen. Moments that are the same but for clocks and stamps are met once. The
-/// first is that in which the configuration begins, with what each node tells the others on its way. The visitor is lent each moment once
-/// all steps were made that can be made there.
+/// Meets the moments of a configuration, of whose nodes this is planned, by their places: each order in which packets
+/// are taken, what is planned comes in, waiting commands are tried again and losses are seen. Moments that are the
+/// same but for clocks and stamps are met once. The first is that in which the configuration begins, with what each
+/// node sends the others on its way. The visitor is lent each moment once all steps were made that can be made there.
 ///
-/// Each moment that was met is reached: a step that could be made at an earlier one led to it. No two are alike. Where it is whole, each step
-/// that can be made at one of them within the limits does not happen there, or leads to one that is alike to one of them. Else the limit of moments was
-/// reached, and the first were lent alone.
+/// Each moment that was met is reached: a step that could be made at an earlier one led to it. No two are alike.
+/// Where it is whole, each step that can be made at one of them within the limits does not happen there, or leads to
+/// one that is alike to one of them. Else the limit of moments was reached, and the first were lent alone.
 ///
-/// Its cost is, for each step that can be made at each moment, a copy of the world, the step, and the moments of the same number
-/// compared; and the memory of all moments that were met.
+/// Errors: those of `FrameWorld::new`; `OutOfMemory`.
 ///
-/// Faults: those of `FrameWorld::new`; `OutOfMemory`.
+/// Cost: for each step that can be made at each moment, a copy of the world, the step, and the moments of the same
+/// number compared; and the memory of all moments that were met.
 pub fn explore<V: Visitor>(
     alloc: Global,
     config: &Config,
@@ -59,7 +59,7 @@ pub fn explore<V: Visitor>(
 
 /// Lends a visitor one moment after another, until all were lent or a step leads beyond the limit.
 ///
-/// Error: `AllocError`.
+/// Errors: `AllocError`.
 fn lend_all<V: Visitor>(
     explored: &mut Explored,
     config: &Config,

@@ -59,7 +59,7 @@ enum Arrival {
 impl Explored {
     /// The first moment alone.
     ///
-    /// Faults: those of `FrameWorld::new`; `OutOfMemory`.
+    /// Errors: those of `FrameWorld::new`; `OutOfMemory`.
     pub(crate) fn begin(
         alloc: Global,
         config: &Config,
@@ -97,14 +97,18 @@ impl Explored {
         }
     }
 
-    /// The moments, in the order in which they were met. It takes no memory.
+    /// The moments, in the order in which they were met.
+    ///
+    /// Cost: no memory.
     pub fn met(&self) -> &[Met]
         ensures { result.now ≡ met_of self.now }
     {
         self.met.as_slice()
     }
 
-    /// Whether all of them were lent: then each moment within the limits was met. It takes no memory.
+    /// Whether all of them were lent: then each moment within the limits was met.
+    ///
+    /// Cost: no memory.
     pub fn is_whole(&self) -> bool
         ensures { IsTrue result ↔ (length (met_of self.now) ≤ self.now.lent) }
     {
@@ -114,7 +118,7 @@ impl Explored {
     /// Lends a visitor the next moment, once each step was made that can be made there; false where one leads beyond the limit, and
     /// then nothing is lent.
     ///
-    /// Error: `AllocError`.
+    /// Errors: `AllocError`.
     pub(crate) fn lend<V: Visitor>(
         &mut self,
         config: &Config,
@@ -147,10 +151,10 @@ impl Explored {
         }
     }
 
-    /// Makes each step that can be made at the moment of a place, and tells where those lead that happen; `None` where one leads beyond the
-    /// limit.
+    /// Makes each step that can be made at the moment of a place, and says where those lead that happen; `None` where
+    /// one leads beyond the limit.
     ///
-    /// Error: `AllocError`.
+    /// Errors: `AllocError`.
     fn expand(
         &mut self,
         config: &Config,
@@ -181,7 +185,7 @@ impl Explored {
 
     /// The steps that can be made at the moment of a place.
     ///
-    /// Error: `AllocError`.
+    /// Errors: `AllocError`.
     fn moves_at(
         &self,
         plans: &[Plan],
@@ -198,7 +202,7 @@ impl Explored {
 
     /// Makes a step at the moment of a place, where it can be made; where it leads.
     ///
-    /// Error: `AllocError`.
+    /// Errors: `AllocError`.
     fn lead(
         &mut self,
         config: &Config,
@@ -225,9 +229,9 @@ impl Explored {
         }
     }
 
-    /// Looks up a moment to which a step leads, or adds it; where it stands.
+    /// Looks up a moment to which a step leads, or adds it; where it is.
     ///
-    /// Error: `AllocError`.
+    /// Errors: `AllocError`.
     fn meet(
         &mut self,
         config: &Config,
@@ -263,9 +267,9 @@ impl Explored {
         }
     }
 
-    /// Adds a moment to which a step leads, if the limit allows it; where it stands.
+    /// Adds a moment to which a step leads, if the limit allows it; where it is.
     ///
-    /// Error: `AllocError`.
+    /// Errors: `AllocError`.
     fn add_new(
         &mut self,
         config: &Config,
@@ -309,7 +313,7 @@ impl Explored {
 
     /// The place of a moment that is the same but for clocks and stamps; `None` where there is none.
     ///
-    /// Error: `AllocError`.
+    /// Errors: `AllocError`.
     fn find(&self, moment: &Moment, number: u64) -> Result<Option<usize>, AllocError>
         requires kept { AreKept self.now.bins (met_of self.now) }
         requires number { number ≡ number_in (sight_of moment.now) }
@@ -325,7 +329,7 @@ impl Explored {
 
     /// Whether the moment of a place is the same as another but for clocks and stamps.
     ///
-    /// Error: `AllocError`.
+    /// Errors: `AllocError`.
     fn is_alike_at(&self, place: usize, moment: &Moment) -> Result<bool, AllocError>
         ensures { IfOk result (λ alike. IsTrue alike ↔ IsAlikeAt (met_of self.now) place (sight_of moment.now)) }
     {
@@ -337,7 +341,7 @@ impl Explored {
 
     /// Adds a moment.
     ///
-    /// Error: `AllocError`, by which none is added.
+    /// Errors: `AllocError`, by which none is added.
     fn add(&mut self, moment: Moment, number: u64, before: Option<Before>) -> Result<(), AllocError>
         requires number { number ≡ number_in (sight_of moment) }
         ensures ok { OnOk result (met_of self.new ≡ met_of self.old ++ record { moment = moment; before = before } ∷ []) }
@@ -360,7 +364,7 @@ impl Explored {
 
     /// Makes room for one more moment, whose place is in the bin of this number then.
     ///
-    /// Error: `AllocError`.
+    /// Errors: `AllocError`.
     fn make_room(&mut self, number: u64) -> Result<(), AllocError>
         ensures met { met_of self.new ≡ met_of self.old }
         ensures room { OnOk result (vec_len self.new.met < vec_capacity self.new.met) }
@@ -375,7 +379,7 @@ impl Explored {
 
 /// Adds that a step leads to the moment of a place.
 ///
-/// Error: `AllocError`.
+/// Errors: `AllocError`.
 fn add_led(led: &mut Vec<Led>, alloc: Global, step: &Move, place: usize) -> Result<(), AllocError>
     ensures { OnOk result (led.new.items ≡ led.old.items ++ record { step = step.now; place = place } ∷ []) }
 {

@@ -21,7 +21,7 @@ use std::alloc::{AllocError, Global};
 
 /// The steps that can be made at a moment.
 ///
-/// Error: `AllocError`.
+/// Errors: `AllocError`.
 pub(crate) fn moves_of(
     alloc: Global,
     moment: &Moment,
@@ -42,7 +42,7 @@ pub(crate) fn moves_of(
 
 /// Adds those of a node that is not lost.
 ///
-/// Error: `AllocError`.
+/// Errors: `AllocError`.
 fn add_moves(
     moves: &mut Vec<Move>,
     alloc: Global,
@@ -63,7 +63,7 @@ fn add_moves(
 
 /// Adds the packets that a node can take, and the losses that it can see.
 ///
-/// Error: `AllocError`.
+/// Errors: `AllocError`.
 fn add_peers(
     moves: &mut Vec<Move>,
     moment: &Moment,
@@ -85,7 +85,7 @@ fn add_peers(
 
 /// Adds the packet that a node can take of a peer, or else the loss of it that the node can see.
 ///
-/// Error: `AllocError`.
+/// Errors: `AllocError`.
 fn add_peer(
     moves: &mut Vec<Move>,
     moment: &Moment,
@@ -143,7 +143,7 @@ fn has_seen(moment: &Moment, node: usize, peer: usize) -> bool
 
 /// Adds what is planned next of a node.
 ///
-/// Error: `AllocError`.
+/// Errors: `AllocError`.
 fn add_planned(
     moves: &mut Vec<Move>,
     alloc: Global,
@@ -171,7 +171,7 @@ fn add_planned(
 
 /// Adds the commands that a node can try again.
 ///
-/// Error: `AllocError`.
+/// Errors: `AllocError`.
 fn add_retries(
     moves: &mut Vec<Move>,
     moment: &Moment,
@@ -194,7 +194,7 @@ fn add_retries(
 
 /// The commands of a node that wait.
 ///
-/// Error: `AllocError`.
+/// Errors: `AllocError`.
 fn waiting_at(moment: &Moment, node: usize) -> Result<Vec<OpId>, AllocError>
     requires sized { IsSized moment.now }
     requires there { node < length moment.now.strands.items }

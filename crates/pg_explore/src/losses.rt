@@ -15,7 +15,7 @@ use std::alloc::{AllocError, Global};
 
 /// Adds each way in which a node can be lost: one for each number of packets that stay on each way.
 ///
-/// Error: `AllocError`.
+/// Errors: `AllocError`.
 pub(crate) fn add_losses(
     moves: &mut Vec<Move>,
     alloc: Global,
@@ -40,7 +40,7 @@ pub(crate) fn add_losses(
 
 /// How many packets are on the way from a node to each of its peers, by their places.
 ///
-/// Error: `AllocError`.
+/// Errors: `AllocError`.
 fn lens_of(alloc: Global, moment: &Moment, node: usize) -> Result<Vec<usize>, AllocError>
     requires sized { IsSized moment.now }
     requires node { node < length moment.now.strands.items }
@@ -56,7 +56,7 @@ fn lens_of(alloc: Global, moment: &Moment, node: usize) -> Result<Vec<usize>, Al
 
 /// Each list of as many numbers, none of them above the one at its place.
 ///
-/// Error: `AllocError`.
+/// Errors: `AllocError`.
 fn keeps_of(alloc: Global, lens: &[usize]) -> Result<Vec<Items<usize>>, AllocError>
     ensures { IfOk result (λ keeps. AreUpTo lens.now keeps.items) }
 {
@@ -70,7 +70,7 @@ fn keeps_of(alloc: Global, lens: &[usize]) -> Result<Vec<Items<usize>>, AllocErr
 
 /// Each of some lists with each number up to this one more at its end.
 ///
-/// Error: `AllocError`.
+/// Errors: `AllocError`.
 fn longer(
     alloc: Global,
     keeps: &[Items<usize>],
@@ -87,7 +87,7 @@ fn longer(
 
 /// Adds a list with each number up to this one more at its end.
 ///
-/// Error: `AllocError`.
+/// Errors: `AllocError`.
 fn add_longer(
     all: &mut Vec<Items<usize>>,
     alloc: Global,
@@ -105,7 +105,7 @@ fn add_longer(
 
 /// Adds a list with a number more at its end.
 ///
-/// Error: `AllocError`.
+/// Errors: `AllocError`.
 fn add_with(
     all: &mut Vec<Items<usize>>,
     alloc: Global,

@@ -13,14 +13,14 @@ use crate::plan::{Plan, Planned};
 use crate::strand::Strand;
 use crate::strands::planned_next;
 use pg_index::IndexTable;
-use pg_node::NodeFault;
+use pg_node_state::NodeFault;
 use pg_step::OpId;
 use pg_world::{FrameStep, FrameWorld, Stepped};
 use std::alloc::{AllocError, Global};
 
 /// Makes a step of a world, where the plans have come so far; whether it happened.
 ///
-/// Error: `AllocError`.
+/// Errors: `AllocError`.
 pub(crate) fn make(
     world: &mut FrameWorld<IndexTable>,
     alloc: Global,
@@ -42,7 +42,7 @@ pub(crate) fn make(
 
 /// Has a node take the first packet of a peer; whether it happened.
 ///
-/// Error: `AllocError`.
+/// Errors: `AllocError`.
 fn take(world: &mut FrameWorld<IndexTable>, node: usize, peer: usize) -> Result<bool, AllocError>
     ensures made { IfOk result (MakesTold (λ config u. Some (told_take config u node peer)) (view_of world.old) (lost_of world.old) (view_of world.new) (lost_of world.new)) }
     ensures given { given_of world.new ≡ given_of world.old }
@@ -53,7 +53,7 @@ fn take(world: &mut FrameWorld<IndexTable>, node: usize, peer: usize) -> Result<
 
 /// Has a node try a command again; whether it happened.
 ///
-/// Error: `AllocError`.
+/// Errors: `AllocError`.
 fn retry(world: &mut FrameWorld<IndexTable>, node: usize, op: OpId) -> Result<bool, AllocError>
     ensures made { IfOk result (MakesTold (λ config u. Some (told_own config u node (tried_again op))) (view_of world.old) (lost_of world.old) (view_of world.new) (lost_of world.new)) }
     ensures given { given_of world.new ≡ given_of world.old }
@@ -64,7 +64,7 @@ fn retry(world: &mut FrameWorld<IndexTable>, node: usize, op: OpId) -> Result<bo
 
 /// Has a node see the loss of a peer; whether it happened.
 ///
-/// Error: `AllocError`.
+/// Errors: `AllocError`.
 fn see_loss(
     world: &mut FrameWorld<IndexTable>,
     node: usize,
@@ -79,7 +79,7 @@ fn see_loss(
 
 /// Makes the step that is planned, where it is one; whether it happened.
 ///
-/// Error: `AllocError`.
+/// Errors: `AllocError`.
 fn make_planned(
     world: &mut FrameWorld<IndexTable>,
     planned: Option<&Planned>,
@@ -95,7 +95,7 @@ fn make_planned(
 
 /// Loses a node, where so many packets stay; whether it happened.
 ///
-/// Error: `AllocError`.
+/// Errors: `AllocError`.
 fn lose(
     world: &mut FrameWorld<IndexTable>,
     alloc: Global,
@@ -112,7 +112,7 @@ fn lose(
 
 /// Makes a step; whether it happened.
 ///
-/// Error: `AllocError`.
+/// Errors: `AllocError`.
 fn make_step(world: &mut FrameWorld<IndexTable>, step: &FrameStep) -> Result<bool, AllocError>
     ensures made { IfOk result (MakesStep step.now (view_of world.old) (lost_of world.old) (view_of world.new) (lost_of world.new)) }
     ensures given { given_of world.new ≡ given_of world.old }
@@ -122,7 +122,7 @@ fn make_step(world: &mut FrameWorld<IndexTable>, step: &FrameStep) -> Result<boo
 
 /// Whether a step happened.
 ///
-/// Error: `AllocError`.
+/// Errors: `AllocError`.
 fn has_happened(stepped: Result<Stepped, NodeFault>) -> Result<bool, AllocError>
     ensures { IfOk result (IsOutcome stepped) }
 {

@@ -27,7 +27,7 @@ pub struct Moment {
 impl Moment {
     /// How a configuration begins.
     ///
-    /// Faults: those of `FrameWorld::new`; `OutOfMemory`.
+    /// Errors: those of `FrameWorld::new`; `OutOfMemory`.
     pub(crate) fn begin(alloc: Global, config: &Config) -> Result<Moment, ExploreFault>
         ensures first { IfOk result (λ moment. IsFirst config.now.starts.items (sight_of moment)) }
         ensures of { IfOk result (IsOf config.now.starts.items) }
@@ -42,7 +42,7 @@ impl Moment {
 
     /// Whether both are the same but for clocks and stamps. Its cost is that of `FrameWorld::is_alike`.
     ///
-    /// Error: `AllocError`.
+    /// Errors: `AllocError`.
     pub(crate) fn is_alike(&self, other: &Moment) -> Result<bool, AllocError>
         ensures { IfOk result (λ alike. IsTrue alike ↔ AreAlike (sight_of self.now) (sight_of other.now)) }
     {
@@ -55,7 +55,7 @@ impl Moment {
 
     /// What a step makes of it; `None` where it does not happen. Its cost is that of a copy of the world, and of the step.
     ///
-    /// Error: `AllocError`.
+    /// Errors: `AllocError`.
     pub(crate) fn after(
         &self,
         alloc: Global,
@@ -76,9 +76,10 @@ impl Moment {
     }
 }
 
-/// The moment to which a step leads from a world, where the plans have come so far behind it; `None` where it does not happen.
+/// The moment to which a step leads from a world, where the plans have come so far after it; `None` where it does not
+/// happen.
 ///
-/// Error: `AllocError`.
+/// Errors: `AllocError`.
 fn made(
     world: FrameWorld<IndexTable>,
     strands: Vec<Strand>,

@@ -31,9 +31,11 @@ pub enum Move {
 }
 
 impl Move {
-    /// The same step. It takes memory for a loss alone.
+    /// The same step.
     ///
-    /// Error: `AllocError`.
+    /// Errors: `AllocError`.
+    ///
+    /// Cost: memory for a loss alone.
     pub fn copy(&self, alloc: Global) -> Result<Move, AllocError>
         ensures { IfOk result (λ step. step ≡ self.now) }
     {

@@ -2,9 +2,9 @@
 
 ghost use Rattle.std.specs.Prelude.{◌≡◌, ◌<◌, [], fold, get_or, length, map};
 ghost use Rattle.std.specs.Option.{option_copied, option_map_or};
-ghost use Rattle.pg_node.specs.States.{stamped_of};
+ghost use Rattle.pg_node_state.specs.States.{stamped_of};
 ghost use Rattle.pg_frame_world.specs.Alike.{without_clock, without_stamps};
-ghost use Rattle.pg_frame_world.specs.Views.{seen_of};
+ghost use Rattle.pg_starts.specs.Seen.{seen_of};
 ghost use Rattle.pg_frame_world.specs.FrameWorlds.{traffic_of};
 ghost use Rattle.pg_explore.specs.Moments.{IsSized, progress_of, sight_of};
 ghost use Rattle.pg_explore.specs.Numbers.{answer_count, kind_number, mixed, mixed_message, mixed_node, mixed_progress, mixed_row, mixed_way, number_in, unstamped_of};
@@ -15,7 +15,7 @@ use crate::ways::way;
 use pg_group::Update;
 use pg_index::IndexTable;
 use pg_message::{Message, Packet, Request};
-use pg_node::NodeState;
+use pg_node_state::NodeState;
 use std::collections::VecDeque;
 
 /// The number of a moment. It takes no memory.

@@ -26,7 +26,7 @@ impl Strand {
 
     /// The same.
     ///
-    /// Error: `AllocError`.
+    /// Errors: `AllocError`.
     pub(crate) fn copy(&self, alloc: Global) -> Result<Strand, AllocError>
         ensures { IfOk result (λ copy. progress_of copy ≡ progress_of self.now) }
     {
@@ -56,7 +56,7 @@ impl Strand {
 
     /// A command came in.
     ///
-    /// Error: `AllocError`, also where the count is 2^64 - 1.
+    /// Errors: `AllocError`, also where the count is 2^64 - 1.
     pub(crate) fn add_command(&mut self) -> Result<(), AllocError>
         ensures { OnOk result (progress_of self.new ≡ with_command (progress_of self.old)) }
     {
@@ -67,7 +67,7 @@ impl Strand {
 
     /// The node was lost.
     ///
-    /// Error: `AllocError`, where the count is 2^64 - 1.
+    /// Errors: `AllocError`, where the count is 2^64 - 1.
     pub(crate) fn add_loss(&mut self) -> Result<(), AllocError>
         ensures { OnOk result (progress_of self.new ≡ with_loss (progress_of self.old)) }
     {
@@ -76,7 +76,7 @@ impl Strand {
 
     /// One more came in.
     ///
-    /// Error: `AllocError`, where the count is 2^64 - 1.
+    /// Errors: `AllocError`, where the count is 2^64 - 1.
     fn count(&mut self) -> Result<(), AllocError>
         ensures { OnOk result (progress_of self.new ≡ with_loss (progress_of self.old)) }
     {
@@ -91,7 +91,7 @@ impl Strand {
 
     /// A command was tried again.
     ///
-    /// Error: `AllocError`, where the count is 2^32 - 1.
+    /// Errors: `AllocError`, where the count is 2^32 - 1.
     pub(crate) fn add_retry(&mut self, number: u32) -> Result<(), AllocError>
         ensures { OnOk result (progress_of self.new ≡ with_retry number (progress_of self.old)) }
     {

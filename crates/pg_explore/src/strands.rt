@@ -12,7 +12,7 @@ use std::alloc::{AllocError, Global};
 
 /// So many strands of which nothing has come in.
 ///
-/// Error: `AllocError`.
+/// Errors: `AllocError`.
 pub(crate) fn idle_strands(alloc: Global, count: usize) -> Result<Vec<Strand>, AllocError>
     ensures { IfOk result (λ strands. map progress_of strands.items ≡ replicate count no_progress) }
 {
@@ -46,7 +46,7 @@ fn agree(strands: &[Strand], others: &[Strand]) -> bool
 
 /// The same.
 ///
-/// Error: `AllocError`.
+/// Errors: `AllocError`.
 fn copies_of(alloc: Global, strands: &[Strand]) -> Result<Vec<Strand>, AllocError>
     ensures { IfOk result (λ copies. map progress_of copies.items ≡ map progress_of strands.now) }
 {
@@ -57,9 +57,9 @@ fn copies_of(alloc: Global, strands: &[Strand]) -> Result<Vec<Strand>, AllocErro
     Ok(copies)
 }
 
-/// How far the plans have come behind a step.
+/// How far the plans have come after a step.
 ///
-/// Error: `AllocError`.
+/// Errors: `AllocError`.
 pub(crate) fn strands_after(
     alloc: Global,
     strands: &[Strand],
@@ -79,7 +79,7 @@ pub(crate) fn strands_after(
 
 /// A command came in at a node.
 ///
-/// Error: `AllocError`.
+/// Errors: `AllocError`.
 fn add_command(strands: &mut [Strand], node: usize) -> Result<(), AllocError>
     ensures { OnOk result (map progress_of strands.new ≡ change_at node with_command (map progress_of strands.old)) }
 {
@@ -92,7 +92,7 @@ fn add_command(strands: &mut [Strand], node: usize) -> Result<(), AllocError>
 
 /// A node was lost.
 ///
-/// Error: `AllocError`.
+/// Errors: `AllocError`.
 fn add_loss(strands: &mut [Strand], node: usize) -> Result<(), AllocError>
     ensures { OnOk result (map progress_of strands.new ≡ change_at node with_loss (map progress_of strands.old)) }
 {
@@ -105,7 +105,7 @@ fn add_loss(strands: &mut [Strand], node: usize) -> Result<(), AllocError>
 
 /// A command of a node was tried again.
 ///
-/// Error: `AllocError`.
+/// Errors: `AllocError`.
 fn add_retry(strands: &mut [Strand], node: usize, number: u32) -> Result<(), AllocError>
     ensures { OnOk result (map progress_of strands.new ≡ change_at node (with_retry number) (map progress_of strands.old)) }
 {

@@ -22,7 +22,9 @@ pub trait Visitor {
 
     /// Is lent the moment of a place, with the steps that happen there.
     ///
-    /// Error: `AllocError`, which ends the exploration.
+    /// Errors: `AllocError`, which ends the exploration.
+    ///
+    /// Cost: the visitor's own.
     fn visit(&mut self, place: usize, met: &Met, led: &[Led]) -> Result<(), AllocError>
         ensures { OnOk result (IsLent (lent self.old) (lent self.new) met.now) };
 }

@@ -30,7 +30,9 @@ impl Model for Deframer {
 }
 
 impl Deframer {
-    /// A deframer with no bytes. It takes no memory yet; `alloc` is asked for it once bytes come.
+    /// A deframer with no bytes, on this allocator.
+    ///
+    /// Cost: no memory, which is taken once bytes come.
     pub fn new(alloc: Global) -> Deframer
         ensures unread { result.unread ≡ [] }
         ensures room { result.room ≡ 0 }
@@ -40,11 +42,12 @@ impl Deframer {
         }
     }
 
-    /// Makes room for `n` bytes: from now on pieces of together at most `n` bytes can be fed with no
-    /// further memory, whatever frames are taken meanwhile. The unread bytes stay.
+    /// Makes room for `n` bytes: from now on pieces of together at most `n` bytes can be fed with no further memory,
+    /// whatever frames are taken meanwhile. The unread bytes stay.
     ///
-    /// Fails only where memory runs out: where the room was missing, and then changes at most the
-    /// room, which never shrinks. Costs at most O(`n` + unread bytes).
+    /// Errors: `AllocError`, where the room was missing; it changes at most the room, which never shrinks.
+    ///
+    /// Cost: O(`n` + unread bytes) at most.
     pub fn make_room(&mut self, n: usize) -> Result<(), AllocError>
         ensures unread { self.new.unread ≡ self.old.unread }
         ensures room { MakesRoom result self.old.room self.new.room n }
@@ -54,8 +57,9 @@ impl Deframer {
 
     /// Adds the next piece of the stream at the end of the unread bytes.
     ///
-    /// Fails only where memory runs out: where room for the piece was missing, and then changes at
-    /// most the room. Feeding n bytes in pieces of any size costs O(n) over the deframer's life.
+    /// Errors: `AllocError`, where room for the piece was missing; it changes at most the room.
+    ///
+    /// Cost: O(n) for n bytes in pieces of any size, over the deframer's life.
     pub fn feed(&mut self, piece: &[u8]) -> Result<(), AllocError>
         ensures ok { OnOk result (self.new.unread ≡ self.old.unread ++ piece.now) }
         ensures err { OnErr result (self.new.unread ≡ self.old.unread) }
@@ -67,8 +71,10 @@ impl Deframer {
 
     /// The body of the first frame that was not taken out, or `None` while that frame isn't whole.
     ///
-    /// `TooLong` where the length in the next frame's place is above `MAX_BODY`; such a length stays
-    /// there for good (`overlong_stays`). Takes no memory. O(1).
+    /// Errors: `TooLong`, where the length in the next frame's place is above `MAX_BODY`; such a length stays there
+    /// for good (`overlong_stays`).
+    ///
+    /// Cost: no memory; O(1).
     #[tactic(auto, unfolding(crate::specs::Frames::front_of, crate::specs::Frames::size_at))]
     pub fn front(&self) -> Result<Option<&[u8]>, TooLong>
         ensures body { contents result ≡ front_of self.now.unread }
@@ -92,7 +98,9 @@ impl Deframer {
 
     /// Takes out the first frame, if it is whole, and says whether it was. Otherwise nothing changes.
     ///
-    /// `TooLong` where `front` answers it. Takes no memory, and leaves the room as it is. O(1).
+    /// Errors: `TooLong`, where `front` gives it; it changes nothing.
+    ///
+    /// Cost: no memory, and the room stays as it is; O(1).
     #[tactic(auto, using(crate::proofs::Fronts::front_fits, crate::proofs::Fronts::shorter_behind), unfolding(crate::specs::Frames::after_front))]
     pub fn next(&mut self) -> Result<bool, TooLong>
         ensures taken { result ≡ is_whole (front_of self.old.unread) }
@@ -111,7 +119,9 @@ impl Deframer {
         }
     }
 
-    /// How many bytes are unread, those of whole frames among them. Takes no memory. O(1).
+    /// How many bytes are unread, those of whole frames among them.
+    ///
+    /// Cost: no memory; O(1).
     pub fn rest_len(&self) -> usize
         ensures value { result ≡ length self.now.unread }
         ensures bound { result < 2 ^ 63 }

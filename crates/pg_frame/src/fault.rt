@@ -4,7 +4,7 @@ use pg_faults::{OUT_OF_MEMORY, TOO_LONG};
 use std::alloc::AllocError;
 use thiserror::Error;
 
-/// The length that stands in the place of the next frame is above `MAX_BODY`: no frame follows.
+/// The length in the place of the next frame is above `MAX_BODY`: no frame follows.
 #[derive(Clone, Copy, Debug, PartialEq, Eq, Error)]
 #[error("the length of the next frame is above 16,777,216")]
 pub struct TooLong;

@@ -16,7 +16,7 @@ pub fn pieces_continue()
     ensures { PiecesContinue }
 {}
 
-/// Behind a length that is too great nothing is a frame.
+/// After a length that is too great nothing is a frame.
 pub fn overlong_stays()
     ensures { OverlongStays }
 {}

@@ -1,5 +1,6 @@
-//! Laws of packets that cross from one node to another as bytes in pieces: what stands in an outbox, on a ring and behind it is,
-//! in this order, the frames of the packets on the way. Each function does nothing, and its contract is the law.
+//! Laws of packets that cross from one node to another as bytes in pieces: what is in an outbox, on a ring and after
+//! it is, in this order, the frames of the packets on the way. Each function does nothing, and its contract is the
+//! law.
 
 ghost use Rattle.std.specs.Prelude.{◌≡◌, ◌≢◌, ◌∷◌, ◌++◌, ℕ, List, [], Ok, Err, Some};
 ghost use Rattle.std.specs.List.{AllByRecursion, flat_map};
@@ -16,7 +17,7 @@ pub fn moving_keeps_packets<P>()
         → ArePackets write packets bytes → ArePackets write packets (pull count bytes) }
 {}
 
-/// Frames that are added to the outbox are so many packets more, behind those on the way.
+/// Frames that are added to the outbox are so many packets more, after those on the way.
 pub fn sending_adds_packets<P>()
     ensures { (write : P → List ℕ) (packets others : List P) (bytes : Bytes)
         → ArePackets write packets bytes → ArePackets write (packets ++ others) (sent (frames_of write others) bytes) }
@@ -54,8 +55,9 @@ pub fn packets_cross_in_order<P>()
     written_is_read();
 }
 
-/// Where a node is lost, its outbox counts no more: of the packets on the way the first stay, as many as were put whole, and behind
-/// them there may be a piece of the next. However many bytes of them are pulled at once, they are the same packets.
+/// Where a node is lost, its outbox counts no more: of the packets on the way the first stay, as many as were put
+/// whole, and after them there may be a piece of the next. However many bytes of them are pulled at once, they are
+/// the same packets.
 pub fn loss_cuts_packets<P>()
     ensures cut { (write : P → List ℕ) (packets : List P) (bytes : Bytes)
         → AreShort write packets → ArePackets write packets bytes → StayWhole write packets bytes }

@@ -6,7 +6,7 @@ use crate::{FrameFault, MAX_BODY, TooLong};
 use byteorder::{BigEndian, ByteOrder};
 use bytes::BytesMut;
 
-// The length of the body as it stands in the frame.
+// The length of the body as it is written in the frame.
 fn length_of(body: &[u8]) -> Result<[u8; 4], TooLong>
     ensures ok { IfOk result (λ head. head ≡ to_be_bytes w32 (length body.now)) }
     ensures too_long { IsErr result ↔ (MAX_BODY < length body.now) }
@@ -19,12 +19,15 @@ fn length_of(body: &[u8]) -> Result<[u8; 4], TooLong>
     Ok(head)
 }
 
-/// Appends the frame with this body to `out`, or changes nothing: four bytes, which are the body's
-/// length with the highest byte first, and the body, as under `{packet, 4}` of Erlang's
-/// `inet:setopts/2`. The greatest length is this project's own.
+/// Appends the frame with this body to `out`: four bytes, which are the body's length with the highest byte first,
+/// and the body. The greatest length is this project's own.
 ///
-/// Faults: `TooLong` where the body is longer than `MAX_BODY`, else `OutOfMemory`, which comes only
-/// where `out` had no capacity for the frame. Costs O(length of the body), and at times that of `out`.
+/// Errors: `TooLong` where the body is longer than `MAX_BODY`; else `OutOfMemory`, which comes only where `out` had
+/// no capacity for the frame. They change nothing.
+///
+/// Cost: O(length of the body), and at times that of `out`.
+///
+/// The rule: `{packet, 4}` of Erlang's `inet:setopts/2`.
 #[tactic(auto, unfolding(crate::specs::Frames::frame))]
 pub fn write_frame(out: &mut Vec<u8>, body: &[u8]) -> Result<(), FrameFault>
     ensures ok { OnOk result (out.new.items ≡ out.old.items ++ frame body.now) }
@@ -40,11 +43,13 @@ pub fn write_frame(out: &mut Vec<u8>, body: &[u8]) -> Result<(), FrameFault>
     Ok(())
 }
 
-/// `write_frame` for a buffer: appends the frame with this body to `out`, or changes no more than its
-/// spare room, which then stays or grows. A frame takes no more of that room than its length.
+/// `write_frame` for a buffer: appends the frame with this body to `out`, or changes no more than its spare room,
+/// which then stays or grows. A frame takes no more of that room than its length.
 ///
-/// Faults: `TooLong` where the body is longer than `MAX_BODY`, else `OutOfMemory`, which comes only
-/// where `out` had no spare room for the frame. Costs as `write_frame`.
+/// Errors: `TooLong` where the body is longer than `MAX_BODY`; else `OutOfMemory`, which comes only where `out` had
+/// no spare room for the frame. They leave the bytes of the buffer as they were.
+///
+/// Cost: that of `write_frame`.
 #[tactic(auto, unfolding(crate::specs::Frames::frame))]
 pub fn frame_into(out: &mut BytesMut, body: &[u8]) -> Result<(), FrameFault>
     ensures ok { OnOk result (out.new.items ≡ out.old.items ++ frame body.now) }

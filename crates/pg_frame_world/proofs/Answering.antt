@@ -11,7 +11,7 @@ use Rattle.pg_step.specs.State.{Response}
 use Rattle.pg_step.specs.Turns.{Report}
 use Rattle.pg_history.specs.History.{answers_by, answer_at, answer_by}
 use Rattle.pg_history.proofs.steps.Ways.{told_append}
-use Rattle.pg_node.specs.States.{Gave}
+use Rattle.pg_node_state.specs.States.{Gave}
 use Rattle.pg_frame_world.specs.Worlds.{AreAnswers}
 
 -- the answers of node j behind one more turn, of node i

@@ -22,15 +22,16 @@ use Rattle.pg_step.specs.StepLaws.{refusal_of, port_of, is_full}
 use Rattle.pg_step.specs.declared.refusal.Refusal.{Refusal}
 use Rattle.pg_step.specs.declared.refusal.Refusal.TheVariants.{NoSuchPlace, NodeLost, NotLost, NotDrained, ClockFull}
 use Rattle.pg_opens.specs.Places.{name_at as place_name}
-use Rattle.pg_node.specs.declared.state.fault.NodeFault.{NodeFault}
-use Rattle.pg_node.specs.declared.state.fault.NodeFault.TheVariants.{Refused, OutOfMemory, Message as BadMessage, TooLong, Damaged}
+use Rattle.pg_node_state.specs.declared.state.fault.NodeFault.{NodeFault}
+use Rattle.pg_node_state.specs.declared.state.fault.NodeFault.TheVariants.{Refused, OutOfMemory, Message as BadMessage, TooLong, Damaged}
 use Rattle.pg_frame_world.specs.declared.step.FrameStep.{FrameStep}
 use Rattle.pg_frame_world.specs.declared.step.FrameStep.TheVariants as steps
 use Rattle.pg_frame_world.specs.declared.step.Stepped.{Stepped}
 use Rattle.pg_frame_world.specs.declared.step.Stepped.TheVariants.{Happened, Moved, Nothing, Gone}
 use Rattle.pg_frame_world.specs.Losing.{notices, losing_of, SeenAreLost, ShowsLosing, seen_at, is_cut_off, is_barred, none_sent, first_refusal, take_refusal, own_refusal, keep_of, Telling, told_take, told_own, told_of, LosingLed, LosingComesTo}
 use Rattle.pg_account.specs.Losses.{is_lost}
-use Rattle.pg_frame_world.specs.Views.{Seen, View, peer_place}
+use Rattle.pg_starts.specs.Seen.{Seen}
+use Rattle.pg_frame_world.specs.Views.{View, peer_place}
 use Rattle.pg_frame_world.specs.Worlds.{TimedFrameWorld, ShowsNodes, ShowsNode, Shows, ComesTo, has_port, has_places, told, told_of_first}
 use Rattle.pg_frame_world.proofs.Lossy.{lifted, lost_kept}
 use Rattle.pg_frame_world.proofs.Peering.{lt_false, peer_name, named, there_and_back}

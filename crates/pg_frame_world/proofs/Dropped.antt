@@ -10,13 +10,14 @@ use Rattle.pg_step.specs.declared.refusal.Refusal.{Refusal}
 use Rattle.pg_step.specs.declared.refusal.Refusal.TheVariants.{NoSuchPlace, NodeLost}
 use Rattle.pg_step.specs.Config.{Config}
 use Rattle.pg_step.specs.LossLaws.{LosingFrameWorld}
-use Rattle.pg_node.specs.declared.state.NodeState.{NodeState}
+use Rattle.pg_node_state.specs.declared.state.NodeState.{NodeState}
 use Rattle.pg_frame_world.specs.declared.outgoing.Outgoing.{Outgoing}
 use Rattle.pg_frame_world.specs.declared.step.Stepped.TheVariants.{Gone}
 use Rattle.pg_machine.specs.Places.{is_pair}
 use Rattle.pg_frame_world.specs.Losing.{keep_of, losing_of, loss_refusal, told_loss, ShowsLosing, LosingComesTo}
 use Rattle.pg_account.specs.Losses.{is_lost}
-use Rattle.pg_frame_world.specs.Views.{View, CanStay, IsWhole, seen_of, ways_of, traffic_in}
+use Rattle.pg_starts.specs.Seen.{seen_of}
+use Rattle.pg_frame_world.specs.Views.{View, CanStay, IsWhole, ways_of, traffic_in}
 use Rattle.pg_frame_world.specs.Worlds.{TimedFrameWorld}
 use Rattle.pg_frame_world.proofs.Stopped.{count_refused, lost_refused, many_refused, can_stay, packets_cut, shown_cut, loss_happens, seen_more}
 use Rattle.pg_frame_world.proofs.Turning.{way_at}

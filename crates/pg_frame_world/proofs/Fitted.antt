@@ -11,7 +11,7 @@ use Rattle.pg_message.specs.declared.packet.TheConstants.{MAX_STAMP}
 use Rattle.pg_message.specs.Reading.{is_named_once}
 use Rattle.pg_message.specs.Writing.{is_sayable, body_of, length_of, sent, term_of_packet}
 use Rattle.pg_message.proofs.ReadBack.{read_back}
-use Rattle.pg_node.specs.Opening.{IsAnnouncement}
+use Rattle.pg_node_state.specs.Opening.{IsAnnouncement}
 use Rattle.pg_step.specs.Nodes.{Node}
 use Rattle.pg_term_io.specs.declared.limits.TheConstants.{MAX_LEN}
 use Rattle.pg_term_io.specs.Writing.{written}
@@ -20,7 +20,7 @@ use Rattle.pg_config.specs.declared.fault.WorldFault.TheVariants.{BadConfig, Nam
 use Rattle.pg_config.specs.Configs.{are_names}
 use Rattle.pg_frame_world.specs.Fitting.{IsOverlong}
 use Rattle.pg_frame_world.specs.Openings.{TellsNames, CantOpen, SomeCantOpen}
-use Rattle.pg_frame_world.specs.Views.{Seen}
+use Rattle.pg_starts.specs.Seen.{Seen}
 use Rattle.pg_config.proofs.Deciding.{both, named_once}
 
 body_is : (p : Packet) → is_sayable p.message ≡ true → p.stamp ≤ MAX_STAMP → body_of p ≡ sent (Ok p) (written (term_of_packet p))

@@ -29,8 +29,8 @@ use Rattle.pg_loss.specs.Survived.{LossesSurvived}
 use Rattle.pg_history.specs.History.{Entry, LockFree, NonePending, history, applied_count, is_formed}
 use Rattle.pg_history.specs.WithLosses.{NonePendingLeft}
 use Rattle.pg_loss.proofs.Lasts.{history_later, lost_for_good}
-use Rattle.pg_node.specs.declared.state.fault.NodeFault.{NodeFault}
-use Rattle.pg_node.specs.declared.state.fault.NodeFault.TheVariants.{Refused, OutOfMemory, Message as BadMessage, TooLong, Damaged}
+use Rattle.pg_node_state.specs.declared.state.fault.NodeFault.{NodeFault}
+use Rattle.pg_node_state.specs.declared.state.fault.NodeFault.TheVariants.{Refused, OutOfMemory, Message as BadMessage, TooLong, Damaged}
 use Rattle.pg_frame_world.specs.declared.step.FrameStep.{FrameStep}
 use Rattle.pg_frame_world.specs.declared.step.Stepped.{Stepped}
 use Rattle.pg_frame_world.specs.declared.step.Stepped.TheVariants.{Happened, Moved, Nothing, Gone}
@@ -40,7 +40,8 @@ use Rattle.pg_account.specs.Losses.{is_lost}
 use Rattle.pg_frame_world.specs.Past.{HasHeadline, IsPast, HasPast, LedOn, GoesOn, FramesHavePast, FramesGoOn, FramesRunOn, HistoriesGrow, RunsOn}
 use Rattle.pg_frame_world.specs.Pending.{AgreeOn, has_formed, pending_of, sees_free}
 use Rattle.pg_frame_world.specs.Starts.{Begins, Orders}
-use Rattle.pg_frame_world.specs.Views.{Seen, View}
+use Rattle.pg_starts.specs.Seen.{Seen}
+use Rattle.pg_frame_world.specs.Views.{View}
 use Rattle.pg_account.specs.Histories.{Account}
 use Rattle.pg_frame_world.specs.Worlds.{TimedFrameWorld, ShowsNodes, ShowsUpdates}
 use Rattle.pg_frame_world.proofs.LosingRunning.{start_shown, losing_leads}

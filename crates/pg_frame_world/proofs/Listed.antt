@@ -27,11 +27,11 @@ use Rattle.pg_history.specs.History.{NonePending}
 use Rattle.pg_history.specs.Reached.{Reaches}
 use Rattle.pg_history.specs.WithLosses.{NonePendingLeft}
 use Rattle.pg_loss.specs.Reached.{LosingReaches}
-use Rattle.pg_node.specs.declared.state.NodeState.{NodeState}
+use Rattle.pg_node_state.specs.declared.state.NodeState.{NodeState}
 use Rattle.pg_frame_world.specs.Losing.{losing_of}
 use Rattle.pg_account.specs.Losses.{is_lost}
 use Rattle.pg_frame_world.specs.Pending.{IsPending, has_end, is_pending, is_untaken, left_from, lent_as, nodes_left, own_of, pending_among, pending_at, pending_of}
-use Rattle.pg_frame_world.specs.Views.{Seen, seen_of}
+use Rattle.pg_starts.specs.Seen.{Seen, seen_of}
 use Rattle.pg_frame_world.specs.Worlds.{ShowsNodes, TimedFrameWorld}
 use Rattle.pg_frame_world.proofs.LosingRunning.{start_is}
 use Rattle.pg_frame_world.proofs.Lossy.{lifted}

@@ -21,7 +21,7 @@ use Rattle.pg_exchange.specs.GroupList.{GroupList, IsSnapshot, announced_table, 
 use Rattle.pg_message.specs.declared.message.Message.TheVariants.{Exchange}
 use Rattle.pg_message.specs.declared.packet.Packet.{Packet}
 use Rattle.pg_message.specs.Writing.{group_term, term_of_packet}
-use Rattle.pg_node.specs.Opening.{IsAnnouncement}
+use Rattle.pg_node_state.specs.Opening.{IsAnnouncement}
 use Rattle.pg_opens.specs.Places.{name_at}
 use Rattle.pg_opens.proofs.Alike.{both_true}
 use Rattle.pg_opens.proofs.Named.{clash}
@@ -29,7 +29,7 @@ use Rattle.pg_step.specs.Config.{Config, groups_at, first_table}
 use Rattle.pg_step.specs.Nodes.{Node}
 use Rattle.pg_frame_world.specs.Fitting.{FitsFrame}
 use Rattle.pg_frame_world.specs.Openings.{Fits, AllFit, SomeIsTooLong, are_few, have_few}
-use Rattle.pg_frame_world.specs.Starts.{seen_first}
+use Rattle.pg_starts.specs.Firsts.{seen_first}
 use Rattle.pg_frame_world.proofs.Ordered.{first_told}
 use Rattle.pg_frame_world.proofs.OrderedOnce.{fits_once}
 

@@ -1,10 +1,10 @@
 -- Nodes are alike where they are seen as the same but for their clocks.
 use Rattle.std.proofs.Common.{◌≡◌, ap}
 use Rattle.pg_group.specs.declared.table.GroupTable.{Ghosts}
-use Rattle.pg_node.specs.declared.state.NodeState.{NodeState}
-use Rattle.pg_node.specs.Same.{AreAlike}
+use Rattle.pg_node_state.specs.declared.state.NodeState.{NodeState}
+use Rattle.pg_node_state.specs.Same.{AreAlike}
 use Rattle.pg_frame_world.specs.Alike.{without_clock}
-use Rattle.pg_frame_world.specs.Views.{Seen, seen_of}
+use Rattle.pg_starts.specs.Seen.{Seen, seen_of}
 
 module _ {T : Type 0} {g : Ghosts T} (one other : NodeState T g) where
   pub seen_alike : AreAlike one other → without_clock (seen_of one) ≡ without_clock (seen_of other)

@@ -17,17 +17,18 @@ use Rattle.pg_message.specs.Members.{HasFewMembers}
 use Rattle.pg_message.specs.Name.{is_name}
 use Rattle.pg_message.specs.declared.message.Message.{Message}
 use Rattle.pg_step.specs.Config.{Config, IsConfig, IsStart, names_of, groups_at, made_at, first_table}
-use Rattle.pg_node.specs.declared.state.NodeState.{NodeState}
-use Rattle.pg_node.specs.States.{kept_by}
+use Rattle.pg_node_state.specs.declared.state.NodeState.{NodeState}
+use Rattle.pg_node_state.specs.States.{kept_by}
 use Rattle.pg_config.specs.declared.fault.WorldFault.{WorldFault}
 use Rattle.pg_config.specs.declared.fault.WorldFault.TheVariants.{BadConfig, NameTooLarge, BadCapacity, TooLong, OutOfMemory}
 use Rattle.pg_config.specs.Configs.{is_config, is_capacity, are_names, have_names, refusal_of, IsJudged}
 use Rattle.pg_frame_world.specs.Openings.{AreReady, SomeIsTooLong, are_few, have_few, TellsNames, Fits, IsTooLong, AllFit, SomeCantOpen, CantBegin, CantStart}
-use Rattle.pg_frame_world.specs.Starts.{firsts, seen_first, AllOpen}
-use Rattle.pg_frame_world.specs.Views.{Seen, seen_of}
+use Rattle.pg_starts.specs.Firsts.{firsts, seen_first}
+use Rattle.pg_frame_world.specs.Starts.{AllOpen}
+use Rattle.pg_starts.specs.Seen.{Seen, seen_of}
 use Rattle.pg_config.proofs.Deciding.{both, left, right, passes, names_passed}
 use Rattle.pg_frame_world.proofs.Ordered.{first_told}
-use Rattle.pg_frame_world.proofs.Starting.{firsts_are, firsts_length}
+use Rattle.pg_starts.proofs.Starting.{firsts_are, firsts_length}
 
 -- ---- names
 

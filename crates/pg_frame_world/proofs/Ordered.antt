@@ -23,7 +23,8 @@ use Rattle.pg_step.specs.State.{new_state}
 use Rattle.pg_step.specs.Config.{Config, names_of, groups_at, made_at, ports_at, first_table}
 use Rattle.pg_history.specs.History.{known}
 use Rattle.pg_history.proofs.tables.Values.{less_nobody}
-use Rattle.pg_frame_world.specs.Starts.{IsOrdered, Orders, TellsFew, seen_first}
+use Rattle.pg_starts.specs.Firsts.{seen_first}
+use Rattle.pg_frame_world.specs.Starts.{IsOrdered, Orders, TellsFew}
 
 -- what a node starts with is what its groups tell
 pub first_told : (groups : GroupList) (name : Term) → first_table groups name ≡ announced_table groups name

@@ -10,7 +10,7 @@ use Rattle.pg_group.proofs.Lists.{member_list_one}
 use Rattle.pg_exchange.specs.GroupList.{GroupList, IsSnapshot, announced_names}
 use Rattle.pg_message.specs.declared.message.Message.TheVariants.{Exchange}
 use Rattle.pg_message.specs.declared.packet.Packet.{Packet}
-use Rattle.pg_node.specs.Opening.{IsAnnouncement}
+use Rattle.pg_node_state.specs.Opening.{IsAnnouncement}
 use Rattle.pg_opens.specs.Places.{name_at as name_of}
 use Rattle.pg_ring.specs.Capacity.{IsCapacity}
 use Rattle.pg_step.specs.declared.start.Start.{Start}
@@ -21,8 +21,9 @@ use Rattle.pg_config.specs.declared.fault.WorldFault.TheVariants.{BadConfig, Nam
 use Rattle.pg_config.specs.Configs.{refusal_of}
 use Rattle.pg_frame_world.specs.Fitting.{FitsFrame, IsOverlong}
 use Rattle.pg_frame_world.specs.Openings.{Fits, IsTooLong, SomeIsTooLong, CanBegin, CantBegin, are_few, have_few}
-use Rattle.pg_frame_world.specs.Starts.{IsOrdered, Orders, seen_first}
-use Rattle.pg_frame_world.specs.Views.{Seen}
+use Rattle.pg_starts.specs.Firsts.{seen_first}
+use Rattle.pg_frame_world.specs.Starts.{IsOrdered, Orders}
+use Rattle.pg_starts.specs.Seen.{Seen}
 use Rattle.pg_frame_world.proofs.OneList.{names_one}
 
 groups_one : (table : Table) (groups others : GroupList) → announced_names groups ≡ announced_names others

@@ -14,13 +14,14 @@ use Rattle.pg_step.specs.Step.{Action, step_take, step_act}
 use Rattle.pg_step.specs.declared.answer.Answer.{Answer}
 use Rattle.pg_step.specs.declared.command.OpId.{OpId}
 use Rattle.pg_opens.specs.Places.{whole_in, name_at as place_name}
-use Rattle.pg_node.specs.declared.state.done.Done.{Done}
-use Rattle.pg_node.specs.declared.state.fault.NodeFault.{NodeFault}
-use Rattle.pg_node.specs.States.{Comes}
-use Rattle.pg_node.specs.Sendable.{AreSendable}
+use Rattle.pg_node_state.specs.declared.state.done.Done.{Done}
+use Rattle.pg_node_state.specs.declared.state.fault.NodeFault.{NodeFault}
+use Rattle.pg_node_state.specs.States.{Comes}
+use Rattle.pg_node_state.specs.Sendable.{AreSendable}
 use Rattle.pg_frame_world.specs.declared.step.Stepped.TheVariants.{Happened, Nothing}
 use Rattle.pg_account.specs.Histories.{asked_by}
-use Rattle.pg_frame_world.specs.Views.{Seen, Traffic, peer_place, on_the_way, first_of, packets_to}
+use Rattle.pg_starts.specs.Seen.{Seen}
+use Rattle.pg_frame_world.specs.Views.{Traffic, peer_place, on_the_way, first_of, packets_to}
 use Rattle.pg_frame_world.specs.Worlds.{ShowsTraffic, TimedFrameWorld, ComesTo}
 use Rattle.pg_frame_world.proofs.Peering.{peers_differ}
 use Rattle.pg_frame_world.proofs.Recording.{Records}

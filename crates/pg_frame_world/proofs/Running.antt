@@ -15,9 +15,9 @@ use Rattle.pg_step.specs.Step.{Action, Issue, Retry}
 use Rattle.pg_term.specs.Same.{same_atom}
 use Rattle.pg_history.specs.Headline.{OneHistory}
 use Rattle.pg_history.specs.Reached.{Reaches}
-use Rattle.pg_node.specs.NodeFault.{node_number_of}
-use Rattle.pg_node.specs.declared.state.fault.NodeFault.{NodeFault}
-use Rattle.pg_node.specs.declared.state.fault.NodeFault.TheVariants.{Refused, OutOfMemory, Message as BadMessage, TooLong, Damaged}
+use Rattle.pg_node_state.specs.NodeFault.{node_number_of}
+use Rattle.pg_node_state.specs.declared.state.fault.NodeFault.{NodeFault}
+use Rattle.pg_node_state.specs.declared.state.fault.NodeFault.TheVariants.{Refused, OutOfMemory, Message as BadMessage, TooLong, Damaged}
 use Rattle.pg_frame_world.specs.declared.step.FrameStep.{FrameStep}
 use Rattle.pg_frame_world.specs.declared.step.FrameStep.TheVariants as frames
 use Rattle.pg_frame_world.specs.declared.step.Stepped.{Stepped}

@@ -18,16 +18,17 @@ use Rattle.pg_step.specs.State.{State}
 use Rattle.pg_step.specs.Step.{CLOCK_LIMIT, TimedTurn, at_clock, timed}
 use Rattle.pg_step.specs.StepLaws.{is_full}
 use Rattle.pg_opens.specs.Places.{name_at as place_name}
-use Rattle.pg_node.specs.declared.state.done.Done.{Done}
-use Rattle.pg_node.specs.declared.state.fault.NodeFault.{NodeFault}
-use Rattle.pg_node.specs.declared.state.fault.NodeFault.TheVariants.{Refused, OutOfMemory, Message as BadMessage, TooLong, Damaged}
-use Rattle.pg_node.specs.declared.state.NodeState.{NodeState}
-use Rattle.pg_node.specs.States.{names_of as names_of_state, Comes, Happens, step_see_loss}
+use Rattle.pg_node_state.specs.declared.state.done.Done.{Done}
+use Rattle.pg_node_state.specs.declared.state.fault.NodeFault.{NodeFault}
+use Rattle.pg_node_state.specs.declared.state.fault.NodeFault.TheVariants.{Refused, OutOfMemory, Message as BadMessage, TooLong, Damaged}
+use Rattle.pg_node_state.specs.declared.state.NodeState.{NodeState}
+use Rattle.pg_node_state.specs.States.{names_of as names_of_state, Comes, Happens, step_see_loss}
 use Rattle.pg_frame_world.specs.declared.outgoing.Outgoing.{Outgoing}
 use Rattle.pg_frame_world.specs.declared.step.Stepped.TheVariants.{Happened}
 use Rattle.pg_frame_world.specs.Losing.{SeenAreLost, notices, losing_of, is_cut_off, told_sight, ShowsLosing, LosingComesTo}
 use Rattle.pg_account.specs.Losses.{is_lost}
-use Rattle.pg_frame_world.specs.Views.{Seen, View, IsWhole, seen_of, ways_of, traffic_in, peer_place, on_the_way}
+use Rattle.pg_starts.specs.Seen.{Seen, seen_of}
+use Rattle.pg_frame_world.specs.Views.{View, IsWhole, ways_of, traffic_in, peer_place, on_the_way}
 use Rattle.pg_frame_world.specs.Worlds.{TimedFrameWorld, ShowsNode, ShowsNodes}
 use Rattle.pg_frame_world.proofs.Barred.{cut_is, pair_here}
 use Rattle.pg_frame_world.proofs.Peering.{peer_name, named, there_and_back}

@@ -23,11 +23,11 @@ use Rattle.pg_step.specs.Step.{CLOCK_LIMIT, Action, Retry, TimedTurn, at_clock}
 use Rattle.pg_step.specs.StepLaws.{place_timed}
 use Rattle.pg_step.specs.Turns.{Report, NodeTurn}
 use Rattle.pg_opens.proofs.Named.{atom_self, names_differ}
-use Rattle.pg_node.specs.declared.state.done.Done.{Done}
-use Rattle.pg_node.specs.States.{Happens}
+use Rattle.pg_node_state.specs.declared.state.done.Done.{Done}
+use Rattle.pg_node_state.specs.States.{Happens}
 use Rattle.pg_frame_world.specs.Losing.{SeenAreLost, notices, losing_of}
 use Rattle.pg_account.specs.Losses.{is_lost}
-use Rattle.pg_frame_world.specs.Views.{Seen}
+use Rattle.pg_starts.specs.Seen.{Seen}
 use Rattle.pg_account.specs.Histories.{Account}
 use Rattle.pg_frame_world.specs.Worlds.{TimedFrameWorld, ShowsNodes, ShowsUpdates}
 use Rattle.pg_frame_world.proofs.Lossy.{no_notice}

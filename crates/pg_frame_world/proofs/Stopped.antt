@@ -19,7 +19,8 @@ use Rattle.pg_step.specs.State.{State}
 use Rattle.pg_step.specs.Turns.{Report}
 use Rattle.pg_frame_world.specs.Losing.{SeenAreLost, losing_of, keep_of, loss_refusal}
 use Rattle.pg_account.specs.Losses.{is_lost}
-use Rattle.pg_frame_world.specs.Views.{Seen, View, CanStay, peer_place, place_of_peer, on_the_way}
+use Rattle.pg_starts.specs.Seen.{Seen}
+use Rattle.pg_frame_world.specs.Views.{View, CanStay, peer_place, place_of_peer, on_the_way}
 use Rattle.pg_account.specs.Histories.{Account}
 use Rattle.pg_frame_world.specs.Worlds.{TimedFrameWorld, Shows, ShowsNodes, ShowsUpdates}
 use Rattle.pg_frame_world.proofs.Lossy.{no_notice}

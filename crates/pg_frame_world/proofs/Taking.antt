@@ -7,10 +7,11 @@ use Rattle.pg_group.specs.declared.table.GroupTable.{Ghosts}
 use Rattle.pg_message.specs.declared.message.Message.{Message}
 use Rattle.pg_machine.specs.Places.{is_pair}
 use Rattle.pg_machine.specs.Clocked.{Stamped}
-use Rattle.pg_node.specs.declared.state.NodeState.{NodeState}
-use Rattle.pg_node.specs.States.{names_of}
+use Rattle.pg_node_state.specs.declared.state.NodeState.{NodeState}
+use Rattle.pg_node_state.specs.States.{names_of}
 use Rattle.pg_frame_world.specs.declared.outgoing.Outgoing.{Outgoing}
-use Rattle.pg_frame_world.specs.Views.{ways_of, seen_of, traffic_in, IsWhole, peer_place}
+use Rattle.pg_starts.specs.Seen.{seen_of}
+use Rattle.pg_frame_world.specs.Views.{ways_of, traffic_in, IsWhole, peer_place}
 use Rattle.pg_frame_world.proofs.Peering.{place_within}
 use Rattle.pg_frame_world.proofs.Turning.{way_at, pair_is}
 use Rattle.pg_frame_world.proofs.Viewing.{read_here, seen_here, whole_row}

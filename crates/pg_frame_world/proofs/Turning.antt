@@ -26,13 +26,14 @@ use Rattle.pg_step.specs.declared.refusal.Refusal.{Refusal}
 use Rattle.pg_step.specs.declared.refusal.Refusal.TheVariants.{NoSuchPlace}
 use Rattle.pg_history.specs.History.{answers_by}
 use Rattle.pg_opens.specs.Places.{whole_in, name_at as place_name}
-use Rattle.pg_node.specs.declared.state.done.Done.{Done}
-use Rattle.pg_node.specs.declared.state.fault.NodeFault.{NodeFault}
-use Rattle.pg_node.specs.declared.state.fault.NodeFault.TheVariants.{Refused, OutOfMemory, Message as BadMessage, TooLong, Damaged}
+use Rattle.pg_node_state.specs.declared.state.done.Done.{Done}
+use Rattle.pg_node_state.specs.declared.state.fault.NodeFault.{NodeFault}
+use Rattle.pg_node_state.specs.declared.state.fault.NodeFault.TheVariants.{Refused, OutOfMemory, Message as BadMessage, TooLong, Damaged}
 use Rattle.pg_frame_world.specs.declared.step.Stepped.TheVariants.{Happened as HasHappened}
-use Rattle.pg_node.specs.States.{sends_in, Gave, Happens, Comes}
-use Rattle.pg_node.specs.Sendable.{AreSendable}
-use Rattle.pg_frame_world.specs.Views.{Seen, Traffic, peer_place, packets_to}
+use Rattle.pg_node_state.specs.States.{sends_in, Gave, Happens, Comes}
+use Rattle.pg_node_state.specs.Sendable.{AreSendable}
+use Rattle.pg_starts.specs.Seen.{Seen}
+use Rattle.pg_frame_world.specs.Views.{Traffic, peer_place, packets_to}
 use Rattle.pg_frame_world.specs.Worlds.{AreAnswers, ShowsNodes, ShowsNode, TimedFrameWorld, told, told_of_first, ComesTo}
 use Rattle.pg_frame_world.proofs.Peering.{peer_name, named, there_and_back, sent_to, sent_home}
 use Rattle.pg_account.specs.Histories.{asked_by}

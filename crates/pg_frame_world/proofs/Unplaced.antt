@@ -15,10 +15,10 @@ use Rattle.pg_step.specs.State.{State, left}
 use Rattle.pg_step.specs.Step.{Action, Issue, Retry, timed, step_act}
 use Rattle.pg_step.specs.StepLaws.{port_of}
 use Rattle.pg_step.specs.declared.refusal.Refusal.TheVariants.{NoSuchPlace, NotLost}
-use Rattle.pg_node.specs.declared.state.fault.NodeFault.TheVariants.{Refused, OutOfMemory}
+use Rattle.pg_node_state.specs.declared.state.fault.NodeFault.TheVariants.{Refused, OutOfMemory}
 use Rattle.pg_frame_world.specs.declared.step.FrameStep.{FrameStep}
 use Rattle.pg_frame_world.specs.declared.step.FrameStep.TheVariants as steps
-use Rattle.pg_frame_world.specs.Views.{Seen}
+use Rattle.pg_starts.specs.Seen.{Seen}
 use Rattle.pg_frame_world.specs.Worlds.{TimedFrameWorld, ShowsNodes, has_port, has_places, told, told_of_first, StepComesTo}
 use Rattle.pg_frame_world.specs.Losing.{is_barred}
 use Rattle.pg_frame_world.proofs.Peering.{lt_false}

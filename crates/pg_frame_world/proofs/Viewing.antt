@@ -10,12 +10,13 @@ use Rattle.pg_group.specs.declared.table.GroupTable.{Ghosts}
 use Rattle.pg_message.specs.declared.message.Message.{Message}
 use Rattle.pg_message.specs.declared.packet.Packet.{Packet}
 use Rattle.pg_machine.specs.Clocked.{Stamped}
-use Rattle.pg_node.specs.declared.state.NodeState.{NodeState}
-use Rattle.pg_node.specs.Issued.{ports_of}
-use Rattle.pg_node.specs.Sendable.{AreSendable}
-use Rattle.pg_node.specs.States.{names_of, state_of, answers_of}
+use Rattle.pg_node_state.specs.declared.state.NodeState.{NodeState}
+use Rattle.pg_node_state.specs.Issued.{ports_of}
+use Rattle.pg_node_state.specs.Sendable.{AreSendable}
+use Rattle.pg_node_state.specs.States.{names_of, state_of, answers_of}
 use Rattle.pg_frame_world.specs.declared.outgoing.Outgoing.{Outgoing}
-use Rattle.pg_frame_world.specs.Views.{ways_of, packets_to, FitWays, Seen, seen_of, Traffic, traffic_in, IsWhole}
+use Rattle.pg_starts.specs.Seen.{Seen, seen_of}
+use Rattle.pg_frame_world.specs.Views.{ways_of, packets_to, FitWays, Traffic, traffic_in, IsWhole}
 use Rattle.pg_frame_world.proofs.Turning.{way_at, set_here, set_other}
 
 -- what is read of an element

@@ -3,7 +3,8 @@ use Rattle.std.specs.Prelude.{◌≡◌, ℕ, map, length, List}
 use Rattle.pg_term.specs.declared.term.Term.{Term}
 use Rattle.pg_message.specs.declared.message.Message.{Message}
 use Rattle.pg_machine.specs.Clocked.{Stamped, packets_of as unstamped}
-use Rattle.pg_frame_world.specs.Views.{Seen, View}
+use Rattle.pg_starts.specs.Seen.{Seen}
+use Rattle.pg_frame_world.specs.Views.{View}
 use Rattle.pg_account.specs.Agreeing.{HaveSameUpdates, AreSameLost}
 
 -- a node as it is seen, with its clock at 0

@@ -19,15 +19,16 @@ use Rattle.pg_step.specs.Step.{Action, Issue, Retry, step_take, step_act}
 use Rattle.pg_step.specs.StepLaws.{refusal_of, port_of}
 use Rattle.pg_history.specs.WithLosses.{has_seen}
 use Rattle.pg_opens.specs.Places.{name_at as place_name}
-use Rattle.pg_node.specs.declared.state.fault.NodeFault.{NodeFault}
-use Rattle.pg_node.specs.declared.state.fault.NodeFault.TheVariants.{Refused, OutOfMemory}
+use Rattle.pg_node_state.specs.declared.state.fault.NodeFault.{NodeFault}
+use Rattle.pg_node_state.specs.declared.state.fault.NodeFault.TheVariants.{Refused, OutOfMemory}
 use Rattle.pg_frame_world.specs.declared.step.FrameStep.{FrameStep}
 use Rattle.pg_frame_world.specs.declared.step.FrameStep.TheVariants as steps
 use Rattle.pg_frame_world.specs.declared.step.Stepped.{Stepped}
 use Rattle.pg_frame_world.specs.declared.step.Stepped.TheVariants.{Nothing, Happened, Gone}
 use Rattle.pg_frame_world.specs.declared.world.FrameNodes.{FrameNodes}
 use Rattle.pg_account.specs.Losses.{is_lost, lost_in}
-use Rattle.pg_frame_world.specs.Views.{Seen, View, peer_place}
+use Rattle.pg_starts.specs.Seen.{Seen}
+use Rattle.pg_frame_world.specs.Views.{View, peer_place}
 use Rattle.pg_frame_world.specs.Worlds.{TimedFrameWorld, Shows}
 use Rattle.pg_loss.specs.Reached.{LosingReaches}
 

@@ -10,15 +10,15 @@ use Rattle.pg_message.specs.declared.packet.Packet.{Packet}
 use Rattle.pg_ring.specs.Capacity.{IsCapacity}
 use Rattle.pg_step.specs.Config.{Config, IsConfig, names_of, groups_at, made_at}
 use Rattle.pg_opens.specs.Places.{name_at}
-use Rattle.pg_node.specs.declared.state.fault.NodeFault.{NodeFault}
-use Rattle.pg_node.specs.declared.state.fault.NodeFault.TheVariants as faults
-use Rattle.pg_node.specs.Opening.{IsAnnouncement}
+use Rattle.pg_node_state.specs.declared.state.fault.NodeFault.{NodeFault}
+use Rattle.pg_node_state.specs.declared.state.fault.NodeFault.TheVariants as faults
+use Rattle.pg_node_state.specs.Opening.{IsAnnouncement}
 use Rattle.pg_config.specs.declared.fault.WorldFault.{WorldFault}
 use Rattle.pg_config.specs.declared.fault.WorldFault.TheVariants.{TooLong, OutOfMemory}
 use Rattle.pg_config.specs.Configs.{are_names, have_names, refusal_of}
 use Rattle.pg_frame_world.specs.Fitting.{FitsFrame, IsOverlong}
-use Rattle.pg_frame_world.specs.Starts.{seen_first}
-use Rattle.pg_frame_world.specs.Views.{Seen}
+use Rattle.pg_starts.specs.Firsts.{seen_first}
+use Rattle.pg_starts.specs.Seen.{Seen}
 
 -- each name of a group of the table can be sent
 abbrev pub TellsNames : Table → Type 0

@@ -10,7 +10,7 @@ use Rattle.pg_step.specs.Step.{Action}
 use Rattle.pg_history.specs.Headline.{OneHistory}
 use Rattle.pg_loss.specs.Reached.{LosingReaches, steps_of}
 use Rattle.pg_loss.specs.Survived.{LossesSurvived}
-use Rattle.pg_node.specs.declared.state.fault.NodeFault.{NodeFault}
+use Rattle.pg_node_state.specs.declared.state.fault.NodeFault.{NodeFault}
 use Rattle.pg_frame_world.specs.declared.step.FrameStep.{FrameStep}
 use Rattle.pg_frame_world.specs.declared.step.Stepped.{Stepped}
 use Rattle.pg_frame_world.specs.Losing.{ShowsLosing, LosingComesTo, told_of}

@@ -11,10 +11,10 @@ use Rattle.pg_machine.specs.Places.{is_place}
 use Rattle.pg_step.specs.Config.{Config, name_at}
 use Rattle.pg_step.specs.LossLaws.{LosingFrameWorld}
 use Rattle.pg_step.specs.Nodes.{Node}
-use Rattle.pg_node.specs.declared.state.NodeState.{NodeState}
+use Rattle.pg_node_state.specs.declared.state.NodeState.{NodeState}
 use Rattle.pg_opens.specs.Places.{name_at as place_name}
 use Rattle.pg_account.specs.Losses.{is_lost}
-use Rattle.pg_frame_world.specs.Views.{Seen, seen_of}
+use Rattle.pg_starts.specs.Seen.{Seen, seen_of}
 
 -- ---- in a world with losses
 

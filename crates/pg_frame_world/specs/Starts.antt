@@ -15,27 +15,14 @@ use Rattle.pg_step.specs.FrameMachine.{frame_machine}
 use Rattle.pg_step.specs.Nodes.{all_of}
 use Rattle.pg_step.specs.State.{new_state}
 use Rattle.pg_opens.specs.Places.{name_at}
-use Rattle.pg_node.specs.Opening.{IsAnnouncement}
-use Rattle.pg_node.specs.States.{stamped_of}
+use Rattle.pg_node_state.specs.Opening.{IsAnnouncement}
+use Rattle.pg_node_state.specs.States.{stamped_of}
+use Rattle.pg_starts.specs.Seen.{Seen}
+use Rattle.pg_starts.specs.Firsts.{seen_first, firsts}
 use Rattle.pg_frame_world.specs.Fitting.{FitsFrame}
-use Rattle.pg_frame_world.specs.Views.{Seen, View}
+use Rattle.pg_starts.specs.Seen.{Seen}
+use Rattle.pg_frame_world.specs.Views.{View}
 use Rattle.pg_frame_world.specs.Worlds.{Shows}
-
--- ---- the nodes
-
--- node i of a configuration as it starts: its clock is at 0, and it has taken nothing
-abbrev pub seen_first : Config → ℕ → Seen
-seen_first config i = record {
-  names = all_of (nodes_at config i);
-  ports = ports_at config i;
-  state = record { clock = 0; state = new_state (first_table (groups_at config i)) (made_at config i) };
-  answers = λ port. [];
-}
-
--- the first so many of them
-abbrev pub firsts : Config → ℕ → List Seen
-firsts config zero = []
-firsts config (suc n) = firsts config n ++ seen_first config n ∷ []
 
 -- ---- the packets
 

@@ -8,10 +8,11 @@ use Rattle.pg_machine.specs.Clocked.{Timed, Stamped}
 use Rattle.pg_step.specs.declared.answer.Answer.{Answer}
 use Rattle.pg_step.specs.Nodes.{Node}
 use Rattle.pg_step.specs.State.{State}
-use Rattle.pg_node.specs.declared.state.NodeState.{NodeState}
-use Rattle.pg_node.specs.Issued.{ports_of}
-use Rattle.pg_node.specs.Sendable.{AreSendable}
-use Rattle.pg_node.specs.States.{names_of, state_of, answers_of, stamped_of}
+use Rattle.pg_node_state.specs.declared.state.NodeState.{NodeState}
+use Rattle.pg_node_state.specs.Issued.{ports_of}
+use Rattle.pg_node_state.specs.Sendable.{AreSendable}
+use Rattle.pg_node_state.specs.States.{names_of, state_of, answers_of, stamped_of}
+use Rattle.pg_starts.specs.Seen.{Seen, seen_of}
 use Rattle.pg_frame_world.specs.declared.outgoing.Outgoing.{Outgoing}
 use Rattle.pg_frame_world.specs.declared.way.Way.{Way}
 use Rattle.pg_account.specs.Histories.{Account, no_account}
@@ -54,17 +55,6 @@ pub record CanStay (keep : List ℕ) (ways : List (List (Stamped Message))) : Ty
   pub fits : (place : ℕ) → place < length ways → get_or keep place 0 ≤ length (get_or ways place [])
 
 -- ---- a world as it is seen
-
--- A node of a world: the names of all nodes as it knows them, its own first, how many ports it has, its state, and the
--- answers that were given at each port.
-pub record Seen : Type 0 where
-  pub names : List Node
-  pub ports : ℕ
-  pub state : Timed State
-  pub answers : ℕ → List Answer
-
-abbrev pub seen_of : {T : Type 0} {g : Ghosts T} → NodeState T g → Seen
-seen_of node = record { names = names_of node; ports = ports_of node; state = state_of node; answers = answers_of node }
 
 -- the nodes of a world by their places, and the packets on the way from each of them to each of its peers
 pub record Traffic : Type 0 where

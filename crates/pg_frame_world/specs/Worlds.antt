@@ -20,15 +20,16 @@ use Rattle.pg_step.specs.State.{State, Response}
 use Rattle.pg_step.specs.Step.{Action, Issue, Retry, TimedTurn, step_take, step_act}
 use Rattle.pg_step.specs.Turns.{Report}
 use Rattle.pg_history.specs.History.{answers_by, history, applied_count}
-use Rattle.pg_node.specs.declared.state.fault.NodeFault.{NodeFault}
-use Rattle.pg_node.specs.declared.state.fault.NodeFault.TheVariants.{Refused, OutOfMemory}
+use Rattle.pg_node_state.specs.declared.state.fault.NodeFault.{NodeFault}
+use Rattle.pg_node_state.specs.declared.state.fault.NodeFault.TheVariants.{Refused, OutOfMemory}
 use Rattle.pg_frame_world.specs.declared.step.FrameStep.{FrameStep}
 use Rattle.pg_frame_world.specs.declared.step.FrameStep.TheVariants as steps
 use Rattle.pg_frame_world.specs.declared.step.Stepped.{Stepped}
 use Rattle.pg_frame_world.specs.declared.step.Stepped.TheVariants.{Nothing, Happened}
 use Rattle.pg_frame_world.specs.declared.world.FrameNodes.{FrameNodes}
 use Rattle.pg_account.specs.Histories.{account_of}
-use Rattle.pg_frame_world.specs.Views.{Seen, Traffic, View, traffic_in, on_the_way}
+use Rattle.pg_starts.specs.Seen.{Seen}
+use Rattle.pg_frame_world.specs.Views.{Traffic, View, traffic_in, on_the_way}
 use Rattle.pg_account.specs.Histories.{Account}
 use Rattle.pg_history.specs.Reached.{Reaches}
 

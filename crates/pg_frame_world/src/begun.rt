@@ -5,10 +5,11 @@ ghost use Rattle.pg_ring.specs.Capacity.{IsCapacity};
 ghost use Rattle.pg_step.specs.Config.{IsConfig};
 ghost use Rattle.pg_config.specs.Configs.{refusal_of};
 
-use crate::starts::{nodes_of, openings};
+use crate::starts::openings;
 use crate::world::FrameNodes;
 use pg_config::{Config, WorldFault};
 use pg_index::IndexTable;
+use pg_starts::nodes_of;
 use pg_step::Start;
 use pg_term::{Items, Pid, Term};
 use std::alloc::Global;
@@ -19,12 +20,14 @@ impl FrameNodes<IndexTable> {
     ghost use Rattle.pg_frame_world.specs.Worlds.{view_of};
     ghost use Rattle.pg_frame_world.specs.Losing.{lost_of};
 
-    /// The nodes of a configuration as they start, where what each of them tells of its groups is on the way to each other.
-    /// Its cost is that of `Config::check`, of the groups of each node, once in its table and once for each peer, and for each
-    /// node that of all names.
+    /// The nodes of a configuration as they start, where what each of them announces of its groups is on the way to each
+    /// other.
     ///
-    /// Faults, the first that holds: those of `Config::check`; `TooLong`, where what a node tells takes more than a frame, as a
-    /// group of more than 2^32 members does; `OutOfMemory` in the place of each.
+    /// Errors, the first that holds: those of `Config::check`; `TooLong`, where what a node announces takes more than a
+    /// frame, as a group of more than 2^32 members does; `OutOfMemory` in the place of each.
+    ///
+    /// Cost: that of `Config::check`, of the groups of each node, once in its table and once for each peer, and for
+    /// each node that of all names.
     pub(crate) fn new(alloc: Global, config: &Config) -> Result<FrameNodes<IndexTable>, WorldFault>
         ensures good { IfOk result (λ world. IsConfig config.now.starts.items × IsCapacity config.now.ring) }
         ensures fits { IfOk result (λ world. AllFit config.now.starts.items) }
@@ -57,10 +60,12 @@ impl FrameNodes<IndexTable> {
 
 ghost use Rattle.pg_frame_world.specs.Openings.{AreReady as AreReadyNodes, CantBegin as CantBeginWith, are_few, have_few};
 
-/// Whether a world of a configuration can begin, but for the length of what its nodes tell. Its cost is that of `Config::check`.
+/// Whether a world of a configuration can begin, but for the length of what its nodes announce.
 ///
-/// Faults, the first that holds: those of `Config::check`; `TooLong`, where a group has more than 2^32 members; `OutOfMemory` in
-/// the place of each.
+/// Errors, the first that holds: those of `Config::check`; `TooLong`, where a group has more than 2^32 members;
+/// `OutOfMemory` in the place of each.
+///
+/// Cost: that of `Config::check`.
 pub fn ready(alloc: Global, config: &Config) -> Result<(), WorldFault>
     ensures good { OnOk result (IsConfig config.now.starts.items × IsCapacity config.now.ring) }
     ensures ready { OnOk result (AreReadyNodes config.now.starts.items) }

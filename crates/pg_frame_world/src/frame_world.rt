@@ -13,7 +13,7 @@ use pg_group::GroupTable;
 use pg_index::IndexTable;
 use pg_loss::each_world_past_losses;
 use pg_message::Packet;
-use pg_node::{NodeFault, NodeState};
+use pg_node_state::{NodeFault, NodeState};
 use pg_term::{Pid, Term};
 use std::alloc::{AllocError, Global};
 use std::collections::VecDeque;
@@ -36,12 +36,14 @@ impl FrameWorld<IndexTable> {
     ghost use Rattle.pg_frame_world.specs.Openings.{AllFit, CantBegin, have_few};
     ghost use Rattle.pg_frame_world.specs.Starts.{Begins};
 
-    /// The nodes of a configuration as they start, where what each of them tells of its groups is on the way to each other.
-    /// Its cost is that of `Config::check`, of the groups of each node, once in its table and once for each peer, and for each
-    /// node that of all names.
+    /// The nodes of a configuration as they start, where what each of them announces of its groups is on the way to each
+    /// other.
     ///
-    /// Faults, the first that holds: those of `Config::check`; `TooLong`, where what a node tells takes more than a frame, as a
-    /// group of more than 2^32 members does; `OutOfMemory` in the place of each.
+    /// Errors, the first that holds: those of `Config::check`; `TooLong`, where what a node announces takes more than a
+    /// frame, as a group of more than 2^32 members does; `OutOfMemory` in the place of each.
+    ///
+    /// Cost: that of `Config::check`, of the groups of each node, once in its table and once for each peer, and for
+    /// each node that of all names.
     pub fn new(alloc: Global, config: &Config) -> Result<FrameWorld<IndexTable>, WorldFault>
         ensures good { IfOk result (λ world. IsConfig config.now.starts.items × IsCapacity config.now.ring) }
         ensures fits { IfOk result (λ world. AllFit config.now.starts.items) }
@@ -64,7 +66,7 @@ impl<T: GroupTable + Drop> FrameWorld<T> {
     ghost use Rattle.std.specs.Prelude.{◌≡◌, ◌<◌, ◌↔◌, ◌++◌, [], true, IsTrue, Ok, IfOk, IfSome, OnErr, ℕ, length, map, option_map, slice_get};
     ghost use Rattle.std.specs.Option.{is_some, option_copied};
     ghost use Rattle.pg_machine.specs.Places.{is_pair};
-    ghost use Rattle.pg_node.specs.States.{stamped_of};
+    ghost use Rattle.pg_node_state.specs.States.{stamped_of};
     ghost use Rattle.pg_term.specs.declared.term.Term.{Term};
     ghost use Rattle.pg_machine.specs.Clocked.{plain};
     ghost use Rattle.pg_history.specs.History.{LockFree};
@@ -77,13 +79,16 @@ impl<T: GroupTable + Drop> FrameWorld<T> {
     ghost use Rattle.pg_account.specs.Losses.{is_lost};
     ghost use Rattle.pg_frame_world.specs.Past.{FramesGoOn, HistoriesGrow};
     ghost use Rattle.pg_frame_world.specs.Pending.{AgreeOn, pending_of, sees_free};
-    ghost use Rattle.pg_frame_world.specs.Views.{on_the_way, seen_of};
+    ghost use Rattle.pg_starts.specs.Seen.{seen_of};
+    ghost use Rattle.pg_frame_world.specs.Views.{on_the_way};
     ghost use Rattle.pg_frame_world.specs.Worlds.{TimedFrameWorld, Shows, StepComesTo};
 
-    /// The same world: it is seen as the same, and the same nodes are lost. The caller lends the configuration from which it began. Its
-    /// cost is that of the copies of all that the world keeps.
+    /// The same world: it is seen as the same, and the same nodes are lost. The caller lends the configuration from
+    /// which it began.
     ///
-    /// Error: `AllocError`.
+    /// Errors: `AllocError`.
+    ///
+    /// Cost: that of the copies of all that the world keeps.
     pub fn copy(&self, config: &Config) -> Result<FrameWorld<T>, AllocError>
         requires given { given_of self.now ≡ config.now.starts.items }
         ensures view { IfOk result (λ copy. view_of copy ≡ view_of self.now) }
@@ -95,28 +100,33 @@ impl<T: GroupTable + Drop> FrameWorld<T> {
         Ok(FrameWorld { frames, given })
     }
 
-    /// Whether both worlds are alike: the same but for clocks and stamps. They have as many nodes, each the same as the one at its place
-    /// but for its clock, and the same packets on each way but for their stamps. The same nodes are lost, each group has the same
-    /// history, and each node has applied as many of its updates.
+    /// Whether both worlds are alike: the same but for clocks and stamps. They have as many nodes, each the same as
+    /// the one at its place but for its clock, and the same packets on each way but for their stamps. The same nodes
+    /// are lost, each group has the same history, and each node has applied as many of its updates.
     ///
-    /// Error: `AllocError`. Its cost is that of `NodeState::is_alike` for each node, which alone takes memory, and a walk over the packets
-    /// on the way and over the histories, with O(log n) in the groups that were named for each group and each node. It ends at the
-    /// first difference.
+    /// Errors: `AllocError`. It ends at the first difference.
+    ///
+    /// Cost: that of `NodeState::is_alike` for each node, which alone takes memory, and a walk over the packets on
+    /// the way and over the histories, with O(log n) in the groups that were named for each group and each node.
     pub fn is_alike(&self, other: &FrameWorld<T>) -> Result<bool, AllocError>
         ensures { IfOk result (λ alike. IsTrue alike ↔ AreAlikeWorlds (view_of self.now) (lost_of self.now) (view_of other.now) (lost_of other.now)) }
     {
         self.frames.is_alike(&other.frames)
     }
 
-    /// The node at a place. It takes no memory.
+    /// The node at a place.
+    ///
+    /// Cost: no memory.
     pub fn node(&self, place: usize) -> Option<&NodeState<T>>
         ensures { option_map seen_of (option_copied result) ≡ slice_get (view_of self.now).traffic.nodes place }
     {
         self.frames.nodes.get(place)
     }
 
-    /// The updates of a group in the order in which they got their last grant, each with its node and its command: a slice, and
-    /// one more behind it, where the last event began it. It takes no memory: O(log n) in the groups that were named.
+    /// The updates of a group in the order in which they got their last grant, each with its node and its command: a
+    /// slice, and one more after it, where the last event began it.
+    ///
+    /// Cost: no memory; O(log n) in the groups that were named.
     pub fn history(&self, name: &Term) -> (&[Entry], Option<&Entry>)
         ensures { map as_entry result.0.now ++ last_entries (option_copied result.1) ≡ (view_of self.now).account.histories name.now }
     {
@@ -131,9 +141,22 @@ impl<T: GroupTable + Drop> FrameWorld<T> {
         self.frames.histories.applied(node, name)
     }
 
-    /// Whether a node sees the lock of a group free. Where it does, and no node is lost, each node has applied all of the group's
-    /// history. It takes no memory: O(log n) in the names that have a holder there.
+    /// Whether a node is there that sees the lock of a group free. Where it does, and no node is lost, each node has applied all of
+    /// the group's history.
+    ///
+    /// Cost: no memory; O(log n) in the names that have a holder there.
     pub fn lock_free(&self, node: usize, name: &Term) -> bool
+        ensures sees { result ≡ sees_free (traffic_of self.now).nodes node name.now }
+        ensures free { node < length (traffic_of self.now).nodes → (config : Configuration) (w : TimedFrameWorld) → Shows config (view_of self.now) w
+            → IsTrue result ↔ LockFree (plain w) node name.now }
+        ensures applied { IsTrue result → lost_of self.now ≡ [] → (i : ℕ) → i < length (traffic_of self.now).nodes
+            → (view_of self.now).account.applied i name.now ≡ length ((view_of self.now).account.histories name.now) }
+    {
+        node < self.frames.nodes.len() && self.sees_free(node, name)
+    }
+
+    /// Whether a node sees the lock of a group free.
+    fn sees_free(&self, node: usize, name: &Term) -> bool
         requires place { node < length (traffic_of self.now).nodes }
         ensures sees { result ≡ sees_free (traffic_of self.now).nodes node name.now }
         ensures free { (config : Configuration) (w : TimedFrameWorld) → Shows config (view_of self.now) w
@@ -155,20 +178,25 @@ impl<T: GroupTable + Drop> FrameWorld<T> {
         self.frames.on_way(from, to)
     }
 
-    /// Whether a node is lost. It takes no memory: O(n) in the nodes that are lost.
+    /// Whether a node is lost.
+    ///
+    /// Cost: no memory; O(n) in the nodes that are lost.
     pub fn is_lost(&self, node: usize) -> bool
         ensures { result ≡ is_lost (lost_of self.now) node }
     {
         self.frames.losses.has(node)
     }
 
-    /// The ends that are pending: each is that of a process whose home has it, and which some node has not. Of nodes that are lost
-    /// nothing counts. They stand home by home, and by number at each. Its cost is a search at each node that is left for each
-    /// process that has ended at its home, and the memory of the list.
+    /// The ends that are pending: each is that of a process whose home has it, and which some node has not. Of nodes
+    /// that are lost nothing counts. They are listed home by home, and by number at each.
     ///
-    /// Where the list is empty, no node is lost and one node sees the lock of a group free, formed nodes have the same of that group.
+    /// Where the list is empty, no node is lost and one node sees the lock of a group free, formed nodes have the
+    /// same of that group.
     ///
-    /// Error: `AllocError`.
+    /// Errors: `AllocError`.
+    ///
+    /// Cost: a search at each node that is left for each process that has ended at its home, and the memory of the
+    /// list.
     pub fn pending_ends(&self) -> Result<Vec<Pid>, AllocError>
         ensures list { IfOk result (λ pids. pids.items ≡ pending_of (traffic_of self.now).nodes (lost_of self.now)) }
         ensures agree { IfOk result (λ pids. pids.items ≡ [] → lost_of self.now ≡ [] → (x : ℕ) (name : Term)
@@ -178,22 +206,23 @@ impl<T: GroupTable + Drop> FrameWorld<T> {
         self.frames.pending_ends()
     }
 
-    /// Makes one step. The events that led to the world lead on: where the step happened its event is one more, and the last. Of all
-    /// of them, and of the world to which they lead, everything holds that `LossesSurvived` says, and where no node is lost all that
-    /// `OneHistory` says. Each history grows.
+    /// Makes one step. The events that led to the world lead on: where the step happened its event is one more, and
+    /// the last. Of all of them, and of the world to which they lead, everything holds that `LossesSurvived` says,
+    /// and where no node is lost all that `OneHistory` says. Each history grows.
     ///
-    /// Whatever frame world the world shows, as the nodes of a configuration come to, the step is the event of the frame machine there,
-    /// and the world shows what it leaves.
+    /// Whatever frame world the world shows, as the nodes of a configuration come to, the step is the event of the
+    /// frame machine there, and the world shows what it leaves.
     ///
-    /// Faults, which change nothing, the first that holds: `Refused` by `NoSuchPlace` where a node, a port or a peer is not
-    /// there, or a node would take from itself; those of `NodeState::take`, `command` and `retry`; `OutOfMemory` may be told
-    /// in the place of each behind `NoSuchPlace`, as room for what is sent is made before anything changes.
+    /// Errors, which change nothing, the first that holds: `Refused` by `NoSuchPlace` where a node, a port or a peer
+    /// is not there, or a node would take from itself; those of `NodeState::take`, `command` and `retry`;
+    /// `OutOfMemory` may come in the place of each after `NoSuchPlace`, as room for what is sent is made before
+    /// anything changes.
     ///
-    /// Where nodes are lost, the step is the event of the machine with losses. A step of a node that is lost is refused by
-    /// `NodeLost`, behind `NoSuchPlace`, and so is a take of a peer whose loss was seen. `SeeLoss`: `NoSuchPlace`; `NodeLost`, also
-    /// where it was seen before; `NotLost`; `NotDrained` where a packet of the peer is on the way; `ClockFull`. `Lose`:
-    /// `NoSuchPlace`, also where `keep` has not one number for each peer; `NodeLost`; `NoSuchPlace` where more should stay than are on
-    /// the way.
+    /// Where nodes are lost, the step is the event of the machine with losses. A step of a node that is lost is
+    /// refused by `NodeLost`, after `NoSuchPlace`, and so is a take of a peer whose loss was seen. `SeeLoss`:
+    /// `NoSuchPlace`; `NodeLost`, also where it was seen before; `NotLost`; `NotDrained` where a packet of the peer
+    /// is on the way; `ClockFull`. `Lose`: `NoSuchPlace`, also where `keep` has not one number for each peer;
+    /// `NodeLost`; `NoSuchPlace` where more should stay than are on the way.
     pub fn step(&mut self, step: &FrameStep) -> Result<Stepped, NodeFault>
         ensures goes_on { ∥ FramesGoOn (given_of self.old) (view_of self.old) (lost_of self.old) step.now result (view_of self.new) (lost_of self.new) ∥₁ }
         ensures grows { HistoriesGrow (view_of self.old).account (view_of self.new).account }

@@ -28,10 +28,13 @@ impl<T: GroupTable + Drop> FrameWorld<T> {
     ghost use Rattle.pg_frame_world.specs.Past.{FramesRunOn, HistoriesGrow};
     ghost use Rattle.pg_frame_world.specs.Worlds.{is_loss, TimedFrameWorld, Shows};
 
-    /// Makes steps, one after another, and writes the number of each in its place: 0 where it happened, or nothing was on the
-    /// way; else that of its fault. A step that is refused changes nothing, and the others follow. Its cost is that of the steps.
+    /// Makes steps, one after another, and writes the number of each in its place: 0 where it happened, or nothing
+    /// was on the way; else that of its fault. A step that is refused changes nothing, and the others follow.
     ///
-    /// The events that led to the world lead on by those of the steps that happened, and of all of them holds what `step` says.
+    /// The events that led to the world lead on by those of the steps that happened, and of all of them holds what
+    /// `step` says.
+    ///
+    /// Cost: that of the steps.
     pub fn run(&mut self, steps: &[FrameStep], numbers: &mut Vec<u8>)
         requires { length numbers.old.items ≡ length steps.now }
         ensures len { length numbers.new.items ≡ length steps.now }
@@ -51,7 +54,7 @@ impl<T: GroupTable + Drop> FrameWorld<T> {
         }
     }
 
-    /// Makes one step, and tells its number.
+    /// Makes one step, and gives its number.
     fn step_number(&mut self, step: &FrameStep) -> u8
         ensures given { given_of self.new ≡ given_of self.old }
         ensures steps { is_loss step.now ≡ false → (config : Configuration) (w : TimedFrameWorld) → lost_of self.old ≡ [] → Shows config (view_of self.old) w
@@ -67,16 +70,18 @@ impl<T: GroupTable + Drop> FrameWorld<T> {
     }
 }
 
-/// Performs steps from the start of a configuration: the world after them, and for each step its number, as `FrameWorld::run`
-/// tells it. The places of the numbers are got first; a step that is refused did not happen, and the run goes on.
+/// Performs steps from the start of a configuration: the world after them, and for each step its number, as
+/// `FrameWorld::run` gives it. The places of the numbers are got first; a step that is refused did not happen, and
+/// the run goes on.
 ///
-/// The contract is the headline, for steps of which none is a loss: the steps that happened are the events of a run of the frame machine, and of what they
-/// reported, and of the states that the world shows, everything holds that `OneHistory` says.
+/// The contract is the headline, for steps of which none is a loss: the steps that happened are the events of a run
+/// of the frame machine, and of what they reported, and of the states that the world shows, everything holds that
+/// `OneHistory` says.
 ///
-/// Whoever is lost, the steps that happened are the events of a run of the machine with losses, and everything holds that
-/// `LossesSurvived` says of the world to which they lead.
+/// Whoever is lost, the steps that happened are the events of a run of the machine with losses, and everything holds
+/// that `LossesSurvived` says of the world to which they lead.
 ///
-/// Faults: those of `FrameWorld::new`.
+/// Errors: those of `FrameWorld::new`.
 pub fn run_frames(
     alloc: Global,
     config: &Config,

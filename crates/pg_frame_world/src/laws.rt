@@ -18,8 +18,9 @@ ghost use Rattle.pg_config.specs.declared.fault.WorldFault.TheVariants.{OutOfMem
 ghost use Rattle.pg_frame_world.specs.Losing.{losing_of};
 ghost use Rattle.pg_frame_world.specs.Openings.{AllFit, CanBegin, CantBegin, Fits, SomeIsTooLong, are_few, have_few};
 ghost use Rattle.pg_frame_world.specs.Pending.{IsPending, pending_of};
-ghost use Rattle.pg_frame_world.specs.Starts.{Orders, seen_first};
-ghost use Rattle.pg_frame_world.specs.Views.{Seen};
+ghost use Rattle.pg_starts.specs.Firsts.{seen_first};
+ghost use Rattle.pg_frame_world.specs.Starts.{Orders};
+ghost use Rattle.pg_starts.specs.Seen.{Seen};
 ghost use Rattle.pg_frame_world.specs.Worlds.{ShowsNodes, TimedFrameWorld};
 
 use pg_config::configs_are_decided;
@@ -40,15 +41,15 @@ pub fn orders_keep_tables()
 {}
 
 /// A world of a configuration can begin, or there is a fault by which it is refused, and never both: where it can begin it is refused for
-/// memory alone. So each fault of `FrameWorld::new` and `World::new` but that is told exactly where it is the first that holds.
+/// memory alone. So each fault of `FrameWorld::new` and `World::new` but that comes exactly where it is the first that holds.
 pub fn refusals_are_exact()
     ensures { (ring : ℕ) (config : Config) (fault : WorldFault) → CanBegin ring config → CantBegin ring config fault → fault ≡ OutOfMemory }
 {
     configs_are_decided();
 }
 
-/// What is told as too long does not fit: the groups of some node take more than a frame, and so does one group of more than 2^32 members.
-/// So `FrameWorld::new` and `World::new` tell `TooLong` exactly where a configuration has no fault and what a node tells does not fit,
+/// What is refused as too long does not fit: the groups of some node take more than a frame, and so does one group of more than 2^32 members.
+/// So `FrameWorld::new` and `World::new` give `TooLong` exactly where a configuration has no fault and what a node announces does not fit,
 /// unless memory runs out.
 pub fn long_groups_do_not_fit()
     ensures each { (config : Config) (i : ℕ) → Fits (seen_first config i) → are_few (groups_at config i) ≡ true }

@@ -1,6 +1,6 @@
 //! Worlds of packets: the nodes of a configuration that step one at a time, and the packets on the way between them.
 //!
-//! `world.step(&step)?` makes a step, and `world.history(&name)` tells the history of a group. Begin with `src/frame_world.rt`.
+//! `world.step(&step)?` makes a step, and `world.history(&name)` gives the history of a group. Begin with `src/frame_world.rt`.
 #![tactic(auto)]
 
 mod begun;
@@ -22,6 +22,5 @@ pub use laws::{
     long_groups_do_not_fit, orders_keep_tables, pending_ends_are_listed, refusals_are_exact,
 };
 pub use pending::pending_among;
-pub use starts::node_at;
 pub use step::{FrameStep, Stepped};
 pub use world::peer_place;

@@ -6,7 +6,9 @@ ghost use Rattle.pg_frame_world.specs.Sameness.{same_said, same_request, same_me
 use pg_account::same_update;
 use pg_message::{Message, Request, Said};
 
-/// Whether both say the same. It takes no memory.
+/// Whether both say the same.
+///
+/// Cost: no memory.
 pub(crate) fn same_message(message: &Message, other: &Message) -> bool
     ensures { result ≡ same_message message.now other.now }
 {

@@ -4,12 +4,12 @@ ghost use Rattle.std.specs.Prelude.{◌≡◌, ◌↔◌, ◌<◌, ◌+◌, ◌+
 ghost use Rattle.std.specs.Option.{option_copied};
 ghost use Rattle.pg_message.specs.declared.packet.Packet.{Packet};
 ghost use Rattle.pg_message.specs.Members.{IsShort};
-ghost use Rattle.pg_node.specs.States.{stamped_of};
+ghost use Rattle.pg_node_state.specs.States.{stamped_of};
 
 use crate::way::Way;
 use pg_group::Update;
 use pg_message::Packet;
-use pg_node::Done;
+use pg_node_state::Done;
 use pg_step::OpId;
 use std::alloc::{AllocError, Global};
 use std::collections::VecDeque;
@@ -27,7 +27,7 @@ impl Outgoing {
 
     /// Nothing is on the way to so many peers. One allocation.
     ///
-    /// Error: `AllocError`.
+    /// Errors: `AllocError`.
     pub(crate) fn new(alloc: Global, peers: usize) -> Result<Outgoing, AllocError>
         ensures { IfOk result (λ outgoing. ways_of outgoing ≡ replicate peers []) }
     {
@@ -38,9 +38,11 @@ impl Outgoing {
         Ok(Outgoing { ways })
     }
 
-    /// A copy of the packet is on the way to each of so many peers. Its cost is that of the copies.
+    /// A copy of the packet is on the way to each of so many peers.
     ///
-    /// Error: `AllocError`.
+    /// Errors: `AllocError`.
+    ///
+    /// Cost: that of the copies.
     pub(crate) fn opened(
         alloc: Global,
         peers: usize,
@@ -56,9 +58,11 @@ impl Outgoing {
         Ok(Outgoing { ways })
     }
 
-    /// The same packets on the way to each peer. Its cost is that of the copies.
+    /// The same packets on the way to each peer.
     ///
-    /// Error: `AllocError`.
+    /// Errors: `AllocError`.
+    ///
+    /// Cost: that of the copies.
     pub(crate) fn copy(&self) -> Result<Outgoing, AllocError>
         ensures { IfOk result (λ copy. ways_of copy ≡ ways_of self.now) }
     {
@@ -69,7 +73,9 @@ impl Outgoing {
         Ok(Outgoing { ways })
     }
 
-    /// Whether both have the same packets on the way to each of as many peers, but for their stamps. It takes no memory.
+    /// Whether both have the same packets on the way to each of as many peers, but for their stamps.
+    ///
+    /// Cost: no memory.
     pub(crate) fn is_alike(&self, other: &Outgoing) -> bool
         ensures { IsTrue result ↔ (without_stamps (ways_of self.now) ≡ without_stamps (ways_of other.now)) }
     {
@@ -88,7 +94,7 @@ impl Outgoing {
 
     /// Makes room for one more packet to each peer.
     ///
-    /// Error: `AllocError`, by which nothing changes either.
+    /// Errors: `AllocError`, which changes nothing.
     pub(crate) fn make_room(&mut self) -> Result<(), AllocError>
         ensures same { ways_of self.new ≡ ways_of self.old }
         ensures room { OnOk result (HaveRoom self.new) }
@@ -117,7 +123,9 @@ impl Outgoing {
         done.began
     }
 
-    /// The first packet on the way to a peer, if there is one. `peer`: its place among the peers. It takes no memory.
+    /// The first packet on the way to a peer, if there is one. `peer`: its place among the peers.
+    ///
+    /// Cost: no memory.
     pub(crate) fn first(&self, peer: usize) -> Option<&Packet>
         requires place { peer < length (ways_of self.now) }
         ensures first { option_map stamped_of (option_copied result) ≡ first_of (get_or (ways_of self.now) peer []) }
@@ -127,7 +135,9 @@ impl Outgoing {
         way.first()
     }
 
-    /// The packets on the way to a peer, the first to be taken first. `peer`: its place among the peers. It takes no memory.
+    /// The packets on the way to a peer, the first to be taken first. `peer`: its place among the peers.
+    ///
+    /// Cost: no memory.
     pub(crate) fn packets(&self, peer: usize) -> &VecDeque<Packet>
         requires place { peer < length (ways_of self.now) }
         ensures { map stamped_of result.now.items ≡ get_or (ways_of self.now) peer [] }
@@ -136,7 +146,9 @@ impl Outgoing {
         way.packets()
     }
 
-    /// Takes the first packet off the way to a peer. `peer`: its place among the peers. It takes no memory.
+    /// Takes the first packet off the way to a peer. `peer`: its place among the peers.
+    ///
+    /// Cost: no memory.
     pub(crate) fn pass(&mut self, peer: usize)
         requires place { peer < length (ways_of self.old) }
         ensures { ways_of self.new ≡ slice_set (ways_of self.old) peer (drop 1 (get_or (ways_of self.old) peer [])) }
@@ -161,8 +173,9 @@ impl Outgoing {
         true
     }
 
-    /// Only the first packets stay on each way, as many as `keep` has at the place of the peer. It takes no memory: O(packets
-    /// that go).
+    /// Only the first packets stay on each way, as many as `keep` has at the place of the peer.
+    ///
+    /// Cost: no memory; O(packets that go).
     pub(crate) fn cut(&mut self, keep: &[usize])
         requires { length keep.now ≡ length (ways_of self.old) }
         ensures len { length (ways_of self.new) ≡ length (ways_of self.old) }

@@ -2,18 +2,19 @@
 
 ghost use Rattle.std.specs.Prelude.{◌≡◌, ◌++◌, IfOk, OnOk, not};
 ghost use Rattle.std.specs.List.{list_any};
-ghost use Rattle.pg_node.specs.States.{kept_by};
+ghost use Rattle.pg_node_state.specs.States.{kept_by};
 ghost use Rattle.pg_frame_world.specs.Pending.{lent_as, pending_at, pending_among};
-ghost use Rattle.pg_frame_world.specs.Views.{seen_of};
+ghost use Rattle.pg_starts.specs.Seen.{seen_of};
 
 use pg_group::GroupTable;
-use pg_node::NodeState;
+use pg_node_state::NodeState;
 use pg_term::Pid;
 use std::alloc::{AllocError, Global};
 
-/// The ends that are pending among the nodes that are left: node by node those of the processes that it made, by their numbers.
+/// The ends that are pending among the nodes that are left: node by node those of the processes that it made, by
+/// their numbers.
 ///
-/// Error: `AllocError`.
+/// Errors: `AllocError`.
 pub fn pending_among<T: GroupTable + Drop>(
     alloc: Global,
     left: &[&NodeState<T>],
@@ -27,9 +28,11 @@ pub fn pending_among<T: GroupTable + Drop>(
     Ok(pids)
 }
 
-/// Those of the processes that one of them made. Its cost is a search at each node for each of them that has ended.
+/// Those of the processes that one of them made.
 ///
-/// Error: `AllocError`.
+/// Errors: `AllocError`.
+///
+/// Cost: a search at each node for each of them that has ended.
 fn add_pending<T: GroupTable + Drop>(
     pids: &mut Vec<Pid>,
     home: &NodeState<T>,

@@ -21,9 +21,11 @@ pub(crate) struct Way {
 impl Way {
     ghost use Rattle.pg_frame_world.specs.Views.{packets_of, first_of, HasRoom};
     ghost use Rattle.pg_machine.specs.Clocked.{packets_of as unstamped};
-    ghost use Rattle.pg_node.specs.States.{stamped_of};
+    ghost use Rattle.pg_node_state.specs.States.{stamped_of};
 
-    /// Nothing is on the way. It takes no memory.
+    /// Nothing is on the way.
+    ///
+    /// Cost: no memory.
     pub(crate) fn new(alloc: Global) -> Way
         ensures { packets_of result ≡ [] }
     {
@@ -34,7 +36,7 @@ impl Way {
 
     /// A copy of the packet is on the way.
     ///
-    /// Error: `AllocError`.
+    /// Errors: `AllocError`.
     pub(crate) fn opened(alloc: Global, packet: &Packet) -> Result<Way, AllocError>
         requires short { IsShort (2 ^ 32) packet.now.message }
         ensures { IfOk result (λ way. packets_of way ≡ stamped_of packet.now ∷ []) }
@@ -45,9 +47,11 @@ impl Way {
         Ok(way)
     }
 
-    /// The same packets in the same order. Its cost is that of the copies.
+    /// The same packets in the same order.
     ///
-    /// Error: `AllocError`.
+    /// Errors: `AllocError`.
+    ///
+    /// Cost: that of the copies.
     pub(crate) fn copy(&self) -> Result<Way, AllocError>
         ensures { IfOk result (λ copy. packets_of copy ≡ packets_of self.now) }
     {
@@ -57,7 +61,9 @@ impl Way {
         })
     }
 
-    /// Whether both have the same packets in the same order, but for their stamps. It takes no memory.
+    /// Whether both have the same packets in the same order, but for their stamps.
+    ///
+    /// Cost: no memory.
     pub(crate) fn is_alike(&self, other: &Way) -> bool
         ensures { IsTrue result ↔ (unstamped (packets_of self.now) ≡ unstamped (packets_of other.now)) }
     {
@@ -76,7 +82,7 @@ impl Way {
 
     /// Makes room for one more packet.
     ///
-    /// Error: `AllocError`, by which nothing changes either.
+    /// Errors: `AllocError`, which changes nothing.
     pub(crate) fn reserve(&mut self) -> Result<(), AllocError>
         ensures same { packets_of self.new ≡ packets_of self.old }
         ensures room { OnOk result (HasRoom self.new) }
@@ -84,7 +90,9 @@ impl Way {
         self.packets.reserve(1)
     }
 
-    /// Puts a packet behind the others, where there is room. It takes no memory.
+    /// Puts a packet after the others, where there is room.
+    ///
+    /// Cost: no memory.
     pub(crate) fn send(&mut self, packet: Packet)
         requires short { IsShort (2 ^ 32) packet.message }
         requires room { HasRoom self.old }
@@ -93,7 +101,9 @@ impl Way {
         self.packets.push_back_reserved(packet);
     }
 
-    /// The first packet, if there is one. It takes no memory.
+    /// The first packet, if there is one.
+    ///
+    /// Cost: no memory.
     pub(crate) fn first(&self) -> Option<&Packet>
         ensures first { option_map stamped_of (option_copied result) ≡ first_of (packets_of self.now) }
         ensures short { (packet : Packet) → option_copied result ≡ Some packet → IsShort (2 ^ 32) packet.message }
@@ -101,28 +111,36 @@ impl Way {
         self.packets.front()
     }
 
-    /// All of them, the first to be taken first. It takes no memory.
+    /// All of them, the first to be taken first.
+    ///
+    /// Cost: no memory.
     pub(crate) fn packets(&self) -> &VecDeque<Packet>
         ensures { map stamped_of result.now.items ≡ packets_of self.now }
     {
         &self.packets
     }
 
-    /// How many packets there are. It takes no memory.
+    /// How many packets there are.
+    ///
+    /// Cost: no memory.
     pub(crate) fn len(&self) -> usize
         ensures { result ≡ length (packets_of self.now) }
     {
         self.packets.len()
     }
 
-    /// Only the first packets stay, so many at most. It takes no memory: O(packets that go).
+    /// Only the first packets stay, so many at most.
+    ///
+    /// Cost: no memory; O(packets that go).
     pub(crate) fn cut(&mut self, keep: usize)
         ensures { packets_of self.new ≡ take keep (packets_of self.old) }
     {
         self.packets.truncate(keep);
     }
 
-    /// Takes the first packet out, if there is one. It takes no memory.
+    /// Takes the first packet out, if there is one.
+    ///
+    /// Cost: no memory.
     pub(crate) fn pass(&mut self)
         ensures { packets_of self.new ≡ drop 1 (packets_of self.old) }
     {
@@ -132,7 +150,7 @@ impl Way {
 
 /// The same packets in the same order.
 ///
-/// Error: `AllocError`.
+/// Errors: `AllocError`.
 fn copy_packets(alloc: Global, packets: &VecDeque<Packet>) -> Result<Vec<Packet>, AllocError>
     ensures { IfOk result (λ copies. copies.items ≡ packets.now.items) }
 {

@@ -2,7 +2,7 @@
 
 ghost use Rattle.std.specs.Prelude.{◌≡◌, ◌≢◌, [], true, Ok, IfSome, OnErr, length, map};
 ghost use Rattle.std.specs.Option.{is_some};
-ghost use Rattle.pg_node.specs.States.{stamped_of};
+ghost use Rattle.pg_node_state.specs.States.{stamped_of};
 ghost use Rattle.pg_frame_world.specs.Views.{IsWhole, traffic_in};
 
 mod alike;
@@ -15,7 +15,7 @@ use crate::step::{FrameStep, Stepped};
 use pg_account::{Histories, Losses};
 use pg_group::GroupTable;
 use pg_message::Packet;
-use pg_node::{Done, NodeFault, NodeState};
+use pg_node_state::{Done, NodeFault, NodeState};
 use pg_step::{Command, OpId, Refusal};
 use std::alloc::{AllocError, Global};
 use std::collections::VecDeque;
@@ -42,7 +42,9 @@ impl<T: GroupTable + Drop> FrameNodes<T> {
     ghost use Rattle.pg_step.specs.LossLaws.{LosingFrameWorld};
     ghost use Rattle.pg_frame_world.specs.Losing.{lost_of, lost_after, told_of, ShowsLosing, LosingComesTo};
 
-    /// These nodes, and what is on the way from each of them, where nothing has begun. It takes no memory.
+    /// These nodes, and what is on the way from each of them, where nothing has begun.
+    ///
+    /// Cost: no memory.
     pub(crate) fn of_parts(
         alloc: Global,
         nodes: Vec<NodeState<T>>,
@@ -60,18 +62,19 @@ impl<T: GroupTable + Drop> FrameNodes<T> {
         }
     }
 
-    /// Makes one step. Whatever frame world the world shows, as the nodes of a configuration come to, the step is the event of
-    /// the frame machine there, and the world shows what it leaves.
+    /// Makes one step. Whatever frame world the world shows, as the nodes of a configuration come to, the step is the
+    /// event of the frame machine there, and the world shows what it leaves.
     ///
-    /// Faults, which change nothing, the first that holds: `Refused` by `NoSuchPlace` where a node, a port or a peer is not
-    /// there, or a node would take from itself; those of `NodeState::take`, `command` and `retry`; `OutOfMemory` may be told
-    /// in the place of each behind `NoSuchPlace`, as room for what is sent is made before anything changes.
+    /// Errors, which change nothing, the first that holds: `Refused` by `NoSuchPlace` where a node, a port or a peer
+    /// is not there, or a node would take from itself; those of `NodeState::take`, `command` and `retry`;
+    /// `OutOfMemory` may come in the place of each after `NoSuchPlace`, as room for what is sent is made before
+    /// anything changes.
     ///
-    /// Where nodes are lost, the step is the event of the machine with losses. A step of a node that is lost is refused by
-    /// `NodeLost`, behind `NoSuchPlace`, and so is a take of a peer whose loss was seen. `SeeLoss`: `NoSuchPlace`; `NodeLost`, also
-    /// where it was seen before; `NotLost`; `NotDrained` where a packet of the peer is on the way; `ClockFull`. `Lose`:
-    /// `NoSuchPlace`, also where `keep` has not one number for each peer; `NodeLost`; `NoSuchPlace` where more should stay than are on
-    /// the way.
+    /// Where nodes are lost, the step is the event of the machine with losses. A step of a node that is lost is
+    /// refused by `NodeLost`, after `NoSuchPlace`, and so is a take of a peer whose loss was seen. `SeeLoss`:
+    /// `NoSuchPlace`; `NodeLost`, also where it was seen before; `NotLost`; `NotDrained` where a packet of the peer
+    /// is on the way; `ClockFull`. `Lose`: `NoSuchPlace`, also where `keep` has not one number for each peer;
+    /// `NodeLost`; `NoSuchPlace` where more should stay than are on the way.
     pub(crate) fn step(&mut self, step: &FrameStep) -> Result<Stepped, NodeFault>
         ensures event { (config : Config) (w : TimedFrameWorld) → lost_of self.old ≡ [] → Shows config (view_of self.old) w
             → StepComesTo config w step.now result (Shows config (view_of self.new)) }

@@ -5,6 +5,10 @@ use pg_term::Pid;
 use std::alloc::AllocError;
 
 /// Appends a member to a list, as often as its count.
+///
+/// Errors: `AllocError`.
+///
+/// Cost: memory for each time, and for the name of the member's node.
 pub fn append_member(pids: &mut Vec<Pid>, pid: &Pid, count: u64) -> Result<(), AllocError>
     ensures { OnOk result (pids.new.items ≡ pids.old.items ++ put count pid.now []) }
 {

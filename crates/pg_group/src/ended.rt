@@ -20,7 +20,9 @@ impl Ended {
     ghost use Rattle.pg_group.specs.Functions.{upd};
     ghost use Rattle.pg_group.specs.Ended.{ended_of, ended_with, is_whole, single_of, IsWithin};
 
-    /// No pid has ended. It takes no memory.
+    /// No pid has ended.
+    ///
+    /// Cost: no memory.
     pub fn new(alloc: Global) -> Ended
         ensures { ended_of result ≡ (λ pid. false) }
     {
@@ -30,24 +32,29 @@ impl Ended {
         }
     }
 
-    /// Whether the pid has ended. It takes no memory: O(log n) in the pids and the nodes that were put in.
+    /// Whether the pid has ended.
+    ///
+    /// Cost: no memory; O(log n) in the pids and the nodes that were put in.
     pub fn has(&self, pid: &Pid) -> bool
         ensures { result ≡ ended_of self.now pid.now }
     {
         self.nodes.contains(&pid.node) || self.pids.contains(pid)
     }
 
-    /// Whether all pids of the node were put in at once. It takes no memory: O(log n) in the nodes that were put in.
+    /// Whether all pids of the node were put in at once.
+    ///
+    /// Cost: no memory; O(log n) in the nodes that were put in.
     pub fn has_node(&self, node: &Atom) -> bool
         ensures { result ≡ is_whole self.now node.now }
     {
         self.nodes.contains(node)
     }
 
-    /// The pids of the node that were put in one by one, in their order. O(log n) in the pids that were put in, and the copies of
-    /// those of the node.
+    /// The pids of the node that were put in one by one, in their order.
     ///
-    /// Error: `AllocError`.
+    /// Errors: `AllocError`.
+    ///
+    /// Cost: O(log n) in the pids that were put in, and the copies of those of the node.
     pub fn pids_of(&self, alloc: Global, node: &Atom) -> Result<Vec<Pid>, AllocError>
         ensures pids { IfOk result (λ pids. pids.items ≡ single_of self.now node.now) }
         ensures ordered { IfOk result (λ pids. IsStrictlySortedBy pid_cmp pids.items) }
@@ -68,7 +75,9 @@ impl Ended {
         Ok(pids)
     }
 
-    /// Whether the same pids have ended in both. It takes no memory: O(n log n) in the pids and the nodes that were put in.
+    /// Whether the same pids have ended in both.
+    ///
+    /// Cost: no memory; O(n log n) in the pids and the nodes that were put in.
     pub fn same(&self, other: &Ended) -> bool
         ensures { IsTrue result ↔ (ended_of self.now ≡ ended_of other.now) }
     {
@@ -88,9 +97,11 @@ impl Ended {
         pids.iter().all(|pid| self.has(pid))
     }
 
-    /// The same pids and nodes. O(n log n) in the pids and the nodes that were put in, with their copies.
+    /// The same pids and nodes.
     ///
-    /// Error: `AllocError`.
+    /// Errors: `AllocError`.
+    ///
+    /// Cost: O(n log n) in the pids and the nodes that were put in, with their copies.
     pub fn copy(&self, alloc: Global) -> Result<Ended, AllocError>
         ensures { IfOk result (λ copy. ended_of copy ≡ ended_of self.now) }
     {
@@ -120,7 +131,11 @@ impl Ended {
         Ok(())
     }
 
-    /// Puts the pid in. An error changes nothing. O(log n).
+    /// Puts the pid in.
+    ///
+    /// Errors: `AllocError`, which changes nothing.
+    ///
+    /// Cost: O(log n) in the pids that were put in.
     pub fn add(&mut self, pid: Pid) -> Result<(), AllocError>
         ensures ok { OnOk result (ended_of self.new ≡ upd same_pid (ended_of self.old) pid true) }
         ensures err { OnErr result (ended_of self.new ≡ ended_of self.old) }
@@ -129,8 +144,11 @@ impl Ended {
         Ok(())
     }
 
-    /// Puts all pids of the node in, as where the node is lost. An error changes nothing. O(log n) in the nodes that were
-    /// put in.
+    /// Puts all pids of the node in, as where the node is lost.
+    ///
+    /// Errors: `AllocError`, which changes nothing.
+    ///
+    /// Cost: O(log n) in the nodes that were put in.
     pub fn add_node(&mut self, node: &Atom) -> Result<(), AllocError>
         ensures ok { OnOk result (ended_of self.new ≡ ended_with (ended_of self.old) node.now) }
         ensures err { OnErr result (ended_of self.new ≡ ended_of self.old) }

@@ -10,8 +10,8 @@ ghost use Rattle.pg_group.specs.Value.{Value, apply, less, merge, count_in, None
 ghost use Rattle.pg_group.specs.Members.{IsMemberList};
 ghost use Rattle.pg_group.specs.Table.{Table, applied, changed, exchanged};
 
-/// A group without ended pids stays one, by updates and by exchanges, and where a pid, or each pid of a node, ends and is
-/// taken out: what a table makes of it by an update is pg2's group after the update, less the ended.
+/// A group without ended pids stays one, by updates and by exchanges, and where a pid, or each pid of a node, ends
+/// and is taken out: what a table makes of it by an update is pg2's group after the update, without the ended.
 pub fn ended_stay_out()
     ensures value { (v : Value) (update : Update) (ended : Pid → Bool) → NoneEnded v ended → applied v update ended ≡ less (apply v update) ended }
     ensures kept { (v : Value) (update : Update) (ended : Pid → Bool) → NoneEnded v ended → NoneEnded (applied v update ended) ended }
@@ -30,8 +30,8 @@ pub fn one_more_at_most()
         → (name : Term) (pid : Pid) → count_in (changed table update ended name) pid ≤ n + 1 }
 {}
 
-/// The list of the members that pass a test grows by one at most with an update, and with an exchange by no more than the
-/// pids that are told.
+/// The list of the members that pass a test grows by one at most with an update, and with an exchange by no more than
+/// the pids that are announced.
 pub fn longer_by_what_came()
     ensures update { (table : Table) (update : Update) (ended : Pid → Bool) (name : Term)
         (among : Pid → Bool) (before after : List Pid)

@@ -26,6 +26,8 @@ impl Members {
     ghost use Rattle.pg_group.specs.Members.{IsMemberList};
 
     /// Nobody is a member.
+    ///
+    /// Cost: no memory.
     pub fn new(alloc: Global) -> Members
         ensures { counts_of result ≡ nobody }
     {
@@ -41,7 +43,11 @@ impl Members {
         self.counts.get(pid).copied().unwrap_or(0)
     }
 
-    /// Adds one to the count of a pid. Only a new member takes memory.
+    /// Adds one to the count of a pid.
+    ///
+    /// Errors: `AllocError`.
+    ///
+    /// Cost: memory for a new member alone.
     pub fn add_one(&mut self, pid: &Pid) -> Result<(), AllocError>
         requires { counts_of self.old pid.now + 1 < 2 ^ 64 }
         ensures ok { OnOk result (counts_of self.new ≡ with_one_more (counts_of self.old) pid.now) }
@@ -106,7 +112,11 @@ impl Members {
         }
     }
 
-    /// Raises the count of each pid that has not ended to how often it stands in a list.
+    /// Raises the count of each pid that has not ended to how often it is in a list.
+    ///
+    /// Errors: `AllocError`, which may leave some raised.
+    ///
+    /// Cost: memory for new members alone.
     pub fn raise_all(
         &mut self,
         alloc: Global,
@@ -160,6 +170,10 @@ impl Members {
     }
 
     /// The members, each as often as its count, by one walk.
+    ///
+    /// Errors: `AllocError`.
+    ///
+    /// Cost: memory for each time that each is listed, and for the name of its node.
     pub fn list(&self, alloc: Global, scope: Scope<'_>) -> Result<Vec<Pid>, AllocError>
         ensures { IfOk result (λ pids. IsMemberList (Some (counts_of self.now)) (in_scope scope.entry) pids.items) }
     {
@@ -173,6 +187,10 @@ impl Members {
     }
 
     /// The same counts.
+    ///
+    /// Errors: `AllocError`.
+    ///
+    /// Cost: memory for each member.
     pub fn copy(&self, alloc: Global) -> Result<Members, AllocError>
         ensures { IfOk result (λ copy. counts_of copy ≡ counts_of self.now) }
     {

@@ -11,8 +11,8 @@ use pg_term::{Atom, Pid, Term};
 use std::alloc::{AllocError, Global};
 use std::collections::BTreeMap;
 
-/// The plain table: a row for each group, ordered by name, with a count for each member, ordered by pid. A pid that is no
-/// member any more leaves nothing behind.
+/// The plain table: a row for each group, ordered by name, with a count for each member, ordered by pid. A pid that
+/// is no member any more leaves no trace.
 #[derive(Drop)]
 pub struct RowTable {
     rows: Rows,
@@ -22,7 +22,9 @@ pub struct RowTable {
 impl RowTable {
     ghost use Rattle.pg_group.specs.Rows.{table_of};
 
-    /// No group. It takes no memory.
+    /// No group.
+    ///
+    /// Cost: no memory.
     pub fn new(alloc: Global) -> RowTable
         ensures { table_of result.rows ≡ (λ name. None) }
     {

@@ -16,7 +16,11 @@ use std::collections::BTreeMap;
 /// The members of each group that is there.
 pub type Rows = BTreeMap<Term, Members>;
 
-/// Makes an absent group empty. A group that is there takes no memory.
+/// Makes an absent group empty.
+///
+/// Errors: `AllocError`, which changes nothing.
+///
+/// Cost: memory for a group that is made alone.
 pub fn create(rows: &mut Rows, alloc: Global, name: &Term) -> Result<(), AllocError>
     ensures ok { OnOk result (table_of rows.new
         ≡ upd same_term (table_of rows.old) name.now (apply (table_of rows.old name.now) (Create name.now))) }
@@ -39,7 +43,11 @@ pub fn delete(rows: &mut Rows, name: &Term)
     rows.remove(name);
 }
 
-/// Adds one to the count of a pid in a group that is there. Only a new member takes memory.
+/// Adds one to the count of a pid in a group that is there.
+///
+/// Errors: `AllocError`.
+///
+/// Cost: memory for a new member alone.
 pub fn join(rows: &mut Rows, name: &Term, pid: &Pid) -> Result<(), AllocError>
     requires { count_in (table_of rows.old name.now) pid.now + 1 < 2 ^ 64 }
     ensures ok { OnOk result (table_of rows.new
@@ -68,7 +76,11 @@ pub fn leave(rows: &mut Rows, name: &Term, pid: &Pid)
     }
 }
 
-/// Makes a group if it is missing, and raises its counts to those of a list, less the ended.
+/// Makes a group if it is missing, and raises its counts to those of a list, without the ended.
+///
+/// Errors: `AllocError`, which may leave the group made and some counts raised.
+///
+/// Cost: memory for a group that is made and for new members alone.
 pub fn merge(
     rows: &mut Rows,
     alloc: Global,
@@ -110,6 +122,10 @@ pub fn drop_node(rows: &mut Rows, node: &Atom)
 }
 
 /// The same groups.
+///
+/// Errors: `AllocError`.
+///
+/// Cost: memory for each group and each member.
 pub fn copy(rows: &Rows, alloc: Global) -> Result<Rows, AllocError>
     ensures { IfOk result (λ copy. table_of copy ≡ table_of rows.now) }
 {

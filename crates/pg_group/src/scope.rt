@@ -14,7 +14,9 @@ pub enum Scope<'a> {
 impl Scope<'_> {
     ghost use Rattle.pg_group.specs.Scope.{in_scope};
 
-    /// Whether the pid is one that is asked for. It takes no memory.
+    /// Whether the pid is one that is asked for.
+    ///
+    /// Cost: no memory.
     pub fn has(&self, pid: &Pid) -> bool
         ensures { result ≡ in_scope self.now pid.now }
     {

@@ -29,7 +29,11 @@ impl Update {
         }
     }
 
-    /// An equal update. Its cost grows with the name.
+    /// An equal update.
+    ///
+    /// Errors: `AllocError`.
+    ///
+    /// Cost: grows with the name.
     pub fn copy(&self, alloc: Global) -> Result<Update, AllocError>
         ensures { IfOk result (λ update. update ≡ self.now) }
     {

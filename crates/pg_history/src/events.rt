@@ -30,8 +30,8 @@ pub fn commands_are_refused_exactly()
         ↔ (refused_by whole s c ≡ Some fault) }
 {}
 
-/// A change without a fault is answered at once, and behind no lock, exactly where the look finds an answer, or too many
-/// commands are open.
+/// A change without a fault is answered at once, and not after a lock, exactly where the look finds an answer, or too
+/// many commands are open.
 pub fn changes_are_answered_at_once_exactly()
     ensures { (whole m : Nodes) (port : ℕ) (c : Command) (update : Update) (s : State) (r : Reply)
         → change_of c ≡ Some update → fault_of whole s c ≡ None

@@ -32,15 +32,16 @@ ghost use Rattle.pg_history.specs.Reached.{TimedFrameWorld, Reaches, HasEndedAt,
 ghost use Rattle.pg_history.specs.ReferencesFit.{ReferencesFit, Follows};
 ghost use Rattle.pg_history.specs.Sent.{ends_in, exchanges_in, is_reply};
 
-/// One history of each group. In every world that the nodes of a configuration with different names come to, whatever is
-/// done there and in whatever order packets are taken:
+/// One history of each group. In every world that the nodes of a configuration with different names come to, whatever
+/// is done there and in whatever order packets are taken:
 ///
-/// - the changes that were answered behind their locks stand, each once, in one history of their group, with at most one
+/// - the changes that were answered under their locks are, each once, in one history of their group, with at most one
 ///   more, which is its last; each of them was answered ok, and no other delete, join or leave was;
 /// - each node has applied that history, or all but its last update, and all of it where one node sees the lock free;
-/// - a formed node's table is that of what it has applied, less the ends that it took, and formed nodes agree where one
-///   sees the lock free and no end is pending;
-/// - a change that was answered before another command came in stands before it, and each node has applied it from then on;
+/// - a formed node's table is that of what it has applied, without the ends that it took, and formed nodes agree
+///   where one sees the lock free and no end is pending;
+/// - a change that was answered before another command came in is before it, and each node has applied it from then
+///   on;
 /// - locks are exclusive: two updates of one group are never under way at once;
 /// - no reply is a stranger's or a double, and no packet will be refused, but by a full clock.
 pub fn one_history()
@@ -64,19 +65,19 @@ pub fn one_history_without_losses()
         → (w : TimedFrameWorld) × (v ≡ nobody_gone (mapped sent_packet w)) × OneHistory config events (plain w) }
 {}
 
-/// A change that was answered behind its lock stands once among the entries, and was answered once. No command stands
-/// there twice. An entry that is not answered yet is the last of its group, and has every grant. Each is the change that its command asked for,
-/// which came in before. A command that was refused, or answered by the look, does not stand there.
+/// A change that was answered under its lock is once among the entries, and was answered once. No command is there
+/// twice. An entry that is not answered yet is the last of its group, and has every grant. Each is the change that
+/// its command asked for, which came in before. A command that was refused, or answered by the look, is not there.
 ///
-/// What clients see of it: a change that was answered behind its lock was answered ok; a delete, a join or a leave that was
-/// answered ok was answered behind its lock; no command has two answers.
+/// What clients see of it: a change that was answered under its lock was answered ok; a delete, a join or a leave
+/// that was answered ok was answered under its lock; no command has two answers.
 pub fn changes_stand_once()
     ensures { (config : Config) (w : TimedFrameWorld) (events : List (Event Action))
         → IsDistinct same_atom (names_of config) → Reaches config events w
         → HoldsAnswered config events (plain w) }
 {}
 
-/// The history of each group only grows: a later world's is that of the earlier one, and more behind it.
+/// The history of each group only grows: a later world's is that of the earlier one, and more after it.
 pub fn history_grows()
     ensures { (config : Config) (w v : TimedFrameWorld) (events : List (Event Action))
         → Leads (frame_machine config) w events v → GoesOn (plain w) (plain v) }
@@ -90,33 +91,34 @@ pub fn history_is_applied()
         → AppliesHistory config (plain w) }
 {}
 
-/// What the tables are. A formed node's: what all nodes began with, after the updates that the node has applied, less the
-/// ends that it took. An unformed node's: what it and those began with whose exchange it took, less the ends that it took;
-/// while there is one no update has every grant. Formed nodes agree on a group where one node sees its lock free and no end
-/// is pending.
+/// What the tables are. A formed node's: what all nodes began with, after the updates that the node has applied,
+/// without the ends that it took. An unformed node's: what it and those began with whose exchange it took, without
+/// the ends that it took; while there is one no update has every grant. Formed nodes agree on a group where one node
+/// sees its lock free and no end is pending.
 pub fn tables_are_replayed()
     ensures { (config : Config) (w : TimedFrameWorld) (events : List (Event Action))
         → IsDistinct same_atom (names_of config) → Reaches config events w
         → HasTables config (plain w) }
 {}
 
-/// Locks are exclusive. At each node one reference at most holds the lock of a group, and a grant that is counted stands at
-/// the node that gave it; so two requests for one lock are never granted by the same node at once. While an update is under
-/// way its command holds the lock of its group at every node, and no other update of that group is under way.
+/// Locks are exclusive. At each node one reference at most holds the lock of a group, and a grant that is counted is
+/// held at the node that gave it; so two requests for one lock are never granted by the same node at once. While an
+/// update is under way its command holds the lock of its group at every node, and no other update of that group is
+/// under way.
 pub fn locks_are_exclusive()
     ensures { (config : Config) (w : TimedFrameWorld) (events : List (Event Action))
         → IsDistinct same_atom (names_of config) → Reaches config events w
         → ExclusiveLocks config (is_place (length config)) (plain w).node }
 {}
 
-/// The history of a group goes by real time. A change that was answered behind its lock before another command came in, at
-/// whatever node, stands before it; and from then on its update is among those that each node has applied, so that a formed
-/// node answers queries from a table that has it. No node goes back.
+/// The history of a group goes by real time. A change that was answered under its lock before another command came
+/// in, at whatever node, is before it; and from then on its update is among those that each node has applied, so that
+/// a formed node answers queries from a table that has it. No node goes back.
 ///
-/// So the changes of a group that go through its lock are linearizable. Of queries it says no more than this: one that comes
-/// in after such a change was answered reads a table that has it. Two queries while a change is under way may disagree, and
-/// the later one may read the older table. A create that is answered ok by the look, and a join or a leave that the look
-/// finds no group for, promise nothing of other nodes.
+/// So the changes of a group that go through its lock are linearizable. Of queries it says no more than this: one
+/// that comes in after such a change was answered reads a table that has it. Two queries while a change is under way
+/// may disagree, and the later one may read the older table. A create that is answered ok by the look, and a join or
+/// a leave that the look finds no group for, promise nothing of other nodes.
 pub fn updates_go_by_real_time()
     ensures { (config : Config) (w : TimedFrameWorld) (events : List (Event Action))
         → IsDistinct same_atom (names_of config) → Reaches config events w

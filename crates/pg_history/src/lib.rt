@@ -1,8 +1,9 @@
 //! What holds of every run of the nodes of a configuration, whatever is done there and in whatever order packets are
-//! taken: one history of each group, what each node has applied of it, and what the tables are; and laws of exchanges,
-//! ends, locks and references that stand behind that.
+//! taken: one history of each group, what each node has applied of it, and what the tables are; and the laws of
+//! exchanges, ends, locks and references on which that rests.
 //!
-//! There is no code: `one_history()` is the law of all of it. Begin with `specs/Headline.antt` beside docs/HEADLINE.md, then `src/laws.rt`.
+//! There is no code: `one_history()` is the law of all of it. Begin with `specs/Headline.antt` beside
+//! docs/HEADLINE.md, then `src/laws.rt`.
 #![tactic(auto)]
 
 mod events;

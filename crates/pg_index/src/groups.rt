@@ -23,7 +23,11 @@ pub fn count(groups: &Groups, group: u32, pid: &Pid) -> u64
     }
 }
 
-/// Adds to the count of a pid, and tells it then. Only a new member takes memory. An error changes nothing.
+/// Adds to the count of a pid, and gives the count after that.
+///
+/// Errors: `AllocError`, which changes nothing.
+///
+/// Cost: memory for a new member alone.
 pub fn add(groups: &mut Groups, group: u32, pid: &Pid, more: u64) -> Result<u64, AllocError>
     requires used { is_used groups.old group ≡ true }
     requires some { 0 < more }
@@ -41,7 +45,9 @@ pub fn add(groups: &mut Groups, group: u32, pid: &Pid, more: u64) -> Result<u64,
     }
 }
 
-/// Takes one from the count of a pid, if it is a member, and tells the count before. It takes no memory.
+/// Takes one from the count of a pid, if it is a member, and gives the count before.
+///
+/// Cost: no memory.
 pub fn take_one(groups: &mut Groups, group: u32, pid: &Pid) -> u64
     ensures counts { counts_in groups.new
         ≡ upd nat_eq (counts_in groups.old) group (with_one_less (counts_in groups.old group) pid.now) }
@@ -54,7 +60,9 @@ pub fn take_one(groups: &mut Groups, group: u32, pid: &Pid) -> u64
     }
 }
 
-/// Takes a pid out of a group, whatever its count. It takes no memory.
+/// Takes a pid out of a group, whatever its count.
+///
+/// Cost: no memory.
 pub fn remove(groups: &mut Groups, group: u32, pid: &Pid)
     ensures counts { counts_in groups.new ≡ counts_changed (counts_in groups.old) group pid.now 0 }
     ensures used { is_used groups.new ≡ is_used groups.old }
@@ -65,7 +73,9 @@ pub fn remove(groups: &mut Groups, group: u32, pid: &Pid)
     }
 }
 
-/// Takes the pids of a node out of a group. It takes no memory.
+/// Takes the pids of a node out of a group.
+///
+/// Cost: no memory.
 pub fn drop_node(groups: &mut Groups, group: u32, node: &Atom)
     ensures counts { counts_in groups.new
         ≡ upd nat_eq (counts_in groups.old) group (without_node (counts_in groups.old group) node.now) }

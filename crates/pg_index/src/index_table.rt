@@ -41,7 +41,9 @@ fn copy_numbers(
 }
 
 impl IndexTable {
-    /// No group. It takes no memory.
+    /// No group.
+    ///
+    /// Cost: no memory.
     pub fn new(alloc: Global) -> IndexTable
         ensures { table_of result.numbers result.memberships ≡ (λ name. None) }
     {
@@ -119,9 +121,13 @@ impl GroupTable for IndexTable {
         self.numbers.contains_key(name)
     }
 
-    /// A join or a leave costs a hash and searches in order; a deletion costs the members of the group. Only a group
-    /// that is made and a new member take memory. It also answers `AllocError` to a join where the members, with one more,
-    /// could not be told in 64 bits, and to a creation where all numbers of 32 bits are in use.
+    /// Applies an update to the group that it names, as `GroupTable::apply` has it.
+    ///
+    /// Errors: `AllocError`, which changes nothing; also for a join where the members, with one more, would pass 64
+    /// bits, and for a creation where all numbers of 32 bits are in use.
+    ///
+    /// Cost: a hash and searches in order for a join or a leave; for a deletion one of each member. Only a group that
+    /// is made and a new member take memory.
     fn apply(&mut self, update: &Update, ended: &Ended) -> Result<(), AllocError>
         requires { HasRoom (table_of self.old.numbers self.old.memberships) update.now }
         ensures ok { OnOk result (table_of self.new.numbers self.new.memberships

@@ -6,7 +6,7 @@ pub struct Process {
     pub creation: u32,
 }
 
-/// That a process of some node is a member of a group. The listings of a process stand together, in the order of
+/// That a process of some node is a member of a group. The listings of a process are together, in the order of
 /// groups.
 #[derive(Clone, Copy, Debug, PartialEq, Eq, PartialOrd, Ord)]
 pub struct Listing {

@@ -38,7 +38,11 @@ pub fn listing(pid: &Pid, group: u32) -> Listing
     }
 }
 
-/// Lists a pid in a group. Only a new listing takes memory. An error changes nothing.
+/// Lists a pid in a group.
+///
+/// Errors: `AllocError`, which changes nothing.
+///
+/// Cost: memory for a new listing alone.
 pub fn add(listings: &mut Listings, alloc: Global, pid: &Pid, group: u32) -> Result<(), AllocError>
     ensures ok { OnOk result (listed_in listings.new ≡ marked (listed_in listings.old) pid.now group true) }
     ensures err { OnErr result (listed_in listings.new ≡ listed_in listings.old) }
@@ -58,7 +62,9 @@ pub fn add(listings: &mut Listings, alloc: Global, pid: &Pid, group: u32) -> Res
     }
 }
 
-/// Lists a pid no longer in a group. It takes no memory.
+/// Lists a pid no longer in a group.
+///
+/// Cost: no memory.
 pub fn remove(listings: &mut Listings, pid: &Pid, group: u32)
     ensures { listed_in listings.new ≡ marked (listed_in listings.old) pid.now group false }
 {
@@ -70,7 +76,11 @@ pub fn remove(listings: &mut Listings, pid: &Pid, group: u32)
     }
 }
 
-/// Equal listings: memory for each, and for the names of nodes.
+/// Equal listings.
+///
+/// Errors: `AllocError`.
+///
+/// Cost: memory for each, and for the names of nodes.
 pub fn copy(listings: &Listings, alloc: Global) -> Result<Listings, AllocError>
     ensures { IfOk result (λ copy. listed_in copy ≡ listed_in listings.now) }
 {
@@ -81,7 +91,9 @@ pub fn copy(listings: &Listings, alloc: Global) -> Result<Listings, AllocError>
     Ok(copy)
 }
 
-/// Lists the members of a group no longer in it. It takes no memory.
+/// Lists the members of a group no longer in it.
+///
+/// Cost: no memory.
 pub fn remove_all(listings: &mut Listings, mut members: Members, group: u32)
     requires { (pid : Pid) → listed_in listings.old pid group ≡ nat_lt 0 (counts_of members pid) }
     ensures none { (pid : Pid) → listed_in listings.new pid group ≡ false }
@@ -104,8 +116,9 @@ pub fn first_of(set: &BTreeSet<Listing>, process: Process) -> Option<u32>
     }
 }
 
-/// Takes a pid of the node of these listings out of each group that it is listed in, and out of the listings. It takes
-/// no memory.
+/// Takes a pid of the node of these listings out of each group that it is listed in, and out of the listings.
+///
+/// Cost: no memory.
 pub fn drop_listed(set: &mut BTreeSet<Listing>, groups: &mut Groups, pid: &Pid)
     requires { AreGroupsOf set.old (counts_in groups.old) pid.now }
     ensures counts { counts_in groups.new ≡ without_pid (counts_in groups.old) pid.now }
@@ -121,7 +134,9 @@ pub fn drop_listed(set: &mut BTreeSet<Listing>, groups: &mut Groups, pid: &Pid)
     }
 }
 
-/// Takes a pid out of each group, and out of the listings. It takes no memory.
+/// Takes a pid out of each group, and out of the listings.
+///
+/// Cost: no memory.
 pub fn drop_pid(listings: &mut Listings, groups: &mut Groups, pid: &Pid)
     requires { AreListed (listed_in listings.old) (counts_in groups.old) }
     ensures counts { counts_in groups.new ≡ without_pid (counts_in groups.old) pid.now }
@@ -134,8 +149,9 @@ pub fn drop_pid(listings: &mut Listings, groups: &mut Groups, pid: &Pid)
     }
 }
 
-/// Takes the pids of a node out of each group that is listed in one of these listings, which are the node's. It takes
-/// no memory.
+/// Takes the pids of a node out of each group that is listed in one of these listings, which are the node's.
+///
+/// Cost: no memory.
 pub fn drop_each(groups: &mut Groups, set: BTreeSet<Listing>, node: &Atom)
     requires { (pid : Pid) → at_node node.now pid ≡ true → AreGroupsOf set (counts_in groups.old) pid }
     ensures counts { counts_in groups.new ≡ without_nodes (counts_in groups.old) node.now }
@@ -146,7 +162,9 @@ pub fn drop_each(groups: &mut Groups, set: BTreeSet<Listing>, node: &Atom)
     }
 }
 
-/// Takes the pids of a node out of each group, and out of the listings. It takes no memory.
+/// Takes the pids of a node out of each group, and out of the listings.
+///
+/// Cost: no memory.
 pub fn drop_node(listings: &mut Listings, groups: &mut Groups, node: &Atom)
     requires { AreListed (listed_in listings.old) (counts_in groups.old) }
     ensures counts { counts_in groups.new ≡ without_nodes (counts_in groups.old) node.now }

@@ -26,7 +26,9 @@ pub struct Memberships {
 }
 
 impl Memberships {
-    /// No group. It takes no memory.
+    /// No group.
+    ///
+    /// Cost: no memory.
     pub fn new(alloc: Global) -> Memberships
         ensures counts { counts_in result.groups ≡ (λ group. nobody) }
         ensures used { is_used result.groups ≡ (λ group. false) }
@@ -38,21 +40,29 @@ impl Memberships {
         }
     }
 
-    /// The members of a group. It takes no memory.
+    /// The members of a group.
+    ///
+    /// Cost: no memory.
     pub fn members(&self, group: u32) -> Option<&Members>
         ensures { option_copied result ≡ get self.now.groups group }
     {
         self.groups.get(group as usize)
     }
 
-    /// The count of a pid in a group. It takes no memory.
+    /// The count of a pid in a group.
+    ///
+    /// Cost: no memory.
     pub fn count(&self, group: u32, pid: &Pid) -> u64
         ensures { result ≡ counts_in self.now.groups group pid.now }
     {
         groups::count(&self.groups, group, pid)
     }
 
-    /// Makes an empty group, and gives its number. An error changes nothing.
+    /// Makes an empty group, and gives its number.
+    ///
+    /// Errors: `AllocError`, which changes nothing.
+    ///
+    /// Cost: memory for a group.
     pub fn open(&mut self) -> Result<u32, AllocError>
         ensures free { IfOk result (λ group. is_used self.old.groups group ≡ false) }
         ensures used { IfOk result (λ group. is_used self.new.groups ≡ upd nat_eq (is_used self.old.groups) group true) }
@@ -67,7 +77,11 @@ impl Memberships {
         Ok(group)
     }
 
-    /// Adds to the count of a pid. Only a new member takes memory. An error changes nothing.
+    /// Adds to the count of a pid.
+    ///
+    /// Errors: `AllocError`, which changes nothing.
+    ///
+    /// Cost: memory for a new member alone.
     pub fn add(&mut self, group: u32, pid: &Pid, more: u64) -> Result<(), AllocError>
         requires used { is_used self.old.groups group ≡ true }
         requires some { 0 < more }
@@ -91,7 +105,11 @@ impl Memberships {
         }
     }
 
-    /// Raises the count of a pid to `least`, where it is below. An error changes nothing.
+    /// Raises the count of a pid to `least`, where it is below.
+    ///
+    /// Errors: `AllocError`, which changes nothing.
+    ///
+    /// Cost: memory for a new member alone.
     pub fn raise(&mut self, group: u32, pid: &Pid, least: u64) -> Result<(), AllocError>
         requires { is_used self.old.groups group ≡ true }
         ensures ok { OnOk result (counts_in self.new.groups ≡ counts_changed (counts_in self.old.groups) group pid.now
@@ -107,7 +125,11 @@ impl Memberships {
         }
     }
 
-    /// Raises the count of each pid that has not ended to how often it stands in a list. An error leaves some raised.
+    /// Raises the count of each pid that has not ended to how often it is in a list.
+    ///
+    /// Errors: `AllocError`, which may leave some raised.
+    ///
+    /// Cost: memory for new members alone.
     pub fn raise_all(&mut self, group: u32, pids: &[Pid], ended: &Ended) -> Result<(), AllocError>
         requires { is_used self.old.groups group ≡ true }
         ensures ok { OnOk result (counts_in self.new.groups
@@ -126,7 +148,9 @@ impl Memberships {
         Ok(())
     }
 
-    /// Takes one from the count of a pid, if it is a member. It takes no memory.
+    /// Takes one from the count of a pid, if it is a member.
+    ///
+    /// Cost: no memory.
     pub fn take_one(&mut self, group: u32, pid: &Pid)
         ensures counts { counts_in self.new.groups
             ≡ upd nat_eq (counts_in self.old.groups) group (with_one_less (counts_in self.old.groups group) pid.now) }
@@ -138,7 +162,11 @@ impl Memberships {
         }
     }
 
-    /// Equal groups by the same numbers: memory for each group, for each member with its name, and for each listing.
+    /// Equal groups by the same numbers.
+    ///
+    /// Errors: `AllocError`.
+    ///
+    /// Cost: memory for each group, for each member with the name of its node, and for each listing.
     pub fn copy(&self) -> Result<Memberships, AllocError>
         ensures counts { IfOk result (λ copy. counts_in copy.groups ≡ counts_in self.now.groups) }
         ensures used { IfOk result (λ copy. is_used copy.groups ≡ is_used self.now.groups) }
@@ -152,7 +180,9 @@ impl Memberships {
         })
     }
 
-    /// Makes a group's number free again, with its members. It takes no memory, and time for each member.
+    /// Makes a group's number free again, with its members.
+    ///
+    /// Cost: no memory, and time for each member.
     pub fn close(&mut self, group: u32)
         ensures counts { counts_in self.new.groups ≡ upd nat_eq (counts_in self.old.groups) group nobody }
         ensures used { is_used self.new.groups ≡ upd nat_eq (is_used self.old.groups) group false }
@@ -162,7 +192,9 @@ impl Memberships {
         }
     }
 
-    /// Takes a pid out of each group. It takes no memory, and time for the groups of that pid alone.
+    /// Takes a pid out of each group.
+    ///
+    /// Cost: no memory, and time for the groups of that pid alone.
     pub fn drop_pid(&mut self, pid: &Pid)
         ensures counts { counts_in self.new.groups ≡ without_pid (counts_in self.old.groups) pid.now }
         ensures used { is_used self.new.groups ≡ is_used self.old.groups }
@@ -170,7 +202,9 @@ impl Memberships {
         listings::drop_pid(&mut self.listings, &mut self.groups, pid);
     }
 
-    /// Takes the pids of a node out of each group. It takes no memory, and time for what it removes.
+    /// Takes the pids of a node out of each group.
+    ///
+    /// Cost: no memory, and time for what it removes.
     pub fn drop_node(&mut self, node: &Atom)
         ensures counts { counts_in self.new.groups ≡ without_nodes (counts_in self.old.groups) node.now }
         ensures used { is_used self.new.groups ≡ is_used self.old.groups }

@@ -8,7 +8,7 @@ use Rattle.pg_group.specs.declared.table.GroupTable.{Ghosts}
 use Rattle.pg_machine.specs.Machine.{start_of}
 use Rattle.pg_machine.specs.Places.{is_pair}
 use Rattle.pg_node.specs.declared.node.Node.{Node}
-use Rattle.pg_node.specs.Issued.{ports_of}
+use Rattle.pg_node_state.specs.Issued.{ports_of}
 use Rattle.pg_node.specs.Links.{Link}
 use Rattle.pg_node.specs.Nodes.{held_by, links_of}
 use Rattle.pg_run.specs.Acts.{AllLead}

@@ -13,7 +13,7 @@ use Rattle.pg_joining.specs.Logs.{AreLogs, NodeLeads, event_of as machine_event,
 use Rattle.pg_joining.specs.Merge.{Merges, clocks_of, merged, seen_log}
 use Rattle.pg_node.specs.declared.node.Node.{Node}
 use Rattle.pg_node.specs.Nodes.{held_by, links_of}
-use Rattle.pg_node.specs.States.{answers_of, state_of}
+use Rattle.pg_node_state.specs.States.{answers_of, state_of}
 use Rattle.pg_run.specs.declared.log.NodeEvent.{NodeEvent}
 use Rattle.pg_run.specs.Acts.{Act, Given, Took, Saw, Did, SawNone, entry_of, event_of}
 use Rattle.pg_run.specs.Follows.{log_of, node_of, standing_of}

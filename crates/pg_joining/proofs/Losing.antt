@@ -9,13 +9,13 @@ use Rattle.pg_machine.specs.Machine.{Input, Machine, Taken, Own, is_there, node_
 use Rattle.pg_machine.specs.Runs.{reported_by}
 use Rattle.pg_machine.specs.Clocked.{Timed, Stamped, TimedWorld}
 use Rattle.pg_machine.specs.Timely.{KeepsTime}
-use Rattle.pg_machine.specs.Losing.{LosingWorld, Step, Lose, LosingLeads, nobody_gone, each_place, can_keep, stopped, losing_happens}
+use Rattle.pg_machine.specs.Losing.{LosingWorld, Step, Lose, nobody_gone, each_place, can_keep, stopped, losing_happens}
 use Rattle.pg_machine.proofs.Places.{set_at_here, set_at_other}
 use Rattle.pg_machine.proofs.Sequences.{told_by_append}
 use Rattle.pg_machine.proofs.Steps.{pair_apart}
 use Rattle.pg_joining.specs.Logs.{Act, event_of, NodeLeads, sent_to, packet_from, taken_from, reports_of}
 use Rattle.pg_joining.specs.Merge.{ComesFirst, IsNext, rest_of, MergesRest, Merges, clocks_of, entry_at, merged}
-use Rattle.pg_joining.specs.Losses.{Logged, Turned, Stopped, still_kept, events_told, turn_entry, losing_log, arriving, AreLosingLogs, LosingJoined}
+use Rattle.pg_joining.specs.Losses.{Logged, Turned, Stopped, still_kept, events_told, turn_entry, losing_log, arriving, AreLosingLogs, IsMarked, LosingJoined, MarkedLeads, is_first_last, is_sight}
 use Rattle.pg_joining.proofs.Acts.{pair_places, drop_next, From, later_than_first, stamped_later}
 use Rattle.pg_joining.proofs.Moved.{Moved, own_moved, take_moved}
 
@@ -53,7 +53,7 @@ module _ {S P C O : Type 0} (limit : ℕ) (m : Machine (Timed S) (Stamped P) C O
       let up : s.clock < a.turn.state.clock = keeps.raises i s a.input a.turn run.1 in
       end_later i clock a.turn.state t acts run.2 (omega arith)
 
-  module _ (last : Timed S → Stamped P) (notice_is : (s : Timed S) → (last s).stamp ≡ s.clock) (lost : ℕ → Bool)
+  module _ (last : Timed S → Stamped P) (is_last : Stamped P → Bool) (notice_is : (s : Timed S) → (last s).stamp ≡ s.clock) (lost : ℕ → Bool)
       (ends : ℕ → Timed S) (left : ℕ → ℕ → List (Stamped P)) where
     -- whether the loss of a node is still to come, or was
     record Still (w : LosingWorld (Timed S) (Stamped P) O) (i : ℕ) (pending : Bool) : Type 0 where
@@ -394,7 +394,7 @@ module _ {S P C O : Type 0} (limit : ℕ) (m : Machine (Timed S) (Stamped P) C O
     -- ---- the rest of the merge
     record Reached (w : LosingWorld (Timed S) (Stamped P) O) (acts : ℕ → List (Act (Timed S) (Stamped P) C O)) (kept : ℕ → ℕ → ℕ) (entries : List (Logged C)) : Type 0 where
       world : LosingWorld (Timed S) (Stamped P) O
-      leads : LosingLeads m last w (events_told kept entries) world
+      leads : MarkedLeads m last is_last w (events_told kept entries) world
       gone : (i : ℕ) → i < m.size → world.gone i ≡ lost i
       nodes : (i : ℕ) → i < m.size → world.world.node i ≡ ends i
       ways : (p q : ℕ) → p < m.size → q < m.size → p ≢ q → world.world.wire p q ≡ left p q
@@ -421,7 +421,7 @@ module _ {S P C O : Type 0} (limit : ℕ) (m : Machine (Timed S) (Stamped P) C O
     module _ (w : LosingWorld (Timed S) (Stamped P) O) (v : TimedWorld S P O) (i : ℕ) (a : Act (Timed S) (Stamped P) C O) (more : List (Act (Timed S) (Stamped P) C O))
         (acts next : ℕ → List (Act (Timed S) (Stamped P) C O)) (here : acts i ≡ a ∷ more) (then_ : next i ≡ more) (others : (j : ℕ) → j ≢ i → next j ≡ acts j)
         (moved : Moved m w.world v i a.input a.turn) (does : losing_happens m last w (Step (event_of i a.input)) ≡ Some (record { world = v; gone = w.gone }))
-        (kept : ℕ → ℕ → ℕ) (entries : List (Logged C)) (after : Reached (record { world = v; gone = w.gone }) next (still_kept (event_of i a.input) kept) entries) where
+        (there : is_there m.size (event_of i a.input) ≡ true) (kept : ℕ → ℕ → ℕ) (entries : List (Logged C)) (after : Reached (record { world = v; gone = w.gone }) next (still_kept (event_of i a.input) kept) entries) where
       reports : (j : ℕ) → reported_by j v.reported ≡ reported_by j w.world.reported ++ cond (nat_eq i j) (a.turn.reported ∷ []) []
       reports j = ap (reported_by j) moved.reported ∙ told_by_append j w.world.reported ((i, a.turn.reported) ∷ [])
 
@@ -433,10 +433,17 @@ module _ {S P C O : Type 0} (limit : ℕ) (m : Machine (Timed S) (Stamped P) C O
       new_reports j (inr apart) =
           ap (λ b. cond b (a.turn.reported ∷ []) [] ++ reports_of (next j)) (ne_eqb i j (λ e. apart (sym e))) ∙ ap reports_of (others j apart)
 
-      reached_turn : Reached w acts kept (Turned (event_of i a.input) ∷ entries)
+      -- it takes a last notice where that was given
+      marked : (input : Input (Stamped P) C) → is_there m.size (event_of i input) ≡ true → ((p : ℕ) → p ≢ i → w.world.wire p i ≡ packet_from p input ++ v.wire p i)
+          → IsMarked is_last w.world (Step (event_of i input)) (is_sight is_last input)
+      marked (Own c) pair way = refl
+      marked (Taken p x) pair way =
+          sym (ap (is_first_last is_last) (way p (λ same. pair_apart m.size i p pair (sym same)) ∙ ap (λ b. cond b (x ∷ []) [] ++ v.wire p i) (eq-eqb p p refl)))
+
+      reached_turn : Reached w acts kept (Turned (event_of i a.input) (is_sight is_last a.input) ∷ entries)
       reached_turn = record {
         world = after.world;
-        leads = (record { world = v; gone = w.gone }, does, after.leads);
+        leads = (record { world = v; gone = w.gone }, does, marked a.input there moved.taken, after.leads);
         gone = after.gone;
         nodes = after.nodes;
         ways = after.ways;
@@ -450,7 +457,7 @@ module _ {S P C O : Type 0} (limit : ℕ) (m : Machine (Timed S) (Stamped P) C O
         → losing_happens m last w (Lose i (kept i)) ≡ Some u → u.world.reported ≡ w.world.reported → Reached u acts kept entries → Reached w acts kept (Stopped i ∷ entries)
     reached_loss w u i kept acts entries does same after = record {
       world = after.world;
-      leads = (u, does, after.leads);
+      leads = (u, does, refl, after.leads);
       gone = after.gone;
       nodes = after.nodes;
       ways = after.ways;
@@ -466,10 +473,10 @@ module _ {S P C O : Type 0} (limit : ℕ) (m : Machine (Timed S) (Stamped P) C O
 
       -- so far the logs were read as far as their nodes are
       record Read (read : ℕ → ℕ) (acts : ℕ → List (Act (Timed S) (Stamped P) C O)) (pending : ℕ → Bool) : Type 0 where
-        rest : (i : ℕ) → i < m.size → drop (read i) (logs i) ≡ losing_log i (pending i) (ends i) (acts i)
+        rest : (i : ℕ) → i < m.size → drop (read i) (logs i) ≡ losing_log is_last i (pending i) (ends i) (acts i)
 
       seen : (read : ℕ → ℕ) (acts : ℕ → List (Act (Timed S) (Stamped P) C O)) (pending : ℕ → Bool) → Read read acts pending → (i : ℕ) → i < m.size
-          → rest_of clocks read i ≡ clocks_of (losing_log i (pending i) (ends i) (acts i))
+          → rest_of clocks read i ≡ clocks_of (losing_log is_last i (pending i) (ends i) (acts i))
       seen read acts pending far i low = clocks_cut (logs i) (read i) ∙ ap (λ (log : List (ℕ × Logged C)). clocks_of log) (far.rest i low)
 
       -- the merge goes on with this entry
@@ -494,16 +501,16 @@ module _ {S P C O : Type 0} (limit : ℕ) (m : Machine (Timed S) (Stamped P) C O
             go [] is false is_b = (tt, λ t. let no : false ≡ true = sym is_b ∙ t in absurd (cc))
             go [] is true is_b =
                 let o : ComesFirst next.clock i (ends p).clock p = next.first p (ends p).clock [] low
-                (seen read acts pending far p low ∙ (ap (λ b. clocks_of (losing_log p b (ends p) (acts p))) is_b ∙ ap (λ r. clocks_of (losing_log p true (ends p) r)) is)) in
+                (seen read acts pending far p low ∙ (ap (λ b. clocks_of (losing_log is_last p b (ends p) (acts p))) is_b ∙ ap (λ r. clocks_of (losing_log is_last p true (ends p) r)) is)) in
                 (tt, λ t. o.clocks)
             go (a ∷ more) is b is_b =
-                let o : ComesFirst next.clock i a.turn.state.clock p = next.first p a.turn.state.clock (clocks_of (losing_log p (pending p) (ends p) more)) low
-                (seen read acts pending far p low ∙ ap (λ r. clocks_of (losing_log p (pending p) (ends p) r)) is) in
+                let o : ComesFirst next.clock i a.turn.state.clock p = next.first p a.turn.state.clock (clocks_of (losing_log is_last p (pending p) (ends p) more)) low
+                (seen read acts pending far p low ∙ ap (λ r. clocks_of (losing_log is_last p (pending p) (ends p) r)) is) in
                 let run : NodeLeads m p (w.world.node p) (a ∷ more) (ends p) = subst (λ r. NodeLeads m p (w.world.node p) r (ends p)) is (old.runs p low) in
                 let no_earlier : next.clock ≤ a.turn.state.clock = o.clocks in
                 (later_than_first limit m keeps p next.clock (w.world.node p) (ends p) a more no_earlier run, λ t. end_later p next.clock a.turn.state (ends p) more run.2 no_earlier)
 
-      nothing_left : (i : ℕ) (b : Bool) (acts : List (Act (Timed S) (Stamped P) C O)) → clocks_of (losing_log i b (ends i) acts) ≡ [] → (acts ≡ []) × (b ≡ false)
+      nothing_left : (i : ℕ) (b : Bool) (acts : List (Act (Timed S) (Stamped P) C O)) → clocks_of (losing_log is_last i b (ends i) acts) ≡ [] → (acts ≡ []) × (b ≡ false)
       nothing_left i false [] e = (refl, refl)
       nothing_left i true [] e = absurd (cc)
       nothing_left i b (a ∷ acts) e = absurd (cc)
@@ -522,11 +529,11 @@ module _ {S P C O : Type 0} (limit : ℕ) (m : Machine (Timed S) (Stamped P) C O
           go : (r : List (Act (Timed S) (Stamped P) C O)) → acts x.0 ≡ r → (b : Bool) → pending x.0 ≡ b → Reached w acts kept (merged logs (x ∷ order))
           go [] is false is_b =
               let no : next.clock ∷ next.later ≡ [] = sym next.next ∙ (seen read acts pending far x.0 next.there
-              ∙ (ap (λ b. clocks_of (losing_log x.0 b (ends x.0) (acts x.0))) is_b ∙ ap (λ r. clocks_of (losing_log x.0 false (ends x.0) r)) is)) in
+              ∙ (ap (λ b. clocks_of (losing_log is_last x.0 b (ends x.0) (acts x.0))) is_b ∙ ap (λ r. clocks_of (losing_log is_last x.0 false (ends x.0) r)) is)) in
               absurd (cc)
           go [] is true is_b =
               let left_here : drop (read x.0) (logs x.0) ≡ ((ends x.0).clock, Stopped x.0) ∷ [] = far.rest x.0 next.there
-              ∙ (ap (λ b. losing_log x.0 b (ends x.0) (acts x.0)) is_b ∙ ap (losing_log x.0 true (ends x.0)) is) in
+              ∙ (ap (λ b. losing_log is_last x.0 b (ends x.0) (acts x.0)) is_b ∙ ap (losing_log is_last x.0 true (ends x.0)) is) in
               let far_on : Read (set_at read x.0 (x.1 + 1)) acts (set_at pending x.0 false) = record {
                 rest = λ j low. loss_read j low (cases_eq j x.0) left_here is;
               } in
@@ -537,17 +544,17 @@ module _ {S P C O : Type 0} (limit : ℕ) (m : Machine (Timed S) (Stamped P) C O
               (reached_loss w (lost_world w x.0 acts pending kept old next.there is is_b) x.0 kept acts (merged logs order) (loss_happens w x.0 acts pending kept old next.there is is_b) refl after)
             where
               loss_read : (j : ℕ) → j < m.size → (j ≡ x.0) ⊎ (j ≡ x.0 → ⊥) → drop (read x.0) (logs x.0) ≡ ((ends x.0).clock, Stopped x.0) ∷ [] → acts x.0 ≡ []
-                  → drop (set_at read x.0 (x.1 + 1) j) (logs j) ≡ losing_log j (set_at pending x.0 false j) (ends j) (acts j)
+                  → drop (set_at read x.0 (x.1 + 1) j) (logs j) ≡ losing_log is_last j (set_at pending x.0 false j) (ends j) (acts j)
               loss_read j low (inl same) left_here is =
-                  subst (λ k. drop (set_at read x.0 (x.1 + 1) k) (logs k) ≡ losing_log k (set_at pending x.0 false k) (ends k) (acts k)) (sym same)
+                  subst (λ k. drop (set_at read x.0 (x.1 + 1) k) (logs k) ≡ losing_log is_last k (set_at pending x.0 false k) (ends k) (acts k)) (sym same)
                   (read_on read x.0 x.1 merges.0 ((ends x.0).clock, Stopped x.0) [] left_here
-                  ∙ (sym (ap (losing_log x.0 false (ends x.0)) is) ∙ ap (λ b. losing_log x.0 b (ends x.0) (acts x.0)) (sym (set_at_here pending x.0 false x.0 refl))))
+                  ∙ (sym (ap (losing_log is_last x.0 false (ends x.0)) is) ∙ ap (λ b. losing_log is_last x.0 b (ends x.0) (acts x.0)) (sym (set_at_here pending x.0 false x.0 refl))))
               loss_read j low (inr apart) left_here is =
-                  not_read read x.0 x.1 j apart ∙ (far.rest j low ∙ ap (λ b. losing_log j b (ends j) (acts j)) (sym (set_at_other pending x.0 false j apart)))
+                  not_read read x.0 x.1 j apart ∙ (far.rest j low ∙ ap (λ b. losing_log is_last j b (ends j) (acts j)) (sym (set_at_other pending x.0 false j apart)))
           go (a ∷ more) is b is_b =
-              let left_here : drop (read x.0) (logs x.0) ≡ turn_entry x.0 a ∷ losing_log x.0 (pending x.0) (ends x.0) more = far.rest x.0 next.there ∙ ap (losing_log x.0 (pending x.0) (ends x.0)) is in
-              let clocks_here : next.clock ∷ next.later ≡ a.turn.state.clock ∷ clocks_of (losing_log x.0 (pending x.0) (ends x.0) more) =
-              sym next.next ∙ (seen read acts pending far x.0 next.there ∙ ap (λ r. clocks_of (losing_log x.0 (pending x.0) (ends x.0) r)) is) in
+              let left_here : drop (read x.0) (logs x.0) ≡ turn_entry is_last x.0 a ∷ losing_log is_last x.0 (pending x.0) (ends x.0) more = far.rest x.0 next.there ∙ ap (losing_log is_last x.0 (pending x.0) (ends x.0)) is in
+              let clocks_here : next.clock ∷ next.later ≡ a.turn.state.clock ∷ clocks_of (losing_log is_last x.0 (pending x.0) (ends x.0) more) =
+              sym next.next ∙ (seen read acts pending far x.0 next.there ∙ ap (λ r. clocks_of (losing_log is_last x.0 (pending x.0) (ends x.0) r)) is) in
               let clock : next.clock ≡ a.turn.state.clock = cc in
               let h : Happens w x.0 a pending kept = happens_next w x.0 acts pending kept old next.there a more is
               (λ p low. subst (λ c. From limit m keeps c (acts p)) clock (earliest read w acts pending kept old far x.0 next p low).0)
@@ -560,20 +567,21 @@ module _ {S P C O : Type 0} (limit : ℕ) (m : Machine (Timed S) (Stamped P) C O
               again (set_at read x.0 (x.1 + 1)) (record { world = h.world; gone = w.gone }) acts_on pending
               (kept_on w h.world x.0 a more acts acts_on pending kept is then_ others old h.moved next.there h.enough)
               (turn_ahead w h.world x.0 a more acts acts_on pending kept is then_ others old h.moved next.there h.enough) far_on merges.2 in
-              subst (λ es. Reached w acts kept (es ++ merged logs order)) (sym (entry x.0 (read x.0) x.1 merges.0 (turn_entry x.0 a) (losing_log x.0 (pending x.0) (ends x.0) more) left_here))
+              subst (λ es. Reached w acts kept (es ++ merged logs order)) (sym (entry x.0 (read x.0) x.1 merges.0 (turn_entry is_last x.0 a) (losing_log is_last x.0 (pending x.0) (ends x.0) more) left_here))
               (reached_turn w h.world x.0 a more acts acts_on is then_ others h.moved
               (turn_happens w x.0 acts pending kept old next.there a more is
               (λ p low. subst (λ c. From limit m keeps c (acts p)) clock (earliest read w acts pending kept old far x.0 next p low).0)
-              (λ p low still. subst (λ c. c ≤ (ends p).clock) clock ((earliest read w acts pending kept old far x.0 next p low).1 still)) h.world h.moved) kept (merged logs order) after)
+              (λ p low still. subst (λ c. c ≤ (ends p).clock) clock ((earliest read w acts pending kept old far x.0 next p low).1 still)) h.world h.moved)
+              (subst (λ r. NodeLeads m x.0 (w.world.node x.0) r (ends x.0)) is (old.runs x.0 next.there)).0 kept (merged logs order) after)
             where
-              turn_read : (j : ℕ) → j < m.size → (j ≡ x.0) ⊎ (j ≡ x.0 → ⊥) → drop (read x.0) (logs x.0) ≡ turn_entry x.0 a ∷ losing_log x.0 (pending x.0) (ends x.0) more
-                  → drop (set_at read x.0 (x.1 + 1) j) (logs j) ≡ losing_log j (pending j) (ends j) (set_at acts x.0 more j)
+              turn_read : (j : ℕ) → j < m.size → (j ≡ x.0) ⊎ (j ≡ x.0 → ⊥) → drop (read x.0) (logs x.0) ≡ turn_entry is_last x.0 a ∷ losing_log is_last x.0 (pending x.0) (ends x.0) more
+                  → drop (set_at read x.0 (x.1 + 1) j) (logs j) ≡ losing_log is_last j (pending j) (ends j) (set_at acts x.0 more j)
               turn_read j low (inl same) left_here =
-                  subst (λ k. drop (set_at read x.0 (x.1 + 1) k) (logs k) ≡ losing_log k (pending k) (ends k) (set_at acts x.0 more k)) (sym same)
-                  (read_on read x.0 x.1 merges.0 (turn_entry x.0 a) (losing_log x.0 (pending x.0) (ends x.0) more) left_here
-                  ∙ ap (losing_log x.0 (pending x.0) (ends x.0)) (sym (set_at_here acts x.0 more x.0 refl)))
+                  subst (λ k. drop (set_at read x.0 (x.1 + 1) k) (logs k) ≡ losing_log is_last k (pending k) (ends k) (set_at acts x.0 more k)) (sym same)
+                  (read_on read x.0 x.1 merges.0 (turn_entry is_last x.0 a) (losing_log is_last x.0 (pending x.0) (ends x.0) more) left_here
+                  ∙ ap (losing_log is_last x.0 (pending x.0) (ends x.0)) (sym (set_at_here acts x.0 more x.0 refl)))
               turn_read j low (inr apart) left_here =
-                  not_read read x.0 x.1 j apart ∙ (far.rest j low ∙ ap (losing_log j (pending j) (ends j)) (sym (set_at_other acts x.0 more j apart)))
+                  not_read read x.0 x.1 j apart ∙ (far.rest j low ∙ ap (losing_log is_last j (pending j) (ends j)) (sym (set_at_other acts x.0 more j apart)))
 
       reached : (order : List (ℕ × ℕ)) → Rest order
       reached [] read w acts pending kept old far none =
@@ -582,18 +590,18 @@ module _ {S P C O : Type 0} (limit : ℕ) (m : Machine (Timed S) (Stamped P) C O
           (λ i low. (nothing_left i (pending i) (acts i) (sym (seen read acts pending far i low) ∙ none i low)).1)
       reached (x ∷ order) read w acts pending kept old far merges = one_entry x order (reached order) read w acts pending kept old far merges
 
-pub losing_joined : {S P C O : Type 0} (limit : ℕ) (m : Machine (Timed S) (Stamped P) C O) (last : Timed S → Stamped P) (lost : ℕ → Bool) (kept : ℕ → ℕ → ℕ)
+pub losing_joined : {S P C O : Type 0} (limit : ℕ) (m : Machine (Timed S) (Stamped P) C O) (last : Timed S → Stamped P) (is_last : Stamped P → Bool) (lost : ℕ → Bool) (kept : ℕ → ℕ → ℕ)
     (logs : ℕ → List (ℕ × Logged C)) (acts : ℕ → List (Act (Timed S) (Stamped P) C O)) (ends : ℕ → Timed S) (left : ℕ → ℕ → List (Stamped P)) (order : List (ℕ × ℕ))
-    → KeepsTime limit m → ((s : Timed S) → (last s).stamp ≡ s.clock) → AreLosingLogs m last lost kept logs acts ends left → Merges m.size (λ i. clocks_of (logs i)) order
-    → LosingJoined m last lost kept acts ends left (merged logs order)
-losing_joined {S} {P} {C} {O} limit m last lost kept logs acts ends left order keeps notice are merges =
-    let start : Ahead limit m keeps last notice lost ends left (nobody_gone (start_of m)) acts lost kept = record {
+    → KeepsTime limit m → ((s : Timed S) → (last s).stamp ≡ s.clock) → AreLosingLogs m last is_last lost kept logs acts ends left → Merges m.size (λ i. clocks_of (logs i)) order
+    → LosingJoined m last is_last lost kept acts ends left (merged logs order)
+losing_joined {S} {P} {C} {O} limit m last is_last lost kept logs acts ends left order keeps notice are merges =
+    let start : Ahead limit m keeps last is_last notice lost ends left (nobody_gone (start_of m)) acts lost kept = record {
       runs = are.runs;
       losses = λ i low. inl (record { gone = refl; is = refl });
       few = are.few;
       ways = are.ways;
     } in
-    let all = reached limit m keeps last notice lost ends left logs order (λ i. 0) (nobody_gone (start_of m)) acts lost kept start (record { rest = are.entries }) merges in
+    let all = reached limit m keeps last is_last notice lost ends left logs order (λ i. 0) (nobody_gone (start_of m)) acts lost kept start (record { rest = are.entries }) merges in
     record {
       world = all.world;
       leads = all.leads;

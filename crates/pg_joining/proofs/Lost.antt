@@ -7,7 +7,7 @@ use Rattle.pg_frame.specs.Laws.{PiecesContinue, WrittenIsRead}
 use Rattle.pg_group.specs.declared.table.GroupTable.{Ghosts}
 use Rattle.pg_history.specs.History.{all_reported, answers_by}
 use Rattle.pg_joining.specs.Logs.{NodeLeads, event_of as machine_event, reports_of, sent_to, taken_from}
-use Rattle.pg_joining.specs.Losses.{AreLosingLogs, Logged, LosingJoined, Stopped, Turned, arriving, last_from, losing_log, turn_entry, with_loss, with_losses}
+use Rattle.pg_joining.specs.Losses.{AreLosingLogs, Logged, LosingJoined, Marked, MarkedLeads, Stopped, Turned, arriving, is_sight, last_from, losing_log, turn_entry, with_loss, with_losses}
 use Rattle.pg_joining.specs.Merge.{IsNext, Merges, MergesRest, clocks_of, merged, rest_of, seen_log}
 use Rattle.pg_joining.proofs.Behind.{merges_with_losses}
 use Rattle.pg_joining.proofs.Losing.{losing_joined}
@@ -15,15 +15,16 @@ use Rattle.pg_joining.proofs.Seen.{same_clocks}
 use Rattle.pg_loss.specs.Reached.{LosingReaches}
 use Rattle.pg_loss.specs.Survived.{LossesSurvived}
 use Rattle.pg_machine.specs.Clocked.{Timed, Stamped}
-use Rattle.pg_machine.specs.Losing.{LosingEvent, Noticed}
+use Rattle.pg_machine.specs.Losing.{LosingLeads, LosingWorld, Noticed, nobody_gone}
+use Rattle.pg_machine.specs.Machine.{Machine, start_of}
 use Rattle.pg_machine.specs.Places.{is_pair, set_at}
 use Rattle.pg_machine.specs.Timely.{KeepsTime}
 use Rattle.pg_message.specs.declared.message.Message.{Message}
 use Rattle.pg_node.specs.declared.node.Node.{Node}
-use Rattle.pg_node.specs.Links.{frames_to}
+use Rattle.pg_node_state.specs.Frames.{frames_to}
 use Rattle.pg_node.specs.Nodes.{held_by, links_of}
 use Rattle.pg_ring.specs.Ends.{Receives, Sends}
-use Rattle.pg_node.specs.States.{answers_of, state_of}
+use Rattle.pg_node_state.specs.States.{answers_of, state_of}
 use Rattle.pg_run.specs.declared.log.NodeEvent.{NodeEvent}
 use Rattle.pg_run.specs.Acts.{Act, Given, Took, Saw, Did, Standing, AllLead, entry_of, event_of, frames_sent, losses_of}
 use Rattle.pg_run.specs.Follows.{HasMoved, WasClosed, log_of, node_of, peers_of, standing_of}
@@ -34,7 +35,7 @@ use Rattle.pg_step.specs.Nodes.{all_of}
 use Rattle.pg_step.specs.State.{Response, State}
 use Rattle.pg_step.specs.Step.{Action, CLOCK_LIMIT, Issue, Retry}
 use Rattle.pg_joining.specs.Apart.{HaveRun, Linked}
-use Rattle.pg_joining.specs.ApartWithLosses.{RanPastLosses, SeesLost, clock_of, losing_events, nodes_in, takes_in, takes_of}
+use Rattle.pg_joining.specs.ApartWithLosses.{MarkedReaches, RanPastLosses, SeesLost, bare, clock_of, is_last_notice, losing_events, nodes_in, takes_in, takes_of}
 use Rattle.pg_joining.proofs.Answered.{answers_on, answers_reported, given_at}
 use Rattle.pg_joining.proofs.Begun.{apart, leads, shown}
 use Rattle.pg_joining.proofs.Came.{packets_taken, taken_alike}
@@ -98,14 +99,14 @@ merges_alike size a b (x ∷ order) read same merges =
 
 -- ---- acts
 
-one_entry : (i : ℕ) (input : Given) → turned_at i (event_of input) ≡ Turned (machine_event i (losing_input i input))
+one_entry : (i : ℕ) (input : Given) → turned_at i (event_of input) ≡ Turned (machine_event i (losing_input i input)) (is_sight is_last_notice (losing_input i input))
 one_entry i (Took p x) = refl
 one_entry i (Saw p last) = refl
 one_entry i (Did (Issue port command)) = refl
 one_entry i (Did (Retry op)) = refl
 
 -- the entries of acts are those of the machine's turns
-entries_turned : (config : Config) (i : ℕ) (acts : List Act) → seen_log (turned_at i) (map entry_of acts) ≡ map (turn_entry i) (map (losing_act config i) acts)
+entries_turned : (config : Config) (i : ℕ) (acts : List Act) → seen_log (turned_at i) (map entry_of acts) ≡ map (turn_entry is_last_notice i) (map (losing_act config i) acts)
 entries_turned config i [] = refl
 entries_turned config i (act ∷ acts) = λ j. (act.turn.state.clock, one_entry i act.input j) ∷ entries_turned config i acts j
 
@@ -131,6 +132,12 @@ clocks_rise config i keeps s t [] run = tt
 clocks_rise config i keeps s t (act ∷ acts) run =
     let up = keeps.raises i s (losing_act config i act).input (losing_act config i act).turn run.1 in
     (omega (arith, up), clocks_rise config i keeps act.turn.state t acts run.2)
+
+-- events that happen as they are marked happen
+leads_bare : {S P C O : Type 0} (m : Machine S P C O) (last : S → P) (is_last : P → Bool) (w : LosingWorld S P O) (events : List (Marked C)) (v : LosingWorld S P O)
+    → MarkedLeads m last is_last w events v → LosingLeads m last w (map (λ x. x.0) events) v
+leads_bare m last is_last w [] v leads = leads
+leads_bare m last is_last w (x ∷ events) v (u, happened, marked, leads) = (u, happened, leads_bare m last is_last u events v leads)
 
 -- ---- all nodes
 
@@ -166,7 +173,7 @@ module _ {T : Type 0} {g : Ghosts T} (config : Config) (nodes : List (Node T g))
       subst (λ s. NodeLeads (losing_frame_machine config) i s (acts i) (ends i)) (sym (shown config nodes begun ended ran i within).state)
       (losing_leads config i within (standing_of (node_of (begun i))) (ran.acts i) (standing_of (node_of (ended i))) (leads config nodes begun ended ran i within))
 
-  entries : (i : ℕ) → i < length config → full i ≡ losing_log i (lost i) (ends i) (acts i)
+  entries : (i : ℕ) → i < length config → full i ≡ losing_log is_last_notice i (lost i) (ends i) (acts i)
   entries i within =
       ap (λ log. seen_log (turned_at i) log ++ cond (lost i) ((last i, Stopped i) ∷ []) []) (log_is i within)
       ∙ ap (λ es. es ++ cond (lost i) ((last i, Stopped i) ∷ []) []) (entries_turned config i (ran.acts i))
@@ -250,7 +257,7 @@ module _ {T : Type 0} {g : Ghosts T} (config : Config) (nodes : List (Node T g))
         let k = kept_is in
         omega (arith, all, k)
 
-  are_logs : AreLosingLogs (losing_frame_machine config) last_notice lost kept full acts ends left
+  are_logs : AreLosingLogs (losing_frame_machine config) last_notice is_last_notice lost kept full acts ends left
   are_logs = record {
     runs = runs;
     entries = entries;
@@ -285,16 +292,19 @@ module _ {T : Type 0} {g : Ghosts T} (config : Config) (nodes : List (Node T g))
   merges_full = merges_alike (length config) (λ i. with_loss (lost i) (clocks_of (logs i))) (λ i. clocks_of (full i)) (with_losses (length config) lost (λ i. clocks_of (logs i)) order) (λ i. 0) clocks_full
       (merges_with_losses (length config) lost (λ i. clocks_of (logs i)) order merges rise)
 
-  joined : LosingJoined (losing_frame_machine config) last_notice lost kept acts ends left (merged full (with_losses (length config) lost (λ i. clocks_of (logs i)) order))
-  joined = losing_joined CLOCK_LIMIT (losing_frame_machine config) last_notice lost kept full acts ends left (with_losses (length config) lost (λ i. clocks_of (logs i)) order) keeps (λ s. refl) are_logs merges_full
+  joined : LosingJoined (losing_frame_machine config) last_notice is_last_notice lost kept acts ends left (merged full (with_losses (length config) lost (λ i. clocks_of (logs i)) order))
+  joined = losing_joined CLOCK_LIMIT (losing_frame_machine config) last_notice is_last_notice lost kept full acts ends left (with_losses (length config) lost (λ i. clocks_of (logs i)) order) keeps (λ s. refl) are_logs merges_full
 
   -- ---- the run
 
-  abbrev events : List (LosingEvent Action)
+  abbrev events : List (Marked Action)
   events = losing_events (length config) logs lost order
 
-  reached : LosingReaches config events joined.world
-  reached = subst (λ es. LosingReaches config es joined.world) (all_told (length config) lost last logs cease order merges) joined.leads
+  marked : MarkedReaches config events joined.world
+  marked = subst (λ es. MarkedReaches config es joined.world) (all_told (length config) lost last logs cease order merges) joined.leads
+
+  reached : LosingReaches config (bare events) joined.world
+  reached = leads_bare (losing_frame_machine config) last_notice is_last_notice (nobody_gone (start_of (losing_frame_machine config))) events joined.world marked
 
   answers_shown : (i : ℕ) → i < length config → (port : ℕ) → AreAnswers (name_at config i) (answers_by i joined.world.world.reported port) (answers_of (held_by (node_of (ended i))) port)
   answers_shown i within port =
@@ -311,10 +321,11 @@ module _ {T : Type 0} {g : Ghosts T} (config : Config) (nodes : List (Node T g))
     answers = answers_shown i within;
   }
 
-  pub ran_past_losses : ((u : LosingFrameWorld) → LosingReaches config events u → LossesSurvived config events u) → RanPastLosses config lost ended events
+  pub ran_past_losses : ((u : LosingFrameWorld) → LosingReaches config (bare events) u → LossesSurvived config (bare events) u) → RanPastLosses config lost ended events
   ran_past_losses survive = record {
     u = joined.world;
     reached = reached;
+    marked = marked;
     gone = joined.gone;
     nodes = node_shown;
     survived = survive joined.world reached;

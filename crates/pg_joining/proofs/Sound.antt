@@ -13,10 +13,10 @@ use Rattle.pg_machine.specs.Places.{is_pair}
 use Rattle.pg_machine.specs.Runs.{Leads}
 use Rattle.pg_message.specs.declared.message.Message.{Message}
 use Rattle.pg_node.specs.declared.node.Node.{Node}
-use Rattle.pg_node.specs.Issued.{ports_of}
+use Rattle.pg_node_state.specs.Issued.{ports_of}
 use Rattle.pg_node.specs.Links.{Link}
 use Rattle.pg_node.specs.Nodes.{held_by, links_of}
-use Rattle.pg_node.specs.States.{names_of}
+use Rattle.pg_node_state.specs.States.{names_of}
 use Rattle.pg_opens.specs.Places.{name_at as place_name}
 use Rattle.pg_run.specs.Acts.{SawNone, Standing, losses_of}
 use Rattle.pg_run.specs.Follows.{WasMarked, node_of, standing_of}

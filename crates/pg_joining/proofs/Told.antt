@@ -5,7 +5,6 @@ use Rattle.std.proofs.Math.Path.{fun_ext}
 use Rattle.std.proofs.lemmas.Bool.{cases_eq, eq-eqb, ne_eqb, eqb-true}
 use Rattle.std.proofs.lemmas.Grind.{flat_map-append}
 use Rattle.std.proofs.lemmas.List.{drop-map, length-map}
-use Rattle.pg_machine.specs.Losing.{Step}
 use Rattle.pg_machine.specs.Places.{set_at}
 use Rattle.pg_machine.proofs.Places.{set_at_here, set_at_other}
 use Rattle.pg_joining.specs.Losses.{Logged, Turned, Stopped, events_told, loss_alone, losses_alone, loss_behind, still_kept, with_losses}
@@ -15,12 +14,12 @@ use Rattle.pg_run.specs.declared.log.NodeEvent.{NodeEvent}
 use Rattle.pg_run.specs.declared.log.NodeEvent.TheVariants as entries
 use Rattle.pg_step.specs.Step.{Action}
 use Rattle.pg_joining.specs.Apart.{event_at}
-use Rattle.pg_joining.specs.ApartWithLosses.{Logs, is_take, takes_of, takes_in, loss_before, losses_first, events_behind, losing_events}
+use Rattle.pg_joining.specs.ApartWithLosses.{Logs, is_take, takes_of, takes_in, loss_before, losses_first, events_behind, losing_events, marked_at, sees_loss}
 use Rattle.pg_frame_world.specs.Views.{place_of_peer}
 
 -- what an entry of a log without losses is in a log with them
 abbrev pub turned_at : ℕ → NodeEvent → Logged Action
-turned_at i e = Turned (event_at i e)
+turned_at i e = Turned (event_at i e) (sees_loss e)
 
 -- the log of a node with its loss, at this clock
 abbrev pub full_log : (ℕ → Bool) → (ℕ → ℕ) → Logs → ℕ → List (ℕ × Logged Action)
@@ -204,10 +203,10 @@ module _ (size : ℕ) (lost : ℕ → Bool) (last : ℕ → ℕ) (logs : Logs) (
       step : events_told (kept_in order) (merged full (blocks order)) ≡ events_behind logs lost order → events_told (kept_in (x ∷ order)) (merged full (blocks (x ∷ order))) ≡ events_behind logs lost (x ∷ order)
       step later =
           ap (λ es. events_told (kept_in (x ∷ order)) (es ++ merged full (loss_behind lost clocks x ++ blocks order))) (full_entry x order read merges.0 next merges.2)
-          ∙ (ap (λ kept. Step (event_at x.0 e) ∷ events_told kept (merged full (loss_behind lost clocks x ++ blocks order))) (kept_on x order read merges.0 next merges.2)
-          ∙ (ap (λ es. Step (event_at x.0 e) ∷ es) (loss (lost x.0 && nat_eq (x.1 + 1) (length (clocks x.0))) refl)
-          ∙ (ap (λ n. Step (event_at x.0 e) ∷ (cond (lost x.0 && nat_eq (x.1 + 1) n) (loss_before logs x.0 order ∷ []) [] ++ events_behind logs lost order)) (length-map (logs x.0) (λ (y : ℕ × NodeEvent). y.0))
-          ∙ ap (λ es. (map (λ y. Step (event_at x.0 y)) es ++ cond (lost x.0 && nat_eq (x.1 + 1) (length (logs x.0))) (loss_before logs x.0 order ∷ []) []) ++ events_behind logs lost order)
+          ∙ (ap (λ kept. marked_at x.0 e ∷ events_told kept (merged full (loss_behind lost clocks x ++ blocks order))) (kept_on x order read merges.0 next merges.2)
+          ∙ (ap (λ es. marked_at x.0 e ∷ es) (loss (lost x.0 && nat_eq (x.1 + 1) (length (clocks x.0))) refl)
+          ∙ (ap (λ n. marked_at x.0 e ∷ (cond (lost x.0 && nat_eq (x.1 + 1) n) (loss_before logs x.0 order ∷ []) [] ++ events_behind logs lost order)) (length-map (logs x.0) (λ (y : ℕ × NodeEvent). y.0))
+          ∙ ap (λ es. (map (marked_at x.0) es ++ cond (lost x.0 && nat_eq (x.1 + 1) (length (logs x.0))) (loss_before logs x.0 order ∷ []) []) ++ events_behind logs lost order)
           (sym (one_entry x order read merges.0 next merges.2)))))
         where
           loss : (b : Bool) → (lost x.0 && nat_eq (x.1 + 1) (length (clocks x.0))) ≡ b

@@ -1,16 +1,25 @@
 -- The logs of nodes of which some were lost, and one run out of them.
-use Rattle.std.specs.Prelude.{◌≡◌, ◌≢◌, ℕ, zero, suc, ◌+◌, ◌-◌, ◌<◌, ◌≤◌, Bool, true, ◌&&◌, cond, nat_eq, map, take, length, List, [], ◌∷◌, ◌++◌}
+use Rattle.std.specs.Prelude.{◌≡◌, ◌≢◌, ℕ, zero, suc, ◌+◌, ◌-◌, ◌<◌, ◌≤◌, Bool, true, false, ◌&&◌, cond, nat_eq, map, take, length, List, [], ◌∷◌, ◌++◌, Some}
 use Rattle.std.specs.List.{flat_map}
-use Rattle.pg_machine.specs.Machine.{Machine, Event, Take, Do, start_of}
+use Rattle.pg_machine.specs.Machine.{Input, Machine, World, Event, Taken, Own, Take, Do, start_of}
 use Rattle.pg_machine.specs.Clocked.{Timed, Stamped}
 use Rattle.pg_machine.specs.Runs.{reported_by}
-use Rattle.pg_machine.specs.Losing.{LosingWorld, LosingEvent, Step, Lose, LosingLeads, nobody_gone}
+use Rattle.pg_machine.specs.Losing.{LosingWorld, LosingEvent, Step, Lose, losing_happens, nobody_gone}
 use Rattle.pg_joining.specs.Logs.{Act, NodeLeads, event_of, sent_to, taken_from, reports_of}
 
--- what an entry says: an event of its node, or that its node stopped
+-- what an entry says: an event of its node, and whether a last notice is taken by it; or that its node stopped
 pub data Logged (Command : Type 0) : Type 0 where
-  Turned : Event Command → Logged Command
+  Turned : Event Command → (sight : Bool) → Logged Command
   Stopped : (node : ℕ) → Logged Command
+
+-- an event of the machine with losses, and whether a last notice is taken by it
+abbrev pub Marked : Type 0 → Type 0
+Marked Command = LosingEvent Command × Bool
+
+-- a node was given a last notice
+abbrev pub is_sight : {P C : Type 0} → (P → Bool) → Input P C → Bool
+is_sight is_last (Taken p x) = is_last x
+is_sight is_last (Own c) = false
 
 -- how many packets of each way are still to be taken behind an event, where before it these were
 abbrev pub still_kept : {C : Type 0} → Event C → (ℕ → ℕ → ℕ) → ℕ → ℕ → ℕ
@@ -19,40 +28,57 @@ still_kept (Do i c) kept p q = kept p q
 
 -- The events that entries tell, one after another, where of each way so many packets are still to be taken: as many stay of what a
 -- lost node had sent.
-abbrev pub events_told : {C : Type 0} → (ℕ → ℕ → ℕ) → List (Logged C) → List (LosingEvent C)
+abbrev pub events_told : {C : Type 0} → (ℕ → ℕ → ℕ) → List (Logged C) → List (Marked C)
 events_told kept [] = []
-events_told kept (Turned e ∷ entries) = Step e ∷ events_told (still_kept e kept) entries
-events_told kept (Stopped i ∷ entries) = Lose i (kept i) ∷ events_told kept entries
+events_told kept (Turned e sight ∷ entries) = (Step e, sight) ∷ events_told (still_kept e kept) entries
+events_told kept (Stopped i ∷ entries) = (Lose i (kept i), false) ∷ events_told kept entries
 
--- the entry of a turn
-abbrev pub turn_entry : {S P C O : Type 0} → ℕ → Act (Timed S) (Stamped P) C O → ℕ × Logged C
-turn_entry i a = (a.turn.state.clock, Turned (event_of i a.input))
+-- the entry of a turn; `is_last`: a packet is a last notice
+abbrev pub turn_entry : {S P C O : Type 0} → (Stamped P → Bool) → ℕ → Act (Timed S) (Stamped P) C O → ℕ × Logged C
+turn_entry is_last i a = (a.turn.state.clock, Turned (event_of i a.input) (is_sight is_last a.input))
 
 -- The log of node i: an entry for each turn, and where the node is lost a last one, at the clock at which it stopped.
-abbrev pub losing_log : {S P C O : Type 0} → ℕ → Bool → Timed S → List (Act (Timed S) (Stamped P) C O) → List (ℕ × Logged C)
-losing_log i lost end acts = map (turn_entry i) acts ++ cond lost ((end.clock, Stopped i) ∷ []) []
+abbrev pub losing_log : {S P C O : Type 0} → (Stamped P → Bool) → ℕ → Bool → Timed S → List (Act (Timed S) (Stamped P) C O) → List (ℕ × Logged C)
+losing_log is_last i lost end acts = map (turn_entry is_last i) acts ++ cond lost ((end.clock, Stopped i) ∷ []) []
 
 -- What comes of the packets that were sent on a way from a node: all, or of a lost node the first ones, and its last notice.
 abbrev pub arriving : {P : Type 0} → Bool → ℕ → P → List P → List P
 arriving lost kept notice sent = cond lost (take kept sent ++ notice ∷ []) sent
 
 -- As `AreLogs`; `lost i`: node i was lost where its log ends, and of what it had sent to q the first `kept i q` packets stayed.
-pub record AreLosingLogs {S P C O : Type 0} (m : Machine (Timed S) (Stamped P) C O) (last : Timed S → Stamped P) (lost : ℕ → Bool)
+pub record AreLosingLogs {S P C O : Type 0} (m : Machine (Timed S) (Stamped P) C O) (last : Timed S → Stamped P) (is_last : Stamped P → Bool) (lost : ℕ → Bool)
     (kept : ℕ → ℕ → ℕ) (logs : ℕ → List (ℕ × Logged C)) (acts : ℕ → List (Act (Timed S) (Stamped P) C O)) (ends : ℕ → Timed S)
     (left : ℕ → ℕ → List (Stamped P)) : Type 0 where
   pub runs : (i : ℕ) → i < m.size → NodeLeads m i (m.first i) (acts i) (ends i)
-  pub entries : (i : ℕ) → i < m.size → logs i ≡ losing_log i (lost i) (ends i) (acts i)
+  pub entries : (i : ℕ) → i < m.size → logs i ≡ losing_log is_last i (lost i) (ends i) (acts i)
   pub few : (p q : ℕ) → p < m.size → q < m.size → p ≢ q → lost p ≡ true
       → kept p q ≤ length (m.opening p q ++ sent_to q (acts p))
   pub ways : (p q : ℕ) → p < m.size → q < m.size → p ≢ q
       → arriving (lost p) (kept p q) (last (ends p)) (m.opening p q ++ sent_to q (acts p)) ≡ taken_from p (acts q) ++ left p q
 
+-- the first of these packets is a last notice
+abbrev pub is_first_last : {P : Type 0} → (P → Bool) → List P → Bool
+is_first_last is_last [] = false
+is_first_last is_last (x ∷ xs) = is_last x
+
+-- In the world w an event takes a last notice just where it is marked so.
+abbrev pub IsMarked : {S P C O : Type 0} → (P → Bool) → World S P O → LosingEvent C → Bool → Type 0
+IsMarked is_last w (Step (Take i p)) sight = sight ≡ is_first_last is_last (w.wire p i)
+IsMarked is_last w (Step (Do i c)) sight = sight ≡ false
+IsMarked is_last w (Lose i keep) sight = sight ≡ false
+
+-- From the world w each of these events happens as it is marked, one after another, and leaves the world v.
+abbrev pub MarkedLeads : {S P C O : Type 0} → Machine S P C O → (S → P) → (P → Bool) → LosingWorld S P O → List (Marked C) → LosingWorld S P O → Type 0
+MarkedLeads m last is_last w [] v = w ≡ v
+MarkedLeads {S} {P} {C} {O} m last is_last w (x ∷ xs) v =
+    (u : LosingWorld S P O) × (losing_happens m last w x.0 ≡ Some u) × IsMarked is_last w.world x.0 x.1 × MarkedLeads m last is_last u xs v
+
 -- As `Joined`: the events are those that the entries tell, each loss with as many packets as are taken later.
-pub record LosingJoined {S P C O : Type 0} (m : Machine (Timed S) (Stamped P) C O) (last : Timed S → Stamped P) (lost : ℕ → Bool)
+pub record LosingJoined {S P C O : Type 0} (m : Machine (Timed S) (Stamped P) C O) (last : Timed S → Stamped P) (is_last : Stamped P → Bool) (lost : ℕ → Bool)
     (kept : ℕ → ℕ → ℕ) (acts : ℕ → List (Act (Timed S) (Stamped P) C O)) (ends : ℕ → Timed S) (left : ℕ → ℕ → List (Stamped P))
     (entries : List (Logged C)) : Type 0 where
   pub world : LosingWorld (Timed S) (Stamped P) O
-  pub leads : LosingLeads m last (nobody_gone (start_of m)) (events_told kept entries) world
+  pub leads : MarkedLeads m last is_last (nobody_gone (start_of m)) (events_told kept entries) world
   pub gone : (i : ℕ) → i < m.size → world.gone i ≡ lost i
   pub nodes : (i : ℕ) → i < m.size → world.world.node i ≡ ends i
   pub ways : (p q : ℕ) → p < m.size → q < m.size → p ≢ q → world.world.wire p q ≡ left p q

@@ -18,19 +18,20 @@ pub fn logs_join<S, P, C, O>()
         → Joined m logs acts ends left (merged logs order) }
 {}
 
-/// The same where nodes are lost. A loss stands in the log of the lost node as its last entry, at the clock at which it stopped. Its
-/// last notice carries that clock, so that whoever takes it comes later in the merge.
+/// The same where nodes are lost. A loss is in the log of the lost node as its last entry, at the clock at which it stopped. Its
+/// last notice carries that clock, so that whoever takes it comes later in the merge. In the run a last notice is taken just where
+/// the log of a node has it.
 pub fn losing_logs_join<S, P, C, O>()
-    ensures { (limit : ℕ) (m : Machine (Timed S) (Stamped P) C O) (last : Timed S → Stamped P) (lost : ℕ → Bool)
-        (kept : ℕ → ℕ → ℕ) (logs : ℕ → List (ℕ × Logged C))
+    ensures { (limit : ℕ) (m : Machine (Timed S) (Stamped P) C O) (last : Timed S → Stamped P) (is_last : Stamped P → Bool)
+        (lost : ℕ → Bool) (kept : ℕ → ℕ → ℕ) (logs : ℕ → List (ℕ × Logged C))
         (acts : ℕ → List (Act (Timed S) (Stamped P) C O)) (ends : ℕ → Timed S)
         (left : ℕ → ℕ → List (Stamped P)) (order : List (ℕ × ℕ)) → KeepsTime limit m
-        → ((s : Timed S) → (last s).stamp ≡ s.clock) → AreLosingLogs m last lost kept logs acts ends left
+        → ((s : Timed S) → (last s).stamp ≡ s.clock) → AreLosingLogs m last is_last lost kept logs acts ends left
         → Merges m.size (λ i. clocks_of (logs i)) order
-        → LosingJoined m last lost kept acts ends left (merged logs order) }
+        → LosingJoined m last is_last lost kept acts ends left (merged logs order) }
 {}
 
-/// Where losses stand in a merge: each right behind the last entry of its node, at whose clock it is, and those of nodes that did
+/// Where losses are in a merge: each right after the last entry of its node, at whose clock it is, and those of nodes that did
 /// nothing before all entries. So the order of logs without losses gives that of the logs with them.
 pub fn losses_stand_last()
     ensures { (size : ℕ) (lost : ℕ → Bool) (clocks : ℕ → List ℕ) (order : List (ℕ × ℕ)) → Merges size clocks order
@@ -45,7 +46,7 @@ pub fn merge_is_one()
 {}
 
 /// Whatever the entries of logs are seen as beside their clocks: the logs have the same clocks, so they are merged in the same order,
-/// and what stands in that order is seen so.
+/// and what is in that order is seen so.
 pub fn seen_logs_merge_alike<E, F>()
     ensures clocks { (view : E → F) (log : List (ℕ × E)) → clocks_of (seen_log view log) ≡ clocks_of log }
     ensures merged { (view : E → F) (logs : ℕ → List (ℕ × E)) (order : List (ℕ × ℕ))

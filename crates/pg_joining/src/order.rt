@@ -46,7 +46,7 @@ fn next_log<E>(logs: &[Vec<(u32, E)>], read: &[usize]) -> Option<usize>
 }
 
 /// The order in which the entries of these logs are merged: by their clocks, and at one clock by the place of the log. Each is
-/// told as its log and its place there. The logs stay as they are. Takes a look at each log for each entry.
+/// given as its log and its place there. The logs stay as they are. Takes a look at each log for each entry.
 pub fn order_of_logs<E>(
     alloc: Global,
     logs: &[Vec<(u32, E)>],

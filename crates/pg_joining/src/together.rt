@@ -30,9 +30,9 @@ pub fn nodes_ran_together()
 }
 
 /// The same where nodes were lost, each where it ended: their logs, merged by clock and then by node, with the loss of each lost node
-/// right behind its last entry, are events of the machine with losses that happen one after another from the start. Of what a lost node
-/// had sent as many packets stay as the others take by the entries that follow. The events lead to a world that shows each node as it
-/// ended, and of which everything holds that survives losses.
+/// right after its last entry, are events of the machine with losses that happen one after another from the start. Of what a lost node
+/// had sent as many packets stay as the others take by the entries that follow. An event takes a last notice just where an act saw a
+/// loss. The events lead to a world that shows each node as it ended, and of which everything holds that survives losses.
 pub fn nodes_ran_together_past_losses()
     ensures { (config : Config) (nodes : List (Node IndexTable ghosts)) (begun ended : ℕ → Linked IndexTable ghosts) (lost : ℕ → Bool) (order : List (ℕ × ℕ))
         → RanLosing config nodes begun ended lost → Merges (length config) (λ i. clocks_of (log_of (ended i))) order

@@ -7,6 +7,10 @@ ghost use Rattle.pg_text.specs.Writing.{Adds};
 use std::alloc::AllocError;
 
 /// Appends a character.
+///
+/// Errors: `AllocError`, which changes nothing.
+///
+/// Cost: memory where `out` has no room for it.
 pub fn add_char(out: &mut String, character: char) -> Result<(), AllocError>
     ensures { OnOk result (Adds (character ∷ []) (string_bytes out.old) (string_bytes out.new)) }
 {
@@ -14,6 +18,10 @@ pub fn add_char(out: &mut String, character: char) -> Result<(), AllocError>
 }
 
 /// Appends a text.
+///
+/// Errors: `AllocError`, which changes nothing.
+///
+/// Cost: memory where `out` has no room for it.
 pub fn add_text(out: &mut String, text: &str) -> Result<(), AllocError>
     ensures { OnOk result (Adds (chars text.now) (string_bytes out.old) (string_bytes out.new)) }
 {
@@ -21,6 +29,10 @@ pub fn add_text(out: &mut String, text: &str) -> Result<(), AllocError>
 }
 
 /// Appends a number in decimal.
+///
+/// Errors: `AllocError`, which changes nothing.
+///
+/// Cost: memory where `out` has no room for it.
 pub fn add_number(out: &mut String, number: u64) -> Result<(), AllocError>
     ensures { OnOk result (Adds (decimal number) (string_bytes out.old) (string_bytes out.new)) }
 {

@@ -20,9 +20,11 @@ const MAX_MOVED: u32 = 65_536;
 /// How many rounds a `settle` makes at most, and where its line names no number.
 pub const MAX_ROUNDS: u32 = 1_000_000;
 
-/// Reads a line that is not empty and no comment: what `line_of` of `specs/Forms.antt` reads. One walk over the line.
+/// Reads a line that is not empty and no comment: what `line_of` of `specs/Forms.antt` reads.
 ///
-/// Faults: `BadText`, where it has no form, else `OutOfMemory`.
+/// Errors: `BadText`, where it has no form; else `OutOfMemory`.
+///
+/// Cost: one walk over the line; memory for what it names.
 pub fn read_line(alloc: Global, text: &str) -> Result<Line, TextFault>
     ensures ok { IfOk result (λ line. line_of text.now ≡ Some line) }
     ensures err { IfErr result (λ fault. fault ≡ BadText → line_of text.now ≡ None) }

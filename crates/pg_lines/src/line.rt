@@ -1,4 +1,4 @@
-//! What a line says, where nodes stand by their names.
+//! What a line says, where nodes are given by their names.
 
 use pg_step::Command;
 use pg_term::{Atom, Items, Pid, Term};

@@ -12,7 +12,11 @@ use pg_term::{Atom, Pid, Term};
 use pg_text::{write_atom, write_pid, write_term};
 use std::alloc::AllocError;
 
-/// `NODE NUMBER ANSWER`, and a line feed. On an error some of it stands there.
+/// Appends `NODE NUMBER ANSWER`, and a line feed.
+///
+/// Errors: `AllocError`; some of it may have been appended.
+///
+/// Cost: memory where `out` has no room for it.
 pub fn print_answer(out: &mut String, node: &Atom, answer: &Answer) -> Result<(), AllocError>
     ensures { OnOk result (Adds (answer_line node.now answer.now) (string_bytes out.old) (string_bytes out.new)) }
 {
@@ -25,7 +29,11 @@ pub fn print_answer(out: &mut String, node: &Atom, answer: &Answer) -> Result<()
     Ok(())
 }
 
-/// Appends the text of a reply. On an error some of it stands there.
+/// Appends the text of a reply.
+///
+/// Errors: `AllocError`; some of it may have been appended.
+///
+/// Cost: memory where `out` has no room for it.
 pub fn print_reply(out: &mut String, reply: &Reply) -> Result<(), AllocError>
     ensures { OnOk result (Adds (reply_text reply.now) (string_bytes out.old) (string_bytes out.new)) }
 {
@@ -81,7 +89,7 @@ fn print_listed_pids(out: &mut String, pids: &[Pid]) -> Result<(), AllocError>
     Ok(())
 }
 
-/// Each of them behind a comma.
+/// Each of them after a comma.
 fn print_more_pids(out: &mut String, pids: &[Pid]) -> Result<(), AllocError>
     ensures { OnOk result (Adds (more_pids pids.now) (string_bytes out.old) (string_bytes out.new)) }
 {
@@ -113,7 +121,7 @@ fn print_listed_names(out: &mut String, names: &[Term]) -> Result<(), AllocError
     Ok(())
 }
 
-/// Each of them behind a comma.
+/// Each of them after a comma.
 fn print_more_names(out: &mut String, names: &[Term]) -> Result<(), AllocError>
     ensures { OnOk result (Adds (more_names names.now) (string_bytes out.old) (string_bytes out.new)) }
 {
@@ -124,7 +132,11 @@ fn print_more_names(out: &mut String, names: &[Term]) -> Result<(), AllocError>
     Ok(())
 }
 
-/// `lock NODE GROUP free` or `lock NODE GROUP held`, and a line feed. On an error some of it stands there.
+/// Appends `lock NODE GROUP free` or `lock NODE GROUP held`, and a line feed.
+///
+/// Errors: `AllocError`; some of it may have been appended.
+///
+/// Cost: memory where `out` has no room for it.
 pub fn print_lock(
     out: &mut String,
     node: &Atom,
@@ -148,7 +160,11 @@ fn state_text(is_free: bool) -> &'static str
     if is_free { " free\n" } else { " held\n" }
 }
 
-/// `outbox NODE NODE N`, and a line feed. On an error some of it stands there.
+/// Appends `outbox NODE NODE N`, and a line feed.
+///
+/// Errors: `AllocError`; some of it may have been appended.
+///
+/// Cost: memory where `out` has no room for it.
 pub fn print_outbox(out: &mut String, from: &Atom, to: &Atom, len: usize) -> Result<(), AllocError>
     ensures { OnOk result (Adds (outbox_line from.now to.now len) (string_bytes out.old) (string_bytes out.new)) }
 {
@@ -162,7 +178,11 @@ pub fn print_outbox(out: &mut String, from: &Atom, to: &Atom, len: usize) -> Res
     Ok(())
 }
 
-/// `line L refused N`, and a line feed. On an error some of it stands there.
+/// Appends `line L refused N`, and a line feed.
+///
+/// Errors: `AllocError`; some of it may have been appended.
+///
+/// Cost: memory where `out` has no room for it.
 pub fn print_refused(out: &mut String, line: usize, number: u8) -> Result<(), AllocError>
     ensures { OnOk result (Adds (refused_line line number) (string_bytes out.old) (string_bytes out.new)) }
 {

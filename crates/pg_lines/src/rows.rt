@@ -30,7 +30,11 @@ pub struct Row {
     pub what: String,
 }
 
-/// Appends the cells behind a `%`, and a line feed: numbers on the right of their cells. On an error some of it stands there.
+/// Appends the cells after a `%`, and a line feed: numbers on the right of their cells.
+///
+/// Errors: `AllocError`; some of it may have been appended.
+///
+/// Cost: memory where `out` has no room for it.
 pub fn print_row(out: &mut String, widths: Widths, row: &Row) -> Result<(), AllocError>
     ensures { OnOk result (Adds (row_line widths row.now) (string_bytes out.old) (string_bytes out.new)) }
 {

@@ -4,18 +4,18 @@ ghost use Rattle.std.specs.Prelude.{◌≡◌, ◌↔◌, ◌≤◌, ◌<◌, �
 ghost use Rattle.pg_lines.specs.declared.words.Stand.TheVariants.{Bare, Quoted};
 ghost use Rattle.pg_lines.specs.Words.{after, ends_word, word_len, words_in, words_left, words_of_rest, TakesWord};
 
-/// Where a walk over a line stands.
+/// Where a walk over a line is.
 #[derive(Clone, Copy)]
 pub(crate) enum Stand {
     /// Outside of single quotes.
     Bare,
     /// Within single quotes.
     Quoted,
-    /// Within single quotes, behind a backslash.
+    /// Within single quotes, after a backslash.
     Escaped,
 }
 
-/// Where a walk stands behind one more byte.
+/// Where a walk is after one more byte.
 fn after(stand: Stand, byte: u8) -> Stand
     ensures { result ≡ after stand byte }
 {
@@ -70,7 +70,7 @@ fn word_len(line: &[u8]) -> usize
     line.len()
 }
 
-/// The first word of a text, and what follows the space behind it, where one stands there.
+/// The first word of a text, and what follows the space after it, where there is one.
 fn first_word(text: &str) -> (&str, Option<&str>)
     ensures { words_in Bare text.now ≡ result.0.now ∷ words_of_rest (option_map (λ rest. rest.now) result.1) }
 {
@@ -84,7 +84,7 @@ fn first_word(text: &str) -> (&str, Option<&str>)
 /// What is left of a line: words that single spaces part; a space within single quotes belongs to its word.
 #[derive(Drop)]
 pub(crate) struct Words<'a> {
-    // Nothing behind the last word; else what follows, which may be an empty word.
+    // Nothing after the last word; else what follows, which may be an empty word.
     rest: Option<&'a str>,
 }
 
@@ -96,8 +96,8 @@ impl<'a> Words<'a> {
         Words { rest: Some(line) }
     }
 
-    /// Takes the next word, if there is one. A word is empty between two spaces, and at the begin and the end of a line where a
-    /// space stands there.
+    /// Takes the next word, if there is one. A word is empty between two spaces, and at the begin and the end of a
+    /// line where there is a space.
     pub(crate) fn next(&mut self) -> Option<&'a str>
         ensures { TakesWord (words_left self.old) (option_map (λ word. word.now) result) (words_left self.new) }
     {

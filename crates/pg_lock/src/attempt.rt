@@ -1,7 +1,7 @@
 ghost use Rattle.std.specs.Prelude.{◌≡◌};
 
-/// How a command stands with the lock of its group at all nodes, in the manner of `global:trans/3` of the global manual
-/// page, in two rounds: the greatest node is asked alone, and the rest once it has granted.
+/// How far a command is with the lock of its group at all nodes, in the manner of `global:trans/3` of the global
+/// manual page, in two rounds: the greatest node is asked alone, and the rest once it has granted.
 #[derive(Clone, Copy, Debug, PartialEq, Eq)]
 pub enum Attempt {
     /// An attempt was given up, and the command waits for its retry.
@@ -17,7 +17,9 @@ pub enum Attempt {
 impl Attempt {
     ghost use Rattle.pg_lock.specs.Attempts.{first_of, after_round, retry_of, does_wait};
 
-    /// The attempt of a new command. It takes no memory.
+    /// The attempt of a new command.
+    ///
+    /// Cost: no memory.
     pub fn new() -> Attempt
         ensures { result ≡ first_of }
     {
@@ -25,7 +27,9 @@ impl Attempt {
     }
 
     /// What follows once all nodes that were asked in the round have answered. `granted`: each of them has granted.
-    /// Where nobody is asked, nothing follows. It takes no memory.
+    /// Where nobody is asked, nothing follows.
+    ///
+    /// Cost: no memory.
     pub fn after_round(self, granted: bool) -> Attempt
         ensures { result ≡ after_round self granted }
     {
@@ -37,7 +41,9 @@ impl Attempt {
         }
     }
 
-    /// A new attempt of a command that waits; `None` for one that does not. It takes no memory.
+    /// A new attempt of a command that waits; `None` for one that does not.
+    ///
+    /// Cost: no memory.
     pub fn retried(self) -> Option<Attempt>
         ensures { result ≡ retry_of self }
     {
@@ -48,7 +54,9 @@ impl Attempt {
         }
     }
 
-    /// Whether the command waits for its retry. It takes no memory.
+    /// Whether the command waits for its retry.
+    ///
+    /// Cost: no memory.
     pub fn waits(self) -> bool
         ensures { result ≡ does_wait self }
     {

@@ -11,7 +11,8 @@ use std::cmp::Ordering;
 /// A name and the holder of its lock.
 pub type Holder = (Term, Reference);
 
-/// Where a name stands among holders that are sorted by their names; where it is not among them, `Err` of where it would.
+/// Where a name is among holders that are sorted by their names; where it is not among them, `Err` of where it would
+/// be.
 pub fn place_among(holders: &[Holder], name: &Term) -> Result<usize, usize>
     requires { AreSorted holders.now }
     ensures bound { IsSearchInRange result (length holders.now) }
@@ -20,7 +21,7 @@ pub fn place_among(holders: &[Holder], name: &Term) -> Result<usize, usize>
     holders.binary_search_by(|holder| by_name(holder, name))
 }
 
-/// How the name of a holder stands to a name.
+/// How the name of a holder compares with a name.
 fn by_name(holder: &Holder, name: &Term) -> Ordering
     ensures { result ≡ term_cmp holder.now.0 name.now }
 {

@@ -29,7 +29,9 @@ pub struct LockTable {
 impl LockTable {
     ghost use Rattle.pg_lock.specs.Locks.{locks_of, held, grants, after_ask, given_up, is_free, is_holder, holds_so, without_node};
 
-    /// No name has a holder. It takes no memory.
+    /// No name has a holder.
+    ///
+    /// Cost: no memory.
     pub fn new(alloc: Global) -> LockTable
         ensures { locks_of result ≡ (λ name. None) }
     {
@@ -40,9 +42,11 @@ impl LockTable {
         }
     }
 
-    /// The same holders of the same names. Its cost is that of the copies: O(n log n) in the names that have a holder.
+    /// The same holders of the same names.
     ///
-    /// Error: `AllocError`.
+    /// Errors: `AllocError`.
+    ///
+    /// Cost: that of the copies: O(n log n) in the names that have a holder.
     pub fn copy(&self) -> Result<LockTable, AllocError>
         ensures { IfOk result (λ copy. locks_of copy ≡ locks_of self.now) }
     {
@@ -55,19 +59,24 @@ impl LockTable {
         })
     }
 
-    /// Whether a request for the lock of a name would be granted: the node is formed and the name has no holder. It takes no
-    /// memory: O(log n) in the names that have a holder.
+    /// Whether a request for the lock of a name would be granted: the node is formed and the name has no holder.
+    ///
+    /// Cost: no memory; O(log n) in the names that have a holder.
     pub fn grants(&self, formed: bool, name: &Term) -> bool
         ensures { result ≡ grants formed (locks_of self.now) name.now }
     {
         formed && self.holder(name).is_none()
     }
 
-    /// Asks for the lock of a name (`global:set_lock/2`): granted exactly where the node is formed and the name has no
-    /// holder, and then the reference is its holder. No other name changes. One search, O(log n) in the names that have a
-    /// holder; for a lock that is granted the copies of the name and the reference, and the moves of at most 64 holders.
+    /// Asks for the lock of a name: granted exactly where the node is formed and the name has no holder, and then the
+    /// reference is its holder. No other name changes.
     ///
-    /// Refusal: `AllocError`, which changes nothing; only for a lock that would be granted.
+    /// Errors: `AllocError`, which changes nothing; only for a lock that would be granted.
+    ///
+    /// Cost: one search, O(log n) in the names that have a holder; for a lock that is granted the copies of the name
+    /// and the reference, and the moves of at most 64 holders.
+    ///
+    /// The rule: `global:set_lock/2`.
     pub fn ask(
         &mut self,
         formed: bool,
@@ -108,7 +117,7 @@ impl LockTable {
         Some(gap)
     }
 
-    /// Where a name stands among the sorted; where it is not among them, `Err` of where it would.
+    /// Where a name is among the sorted; where it is not among them, `Err` of where it would be.
     fn place_of(&self, name: &Term) -> Result<usize, usize>
         ensures bound { IsSearchInRange result (length self.now.sorted.items) }
         ensures place { IsPlace self.now.sorted.items name.now result }
@@ -133,7 +142,9 @@ impl LockTable {
     }
 
     /// Frees a name where the reference is its holder (`global:del_lock/1`), and else changes nothing. No other name
-    /// changes. It takes no memory: O(log n), and for a name that is freed the moves of at most 64 holders.
+    /// changes.
+    ///
+    /// Cost: no memory; O(log n), and for a name that is freed the moves of at most 64 holders.
     pub fn give_up(&mut self, name: &Term, reference: &Reference)
         ensures { locks_of self.new
             ≡ given_up (is_holder (locks_of self.old name.now) reference.now) (locks_of self.old) name.now }
@@ -152,8 +163,9 @@ impl LockTable {
         }
     }
 
-    /// Frees each name that a reference of the node holds, as where the node is lost; all else stays as it was. It takes
-    /// no memory: O(n).
+    /// Frees each name that a reference of the node holds, as where the node is lost; all else stays as it was.
+    ///
+    /// Cost: no memory; O(n).
     pub fn free_node(&mut self, node: &Atom)
         ensures { locks_of self.new ≡ without_node (locks_of self.old) node.now }
     {
@@ -161,7 +173,9 @@ impl LockTable {
         self.beyond.retain(|_, holder| node != holder.node());
     }
 
-    /// Whether both tell the same holder of each name. It takes no memory: O(n log n) in the names that have a holder.
+    /// Whether both have the same holder of each name.
+    ///
+    /// Cost: no memory; O(n log n) in the names that have a holder.
     pub fn same(&self, other: &LockTable) -> bool
         ensures { IsTrue result ↔ (locks_of self.now ≡ locks_of other.now) }
     {
@@ -192,7 +206,9 @@ impl LockTable {
             .all(|(name, holder)| is_held_by(self.holder(name), holder))
     }
 
-    /// The holder of a name. It takes no memory: O(log n).
+    /// The holder of a name.
+    ///
+    /// Cost: no memory; O(log n).
     pub fn holder(&self, name: &Term) -> Option<&Reference>
         ensures { option_copied result ≡ locks_of self.now name.now }
     {

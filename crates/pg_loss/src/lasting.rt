@@ -47,8 +47,8 @@ pub fn histories_grow_past_losses()
         × (history name v.world.reported ≡ history name w.world.reported ++ more) }
 {}
 
-/// Whoever is lost, histories go by real time: a change that was answered behind its lock before another command came in stands
-/// before it, and so does each entry of a group that was there by then. No node goes back.
+/// Whoever is lost, histories go by real time: a change that was answered under its lock before another command came
+/// in is before it, and so does each entry of a group that was there by then. No node goes back.
 pub fn histories_go_by_real_time_past_losses()
     ensures { (config : Config) (w m : LosingFrameWorld) (events first last : List (LosingEvent Action))
         → LosingReaches config events w → events ≡ first ++ last → LosingReaches config first m
@@ -93,8 +93,8 @@ pub fn lost_nodes_do_nothing()
         × (reported_by i v.world.reported ≡ reported_by i w.world.reported) }
 {}
 
-/// Whoever is lost, no command stands among the entries more than once, and none is answered behind its lock more than
-/// once. One that was answered so stands there; one that was refused, or answered by the look, does not. No command has two
+/// Whoever is lost, no command is among the entries more than once, and none is answered under its lock more than
+/// once. One that was answered so is there; one that was refused, or answered by the look, is not. No command has two
 /// answers.
 pub fn changes_stand_once_past_losses()
     ensures at_most_once { (config : Config) (w : LosingFrameWorld) (events : List (LosingEvent Action)) (i : ℕ) (op : OpId)
@@ -111,8 +111,9 @@ pub fn changes_stand_once_past_losses()
         → LosingReaches config events w → answers_to op (answers_by i w.world.reported) ≤ 1 }
 {}
 
-/// Whoever is lost, each entry is the change that its command asked for, which came in before. A change that was answered behind
-/// its lock was answered ok; a delete, a join or a leave that was answered ok was answered behind its lock.
+/// Whoever is lost, each entry is the change that its command asked for, which came in before. A change that was
+/// answered under its lock was answered ok; a delete, a join or a leave that was answered ok was answered under its
+/// lock.
 pub fn changes_are_answered_past_losses()
     ensures given { (config : Config) (w : LosingFrameWorld) (events : List (LosingEvent Action))
         (before after : List Entry) (e : Entry)

@@ -58,7 +58,7 @@ fn are_on_node(rows: &[Row], edge: Edge<'_>) -> bool
     }
 }
 
-/// Whether a row stands before an edge. Names are not looked at where it is known to be of the node of the edge's pid.
+/// Whether a row is before an edge. Names are not looked at where it is known to be of the node of the edge's pid.
 fn is_before(row: &Row, edge: Edge<'_>, is_on_node: bool) -> bool
     requires { IsTrue is_on_node → IsOnNode edge row.now.pid }
     ensures { result ≡ before edge.entry row.now.pid }
@@ -70,7 +70,7 @@ fn is_before(row: &Row, edge: Edge<'_>, is_on_node: bool) -> bool
     }
 }
 
-/// How many rows stand before an edge.
+/// How many rows are before an edge.
 fn find(rows: &[Row], edge: Edge<'_>) -> usize
     requires { AreRows rows.now }
     ensures { IsCut (before edge.entry) rows.now result }

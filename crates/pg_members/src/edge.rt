@@ -15,7 +15,9 @@ pub enum Edge<'a> {
 }
 
 impl Edge<'_> {
-    /// Whether a pid stands before the edge. It takes no memory.
+    /// Whether a pid is before the edge.
+    ///
+    /// Cost: no memory.
     pub fn is_after(&self, pid: &Pid) -> bool
         ensures { result ≡ before self.now pid.now }
     {

@@ -59,7 +59,7 @@ fn choose<P: Part>(parts: &[P], edge: Edge<'_>) -> usize
     low
 }
 
-/// The part where a pid stands, or is to stand.
+/// The part where a pid is, or is to be.
 fn home<P: Part>(parts: &[P], pid: &Pid) -> usize
     requires in_order { AreRows (flat_map P.rows parts.now) }
     requires some { NoneEmpty P.rows parts.now }
@@ -81,7 +81,7 @@ fn sum<P: Part>(parts: &[P]) -> u64
     total
 }
 
-/// From which part on, and up to which, the members of a node stand.
+/// From which part on, and up to which, the members of a node are.
 fn span<P: Part>(parts: &[P], node: &Atom) -> (usize, usize)
     requires in_order { AreRows (flat_map P.rows parts.now) }
     requires some { NoneEmpty P.rows parts.now }
@@ -96,7 +96,7 @@ fn span<P: Part>(parts: &[P], node: &Atom) -> (usize, usize)
     (from, last + 1)
 }
 
-/// The parts in which the members of a scope stand.
+/// The parts in which the members of a scope are.
 fn asked<'a, P: Part>(parts: &'a [P], scope: Scope<'_>) -> &'a [P]
     requires in_order { AreRows (flat_map P.rows parts.now) }
     requires some { NoneEmpty P.rows parts.now }
@@ -131,7 +131,7 @@ fn divide<P: Part>(parts: &mut Vec<P>, at: usize)
     }
 }
 
-/// Adds to the count of a pid in the part where it is at home, and tells it then.
+/// Adds to the count of a pid in the part where it is at home, and gives the count after that.
 fn add_at<P: Part>(parts: &mut Vec<P>, at: usize, pid: &Pid, more: u64) -> Result<u64, AllocError>
     requires home { IsHome P.rows pid.now parts.old.items at }
     requires parts { NoneEmpty P.rows parts.old.items }
@@ -150,7 +150,7 @@ fn add_at<P: Part>(parts: &mut Vec<P>, at: usize, pid: &Pid, more: u64) -> Resul
     Ok(count)
 }
 
-/// Takes from the count of a pid in the part where it is at home, and tells the count before.
+/// Takes from the count of a pid in the part where it is at home, and gives the count before.
 fn take_at<P: Part>(parts: &mut Vec<P>, at: usize, pid: &Pid, most: u64) -> u64
     requires home { IsHome P.rows pid.now parts.old.items at }
     requires parts { NoneEmpty P.rows parts.old.items }

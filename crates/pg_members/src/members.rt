@@ -44,7 +44,9 @@ impl Clone for Members {
 }
 
 impl Members {
-    /// Nobody. It takes no memory.
+    /// Nobody.
+    ///
+    /// Cost: no memory.
     pub fn new(alloc: Global) -> Members
         ensures { result ≡ [] }
     {
@@ -53,17 +55,21 @@ impl Members {
         }
     }
 
-    /// The count of a pid. It takes no memory.
+    /// The count of a pid.
+    ///
+    /// Cost: no memory.
     pub fn count(&self, pid: &Pid) -> u64
         ensures { result ≡ counts_of self.now pid.now }
     {
         self.rows.count(pid)
     }
 
-    /// Adds to the count of a pid, and tells it then. Only a new member takes memory.
+    /// Adds to the count of a pid, and gives the count after that.
     ///
-    /// Refusal: `AllocError`, which changes nothing, where there is no memory for a new member, and always where the counts
-    /// of all members would pass 64 bits.
+    /// Errors: `AllocError`, which changes nothing, where there is no memory for a new member, and always where the
+    /// counts of all members would pass 64 bits.
+    ///
+    /// Cost: memory for a new member alone.
     pub fn add(&mut self, pid: &Pid, more: u64) -> Result<u64, AllocError>
         requires { 0 < more }
         ensures ok { OnOk result (counts_of self.new
@@ -83,7 +89,9 @@ impl Members {
         Ok(count)
     }
 
-    /// Takes one from the count of a pid, if it is a member, and tells the count before. It takes no memory.
+    /// Takes one from the count of a pid, if it is a member, and gives the count before.
+    ///
+    /// Cost: no memory.
     pub fn take_one(&mut self, pid: &Pid) -> u64
         ensures counts { counts_of self.new ≡ with_one_less (counts_of self.old) pid.now }
         ensures count { result ≡ counts_of self.old pid.now }
@@ -92,7 +100,9 @@ impl Members {
         self.rows.take(pid, 1)
     }
 
-    /// Takes a pid out, whatever its count. It takes no memory.
+    /// Takes a pid out, whatever its count.
+    ///
+    /// Cost: no memory.
     pub fn remove(&mut self, pid: &Pid)
         ensures { counts_of self.new ≡ upd same_pid (counts_of self.old) pid.now 0 }
     {
@@ -100,7 +110,9 @@ impl Members {
         self.rows.take(pid, u64::MAX);
     }
 
-    /// Takes the last pid out, with its count. It takes no memory.
+    /// Takes the last pid out, with its count.
+    ///
+    /// Cost: no memory.
     pub fn take_last(&mut self) -> Option<Row>
         ensures last { IfSome result (λ row. self.old ≡ self.new ++ row ∷ []) }
         ensures rest { IfSome result (λ row. counts_of self.new ≡ upd same_pid (counts_of self.old) row.pid 0) }
@@ -111,8 +123,10 @@ impl Members {
         self.rows.take_last()
     }
 
-    /// How many members there are, each as often as its count. It takes no memory. All are told at once; for those of a
-    /// node two searches add up the sums of parts and the counts within one block.
+    /// How many members there are, each as often as its count.
+    ///
+    /// Cost: no memory; O(1) for all, and for those of a node two searches, which add up the sums of parts and the
+    /// counts within one block.
     pub fn size(&self, scope: Scope<'_>) -> u64
         ensures exact { result ≡ length (spread (in_scope scope.entry) self.now) }
         ensures list { IsMemberList (Some (counts_of self.now)) (in_scope scope.entry) (spread (in_scope scope.entry) self.now) }
@@ -123,8 +137,10 @@ impl Members {
         }
     }
 
-    /// The member at a place. It takes no memory. It adds up the sums of parts and the counts within one block, and does
-    /// so once more for a place among the members of a node.
+    /// The member at a place.
+    ///
+    /// Cost: no memory; it adds up the sums of parts and the counts within one block, and does so once more for a
+    /// place among the members of a node.
     pub fn pid_at(&self, scope: Scope<'_>, place: u64) -> Option<&Pid>
         ensures exact { option_copied result ≡ slice_get (spread (in_scope scope.entry) self.now) place }
         ensures list { IsMemberList (Some (counts_of self.now)) (in_scope scope.entry) (spread (in_scope scope.entry) self.now) }
@@ -136,7 +152,11 @@ impl Members {
         }
     }
 
-    /// An equal group: memory for each member, and for its name.
+    /// An equal group.
+    ///
+    /// Errors: `AllocError`.
+    ///
+    /// Cost: memory for each member, and for the name of its node.
     pub fn copy(&self) -> Result<Members, AllocError>
         ensures { IfOk result (λ copy. copy ≡ self.now) }
     {
@@ -145,8 +165,11 @@ impl Members {
         })
     }
 
-    /// The members of a scope, each as often as its count, by one walk over their blocks. It takes memory for each, and for
-    /// its name.
+    /// The members of a scope, each as often as its count.
+    ///
+    /// Errors: `AllocError`.
+    ///
+    /// Cost: memory for each, and for the name of its node; one walk over their blocks.
     pub fn list(&self, alloc: Global, scope: Scope<'_>) -> Result<Vec<Pid>, AllocError>
         ensures exact { IfOk result (λ pids. pids.items ≡ spread (in_scope scope.entry) self.now) }
         ensures list { IfOk result (λ pids. IsMemberList (Some (counts_of self.now)) (in_scope scope.entry) pids.items) }
@@ -157,8 +180,9 @@ impl Members {
         Ok(pids)
     }
 
-    /// Takes out all members of a node. It takes no memory. It walks the rows of the blocks that stand in one part with
-    /// theirs.
+    /// Takes out all members of a node.
+    ///
+    /// Cost: no memory; a walk over the rows of the blocks that are in one part with theirs.
     pub fn drop_node(&mut self, node: &Atom)
         ensures { Some (counts_of self.new) ≡ less (Some (counts_of self.old)) (at_node node.now) }
     {

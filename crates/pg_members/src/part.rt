@@ -16,7 +16,9 @@ pub trait Part: Drop {
     /// What it holds.
     ghost rows: { Self → List Row };
 
-    /// No row. It takes no memory.
+    /// No row.
+    ///
+    /// Cost: no memory.
     fn new(alloc: Global) -> Self
     where
         Self: Sized,
@@ -31,7 +33,7 @@ pub trait Part: Drop {
         ensures value { result ≡ total_of (rows self.now) }
         ensures in_order { AreRows (rows self.now) };
 
-    /// Whether all its rows stand before an edge.
+    /// Whether all its rows are before an edge.
     fn is_before(&self, edge: Edge<'_>) -> bool
         ensures { result ≡ all_before (before edge.entry) (rows self.now) };
 
@@ -39,7 +41,11 @@ pub trait Part: Drop {
     fn count(&self, pid: &Pid) -> u64
         ensures { result ≡ counts_of (rows self.now) pid.now };
 
-    /// Adds to the count of a pid, and tells it then. Only a new member takes memory.
+    /// Adds to the count of a pid, and gives the count after that.
+    ///
+    /// Errors: `AllocError`.
+    ///
+    /// Cost: memory for a new member alone.
     fn add(&mut self, pid: &Pid, more: u64) -> Result<u64, AllocError>
         requires some { 0 < more }
         requires fits { total_of (rows self.old) + more < 2 ^ 64 }
@@ -48,7 +54,7 @@ pub trait Part: Drop {
         ensures count { IfOk result (λ count. count ≡ counts_of (rows self.old) pid.now + more) }
         ensures memory { OnErr result (counts_of (rows self.old) pid.now ≡ 0) };
 
-    /// Takes at most so many from the count of a pid, and tells the count before.
+    /// Takes at most so many from the count of a pid, and gives the count before.
     fn take(&mut self, pid: &Pid, most: u64) -> u64
         requires { 0 < most }
         ensures count { result ≡ counts_of (rows self.old) pid.now }
@@ -63,12 +69,14 @@ pub trait Part: Drop {
     fn at(&self, place: u64) -> Option<&Pid>
         ensures { option_copied result ≡ slice_get (spread anywhere (rows self.now)) place };
 
-    /// How many members stand before an edge, each as often as its count.
+    /// How many members are before an edge, each as often as its count.
     fn rank(&self, edge: Edge<'_>) -> u64
         ensures { result ≡ length (spread (before edge.entry) (rows self.now)) };
 
-    /// Moves the later half of the rows into a part of its own, where there are too many for one; `None` where there are
-    /// not. An error changes nothing.
+    /// Moves the later half of the rows into a part of its own, where there are too many for one; `None` where there
+    /// are not.
+    ///
+    /// Errors: `AllocError`, which changes nothing.
     fn split(&mut self) -> Result<Option<Self>, AllocError>
     where
         Self: Sized,
@@ -76,17 +84,27 @@ pub trait Part: Drop {
             (λ part. IsSplit (rows self.old) (rows self.new) (rows part))) }
         ensures err { OnErr result (rows self.new ≡ rows self.old) };
 
-    /// The same rows: memory for each, and for its name.
+    /// The same rows.
+    ///
+    /// Errors: `AllocError`.
+    ///
+    /// Cost: memory for each, and for the name of its node.
     fn copy(&self) -> Result<Self, AllocError>
     where
         Self: Sized,
         ensures { IfOk result (λ copy. rows copy ≡ rows self.now) };
 
     /// Appends the members of a scope to a list, each as often as its count.
+    ///
+    /// Errors: `AllocError`.
+    ///
+    /// Cost: memory for each, and for the name of its node.
     fn list(&self, scope: Scope<'_>, pids: &mut Vec<Pid>) -> Result<(), AllocError>
         ensures { OnOk result (pids.new.items ≡ pids.old.items ++ spread (in_scope scope.entry) (rows self.now)) };
 
-    /// Takes out all members of a node. It takes no memory.
+    /// Takes out all members of a node.
+    ///
+    /// Cost: no memory.
     fn drop_node(&mut self, node: &Atom)
         ensures { rows self.new ≡ filter (is_off node.now) (rows self.old) };
 }

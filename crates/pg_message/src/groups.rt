@@ -11,18 +11,21 @@ use std::alloc::{AllocError, Global};
 use std::cmp::Ordering;
 use std::collections::BTreeSet;
 
-/// Whether no group is named twice. It takes no memory. One walk over the groups where they ascend in the order of
-/// terms, as a node tells them; else each name is compared with all that follow it.
+/// Whether no group is named twice.
+///
+/// Cost: no memory; one walk over the groups where they ascend in the order of terms, as a node announces them; else
+/// each name is compared with all that follow it.
 pub fn are_named_once(groups: &[(Term, Items<Pid>)]) -> bool
     ensures { result ≡ is_named_once groups.now }
 {
     do_ascend(groups) || do_differ(groups)
 }
 
-/// Whether no group is named twice, for groups that come from outside. One walk where they ascend in the order of
-/// terms; else each name is looked up in a tree of those before it.
+/// Whether no group is named twice, for groups that come from outside.
 ///
-/// Error: `AllocError`.
+/// Errors: `AllocError`.
+///
+/// Cost: one walk where they ascend in the order of terms; else each name is looked up in a tree of those before it.
 pub fn are_told_once(alloc: Global, groups: &[(Term, Items<Pid>)]) -> Result<bool, AllocError>
     ensures { IfOk result (λ once. once ≡ is_named_once groups.now) }
 {

@@ -14,15 +14,19 @@ pub enum Message {
     Reply(Reference, Said),
     /// Frees the lock of a name that this reference holds: `{cast, {del_lock, Name, Ref}}`.
     DelLock(Term, Reference),
-    /// Tells the groups of a node, each with its members, as often as they joined:
-    /// `{cast, {exchange, Node, [[Name, Members], ..]}}`.
+    /// Announces the groups of a node, each with its members, as often as they joined: `{cast, {exchange, Node,
+    /// [[Name, Members], ..]}}`.
     Exchange(Atom, Items<(Term, Items<Pid>)>),
-    /// Tells that a process has ended, as a monitor would: `{down, Pid}`.
+    /// A process has ended, as a monitor would say: `{down, Pid}`.
     Down(Pid),
 }
 
 impl Message {
-    /// An equal message. Its cost grows with the names and the groups. Error: `AllocError`.
+    /// An equal message.
+    ///
+    /// Errors: `AllocError`.
+    ///
+    /// Cost: grows with the names and the groups.
     pub fn copy(&self, alloc: Global) -> Result<Message, AllocError>
         ensures { IfOk result (λ message. message ≡ self.now) }
     {
@@ -105,7 +109,11 @@ pub enum Request {
 }
 
 impl Request {
-    /// An equal request. Its cost grows with the name. Error: `AllocError`.
+    /// An equal request.
+    ///
+    /// Errors: `AllocError`.
+    ///
+    /// Cost: grows with the name.
     pub fn copy(&self, alloc: Global) -> Result<Request, AllocError>
         ensures { IfOk result (λ request. request ≡ self.now) }
     {

@@ -12,10 +12,12 @@ pub const MAX_NAME_LEN: usize = 1024;
 /// How deep a name nests at most: this project's own limit.
 pub const MAX_NAME_DEPTH: usize = 32;
 
-/// Whether a term may name a group. It takes no memory. One walk over the term, at most 32 levels down.
+/// Whether a term may name a group.
 ///
-/// The fault: `NameTooLarge`, where the term nests more than 32 levels deep, or takes more than 1,024 bytes as
+/// Errors: `NameTooLarge`, where the term nests more than 32 levels deep, or takes more than 1,024 bytes as
 /// `pg_term_writer::encode` writes it.
+///
+/// Cost: no memory; one walk over the term, at most 32 levels down.
 pub fn check_name(name: &Term) -> Result<(), MessageFault>
     ensures ok { IsOk result ↔ IsTrue (is_name name.now) }
     ensures err { IfErr result (λ fault. fault ≡ MessageFault.NameTooLarge) }
@@ -33,8 +35,9 @@ pub fn is_name(term: &Term) -> bool
     name_len(term).is_some()
 }
 
-/// How many bytes a name takes as one item, without the byte 131; `None` for what `check_name` refuses. It takes no memory, and
-/// the same walk as `check_name`.
+/// How many bytes a name takes as one item, without the byte 131; `None` for what `check_name` refuses.
+///
+/// Cost: no memory; the same walk as `check_name`.
 pub fn name_len(term: &Term) -> Option<usize>
     ensures name { IfSome result (λ len. is_name term.now ≡ true) }
     ensures len { IfSome result (λ len. len ≡ length (item_bytes term.now)) }

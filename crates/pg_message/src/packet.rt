@@ -16,7 +16,11 @@ pub struct Packet {
 }
 
 impl Packet {
-    /// An equal packet. Its cost grows with the names and the groups. Error: `AllocError`.
+    /// An equal packet.
+    ///
+    /// Errors: `AllocError`.
+    ///
+    /// Cost: grows with the names and the groups.
     pub fn copy(&self, alloc: Global) -> Result<Packet, AllocError>
         ensures { IfOk result (λ packet. packet ≡ self.now) }
     {

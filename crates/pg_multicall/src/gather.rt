@@ -27,7 +27,9 @@ impl Gather {
     ghost use Rattle.pg_multicall.specs.Places.{has_of};
     ghost use Rattle.pg_multicall.specs.Replies.{asked_of, after, forgotten, replies_of};
 
-    /// These were asked, and none has replied. It takes no memory.
+    /// These were asked, and none has replied.
+    ///
+    /// Cost: no memory.
     pub fn new(asked: Places) -> Gather
         ensures { (place : ℕ) → replies_of result place ≡ asked_of (has_of asked) place }
     {
@@ -38,8 +40,10 @@ impl Gather {
         }
     }
 
-    /// Takes the reply of the node at a place: whether it grants, or has done, what it was asked for. Only a counted reply changes
-    /// anything. It takes no memory.
+    /// Takes the reply of the node at a place: whether it grants, or has done, what it was asked for. Only a counted
+    /// reply changes anything.
+    ///
+    /// Cost: no memory.
     pub fn take(&mut self, place: usize, granted: bool) -> Taken
         ensures what { result ≡ what_of true (replies_of self.old place) }
         ensures after { (other : ℕ) → replies_of self.new other ≡ after result (replies_of self.old) place granted other }
@@ -55,8 +59,10 @@ impl Gather {
         Taken::Counted
     }
 
-    /// Forgets the node at a place, as where it is lost: it is asked no longer, and its reply stands no longer. All else stays as
-    /// it was. It takes no memory.
+    /// Forgets the node at a place, as where it is lost: it is asked no longer, and its reply counts no longer. All
+    /// else stays as it was.
+    ///
+    /// Cost: no memory.
     pub fn forget(&mut self, place: usize)
         ensures { (other : ℕ) → replies_of self.new other ≡ forgotten (replies_of self.old) place other }
     {
@@ -65,8 +71,10 @@ impl Gather {
         self.granted = self.granted.without(place);
     }
 
-    /// What has come of the node at a place: `None` where it was not asked, `Some(None)` where it has not replied, and else its
-    /// reply. It takes no memory.
+    /// What has come of the node at a place: `None` where it was not asked, `Some(None)` where it has not replied,
+    /// and else its reply.
+    ///
+    /// Cost: no memory.
     pub fn reply(&self, place: usize) -> Option<Option<bool>>
         ensures { result ≡ replies_of self.now place }
     {
@@ -79,14 +87,18 @@ impl Gather {
         }
     }
 
-    /// Whether each node that was asked has replied. It takes no memory.
+    /// Whether each node that was asked has replied.
+    ///
+    /// Cost: no memory.
     pub fn complete(&self) -> bool
         ensures { (result ≡ true) ↔ ((place : ℕ) → replies_of self.now place ≢ Some None) }
     {
         self.asked.are_within(self.replied)
     }
 
-    /// Whether each node that was asked has granted. It takes no memory.
+    /// Whether each node that was asked has granted.
+    ///
+    /// Cost: no memory.
     pub fn is_granted(&self) -> bool
         ensures { (result ≡ true) ↔ ((place : ℕ) (reply : Option Bool) → replies_of self.now place ≡ Some reply → reply ≡ Some true) }
     {

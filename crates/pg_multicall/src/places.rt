@@ -12,14 +12,18 @@ pub struct Places {
 }
 
 impl Places {
-    /// No node. It takes no memory.
+    /// No node.
+    ///
+    /// Cost: no memory.
     pub fn none() -> Places
         ensures { (other : ℕ) → has_of result other ≡ false }
     {
         Places { bits: 0 }
     }
 
-    /// Whether the node at a place is among them. It takes no memory.
+    /// Whether the node at a place is among them.
+    ///
+    /// Cost: no memory.
     pub fn has(self, place: usize) -> bool
         ensures has { result ≡ has_of self place }
         ensures within { result ≡ true → place < MAX_PLACES }
@@ -27,7 +31,9 @@ impl Places {
         place < MAX_PLACES && (self.bits >> place) & 1 == 1
     }
 
-    /// These, with the node at a place. It takes no memory.
+    /// These, with the node at a place.
+    ///
+    /// Cost: no memory.
     pub fn with(self, place: usize) -> Places
         requires { place < MAX_PLACES }
         ensures { (other : ℕ) → has_of result other ≡ (nat_eq place other || has_of self other) }
@@ -37,7 +43,9 @@ impl Places {
         }
     }
 
-    /// These, without the node at a place. It takes no memory.
+    /// These, without the node at a place.
+    ///
+    /// Cost: no memory.
     pub fn without(self, place: usize) -> Places
         ensures { (other : ℕ) → has_of result other ≡ (not (nat_eq place other) && has_of self other) }
     {
@@ -49,7 +57,9 @@ impl Places {
         }
     }
 
-    /// These, with the node at a place or without it. It takes no memory.
+    /// These, with the node at a place or without it.
+    ///
+    /// Cost: no memory.
     pub fn with_or_without(self, place: usize, is_among: bool) -> Places
         requires { place < MAX_PLACES }
         ensures { (other : ℕ) → has_of result other ≡ cond (nat_eq place other) is_among (has_of self other) }
@@ -61,7 +71,9 @@ impl Places {
         }
     }
 
-    /// Whether each of them is among others. It takes no memory.
+    /// Whether each of them is among others.
+    ///
+    /// Cost: no memory.
     pub fn are_within(self, others: Places) -> bool
         ensures { (result ≡ true) ↔ ((place : ℕ) → has_of self place ≡ true → has_of others place ≡ true) }
     {

@@ -13,18 +13,15 @@ use Rattle.pg_step.specs.Nodes.{Node as Name, Nodes}
 use Rattle.pg_step.specs.State.{State}
 use Rattle.pg_step.specs.Step.{TimedTurn, step_take}
 use Rattle.pg_node.specs.declared.node.wire.Wire.{Wire}
-use Rattle.pg_node.specs.declared.state.done.Done.{Done}
-use Rattle.pg_node.specs.declared.state.fault.NodeFault.{NodeFault}
-use Rattle.pg_node.specs.declared.state.fault.NodeFault.TheVariants.{Refused, OutOfMemory, Message, TooLong, Damaged}
+use Rattle.pg_node_state.specs.declared.state.done.Done.{Done}
+use Rattle.pg_node_state.specs.declared.state.fault.NodeFault.{NodeFault}
+use Rattle.pg_node_state.specs.declared.state.fault.NodeFault.TheVariants.{Refused, OutOfMemory, Message, TooLong, Damaged}
 use Rattle.pg_node.specs.Bytes.{Tells, next_packet, damages, marked, passed}
-use Rattle.pg_node.specs.Links.{Link, link_of, links_in, at_link, frames_to, with_more}
+use Rattle.pg_node_state.specs.Frames.{frames_to}
+use Rattle.pg_node.specs.Links.{Link, link_of, links_in, at_link, with_more}
 use Rattle.pg_node.specs.Nodes.{read_next, taken_as, taken_of, step_link, TakesNext, ComesInRoom, sent_out}
-use Rattle.pg_node.specs.States.{stamped_of, Comes}
+use Rattle.pg_node_state.specs.States.{stamped_of, Comes}
 use Rattle.pg_node.proofs.Linked.{one_link}
-
-pub not_true : (b : Bool) → not b ≡ true → b ≡ false
-not_true true e = absurd (cc)
-not_true false e = refl
 
 -- a fault that damages nothing marks nothing
 pub unmarked : (links : ℕ → Link) (peer : ℕ) (fault : NodeFault) → damages fault ≡ false → at_link peer (λ l. marked l fault) links ≡ links

@@ -11,8 +11,9 @@ use Rattle.pg_message.specs.declared.packet.Packet.{Packet}
 use Rattle.pg_writer.specs.declared.size.TheConstants.{MAX_SMALL_LEN}
 use Rattle.pg_step.specs.Nodes.{Node}
 use Rattle.pg_node.specs.declared.node.wire.Wire.{Wire}
-use Rattle.pg_node.specs.Links.{Link, link_of, idle_link, part_in, links_in, at_link, room_in, frame_of, frames_to, with_more, HasRoom, HaveRoom, FitLinks, IsSmallFrame, AreSmallFrames}
-use Rattle.pg_node.specs.Sendable.{IsSendable, Ascends}
+use Rattle.pg_node_state.specs.Frames.{frame_of, frames_to, IsSmallFrame, AreSmallFrames}
+use Rattle.pg_node_state.specs.Sendable.{FitLinks, IsSendable, Ascends}
+use Rattle.pg_node.specs.Links.{Link, link_of, idle_link, part_in, links_in, at_link, room_in, with_more, HasRoom, HaveRoom}
 
 -- a part where the link at a place is another
 pub part_set : {A : Type 0} (part : Wire → A) (none : A) (wires : List Wire) (k : ℕ) (wire : Wire) → k < length wires → (place : ℕ) → part_in part none (slice_set wires k wire) place ≡ cond (nat_eq k place) (part wire) (part_in part none wires place)

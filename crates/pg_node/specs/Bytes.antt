@@ -6,8 +6,8 @@ use Rattle.pg_message.specs.declared.fault.MessageFault.{MessageFault}
 use Rattle.pg_message.specs.declared.packet.Packet.{Packet}
 use Rattle.pg_message.specs.Reading.{packet_spelled}
 use Rattle.pg_step.specs.declared.refusal.Refusal.TheVariants.{NotAMessage}
-use Rattle.pg_node.specs.declared.state.fault.NodeFault.{NodeFault}
-use Rattle.pg_node.specs.declared.state.fault.NodeFault.TheVariants.{Refused, OutOfMemory, Damaged, TooLong, Message}
+use Rattle.pg_node_state.specs.declared.state.fault.NodeFault.{NodeFault}
+use Rattle.pg_node_state.specs.declared.state.fault.NodeFault.TheVariants.{Refused, OutOfMemory, Damaged, TooLong, Message}
 use Rattle.pg_node.specs.Links.{Link}
 
 -- the packet that a body spells

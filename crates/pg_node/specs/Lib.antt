@@ -1,17 +1,4 @@
 pub mod Begun
 pub mod Bytes
-pub mod Causes
-pub mod Fault
-pub mod Issued
 pub mod Links
-pub mod NodeFault
 pub mod Nodes
-pub mod Opening
-pub mod Orders
-pub mod Ports
-pub mod Progress
-pub mod Replica
-pub mod Same
-pub mod Sendable
-pub mod States
-pub mod Waiting

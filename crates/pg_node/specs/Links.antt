@@ -9,7 +9,7 @@ use Rattle.pg_message.specs.Writing.{term_of_packet, framed}
 use Rattle.pg_term_io.specs.Writing.{written}
 use Rattle.pg_step.specs.Nodes.{Node}
 use Rattle.pg_node.specs.declared.node.wire.Wire.{Wire}
-use Rattle.pg_node.specs.Sendable.{AreSendable}
+use Rattle.pg_node_state.specs.Sendable.{AreSendable}
 
 -- what stands in the link to a peer: the bytes that came in and were not taken, those that go out and were not put, and
 -- whether a fault was told of it
@@ -38,24 +38,6 @@ links_in wires = part_in link_of idle_link wires
 abbrev pub room_in : List Wire → ℕ → ℕ
 room_in wires = part_in (λ wire. wire.outbox.spare) 0 wires
 
--- the frame of a packet
-abbrev pub frame_of : Packet → List ℕ
-frame_of packet = framed (written (term_of_packet packet))
-
--- a small packet stands in a frame as it is: it is read there, and takes no more room than a small frame
-pub record IsSmallFrame (packet : Packet) : Type 0 where
-  pub read : packet_spelled (written (term_of_packet packet)) ≡ Ok packet
-  pub small : length (frame_of packet) ≤ 4 + MAX_SMALL_LEN
-
--- the same of packets that go to places
-abbrev pub AreSmallFrames : List (ℕ × Packet) → Type 0
-AreSmallFrames sends = AllByRecursion (λ sent. IsSmallFrame sent.1) sends
-
--- the frames of the packets that go to a place
-abbrev pub frames_to : List (ℕ × Packet) → ℕ → List ℕ
-frames_to [] place = []
-frames_to (sent ∷ others) place = cond (nat_eq sent.0 place) (frame_of sent.1) [] ++ frames_to others place
-
 -- a link with more bytes that go out
 abbrev pub with_more : Link → List ℕ → Link
 with_more link more = record link { outbox = link.outbox ++ more }
@@ -79,7 +61,3 @@ HasRoom wire = 4 + MAX_SMALL_LEN ≤ wire.outbox.spare
 -- nor does one at any place
 abbrev pub HaveRoom : List Wire → Type 0
 HaveRoom wires = (place : ℕ) → place < length wires → 4 + MAX_SMALL_LEN ≤ room_in wires place
-
--- what is sent can be written in the outboxes of so many peers
-abbrev pub FitLinks : ℕ → List (ℕ × Packet) → Type 0
-FitLinks peers sends = (names : List Node) × (peers + 1 ≡ length names) × AreSendable names sends

@@ -1,20 +1,13 @@
-//! One node of a set: over packets, over bytes, and as a replica that is fed a stream of frames.
+//! One node of a set over bytes. The crate hands on the node over packets (pg_node_state) and the replica that is fed a stream of
+//! frames (pg_replica), with what a node is told and answers.
 //!
 //! `node.command(port, &command)?` gives a node a command, and `node.take(peer)?` has it take a packet. Begin with CALLING.md, then
-//! `src/node/events.rt` and `src/state.rt`; docs/STEP.md says what each does.
+//! `src/node/events.rt`; docs/STEP.md says what each does.
 #![tactic(auto)]
 
-mod answer;
-mod fault;
 mod node;
-mod server;
-mod sink;
-mod source;
-mod state;
 
-pub use fault::ServeFault;
 pub use node::Node;
-pub use server::serve;
-pub use sink::{AnyWriter, Sink};
-pub use source::{AnyReader, Source};
-pub use state::{Done, NodeConfig, NodeFault, NodeState};
+pub use pg_node_state::{Done, NodeConfig, NodeFault, NodeState};
+pub use pg_replica::{AnyReader, AnyWriter, ServeFault, Sink, Source, serve};
+pub use pg_step::{Answer, Command, Odd, OpId, Reply};

@@ -1,7 +1,7 @@
 //! One node over bytes: what came in from its peers, and what goes out to them.
 
 ghost use Rattle.std.specs.Prelude.{◌≡◌, ◌+◌, length};
-ghost use Rattle.pg_node.specs.States.{names_of as names_known};
+ghost use Rattle.pg_node_state.specs.States.{names_of as names_known};
 
 mod begun;
 mod events;
@@ -10,10 +10,9 @@ mod wire;
 mod wires;
 
 use crate::node::wire::Wire;
-use crate::state::NodeState;
 use pg_group::GroupTable;
+use pg_node_state::NodeState;
 use std::alloc::Global;
-pub(crate) use wire::write_small;
 
 /// A node of a set over the bytes of its links.
 #[derive(Drop)]
@@ -21,7 +20,7 @@ pub struct Node<T: GroupTable> {
     state: NodeState<T>,
     // The links to its peers, in their order.
     wires: Vec<Wire>,
-    // Where bytes stand on their way from an inlet.
+    // Where bytes are on their way from an inlet.
     piece: Vec<u8>,
     alloc: Global,
     ghost linked: { length wires.items + 1 ≡ length (names_known state) },

@@ -11,7 +11,7 @@ use pg_multicall::Taken;
 use pg_step::OpId;
 use std::alloc::AllocError;
 
-/// How a command stands that is open, with the numbers of its references.
+/// How far an open command is, with the numbers of its references.
 #[derive(Clone, Copy, Debug, PartialEq, Eq)]
 pub enum Phase {
     /// It waits for its retry.
@@ -43,7 +43,7 @@ pub enum Gathering {
     Update(OpId, u32),
 }
 
-/// How a command stands.
+/// How far a command is.
 #[derive(Clone, Copy, Debug, PartialEq, Eq)]
 pub enum Standing {
     /// It is not open.
@@ -342,7 +342,7 @@ fn heard_lock(mark: Mark, is_first: bool) -> Taken
     }
 }
 
-/// Where the command stands that has a reference.
+/// Where the command is that has a reference.
 pub fn place_of(commands: &[OpenCommand], number: u32) -> Option<usize>
     ensures none { IfNone result (list_any (λ command. has_in command.phase number) commands.now ≡ false) }
     ensures within { IfSome result (λ place. place < length commands.now) }
@@ -356,7 +356,7 @@ pub fn place_of(commands: &[OpenCommand], number: u32) -> Option<usize>
     None
 }
 
-/// Where a command stands.
+/// Where a command is.
 pub fn place_of_op(commands: &[OpenCommand], op: OpId) -> Option<usize>
     ensures none { IfNone result (list_any (λ command. same_op command.op op) commands.now ≡ false) }
     ensures within { IfSome result (λ place. place < length commands.now) }

@@ -1,6 +1,6 @@
 //! The commands that are open at a node, and what is gathered for each of them.
 //!
-//! `opens.standing(op)` says how a command stands. Begin with `src/opens.rt`, then `specs/Commands.antt`.
+//! `opens.standing(op)` says how far a command is. Begin with `src/opens.rt`, then `specs/Commands.antt`.
 #![tactic(auto)]
 
 mod command;

@@ -18,7 +18,7 @@ pub enum Mark {
     No,
 }
 
-/// What is wanted of the mark of each node that counts.
+/// What the mark of each live node has to be.
 #[derive(Clone, Copy, Debug, PartialEq, Eq)]
 pub enum Wanted {
     /// No answer is missing.
@@ -91,7 +91,7 @@ impl Mark {
         }
     }
 
-    /// The mark of a node once it was asked, where that is wanted: the own one answers at once.
+    /// The mark of a node once it was asked, where `wanted` says so: the own one answers at once.
     fn asked(self, wanted: bool, is_own: bool, granted: bool) -> Mark
         ensures { result ≡ asked_mark self wanted is_own granted }
     {
@@ -149,7 +149,7 @@ fn reset(marks: &mut [Mark], own: Mark)
     }
 }
 
-/// Asks these nodes, of those that count.
+/// Asks these nodes, of those that are live.
 pub fn ask_all(marks: &mut Vec<Mark>, lost: &[bool], who: Asked, granted: bool)
     requires { length lost.now ≡ length marks.old.items }
     ensures marks { (place : ℕ) → place < length marks.old.items
@@ -171,7 +171,7 @@ fn ask(marks: &mut [Mark], lost: &[bool], who: Asked, granted: bool)
     }
 }
 
-/// Whether all nodes that count have a mark as wanted, once these were asked.
+/// Whether all live nodes have a mark as wanted, once these were asked.
 pub fn all_pass(marks: &[Mark], lost: &[bool], wanted: Wanted, who: Asked, granted: bool) -> bool
     requires { length lost.now ≡ length marks.now }
     ensures { result ≡ all_marks marks.now lost.now wanted who granted }

@@ -7,7 +7,7 @@ ghost use Rattle.pg_opens.specs.Places.{ArePlaces, name_at, left_in};
 
 use pg_term::Atom;
 
-/// The place of the greatest node that counts.
+/// The place of the greatest live node.
 pub fn greatest_place(names: &[Atom], lost: &[bool]) -> usize
     requires apart { IsDistinct same_atom names.now }
     requires places { ArePlaces names.now lost.now }

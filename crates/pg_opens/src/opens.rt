@@ -61,9 +61,11 @@ impl Opens {
     ghost use Rattle.pg_opens.specs.TakenBack.{command_taken_back, ok_taken_back};
     ghost use Rattle.pg_opens.specs.Twins.{same_commands};
 
-    /// No command is open, no reference was made and no loss was seen. Two allocations.
+    /// No command is open, no reference was made and no loss was seen.
     ///
-    /// Error: `AllocError`.
+    /// Errors: `AllocError`.
+    ///
+    /// Cost: two allocations.
     pub fn new(alloc: Global, names: Vec<Atom>) -> Result<Opens, AllocError>
         requires some { 0 < length names.items }
         requires apart { IsDistinct same_atom names.items }
@@ -79,9 +81,11 @@ impl Opens {
         })
     }
 
-    /// The same nodes, and the same open commands with the same gathered. Its cost is that of the copies.
+    /// The same nodes, and the same open commands with the same gathered.
     ///
-    /// Error: `AllocError`.
+    /// Errors: `AllocError`.
+    ///
+    /// Cost: that of the copies.
     pub fn copy(&self) -> Result<Opens, AllocError>
         ensures { IfOk result (AreSame self.now) }
     {
@@ -96,21 +100,27 @@ impl Opens {
         })
     }
 
-    /// How many commands are open. It takes no memory.
+    /// How many commands are open.
+    ///
+    /// Cost: no memory.
     pub fn open_count(&self) -> usize
         ensures { result ≡ opened_of self.now }
     {
         self.commands.len()
     }
 
-    /// How many references were made. It takes no memory.
+    /// How many references were made.
+    ///
+    /// Cost: no memory.
     pub fn references(&self) -> u32
         ensures { result ≡ references_of self.now }
     {
         self.references
     }
 
-    /// What an open command gathers under the reference of this number. It takes no memory: O(open commands).
+    /// What an open command gathers under the reference of this number.
+    ///
+    /// Cost: no memory; O(open commands).
     pub fn gathering(&self, number: u32) -> Gathering
         ensures { result ≡ gathering_of (uses_of self.now number) }
     {
@@ -123,28 +133,36 @@ impl Opens {
         }
     }
 
-    /// Whether a command asks for the lock under the reference of this number. It takes no memory: O(open commands).
+    /// Whether a command asks for the lock under the reference of this number.
+    ///
+    /// Cost: no memory; O(open commands).
     pub fn is_locking(&self, number: u32) -> bool
         ensures { result ≡ is_locking (uses_of self.now number) }
     {
         self.gathering(number).is_lock()
     }
 
-    /// Whether an update goes out under the reference of this number. It takes no memory: O(open commands).
+    /// Whether an update goes out under the reference of this number.
+    ///
+    /// Cost: no memory; O(open commands).
     pub fn is_updating(&self, number: u32) -> bool
         ensures { result ≡ is_updating (uses_of self.now number) }
     {
         self.gathering(number).is_update()
     }
 
-    /// How many nodes have a name, the lost ones too. It takes no memory.
+    /// How many nodes have a name, the lost ones too.
+    ///
+    /// Cost: no memory.
     pub fn node_count(&self) -> usize
         ensures { result ≡ length (names_of self.now) }
     {
         self.names.len()
     }
 
-    /// The name of the node at a place. It takes no memory.
+    /// The name of the node at a place.
+    ///
+    /// Cost: no memory.
     pub fn name(&self, place: usize) -> &Atom
         requires { place < length (names_of self.now) }
         ensures { result.now ≡ name_at (names_of self.now) place }
@@ -152,9 +170,11 @@ impl Opens {
         &self.names[place]
     }
 
-    /// The place of the node of a name, lost or not. It takes no memory: O(nodes).
+    /// The place of the node of a name, lost or not.
     ///
     /// `None`: no node of the set has that name.
+    ///
+    /// Cost: no memory; O(nodes).
     pub fn place_of_name(&self, name: &Atom) -> Option<usize>
         ensures node { is_node (whole_of self.now) name.now ≡ is_some result }
         ensures within { IfSome result (λ place. place < length (names_of self.now)) }
@@ -163,7 +183,9 @@ impl Opens {
         place_of_atom(&self.names, name)
     }
 
-    /// Whether the loss of the node at a place was seen: it counts no more. It takes no memory.
+    /// Whether the loss of the node at a place was seen: it counts no more.
+    ///
+    /// Cost: no memory.
     pub fn is_lost(&self, place: usize) -> bool
         requires { place < length (names_of self.now) }
         ensures { result ≡ lost_of self.now (name_at (names_of self.now) place) }
@@ -171,7 +193,9 @@ impl Opens {
         self.lost[place]
     }
 
-    /// Whether the node at a place is a peer that counts: what goes to every peer goes to it. It takes no memory.
+    /// Whether the node at a place is a live peer: what goes to every peer goes to it.
+    ///
+    /// Cost: no memory.
     pub fn is_left(&self, place: usize) -> bool
         requires { place < length (names_of self.now) }
         ensures { result ≡ is_peer (left_of self.now) (name_at (names_of self.now) place) }
@@ -179,8 +203,9 @@ impl Opens {
         place != 0 && !self.is_lost(place)
     }
 
-    /// The place of the greatest node that counts, by the order of atoms: who is asked for a lock first. It takes no memory:
-    /// O(nodes).
+    /// The place of the greatest live node, by the order of atoms: who is asked for a lock first.
+    ///
+    /// Cost: no memory; O(nodes).
     pub fn greatest(&self) -> usize
         ensures within { result < length (names_of self.now) }
         ensures counts { lost_of self.now (name_at (names_of self.now) result) ≡ false }
@@ -189,8 +214,10 @@ impl Opens {
         greatest_place(&self.names, &self.lost)
     }
 
-    /// Whether both know the same nodes by the same names, have seen the same losses, made as many references, and have the same
-    /// open commands with the same gathered, in whatever order. It takes no memory: O(open commands² + open commands * nodes).
+    /// Whether both know the same nodes by the same names, have seen the same losses, made as many references, and
+    /// have the same open commands with the same gathered, in whatever order.
+    ///
+    /// Cost: no memory; O(open commands² + open commands * nodes).
     pub fn same(&self, other: &Opens) -> bool
         ensures { IsTrue result ↔ AreSame self.now other.now }
     {
@@ -212,7 +239,9 @@ impl Opens {
             && have_twins(&other.commands, &self.commands)
     }
 
-    /// How a command stands. It takes no memory: O(open commands).
+    /// How far a command is.
+    ///
+    /// Cost: no memory; O(open commands).
     pub fn standing(&self, op: OpId) -> Standing
         ensures { result ≡ standing_of (stages_of self.now op) }
     {
@@ -225,7 +254,9 @@ impl Opens {
         }
     }
 
-    /// The open command at a place, of `open_count`: each stands at one of them. It takes no memory.
+    /// The open command at a place, of `open_count`: each is at one of them.
+    ///
+    /// Cost: no memory.
     pub fn op_at(&self, place: usize) -> OpId
         requires { place < opened_of self.now }
         ensures { slice_get (ops_of self.now) place ≡ Some result }
@@ -239,15 +270,19 @@ impl Opens {
         ensures { AreListed self.now (ops_of self.now) }
     {}
 
-    /// Whether a command is not open. It takes no memory: O(open commands).
+    /// Whether a command is not open.
+    ///
+    /// Cost: no memory; O(open commands).
     pub fn is_closed(&self, op: OpId) -> bool
         ensures { (result ≡ true) ↔ (stages_of self.now op ≡ Closed) }
     {
         self.standing(op).is_closed()
     }
 
-    /// What a reply of a node under the reference of this number is to what is gathered there. `place`: the node's, by the
-    /// names. It takes no memory: O(open commands).
+    /// What a reply of a node under the reference of this number is to what is gathered there. `place`: the node's,
+    /// by the names.
+    ///
+    /// Cost: no memory; O(open commands).
     pub fn heard(&self, number: u32, place: usize) -> Taken
         requires { place < length (names_of self.now) }
         ensures { result ≡ what_of true (gathered (uses_of self.now number) (name_at (names_of self.now) place)) }
@@ -261,7 +296,9 @@ impl Opens {
         }
     }
 
-    /// The update of the command that gathers under the reference of this number. It takes no memory: O(open commands).
+    /// The update of the command that gathers under the reference of this number.
+    ///
+    /// Cost: no memory; O(open commands).
     pub fn update(&self, number: u32) -> Option<&Update>
         ensures { option_copied result ≡ update_of (uses_of self.now number) }
     {
@@ -274,7 +311,9 @@ impl Opens {
         }
     }
 
-    /// The update of a command that waits for its retry, with no attempt under way. It takes no memory: O(open commands).
+    /// The update of a command that waits for its retry, with no attempt under way.
+    ///
+    /// Cost: no memory; O(open commands).
     pub fn waiting_update(&self, op: OpId) -> Option<&Update>
         ensures { option_copied result ≡ waiting_of (stages_of self.now op) }
     {
@@ -287,8 +326,10 @@ impl Opens {
         }
     }
 
-    /// Whether a node has granted the lock that is asked for under the reference of this number. `place`: the node's, by the
-    /// names. It takes no memory: O(open commands).
+    /// Whether a node has granted the lock that is asked for under the reference of this number. `place`: the node's,
+    /// by the names.
+    ///
+    /// Cost: no memory; O(open commands).
     pub fn has_granted(&self, number: u32, place: usize) -> bool
         requires locking { is_locking (uses_of self.now number) ≡ true }
         requires place { place < length (names_of self.now) }
@@ -305,9 +346,11 @@ impl Opens {
         }
     }
 
-    /// Whether the node at a place is asked for the lock under the reference of this number, where these are: it counts, is
-    /// one of them, and was not asked. A peer is sent the request exactly where it is asked. `place`: the node's, by the names. It
-    /// takes no memory: O(open commands).
+    /// Whether the node at a place is asked for the lock under the reference of this number, where these are: it
+    /// counts, is one of them, and was not asked. A peer is sent the request exactly where it is asked. `place`: the
+    /// node's, by the names.
+    ///
+    /// Cost: no memory; O(open commands).
     pub fn is_asked_by(&self, number: u32, who: Asked, place: usize) -> bool
         requires locking { is_locking (uses_of self.now number) ≡ true }
         requires who { has_place who (length (names_of self.now)) ≡ true }
@@ -331,8 +374,9 @@ impl Opens {
         }
     }
 
-    /// Whether a command waits for its retry: it has no attempt under way, or all has come that it gathers. It takes no
-    /// memory: O(open commands + nodes).
+    /// Whether a command waits for its retry: it has no attempt under way, or all has come that it gathers.
+    ///
+    /// Cost: no memory; O(open commands + nodes).
     pub fn waits(&self, op: OpId) -> bool
         ensures { (s : State) → Shows self.now s → result ≡ waits (left_of self.now) (stages_of self.now op) s }
     {
@@ -349,8 +393,9 @@ impl Opens {
         }
     }
 
-    /// Whether all has come that is gathered under the reference of this number, of the nodes that count. It takes no memory:
-    /// O(open commands + nodes).
+    /// Whether all has come that is gathered under the reference of this number, of the live nodes.
+    ///
+    /// Cost: no memory; O(open commands + nodes).
     pub fn is_complete(&self, number: u32) -> bool
         ensures { result ≡ is_complete (left_of self.now) (uses_of self.now number) }
     {
@@ -363,8 +408,10 @@ impl Opens {
         }
     }
 
-    /// What follows for the request for the lock under the reference of this number. `granted`: what the own node would
-    /// answer, were it asked. It takes no memory: O(open commands + nodes).
+    /// What follows for the request for the lock under the reference of this number. `granted`: what the own node
+    /// would answer, were it asked.
+    ///
+    /// Cost: no memory; O(open commands + nodes).
     pub fn outlook(&self, number: u32, granted: bool) -> Outlook
         requires { is_locking (uses_of self.now number) ≡ true }
         ensures { result ≡ outlook_of (left_of self.now) granted (uses_of self.now number) }
@@ -378,8 +425,10 @@ impl Opens {
         }
     }
 
-    /// A command that waits begins an attempt, under the next reference. `first`: the node that is asked first, by the names.
-    /// It takes no memory: O(open commands + nodes).
+    /// A command that waits begins an attempt, under the next reference. `first`: the node that is asked first, by
+    /// the names.
+    ///
+    /// Cost: no memory; O(open commands + nodes).
     pub fn start(&mut self, op: OpId, first: usize)
         requires waits { standing_of (stages_of self.old op) ≡ Standing.Waiting }
         requires first { first < length (names_of self.old) }
@@ -396,8 +445,10 @@ impl Opens {
         }
     }
 
-    /// These nodes are asked for the lock, those of them that were not and that count. `granted`: what the own node answers,
-    /// by its rule for a peer's request. It takes no memory: O(open commands + nodes).
+    /// These nodes are asked for the lock, those of them that were not and that are live. `granted`: what the own
+    /// node answers, by its rule for a peer's request.
+    ///
+    /// Cost: no memory; O(open commands + nodes).
     pub fn ask(&mut self, number: u32, who: Asked, granted: bool)
         requires locking { is_locking (uses_of self.old number) ≡ true }
         requires who { has_place who (length (names_of self.old)) ≡ true }
@@ -413,8 +464,9 @@ impl Opens {
         }
     }
 
-    /// The answer of a node to the request for the lock is counted. `place`: the node's, by the names. It takes no memory:
-    /// O(open commands).
+    /// The answer of a node to the request for the lock is counted. `place`: the node's, by the names.
+    ///
+    /// Cost: no memory; O(open commands).
     pub fn count_answer(&mut self, number: u32, place: usize, granted: bool)
         requires locking { is_locking (uses_of self.old number) ≡ true }
         requires place { place < length (names_of self.old) }
@@ -429,7 +481,9 @@ impl Opens {
         }
     }
 
-    /// The ok of a node is counted. `place`: the node's, by the names. It takes no memory: O(open commands).
+    /// The ok of a node is counted. `place`: the node's, by the names.
+    ///
+    /// Cost: no memory; O(open commands).
     pub fn count_ok(&mut self, number: u32, place: usize)
         requires updating { is_updating (uses_of self.old number) ≡ true }
         requires place { place < length (names_of self.old) }
@@ -444,8 +498,10 @@ impl Opens {
         }
     }
 
-    /// The answer of a node to the request for the lock is taken back: it has not answered. `place`: the node's, by the names.
-    /// It takes no memory: O(open commands).
+    /// The answer of a node to the request for the lock is taken back: it has not answered. `place`: the node's, by
+    /// the names.
+    ///
+    /// Cost: no memory; O(open commands).
     pub fn take_back_answer(&mut self, number: u32, place: usize)
         requires locking { is_locking (uses_of self.old number) ≡ true }
         requires place { place < length (names_of self.old) }
@@ -460,8 +516,9 @@ impl Opens {
         }
     }
 
-    /// The ok of a node is taken back: it has not replied. `place`: the node's, by the names. It takes no memory:
-    /// O(open commands).
+    /// The ok of a node is taken back: it has not replied. `place`: the node's, by the names.
+    ///
+    /// Cost: no memory; O(open commands).
     pub fn take_back_ok(&mut self, number: u32, place: usize)
         requires updating { is_updating (uses_of self.old number) ≡ true }
         requires place { place < length (names_of self.old) }
@@ -476,7 +533,9 @@ impl Opens {
         }
     }
 
-    /// The attempt is given up, and its command waits for the retry. It takes no memory: O(open commands).
+    /// The attempt is given up, and its command waits for the retry.
+    ///
+    /// Cost: no memory; O(open commands).
     pub fn give_up(&mut self, number: u32)
         requires locking { is_locking (uses_of self.old number) ≡ true }
         ensures turned { (op : OpId) (update : Update) (first : Node) (st : Node → Status)
@@ -490,8 +549,9 @@ impl Opens {
         }
     }
 
-    /// The update begins, under the next reference, and the own node has applied it. It takes no memory:
-    /// O(open commands + nodes).
+    /// The update begins, under the next reference, and the own node has applied it.
+    ///
+    /// Cost: no memory; O(open commands + nodes).
     pub fn begin(&mut self, number: u32)
         requires locking { is_locking (uses_of self.old number) ≡ true }
         requires next { references_of self.old + 1 < 2 ^ 32 }
@@ -508,7 +568,9 @@ impl Opens {
         }
     }
 
-    /// The command ends, whose update every node has applied, and is open no more. It takes no memory: O(open commands).
+    /// The command ends, whose update every node has applied, and is open no more.
+    ///
+    /// Cost: no memory; O(open commands).
     pub fn finish(&mut self, number: u32)
         requires updating { is_updating (uses_of self.old number) ≡ true }
         ensures turned { (op : OpId) (update : Update) (lock : ℕ) (replied : Node → Bool)
@@ -521,9 +583,11 @@ impl Opens {
         }
     }
 
-    /// Makes room for one more command. Nothing else changes. Two allocations at most.
+    /// Makes room for one more command. Nothing else changes.
     ///
-    /// Error: `AllocError`, by which nothing changes either.
+    /// Errors: `AllocError`, which changes nothing.
+    ///
+    /// Cost: two allocations at most.
     pub fn reserve(&mut self, alloc: Global) -> Result<Room, AllocError>
         ensures same { Follows self.old self.new becomes }
         ensures nodes { names_of self.new ≡ names_of self.old }
@@ -535,7 +599,9 @@ impl Opens {
         Ok(Room { marks })
     }
 
-    /// Opens a command, for which room was made. It takes no memory.
+    /// Opens a command, for which room was made.
+    ///
+    /// Cost: no memory.
     pub fn add(&mut self, op: OpId, update: Update, room: Room)
         requires room { has_room self.old }
         requires places { places_of room ≡ length (names_of self.old) }
@@ -551,7 +617,9 @@ impl Opens {
         });
     }
 
-    /// A command that waits is taken back, as if it had not been opened. It takes no memory: O(open commands).
+    /// A command that waits is taken back, as if it had not been opened.
+    ///
+    /// Cost: no memory; O(open commands).
     pub fn take_back(&mut self, op: OpId)
         requires waits { standing_of (stages_of self.old op) ≡ Standing.Waiting }
         ensures turned { Follows self.old self.new (command_taken_back op) }
@@ -562,8 +630,10 @@ impl Opens {
         }
     }
 
-    /// Sees the loss of a peer: it counts no more, and what is gathered forgets it. `place`: the peer's, by the names. It
-    /// takes no memory: O(open commands).
+    /// Sees the loss of a peer: it counts no more, and what is gathered forgets it. `place`: the peer's, by the
+    /// names.
+    ///
+    /// Cost: no memory; O(open commands).
     pub fn lose(&mut self, place: usize)
         requires place { place < length (names_of self.old) }
         requires peer { 0 < place }

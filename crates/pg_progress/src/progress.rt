@@ -18,12 +18,14 @@ const BETWEEN_READINGS: u128 = 125;
 /// How many milliseconds a line stands before it is written anew.
 const BETWEEN_LINES: u128 = 1_000;
 
-/// A line `answered X of Y` that shows how far some work is, where there is a terminal. It is written anew over itself about once a second.
+/// A line `WORD X of Y` that shows how far some work is, where there is a terminal. It is written anew over itself about once a second.
 #[derive(Drop)]
 pub struct Progress<T, C> {
     /// Where it is shown.
     pub terminal: T,
     clock: C,
+    // What was done of so many.
+    word: &'static str,
     is_terminal: bool,
     // When the line was written last; `None`: no line stands.
     written: Option<Instant>,
@@ -36,14 +38,15 @@ pub struct Progress<T, C> {
 }
 
 impl<T: Write + IsTerminal, C: Clock> Progress<T, C> {
-    /// No line stands yet.
-    pub fn new(terminal: T, clock: C) -> Progress<T, C>
+    /// No line stands yet. `word`: what the line says was done of so many.
+    pub fn new(terminal: T, clock: C, word: &'static str) -> Progress<T, C>
         ensures { result.terminal ≡ terminal }
     {
         let is_terminal = terminal.is_terminal();
         Progress {
             terminal,
             clock,
+            word,
             is_terminal,
             written: None,
             read: None,
@@ -65,9 +68,12 @@ impl<T: Write, C: Clock> Progress<T, C> {
         self.left = 0;
     }
 
-    /// Shows that so many are answered of so many, if it is time to write the line anew. It takes no memory, and reads the clock only now and then: once
-    /// in 4,097 looks, and more often only where these would take longer than an eighth of a second. A write that fails changes nothing else.
-    pub fn look(&mut self, answered: u64, asked: u64)
+    /// Shows that so many are done of so many, if it is time to write the line anew. A write that fails changes
+    /// nothing else.
+    ///
+    /// Cost: no memory, and reads the clock only now and then: once in 4,097 looks, and more often only where these
+    /// would take longer than an eighth of a second.
+    pub fn look(&mut self, done: u64, all: u64)
         ensures elsewhere { IsFalse self.old.is_terminal → self.new ≡ self.old }
     {
         if !self.is_terminal {
@@ -77,11 +83,11 @@ impl<T: Write, C: Clock> Progress<T, C> {
             self.left -= 1;
             return;
         }
-        self.show(answered, asked);
+        self.show(done, all);
     }
 
     /// Reads the clock, and writes the line anew if it is time to; a write that fails changes nothing else.
-    fn show(&mut self, answered: u64, asked: u64)
+    fn show(&mut self, done: u64, all: u64)
         requires { IsTrue self.old.is_terminal }
     {
         let Ok(now) = Instant::now(&self.clock) else {
@@ -91,7 +97,7 @@ impl<T: Write, C: Clock> Progress<T, C> {
         self.pass(now);
         if has_gone_by(self.written, now, BETWEEN_LINES) {
             self.written = Some(now);
-            let _ = write_line(&mut self.terminal, answered, asked);
+            let _ = write_line(&mut self.terminal, self.word, done, all);
         }
     }
 
@@ -100,6 +106,7 @@ impl<T: Write, C: Clock> Progress<T, C> {
         ensures few { self.new.left ≤ 4_096 }
         ensures terminal { self.new.terminal ≡ self.old.terminal }
         ensures is_terminal { self.new.is_terminal ≡ self.old.is_terminal }
+        ensures word { self.new.word.now ≡ self.old.word.now }
         ensures written { self.new.written ≡ self.old.written }
     {
         let passed = if has_gone_by(self.read, now, BETWEEN_READINGS) {
@@ -125,17 +132,17 @@ fn has_gone_by(since: Option<Instant>, now: Instant, milliseconds: u128) -> bool
 
 /// Writes how far the work is, over the line that stands.
 ///
-/// Error: that of the writer.
-fn write_line<W: Write>(out: &mut W, answered: u64, asked: u64) -> io::Result<()>
-    ensures { OnOk result (Appends (W.contents out.old) (W.contents out.new) (progress_line answered asked)) }
+/// Errors: that of the writer.
+fn write_line<W: Write>(out: &mut W, word: &str, done: u64, all: u64) -> io::Result<()>
+    ensures { OnOk result (Appends (W.contents out.old) (W.contents out.new) (progress_line word.now done all)) }
 {
-    write!(out, "\ranswered {answered} of {asked}")?;
+    write!(out, "\r{word} {done} of {all}")?;
     out.flush()
 }
 
 /// Wipes the line that stands.
 ///
-/// Error: that of the writer.
+/// Errors: that of the writer.
 fn wipe<W: Write>(out: &mut W) -> io::Result<()>
     ensures { OnOk result (Appends (W.contents out.old) (W.contents out.new) wiped_line) }
 {

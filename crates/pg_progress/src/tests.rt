@@ -113,7 +113,7 @@ fn check_screen(rt: &impl Abort, alloc: Global, is_terminal: bool) {
         text: Vec::new(alloc),
         is_terminal,
     };
-    let mut progress = Progress::new(screen, &hand);
+    let mut progress = Progress::new(screen, &hand, "answered");
     check(rt, &hand, &mut progress, is_terminal);
 }
 

@@ -9,11 +9,14 @@ use crate::fault::QueryFault;
 use pg_group::{GroupTable, Scope, one_member_list};
 use pg_term::{Atom, Pid, Term};
 
-/// The member of a group that a word picks: a local one where there is one, else any (`get_closest_pid/1` of the pg2
-/// manual page). The place is `word` modulo the length of the list, counted from 0, the list being in the order of pids,
-/// each as often as its count. It takes no memory. Its cost is that of two sizes and one place of the table.
+/// The member of a group that a word picks: a local one where there is one, else any. The place is `word` modulo the
+/// length of the list, counted from 0, the list being in the order of pids, each as often as its count.
 ///
-/// Faults: `NoSuchGroup` where the group is absent, `NoMember` where it has no member.
+/// Errors: `NoSuchGroup` where the group is absent; `NoMember` where it has no member.
+///
+/// Cost: no memory; that of two sizes and one place of the table.
+///
+/// The rule: `get_closest_pid/1` of the pg2 manual page, with the word in place of its random choice.
 pub fn closest<'a, T: GroupTable>(
     table: &'a T,
     own: &Atom,

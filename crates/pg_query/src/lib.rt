@@ -1,6 +1,7 @@
-//! What a node tells of its groups: it reads its own table and takes no lock.
+//! What a node answers of its groups: it reads its own table and takes no lock.
 //!
-//! `closest(&table, &own, &name, word)?` is the member that a word picks. Begin with `src/lists.rt`, then `specs/Closest.antt`.
+//! `closest(&table, &own, &name, word)?` is the member that a word picks. Begin with `src/lists.rt`, then
+//! `specs/Closest.antt`.
 #![tactic(auto)]
 
 mod choice;

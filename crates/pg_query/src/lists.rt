@@ -11,9 +11,13 @@ use pg_group::{GroupTable, Scope};
 use pg_term::{Atom, Items, Pid, Term};
 use std::alloc::{AllocError, Global};
 
-/// All members of a group, in the order of pids, each as often as its count (`get_members/1` of the pg2 manual page).
+/// All members of a group, in the order of pids, each as often as its count.
 ///
-/// Faults: `NoSuchGroup` where the group is absent; else `OutOfMemory`. Its cost is that of the table's `list`.
+/// Errors: `NoSuchGroup` where the group is absent; else `OutOfMemory`.
+///
+/// Cost: that of the table's `list`.
+///
+/// The rule: `get_members/1` of the pg2 manual page.
 pub fn members<T: GroupTable>(
     alloc: Global,
     table: &T,
@@ -29,9 +33,13 @@ pub fn members<T: GroupTable>(
     Ok(Items::from_vec(table.list(alloc, name, Scope::All)?))
 }
 
-/// The members of a group on one node, in the same form (`get_local_members/1` of the pg2 manual page).
+/// The members of a group on one node, in the order of pids, each as often as its count.
 ///
-/// Faults: `NoSuchGroup` where the group is absent; else `OutOfMemory`.
+/// Errors: `NoSuchGroup` where the group is absent; else `OutOfMemory`.
+///
+/// Cost: that of the table's `list`.
+///
+/// The rule: `get_local_members/1` of the pg2 manual page.
 pub fn local_members<T: GroupTable>(
     alloc: Global,
     table: &T,
@@ -48,7 +56,13 @@ pub fn local_members<T: GroupTable>(
     Ok(Items::from_vec(table.list(alloc, name, Scope::At(own))?))
 }
 
-/// The names of all groups, in the order of terms (`which_groups/0` of the pg2 manual page).
+/// The names of all groups, in the order of terms.
+///
+/// Errors: `AllocError`.
+///
+/// Cost: that of the table's `groups`.
+///
+/// The rule: `which_groups/0` of the pg2 manual page.
 pub fn which_groups<T: GroupTable>(table: &T) -> Result<Items<Term>, AllocError>
     ensures names { IfOk result (AreNames (T.contents table.now)) }
     ensures ordered { IfOk result (IsSorted term_cmp) }

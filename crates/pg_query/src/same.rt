@@ -10,8 +10,10 @@ use std::alloc::{AllocError, Global};
 
 /// Whether two tables say the same, however each is kept: the same groups, and of each the same members as often.
 ///
-/// Error: `AllocError`. Its cost is a `groups` of each table, a `has` of each for each name, and a `list` of each for each group of
-/// both, up to the first that differs.
+/// Errors: `AllocError`.
+///
+/// Cost: a `groups` of each table, a `has` of each for each name, and a `list` of each for each group of both, up to
+/// the first that differs.
 pub fn same_groups<T: GroupTable, U: GroupTable>(
     alloc: Global,
     one: &T,
@@ -51,9 +53,12 @@ fn agree_on<T: GroupTable, U: GroupTable>(
     Ok(true)
 }
 
-/// Whether two tables say the same of the group of a name: neither has it, or both have it with the same members as often.
+/// Whether two tables say the same of the group of a name: neither has it, or both have it with the same members as
+/// often.
 ///
-/// Error: `AllocError`. Its cost is a `has` and a `list` of each.
+/// Errors: `AllocError`.
+///
+/// Cost: a `has` and a `list` of each.
 pub fn same_group<T: GroupTable, U: GroupTable>(
     alloc: Global,
     one: &T,

@@ -21,7 +21,7 @@ use pg_term::{Atom, Pid, Reference, Term, TermFault};
 use pg_term_io::{decode_item, decode_pid, decode_reference, skip_item};
 use std::alloc::{AllocError, AllocFailed, Global};
 
-/// How many levels a name may nest. The term of a packet may nest 64, and a name stands in three tuples, as does the
+/// How many levels a name may nest. The term of a packet may nest 64, and a name is within three tuples, as is the
 /// node of an exchange.
 const NAME_LEVELS: u8 = 61;
 
@@ -55,8 +55,8 @@ impl<T: Drop> From<AllocFailed<T>> for Detour {
     }
 }
 
-/// The packet that a body spells, where all that stands around its parts is spelled as it is written. It takes memory
-/// for these parts alone, and to see that an exchange whose groups do not ascend names none twice.
+/// The packet that a body spells, where all that is around its parts is spelled as it is written. It takes memory for
+/// these parts alone, and to see that an exchange whose groups do not ascend names none twice.
 pub(crate) fn direct_packet(alloc: Global, body: &[u8]) -> Result<Packet, Detour>
     ensures { IfOk result (λ packet. packet_spelled body.now ≡ Ok packet) }
 {
@@ -192,7 +192,7 @@ fn node_at(alloc: Global, bytes: &[u8]) -> Result<(Atom, &[u8]), Detour>
     Ok((node, rest))
 }
 
-/// Whether groups may stand behind a node: of what tells none the names alone are built.
+/// Whether groups may follow a node: of what announces none the names alone are built.
 fn check_exchange(alloc: Global, bytes: &[u8]) -> Result<(), Detour> {
     let groups = skip_item(NAME_LEVELS, bytes)?;
     if !may_be_groups(alloc, NAME_LEVELS, groups)? {
@@ -310,7 +310,7 @@ fn request_at(alloc: Global, bytes: &[u8]) -> Result<(Request, &[u8]), Detour>
     }
 }
 
-/// A name, and a pid behind it.
+/// A name, and a pid after it.
 #[inline]
 fn named_pid_at(alloc: Global, bytes: &[u8]) -> Result<(Term, Pid, &[u8]), Detour>
     ensures terms { IfOk result (λ x. (mid : List ℕ)

@@ -1,4 +1,4 @@
-//! What an exchange tells: groups with their members.
+//! What an exchange announces: groups with their members.
 
 ghost use Rattle.std.specs.Prelude.{◌≡◌, IfOk};
 ghost use Rattle.std.specs.Option.{option_and_then, option_map};
@@ -10,7 +10,7 @@ use pg_message::{are_told_once, is_name};
 use pg_term::{Items, Pid, Term};
 use std::alloc::{AllocError, Global};
 
-/// The groups that a term tells, none of them named twice.
+/// The groups that a term spells, none of them named twice.
 pub(crate) fn groups(
     alloc: Global,
     term: Term,

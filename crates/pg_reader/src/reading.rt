@@ -21,17 +21,18 @@ use pg_term::{Reference, Term, TermFault};
 use pg_term_io::{check_term, decode};
 use std::alloc::{AllocError, Global};
 
-/// The packet that a body spells, all of its bytes. The forms are those of the External Term Format chapter of the Erlang
-/// documentation; the messages are those of `gen_server`, `global` and `pg2` (their manual pages), `{down, Pid}` in the
-/// place of pg2's monitors.
+/// The packet that a body spells, all of its bytes.
 ///
-/// Faults, the first that holds: those of its term, as `pg_term_io::decode` tells them; `NotAMessage`, where the term
-/// has not the shape of a packet, a name in it is refused by `check_name`, an exchange names a group twice, or the
-/// stamp is negative; `StampTooLarge`. `OutOfMemory` may be told in place of a later fault.
+/// Errors: those of its term, as `pg_term_io::decode` has them; `NotAMessage`, where the term has not the shape of a
+/// packet, a name in it is refused by `check_name`, an exchange names a group twice, or the stamp is negative;
+/// `StampTooLarge`. `OutOfMemory` may come in place of a later one.
 ///
-/// The time is linear in the number of bytes, but for an exchange whose groups do not ascend in the order of terms: their
-/// names are looked up in a tree. Of a body that is spelled as it is written only the parts that stand in the message are
-/// built, and nothing of a body that is no term: it is walked over first, without memory.
+/// Cost: linear in the number of bytes, but for an exchange whose groups do not ascend in the order of terms: their
+/// names are looked up in a tree. Of a body that is spelled as it is written only the parts that are in the message
+/// are built, and nothing of a body that is no term: it is walked over first, without memory.
+///
+/// The rule: the forms are those of the External Term Format chapter of the Erlang documentation; the messages are
+/// those of `gen_server`, `global` and `pg2` (their manual pages), `{down, Pid}` in the place of pg2's monitors.
 pub fn read_packet(alloc: Global, body: &[u8]) -> Result<Packet, MessageFault>
     // What is read is spelled so.
     ensures found { IfOk result (λ packet. SpellsPacket packet body.now) }
@@ -92,7 +93,7 @@ fn packet_in(alloc: Global, parts: Vec<Term>) -> Result<Packet, MessageFault>
     }
 }
 
-// What is wrong with the stamp is told only where all else is right.
+// What is wrong with the stamp is given only where all else is right.
 fn stamped(
     message: Option<Message>,
     stamp: Result<u32, MessageFault>,

@@ -6,16 +6,20 @@ use crate::source::FIRST_WORDS;
 use pg_term::{Atom, Reference};
 use std::alloc::AllocError;
 
-/// The words of the reference of this number, as every node makes them: its creation is 1. It takes no memory.
+/// The words of the reference of this number, as every node makes them: its creation is 1.
+///
+/// Cost: no memory.
 pub fn words_of(number: u32) -> [u32; 3]
     ensures { result ≡ words_in number }
 {
     [number % FIRST_WORDS, number / FIRST_WORDS, 0]
 }
 
-/// The reference of this number that the node makes. One allocation.
+/// The reference of this number that the node makes.
 ///
-/// Error: `AllocError`.
+/// Errors: `AllocError`.
+///
+/// Cost: a copy of the name of the node.
 pub fn reference_of(node: &Atom, number: u32) -> Result<Reference, AllocError>
     ensures { IfOk result (λ reference. reference ≡ numbered node.now number) }
 {
@@ -27,8 +31,10 @@ pub fn reference_of(node: &Atom, number: u32) -> Result<Reference, AllocError>
     Ok(reference)
 }
 
-/// The number that the words of a reference tell, where it has this node, creation 1 and such words as the node's references have; `None`
-/// for any other. The node has made those from 1 to as many as its source counts. It takes no memory.
+/// The number whose words (`words_of`) the reference has, where its node is this one and its creation is 1; `None`
+/// for any other reference. Whether the node has made that reference is not looked at.
+///
+/// Cost: no memory.
 pub fn number_of(node: &Atom, reference: &Reference) -> Option<u32>
     ensures { result ≡ cond (ref_eq (numbered node.now (number_in reference.now)) reference.now
         && nat_lt (number_in reference.now) (2 ^ 32)) (Some (number_in reference.now)) None }

@@ -34,7 +34,9 @@ impl Model for RefSource {
 }
 
 impl RefSource {
-    /// No reference was made yet. It takes no memory.
+    /// No reference was made yet.
+    ///
+    /// Cost: no memory.
     pub fn new(node: Atom) -> RefSource
         ensures { result ≡ record { node = node; made = 0 } }
     {
@@ -42,9 +44,11 @@ impl RefSource {
     }
 
     /// The next reference: number c, counted from 1, has creation 1 and the words `c mod 2^18`, `c div 2^18` and 0
-    /// (`make_ref/0` of the erlang module makes references that are unique). One allocation.
+    /// (`make_ref/0` of the erlang module makes references that are unique).
     ///
-    /// Refusals, which change nothing: `ClockFull` once 2^31 were made; else `OutOfMemory`.
+    /// Errors: `ClockFull` once 2^31 were made; else `OutOfMemory`. They change nothing.
+    ///
+    /// Cost: a copy of the name of the node.
     pub fn next(&mut self) -> Result<Reference, RefFault>
         ensures value { IfOk result (λ reference. reference ≡ numbered self.old.node (self.old.made + 1)) }
         ensures ok { OnOk result (self.new ≡ record self.old { made = self.old.made + 1 }) }

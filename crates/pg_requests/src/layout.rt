@@ -44,7 +44,9 @@ impl Layout {
 
     /// That of nodes as they start: the clients of the first node come first.
     ///
-    /// Error: `AllocError`.
+    /// Errors: `AllocError`.
+    ///
+    /// Cost: memory for each node, with a copy of its name.
     pub fn of(alloc: Global, starts: &[Start]) -> Result<Layout, AllocError>
         ensures { IfOk result (λ layout. layout.nodes.items ≡ placed 0 starts.now) }
     {

@@ -17,7 +17,9 @@ use std::mem;
 
 /// The names `n1`, `n2` and so on, as many as `count` says.
 ///
-/// Error: `AllocError`.
+/// Errors: `AllocError`.
+///
+/// Cost: memory for each.
 pub fn node_names(alloc: Global, count: u16) -> Result<Vec<Atom>, AllocError>
     ensures count { IfOk result (λ names. length names.items ≡ count) }
     ensures names { IfOk result (λ names. AreNumbered names.items) }
@@ -31,7 +33,9 @@ pub fn node_names(alloc: Global, count: u16) -> Result<Vec<Atom>, AllocError>
 
 /// The name of the node of a number: `n1` of 1.
 ///
-/// Error: `AllocError`.
+/// Errors: `AllocError`.
+///
+/// Cost: memory for its text.
 pub fn node_name(alloc: Global, number: u32) -> Result<Atom, AllocError>
     ensures { IfOk result (λ name. name ≡ name_by number) }
 {
@@ -42,11 +46,13 @@ pub fn node_name(alloc: Global, number: u32) -> Result<Atom, AllocError>
     }
 }
 
-/// The nodes with these names as they start, each with so many ports. `members`: what they know then, by the text of one term, a list of
-/// `{Node, Made, [{Name, [Pid, ..]}, ..]}`. A node that does not come there made no process and knows no group, and of none is something told
-/// twice.
+/// The nodes with these names as they start, each with so many ports. `members`: what they know then, by the text of
+/// one term, a list of `{Node, Made, [{Name, [Pid, ..]}, ..]}`, in which no node comes twice. A node that does not
+/// come there made no process and knows no group.
 ///
-/// Faults: `BadText` exactly where it is no such text; else `OutOfMemory`.
+/// Errors: `BadText` exactly where it is no such text; else `OutOfMemory`.
+///
+/// Cost: that of reading the text, and of a copy of each name.
 pub fn starts_of(
     alloc: Global,
     names: &[Atom],
@@ -100,7 +106,7 @@ fn starts_by(
     }
 }
 
-/// Nodes of which nothing is told.
+/// Nodes of which nothing is known.
 fn bare_starts(alloc: Global, names: &[Atom], ports: u16) -> Result<Vec<Start>, AllocError>
     ensures { IfOk result (λ starts. starts.items ≡ map (bare ports) names.now) }
 {
@@ -117,7 +123,8 @@ fn bare_starts(alloc: Global, names: &[Atom], ports: u16) -> Result<Vec<Start>, 
     Ok(starts)
 }
 
-/// All that terms tell of these nodes, one after another; none where one tells of no node that is there and of which nothing was told.
+/// All that terms say of these nodes, one after another; none where one is of a node that is not there, or of which
+/// another was before.
 fn tell_all(
     alloc: Global,
     starts: Vec<Start>,
@@ -140,7 +147,7 @@ fn tell_all(
     Ok(Some(starts))
 }
 
-/// What is told takes the place of the node of its name, of which nothing was told; whether there is one.
+/// What is said takes the place of the node of its name, of which nothing was said; whether there is one.
 fn put(starts: &mut Vec<Start>, told: Start) -> bool
     ensures { cond result (Some starts.new.items) None ≡ put_told starts.old.items told }
 {
@@ -166,7 +173,7 @@ fn put_at(starts: &mut Vec<Start>, told: Start, place: usize) -> bool
     true
 }
 
-/// Whether nothing is told of a node.
+/// Whether nothing is said of a node.
 fn is_bare(start: &Start) -> bool
     ensures { result ≡ is_bare start.now }
 {
@@ -186,7 +193,7 @@ fn place_among(name: &Atom, starts: &[Start]) -> Option<usize>
     None
 }
 
-/// The node that a term `{Node, Made, [{Name, [Pid, ..]}, ..]}` tells of.
+/// The node that a term `{Node, Made, [{Name, [Pid, ..]}, ..]}` is of.
 fn node(alloc: Global, term: Term, ports: u16) -> Result<Option<Start>, AllocError>
     ensures { IfOk result (λ told. told ≡ node_of ports term) }
 {
@@ -251,7 +258,7 @@ fn starting(
     }
 }
 
-/// The groups that a term `[{Name, [Pid, ..]}, ..]` tells of.
+/// The groups that a term `[{Name, [Pid, ..]}, ..]` lists.
 fn groups_of(alloc: Global, term: Term) -> Result<Option<Items<(Term, Items<Pid>)>>, AllocError>
     ensures { IfOk result (λ groups. groups ≡ groups_of term) }
 {
@@ -282,7 +289,7 @@ fn all_groups(
     Ok(Some(groups))
 }
 
-/// The group that a term `{Name, [Pid, ..]}` tells of.
+/// The group that a term `{Name, [Pid, ..]}` is of.
 fn group(alloc: Global, term: Term) -> Result<Option<(Term, Items<Pid>)>, AllocError>
     ensures { IfOk result (λ group. group ≡ group_of term) }
 {
@@ -317,7 +324,7 @@ fn group_in(alloc: Global, parts: Vec<Term>) -> Result<Option<(Term, Items<Pid>)
     }
 }
 
-/// The pids that a term `[Pid, ..]` tells of.
+/// The pids that a term `[Pid, ..]` lists.
 fn pids_of(alloc: Global, term: Term) -> Result<Option<Items<Pid>>, AllocError>
     ensures { IfOk result (λ pids. pids ≡ pids_of term) }
 {

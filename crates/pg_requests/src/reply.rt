@@ -12,7 +12,7 @@ use std::alloc::{AllocError, Global};
 
 /// The atom of this word.
 ///
-/// Error: `AllocError`.
+/// Errors: `AllocError`.
 fn word(alloc: Global, text: &str) -> Result<Term, AllocError>
     ensures { IfOk result (λ term. term ≡ Word (chars text.now)) }
 {
@@ -59,7 +59,9 @@ fn error(alloc: Global, text: &str, what: Term) -> Result<Term, AllocError>
 
 /// `{refused, N}`.
 ///
-/// Error: `AllocError`.
+/// Errors: `AllocError`.
+///
+/// Cost: memory for the term.
 pub fn refused(alloc: Global, number: u8) -> Result<Term, AllocError>
     ensures { IfOk result (λ term. term ≡ refused_term number) }
 {
@@ -68,7 +70,9 @@ pub fn refused(alloc: Global, number: u8) -> Result<Term, AllocError>
 
 /// `{error, {node_lost, Node}}`.
 ///
-/// Error: `AllocError`.
+/// Errors: `AllocError`.
+///
+/// Cost: memory for the term, with a copy of the name.
 pub fn node_lost(alloc: Global, name: &Atom) -> Result<Term, AllocError>
     ensures { IfOk result (λ term. term ≡ node_lost_term name.now) }
 {
@@ -78,7 +82,9 @@ pub fn node_lost(alloc: Global, name: &Atom) -> Result<Term, AllocError>
 
 /// `{lost, Node}`.
 ///
-/// Error: `AllocError`.
+/// Errors: `AllocError`.
+///
+/// Cost: memory for the term, with a copy of the name.
 pub fn lost(alloc: Global, name: &Atom) -> Result<Term, AllocError>
     ensures { IfOk result (λ term. term ≡ lost_term name.now) }
 {
@@ -88,7 +94,9 @@ pub fn lost(alloc: Global, name: &Atom) -> Result<Term, AllocError>
 
 /// `{error, {bad_request, N}}`.
 ///
-/// Error: `AllocError`.
+/// Errors: `AllocError`.
+///
+/// Cost: memory for the term.
 pub fn bad_request(alloc: Global, number: u64) -> Result<Term, AllocError>
     ensures { IfOk result (λ term. term ≡ bad_request_term number) }
 {
@@ -104,7 +112,9 @@ fn counted(number: u64) -> Term
 
 /// A reply as a term.
 ///
-/// Error: `AllocError`.
+/// Errors: `AllocError`.
+///
+/// Cost: memory for the term; O(n) in what the reply lists.
 pub fn reply_term(alloc: Global, reply: Reply) -> Result<Term, AllocError>
     ensures { IfOk result (λ term. term ≡ reply_term reply) }
 {
@@ -133,7 +143,9 @@ fn pid_list(alloc: Global, pids: Vec<Pid>) -> Result<Term, AllocError>
 
 /// `{Node, Port, Number, Reply}`.
 ///
-/// Error: `AllocError`.
+/// Errors: `AllocError`.
+///
+/// Cost: memory for the tuple, with a copy of the name.
 pub fn numbered(
     alloc: Global,
     name: &Atom,

@@ -13,7 +13,9 @@ use crate::parts::{atom, elements, is_word, number, pid, small_number, three, tw
 use pg_step::Command;
 use pg_term::Term;
 
-/// What a term asks for: `{Node, Port, Command}` of a port, or `{lose, Node}`. It takes no memory.
+/// What a term asks for: `{Node, Port, Command}` of a port, or `{lose, Node}`.
+///
+/// Cost: no memory.
 pub fn read_request(term: Term, layout: &Layout) -> Input
     ensures { result ≡ input_of layout.now.nodes.items term }
 {

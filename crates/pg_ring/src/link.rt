@@ -8,8 +8,10 @@ pub trait Link {
     /// `moves a offered count`: of `offered` bytes the link `a` takes in `count`.
     ghost moves: { Self → ℕ → ℕ → Type 0 };
 
-    /// Appends the first bytes of `bytes` to what was sent, as many as the link takes now, and returns
-    /// how many. None where the link is full. Never waits, and takes no memory. O(bytes moved).
+    /// Appends the first bytes of `bytes` to what was sent, as many as the link takes now, and returns how many: none
+    /// where the link is full. It never waits.
+    ///
+    /// Cost: no memory; O(bytes moved).
     fn put(&mut self, bytes: &[u8]) -> usize
         ensures within { result ≤ length bytes.now }
         ensures moved { accepts self.old (take result bytes.now) self.new }
@@ -18,7 +20,7 @@ pub trait Link {
     // A link that took in nothing may be as it was.
     ghost rests: { (a : Self) → accepts a [] a };
 
-    // What is taken in twice is taken in, one behind the other.
+    // What is taken in twice is taken in, one after the other.
     ghost composes: { (a b c : Self) (xs ys : List ℕ) → accepts a xs b → accepts b ys c → accepts a (xs ++ ys) c };
 
     // One list of bytes leads from a link to what it became.
@@ -33,9 +35,10 @@ pub trait Inlet {
     /// `moves a asked count`: where `asked` bytes are asked for, the inlet `a` gives `count`.
     ghost moves: { Self → ℕ → ℕ → Type 0 };
 
-    /// Fills the first places of `into` with the next unread bytes, as many as there are now, and
-    /// returns how many; the other places stay. None where nothing is unread. Never waits, and takes
-    /// no memory. O(bytes moved).
+    /// Fills the first places of `into` with the next unread bytes, as many as there are now, and returns how many;
+    /// the other places stay. None where nothing is unread. It never waits.
+    ///
+    /// Cost: no memory; O(bytes moved).
     fn take(&mut self, into: &mut [u8]) -> usize
         ensures within { result ≤ length into.old }
         ensures moved { gives self.old (take result into.new) self.new }
@@ -45,7 +48,7 @@ pub trait Inlet {
     // An inlet that gave nothing may be as it was.
     ghost rests: { (a : Self) → gives a [] a };
 
-    // What is given twice is given, one behind the other.
+    // What is given twice is given, one after the other.
     ghost composes: { (a b c : Self) (xs ys : List ℕ) → gives a xs b → gives b ys c → gives a (xs ++ ys) c };
 
     // One list of bytes leads from an inlet to what it became.

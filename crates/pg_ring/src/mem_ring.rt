@@ -28,8 +28,9 @@ impl Model for MemRing {
 impl MemRing {
     /// An empty ring with room for `cap` bytes.
     ///
-    /// Errors, first one told: `BadCapacity` exactly where `cap` is 0 or above `MAX_CAPACITY`, and
-    /// `OutOfMemory`. O(`cap`).
+    /// Errors: `BadCapacity` exactly where `cap` is 0 or above `MAX_CAPACITY`; else `OutOfMemory`.
+    ///
+    /// Cost: O(`cap`).
     pub fn new(alloc: Global, cap: usize) -> Result<MemRing, RingFault>
         ensures unread { IfOk result (λ ring. ring.unread ≡ []) }
         ensures capacity { IfOk result (λ ring. ring.capacity ≡ cap) }
@@ -43,7 +44,9 @@ impl MemRing {
         Ok(MemRing { bytes })
     }
 
-    /// Whether no byte is there to be taken. It takes no memory.
+    /// Whether no byte is there to be taken.
+    ///
+    /// Cost: no memory.
     pub fn is_empty(&self) -> bool
         ensures { result ≡ (length self.now.unread == 0) }
     {
@@ -51,7 +54,7 @@ impl MemRing {
     }
 }
 
-/// The bytes are taken in behind those that are unread, as many as there is room for. Moves runs.
+/// The bytes are taken in after those that are unread, as many as there is room for. Moves runs.
 impl Link for MemRing {
     ghost accepts = { Grows };
 

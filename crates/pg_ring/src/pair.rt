@@ -11,8 +11,9 @@ use std::alloc::Global;
 
 /// The two ends of a new ring with room for `cap` bytes.
 ///
-/// Errors, first one told: `BadCapacity` exactly where `cap` is 0 or above `MAX_CAPACITY`, and
-/// `OutOfMemory`. O(`cap`).
+/// Errors: `BadCapacity` exactly where `cap` is 0 or above `MAX_CAPACITY`; else `OutOfMemory`.
+///
+/// Cost: O(`cap`).
 pub fn ring_pair(alloc: Global, cap: usize) -> Result<(RingOut, RingIn), RingFault>
     ensures ends { IfOk result (λ pair. AreEnds pair.0 pair.1) }
     ensures unsent { IfOk result (λ pair. bytes_sent pair.0 ≡ []) }
@@ -35,9 +36,11 @@ pub fn ring_pair(alloc: Global, cap: usize) -> Result<(RingOut, RingIn), RingFau
     Ok((RingOut { producer }, inlet))
 }
 
-/// Looks at both ends of one ring at once: what was received, and then what is left, is what was sent.
-/// A `take` right after it fills exactly the lesser of what is left and its room, and a `put` right after
-/// it knows of all the room that what is left does not take. Moves nothing, takes no memory. O(1).
+/// Looks at both ends of one ring at once: what was received, and then what is left, is what was sent. A `take` right
+/// after it fills exactly the lesser of what is left and its room, and a `put` right after it knows of all the room
+/// that what is left does not take. It moves nothing.
+///
+/// Cost: no memory; O(1).
 pub fn together(out: &mut RingOut, inlet: &mut RingIn)
     requires { AreEnds out.old inlet.old }
     ensures sent { Sends out.old [] out.new }

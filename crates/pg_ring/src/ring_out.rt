@@ -11,8 +11,8 @@ pub struct RingOut {
     pub(crate) producer: Producer<u8>,
 }
 
-/// The bytes are sent, behind those that were sent before. A move ends where the ring is found full,
-/// while the other end may be making room. One atomic store a call, whatever the number of bytes.
+/// The bytes are sent, after those that were sent before. A move ends where the ring is found full, while the other
+/// end may be making room. One atomic store a call, whatever the number of bytes.
 impl Link for RingOut {
     ghost accepts = { Sends };
 

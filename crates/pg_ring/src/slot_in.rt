@@ -11,8 +11,9 @@ pub struct SlotIn<T> {
 }
 
 impl<T> SlotIn<T> {
-    /// Takes the next value, or `None` where the ring is found empty; then nothing was taken. Never
-    /// waits, and takes no memory. O(1).
+    /// Takes the next value, or `None` where the ring is found empty; then nothing was taken. It never waits.
+    ///
+    /// Cost: no memory; O(1).
     pub fn take_one(&mut self) -> Option<T>
         ensures same { SameSlotIn self.old self.new }
         ensures some { IfSome result (λ value. taken self.new ≡ taken self.old ++ value ∷ []) }

@@ -10,8 +10,11 @@ pub struct SlotOut<T> {
 }
 
 impl<T> SlotOut<T> {
-    /// Gives a value, behind those that were given before, or hands it back where the ring is found
-    /// full; then nothing was given. Never waits, and takes no memory. O(1).
+    /// Gives a value, after those that were given before. It never waits.
+    ///
+    /// Errors: the value itself, where the ring is found full; then nothing was given.
+    ///
+    /// Cost: no memory; O(1).
     pub fn give(&mut self, value: T) -> Result<(), T>
         ensures same { SameSlotOut self.old self.new }
         ensures ok { OnOk result (given self.new ≡ given self.old ++ value ∷ []) }

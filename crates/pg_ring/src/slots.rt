@@ -11,8 +11,9 @@ use std::alloc::Global;
 
 /// The two ends of a new ring with room for `cap` values.
 ///
-/// Errors, first one told: `BadCapacity` exactly where `cap` is 0 or above `MAX_CAPACITY`, and
-/// `OutOfMemory`. O(`cap`).
+/// Errors: `BadCapacity` exactly where `cap` is 0 or above `MAX_CAPACITY`; else `OutOfMemory`.
+///
+/// Cost: O(`cap`).
 pub fn slot_pair<T: Drop>(alloc: Global, cap: usize) -> Result<(SlotOut<T>, SlotIn<T>), RingFault>
     ensures slots { IfOk result (λ pair. AreSlots pair.0 pair.1) }
     ensures ungiven { IfOk result (λ pair. given pair.0 ≡ []) }
@@ -30,9 +31,10 @@ pub fn slot_pair<T: Drop>(alloc: Global, cap: usize) -> Result<(SlotOut<T>, Slot
     Ok((SlotOut { producer }, SlotIn { consumer }))
 }
 
-/// Looks at both ends of one ring at once: the values taken, and then those left, are the values
-/// given, and the first end knows of all the room that those left do not take. Gives and takes nothing,
-/// takes no memory. O(1).
+/// Looks at both ends of one ring at once: the values taken, and then those left, are the values given, and the first
+/// end knows of all the room that those left do not take. It gives and takes nothing.
+///
+/// Cost: no memory; O(1).
 pub fn slots_together<T>(out: &mut SlotOut<T>, inlet: &mut SlotIn<T>)
     requires { AreSlots out.old inlet.old }
     ensures out { SameSlotOut out.old out.new }

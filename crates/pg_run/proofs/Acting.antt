@@ -4,15 +4,16 @@ use Rattle.std.proofs.lemmas.Bool.{cases_eq}
 use Rattle.std.specs.Prelude.{Bool, true, false, ◌||◌, ◌+◌, Result, Ok, Err, Option, Some, None}
 use Rattle.pg_group.specs.declared.table.GroupTable.{Ghosts}
 use Rattle.pg_machine.specs.Clocked.{Timed}
-use Rattle.pg_node.specs.declared.state.done.Done.{Done}
-use Rattle.pg_node.specs.declared.state.fault.NodeFault.{NodeFault}
-use Rattle.pg_node.specs.declared.state.fault.NodeFault.TheVariants.{Refused, OutOfMemory, TooLong, Message, Damaged}
-use Rattle.pg_node.specs.Issued.{ports_of}
+use Rattle.pg_node_state.specs.declared.state.done.Done.{Done}
+use Rattle.pg_node_state.specs.declared.state.fault.NodeFault.{NodeFault}
+use Rattle.pg_node_state.specs.declared.state.fault.NodeFault.TheVariants.{Refused, OutOfMemory, TooLong, Message, Damaged}
+use Rattle.pg_node_state.specs.Issued.{ports_of}
 use Rattle.pg_message.specs.declared.packet.Packet.{Packet}
 use Rattle.pg_node.specs.Bytes.{Tells, damages, marked}
-use Rattle.pg_node.specs.Links.{Link, at_link, frames_to}
+use Rattle.pg_node_state.specs.Frames.{frames_to}
+use Rattle.pg_node.specs.Links.{Link, at_link}
 use Rattle.pg_node.specs.Nodes.{held_by, links_of, read_next, step_link, taken_of, taken_as, ComesInRoom}
-use Rattle.pg_node.specs.States.{names_of, state_of, answers_of, stamped_of, Happens, Comes}
+use Rattle.pg_node_state.specs.States.{names_of, state_of, answers_of, stamped_of, Happens, Comes}
 use Rattle.pg_node.proofs.Events.{step_read}
 use Rattle.pg_run.specs.declared.linked.LinkedNode.{LinkedNode}
 use Rattle.pg_run.specs.Acts.{Act, Standing, Leads, event_of, is_from, losses_of}

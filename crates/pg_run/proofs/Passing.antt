@@ -2,7 +2,7 @@
 use Rattle.std.proofs.Common.{◌≡◌, ◌<◌, ◌≤◌, ◌+◌, ◌∙◌, ℕ, get_or, take, drop, length, List, [], ◌++◌, refl, sym, ap, subst, arith, length-append, length-drop, append-nil, inl}
 use Rattle.std.proofs.lemmas.Option.{slice_get-get_or}
 use Rattle.std.specs.Prelude.{slice_get, slice_set, IfSome, Result, Ok, Err, IfOk, OnErr}
-use Rattle.pg_node.specs.declared.state.fault.NodeFault.{NodeFault}
+use Rattle.pg_node_state.specs.declared.state.fault.NodeFault.{NodeFault}
 use Rattle.pg_node.specs.Links.{Link, at_link, without_front, with_fed}
 use Rattle.pg_run.specs.declared.linked.Peer.{Peer}
 use Rattle.pg_run.specs.Follows.{HaveMoved}

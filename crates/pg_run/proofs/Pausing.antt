@@ -143,10 +143,10 @@ due_is_over None due after passed = passed.later
 
 -- ---- in a turn
 
-pub due_as_passed : (lost : Bool) (before : Option Wait) (due : Bool) (after : Option Wait) → lost ≡ false → Passed before due after → is_due lost before ≡ due
-due_as_passed lost before due after same passed = ap (λ b. is_due b before) same ∙ sym (due_is_over before due after passed)
+pub due_as_passed : (ready : Bool) (before : Option Wait) (due : Bool) (after : Option Wait) → ready ≡ false → Passed before due after → is_due ready before ≡ due
+due_as_passed ready before due after same passed = ap (λ b. is_due b before) same ∙ sym (due_is_over before due after passed)
 
-pub waits_less : (lost strong weak : Bool) → (weak ≡ true → strong ≡ true) → (before after : Option Wait) → Waits lost strong before after → Waits lost weak before after
+pub waits_less : (ready strong weak : Bool) → (weak ≡ true → strong ≡ true) → (before after : Option Wait) → Waits ready strong before after → Waits ready weak before after
 waits_less true strong weak both before after h = h
 waits_less false true true both before after h = h
 waits_less false true false both before after h = inr h
@@ -154,7 +154,7 @@ waits_less false false true both before after h = absurd (let e = both refl in c
 waits_less false false false both before after h = h
 
 -- nothing passed in a phase that was not whole
-pub waits_still : (lost whole : Bool) → (whole ≡ true → ⊥) → (before after : Option Wait) → after ≡ before → Waits lost whole before after
+pub waits_still : (ready whole : Bool) → (whole ≡ true → ⊥) → (before after : Option Wait) → after ≡ before → Waits ready whole before after
 waits_still true whole short before after same = inl same
 waits_still false true short before after same = absurd (short refl)
 waits_still false false short before after same = inl same

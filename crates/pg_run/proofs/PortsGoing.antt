@@ -6,7 +6,7 @@ use Rattle.std.proofs.lemmas.Grind.{flat_map-append}
 use Rattle.std.proofs.lemmas.Option.{slice_get_within, get_or_from_slice_get}
 use Rattle.std.proofs.lemmas.List.{take_more, map-append, take-append-le, get_or-set_same, get_or-set_other, get_or_default, length-set}
 use Rattle.pg_group.specs.Functions.{upd}
-use Rattle.pg_node.specs.States.{Gave}
+use Rattle.pg_node_state.specs.States.{Gave}
 use Rattle.pg_opens.specs.Places.{name_at}
 use Rattle.pg_ring.specs.declared.slot_in.SlotIn.{SlotIn}
 use Rattle.pg_ring.specs.declared.slot_out.SlotOut.{SlotOut}

@@ -5,9 +5,9 @@ use Rattle.std.specs.List.{AllByRecursion, IsDistinct, list_any}
 use Rattle.std.proofs.lemmas.Bool.{cases_eq, le-ltb}
 use Rattle.std.proofs.lemmas.Map.Keys.{IsDistinct-head, IsDistinct-tail}
 use Rattle.pg_group.specs.declared.table.GroupTable.{Ghosts}
-use Rattle.pg_node.specs.declared.state.fault.NodeFault.{NodeFault}
-use Rattle.pg_node.specs.declared.state.fault.NodeFault.TheVariants.{Refused}
-use Rattle.pg_node.specs.Issued.{ports_of}
+use Rattle.pg_node_state.specs.declared.state.fault.NodeFault.{NodeFault}
+use Rattle.pg_node_state.specs.declared.state.fault.NodeFault.TheVariants.{Refused}
+use Rattle.pg_node_state.specs.Issued.{ports_of}
 use Rattle.pg_node.specs.Nodes.{held_by}
 use Rattle.pg_run.specs.declared.linked.LinkedNode.{LinkedNode}
 use Rattle.pg_run.specs.declared.log.NodeEvent.{NodeEvent}
@@ -97,34 +97,34 @@ pub record IsBelow (op : OpId) (ops : List OpId) (place : ℕ) : Type 0 where
   pub low : at < place
   pub there : slice_get ops at ≡ Some op
 
-abbrev pub IsRetryBelow : List OpId → ℕ → (lost : Bool) → Pauses → Pauses → NodeEvent → Type 0
-IsRetryBelow ops place lost p q (events.Take peer) = ⊥
-IsRetryBelow ops place lost p q (events.Command port command) = ⊥
-IsRetryBelow ops place lost p q (events.Retry op) = IsBelow op ops place × (is_due lost (wait_of p op) ≡ true) × (begins_next (wait_of q op) ≡ true)
-IsRetryBelow ops place lost p q (events.SeeLoss peer) = ⊥
+abbrev pub IsRetryBelow : List OpId → ℕ → (ready : OpId → Bool) → Pauses → Pauses → NodeEvent → Type 0
+IsRetryBelow ops place ready p q (events.Take peer) = ⊥
+IsRetryBelow ops place ready p q (events.Command port command) = ⊥
+IsRetryBelow ops place ready p q (events.Retry op) = IsBelow op ops place × (is_due (ready op) (wait_of p op) ≡ true) × (begins_next (wait_of q op) ≡ true)
+IsRetryBelow ops place ready p q (events.SeeLoss peer) = ⊥
 
-pub due_below : (ops : List OpId) (place : ℕ) (lost : Bool) (p q : Pauses) (event : NodeEvent) → IsRetryBelow ops place lost p q event → IsDueRetry lost p q event
-due_below ops place lost p q (events.Take peer) h = h
-due_below ops place lost p q (events.Command port command) h = h
-due_below ops place lost p q (events.Retry op) h = (h.1, h.2)
-due_below ops place lost p q (events.SeeLoss peer) h = h
+pub due_below : (ops : List OpId) (place : ℕ) (ready : OpId → Bool) (p q : Pauses) (event : NodeEvent) → IsRetryBelow ops place ready p q event → IsDueRetry ready p q event
+due_below ops place ready p q (events.Take peer) h = h
+due_below ops place ready p q (events.Command port command) h = h
+due_below ops place ready p q (events.Retry op) h = (h.1, h.2)
+due_below ops place ready p q (events.SeeLoss peer) h = h
 
-pub logs_due : (ops : List OpId) (place : ℕ) (lost : Bool) (p q : Pauses) (log log2 : List (ℕ × NodeEvent)) → LogsOnly (IsRetryBelow ops place lost p q) log log2 → LogsOnly (IsDueRetry lost p q) log log2
-logs_due ops place lost p q log log2 h = record {
+pub logs_due : (ops : List OpId) (place : ℕ) (ready : OpId → Bool) (p q : Pauses) (log log2 : List (ℕ × NodeEvent)) → LogsOnly (IsRetryBelow ops place ready p q) log log2 → LogsOnly (IsDueRetry ready p q) log log2
+logs_due ops place ready p q log log2 h = record {
   more = h.more;
   grew = h.grew;
-  each = are_so (IsRetryBelow ops place lost p q) (IsDueRetry lost p q) (due_below ops place lost p q) h.more h.each;
+  each = are_so (IsRetryBelow ops place ready p q) (IsDueRetry ready p q) (due_below ops place ready p q) h.more h.each;
 }
 
 longer : (log : List (ℕ × NodeEvent)) (entry : ℕ × NodeEvent) → log ≡ log ++ entry ∷ [] → ⊥
 longer log entry e = absurd (let n = ap length e ∙ length-append log (entry ∷ []) in omega (arith, n))
 
-module _ (ops : List OpId) (once : IsDistinct same_op ops) (place : ℕ) (op : OpId) (at : slice_get ops place ≡ Some op) (lost : Bool) (p q r : Pauses)
+module _ (ops : List OpId) (once : IsDistinct same_op ops) (place : ℕ) (op : OpId) (at : slice_get ops place ≡ Some op) (ready : OpId → Bool) (p q r : Pauses)
     (others : (other : OpId) → other ≢ op → wait_of r other ≡ wait_of q other) where
   apart_below : (o : OpId) → IsBelow o ops place → o ≢ op
   apart_below o below same = apart_at ops once below.at place op below.low (below.there ∙ ap Some same) at
 
-  one_further : (event : NodeEvent) → IsRetryBelow ops place lost p q event → IsRetryBelow ops (place + 1) lost p r event
+  one_further : (event : NodeEvent) → IsRetryBelow ops place ready p q event → IsRetryBelow ops (place + 1) ready p r event
   one_further (events.Take peer) h = h
   one_further (events.Command port command) h = h
   one_further (events.Retry o) h = (
@@ -135,33 +135,33 @@ module _ (ops : List OpId) (once : IsDistinct same_op ops) (place : ℕ) (op : O
   one_further (events.SeeLoss peer) h = h
 
   -- what one more logs
-  pub logs_one_more : (log log2 log3 : List (ℕ × NodeEvent)) → wait_of q op ≡ wait_of p op → LogsOnly (IsRetryBelow ops place lost p q) log log2 → MayLogRetry op r log2 log3
-      → (is_due lost (wait_of q op) ≡ false → log3 ≡ log2) → LogsOnly (IsRetryBelow ops (place + 1) lost p r) log log3
+  pub logs_one_more : (log log2 log3 : List (ℕ × NodeEvent)) → wait_of q op ≡ wait_of p op → LogsOnly (IsRetryBelow ops place ready p q) log log2 → MayLogRetry op r log2 log3
+      → (is_due (ready op) (wait_of q op) ≡ false → log3 ≡ log2) → LogsOnly (IsRetryBelow ops (place + 1) ready p r) log log3
   logs_one_more log log2 log3 same was (inl still) spared = record {
     more = was.more;
     grew = still ∙ was.grew;
-    each = are_so (IsRetryBelow ops place lost p q) (IsRetryBelow ops (place + 1) lost p r) one_further was.more was.each;
+    each = are_so (IsRetryBelow ops place ready p q) (IsRetryBelow ops (place + 1) ready p r) one_further was.more was.each;
   }
-  logs_one_more log log2 log3 same was (inr retry) spared = go (is_due lost (wait_of q op)) refl
+  logs_one_more log log2 log3 same was (inr retry) spared = go (is_due (ready op) (wait_of q op)) refl
     where
-      go : (b : Bool) → is_due lost (wait_of q op) ≡ b → LogsOnly (IsRetryBelow ops (place + 1) lost p r) log log3
+      go : (b : Bool) → is_due (ready op) (wait_of q op) ≡ b → LogsOnly (IsRetryBelow ops (place + 1) ready p r) log log3
       go false not_due = absurd (longer log2 (retry.clock, events.Retry op) (sym (spared not_due) ∙ retry.grew))
-      go true due = logs_on (IsRetryBelow ops (place + 1) lost p r) log log2 log3
-          (record { more = was.more; grew = was.grew; each = are_so (IsRetryBelow ops place lost p q) (IsRetryBelow ops (place + 1) lost p r) one_further was.more was.each })
+      go true due = logs_on (IsRetryBelow ops (place + 1) ready p r) log log2 log3
+          (record { more = was.more; grew = was.grew; each = are_so (IsRetryBelow ops place ready p q) (IsRetryBelow ops (place + 1) ready p r) one_further was.more was.each })
           (record {
             more = (retry.clock, events.Retry op) ∷ [];
             grew = retry.grew;
-            each = ((record { at = place; low = omega arith; there = at }, ap (is_due lost) (sym same) ∙ due, retry.begins), tt);
+            each = ((record { at = place; low = omega arith; there = at }, ap (is_due (ready op)) (sym same) ∙ due, retry.begins), tt);
           })
 
 module _ {T L I : Type 0} {g : Ghosts T} (accepts : L → List ℕ → L → Type 0) (gives : I → List ℕ → I → Type 0) where
   -- Those below a place fared as they are to: each that was due was tried, a turn passed for each, and only due ones were tried.
-  pub record RetriedBelow (ops : List OpId) (place : ℕ) (lost whole : Bool) (pauses pauses2 : Pauses) (a b : LinkedNode T L I g) : Type 0 where
+  pub record RetriedBelow (ops : List OpId) (place : ℕ) (ready : OpId → Bool) (whole : Bool) (pauses pauses2 : Pauses) (a b : LinkedNode T L I g) : Type 0 where
     pub goes : GoesOn accepts gives a b
-    pub tried : whole ≡ true → (k : ℕ) (op : OpId) → k < place → slice_get ops k ≡ Some op → is_due lost (wait_of pauses op) ≡ true → HasRetried accepts gives op a b
-    pub waits : (k : ℕ) (op : OpId) → k < place → slice_get ops k ≡ Some op → Waits lost whole (wait_of pauses op) (wait_of pauses2 op)
+    pub tried : whole ≡ true → (k : ℕ) (op : OpId) → k < place → slice_get ops k ≡ Some op → is_due (ready op) (wait_of pauses op) ≡ true → HasRetried accepts gives op a b
+    pub waits : (k : ℕ) (op : OpId) → k < place → slice_get ops k ≡ Some op → Waits (ready op) whole (wait_of pauses op) (wait_of pauses2 op)
     pub others : (op : OpId) → ((k : ℕ) → k < place → slice_get ops k ≡ Some op → ⊥) → wait_of pauses2 op ≡ wait_of pauses op
-    pub logs : LogsOnly (IsRetryBelow ops place lost pauses pauses2) (log_of a) (log_of b)
+    pub logs : LogsOnly (IsRetryBelow ops place ready pauses pauses2) (log_of a) (log_of b)
 
 module _ {T L I : Type 0} {g : Ghosts T} (accepts : L → List ℕ → L → Type 0) (gives : I → List ℕ → I → Type 0)
     (link_rests : (a : L) → accepts a [] a) (inlet_rests : (a : I) → gives a [] a)
@@ -228,26 +228,26 @@ module _ {T L I : Type 0} {g : Ghosts T} (accepts : L → List ℕ → L → Typ
 
   -- ---- one after another
 
-  pub retried_first : (ops : List OpId) (lost whole : Bool) (pauses : Pauses) (a : LinkedNode T L I g) → GoesOn accepts gives a a → RetriedBelow accepts gives ops 0 lost whole pauses pauses a a
-  retried_first ops lost whole pauses a goes = record {
+  pub retried_first : (ops : List OpId) (ready : OpId → Bool) (whole : Bool) (pauses : Pauses) (a : LinkedNode T L I g) → GoesOn accepts gives a a → RetriedBelow accepts gives ops 0 ready whole pauses pauses a a
+  retried_first ops ready whole pauses a goes = record {
     goes = goes;
     tried = λ is k op low. absurd (omega (arith, low));
     waits = λ k op low. absurd (omega (arith, low));
     others = λ op none. refl;
-    logs = logs_same (IsRetryBelow ops 0 lost pauses pauses) (log_of a) (log_of a) refl;
+    logs = logs_same (IsRetryBelow ops 0 ready pauses pauses) (log_of a) (log_of a) refl;
   }
 
-  pub retried_next : (ops : List OpId) → IsDistinct same_op ops → (place : ℕ) (op : OpId) (lost before here both : Bool) (p q r : Pauses) (a b c : LinkedNode T L I g) → slice_get ops place ≡ Some op
-      → (both ≡ true → before ≡ true) → (both ≡ true → here ≡ true) → RetriedBelow accepts gives ops place lost before p q a b
-      → GoesOn accepts gives a c → GoesOn accepts gives b c → (here ≡ true → is_due lost (wait_of q op) ≡ true → HasRetried accepts gives op b c)
-      → Waits lost here (wait_of q op) (wait_of r op) → MayLogRetry op r (log_of b) (log_of c) → (is_due lost (wait_of q op) ≡ false → log_of c ≡ log_of b)
-      → ((other : OpId) → other ≢ op → wait_of r other ≡ wait_of q other) → RetriedBelow accepts gives ops (place + 1) lost both p r a c
-  retried_next ops once place op lost before here both p q r a b c at first second was goes step tried waits logged spared others = record {
+  pub retried_next : (ops : List OpId) → IsDistinct same_op ops → (place : ℕ) (op : OpId) (ready : OpId → Bool) (before here both : Bool) (p q r : Pauses) (a b c : LinkedNode T L I g) → slice_get ops place ≡ Some op
+      → (both ≡ true → before ≡ true) → (both ≡ true → here ≡ true) → RetriedBelow accepts gives ops place ready before p q a b
+      → GoesOn accepts gives a c → GoesOn accepts gives b c → (here ≡ true → is_due (ready op) (wait_of q op) ≡ true → HasRetried accepts gives op b c)
+      → Waits (ready op) here (wait_of q op) (wait_of r op) → MayLogRetry op r (log_of b) (log_of c) → (is_due (ready op) (wait_of q op) ≡ false → log_of c ≡ log_of b)
+      → ((other : OpId) → other ≢ op → wait_of r other ≡ wait_of q other) → RetriedBelow accepts gives ops (place + 1) ready both p r a c
+  retried_next ops once place op ready before here both p q r a b c at first second was goes step tried waits logged spared others = record {
     goes = goes;
     tried = λ is k o low there due. by_place is k o low there due (cases_eq k place);
     waits = λ k o low there. waits_at_place k o low there (cases_eq k place);
     others = λ o none. others o (λ e. none place (omega arith) (at ∙ ap Some (sym e))) ∙ was.others o (λ k low there. none k (omega (arith, low)) there);
-    logs = logs_one_more ops once place op at lost p q r others (log_of a) (log_of b) (log_of c) same was.logs logged spared;
+    logs = logs_one_more ops once place op at ready p q r others (log_of a) (log_of b) (log_of c) same was.logs logged spared;
   }
     where
       one_of : Option OpId → OpId
@@ -261,29 +261,41 @@ module _ {T L I : Type 0} {g : Ghosts T} (accepts : L → List ℕ → L → Typ
       is_op : (k : ℕ) (o : OpId) → slice_get ops k ≡ Some o → k ≡ place → op ≡ o
       is_op k o there e = ap one_of (sym at ∙ (ap (slice_get ops) (sym e) ∙ there))
 
-      by_place : both ≡ true → (k : ℕ) (o : OpId) → k < place + 1 → slice_get ops k ≡ Some o → is_due lost (wait_of p o) ≡ true → (k ≡ place) ⊎ (k ≢ place) → HasRetried accepts gives o a c
+      by_place : both ≡ true → (k : ℕ) (o : OpId) → k < place + 1 → slice_get ops k ≡ Some o → is_due (ready o) (wait_of p o) ≡ true → (k ≡ place) ⊎ (k ≢ place) → HasRetried accepts gives o a c
       by_place is k o low there due (inl e) =
           let is_o : op ≡ o = is_op k o there e in
           subst (λ x. HasRetried accepts gives x a c) is_o
-          (retried_between op a b c c (was.goes.acts, was.goes.follows) (tried (second is) (ap (is_due lost) same ∙ subst (λ x. is_due lost (wait_of p x) ≡ true) (sym is_o) due)) (stay c))
+          (retried_between op a b c c (was.goes.acts, was.goes.follows) (tried (second is) (ap (is_due (ready op)) same ∙ subst (λ x. is_due (ready x) (wait_of p x) ≡ true) (sym is_o) due)) (stay c))
       by_place is k o low there due (inr apart) = retried_between o a a b c (stay a) (was.tried (first is) k o (omega (arith, low, apart)) there due) (step.acts, step.follows)
 
-      waits_at_place : (k : ℕ) (o : OpId) → k < place + 1 → slice_get ops k ≡ Some o → (k ≡ place) ⊎ (k ≢ place) → Waits lost both (wait_of p o) (wait_of r o)
+      waits_at_place : (k : ℕ) (o : OpId) → k < place + 1 → slice_get ops k ≡ Some o → (k ≡ place) ⊎ (k ≢ place) → Waits (ready o) both (wait_of p o) (wait_of r o)
       waits_at_place k o low there (inl e) =
-          subst (λ x. Waits lost both (wait_of p x) (wait_of r x)) (is_op k o there e) (subst (λ w. Waits lost both w (wait_of r op)) same (waits_less lost here both second _ _ waits))
+          subst (λ x. Waits (ready x) both (wait_of p x) (wait_of r x)) (is_op k o there e) (subst (λ w. Waits (ready op) both w (wait_of r op)) same (waits_less (ready op) here both second _ _ waits))
       waits_at_place k o low there (inr apart) =
           let below : k < place = omega (arith, low, apart) in
-          subst (Waits lost both (wait_of p o)) (sym (others o (λ e. apart_at ops once k place op below (there ∙ ap Some e) at)))
-          (waits_less lost before both first _ _ (was.waits k o below there))
+          subst (Waits (ready o) both (wait_of p o)) (sym (others o (λ e. apart_at ops once k place op below (there ∙ ap Some e) at)))
+          (waits_less (ready o) before both first _ _ (was.waits k o below there))
+
+  -- the same where it is marked whether the command is ready
+  pub retried_next_marked : (ops : List OpId) → IsDistinct same_op ops → (place : ℕ) (op : OpId) (ready : OpId → Bool) (marked : Bool) (before here both : Bool) (p q r : Pauses) (a b c : LinkedNode T L I g)
+      → slice_get ops place ≡ Some op → marked ≡ ready op
+      → (both ≡ true → before ≡ true) → (both ≡ true → here ≡ true) → RetriedBelow accepts gives ops place ready before p q a b
+      → GoesOn accepts gives a c → GoesOn accepts gives b c → (here ≡ true → is_due marked (wait_of q op) ≡ true → HasRetried accepts gives op b c)
+      → Waits marked here (wait_of q op) (wait_of r op) → MayLogRetry op r (log_of b) (log_of c) → (is_due marked (wait_of q op) ≡ false → log_of c ≡ log_of b)
+      → ((other : OpId) → other ≢ op → wait_of r other ≡ wait_of q other) → RetriedBelow accepts gives ops (place + 1) ready both p r a c
+  retried_next_marked ops once place op ready marked before here both p q r a b c at is first second was goes step tried waits logged spared others =
+      retried_next ops once place op ready before here both p q r a b c at first second was goes step
+      (λ h due. tried h (ap (λ m. is_due m (wait_of q op)) is ∙ due)) (subst (λ m. Waits m here (wait_of q op) (wait_of r op)) is waits) logged
+      (λ no. spared (ap (λ m. is_due m (wait_of q op)) is ∙ no)) others
 
   -- ---- all that wait
 
-  pub tried_where_waits : (ops : List OpId) (lost : Bool) (pauses : Pauses) (a b : LinkedNode T L I g) → ((op : OpId) → list_any (λ other. same_op other op) ops ≡ waits_at (node_of a) op)
-      → ((k : ℕ) (op : OpId) → slice_get ops k ≡ Some op → is_due lost (wait_of pauses op) ≡ true → HasRetried accepts gives op a b)
-      → (op : OpId) → waits_at (node_of a) op ≡ true → is_due lost (wait_of pauses op) ≡ true → HasRetried accepts gives op a b
-  tried_where_waits ops lost pauses a b each tried op waits due = let at = is_at op ops (each op ∙ waits) in tried at.place op at.there due
+  pub tried_where_waits : (ops : List OpId) (ready : OpId → Bool) (pauses : Pauses) (a b : LinkedNode T L I g) → ((op : OpId) → list_any (λ other. same_op other op) ops ≡ waits_at (node_of a) op)
+      → ((k : ℕ) (op : OpId) → slice_get ops k ≡ Some op → is_due (ready op) (wait_of pauses op) ≡ true → HasRetried accepts gives op a b)
+      → (op : OpId) → waits_at (node_of a) op ≡ true → is_due (ready op) (wait_of pauses op) ≡ true → HasRetried accepts gives op a b
+  tried_where_waits ops ready pauses a b each tried op waits due = let at = is_at op ops (each op ∙ waits) in tried at.place op at.there due
 
 -- what is so of each of these commands is so of each that waits
-pub where_waits : (ops : List OpId) (lost whole : Bool) (p q : Pauses) (waits : OpId → Bool) → ((op : OpId) → list_any (λ other. same_op other op) ops ≡ waits op)
-    → ((k : ℕ) (op : OpId) → slice_get ops k ≡ Some op → Waits lost whole (wait_of p op) (wait_of q op)) → (op : OpId) → waits op ≡ true → Waits lost whole (wait_of p op) (wait_of q op)
-where_waits ops lost whole p q waits each so op is = let at = is_at op ops (each op ∙ is) in so at.place op at.there
+pub where_waits : (ops : List OpId) (ready : OpId → Bool) (whole : Bool) (p q : Pauses) (waits : OpId → Bool) → ((op : OpId) → list_any (λ other. same_op other op) ops ≡ waits op)
+    → ((k : ℕ) (op : OpId) → slice_get ops k ≡ Some op → Waits (ready op) whole (wait_of p op) (wait_of q op)) → (op : OpId) → waits op ≡ true → Waits (ready op) whole (wait_of p op) (wait_of q op)
+where_waits ops ready whole p q waits each so op is = let at = is_at op ops (each op ∙ is) in so at.place op at.there

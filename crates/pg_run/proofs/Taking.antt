@@ -10,19 +10,20 @@ use Rattle.pg_message.specs.declared.fault.MessageFault.{MessageFault}
 use Rattle.pg_message.specs.declared.packet.Packet.{Packet}
 use Rattle.pg_message.specs.Reading.{packet_spelled}
 use Rattle.pg_node.specs.declared.node.Node.{Node}
-use Rattle.pg_node.specs.declared.state.done.Done.{Done}
-use Rattle.pg_node.specs.declared.state.fault.NodeFault.{NodeFault}
-use Rattle.pg_node.specs.declared.state.fault.NodeFault.TheVariants.{Damaged}
+use Rattle.pg_node_state.specs.declared.state.done.Done.{Done}
+use Rattle.pg_node_state.specs.declared.state.fault.NodeFault.{NodeFault}
+use Rattle.pg_node_state.specs.declared.state.fault.NodeFault.TheVariants.{Damaged}
 use Rattle.pg_node.specs.Bytes.{next_packet, packet_at, packet_in, passed, closed, is_drained}
-use Rattle.pg_node.specs.Issued.{ports_of}
-use Rattle.pg_node.specs.Links.{Link, at_link, AreSmallFrames}
+use Rattle.pg_node_state.specs.Issued.{ports_of}
+use Rattle.pg_node_state.specs.Frames.{AreSmallFrames}
+use Rattle.pg_node.specs.Links.{Link, at_link}
 use Rattle.pg_node.specs.Nodes.{held_by, has_lost, links_of, sent_out, step_link, ComesInRoom}
-use Rattle.pg_node.specs.Sendable.{AreSendable}
-use Rattle.pg_node.specs.States.{names_of, nodes_of, state_of, answers_of, stamped_of, step_see_loss, Gave, Comes}
+use Rattle.pg_node_state.specs.Sendable.{AreSendable}
+use Rattle.pg_node_state.specs.States.{names_of, nodes_of, state_of, answers_of, stamped_of, step_see_loss, Gave, Comes}
 use Rattle.pg_opens.specs.Places.{name_at}
 use Rattle.pg_run.specs.declared.linked.LinkedNode.{LinkedNode}
 use Rattle.pg_run.specs.Acts.{Act, Took, Saw, Did, event_of, is_from, loss_of}
-use Rattle.pg_node.specs.declared.state.NodeState.{NodeState}
+use Rattle.pg_node_state.specs.declared.state.NodeState.{NodeState}
 use Rattle.pg_run.specs.Events.{ActsOnce, IsOfPeer, TookNext, IsTold, told_of_peer, told_of_loss}
 use Rattle.pg_run.proofs.Following.{follows_on}
 use Rattle.pg_run.specs.Follows.{Follows, node_of, peers_of, log_of}

@@ -12,7 +12,7 @@ use Rattle.pg_run.specs.Logs.{IsCommand, IsDueRetry, IsTake, LogsLoss, LogsOnly}
 use Rattle.pg_run.specs.Pauses.{Waits, is_due, wait_of}
 use Rattle.pg_run.specs.Ports.{was_handed}
 use Rattle.pg_run.specs.Runs.{TurnedTo}
-use Rattle.pg_run.specs.Tries.{ComesTo, HasDone, HasRetried, HasRetriedDue, HasWanted, RetriedBy, SawDrained, TurnDid, waits_at}
+use Rattle.pg_run.specs.Tries.{ComesTo, HasDone, HasRetried, HasRetriedDue, HasWanted, RetriedBy, SawDrained, TurnDid, is_ready_at, waits_at}
 use Rattle.pg_run.specs.declared.run.Turned.{Turned}
 use Rattle.pg_run.specs.declared.run.Turned.TheVariants.{Whole, Short}
 use Rattle.pg_run.proofs.Logging.{logs_still}
@@ -29,10 +29,10 @@ module _ {T L I K : Type 0} {g : Ghosts T} (accepts : L → List ℕ → L → T
   pub retried_due : (whole phase lost : Bool) (a b : NodeRun T L I K g) (m n : LinkedNode T L I g) (between : Pauses) (taken seen : List (ℕ × NodeEvent)) → (whole ≡ true → phase ≡ true)
       → (lost ≡ true → SawDrained accepts gives inlet_moves a.linked b.linked)
       → ComesTo accepts gives a.linked m → ComesTo accepts gives m n → ComesTo accepts gives n b.linked
-      → (phase ≡ true → (op : OpId) → waits_at (node_of m) op ≡ true → is_due lost (wait_of a.pauses op) ≡ true → HasRetried accepts gives op m n)
-      → ((op : OpId) → waits_at (node_of m) op ≡ true → Waits lost phase (wait_of a.pauses op) (wait_of between op))
+      → (phase ≡ true → (op : OpId) → waits_at (node_of m) op ≡ true → is_due (is_ready_at (node_of m) op) (wait_of a.pauses op) ≡ true → HasRetried accepts gives op m n)
+      → ((op : OpId) → waits_at (node_of m) op ≡ true → Waits (is_ready_at (node_of m) op) phase (wait_of a.pauses op) (wait_of between op))
       → ((op : OpId) → waits_at (node_of m) op ≡ false → wait_of between op ≡ wait_of a.pauses op)
-      → LogsOnly IsTake (log_of a.linked) taken → LogsLoss lost taken seen → LogsOnly IsCommand seen (log_of m) → LogsOnly (IsDueRetry lost a.pauses between) (log_of m) (log_of n)
+      → LogsOnly IsTake (log_of a.linked) taken → LogsLoss lost taken seen → LogsOnly IsCommand seen (log_of m) → LogsOnly (IsDueRetry (is_ready_at (node_of m)) a.pauses between) (log_of m) (log_of n)
       → log_of b.linked ≡ log_of n → ((op : OpId) (none : Port) → was_handed op (get_or b.ports.items op.port none) ≡ false → wait_of b.pauses op ≡ wait_of between op)
       → HasRetriedDue accepts gives link_moves inlet_moves whole a b
   retried_due whole phase lost a b m n between taken seen is drained first retries put tried waits others takes sees commands retried still forgot = record {
@@ -45,7 +45,7 @@ module _ {T L I K : Type 0} {g : Ghosts T} (accepts : L → List ℕ → L → T
         retried_between accepts gives link_rests inlet_rests link_composes inlet_composes op m m n b.linked
         (stays accepts gives link_rests inlet_rests link_composes inlet_composes m) (tried (is all) op waiting due) put;
     between = between;
-    waits = λ op waiting. waits_less lost phase whole is _ _ (waits op waiting);
+    waits = λ op waiting. waits_less (is_ready_at (node_of m) op) phase whole is _ _ (waits op waiting);
     others = others;
     logs = record {
       taken = taken;
@@ -53,7 +53,7 @@ module _ {T L I K : Type 0} {g : Ghosts T} (accepts : L → List ℕ → L → T
       seen = seen;
       sees = sees;
       commands = commands;
-      retries = logs_still (IsDueRetry lost a.pauses between) (log_of m) (log_of n) (log_of b.linked) retried still;
+      retries = logs_still (IsDueRetry (is_ready_at (node_of m)) a.pauses between) (log_of m) (log_of n) (log_of b.linked) retried still;
     };
     forgot = forgot;
   }

@@ -3,10 +3,10 @@ use Rattle.std.proofs.Common.{◌≡◌, ◌⊎◌, ◌<◌, ◌≤◌, ◌+◌,
 use Rattle.std.specs.Prelude.{Bool, true, false, cond, slice_get, IfSome, Result, Ok, Err, IfOk, IfErr, IsErrAnd}
 use Rattle.std.proofs.lemmas.Bool.Decides.{eqb_tells}
 use Rattle.pg_group.specs.declared.table.GroupTable.{Ghosts}
-use Rattle.pg_node.specs.declared.state.fault.NodeFault.{NodeFault}
-use Rattle.pg_node.specs.declared.state.fault.NodeFault.TheVariants.{Refused, Damaged, OutOfMemory}
+use Rattle.pg_node_state.specs.declared.state.fault.NodeFault.{NodeFault}
+use Rattle.pg_node_state.specs.declared.state.fault.NodeFault.TheVariants.{Refused, Damaged, OutOfMemory}
 use Rattle.pg_node.specs.Bytes.{is_drained}
-use Rattle.pg_node.specs.Issued.{ports_of}
+use Rattle.pg_node_state.specs.Issued.{ports_of}
 use Rattle.pg_node.specs.Nodes.{held_by, has_lost, links_of}
 use Rattle.pg_run.specs.declared.linked.LinkedNode.{LinkedNode}
 use Rattle.pg_run.specs.declared.linked.Peer.{Peer}

@@ -1,6 +1,6 @@
 -- What the phases of a turn log.
 use Rattle.std.specs.Prelude.{◌≡◌, ◌⊎◌, ℕ, Bool, true, false, List, [], ◌∷◌, ◌++◌, Result, Ok, Err}
-use Rattle.pg_node.specs.declared.state.fault.NodeFault.{NodeFault}
+use Rattle.pg_node_state.specs.declared.state.fault.NodeFault.{NodeFault}
 use Rattle.pg_run.specs.declared.log.NodeEvent.{NodeEvent}
 use Rattle.pg_run.specs.declared.log.NodeEvent.TheVariants as events
 use Rattle.pg_run.specs.declared.pauses.Pauses.{Pauses}
@@ -30,12 +30,12 @@ IsCommand (events.Command port command) = Unit {0}
 IsCommand (events.Retry op) = ⊥
 IsCommand (events.SeeLoss peer) = ⊥
 
--- A retry of a command whose pause was over, or of any that waits where a loss was seen; behind it the next turn begins a pause.
-abbrev pub IsDueRetry : (lost : Bool) → Pauses → Pauses → NodeEvent → Type 0
-IsDueRetry lost pauses pauses2 (events.Take peer) = ⊥
-IsDueRetry lost pauses pauses2 (events.Command port command) = ⊥
-IsDueRetry lost pauses pauses2 (events.Retry op) = (is_due lost (wait_of pauses op) ≡ true) × (begins_next (wait_of pauses2 op) ≡ true)
-IsDueRetry lost pauses pauses2 (events.SeeLoss peer) = ⊥
+-- A retry of a command that was ready, or whose pause was over; after it the next turn begins a pause.
+abbrev pub IsDueRetry : (ready : OpId → Bool) → Pauses → Pauses → NodeEvent → Type 0
+IsDueRetry ready pauses pauses2 (events.Take peer) = ⊥
+IsDueRetry ready pauses pauses2 (events.Command port command) = ⊥
+IsDueRetry ready pauses pauses2 (events.Retry op) = (is_due (ready op) (wait_of pauses op) ≡ true) × (begins_next (wait_of pauses2 op) ≡ true)
+IsDueRetry ready pauses pauses2 (events.SeeLoss peer) = ⊥
 
 -- a loss was seen
 abbrev pub has_seen : Result Bool NodeFault → Bool
@@ -65,10 +65,10 @@ MayLogRetry op pauses2 log log2 = (log2 ≡ log) ⊎ LogsRetry op pauses2 log lo
 
 -- What a turn logs, in its order: the packets that it took, the loss that it saw, if any, the commands that came in, by which the log
 -- is `came`, and the commands that it tried again.
-pub record TurnLogs (lost : Bool) (pauses pauses2 : Pauses) (log came log2 : List (ℕ × NodeEvent)) : Type 0 where
+pub record TurnLogs (lost : Bool) (ready : OpId → Bool) (pauses pauses2 : Pauses) (log came log2 : List (ℕ × NodeEvent)) : Type 0 where
   pub taken : List (ℕ × NodeEvent)
   pub takes : LogsOnly IsTake log taken
   pub seen : List (ℕ × NodeEvent)
   pub sees : LogsLoss lost taken seen
   pub commands : LogsOnly IsCommand seen came
-  pub retries : LogsOnly (IsDueRetry lost pauses pauses2) came log2
+  pub retries : LogsOnly (IsDueRetry ready pauses pauses2) came log2

@@ -22,9 +22,9 @@ is_over (Some Due) = true
 is_over (Some Tried) = false
 is_over None = false
 
--- a turn tries a command whose pause is over by it, and where a loss was seen each one that waits
+-- a turn tries a command of which all has come that it gathers, and one whose pause is over by it
 abbrev pub is_due : Bool → Option Wait → Bool
-is_due lost wait = lost || is_over wait
+is_due ready wait = ready || is_over wait
 
 -- the next turn that passes begins a pause
 abbrev pub begins_next : Option Wait → Bool
@@ -58,9 +58,9 @@ pub record Waited (before after : Option Wait) : Type 0 where
   pub passes : Passed before due passed
   pub is : (after ≡ passed) ⊎ ((due ≡ true) × (after ≡ Some Tried))
 
--- What a turn makes of how a command waits, by whether it saw a loss and whether it was whole: a whole one passes for it; where a loss
--- was seen none passes, and it may have been tried.
-abbrev pub Waits : (lost whole : Bool) → Option Wait → Option Wait → Type 0
+-- What a turn makes of how a command waits, by whether all has come that it gathers and whether the turn was whole: a whole one passes
+-- for it; where all has come none passes, and it may have been tried.
+abbrev pub Waits : (ready whole : Bool) → Option Wait → Option Wait → Type 0
 Waits false true before after = Waited before after
 Waits false false before after = (after ≡ before) ⊎ Waited before after
 Waits true whole before after = (after ≡ before) ⊎ (after ≡ Some Tried)

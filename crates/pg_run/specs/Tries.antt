@@ -1,13 +1,14 @@
 -- What a whole turn has tried, and what was wanting in a short one.
 use Rattle.std.specs.Prelude.{◌≡◌, ◌⊎◌, ◌<◌, ◌≤◌, ◌+◌, ◌-◌, ◌^◌, ℕ, Bool, true, false, List, [], ◌∷◌, get_or, length, min, slice_get, None, IfSome, Result, Ok, IfErr}
 use Rattle.pg_group.specs.declared.table.GroupTable.{Ghosts}
-use Rattle.pg_node.specs.declared.state.fault.NodeFault.{NodeFault}
-use Rattle.pg_node.specs.declared.state.fault.NodeFault.TheVariants.{Refused, OutOfMemory}
+use Rattle.pg_node_state.specs.declared.state.fault.NodeFault.{NodeFault}
+use Rattle.pg_node_state.specs.declared.state.fault.NodeFault.TheVariants.{Refused, OutOfMemory}
 use Rattle.pg_node.specs.Bytes.{next_packet, is_drained}
 use Rattle.pg_node.specs.declared.node.Node.{Node}
-use Rattle.pg_node.specs.Issued.{ports_of}
+use Rattle.pg_node_state.specs.Issued.{ports_of}
 use Rattle.pg_node.specs.Nodes.{held_by, links_of, has_lost}
-use Rattle.pg_node.specs.States.{answers_of, kept_by, left_of}
+use Rattle.pg_node_state.specs.Waiting.{is_ready}
+use Rattle.pg_node_state.specs.States.{answers_of, kept_by, left_of}
 use Rattle.pg_ring.specs.Slots.{slots_left, taken}
 use Rattle.pg_run.specs.declared.linked.LinkedNode.{LinkedNode}
 use Rattle.pg_run.specs.declared.linked.Peer.{Peer}
@@ -59,6 +60,10 @@ pub data Part : Type 0 where
 -- whether a command of a node waits to be tried again
 abbrev pub waits_at : {T : Type 0} {g : Ghosts T} → Node T g → OpId → Bool
 waits_at node op = waits (left_of (held_by node)) ((kept_by (held_by node)).stages op) (kept_by (held_by node))
+
+-- whether all has come that it gathers
+abbrev pub is_ready_at : {T : Type 0} {g : Ghosts T} → Node T g → OpId → Bool
+is_ready_at node op = is_ready (left_of (held_by node)) ((kept_by (held_by node)).stages op) (kept_by (held_by node))
 
 module _ {T L I : Type 0} {g : Ghosts T} (accepts : L → List ℕ → L → Type 0) (gives : I → List ℕ → I → Type 0) where
   -- it came by some acts
@@ -221,20 +226,20 @@ module _ {T L I K : Type 0} {g : Ghosts T} (accepts : L → List ℕ → L → T
   TurnDid Short a b = HasWanted a b
   TurnDid Stopped a b = Unit {0}
 
-  -- How commands fared that wait, in a turn that saw a loss or none: behind the packets and commands that it took it looked at which
-  -- wait. Of these a whole turn tried each that was due. A turn passed for each of them, and for no other; it tried none that was not
-  -- due. Then the pause of a command of which an answer was handed over may be forgotten.
+  -- How commands fared that wait: after the packets and commands that it took, and the loss that it saw if any, the turn looked at which
+  -- wait. Of these a whole turn tried each that was due: ready, or its pause over. A turn passed for each of them that was not ready, and
+  -- for no other; it tried none that was not due. Then the pause of a command of which an answer was handed over may be forgotten.
   pub record HasRetriedDue (whole : Bool) (a b : NodeRun T L I K g) : Type 0 where
     pub lost : Bool
     pub drained : lost ≡ true → SawDrained accepts gives inlet_moves a.linked b.linked
     pub middle : LinkedNode T L I g
     pub first : ComesTo accepts gives a.linked middle
     pub rest : ComesTo accepts gives middle b.linked
-    pub tried : whole ≡ true → (op : OpId) → waits_at (node_of middle) op ≡ true → is_due lost (wait_of a.pauses op) ≡ true → HasRetried accepts gives op middle b.linked
+    pub tried : whole ≡ true → (op : OpId) → waits_at (node_of middle) op ≡ true → is_due (is_ready_at (node_of middle) op) (wait_of a.pauses op) ≡ true → HasRetried accepts gives op middle b.linked
     pub between : Pauses
-    pub waits : (op : OpId) → waits_at (node_of middle) op ≡ true → Waits lost whole (wait_of a.pauses op) (wait_of between op)
+    pub waits : (op : OpId) → waits_at (node_of middle) op ≡ true → Waits (is_ready_at (node_of middle) op) whole (wait_of a.pauses op) (wait_of between op)
     pub others : (op : OpId) → waits_at (node_of middle) op ≡ false → wait_of between op ≡ wait_of a.pauses op
-    pub logs : TurnLogs lost a.pauses between (log_of a.linked) (log_of middle) (log_of b.linked)
+    pub logs : TurnLogs lost (is_ready_at (node_of middle)) a.pauses between (log_of a.linked) (log_of middle) (log_of b.linked)
     pub forgot : (op : OpId) (none : Port) → was_handed op (get_or b.ports.items op.port none) ≡ false → wait_of b.pauses op ≡ wait_of between op
 
   -- the same of each turn; where it is stopped no command fares

@@ -13,20 +13,20 @@ use pg_step::{Command, OpId};
 impl<T: GroupTable + Drop, L: Link + Drop, I: Inlet + Drop> LinkedNode<T, L, I> {
     ghost use Rattle.pg_message.specs.Members.{IsShort};
     ghost use Rattle.pg_node.specs.Bytes.{next_packet, is_drained};
-    ghost use Rattle.pg_node.specs.Issued.{ports_of};
+    ghost use Rattle.pg_node_state.specs.Issued.{ports_of};
     ghost use Rattle.pg_node.specs.Nodes.{held_by, links_of};
-    ghost use Rattle.pg_node.specs.States.{names_of, kept_by, state_of};
+    ghost use Rattle.pg_node_state.specs.States.{names_of, kept_by, state_of};
     ghost use Rattle.pg_opens.specs.Places.{name_at};
     ghost use Rattle.pg_run.specs.Acts.{Saw, Did};
     ghost use Rattle.pg_run.specs.Events.{TookNext, Acted, IsTold, IsRefusedAs, told_of_peer, told_of_action, told_of_loss};
     ghost use Rattle.pg_run.specs.Follows.{node_of, peers_of, log_of};
     ghost use Rattle.pg_step.specs.Step.{Issue, Retry};
 
-    /// Takes the next packet of a peer, if its frame is whole, and logs that; whether it did. `peer`: its place among the peers.
-    /// The place in the log is got first.
+    /// Takes the next packet of a peer, if its frame is whole, and logs that; whether it did. `peer`: its place among
+    /// the peers. The place in the log is got first.
     ///
-    /// Faults, by which nothing happens and nothing is logged: those of `Node::take`, of which `TooLong`, `Message` and
-    /// `NotAMessage` damage the link; `OutOfMemory` may be told in the place of each.
+    /// Errors, by which nothing happens and nothing is logged: those of `Node::take`, of which `TooLong`, `Message`
+    /// and `NotAMessage` damage the link; `OutOfMemory` may come in the place of each.
     pub fn take(&mut self, peer: usize) -> Result<bool, NodeFault>
         requires place { peer < length (peers_of self.old) }
         ensures took { TookNext L.accepts I.gives peer result self.old self.new }
@@ -84,11 +84,11 @@ impl<T: GroupTable + Drop, L: Link + Drop, I: Inlet + Drop> LinkedNode<T, L, I> 
         }
     }
 
-    /// Takes a command that comes in at a port, and logs it. `port`: its place among the ports. The place in the log is got
-    /// first.
+    /// Takes a command that comes in at a port, and logs it. `port`: its place among the ports. The place in the log
+    /// is got first.
     ///
-    /// Faults, by which nothing happens, nothing is logged, and the command is handed back: those of `Node::command`;
-    /// `OutOfMemory` may be told in the place of each.
+    /// Errors, by which nothing happens, nothing is logged, and the command is handed back: those of `Node::command`;
+    /// `OutOfMemory` may come in the place of each.
     pub fn command(&mut self, port: u16, command: Command) -> Result<(), (NodeFault, Command)>
         requires place { port < ports_of (held_by (node_of self.old)) }
         ensures acted { Acted L.accepts I.gives (Did (Issue port command)) result self.old self.new }
@@ -110,8 +110,8 @@ impl<T: GroupTable + Drop, L: Link + Drop, I: Inlet + Drop> LinkedNode<T, L, I> 
 
     /// Tries a command again that waits, and logs that. The place in the log is got first.
     ///
-    /// Faults, by which nothing happens and nothing is logged: those of `Node::retry`; `OutOfMemory` may be told in the place
-    /// of each.
+    /// Errors, by which nothing happens and nothing is logged: those of `Node::retry`; `OutOfMemory` may come in
+    /// the place of each.
     pub fn retry(&mut self, op: OpId) -> Result<(), NodeFault>
         requires place { op.port < ports_of (held_by (node_of self.old)) }
         ensures acted { Acted L.accepts I.gives (Did (Retry op)) result self.old self.new }
@@ -130,11 +130,11 @@ impl<T: GroupTable + Drop, L: Link + Drop, I: Inlet + Drop> LinkedNode<T, L, I> 
         }
     }
 
-    /// Sees the loss of a peer, and logs that; what waits for it is dropped. `peer`: its place among the peers. `last`: its clock
-    /// at last. The place in the log is got first.
+    /// Sees the loss of a peer, and logs that; what waits for it is dropped. `peer`: its place among the peers.
+    /// `last`: its clock at last. The place in the log is got first.
     ///
-    /// Faults, by which nothing happens and nothing is logged: those of `Node::see_loss`; `OutOfMemory` may be told in the place
-    /// of each.
+    /// Errors, by which nothing happens and nothing is logged: those of `Node::see_loss`; `OutOfMemory` may come
+    /// in the place of each.
     pub fn see_loss(&mut self, peer: usize, last: u32) -> Result<(), NodeFault>
         requires place { peer < length (peers_of self.old) }
         ensures acted { Acted L.accepts I.gives (Saw peer last) result self.old self.new }
@@ -154,7 +154,9 @@ impl<T: GroupTable + Drop, L: Link + Drop, I: Inlet + Drop> LinkedNode<T, L, I> 
         }
     }
 
-    /// Logs an event that happened, with the clock that it set. There is room for it. It takes no memory.
+    /// Logs an event that happened, with the clock that it set. There is room for it.
+    ///
+    /// Cost: no memory.
     fn keep(&mut self, event: NodeEvent)
         requires room { vec_len self.old.log < vec_capacity self.old.log }
         ensures log { log_of self.new ≡ log_of self.old ++ ((state_of (held_by (node_of self.old))).clock, event) ∷ [] }

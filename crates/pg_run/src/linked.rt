@@ -2,7 +2,7 @@
 
 ghost use Rattle.std.specs.Prelude.{◌≡◌, ◌+◌, [], length};
 ghost use Rattle.pg_node.specs.Nodes.{held_by};
-ghost use Rattle.pg_node.specs.States.{names_of};
+ghost use Rattle.pg_node_state.specs.States.{names_of};
 
 use crate::log::LogEntry;
 use pg_group::GroupTable;
@@ -28,7 +28,9 @@ pub struct LinkedNode<T: GroupTable, L: Drop, I: Drop> {
 impl<T: GroupTable + Drop, L: Drop, I: Drop> LinkedNode<T, L, I> {
     ghost use Rattle.pg_run.specs.Follows.{node_of, peers_of, log_of};
 
-    /// A node with these links to its peers, in their order, which has logged nothing. It takes no memory.
+    /// A node with these links to its peers, in their order, which has logged nothing.
+    ///
+    /// Cost: no memory.
     pub fn new(alloc: Global, node: Node<T>, peers: Vec<Peer<L, I>>) -> LinkedNode<T, L, I>
         requires links { length peers.items + 1 ≡ length (names_of (held_by node)) }
         ensures node { node_of result ≡ node }
@@ -42,21 +44,27 @@ impl<T: GroupTable + Drop, L: Drop, I: Drop> LinkedNode<T, L, I> {
         }
     }
 
-    /// How many peers the node has. It takes no memory.
+    /// How many peers the node has.
+    ///
+    /// Cost: no memory.
     pub fn peer_count(&self) -> usize
         ensures { result ≡ length (peers_of self.now) }
     {
         self.peers.len()
     }
 
-    /// The node. It takes no memory.
+    /// The node.
+    ///
+    /// Cost: no memory.
     pub fn node(&self) -> &Node<T>
         ensures { result.now ≡ node_of self.now }
     {
         &self.node
     }
 
-    /// The log, the earliest event first. It takes no memory.
+    /// The log, the earliest event first.
+    ///
+    /// Cost: no memory.
     pub fn log(&self) -> &[LogEntry]
         ensures { result.now ≡ log_of self.now }
     {

@@ -15,7 +15,7 @@ use pg_group::GroupTable;
 use pg_node::NodeFault;
 use pg_ring::{Inlet, Link};
 
-/// The loss of which the next notice tells is seen, once all that came of the lost peer is taken. It is busy where it is seen.
+/// The loss in the next notice is seen, once all that came of the lost peer is taken. It is busy where it is seen.
 pub(crate) fn see_next<T: GroupTable + Drop, L: Link + Drop, I: Inlet + Drop>(
     linked: &mut LinkedNode<T, L, I>,
     notices: &mut Notices,
@@ -32,7 +32,7 @@ pub(crate) fn see_next<T: GroupTable + Drop, L: Link + Drop, I: Inlet + Drop>(
     }
 }
 
-/// The loss of which this notice tells, which is kept, is seen, once all that came of the lost peer is taken.
+/// The loss in this notice, which is kept, is seen, once all that came of the lost peer is taken.
 fn see_told<T: GroupTable + Drop, L: Link + Drop, I: Inlet + Drop>(
     linked: &mut LinkedNode<T, L, I>,
     notices: &mut Notices,
@@ -69,10 +69,10 @@ impl<T: GroupTable + Drop, L: Link + Drop, I: Inlet + Drop> LinkedNode<T, L, I> 
     ghost use Rattle.pg_run.specs.Tries.{CameMore, IsNoWant, IsWant, RefusedLoss, SawDrained as SeesDrained, WasWanting as Wants};
     ghost use Rattle.pg_run.specs.Turns.{SeesOnce};
 
-    /// The loss of which a notice tells is seen where nothing more comes in of the peer and no whole frame of it is left, or the link
-    /// is damaged; whether it is.
+    /// The loss in a notice is seen where nothing more comes in of the peer and no whole frame of it is
+    /// left, or the link is damaged; whether it is.
     ///
-    /// Faults: those of `pull` and `see_loss`, by which it is not seen.
+    /// Errors: those of `pull` and `see_loss`, by which it is not seen.
     fn see_when_taken(&mut self, notice: Notice) -> Result<bool, NodeFault>
         requires place { notice.peer < length (peers_of self.old) }
         ensures sees { SeesOnce L.accepts I.gives notice result self.old self.new }
@@ -97,9 +97,9 @@ impl<T: GroupTable + Drop, L: Link + Drop, I: Inlet + Drop> LinkedNode<T, L, I> 
         }
     }
 
-    /// The loss of which a notice tells is seen where no whole frame of the peer is left.
+    /// The loss in a notice is seen where no whole frame of the peer is left.
     ///
-    /// Faults: those of `see_loss`.
+    /// Errors: those of `see_loss`.
     fn see(&mut self, notice: Notice) -> Result<bool, NodeFault>
         requires place { notice.peer < length (peers_of self.old) }
         ensures sees { SeesOnce L.accepts I.gives notice result self.old self.new }

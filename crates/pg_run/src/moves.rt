@@ -9,12 +9,14 @@ use pg_ring::{Inlet, Link};
 
 impl<T: GroupTable + Drop, L: Link + Drop, I: Inlet + Drop> LinkedNode<T, L, I> {
     ghost use Rattle.pg_step.specs.declared.refusal.Refusal.TheVariants.{NodeLost};
-    ghost use Rattle.pg_node.specs.declared.state.fault.NodeFault.TheVariants.{Refused, Damaged, OutOfMemory};
+    ghost use Rattle.pg_node_state.specs.declared.state.fault.NodeFault.TheVariants.{Refused, Damaged, OutOfMemory};
     ghost use Rattle.pg_node.specs.Nodes.{held_by, links_of, has_lost};
     ghost use Rattle.pg_run.specs.Follows.{Follows, node_of, peers_of};
 
-    /// Moves what waits for a peer into the link to it, as much as that takes, and returns how many bytes. `peer`: its place
-    /// among the peers. It takes no memory. O(bytes moved).
+    /// Moves what waits for a peer into the link to it, as much as that takes, and returns how many bytes. `peer`:
+    /// its place among the peers. O(bytes moved).
+    ///
+    /// Cost: no memory.
     pub fn put(&mut self, peer: usize) -> usize
         requires place { peer < length (peers_of self.old) }
         ensures follows { Follows L.accepts I.gives [] self.old self.new }
@@ -26,11 +28,12 @@ impl<T: GroupTable + Drop, L: Link + Drop, I: Inlet + Drop> LinkedNode<T, L, I> 
         self.node.put(peer, &mut links.link, usize::MAX)
     }
 
-    /// Adds what the inlet from a peer gives to what came in from it, and returns how many bytes: up to `max`, and up to 65,536.
-    /// `peer`: its place among the peers. O(bytes moved), and at times that of the bytes that were not taken yet.
+    /// Adds what the inlet from a peer gives to what came in from it, and returns how many bytes: up to `max`, and up
+    /// to 65,536. `peer`: its place among the peers. O(bytes moved), and at times that of the bytes that were not
+    /// taken yet.
     ///
-    /// Faults, by which nothing moves, the first that holds: `Refused` by `NodeLost`, exactly where the loss of the peer was seen;
-    /// `Damaged`, exactly where the link is damaged; else `OutOfMemory`.
+    /// Errors, by which nothing moves, the first that holds: `Refused` by `NodeLost`, exactly where the loss of the
+    /// peer was seen; `Damaged`, exactly where the link is damaged; else `OutOfMemory`.
     pub fn pull(&mut self, peer: usize, max: usize) -> Result<usize, NodeFault>
         requires place { peer < length (peers_of self.old) }
         ensures follows { Follows L.accepts I.gives [] self.old self.new }

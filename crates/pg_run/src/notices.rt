@@ -27,7 +27,9 @@ impl Notices {
     ghost use Rattle.pg_ring.specs.Slots.{slots_left, taken};
     ghost use Rattle.pg_run.specs.Notices.{NoticesGo, inlet_of, kept_of};
 
-    /// Where notices come, of which none is to be seen yet. It takes no memory.
+    /// Where notices come, of which none is to be seen yet.
+    ///
+    /// Cost: no memory.
     pub fn new(inlet: SlotIn<Notice>) -> Notices
         ensures inlet { inlet_of result ≡ inlet }
         ensures kept { kept_of result ≡ [] }
@@ -35,7 +37,9 @@ impl Notices {
         Notices { inlet, next: None }
     }
 
-    /// The notice of which the loss is to be seen next, if one came. It takes no memory.
+    /// The notice of which the loss is to be seen next, if one came.
+    ///
+    /// Cost: no memory.
     pub fn next(&mut self) -> Option<Notice>
         ensures goes { NoticesGo [] self.old self.new }
         ensures some { IfSome result (λ notice. kept_of self.new ≡ notice ∷ []) }
@@ -52,7 +56,9 @@ impl Notices {
         }
     }
 
-    /// The loss of which the next notice tells was seen. It takes no memory.
+    /// The loss in the next notice was seen.
+    ///
+    /// Cost: no memory.
     pub fn pass(&mut self)
         ensures inlet { inlet_of self.new ≡ inlet_of self.old }
         ensures kept { kept_of self.new ≡ [] }

@@ -56,7 +56,9 @@ fn is_of_another(pause: &Pause, op: OpId) -> bool
 }
 
 impl Pauses {
-    /// No pause. It takes no memory.
+    /// No pause.
+    ///
+    /// Cost: no memory.
     pub fn new(alloc: Global) -> Pauses
         ensures { (op : OpId) → wait_of result op ≡ None }
     {
@@ -65,10 +67,10 @@ impl Pauses {
         }
     }
 
-    /// A turn passes for a command that waits; whether it is due to be tried. Its pause is a turn shorter then, or over, by which it is
-    /// due; where it has none, as where it was tried since, one begins, of 1 to 4,096 turns.
+    /// A turn passes for a command that waits; whether it is due to be tried. Its pause is a turn shorter then, or
+    /// over, by which it is due; where it has none, as where it was tried since, one begins, of 1 to 4,096 turns.
     ///
-    /// Error: `AllocError`, by which no turn passes.
+    /// Errors: `AllocError`, by which no turn passes.
     pub fn pass<K: Rng>(&mut self, op: OpId, generator: &mut K) -> Result<bool, AllocError>
         ensures passed { IfOk result (λ due. Passed (wait_of self.old op) due (wait_of self.new op)) }
         ensures err { OnErr result (wait_of self.new op ≡ wait_of self.old op) }
@@ -91,7 +93,9 @@ impl Pauses {
         }
     }
 
-    /// A command was tried: where it had a pause it has none. It takes no memory.
+    /// A command was tried: where it had a pause it has none.
+    ///
+    /// Cost: no memory.
     pub fn tried(&mut self, op: OpId)
         ensures tried { wait_of self.old op ≢ None → wait_of self.new op ≡ Some Tried }
         ensures none { wait_of self.old op ≡ None → wait_of self.new op ≡ None }
@@ -106,7 +110,9 @@ impl Pauses {
         }
     }
 
-    /// A command was answered: it has no pause then. It takes no memory: O(n) in the commands that have a pause.
+    /// A command was answered: it has no pause then.
+    ///
+    /// Cost: no memory; O(n) in the commands that have a pause.
     pub fn forget(&mut self, op: OpId)
         ensures forgotten { wait_of self.new op ≡ None }
         ensures others { (other : OpId) → other ≢ op → wait_of self.new other ≡ wait_of self.old other }
@@ -131,7 +137,9 @@ impl Pauses {
 }
 
 impl Pause {
-    /// A turn passes; whether the command is due. It takes no memory.
+    /// A turn passes; whether the command is due.
+    ///
+    /// Cost: no memory.
     fn pass<K: Rng>(&mut self, generator: &mut K) -> bool
         ensures op { self.new.op ≡ self.old.op }
         ensures passed { Passed (Some self.old.wait) result (Some self.new.wait) }

@@ -33,7 +33,7 @@ impl Phase {
         }
     }
 
-    /// Something happened, or nothing was there to do, or this fault was told.
+    /// Something happened, or nothing was there to do, or this fault came.
     pub(crate) fn of(busy: bool, fault: Option<NodeFault>) -> Phase
         ensures no_want { result.whole ≡ true → IfSome fault IsNoWant }
         ensures want { result.whole ≡ false → IsSomeAnd fault IsWant }
@@ -48,7 +48,7 @@ impl Phase {
         }
     }
 
-    /// So many bytes came in, or this fault was told.
+    /// So many bytes came in, or this fault came.
     fn of_pull(pulled: Result<usize, NodeFault>) -> Phase
         ensures no_want { result.whole ≡ true → IfErr pulled IsNoWant }
         ensures want { result.whole ≡ false → IsErrAnd pulled IsWant }
@@ -59,7 +59,7 @@ impl Phase {
         }
     }
 
-    /// A packet was taken, or none was there, or this fault was told.
+    /// A packet was taken, or none was there, or this fault came.
     fn of_take(taken: Result<bool, NodeFault>) -> Phase
         ensures no_want { result.whole ≡ true → IfErr taken IsNoWant }
         ensures want { result.whole ≡ false → IsErrAnd taken IsWant }

@@ -88,8 +88,10 @@ impl Client {
 impl Port {
     ghost use Rattle.pg_run.specs.Ports.{SamePort, ForgetsHanded, Hands, HandsNext, GivesNext, KeepsAll, KeepsSame, IsServed, asked, handed, kept_by, handed_count, HandsNoMore, HandsAll, HasLookedIn, answers_free, commands_left};
 
-    /// The next command, if one is there whose client had polled no more answers than were handed over; else it is kept, if there
-    /// is one. It takes no memory.
+    /// The next command, if one is there whose client had polled no more answers than were handed over; else it is
+    /// kept, if there is one.
+    ///
+    /// Cost: no memory.
     pub(crate) fn next(&mut self) -> Option<Asked>
         ensures same { SamePort self.old self.new }
         ensures some { IfSome result (GivesNext self.old self.new) }
@@ -109,7 +111,9 @@ impl Port {
         }
     }
 
-    /// The command that was kept, or else the next that comes, if there is one. It takes no memory.
+    /// The command that was kept, or else the next that comes, if there is one.
+    ///
+    /// Cost: no memory.
     fn first(&mut self) -> Option<Asked>
         ensures same { SamePort self.old self.new }
         ensures some { IfSome result (GivesNext self.old self.new) }
@@ -125,7 +129,9 @@ impl Port {
         }
     }
 
-    /// Keeps a command that the node did not take. It takes no memory.
+    /// Keeps a command that the node did not take.
+    ///
+    /// Cost: no memory.
     pub(crate) fn keep(&mut self, next: Asked)
         ensures same { SamePort self.old self.new }
         ensures asked { asked self.new ≡ asked self.old }
@@ -137,9 +143,10 @@ impl Port {
         drop(self.kept.replace(next));
     }
 
-    /// Hands over the next of these answers, if one is left and there is a place; the number of its command, if it did.
+    /// Hands over the next of these answers, if one is left and there is a place; the number of its command, if it
+    /// did.
     ///
-    /// Error: `AllocError`, which hands over nothing.
+    /// Errors: `AllocError`, which hands over nothing.
     fn hand(&mut self, alloc: Global, answers: &[Answer]) -> Result<Option<u32>, AllocError>
         ensures hands { Hands answers.now self.old self.new }
         ensures number { IfOk result (λ number. HandsNext number self.old self.new) }
@@ -159,7 +166,9 @@ impl Port {
         }
     }
 
-    /// Hands over an answer, if there is a place; whether it did. It takes no memory.
+    /// Hands over an answer, if there is a place; whether it did.
+    ///
+    /// Cost: no memory.
     fn give(&mut self, answer: Answer) -> bool
         requires { handed_count self.old + 1 < 2 ^ 64 }
         ensures same { SamePort self.old self.new }

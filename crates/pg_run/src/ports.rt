@@ -9,7 +9,7 @@ use std::alloc::{AllocError, Global};
 
 /// The two ends of a new port.
 ///
-/// Error: `AllocError`.
+/// Errors: `AllocError`.
 pub fn port_pair(alloc: Global) -> Result<(Client, Port), AllocError>
     ensures { IfOk result (λ pair. ArePort pair.0 pair.1 × AreNew pair.0 pair.1) }
 {

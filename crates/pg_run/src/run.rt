@@ -1,7 +1,7 @@
 //! A node as its thread runs it, and one turn of it.
 
 ghost use Rattle.std.specs.Prelude.{◌≡◌, cond, length};
-ghost use Rattle.pg_node.specs.Issued.{ports_of};
+ghost use Rattle.pg_node_state.specs.Issued.{ports_of};
 ghost use Rattle.pg_node.specs.Nodes.{held_by};
 ghost use Rattle.pg_run.specs.Follows.{node_of};
 ghost use Rattle.pg_run.specs.declared.run.Turned.TheVariants as Turned;
@@ -62,7 +62,9 @@ impl<T: GroupTable + Drop, L: Link + Drop, I: Inlet + Drop, K: Rng + Drop> NodeR
     ghost use Rattle.pg_run.specs.Tries.{RetriedBy, TurnDid};
     ghost use Rattle.pg_run.specs.Runs.{linked_of, ports_at, stop_of, notices_at, notices_of, busy_of, Runs, TurnedTo};
 
-    /// A node that has made no turn. It takes no memory.
+    /// A node that has made no turn.
+    ///
+    /// Cost: no memory.
     pub fn new(
         alloc: Global,
         linked: LinkedNode<T, L, I>,
@@ -91,14 +93,18 @@ impl<T: GroupTable + Drop, L: Link + Drop, I: Inlet + Drop, K: Rng + Drop> NodeR
         }
     }
 
-    /// The node with its links and its log. It takes no memory.
+    /// The node with its links and its log.
+    ///
+    /// Cost: no memory.
     pub fn linked(&self) -> &LinkedNode<T, L, I>
         ensures { result.now ≡ linked_of self.now }
     {
         &self.linked
     }
 
-    /// Whether something moved or happened in the last turn. It takes no memory.
+    /// Whether something moved or happened in the last turn.
+    ///
+    /// Cost: no memory.
     pub fn is_busy(&self) -> bool
         ensures { result ≡ busy_of self.now }
     {
@@ -116,9 +122,9 @@ impl<T: GroupTable + Drop, L: Link + Drop, I: Inlet + Drop, K: Rng + Drop> NodeR
     }
 
     /// One turn: a look for the stop byte; of each peer up to 4,096 bytes come in, and the next packet is taken; the loss of which
-    /// a notice tells is seen, once all that came of the lost peer is taken; each port gives a command at most; each command that
-    /// waits is tried where its pause is over, or at once where a loss was seen; answers are handed over. What an event makes the node
-    /// send is put at once, and what a link did not take then behind the retries.
+    /// a notice has is seen, once all that came of the lost peer is taken; each port gives a command at most; each command that
+    /// waits is tried where its pause is over, or at once where all has come that it gathers; answers are handed over. What an event makes the node
+    /// send is put at once, and what a link did not take then after the retries.
     pub fn turn(&mut self) -> Turned
         ensures runs { Runs L.accepts I.gives self.old self.new }
         ensures stop { TurnedTo I.gives (stop_of self.old) result (stop_of self.new) }
@@ -133,10 +139,10 @@ impl<T: GroupTable + Drop, L: Link + Drop, I: Inlet + Drop, K: Rng + Drop> NodeR
         let saw = see_next(&mut self.linked, &mut self.notices);
         let commanded = command_all(&mut self.linked, &mut self.ports);
         let retried = retry_all(
+            self.alloc,
             &mut self.linked,
             &mut self.pauses,
             &mut self.generator,
-            saw.busy,
         );
         let put = self.linked.put_all();
         let handed = hand_all(self.alloc, &self.linked, &mut self.ports, &mut self.pauses);

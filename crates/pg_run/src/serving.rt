@@ -1,9 +1,9 @@
 //! The phases of a turn that are between a node and its clients.
 
 ghost use Rattle.std.specs.Prelude.{◌≡◌, ◌<◌, ◌^◌, true, false, length};
-ghost use Rattle.pg_node.specs.Issued.{ports_of};
+ghost use Rattle.pg_node_state.specs.Issued.{ports_of};
 ghost use Rattle.pg_node.specs.Nodes.{held_by};
-ghost use Rattle.pg_node.specs.States.{answers_of};
+ghost use Rattle.pg_node_state.specs.States.{answers_of};
 ghost use Rattle.pg_run.specs.Follows.{log_of, node_of};
 ghost use Rattle.pg_run.specs.Logs.{IsCommand, LogsOnly};
 ghost use Rattle.pg_run.specs.Ports.{IsServed, handed_count};
@@ -38,7 +38,7 @@ pub(crate) fn command_all<T: GroupTable + Drop, L: Link + Drop, I: Inlet + Drop>
     phase
 }
 
-/// The port at a place gives a command at most. There are no more places than the number of a port can tell.
+/// The port at a place gives a command at most. There are no more places than the number of a port can say.
 fn command_of<T: GroupTable + Drop, L: Link + Drop, I: Inlet + Drop>(
     linked: &mut LinkedNode<T, L, I>,
     ports: &mut Vec<Port>,

@@ -1,3 +1,4 @@
+mod Rounding
 pub mod Lists
 pub mod Placing
 pub mod Walking

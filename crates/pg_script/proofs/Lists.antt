@@ -1,5 +1,5 @@
 -- Lists whose first element is apart.
-use Rattle.std.proofs.Common.{◌≡◌, ℕ, ◌≤◌, List, [], ◌∷◌, ◌++◌, ◌-◌, take, drop, length, get_or, arith, ap, ap₂}
+use Rattle.std.proofs.Common.{◌≡◌, ◌≤◌, List, [], ◌∷◌, ◌++◌, ◌-◌, take, drop, length, get_or, arith, ap, ap₂}
 use Rattle.std.proofs.lemmas.Grind.{common_steps}
 use Rattle.pg_text.specs.Writing.{update_text}
 use Rattle.pg_account.specs.declared.entry.Entry.{Entry}

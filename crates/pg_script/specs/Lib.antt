@@ -1,4 +1,5 @@
 pub mod Faults
 pub mod Histories
+pub mod Rounds
 pub mod Runs
 pub mod Scripts

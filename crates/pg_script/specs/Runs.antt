@@ -1,5 +1,5 @@
 -- Why a run ends early.
-use Rattle.std.specs.Prelude.{◌≡◌, ◌≤◌, ⊤, ℕ, List}
+use Rattle.std.specs.Prelude.{◌≤◌, ⊤, ℕ, List}
 use Rattle.std.specs.List.{flat_map}
 use Rattle.pg_step.specs.Config as starts
 use Rattle.pg_step.specs.Config.{IsConfig}

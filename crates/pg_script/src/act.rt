@@ -1,4 +1,4 @@
-//! What a line of a script does, where nodes stand by their places.
+//! What a line of a script does, where nodes are given by their places.
 
 ghost use Rattle.std.specs.Prelude.{◌≡◌};
 ghost use Rattle.pg_script.specs.Scripts.{node_act, pair_act};

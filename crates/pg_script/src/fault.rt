@@ -12,10 +12,10 @@ pub enum LineFault {
     /// It has no form of a line.
     #[error("the line has no form")]
     BadLine,
-    /// It names a node that no line above declares, or one node twice where a pair is wanted.
+    /// It names a node that no line above declares, or one node twice where it has to name two.
     #[error("a node is not declared, or is no pair with itself")]
     UnknownNode,
-    /// It is a declaration behind a line that is none.
+    /// It is a declaration after a line that is none.
     #[error("a declaration stands behind other lines")]
     LateDeclaration,
     /// It declares a node of a name that a line above declares.

@@ -10,7 +10,8 @@ use pg_text::write_update;
 use pg_world::Entry;
 use std::alloc::AllocError;
 
-/// `history [UPDATE,..]`, and a line feed. The last update may stand behind the others. On an error some of it stands there.
+/// `history [UPDATE,..]`, and a line feed. The last update may come after the others. On an error some of it may have
+/// been appended.
 pub(crate) fn print_history(
     out: &mut String,
     entries: &[Entry],
@@ -36,7 +37,7 @@ fn print_listed(out: &mut String, entries: &[Entry]) -> Result<(), AllocError>
     Ok(())
 }
 
-/// Each of them behind a comma.
+/// Each of them after a comma.
 fn print_more(out: &mut String, entries: &[Entry]) -> Result<(), AllocError>
     ensures { OnOk result (Adds (more_entries entries.now) (string_bytes out.old) (string_bytes out.new)) }
 {
@@ -47,7 +48,7 @@ fn print_more(out: &mut String, entries: &[Entry]) -> Result<(), AllocError>
     Ok(())
 }
 
-/// The last of them, if there is one, behind a comma where it is not the first.
+/// The last of them, if there is one, after a comma where it is not the first.
 fn print_last(out: &mut String, is_first: bool, last: Option<&Entry>) -> Result<(), AllocError>
     ensures { OnOk result (Adds (last_entry is_first (option_copied last.entry)) (string_bytes out.old) (string_bytes out.new)) }
 {

@@ -178,7 +178,7 @@ impl Reading {
         }
     }
 
-    /// The place of a node that was declared, where a declaration may stand.
+    /// The place of a node that was declared, where a declaration may be.
     fn declared_place(&self, node: &Atom) -> Result<usize, LineFault>
         requires { IsPlaced self.now }
         ensures ok { IfOk result (λ place. (length self.now.lines.items ≡ 0) × (place_of node.now self.now.starts.items ≡ Some place)) }
@@ -197,7 +197,7 @@ impl Reading {
         Ok(self.lines.push(ScriptLine { number, act })?)
     }
 
-    /// A declaration may stand here.
+    /// A declaration may be here.
     fn declares(&self) -> Result<(), LineFault>
         ensures ok { OnOk result (length self.now.lines.items ≡ 0) }
         ensures err { IfErr result (λ fault. (fault ≡ LateDeclaration) × (length self.now.lines.items ≢ 0)) }
@@ -282,7 +282,7 @@ fn is_skipped(text: &str) -> bool
     text.is_empty() || text.starts_with('%')
 }
 
-/// The first line of a text, and what follows the line feed behind it, where one stands there.
+/// The first line of a text, and what follows the line feed after it, where there is one.
 fn first_line(text: &str) -> (&str, Option<&str>)
     ensures { lines_in text.now ≡ result.0.now ∷ lines_of_rest (option_map (λ rest. rest.now) result.1) }
 {
@@ -292,13 +292,13 @@ fn first_line(text: &str) -> (&str, Option<&str>)
     }
 }
 
-/// Reads a script: lines that line feeds end; the last may lack it. Empty lines, and those that begin with `%`, are skipped.
+/// Reads a script: lines that line feeds end; the last may lack it. Empty lines, and those that begin with `%`, are
+/// skipped. What else a configuration has to be `World::new` looks at.
 ///
-/// Fault: the first faulty line, and the first that holds of `BadLine`, `LateDeclaration`, `UnknownNode`, `BadConfig` for it;
-/// `OutOfMemory` may be told in the place of each, and of a line that has none. What else a configuration has to be is told by
-/// `World::new`.
+/// Errors: those of the first faulty line, of which the first that holds: `BadLine`, `LateDeclaration`,
+/// `UnknownNode`, `BadConfig`; `OutOfMemory` may come in the place of each, and of a line that has none.
 ///
-/// The time is O(n log m) in the length of the text and the number of nodes.
+/// Cost: memory for each line; O(n log m) in the length of the text and the number of nodes.
 pub fn read_script(alloc: Global, text: &str) -> Result<Script, ScriptFault>
     ensures ok { IfOk result (λ script. script_of text.now ≡ Ok (contents_of script)) }
     ensures err { IfErr result (λ fault. fault.fault ≢ OutOfMemory → script_of text.now ≡ Err fault) }

@@ -2,7 +2,7 @@
 
 ghost use Rattle.std.specs.Prelude.{◌≡◌, ◌<◌, List, ℕ, length, string_bytes, OnOk, IfErr, IfOk, ⊤};
 ghost use Rattle.std.specs.Io.KnownBytes.{Appends};
-ghost use Rattle.pg_node.specs.Causes.{FailedAt};
+ghost use Rattle.pg_replica.specs.Causes.{FailedAt};
 ghost use Rattle.pg_text.specs.Writing.{Adds};
 ghost use Rattle.pg_script.specs.Runs.{CanRun, CantRun, CausedBy, Refused, answer_lines};
 
@@ -30,7 +30,7 @@ struct Run<'a> {
     starts: &'a [Start],
     printed: Vec<usize>,
     out: String,
-    // Where what is seen is told, and how much of it was.
+    // Where what is seen is printed, and how much of it was.
     columns: Option<Columns>,
     told: usize,
     ghost rows: { length printed.items ≡ length starts.now },
@@ -88,7 +88,7 @@ impl Run<'_> {
         }
     }
 
-    /// Prints what was seen and not told yet.
+    /// Prints what was seen and not printed yet.
     fn print_sights(&mut self) -> Result<(), AllocError> {
         let (Some(columns), Some(watch)) = (&self.columns, &self.stage.watch) else {
             return Ok(());
@@ -198,11 +198,14 @@ fn outbox_len(world: &World<IndexTable>, from: usize, to: usize) -> usize {
     }
 }
 
-/// Runs a script from the start of its configuration, and writes what it prints. Behind each line stand its own print, the new
-/// answers by node and then in their order, and, where a step was refused, the number of the refusal; the run then goes on.
+/// Runs a script from the start of its configuration, and writes what it prints. For each line that is its own print,
+/// the new answers by node and then in their order, and, where a step was refused, the number of the refusal; the run
+/// then goes on.
 ///
-/// Faults: `World`, where `World::new` refuses the configuration, and then nothing is written; `OutOfMemory`; `WriteFault`, where
-/// a write or a flush failed. What was written is the first of what is printed.
+/// Errors: `World`, where `World::new` refuses the configuration, and then nothing is written; `OutOfMemory`;
+/// `WriteFault`, where a write or a flush failed. What was written is the first of what is printed.
+///
+/// Cost: that of the world's steps, and of what is printed; one write for each line.
 pub fn run_script<W: Sink>(alloc: Global, script: &Script, writer: &mut W) -> Result<(), RunFault>
     ensures appended { (text : List ℕ) × Appends (W.contents writer.old) (W.contents writer.new) text }
     ensures flushed { OnOk result (W.flushed writer.new) }
@@ -220,10 +223,13 @@ pub fn run_script<W: Sink>(alloc: Global, script: &Script, writer: &mut W) -> Re
     }
 }
 
-/// Runs a script as `run_script` does, and gives what was seen of it. `is_told`: what is seen is printed, too, before all else that
-/// a line prints, behind a line of the columns' names; what was seen before the first line stands before that.
+/// Runs a script as `run_script` does, and gives what was seen of it. `is_told`: what is seen is printed, too, before
+/// all else that a line prints, after a line of the columns' names; what was seen before the first line is before
+/// that.
 ///
-/// Faults: those of `run_script`.
+/// Errors: those of `run_script`.
+///
+/// Cost: that of `run_script`, and of a `Watch` of its world.
 pub fn watch_script<W: Sink>(
     alloc: Global,
     script: &Script,
@@ -298,7 +304,7 @@ impl Run<'_> {
         self.print_sights()
     }
 
-    /// Prints the names of the columns, which are told from now on.
+    /// Prints the names of the columns, which are printed from now on.
     fn print_head(&mut self, lines: &[ScriptLine]) -> Result<(), AllocError> {
         let Some(watch) = &self.stage.watch else {
             return Ok(());

@@ -1,5 +1,11 @@
 //! A world that is watched, or not.
 
+ghost use Rattle.std.specs.Prelude.{◌≡◌, IfOk};
+ghost use Rattle.pg_world.specs.Bars.{bytes_lost_after};
+ghost use Rattle.pg_world.specs.ByteWorlds.{account_of, crossing_of, given_of, lost_of, room_of};
+ghost use Rattle.pg_world.specs.BytesPast.{BytesGoOn};
+ghost use Rattle.pg_world.specs.Changes.{StepChanges};
+
 use pg_index::IndexTable;
 use pg_node::NodeFault;
 use pg_trace::Watch;
@@ -16,12 +22,23 @@ pub(crate) struct Stage {
 impl Stage {
     /// Makes a step. `is_quiet`: where it moves no byte and takes no packet, nothing is seen.
     ///
-    /// Error: where there is no memory to tell what was seen. Within: the fault of the step.
+    /// Errors: `AllocError`, where there is no memory for what was seen; the step may have happened. Within: that of
+    /// the step.
     pub(crate) fn step(
         &mut self,
         step: &Step,
         is_quiet: bool,
-    ) -> Result<Result<Stepped, NodeFault>, AllocError> {
+    ) -> Result<Result<Stepped, NodeFault>, AllocError>
+        ensures goes_on { IfOk result (λ made. ∥ BytesGoOn (given_of self.old.world) (crossing_of self.old.world)
+            (account_of self.old.world) (lost_of self.old.world) step.now made (crossing_of self.new.world)
+            (account_of self.new.world) (lost_of self.new.world) ∥₁) }
+        ensures changes { IfOk result (λ made. StepChanges (room_of self.old.world) (crossing_of self.old.world)
+            (crossing_of self.new.world) step.now made) }
+        ensures lost { IfOk result (λ made. lost_of self.new.world ≡ bytes_lost_after step.now made
+            (lost_of self.old.world)) }
+        ensures given { given_of self.new.world ≡ given_of self.old.world }
+        ensures room { room_of self.new.world ≡ room_of self.old.world }
+    {
         match &mut self.watch {
             Some(watch) => watch.step(&mut self.world, step, is_quiet),
             None => Ok(self.world.step(step)),

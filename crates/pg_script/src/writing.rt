@@ -2,7 +2,7 @@
 
 ghost use Rattle.std.specs.Prelude.{◌≡◌, ◌++◌, List, ℕ, OnOk, OnErr, IfErr};
 ghost use Rattle.std.specs.Io.KnownBytes.{Appends};
-ghost use Rattle.pg_node.specs.Causes.{FailedAt};
+ghost use Rattle.pg_replica.specs.Causes.{FailedAt};
 ghost use Rattle.pg_script.specs.declared.fault.RunFault.TheVariants.{WriteFault};
 
 use crate::fault::RunFault;
@@ -10,7 +10,7 @@ use pg_node::Sink;
 
 /// Writes all the bytes.
 ///
-/// Fault: `WriteFault`, where a write fails; what was written is a prefix of the bytes then.
+/// Errors: `WriteFault`, where a write fails; what was written is a prefix of the bytes then.
 pub fn put_whole<W: Sink>(writer: &mut W, bytes: &[u8]) -> Result<(), RunFault>
     ensures ok { OnOk result (Appends (W.contents writer.old) (W.contents writer.new) bytes.now) }
     ensures fault { IfErr result (λ fault. (fault ≡ WriteFault)

@@ -1,5 +1,6 @@
-//! Whether the last part of an exchange may tell groups, none of them named twice. Its bytes are walked over once: each walk
-//! over a part hands back what follows it. No member is built; a name is, to see whether it is one, but for an atom.
+//! Whether the last part of an exchange may announce groups, none of them named twice. Its bytes are walked over
+//! once: each walk over a part gives what follows it. No member is built; a name is, to see whether it is one, but
+//! for an atom.
 
 ghost use Rattle.std.specs.Prelude.{◌≡◌, ◌≢◌, ◌<◌, ◌≤◌, ℕ, Bool, List, [], ◌∷◌, length, true, false, is_some, Ok, Some, None, IfOk, IfSome, MatchOption};
 ghost use Rattle.pg_term.specs.declared.term.Term.{Term};
@@ -17,11 +18,15 @@ use crate::pids::past_pids;
 use pg_term_io::{Kind, NextElement, kind_at, next_element};
 use std::alloc::{AllocError, Global};
 
-/// Whether a part may be a list of groups, none of them named twice. Where names ascend in the order of terms, as a node
-/// tells them, two of them are kept at a time, and of atoms none; else the groups are walked over again, and all names kept.
+/// Whether a part may be a list of groups, none of them named twice.
+///
+/// Errors: `AllocError`.
+///
+/// Cost: where names ascend in the order of terms, as a node announces them, two of them are kept at a time, and of
+/// atoms none; else the groups are walked over again, and all names kept.
 pub fn may_be_groups(alloc: Global, levels: u8, bytes: &[u8]) -> Result<bool, AllocError>
     requires { levels ≤ 64 }
-    // What is refused tells no groups, or one of them twice.
+    // What is refused announces no groups, or one of them twice.
     ensures refused { (t : Term) (rest : List ℕ) → result ≡ Ok false
         → item_at levels bytes.now ≡ Ok (t, rest) → groups_of t ≡ None }
     // What is not lists groups.

@@ -1,4 +1,4 @@
-//! Whether bytes may spell a packet, told before anything of it is built.
+//! Whether bytes may spell a packet, before anything of it is built.
 //!
 //! `may_be_packet(alloc, body)?` is false where bytes spell no packet. Begin with `src/shape.rt`.
 #![tactic(auto)]

@@ -1,4 +1,4 @@
-//! Lists of pids, walked over. Behind a pid those that begin as it are skipped by their length.
+//! Lists of pids, walked over. After a pid those that begin as it are skipped by their length.
 
 ghost use Rattle.std.specs.Prelude.{◌≡◌, ◌≢◌, ◌∷◌, ◌<◌, ◌≤◌, ◌++◌, ℕ, List, Option, length, drop, true, false, is_some, Ok, None, IfSome, IfNone, MatchOption};
 ghost use Rattle.pg_term.specs.declared.pid.Pid.{Pid};

@@ -1,5 +1,6 @@
-//! Whether bytes may spell a packet, told with memory for the names in an exchange alone: what has not the shape of one is
-//! refused before anything else of it is built. A part that holds others is a tuple, a list or a binary; all others are small.
+//! Whether bytes may spell a packet, with memory for the names in an exchange alone: what has not the shape of one is
+//! refused before anything else of it is built. A part that holds others is a tuple, a list or a binary; all others
+//! are small.
 
 ghost use Rattle.std.specs.Prelude.{◌≡◌, ◌<◌, ◌≤◌, ℕ, List, [], ◌∷◌, length, true, false, ◌||◌, is_some, nat_eq, IfSome, IfNone, Ok, Err, Some, None};
 ghost use Rattle.pg_term.specs.declared.term.Term.{Term};
@@ -90,6 +91,11 @@ fn past_first(bytes: &[u8]) -> Option<&[u8]>
 }
 
 /// Whether a body may spell a packet.
+///
+/// Errors: `AllocError`.
+///
+/// Cost: memory for the names in an exchange alone; linear in the bytes, but for an exchange whose names do not
+/// ascend.
 pub fn may_be_packet(alloc: Global, body: &[u8]) -> Result<bool, AllocError>
     // What is refused is no packet.
     ensures refused { (t : Term) → result ≡ Ok false → term_of body.now ≡ Ok t

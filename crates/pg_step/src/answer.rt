@@ -25,7 +25,11 @@ pub enum Reply {
 }
 
 impl Reply {
-    /// An equal reply. Its cost grows with what it lists and with its name. Error: `AllocError`.
+    /// An equal reply.
+    ///
+    /// Errors: `AllocError`.
+    ///
+    /// Cost: grows with what it lists and with its name.
     pub fn copy(&self, alloc: Global) -> Result<Reply, AllocError>
         ensures { IfOk result (λ reply. reply ≡ self.now) }
     {
@@ -76,7 +80,11 @@ pub struct Answer {
 }
 
 impl Answer {
-    /// An equal answer. Its cost is that of the reply. Error: `AllocError`.
+    /// An equal answer.
+    ///
+    /// Errors: `AllocError`.
+    ///
+    /// Cost: that of the reply.
     pub fn copy(&self, alloc: Global) -> Result<Answer, AllocError>
         ensures { IfOk result (λ answer. answer ≡ self.now) }
     {
@@ -100,7 +108,7 @@ ghost use Rattle.pg_step.specs.SameAnswers.{same_reply, same_answer};
 ghost use Rattle.pg_step.specs.declared.answer.Answer.{Answer};
 ghost use Rattle.pg_step.specs.declared.answer.Reply.{Reply};
 
-/// `==` tells exactly whether two replies, or two answers, are one.
+/// `==` is true exactly where two replies, or two answers, are one.
 pub fn equal_answers()
     ensures replies { (x y : Reply) → (same_reply x y ≡ true) ↔ (x ≡ y) }
     ensures answers { (x y : Answer) → (same_answer x y ≡ true) ↔ (x ≡ y) }

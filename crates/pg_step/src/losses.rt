@@ -36,8 +36,8 @@ pub fn losses_are_seen()
     ensures { (peer : Node) (s : State) → SeesLoss peer s (see_loss peer s) }
 {}
 
-/// Where a node sees the loss of another, and where one is lost: exactly where no refusal stands, of which the first is
-/// told. A loss is seen by taking the last notice, which stands behind all that the lost node had sent.
+/// Where a node sees the loss of another, and where one is lost: exactly where there is no refusal, of which the
+/// first is given. A loss is seen by taking the last notice, which comes after all that the lost node had sent.
 pub fn losses_refused_in_order()
     ensures seen { (config : Config) (w : LosingFrameWorld) (i p : ℕ)
         → (see_refusal config w i p ≡ None) ↔ ((w.gone p ≡ true) × (is_drained (w.world.wire p i) ≡ true)

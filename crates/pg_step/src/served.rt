@@ -9,10 +9,10 @@ ghost use Rattle.pg_step.specs.Nodes.{Node, Nodes};
 ghost use Rattle.pg_step.specs.PeersServed.{LockServed, LockFreed, UpdateServed, NewsTaken, OddReplies};
 ghost use Rattle.pg_step.specs.State.{State, Use};
 
-/// What a node does for a peer. A lock is granted exactly where the node is formed and the name is free, and freed by its
-/// holder alone. An update is applied whoever holds the lock, and answered; a join of a process that has ended adds nothing.
-/// The groups that a peer announces are merged, and a process whose end it tells is in no group. A reply that nobody waits for
-/// changes nothing.
+/// What a node does for a peer. A lock is granted exactly where the node is formed and the name is free, and freed by
+/// its holder alone. An update is applied whoever holds the lock, and answered; a join of a process that has ended
+/// adds nothing. The groups that a peer announces are merged, and a process whose end it announces is in no group. A
+/// reply that nobody waits for changes nothing.
 pub fn peers_are_served()
     ensures locks { (m : Nodes) (peer : Node) (reference : RefParts) (name : Term) (s : State)
         → LockServed m peer reference name s }

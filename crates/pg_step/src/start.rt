@@ -8,6 +8,6 @@ pub struct Start {
     pub made: u32,
     /// How many ports it has, at which commands come in.
     pub ports: u16,
-    /// Its groups with their members, each as often as it joined, in the order in which its exchange tells them.
+    /// Its groups with their members, each as often as it joined, in the order in which its exchange lists them.
     pub groups: Items<(Term, Items<Pid>)>,
 }

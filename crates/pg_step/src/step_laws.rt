@@ -37,7 +37,7 @@ ghost use Rattle.pg_step.specs.declared.command_fault.CommandFault.TheVariants.{
 ghost use Rattle.pg_step.specs.declared.command_fault.CommandFault.{CommandFault};
 ghost use Rattle.pg_step.specs.Faults.{first_that_holds};
 
-/// The step of a node with its clock, which tells refusals, is the step of the machine with clocks.
+/// The step of a node with its clock, which gives refusals, is the step of the machine with clocks.
 pub fn step_is_clocked()
     ensures taken { (config : Config) (i p : ℕ) (s : Timed State) (x : Stamped Message)
         → (frame_machine config).step i s (Taken p x)
@@ -47,8 +47,8 @@ pub fn step_is_clocked()
         ≡ timed_placed config (step_act (nodes_at config i) (ports_at config i) action s) }
 {}
 
-/// Which refusal is told, of several the first: a port that is not there, a peer whose loss was seen, a retry of a command that does not wait, a
-/// clock past its limit, a packet that is no message.
+/// Which refusal is given, of several the first: a port that is not there, a peer whose loss was seen, a retry of a
+/// command that does not wait, a clock past its limit, a packet that is no message.
 pub fn refusals_in_order()
     ensures taken { (m : Nodes) (p : Node) (x : Stamped Message) (s : Timed State)
         → refusal_of (step_take m p x s) ≡ first_that_holds (
@@ -62,8 +62,8 @@ pub fn refusals_in_order()
         ∷ (is_full (s.clock + 1), ClockFull) ∷ []) }
 {}
 
-/// What is gathered under a reference goes on as pg_multicall's call does: a counted reply stands at its node, and all else is as
-/// it was. The node that was asked first for a lock is in no second round.
+/// What is gathered under a reference goes on as pg_multicall's call does: a counted reply is kept for its node, and
+/// all else is as it was. The node that was asked first for a lock is in no second round.
 pub fn replies_are_gathered()
     ensures answers { (op : OpId) (update : Update) (first : Node) (st : Node → Status) (p : Node) (said : Said) (q : Node)
         → same_atom first p ≡ false → is_of_lock said ≡ true
@@ -118,8 +118,8 @@ pub fn queries_read_the_table()
         → has_large_name c ≡ true → fault_of m s c ≡ Some NameTooLarge }
 {}
 
-/// What the look answers, where the command has no fault: a create of a group that is in the node's table is ok, and a join
-/// or a leave of one that is not is told so. Nothing else comes of it.
+/// What the look answers, where the command has no fault: a create of a group that is in the node's table is ok, and
+/// a join or a leave of one that is not is answered by that. Nothing else comes of it.
 pub fn looks_answer_at_once()
     ensures created { (config : Config) (w v : FrameWorld) (i port : ℕ) (name : Term) (counts : Counts)
         → fault_of (nodes_at config i) (w.node i) (Create name) ≡ None → (w.node i).table name ≡ Some counts

@@ -1,8 +1,13 @@
+pub mod Asked
+pub mod BodiesRead
 pub mod Conversing
+pub mod FramesRead
+pub mod InputsGoOn
 pub mod Judging
 pub mod Opening
 pub mod Posts
 pub mod Sent
 pub mod Spoken
+pub mod ThreadReads
 pub mod Turns
 pub mod Whole

@@ -10,7 +10,7 @@ use Rattle.std.proofs.lemmas.Bool.Decides.{eqb_tells, leb_tells}
 use Rattle.std.proofs.lemmas.List.{append-nil, get_or-map, get_or-set_same, get_or-set_other, length-map, length-set, map-set, set-set}
 use Rattle.std.proofs.lemmas.List.Concat.{flat_map-append}
 use Rattle.std.proofs.lemmas.List.Elements.{All-append, All-cons, All-nil}
-use Rattle.pg_node.proofs.Streams.{appends_then}
+use Rattle.pg_replica.proofs.Streams.{appends_then}
 use Rattle.pg_run.specs.Ports.{polled, polled_count, submitted}
 use Rattle.pg_run.specs.declared.port.Asked.{Asked}
 use Rattle.pg_run.specs.declared.port.Client.{Client}

@@ -5,10 +5,13 @@ use Rattle.std.specs.Io.KnownBytes.{Keeps}
 use Rattle.std.proofs.lemmas.List.{append-nil, get_or_default, get_or-map, get_or-set_same}
 use Rattle.std.proofs.lemmas.Option.{get_or_from_slice_get}
 use Rattle.std.proofs.Math.ListN.{get_or-eq_default}
-use Rattle.pg_node.proofs.Streams.{appends_kept}
-use Rattle.pg_node.specs.declared.state.fault.NodeFault.{NodeFault}
-use Rattle.pg_node.specs.declared.state.fault.NodeFault.TheVariants.{Refused}
+use Rattle.pg_replica.proofs.Streams.{appends_kept}
+use Rattle.pg_node_state.specs.declared.state.fault.NodeFault.{NodeFault}
+use Rattle.pg_node_state.specs.declared.state.fault.NodeFault.TheVariants.{Refused}
 use Rattle.pg_step.specs.declared.refusal.Refusal.TheVariants.{NoSuchPlace, NodeLost}
+use Rattle.pg_ring.specs.Slots.{SameSlotIn}
+use Rattle.pg_ring.specs.declared.slot_in.SlotIn.{SlotIn}
+use Rattle.pg_cluster.specs.ClientsLaws.{slot_in_on}
 use Rattle.pg_step.specs.Config.{Config}
 use Rattle.pg_term.specs.declared.term.Term.{Term}
 use Rattle.pg_requests.specs.declared.input.Input.{Input}
@@ -32,6 +35,14 @@ goes_then a b c x y z one two = record { kept = two.kept ∙ one.kept; goes = λ
 -- to what is seen so
 pub goes_to : (a b : Serving) (x y : Option (List ℕ)) → b.kept ≡ a.kept → ((given : Config) (first : Option (List ℕ)) (inputs : List Input) → Serves given first inputs (view_of a) x → Serves given first inputs (view_of b) y) → Goes a b x y
 goes_to a b x y kept goes = record { kept = kept; goes = goes }
+
+-- ---- where inputs come in
+
+pub inlet_itself : (a : SlotIn Input) → SameSlotIn a a
+inlet_itself a = ((refl, refl, refl, refl), refl)
+
+pub inlet_on : (a b c : SlotIn Input) → SameSlotIn a b → SameSlotIn b c → SameSlotIn a c
+inlet_on a b c first second = slot_in_on a b c first second
 
 -- ---- a desk
 

@@ -1,13 +1,13 @@
 -- A service at its start and at its end.
-use Rattle.std.proofs.Common.{◌≡◌, ◌<◌, ℕ, Bool, true, false, not, List, [], ◌∷◌, ◌++◌, length, get_or, map, Some, None, Option, refl, sym, ap, subst, ◌∙◌, arith}
-use Rattle.std.specs.Prelude.{◌&&◌}
+use Rattle.std.proofs.Common.{◌≡◌, ◌<◌, ◌+◌, ℕ, Bool, true, false, not, List, [], ◌∷◌, ◌++◌, length, get_or, map, Some, None, Option, refl, sym, ap, subst, ◌∙◌, arith}
+use Rattle.std.specs.Prelude.{◌&&◌, ◌||◌, cond, nat_lt}
 use Rattle.std.specs.List.{All, list_all}
 use Rattle.std.proofs.Props.{props}
 use Rattle.std.proofs.lemmas.List.{append-nil, get_or-map, length-map}
 use Rattle.std.proofs.lemmas.List.Elements.{All-nil, All-tail}
 use Rattle.std.proofs.lemmas.List.Folds.{list_all_at}
 use mathlib.Core.Logic.{∥∥₁_elim}
-use Rattle.pg_node.proofs.Streams.{appends_none}
+use Rattle.pg_replica.proofs.Streams.{appends_none}
 use Rattle.pg_run.specs.Ports.{IsSilent, polled, submitted}
 use Rattle.pg_run.specs.declared.port.Asked.{Asked}
 use Rattle.pg_step.specs.Config.{Config}
@@ -21,14 +21,19 @@ use Rattle.pg_cluster.specs.Notices.{NobodyLost}
 use Rattle.pg_cluster.specs.Running.{clients_in, config_in, losses_in, threads_in}
 use Rattle.pg_cluster.specs.Threads.{AreMade, begun_by}
 use Rattle.pg_requests.specs.declared.input.Input.{Input}
+use Rattle.pg_requests.specs.declared.input.Input.TheVariants as forms
+use Rattle.pg_requests.specs.Layouts.{placed}
 use Rattle.pg_talk.specs.declared.service.desk.Desk.{Desk}
 use Rattle.pg_talk.specs.declared.service.run.Served.{Served}
 use Rattle.pg_talk.specs.declared.service.serving.ServedNode.{ServedNode}
 use Rattle.pg_talk.specs.Desks.{is_idle, is_none, waiting_at}
+use Rattle.pg_talk.specs.Readings.{AreRead}
 use Rattle.pg_talk.specs.Services.{WasServed}
 use Rattle.pg_talk.specs.Servings.{IsKept, IsKeptAt, IsNew, Serves, View, known_lost, names_of, port_at, ports_of, with_node}
 use Rattle.pg_talk.specs.Verdicts.{IsJudged}
-use Rattle.pg_talk.specs.Written.{AllServed, IsAddressed, IsServed, PortName, Written, heard_at, is_lost_at, ports_in, replies_to, requests_to, said_at, told_by}
+use Rattle.pg_talk.specs.Written.{AllServed, IsAddressed, IsServed, PortName, Told, Written, heard_at, is_lost_at, none_told, ports_in, replies_to, requests_to, said_at, tell_bad, tell_lost, tell_next, tell_on, told_by}
+use Rattle.pg_talk.proofs.BodiesRead.{ends, has_end, read_whole}
+use Rattle.pg_talk.proofs.InputsGoOn.{goes_on}
 use Rattle.pg_talk.proofs.Posts.{kept_new, true_is_not_false}
 use Rattle.pg_talk.proofs.Spoken.{silent_at}
 use Rattle.pg_talk.proofs.Turns.{some_desk}
@@ -129,12 +134,43 @@ all_served given before after inputs view idle s = record {
         (served_whole (port_at desk) (is_lost_at desk.node (told_by given inputs).lost) (requests_to client inputs) (waiting_at desk) desk.is_asked desk.replied
         (said_at client (clients_in view.running)) (heard_at client (clients_in view.running)) (replies_to client s.frames) parts.0 parts.1 (s.kept client some within))
 
--- the cluster was closed, and judged so
-pub served_to_the_end : (given : Config) (before after : Option (List ℕ)) (inputs : List Input) (view : View) (served : Served) → view.over ≡ Some served.fault → list_all is_idle view.desks ≡ true
+-- ---- the input
+
+over_if : (test : Bool) (a b : Told) (over : Option (Option ℕ)) → a.over ≡ over → b.over ≡ over → (cond test a b).over ≡ over
+over_if true a b over p q = p
+over_if false a b over p q = q
+
+-- what does not end the input does not say so
+over_kept : (given : Config) (told : Told) (input : Input) → ends input ≡ false → (tell_next given told input).over ≡ told.over
+over_kept given told (forms.Ask client command) e =
+    over_if (nat_lt client (length (ports_in 0 given))) (record told { bodies = told.bodies + 1 }) (tell_bad told) told.over refl refl
+over_kept given told (forms.Lose node) e = over_if (get_or told.lost node true) (tell_bad told) (tell_lost given node told) told.over refl refl
+over_kept given told forms.Bad e = refl
+over_kept given told forms.End e = absurd (true_is_not_false e)
+over_kept given told (forms.Broken number) e = absurd (true_is_not_false e)
+
+end_or_later : (input : Input) (inputs : List Input) → (ends input ≡ false → has_end inputs ≡ true) → has_end (input ∷ inputs) ≡ true
+end_or_later input inputs later = go (ends input) refl
+  where
+    go : (end : Bool) → ends input ≡ end → has_end (input ∷ inputs) ≡ true
+    go true e = ap (λ (end : Bool). end || has_end inputs) e
+    go false e = ap (λ (end : Bool). end || has_end inputs) e ∙ later e
+
+-- inputs that are over have an end
+over_by_end : (given : Config) (inputs : List Input) (told : Told) (fault : Option ℕ) → told.over ≡ None → (tell_on given told inputs).over ≡ Some fault → has_end inputs ≡ true
+over_by_end given [] told fault none some = absurd (cc)
+over_by_end given (input ∷ inputs) told fault none some =
+    end_or_later input inputs (λ e. over_by_end given inputs (tell_next given told input) fault (over_kept given told input e ∙ none) some)
+
+-- The cluster was closed, and judged so. What came in is the first of what is read, and has its end: it is all.
+pub served_to_the_end : {S : Type 0} (remaining : S → Option (List ℕ)) (fails : S → S → Type 0) (given : Config) (wanted : ℕ) (source before after : Option (List ℕ)) (inputs further : List Input) (view : View)
+    (served : Served) → AreRead remaining fails (placed 0 given) wanted source (inputs ++ further) → view.over ≡ Some served.fault → list_all is_idle view.desks ≡ true
     → IsJudged (config_in view.running).starts.items (losses_in view.running) (threads_in view.running) (clients_in view.running) served.verdict → Serves given before inputs view after
-    → WasServed given before after served
-served_to_the_end given before after inputs view served over idle judged s = record {
+    → WasServed remaining fails given wanted source before after served
+served_to_the_end remaining fails given wanted source before after inputs further view served read over idle judged s = record {
   inputs = inputs;
+  read = read_whole (placed 0 given) (goes_on (placed 0 given)) remaining fails source [] wanted inputs further read
+      (over_by_end given inputs (none_told given) served.fault refl (sym s.knows.over ∙ over));
   over = sym s.knows.over ∙ over;
   threads = threads_in view.running;
   clients = clients_in view.running;

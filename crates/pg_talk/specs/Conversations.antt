@@ -1,17 +1,16 @@
 -- What a conversation of clients with a cluster came to.
-use Rattle.std.specs.Prelude.{◌≡◌, ◌⊎◌, ℕ, Bool, ◌<◌, ◌+◌, ◌*◌, ◌-◌, ◌^◌, min, List, [], ◌∷◌, ◌++◌, get_or, length}
-use Rattle.std.specs.List.{sum_by}
-use Rattle.pg_run.specs.Ports.{polled, polled_count}
+use Rattle.std.specs.Prelude.{◌≡◌, ℕ, Bool, ◌<◌, ◌+◌, ◌*◌, ◌-◌, ◌^◌, min, List, [], ◌∷◌, ◌++◌, get_or, length}
+use Rattle.std.specs.List.{All, sum_by}
+use Rattle.pg_run.specs.Ports.{polled}
 use Rattle.pg_run.specs.declared.port.Client.{Client}
-use Rattle.pg_step.specs.declared.answer.Answer.{Answer}
 use Rattle.pg_step.specs.Config.{Config}
 use Rattle.pg_step.specs.declared.start.Start.{Start}
 use Rattle.rand_pcg.specs.Lcg.{Lcg}
 use Rattle.pg_cluster.specs.Notices.{NobodyLost}
-use Rattle.pg_cluster.specs.Threads.{Thread}
+use Rattle.pg_cluster.specs.Threads.{Thread, limit_of}
 use Rattle.pg_talk.specs.declared.conversation.Conversation.{Conversation}
 use Rattle.pg_talk.specs.declared.conversation.Outcome.{Outcome}
-use Rattle.pg_talk.specs.declared.speaker.Speaker.{Speaker}
+use Rattle.pg_talk.specs.Asking.{AllSpoke}
 use Rattle.pg_requests.specs.Members.{node_name}
 use Rattle.pg_talk.specs.Verdicts.{IsJudged}
 
@@ -47,15 +46,6 @@ each_asks asked = saturated (saturated (asked.rounds * 2) + 1)
 abbrev pub all_commands : Conversation → ℕ
 all_commands asked = saturated (saturated (all_clients asked * each_asks asked) + 1)
 
--- one more answer was polled, and it is counted; or none was, and none is
-abbrev pub Counts : ℕ → ℕ → List Answer → List Answer → Type 0
-Counts count count2 answers answers2 =
-    ((answer : Answer) × (answers2 ≡ answers ++ answer ∷ []) × (count2 ≡ saturated (count + 1))) ⊎ ((answers2 ≡ answers) × (count2 ≡ count))
-
--- all that a client polled is counted
-abbrev pub HasCounted : Speaker → Client → Type 0
-HasCounted speaker client = speaker.answered ≡ polled_count client
-
 -- how many answers all clients polled
 abbrev pub all_polled : List Client → ℕ
 all_polled clients = sum_by (λ client. length (polled client)) clients
@@ -73,5 +63,8 @@ pub record TookPlace (asked : Conversation) (outcome : Outcome) : Type 0 where
   pub judged : IsJudged given lost threads clients (record { agree = outcome.agree; replay = outcome.replay })
   pub nodes_told : outcome.nodes ≡ asked.nodes
   pub clients_told : outcome.clients ≡ all_clients asked
+  -- each node made so many turns at most, and each client asked just what it was to ask
+  pub limits : All (λ thread. limit_of thread ≡ asked.turns) threads
+  pub spoke : AllSpoke asked.rounds clients
   pub answered_told : outcome.answered ≡ saturated (all_polled clients)
   pub asked_told : outcome.asked ≡ all_commands asked

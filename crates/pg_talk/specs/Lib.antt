@@ -1,7 +1,12 @@
+pub mod Asking
 pub mod Conversations
 pub mod Desks
 pub mod Frames
 pub mod Outcomes
+pub mod Readers
+pub mod ReadingLaws
+pub mod ReadingThread
+pub mod Readings
 pub mod Services
 pub mod Servings
 pub mod Verdicts

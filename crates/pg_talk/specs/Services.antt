@@ -2,6 +2,7 @@
 use Rattle.std.specs.Prelude.{◌≡◌, ℕ, List, Option, Some}
 use Rattle.pg_run.specs.declared.port.Client.{Client}
 use Rattle.pg_requests.specs.declared.input.Input.{Input}
+use Rattle.pg_requests.specs.Layouts.{placed}
 use Rattle.pg_step.specs.Config.{Config}
 use Rattle.rand_pcg.specs.Lcg.{Lcg}
 use Rattle.pg_cluster.specs.Threads.{Thread}
@@ -10,6 +11,7 @@ use Rattle.pg_talk.specs.declared.service.fault.ServiceFault.{ServiceFault}
 use Rattle.pg_talk.specs.declared.service.fault.ServiceFault.TheVariants as faults
 use Rattle.pg_talk.specs.declared.service.run.Served.{Served}
 use Rattle.pg_talk.specs.Written.{AllServed, told_by}
+use Rattle.pg_talk.specs.Readings.{AreRead}
 use Rattle.pg_talk.specs.Verdicts.{IsJudged}
 
 -- the number of each
@@ -19,10 +21,11 @@ service_number_of faults.BadText = 40
 service_number_of faults.WriteFault = 32
 service_number_of faults.OutOfMemory = 10
 
--- A cluster of this configuration ran, and was closed and judged. These inputs came, of which the last told by which fault the input ended, if by one; the nodes that
--- they lose were lost, and all of them were served.
-pub record WasServed (given : Config) (before after : Option (List ℕ)) (served : Served) : Type 0 where
+-- A cluster of this configuration ran, and was closed and judged. The inputs are those that were read of the source, until so many requests came. The last of them says
+-- by which fault the input ended, if by one; the nodes that they lose were lost, and all of them were served.
+pub record WasServed {S : Type 0} (remaining : S → Option (List ℕ)) (fails : S → S → Type 0) (given : Config) (wanted : ℕ) (source before after : Option (List ℕ)) (served : Served) : Type 0 where
   pub inputs : List Input
+  pub read : AreRead remaining fails (placed 0 given) wanted source inputs
   pub over : (told_by given inputs).over ≡ Some served.fault
   pub threads : List (Thread Lcg)
   pub clients : List Client

@@ -1,12 +1,13 @@
 //! A conversation of clients with a cluster: what the program's `threads` does.
 
-ghost use Rattle.std.specs.Prelude.{◌≡◌, ◌++◌, IfOk, OnOk, length, map};
+ghost use Rattle.std.specs.Prelude.{◌≡◌, ◌++◌, ℕ, List, IfOk, OnOk, length};
 ghost use Rattle.std.specs.Io.KnownBytes.{Appends};
 ghost use Rattle.std.specs.List.{All, sum_by};
 ghost use Rattle.pg_run.specs.Ports.{IsSilent};
-ghost use Rattle.pg_cluster.specs.Clients.{AllPairs};
+ghost use Rattle.pg_run.specs.declared.port.Client.{Client};
 ghost use Rattle.pg_cluster.specs.Running.{clients_in, Goes};
-ghost use Rattle.pg_talk.specs.Conversations.{AreAsked, HasCounted, IsBare, TookPlace, all_polled, saturated};
+ghost use Rattle.pg_talk.specs.Asking.{AllKeep, AllSpoke, Keeps, is_first};
+ghost use Rattle.pg_talk.specs.Conversations.{AreAsked, IsBare, TookPlace, all_polled, saturated};
 ghost use Rattle.pg_talk.specs.Outcomes.{agree_line, answered_line, is_good, nodes_line, outcome_lines, replay_line, yes_or_no};
 
 use crate::onlooker::Onlooker;
@@ -78,6 +79,8 @@ pub struct Outcome {
 
 impl Outcome {
     /// Whether all was answered, the nodes agree, and the schedule replays.
+    ///
+    /// Cost: no memory.
     pub fn is_good(&self) -> bool
         ensures { result ≡ is_good self.now }
     {
@@ -86,7 +89,9 @@ impl Outcome {
 
     /// Writes it in four lines.
     ///
-    /// Error: that of the writer.
+    /// Errors: that of the writer. Some of the lines, and a part of the next, may be written then.
+    ///
+    /// Cost: no memory but what the writer takes.
     pub fn write<W: Write>(&self, out: &mut W) -> io::Result<()>
         ensures { OnOk result (Appends (W.contents out.old) (W.contents out.new) (outcome_lines self.now)) }
     {
@@ -139,12 +144,14 @@ fn yes_or_no(holds: bool) -> &'static str
     if holds { "yes" } else { "no" }
 }
 
-/// Starts the cluster and lets its clients speak: the first client of the first node creates a group; once that is answered each
-/// client makes a process, and then joins the group and leaves it so many times, each command once the former is answered. The
-/// cluster is closed once all is answered, or after as many looks as there are turns. `onlooker`: who is told at each look how far
-/// they are. It may wait for threads.
+/// Starts a cluster and lets its clients speak. The first client of the first node creates a group. Once that is answered each client
+/// makes a process, and then joins the group and leaves it so many times, each command once the former is answered. The cluster is closed
+/// once all is answered, or after as many looks as there are turns. `onlooker` sees at each look how far they are. It may wait for threads.
 ///
-/// Faults: those of `Cluster::start`, where `BadConfig` is told of more than 16 nodes, or of none.
+/// Errors: those of `Cluster::start`, in their order, `BadConfig` among them for more than 16 nodes, or none. Also `World` of `OutOfMemory`,
+/// where memory runs out before the start, while the clients speak, or as the cluster is judged. No thread of it runs after an error.
+///
+/// Cost: 64 KB for each ring between two nodes, and the logs of all nodes, which grow with each event until the end. A thread for each node.
 pub fn run_threads<R: Threads, O: Onlooker>(
     rt: &R,
     alloc: Global,
@@ -201,6 +208,7 @@ fn converse<O: Onlooker>(
     requires silent { All IsSilent (clients_in running.old) }
     ensures same { Goes running.old running.new }
     ensures answered { IfOk result (λ answered. answered ≡ saturated (all_polled (clients_in running.new))) }
+    ensures spoke { IfOk result (λ answered. AllSpoke asked.rounds (clients_in running.new)) }
 {
     let mut speakers = speakers(alloc, running.client_count(), asked.rounds)?;
     let commands = asked.commands();
@@ -219,18 +227,24 @@ fn converse<O: Onlooker>(
 
 /// So many clients, of which the first creates the group.
 fn speakers(alloc: Global, count: usize, rounds: u32) -> Result<Vec<Speaker>, AllocError>
-    ensures count { IfOk result (λ speakers. length speakers.items ≡ count) }
-    ensures none { IfOk result (λ speakers. All (λ speaker. speaker.answered ≡ 0) speakers.items) }
+    ensures { IfOk result (λ speakers. (clients : List Client) → length clients ≡ count → All IsSilent clients → AllKeep rounds speakers.items clients) }
 {
     let mut speakers = Vec::with_capacity(alloc, count)?;
     for place in 0..count {
-        speakers.push(if place == 0 {
-            Speaker::creating(rounds)
-        } else {
-            Speaker::waiting(rounds)
-        })?;
+        speakers.push(speaker_at(place, rounds))?;
     }
     Ok(speakers)
+}
+
+/// The client at a place, as it begins.
+fn speaker_at(place: usize, rounds: u32) -> Speaker
+    ensures { (client : Client) → IsSilent client → Keeps (is_first place) rounds result client }
+{
+    if place == 0 {
+        Speaker::creating(rounds)
+    } else {
+        Speaker::waiting(rounds)
+    }
 }
 
 /// Each client speaks once; whether something moved.
@@ -239,9 +253,8 @@ fn speak_all(
     running: &mut Running,
     speakers: &mut Vec<Speaker>,
 ) -> Result<bool, AllocError>
-    requires counted { AllPairs HasCounted speakers.old.items (clients_in running.old) }
     ensures same { Goes running.old running.new }
-    ensures counted { OnOk result (AllPairs HasCounted speakers.new.items (clients_in running.new)) }
+    ensures keep { (rounds : ℕ) → AllKeep rounds speakers.old.items (clients_in running.old) → AllKeep rounds speakers.new.items (clients_in running.new) }
 {
     let mut moved = false;
     for place in 0..running.client_count().min(speakers.len()) {
@@ -258,7 +271,7 @@ fn speak_all(
 
 /// The group is there.
 fn begin_all(speakers: &mut Vec<Speaker>)
-    ensures { map (λ speaker. speaker.answered) speakers.new.items ≡ map (λ speaker. speaker.answered) speakers.old.items }
+    ensures { (rounds : ℕ) (clients : List Client) → AllKeep rounds speakers.old.items clients → AllKeep rounds speakers.new.items clients }
 {
     for place in 0..speakers.len() {
         speakers[place].begin();

@@ -2,12 +2,14 @@
 #![tactic(auto)]
 
 mod conversation;
+mod laws;
 mod onlooker;
 mod service;
 mod speaker;
 mod verdict;
 
 pub use conversation::{Conversation, Outcome, run_threads};
+pub use laws::frames_are_read;
 pub use onlooker::{Onlooker, Quiet};
 pub use pg_requests::node_names;
 pub use service::fault::ServiceFault;

@@ -1,14 +1,17 @@
 //! What a client of a conversation says next.
 
-ghost use Rattle.std.specs.Prelude.{◌≡◌, ◌<◌, ◌+◌, length};
+ghost use Rattle.std.specs.Prelude.{◌≡◌, ◌<◌, ◌+◌, ℕ, Bool, true, false, IfOk, get_or, length};
+ghost use Rattle.pg_run.specs.Ports.{IsSilent};
 ghost use Rattle.pg_run.specs.declared.port.Client.{Client};
-ghost use Rattle.pg_cluster.specs.Running.{clients_in, polled_at, OnlyClient};
-ghost use Rattle.pg_talk.specs.Conversations.{Counts, saturated};
+ghost use Rattle.pg_cluster.specs.Running.{clients_in, OnlyClient};
+ghost use Rattle.pg_talk.specs.Asking.{Keeps, group_name, made_of, next_said, pid_after, rounds_after, stage_after};
+ghost use Rattle.pg_talk.specs.Conversations.{saturated};
 
 use pg_cluster::Running;
 use pg_step::{Answer, Command, Reply};
 use pg_term::{Atom, Pid, Term};
 use std::alloc::{AllocError, Global};
+use std::mem;
 
 /// Where a client is in its conversation.
 #[derive(Clone, Copy, Debug, PartialEq, Eq)]
@@ -34,6 +37,7 @@ pub(crate) struct Speaker {
     // The command of the stage was submitted.
     is_asked: bool,
     pid: Option<Pid>,
+    // How many rounds are to follow.
     rounds: u32,
     // How many commands were answered.
     pub(crate) answered: u64,
@@ -42,7 +46,7 @@ pub(crate) struct Speaker {
 impl Speaker {
     /// A client that creates the group first.
     pub(crate) fn creating(rounds: u32) -> Speaker
-        ensures { result.answered ≡ 0 }
+        ensures { (client : Client) → IsSilent client → Keeps true rounds result client }
     {
         Speaker {
             stage: Stage::Creating,
@@ -55,7 +59,7 @@ impl Speaker {
 
     /// A client that waits for the group.
     pub(crate) fn waiting(rounds: u32) -> Speaker
-        ensures { result.answered ≡ 0 }
+        ensures { (client : Client) → IsSilent client → Keeps false rounds result client }
     {
         Speaker {
             stage: Stage::Waiting,
@@ -68,7 +72,7 @@ impl Speaker {
 
     /// The group is there.
     pub(crate) fn begin(&mut self)
-        ensures { self.new.answered ≡ self.old.answered }
+        ensures { (creates : Bool) (rounds : ℕ) (client : Client) → Keeps creates rounds self.old client → Keeps creates rounds self.new client }
     {
         if self.stage == Stage::Waiting {
             self.stage = Stage::Making;
@@ -91,7 +95,8 @@ impl Speaker {
     ) -> Result<bool, AllocError>
         requires { place < length (clients_in running.old) }
         ensures only { OnlyClient place running.old running.new }
-        ensures counts { (none : Client) → Counts self.old.answered self.new.answered (polled_at place none running.old) (polled_at place none running.new) }
+        ensures keeps { (creates : Bool) (rounds : ℕ) (none : Client) → Keeps creates rounds self.old (get_or (clients_in running.old) place none)
+            → Keeps creates rounds self.new (get_or (clients_in running.new) place none) }
     {
         if self.is_asked {
             match running.poll(place) {
@@ -106,17 +111,18 @@ impl Speaker {
         }
     }
 
-    // Submits the command of the stage.
+    // Submits the command of the stage, which was not.
     fn ask(
         &mut self,
         alloc: Global,
         running: &mut Running,
         place: usize,
     ) -> Result<bool, AllocError>
-        requires { place < length (clients_in running.old) }
+        requires place { place < length (clients_in running.old) }
+        requires unasked { self.old.is_asked ≡ false }
         ensures only { OnlyClient place running.old running.new }
-        ensures polled { (none : Client) → polled_at place none running.new ≡ polled_at place none running.old }
-        ensures answered { self.new.answered ≡ self.old.answered }
+        ensures keeps { (creates : Bool) (rounds : ℕ) (none : Client) → Keeps creates rounds self.old (get_or (clients_in running.old) place none)
+            → Keeps creates rounds self.new (get_or (clients_in running.new) place none) }
     {
         match self.command(alloc)? {
             Some(command) => {
@@ -134,7 +140,9 @@ impl Speaker {
     }
 
     // The command of the stage.
-    fn command(&self, alloc: Global) -> Result<Option<Command>, AllocError> {
+    fn command(&self, alloc: Global) -> Result<Option<Command>, AllocError>
+        ensures { IfOk result (λ command. command ≡ next_said self.now.stage self.now.pid) }
+    {
         Ok(match (self.stage, &self.pid) {
             (Stage::Creating, _) => Some(Command::Create(group(alloc)?)),
             (Stage::Making, _) => Some(Command::Make),
@@ -152,14 +160,31 @@ impl Speaker {
 
     // Takes in the answer to the command of the stage.
     fn hear(&mut self, answer: Answer)
-        ensures { self.new.answered ≡ saturated (self.old.answered + 1) }
+        ensures answered { self.new.answered ≡ saturated (self.old.answered + 1) }
+        ensures asked { self.new.is_asked ≡ false }
+        ensures pid { self.new.pid ≡ pid_after self.old.stage self.old.pid answer.reply }
+        ensures stage { self.new.stage ≡ stage_after self.old.stage self.old.rounds }
+        ensures rounds { self.new.rounds ≡ rounds_after self.old.stage self.old.rounds }
     {
         self.answered = self.answered.saturating_add(1);
         self.is_asked = false;
-        match answer.reply {
-            Reply::Made(pid) => drop(self.pid.replace(pid)),
-            other => drop(other),
+        let made = made_by(answer);
+        if self.stage == Stage::Making {
+            drop(mem::replace(&mut self.pid, made));
+        } else {
+            drop(made);
         }
+        self.go_on();
+    }
+
+    // The next stage begins.
+    fn go_on(&mut self)
+        ensures answered { self.new.answered ≡ self.old.answered }
+        ensures asked { self.new.is_asked ≡ self.old.is_asked }
+        ensures pid { self.new.pid ≡ self.old.pid }
+        ensures stage { self.new.stage ≡ stage_after self.old.stage self.old.rounds }
+        ensures rounds { self.new.rounds ≡ rounds_after self.old.stage self.old.rounds }
+    {
         self.stage = match self.stage {
             Stage::Waiting | Stage::Creating => Stage::Making,
             Stage::Joining => Stage::Leaving,
@@ -176,8 +201,23 @@ impl Speaker {
     }
 }
 
+// The process that an answer tells of.
+fn made_by(answer: Answer) -> Option<Pid>
+    ensures { result ≡ made_of answer.reply }
+{
+    match answer.reply {
+        Reply::Made(pid) => Some(pid),
+        other => {
+            drop(other);
+            None
+        }
+    }
+}
+
 // The name of the group.
-fn group(alloc: Global) -> Result<Term, AllocError> {
+fn group(alloc: Global) -> Result<Term, AllocError>
+    ensures { IfOk result (λ name. name ≡ group_name) }
+{
     match Atom::new(alloc, "g") {
         Ok(name) => Ok(Term::Atom(name)),
         Err(_) => Err(AllocError),

@@ -38,7 +38,9 @@ impl Model for Atom {
 impl Atom {
     /// The atom of this text.
     ///
-    /// Refusals: `BadAtom` where the text has more than 255 characters; else `OutOfMemory`.
+    /// Errors: `BadAtom` where the text has more than 255 characters; else `OutOfMemory`.
+    ///
+    /// Cost: one allocation, and two more for a text above 22 bytes.
     pub fn new(alloc: Global, text: &str) -> Result<Atom, TermFault>
         ensures { Gives (λ a. a) result (atom_of (chars text.now)) }
     {
@@ -60,7 +62,11 @@ impl Atom {
         self.text.as_str()
     }
 
-    /// An equal atom, on the same allocator: one allocation.
+    /// An equal atom, on the same allocator.
+    ///
+    /// Errors: `AllocError`.
+    ///
+    /// Cost: one allocation, and two more for a text above 22 bytes.
     pub fn copy(&self) -> Result<Atom, AllocError>
         ensures { IfOk result (λ a. a ≡ self.now) }
     {
@@ -71,8 +77,10 @@ impl Atom {
     }
 }
 
-/// Whether a text has more than 255 characters, and so is that of no atom. It has no more characters than bytes, so that a
-/// short one is not counted. It takes no memory.
+/// Whether a text has more than 255 characters, and so is that of no atom. It has no more characters than bytes, so
+/// that a short one is not counted.
+///
+/// Cost: no memory.
 pub fn is_long(text: &str) -> bool
     ensures { result ≡ nat_lt 255 (length (chars text.now)) }
 {

@@ -26,7 +26,9 @@ impl<T> Model for Fields<T> {
 }
 
 impl<T> Fields<T> {
-    /// These elements. It takes no memory.
+    /// These elements.
+    ///
+    /// Cost: no memory.
     pub fn from_vec(elements: Vec<T>) -> Fields<T>
         ensures { result ≡ elements.items }
     {
@@ -35,7 +37,9 @@ impl<T> Fields<T> {
         }
     }
 
-    /// Gives the vector back. It takes no memory.
+    /// Gives the vector back.
+    ///
+    /// Cost: no memory.
     pub fn into_vec(self) -> Vec<T>
         ensures { result.items ≡ self }
     {

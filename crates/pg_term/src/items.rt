@@ -25,14 +25,18 @@ impl<T> Model for Items<T> {
 }
 
 impl<T> Items<T> {
-    /// These elements. It takes no memory.
+    /// These elements.
+    ///
+    /// Cost: no memory.
     pub fn from_vec(elements: Vec<T>) -> Items<T>
         ensures { result ≡ elements.items }
     {
         Items { elements }
     }
 
-    /// Gives the vector back. It takes no memory.
+    /// Gives the vector back.
+    ///
+    /// Cost: no memory.
     pub fn into_vec(self) -> Vec<T>
         ensures { result.items ≡ self }
     {

@@ -9,7 +9,7 @@ ghost use Rattle.pg_term.specs.Order.{kind_of, numbers_order, references_order, 
 ghost use Rattle.pg_term.specs.RefParts.{RefParts, ref_eq, ref_cmp};
 ghost use Rattle.pg_term.specs.Same.{same_term, term_cmp, same_pid, pid_cmp, same_atom, atom_cmp};
 
-/// `==` tells exactly whether two values are one, for terms and for what they are made of.
+/// `==` is true exactly where two values are one, for terms and for what they are made of.
 pub fn equality()
     ensures terms { (x y : Term) → (same_term x y ≡ true) ↔ (x ≡ y) }
     ensures pids { (x y : Pid) → (same_pid x y ≡ true) ↔ (x ≡ y) }
@@ -17,7 +17,7 @@ pub fn equality()
     ensures atoms { (x y : List ℕ) → (same_atom x y ≡ true) ↔ (x ≡ y) }
 {}
 
-/// `cmp` is a total order, which tells `Equal` of one value alone.
+/// `cmp` is a total order, which is `Equal` for one value alone.
 pub fn order()
     ensures terms { IsTotalOrder term_cmp }
     ensures pids { IsTotalOrder pid_cmp }

@@ -14,7 +14,11 @@ pub struct Pid {
 }
 
 impl Pid {
-    /// An equal pid: one allocation.
+    /// An equal pid.
+    ///
+    /// Errors: `AllocError`.
+    ///
+    /// Cost: that of its node's copy.
     pub fn copy(&self) -> Result<Pid, AllocError>
         ensures { IfOk result (λ p. p ≡ self.now) }
     {

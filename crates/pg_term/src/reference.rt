@@ -34,9 +34,11 @@ impl Model for Reference {
 }
 
 impl Reference {
-    /// The reference of these parts. It takes no memory.
+    /// The reference of these parts.
     ///
-    /// Refusal: `BadReference` unless there are one to three words.
+    /// Errors: `BadReference` unless there are one to three words.
+    ///
+    /// Cost: no memory.
     pub fn new(node: Atom, creation: u32, words: &[u32]) -> Result<Reference, TermFault>
         ensures { result ≡ ref_of node creation words.now }
     {
@@ -77,7 +79,11 @@ impl Reference {
         &self.words[..self.count as usize]
     }
 
-    /// An equal reference: one allocation.
+    /// An equal reference.
+    ///
+    /// Errors: `AllocError`.
+    ///
+    /// Cost: that of its node's copy.
     pub fn copy(&self) -> Result<Reference, AllocError>
         ensures { IfOk result (λ r. r ≡ self.now) }
     {

@@ -23,16 +23,21 @@ pub enum Term {
 }
 
 impl Term {
-    /// An equal term. Its cost grows with the term: one allocation for each atom, pid, tuple, list
-    /// and binary, and two for each reference.
+    /// An equal term.
+    ///
+    /// Errors: `AllocError`.
+    ///
+    /// Cost: grows with the term: an allocation for each atom, pid, tuple, list and binary, and two for each reference; two
+    /// more for each name above 22 bytes.
     pub fn copy(&self, alloc: Global) -> Result<Term, AllocError>
         ensures { IfOk result (λ t. t ≡ self.now) }
     {
         copy(alloc, self)
     }
 
-    /// How deep the term nests: 1, and for a tuple or list one more than its deepest element. Its cost grows with the
-    /// term.
+    /// How deep the term nests: 1, and for a tuple or list one more than its deepest element.
+    ///
+    /// Cost: grows with the term.
     pub fn depth(&self) -> u64
         ensures { result ≡ min (depth self.now) u64.MAX }
     {
@@ -91,7 +96,9 @@ fn greatest_depth(terms: &[Term]) -> u64
 impl Term {
     ghost use Rattle.std.specs.Prelude.{◌↔◌, IsTrue};
 
-    /// Whether the two are one term, as `==` tells. Its cost grows with the smaller of the two.
+    /// Whether the two are one term, as `==` has it.
+    ///
+    /// Cost: grows with the smaller of the two.
     pub fn is(&self, other: &Term) -> bool
         ensures { IsTrue result ↔ (self.now ≡ other.now) }
     {

@@ -1,4 +1,4 @@
-/// What kind of term stands at the front of some bytes. In the order of kinds in Erlang's order of terms.
+/// What kind of term is at the start of some bytes. In the order of kinds in Erlang's order of terms.
 #[derive(Clone, Copy, Debug, PartialEq, Eq)]
 pub enum Kind {
     /// An integer.

@@ -26,25 +26,25 @@ pub use crate::reading::outline::{kind_at, skip_item, tuple_at};
 use pg_term::{Term, TermFault};
 use std::alloc::Global;
 
-/// The term that the bytes spell, all of the bytes, by the External Term Format chapter of the
-/// Erlang documentation: the byte 131 and one item. The tags that are read stand in `src/tag.rt`. Terms may nest 64
-/// levels deep.
+/// The term that the bytes spell, all of the bytes: the byte 131 and one item. The tags that are read are in
+/// `src/tag.rt`. Terms may nest 64 levels deep.
 ///
-/// Items are read from left to right, an item before its parts, and the first fault is told:
+/// Errors: the first that holds, where items are read from left to right, an item before its parts:
 ///
 /// 1. `Truncated`: there is no byte; `BadVersion`: the first byte is not 131;
-/// 2. of an item, `Truncated`: there is no byte; `TooDeep`: its depth is above 64; `UnknownTag`,
-///    in the place of a tail `ImproperList`, and in the place of an atom of a pid or a reference
-///    `BadAtom`: its tag is none that may stand there; `Truncated`: a field or a text is cut;
-///    `IntegerTooLarge`: no signed integer of 64 bits; `BadAtom`: more than 255 characters, or not
-///    UTF-8; `BadReference`: not one to three words, told before the atom is read; `TooDeep`: a
-///    STRING at depth 64 with a byte, told once its bytes are there;
+/// 2. of an item, `Truncated`: there is no byte; `TooDeep`: its depth is above 64; `UnknownTag`, in the place of a
+///    tail `ImproperList`, and in the place of an atom of a pid or a reference `BadAtom`: its tag is none that may be
+///    there; `Truncated`: a field or a text is cut; `IntegerTooLarge`: no signed integer of 64 bits; `BadAtom`: more
+///    than 255 characters, or not UTF-8; `BadReference`: not one to three words, seen before the atom is read;
+///    `TooDeep`: a STRING at depth 64 with a byte, seen once its bytes are there;
 /// 3. `TrailingBytes`: bytes follow the item.
 ///
-/// `OutOfMemory` may be told in place of a later fault.
+/// `OutOfMemory` may come in place of a later one.
 ///
-/// The time is linear in the number of bytes. Room for elements is taken once, for no more of them
-/// than there are bytes for, those of the lists around included; an atom takes one allocation.
+/// Cost: linear in the number of bytes. Room for elements is taken once, for no more of them than there are bytes
+/// for, those of the lists around included; an atom takes one allocation, above 22 bytes three.
+///
+/// The rule: the External Term Format chapter of the Erlang documentation.
 pub fn decode(alloc: Global, bytes: &[u8]) -> Result<Term, TermFault>
     // What is read is spelled so.
     ensures found { IfOk result (λ t. Spells t bytes.now) }
@@ -52,7 +52,7 @@ pub fn decode(alloc: Global, bytes: &[u8]) -> Result<Term, TermFault>
     ensures only { (t : Term) → Spells t bytes.now → Gives (λ t. t) result (Ok t) }
     // A fault is that of the bytes, unless memory ran out.
     ensures told { IfErr result (λ f. f ≢ OutOfMemory → Breaks f bytes.now) }
-    // The fault of the bytes is told, unless memory runs out.
+    // The fault of the bytes is given, unless memory runs out.
     ensures first { (f : TermFault) → Breaks f bytes.now → Gives (λ t. t) result (Err f) }
     ensures never { result ≢ Err TooLong }
     // The same by a function that computes, for callers.
@@ -79,18 +79,23 @@ fn whole_term(alloc: Global, bytes: &[u8]) -> Result<Term, TermFault>
     }
 }
 
-/// The item at the front of the bytes, as a part of what `decode` reads, and the bytes behind it. So many levels of
+/// The item at the start of the bytes, as a part of what `decode` reads, and the bytes after it. So many levels of
 /// terms may nest in it, itself the first of them.
 ///
-/// Faults, time and memory as `decode` says of an item.
+/// Errors: those of an item, as `decode` has them.
+///
+/// Cost: that of `decode` for the bytes of the item.
 pub fn decode_item(alloc: Global, levels: u8, bytes: &[u8]) -> Result<(Term, &[u8]), TermFault>
     ensures { Gives (λ x. (x.0, x.1.now)) result (item_at levels bytes.now) }
 {
     item(alloc, levels, 0, bytes)
 }
 
-/// Whether `decode` reads the bytes as a term, or else the fault that it tells. It takes no memory, so that what is no
-/// term costs none. The time is linear in the number of bytes.
+/// Whether `decode` reads the bytes as a term. What is no term costs no memory so.
+///
+/// Errors: that of `decode`, but for `OutOfMemory`.
+///
+/// Cost: no memory; linear in the number of bytes.
 pub fn check_term(bytes: &[u8]) -> Result<(), TermFault>
     ensures exact { Judges result (term_of bytes.now) }
     // Some term is spelled so, or the fault is that of the bytes.

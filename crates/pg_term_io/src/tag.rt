@@ -1,4 +1,4 @@
-//! The tags of the External Term Format that are read, by their names in the Erlang documentation, and what stands behind
+//! The tags of the External Term Format that are read, by their names in the Erlang documentation, and what follows
 //! each of them.
 
 ghost use Rattle.std.specs.Prelude.{◌≡◌};
@@ -69,7 +69,7 @@ pub(crate) enum Creation {
     Word,
 }
 
-/// What stands behind the tag of a term that holds no terms.
+/// What follows the tag of a term that holds no terms.
 #[derive(Clone, Copy)]
 pub(crate) enum LeafTag {
     /// An integer of one byte.
@@ -90,7 +90,7 @@ pub(crate) enum LeafTag {
     Binary,
 }
 
-/// What stands behind the tag of a list.
+/// What follows the tag of a list.
 #[derive(Clone, Copy)]
 pub(crate) enum ListTag {
     /// Nothing: it has no elements.
@@ -101,7 +101,7 @@ pub(crate) enum ListTag {
     List,
 }
 
-/// What stands behind a tag.
+/// What follows a tag.
 #[derive(Clone, Copy)]
 pub(crate) enum Tag {
     /// How many elements, and the elements.
@@ -113,7 +113,7 @@ pub(crate) enum Tag {
 }
 
 impl Tag {
-    /// What stands behind this byte. `None`: it is no tag that is read.
+    /// What follows this byte. `None`: it is no tag that is read.
     #[inline]
     pub(crate) fn of(byte: u8) -> Option<Tag>
         ensures { result ≡ tag_of byte }
@@ -152,7 +152,7 @@ impl Tag {
         }
     }
 
-    /// What stands behind the tag of a list, if the byte is one.
+    /// What follows the tag of a list, if the byte is one.
     pub(crate) fn of_list(byte: u8) -> Option<ListTag>
         ensures { result ≡ list_tag (tag_of byte) }
     {
@@ -162,7 +162,7 @@ impl Tag {
         }
     }
 
-    /// The kind of term that stands behind it.
+    /// The kind of term that follows it.
     pub(crate) fn kind(self) -> Kind
         ensures { result ≡ kind_of_tag self }
     {

@@ -64,32 +64,32 @@ pub fn reference_len(reference: &Reference) -> usize
     7 + atom_len(reference.node()) + 4 * reference.words().len()
 }
 
-// How many bytes a binary takes, or `usize::MAX` where that is less: BINARY_EXT.
+// How many bytes a binary takes, or `usize::MAX` where that is smaller: BINARY_EXT.
 fn binary_len(content: &[u8]) -> usize
     ensures { result ≡ min (length (binary_bytes content.now)) usize.MAX }
 {
     content.len().saturating_add(5)
 }
 
-/// How many bytes stand before the elements of a tuple: SMALL_TUPLE_EXT or LARGE_TUPLE_EXT.
+/// How many bytes are before the elements of a tuple: SMALL_TUPLE_EXT or LARGE_TUPLE_EXT.
 pub fn tuple_head_len(arity: usize) -> usize
     ensures { result ≡ length (tuple_head arity) }
 {
     if arity <= 255 { 2 } else { 5 }
 }
 
-/// How many bytes stand before the elements of a list: LIST_EXT, or none for no elements.
+/// How many bytes are before the elements of a list: LIST_EXT, or none for no elements.
 pub fn list_head_len(count: usize) -> usize
     ensures { result ≡ length (list_head count) }
 {
     if count == 0 { 0 } else { 5 }
 }
 
-/// How many bytes a term takes as one item, without the version byte 131, or `usize::MAX` where
-/// that is less.
+/// How many bytes a term takes as one item, without the version byte 131, or `usize::MAX` where that is smaller.
 ///
-/// The fault: `TooDeep`, where the term nests more than `room` levels deep. It takes no memory. One
-/// walk over the term, at most `room` levels down.
+/// Errors: `TooDeep`, where the term nests more than `room` levels deep.
+///
+/// Cost: no memory; one walk over the term, at most `room` levels down.
 #[cycle(size)]
 pub fn item_len(term: &Term, room: usize) -> Result<usize, TermFault>
     ensures ok { IfOk result
@@ -146,11 +146,12 @@ fn all_len(terms: &[Term], room: usize) -> Result<usize, TermFault>
     Ok(len)
 }
 
-/// How many bytes `encode` writes for the term. It takes no memory.
+/// How many bytes `encode` writes for the term.
 ///
-/// Faults, the first that holds: `TooDeep`, where the term nests more than 64 levels deep;
-/// `TooLong`, where it takes more than 16,777,216 bytes. One walk over the term, at most 64 levels
-/// down.
+/// Errors: `TooDeep`, where the term nests more than 64 levels deep; `TooLong`, where it takes more than 16,777,216
+/// bytes.
+///
+/// Cost: no memory; one walk over the term, at most 64 levels down.
 pub fn encode_len(term: &Term) -> Result<usize, TermFault>
     ensures ok { IfOk result (λ n. n ≡ length (written term.now)) }
     ensures too_deep { (result ≡ Err TermFault.TooDeep) ↔ (MAX_DEPTH < depth term.now) }

@@ -113,8 +113,7 @@ fn put_binary(out: &mut BytesMut, content: &[u8])
     out.extend_reserved(content);
 }
 
-/// Writes what stands before the elements of a tuple into room that was reserved: SMALL_TUPLE_EXT
-/// or LARGE_TUPLE_EXT.
+/// Writes what is before the elements of a tuple into room that was reserved: SMALL_TUPLE_EXT or LARGE_TUPLE_EXT.
 pub fn put_tuple_head(out: &mut BytesMut, arity: u32)
     requires { length (tuple_head arity) ≤ out.old.spare }
     ensures items { out.new.items ≡ out.old.items ++ tuple_head arity }
@@ -128,8 +127,8 @@ pub fn put_tuple_head(out: &mut BytesMut, arity: u32)
     }
 }
 
-/// Writes what stands before the elements of a list into room that was reserved: LIST_EXT, or
-/// nothing for no elements. Behind the elements belongs NIL_EXT.
+/// Writes what is before the elements of a list into room that was reserved: LIST_EXT, or nothing for no elements.
+/// After the elements belongs NIL_EXT.
 pub fn put_list_head(out: &mut BytesMut, count: u32)
     requires { length (list_head count) ≤ out.old.spare }
     ensures items { out.new.items ≡ out.old.items ++ list_head count }
@@ -141,8 +140,9 @@ pub fn put_list_head(out: &mut BytesMut, count: u32)
     }
 }
 
-/// Writes a term as one item, without the version byte 131, into room that was reserved. One walk
-/// over the term, as many levels down as it nests: `item_len` bounds them.
+/// Writes a term as one item, without the version byte 131, into room that was reserved.
+///
+/// Cost: no memory; one walk over the term, as many levels down as it nests: `item_len` bounds them.
 #[cycle(put)]
 pub fn put_item(out: &mut BytesMut, term: &Term)
     requires short { length (item_bytes term.now) ≤ MAX_LEN }
@@ -195,7 +195,7 @@ fn put_all(out: &mut BytesMut, terms: &[Term])
     ensures spare { out.new.spare + length (all_bytes terms.now) ≡ out.old.spare }
     ensures spelled { AreSpelled terms.now }
 {
-    // The last of them behind the loop, where a call takes the place of its caller.
+    // The last of them after the loop, where a call takes the place of its caller.
     let Some((last, others)) = terms.split_last() else {
         return;
     };
@@ -217,13 +217,13 @@ fn put_written(out: &mut BytesMut, term: &Term)
     put_item(out, term);
 }
 
-/// The external term: the byte 131 and the term as one item, by the External Term Format chapter of
-/// the Erlang documentation. What is written spells the term, so `decode` gives it back. One
-/// allocation.
+/// The external term: the byte 131 and the term as one item, by the External Term Format chapter of the Erlang
+/// documentation. What is written spells the term, so `decode` gives it back.
 ///
-/// Faults, the first that holds: `TooDeep`, where the term nests more than 64 levels deep;
-/// `TooLong`, where it takes more than 16,777,216 bytes; `OutOfMemory`. The first two come before
-/// anything is allocated.
+/// Errors: `TooDeep`, where the term nests more than 64 levels deep; `TooLong`, where it takes more than 16,777,216
+/// bytes; `OutOfMemory`. The first two come before anything is allocated.
+///
+/// Cost: one allocation.
 pub fn encode(alloc: Global, term: &Term) -> Result<Vec<u8>, TermFault>
     ensures ok { IfOk result (λ v. v.items ≡ written term.now) }
     ensures spelled { IfOk result (λ v. Spells term.now v.items) }
@@ -240,10 +240,12 @@ pub fn encode(alloc: Global, term: &Term) -> Result<Vec<u8>, TermFault>
     Ok(out.into_vec()?)
 }
 
-/// Appends what `encode` writes to what a buffer holds. No allocation where the room suffices.
+/// Appends what `encode` writes to what a buffer holds.
 ///
-/// Faults, which leave the bytes of the buffer as they were: `TooDeep` and `TooLong`, as `encode`;
-/// `OutOfMemory`, where the room does not suffice and the buffer can't grow.
+/// Errors: `TooDeep` and `TooLong`, as `encode`; `OutOfMemory`, where the room does not suffice and the buffer can't
+/// grow. They leave the bytes of the buffer as they were.
+///
+/// Cost: no allocation where the room suffices; two walks over the term.
 pub fn encode_into(term: &Term, out: &mut BytesMut) -> Result<(), TermFault>
     ensures ok { OnOk result (out.new.items ≡ out.old.items ++ written term.now) }
     ensures spelled { OnOk result (Spells term.now (written term.now)) }

@@ -14,8 +14,8 @@ pub fn printed_is_read()
     ensures { (t : Term) → ReadsBack t → depth t ≤ 64 → term_of (term_text t) ≡ Some t }
 {}
 
-/// Just the texts of a term are read as it: what is read as a term is what is written of it, but that within quotes characters may stand
-/// as `\x{H}` (`IsText`).
+/// Just the texts of a term are read as it: what is read as a term is what is written of it, but that within quotes
+/// characters may be written as `\x{H}` (`IsText`).
 pub fn just_those_are_read()
     ensures { (t : Term) (text : List ℕ) → term_of text ≡ Some t → IsText t text }
 {}

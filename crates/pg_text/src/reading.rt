@@ -22,7 +22,7 @@ use std::alloc::{AllocError, Global};
 /// How many levels deep a term nests at most.
 pub const MAX_DEPTH: usize = 64;
 
-// What stands at the front of a text, and what follows it.
+// What is at the start of a text, and what follows it.
 pub(crate) type Read<'a, T> = Result<(T, &'a [char]), TextFault>;
 
 fn characters_of(alloc: Global, text: &str) -> Result<Vec<char>, AllocError>
@@ -43,7 +43,11 @@ fn whole<T: Drop>(value: T, rest: &[char]) -> Result<T, TextFault>
     }
 }
 
-/// Reads a term. Faults: `BadText` where this is the text of no term of at most 64 levels, else `OutOfMemory`.
+/// Reads a term.
+///
+/// Errors: `BadText` where this is the text of no term of at most 64 levels; else `OutOfMemory`.
+///
+/// Cost: memory for the characters of the text, and for the term.
 pub fn read_term(alloc: Global, text: &str) -> Result<Term, TextFault>
     ensures ok { IfOk result (λ term. term_of (chars text.now) ≡ Some term) }
     ensures err { IfErr result (λ fault. fault ≡ BadText → term_of (chars text.now) ≡ None) }
@@ -53,7 +57,11 @@ pub fn read_term(alloc: Global, text: &str) -> Result<Term, TextFault>
     whole(term, rest)
 }
 
-/// Reads an atom. Faults: `BadText` where this is the text of no atom, else `OutOfMemory`.
+/// Reads an atom.
+///
+/// Errors: `BadText` where this is the text of no atom; else `OutOfMemory`.
+///
+/// Cost: memory for the characters of the text, and for the atom.
 pub fn read_atom(alloc: Global, text: &str) -> Result<Atom, TextFault>
     ensures ok { IfOk result (λ atom. atom_of (chars text.now) ≡ Some atom) }
     ensures err { IfErr result (λ fault. fault ≡ BadText → atom_of (chars text.now) ≡ None) }
@@ -63,7 +71,11 @@ pub fn read_atom(alloc: Global, text: &str) -> Result<Atom, TextFault>
     whole(atom, rest)
 }
 
-/// Reads a pid. Faults: `BadText` where this is the text of no pid, else `OutOfMemory`.
+/// Reads a pid.
+///
+/// Errors: `BadText` where this is the text of no pid; else `OutOfMemory`.
+///
+/// Cost: memory for the characters of the text, and for the pid.
 pub fn read_pid(alloc: Global, text: &str) -> Result<Pid, TextFault>
     ensures ok { IfOk result (λ pid. pid_of (chars text.now) ≡ Some pid) }
     ensures err { IfErr result (λ fault. fault ≡ BadText → pid_of (chars text.now) ≡ None) }
@@ -73,8 +85,11 @@ pub fn read_pid(alloc: Global, text: &str) -> Result<Pid, TextFault>
     whole(pid, rest)
 }
 
-/// Reads a number of 32 bits in decimal, without sign and leading zeros. Faults: `BadText` where this is the text of no such
-/// number, else `OutOfMemory`.
+/// Reads a number of 32 bits in decimal, without sign and leading zeros.
+///
+/// Errors: `BadText` where this is the text of no such number; else `OutOfMemory`.
+///
+/// Cost: memory for the characters of the text.
 pub fn read_number(alloc: Global, text: &str) -> Result<u32, TextFault>
     ensures ok { IfOk result (λ number. number_of (chars text.now) ≡ Some number) }
     ensures err { IfErr result (λ fault. fault ≡ BadText → number_of (chars text.now) ≡ None) }

@@ -51,14 +51,15 @@ pub(crate) fn is_word(character: char) -> bool
     character.is_ascii_alphanumeric() || character == '_' || character == '@'
 }
 
-// Whether an atom stands bare: it begins with a letter from a to z, behind which letters, digits, `_` and `@` stand.
+// Whether an atom is written bare: it begins with a letter from a to z, after which there are letters, digits, `_`
+// and `@`.
 pub(crate) fn is_bare(text: &str) -> bool
     ensures { result ≡ stands_bare (chars text.now) }
 {
     begins_small(text) && text.chars().all(|character| is_word(character))
 }
 
-// Whether a letter from a to z stands first.
+// Whether a letter from a to z comes first.
 fn begins_small(text: &str) -> bool
     ensures { result ≡ begins_lower (chars text.now) }
 {
@@ -126,7 +127,11 @@ fn write_all_quoted(text: &str, out: &mut String) -> Result<(), AllocError>
     Ok(())
 }
 
-/// Appends the text of an atom: bare where it can stand so, else in single quotes. On an error some of it may stand there.
+/// Appends the text of an atom: bare where it can be written so, else in single quotes.
+///
+/// Errors: `AllocError`; some of the text may have been appended.
+///
+/// Cost: memory where `out` has no room for the text.
 #[tactic(auto, unfolding(crate::specs::Writing::atom_text))]
 pub fn write_atom(atom: &Atom, out: &mut String) -> Result<(), AllocError>
     ensures { OnOk result (Adds (atom_text atom.now) (string_bytes out.old) (string_bytes out.new)) }
@@ -140,7 +145,7 @@ pub fn write_atom(atom: &Atom, out: &mut String) -> Result<(), AllocError>
     put('\'', out)
 }
 
-// A number, and what stands before it.
+// A number, and what is before it.
 fn write_part(before: char, number: u32, out: &mut String) -> Result<(), AllocError>
     ensures { OnOk result (Adds (part_text before number) (string_bytes out.old) (string_bytes out.new)) }
 {
@@ -148,7 +153,7 @@ fn write_part(before: char, number: u32, out: &mut String) -> Result<(), AllocEr
     write_number(number, out)
 }
 
-// The creation of a pid is told where it is not 1.
+// The creation of a pid is written where it is not 1.
 fn write_creation(creation: u32, out: &mut String) -> Result<(), AllocError>
     ensures { OnOk result (Adds (creation_text creation) (string_bytes out.old) (string_bytes out.new)) }
 {
@@ -158,7 +163,11 @@ fn write_creation(creation: u32, out: &mut String) -> Result<(), AllocError>
     write_part('/', creation, out)
 }
 
-/// Appends the text of a pid: `<NODE.ID.SERIAL>`, with `/CREATION` where that is not 1. On an error some of it may stand there.
+/// Appends the text of a pid: `<NODE.ID.SERIAL>`, with `/CREATION` where that is not 1.
+///
+/// Errors: `AllocError`; some of the text may have been appended.
+///
+/// Cost: memory where `out` has no room for the text.
 pub fn write_pid(pid: &Pid, out: &mut String) -> Result<(), AllocError>
     ensures { OnOk result (Adds (pid_text pid.now) (string_bytes out.old) (string_bytes out.new)) }
 {
@@ -170,7 +179,7 @@ pub fn write_pid(pid: &Pid, out: &mut String) -> Result<(), AllocError>
     put('>', out)
 }
 
-// The words of a reference, each behind a dot.
+// The words of a reference, each after a dot.
 #[tactic(auto, using(crate::proofs::Adding::adds_each))]
 fn write_words(words: &[u32], out: &mut String) -> Result<(), AllocError>
     ensures { OnOk result (Adds (flat_map (part_text 46) words.now) (string_bytes out.old) (string_bytes out.new)) }
@@ -193,7 +202,7 @@ fn write_reference(reference: &Reference, out: &mut String) -> Result<(), AllocE
     put('>', out)
 }
 
-// Bytes, each behind a comma.
+// Bytes, each after a comma.
 #[tactic(auto, using(crate::proofs::Adding::adds_each))]
 fn write_more_bytes(bytes: &[u8], out: &mut String) -> Result<(), AllocError>
     ensures { OnOk result (Adds (more_text decimal bytes.now) (string_bytes out.old) (string_bytes out.new)) }
@@ -226,8 +235,11 @@ fn write_binary(content: &[u8], out: &mut String) -> Result<(), AllocError>
     put('>', out)
 }
 
-/// Appends the text of a term. On an error some of it may stand there. One walk over the term. What was written is read as the
-/// term, where it nests at most 64 levels deep.
+/// Appends the text of a term. What was written is read as the term, where it nests at most 64 levels deep.
+///
+/// Errors: `AllocError`; some of the text may have been appended.
+///
+/// Cost: memory where `out` has no room for the text; one walk over the term.
 #[cycle(write)]
 pub fn write_term(term: &Term, out: &mut String) -> Result<(), AllocError>
     ensures text { OnOk result (Adds (term_text term.now) (string_bytes out.old) (string_bytes out.new)) }
@@ -288,7 +300,7 @@ fn write_all(terms: &[Term], out: &mut String) -> Result<(), AllocError>
     Ok(())
 }
 
-// What stands before the element at a place.
+// What is before the element at a place.
 fn write_comma(at: usize, out: &mut String) -> Result<(), AllocError>
     ensures { OnOk result (Adds (comma_text at) (string_bytes out.old) (string_bytes out.new)) }
 {
@@ -298,7 +310,11 @@ fn write_comma(at: usize, out: &mut String) -> Result<(), AllocError>
     put(',', out)
 }
 
-/// Appends the text of an update, that of its tuple: `{create,g}`, `{join,g,<a.1.0>}`. On an error some of it may stand there.
+/// Appends the text of an update, that of its tuple: `{create,g}`, `{join,g,<a.1.0>}`.
+///
+/// Errors: `AllocError`; some of the text may have been appended.
+///
+/// Cost: memory where `out` has no room for the text.
 pub fn write_update(update: &Update, out: &mut String) -> Result<(), AllocError>
     ensures { OnOk result (Adds (update_text update.now) (string_bytes out.old) (string_bytes out.new)) }
 {

@@ -1,1 +1,4 @@
 mod Listing
+mod Printed
+mod Sending
+mod Widths

@@ -1,3 +1,4 @@
 pub mod Happenings
 pub mod Topics
+pub mod Traces
 pub mod Watched

@@ -1,12 +1,20 @@
-//! Lines that tell what was seen.
+//! Lines of what was seen.
 
-use crate::letter::Letter;
+ghost use Rattle.std.specs.Prelude.{◌≡◌, ◌++◌, OnOk, codes, decimal, is_ok, true, length, slice_get, string_bytes};
+ghost use Rattle.std.specs.Str.{chars};
+ghost use Rattle.pg_text.specs.Writing.{Adds};
+ghost use Rattle.pg_lines.specs.Rows.{row_line};
+ghost use Rattle.pg_trace.specs.Traces.{Appends, GrewBy, IsEmpty, IsHead, IsLine, PrintsSight, clock_cell, clock_of};
+ghost use Rattle.pg_trace.specs.Traces.{command_text, event_cell, name_of, place_cell, place_of, receiver_cell};
+ghost use Rattle.pg_trace.specs.Traces.{sender_cell, stamp_in, text_at, way_cell, what_cell, widest, widths_of};
+
 use crate::seen::{Seen, Sight};
 use crate::watch::Watch;
+use itoa::Buffer;
 use pg_lines::{Row, Widths, print_row};
 use std::alloc::{AllocError, Global};
 
-/// The widths of the lines that tell what was seen.
+/// The widths of the lines of what was seen.
 #[derive(Clone, Copy, Debug)]
 pub struct Columns {
     alloc: Global,
@@ -15,11 +23,12 @@ pub struct Columns {
 
 impl Columns {
     /// Columns for the nodes of a watch, where no line has a greater number.
-    pub fn new(alloc: Global, watch: &Watch, last_line: usize) -> Columns {
-        let mut node = 0usize;
-        for name in watch.names.iter() {
-            node = node.max(name.as_str().chars().count());
-        }
+    ///
+    /// Cost: no memory; one walk over the names.
+    pub fn new(alloc: Global, watch: &Watch, last_line: usize) -> Columns
+        ensures { result.widths ≡ widths_of watch.now.names.items last_line }
+    {
+        let node = widest(watch.names.as_slice());
         Columns {
             alloc,
             widths: Widths {
@@ -34,20 +43,38 @@ impl Columns {
 
     /// Appends the line of the columns' names.
     ///
-    /// Error: `AllocError`; some of it stands there then.
-    pub fn print_head(&self, out: &mut String) -> Result<(), AllocError> {
+    /// Errors: `AllocError`; some of it may have been appended.
+    ///
+    /// Cost: memory for the cells, and where `out` has no room for them.
+    pub fn print_head(&self, out: &mut String) -> Result<(), AllocError>
+        ensures { OnOk result (Appends self.now.widths IsHead (string_bytes out.old) (string_bytes out.new)) }
+    {
         let mut row = empty_row(self.alloc);
         let filled = fill_head(&mut row);
         self.print_filled(out, row, filled)
     }
 
-    /// Appends the line of a sight of this watch. One that the run tells by itself, an answer, has none.
+    /// Appends the line of a sight of this watch. An answer has none, as the run prints it by itself.
     ///
-    /// Error: `AllocError`; some of it stands there then.
-    pub fn print(&self, out: &mut String, watch: &Watch, sight: &Sight) -> Result<(), AllocError> {
-        if let Seen::Answered { .. } = &sight.seen {
-            return Ok(());
+    /// Errors: `AllocError`; some of it may have been appended.
+    ///
+    /// Cost: memory for the cells, and where `out` has no room for them.
+    pub fn print(&self, out: &mut String, watch: &Watch, sight: &Sight) -> Result<(), AllocError>
+        ensures { OnOk result (PrintsSight self.now.widths watch.now.names.items watch.now.letters.items sight.now.line sight.now.seen
+            (string_bytes out.old) (string_bytes out.new)) }
+    {
+        match &sight.seen {
+            Seen::Answered { .. } => Ok(()),
+            _ => self.print_line(out, watch, sight),
         }
+    }
+
+    /// Appends the line of a sight, whatever it is.
+    fn print_line(&self, out: &mut String, watch: &Watch, sight: &Sight) -> Result<(), AllocError>
+        ensures { OnOk result (Appends self.now.widths
+            (IsLine watch.now.names.items watch.now.letters.items sight.now.line sight.now.seen)
+            (string_bytes out.old) (string_bytes out.new)) }
+    {
         let mut row = empty_row(self.alloc);
         let filled = fill(&mut row, watch, sight);
         self.print_filled(out, row, filled)
@@ -59,7 +86,11 @@ impl Columns {
         out: &mut String,
         row: Row,
         filled: Result<(), AllocError>,
-    ) -> Result<(), AllocError> {
+    ) -> Result<(), AllocError>
+        ensures filled { OnOk result (is_ok filled ≡ true) }
+        ensures printed { OnOk result (Adds (row_line self.now.widths row) (string_bytes out.old)
+            (string_bytes out.new)) }
+    {
         let printed = match filled {
             Ok(()) => print_row(out, self.widths, &row),
             Err(error) => Err(error),
@@ -70,7 +101,9 @@ impl Columns {
 }
 
 /// A row of empty cells.
-fn empty_row(alloc: Global) -> Row {
+fn empty_row(alloc: Global) -> Row
+    ensures { IsEmpty result }
+{
     Row {
         line: String::new(alloc),
         node: String::new(alloc),
@@ -82,7 +115,10 @@ fn empty_row(alloc: Global) -> Row {
 }
 
 /// Writes the names of the columns into their cells.
-fn fill_head(row: &mut Row) -> Result<(), AllocError> {
+fn fill_head(row: &mut Row) -> Result<(), AllocError>
+    requires { IsEmpty row.old }
+    ensures { OnOk result (IsHead row.new) }
+{
     row.line.push_str("line")?;
     row.node.push_str("node")?;
     row.clock.push_str("clock")?;
@@ -91,8 +127,11 @@ fn fill_head(row: &mut Row) -> Result<(), AllocError> {
     row.what.push_str("what")
 }
 
-/// Writes what a sight tells into the cells.
-fn fill(row: &mut Row, watch: &Watch, sight: &Sight) -> Result<(), AllocError> {
+/// Writes what was seen into the cells.
+fn fill(row: &mut Row, watch: &Watch, sight: &Sight) -> Result<(), AllocError>
+    requires { IsEmpty row.old }
+    ensures { OnOk result (IsLine watch.now.names.items watch.now.letters.items sight.now.line sight.now.seen row.new) }
+{
     let seen = &sight.seen;
     write!(row.line, "{}", sight.line)?;
     add_place(&mut row.node, watch, seen)?;
@@ -103,7 +142,9 @@ fn fill(row: &mut Row, watch: &Watch, sight: &Sight) -> Result<(), AllocError> {
 }
 
 /// Appends the name of a node.
-fn add_name(out: &mut String, watch: &Watch, node: usize) -> Result<(), AllocError> {
+fn add_name(out: &mut String, watch: &Watch, node: usize) -> Result<(), AllocError>
+    ensures { OnOk result (GrewBy (name_of watch.now.names.items node) out.old out.new) }
+{
     match watch.names.get(node) {
         Some(name) => out.push_str(name.as_str()),
         None => out.push('?'),
@@ -111,7 +152,10 @@ fn add_name(out: &mut String, watch: &Watch, node: usize) -> Result<(), AllocErr
 }
 
 /// Appends the name of the node of a sight.
-fn add_place(out: &mut String, watch: &Watch, seen: &Seen) -> Result<(), AllocError> {
+fn add_place(out: &mut String, watch: &Watch, seen: &Seen) -> Result<(), AllocError>
+    ensures { OnOk result (GrewBy (place_cell watch.now.names.items
+        (place_of watch.now.letters.items seen.now)) out.old out.new) }
+{
     match place_of(watch, seen) {
         Some(node) => add_name(out, watch, node),
         None => Ok(()),
@@ -119,45 +163,64 @@ fn add_place(out: &mut String, watch: &Watch, seen: &Seen) -> Result<(), AllocEr
 }
 
 /// Appends the clock of a sight.
-fn add_clock(out: &mut String, watch: &Watch, seen: &Seen) -> Result<(), AllocError> {
+fn add_clock(out: &mut String, watch: &Watch, seen: &Seen) -> Result<(), AllocError>
+    ensures { OnOk result (GrewBy (clock_cell (clock_of watch.now.letters.items seen.now)) out.old out.new) }
+{
     match clock_of(watch, seen) {
         Some(clock) => write!(out, "{clock}"),
         None => Ok(()),
     }
 }
 
-/// Appends the other node of a sight behind a word.
-fn add_way(out: &mut String, watch: &Watch, seen: &Seen) -> Result<(), AllocError> {
-    match way_of(watch, seen) {
-        Some((word, node)) => {
-            out.push_str(word)?;
-            add_name(out, watch, node)
-        }
+/// Appends the other node of a sight after a word.
+fn add_way(out: &mut String, watch: &Watch, seen: &Seen) -> Result<(), AllocError>
+    ensures { OnOk result (GrewBy (way_cell watch.now.names.items watch.now.letters.items seen.now) out.old out.new) }
+{
+    match seen {
+        Seen::Put { to, .. } => add_other(out, "to ", watch, *to),
+        Seen::Pulled { from, .. } => add_other(out, "from ", watch, *from),
+        Seen::NotThere { peer, .. } => add_other(out, "from ", watch, *peer),
+        Seen::Taken { packet, .. } => add_sender(out, watch, *packet),
+        Seen::Sent { packet } => add_receiver(out, watch, *packet),
+        Seen::LossSeen { peer, .. } => add_other(out, "of ", watch, *peer),
+        _ => Ok(()),
+    }
+}
+
+/// Appends a word, and the name of a node.
+fn add_other(out: &mut String, word: &str, watch: &Watch, node: usize) -> Result<(), AllocError>
+    ensures { OnOk result (GrewBy (word.now ++ name_of watch.now.names.items node) out.old out.new) }
+{
+    out.push_str(word)?;
+    add_name(out, watch, node)
+}
+
+/// Appends who sent a packet.
+fn add_sender(out: &mut String, watch: &Watch, packet: usize) -> Result<(), AllocError>
+    ensures { OnOk result (GrewBy (sender_cell watch.now.names.items
+        (slice_get watch.now.letters.items packet)) out.old out.new) }
+{
+    match watch.letters.get(packet) {
+        Some(letter) => add_other(out, "from ", watch, letter.from),
         None => Ok(()),
     }
 }
 
-/// The other node of a sight, and the word before it.
-fn way_of(watch: &Watch, seen: &Seen) -> Option<(&'static str, usize)> {
-    match seen {
-        Seen::Put { to, .. } => Some(("to ", *to)),
-        Seen::Pulled { from, .. } => Some(("from ", *from)),
-        Seen::NotThere { peer, .. } => Some(("from ", *peer)),
-        Seen::Taken { packet, .. } => match watch.letters.get(*packet) {
-            Some(letter) => Some(("from ", letter.from)),
-            None => None,
-        },
-        Seen::Sent { packet } => match watch.letters.get(*packet) {
-            Some(letter) => Some(("to ", letter.to)),
-            None => None,
-        },
-        Seen::LossSeen { peer, .. } => Some(("of ", *peer)),
-        _ => None,
+/// Appends whom a packet is for.
+fn add_receiver(out: &mut String, watch: &Watch, packet: usize) -> Result<(), AllocError>
+    ensures { OnOk result (GrewBy (receiver_cell watch.now.names.items
+        (slice_get watch.now.letters.items packet)) out.old out.new) }
+{
+    match watch.letters.get(packet) {
+        Some(letter) => add_other(out, "to ", watch, letter.to),
+        None => Ok(()),
     }
 }
 
-/// Appends what a sight tells beside.
-fn add_what(out: &mut String, watch: &Watch, seen: &Seen) -> Result<(), AllocError> {
+/// Appends what else was seen.
+fn add_what(out: &mut String, watch: &Watch, seen: &Seen) -> Result<(), AllocError>
+    ensures { OnOk result (GrewBy (what_cell watch.now.letters.items seen.now) out.old out.new) }
+{
     match seen {
         Seen::Put { count, .. } | Seen::Pulled { count, .. } => write!(out, "{count} bytes"),
         Seen::NotThere { .. } => out.push_str("no whole packet"),
@@ -175,47 +238,61 @@ fn add_what(out: &mut String, watch: &Watch, seen: &Seen) -> Result<(), AllocErr
 }
 
 /// Appends the text of a packet's message.
-fn add_message(out: &mut String, watch: &Watch, packet: usize) -> Result<(), AllocError> {
+fn add_message(out: &mut String, watch: &Watch, packet: usize) -> Result<(), AllocError>
+    ensures { OnOk result (GrewBy (text_at (slice_get watch.now.letters.items packet)) out.old out.new) }
+{
     match watch.letters.get(packet) {
         Some(letter) => out.push_str(letter.text.as_str()),
         None => Ok(()),
     }
 }
 
-/// Appends what happened to a command. `text`: its own text, where that is told.
-fn add_command(
-    out: &mut String,
-    number: u32,
-    happened: &str,
-    text: &str,
-) -> Result<(), AllocError> {
+/// Appends what happened to a command. `text`: its own text, where that is shown.
+fn add_command(out: &mut String, number: u32, happened: &str, text: &str) -> Result<(), AllocError>
+    ensures { OnOk result (GrewBy (command_text number happened.now text.now) out.old out.new) }
+{
     write!(out, "command {number}{happened}{text}")
 }
 
 /// Appends what a reference did with a lock.
-fn add_lock(out: &mut String, name: &str, done: &str, reference: &str) -> Result<(), AllocError> {
+fn add_lock(out: &mut String, name: &str, done: &str, reference: &str) -> Result<(), AllocError>
+    ensures { OnOk result (GrewBy (name.now ++ done.now ++ reference.now) out.old out.new) }
+{
     out.push_str(name)?;
     out.push_str(done)?;
     out.push_str(reference)
 }
 
 /// How many digits a number has.
-fn digits(number: usize) -> usize {
-    let mut count = 1usize;
-    let mut rest = number / 10;
-    // A number has at most twenty digits.
-    for _ in 0..20 {
-        if rest == 0 {
-            break;
-        }
-        count = count.saturating_add(1);
-        rest /= 10;
+fn digits(number: usize) -> usize
+    ensures { result ≡ length (decimal number) }
+{
+    let mut buffer = Buffer::new();
+    buffer.format(number).len()
+}
+
+/// How many characters the longest name has.
+fn widest(names: &[String]) -> usize
+    ensures { result ≡ widest names.now }
+{
+    let mut most = 0usize;
+    for place in 0..names.len() {
+        most = most.max(char_count(names[place].as_str()));
     }
-    count
+    most
+}
+
+/// How many characters a text has.
+fn char_count(text: &str) -> usize
+    ensures { result ≡ length (chars text.now) }
+{
+    text.chars().count()
 }
 
 /// The node of a sight.
-fn place_of(watch: &Watch, seen: &Seen) -> Option<usize> {
+fn place_of(watch: &Watch, seen: &Seen) -> Option<usize>
+    ensures { result ≡ place_of watch.now.letters.items seen.now }
+{
     match seen {
         Seen::Put { from, .. } => Some(*from),
         Seen::Pulled { to, .. } => Some(*to),
@@ -237,27 +314,34 @@ fn place_of(watch: &Watch, seen: &Seen) -> Option<usize> {
     }
 }
 
-/// The clock that a node has behind an event, or with which it sent a packet.
-fn clock_of(watch: &Watch, seen: &Seen) -> Option<u32> {
+/// The clock that a node has after an event, or with which it sent a packet.
+fn clock_of(watch: &Watch, seen: &Seen) -> Option<u32>
+    ensures { result ≡ clock_of watch.now.letters.items seen.now }
+{
     match seen {
         Seen::Taken { clock, .. }
         | Seen::Came { clock, .. }
         | Seen::Tried { clock, .. }
         | Seen::LossSeen { clock, .. } => Some(*clock),
-        Seen::Sent { packet } => stamp_of(watch.letters.get(*packet)),
+        Seen::Sent { packet } => stamp_of(watch, *packet),
         _ => None,
     }
 }
 
-fn stamp_of(letter: Option<&Letter>) -> Option<u32> {
-    match letter {
+/// The clock with which a packet was sent.
+fn stamp_of(watch: &Watch, packet: usize) -> Option<u32>
+    ensures { result ≡ stamp_in (slice_get watch.now.letters.items packet) }
+{
+    match watch.letters.get(packet) {
         Some(letter) => Some(letter.stamp),
         None => None,
     }
 }
 
 /// What kind of sight it is.
-fn event_of(seen: &Seen) -> &'static str {
+fn event_of(seen: &Seen) -> &'static str
+    ensures { result.now ≡ event_cell seen.now }
+{
     match seen {
         Seen::Put { .. } => "put",
         Seen::Pulled { .. } => "pull",

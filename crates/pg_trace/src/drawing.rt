@@ -9,9 +9,12 @@ use crate::watch::Watch;
 use pg_diagram::{Diagram, Event};
 use std::alloc::{AllocError, Global};
 
-/// What was seen of a run, as a diagram shows it: packets, commands with their answers, and losses, in the order in which they were seen.
+/// What was seen of a run, as a diagram shows it: packets, commands with their answers, and losses, in the order in
+/// which they were seen.
 ///
-/// Error: `AllocError`.
+/// Errors: `AllocError`.
+///
+/// Cost: memory for each node and each event, with its label.
 pub fn diagram_of(alloc: Global, watch: &Watch) -> Result<Diagram, AllocError>
     ensures names { IfOk result (λ diagram. map string_bytes diagram.nodes.items ≡ map string_bytes watch.now.names.items) }
     ensures happened { IfOk result (λ diagram. flat_map shown diagram.events.items ≡ flat_map (λ sight. seen_as watch.now.letters.items sight.seen) watch.now.sights.items) }
@@ -85,7 +88,7 @@ fn add_sight(
     }
 }
 
-/// Adds an event of a line, behind one of the line before.
+/// Adds an event of a line, after one of the line before.
 fn add_event(
     events: &mut Vec<Event>,
     event: Event,
@@ -143,7 +146,7 @@ fn note(alloc: Global, watch: &Watch, seen: &Seen) -> Result<Option<Event>, Allo
     }
 }
 
-/// The node at which something happened that is told there.
+/// The node at which something happened that is noted there.
 fn noted_at(seen: &Seen) -> Option<usize>
     ensures { result ≡ noted_at seen.now }
 {
@@ -157,7 +160,7 @@ fn noted_at(seen: &Seen) -> Option<usize>
     }
 }
 
-/// What is told there.
+/// What is noted there.
 fn label_of(alloc: Global, watch: &Watch, seen: &Seen) -> Result<String, AllocError> {
     match seen {
         Seen::Came { number, text, .. } | Seen::Answered { number, text, .. } => {
@@ -170,7 +173,7 @@ fn label_of(alloc: Global, watch: &Watch, seen: &Seen) -> Result<String, AllocEr
     }
 }
 
-/// What is told of the command of a number.
+/// What is noted of the command of a number.
 fn label_with(alloc: Global, number: u32, text: &str) -> Result<String, AllocError> {
     format!(in alloc; "{number}: {text}")
 }

@@ -1,6 +1,6 @@
-//! Packets, as they are told.
+//! Packets, as they are shown.
 
-ghost use Rattle.std.specs.Prelude.{◌≡◌};
+ghost use Rattle.std.specs.Prelude.{◌≡◌, ◌≤◌, length};
 ghost use Rattle.pg_trace.specs.Topics.{topic_of};
 
 use crate::texts::{reference_text, term_text};
@@ -64,7 +64,7 @@ fn asked_of(alloc: Global, message: &Message) -> Result<Option<Asked>, AllocErro
 
 /// The packet whose body this is, from one node to another.
 ///
-/// Error: `AllocError`, also for a body that is no packet: a node writes none.
+/// Errors: `AllocError`, also for a body that is no packet: a node writes none.
 fn letter_of(alloc: Global, from: usize, to: usize, body: &[u8]) -> Result<Letter, AllocError> {
     match read_packet(alloc, body) {
         Ok(packet) => {
@@ -105,7 +105,7 @@ fn is_denial(message: &Message) -> bool {
 
 /// The text of the message of the packet whose body this is: the second part of its tuple.
 ///
-/// Error: `AllocError`, also for a body that is no term: a node writes none.
+/// Errors: `AllocError`, also for a body that is no term: a node writes none.
 fn message_text(alloc: Global, body: &[u8]) -> Result<String, AllocError> {
     match decode(alloc, body) {
         Ok(term) => {
@@ -133,14 +133,16 @@ fn second_part(term: &Term) -> Option<&Term> {
 
 /// Appends the packets whose frames these bytes are, from one node to another. Each is one that a node wrote.
 ///
-/// Error: `AllocError`.
+/// Errors: `AllocError`.
 pub(crate) fn add_letters(
     alloc: Global,
     from: usize,
     to: usize,
     bytes: &[u8],
     letters: &mut Vec<Letter>,
-) -> Result<(), AllocError> {
+) -> Result<(), AllocError>
+    ensures { length letters.old.items ≤ length letters.new.items }
+{
     let mut frames = Deframer::new(alloc);
     let added = match frames.feed(bytes) {
         Ok(()) => add_frames(alloc, from, to, &mut frames, bytes.len(), letters),
@@ -158,13 +160,31 @@ fn add_frames(
     frames: &mut Deframer,
     most: usize,
     letters: &mut Vec<Letter>,
-) -> Result<(), AllocError> {
+) -> Result<(), AllocError>
+    ensures { length letters.old.items ≤ length letters.new.items }
+{
     for _ in 0..most {
         match frames.front() {
-            Ok(Some(body)) => letters.push(letter_of(alloc, from, to, body)?)?,
+            Ok(Some(body)) => add_letter(alloc, from, to, body, letters)?,
             _ => return Ok(()),
         }
         let _ = frames.next();
     }
     Ok(())
+}
+
+/// Appends the packet whose body this is.
+fn add_letter(
+    alloc: Global,
+    from: usize,
+    to: usize,
+    body: &[u8],
+    letters: &mut Vec<Letter>,
+) -> Result<(), AllocError>
+    ensures { length letters.old.items ≤ length letters.new.items }
+{
+    match letter_of(alloc, from, to, body) {
+        Ok(letter) => Ok(letters.push(letter)?),
+        Err(error) => Err(error),
+    }
 }

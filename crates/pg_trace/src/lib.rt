@@ -1,4 +1,4 @@
-//! What is seen of a world from outside while it makes steps, and lines that tell it.
+//! What is seen of a world from outside while it makes steps, and lines of it.
 //!
 //! `diagram_of(alloc, &watch)?` is the diagram of what a `Watch` saw. Begin with `src/watch.rt`, then `src/seen.rt`.
 #![tactic(auto)]

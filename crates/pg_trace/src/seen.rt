@@ -8,7 +8,7 @@ pub struct Sight {
     pub seen: Seen,
 }
 
-/// What moved or happened. Nodes stand by their places, packets by their numbers: the first that was sent is 0.
+/// What moved or happened. Nodes are given by their places, packets by their numbers: the first that was sent is 0.
 #[derive(Debug, Drop)]
 pub enum Seen {
     /// Bytes went on the ring from one node to another.

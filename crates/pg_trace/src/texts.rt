@@ -1,12 +1,18 @@
 //! Texts of what is seen.
 
+ghost use Rattle.std.specs.Prelude.{◌≡◌, IfOk, string_bytes};
+ghost use Rattle.std.specs.Str.{encode_utf8_all};
+ghost use Rattle.pg_text.specs.Writing.{atom_text};
+
 use pg_step::Command;
 use pg_term::{Atom, Boxed, Reference, Term};
 use pg_text::{write_atom, write_pid, write_term};
 use std::alloc::{AllocError, Global};
 
 /// The text of an atom.
-pub(crate) fn atom_text(alloc: Global, atom: &Atom) -> Result<String, AllocError> {
+pub(crate) fn atom_text(alloc: Global, atom: &Atom) -> Result<String, AllocError>
+    ensures { IfOk result (λ text. string_bytes text ≡ encode_utf8_all (atom_text atom.now)) }
+{
     let mut text = String::new(alloc);
     write_atom(atom, &mut text)?;
     Ok(text)
@@ -49,7 +55,7 @@ fn verb_of(command: &Command) -> &'static str {
     }
 }
 
-/// What a command names, each behind a space.
+/// What a command names, each after a space.
 fn write_parts(command: &Command, out: &mut String) -> Result<(), AllocError> {
     match command {
         Command::Create(name)
@@ -73,7 +79,7 @@ fn write_parts(command: &Command, out: &mut String) -> Result<(), AllocError> {
     }
 }
 
-/// A name behind a space.
+/// A name after a space.
 fn write_name(name: &Term, out: &mut String) -> Result<(), AllocError> {
     out.push(' ')?;
     write_term(name, out)

@@ -16,8 +16,8 @@ use pg_step::{Answer, Command, Start};
 use pg_world::{FrameStep, Step, Stepped, World};
 use std::alloc::{AllocError, Global};
 
-/// What was seen of a world. What is told comes from what its steps report and from what its nodes show behind a step: their clocks,
-/// the holders of locks, the commands that wait, and what stands new in their outboxes.
+/// What was seen of a world. It comes from what its steps report and from what its nodes show after a step: their
+/// clocks, the holders of locks, the commands that wait, and what is new in their outboxes.
 ///
 /// It keeps all that it saw, and each packet as text.
 #[derive(Drop)]
@@ -35,26 +35,33 @@ pub struct Watch {
     // How many commands came in at each node, and which of them wait.
     came: Vec<u32>,
     waiting: Vec<Vec<u32>>,
-    // How many bytes stood in each outbox of the node of a step before it.
+    // How many bytes were in each outbox of the node of a step before it.
     lens: Vec<usize>,
 }
 
 impl Watch {
-    ghost use Rattle.std.specs.Prelude.{◌≡◌, ◌++◌, ◌∷◌, [], IfOk, OnOk};
-    ghost use Rattle.pg_trace.specs.Watched.{SawAnswer};
+    ghost use Rattle.std.specs.Prelude.{◌≡◌, ◌++◌, ◌∷◌, [], IfOk, OnOk, length, map, string_bytes};
+    ghost use Rattle.std.specs.List.{range_with_len};
+    ghost use Rattle.std.specs.Str.{encode_utf8_all};
+    ghost use Rattle.pg_text.specs.Writing.{atom_text};
+    ghost use Rattle.pg_trace.specs.Watched.{Begins, SawAnswer, names_of, sent_on};
     ghost use Rattle.pg_world.specs.Bars.{bytes_lost_after};
     ghost use Rattle.pg_world.specs.ByteWorlds.{account_of, crossing_of, given_of, lost_of, room_of};
     ghost use Rattle.pg_world.specs.Changes.{StepChanges};
     ghost use Rattle.pg_world.specs.BytesPast.{BytesGoOn};
 
-    /// Watches a world that begins: the packets that stand in the outboxes of its nodes are sent.
+    /// Watches a world that begins: the packets that are in the outboxes of its nodes are sent.
     ///
-    /// Error: `AllocError`.
+    /// Errors: `AllocError`.
+    ///
+    /// Cost: memory for each node and each such packet, with its text.
     pub fn new<T: GroupTable + Drop>(
         alloc: Global,
         starts: &[Start],
         world: &World<T>,
-    ) -> Result<Watch, AllocError> {
+    ) -> Result<Watch, AllocError>
+        ensures { IfOk result (Begins starts.now) }
+    {
         let mut watch = Watch {
             alloc,
             names: Vec::new(alloc),
@@ -81,18 +88,59 @@ impl Watch {
         &mut self,
         starts: &[Start],
         world: &World<T>,
-    ) -> Result<(), AllocError> {
-        for start in starts {
-            self.add_node(start, starts.len())?;
+    ) -> Result<(), AllocError>
+        requires names { self.old.names.items ≡ [] }
+        requires line { self.old.line ≡ 0 }
+        requires letters { self.old.letters.items ≡ [] }
+        requires sights { self.old.sights.items ≡ [] }
+        ensures { OnOk result (Begins starts.now self.new) }
+    {
+        self.add_nodes(starts)?;
+        self.see_begins(world, starts.len())
+    }
+
+    /// The names of nodes.
+    fn add_nodes(&mut self, starts: &[Start]) -> Result<(), AllocError>
+        ensures names { OnOk result (map string_bytes self.new.names.items ≡ map string_bytes self.old.names.items
+            ++ names_of starts.now) }
+        ensures line { self.new.line ≡ self.old.line }
+        ensures letters { self.new.letters ≡ self.old.letters }
+        ensures sights { self.new.sights ≡ self.old.sights }
+    {
+        for place in 0..starts.len() {
+            self.add_node(&starts[place], starts.len())?;
         }
-        for node in 0..starts.len() {
+        Ok(())
+    }
+
+    /// What so many nodes send as they begin.
+    fn see_begins<T: GroupTable + Drop>(
+        &mut self,
+        world: &World<T>,
+        nodes: usize,
+    ) -> Result<(), AllocError>
+        requires line { self.old.line ≡ 0 }
+        requires letters { self.old.letters.items ≡ [] }
+        requires sights { self.old.sights.items ≡ [] }
+        ensures names { self.new.names ≡ self.old.names }
+        ensures line { self.new.line ≡ 0 }
+        ensures seen { OnOk result (self.new.sights.items ≡ map (sent_on 0)
+            (range_with_len 0 (length self.new.letters.items))) }
+    {
+        for node in 0..nodes {
             self.see_begin(world, node)?;
         }
         Ok(())
     }
 
     /// One node more, of so many.
-    fn add_node(&mut self, start: &Start, nodes: usize) -> Result<(), AllocError> {
+    fn add_node(&mut self, start: &Start, nodes: usize) -> Result<(), AllocError>
+        ensures names { OnOk result (map string_bytes self.new.names.items
+            ≡ map string_bytes self.old.names.items ++ encode_utf8_all (atom_text start.now.name) ∷ []) }
+        ensures line { self.new.line ≡ self.old.line }
+        ensures letters { self.new.letters ≡ self.old.letters }
+        ensures sights { self.new.sights ≡ self.old.sights }
+    {
         self.names.push(atom_text(self.alloc, &start.name)?)?;
         self.waiting.push(Vec::new(self.alloc))?;
         self.came.push(0)?;
@@ -110,7 +158,9 @@ impl Watch {
 
     /// A node has answered a command.
     ///
-    /// Error: `AllocError`.
+    /// Errors: `AllocError`; all that was seen before stays.
+    ///
+    /// Cost: memory for the text of the reply.
     pub fn answered(&mut self, node: usize, answer: &Answer) -> Result<(), AllocError>
         ensures seen { OnOk result (∥ SawAnswer node answer.now self.old self.new ∥₁) }
         ensures letters { self.new.letters ≡ self.old.letters }
@@ -124,18 +174,25 @@ impl Watch {
         })
     }
 
-    /// Makes a step of the world, as `World::step` does, and sees what it does. `is_quiet`: what moves no byte and takes no packet
-    /// is passed over.
+    /// Makes a step of the world, as `World::step` does, and sees what it does. `is_quiet`: what moves no byte and
+    /// takes no packet is passed over.
     ///
-    /// Error: `AllocError`, where there is no memory to tell what was seen; the step may have happened. Within: that of the step.
+    /// Errors: `AllocError`, where there is no memory for what was seen; the step may have happened. Within: that of
+    /// the step.
+    ///
+    /// Cost: that of the step; a look at the locks and the outboxes of its node; memory for what was seen, with each
+    /// packet's text.
     pub fn step<T: GroupTable + Drop>(
         &mut self,
         world: &mut World<T>,
         step: &Step,
         is_quiet: bool,
     ) -> Result<Result<Stepped, NodeFault>, AllocError>
-        ensures goes_on { IfOk result (λ made. ∥ BytesGoOn (given_of world.old) (crossing_of world.old) (account_of world.old) (lost_of world.old) step.now made (crossing_of world.new) (account_of world.new) (lost_of world.new) ∥₁) }
-        ensures changes { IfOk result (λ made. StepChanges (room_of world.old) (crossing_of world.old) (crossing_of world.new) step.now made) }
+        ensures goes_on { IfOk result (λ made. ∥ BytesGoOn (given_of world.old) (crossing_of world.old)
+            (account_of world.old) (lost_of world.old) step.now made (crossing_of world.new) (account_of world.new)
+            (lost_of world.new) ∥₁) }
+        ensures changes { IfOk result (λ made. StepChanges (room_of world.old) (crossing_of world.old)
+            (crossing_of world.new) step.now made) }
         ensures lost { IfOk result (λ made. lost_of world.new ≡ bytes_lost_after step.now made (lost_of world.old)) }
         ensures given { given_of world.new ≡ given_of world.old }
         ensures room { room_of world.new ≡ room_of world.old }
@@ -150,7 +207,7 @@ impl Watch {
         }
     }
 
-    /// How many bytes stand in each outbox of the node of a step.
+    /// How many bytes are in each outbox of the node of a step.
     fn measure<T: GroupTable + Drop>(
         &mut self,
         world: &World<T>,
@@ -167,7 +224,9 @@ impl Watch {
     }
 
     fn add(&mut self, seen: Seen) -> Result<(), AllocError>
-        ensures added { OnOk result (self.new.sights.items ≡ self.old.sights.items ++ record { line = self.old.line; seen = seen } ∷ []) }
+        ensures names { self.new.names ≡ self.old.names }
+        ensures added { OnOk result (self.new.sights.items ≡ self.old.sights.items
+            ++ record { line = self.old.line; seen = seen } ∷ []) }
         ensures letters { self.new.letters ≡ self.old.letters }
         ensures line { self.new.line ≡ self.old.line }
     {

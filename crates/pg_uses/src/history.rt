@@ -3,22 +3,44 @@
 use crate::setting::{two_nodes, workers};
 use pg_index::IndexTable;
 use pg_step::Command;
+use pg_term::Term;
 use pg_text::write_update;
 use pg_world::{FrameStep, FrameWorld, Stepped};
 use std::alloc::Global;
 
 /// `a` makes a group and `b` deletes it: the history of the group.
 pub(crate) fn history(alloc: Global) -> Option<String> {
+    let mut world = begun(alloc)?;
+    settle(&mut world);
+    create(alloc, &mut world, 0);
+    settle(&mut world);
+    delete(alloc, &mut world, 1);
+    settle(&mut world);
+    let text = told(alloc, &world);
+    drop(world);
+    text
+}
+
+/// The nodes as they start.
+fn begun(alloc: Global) -> Option<FrameWorld<IndexTable>> {
     let config = two_nodes(alloc)?;
     let world = FrameWorld::new(alloc, &config);
     drop(config);
-    let mut world = world.ok()?;
-    settle(&mut world);
-    command(&mut world, 0, Command::Create(workers(alloc)?));
-    settle(&mut world);
-    command(&mut world, 1, Command::Delete(workers(alloc)?));
-    settle(&mut world);
-    told(alloc, &world)
+    world.ok()
+}
+
+/// A node is told to make the group.
+fn create(alloc: Global, world: &mut FrameWorld<IndexTable>, node: usize) {
+    if let Some(name) = workers(alloc) {
+        command(world, node, Command::Create(name));
+    }
+}
+
+/// A node is told to delete it.
+fn delete(alloc: Global, world: &mut FrameWorld<IndexTable>, node: usize) {
+    if let Some(name) = workers(alloc) {
+        command(world, node, Command::Delete(name));
+    }
 }
 
 /// A command comes in at the port of a node; whether it did.
@@ -49,15 +71,20 @@ fn is_made(world: &mut FrameWorld<IndexTable>, step: FrameStep) -> bool {
     stepped == Ok(Stepped::Happened)
 }
 
-/// The updates of the group, in their order, each behind a space.
+/// The updates of the group, in their order, each after a space.
 fn told(alloc: Global, world: &FrameWorld<IndexTable>) -> Option<String> {
     let name = workers(alloc)?;
-    let (entries, last) = world.history(&name);
+    let text = text_of(alloc, world, &name);
+    drop(name);
+    text
+}
+
+fn text_of(alloc: Global, world: &FrameWorld<IndexTable>, name: &Term) -> Option<String> {
+    let (entries, last) = world.history(name);
     let mut text = String::new(alloc);
     for entry in entries.iter().chain(last) {
         text.push(' ').ok()?;
         write_update(&entry.update, &mut text).ok()?;
     }
-    drop(name);
     Some(text)
 }

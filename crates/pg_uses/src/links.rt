@@ -12,47 +12,42 @@ use std::alloc::Global;
 /// How many bytes move at once.
 const PIECE: usize = 16;
 
-/// Two nodes, and a wire each way.
-#[derive(Drop)]
-struct Wired {
-    a: Node<IndexTable>,
-    b: Node<IndexTable>,
-    there: Wire,
-    back: Wire,
-}
+/// The places of the nodes.
+const A: usize = 0;
+
+const B: usize = 1;
 
 /// `a` makes a group, and the bytes between the nodes move a few at a time: how many groups each of them knows then, and how many
 /// bytes `a` sent.
 pub(crate) fn groups_of_both(alloc: Global) -> Option<String> {
-    let mut wired = two_wired(alloc)?;
-    create(alloc, &mut wired.a);
+    let mut there = Wire::new(alloc)?;
+    let mut back = Wire::new(alloc)?;
+    let mut nodes = both_nodes(alloc)?;
+    create(alloc, &mut nodes, A);
     for _ in 0..100 {
-        turn(&mut wired.a, &mut wired.there, &mut wired.back);
-        turn(&mut wired.b, &mut wired.back, &mut wired.there);
+        turn(&mut nodes, A, &mut there, &mut back);
+        turn(&mut nodes, B, &mut back, &mut there);
     }
-    let counts = (group_count(&wired.a), group_count(&wired.b));
-    let bytes = wired.there.crossed();
-    drop(wired);
+    let counts = (group_count(&nodes, A), group_count(&nodes, B));
+    drop(nodes);
     let (at_a, at_b) = (counts.0?, counts.1?);
+    let bytes = there.crossed();
     format!(in alloc; "{at_a} at a, {at_b} at b, by {bytes} bytes").ok()
 }
 
-/// Both nodes as they start, and wires that nothing has crossed.
-fn two_wired(alloc: Global) -> Option<Wired> {
+/// Both nodes as they start.
+fn both_nodes(alloc: Global) -> Option<Vec<Node<IndexTable>>> {
     let config = two_nodes(alloc)?;
     let nodes = starting_nodes(alloc, &config);
     drop(config);
-    let mut nodes = nodes.ok()?;
-    let b = nodes.pop()?;
-    let a = nodes.pop()?;
-    drop(nodes);
-    let there = Wire::new(alloc)?;
-    let back = Wire::new(alloc)?;
-    Some(Wired { a, b, there, back })
+    nodes.ok()
 }
 
-/// A command comes in at the port of a node, if it has one.
-fn create(alloc: Global, node: &mut Node<IndexTable>) {
+/// The node at a place makes the group.
+fn create(alloc: Global, nodes: &mut Vec<Node<IndexTable>>, place: usize) {
+    let Some(node) = nodes.get_mut(place) else {
+        return;
+    };
     let Some(name) = workers(alloc) else {
         return;
     };
@@ -64,7 +59,10 @@ fn create(alloc: Global, node: &mut Node<IndexTable>) {
 }
 
 /// One turn of a node with its one peer: bytes go out and come in, a packet is taken if it is whole, and commands that wait are tried again.
-fn turn(node: &mut Node<IndexTable>, out: &mut Wire, inn: &mut Wire) {
+fn turn(nodes: &mut Vec<Node<IndexTable>>, place: usize, out: &mut Wire, inn: &mut Wire) {
+    let Some(node) = nodes.get_mut(place) else {
+        return;
+    };
     if node.state().peer_count() == 0 {
         return;
     }
@@ -87,9 +85,9 @@ fn try_again(node: &mut Node<IndexTable>) {
     }
 }
 
-/// How many groups a node knows.
-fn group_count(node: &Node<IndexTable>) -> Option<usize> {
-    match which_groups(node.state().table()) {
+/// How many groups the node at a place knows.
+fn group_count(nodes: &[Node<IndexTable>], place: usize) -> Option<usize> {
+    match which_groups(nodes.get(place)?.state().table()) {
         Ok(names) => {
             let count = names.as_slice().len();
             drop(names);

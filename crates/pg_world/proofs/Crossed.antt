@@ -13,9 +13,11 @@ use Rattle.pg_machine.specs.Clocked.{Stamped}
 use Rattle.pg_frame.specs.Pieces.{Bytes, AreShort, frames_of, sent as bytes_sent, taken as bytes_taken}
 use Rattle.pg_step.specs.Config.{Config}
 use Rattle.pg_step.specs.Step.{Action}
-use Rattle.pg_node.specs.Links.{Link, IsSmallFrame, AreSmallFrames, frame_of, frames_to}
-use Rattle.pg_node.specs.States.{stamped_of}
-use Rattle.pg_frame_world.specs.Views.{Seen, peer_place, packets_to}
+use Rattle.pg_node_state.specs.Frames.{IsSmallFrame, AreSmallFrames, frame_of, frames_to}
+use Rattle.pg_node.specs.Links.{Link}
+use Rattle.pg_node_state.specs.States.{stamped_of}
+use Rattle.pg_starts.specs.Seen.{Seen}
+use Rattle.pg_frame_world.specs.Views.{peer_place, packets_to}
 use Rattle.pg_frame_world.specs.Worlds.{TimedFrameWorld, ShowsNodes}
 use Rattle.pg_world.specs.Crossings.{Crossing, link_at, bytes_at, packet_as, packets_between, written_of, CanCross, IsOnWay, ShowsPast}
 use Rattle.pg_world.specs.Changes.{Moves, links_at}

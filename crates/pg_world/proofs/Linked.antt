@@ -15,18 +15,19 @@ use Rattle.pg_machine.specs.Machine.{Take, Do}
 use Rattle.pg_frame.specs.Pieces.{put, pull}
 use Rattle.pg_step.specs.Step.{Action}
 use Rattle.pg_node.specs.declared.node.Node.{Node}
-use Rattle.pg_node.specs.declared.state.fault.NodeFault.{NodeFault}
-use Rattle.pg_node.specs.declared.state.fault.NodeFault.TheVariants.{OutOfMemory}
+use Rattle.pg_node_state.specs.declared.state.fault.NodeFault.{NodeFault}
+use Rattle.pg_node_state.specs.declared.state.fault.NodeFault.TheVariants.{OutOfMemory}
 use Rattle.pg_node.specs.Bytes.{passed}
 use Rattle.pg_node.specs.Links.{Link, idle_link, at_link, with_fed, without_front}
 use Rattle.pg_node.specs.Nodes.{held_by, links_of, sent_out}
-use Rattle.pg_node.specs.Issued.{ports_of}
-use Rattle.pg_node.specs.States.{names_of, state_of, answers_of}
+use Rattle.pg_node_state.specs.Issued.{ports_of}
+use Rattle.pg_node_state.specs.States.{names_of, state_of, answers_of}
 use Rattle.pg_world.specs.declared.rings.Rings.{Rings}
 use Rattle.pg_world.specs.Rooms.{HaveRoomFor}
 use Rattle.pg_world.specs.BytesLosing.{MoveLeaves}
 use Rattle.pg_world.specs.Crossings.{Crossing, bytes_of, bytes_at, node_of, crossing_in}
-use Rattle.pg_frame_world.specs.Views.{Seen, seen_of, peer_place}
+use Rattle.pg_starts.specs.Seen.{Seen, seen_of}
+use Rattle.pg_frame_world.specs.Views.{peer_place}
 use Rattle.pg_frame_world.specs.Worlds.{has_port}
 use Rattle.pg_world.specs.Changes.{Moves, put_count, pull_count, ChangesAlone, links_at}
 use Rattle.pg_world.proofs.Crossed.{Acts}

@@ -22,19 +22,21 @@ use Rattle.pg_step.specs.declared.refusal.Refusal.TheVariants.{NotAMessage, NoSu
 use Rattle.pg_step.specs.Config.{Config}
 use Rattle.pg_step.specs.State.{State}
 use Rattle.pg_step.specs.Step.{Action, TimedTurn, step_take, step_act}
-use Rattle.pg_node.specs.declared.state.done.Done.{Done}
-use Rattle.pg_node.specs.declared.state.fault.NodeFault.{NodeFault}
-use Rattle.pg_node.specs.declared.state.fault.NodeFault.TheVariants.{Refused, OutOfMemory, Message as BadMessage, TooLong as FrameTooLong, Damaged}
+use Rattle.pg_node_state.specs.declared.state.done.Done.{Done}
+use Rattle.pg_node_state.specs.declared.state.fault.NodeFault.{NodeFault}
+use Rattle.pg_node_state.specs.declared.state.fault.NodeFault.TheVariants.{Refused, OutOfMemory, Message as BadMessage, TooLong as FrameTooLong, Damaged}
 use Rattle.pg_node.specs.Bytes.{Tells, damages, marked, packet_in, packet_at, next_packet}
-use Rattle.pg_node.specs.Links.{Link, at_link, AreSmallFrames}
+use Rattle.pg_node_state.specs.Frames.{AreSmallFrames}
+use Rattle.pg_node.specs.Links.{Link, at_link}
 use Rattle.pg_node.specs.Nodes.{read_next, ComesInRoom}
-use Rattle.pg_node.specs.Sendable.{AreSendable}
-use Rattle.pg_node.specs.States.{stamped_of, Comes}
+use Rattle.pg_node_state.specs.Sendable.{AreSendable}
+use Rattle.pg_node_state.specs.States.{stamped_of, Comes}
 use Rattle.pg_frame_world.specs.declared.step.Stepped.TheVariants.{Happened}
 use Rattle.pg_world.specs.Crossings.{Crossing, link_at, bytes_at, packet_as, packets_between, CanCross, IsOnWay, IsWelcome, ShowsPast, ShowsBytesPast, EventComesTo}
 use Rattle.pg_account.specs.Losses.{is_lost}
 use Rattle.pg_account.specs.Histories.{asked_by}
-use Rattle.pg_frame_world.specs.Views.{Seen, peer_place}
+use Rattle.pg_starts.specs.Seen.{Seen}
+use Rattle.pg_frame_world.specs.Views.{peer_place}
 use Rattle.pg_account.specs.Histories.{Account}
 use Rattle.pg_frame_world.specs.Worlds.{TimedFrameWorld, ComesTo}
 use Rattle.pg_world.proofs.Crossed.{Acts, all_short, event_shown}

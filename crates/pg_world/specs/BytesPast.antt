@@ -1,7 +1,7 @@
 -- What is behind a world of bytes: the events that led to it from the start of its configuration, and what holds of them.
 use Rattle.std.specs.Prelude.{ℕ, List, Result}
 use Rattle.pg_step.specs.Config.{Config}
-use Rattle.pg_node.specs.declared.state.fault.NodeFault.{NodeFault}
+use Rattle.pg_node_state.specs.declared.state.fault.NodeFault.{NodeFault}
 use Rattle.pg_world.specs.declared.step.Step.{Step}
 use Rattle.pg_frame_world.specs.declared.step.Stepped.{Stepped}
 use Rattle.pg_world.specs.BytesLosing.{ShowsLosingBytes, StepLeaves}

@@ -8,8 +8,9 @@ use Rattle.pg_node.specs.Begun.{Begins}
 use Rattle.pg_node.specs.Links.{Link}
 use Rattle.pg_world.specs.Changes.{links_at}
 use Rattle.pg_world.specs.Crossings.{Crossing, ShowsBytes}
-use Rattle.pg_frame_world.specs.Starts.{Orders, seen_first}
-use Rattle.pg_frame_world.specs.Views.{Seen}
+use Rattle.pg_starts.specs.Firsts.{seen_first}
+use Rattle.pg_frame_world.specs.Starts.{Orders}
+use Rattle.pg_starts.specs.Seen.{Seen}
 use Rattle.pg_account.specs.Histories.{Account}
 
 -- the frame that tells the groups of a node goes out to each of so many peers

@@ -4,7 +4,7 @@ use Rattle.pg_machine.specs.Places.{is_pair}
 use Rattle.pg_machine.specs.Machine.{Event, Take, Do, node_of as place_of}
 use Rattle.pg_frame.specs.Pieces.{Bytes, put, pull}
 use Rattle.pg_step.specs.Step.{Action, Issue, Retry}
-use Rattle.pg_node.specs.declared.state.fault.NodeFault.{NodeFault}
+use Rattle.pg_node_state.specs.declared.state.fault.NodeFault.{NodeFault}
 use Rattle.pg_node.specs.Bytes.{next_packet}
 use Rattle.pg_node.specs.Links.{Link}
 use Rattle.pg_frame_world.specs.declared.step.FrameStep.{FrameStep}

@@ -35,10 +35,12 @@ impl World<IndexTable> {
     ghost use Rattle.pg_world.specs.ByteWorlds.{account_of, crossing_of, given_of, lost_of, room_of};
     ghost use Rattle.pg_frame_world.specs.Openings.{AllFit, CantBegin, have_few};
 
-    /// The nodes of a configuration as they start, where what each of them tells of its groups stands in its outbox to each other,
-    /// and the ring from each to each other is empty. Its cost is that of `FrameWorld::new`, and of the rings.
+    /// The nodes of a configuration as they start, where what each of them announces of its groups is in its outbox
+    /// to each other, and the ring from each to each other is empty.
     ///
-    /// Faults: those of `FrameWorld::new`.
+    /// Errors: those of `FrameWorld::new`.
+    ///
+    /// Cost: that of `FrameWorld::new`, and of the rings.
     pub fn new(alloc: Global, config: &Config) -> Result<World<IndexTable>, WorldFault>
         ensures good { IfOk result (λ world. IsConfig config.now.starts.items × IsCapacity config.now.ring) }
         ensures fits { IfOk result (λ world. AllFit config.now.starts.items) }
@@ -81,15 +83,19 @@ impl<T: GroupTable + Drop> World<T> {
     ghost use Rattle.pg_frame_world.specs.Pending.{AgreeOn, pending_of, sees_free};
     ghost use Rattle.pg_frame_world.specs.Worlds.{TimedFrameWorld};
 
-    /// The node at a place. It takes no memory.
+    /// The node at a place.
+    ///
+    /// Cost: no memory.
     pub fn node(&self, place: usize) -> Option<&Node<T>>
         ensures { option_map node_of (option_copied result) ≡ slice_get (crossing_of self.now).nodes place }
     {
         self.bytes.nodes.get(place)
     }
 
-    /// The updates of a group in the order in which they got their last grant, each with its node and its command: a slice, and
-    /// one more behind it, where the last event began it. It takes no memory: O(log n) in the groups that were named.
+    /// The updates of a group in the order in which they got their last grant, each with its node and its command: a
+    /// slice, and one more after it, where the last event began it.
+    ///
+    /// Cost: no memory; O(log n) in the groups that were named.
     pub fn history(&self, name: &Term) -> (&[Entry], Option<&Entry>)
         ensures { map as_entry result.0.now ++ last_entries (option_copied result.1) ≡ (account_of self.now).histories name.now }
     {
@@ -104,9 +110,22 @@ impl<T: GroupTable + Drop> World<T> {
         self.bytes.histories.applied(node, name)
     }
 
-    /// Whether a node sees the lock of a group free. Where it does, and no node is lost, each node has applied all of the group's
-    /// history. It takes no memory: O(log n) in the names that have a holder there.
+    /// Whether a node is there that sees the lock of a group free. Where it does, and no node is lost, each node has applied all of
+    /// the group's history.
+    ///
+    /// Cost: no memory; O(log n) in the names that have a holder there.
     pub fn lock_free(&self, node: usize, name: &Term) -> bool
+        ensures sees { result ≡ sees_free (crossing_of self.now).nodes node name.now }
+        ensures free { node < length (crossing_of self.now).nodes → (config : Configuration) (w : TimedFrameWorld) → ShowsCrossing config (crossing_of self.now) w
+            → IsTrue result ↔ LockFree (plain w) node name.now }
+        ensures applied { IsTrue result → lost_of self.now ≡ [] → (i : ℕ) → i < length (crossing_of self.now).nodes
+            → (account_of self.now).applied i name.now ≡ length ((account_of self.now).histories name.now) }
+    {
+        node < self.bytes.nodes.len() && self.sees_free(node, name)
+    }
+
+    /// Whether a node sees the lock of a group free.
+    fn sees_free(&self, node: usize, name: &Term) -> bool
         requires place { node < length (crossing_of self.now).nodes }
         ensures sees { result ≡ sees_free (crossing_of self.now).nodes node name.now }
         ensures free { (config : Configuration) (w : TimedFrameWorld) → ShowsCrossing config (crossing_of self.now) w
@@ -119,20 +138,25 @@ impl<T: GroupTable + Drop> World<T> {
         over.state().holder(name).is_none()
     }
 
-    /// Whether a node is lost. It takes no memory: O(n) in the nodes that are lost.
+    /// Whether a node is lost.
+    ///
+    /// Cost: no memory; O(n) in the nodes that are lost.
     pub fn is_lost(&self, node: usize) -> bool
         ensures { result ≡ is_lost (lost_of self.now) node }
     {
         self.bytes.losses.has(node)
     }
 
-    /// The ends that are pending: each is that of a process whose home has it, and which some node has not. Of nodes that are lost
-    /// nothing counts. They stand home by home, and by number at each. Its cost is a search at each node that is left for each
-    /// process that has ended at its home, and the memory of the list.
+    /// The ends that are pending: each is that of a process whose home has it, and which some node has not. Of nodes
+    /// that are lost nothing counts. They are listed home by home, and by number at each.
     ///
-    /// Where the list is empty, no node is lost and one node sees the lock of a group free, formed nodes have the same of that group.
+    /// Where the list is empty, no node is lost and one node sees the lock of a group free, formed nodes have the
+    /// same of that group.
     ///
-    /// Error: `AllocError`.
+    /// Errors: `AllocError`.
+    ///
+    /// Cost: a search at each node that is left for each process that has ended at its home, and the memory of the
+    /// list.
     pub fn pending_ends(&self) -> Result<Vec<Pid>, AllocError>
         ensures list { IfOk result (λ pids. pids.items ≡ pending_of (crossing_of self.now).nodes (lost_of self.now)) }
         ensures agree { IfOk result (λ pids. pids.items ≡ [] → lost_of self.now ≡ [] → (x : ℕ) (name : Term)
@@ -142,22 +166,24 @@ impl<T: GroupTable + Drop> World<T> {
         self.bytes.pending_ends()
     }
 
-    /// Makes one step. The events that led to the world lead on: where the step is an event that happened, it is one more, and the
-    /// last; bytes that move add none. Of all of them, and of the world to which they lead, everything holds that `LossesSurvived`
-    /// says, and where no node is lost all that `OneHistory` says. Each history grows.
+    /// Makes one step. The events that led to the world lead on: where the step is an event that happened, it is one
+    /// more, and the last; bytes that move add none. Of all of them, and of the world to which they lead, everything
+    /// holds that `LossesSurvived` says, and where no node is lost all that `OneHistory` says. Each history grows.
     ///
-    /// Whatever frame world the world shows, as events lead to it from the start of a configuration: an event that happens is the event
-    /// of the frame machine there, and the world shows what it leaves; bytes that move leave the frame world as it is.
+    /// Whatever frame world the world shows, as events lead to it from the start of a configuration: an event that
+    /// happens is the event of the frame machine there, and the world shows what it leaves; bytes that move leave the
+    /// frame world as it is.
     ///
-    /// Faults, by which the frame world stays, the first that holds: `Refused` by `NoSuchPlace` where a node, a port or a peer is
-    /// not there, or a node and its peer are one; those of `NodeState::take`, `command` and `retry`, of which `NotAMessage` never
-    /// comes; `OutOfMemory` may be told in the place of each behind `NoSuchPlace`. No link is ever damaged.
+    /// Errors, by which the frame world stays, the first that holds: `Refused` by `NoSuchPlace` where a node, a port
+    /// or a peer is not there, or a node and its peer are one; those of `NodeState::take`, `command` and `retry`, of
+    /// which `NotAMessage` never comes; `OutOfMemory` may come in the place of each after `NoSuchPlace`. No link
+    /// is ever damaged.
     ///
-    /// Where nodes are lost, the same holds of whatever world with losses the world shows, as events lead to it from the start: a step is
-    /// the event of the machine with losses. A step of a node that is lost, and a put from it, is refused by `NodeLost`,
-    /// behind `NoSuchPlace`, and so is a pull or a take of a peer whose loss was seen. `SeeLoss`: `NoSuchPlace`; `NodeLost`, also
-    /// where it was seen before; `NotLost`; `NotDrained` where bytes of the peer are on the ring, or a whole frame of it has come;
-    /// `ClockFull`. `Lose`: `NoSuchPlace`, `NodeLost`.
+    /// Where nodes are lost, the same holds of whatever world with losses the world shows, as events lead to it from
+    /// the start: a step is the event of the machine with losses. A step of a node that is lost, and a put from it,
+    /// is refused by `NodeLost`, after `NoSuchPlace`, and so is a pull or a take of a peer whose loss was seen.
+    /// `SeeLoss`: `NoSuchPlace`; `NodeLost`, also where it was seen before; `NotLost`; `NotDrained` where bytes of
+    /// the peer are on the ring, or a whole frame of it has come; `ClockFull`. `Lose`: `NoSuchPlace`, `NodeLost`.
     pub fn step(&mut self, step: &Step) -> Result<Stepped, NodeFault>
         ensures goes_on { ∥ BytesGoOn (given_of self.old) (crossing_of self.old) (account_of self.old) (lost_of self.old) step.now result (crossing_of self.new) (account_of self.new) (lost_of self.new) ∥₁ }
         ensures grows { HistoriesGrow (account_of self.old) (account_of self.new) }

@@ -3,7 +3,7 @@
 ghost use Rattle.std.specs.Prelude.{◌≡◌, ◌+◌, ◌^◌, ℕ, List, true, false, [], Ok, Some, None, IfOk, length};
 ghost use Rattle.std.specs.List.{All};
 ghost use Rattle.pg_node.specs.Nodes.{held_by};
-ghost use Rattle.pg_node.specs.States.{names_of};
+ghost use Rattle.pg_node_state.specs.States.{names_of};
 ghost use Rattle.pg_world.specs.declared.rings.Rings.{Rings};
 ghost use Rattle.pg_world.specs.Rooms.{HaveRoomFor};
 
@@ -68,10 +68,12 @@ impl<T: GroupTable + Drop> ByteNodes<T> {
     ghost use Rattle.pg_world.specs.Crossings.{crossing_of, room_of, idle_crossing, link_at, bytes_at, IsWelcome, ShowsPast, ShowsBytes, ShowsBytesPast, EventComesTo, FrameComesTo, StepComesTo};
     ghost use Rattle.pg_frame_world.specs.Worlds.{IsReached};
 
-    /// A world of these nodes, with an empty ring from each to each other, which has room for `ring` bytes, and where nothing has
-    /// begun. Its cost is one allocation for each node and for each ring, and one.
+    /// A world of these nodes, with an empty ring from each to each other, which has room for `ring` bytes, and where
+    /// nothing has begun.
     ///
-    /// Error: `AllocError`.
+    /// Errors: `AllocError`.
+    ///
+    /// Cost: one allocation for each node and for each ring, and one.
     fn idle(alloc: Global, nodes: Vec<Node<T>>, ring: usize) -> Result<ByteNodes<T>, AllocError>
         requires known { All (λ node. length (names_of (held_by node)) ≡ length nodes.items) nodes.items }
         requires capacity { IsCapacity ring }
@@ -90,19 +92,20 @@ impl<T: GroupTable + Drop> ByteNodes<T> {
         })
     }
 
-    /// Makes one step. Whatever frame world the world shows, as events lead to it from the start of a configuration: an event
-    /// that happens is the event of the frame machine there, and the world shows what it leaves; bytes that move leave the frame
-    /// world as it is.
+    /// Makes one step. Whatever frame world the world shows, as events lead to it from the start of a configuration:
+    /// an event that happens is the event of the frame machine there, and the world shows what it leaves; bytes that
+    /// move leave the frame world as it is.
     ///
-    /// Faults, by which the frame world stays, the first that holds: `Refused` by `NoSuchPlace` where a node, a port or a peer is
-    /// not there, or a node and its peer are one; those of `NodeState::take`, `command` and `retry`, of which `NotAMessage` never
-    /// comes; `OutOfMemory` may be told in the place of each behind `NoSuchPlace`. No link is ever damaged.
+    /// Errors, by which the frame world stays, the first that holds: `Refused` by `NoSuchPlace` where a node, a port
+    /// or a peer is not there, or a node and its peer are one; those of `NodeState::take`, `command` and `retry`, of
+    /// which `NotAMessage` never comes; `OutOfMemory` may come in the place of each after `NoSuchPlace`. No link
+    /// is ever damaged.
     ///
-    /// Where nodes are lost, the same holds of whatever world with losses the world shows, as events lead to it from the start: a step is
-    /// the event of the machine with losses. A step of a node that is lost, and a put from it, is refused by `NodeLost`,
-    /// behind `NoSuchPlace`, and so is a pull or a take of a peer whose loss was seen. `SeeLoss`: `NoSuchPlace`; `NodeLost`, also
-    /// where it was seen before; `NotLost`; `NotDrained` where bytes of the peer are on the ring, or a whole frame of it has come;
-    /// `ClockFull`. `Lose`: `NoSuchPlace`, `NodeLost`.
+    /// Where nodes are lost, the same holds of whatever world with losses the world shows, as events lead to it from
+    /// the start: a step is the event of the machine with losses. A step of a node that is lost, and a put from it,
+    /// is refused by `NodeLost`, after `NoSuchPlace`, and so is a pull or a take of a peer whose loss was seen.
+    /// `SeeLoss`: `NoSuchPlace`; `NodeLost`, also where it was seen before; `NotLost`; `NotDrained` where bytes of
+    /// the peer are on the ring, or a whole frame of it has come; `ClockFull`. `Lose`: `NoSuchPlace`, `NodeLost`.
     pub(crate) fn step(&mut self, step: &Step) -> Result<Stepped, NodeFault>
         ensures came { (config : Config) (w : TimedFrameWorld) → lost_in self.old.losses ≡ [] → IsReached config w
             → ShowsBytes config (crossing_of self.old) (account_of self.old.histories) w

@@ -1,7 +1,7 @@
 //! Worlds of nodes: the nodes of a configuration that step one at a time, and the bytes on the way between them. This crate is the door to
 //! worlds of packets, too.
 //!
-//! `world.step(&step)?` makes a step, and `world.history(&name)` tells the history of a group. Begin with `src/byte_world.rt`, or with
+//! `world.step(&step)?` makes a step, and `world.history(&name)` gives the history of a group. Begin with `src/byte_world.rt`, or with
 //! `frame_world.rt` of pg_frame_world; `history.rt` of pg_uses plays such a world.
 #![tactic(auto)]
 

@@ -19,7 +19,7 @@ pub(crate) struct Rings {
 impl Rings {
     /// Empty rings to so many peers, each with room for so many bytes.
     ///
-    /// Error: `AllocError`.
+    /// Errors: `AllocError`.
     fn new(alloc: Global, peers: usize, capacity: usize) -> Result<Rings, AllocError>
         requires capacity { IsCapacity capacity }
         ensures bytes { IfOk result (λ row. bytes_of row ≡ replicate peers []) }
@@ -38,7 +38,7 @@ impl Rings {
 
 /// Empty rings from each of so many nodes to each other, each with room for so many bytes.
 ///
-/// Error: `AllocError`.
+/// Errors: `AllocError`.
 pub(crate) fn rings_between(
     alloc: Global,
     nodes: usize,

@@ -174,16 +174,11 @@ impl<'a> Scene<'a> {
     // Whether one node sees the lock of a group free.
     fn is_free(&self, name: &Term) -> bool {
         for place in 0..self.starts.len() {
-            if self.sees_free(place, name) {
+            if self.world.lock_free(place, name) {
                 return true;
             }
         }
         false
-    }
-
-    // Whether a node sees the lock of a group free.
-    fn sees_free(&self, place: usize, name: &Term) -> bool {
-        self.world.node(place).is_some() && self.world.lock_free(place, name)
     }
 
     // Whether no process has ended at its home, and not everywhere. Lost nodes do not count.
@@ -242,7 +237,7 @@ impl<'a> Scene<'a> {
                 Some("an update while a node is not formed")
             };
         }
-        let is_free = is_free || self.sees_free(place, name);
+        let is_free = is_free || self.world.lock_free(place, name);
         if !self.has_its_table(place, node, name, is_free) {
             return Some("the table is another");
         }

@@ -18,13 +18,15 @@ use pg_message::{MessageFault, Packet};
 use pg_term_io::MAX_LEN;
 use std::alloc::Global;
 
-/// Appends a packet as one whole frame: four bytes of length, the highest first, and the body, in the forms of the External
-/// Term Format chapter of the Erlang documentation. No allocation where the room suffices. The cost is that of
-/// `packet_len` and of one walk over the packet.
+/// Appends a packet as one whole frame: four bytes of length, the highest first, and the body.
 ///
-/// Faults, which leave the bytes of the buffer as they were, the first that holds: `NotAMessage`, where `check_name`
-/// refuses a name, or an exchange names a group twice; `StampTooLarge`; `TooLong`, where the body takes more than
-/// 16,777,216 bytes; `OutOfMemory`, where the room does not suffice and the buffer can't grow.
+/// Errors: `NotAMessage`, where `check_name` refuses a name, or an exchange names a group twice; `StampTooLarge`;
+/// `TooLong`, where the body takes more than 16,777,216 bytes; `OutOfMemory`, where the room does not suffice and the
+/// buffer can't grow. They leave the bytes of the buffer as they were.
+///
+/// Cost: no allocation where the room suffices; that of `packet_len` and of one walk over the packet.
+///
+/// The rule: the forms of the External Term Format chapter of the Erlang documentation.
 pub fn write_packet_into(packet: &Packet, out: &mut BytesMut) -> Result<(), MessageFault>
     ensures ok { OnOk result (out.new.items ≡ out.old.items ++ frame_of packet.now) }
     ensures err { OnErr result (out.new.items ≡ out.old.items) }
@@ -96,10 +98,13 @@ pub(crate) fn put_frame(out: &mut BytesMut, len: usize, stamp: u32, told: &Told<
     put_body(out, stamp, told);
 }
 
-/// The body of a packet: the byte 131 and `{Stamp, Message}` as one item, by the External Term Format chapter of the
-/// Erlang documentation. One allocation. The cost is that of `packet_len` and of one walk over the packet.
+/// The body of a packet: the byte 131 and `{Stamp, Message}` as one item.
 ///
-/// Faults, the first that holds: those of `packet_len`, before anything is allocated; `OutOfMemory`.
+/// Errors: those of `packet_len`, before anything is allocated; `OutOfMemory`.
+///
+/// Cost: one allocation; that of `packet_len` and of one walk over the packet.
+///
+/// The rule: the External Term Format chapter of the Erlang documentation.
 pub fn write_packet(alloc: Global, packet: &Packet) -> Result<Vec<u8>, MessageFault>
     ensures told { Gives (λ body. body.items) result (body_of packet.now) }
     ensures unsendable { (fault : MessageFault) → body_of packet.now ≡ Err fault → result ≡ Err fault }

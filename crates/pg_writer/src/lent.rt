@@ -10,8 +10,12 @@ use bytes::BytesMut;
 use pg_message::MessageFault;
 use pg_term::{Pid, Term};
 
-/// Appends the packet `{Stamp, {call, Ref, Request}}` as one whole frame, as `write_packet_into` does and with its faults:
-/// a call of `gen_server`, or the question of `global:set_lock/2`. No allocation where the room suffices.
+/// Appends the packet `{Stamp, {call, Ref, Request}}` as one whole frame, as `write_packet_into` does: a call of
+/// `gen_server`, or the question of `global:set_lock/2`.
+///
+/// Errors: those of `write_packet_into`, which leave the bytes of the buffer as they were.
+///
+/// Cost: no allocation where the room suffices.
 pub fn write_call_into(
     stamp: u32,
     mark: &Mark<'_>,
@@ -27,8 +31,12 @@ pub fn write_call_into(
     write_told_into(stamp, &Told::Call(*mark, *asked), out)
 }
 
-/// Appends the packet `{Stamp, {cast, {del_lock, Name, Ref}}}` as one whole frame, as `write_packet_into` does and with its
-/// faults: `global:del_lock/2`. No allocation where the room suffices.
+/// Appends the packet `{Stamp, {cast, {del_lock, Name, Ref}}}` as one whole frame, as `write_packet_into` does:
+/// `global:del_lock/2`.
+///
+/// Errors: those of `write_packet_into`, which leave the bytes of the buffer as they were.
+///
+/// Cost: no allocation where the room suffices.
 pub fn write_del_lock_into(
     stamp: u32,
     name: &Term,
@@ -44,8 +52,11 @@ pub fn write_del_lock_into(
     write_told_into(stamp, &Told::DelLock(name, *mark), out)
 }
 
-/// Appends the packet `{Stamp, {down, Pid}}` as one whole frame, as `write_packet_into` does and with its faults: a process has
-/// ended. No allocation where the room suffices.
+/// Appends the packet `{Stamp, {down, Pid}}` as one whole frame, as `write_packet_into` does: a process has ended.
+///
+/// Errors: those of `write_packet_into`, which leave the bytes of the buffer as they were.
+///
+/// Cost: no allocation where the room suffices.
 pub fn write_down_into(stamp: u32, pid: &Pid, out: &mut BytesMut) -> Result<(), MessageFault>
     ensures { AppendsFrame (record { stamp = stamp; message = messages.Down pid.now }) out.old out.new
         result }

@@ -237,7 +237,7 @@ fn put_all_pids(out: &mut BytesMut, pids: &[Pid])
     }
 }
 
-// What stands before the other elements of a tuple whose first is a word: SMALL_TUPLE_EXT and SMALL_ATOM_UTF8_EXT.
+// What is before the other elements of a tuple whose first is a word: SMALL_TUPLE_EXT and SMALL_ATOM_UTF8_EXT.
 #[tactic(auto, using(crate::proofs::Words::word_len))]
 fn put_opening(out: &mut BytesMut, arity: u8, word: &str)
     requires plain { is_plain word.now ≡ true }

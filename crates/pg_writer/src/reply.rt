@@ -14,10 +14,13 @@ use pg_message::{MAX_STAMP, Said};
 use pg_term::Reference;
 use std::alloc::AllocError;
 
-/// Appends the packet `{Stamp, {reply, Ref, Said}}` as one whole frame, as `write_packet_into` does: a `gen_server` call's
-/// reply, or the answer to `global:set_lock/2`. The stamp is at most 1,073,741,824. No allocation where the room suffices.
+/// Appends the packet `{Stamp, {reply, Ref, Said}}` as one whole frame, as `write_packet_into` does: a `gen_server`
+/// call's reply, or the answer to `global:set_lock/2`. The stamp is at most 1,073,741,824.
 ///
-/// Error: `AllocError`, where it does not and the buffer can't grow; the bytes of the buffer are as they were.
+/// Errors: `AllocError`, where the room does not suffice and the buffer can't grow; the bytes of the buffer are as
+/// they were.
+///
+/// Cost: no allocation where the room suffices.
 pub fn write_reply_into(
     stamp: u32,
     reference: &Reference,

@@ -21,12 +21,15 @@ use pg_term_writer::{atom_len, int_len, list_head_len, pid_len, reference_len};
 /// How many bytes a body takes at most, if it is no exchange.
 pub const MAX_SMALL_LEN: usize = 3126;
 
-/// How many bytes the body of a packet takes (External Term Format chapter of the Erlang documentation), at most 3,126 if
-/// it is no exchange. It takes no memory. One walk over each name and each list of members; in an exchange whose groups do
-/// not ascend in the order of terms each name is compared with all that follow.
+/// How many bytes the body of a packet takes, at most 3,126 if it is no exchange.
 ///
-/// Faults, the first that holds: `NotAMessage`, where `check_name` refuses a name, or an exchange names a group twice;
-/// `StampTooLarge`; `TooLong`, where the body takes more than 16,777,216 bytes.
+/// Errors: `NotAMessage`, where `check_name` refuses a name, or an exchange names a group twice; `StampTooLarge`;
+/// `TooLong`, where the body takes more than 16,777,216 bytes.
+///
+/// Cost: no memory; one walk over each name and each list of members; in an exchange whose groups do not ascend in
+/// the order of terms each name is compared with all that follow.
+///
+/// The rule: the External Term Format chapter of the Erlang documentation.
 pub fn packet_len(packet: &Packet) -> Result<usize, MessageFault>
     ensures exact { result ≡ length_of (body_of packet.now) }
     ensures few { is_exchange packet.now.message ≡ false
@@ -68,7 +71,7 @@ pub(crate) fn stamp_len(stamp: u32) -> usize
     int_len(i64::from(stamp))
 }
 
-// What a message takes as one item, or `usize::MAX` where that is less; `None` for what may not be sent.
+// What a message takes as one item, or `usize::MAX` where that is smaller; `None` for what may not be sent.
 fn message_len(told: &Told<'_>) -> Option<usize>
     ensures len { IfSome result
         (λ len. len ≡ min (length (item_bytes (message_term (message_told told.now)))) usize.MAX) }

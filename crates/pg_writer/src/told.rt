@@ -48,7 +48,7 @@ pub(crate) enum Told<'a> {
 }
 
 impl<'a> Told<'a> {
-    /// What a message tells.
+    /// What a message says.
     pub(crate) fn of(message: &'a Message) -> Told<'a>
         ensures { message_told result ≡ message.now }
     {

@@ -10,7 +10,7 @@ use pg_random::Random;
 use pg_term::{Atom, Pid, Term};
 use std::alloc::Global;
 
-/// Whether the count that the update raises is below the greatest that is told.
+/// Whether the count that the update raises is below the greatest that there is.
 fn has_room<T: GroupTable>(table: &T, update: &Update) -> bool
     ensures { IsTrue result → HasRoom (T.contents table.now) update.now }
 {

@@ -13,6 +13,10 @@ fn name(alloc: Global, node: u64) -> Result<Atom, TermFault> {
 }
 
 /// The names of so many nodes.
+///
+/// Errors: those of `Atom::new`.
+///
+/// Cost: memory for each.
 pub fn names(alloc: Global, nodes: u64) -> Result<Vec<Atom>, TermFault> {
     let mut names = Vec::new(alloc);
     for node in 0..nodes {
@@ -22,6 +26,10 @@ pub fn names(alloc: Global, nodes: u64) -> Result<Vec<Atom>, TermFault> {
 }
 
 /// A pid of one of these nodes.
+///
+/// Errors: `AllocError`.
+///
+/// Cost: a copy of its node's name.
 pub fn pid_of(names: &[Atom], random: &mut Random) -> Result<Pid, AllocError> {
     let id = random.word();
     match random.pick(names) {
@@ -36,6 +44,10 @@ pub fn pid_of(names: &[Atom], random: &mut Random) -> Result<Pid, AllocError> {
 }
 
 /// So many pids of these nodes, from a seed.
+///
+/// Errors: `AllocError`.
+///
+/// Cost: memory for each.
 pub fn pids(alloc: Global, names: &[Atom], seed: u64, count: u64) -> Result<Vec<Pid>, AllocError> {
     let mut random = Random::new(seed);
     let mut pids = Vec::new(alloc);
@@ -46,6 +58,10 @@ pub fn pids(alloc: Global, names: &[Atom], seed: u64, count: u64) -> Result<Vec<
 }
 
 /// Updates of the group 1 by each of these pids.
+///
+/// Errors: `AllocError`.
+///
+/// Cost: memory for each.
 pub fn updates(alloc: Global, pids: &[Pid], change: Change) -> Result<Vec<Update>, AllocError> {
     let mut updates = Vec::new(alloc);
     for pid in pids {
@@ -56,6 +72,10 @@ pub fn updates(alloc: Global, pids: &[Pid], change: Change) -> Result<Vec<Update
 }
 
 /// Creates and joins of a group for each of these pids.
+///
+/// Errors: `AllocError`.
+///
+/// Cost: memory for each.
 pub fn pairs(alloc: Global, pids: &[Pid]) -> Result<Vec<Update>, AllocError> {
     let mut updates = Vec::new(alloc);
     for (number, pid) in (0..).zip(pids) {
@@ -67,6 +87,10 @@ pub fn pairs(alloc: Global, pids: &[Pid]) -> Result<Vec<Update>, AllocError> {
 }
 
 /// Creates of so many groups, and joins of the first 300 by each of these pids.
+///
+/// Errors: `AllocError`.
+///
+/// Cost: memory for each.
 pub fn joins_of_300(alloc: Global, pids: &[Pid], count: u32) -> Result<Vec<Update>, AllocError> {
     let mut updates = Vec::new(alloc);
     for number in 0..count {

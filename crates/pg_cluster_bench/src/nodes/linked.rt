@@ -67,7 +67,7 @@ impl OverBytes {
         }
     }
 
-    // What stands on the ring comes in.
+    // What is on the ring comes in.
     fn pull(&mut self, peer: usize) -> bool {
         peer < self.node.state().peer_count()
             && self.node.pull(peer, &mut self.rings.to, RING).is_ok()

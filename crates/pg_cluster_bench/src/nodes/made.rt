@@ -19,6 +19,10 @@ fn are_apart(own: &Atom, one: &Atom, two: &Atom) -> bool
 }
 
 /// The node, with one port, which has taken nothing yet.
+///
+/// Errors: those of `Atom::new`.
+///
+/// Cost: that of `NodeState::new`.
 pub fn new_state(alloc: Global) -> Result<NodeState<IndexTable>, TermFault> {
     let own = Atom::new(alloc, "a")?;
     let one = Atom::new(alloc, "b")?;

@@ -18,7 +18,7 @@ pub struct OverPackets {
     node: NodeState<IndexTable>,
 }
 
-// Whether it tells no group.
+// Whether it announces no group.
 fn tells_no_group(packet: &Packet) -> bool
     ensures { IsTrue result → IsShort (2 ^ 32) packet.now.message }
 {
@@ -29,7 +29,7 @@ fn tells_no_group(packet: &Packet) -> bool
 }
 
 impl OverPackets {
-    // Takes a packet that tells no group.
+    // Takes a packet that announces no group.
     fn taken(&mut self, peer: usize, packet: &Packet) -> Option<Done> {
         if peer < self.node.peer_count() && tells_no_group(packet) {
             self.node.take(peer, packet).ok()

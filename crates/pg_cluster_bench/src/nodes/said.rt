@@ -5,7 +5,11 @@ use pg_message::{Message, Packet, Request, Said};
 use pg_term::{Atom, Items, Reference, TermFault};
 use std::alloc::{AllocError, Global};
 
-/// What a peer of this name tells at first: it has no group.
+/// What a peer of this name announces at first: it has no group.
+///
+/// Errors: those of `Atom::new`.
+///
+/// Cost: one packet.
 pub fn no_groups(alloc: Global, name: &str) -> Result<Vec<Packet>, TermFault> {
     let node = Atom::new(alloc, name)?;
     let message = Message::Exchange(node, Items::from_vec(Vec::new(alloc)));
@@ -30,6 +34,10 @@ fn call(alloc: Global, change: Change, groups: Groups, number: u32) -> Result<Pa
 }
 
 /// So many calls of b that ask for the change.
+///
+/// Errors: those of `Atom::new`.
+///
+/// Cost: memory for each.
 pub fn calls(
     alloc: Global,
     change: Change,
@@ -50,6 +58,10 @@ fn reply(call: &Reference, said: Said) -> Result<Packet, AllocError> {
 }
 
 /// A reply to each of these calls.
+///
+/// Errors: `AllocError`.
+///
+/// Cost: memory for each.
 pub fn replies(alloc: Global, calls: &[Reference], said: Said) -> Result<Vec<Packet>, AllocError> {
     let mut packets = Vec::new(alloc);
     for call in calls {

@@ -5,7 +5,7 @@ ghost use Rattle.std.specs.Prelude.{◌≡◌, ◌↔◌, IsTrue, IfOk, map};
 use crate::outgoing::Outgoing;
 use crate::world::FrameNodes;
 use pg_group::GroupTable;
-use pg_node::NodeState;
+use pg_node_state::NodeState;
 use std::alloc::AllocError;
 
 impl<T: GroupTable + Drop> FrameNodes<T> {
@@ -13,10 +13,12 @@ impl<T: GroupTable + Drop> FrameNodes<T> {
     ghost use Rattle.pg_frame_world.specs.Losing.{lost_of};
     ghost use Rattle.pg_frame_world.specs.Worlds.{view_of};
 
-    /// Whether both are the same but for clocks and stamps. Its cost is that of `NodeState::is_alike` for each node, which alone takes
-    /// memory, and a walk over the packets and the histories.
+    /// Whether both are the same but for clocks and stamps.
     ///
-    /// Error: `AllocError`.
+    /// Errors: `AllocError`.
+    ///
+    /// Cost: that of `NodeState::is_alike` for each node, which alone takes memory, and a walk over the packets and
+    /// the histories.
     pub(crate) fn is_alike(&self, other: &FrameNodes<T>) -> Result<bool, AllocError>
         ensures { IfOk result (λ alike. IsTrue alike ↔ AreAlikeWorlds (view_of self.now) (lost_of self.now) (view_of other.now) (lost_of other.now)) }
     {
@@ -27,7 +29,9 @@ impl<T: GroupTable + Drop> FrameNodes<T> {
         }
     }
 
-    /// Whether both are the same but for their nodes and for stamps. It takes no memory.
+    /// Whether both are the same but for their nodes and for stamps.
+    ///
+    /// Cost: no memory.
     fn is_alike_beside(&self, other: &FrameNodes<T>) -> bool
         ensures { IsTrue result ↔ AreAlikeBeside (view_of self.now) (lost_of self.now) (view_of other.now) (lost_of other.now) }
     {
@@ -38,11 +42,12 @@ impl<T: GroupTable + Drop> FrameNodes<T> {
 }
 
 ghost use Rattle.pg_frame_world.specs.Alike.{without_clock, without_stamps};
-ghost use Rattle.pg_frame_world.specs.Views.{seen_of, ways_of};
+ghost use Rattle.pg_starts.specs.Seen.{seen_of};
+ghost use Rattle.pg_frame_world.specs.Views.{ways_of};
 
 /// Whether as many nodes are the same, place by place, but for their clocks.
 ///
-/// Error: `AllocError`.
+/// Errors: `AllocError`.
 fn are_alike<T: GroupTable + Drop>(
     nodes: &[NodeState<T>],
     others: &[NodeState<T>],
@@ -60,7 +65,9 @@ fn are_alike<T: GroupTable + Drop>(
     Ok(true)
 }
 
-/// Whether the same packets are on each way, but for their stamps. It takes no memory.
+/// Whether the same packets are on each way, but for their stamps.
+///
+/// Cost: no memory.
 fn same_ways(outgoing: &[Outgoing], others: &[Outgoing]) -> bool
     ensures { IsTrue result ↔ (map without_stamps (map ways_of outgoing.now) ≡ map without_stamps (map ways_of others.now)) }
 {

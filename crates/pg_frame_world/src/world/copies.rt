@@ -11,9 +11,11 @@ impl<T: GroupTable + Drop> FrameNodes<T> {
     ghost use Rattle.pg_frame_world.specs.Losing.{lost_of};
     ghost use Rattle.pg_frame_world.specs.Worlds.{view_of};
 
-    /// The same nodes, and the same on the way between them. Its cost is that of the copies of all that they keep.
+    /// The same nodes, and the same on the way between them.
     ///
-    /// Error: `AllocError`.
+    /// Errors: `AllocError`.
+    ///
+    /// Cost: that of the copies of all that they keep.
     pub(crate) fn copy(&self) -> Result<FrameNodes<T>, AllocError>
         ensures view { IfOk result (λ copy. view_of copy ≡ view_of self.now) }
         ensures lost { IfOk result (λ copy. lost_of copy ≡ lost_of self.now) }
@@ -35,7 +37,7 @@ ghost use Rattle.pg_frame_world.specs.Views.{ways_of};
 
 /// The same packets on each way.
 ///
-/// Error: `AllocError`.
+/// Errors: `AllocError`.
 fn copy_ways(alloc: Global, outgoing: &[Outgoing]) -> Result<Vec<Outgoing>, AllocError>
     ensures { IfOk result (λ copies. map ways_of copies.items ≡ map ways_of outgoing.now) }
 {

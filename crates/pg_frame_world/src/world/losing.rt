@@ -5,7 +5,7 @@ ghost use Rattle.std.specs.Prelude.{◌≡◌, ◌≢◌, ◌<◌, ◌+◌, ◌�
 use crate::step::{FrameStep, Stepped};
 use crate::world::{FrameNodes, peer_place};
 use pg_group::GroupTable;
-use pg_node::{Done, NodeFault};
+use pg_node_state::{Done, NodeFault};
 use pg_step::Refusal;
 use std::alloc::AllocError;
 
@@ -14,7 +14,7 @@ impl<T: GroupTable + Drop> FrameNodes<T> {
     ghost use Rattle.pg_step.specs.Config.{Config};
     ghost use Rattle.pg_step.specs.LossLaws.{LosingFrameWorld};
     ghost use Rattle.pg_step.specs.declared.refusal.Refusal.TheVariants.{NotLost};
-    ghost use Rattle.pg_node.specs.declared.state.fault.NodeFault.TheVariants.{Refused};
+    ghost use Rattle.pg_node_state.specs.declared.state.fault.NodeFault.TheVariants.{Refused};
     ghost use Rattle.pg_account.specs.Losses.{is_lost};
     ghost use Rattle.pg_frame_world.specs.Losing.{lost_of, lost_with, seen_at, is_cut_off, is_barred, told_sight, told_loss, ShowsLosing, LosingComesTo};
     ghost use Rattle.pg_frame_world.specs.Views.{CanStay, on_the_way};

@@ -5,7 +5,7 @@ ghost use Rattle.std.specs.Prelude.{◌≡◌, IfOk};
 use crate::pending::pending_among;
 use crate::world::FrameNodes;
 use pg_group::GroupTable;
-use pg_node::NodeState;
+use pg_node_state::NodeState;
 use pg_term::Pid;
 use std::alloc::AllocError;
 
@@ -14,11 +14,13 @@ impl<T: GroupTable + Drop> FrameNodes<T> {
     ghost use Rattle.pg_frame_world.specs.Pending.{lent_as, nodes_left, pending_of};
     ghost use Rattle.pg_frame_world.specs.Worlds.{traffic_of};
 
-    /// The ends that are pending: each is that of a process whose home has it, and which some node has not. Of nodes that are lost
-    /// nothing counts. They stand home by home, and by number at each. Its cost is a search at each node that is left for each
-    /// process that has ended at its home, and the memory of the list.
+    /// The ends that are pending: each is that of a process whose home has it, and which some node has not. Of nodes
+    /// that are lost nothing counts. They are listed home by home, and by number at each.
     ///
-    /// Error: `AllocError`.
+    /// Errors: `AllocError`.
+    ///
+    /// Cost: a search at each node that is left for each process that has ended at its home, and the memory of the
+    /// list.
     pub(crate) fn pending_ends(&self) -> Result<Vec<Pid>, AllocError>
         ensures list { IfOk result (λ pids. pids.items ≡ pending_of (traffic_of self.now).nodes (lost_of self.now)) }
     {
@@ -28,7 +30,7 @@ impl<T: GroupTable + Drop> FrameNodes<T> {
 
     /// The nodes that are not lost.
     ///
-    /// Error: `AllocError`.
+    /// Errors: `AllocError`.
     fn nodes_left(&self) -> Result<Vec<&NodeState<T>>, AllocError>
         ensures { IfOk result (λ left. lent_as left.items ≡ nodes_left (traffic_of self.now).nodes (lost_of self.now)) }
     {

@@ -12,30 +12,33 @@ ghost use Rattle.pg_message.specs.Writing.{body_of, term_of_packet};
 ghost use Rattle.pg_opens.specs.Places.{name_at};
 ghost use Rattle.pg_node.specs.Begun.{Begins, CantBegin, IsOpened, CantOpen};
 ghost use Rattle.pg_node.specs.Links.{link_of, links_in};
-ghost use Rattle.pg_node.specs.States.{names_of as names_known, kept_by};
+ghost use Rattle.pg_node_state.specs.States.{names_of as names_known, kept_by};
 
 use crate::node::Node;
 use crate::node::wire::Wire;
-use crate::state::{NodeConfig, NodeFault, NodeState, started};
 use pg_group::GroupTable;
 use pg_message::Packet;
+use pg_node_state::{NodeConfig, NodeFault, NodeState, started};
 use pg_writer::{packet_len, write_packet_into};
 use std::alloc::{AllocError, Global};
 
-/// How many bytes stand on their way from an inlet at once.
+/// How many bytes are on their way from an inlet at once.
 const PIECE_LEN: usize = 65_536;
 
 impl<T: GroupTable + Drop> Node<T> {
     ghost use Rattle.pg_step.specs.State.{new_state};
-    ghost use Rattle.pg_node.specs.Issued.{ports_of};
+    ghost use Rattle.pg_node_state.specs.Issued.{ports_of};
     ghost use Rattle.pg_node.specs.Nodes.{held_by, links_of};
-    ghost use Rattle.pg_node.specs.States.{names_of, state_of, answers_of};
+    ghost use Rattle.pg_node_state.specs.States.{names_of, state_of, answers_of};
 
-    /// A node at time 0, as `NodeState::new` makes it: in the outbox to each peer stands the frame that tells the groups of the
-    /// table. Its cost is that of `snapshot`, and of the frame for each peer.
+    /// A node at time 0, as `NodeState::new` makes it: in the outbox to each peer is the frame that announces the
+    /// groups of the table.
     ///
-    /// Faults: `Message`, where what it tells can't be written: by `NotAMessage` where `check_name` refuses the name of a group,
-    /// and by `TooLong` where the body would take more than 16,777,216 bytes; `OutOfMemory` in the place of each.
+    /// Errors: `Message`, where what it announces can't be written: by `NotAMessage` where `check_name` refuses the
+    /// name of a group, and by `TooLong` where the body would take more than 16,777,216 bytes; `OutOfMemory` in the
+    /// place of each.
+    ///
+    /// Cost: that of `snapshot`, and of the frame for each peer.
     pub fn new(alloc: Global, config: NodeConfig, table: T) -> Result<Node<T>, NodeFault>
         requires apart { IsDistinct same_atom (config.own ∷ config.peers.items) }
         requires made { config.made ≤ MAX_PROCESSES }
@@ -53,10 +56,12 @@ impl<T: GroupTable + Drop> Node<T> {
         }
     }
 
-    /// The node over bytes of one over packets: in the outbox to each peer stands the frame that tells the groups of its table at
-    /// time 0. Its cost is that of `snapshot`, and of the frame for each peer.
+    /// The node over bytes of one over packets: in the outbox to each peer is the frame that announces the groups of
+    /// its table at time 0.
     ///
-    /// Faults: those of `new`.
+    /// Errors: those of `new`.
+    ///
+    /// Cost: that of `snapshot`, and of the frame for each peer.
     pub fn opened(alloc: Global, state: NodeState<T>) -> Result<Node<T>, NodeFault>
         ensures state { IfOk result (λ node. held_by node ≡ state) }
         ensures begun { (peers : ℕ) → peers + 1 ≡ length (names_of state)

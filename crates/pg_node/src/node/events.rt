@@ -5,9 +5,9 @@ ghost use Rattle.pg_message.specs.Members.{IsShort};
 
 use crate::node::Node;
 use crate::node::wires::{make_room, send_all};
-use crate::state::{Done, NodeFault};
 use pg_group::GroupTable;
 use pg_message::Packet;
+use pg_node_state::{Done, NodeFault};
 use pg_step::{Command, OpId, Refusal};
 use std::alloc::AllocError;
 
@@ -16,18 +16,21 @@ impl<T: GroupTable + Drop> Node<T> {
     ghost use Rattle.pg_step.specs.Step.{Issue, Retry, step_act, step_take};
     ghost use Rattle.pg_node.specs.Bytes.{Tells, next_packet, marked, passed, closed};
     ghost use Rattle.pg_node.specs.Nodes.{held_by, links_of, has_lost, read_next, step_link, taken_of, TakesNext, ComesInRoom, sent_out, step_lose};
-    ghost use Rattle.pg_node.specs.Links.{at_link, AreSmallFrames};
-    ghost use Rattle.pg_node.specs.Issued.{ports_of};
-    ghost use Rattle.pg_node.specs.Sendable.{AreSendable};
-    ghost use Rattle.pg_node.specs.States.{names_of, nodes_of, state_of, answers_of, stamped_of, Comes};
+    ghost use Rattle.pg_node_state.specs.Frames.{AreSmallFrames};
+    ghost use Rattle.pg_node.specs.Links.{at_link};
+    ghost use Rattle.pg_node_state.specs.Issued.{ports_of};
+    ghost use Rattle.pg_node_state.specs.Sendable.{AreSendable};
+    ghost use Rattle.pg_node_state.specs.States.{names_of, nodes_of, state_of, answers_of, stamped_of, Comes};
 
-    /// Takes the next packet of a peer, if its frame is whole: what the step sends stands framed in the outboxes. `peer`: its
-    /// place among the peers.
+    /// Takes the next packet of a peer, if its frame is whole: what the step sends is framed in the outboxes. `peer`:
+    /// its place among the peers.
     ///
-    /// Faults, the first that holds: `Refused` by `NodeLost` where the loss of the peer was seen; `Damaged`, where a fault was
-    /// told of the link before; `TooLong`; `Message`; `Refused` by `ClockFull` and by `NotAMessage`, as `NodeState::take` tells
-    /// them; `OutOfMemory` may be told in the place of those from `Message` on. `TooLong`, `Message` and `NotAMessage` damage the
-    /// link for good, and change nothing else; no other fault changes anything, and the frame stays.
+    /// Errors: `Refused` by `NodeLost` where the loss of the peer was seen; `Damaged`, where the link had a fault
+    /// before; `TooLong`; `Message`; `Refused` by `ClockFull` and by `NotAMessage`, as `NodeState::take` has them;
+    /// `OutOfMemory` may come in the place of those from `Message` on. `TooLong`, `Message` and `NotAMessage` damage
+    /// the link for good, and change nothing else; no other error changes anything, and the frame stays.
+    ///
+    /// Cost: that of the body's length, of the event, and of the frames that go out.
     pub fn take(&mut self, peer: usize) -> Result<Option<Done>, NodeFault>
         requires place { peer + 1 < length (names_of (held_by self.old)) }
         ensures event { TakesNext (names_of (held_by self.old))
@@ -80,12 +83,14 @@ impl<T: GroupTable + Drop> Node<T> {
         }
     }
 
-    /// Reads the next packet of a peer, if its frame is whole. It stays, to be taken by `take_read`. `peer`: its place among the
-    /// peers.
+    /// Reads the next packet of a peer, if its frame is whole. It stays, to be taken by `take_read`. `peer`: its
+    /// place among the peers.
     ///
-    /// Faults, the first that holds: `Refused` by `NodeLost` where the loss of the peer was seen; `Damaged`, `TooLong` and
-    /// `Message`, as `take` tells them, of which the last two damage the link for good; `OutOfMemory` may be told in the place of a
+    /// Errors: `Refused` by `NodeLost` where the loss of the peer was seen; `Damaged`, `TooLong` and `Message`, as
+    /// `take` has them, of which the last two damage the link for good; `OutOfMemory` may come in the place of a
     /// `Message`. Nothing else changes.
+    ///
+    /// Cost: that of the body's length.
     pub fn next(&mut self, peer: usize) -> Result<Option<Packet>, NodeFault>
         requires place { peer + 1 < length (names_of (held_by self.old)) }
         ensures told { Tells (read_next (has_lost (held_by self.old) peer) (links_of self.old peer)) result }
@@ -101,11 +106,13 @@ impl<T: GroupTable + Drop> Node<T> {
         wire.next(self.alloc)
     }
 
-    /// Takes the packet that `next` has read of a peer, which is the next of its link: what the step sends stands framed in the
-    /// outboxes. `peer`: its place among the peers. `packet`: that packet.
+    /// Takes the packet that `next` has read of a peer, which is the next of its link: what the step sends is framed
+    /// in the outboxes. `peer`: its place among the peers. `packet`: that packet.
     ///
-    /// Faults: those of `NodeState::take`, of which `NotAMessage` damages the link for good; `OutOfMemory` may be told in the place
-    /// of each. Nothing else changes, and the frame stays.
+    /// Errors: those of `NodeState::take`, of which `NotAMessage` damages the link for good; `OutOfMemory` may come
+    /// in the place of each. Nothing else changes, and the frame stays.
+    ///
+    /// Cost: that of the event, and of the frames that go out.
     pub fn take_read(&mut self, peer: usize, packet: &Packet) -> Result<Done, NodeFault>
         requires place { peer + 1 < length (names_of (held_by self.old)) }
         requires few { IsShort (2 ^ 32) packet.now.message }
@@ -141,10 +148,12 @@ impl<T: GroupTable + Drop> Node<T> {
         }
     }
 
-    /// Takes a command that comes in at a port, as `NodeState::command` does: what the step sends stands framed in the
+    /// Takes a command that comes in at a port, as `NodeState::command` does: what the step sends is framed in the
     /// outboxes. `port`: its place among the ports.
     ///
-    /// Faults, which change nothing: those of `NodeState::command`; `OutOfMemory` may be told in the place of each.
+    /// Errors: those of `NodeState::command`; `OutOfMemory` may come in the place of each. They change nothing.
+    ///
+    /// Cost: that of the event, and of the frames that go out.
     pub fn command(&mut self, port: u16, command: &Command) -> Result<Done, NodeFault>
         requires place { port < ports_of (held_by self.old) }
         ensures event { ComesInRoom (names_of (held_by self.old))
@@ -172,9 +181,11 @@ impl<T: GroupTable + Drop> Node<T> {
         }
     }
 
-    /// Tries a command again that waits, as `NodeState::retry` does: what the step sends stands framed in the outboxes.
+    /// Tries a command again that waits, as `NodeState::retry` does: what the step sends is framed in the outboxes.
     ///
-    /// Faults, which change nothing: those of `NodeState::retry`; `OutOfMemory` may be told in the place of each.
+    /// Errors: those of `NodeState::retry`; `OutOfMemory` may come in the place of each. They change nothing.
+    ///
+    /// Cost: that of the event, and of the frames that go out.
     pub fn retry(&mut self, op: OpId) -> Result<Done, NodeFault>
         requires place { op.port < ports_of (held_by self.old) }
         ensures event { ComesInRoom (names_of (held_by self.old))
@@ -202,11 +213,13 @@ impl<T: GroupTable + Drop> Node<T> {
         }
     }
 
-    /// Sees the loss of a peer, as `NodeState::see_loss` does; what goes out to it is dropped. `peer`: its place among the
-    /// peers. `last`: its clock at last.
+    /// Sees the loss of a peer, as `NodeState::see_loss` does; what goes out to it is dropped. `peer`: its place
+    /// among the peers. `last`: its clock at last.
     ///
-    /// Faults, which change nothing, the first that holds: `Refused` by `NodeLost` where the loss was seen before, by
-    /// `NotDrained` where a whole frame of the peer is left (none is at a damaged link), and by `ClockFull`; `OutOfMemory`.
+    /// Errors: `Refused` by `NodeLost` where the loss was seen before, by `NotDrained` where a whole frame of the
+    /// peer is left (none is at a damaged link), and by `ClockFull`; `OutOfMemory`. They change nothing.
+    ///
+    /// Cost: that of `NodeState::see_loss`.
     pub fn see_loss(&mut self, peer: usize, last: u32) -> Result<Done, NodeFault>
         requires place { peer + 1 < length (names_of (held_by self.old)) }
         ensures event { Comes (names_of (held_by self.old))

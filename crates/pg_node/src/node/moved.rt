@@ -4,26 +4,30 @@ ghost use Rattle.std.specs.Prelude.{◌≡◌, ◌≤◌, ◌<◌, ◌+◌, ◌+
 
 use crate::node::Node;
 use crate::node::wire::Wire;
-use crate::state::{NodeFault, NodeState};
 use pg_group::GroupTable;
+use pg_node_state::{NodeFault, NodeState};
 use pg_ring::{Inlet, Link};
 use pg_step::Refusal;
 
 impl<T: GroupTable + Drop> Node<T> {
     ghost use Rattle.pg_step.specs.declared.refusal.Refusal.TheVariants.{NodeLost};
-    ghost use Rattle.pg_node.specs.declared.state.fault.NodeFault.TheVariants.{Refused, Damaged, OutOfMemory};
+    ghost use Rattle.pg_node_state.specs.declared.state.fault.NodeFault.TheVariants.{Refused, Damaged, OutOfMemory};
     ghost use Rattle.pg_node.specs.Links.{at_link, with_fed, without_front};
     ghost use Rattle.pg_node.specs.Nodes.{held_by, links_of, has_lost};
-    ghost use Rattle.pg_node.specs.States.{names_of};
+    ghost use Rattle.pg_node_state.specs.States.{names_of};
 
-    /// The node over packets. It takes no memory.
+    /// The node over packets.
+    ///
+    /// Cost: no memory.
     pub fn state(&self) -> &NodeState<T>
         ensures { result.now ≡ held_by self.now }
     {
         &self.state
     }
 
-    /// The bytes that go out to a peer and were not put. `peer`: its place among the peers. It takes no memory.
+    /// The bytes that go out to a peer and were not put. `peer`: its place among the peers.
+    ///
+    /// Cost: no memory.
     pub fn outbox(&self, peer: usize) -> &[u8]
         requires place { peer + 1 < length (names_of (held_by self.now)) }
         ensures { result.now ≡ (links_of self.now peer).outbox }
@@ -31,7 +35,9 @@ impl<T: GroupTable + Drop> Node<T> {
         self.wires[peer].outbox.as_slice()
     }
 
-    /// Whether the link to a peer is damaged: a fault of what came in was told. It takes no memory.
+    /// Whether the link to a peer is damaged: what came in had a fault.
+    ///
+    /// Cost: no memory.
     pub fn damaged(&self, peer: usize) -> bool
         requires place { peer + 1 < length (names_of (held_by self.now)) }
         ensures { result ≡ (links_of self.now peer).damaged }
@@ -39,8 +45,9 @@ impl<T: GroupTable + Drop> Node<T> {
         self.wires[peer].damaged
     }
 
-    /// Moves up to `max` bytes from the front of the outbox of a peer into a link, and returns how many it took. It takes no
-    /// memory. O(bytes moved).
+    /// Moves up to `max` bytes from the front of the outbox of a peer into a link, and returns how many it took.
+    ///
+    /// Cost: no memory; O(bytes moved).
     pub fn put<L: Link>(&mut self, peer: usize, link: &mut L, max: usize) -> usize
         requires place { peer + 1 < length (names_of (held_by self.old)) }
         ensures within { result ≤ max }
@@ -54,11 +61,13 @@ impl<T: GroupTable + Drop> Node<T> {
         wire.put(link, max)
     }
 
-    /// Adds what an inlet gives to the bytes that came in from a peer, and returns how many it gave: up to `max`, and up to
-    /// 65,536. O(bytes moved), and at times that of the bytes that were not taken yet.
+    /// Adds what an inlet gives to the bytes that came in from a peer, and returns how many it gave: up to `max`, and
+    /// up to 65,536.
     ///
-    /// Faults, by which nothing changes, the first that holds: `Refused` by `NodeLost`, exactly where the loss of the peer was seen;
-    /// `Damaged`, exactly where the link is damaged; else `OutOfMemory`.
+    /// Errors: `Refused` by `NodeLost`, exactly where the loss of the peer was seen; `Damaged`, exactly where the
+    /// link is damaged; else `OutOfMemory`. They change nothing.
+    ///
+    /// Cost: O(bytes moved), and at times that of the bytes that were not taken yet.
     pub fn pull<I: Inlet>(
         &mut self,
         peer: usize,
@@ -85,10 +94,11 @@ impl<T: GroupTable + Drop> Node<T> {
     }
 }
 
-ghost use Rattle.pg_node.specs.declared.state.fault.NodeFault.TheVariants as faults;
+ghost use Rattle.pg_node_state.specs.declared.state.fault.NodeFault.TheVariants as faults;
 ghost use Rattle.pg_node.specs.Links.{link_of, with_fed as link_fed};
 
-/// Adds what an inlet gives to what came in, up to `max` bytes and to the length of `piece`, where they stand on the way.
+/// Adds what an inlet gives to what came in, up to `max` bytes and to the length of `piece`, where they are on the
+/// way.
 fn pull_some<I: Inlet>(
     wire: &mut Wire,
     inlet: &mut I,

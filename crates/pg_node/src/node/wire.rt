@@ -3,18 +3,18 @@
 ghost use Rattle.std.specs.Prelude.{◌≡◌, ◌≤◌, ◌+◌, ◌++◌, ◌^◌, [], true, false, length, take, min, Err, IfOk, IfErr, IfSome, OnOk, OnErr};
 ghost use Rattle.pg_message.specs.declared.packet.TheConstants.{MAX_STAMP};
 ghost use Rattle.pg_message.specs.Writing.{is_exchange, is_sayable};
-ghost use Rattle.pg_node.specs.Links.{frame_of, IsSmallFrame};
+ghost use Rattle.pg_node_state.specs.Frames.{frame_of, IsSmallFrame};
 ghost use Rattle.pg_writer.specs.declared.size.TheConstants.{MAX_SMALL_LEN};
 ghost use Rattle.pg_node.specs.Bytes.{damages};
 
-use crate::state::NodeFault;
 use bytes::BytesMut;
 use pg_frame::Deframer;
 use pg_message::Packet;
+use pg_node_state::{NodeFault, write_small};
 use pg_reader::read_packet;
 use pg_ring::{Inlet, Link};
 use pg_step::Refusal;
-use pg_writer::{MAX_SMALL_LEN, write_packet_into};
+use pg_writer::MAX_SMALL_LEN;
 use std::alloc::{AllocError, Global};
 
 /// What came in from a peer and what goes out to it.
@@ -24,14 +24,15 @@ pub(crate) struct Wire {
     pub(crate) deframer: Deframer,
     // The bytes that go out and were not put.
     pub(crate) outbox: BytesMut,
-    // A fault was told of what came in.
+    // What came in had a fault.
     pub(crate) damaged: bool,
 }
 
 impl Wire {
     ghost use Rattle.pg_message.specs.Members.{IsShort};
-    ghost use Rattle.pg_node.specs.declared.state.fault.NodeFault.TheVariants.{Damaged, OutOfMemory};
-    ghost use Rattle.pg_node.specs.Links.{idle_link, link_of, frame_of, IsSmallFrame, with_more, with_fed, without_front, HasRoom};
+    ghost use Rattle.pg_node_state.specs.declared.state.fault.NodeFault.TheVariants.{Damaged, OutOfMemory};
+    ghost use Rattle.pg_node_state.specs.Frames.{frame_of, IsSmallFrame};
+    ghost use Rattle.pg_node.specs.Links.{idle_link, link_of, with_more, with_fed, without_front, HasRoom};
     ghost use Rattle.pg_node.specs.Bytes.{next_packet, Tells, marked, passed, closed, is_drained};
 
     /// A link where nothing came in and nothing goes out. It takes no memory yet.
@@ -47,7 +48,7 @@ impl Wire {
 
     /// Makes room for one small frame in the outbox.
     ///
-    /// Error: `AllocError`, by which nothing changes either.
+    /// Errors: `AllocError`, which changes nothing.
     pub(crate) fn reserve(&mut self) -> Result<(), AllocError>
         ensures same { link_of self.new ≡ link_of self.old }
         ensures room { OnOk result (HasRoom self.new) }
@@ -83,10 +84,10 @@ impl Wire {
         count
     }
 
-    /// Adds what an inlet gives to the bytes that came in, and returns how many it gave. `piece`: where they stand on the way;
-    /// no more is asked for than it holds.
+    /// Adds what an inlet gives to the bytes that came in, and returns how many it gave. `piece`: where they are on
+    /// the way; no more is asked for than it holds.
     ///
-    /// Faults, by which nothing changes: `Damaged`, exactly where a fault was told; else `OutOfMemory`.
+    /// Errors: `Damaged`, exactly where what came in had a fault; else `OutOfMemory`. They change nothing.
     pub(crate) fn pull<I: Inlet>(
         &mut self,
         inlet: &mut I,
@@ -113,7 +114,7 @@ impl Wire {
 
     /// The packet of the next whole frame, which stays. A fault of the frame or of its body damages the link.
     ///
-    /// Faults, the first that holds: `Damaged`; `TooLong`; `Message`. `OutOfMemory` may be told in the place of a `Message`.
+    /// Errors: `Damaged`; `TooLong`; `Message`. `OutOfMemory` may come in the place of a `Message`.
     pub(crate) fn next(&mut self, alloc: Global) -> Result<Option<Packet>, NodeFault>
         ensures told { Tells (next_packet (link_of self.old)) result }
         ensures few { IfOk result (λ some. IfSome some (λ packet. IsShort (2 ^ 32) packet.message)) }
@@ -170,24 +171,12 @@ impl Wire {
         self.outbox.clear();
     }
 
-    /// Whether nothing is left to be taken: a fault was told, or no whole frame is there. It takes no memory.
+    /// Whether nothing is left to be taken: what came in had a fault, or no whole frame is there. It takes no memory.
     pub(crate) fn is_drained(&self) -> bool
         ensures { result ≡ is_drained (link_of self.now) }
     {
         self.damaged || !matches!(self.deframer.front(), Ok(Some(_)))
     }
-}
-
-/// Appends a small packet as one frame, where there is room. It takes no memory.
-pub(crate) fn write_small(packet: &Packet, out: &mut BytesMut)
-    requires named { is_sayable packet.now.message ≡ true }
-    requires stamp { packet.now.stamp ≤ MAX_STAMP }
-    requires small { is_exchange packet.now.message ≡ false }
-    requires room { 4 + MAX_SMALL_LEN ≤ out.old.spare }
-    ensures items { out.new.items ≡ out.old.items ++ frame_of packet.now }
-    ensures small { IsSmallFrame packet.now }
-{
-    write_packet_into(packet, out).unwrap();
 }
 
 // Whether a fault of what came in damages the link.

@@ -1,7 +1,9 @@
 //! The links of a node to all its peers.
 
 ghost use Rattle.std.specs.Prelude.{◌≡◌, ℕ, length, OnOk};
-ghost use Rattle.pg_node.specs.Links.{links_in, frames_to, with_more, HaveRoom, FitLinks, AreSmallFrames};
+ghost use Rattle.pg_node_state.specs.Frames.{frames_to, AreSmallFrames};
+ghost use Rattle.pg_node_state.specs.Sendable.{FitLinks};
+ghost use Rattle.pg_node.specs.Links.{links_in, with_more, HaveRoom};
 
 use crate::node::wire::Wire;
 use pg_message::Packet;
@@ -9,7 +11,7 @@ use std::alloc::AllocError;
 
 /// Makes room for one small frame in every outbox.
 ///
-/// Error: `AllocError`, by which nothing changes either.
+/// Errors: `AllocError`, which changes nothing.
 pub(crate) fn make_room(wires: &mut Vec<Wire>) -> Result<(), AllocError>
     ensures same { links_in wires.new.items ≡ links_in wires.old.items }
     ensures len { length wires.new.items ≡ length wires.old.items }

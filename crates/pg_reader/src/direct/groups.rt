@@ -1,4 +1,4 @@
-//! The groups that an exchange tells, read straight off their bytes: no list of terms is built.
+//! The groups that an exchange announces, read straight off their bytes: no list of terms is built.
 
 ghost use Rattle.std.specs.Prelude.{◌≡◌, ◌<◌, ◌≤◌, ◌∷◌, ◌++◌, ℕ, suc, List, true, map, length, drop, IfOk, IfSome, Ok};
 ghost use Rattle.std.specs.List.{list_all};
@@ -17,7 +17,7 @@ use pg_shape::pid_head;
 use pg_term::{Items, Pid, Term};
 use std::alloc::{AllocError, Global};
 
-/// How many levels the name of a group may nest: it stands in two lists and three tuples.
+/// How many levels the name of a group may nest: it is within two lists and three tuples.
 const GROUP_NAME_LEVELS: u8 = 59;
 
 /// How many bytes a group takes at least: the head of its list, a name, an empty list of members, and the list's end.
@@ -26,7 +26,7 @@ const LEAST_GROUP: usize = 8;
 /// How many bytes a pid takes at least: its tag, an empty atom, two words and a creation.
 const LEAST_PID: usize = 15;
 
-/// The groups that a list tells, none of them named twice, and what follows.
+/// The groups that a list spells, none of them named twice, and what follows.
 pub(crate) fn groups_at(
     alloc: Global,
     bytes: &[u8],
@@ -66,7 +66,7 @@ fn past_told<'a>(
 }
 
 /// How many elements a list has, each of which takes so many bytes at least, and what follows its head. No more than
-/// may stand in these bytes.
+/// may be in these bytes.
 fn count_at(bytes: &[u8], least: usize) -> Result<(u32, &[u8]), Detour>
     requires some { 0 < least }
     ensures { IfOk result (λ x. Counts x.0 bytes.now x.1.now) }
@@ -118,7 +118,7 @@ fn group_at(alloc: Global, bytes: &[u8]) -> Result<((Term, Items<Pid>), &[u8]), 
     }
 }
 
-/// A list of pids, and what follows the end of a list behind it.
+/// A list of pids, and what follows the end of a list after it.
 fn last_members_at(alloc: Global, bytes: &[u8]) -> Result<(Items<Pid>, &[u8]), Detour>
     ensures { IfOk result (λ x. (end : List ℕ)
         × Stands 58 (Listed (map terms.Pid x.0)) bytes.now end × (end ≡ 106 ∷ x.1.now)) }
@@ -170,7 +170,7 @@ fn all_pids_at(alloc: Global, count: u32, bytes: &[u8]) -> Result<(Vec<Pid>, &[u
     Ok((pids, rest))
 }
 
-/// Of so many pids those that begin as the last one, which stands in front of them; how many are left, and what follows.
+/// Of so many pids those that begin as the last one, which is in front of them; how many are left, and what follows.
 /// Only their numbers are read: the node is copied.
 fn alike_at<'a>(
     pids: &mut Vec<Pid>,

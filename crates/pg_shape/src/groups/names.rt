@@ -1,4 +1,4 @@
-//! The names of the groups that an exchange tells: whether each is one, and whether one stands twice.
+//! The names of the groups that an exchange announces: whether each is one, and whether one is there twice.
 
 ghost use Rattle.std.specs.Prelude.{◌≡◌, ◌<◌, ◌≤◌, ℕ, List, [], length, true, false, Ok, Some, None, IfOk, IfSome, MatchOption};
 ghost use Rattle.pg_term.specs.declared.term.Term.{Term};
@@ -47,7 +47,7 @@ impl<'a> Name<'a> {
                 _ => false,
             },
             (Name::Built(name), Name::Built(other)) => name.cmp(other) == Ordering::Less,
-            // Integers alone stand below atoms.
+            // Integers alone are below atoms.
             (Name::Atom(_), Name::Built(other)) => !matches!(other, Term::Int(_)),
             (Name::Built(name), Name::Atom(_)) => matches!(name, Term::Int(_)),
         }

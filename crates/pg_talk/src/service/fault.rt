@@ -27,6 +27,8 @@ impl ServiceFault {
     ghost use Rattle.pg_talk.specs.Services.{service_number_of};
 
     /// The number of the fault in this project's one list of faults.
+    ///
+    /// Cost: no memory.
     pub fn number(self) -> u8
         ensures { result ≡ service_number_of self }
     {

@@ -17,9 +17,11 @@ const RING: usize = 65_536;
 
 /// The configuration of nodes with these names, each with so many ports, and rings of 65,536 bytes. `members`: what they know as they
 /// start, by the text of one term, a list of `{Node, Made, [{Name, [Pid, ..]}, ..]}`. A node that does not come there made no process and
-/// knows no group, and of none is something told twice.
+/// knows no group, and none comes twice.
 ///
-/// Faults: `BadText` exactly where it is no such text; else `OutOfMemory`.
+/// Errors: `BadText`, only where it is no such text. `OutOfMemory`, where memory runs out before that is known.
+///
+/// Cost: the configuration, and the term of the text while it is read.
 pub fn config_of(
     alloc: Global,
     names: &[Atom],

@@ -1,52 +1,60 @@
 //! Where what the thread that reads gives comes in.
 
 use crate::service::fault::ServiceFault;
-use crate::service::reading::Reading;
+use crate::service::reading::{ReadOf, Reading, read_all};
 use pg_cluster::StartFault;
 use pg_frame::Deframer;
 use pg_node::Source;
 use pg_requests::{Input, Layout};
-use pg_ring::{SlotIn, slot_pair};
+use pg_ring::{SlotIn, slot_pair, slots_together};
 use std::alloc::Global;
+use std::snapshot::Snapshot;
 use std::sync::Arc;
 use std::sync::atomic::{AtomicBool, Ordering};
 use std::thread;
-use std::thread::{JoinHandle, Threads};
+use std::thread::{PromisedHandle, Threads};
 
 /// How many inputs are between the thread that reads and the one that writes at most.
 const INPUT_PLACES: usize = 1024;
 
 /// The thread that reads, and where what it gives comes in.
 #[derive(Drop)]
-pub(crate) struct Reader {
+pub(crate) struct Reader<S: Source + Drop> {
     /// Where it comes in.
     pub inlet: SlotIn<Input>,
-    thread: JoinHandle<()>,
+    thread: PromisedHandle<Reading<S>, ReadOf<S>>,
     is_over: Arc<AtomicBool, Global>,
 }
 
-impl Reader {
-    ghost use Rattle.std.specs.Prelude.{◌≡◌, [], IfOk};
+impl<S: Source + Send + Drop + 'static> Reader<S> {
+    ghost use Rattle.std.specs.Prelude.{◌≡◌, ◌++◌, [], ℕ, List, Option, IfOk};
     ghost use Rattle.pg_ring.specs.Slots.{taken};
+    ghost use Rattle.pg_requests.specs.declared.input.Input.{Input as InputValue};
+    ghost use Rattle.pg_requests.specs.declared.layout.NodePorts.{NodePorts};
+    ghost use Rattle.pg_talk.specs.Readers.{IsPaired, Reads};
+    ghost use Rattle.pg_talk.specs.Readings.{AreRead};
+    ghost use Rattle.pg_talk.specs.ReadingThread.{EndsAt};
 
     /// Starts a thread that reads requests to the ports of a layout from a source. `requests`: after how many the input counts as ended.
     ///
     /// Faults: `Start` of `NoThread`; `OutOfMemory`.
-    pub(crate) fn start<R: Threads, S: Source + Send + Drop + 'static>(
+    pub(crate) fn start<R: Threads>(
         rt: &R,
         alloc: Global,
         source: S,
         layout: Layout,
         requests: u64,
-    ) -> Result<Reader, ServiceFault>
-        ensures { IfOk result (λ reader. taken reader.inlet ≡ []) }
+    ) -> Result<Reader<S>, ServiceFault>
+        ensures taken { IfOk result (λ reader. taken reader.inlet ≡ []) }
+        ensures paired { IfOk result IsPaired }
+        ensures reads { IfOk result (Reads S.remaining layout.nodes.items requests (S.remaining source)) }
     {
         let is_over = Arc::new(alloc, AtomicBool::new(false))?;
         let told = Arc::try_clone(&is_over)?;
         let Ok((out, inlet)) = slot_pair(alloc, INPUT_PLACES) else {
             return Err(ServiceFault::OutOfMemory);
         };
-        let mut reading = Reading {
+        let reading = Reading {
             source,
             layout,
             out,
@@ -55,7 +63,16 @@ impl Reader {
             deframer: Deframer::new(alloc),
             alloc,
         };
-        match thread::spawn(rt, move || reading.run()) {
+        let promise = ReadOf {
+            reading: Snapshot::of(&reading),
+        };
+        match thread::spawn_with(
+            rt,
+            promise,
+            move || -> Reading<S>
+                ensures { EndsAt S.remaining S.fails reading result }
+            { read_all(reading) },
+        ) {
             Ok(thread) => Ok(Reader {
                 inlet,
                 thread,
@@ -65,15 +82,22 @@ impl Reader {
         }
     }
 
-    /// The input is over: the thread is joined. It may wait for it.
-    pub(crate) fn join<R: Threads>(self, rt: &R) {
+    /// The input is over: the thread is joined. What came in is the first of what it read. It may wait for it.
+    pub(crate) fn join<R: Threads>(self, rt: &R)
+        requires { IsPaired self }
+        ensures { (nodes : List NodePorts) (wanted : ℕ) (source : Option (List ℕ)) → Reads S.remaining nodes wanted source self
+            → (further : List InputValue) × AreRead S.remaining S.fails nodes wanted source (taken self.inlet ++ further) }
+    {
         let Reader {
             inlet,
             thread,
             is_over,
         } = self;
-        thread.join(rt);
+        let mut inlet = inlet;
+        let mut read = thread.join(rt);
+        slots_together(&mut read.out, &mut inlet);
         drop(inlet);
+        drop(read);
         drop(is_over);
     }
 

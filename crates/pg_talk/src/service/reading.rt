@@ -1,15 +1,20 @@
 //! The thread that reads the input.
 
+ghost use Rattle.std.specs.Prelude.{◌≡◌};
+ghost use Rattle.pg_talk.specs.ReadingThread.{EndsAt as ReadsToItsEnd, IsAsked, breaks as is_broken};
+
 use pg_faults::{OUT_OF_MEMORY, READ_FAULT, TRUNCATED};
 use pg_frame::Deframer;
 use pg_node::Source;
 use pg_requests::{Input, Layout, read_request};
 use pg_ring::SlotOut;
 use pg_term_io::decode;
-use std::alloc::Global;
+use std::alloc::{AllocError, Global};
+use std::snapshot::Snapshot;
 use std::sync::Arc;
 use std::sync::atomic::{AtomicBool, Ordering};
 use std::thread;
+use std::thread::Promise;
 
 /// How many bytes one read asks for.
 const PIECE_LEN: usize = 65_536;
@@ -28,19 +33,83 @@ pub(crate) struct Reading<S: Drop> {
     pub alloc: Global,
 }
 
+/// What the thread promises: that it read its source to the end, and gave on what it read.
+#[derive(Drop)]
+pub(crate) struct ReadOf<S: Drop> {
+    pub reading: Snapshot<Reading<S>>,
+}
+
+impl<S: Source + Drop> Promise<Reading<S>> for ReadOf<S> {
+    ghost use Rattle.pg_talk.specs.ReadingThread.{EndsAt};
+
+    ghost kept_by = { λ p r. EndsAt S.remaining S.fails p.reading.value r };
+}
+
+/// Reads the input to its end, and gives on what comes in.
+pub(crate) fn read_all<S: Source + Drop>(reading: Reading<S>) -> Reading<S>
+    ensures { ReadsToItsEnd S.remaining S.fails reading result }
+{
+    let mut reading = reading;
+    reading.run();
+    reading
+}
+
 impl<S: Source + Drop> Reading<S> {
+    ghost use Rattle.std.specs.Prelude.{◌≡◌, ◌≢◌, ◌⊎◌, ◌<◌, ◌∷◌, ◌++◌, ◌-◌, [], false, None, Ok, IsTrue, IfSome, IfNone, length};
+    ghost use Rattle.std.specs.Io.KnownBytes.{IsAtEnd};
+    ghost use Rattle.pg_frame.specs.Frames.{front_of};
+    ghost use Rattle.pg_ring.specs.Slots.{SameSlotOut, given};
+    ghost use Rattle.pg_talk.specs.Readings.{asks};
+    ghost use Rattle.pg_talk.specs.ReadingThread.{EndsAt, GoesOn, IsWaiting, TakesFront};
+
     /// Reads the input to its end, and gives on what comes in.
-    pub(crate) fn run(&mut self) {
+    fn run(&mut self)
+        ensures { EndsAt S.remaining S.fails self.old self.new }
+    {
         let mut piece = [0; PIECE_LEN];
         for _ in 0..u64::MAX {
+            if !self.give_all() {
+                return;
+            }
             if !self.read(&mut piece) {
                 return;
             }
         }
     }
 
-    /// Reads a piece of the input, and gives on what is whole; whether more is to be read.
-    fn read(&mut self, piece: &mut [u8]) -> bool {
+    /// Gives on what each whole frame asks for; whether more is to be read.
+    fn give_all(&mut self) -> bool
+        ensures on { IsTrue result → GoesOn S.remaining S.fails self.old self.new }
+        ensures waits { IsTrue result → IsWaiting self.new.requests self.new.deframer.unread }
+        ensures end { result ≡ false → EndsAt S.remaining S.fails self.old self.new }
+    {
+        for _ in 0..u64::MAX {
+            if self.requests == 0 {
+                return true;
+            }
+            let Some(input) = self.front() else {
+                return true;
+            };
+            let is_last = breaks(&input);
+            self.count(&input);
+            if !self.give(input) {
+                return false;
+            }
+            if is_last {
+                return false;
+            }
+        }
+        false
+    }
+
+    /// Reads a piece of the input; whether more is to be read. No whole frame is there.
+    fn read(&mut self, piece: &mut [u8]) -> bool
+        requires piece { 0 < length piece.old }
+        requires waits { IsWaiting self.old.requests self.old.deframer.unread }
+        ensures on { IsTrue result → GoesOn S.remaining S.fails self.old self.new }
+        ensures end { result ≡ false → EndsAt S.remaining S.fails self.old self.new }
+        ensures len { length piece.new ≡ length piece.old }
+    {
         if self.requests == 0 {
             return self.end(Input::End);
         }
@@ -51,14 +120,20 @@ impl<S: Source + Drop> Reading<S> {
         if count == 0 {
             return self.end_of_input();
         }
-        if self.deframer.feed(&piece[..count]).is_err() {
-            return self.end(Input::Broken(OUT_OF_MEMORY));
+        match self.deframer.feed(&piece[..count]) {
+            Ok(()) => true,
+            Err(AllocError) => self.end(Input::Broken(OUT_OF_MEMORY)),
         }
-        self.give_all()
     }
 
     /// Gives on that the input is over, or broken where a frame is cut.
-    fn end_of_input(&mut self) -> bool {
+    fn end_of_input(&mut self) -> bool
+        requires source { IsAtEnd (S.remaining self.old.source) }
+        requires none { front_of self.old.deframer.unread ≡ Ok None }
+        requires wanted { self.old.requests ≢ 0 }
+        ensures value { result ≡ false }
+        ensures end { EndsAt S.remaining S.fails self.old self.new }
+    {
         if self.deframer.rest_len() == 0 {
             self.end(Input::End)
         } else {
@@ -67,44 +142,47 @@ impl<S: Source + Drop> Reading<S> {
     }
 
     /// Gives on what ends the input.
-    fn end(&mut self, input: Input) -> bool {
+    fn end(&mut self, input: Input) -> bool
+        ensures value { result ≡ false }
+        ensures same { SameSlotOut self.old.out self.new.out }
+        ensures gave { (given self.new.out ≡ given self.old.out ++ input ∷ []) ⊎ (given self.new.out ≡ given self.old.out) }
+    {
         self.give(input);
         false
     }
 
-    /// Gives on what each whole frame asks for; whether more is to be read.
-    fn give_all(&mut self) -> bool {
-        for _ in 0..u64::MAX {
-            if self.requests == 0 {
-                return true;
-            }
-            let Some(input) = self.front() else {
-                return true;
-            };
-            let is_last = matches!(input, Input::Broken(_));
-            if matches!(input, Input::Ask { .. }) {
-                self.requests = self.requests.saturating_sub(1);
-            }
-            if !self.give(input) || is_last {
-                return false;
-            }
-        }
-        false
-    }
-
-    /// What the next frame asks for, if it is whole.
-    fn front(&mut self) -> Option<Input> {
+    /// What the next frame asks for, if it is whole. The frame is taken out, unless it is too long.
+    fn front(&mut self) -> Option<Input>
+        ensures some { IfSome result (λ input. TakesFront self.old.layout.nodes.items self.old.deframer.unread self.new.deframer.unread input) }
+        ensures none { IfNone result (front_of self.old.deframer.unread ≡ Ok None) }
+        ensures stays { IfNone result (self.new ≡ self.old) }
+        ensures rest { self.new ≡ record self.old { deframer = self.new.deframer } }
+    {
         let input = match self.deframer.front() {
             Ok(Some(body)) => input_of(self.alloc, body, &self.layout),
             Ok(None) => return None,
-            Err(fault) => Input::Broken(fault.number()),
+            Err(fault) => return Some(Input::Broken(fault.number())),
         };
         let _ = self.deframer.next();
         Some(input)
     }
 
+    /// One request fewer is wanted, if the input is one.
+    fn count(&mut self, input: &Input)
+        ensures { self.new ≡ record self.old { requests = self.old.requests - asks input.now } }
+    {
+        if let Input::Ask { .. } = input {
+            self.requests = self.requests.saturating_sub(1);
+        }
+    }
+
     /// Gives on one input, once there is a place; whether it did.
-    fn give(&mut self, input: Input) -> bool {
+    fn give(&mut self, input: Input) -> bool
+        ensures same { SameSlotOut self.old.out self.new.out }
+        ensures ok { IsTrue result → given self.new.out ≡ given self.old.out ++ input ∷ [] }
+        ensures err { result ≡ false → given self.new.out ≡ given self.old.out }
+        ensures rest { self.new ≡ record self.old { out = self.new.out } }
+    {
         let mut kept = input;
         for _ in 0..u64::MAX {
             match self.out.give(kept) {
@@ -121,8 +199,17 @@ impl<S: Source + Drop> Reading<S> {
     }
 }
 
+/// Whether an input is the last, since it is broken.
+fn breaks(input: &Input) -> bool
+    ensures { result ≡ is_broken input.now }
+{
+    matches!(input, Input::Broken(_))
+}
+
 /// What a body asks for, or why it is no term.
-fn input_of(alloc: Global, body: &[u8], layout: &Layout) -> Input {
+fn input_of(alloc: Global, body: &[u8], layout: &Layout) -> Input
+    ensures { IsAsked layout.now.nodes.items body.now result }
+{
     match decode(alloc, body) {
         Ok(term) => read_request(term, layout),
         Err(fault) => Input::Broken(fault.number()),

@@ -5,6 +5,8 @@ ghost use Rattle.std.specs.List.{All};
 ghost use Rattle.pg_ring.specs.Slots.{taken};
 ghost use Rattle.pg_step.specs.Config.{Config as Starts};
 ghost use Rattle.pg_talk.specs.Written.{ports_in};
+ghost use Rattle.pg_requests.specs.Layouts.{placed};
+ghost use Rattle.pg_talk.specs.Readers.{IsPaired, Reads};
 ghost use Rattle.pg_talk.specs.Services.{WasServed};
 ghost use Rattle.pg_talk.specs.Servings.{IsNew, Serves, known_lost, names_of, ports_of, view_of};
 
@@ -32,12 +34,19 @@ pub struct Served {
 /// Starts the cluster of a service, reads requests from `source`, and writes the replies to `writer`, until the input is over and each
 /// request was replied to. Then the cluster is closed and judged. It may wait for threads.
 ///
-/// A request of a port is handed over once the one before it there was replied to. Each has one reply in a frame, in their order and
-/// numbered from 1: what the node answered, or, once it is lost, that it is. Losses and bodies that ask for nothing are told, and nothing
-/// else is written (`AllServed`). What was written is passed on whenever no further reply is at hand.
+/// Each body that the source holds is one input, in its order, up to its end, the first broken frame or term, or the last request that
+/// `Service` allows; none is left out (`AreRead`). Where a read fails, or memory for reading runs out, the input ends with that fault.
 ///
-/// Faults: `Start`, where no cluster was started, or no thread that reads; `WriteFault`, where a write or a flush fails, also while more
-/// could be read; `OutOfMemory`.
+/// A request of a port is handed over once the one before it there was replied to. Each has one reply in a frame, in their order and
+/// numbered from 1: what the node answered, or, once it is lost, that it is. A loss and a body that asks for nothing have a notice each,
+/// and nothing else is written (`AllServed`). What was written is passed on whenever no further reply is at hand.
+///
+/// Errors: first `Start`, where no cluster was started, or no thread that reads. Then `WriteFault`, where a write or a flush fails, also
+/// while more could be read. `OutOfMemory`, where memory runs out before or after one of these. No node runs after an error, and the
+/// reading thread ends after the read that it is in. Some of what was due may be written then.
+///
+/// Cost: the logs of all nodes, which grow with each event until the end, and 64 KB for each ring between two nodes. At most 1,024 requests
+/// wait at a port, and 1,024 inputs before all ports. A thread for each node, and one that reads.
 pub fn serve_cluster<R: Threads, S: Source + Send + Drop + 'static, W: Sink>(
     rt: &R,
     alloc: Global,
@@ -45,7 +54,7 @@ pub fn serve_cluster<R: Threads, S: Source + Send + Drop + 'static, W: Sink>(
     source: S,
     writer: &mut W,
 ) -> Result<Served, ServiceFault>
-    ensures { IfOk result (WasServed service.config.starts.items (W.contents writer.old) (W.contents writer.new)) }
+    ensures { IfOk result (WasServed S.remaining S.fails service.config.starts.items service.requests (S.remaining source) (W.contents writer.old) (W.contents writer.new)) }
 {
     let Service {
         config,
@@ -85,8 +94,8 @@ fn serve_by<R: Threads, S: Source + Send + Drop + 'static, W: Sink>(
     writer: &mut W,
 ) -> Result<Served, ServiceFault>
     requires { serving.kept ≡ None }
-    ensures { IfOk result (λ served. (given : Starts) → Serves given (W.contents writer.old) [] (view_of serving) (W.contents writer.old)
-        → WasServed given (W.contents writer.old) (W.contents writer.new) served) }
+    ensures { IfOk result (λ served. (given : Starts) → layout.nodes.items ≡ placed 0 given → Serves given (W.contents writer.old) [] (view_of serving) (W.contents writer.old)
+        → WasServed S.remaining S.fails given requests (S.remaining source) (W.contents writer.old) (W.contents writer.new) served) }
 {
     match Reader::start(rt, alloc, source, layout, requests) {
         Ok(reader) => serve_all(rt, alloc, serving, reader, writer),
@@ -101,6 +110,7 @@ fn serve_by<R: Threads, S: Source + Send + Drop + 'static, W: Sink>(
 ///
 /// Error: `AllocError`.
 fn rooms_of(alloc: Global, starts: &[Start]) -> Result<(Layout, Desks), AllocError>
+    ensures layout { IfOk result (λ rooms. rooms.0.nodes.items ≡ placed 0 starts.now) }
     ensures ports { IfOk result (λ rooms. ports_of rooms.1.desks.items ≡ ports_in 0 starts.now) }
     ensures new { IfOk result (λ rooms. All IsNew rooms.1.desks.items) }
     ensures names { IfOk result (λ rooms. names_of rooms.1.nodes.items ≡ map (λ start. start.name) starts.now) }
@@ -112,17 +122,19 @@ fn rooms_of(alloc: Global, starts: &[Start]) -> Result<(Layout, Desks), AllocErr
 }
 
 /// Serves until the input is over and each request was replied to, and closes and judges the cluster.
-fn serve_all<R: Threads, W: Sink>(
+fn serve_all<R: Threads, S: Source + Send + Drop + 'static, W: Sink>(
     rt: &R,
     alloc: Global,
     serving: Serving,
-    reader: Reader,
+    reader: Reader<S>,
     writer: &mut W,
 ) -> Result<Served, ServiceFault>
     requires kept { serving.kept ≡ None }
     requires came { taken reader.inlet ≡ [] }
-    ensures { IfOk result (λ served. (given : Starts) → Serves given (W.contents writer.old) [] (view_of serving) (W.contents writer.old)
-        → WasServed given (W.contents writer.old) (W.contents writer.new) served) }
+    requires paired { IsPaired reader }
+    ensures { IfOk result (λ served. (given : Starts) (wanted : ℕ) (source : Option (List ℕ)) → Reads S.remaining (placed 0 given) wanted source reader
+        → Serves given (W.contents writer.old) [] (view_of serving) (W.contents writer.old)
+        → WasServed S.remaining S.fails given wanted source (W.contents writer.old) (W.contents writer.new) served) }
 {
     let mut serving = serving;
     let mut reader = reader;

@@ -111,7 +111,7 @@ impl Serving {
     ghost use Rattle.std.specs.Prelude.{◌≡◌, ◌<◌, ◌∷◌, true, false, Option, ℕ, None, Some, IsTrue, IfOk, OnOk, length};
     ghost use Rattle.pg_requests.specs.declared.input.Input.TheVariants.{Ask, Lose};
     ghost use Rattle.pg_cluster.specs.Running.{clients_in};
-    ghost use Rattle.pg_ring.specs.Slots.{taken};
+    ghost use Rattle.pg_ring.specs.Slots.{SameSlotIn, taken};
     ghost use Rattle.pg_talk.specs.Servings.{Advances, Comes, Goes, IsOver, LosesNode, RepliesLost, RepliesNext, Rests, Takes, TellsBad, asked_at, desks_of, is_known_lost, kept_in, lost_at, nodes_of, running_of, view_of};
 
     /// One to which nothing came. It takes no memory.
@@ -163,12 +163,14 @@ impl Serving {
     /// Serves until the input is over and each request was replied to. It may wait for threads.
     ///
     /// Faults: `WriteFault`, where a write or a flush fails; `OutOfMemory`, also after 2^64 turns, which none makes.
+    #[tactic(auto, using(crate::proofs::Turns::inlet_on, crate::proofs::Turns::inlet_itself))]
     pub(crate) fn run<R: Threads, W: Sink>(
         &mut self,
         rt: &R,
         inlet: &mut SlotIn<Input>,
         writer: &mut W,
     ) -> Result<(), ServiceFault>
+        ensures same { SameSlotIn inlet.old inlet.new }
         ensures advances { OnOk result (Advances self.old self.new (taken inlet.old) (taken inlet.new) (W.contents writer.old) (W.contents writer.new)) }
         ensures over { OnOk result (IsOver self.new) }
     {
@@ -181,12 +183,14 @@ impl Serving {
     }
 
     /// Takes in what came, and looks at each client; whether the input is over and each request was replied to.
+    #[tactic(auto, using(crate::proofs::Turns::inlet_on, crate::proofs::Turns::inlet_itself))]
     fn turn<R: Threads, W: Sink>(
         &mut self,
         rt: &R,
         inlet: &mut SlotIn<Input>,
         writer: &mut W,
     ) -> Result<bool, ServiceFault>
+        ensures same { SameSlotIn inlet.old inlet.new }
         ensures advances { OnOk result (Advances self.old self.new (taken inlet.old) (taken inlet.new) (W.contents writer.old) (W.contents writer.new)) }
         ensures over { IfOk result (λ over. IsTrue over → IsOver self.new) }
     {
@@ -211,13 +215,15 @@ impl Serving {
     }
 
     /// Takes in what came; whether something did.
+    #[tactic(auto, using(crate::proofs::Turns::inlet_on, crate::proofs::Turns::inlet_itself))]
     fn take_inputs<R: Threads, W: Sink>(
         &mut self,
         rt: &R,
         inlet: &mut SlotIn<Input>,
         writer: &mut W,
     ) -> Result<bool, ServiceFault>
-        ensures { OnOk result (Advances self.old self.new (taken inlet.old) (taken inlet.new) (W.contents writer.old) (W.contents writer.new)) }
+        ensures same { SameSlotIn inlet.old inlet.new }
+        ensures advances { OnOk result (Advances self.old self.new (taken inlet.old) (taken inlet.new) (W.contents writer.old) (W.contents writer.new)) }
     {
         for count in 0..INPUTS_AT_ONCE {
             let Some(input) = self.next_input(inlet) else {
@@ -233,9 +239,11 @@ impl Serving {
     }
 
     /// The input that was kept, or else the next one, if it is there. None is kept then.
+    #[tactic(auto, using(crate::proofs::Turns::inlet_on, crate::proofs::Turns::inlet_itself))]
     fn next_input(&mut self, inlet: &mut SlotIn<Input>) -> Option<Input>
         ensures view { view_of self.new ≡ view_of self.old }
         ensures kept { self.new.kept ≡ None }
+        ensures same { SameSlotIn inlet.old inlet.new }
         ensures came { Comes (taken inlet.old) (kept_in self.old.kept) (taken inlet.new) (kept_in result) }
     {
         match self.kept.take() {

@@ -43,7 +43,7 @@ fn atom_in(alloc: Global, encoding: Encoding, text: &[u8]) -> Result<Atom, TermF
     }
 }
 
-/// An atom, behind its tag.
+/// An atom, after its tag.
 #[tactic(auto, unfolding(crate::specs::Reading::atom_behind, crate::specs::Reading::named_at))]
 pub(crate) fn atom_behind(
     alloc: Global,

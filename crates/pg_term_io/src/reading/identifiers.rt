@@ -1,4 +1,4 @@
-//! Pids and references, behind their tags.
+//! Pids and references, after their tags.
 
 ghost use Rattle.std.specs.Prelude.{◌≡◌, ◌<◌};
 ghost use Rattle.std.specs.Int.{w32};
@@ -11,7 +11,7 @@ use crate::tag::Creation;
 use pg_term::{Atom, Pid, Reference, TermFault};
 use std::alloc::Global;
 
-/// A pid, behind its tag.
+/// A pid, after its tag.
 #[inline]
 #[tactic(auto, unfolding(crate::specs::Reading::pid_at))]
 pub(crate) fn pid_at(
@@ -34,9 +34,11 @@ pub(crate) fn pid_at(
     Ok((pid, rest))
 }
 
-/// The pid whose tag, NEW_PID_EXT, stands before the bytes, as a part of what `decode` reads, and the bytes behind it.
+/// The pid whose tag, NEW_PID_EXT, is before the bytes, as a part of what `decode` reads, and the bytes after it.
 ///
-/// Faults as `decode` says of what stands behind the tag.
+/// Errors: those of what follows the tag, as `decode` has them.
+///
+/// Cost: memory for the name of its node.
 pub fn decode_pid(alloc: Global, bytes: &[u8]) -> Result<(Pid, &[u8]), TermFault>
     ensures { Gives (λ x. (x.0, x.1.now)) result (pid_at w32 bytes.now) }
 {
@@ -54,7 +56,7 @@ pub(crate) fn old_reference_at(alloc: Global, bytes: &[u8]) -> Result<(Reference
     Ok((Reference::new(node, u32::from(creation), &[word])?, rest))
 }
 
-/// A reference that says how many words it has, behind its tag.
+/// A reference that says how many words it has, after its tag.
 #[inline]
 #[tactic(auto, unfolding(crate::specs::Reading::new_reference_at))]
 pub(crate) fn reference_at(
@@ -74,10 +76,12 @@ pub(crate) fn reference_at(
     reference_words(node, creation, count, rest)
 }
 
-/// The reference whose tag, NEWER_REFERENCE_EXT, stands before the bytes, as a part of what `decode` reads, and the bytes
-/// behind it.
+/// The reference whose tag, NEWER_REFERENCE_EXT, is before the bytes, as a part of what `decode` reads, and the bytes
+/// after it.
 ///
-/// Faults as `decode` says of what stands behind the tag.
+/// Errors: those of what follows the tag, as `decode` has them.
+///
+/// Cost: memory for the name of its node.
 pub fn decode_reference(alloc: Global, bytes: &[u8]) -> Result<(Reference, &[u8]), TermFault>
     ensures { Gives (λ x. (x.0, x.1.now)) result (new_reference_at w32 bytes.now) }
 {

@@ -1,5 +1,5 @@
-//! Items, and the lists that stand as tails. `room` is how many more levels of terms may nest, and `due` how many items are
-//! still to come behind what is read, each of which takes a byte at least.
+//! Items, and the lists that are tails. `room` is how many more levels of terms may nest, and `due` how many items
+//! are still to come after what is read, each of which takes a byte at least.
 
 ghost use Rattle.std.specs.Prelude.{◌≡◌, ◌++◌, ◌∷◌, [], map, OnOk};
 ghost use Rattle.std.specs.Int.{w32, cast_signed};
@@ -26,7 +26,7 @@ fn int_at(bytes: &[u8]) -> Result<(Term, &[u8]), TermFault>
     Ok((Term::Int(i64::from(n.cast_signed())), rest))
 }
 
-/// The bytes behind the tag of a STRING, at the end of the terms.
+/// The bytes after the tag of a STRING, at the end of the terms.
 #[tactic(auto, unfolding(crate::specs::Reading::string_at))]
 fn string_at<'a>(room: u8, terms: &mut Vec<Term>, bytes: &'a [u8]) -> Result<&'a [u8], TermFault>
     ensures { Gives (λ rest. (terms.new.items, rest.now)) result
@@ -68,7 +68,7 @@ fn small(number: u8) -> Term
     Term::Int(i64::from(number))
 }
 
-/// The bytes of a binary, behind its tag.
+/// The bytes of a binary, after its tag.
 #[tactic(auto, unfolding(crate::specs::Reading::binary_at))]
 fn binary_at(alloc: Global, bytes: &[u8]) -> Result<(Items<u8>, &[u8]), TermFault>
     ensures { Gives (λ x. (x.0, x.1.now)) result (binary_at bytes.now) }
@@ -128,7 +128,7 @@ fn items<'a>(
     Ok(rest)
 }
 
-/// Behind the tag of a LIST: its elements and those of its tail, at the end of the terms.
+/// After the tag of a LIST: its elements and those of its tail, at the end of the terms.
 #[cycle(item)]
 fn list_at<'a>(
     alloc: Global,
@@ -145,7 +145,7 @@ fn list_at<'a>(
     tail(alloc, room, due, terms, rest)
 }
 
-/// Behind the tag of a list: its elements, at the end of the terms.
+/// After the tag of a list: its elements, at the end of the terms.
 #[cycle(item)]
 #[tactic(auto, unfolding(crate::specs::Reading::elements_behind))]
 fn elements<'a>(
@@ -208,7 +208,7 @@ fn fields(
     Ok((terms, rest))
 }
 
-/// The elements of a list, behind its tag.
+/// The elements of a list, after its tag.
 #[cycle(item)]
 fn list(
     alloc: Global,
@@ -246,7 +246,7 @@ pub(crate) fn item(
     }
 }
 
-/// One item, behind its tag.
+/// One item, after its tag.
 #[cycle(item)]
 #[tactic(auto, unfolding(crate::specs::Reading::item_behind))]
 fn item_behind(
@@ -273,7 +273,7 @@ fn item_behind(
     }
 }
 
-/// An item that holds no terms, behind its tag.
+/// An item that holds no terms, after its tag.
 #[tactic(auto, unfolding(crate::specs::Reading::leaf_behind))]
 fn leaf(alloc: Global, tag: LeafTag, bytes: &[u8]) -> Result<(Term, &[u8]), TermFault>
     ensures { Gives (λ x. (x.0, x.1.now)) result (leaf_behind tag bytes.now) }

@@ -11,11 +11,13 @@ use crate::element::NextElement;
 use crate::reading::numbers::{u16_at, u32_at};
 use crate::tag::{ListTag, Tag};
 
-/// Where the next element of a list stands, of which so many stand at the front of the bytes before its tail, and may
-/// nest so many levels each. A list that stands at the front of the bytes is its own tail: its first element is the next one
+/// Where the next element of a list is, of which so many are at the start of the bytes before its tail, and may nest
+/// so many levels each. A list that is at the start of the bytes is its own tail: its first element is the next one
 /// for a count of 0 and as many levels as the list may nest.
 ///
-/// It looks at five bytes for each tail that holds no elements. The element is skipped by `skip_item`.
+/// The element is skipped by `skip_item`.
+///
+/// Cost: no memory; five bytes are looked at for each tail that holds no elements.
 pub fn next_element(levels: u8, count: u32, bytes: &[u8]) -> NextElement<'_>
     // Of any bytes, also of those that spell no list.
     ensures shown { Shows result (next_from levels count bytes.now) }
@@ -46,7 +48,7 @@ pub fn next_element(levels: u8, count: u32, bytes: &[u8]) -> NextElement<'_>
     }
 }
 
-/// How a list goes on that is a text, behind its tag.
+/// How a list goes on that is a text, after its tag.
 fn text_end(bytes: &[u8]) -> NextElement<'_>
     ensures shown { Shows result (text_next (number_at w16 bytes.now)) }
     ensures next { (room : ℕ) (elements : List Term) (rest : List ℕ)

@@ -1,5 +1,5 @@
-//! Numbers of fixed width, texts, and big integers. What takes no memory tells the one answer that there is (`told`), and
-//! so one that its callers may give, which take some (`given`).
+//! Numbers of fixed width, texts, and big integers. What takes no memory gives the one answer that there is (`told`),
+//! and so one that its callers may give, which take some (`given`).
 
 ghost use Rattle.std.specs.Prelude.{◌≡◌, ◌<◌, ◌^◌, Ok, Err, MatchOption, SomeIff};
 ghost use Rattle.std.specs.Int.{w8, w16, w32};
@@ -102,7 +102,7 @@ pub(crate) fn some_bytes(count: usize, bytes: &[u8]) -> Result<(&[u8], &[u8]), T
     Ok(bytes.split_at(count))
 }
 
-/// A big integer, behind its tag.
+/// A big integer, after its tag.
 #[tactic(auto, unfolding(crate::specs::Reading::big_at))]
 pub(crate) fn big_at(bytes: &[u8]) -> Result<(i64, &[u8]), TermFault>
     ensures { Gives (λ x. (x.0, x.1.now)) result (big_at bytes.now) }

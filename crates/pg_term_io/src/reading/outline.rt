@@ -1,4 +1,4 @@
-//! What stands at the front of bytes, told without building it: no memory is taken.
+//! What is at the start of bytes, without building it: no memory is taken.
 
 ghost use Rattle.std.specs.Prelude.{◌≡◌, ◌≢◌, ◌+◌, ◌*◌, ◌<◌, ◌≤◌, ℕ, suc, List, length, Some, Ok, IfOk, IfSome, IfNone};
 ghost use Rattle.std.specs.Option.{option_map};
@@ -15,7 +15,9 @@ use crate::reading::scanning::item;
 use crate::tag::Tag;
 use pg_term::TermFault;
 
-/// Which kind of term stands at the front of the bytes, by their first one, if that is a tag. `None`: no term stands there.
+/// Which kind of term is at the start of the bytes, by their first one, if that is a tag. `None`: there is no term.
+///
+/// Cost: no memory.
 #[tactic(auto, unfolding(crate::specs::Kinds::kind_in))]
 pub fn kind_at(bytes: &[u8]) -> Option<Kind>
     ensures by_tag { result ≡ kind_in bytes.now }
@@ -29,8 +31,10 @@ pub fn kind_at(bytes: &[u8]) -> Option<Kind>
     }
 }
 
-/// How many elements the tuple at the front of the bytes has, and the bytes from its first element on. `None`: no tuple
-/// stands there. Its elements may nest one level less.
+/// How many elements the tuple at the start of the bytes has, and the bytes from its first element on. `None`: there
+/// is no tuple. Its elements may nest one level fewer.
+///
+/// Cost: no memory.
 pub fn tuple_at(bytes: &[u8]) -> Option<(u32, &[u8])>
     ensures some { (room : ℕ) → IfSome result (λ x. item_at (suc room) bytes.now
         ≡ as_term Tuple (items_at (item_at room) x.0 x.1.now)) }
@@ -49,8 +53,12 @@ pub fn tuple_at(bytes: &[u8]) -> Option<(u32, &[u8])>
     }
 }
 
-/// What follows the item at the front of the bytes, as `decode_item` tells it, or the fault that it tells. So many levels
-/// of terms may nest in it, itself the first of them. The time is linear in the bytes that it takes.
+/// What follows the item at the start of the bytes, as `decode_item` has it. So many levels of terms may nest in it,
+/// itself the first of them.
+///
+/// Errors: that of `decode_item`, but for `OutOfMemory`.
+///
+/// Cost: no memory; linear in the bytes of the item.
 pub fn skip_item(levels: u8, bytes: &[u8]) -> Result<&[u8], TermFault>
     ensures exact { Tells (λ rest. rest.now) result (past (item_at levels bytes.now)) }
     // An item takes some bytes.

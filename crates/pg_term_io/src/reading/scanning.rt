@@ -58,7 +58,7 @@ fn check_text(encoding: Encoding, text: &[u8]) -> Result<(), TermFault>
     }
 }
 
-/// What follows an atom, behind its tag.
+/// What follows an atom, after its tag.
 #[tactic(auto, unfolding(crate::specs::Scanning::over_atom, crate::specs::Reading::named_at))]
 fn atom(size: Size, encoding: Encoding, bytes: &[u8]) -> Result<&[u8], TermFault>
     ensures { Tells (λ rest. rest.now) result (over_atom size encoding bytes.now) }
@@ -93,7 +93,7 @@ fn past_creation(creation: Creation, bytes: &[u8]) -> Result<&[u8], TermFault>
     }
 }
 
-/// What follows a pid, behind its tag.
+/// What follows a pid, after its tag.
 #[tactic(auto, unfolding(crate::specs::Scanning::over_pid))]
 fn pid(creation: Creation, bytes: &[u8]) -> Result<&[u8], TermFault>
     ensures { Tells (λ rest. rest.now) result (over_pid (over_creation creation) bytes.now) }
@@ -124,7 +124,7 @@ fn words(count: u16, bytes: &[u8]) -> Result<&[u8], TermFault>
     Ok(rest)
 }
 
-/// What follows a reference that says how many words it has, behind its tag.
+/// What follows a reference that says how many words it has, after its tag.
 #[tactic(auto, unfolding(crate::specs::Scanning::over_reference))]
 fn reference(creation: Creation, bytes: &[u8]) -> Result<&[u8], TermFault>
     ensures { Tells (λ rest. rest.now) result (over_reference (over_creation creation) bytes.now) }
@@ -161,7 +161,7 @@ fn past_big(bytes: &[u8]) -> Result<&[u8], TermFault>
     }
 }
 
-/// What follows an item that holds no terms, behind its tag.
+/// What follows an item that holds no terms, after its tag.
 #[tactic(auto, unfolding(crate::specs::Scanning::over_leaf))]
 fn leaf(tag: LeafTag, bytes: &[u8]) -> Result<&[u8], TermFault>
     ensures { Tells (λ rest. rest.now) result (over_leaf tag bytes.now) }

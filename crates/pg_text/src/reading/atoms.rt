@@ -16,7 +16,7 @@ use crate::writing::{is_bare, is_word};
 use pg_term::{Atom, TermFault};
 use std::alloc::Global;
 
-// How many characters of a bare atom stand at the front.
+// How many characters of a bare atom are at the start.
 fn word_len(text: &[char]) -> usize
     ensures { result ≡ prefix_len counts_as_word text.now }
 {
@@ -75,7 +75,7 @@ fn name_of(alloc: Global, characters: &[char]) -> Result<String, TextFault>
     Ok(name)
 }
 
-// An atom that stands bare.
+// An atom that is written bare.
 fn bare_at(alloc: Global, text: &[char]) -> Read<'_, Atom>
     ensures ok { IfOk result (λ read. bare_read text.now ≡ Some (read.0, read.1.now)) }
     ensures err { IfErr result (λ fault. fault ≡ BadText → bare_read text.now ≡ None) }
@@ -86,7 +86,7 @@ fn bare_at(alloc: Global, text: &[char]) -> Read<'_, Atom>
     atom_of(alloc, name.as_str(), rest)
 }
 
-// Whether a letter from a to z stands first.
+// Whether a letter from a to z comes first.
 fn begins_small(text: &[char]) -> bool
     ensures { result ≡ begins_lower text.now }
 {
@@ -96,7 +96,7 @@ fn begins_small(text: &[char]) -> bool
     }
 }
 
-// An atom: bare where it can stand so, and only then.
+// An atom: bare where it can be written so, and only then.
 #[tactic(auto, unfolding(crate::specs::Reading::atom_at))]
 pub fn atom_at(alloc: Global, text: &[char]) -> Read<'_, Atom>
     ensures ok { IfOk result (λ read. atom_read text.now ≡ Some (read.0, read.1.now)) }

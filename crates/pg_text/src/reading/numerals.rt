@@ -11,7 +11,7 @@ use crate::fault::TextFault;
 use crate::reading::Read;
 use crate::reading::parts::after;
 
-// How many digits stand at the front.
+// How many digits are at the start.
 fn digit_count(text: &[char]) -> usize
     ensures { result ≡ prefix_len is_ascii_digit text.now }
 {

@@ -11,7 +11,7 @@ use crate::reading::numerals::{number_at, numeral_at};
 use pg_term::{Atom, Pid, Reference, TermFault};
 use std::alloc::Global;
 
-// What follows this character, where it stands first.
+// What follows this character, where it comes first.
 pub fn after(text: &[char], first: char) -> Option<&[char]>
     ensures some { IfSome result (λ rest. (begins first text.now ≡ true) × (rest.now ≡ drop 1 text.now)) }
     ensures none { result ≡ None → begins first text.now ≡ false }
@@ -23,7 +23,7 @@ pub fn after(text: &[char], first: char) -> Option<&[char]>
     }
 }
 
-// What follows this character, which has to stand first.
+// What follows this character, which has to come first.
 pub fn behind(text: &[char], first: char) -> Result<&[char], TextFault>
     ensures ok { IfOk result (λ rest. (begins first text.now ≡ true) × (rest.now ≡ drop 1 text.now)) }
     ensures err { IfErr result (λ fault. (fault ≡ BadText) × (begins first text.now ≡ false)) }
@@ -35,7 +35,7 @@ pub fn behind(text: &[char], first: char) -> Result<&[char], TextFault>
     }
 }
 
-// A number, behind this character.
+// A number, after this character.
 fn part_at(text: &[char], before: char) -> Read<'_, u32>
     ensures ok { IfOk result (λ read. part_read before text.now ≡ Some (read.0, read.1.now)) }
     ensures err { IfErr result (λ fault. fault ≡ BadText → part_read before text.now ≡ None) }
@@ -44,7 +44,7 @@ fn part_at(text: &[char], before: char) -> Read<'_, u32>
     number_at(behind(text, before)?)
 }
 
-// The creation of a pid, which is told only where it is not 1.
+// The creation of a pid, which is written only where it is not 1.
 #[tactic(auto, unfolding(crate::specs::Reading::creation_at))]
 fn creation_at(text: &[char]) -> Read<'_, u32>
     ensures ok { IfOk result (λ read. creation_read text.now ≡ Some (read.0, read.1.now)) }
@@ -63,7 +63,7 @@ fn creation_at(text: &[char]) -> Read<'_, u32>
     }
 }
 
-// The numbers of a pid, behind its node: id, serial and creation, and what follows them.
+// The numbers of a pid, after its node: id, serial and creation, and what follows them.
 fn numbers_at(text: &[char]) -> Result<(u32, u32, u32, &[char]), TextFault>
     ensures ok { IfOk result (λ read. numbers_read text.now ≡ Some ((read.0, read.1, read.2), read.3.now)) }
     ensures err { IfErr result (λ fault. fault ≡ BadText → numbers_read text.now ≡ None) }
@@ -130,7 +130,7 @@ fn reference_of<'a>(
     }
 }
 
-// `#<NODE/CREATION.W..>`, behind the `#`.
+// `#<NODE/CREATION.W..>`, after the `#`.
 #[tactic(auto, unfolding(crate::specs::Reading::reference_at))]
 pub fn reference_at(alloc: Global, text: &[char]) -> Read<'_, Reference>
     ensures ok { IfOk result (λ read. reference_read text.now ≡ Some (read.0, read.1.now)) }
@@ -164,7 +164,7 @@ fn byte_list_at(alloc: Global, text: &[char]) -> Read<'_, Vec<u8>>
     }
 }
 
-// The bytes of a binary, behind the `<<`, and what follows its `>>`.
+// The bytes of a binary, after the `<<`, and what follows its `>>`.
 #[tactic(auto, unfolding(crate::specs::Reading::bytes_at))]
 pub fn bytes_at(alloc: Global, text: &[char]) -> Read<'_, Vec<u8>>
     ensures ok { IfOk result (λ read. bytes_read text.now ≡ Some (read.0.items, read.1.now)) }

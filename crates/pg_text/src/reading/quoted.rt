@@ -10,7 +10,7 @@ pub struct Hex {
     pub begun: bool,
 }
 
-/// Where within quotes a text is: at a character, behind a backslash, behind `\x`, or within the braces of an escape.
+/// Where within quotes a text is: at a character, after a backslash, after `\x`, or within the braces of an escape.
 #[derive(Clone, Copy)]
 pub enum Place {
     Plain,

@@ -56,7 +56,7 @@ fn elements_at(alloc: Global, text: &[char], last: char, room: usize) -> Read<'_
     }
 }
 
-// Whether a minus or a digit stands first.
+// Whether a minus or a digit comes first.
 fn begins_number(text: &[char]) -> bool
     ensures { result ≡ number_begins text.now }
 {
@@ -66,7 +66,7 @@ fn begins_number(text: &[char]) -> bool
     }
 }
 
-// A binary, behind its first `<`, or else a pid, where it begins with one.
+// A binary, after its first `<`, or else a pid, where it begins with one.
 fn angled_at<'a>(alloc: Global, text: &'a [char], inside: &'a [char]) -> Read<'a, Term>
     requires { inside.now ≡ drop 1 text.now }
     ensures ok { IfOk result (λ read. angled_read text.now ≡ Some (read.0, read.1.now)) }

@@ -13,6 +13,10 @@ use pg_world::World;
 use std::alloc::AllocError;
 
 impl Watch {
+    ghost use Rattle.std.specs.Prelude.{◌≡◌, ◌≤◌, ◌++◌, ◌-◌, [], ◌∷◌, OnOk, length, map};
+    ghost use Rattle.std.specs.List.{range_with_len};
+    ghost use Rattle.pg_trace.specs.Watched.{sent_on};
+
     /// What an event of a node did, by which it took this packet.
     pub(crate) fn see_effects<T: GroupTable + Drop>(
         &mut self,
@@ -84,12 +88,17 @@ impl Watch {
         self.add(Seen::Granted { node, name, to })
     }
 
-    /// Reads the packets that a node has sent: what stands in its outboxes behind what stood there before.
+    /// Reads the packets that a node has sent: what is in its outboxes after what was there before.
     fn read_letters<T: GroupTable + Drop>(
         &mut self,
         world: &World<T>,
         node: usize,
-    ) -> Result<(), AllocError> {
+    ) -> Result<(), AllocError>
+        ensures names { self.new.names ≡ self.old.names }
+        ensures line { self.new.line ≡ self.old.line }
+        ensures sights { self.new.sights ≡ self.old.sights }
+        ensures grows { length self.old.letters.items ≤ length self.new.letters.items }
+    {
         for peer in 0..peer_count(world, node) {
             let before = self.lens.get(peer).copied().unwrap_or(0);
             if let Some(new) = outbox(world, node, peer).get(before..) {
@@ -106,14 +115,32 @@ impl Watch {
     }
 
     /// The packets from this one on are sent.
-    fn see_sent(&mut self, first: usize) -> Result<(), AllocError> {
+    fn see_sent(&mut self, first: usize) -> Result<(), AllocError>
+        ensures names { self.new.names ≡ self.old.names }
+        ensures line { self.new.line ≡ self.old.line }
+        ensures letters { self.new.letters ≡ self.old.letters }
+        ensures seen { OnOk result (self.new.sights.items
+            ≡ self.old.sights.items ++ map (sent_on self.old.line)
+            (range_with_len first (length self.old.letters.items - first))) }
+    {
         for packet in first..self.letters.len() {
-            if let Some(letter) = self.letters.get(packet) {
-                self.ways.send(letter.from, letter.to, packet)?;
-            }
-            self.add(Seen::Sent { packet })?;
+            self.see_letter(packet)?;
         }
         Ok(())
+    }
+
+    /// A packet is sent.
+    fn see_letter(&mut self, packet: usize) -> Result<(), AllocError>
+        ensures names { self.new.names ≡ self.old.names }
+        ensures line { self.new.line ≡ self.old.line }
+        ensures letters { self.new.letters ≡ self.old.letters }
+        ensures seen { OnOk result (self.new.sights.items ≡ self.old.sights.items
+            ++ sent_on self.old.line packet ∷ []) }
+    {
+        if let Some(letter) = self.letters.get(packet) {
+            self.ways.send(letter.from, letter.to, packet)?;
+        }
+        self.add(Seen::Sent { packet })
     }
 
     /// The packets that a node sends as it begins.
@@ -121,7 +148,14 @@ impl Watch {
         &mut self,
         world: &World<T>,
         node: usize,
-    ) -> Result<(), AllocError> {
+    ) -> Result<(), AllocError>
+        ensures names { self.new.names ≡ self.old.names }
+        ensures line { self.new.line ≡ self.old.line }
+        ensures grows { length self.old.letters.items ≤ length self.new.letters.items }
+        ensures seen { OnOk result (self.new.sights.items ≡ self.old.sights.items
+            ++ map (sent_on self.old.line) (range_with_len (length self.old.letters.items)
+            (length self.new.letters.items - length self.old.letters.items))) }
+    {
         let first = self.letters.len();
         self.read_letters(world, node)?;
         self.see_sent(first)

@@ -47,7 +47,7 @@ impl Ways {
     }
 }
 
-/// The place of the peer of a node that stands at this place among its peers: these are the others, in their order.
+/// The place of the peer of a node that has this place among its peers: these are the others, in their order.
 pub(crate) fn node_at(node: usize, peer: usize) -> usize {
     if peer < node {
         peer

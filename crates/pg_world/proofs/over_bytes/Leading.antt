@@ -11,8 +11,8 @@ use Rattle.pg_step.specs.FrameMachine.{frame_machine, losing_frame_machine}
 use Rattle.pg_step.specs.LossLaws.{LosingFrameWorld}
 use Rattle.pg_step.specs.Step.{Issue, Retry}
 use Rattle.pg_history.specs.History.{history}
-use Rattle.pg_node.specs.declared.state.fault.NodeFault.{NodeFault}
-use Rattle.pg_node.specs.declared.state.fault.NodeFault.TheVariants.{Refused, OutOfMemory, Message as BadMessage, TooLong, Damaged}
+use Rattle.pg_node_state.specs.declared.state.fault.NodeFault.{NodeFault}
+use Rattle.pg_node_state.specs.declared.state.fault.NodeFault.TheVariants.{Refused, OutOfMemory, Message as BadMessage, TooLong, Damaged}
 use Rattle.pg_frame_world.specs.declared.step.FrameStep.{FrameStep}
 use Rattle.pg_frame_world.specs.declared.step.FrameStep.TheVariants as frames
 use Rattle.pg_world.specs.declared.step.Step.{Step}
@@ -29,7 +29,7 @@ use Rattle.pg_frame_world.specs.LosingRuns.{LosingGoesTo}
 use Rattle.pg_frame_world.specs.Past.{HistoriesGrow}
 use Rattle.pg_world.specs.BytesPast.{BytesHavePast, BytesGoOn, BytesRunOn}
 use Rattle.pg_frame_world.specs.Pending.{AgreeOn, pending_of, sees_free}
-use Rattle.pg_frame_world.specs.Views.{Seen}
+use Rattle.pg_starts.specs.Seen.{Seen}
 use Rattle.pg_account.specs.Histories.{Account}
 use Rattle.pg_frame_world.proofs.Leading.{Near, Here, Next, Lists, Survive, AreApart, goes_on, past_after, past_of, runs_on, comes_on, some_comes, histories_grow, history_is, applied_there, agreed_there}
 use Rattle.pg_frame_world.proofs.LosingRunning.{losing_leads, start_is}

@@ -28,26 +28,30 @@ use Rattle.pg_opens.specs.Places.{name_at}
 use Rattle.pg_step.specs.Config.{Config, names_of, groups_at}
 use Rattle.pg_step.specs.FrameMachine.{frame_machine}
 use Rattle.pg_node.specs.declared.node.Node.{Node}
-use Rattle.pg_node.specs.declared.state.fault.NodeFault.{NodeFault}
+use Rattle.pg_node_state.specs.declared.state.fault.NodeFault.{NodeFault}
 use Rattle.pg_node.specs.Begun.{BeginsWith, CantBegin, IsOpened}
-use Rattle.pg_node.specs.Links.{Link, frame_of}
+use Rattle.pg_node_state.specs.Frames.{frame_of}
+use Rattle.pg_node.specs.Links.{Link}
 use Rattle.pg_node.specs.Nodes.{held_by, links_of}
-use Rattle.pg_node.specs.States.{names_of as known_names, stamped_of}
+use Rattle.pg_node_state.specs.States.{names_of as known_names, stamped_of}
 use Rattle.pg_config.specs.declared.fault.WorldFault.{WorldFault}
 use Rattle.pg_config.specs.declared.fault.WorldFault.TheVariants.{BadConfig, NameTooLarge, BadCapacity, TooLong, OutOfMemory}
 use Rattle.pg_world.specs.BytesStart.{OpensLinks, OpensBytes, BytesBegin}
 use Rattle.pg_world.specs.Changes.{links_at}
 use Rattle.pg_world.specs.Crossings.{Crossing, node_of, idle_crossing, no_links, link_at, bytes_at, packet_as, packets_between, written_of, CanCross}
 use Rattle.pg_frame_world.specs.Openings.{AreReady, TellsNames, AllFit, CantOpen, CantStart, opening_fault_of}
-use Rattle.pg_frame_world.specs.Starts.{seen_first, firsts, AllOpen, Begins}
-use Rattle.pg_frame_world.specs.Views.{Seen, fresh_view, peer_place}
+use Rattle.pg_starts.specs.Firsts.{seen_first, firsts}
+use Rattle.pg_frame_world.specs.Starts.{AllOpen, Begins}
+use Rattle.pg_starts.specs.Seen.{Seen}
+use Rattle.pg_frame_world.specs.Views.{fresh_view, peer_place}
 use Rattle.pg_account.specs.Histories.{Account, no_account}
 use Rattle.pg_frame_world.specs.Worlds.{TimedFrameWorld}
 use Rattle.pg_frame_world.proofs.Fitted.{has_none, said_all}
 use Rattle.pg_frame_world.proofs.Opened.{tells_names, names_at}
 use Rattle.pg_frame_world.proofs.Ordered.{ordered_length}
 use Rattle.pg_frame_world.proofs.Peering.{known, place_within}
-use Rattle.pg_frame_world.proofs.Starting.{firsts_length, firsts_are, open_more, begins}
+use Rattle.pg_starts.proofs.Starting.{firsts_length, firsts_are}
+use Rattle.pg_frame_world.proofs.Starting.{open_more, begins}
 use Rattle.pg_frame_world.proofs.Turning.{pair_is, pair_turned}
 
 -- ---- one node

@@ -8,12 +8,12 @@ use Rattle.pg_opens.specs.Places.{name_at}
 use Rattle.pg_step.specs.Config.{Config}
 use Rattle.pg_step.specs.State.{State}
 use Rattle.pg_node.specs.declared.node.Node.{Node}
-use Rattle.pg_node.specs.declared.state.done.Done.{Done}
-use Rattle.pg_node.specs.declared.state.fault.NodeFault.{NodeFault}
+use Rattle.pg_node_state.specs.declared.state.done.Done.{Done}
+use Rattle.pg_node_state.specs.declared.state.fault.NodeFault.{NodeFault}
 use Rattle.pg_node.specs.Bytes.{closed}
 use Rattle.pg_node.specs.Links.{Link, at_link}
 use Rattle.pg_node.specs.Nodes.{held_by, links_of, step_lose}
-use Rattle.pg_node.specs.States.{names_of, state_of, answers_of, Comes}
+use Rattle.pg_node_state.specs.States.{names_of, state_of, answers_of, Comes}
 use Rattle.pg_world.specs.declared.rings.Rings.{Rings}
 use Rattle.pg_world.specs.Crossings.{crossing_in, node_of, link_at, bytes_at}
 use Rattle.pg_account.specs.Losses.{is_lost}

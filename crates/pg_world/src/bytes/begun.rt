@@ -7,14 +7,15 @@ ghost use Rattle.pg_node.specs.Nodes.{links_of};
 ghost use Rattle.pg_world.specs.Crossings.{node_of, no_links, idle_crossing};
 ghost use Rattle.pg_account.specs.Histories.{no_account};
 ghost use Rattle.pg_frame_world.specs.Openings.{AreReady, CantOpen, CantStart, opening_fault_of};
-ghost use Rattle.pg_frame_world.specs.Starts.{seen_first, firsts};
+ghost use Rattle.pg_starts.specs.Firsts.{seen_first, firsts};
 ghost use Rattle.pg_world.specs.BytesStart.{OpensLinks};
 
 use crate::bytes::ByteNodes;
 use pg_config::{Config, WorldFault};
-use pg_frame_world::{node_at, ready};
+use pg_frame_world::ready;
 use pg_index::IndexTable;
 use pg_node::{Node, NodeFault};
+use pg_starts::node_at;
 use pg_step::Start;
 use std::alloc::Global;
 
@@ -25,10 +26,12 @@ impl ByteNodes<IndexTable> {
     ghost use Rattle.pg_account.specs.Losses.{lost_in};
     ghost use Rattle.pg_frame_world.specs.Openings.{AllFit, CantBegin, CantStart, AreReady};
 
-    /// The nodes of a configuration as they start, where what each of them tells of its groups stands in its outbox to each other,
-    /// and the ring from each to each other is empty. Its cost is that of `FrameWorld::new`, and of the rings.
+    /// The nodes of a configuration as they start, where what each of them announces of its groups is in its outbox
+    /// to each other, and the ring from each to each other is empty.
     ///
-    /// Faults: those of `FrameWorld::new`.
+    /// Errors: those of `FrameWorld::new`.
+    ///
+    /// Cost: that of `FrameWorld::new`, and of the rings.
     pub(crate) fn new(alloc: Global, config: &Config) -> Result<ByteNodes<IndexTable>, WorldFault>
         ensures good { IfOk result (λ world. IsConfig config.now.starts.items × IsCapacity config.now.ring) }
         ensures fits { IfOk result (λ world. AllFit config.now.starts.items) }
@@ -70,10 +73,12 @@ impl ByteNodes<IndexTable> {
 ghost use Rattle.pg_frame_world.specs.Openings.{AllFit as AllFitFrames, CantBegin as CantBeginWith, have_few};
 ghost use Rattle.pg_world.specs.BytesStart.{BytesBegin as BytesBeginOf};
 
-/// The nodes of a configuration as they start over bytes, by their places, for who moves the bytes between them: what each of them
-/// tells of its groups stands in its outbox to each other. Its cost is that of `FrameWorld::new`.
+/// The nodes of a configuration as they start over bytes, by their places, for who moves the bytes between them: what
+/// each of them announces of its groups is in its outbox to each other.
 ///
-/// Faults: those of `FrameWorld::new`.
+/// Errors: those of `FrameWorld::new`.
+///
+/// Cost: that of `FrameWorld::new`.
 pub fn starting_nodes(alloc: Global, config: &Config) -> Result<Vec<Node<IndexTable>>, WorldFault>
     ensures good { IfOk result (λ nodes. IsConfig config.now.starts.items × IsCapacity config.now.ring) }
     ensures count { IfOk result (λ nodes. length nodes.items ≡ length config.now.starts.items) }
@@ -88,9 +93,9 @@ pub fn starting_nodes(alloc: Global, config: &Config) -> Result<Vec<Node<IndexTa
     }
 }
 
-/// The nodes of a configuration as they start, by their places: what each tells stands in its outboxes.
+/// The nodes of a configuration as they start, by their places: what each announces is in its outboxes.
 ///
-/// Faults: `TooLong`, where what one of them tells takes more than a frame; `OutOfMemory`.
+/// Errors: `TooLong`, where what one of them announces takes more than a frame; `OutOfMemory`.
 fn opened_nodes(alloc: Global, starts: &[Start]) -> Result<Vec<Node<IndexTable>>, WorldFault>
     requires ready { AreReady starts.now }
     ensures nodes { IfOk result (λ nodes. map node_of nodes.items ≡ firsts starts.now (length starts.now)) }
@@ -110,7 +115,7 @@ fn opened_nodes(alloc: Global, starts: &[Start]) -> Result<Vec<Node<IndexTable>>
 
 /// The node at a place of a configuration as it starts.
 ///
-/// Faults: `TooLong`, where what it tells takes more than a frame; `OutOfMemory`.
+/// Errors: `TooLong`, where what it announces takes more than a frame; `OutOfMemory`.
 fn opened_node(
     alloc: Global,
     starts: &[Start],

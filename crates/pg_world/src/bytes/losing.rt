@@ -18,7 +18,7 @@ impl<T: GroupTable + Drop> ByteNodes<T> {
     ghost use Rattle.pg_world.specs.BytesLosing.{ShowsLosingBytes, SightComesTo, LossComesTo};
     ghost use Rattle.pg_world.specs.Bars.{IsHeld, TellsUndrained, has_bytes, sight_bar, loss_bar};
     ghost use Rattle.pg_step.specs.declared.refusal.Refusal.TheVariants.{NotLost};
-    ghost use Rattle.pg_node.specs.declared.state.fault.NodeFault.TheVariants.{Refused};
+    ghost use Rattle.pg_node_state.specs.declared.state.fault.NodeFault.TheVariants.{Refused};
     ghost use Rattle.pg_world.specs.Changes.{SightChanges};
     ghost use Rattle.pg_frame_world.specs.declared.step.FrameStep.TheVariants.{SeeLoss};
     ghost use Rattle.pg_world.specs.Crossings.{crossing_of, room_of, bytes_at};

@@ -38,11 +38,14 @@ impl<T: GroupTable + Drop> World<T> {
     ghost use Rattle.pg_world.specs.BytesRuns.{NobodyLost, over_bytes};
     ghost use Rattle.pg_frame_world.specs.Worlds.{TimedFrameWorld};
 
-    /// Makes steps, one after another, and writes the number of each in its place: 0 where it happened, bytes moved, or no whole
-    /// packet had come; else that of its fault. A step that is refused changes nothing of what the world shows, and the others
-    /// follow. Its cost is that of the steps.
+    /// Makes steps, one after another, and writes the number of each in its place: 0 where it happened, bytes moved,
+    /// or no whole packet had come; else that of its fault. A step that is refused changes nothing of what the world
+    /// shows, and the others follow.
     ///
-    /// The events that led to the world lead on by those of the steps that happened, and of all of them holds what `step` says.
+    /// The events that led to the world lead on by those of the steps that happened, and of all of them holds what
+    /// `step` says.
+    ///
+    /// Cost: that of the steps.
     pub fn run(&mut self, steps: &[Step], numbers: &mut Vec<u8>)
         requires { length numbers.old.items ≡ length steps.now }
         ensures len { length numbers.new.items ≡ length steps.now }
@@ -68,7 +71,7 @@ impl<T: GroupTable + Drop> World<T> {
         }
     }
 
-    /// Makes one step, and tells its number.
+    /// Makes one step, and gives its number.
     fn step_number(&mut self, step: &Step) -> u8
         ensures given { given_of self.new ≡ given_of self.old }
         ensures room { room_of self.new ≡ room_of self.old }
@@ -90,18 +93,21 @@ impl<T: GroupTable + Drop> World<T> {
     }
 }
 
-/// Performs steps over bytes from the start of a configuration: the world after them, and for each step its number, as
-/// `World::run` tells it. The places of the numbers are got first; a step that is refused did not happen, and the run goes on.
+/// Performs steps over bytes from the start of a configuration: the world after them, and for each step its number,
+/// as `World::run` gives it. The places of the numbers are got first; a step that is refused did not happen, and the
+/// run goes on.
 ///
-/// The contract is the headline, however the bytes were cut, for steps of which none is a loss: the steps that happened are the events of a run of the frame
-/// machine, and of what they reported, and of the states that the world shows, everything holds that `OneHistory` says.
+/// The contract is the headline, however the bytes were cut, for steps of which none is a loss: the steps that
+/// happened are the events of a run of the frame machine, and of what they reported, and of the states that the world
+/// shows, everything holds that `OneHistory` says.
 ///
-/// Whoever is lost, and wherever its bytes are cut then, the steps that happened are the events of a run of the machine with losses, and
-/// everything holds that `LossesSurvived` says of the world to which they lead.
+/// Whoever is lost, and wherever its bytes are cut then, the steps that happened are the events of a run of the
+/// machine with losses, and everything holds that `LossesSurvived` says of the world to which they lead.
 ///
-/// Each step did what its number tells: it moved as many bytes as it has to move, or its event happened, or nothing changed.
+/// Each step did what its number says: it moved as many bytes as it has to move, or its event happened, or nothing
+/// changed.
 ///
-/// Faults: those of `World::new`.
+/// Errors: those of `World::new`.
 pub fn run(
     alloc: Global,
     config: &Config,

@@ -1,5 +1,5 @@
 use Rattle.std.proofs.Common.{sym, ap, ◌∙◌}
-use Rattle.pg_node.specs.States.{kept_by, left_of}
+use Rattle.pg_node_state.specs.States.{kept_by, left_of}
 use Rattle.pg_query.proofs.SameGroups.{answers_too}
 use Rattle.pg_step.specs.State.{formed}
 use Rattle.pg_cluster.proofs.Agreeing.{agreed_forth, agreed_back}

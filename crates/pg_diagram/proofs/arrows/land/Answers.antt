@@ -1,4 +1,4 @@
-use Rattle.std.proofs.Common.{◌≡◌, ◌+◌, slice_set, length, refl, ap, ◌∙◌, sym, arith}
+use Rattle.std.proofs.Common.{slice_set, ap, ◌∙◌, arith}
 use Rattle.pg_diagram.specs.Arrows.{lands}
 use Rattle.pg_diagram.proofs.Landing.{there, beyond}
 use Rattle.pg_diagram.proofs.arrows.land.Goals as goal

@@ -1,6 +1,6 @@
-use Rattle.std.proofs.Common.{◌≡◌, List, ℕ, [], ◌++◌, ap}
+use Rattle.std.proofs.Common.{List, ℕ, [], ap}
 use Rattle.std.specs.Prelude.{codes}
-use Rattle.pg_diagram.specs.Lines.{CLOSED, class_of, line_text, way_text}
+use Rattle.pg_diagram.specs.Lines.{CLOSED, line_text, way_text}
 use Rattle.pg_diagram.proofs.Penned.{wrote_as, wrote_both}
 use Rattle.pg_diagram.proofs.shapes.add_broken_line.Goals as goal
 

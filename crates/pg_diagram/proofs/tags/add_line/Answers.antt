@@ -1,5 +1,4 @@
 use Rattle.std.proofs.Common.{[]}
-use Rattle.std.specs.Prelude.{codes}
 use Rattle.pg_diagram.specs.Lines.{CLOSED, line_text}
 use Rattle.pg_diagram.proofs.Penned.{wrote_as, wrote_both, line_ends}
 use Rattle.pg_diagram.proofs.tags.add_line.Goals as goal

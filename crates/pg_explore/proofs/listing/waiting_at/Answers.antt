@@ -6,7 +6,7 @@ use Rattle.pg_opens.specs.Places.{whole_in}
 use Rattle.pg_step.specs.Attempts.{waits}
 use Rattle.pg_step.specs.State.{left}
 use Rattle.pg_frame_world.specs.FrameWorlds.{traffic_of}
-use Rattle.pg_frame_world.specs.Views.{Seen, seen_of}
+use Rattle.pg_starts.specs.Seen.{Seen, seen_of}
 use Rattle.pg_explore.proofs.Opening.{among}
 use Rattle.pg_explore.proofs.Optional.{inside_some}
 use Rattle.pg_explore.proofs.Sized.{many_nodes}

@@ -1,6 +1,6 @@
 use Rattle.pg_ends.specs.Numbers.{ended_among}
 use Rattle.pg_frame_world.specs.Pending.{has_end, lent_as, own_of}
-use Rattle.pg_frame_world.specs.Views.{seen_of}
+use Rattle.pg_starts.specs.Seen.{seen_of}
 use Rattle.pg_frame_world.proofs.Listed.{Added}
 use Rattle.pg_frame_world.proofs.pending.add_pending.Given as goal
 

@@ -1,7 +1,7 @@
 use Rattle.std.proofs.Common.{◌≡◌, drop}
 use Rattle.std.specs.List.{list_any}
 use Rattle.std.specs.Prelude.{not}
-use Rattle.pg_node.specs.States.{kept_by}
+use Rattle.pg_node_state.specs.States.{kept_by}
 use Rattle.pg_frame_world.proofs.pending.is_untaken.Given as goal
 
 -- what is left of the list says what all of it says

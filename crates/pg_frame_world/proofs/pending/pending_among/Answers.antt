@@ -1,7 +1,7 @@
 use Rattle.std.proofs.Common.{◌∙◌, ap, arith, take_all}
 use Rattle.std.proofs.lemmas.List.{length-map}
 use Rattle.pg_frame_world.specs.Pending.{lent_as, pending_among}
-use Rattle.pg_frame_world.specs.Views.{seen_of}
+use Rattle.pg_starts.specs.Seen.{seen_of}
 use Rattle.pg_frame_world.proofs.Listed.{next_home}
 use Rattle.pg_frame_world.proofs.pending.pending_among.Goals as goal
 

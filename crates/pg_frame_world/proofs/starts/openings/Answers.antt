@@ -1,6 +1,7 @@
 use Rattle.std.proofs.Common.{◌-◌, ◌+◌, List, map, take, length, subst, sym, arith}
 use Rattle.pg_frame_world.specs.declared.outgoing.Outgoing.{Outgoing}
-use Rattle.pg_frame_world.specs.Views.{seen_of, ways_of}
+use Rattle.pg_starts.specs.Seen.{seen_of}
+use Rattle.pg_frame_world.specs.Views.{ways_of}
 use Rattle.pg_frame_world.specs.Starts.{AllOpen}
 use Rattle.pg_frame_world.proofs.Fitted.{some_cant}
 use Rattle.pg_frame_world.proofs.Opened.{seen_at}

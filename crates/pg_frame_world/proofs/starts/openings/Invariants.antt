@@ -1,5 +1,6 @@
 use Rattle.std.proofs.Common.{◌-◌, map, take, length}
-use Rattle.pg_frame_world.specs.Views.{seen_of, ways_of}
+use Rattle.pg_starts.specs.Seen.{seen_of}
+use Rattle.pg_frame_world.specs.Views.{ways_of}
 use Rattle.pg_frame_world.specs.Starts.{AllOpen}
 use Rattle.pg_frame_world.proofs.starts.openings.Given as goal
 

@@ -1,11 +1,11 @@
 use Rattle.std.proofs.Common.{◌∙◌, ap, refl}
 use Rattle.std.specs.List.{list_any}
 use Rattle.pg_node.specs.Nodes.{held_by}
-use Rattle.pg_node.specs.States.{kept_by, left_of}
+use Rattle.pg_node_state.specs.States.{kept_by, left_of}
 use Rattle.pg_step.specs.Attempts.{same_op, waits}
 use Rattle.pg_run.specs.Follows.{log_of, node_of}
 use Rattle.pg_run.specs.Logs.{IsDueRetry}
-use Rattle.pg_run.specs.Tries.{waits_at}
+use Rattle.pg_run.specs.Tries.{is_ready_at, waits_at}
 use Rattle.pg_run.proofs.GoingOn.{goes_itself}
 use Rattle.pg_run.proofs.Logging.{logs_same}
 use Rattle.pg_run.proofs.Pausing.{waits_still}
@@ -17,29 +17,29 @@ pub returns-in-Err-clause-goes : goal.returns-in-Err-clause-goes
 returns-in-Err-clause-goes g c = goes_itself g.L.Link.accepts g.I.Inlet.gives g.met.L.Link.rests g.met.I.Inlet.rests c.args.linked.now
 
 pub returns-in-Err-clause-waits : goal.returns-in-Err-clause-waits
-returns-in-Err-clause-waits g c = λ op waits. waits_still c.args.at_once c.of.result.whole (λ whole. c.of.ensures.no_want whole) _ _ refl
+returns-in-Err-clause-waits g c = λ op waits. waits_still (is_ready_at (node_of c.args.linked.now) op) c.of.result.whole (λ whole. c.of.ensures.no_want whole) _ _ refl
 
 pub returns-in-Err-clause-logs : goal.returns-in-Err-clause-logs
-returns-in-Err-clause-logs g c = logs_same (IsDueRetry c.args.at_once c.args.pauses.now c.args.pauses.now) (log_of c.args.linked.now) (log_of c.args.linked.now) refl
+returns-in-Err-clause-logs g c = logs_same (IsDueRetry (is_ready_at (node_of c.args.linked.now)) c.args.pauses.now c.args.pauses.now) (log_of c.args.linked.now) (log_of c.args.linked.now) refl
 
 pub returns-in-Ok-clause-tried : goal.returns-in-Ok-clause-tried
 returns-in-Ok-clause-tried g c = λ whole.
-    tried_where_waits g.L.Link.accepts g.I.Inlet.gives g.met.L.Link.rests g.met.I.Inlet.rests g.met.L.Link.composes g.met.I.Inlet.composes c.as_slice.result.now c.args.at_once c.args.pauses.now c.args.linked.now
-    c.retry_each.new.linked
+    tried_where_waits g.L.Link.accepts g.I.Inlet.gives g.met.L.Link.rests g.met.I.Inlet.rests g.met.L.Link.composes g.met.I.Inlet.composes c.as_slice.result.now (is_ready_at (node_of c.args.linked.now)) c.args.pauses.now c.args.linked.now
+    c.retry_listed.new.linked
     (λ op. ap (list_any (λ other. same_op other op)) c.as_slice.ensures.value
     ∙ (c.in-Ok.ensures.each op ∙ ap (λ s. waits (left_of s) ((kept_by s).stages op) (kept_by s)) (c.state.ensures ∙ ap held_by c.node.ensures)))
-    (c.retry_each.ensures.tried whole)
+    (c.retry_listed.ensures.tried whole)
 
 pub returns-in-Ok-clause-waits : goal.returns-in-Ok-clause-waits
 returns-in-Ok-clause-waits g c =
-    where_waits c.as_slice.result.now c.args.at_once c.retry_each.result.whole c.args.pauses.now c.retry_each.new.pauses (waits_at (node_of c.args.linked.now))
+    where_waits c.as_slice.result.now (is_ready_at (node_of c.args.linked.now)) c.retry_listed.result.whole c.args.pauses.now c.retry_listed.new.pauses (waits_at (node_of c.args.linked.now))
     (λ op. ap (list_any (λ other. same_op other op)) c.as_slice.ensures.value
     ∙ (c.in-Ok.ensures.each op ∙ ap (λ s. waits (left_of s) ((kept_by s).stages op) (kept_by s)) (c.state.ensures ∙ ap held_by c.node.ensures)))
-    c.retry_each.ensures.waits
+    c.retry_listed.ensures.waits
 
 pub returns-in-Ok-clause-others : goal.returns-in-Ok-clause-others
 returns-in-Ok-clause-others g c = λ op waits_not.
-    c.retry_each.ensures.others op
+    c.retry_listed.ensures.others op
     (ap (list_any (λ other. same_op other op)) c.as_slice.ensures.value
     ∙ (c.in-Ok.ensures.each op ∙ (ap (λ s. waits (left_of s) ((kept_by s).stages op) (kept_by s)) (c.state.ensures ∙ ap held_by c.node.ensures) ∙ waits_not)))
 

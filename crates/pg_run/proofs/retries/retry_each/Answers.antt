@@ -1,14 +1,17 @@
-use Rattle.std.proofs.Common.{◌<◌, length, arith}
+use Rattle.std.proofs.Common.{◌<◌, ◌∙◌, ap, get_or, length, arith}
+use Rattle.std.specs.Prelude.{false}
+use Rattle.std.proofs.lemmas.List.{get_or-map}
 use Rattle.std.proofs.lemmas.Option.{slice_get-get_or, slice_get_within}
-use Rattle.pg_run.specs.Follows.{log_of}
+use Rattle.pg_run.specs.Follows.{log_of, node_of}
+use Rattle.pg_run.specs.Tries.{is_ready_at}
 use Rattle.pg_run.proofs.GoingOn.{goes_itself, goes_on}
-use Rattle.pg_run.proofs.Retrying.{logs_due, none_at, retried_first, retried_next}
+use Rattle.pg_run.proofs.Retrying.{logs_due, none_at, retried_first, retried_next_marked}
 use Rattle.pg_run.proofs.Wanting.{not_both, wanting_on}
 use Rattle.pg_run.proofs.retries.retry_each.Goals as goal
 
 pub loop-place-init : goal.loop-place-init
 loop-place-init g c = (
-  retried_first g.L.Link.accepts g.I.Inlet.gives g.met.L.Link.rests g.met.I.Inlet.rests g.met.L.Link.composes g.met.I.Inlet.composes c.args.ops.now c.args.at_once _ c.args.pauses.now c.args.linked.now
+  retried_first g.L.Link.accepts g.I.Inlet.gives g.met.L.Link.rests g.met.I.Inlet.rests g.met.L.Link.composes g.met.I.Inlet.composes c.args.ops.now (is_ready_at (node_of c.args.linked.now)) _ c.args.pauses.now c.args.linked.now
       (goes_itself g.L.Link.accepts g.I.Inlet.gives g.met.L.Link.rests g.met.I.Inlet.rests c.args.linked.now),
   λ short. not_both _ c.idle-phase.ensures.whole short,
 )
@@ -20,8 +23,9 @@ loop-place-preserved g c =
     let d = c.retry_when_due.new.linked in
     let was = c.loop-place.invariant.0 in
     let step = c.retry_when_due.ensures in (
-      retried_next g.L.Link.accepts g.I.Inlet.gives g.met.L.Link.rests g.met.I.Inlet.rests g.met.L.Link.composes g.met.I.Inlet.composes c.args.ops.now c.requires.once c.loop-place.place _ c.args.at_once _ _ _
+      retried_next_marked g.L.Link.accepts g.I.Inlet.gives g.met.L.Link.rests g.met.I.Inlet.rests g.met.L.Link.composes g.met.I.Inlet.composes c.args.ops.now c.requires.once c.loop-place.place _ (is_ready_at (node_of a)) _ _ _ _
           c.args.pauses.now c.loop-place.pauses c.retry_when_due.new.pauses a b d (slice_get-get_or c.args.ops.now c.loop-place.place _ c.loop-place-test.true)
+          (ap (λ bs. get_or bs c.loop-place.place false) c.requires.ready ∙ get_or-map (is_ready_at (node_of a)) c.args.ops.now c.loop-place.place (record { port = 0; number = 0 }) false c.loop-place-test.true)
           c.and-phase.ensures.first c.and-phase.ensures.second was
           (goes_on g.L.Link.accepts g.I.Inlet.gives g.met.L.Link.composes g.met.I.Inlet.composes a b d was.goes step.goes)
           step.goes step.tried step.waits step.logs step.spared step.others,
@@ -46,4 +50,4 @@ returns-clause-others g c = λ op none. c.loop-place.invariant.0.others op (λ k
 
 pub returns-clause-logs : goal.returns-clause-logs
 returns-clause-logs g c =
-    logs_due c.args.ops.now c.loop-place.place c.args.at_once c.args.pauses.now c.loop-place.pauses (log_of c.args.linked.now) (log_of c.loop-place.linked) c.loop-place.invariant.0.logs
+    logs_due c.args.ops.now c.loop-place.place (is_ready_at (node_of c.args.linked.now)) c.args.pauses.now c.loop-place.pauses (log_of c.args.linked.now) (log_of c.loop-place.linked) c.loop-place.invariant.0.logs

@@ -8,8 +8,8 @@ returns-in-Ok-false-clause-goes g c = goes_itself g.L.Link.accepts g.I.Inlet.giv
 pub returns-in-Err-clause-goes : goal.returns-in-Err-clause-goes
 returns-in-Err-clause-goes g c = goes_itself g.L.Link.accepts g.I.Inlet.gives g.met.L.Link.rests g.met.I.Inlet.rests c.args.linked.now
 
-pub returns-then-at_once-clause-tried : goal.returns-then-at_once-clause-tried
-returns-then-at_once-clause-tried g c = λ whole due. c.retry_of.ensures.tried whole
+pub returns-then-ready-clause-tried : goal.returns-then-ready-clause-tried
+returns-then-ready-clause-tried g c = λ whole due. c.retry_of.ensures.tried whole
 
 pub returns-in-Ok-true-clause-tried : goal.returns-in-Ok-true-clause-tried
 returns-in-Ok-true-clause-tried g c = λ whole due. c.retry_of-in-Ok-true.ensures.tried whole

@@ -1,4 +1,4 @@
-use Rattle.std.proofs.Common.{◌≡◌, ℕ, List, [], ◌∷◌, ◌++◌, Bool, length, sym, ap}
+use Rattle.std.proofs.Common.{◌≡◌, ◌++◌, Bool, length, ap}
 use Rattle.std.specs.Prelude.{codes, ◌==◌}
 use Rattle.std.specs.Option.{option_copied}
 use Rattle.std.specs.Str.{chars}

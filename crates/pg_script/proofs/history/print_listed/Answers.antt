@@ -1,4 +1,4 @@
-use Rattle.std.proofs.Common.{◌≡◌, ◌++◌}
+use Rattle.std.proofs.Common.{◌++◌}
 use Rattle.std.proofs.lemmas.Result.{on_ok_weaker}
 use Rattle.pg_text.specs.Writing.{update_text}
 use Rattle.pg_lines.proofs.Adds.{adds_both, adds_as}

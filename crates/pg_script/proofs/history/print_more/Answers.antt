@@ -1,4 +1,4 @@
-use Rattle.std.proofs.Common.{◌≡◌, ℕ, List, [], ◌∷◌, ◌++◌, take, add-one, sym}
+use Rattle.std.proofs.Common.{[], ◌∷◌, ◌++◌, take, add-one, sym}
 use Rattle.pg_text.specs.Writing.{update_text}
 use Rattle.pg_script.specs.Histories.{more_entries}
 use Rattle.pg_lines.proofs.Adds.{adds_both, adds_as, more_at}

@@ -1,4 +1,4 @@
-use Rattle.std.proofs.Common.{◌≡◌, ℕ, List, [], ◌∷◌, ◌++◌, take, add-one, sym}
+use Rattle.std.proofs.Common.{◌++◌, take, add-one, sym}
 use Rattle.pg_lines.specs.Printing.{answer_line}
 use Rattle.pg_script.specs.Runs.{answer_lines}
 use Rattle.pg_lines.proofs.Adds.{adds_both, adds_as, more_at}

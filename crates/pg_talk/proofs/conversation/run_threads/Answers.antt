@@ -16,6 +16,8 @@ returns g c =
       judged = rw config at c.in_ok-agree.ensures;
       nodes_told = refl;
       clients_told = c.all_clients.ensures;
+      limits = rw same.cluster c.in_ok-running.ensures.limit;
+      spoke = c.in_ok-heard.ensures.spoke;
       answered_told = c.in_ok-heard.ensures.answered;
       asked_told = c.commands.ensures;
     }

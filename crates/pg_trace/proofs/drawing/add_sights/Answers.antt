@@ -1,4 +1,4 @@
-use Rattle.std.proofs.Common.{◌≡◌, ◌++◌, List, append_assoc, take, ap, sym, ◌∙◌}
+use Rattle.std.proofs.Common.{◌++◌, List, append_assoc, take, ap, sym, ◌∙◌}
 use Rattle.std.proofs.lemmas.List.{append-nil, take_all}
 use Rattle.std.specs.List.{flat_map}
 use Rattle.pg_trace.specs.declared.seen.Sight.{Sight}

@@ -9,6 +9,7 @@ use Rattle.pg_cluster.specs.Judges.{AreShown, all_made, ran_out}
 use Rattle.pg_cluster.proofs.Judging.{replays_losing, replays_so}
 use Rattle.pg_frame_world.proofs.OrderedOnce.{only_memory}
 use Rattle.pg_cluster.proofs.Replaying.{never_no, unbegun_so}
+use Rattle.pg_cluster.proofs.ReplayingLosses.{never_no_losing, unbegun_losing}
 use Rattle.pg_cluster.proofs.closed.Closed.replays.Goals as goal
 
 pub returns-in-Ok : goal.returns-in-Ok
@@ -23,6 +24,7 @@ returns-in-Ok c =
     let shown = subst (λ ns. IfOk c.is_shown-told.result (λ yes. IsTrue yes ↔ ((all_made ns ≡ true) × AreShown (view_of c.in-Ok.world).traffic.nodes nodes))) c.as_slice-in-Ok.ensures.value told.shown in
     let made = subst (λ ns. IfOk c.is_shown-told.result (λ yes. ran_out ns ≡ false)) c.as_slice-in-Ok.ensures.value told.all_made in record {
       one_run = never_no c.args.config.now.ring given nodes (map (λ v. v.items) c.args.self.now.logs.items) schedule (view_of c.in-Ok.world) numbers c.is_shown-told.result ran shown made;
+      losing_run = never_no_losing c.args.config.now.ring given nodes schedule (view_of c.in-Ok.world) (lost_of c.in-Ok.world) numbers c.is_shown-told.result ran_losing shown made;
       losing = replays_losing given schedule nodes c.in-Ok.world numbers c.is_shown-told.result ran_losing shown;
       replays = replays_so given schedule nodes c.in-Ok.world numbers c.is_shown-told.result ran shown;
     }
@@ -30,4 +32,9 @@ returns-in-Ok c =
 pub returns-in-Err-clause-one_run : goal.returns-in-Err-clause-one_run
 returns-in-Err-clause-one_run c =
     unbegun_so c.args.config.now.ring c.args.config.now.starts.items c.args.self.now.nodes.items (map (λ v. v.items) c.args.self.now.logs.items) c.args.self.now.schedule.items c.in-Err.fault c.unbegun.result
+    (only_memory c.configs_are_decided.ensures c.args.config.now.ring c.args.config.now.starts.items c.in-Err.fault) c.in-Err.ensures.fault c.unbegun.ensures
+
+pub returns-in-Err-clause-losing_run : goal.returns-in-Err-clause-losing_run
+returns-in-Err-clause-losing_run c =
+    unbegun_losing c.args.config.now.ring c.args.config.now.starts.items c.args.self.now.nodes.items c.args.self.now.schedule.items c.in-Err.fault c.unbegun.result
     (only_memory c.configs_are_decided.ensures c.args.config.now.ring c.args.config.now.starts.items c.in-Err.fault) c.in-Err.ensures.fault c.unbegun.ensures

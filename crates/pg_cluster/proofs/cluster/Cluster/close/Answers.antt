@@ -1,6 +1,6 @@
 use Rattle.pg_cluster.specs.Closed.{lost_of, threads_of}
 use Rattle.pg_cluster.proofs.Agreed.{closed_agree}
-use Rattle.pg_cluster.proofs.Finishing.{finished_ended, finished_run, finished_clients, finished_losing, finished_losing_run, finished_lost, finished_schedule, ended_merely, heard_merely, stopped_joins}
+use Rattle.pg_cluster.proofs.Finishing.{finished_ended, finished_run, finished_clients, finished_losing, finished_losing_run, finished_lost, finished_schedule, ended_merely, heard_merely, stopped_joins, stopped_joins_losing}
 use Rattle.pg_cluster.proofs.cluster.Cluster.close.Goals as goal
 
 pub returns-clause-ended : goal.returns-clause-ended
@@ -49,3 +49,7 @@ returns-clause-clients g c = finished_clients c.args.clients.items c.stop-stoppe
 pub returns-clause-joins : goal.returns-clause-joins
 returns-clause-joins g c =
     stopped_joins c.threads_are_one_run.ensures (lost_of c.args.self) (threads_of c.args.self) c.stop-stopped.result c.finish.result c.stop-stopped.ensures.alone c.finish.ensures.err
+
+pub returns-clause-joins_losing : goal.returns-clause-joins_losing
+returns-clause-joins_losing g c =
+    stopped_joins_losing c.threads_are_one_losing_run.ensures (lost_of c.args.self) (threads_of c.args.self) c.stop-stopped.result c.finish.result c.stop-stopped.ensures.ended c.finish.ensures.err

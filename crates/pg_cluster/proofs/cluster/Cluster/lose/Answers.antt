@@ -5,11 +5,12 @@ use Rattle.pg_ring.specs.Slots.{AreSlots}
 use Rattle.pg_cluster.specs.Clients.{AllPairs, ports_begun}
 use Rattle.pg_cluster.specs.Ended.{AreWired}
 use Rattle.pg_cluster.specs.Members.{is_lost, last_of, lasts_in, losses_in}
-use Rattle.pg_cluster.specs.Notices.{NobodyLost, SaysLost}
+use Rattle.pg_cluster.specs.Notices.{HaveRoom, NobodyLost, SaysLost}
 use Rattle.pg_cluster.specs.Room.{HasRoom}
 use Rattle.pg_cluster.specs.Threads.{rows_begun, notices_begun}
 use Rattle.std.proofs.lemmas.List.{get_or_default}
 use Rattle.pg_cluster.proofs.Holding.{last_set, lasts_set, losses_set, not_lost_again, threads_set}
+use Rattle.pg_cluster.proofs.Rooms.{all_notified, room_on}
 use Rattle.pg_cluster.proofs.Telling.{says_on, somebody_lost, tellers_later}
 use Rattle.pg_cluster.proofs.cluster.Cluster.lose.Goals as goal
 
@@ -24,7 +25,7 @@ invariant_of-self g c =
     let no = c.if-is_lost.false in
     let told = c.is_lost.ensures in
     ap is_lost (c.index_mut-member.ensures.value ∙ (get_or_default members c.args.node c.index_mut-member.result.now c.index.result.now low ∙ sym c.index.ensures)) ∙ cc in
-    let marks : get_or (losses_in members) c.args.node false ≡ false =
+    let unmarked : get_or (losses_in members) c.args.node false ≡ false =
     get_or-map is_lost members c.args.node c.index_mut-member.result.now false low ∙ (sym (ap is_lost c.index_mut-member.ensures.value) ∙ runs) in
     let lasts = lasts_set members c.args.node c.stop-last.new.self low in
     let clocks = length-map members last_of in
@@ -40,8 +41,11 @@ invariant_of-self g c =
       wired = subst (λ ts. AreWired (length ts) (rows_begun ts)) (sym threads) self.wired;
       told = tellers_later self.tellers.items c.tell_all.new.tellers.items _ (subst (λ ts. AllPairs AreSlots self.tellers.items (notices_begun ts)) (sym threads) self.told) c.tell_all.ensures.same;
       says = subst (λ lost. ∥ SaysLost lost (lasts_in (set members c.args.node c.stop-last.new.self)) c.tell_all.new.tellers.items ∥₁) (sym losses)
-          (∥∥₁_map self.says (says_on (losses_in members) (lasts_in members) (lasts_in (set members c.args.node c.stop-last.new.self)) self.tellers.items c.tell_all.new.tellers.items c.args.node c.stop-last.result marked marks
-          here others c.tell_all.ensures.told));
+          (∥∥₁_map self.says (says_on (losses_in members) (lasts_in members) (lasts_in (set members c.args.node c.stop-last.new.self)) self.tellers.items c.tell_all.new.tellers.items c.args.node c.stop-last.result marked unmarked
+          here others self.roomy.count
+          (all_notified (losses_in members) self.tellers.items c.tell_all.new.tellers.items c.args.node c.stop-last.result marked unmarked self.roomy c.tell_all.ensures.told)));
+      roomy = subst (λ lost. HaveRoom lost c.tell_all.new.tellers.items) (sym losses)
+          (room_on (losses_in members) self.tellers.items c.tell_all.new.tellers.items c.args.node c.stop-last.result marked unmarked self.roomy c.tell_all.ensures.told c.tell_all.ensures.same);
       untold = λ nobody. somebody_lost (losses_in members) c.args.node (let n = length-map members is_lost in omega (arith, low, n)) (subst NobodyLost losses nobody);
     }
 
@@ -65,8 +69,11 @@ returns-clause-told g c =
     let runs : is_lost c.index_mut-member.result.now ≡ false =
     let no = c.if-is_lost.false in
     let told = c.is_lost.ensures in
-    ap is_lost (c.index_mut-member.ensures.value ∙ (get_or_default members c.args.node c.index_mut-member.result.now c.index.result.now low ∙ sym c.index.ensures)) ∙ cc in record {
+    ap is_lost (c.index_mut-member.ensures.value ∙ (get_or_default members c.args.node c.index_mut-member.result.now c.index.result.now low ∙ sym c.index.ensures)) ∙ cc in
+    let unmarked : get_or (losses_in members) c.args.node false ≡ false =
+    get_or-map is_lost members c.args.node c.index_mut-member.result.now false low ∙ (sym (ap is_lost c.index_mut-member.ensures.value) ∙ runs) in
+    let marked : c.args.node < length (losses_in members) = let n = length-map members is_lost in omega (arith, low, n) in record {
       last = c.stop-last.result;
       clock = last_set members c.args.node c.stop-last.new.self c.stop-last.result low (c.stop-last.ensures.last runs);
-      told = c.tell_all.ensures.told;
+      told = all_notified (losses_in members) c.args.self.now.tellers.items c.tell_all.new.tellers.items c.args.node c.stop-last.result marked unmarked c.args.self.now.roomy c.tell_all.ensures.told;
     }

@@ -1,7 +1,7 @@
-use Rattle.std.proofs.Common.{arith, ◌≡◌, length, vec_len, sym, ◌∙◌, subst}
+use Rattle.std.proofs.Common.{arith, ◌≡◌, ◌≤◌, length, vec_len, sym, ◌∙◌, subst}
 use Rattle.pg_ring.specs.Slots.{AreSlots}
 use Rattle.pg_cluster.specs.Members.{is_lost, lasts_in, losses_in, thread_of, threads_in}
-use Rattle.pg_cluster.specs.Notices.{IsFresh, IsSilent as IsSilentTeller}
+use Rattle.pg_cluster.specs.Notices.{IsFresh, IsRoomy, IsSilent as IsSilentTeller}
 use Rattle.pg_cluster.specs.Threads.{notices_begun}
 use Rattle.std.proofs.lemmas.List.{length-map}
 use Rattle.pg_run.specs.Ports.{ArePort, IsSilent}
@@ -9,6 +9,7 @@ use Rattle.pg_cluster.specs.Clients.{IsOpen, ports_begun}
 use Rattle.pg_cluster.specs.Room.{HasRoom}
 use Rattle.pg_cluster.specs.Threads.{AreMade}
 use Rattle.pg_cluster.proofs.Paired.{pairs_left, pairs_so}
+use Rattle.pg_cluster.proofs.Rooms.{room_first}
 use Rattle.pg_cluster.proofs.Telling.{says_none}
 use Rattle.pg_run.specs.Runs.{notices_at}
 use Rattle.pg_cluster.specs.Threads.{begun_by}
@@ -34,15 +35,20 @@ invariant_of-cluster g c =
     let told : c.len-2.result ≡ length clients.items = c.len-2.ensures ∙ clients.ok.0 in
     let places : c.len-2.result ≡ length (ports_begun threads) = told ∙ opened.len in
     let room = has.rans.1 in
-    let marks = has.lost.1 in record {
+    let marks = has.lost.1 in
+    let same_count : length tellers ≡ length (losses_in members.items) =
+    let marks = length-map members.items is_lost in let all = length-map threads (λ t. notices_at (begun_by t)) in fresh.len ∙ (all ∙ (mapped ∙ sym marks)) in
+    let few : length (losses_in members.items) ≤ 16 =
+    let marks = length-map members.items is_lost in let most = c.in_ok-made.ensures.made.few in let count = c.in_ok-made.ensures.made.count in omega (arith, marks, mapped, same, most, count) in record {
       lost_fit = (has.lost.0, omega arith);
       rans_fit = (has.rans.0, omega arith);
       room_fits = subst (λ n. HasRoom kept.room n (length (ports_begun threads))) (count ∙ sym size) (subst (HasRoom kept.room c.len.result) places has.room);
       wired = started_wired c.args.config.now.starts.items runs.items c.args.limit threads c.in_ok-made.ensures.made started;
       told = pairs_so IsFresh AreSlots (λ teller inlet both. both.0) tellers (notices_begun threads) fresh;
       says = ∣ says_none (losses_in members.items) (lasts_in members.items) tellers
-          (let marks = length-map members.items is_lost in let all = length-map threads (λ t. notices_at (begun_by t)) in fresh.len ∙ (all ∙ (mapped ∙ sym marks)))
+          same_count
           (pairs_left IsFresh IsSilentTeller (λ teller inlet both. both.1) tellers (notices_begun threads) fresh) ∣₁;
+      roomy = room_first (losses_in members.items) tellers same_count few (pairs_left IsFresh IsRoomy (λ teller inlet both. both.2) tellers (notices_begun threads) fresh);
       untold = λ nobody. pairs_left IsFresh IsSilentTeller (λ teller inlet both. both.1) tellers (notices_begun threads) fresh;
     }
 

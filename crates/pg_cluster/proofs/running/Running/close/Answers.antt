@@ -1,11 +1,11 @@
 use Rattle.std.proofs.Common.{map}
 use Rattle.pg_cluster.specs.Clients.{AllHeard}
-use Rattle.pg_cluster.specs.Closed.{logs_of, nodes_of, threads_of, lost_of}
+use Rattle.pg_cluster.specs.Closed.{JoinsToOneLosingRun, JoinsToOneRun, logs_of, nodes_of, threads_of, lost_of}
 use Rattle.pg_cluster.specs.Judges.{Agree}
 use Rattle.pg_cluster.specs.Notices.{NobodyLost}
 use Rattle.pg_cluster.specs.Threads.{AreMade, begun_by}
-use Rattle.pg_cluster.specs.Together.{AreOneRun}
-use Rattle.pg_cluster.proofs.Handing.{of_its_own, fact_of_its_own}
+use Rattle.pg_cluster.specs.Together.{AreOneLosingRun, AreOneRun}
+use Rattle.pg_cluster.proofs.Handing.{of_its_own, fact_of_its_own, fact_once, stopped_of_its_own, stopped_once}
 use Rattle.pg_cluster.proofs.running.Running.close.Goals as goal
 
 pub returns-clause-one_run : goal.returns-clause-one_run
@@ -23,3 +23,18 @@ returns-clause-heard g c =
     fact_of_its_own (λ given. AreMade given (map begun_by (threads_of c.args.self.cluster))) c.args.self.config.starts.items c.args.self.made
     (λ closed. AllHeard (threads_of c.args.self.cluster) closed.nodes.items (map (λ v. v.items) closed.logs.items) c.args.self.clients.items)
     (λ stopped. AllHeard (threads_of c.args.self.cluster) (nodes_of stopped) (logs_of stopped) c.args.self.clients.items) c.close-closed.result c.close-closed.ensures.heard
+
+pub returns-clause-losing_run : goal.returns-clause-losing_run
+returns-clause-losing_run g c =
+    fact_once (λ given. AreMade given (map begun_by (threads_of c.args.self.cluster))) c.args.self.config.starts.items c.args.self.made
+    (λ given closed. AreOneLosingRun given (lost_of c.args.self.cluster) closed.nodes.items closed.schedule.items) c.close-closed.result c.close-closed.ensures.losing_run
+
+pub returns-clause-joins : goal.returns-clause-joins
+returns-clause-joins g c =
+    stopped_of_its_own (λ given. AreMade given (map begun_by (threads_of c.args.self.cluster))) c.args.self.config.starts.items c.args.self.made (NobodyLost (lost_of c.args.self.cluster))
+    (λ given stopped. JoinsToOneRun given (nodes_of stopped) (logs_of stopped)) c.close-closed.result c.close-closed.ensures.joins
+
+pub returns-clause-joins_losing : goal.returns-clause-joins_losing
+returns-clause-joins_losing g c =
+    stopped_once (λ given. AreMade given (map begun_by (threads_of c.args.self.cluster))) c.args.self.config.starts.items c.args.self.made
+    (λ given stopped. JoinsToOneLosingRun given (lost_of c.args.self.cluster) (nodes_of stopped) (logs_of stopped)) c.close-closed.result c.close-closed.ensures.joins_losing

@@ -1,9 +1,10 @@
 use Rattle.std.proofs.Common.{◌<◌, ◌∙◌, ◌++◌, length, sym, ap, arith, subst}
 use Rattle.std.specs.Prelude.{slice_set}
 use Rattle.std.proofs.lemmas.List.{length-map}
-use Rattle.pg_node.specs.States.{state_of, answers_of}
+use Rattle.pg_node_state.specs.States.{state_of, answers_of}
 use Rattle.pg_step.specs.Step.{Issue}
-use Rattle.pg_frame_world.specs.Views.{seen_of, ways_of, packets_to, traffic_in, HaveRoom, IsWhole}
+use Rattle.pg_starts.specs.Seen.{seen_of}
+use Rattle.pg_frame_world.specs.Views.{ways_of, packets_to, traffic_in, HaveRoom, IsWhole}
 use Rattle.pg_frame_world.proofs.Ported.{port_there, port_place}
 use Rattle.pg_machine.specs.Machine.{Do}
 use Rattle.std.specs.Prelude.{None, refl}

@@ -1,10 +1,10 @@
 use Rattle.std.proofs.Common.{◌≡◌, ◌∙◌, List, map, sym}
 use Rattle.std.proofs.lemmas.Result.{IfOk-weaker}
 use Rattle.pg_group.specs.declared.table.GroupTable.{Ghosts}
-use Rattle.pg_node.specs.declared.state.NodeState.{NodeState}
+use Rattle.pg_node_state.specs.declared.state.NodeState.{NodeState}
 use Rattle.pg_opens.proofs.Named.{clash}
 use Rattle.pg_frame_world.specs.Alike.{without_clock}
-use Rattle.pg_frame_world.specs.Views.{seen_of}
+use Rattle.pg_starts.specs.Seen.{seen_of}
 use Rattle.pg_frame_world.proofs.world.FrameNodes.is_alike.Goals as goal
 
 all_seen : {T : Type 0} {g : Ghosts T} (nodes others : List (NodeState T g)) → nodes ≡ others → map without_clock (map seen_of nodes) ≡ map without_clock (map seen_of others)

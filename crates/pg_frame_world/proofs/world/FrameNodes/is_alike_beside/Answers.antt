@@ -6,7 +6,8 @@ use Rattle.pg_frame_world.specs.declared.outgoing.Outgoing.{Outgoing}
 use Rattle.pg_frame_world.specs.Alike.{without_stamps}
 use Rattle.pg_account.specs.Agreeing.{HaveSameUpdates}
 use Rattle.pg_account.specs.Histories.{account_of}
-use Rattle.pg_frame_world.specs.Views.{seen_of, ways_of}
+use Rattle.pg_starts.specs.Seen.{seen_of}
+use Rattle.pg_frame_world.specs.Views.{ways_of}
 use Rattle.pg_frame_world.proofs.world.FrameNodes.is_alike_beside.Goals as goal
 use Rattle.pg_frame_world.proofs.world.FrameNodes.is_alike_beside.Goals.{then-same, else-same}
 

@@ -1,7 +1,8 @@
 use Rattle.std.proofs.Common.{◌≡◌, ◌<◌, ◌∙◌, true, false, length, refl, sym, arith}
 use Rattle.std.proofs.lemmas.List.{length-map}
 use Rattle.pg_frame_world.specs.Losing.{lost_of}
-use Rattle.pg_frame_world.specs.Views.{seen_of, ways_of}
+use Rattle.pg_starts.specs.Seen.{seen_of}
+use Rattle.pg_frame_world.specs.Views.{ways_of}
 use Rattle.pg_frame_world.specs.Worlds.{view_of}
 use Rattle.pg_frame_world.proofs.Dropped.{cut_there, cut_others, cut_whole, few_or_many, lost_before, too_many, lost_now}
 use Rattle.pg_frame_world.proofs.world.FrameNodes.lose.Goals as goal

@@ -2,7 +2,7 @@ use Rattle.std.proofs.Common.{[], ◌∷◌, ◌<◌, ◌∙◌, ap, arith, leng
 use Rattle.std.proofs.lemmas.List.{length-map, map-append}
 use Rattle.pg_frame_world.specs.Losing.{lost_of}
 use Rattle.pg_frame_world.specs.Pending.{left_from, lent_as}
-use Rattle.pg_frame_world.specs.Views.{seen_of}
+use Rattle.pg_starts.specs.Seen.{seen_of}
 use Rattle.pg_frame_world.proofs.Listed.{next_left, next_lost}
 use Rattle.pg_frame_world.proofs.world.FrameNodes.nodes_left.Goals as goal
 use Rattle.pg_frame_world.proofs.world.FrameNodes.nodes_left.Goals.{then-not-has+in_ok-push, else-not-has}

@@ -4,9 +4,10 @@ use Rattle.std.proofs.lemmas.List.{map-set}
 use Rattle.pg_machine.specs.Clocked.{Timed}
 use Rattle.pg_opens.specs.Places.{name_at}
 use Rattle.pg_step.specs.State.{State}
-use Rattle.pg_node.specs.States.{names_of, state_of, answers_of, step_see_loss, Comes}
+use Rattle.pg_node_state.specs.States.{names_of, state_of, answers_of, step_see_loss, Comes}
 use Rattle.pg_frame_world.specs.Losing.{lost_of}
-use Rattle.pg_frame_world.specs.Views.{seen_of, ways_of, traffic_in}
+use Rattle.pg_starts.specs.Seen.{seen_of}
+use Rattle.pg_frame_world.specs.Views.{ways_of, traffic_in}
 use Rattle.pg_frame_world.specs.Worlds.{view_of}
 use Rattle.pg_frame_world.proofs.Recording.{view_is}
 use Rattle.pg_frame_world.proofs.Seeing.{packets_not_drained, seen_whole, packets_sight_refused, packets_sight_seen}

@@ -3,8 +3,9 @@ use Rattle.std.specs.Prelude.{slice_set}
 use Rattle.std.proofs.lemmas.List.{get_or-set_other}
 use Rattle.pg_opens.specs.Places.{name_at}
 use Rattle.pg_step.specs.Step.{step_take}
-use Rattle.pg_node.specs.States.{names_of, nodes_of, state_of, answers_of, stamped_of, Comes}
-use Rattle.pg_frame_world.specs.Views.{seen_of, ways_of, packets_to, first_of, traffic_in, peer_place, HaveRoom, IsWhole}
+use Rattle.pg_node_state.specs.States.{names_of, nodes_of, state_of, answers_of, stamped_of, Comes}
+use Rattle.pg_starts.specs.Seen.{seen_of}
+use Rattle.pg_frame_world.specs.Views.{ways_of, packets_to, first_of, traffic_in, peer_place, HaveRoom, IsWhole}
 use Rattle.pg_frame_world.proofs.Taking.{taker_there, row_there, apart, taker_place, sender_place, sender_way, passed_whole, passed_here, passed_else}
 use Rattle.pg_machine.specs.Machine.{Take}
 use Rattle.std.specs.Prelude.{refl}

@@ -1,6 +1,6 @@
 use Rattle.std.proofs.Common.{◌≡◌, map, take}
 use Rattle.pg_frame_world.specs.Alike.{without_clock}
-use Rattle.pg_frame_world.specs.Views.{seen_of}
+use Rattle.pg_starts.specs.Seen.{seen_of}
 use Rattle.pg_frame_world.proofs.world.alike.are_alike.Given as goal
 
 -- those so far are the same

@@ -6,7 +6,7 @@ use Rattle.pg_step.specs.Nodes.{Node}
 use Rattle.pg_step.specs.State.{State}
 use Rattle.pg_node.specs.Begun.{Begins}
 use Rattle.pg_node.specs.Nodes.{links_of}
-use Rattle.pg_node.specs.States.{names_of, state_of}
+use Rattle.pg_node_state.specs.States.{names_of, state_of}
 use Rattle.pg_node.proofs.Linked.{as_ok}
 use Rattle.pg_node.proofs.node.Node.new.Goals as goal
 

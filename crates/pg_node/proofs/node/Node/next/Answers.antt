@@ -1,7 +1,7 @@
 use Rattle.std.proofs.Common.{◌<◌, ◌∙◌, Err, length, refl, sym, arith, subst}
 use Rattle.pg_step.specs.declared.refusal.Refusal.TheVariants.{NodeLost}
-use Rattle.pg_node.specs.declared.state.fault.NodeFault.{NodeFault}
-use Rattle.pg_node.specs.declared.state.fault.NodeFault.TheVariants.{Refused}
+use Rattle.pg_node_state.specs.declared.state.fault.NodeFault.{NodeFault}
+use Rattle.pg_node_state.specs.declared.state.fault.NodeFault.TheVariants.{Refused}
 use Rattle.pg_node.specs.Bytes.{Tells, next_packet, marked}
 use Rattle.pg_node.specs.Links.{Link, link_of, idle_link, links_in}
 use Rattle.pg_node.specs.Nodes.{read_next}

@@ -1,7 +1,8 @@
 use Rattle.std.proofs.Common.{◌∙◌, ℕ, List, Err, ap, subst}
 use Rattle.pg_message.specs.declared.packet.Packet.{Packet}
-use Rattle.pg_node.specs.Links.{Link, links_in, frames_to, with_more, AreSmallFrames}
-use Rattle.pg_node.specs.States.{state_of}
+use Rattle.pg_node_state.specs.Frames.{frames_to, AreSmallFrames}
+use Rattle.pg_node.specs.Links.{Link, links_in, with_more}
+use Rattle.pg_node_state.specs.States.{state_of}
 use Rattle.pg_node.proofs.Events.{in_room}
 use Rattle.pg_node.proofs.node.Node.retry.Goals as goal
 

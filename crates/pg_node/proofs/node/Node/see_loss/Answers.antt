@@ -3,10 +3,10 @@ use Rattle.pg_opens.specs.Places.{name_at}
 use Rattle.pg_step.specs.declared.refusal.Refusal.{Refusal}
 use Rattle.pg_step.specs.declared.refusal.Refusal.TheVariants.{NodeLost, NotDrained}
 use Rattle.pg_step.specs.Step.{TimedTurn}
-use Rattle.pg_node.specs.declared.state.fault.NodeFault.TheVariants.{Refused}
+use Rattle.pg_node_state.specs.declared.state.fault.NodeFault.TheVariants.{Refused}
 use Rattle.pg_node.specs.Bytes.{closed, is_drained}
 use Rattle.pg_node.specs.Links.{link_of, idle_link}
-use Rattle.pg_node.specs.States.{names_of, state_of, answers_of, step_see_loss, Comes}
+use Rattle.pg_node_state.specs.States.{names_of, state_of, answers_of, step_see_loss, Comes}
 use Rattle.pg_node.proofs.Linked.{part_here, one_link}
 use Rattle.pg_node.proofs.node.Node.see_loss.Goals as goal
 

@@ -6,7 +6,7 @@ use Rattle.pg_opens.specs.Places.{name_at}
 use Rattle.pg_node.specs.Bytes.{next_packet, marked, passed}
 use Rattle.pg_node.specs.Links.{Link, links_in, at_link}
 use Rattle.pg_node.specs.Nodes.{has_lost, read_next, step_link, taken_of, TakesNext, sent_out}
-use Rattle.pg_node.specs.States.{names_of, nodes_of, state_of, answers_of}
+use Rattle.pg_node_state.specs.States.{names_of, nodes_of, state_of, answers_of}
 use Rattle.pg_node.proofs.Events.{tells_ok, next_err, read_is, step_read}
 use Rattle.pg_node.proofs.Linked.{on_err}
 use Rattle.pg_node.proofs.node.Node.take.Goals as goal

@@ -1,9 +1,10 @@
 use Rattle.std.proofs.Common.{◌≡◌, ◌<◌, ◌∙◌, ℕ, List, Err, length, refl, sym, ap, arith, subst}
 use Rattle.pg_message.specs.declared.packet.Packet.{Packet}
-use Rattle.pg_node.specs.declared.state.fault.NodeFault.TheVariants.{OutOfMemory}
+use Rattle.pg_node_state.specs.declared.state.fault.NodeFault.TheVariants.{OutOfMemory}
 use Rattle.pg_node.specs.Bytes.{marked}
-use Rattle.pg_node.specs.Links.{links_in, at_link, frames_to, with_more, AreSmallFrames}
-use Rattle.pg_node.specs.States.{state_of}
+use Rattle.pg_node_state.specs.Frames.{frames_to, AreSmallFrames}
+use Rattle.pg_node.specs.Links.{links_in, at_link, with_more}
+use Rattle.pg_node_state.specs.States.{state_of}
 use Rattle.pg_node.proofs.Linked.{one_link}
 use Rattle.pg_node.proofs.Events.{unmarked, sent_links, in_room}
 use Rattle.pg_node.proofs.node.Node.take_read.Goals as goal

@@ -1,7 +1,7 @@
 use Rattle.std.proofs.Common.{ap, refl, ◌∙◌, ◌+◌}
 use Rattle.pg_node.specs.Bytes.{next_packet}
-use Rattle.pg_node.specs.Issued.{ports_of}
-use Rattle.pg_node.specs.States.{names_of, nodes_of, state_of, answers_of}
+use Rattle.pg_node_state.specs.Issued.{ports_of}
+use Rattle.pg_node_state.specs.States.{names_of, nodes_of, state_of, answers_of}
 use Rattle.pg_opens.specs.Places.{name_at}
 use Rattle.pg_node.specs.Nodes.{held_by, links_of, has_lost}
 use Rattle.pg_node.proofs.Events.{tells_ok, read_is}

@@ -1,7 +1,7 @@
 use Rattle.std.proofs.Common.{refl, ◌+◌, arith}
 use Rattle.pg_node.specs.Bytes.{next_packet}
 use Rattle.pg_node.specs.Nodes.{held_by, links_of}
-use Rattle.pg_node.specs.States.{names_of, nodes_of, kept_by, state_of, answers_of, stamped_of}
+use Rattle.pg_node_state.specs.States.{names_of, nodes_of, kept_by, state_of, answers_of, stamped_of}
 use Rattle.pg_opens.specs.Places.{name_at}
 use Rattle.pg_step.specs.Step.{step_take}
 use Rattle.pg_run.proofs.Acting.{fault_done, refused_as, told_read}

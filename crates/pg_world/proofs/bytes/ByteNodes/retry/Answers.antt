@@ -1,7 +1,7 @@
 use Rattle.std.proofs.Common.{refl, sym, subst}
 use Rattle.pg_step.specs.Step.{Retry}
 use Rattle.pg_node.specs.Nodes.{held_by}
-use Rattle.pg_node.specs.States.{state_of, answers_of}
+use Rattle.pg_node_state.specs.States.{state_of, answers_of}
 use Rattle.pg_world.specs.Crossings.{Crossing, crossing_of, node_of, written_of, ShowsBytesPast}
 use Rattle.pg_account.specs.Histories.{account_of}
 use Rattle.pg_world.proofs.Linked.{alone, port_place, seen_there, nodes_set, seen_kept, own_acts, node_same, nodes_kept}

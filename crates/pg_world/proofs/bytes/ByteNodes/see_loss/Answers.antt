@@ -9,10 +9,10 @@ use Rattle.pg_account.specs.Losses.{lost_in}
 use Rattle.pg_node.specs.Bytes.{closed}
 use Rattle.pg_node.specs.Links.{Link, at_link}
 use Rattle.pg_node.specs.Nodes.{held_by, links_of}
-use Rattle.pg_node.specs.States.{names_of, state_of, answers_of}
+use Rattle.pg_node_state.specs.States.{names_of, state_of, answers_of}
 use Rattle.pg_account.specs.Histories.{account_of}
 use Rattle.pg_frame_world.specs.Views.{peer_place}
-use Rattle.pg_node.specs.declared.state.fault.NodeFault.TheVariants.{Refused}
+use Rattle.pg_node_state.specs.declared.state.fault.NodeFault.TheVariants.{Refused}
 use Rattle.pg_world.proofs.over_bytes.Drained.{bytes_there, left_there, undrained_told}
 use Rattle.pg_world.proofs.over_bytes.Lost.{sight_not_lost, sight_made, sight_held}
 use Rattle.pg_world.proofs.over_bytes.Seen.{peer_clock, closed_bytes, step_there}

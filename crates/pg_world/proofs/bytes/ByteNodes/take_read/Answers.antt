@@ -5,7 +5,7 @@ use Rattle.pg_step.specs.Step.{step_take}
 use Rattle.pg_node.specs.Bytes.{next_packet, passed}
 use Rattle.pg_node.specs.Links.{Link, at_link}
 use Rattle.pg_node.specs.Nodes.{held_by, links_of, sent_out, ComesInRoom}
-use Rattle.pg_node.specs.States.{names_of, nodes_of, state_of, answers_of, stamped_of}
+use Rattle.pg_node_state.specs.States.{names_of, nodes_of, state_of, answers_of, stamped_of}
 use Rattle.pg_world.specs.Crossings.{Crossing, crossing_in, crossing_of, node_of, written_of, ShowsBytesPast}
 use Rattle.pg_account.specs.Histories.{account_of, asked_by}
 use Rattle.pg_frame_world.specs.Views.{peer_place}

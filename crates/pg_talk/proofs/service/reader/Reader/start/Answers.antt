@@ -3,6 +3,9 @@ use denote.Param.Send.{sendable}
 use Rattle.pg_talk.proofs.Sent.{reading_send}
 use Rattle.pg_talk.proofs.service.reader.Reader.start.Goals as goal
 
--- what the thread gets may cross
-pub spawn-requires-send-F : goal.spawn-requires-send-F
-spawn-requires-send-F g c κs within = let s = c.type_bounds.send-S in search (sendable, crosses, reading_send) depth 30
+-- what the thread gets and gives may cross
+pub spawn_with-requires-send-F : goal.spawn_with-requires-send-F
+spawn_with-requires-send-F g c κs within = let s = c.type_bounds.send-S in search (sendable, crosses, reading_send) depth 30
+
+pub spawn_with-requires-send-T : goal.spawn_with-requires-send-T
+spawn_with-requires-send-T g c κs within = let s = c.type_bounds.send-S in search (sendable, crosses, reading_send) depth 30

@@ -1,7 +1,8 @@
-use Rattle.pg_ring.specs.Slots.{taken}
+use Rattle.pg_ring.specs.Slots.{SameSlotIn, taken}
 use Rattle.pg_talk.specs.Servings.{Advances}
 use Rattle.pg_talk.proofs.service.serving.Serving.take_inputs.Given as goal
 
 -- what came until then was served
 abbrev pub invariant-loop-count : goal.invariant-loop-count
-invariant-loop-count g l = Advances l.fn.self l.self (taken l.fn.inlet) (taken l.inlet) (g.W.Sink.contents l.fn.writer) (g.W.Sink.contents l.writer)
+invariant-loop-count g l =
+    SameSlotIn l.fn.inlet l.inlet × Advances l.fn.self l.self (taken l.fn.inlet) (taken l.inlet) (g.W.Sink.contents l.fn.writer) (g.W.Sink.contents l.writer)

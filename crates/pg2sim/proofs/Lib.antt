@@ -1,4 +1,0 @@
-pub mod Ends
-pub mod Inputs
-pub mod Numbers
-pub mod Telling

@@ -1,0 +1,84 @@
+//! The system that the program runs on.
+
+ghost use Rattle.std.specs.Prelude.{Result};
+ghost use Rattle.pg_talk.specs.declared.conversation.Conversation.{Conversation};
+ghost use Rattle.pg_talk.specs.declared.conversation.Outcome.{Outcome};
+ghost use Rattle.pg_cluster.specs.declared.fault.StartFault.{StartFault};
+
+use pg_cluster::StartFault;
+use pg_node::{AnyReader, Sink};
+use pg_program::System;
+use pg_progress::Progress;
+use pg_talk::{
+    Conversation, Onlooker, Outcome, Served, Service, ServiceFault, run_threads, serve_cluster,
+};
+use std::alloc::Global;
+use std::io::Write;
+use std::thread::Threads;
+use std::time::{Clock, Instant};
+use std::{fs, io};
+
+/// The system that runs the program: a conversation that it tells of took place. While one goes on, or an exploration, its progress is
+/// shown on the terminal. No clause says when a file can't be made.
+#[derive(Drop)]
+pub(crate) struct HostSystem<'a, R, T> {
+    pub(crate) alloc: Global,
+    pub(crate) rt: &'a HostRuntime,
+    pub(crate) threads: &'a R,
+    pub(crate) begun: Instant,
+    pub(crate) progress: Shown<T, &'a HostRuntime>,
+    pub(crate) exploring: Progress<T, &'a HostRuntime>,
+}
+
+/// A conversation's progress, on a terminal.
+#[derive(Drop)]
+pub(crate) struct Shown<T, C>(pub(crate) Progress<T, C>);
+
+impl<T: Write, C: Clock> Onlooker for Shown<T, C> {
+    fn look(&mut self, answered: u64, asked: u64) {
+        self.0.look(answered, asked);
+    }
+}
+
+impl<R: Threads, T: Write> System for HostSystem<'_, R, T> {
+    ghost use Rattle.std.specs.Prelude.{IfOk};
+    ghost use Rattle.pg_talk.specs.Conversations.{TookPlace};
+
+    ghost went = { λ a asked told b. IfOk told (TookPlace asked) };
+
+    fn put(&mut self, name: &str, bytes: &[u8]) -> io::Result<()> {
+        fs::write(self.rt, name, bytes)
+    }
+
+    fn converse(&mut self, asked: Conversation) -> Result<Outcome, StartFault> {
+        let told = run_threads(self.threads, self.alloc, asked, &mut self.progress);
+        self.progress.0.end();
+        told
+    }
+
+    fn get(&mut self, name: &str) -> io::Result<Vec<u8>> {
+        fs::read(self.rt, name)
+    }
+
+    fn serve<W: Sink>(&mut self, service: Service, writer: &mut W) -> Result<Served, ServiceFault> {
+        let source = AnyReader {
+            reader: self.rt.stdin(),
+        };
+        serve_cluster(self.threads, self.alloc, service, source, writer)
+    }
+
+    fn look(&mut self, explored: u64, limit: u64) {
+        self.exploring.look(explored, limit);
+    }
+
+    fn look_away(&mut self) {
+        self.exploring.end();
+    }
+
+    fn microseconds(&mut self) -> u64 {
+        match self.begun.elapsed(self.rt) {
+            Ok(time) => u64::try_from(time.as_micros()).unwrap_or(u64::MAX),
+            Err(_) => 0,
+        }
+    }
+}

@@ -1,0 +1,28 @@
+use Rattle.std.proofs.Common.{rules, ◌≡◌, ◌<◌, ◌≤◌, ◌||◌, ℕ, length, get_or, true, false, not, refl, sym, ap, ap₂, subst, ◌∙◌, arith, take_all}
+use Rattle.std.specs.Prelude.{◌&&◌, is_none, Bool}
+use Rattle.std.specs.List.{All}
+use Rattle.std.proofs.lemmas.List.Elements.{All-more}
+use Rattle.pg_frame_world.specs.Views.{peer_place}
+use Rattle.pg_node_state.specs.States.{kept_by}
+use Rattle.pg_cluster.specs.Judges.{HasAs, formed_in, is_end_pending, state_in}
+use Rattle.pg_cluster.specs.Survivors.{has_event, is_change_of, is_compared, is_loss_of, is_loss_pending, is_missing, is_take_of, log_at, survivors, was_lost}
+use Rattle.pg_cluster.proofs.Surviving.{AreOneAmong, IsAgreed, IsAgreedOn, all_survivors, any_found, any_none, any_survivor, each_survivor, log_here, missing_here, more_lost, more_nodes, more_places, no_survivor, not_each, one_so, or_right, so_one, survivors_all}
+use Rattle.pg_cluster.proofs.survivors.agrees_on.Goals as goal
+use Rattle.pg_cluster.proofs.survivors.agrees_on.Goals.{else-is_compared-via-then-is_compared+in_ok-have_as+else-not-branch, else-is_compared-via-else-is_compared}
+
+pub loop-name-preserved : goal.loop-name-preserved
+loop-name-preserved c =
+    let left = survivors c.args.lost.now c.args.nodes.now in
+    let compared = is_compared left c.args.lost.now c.args.logs.now in
+    let P = IsAgreedOn compared left c.args.node.now in
+    All-more P c.args.names.now c.loop-name.name-index c.name-item.result c.loop-name-test.true c.loop-name.invariant
+    (subst P c.name-item.is (elim c.else-is_compared.branch [
+      | else-is_compared-via-then-is_compared+in_ok-have_as+else-not-branch w ↦ λ is. w.in_ok-have_as.ensures.0 w.if-not-branch.false
+      | else-is_compared-via-else-is_compared w ↦ λ is. absurd (let clash : true ≡ false = sym is ∙ (sym c.is_compared.ensures ∙ w.if-is_compared.false) in cc)
+    ]))
+
+pub returns : goal.returns
+returns c =
+    let left = survivors c.args.lost.now c.args.nodes.now in
+    let P = IsAgreedOn (is_compared left c.args.lost.now c.args.logs.now) left c.args.node.now in
+    (λ so. subst (All P) (take_all c.loop-name.name-index c.args.names.now c.loop-name-test.false) c.loop-name.invariant, λ all. refl)

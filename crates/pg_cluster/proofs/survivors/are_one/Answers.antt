@@ -1,0 +1,43 @@
+use Rattle.std.proofs.Common.{rules, ◌≡◌, ◌<◌, ◌≤◌, ◌||◌, ℕ, length, get_or, true, false, not, refl, sym, ap, ap₂, subst, ◌∙◌, arith, take_all}
+use Rattle.std.specs.Prelude.{◌&&◌, is_none, Bool}
+use Rattle.std.specs.List.{All}
+use Rattle.std.proofs.lemmas.List.Elements.{All-more}
+use Rattle.pg_frame_world.specs.Views.{peer_place}
+use Rattle.pg_node_state.specs.States.{kept_by}
+use Rattle.pg_cluster.specs.Judges.{HasAs, formed_in, is_end_pending, state_in}
+use Rattle.pg_cluster.specs.Survivors.{has_event, is_change_of, is_compared, is_loss_of, is_loss_pending, is_missing, is_take_of, log_at, survivors, was_lost}
+use Rattle.pg_cluster.proofs.Surviving.{AreOneAmong, IsAgreed, IsAgreedOn, all_survivors, any_found, any_none, any_survivor, each_survivor, log_here, missing_here, more_lost, more_nodes, more_places, no_survivor, not_each, one_so, or_right, so_one, survivors_all}
+use Rattle.pg_cluster.proofs.survivors.are_one.Goals as goal
+use Rattle.pg_cluster.proofs.survivors.are_one.Goals.{else-not-was_lost-via-then-not-was_lost+in_ok-agrees_if_formed+else-not-branch, else-not-was_lost-via-else-not-was_lost}
+
+pub returns-then-not-branch : goal.returns-then-not-branch
+returns-then-not-branch c =
+    let lost = c.args.lost.now in
+    let left = survivors lost c.args.nodes.now in
+    let compared = is_compared left lost c.args.logs.now in
+    let P = IsAgreed compared left in (
+      λ e. absurd cc,
+      λ one. sym c.if-not-branch.true ∙ c.in_ok-agrees_if_formed.ensures.1
+          (subst P (sym c.index-nodes-place.is) (all_survivors P lost c.args.nodes.now (so_one compared left one) c.loop-place.place c.index-nodes-place.result c.loop-place-test.true (sym c.was_lost.ensures ∙ c.if-not-was_lost.true))),
+    )
+
+pub loop-place-preserved : goal.loop-place-preserved
+loop-place-preserved c =
+    let lost = c.args.lost.now in
+    let left = survivors lost c.args.nodes.now in
+    let P = IsAgreed (is_compared left lost c.args.logs.now) left in
+    elim c.else-not-was_lost.branch [
+      | else-not-was_lost-via-then-not-was_lost+in_ok-agrees_if_formed+else-not-branch w ↦
+          more_nodes P lost c.args.nodes.now c.loop-place.place w.index-nodes-place.result c.loop-place.invariant c.loop-place-test.true
+          (subst P w.index-nodes-place.is (w.in_ok-agrees_if_formed.ensures.0 w.if-not-branch.false))
+      | else-not-was_lost-via-else-not-was_lost w ↦
+          more_lost P lost c.args.nodes.now c.loop-place.place c.loop-place.invariant (sym c.was_lost.ensures ∙ w.if-not-was_lost.false)
+    ]
+
+pub returns : goal.returns
+returns c =
+    let lost = c.args.lost.now in
+    let left = survivors lost c.args.nodes.now in
+    let compared = is_compared left lost c.args.logs.now in
+    let past = c.loop-place-test.false in
+    (λ so. one_so compared left (survivors_all (IsAgreed compared left) lost c.args.nodes.now (λ k d low kept. c.loop-place.invariant k d (omega (arith, low, past)) kept)), λ one. refl)

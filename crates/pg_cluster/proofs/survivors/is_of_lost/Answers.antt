@@ -1,0 +1,34 @@
+use Rattle.std.proofs.Common.{rules, ◌≡◌, ◌<◌, ◌≤◌, ◌||◌, ℕ, length, get_or, true, false, not, refl, sym, ap, ap₂, subst, ◌∙◌, arith, take_all}
+use Rattle.std.specs.Prelude.{◌&&◌, is_none, Bool}
+use Rattle.std.specs.List.{All}
+use Rattle.std.proofs.lemmas.List.Elements.{All-more}
+use Rattle.pg_frame_world.specs.Views.{peer_place}
+use Rattle.pg_node_state.specs.States.{kept_by}
+use Rattle.pg_cluster.specs.Judges.{HasAs, formed_in, is_end_pending, state_in}
+use Rattle.pg_cluster.specs.Survivors.{has_event, is_change_of, is_compared, is_loss_of, is_loss_pending, is_missing, is_take_of, log_at, survivors, was_lost}
+use Rattle.pg_cluster.proofs.Surviving.{AreOneAmong, IsAgreed, IsAgreedOn, all_survivors, any_found, any_none, any_survivor, each_survivor, log_here, missing_here, more_lost, more_nodes, more_places, no_survivor, not_each, one_so, or_right, so_one, survivors_all}
+use Rattle.pg_cluster.proofs.survivors.is_of_lost.Goals as goal
+use Rattle.pg_cluster.proofs.survivors.is_of_lost.Goals.{then-asks, else-asks}
+
+pub returns-then-misses_packets : goal.returns-then-misses_packets
+returns-then-misses_packets c =
+    let lost = c.args.lost.now in
+    let logs = c.args.logs.now in
+    let name = c.args.name.now in
+    let node = c.loop-node.node in
+    let log = log_here logs node c.index-logs-node.result c.as_slice.result.now c.loop-node-test.true c.index-logs-node.is c.as_slice.ensures.value in
+    let one : (has_event (is_change_of name) (log_at logs node) || is_missing is_take_of lost logs node) ≡ true = elim c.if-asks.branch [
+      | then-asks w ↦ ap (λ b. b || is_missing is_take_of lost logs node) (sym (ap (has_event (is_change_of name)) log) ∙ (sym c.asks.ensures ∙ w.if-asks.true))
+      | else-asks w ↦ or_right (has_event (is_change_of name) (log_at logs node)) (is_missing is_take_of lost logs node) (sym w.misses_packets.ensures ∙ (sym w.value-is ∙ c.if-misses_packets.true))
+    ] in
+    sym (any_found (λ k. was_lost lost k && (has_event (is_change_of name) (log_at logs k) || is_missing is_take_of lost logs k)) node (length logs) c.loop-node-test.true
+    (ap₂ (λ a b. a && b) (sym c.was_lost.ensures ∙ c.if-was_lost.true) one))
+
+pub returns : goal.returns
+returns c =
+    let lost = c.args.lost.now in
+    let logs = c.args.logs.now in
+    let name = c.args.name.now in
+    let past = c.loop-node-test.false in
+    sym (any_none (λ k. was_lost lost k && (has_event (is_change_of name) (log_at logs k) || is_missing is_take_of lost logs k)) (length logs)
+    (λ k low. c.loop-node.invariant k (omega (arith, low, past))))

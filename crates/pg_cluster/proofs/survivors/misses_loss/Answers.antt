@@ -1,0 +1,41 @@
+use Rattle.std.proofs.Common.{rules, ◌≡◌, ◌<◌, ◌≤◌, ◌||◌, ℕ, length, get_or, true, false, not, refl, sym, ap, ap₂, subst, ◌∙◌, arith, take_all}
+use Rattle.std.specs.Prelude.{◌&&◌, is_none, Bool}
+use Rattle.std.specs.List.{All}
+use Rattle.std.proofs.lemmas.List.Elements.{All-more}
+use Rattle.pg_frame_world.specs.Views.{peer_place}
+use Rattle.pg_node_state.specs.States.{kept_by}
+use Rattle.pg_cluster.specs.Judges.{HasAs, formed_in, is_end_pending, state_in}
+use Rattle.pg_cluster.specs.Survivors.{has_event, is_change_of, is_compared, is_loss_of, is_loss_pending, is_missing, is_take_of, log_at, survivors, was_lost}
+use Rattle.pg_cluster.proofs.Surviving.{AreOneAmong, IsAgreed, IsAgreedOn, all_survivors, any_found, any_none, any_survivor, each_survivor, log_here, missing_here, more_lost, more_nodes, more_places, no_survivor, not_each, one_so, or_right, so_one, survivors_all}
+use Rattle.pg_cluster.proofs.survivors.misses_loss.Goals as goal
+use Rattle.pg_cluster.proofs.survivors.misses_loss.Goals.{else-not-was_lost-via-then-not-was_lost+else-not-saw, else-not-was_lost-via-else-not-was_lost}
+
+pub returns-then-not-saw : goal.returns-then-not-saw
+returns-then-not-saw c =
+    let lost = c.args.lost.now in
+    let logs = c.args.logs.now in
+    let place = c.loop-place.place in
+    sym (any_found (λ k. not (was_lost lost k) && not (has_event (is_loss_of (peer_place k c.args.node)) (log_at logs k))) place (length logs) c.loop-place-test.true
+    (missing_here is_loss_of lost logs c.args.node place c.place_among.result c.index-logs-place.result c.as_slice.result.now c.saw.result c.loop-place-test.true c.index-logs-place.is c.as_slice.ensures.value
+    c.place_among.ensures c.saw.ensures (sym c.was_lost.ensures ∙ c.if-not-was_lost.true) ∙ ap not c.if-not-saw.true))
+
+pub loop-place-preserved : goal.loop-place-preserved
+loop-place-preserved c =
+    let lost = c.args.lost.now in
+    let logs = c.args.logs.now in
+    let place = c.loop-place.place in
+    let Q = λ (k : ℕ). (not (was_lost lost k) && not (has_event (is_loss_of (peer_place k c.args.node)) (log_at logs k))) ≡ false in
+    more_places Q place c.loop-place.invariant (elim c.else-not-was_lost.branch [
+      | else-not-was_lost-via-then-not-was_lost+else-not-saw w ↦
+          missing_here is_loss_of lost logs c.args.node place w.place_among.result w.index-logs-place.result w.as_slice.result.now w.saw.result c.loop-place-test.true w.index-logs-place.is
+          w.as_slice.ensures.value w.place_among.ensures w.saw.ensures (sym c.was_lost.ensures ∙ w.if-not-was_lost.true) ∙ ap not w.if-not-saw.false
+      | else-not-was_lost-via-else-not-was_lost w ↦
+          ap (λ b. not b && not (has_event (is_loss_of (peer_place place c.args.node)) (log_at logs place))) (sym c.was_lost.ensures ∙ w.if-not-was_lost.false)
+    ])
+
+pub returns : goal.returns
+returns c =
+    let lost = c.args.lost.now in
+    let logs = c.args.logs.now in
+    let past = c.loop-place-test.false in
+    sym (any_none (λ k. not (was_lost lost k) && not (has_event (is_loss_of (peer_place k c.args.node)) (log_at logs k))) (length logs) (λ k low. c.loop-place.invariant k (omega (arith, low, past))))

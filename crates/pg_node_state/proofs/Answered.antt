@@ -1,0 +1,189 @@
+-- A port where a command came in, or was answered.
+use Rattle.std.proofs.Common.{◌≡◌, ◌<◌, ◌≤◌, ◌+◌, ◌-◌, ◌∙◌, ℕ, zero, suc, Bool, true, false, cond, nat_eq, List, [], ◌∷◌, ◌++◌, get_or, length, Option, Some, refl, sym, ap, arith, subst}
+use Rattle.std.specs.Prelude.{slice_get, slice_set, vec_len, vec_capacity}
+use Rattle.std.proofs.Math.Path.{fun_ext}
+use Rattle.std.proofs.Math.Dec.{eqb-zero-suc, eqb-suc-zero, eqb-suc-suc}
+use Rattle.std.proofs.lemmas.Bool.{eqb-true, eq-eqb}
+use Rattle.pg_group.specs.Functions.{upd}
+use Rattle.pg_group.proofs.Changes.{upd_same, upd_at, upd_twice}
+use Rattle.pg_group.specs.declared.update.Update.{Update}
+use Rattle.pg_group.specs.Value.{name_of}
+use Rattle.pg_message.specs.Name.{is_name}
+use Rattle.pg_step.specs.declared.answer.Answer.{Answer}
+use Rattle.pg_step.specs.declared.answer.Reply.{Reply}
+use Rattle.pg_step.specs.declared.command.OpId.{OpId}
+use Rattle.pg_step.specs.State.{Use, Stage}
+use Rattle.pg_step.specs.State.Stage.{Closed, Waiting, Asking, Changing}
+use Rattle.pg_opens.specs.Readings.{standing_of, is_closed}
+use Rattle.pg_node_state.specs.declared.state.port.Port.{Port}
+use Rattle.pg_node_state.specs.Issued.{counted_at, HasRoomAt}
+use Rattle.pg_node_state.specs.Ports.{counts_in, answers_in, CameIn, AreGiven}
+use Rattle.pg_node_state.proofs.Given.{given_more}
+
+one_port : (p q : Port) → Some p ≡ Some q → p ≡ q
+one_port p q e = cc
+
+-- ---- what is read at a place
+
+pub count_here : (ports : List Port) (k : ℕ) (p : Port) → slice_get ports k ≡ Some p → counts_in ports k ≡ p.count
+count_here [] k p here = absurd (cc)
+count_here (q ∷ ports) zero p here = ap (λ (r : Port). r.count) (one_port q p here)
+count_here (q ∷ ports) (suc k) p here = count_here ports k p here
+
+pub answers_here : (ports : List Port) (k : ℕ) (p : Port) → slice_get ports k ≡ Some p → answers_in ports k ≡ p.answers.items
+answers_here [] k p here = absurd (cc)
+answers_here (q ∷ ports) zero p here = ap (λ (r : Port). r.answers.items) (one_port q p here)
+answers_here (q ∷ ports) (suc k) p here = answers_here ports k p here
+
+-- ---- one port changes
+
+counts_each : (ports : List Port) (k : ℕ) (p : Port) → k < length ports → (port : ℕ) → counts_in (slice_set ports k p) port ≡ cond (nat_eq k port) p.count (counts_in ports port)
+counts_each [] k p within port = absurd (omega arith)
+counts_each (q ∷ ports) zero p within zero = refl
+counts_each (q ∷ ports) zero p within (suc n) = ap (λ b. cond b p.count (counts_in ports n)) (sym (eqb-zero-suc n))
+counts_each (q ∷ ports) (suc k) p within zero = ap (λ b. cond b p.count (counts_in (q ∷ ports) zero)) (sym (eqb-suc-zero k))
+counts_each (q ∷ ports) (suc k) p within (suc n) = counts_each ports k p (omega arith) n ∙ ap (λ b. cond b p.count (counts_in ports n)) (sym (eqb-suc-suc k n))
+
+pub counts_set : (ports : List Port) (k : ℕ) (p : Port) (n : ℕ) → k < length ports → p.count ≡ n → counts_in (slice_set ports k p) ≡ upd nat_eq (counts_in ports) k n
+unfolding upd
+counts_set ports k p n within is = fun_ext (λ port. counts_each ports k p within port ∙ ap (λ c. cond (nat_eq k port) c (counts_in ports port)) is)
+
+answers_each : (ports : List Port) (k : ℕ) (p : Port) → k < length ports → (port : ℕ) → answers_in (slice_set ports k p) port ≡ cond (nat_eq k port) p.answers.items (answers_in ports port)
+answers_each [] k p within port = absurd (omega arith)
+answers_each (q ∷ ports) zero p within zero = refl
+answers_each (q ∷ ports) zero p within (suc n) = ap (λ b. cond b p.answers.items (answers_in ports n)) (sym (eqb-zero-suc n))
+answers_each (q ∷ ports) (suc k) p within zero = ap (λ b. cond b p.answers.items (answers_in (q ∷ ports) zero)) (sym (eqb-suc-zero k))
+answers_each (q ∷ ports) (suc k) p within (suc n) = answers_each ports k p (omega arith) n ∙ ap (λ b. cond b p.answers.items (answers_in ports n)) (sym (eqb-suc-suc k n))
+
+pub answers_set : (ports : List Port) (k : ℕ) (p : Port) (answers : List Answer) → k < length ports → p.answers.items ≡ answers → answers_in (slice_set ports k p) ≡ upd nat_eq (answers_in ports) k answers
+unfolding upd
+answers_set ports k p answers within is = fun_ext (λ port. answers_each ports k p within port ∙ ap (λ (a : List Answer). cond (nat_eq k port) a (answers_in ports port)) is)
+
+set_here : (ports : List Port) (k : ℕ) (p q : Port) → slice_get ports k ≡ Some p → slice_get (slice_set ports k q) k ≡ Some q
+set_here [] k p q here = absurd (cc)
+set_here (r ∷ ports) zero p q here = refl
+set_here (r ∷ ports) (suc k) p q here = set_here ports k p q here
+
+at_place : (ports : List Port) (k : ℕ) (p : Port) → k < length ports → p ≡ get_or ports k p → slice_get ports k ≡ Some p
+at_place [] k p within e = absurd (omega arith)
+at_place (q ∷ ports) zero p within e = ap Some (sym e)
+at_place (q ∷ ports) (suc k) p within e = at_place ports k p (omega arith) e
+
+-- a port counts one command more, and answers as it did
+module _ (ports : List Port) (port k : ℕ) (p q : Port) (same : k ≡ port) (within : port < length ports) (here : p ≡ get_or ports k p) where
+  pub there : slice_get ports port ≡ Some p
+  there = at_place ports port p within (here ∙ ap (λ i. get_or ports i p) same)
+
+  pub count_there : counts_in ports port ≡ p.count
+  count_there = count_here ports port p there
+
+  pub answers_there : answers_in ports port ≡ p.answers.items
+  answers_there = answers_here ports port p there
+
+  pub one_counted : q.count ≡ p.count + 1 → counts_in (slice_set ports k q) ≡ counted_at port (counts_in ports)
+  one_counted more = ap (λ i. counts_in (slice_set ports i q)) same ∙ counts_set ports port q (counts_in ports port + 1) within (more ∙ ap (λ n. n + 1) (sym count_there))
+
+  pub none_counted : q.count ≡ p.count → counts_in (slice_set ports k q) ≡ counts_in ports
+  none_counted still = ap (λ i. counts_in (slice_set ports i q)) same ∙ (counts_set ports port q (counts_in ports port) within (still ∙ sym count_there)
+      ∙ upd_same nat_eq (counts_in ports) port (eqb-true port) (counts_in ports port) refl)
+
+  -- it counted one more before
+  pub one_less : (counts : ℕ → ℕ) → counts_in ports ≡ counted_at port counts → q.count ≡ p.count - 1 → counts_in (slice_set ports k q) ≡ counts
+  one_less counts counted less = ap (λ i. counts_in (slice_set ports i q)) same ∙ (counts_set ports port q (counts port) within (less ∙ was)
+      ∙ ((λ i. upd nat_eq (counted i) port (counts port)) ∙ (upd_twice nat_eq counts port (counts port + 1) (counts port) ∙ upd_same nat_eq counts port (eqb-true port) (counts port) refl)))
+    where
+      one_off : (n m : ℕ) → n ≡ m + 1 → n - 1 ≡ m
+      one_off n m e = omega arith
+
+      was : p.count - 1 ≡ counts port
+      was = one_off p.count (counts port) (sym count_there ∙ (ap (λ (f : ℕ → ℕ). f port) counted ∙ upd_at nat_eq counts port (counts port + 1) (eq-eqb port port refl)))
+
+  pub one_answered : (answer : Answer) → q.answers.items ≡ p.answers.items ++ answer ∷ [] → answers_in (slice_set ports k q) ≡ upd nat_eq (answers_in ports) port (answers_in ports port ++ answer ∷ [])
+  one_answered answer more = ap (λ i. answers_in (slice_set ports i q)) same
+      ∙ answers_set ports port q (answers_in ports port ++ answer ∷ []) within (more ∙ ap (λ (a : List Answer). a ++ answer ∷ []) (sym (answers_here ports port p there)))
+
+  pub none_answered : q.answers.items ≡ p.answers.items → answers_in (slice_set ports k q) ≡ answers_in ports
+  none_answered still = ap (λ i. answers_in (slice_set ports i q)) same ∙ (answers_set ports port q (answers_in ports port) within (still ∙ sym (answers_here ports port p there))
+      ∙ upd_same nat_eq (answers_in ports) port (eqb-true port) (answers_in ports port) refl)
+
+  pub room_there : vec_len q.answers < vec_capacity q.answers → HasRoomAt (slice_set ports k q) port
+  room_there room r e = subst (λ (x : Port). vec_len x.answers < vec_capacity x.answers) (one_port q r (sym set ∙ e)) room
+    where
+      set : slice_get (slice_set ports k q) port ≡ Some q
+      set = ap (λ i. slice_get (slice_set ports i q) port) same ∙ set_here ports port p q there
+
+-- the answer of the next command, where room was made for it before
+pub answered_on : (before between after : ℕ → List Answer) (port : ℕ) (counts later : ℕ → ℕ) (reply : Reply) → between ≡ before → later ≡ counts
+    → after ≡ upd nat_eq between port (between port ++ record { number = later port + 1; reply = reply } ∷ [])
+    → after ≡ upd nat_eq before port (before port ++ record { number = counts port + 1; reply = reply } ∷ [])
+answered_on before between after port counts later reply same_answers same_counts e = e ∙ (λ i. upd nat_eq (same_answers i) port (same_answers i port ++ record { number = same_counts i port + 1; reply = reply } ∷ []))
+
+-- ---- the next command of a port
+
+count_more : (counts : ℕ → ℕ) (k port : ℕ) → counts port ≤ counted_at k counts port
+unfolding upd
+count_more counts k port = go (nat_eq k port) (eqb-true k port)
+  where
+    go : (b : Bool) → (b ≡ true → k ≡ port) → counts port ≤ cond b (counts k + 1) (counts port)
+    go true same = subst (λ x. counts x ≤ counts k + 1) (same refl) (omega arith)
+    go false same = omega arith
+
+count_within : (counts : ℕ → ℕ) (k port n m : ℕ) → ((x : ℕ) → counts x ≤ n) → n < m → counted_at k counts port ≤ m
+unfolding upd
+count_within counts k port n m each later = go (nat_eq k port)
+  where
+    go : (b : Bool) → cond b (counts k + 1) (counts port) ≤ m
+    go true = omega (arith, each k, later)
+    go false = omega (arith, each port, later)
+
+count_itself : (counts : ℕ → ℕ) (k : ℕ) → counts k + 1 ≤ counted_at k counts k
+unfolding upd
+count_itself counts k = subst (λ b. counts k + 1 ≤ cond b (counts k + 1) (counts k)) (sym (eq-eqb k k refl)) (omega arith)
+
+-- the ports after an event, of which one counted a command more
+module _ (old new : List Port) (k : ℕ) (same : length new ≡ length old) (counted : counts_in new ≡ counted_at k (counts_in old)) where
+  pub counts_within : (n m : ℕ) → ((port : ℕ) → counts_in old port ≤ n) → n < m → (port : ℕ) → counts_in new port ≤ m
+  counts_within n m each later port = subst (λ (f : ℕ → ℕ). f port ≤ m) (sym counted) (count_within (counts_in old) k port n m each later)
+
+  came_later : (op : OpId) (update : Option Update) → CameIn (length old) (counts_in old) op update → CameIn (length new) (counts_in new) op update
+  came_later op update came = record {
+    port = subst (λ n. op.port < n) (sym same) came.port;
+    number = subst (λ (f : ℕ → ℕ). op.number ≤ f op.port) (sym counted) (omega (arith, came.number, count_more (counts_in old) k op.port));
+    named = came.named;
+  }
+
+  pub given_later : {uses : ℕ → Use} {stages : OpId → Stage} → AreGiven (CameIn (length old) (counts_in old)) uses stages → AreGiven (CameIn (length new) (counts_in new)) uses stages
+  given_later given = given_more came_later given
+
+  -- the command that was counted came in, with an update that has a name
+  pub next_came : (update : Update) → is_name (name_of update) ≡ true → k < length old → CameIn (length new) (counts_in new) (record { port = k; number = counts_in old k + 1 }) (Some update)
+  next_came update named within = record {
+    port = subst (λ n. k < n) (sym same) within;
+    number = subst (λ (f : ℕ → ℕ). counts_in old k + 1 ≤ f k) (sym counted) (count_itself (counts_in old) k);
+    named = named;
+  }
+
+-- the ports after an event that counts no command
+module _ (old new : List Port) (same : length new ≡ length old) (counts : counts_in new ≡ counts_in old) where
+  pub given_still : {uses : ℕ → Use} {stages : OpId → Stage} → AreGiven (CameIn (length old) (counts_in old)) uses stages → AreGiven (CameIn (length new) (counts_in new)) uses stages
+  given_still {uses} {stages} given = subst (λ n. AreGiven (CameIn n (counts_in new)) uses stages) (sym same) (subst (λ (f : ℕ → ℕ). AreGiven (CameIn (length old) f) uses stages) (sym counts) given)
+
+  pub counts_still : (n : ℕ) → ((port : ℕ) → counts_in old port ≤ n) → (port : ℕ) → counts_in new port ≤ n
+  counts_still n each port = subst (λ (f : ℕ → ℕ). f port ≤ n) (sym counts) (each port)
+
+-- the next command of a port is not open
+pub next_closed : {uses : ℕ → Use} {stages : OpId → Stage} (ports port : ℕ) (counts : ℕ → ℕ) → AreGiven (CameIn ports counts) uses stages → stages (record { port = port; number = counts port + 1 }) ≡ Closed
+next_closed {uses} {stages} ports port counts given = closed (stages op) (go (is_closed (standing_of (stages op))) refl)
+  where
+    op : OpId
+    op = record { port = port; number = counts port + 1 }
+
+    closed : (stage : Stage) → is_closed (standing_of stage) ≡ true → stage ≡ Closed
+    closed Closed e = refl
+    closed (Waiting update) e = absurd (cc)
+    closed (Asking lock) e = absurd (cc)
+    closed (Changing update) e = absurd (cc)
+
+    go : (b : Bool) → is_closed (standing_of (stages op)) ≡ b → is_closed (standing_of (stages op)) ≡ true
+    go true e = e
+    go false e = absurd (omega (arith, (given.by_stage op e).number))

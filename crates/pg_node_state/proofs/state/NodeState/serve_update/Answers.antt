@@ -1,0 +1,19 @@
+use Rattle.std.proofs.Common.{◌+◌, ◌^◌, arith}
+use Rattle.pg_group.specs.Ended.{ended_of}
+use Rattle.pg_node_state.specs.States.{names_of}
+use Rattle.pg_node_state.proofs.Counts.{few_changed}
+use Rattle.pg_node_state.proofs.state.NodeState.serve_update.Goals as goal
+
+pub invariant_of-self-clause-few : goal.invariant_of-self-clause-few
+invariant_of-self-clause-few g c =
+    let old = c.args.self.now in
+    let contents = g.T.GroupTable.contents in
+    few_changed (2 ^ 32 + old.clock) (2 ^ 32 + c.args.clock) (contents old.table) (contents c.apply.new.self) c.args.update.now (ended_of old.ended)
+    (omega (arith, c.requires.later)) old.few c.in-Ok.ensures.ok
+
+pub returns-in-Ok-clause-told : goal.returns-in-Ok-clause-told
+returns-in-Ok-clause-told g c = record {
+  sends = c.in_ok-done.ensures.sends (names_of c.args.self.now);
+  began = c.in_ok-done.ensures.began;
+  odd = c.in_ok-done.ensures.odd;
+}

@@ -1,0 +1,16 @@
+use Rattle.std.proofs.Common.{◌∙◌, ap, sym}
+use Rattle.pg_group.specs.Value.{name_of}
+use Rattle.pg_lock.specs.Locks.{locks_of, grants}
+use Rattle.pg_opens.specs.Opens.{lost_of}
+use Rattle.pg_opens.specs.Readings.{update_of}
+use Rattle.pg_node_state.specs.States.{names_of}
+use Rattle.pg_node_state.proofs.Formed.{formed_is}
+use Rattle.pg_node_state.proofs.Turned.{update_is}
+use Rattle.pg_node_state.proofs.state.NodeState.would_grant.Goals as goal
+
+pub returns : goal.returns
+returns g c = λ op update first st is.
+    let node = c.args.self.now in
+    let name = c.name-name.ensures ∙ ap name_of (update_is c.update_under.result.now update (sym c.update_under.ensures ∙ ap update_of is)) in
+    let formed = c.formed.ensures ∙ formed_is (names_of node) (lost_of node.opens) node.formation node.opens.apart node.peers node.forgotten in
+    c.grants.ensures ∙ (λ i. grants (formed i) (locks_of node.locks) (name i))

@@ -1,0 +1,37 @@
+-- What comes of a command at the port where it came in.
+use Rattle.std.specs.Prelude.{◌≡◌, ℕ, ◌+◌, ◌<◌, nat_eq, List, length, Some, slice_get, vec_len, vec_capacity}
+use Rattle.pg_group.specs.declared.table.GroupTable.{Ghosts}
+use Rattle.pg_group.specs.Functions.{upd}
+use Rattle.pg_group.specs.declared.update.Update.{Update}
+use Rattle.pg_term.specs.Same.{same_atom}
+use Rattle.pg_step.specs.declared.command.OpId.{OpId}
+use Rattle.pg_step.specs.Nodes.{Nodes, greatest}
+use Rattle.pg_step.specs.State.{State}
+use Rattle.pg_step.specs.State.Status.{Unasked}
+use Rattle.pg_step.specs.Turns.{NodeTurn, and_then}
+use Rattle.pg_step.specs.Attempts.{new_attempt, ask}
+use Rattle.pg_step.specs.Commands.{count_command, next_op}
+use Rattle.pg_node_state.specs.declared.state.NodeState.{NodeState}
+use Rattle.pg_node_state.specs.declared.state.port.Port.{Port}
+
+-- how many ports a node has
+abbrev pub ports_of : {T : Type 0} {g : Ghosts T} → NodeState T g → ℕ
+ports_of node = length node.ports.items
+
+-- one more command came in at a port
+abbrev pub counted_at : ℕ → (ℕ → ℕ) → ℕ → ℕ
+counted_at port counts = upd nat_eq counts port (counts port + 1)
+
+-- one more answer at a port needs no memory
+abbrev pub HasRoomAt : List Port → ℕ → Type 0
+HasRoomAt ports port = (p : Port) → slice_get ports port ≡ Some p → vec_len p.answers < vec_capacity p.answers
+
+-- the next command of a port is counted, and this follows for it
+abbrev pub issued : ℕ → (OpId → State → NodeTurn) → State → NodeTurn
+issued port turn s = and_then (count_command port s) (turn (next_op port s))
+
+-- a new attempt begins, and the greatest of the nodes that count is asked, alone
+abbrev pub asked_first : Nodes → OpId → Update → State → NodeTurn
+asked_first m op update s =
+    and_then (new_attempt (greatest m) op update s)
+    (λ t. ask m (same_atom (greatest m)) t.references op update (greatest m) (λ q. Unasked) t)

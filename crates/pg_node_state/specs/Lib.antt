@@ -1,0 +1,10 @@
+pub mod Frames
+pub mod Issued
+pub mod NodeFault
+pub mod Opening
+pub mod Orders
+pub mod Ports
+pub mod Same
+pub mod Sendable
+pub mod States
+pub mod Waiting

@@ -1,0 +1,55 @@
+-- What a node keeps of its peers and of its ports, by their places.
+use Rattle.std.specs.Prelude.{◌≡◌, ◌<◌, ◌≤◌, ℕ, zero, suc, Bool, true, false, drop, List, [], ◌∷◌, Option, Some, None}
+use Rattle.pg_group.specs.declared.update.Update.{Update}
+use Rattle.pg_group.specs.Value.{name_of}
+use Rattle.pg_message.specs.Name.{is_name}
+use Rattle.pg_opens.specs.Places.{reads}
+use Rattle.pg_step.specs.declared.answer.Answer.{Answer}
+use Rattle.pg_step.specs.declared.command.OpId.{OpId}
+use Rattle.pg_step.specs.Nodes.{Node}
+use Rattle.pg_step.specs.State.{Use, Stage}
+use Rattle.pg_step.specs.State.Use.{Locking, Updating}
+use Rattle.pg_opens.specs.Readings.{standing_of, is_closed, waiting_of}
+use Rattle.pg_node_state.specs.declared.state.port.Port.{Port}
+
+-- the peers whose exchange was taken, by the marks of the peers
+abbrev pub merged_in : List Node → List Bool → Node → Bool
+merged_in names marks = reads (λ mark. mark) false (drop 1 names) marks
+
+-- for each port how many commands came in there
+abbrev pub counts_in : List Port → ℕ → ℕ
+counts_in [] port = 0
+counts_in (p ∷ ports) zero = p.count
+counts_in (p ∷ ports) (suc n) = counts_in ports n
+
+-- the answers that were given at each port
+abbrev pub answers_in : List Port → ℕ → List Answer
+answers_in [] port = []
+answers_in (p ∷ ports) zero = p.answers.items
+answers_in (p ∷ ports) (suc n) = answers_in ports n
+
+-- where an update is told it has a name
+abbrev pub is_named : Option Update → Bool
+is_named None = true
+is_named (Some update) = is_name (name_of update)
+
+-- the command came in at one of so many ports, and is one of those that were counted there; its update has a name
+pub record CameIn (ports : ℕ) (counts : ℕ → ℕ) (op : OpId) (update : Option Update) : Type 0 where
+  pub port : op.port < ports
+  pub number : op.number ≤ counts op.port
+  pub named : is_named update ≡ true
+
+-- the command for which it is gathered under a reference that is used so, and its update
+abbrev pub gathers_for : Use → Option (OpId × Update)
+gathers_for (Locking op update first st) = Some (op, update)
+gathers_for (Updating op update lock replied) = Some (op, update)
+gathers_for used = None
+
+-- what is gathered is for a command that came in, with its update
+pub record IsOf (came : OpId → Option Update → Type 0) (what : Option (OpId × Update)) : Type 0 where
+  pub is : (op : OpId) (update : Update) → what ≡ Some (op, update) → came op (Some update)
+
+-- each open command came in, and so did the update of each that waits
+pub record AreGiven (came : OpId → Option Update → Type 0) (uses : ℕ → Use) (stages : OpId → Stage) : Type 0 where
+  pub by_use : (c : ℕ) → IsOf came (gathers_for (uses c))
+  pub by_stage : (op : OpId) → is_closed (standing_of (stages op)) ≡ false → came op (waiting_of (stages op))

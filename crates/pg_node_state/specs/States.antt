@@ -1,0 +1,126 @@
+-- What a node's state is seen as, and what an event makes of it.
+use Rattle.std.specs.Prelude.{◌≡◌, ℕ, ◌+◌, ◌++◌, Bool, true, false, not, cond, max, nat_eq, List, [], ◌∷◌, Option, Some, None, Result, Ok, Err}
+use Rattle.pg_term.specs.Same.{same_atom}
+use Rattle.pg_group.specs.declared.table.GroupTable.{Ghosts}
+use Rattle.pg_group.specs.Ended.{ended_of}
+use Rattle.pg_group.specs.Functions.{upd}
+use Rattle.pg_lock.specs.Locks.{locks_of}
+use Rattle.pg_ends.specs.Processes.{made_of}
+use Rattle.pg_message.specs.declared.message.Message.{Message}
+use Rattle.pg_message.specs.declared.message.Message.TheVariants.{DelLock, Reply as Replied}
+use Rattle.pg_message.specs.declared.packet.Packet.{Packet}
+use Rattle.pg_machine.specs.Clocked.{Timed, Stamped}
+use Rattle.pg_multicall.specs.Gathered.{what_of}
+use Rattle.pg_multicall.specs.declared.gather.Taken.{Taken}
+use Rattle.pg_multicall.specs.declared.gather.Taken.TheVariants.{Counted}
+use Rattle.pg_opens.specs.Opens as opens
+use Rattle.pg_opens.specs.Places.{name_at}
+use Rattle.pg_step.specs.declared.answer.Answer.{Answer}
+use Rattle.pg_step.specs.declared.answer.Reply.{Reply}
+use Rattle.pg_step.specs.declared.command.OpId.{OpId}
+use Rattle.pg_step.specs.Nodes.{Node, Nodes}
+use Rattle.pg_step.specs.State.{State, Response}
+use Rattle.pg_step.specs.Attempts.{gathered, use_of}
+use Rattle.pg_step.specs.Commands.{Answers}
+use Rattle.pg_step.specs.Losses.{see_loss}
+use Rattle.pg_step.specs.Turns.{NodeTurn}
+use Rattle.pg_step.specs.Step.{TimedTurn, at_clock, timed}
+use Rattle.pg_step.specs.declared.refusal.Refusal.{Refusal}
+use Rattle.pg_step.specs.declared.refusal.Refusal.TheVariants.{NodeLost}
+use Rattle.pg_node_state.specs.declared.state.NodeState.{NodeState}
+use Rattle.pg_node_state.specs.declared.state.done.Done.{Done}
+use Rattle.pg_node_state.specs.declared.state.fault.NodeFault.{NodeFault}
+use Rattle.pg_node_state.specs.declared.state.fault.NodeFault.TheVariants.{Refused, OutOfMemory}
+use Rattle.pg_node_state.specs.Ports.{merged_in, counts_in, answers_in}
+
+-- ---- the state
+
+-- the names of the nodes of the set, the own one first
+abbrev pub names_of : {T : Type 0} {g : Ghosts T} → NodeState T g → List Node
+names_of node = opens.names_of node.opens
+
+-- the set as the node knows it
+abbrev pub nodes_of : {T : Type 0} {g : Ghosts T} → NodeState T g → Nodes
+nodes_of node = opens.whole_of node.opens
+
+-- the nodes that count
+abbrev pub left_of : {T : Type 0} {g : Ghosts T} → NodeState T g → Nodes
+left_of node = opens.left_of node.opens
+
+abbrev pub kept_by : {T : Type 0} {g : Ghosts T} → NodeState T g → State
+kept_by {T} {g} node = record {
+  table = g.contents node.table;
+  ended = ended_of node.ended;
+  locks = locks_of node.locks;
+  merged = merged_in (names_of node) node.formation;
+  lost = opens.lost_of node.opens;
+  references = opens.references_of node.opens;
+  uses = opens.uses_of node.opens;
+  processes = made_of node.processes;
+  opened = opens.opened_of node.opens;
+  stages = opens.stages_of node.opens;
+  counts = counts_in node.ports.items;
+}
+
+abbrev pub state_of : {T : Type 0} {g : Ghosts T} → NodeState T g → Timed State
+state_of node = record { clock = node.clock; state = kept_by node }
+
+abbrev pub answers_of : {T : Type 0} {g : Ghosts T} → NodeState T g → ℕ → List Answer
+answers_of node = answers_in node.ports.items
+
+-- ---- what an event makes of it
+
+abbrev pub stamped_of : Packet → Stamped Message
+stamped_of packet = record { stamp = packet.stamp; packet = packet.message }
+
+-- the packets to each node, where each goes to a peer by its place among the peers
+abbrev pub sends_in : List Node → List (ℕ × Packet) → Node → List (Stamped Message)
+sends_in names [] q = []
+sends_in names (sent ∷ others) q = cond (same_atom (name_at names (sent.0 + 1)) q) (stamped_of sent.1 ∷ []) [] ++ sends_in names others q
+
+-- what the loss of a peer leads to, whose clock was this at last
+abbrev pub step_see_loss : Node → ℕ → Timed State → Result TimedTurn Refusal
+step_see_loss p last s = timed (max s.clock last + 1) (cond (s.state.lost p) (Err NodeLost) (Ok (see_loss p s.state)))
+
+-- what was done is what the turn sends and reports
+pub record Tells (names : List Node) (t : TimedTurn) (done : Done) : Type 0 where
+  pub sends : sends_in names done.sends.items ≡ t.sends
+  pub began : done.began ≡ t.reported.began
+  pub odd : done.odd ≡ t.reported.odd
+
+-- the answers at each port, with one more where one was given
+abbrev pub Gave : Node → Option (OpId × Response) → (ℕ → List Answer) → (ℕ → List Answer) → Type 0
+Gave own None before after = after ≡ before
+Gave own (Some gave) before after = (r : Reply) × Answers own gave.1 r
+    × (after ≡ upd nat_eq before gave.0.port (before gave.0.port ++ record { number = gave.0.number; reply = r } ∷ []))
+
+-- an event happened as the turn does
+pub record Happens (names : List Node) (t : TimedTurn) (done : Done) (s : Timed State) (before after : ℕ → List Answer) : Type 0 where
+  pub told : Tells names t done
+  pub state : s ≡ t.state
+  pub answers : Gave (name_at names 0) t.reported.gave before after
+
+-- What came of an event by what the step tells of it: it happened as the turn does, unless memory ran out, or it was refused
+-- as the step refuses it.
+abbrev pub Comes : List Node → Result TimedTurn Refusal → Result Done NodeFault → Timed State → (ℕ → List Answer) → (ℕ → List Answer) → Type 0
+Comes names (Ok t) (Ok done) s before after = Happens names t done s before after
+Comes names (Ok t) (Err OutOfMemory) s before after = Unit {0}
+Comes names (Ok t) (Err fault) s before after = ⊥
+Comes names (Err refusal) result s before after = result ≡ Err (Refused refusal)
+
+-- the same of a turn without clock, at the clock that the event sets
+abbrev pub ComesAt : ℕ → List Node → Result NodeTurn Refusal → Result Done NodeFault → Timed State → (ℕ → List Answer) → (ℕ → List Answer) → Type 0
+ComesAt clock names (Ok t) result s before after = Comes names (Ok (at_clock clock t)) result s before after
+ComesAt clock names (Err refusal) result s before after = Comes names (Err refusal) result s before after
+
+-- ---- memory
+
+abbrev pub is_counted : Taken → Bool
+is_counted Counted = true
+is_counted taken = false
+
+-- a packet of p that takes no memory: it frees a lock, or is a reply that completes nothing
+abbrev pub takes_none : Nodes → Node → State → Message → Bool
+takes_none m p s (DelLock name reference) = true
+takes_none m p s (Replied reference said) = not (is_counted (what_of true (gathered (use_of m reference s) p)))
+takes_none m p s message = false

@@ -1,0 +1,198 @@
+//! How an attempt of a command of the node begins, and what follows at once.
+
+ghost use Rattle.std.specs.Prelude.{◌≡◌, ◌≤◌, ◌<◌, ◌+◌, ◌*◌, ◌^◌, true, false, IfOk, OnErr, length};
+ghost use Rattle.pg_group.specs.declared.update.Update.{Update};
+ghost use Rattle.pg_group.specs.Value.{count_in, name_of};
+ghost use Rattle.pg_message.specs.declared.packet.TheConstants.{MAX_STAMP};
+ghost use Rattle.pg_opens.specs.Readings.{standing_of};
+ghost use Rattle.pg_opens.specs.declared.command.Standing.TheVariants as standings;
+ghost use Rattle.pg_step.specs.declared.command.OpId.{OpId};
+ghost use Rattle.pg_step.specs.Nodes.{Node, greatest, is_peer};
+ghost use Rattle.pg_step.specs.Peers.{would_grant};
+ghost use Rattle.pg_step.specs.State.Stage.{Waiting};
+ghost use Rattle.pg_term.specs.declared.pid.Pid.{Pid};
+ghost use Rattle.pg_term.specs.declared.term.Term.{Term};
+
+use crate::state::calls::has_peer;
+use crate::state::first::{
+    all_asked, ask_first, began_alone, end_alone, first_asked, waiting_under,
+};
+use crate::state::own::ask_own;
+use crate::state::port::{keep_reserved, reserve_answer};
+use crate::state::{Done, NodeState};
+use pg_group::GroupTable;
+use pg_opens::Asked;
+use pg_step::{OpId, Reply};
+use std::alloc::AllocError;
+
+impl<T: GroupTable + Drop> NodeState<T> {
+    ghost use Rattle.pg_opens.specs.Places.{name_at};
+    ghost use Rattle.pg_step.specs.Attempts.{attempt};
+    ghost use Rattle.pg_step.specs.Step.{at_clock};
+    ghost use Rattle.pg_node_state.specs.Issued.{ports_of};
+    ghost use Rattle.pg_node_state.specs.Sendable.{AreSendable};
+    ghost use Rattle.pg_node_state.specs.States.{names_of, left_of, kept_by, state_of, answers_of, Happens};
+
+    /// Begins an attempt of a command that waits: the greatest live node is asked for the lock, alone, and what
+    /// follows is done at once where it is the own one.
+    pub(crate) fn attempt(&mut self, clock: u32, op: OpId) -> Result<Done, AllocError>
+        requires later { self.old.clock ≤ clock }
+        requires within { clock ≤ MAX_STAMP }
+        requires made { (kept_by self.old).references + 2 ≤ 2 * clock }
+        requires few { (name : Term) (pid : Pid) → count_in (T.contents self.old.table name) pid + 1 ≤ 2 ^ 32 + clock }
+        requires waits { standing_of ((kept_by self.old).stages op) ≡ standings.Waiting }
+        ensures happens { (update : Update) → (kept_by self.old).stages op ≡ Waiting update → IfOk result (λ done. Happens (names_of self.old)
+            (at_clock clock (attempt (left_of self.old) op update (kept_by self.old)))
+            done (state_of self.new) (answers_of self.old) (answers_of self.new)) }
+        ensures err { OnErr result (state_of self.new ≡ state_of self.old) }
+        ensures err_answers { OnErr result (answers_of self.new ≡ answers_of self.old) }
+        ensures names { names_of self.new ≡ names_of self.old }
+        ensures ports { ports_of self.new ≡ ports_of self.old }
+        ensures fits { IfOk result (λ done. AreSendable (names_of self.old) done.sends.items) }
+    {
+        let first = self.opens.greatest();
+        if first != 0 {
+            return self.ask_greatest(clock, op, first);
+        }
+        if !self.would_grant_to(op) {
+            return Ok(self.deny_itself(clock, op));
+        }
+        if has_peer(&self.opens) {
+            self.ask_everyone(clock, op)
+        } else {
+            self.change_alone(clock, op)
+        }
+    }
+
+    /// The greatest node is asked, which is a peer. `first`: its place, by the names.
+    fn ask_greatest(&mut self, clock: u32, op: OpId, first: usize) -> Result<Done, AllocError>
+        requires later { self.old.clock ≤ clock }
+        requires within { clock ≤ MAX_STAMP }
+        requires made { (kept_by self.old).references + 2 ≤ 2 * clock }
+        requires few { (name : Term) (pid : Pid) → count_in (T.contents self.old.table name) pid + 1 ≤ 2 ^ 32 + clock }
+        requires waits { standing_of ((kept_by self.old).stages op) ≡ standings.Waiting }
+        requires place { first < length (names_of self.old) }
+        requires apart { 0 < first }
+        requires peer { is_peer (left_of self.old) (name_at (names_of self.old) first) ≡ true }
+        requires greatest { name_at (names_of self.old) first ≡ greatest (left_of self.old) }
+        ensures happens { (update : Update) → (kept_by self.old).stages op ≡ Waiting update → IfOk result (λ done. Happens (names_of self.old)
+            (at_clock clock (attempt (left_of self.old) op update (kept_by self.old)))
+            done (state_of self.new) (answers_of self.old) (answers_of self.new)) }
+        ensures err { OnErr result (state_of self.new ≡ state_of self.old) }
+        ensures err_answers { OnErr result (answers_of self.new ≡ answers_of self.old) }
+        ensures names { names_of self.new ≡ names_of self.old }
+        ensures ports { ports_of self.new ≡ ports_of self.old }
+        ensures fits { IfOk result (λ done. AreSendable (names_of self.old) done.sends.items) }
+    {
+        let calls = first_asked(self.alloc, clock, &self.opens, op, first)?;
+        let granted = self.would_grant_to(op);
+        ask_first(&mut self.opens, op, first, granted);
+        self.clock = clock;
+        Ok(calls.done)
+    }
+
+    /// The own node is the greatest, and denies the lock: the command waits.
+    fn deny_itself(&mut self, clock: u32, op: OpId) -> Done
+        requires later { self.old.clock ≤ clock }
+        requires within { clock ≤ MAX_STAMP }
+        requires made { (kept_by self.old).references + 2 ≤ 2 * clock }
+        requires few { (name : Term) (pid : Pid) → count_in (T.contents self.old.table name) pid + 1 ≤ 2 ^ 32 + clock }
+        requires waits { standing_of ((kept_by self.old).stages op) ≡ standings.Waiting }
+        requires own { name_at (names_of self.old) 0 ≡ greatest (left_of self.old) }
+        requires denies { (update : Update) → (kept_by self.old).stages op ≡ Waiting update → would_grant (left_of self.old) (kept_by self.old) (name_of update) ≡ false }
+        ensures happens { (update : Update) → (kept_by self.old).stages op ≡ Waiting update → Happens (names_of self.old)
+            (at_clock clock (attempt (left_of self.old) op update (kept_by self.old)))
+            result (state_of self.new) (answers_of self.old) (answers_of self.new) }
+        ensures names { names_of self.new ≡ names_of self.old }
+        ensures ports { ports_of self.new ≡ ports_of self.old }
+        ensures fits { AreSendable (names_of self.old) result.sends.items }
+    {
+        let number = self.opens.references() + 1;
+        ask_first(&mut self.opens, op, 0, false);
+        self.opens.give_up(number);
+        self.clock = clock;
+        Done::nothing(self.alloc)
+    }
+
+    /// The own node is the greatest, and grants the lock: every live peer is asked.
+    fn ask_everyone(&mut self, clock: u32, op: OpId) -> Result<Done, AllocError>
+        requires later { self.old.clock ≤ clock }
+        requires within { clock ≤ MAX_STAMP }
+        requires made { (kept_by self.old).references + 2 ≤ 2 * clock }
+        requires few { (name : Term) (pid : Pid) → count_in (T.contents self.old.table name) pid + 1 ≤ 2 ^ 32 + clock }
+        requires waits { standing_of ((kept_by self.old).stages op) ≡ standings.Waiting }
+        requires own { name_at (names_of self.old) 0 ≡ greatest (left_of self.old) }
+        requires grants { (update : Update) → (kept_by self.old).stages op ≡ Waiting update → would_grant (left_of self.old) (kept_by self.old) (name_of update) ≡ true }
+        requires some { (q : Node) × (is_peer (left_of self.old) q ≡ true) }
+        ensures happens { (update : Update) → (kept_by self.old).stages op ≡ Waiting update → IfOk result (λ done. Happens (names_of self.old)
+            (at_clock clock (attempt (left_of self.old) op update (kept_by self.old)))
+            done (state_of self.new) (answers_of self.old) (answers_of self.new)) }
+        ensures err { OnErr result (state_of self.new ≡ state_of self.old) }
+        ensures err_answers { OnErr result (answers_of self.new ≡ answers_of self.old) }
+        ensures names { names_of self.new ≡ names_of self.old }
+        ensures ports { ports_of self.new ≡ ports_of self.old }
+        ensures fits { IfOk result (λ done. AreSendable (names_of self.old) done.sends.items) }
+    {
+        let calls = all_asked(self.alloc, clock, &self.opens, op)?;
+        let number = self.opens.references() + 1;
+        let name = waiting_under(&self.opens, op).name();
+        match ask_own(&mut self.locks, true, name, &calls.lock) {
+            Ok(()) => {
+                ask_first(&mut self.opens, op, 0, true);
+                // The own node was asked, so that it does not matter what it would answer now: it holds the lock.
+                self.opens.ask(number, Asked::All, false);
+                self.clock = clock;
+                Ok(calls.done)
+            }
+            Err(fault) => {
+                drop(calls);
+                Err(fault)
+            }
+        }
+    }
+
+    /// The own node grants the lock, and no peer counts: the update is applied, and the command ends.
+    fn change_alone(&mut self, clock: u32, op: OpId) -> Result<Done, AllocError>
+        requires later { self.old.clock ≤ clock }
+        requires within { clock ≤ MAX_STAMP }
+        requires made { (kept_by self.old).references + 2 ≤ 2 * clock }
+        requires few { (name : Term) (pid : Pid) → count_in (T.contents self.old.table name) pid + 1 ≤ 2 ^ 32 + clock }
+        requires waits { standing_of ((kept_by self.old).stages op) ≡ standings.Waiting }
+        requires own { name_at (names_of self.old) 0 ≡ greatest (left_of self.old) }
+        requires grants { (update : Update) → (kept_by self.old).stages op ≡ Waiting update → would_grant (left_of self.old) (kept_by self.old) (name_of update) ≡ true }
+        requires alone { (q : Node) → is_peer (left_of self.old) q ≡ false }
+        ensures happens { (update : Update) → (kept_by self.old).stages op ≡ Waiting update → IfOk result (λ done. Happens (names_of self.old)
+            (at_clock clock (attempt (left_of self.old) op update (kept_by self.old)))
+            done (state_of self.new) (answers_of self.old) (answers_of self.new)) }
+        ensures err { OnErr result (state_of self.new ≡ state_of self.old) }
+        ensures err_answers { OnErr result (answers_of self.new ≡ answers_of self.old) }
+        ensures names { names_of self.new ≡ names_of self.old }
+        ensures ports { ports_of self.new ≡ ports_of self.old }
+        ensures fits { IfOk result (λ done. AreSendable (names_of self.old) done.sends.items) }
+    {
+        reserve_answer(&mut self.ports, op.port)?;
+        let done = began_alone(self.alloc, &self.opens, op)?;
+        let update = waiting_under(&self.opens, op);
+        match self.table.apply(update, &self.ended) {
+            Ok(()) => {
+                end_alone(&mut self.opens, op);
+                keep_reserved(&mut self.ports, op, Reply::Ok);
+                self.clock = clock;
+                Ok(done)
+            }
+            Err(fault) => {
+                drop(done);
+                Err(fault)
+            }
+        }
+    }
+
+    /// Whether the own node would grant the lock to a command that waits.
+    fn would_grant_to(&self, op: OpId) -> bool
+        requires { standing_of ((kept_by self.now).stages op) ≡ standings.Waiting }
+        ensures { (update : Update) → (kept_by self.now).stages op ≡ Waiting update → result ≡ would_grant (left_of self.now) (kept_by self.now) (name_of update) }
+    {
+        let name = waiting_under(&self.opens, op).name();
+        self.locks.grants(self.formation.formed(), name)
+    }
+}

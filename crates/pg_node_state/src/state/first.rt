@@ -1,0 +1,154 @@
+//! The first request of an attempt, made before anything changes.
+
+ghost use Rattle.std.specs.Prelude.{◌≡◌, ◌≤◌, ◌<◌, ◌+◌, ◌^◌, List, [], true, false, Some, None, IfOk, length};
+ghost use Rattle.pg_group.specs.declared.update.Update.{Update};
+ghost use Rattle.pg_group.specs.Value.{name_of};
+ghost use Rattle.pg_machine.specs.Clocked.{stamped};
+ghost use Rattle.pg_message.specs.declared.message.Message.TheVariants as messages;
+ghost use Rattle.pg_message.specs.declared.message.Request.TheVariants as requests;
+ghost use Rattle.pg_opens.specs.Opens.{names_of, left_of, references_of, stages_of, Shows};
+ghost use Rattle.pg_opens.specs.Places.{name_at};
+ghost use Rattle.pg_opens.specs.Readings.{standing_of};
+ghost use Rattle.pg_opens.specs.declared.command.Standing.TheVariants as standings;
+ghost use Rattle.pg_step.specs.Attempts.{attempt, own_reference};
+ghost use Rattle.pg_step.specs.Nodes.{Node, greatest, is_peer, to_one, to_peers};
+ghost use Rattle.pg_step.specs.Peers.{would_grant};
+ghost use Rattle.pg_step.specs.State.{State};
+ghost use Rattle.pg_step.specs.State.Stage.{Waiting};
+ghost use Rattle.pg_message.specs.Name.{is_name};
+ghost use Rattle.pg_message.specs.declared.packet.TheConstants.{MAX_STAMP};
+ghost use Rattle.pg_node_state.specs.Issued.{asked_first};
+ghost use Rattle.pg_node_state.specs.Sendable.{AreSendable};
+ghost use Rattle.pg_node_state.specs.States.{sends_in};
+
+use crate::state::Done;
+use crate::state::calls::{Calls, made_calls};
+use crate::state::orders::Order;
+use crate::state::sends::{to_left, to_place};
+use pg_group::Update;
+use pg_opens::{Asked, Opens};
+use pg_refs::reference_of;
+use pg_step::OpId;
+use std::alloc::{AllocError, Global};
+
+/// The node at a place is asked, under the next reference.
+///
+/// Errors: `AllocError`.
+pub(crate) fn first_asked(
+    alloc: Global,
+    clock: u32,
+    opens: &Opens,
+    op: OpId,
+    first: usize,
+) -> Result<Calls, AllocError>
+    requires waits { standing_of (stages_of opens.now op) ≡ standings.Waiting }
+    requires next { references_of opens.now + 1 < 2 ^ 32 }
+    requires place { first < length (names_of opens.now) }
+    requires peer { 0 < first }
+    requires within { clock ≤ MAX_STAMP }
+    requires named { (update : Update) → stages_of opens.now op ≡ Waiting update → is_name (name_of update) ≡ true }
+    ensures sends { (update : Update) → stages_of opens.now op ≡ Waiting update
+        → IfOk result (λ calls. sends_in (names_of opens.now) calls.done.sends.items ≡ (λ q. stamped clock (to_one (name_at (names_of opens.now) first)
+        (messages.Call (own_reference (left_of opens.now) (references_of opens.now + 1)) (requests.SetLock (name_of update))) q))) }
+    ensures began { IfOk result (λ calls. calls.done.began ≡ None) }
+    ensures odd { IfOk result (λ calls. calls.done.odd ≡ None) }
+    ensures lock { IfOk result (λ calls. calls.lock ≡ own_reference (left_of opens.now) (references_of opens.now + 1)) }
+    ensures fits { IfOk result (λ calls. AreSendable (names_of opens.now) calls.done.sends.items) }
+{
+    let name = waiting_under(opens, op).name();
+    let lock = reference_of(opens.name(0), opens.references() + 1)?;
+    let sends = to_place(alloc, clock, Order::Lock(name, &lock), first)?;
+    Ok(made_calls(sends, None, lock))
+}
+
+/// Every peer that counts is asked, under the next reference.
+///
+/// Errors: `AllocError`.
+pub(crate) fn all_asked(
+    alloc: Global,
+    clock: u32,
+    opens: &Opens,
+    op: OpId,
+) -> Result<Calls, AllocError>
+    requires waits { standing_of (stages_of opens.now op) ≡ standings.Waiting }
+    requires next { references_of opens.now + 1 < 2 ^ 32 }
+    requires within { clock ≤ MAX_STAMP }
+    requires named { (update : Update) → stages_of opens.now op ≡ Waiting update → is_name (name_of update) ≡ true }
+    ensures sends { (update : Update) → stages_of opens.now op ≡ Waiting update
+        → IfOk result (λ calls. sends_in (names_of opens.now) calls.done.sends.items ≡ (λ q. stamped clock (to_peers (left_of opens.now)
+        (λ q. true) (messages.Call (own_reference (left_of opens.now) (references_of opens.now + 1)) (requests.SetLock (name_of update))) q))) }
+    ensures began { IfOk result (λ calls. calls.done.began ≡ None) }
+    ensures odd { IfOk result (λ calls. calls.done.odd ≡ None) }
+    ensures lock { IfOk result (λ calls. calls.lock ≡ own_reference (left_of opens.now) (references_of opens.now + 1)) }
+    ensures fits { IfOk result (λ calls. AreSendable (names_of opens.now) calls.done.sends.items) }
+{
+    let name = waiting_under(opens, op).name();
+    let lock = reference_of(opens.name(0), opens.references() + 1)?;
+    let sends = to_left(alloc, clock, Order::Lock(name, &lock), opens)?;
+    Ok(made_calls(sends, None, lock))
+}
+
+/// The update of a command that waits begins, and nobody is sent anything.
+///
+/// Errors: `AllocError`.
+pub(crate) fn began_alone(alloc: Global, opens: &Opens, op: OpId) -> Result<Done, AllocError>
+    requires waits { standing_of (stages_of opens.now op) ≡ standings.Waiting }
+    ensures sends { IfOk result (λ done. done.sends.items ≡ []) }
+    ensures began { (update : Update) → stages_of opens.now op ≡ Waiting update → IfOk result (λ done. done.began ≡ Some (op, update)) }
+    ensures odd { IfOk result (λ done. done.odd ≡ None) }
+    ensures fits { (names : List Node) → IfOk result (λ done. AreSendable names done.sends.items) }
+{
+    let update = waiting_under(opens, op).copy(alloc)?;
+    Ok(Done {
+        sends: Vec::new(alloc),
+        began: Some((op, update)),
+        odd: None,
+    })
+}
+
+/// A command that waits begins an attempt, and the node at a place is asked, alone: the greatest live one. `granted`:
+/// what the own node would answer. It takes no memory.
+pub(crate) fn ask_first(opens: &mut Opens, op: OpId, first: usize, granted: bool)
+    requires waits { standing_of (stages_of opens.old op) ≡ standings.Waiting }
+    requires next { references_of opens.old + 1 < 2 ^ 32 }
+    requires place { first < length (names_of opens.old) }
+    requires greatest { name_at (names_of opens.old) first ≡ greatest (left_of opens.old) }
+    ensures turned { (update : Update) → stages_of opens.old op ≡ Waiting update
+        → (s : State) → Shows opens.old s → would_grant (left_of opens.old) s (name_of update) ≡ granted
+        → Shows opens.new (asked_first (left_of opens.old) op update s).state }
+    ensures nodes { names_of opens.new ≡ names_of opens.old }
+{
+    opens.start(op, first);
+    let number = opens.references();
+    opens.ask(number, Asked::One(first), granted);
+}
+
+/// A command that waits is carried out at once, where the own node grants the lock and no peer counts. It takes no memory.
+pub(crate) fn end_alone(opens: &mut Opens, op: OpId)
+    requires waits { standing_of (stages_of opens.old op) ≡ standings.Waiting }
+    requires next { references_of opens.old + 2 < 2 ^ 32 }
+    requires own { name_at (names_of opens.old) 0 ≡ greatest (left_of opens.old) }
+    requires alone { (q : Node) → is_peer (left_of opens.old) q ≡ false }
+    ensures turned { (update : Update) → stages_of opens.old op ≡ Waiting update
+        → (s : State) → Shows opens.old s → would_grant (left_of opens.old) s (name_of update) ≡ true
+        → Shows opens.new (attempt (left_of opens.old) op update s).state }
+    ensures nodes { names_of opens.new ≡ names_of opens.old }
+{
+    ask_first(opens, op, 0, true);
+    let number = opens.references();
+    // The own node was asked, so that it does not matter what it would answer now: it holds the lock.
+    opens.ask(number, Asked::All, false);
+    opens.begin(number);
+    opens.finish(number + 1);
+}
+
+/// The update of a command that waits. It takes no memory: O(open commands).
+pub(crate) fn waiting_under(opens: &Opens, op: OpId) -> &Update
+    requires { standing_of (stages_of opens.now op) ≡ standings.Waiting }
+    ensures { stages_of opens.now op ≡ Waiting result.now }
+{
+    match opens.waiting_update(op) {
+        Some(update) => update,
+        None => unreachable!(),
+    }
+}

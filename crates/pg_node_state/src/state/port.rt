@@ -1,0 +1,114 @@
+use pg_step::{Answer, OpId, Reply};
+use std::alloc::AllocError;
+
+/// A port, at which commands come in.
+#[derive(Debug, Drop)]
+pub(crate) struct Port {
+    // How many commands came in.
+    pub(crate) count: u32,
+    pub(crate) answers: Vec<Answer>,
+}
+
+ghost use Rattle.std.specs.Prelude.{◌≡◌, ◌<◌, ◌+◌, ◌^◌, ◌++◌, ℕ, [], ◌∷◌, nat_eq, length, vec_len, vec_capacity, OnOk, OnErr};
+ghost use Rattle.pg_group.specs.Functions.{upd};
+ghost use Rattle.pg_node_state.specs.Issued.{counted_at, HasRoomAt};
+ghost use Rattle.pg_node_state.specs.Ports.{counts_in, answers_in};
+
+/// Makes room for one more answer at a port.
+///
+/// Errors: `AllocError`, which changes nothing.
+pub(crate) fn reserve_answer(ports: &mut Vec<Port>, port: u16) -> Result<(), AllocError>
+    requires place { port < length ports.old.items }
+    ensures len { length ports.new.items ≡ length ports.old.items }
+    ensures counts { counts_in ports.new.items ≡ counts_in ports.old.items }
+    ensures answers { answers_in ports.new.items ≡ answers_in ports.old.items }
+    ensures ok { OnOk result (HasRoomAt ports.new.items port) }
+{
+    let entry = &mut ports[usize::from(port)];
+    entry.reserve()
+}
+
+/// Counts the next command of a port, and answers it. There is room for the answer. It takes no memory.
+pub(crate) fn give(ports: &mut Vec<Port>, port: u16, reply: Reply)
+    requires place { port < length ports.old.items }
+    requires room { HasRoomAt ports.old.items port }
+    requires few { counts_in ports.old.items port + 1 < 2 ^ 32 }
+    ensures len { length ports.new.items ≡ length ports.old.items }
+    ensures counts { counts_in ports.new.items ≡ counted_at port (counts_in ports.old.items) }
+    ensures answers { answers_in ports.new.items ≡ upd nat_eq (answers_in ports.old.items) port
+        (answers_in ports.old.items port ++ record { number = counts_in ports.old.items port + 1; reply = reply } ∷ []) }
+{
+    let entry = &mut ports[usize::from(port)];
+    entry.count += 1;
+    entry.answer(entry.count, reply);
+}
+
+/// Counts the next command of a port. It takes no memory.
+pub(crate) fn count(ports: &mut Vec<Port>, port: u16)
+    requires place { port < length ports.old.items }
+    requires few { counts_in ports.old.items port + 1 < 2 ^ 32 }
+    ensures len { length ports.new.items ≡ length ports.old.items }
+    ensures counts { counts_in ports.new.items ≡ counted_at port (counts_in ports.old.items) }
+    ensures answers { answers_in ports.new.items ≡ answers_in ports.old.items }
+{
+    let entry = &mut ports[usize::from(port)];
+    entry.count += 1;
+}
+
+/// Of a port counts one command fewer, which was counted. It takes no memory.
+pub(crate) fn uncount(ports: &mut Vec<Port>, port: u16)
+    requires place { port < length ports.old.items }
+    requires some { 0 < counts_in ports.old.items port }
+    ensures len { length ports.new.items ≡ length ports.old.items }
+    ensures counts { (counts : ℕ → ℕ) → counts_in ports.old.items ≡ counted_at port counts → counts_in ports.new.items ≡ counts }
+    ensures answers { answers_in ports.new.items ≡ answers_in ports.old.items }
+{
+    let entry = &mut ports[usize::from(port)];
+    entry.count -= 1;
+}
+
+/// The next command of a port. It takes no memory.
+pub(crate) fn next_op(ports: &Vec<Port>, port: u16) -> OpId
+    requires place { port < length ports.now.items }
+    requires few { counts_in ports.now.items port + 1 < 2 ^ 32 }
+    ensures { result ≡ record { port = port; number = counts_in ports.now.items port + 1 } }
+{
+    let entry = &ports[usize::from(port)];
+    OpId {
+        port,
+        number: entry.count + 1,
+    }
+}
+
+/// Keeps the answer to a command at its port, where there is room. It takes no memory.
+pub(crate) fn keep_reserved(ports: &mut Vec<Port>, op: OpId, reply: Reply)
+    requires place { op.port < length ports.old.items }
+    requires room { HasRoomAt ports.old.items op.port }
+    ensures kept { answers_in ports.new.items ≡ upd nat_eq (answers_in ports.old.items) op.port
+        (answers_in ports.old.items op.port ++ record { number = op.number; reply = reply } ∷ []) }
+    ensures counts { counts_in ports.new.items ≡ counts_in ports.old.items }
+    ensures len { length ports.new.items ≡ length ports.old.items }
+{
+    let port = &mut ports[usize::from(op.port)];
+    port.answer(op.number, reply);
+}
+
+impl Port {
+    /// Makes room for one more answer.
+    fn reserve(&mut self) -> Result<(), AllocError>
+        ensures count { self.new.count ≡ self.old.count }
+        ensures answers { self.new.answers.items ≡ self.old.answers.items }
+        ensures ok { OnOk result (vec_len self.new.answers < vec_capacity self.new.answers) }
+    {
+        self.answers.reserve(1)
+    }
+
+    /// Answers the command of this number.
+    fn answer(&mut self, number: u32, reply: Reply)
+        requires { vec_len self.old.answers < vec_capacity self.old.answers }
+        ensures count { self.new.count ≡ self.old.count }
+        ensures answers { self.new.answers.items ≡ self.old.answers.items ++ record { number = number; reply = reply } ∷ [] }
+    {
+        self.answers.push_reserved(Answer { number, reply });
+    }
+}

@@ -1,0 +1,111 @@
+//! How a process of the node is made, and how it ends.
+
+ghost use Rattle.std.specs.Prelude.{◌≡◌, ◌<◌, ◌≤◌, ◌+◌, ◌++◌, ◌∷◌, ◌^◌, [], true, length, nat_eq, IfOk, OnOk, OnErr};
+ghost use Rattle.pg_term.specs.Same.{same_pid};
+ghost use Rattle.pg_group.specs.Ended.{ended_of};
+ghost use Rattle.pg_group.specs.Functions.{upd};
+ghost use Rattle.pg_group.specs.Table.{without};
+ghost use Rattle.pg_ends.specs.declared.processes.TheConstants.{MAX_PROCESSES};
+ghost use Rattle.pg_message.specs.declared.packet.TheConstants.{MAX_STAMP};
+ghost use Rattle.pg_step.specs.declared.answer.Reply.TheVariants as replies;
+ghost use Rattle.pg_node_state.specs.Issued.{counted_at};
+ghost use Rattle.pg_node_state.specs.Ports.{counts_in, answers_in};
+
+use crate::state::orders::Order;
+use crate::state::port::{give, reserve_answer};
+use crate::state::sends::to_left;
+use crate::state::{Done, NodeState, Port};
+use pg_ends::take_end;
+use pg_group::{Ended, GroupTable};
+use pg_step::Reply;
+use pg_term::Pid;
+use std::alloc::AllocError;
+
+impl<T: GroupTable + Drop> NodeState<T> {
+    ghost use Rattle.pg_step.specs.Commands.{make, end_process};
+    ghost use Rattle.pg_step.specs.Step.{at_clock};
+    ghost use Rattle.pg_node_state.specs.Issued.{issued, ports_of};
+    ghost use Rattle.pg_node_state.specs.States.{names_of, left_of, kept_by, state_of, answers_of, Happens};
+    ghost use Rattle.pg_node_state.specs.Sendable.{AreSendable};
+
+    /// Makes a process, for the next command of a port.
+    pub(crate) fn make_process(&mut self, clock: u32, port: u16) -> Result<Done, AllocError>
+        requires later { self.old.clock < clock }
+        requires within { clock ≤ MAX_STAMP }
+        requires place { port < ports_of self.old }
+        requires limit { (kept_by self.old).processes < MAX_PROCESSES }
+        ensures happens { IfOk result (λ done. Happens (names_of self.old) (at_clock clock (issued port (make (left_of self.old)) (kept_by self.old)))
+            done (state_of self.new) (answers_of self.old) (answers_of self.new)) }
+        ensures err { OnErr result (state_of self.new ≡ state_of self.old) }
+        ensures err_answers { OnErr result (answers_of self.new ≡ answers_of self.old) }
+        ensures names { names_of self.new ≡ names_of self.old }
+        ensures ports { ports_of self.new ≡ ports_of self.old }
+        ensures fits { IfOk result (λ done. AreSendable (names_of self.old) done.sends.items) }
+    {
+        reserve_answer(&mut self.ports, port)?;
+        // The limit is not reached, so that only memory can be missing.
+        let Ok(pid) = self.processes.make() else {
+            return Err(AllocError);
+        };
+        give(&mut self.ports, port, Reply::Made(pid));
+        self.clock = clock;
+        Ok(Done::nothing(self.alloc))
+    }
+    /// Ends a process of the node, for the next command of a port: it is in no group, and each live peer is sent its
+    /// end.
+    pub(crate) fn end_process(
+        &mut self,
+        clock: u32,
+        port: u16,
+        pid: &Pid,
+    ) -> Result<Done, AllocError>
+        requires later { self.old.clock < clock }
+        requires within { clock ≤ MAX_STAMP }
+        requires place { port < ports_of self.old }
+        ensures happens { IfOk result (λ done. Happens (names_of self.old) (at_clock clock (issued port (λ op. end_process (left_of self.old) op pid.now) (kept_by self.old)))
+            done (state_of self.new) (answers_of self.old) (answers_of self.new)) }
+        ensures err { OnErr result (state_of self.new ≡ state_of self.old) }
+        ensures err_answers { OnErr result (answers_of self.new ≡ answers_of self.old) }
+        ensures names { names_of self.new ≡ names_of self.old }
+        ensures ports { ports_of self.new ≡ ports_of self.old }
+        ensures fits { IfOk result (λ done. AreSendable (names_of self.old) done.sends.items) }
+    {
+        let sends = to_left(self.alloc, clock, Order::End(pid), &self.opens)?;
+        end_at(&mut self.ports, &mut self.table, &mut self.ended, port, pid)?;
+        self.clock = clock;
+        Ok(Done {
+            sends,
+            began: None,
+            odd: None,
+        })
+    }
+}
+
+/// A process ends, for the next command of a port, which is answered ok.
+///
+/// Errors: `AllocError`, which changes nothing.
+fn end_at<T: GroupTable + Drop>(
+    ports: &mut Vec<Port>,
+    table: &mut T,
+    ended: &mut Ended,
+    port: u16,
+    pid: &Pid,
+) -> Result<(), AllocError>
+    requires place { port < length ports.old.items }
+    requires few { counts_in ports.old.items port + 1 < 2 ^ 32 }
+    ensures ended { OnOk result (ended_of ended.new ≡ upd same_pid (ended_of ended.old) pid.now true) }
+    ensures dropped { OnOk result (T.contents table.new ≡ without (T.contents table.old) pid.now) }
+    ensures counts { OnOk result (counts_in ports.new.items ≡ counted_at port (counts_in ports.old.items)) }
+    ensures answers { OnOk result (answers_in ports.new.items ≡ upd nat_eq (answers_in ports.old.items) port
+        (answers_in ports.old.items port ++ record { number = counts_in ports.old.items port + 1; reply = replies.Ok } ∷ [])) }
+    ensures err_ended { OnErr result (ended_of ended.new ≡ ended_of ended.old) }
+    ensures err_table { OnErr result (T.contents table.new ≡ T.contents table.old) }
+    ensures err_counts { OnErr result (counts_in ports.new.items ≡ counts_in ports.old.items) }
+    ensures err_answers { OnErr result (answers_in ports.new.items ≡ answers_in ports.old.items) }
+    ensures len { length ports.new.items ≡ length ports.old.items }
+{
+    reserve_answer(ports, port)?;
+    take_end(pid, table, ended)?;
+    give(ports, port, Reply::Ok);
+    Ok(())
+}

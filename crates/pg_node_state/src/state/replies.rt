@@ -1,0 +1,219 @@
+//! What a node makes of a reply.
+
+ghost use Rattle.std.specs.Prelude.{◌≡◌, ◌≢◌, ◌⊎◌, ◌≤◌, ◌<◌, ◌+◌, ℕ, true, false, Err, IfOk, IfErr, OnErr, length};
+ghost use Rattle.pg_message.specs.declared.message.Said.{Said};
+ghost use Rattle.pg_message.specs.declared.packet.TheConstants.{MAX_STAMP};
+
+use crate::state::{Done, NodeFault, NodeState};
+use pg_group::GroupTable;
+use pg_message::Said;
+use pg_multicall::Taken;
+use pg_opens::Gathering;
+use pg_refs::number_of;
+use pg_step::{Odd, OpId, Refusal};
+use pg_term::Reference;
+use std::alloc::AllocError;
+
+impl<T: GroupTable + Drop> NodeState<T> {
+    ghost use Rattle.pg_multicall.specs.Gathered.{what_of};
+    ghost use Rattle.pg_multicall.specs.declared.gather.Taken.TheVariants.{Counted};
+    ghost use Rattle.pg_opens.specs.Places.{name_at};
+    ghost use Rattle.pg_opens.specs.Readings.{gathering_of};
+    ghost use Rattle.pg_opens.specs.declared.command.Gathering.TheVariants as gatherings;
+    ghost use Rattle.pg_step.specs.Attempts.{counted, gathered, use_of, reply_taken, strange};
+    ghost use Rattle.pg_node_state.specs.declared.state.fault.NodeFault.TheVariants.{OutOfMemory};
+    ghost use Rattle.pg_step.specs.Step.{at_clock};
+    ghost use Rattle.pg_node_state.specs.Issued.{ports_of};
+    ghost use Rattle.pg_node_state.specs.States.{names_of, left_of, kept_by, state_of, answers_of, is_counted, Happens, ComesAt};
+    ghost use Rattle.pg_node_state.specs.Sendable.{AreSendable};
+
+    /// Takes the reply of a peer, which is not lost.
+    ///
+    /// Errors: `Refused` by `NotAMessage` where the reply is not of the kind that is gathered; else `OutOfMemory`.
+    pub(crate) fn take_reply(
+        &mut self,
+        clock: u32,
+        peer: usize,
+        reference: &Reference,
+        said: Said,
+    ) -> Result<Done, NodeFault>
+        requires later { self.old.clock < clock }
+        requires within { clock ≤ MAX_STAMP }
+        requires place { peer + 1 < length (names_of self.old) }
+        ensures light { is_counted (what_of true (gathered (use_of (left_of self.old) reference.now (kept_by self.old)) (name_at (names_of self.old) (peer + 1)))) ≡ false
+            → result ≢ Err OutOfMemory }
+        ensures comes { ComesAt clock (names_of self.old) (reply_taken (left_of self.old) (name_at (names_of self.old) (peer + 1)) reference.now said (kept_by self.old))
+            result (state_of self.new) (answers_of self.old) (answers_of self.new) }
+        ensures err { OnErr result (state_of self.new ≡ state_of self.old) }
+        ensures err_answers { OnErr result (answers_of self.new ≡ answers_of self.old) }
+        ensures names { names_of self.new ≡ names_of self.old }
+        ensures ports { ports_of self.new ≡ ports_of self.old }
+        ensures fits { IfOk result (λ done. AreSendable (names_of self.old) done.sends.items) }
+    {
+        let Some(number) = number_of(self.opens.name(0), reference) else {
+            return Ok(self.note_odd(clock, Odd::Stranger));
+        };
+        let kind = is_kind(self.opens.gathering(number), said);
+        match self.opens.heard(number, peer + 1) {
+            Taken::Stranger => Ok(self.note_odd(clock, Odd::Stranger)),
+            Taken::Double if kind => Ok(self.note_odd(clock, Odd::Double)),
+            Taken::Counted if kind => match self.count(clock, number, peer, said) {
+                Ok(done) => Ok(done),
+                Err(AllocError) => Err(NodeFault::OutOfMemory),
+            },
+            Taken::Double | Taken::Counted => Err(NodeFault::Refused(Refusal::NotAMessage)),
+        }
+    }
+
+    /// Counts the reply of a peer, and goes on.
+    fn count(
+        &mut self,
+        clock: u32,
+        number: u32,
+        peer: usize,
+        said: Said,
+    ) -> Result<Done, AllocError>
+        requires later { self.old.clock < clock }
+        requires within { clock ≤ MAX_STAMP }
+        requires place { peer + 1 < length (names_of self.old) }
+        requires new { what_of true (gathered ((kept_by self.old).uses number) (name_at (names_of self.old) (peer + 1))) ≡ Counted }
+        ensures happens { IfOk result (λ done. Happens (names_of self.old) (at_clock clock
+            (counted ((kept_by self.old).uses number) (left_of self.old) (name_at (names_of self.old) (peer + 1)) number said (kept_by self.old)))
+            done (state_of self.new) (answers_of self.old) (answers_of self.new)) }
+        ensures err { OnErr result (state_of self.new ≡ state_of self.old) }
+        ensures err_answers { OnErr result (answers_of self.new ≡ answers_of self.old) }
+        ensures names { names_of self.new ≡ names_of self.old }
+        ensures ports { ports_of self.new ≡ ports_of self.old }
+        ensures fits { IfOk result (λ done. AreSendable (names_of self.old) done.sends.items) }
+    {
+        match self.opens.gathering(number) {
+            Gathering::Lock(op) => self.count_answer(clock, number, op, peer, said),
+            Gathering::Update(op, lock) => self.count_ok(clock, number, op, lock, peer),
+            Gathering::Nothing => unreachable!(),
+        }
+    }
+
+    /// Counts the answer of a peer to a request for the lock, and goes on.
+    fn count_answer(
+        &mut self,
+        clock: u32,
+        number: u32,
+        op: OpId,
+        peer: usize,
+        said: Said,
+    ) -> Result<Done, AllocError>
+        requires later { self.old.clock < clock }
+        requires within { clock ≤ MAX_STAMP }
+        requires place { peer + 1 < length (names_of self.old) }
+        requires locking { gathering_of ((kept_by self.old).uses number) ≡ gatherings.Lock op }
+        requires new { what_of true (gathered ((kept_by self.old).uses number) (name_at (names_of self.old) (peer + 1))) ≡ Counted }
+        ensures happens { IfOk result (λ done. Happens (names_of self.old) (at_clock clock
+            (counted ((kept_by self.old).uses number) (left_of self.old) (name_at (names_of self.old) (peer + 1)) number said (kept_by self.old)))
+            done (state_of self.new) (answers_of self.old) (answers_of self.new)) }
+        ensures err { OnErr result (state_of self.new ≡ state_of self.old) }
+        ensures err_answers { OnErr result (answers_of self.new ≡ answers_of self.old) }
+        ensures names { names_of self.new ≡ names_of self.old }
+        ensures ports { ports_of self.new ≡ ports_of self.old }
+        ensures fits { IfOk result (λ done. AreSendable (names_of self.old) done.sends.items) }
+    {
+        self.opens.count_answer(number, peer + 1, is_granted(said));
+        match self.go_on(clock, number, op) {
+            Ok(done) => Ok(done),
+            Err(fault) => {
+                self.opens.take_back_answer(number, peer + 1);
+                Err(fault)
+            }
+        }
+    }
+
+    /// Counts the ok of a peer, and ends the command where all have come.
+    fn count_ok(
+        &mut self,
+        clock: u32,
+        number: u32,
+        op: OpId,
+        lock: u32,
+        peer: usize,
+    ) -> Result<Done, AllocError>
+        requires later { self.old.clock < clock }
+        requires within { clock ≤ MAX_STAMP }
+        requires place { peer + 1 < length (names_of self.old) }
+        requires updating { gathering_of ((kept_by self.old).uses number) ≡ gatherings.Update op lock }
+        requires new { what_of true (gathered ((kept_by self.old).uses number) (name_at (names_of self.old) (peer + 1))) ≡ Counted }
+        ensures happens { (said : Said) → IfOk result (λ done. Happens (names_of self.old) (at_clock clock
+            (counted ((kept_by self.old).uses number) (left_of self.old) (name_at (names_of self.old) (peer + 1)) number said (kept_by self.old)))
+            done (state_of self.new) (answers_of self.old) (answers_of self.new)) }
+        ensures err { OnErr result (state_of self.new ≡ state_of self.old) }
+        ensures err_answers { OnErr result (answers_of self.new ≡ answers_of self.old) }
+        ensures names { names_of self.new ≡ names_of self.old }
+        ensures ports { ports_of self.new ≡ ports_of self.old }
+        ensures fits { IfOk result (λ done. AreSendable (names_of self.old) done.sends.items) }
+    {
+        self.opens.count_ok(number, peer + 1);
+        if !self.opens.is_complete(number) {
+            return Ok(self.wait(clock));
+        }
+        match self.finish(clock, number, op, lock) {
+            Ok(done) => Ok(done),
+            Err(fault) => {
+                self.opens.take_back_ok(number, peer + 1);
+                Err(fault)
+            }
+        }
+    }
+
+    /// Notes a reply that completes nothing.
+    fn note_odd(&mut self, clock: u32, odd: Odd) -> Done
+        requires later { self.old.clock < clock }
+        requires within { clock ≤ MAX_STAMP }
+        ensures happens { Happens (names_of self.old) (at_clock clock (strange odd (kept_by self.old))) result (state_of self.new) (answers_of self.old) (answers_of self.new) }
+        ensures names { names_of self.new ≡ names_of self.old }
+        ensures ports { ports_of self.new ≡ ports_of self.old }
+        ensures fits { AreSendable (names_of self.old) result.sends.items }
+    {
+        self.clock = clock;
+        Done {
+            odd: Some(odd),
+            ..Done::nothing(self.alloc)
+        }
+    }
+}
+
+ghost use Rattle.pg_step.specs.Attempts.{is_kind};
+ghost use Rattle.pg_step.specs.State.{Use};
+ghost use Rattle.pg_opens.specs.Readings.{gathering_of as what_is_gathered};
+
+/// Whether a reply is of the kind that is gathered.
+fn is_kind(gathering: Gathering, said: Said) -> bool
+    ensures { (used : Use) → gathering ≡ what_is_gathered used → result ≡ is_kind used said }
+{
+    match gathering {
+        Gathering::Lock(_) => is_of_lock(said),
+        Gathering::Update(_, _) => !is_of_lock(said),
+        Gathering::Nothing => true,
+    }
+}
+
+ghost use Rattle.pg_step.specs.Attempts.{is_of_lock};
+
+/// Whether it is what a request for a lock is answered.
+fn is_of_lock(said: Said) -> bool
+    ensures { result ≡ is_of_lock said }
+{
+    match said {
+        Said::Granted | Said::Denied => true,
+        Said::Applied => false,
+    }
+}
+
+ghost use Rattle.pg_step.specs.Attempts.{own_verdict, lock_status};
+
+/// Whether a reply grants the lock.
+fn is_granted(said: Said) -> bool
+    ensures { own_verdict result ≡ lock_status said }
+{
+    match said {
+        Said::Granted => true,
+        Said::Denied | Said::Applied => false,
+    }
+}

@@ -1,0 +1,130 @@
+//! How a command that waits is tried again.
+
+ghost use Rattle.std.specs.Prelude.{◌≡◌, ◌<◌, ◌≤◌, true, IfOk, OnErr};
+ghost use Rattle.pg_message.specs.declared.packet.TheConstants.{MAX_STAMP};
+
+use crate::state::{Done, NodeFault, NodeState};
+use pg_group::GroupTable;
+use pg_message::MAX_STAMP;
+use pg_opens::{Gathering, Standing};
+use pg_step::{OpId, Refusal};
+use std::alloc::AllocError;
+
+impl<T: GroupTable + Drop> NodeState<T> {
+    ghost use Rattle.pg_step.specs.Attempts.{go_on, replies_in, tried_again, is_complete};
+    ghost use Rattle.pg_step.specs.Step.{Retry, at_clock, step_act};
+    ghost use Rattle.pg_node_state.specs.Issued.{ports_of};
+    ghost use Rattle.pg_node_state.specs.Sendable.{AreSendable};
+    ghost use Rattle.pg_node_state.specs.States.{names_of, nodes_of, left_of, kept_by, state_of, answers_of, Happens, Comes};
+    ghost use Rattle.pg_node_state.specs.Waiting.{is_ready};
+
+    /// Tries a command again that waits: a new attempt begins, or, where all has come that it gathers, what follows
+    /// then (as where the last that it waited for was lost). The clock is one more.
+    ///
+    /// Errors: `Refused` by `NotWaiting` where the command does not wait, and by `ClockFull` where the clock would
+    /// pass 1,073,741,824; `OutOfMemory`. They change nothing.
+    ///
+    /// Cost: O(open commands + peers) and that of what the turn does to the table.
+    pub fn retry(&mut self, op: OpId) -> Result<Done, NodeFault>
+        requires place { op.port < ports_of self.old }
+        ensures event { Comes (names_of self.old)
+            (step_act (nodes_of self.old) (ports_of self.old) (Retry op) (state_of self.old))
+            result (state_of self.new) (answers_of self.old) (answers_of self.new) }
+        ensures err { OnErr result (state_of self.new ≡ state_of self.old) }
+        ensures err_answers { OnErr result (answers_of self.new ≡ answers_of self.old) }
+        ensures names { names_of self.new ≡ names_of self.old }
+        ensures ports { ports_of self.new ≡ ports_of self.old }
+        ensures fits { IfOk result (λ done. AreSendable (names_of self.old) done.sends.items) }
+    {
+        if !self.opens.waits(op) {
+            return Err(NodeFault::Refused(Refusal::NotWaiting));
+        }
+        if self.clock >= MAX_STAMP {
+            return Err(NodeFault::Refused(Refusal::ClockFull));
+        }
+        match self.try_again(self.clock + 1, op) {
+            Ok(done) => Ok(done),
+            Err(AllocError) => Err(NodeFault::OutOfMemory),
+        }
+    }
+
+    /// Whether a command has an attempt under way and all has come that it gathers, of the live nodes: a retry goes
+    /// on from there. So it is where the last that was missing was a lost node's.
+    ///
+    /// Cost: no memory; O(open commands + peers).
+    pub fn is_ready(&self, op: OpId) -> bool
+        ensures { result ≡ is_ready (left_of self.now) ((kept_by self.now).stages op) (kept_by self.now) }
+    {
+        match self.opens.standing(op) {
+            Standing::Asking(number) | Standing::Changing(number) => self.opens.is_complete(number),
+            Standing::Closed | Standing::Waiting => false,
+        }
+    }
+
+    /// What a retry of a command leads to.
+    fn try_again(&mut self, clock: u32, op: OpId) -> Result<Done, AllocError>
+        requires later { self.old.clock < clock }
+        requires within { clock ≤ MAX_STAMP }
+        ensures happens { IfOk result (λ done. Happens (names_of self.old) (at_clock clock
+            (tried_again ((kept_by self.old).stages op) (left_of self.old) op (kept_by self.old)))
+            done (state_of self.new) (answers_of self.old) (answers_of self.new)) }
+        ensures err { OnErr result (state_of self.new ≡ state_of self.old) }
+        ensures err_answers { OnErr result (answers_of self.new ≡ answers_of self.old) }
+        ensures names { names_of self.new ≡ names_of self.old }
+        ensures ports { ports_of self.new ≡ ports_of self.old }
+        ensures fits { IfOk result (λ done. AreSendable (names_of self.old) done.sends.items) }
+    {
+        match self.opens.standing(op) {
+            Standing::Closed => Ok(self.wait(clock)),
+            Standing::Waiting => self.attempt(clock, op),
+            Standing::Asking(number) => self.go_on_asking(clock, number),
+            Standing::Changing(number) => self.go_on_changing(clock, number),
+        }
+    }
+
+    /// What follows for the request for the lock under the reference of this number.
+    fn go_on_asking(&mut self, clock: u32, number: u32) -> Result<Done, AllocError>
+        requires later { self.old.clock < clock }
+        requires within { clock ≤ MAX_STAMP }
+        ensures happens { IfOk result (λ done. Happens (names_of self.old) (at_clock clock
+            (go_on (left_of self.old) number ((kept_by self.old).uses number) (kept_by self.old)))
+            done (state_of self.new) (answers_of self.old) (answers_of self.new)) }
+        ensures err { OnErr result (state_of self.new ≡ state_of self.old) }
+        ensures err_answers { OnErr result (answers_of self.new ≡ answers_of self.old) }
+        ensures names { names_of self.new ≡ names_of self.old }
+        ensures ports { ports_of self.new ≡ ports_of self.old }
+        ensures fits { IfOk result (λ done. AreSendable (names_of self.old) done.sends.items) }
+    {
+        match self.opens.gathering(number) {
+            Gathering::Lock(op) => self.go_on(clock, number, op),
+            Gathering::Update(_, _) => Ok(self.wait(clock)),
+            Gathering::Nothing => Ok(self.wait(clock)),
+        }
+    }
+
+    /// What follows for the update under the reference of this number.
+    fn go_on_changing(&mut self, clock: u32, number: u32) -> Result<Done, AllocError>
+        requires later { self.old.clock < clock }
+        requires within { clock ≤ MAX_STAMP }
+        ensures happens { IfOk result (λ done. Happens (names_of self.old) (at_clock clock
+            (replies_in (left_of self.old) number ((kept_by self.old).uses number) (kept_by self.old)))
+            done (state_of self.new) (answers_of self.old) (answers_of self.new)) }
+        ensures err { OnErr result (state_of self.new ≡ state_of self.old) }
+        ensures err_answers { OnErr result (answers_of self.new ≡ answers_of self.old) }
+        ensures names { names_of self.new ≡ names_of self.old }
+        ensures ports { ports_of self.new ≡ ports_of self.old }
+        ensures fits { IfOk result (λ done. AreSendable (names_of self.old) done.sends.items) }
+    {
+        match self.opens.gathering(number) {
+            Gathering::Update(op, lock) => {
+                if self.opens.is_complete(number) {
+                    self.finish(clock, number, op, lock)
+                } else {
+                    Ok(self.wait(clock))
+                }
+            }
+            Gathering::Lock(_) => Ok(self.wait(clock)),
+            Gathering::Nothing => Ok(self.wait(clock)),
+        }
+    }
+}

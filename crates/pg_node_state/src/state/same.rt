@@ -1,0 +1,108 @@
+//! Whether two nodes are the same in all that is seen of them.
+
+ghost use Rattle.std.specs.Prelude.{◌≡◌, ◌↔◌, IsTrue, IfOk, length};
+ghost use Rattle.pg_group.specs.Ended.{ended_of};
+ghost use Rattle.pg_lock.specs.Locks.{locks_of};
+ghost use Rattle.pg_ends.specs.Processes.{made_of};
+ghost use Rattle.pg_opens.specs.Opens as opens;
+ghost use Rattle.pg_node_state.specs.Ports.{counts_in, answers_in};
+ghost use Rattle.pg_node_state.specs.Same.{AreSamePorts, AreSameNodes, AreAlike, AreSameBeside};
+
+use crate::state::{NodeState, Port};
+use pg_group::GroupTable;
+use pg_query::same_groups;
+use pg_step::equal_answers;
+use std::alloc::AllocError;
+
+impl<T: GroupTable + Drop> NodeState<T> {
+    /// Whether both are one node to everybody: they are alike, and have the same clock.
+    ///
+    /// Errors: `AllocError`.
+    ///
+    /// Cost: that of `is_alike`.
+    pub fn same(&self, other: &NodeState<T>) -> Result<bool, AllocError>
+        ensures { IfOk result (λ same. IsTrue same ↔ AreSameNodes self.now other.now) }
+    {
+        if self.clock != other.clock {
+            return Ok(false);
+        }
+        self.is_alike(other)
+    }
+
+    /// Whether both are the same but for their clocks: they know the same nodes by the same names, and have the same
+    /// groups with the same members, the same ended processes, holders, merged and lost peers, as many processes and
+    /// references made, the same open commands with the same gathered, and as many ports, where as many commands came
+    /// in and the same answers were given.
+    ///
+    /// Errors: `AllocError`.
+    ///
+    /// Cost: that of `same_groups`, which alone takes memory, and of `same` of each other part.
+    pub fn is_alike(&self, other: &NodeState<T>) -> Result<bool, AllocError>
+        ensures { IfOk result (λ alike. IsTrue alike ↔ AreAlike self.now other.now) }
+    {
+        if self.same_beside(other) {
+            same_groups(self.alloc, &self.table, &other.table)
+        } else {
+            Ok(false)
+        }
+    }
+
+    /// Whether both are the same but for their clocks and their groups. It takes no memory.
+    fn same_beside(&self, other: &NodeState<T>) -> bool
+        ensures { IsTrue result ↔ AreSameBeside self.now other.now }
+    {
+        self.same_processes(other) && self.same_sets(other) && self.same_commands(other)
+    }
+
+    /// Whether both made as many processes.
+    fn same_processes(&self, other: &NodeState<T>) -> bool
+        ensures { IsTrue result ↔ (made_of self.now.processes ≡ made_of other.now.processes) }
+    {
+        self.processes.made() == other.processes.made()
+    }
+
+    /// Whether the same processes have ended, the same references hold locks, and the same peers are merged.
+    fn same_sets(&self, other: &NodeState<T>) -> bool
+        ensures { IsTrue result ↔ (ended_of self.now.ended ≡ ended_of other.now.ended) × (locks_of self.now.locks ≡ locks_of other.now.locks)
+            × (self.now.formation ≡ other.now.formation) }
+    {
+        self.ended.same(&other.ended)
+            && self.locks.same(&other.locks)
+            && self.formation.same(&other.formation)
+    }
+
+    /// Whether both know the same nodes, and the same commands are open and were answered.
+    fn same_commands(&self, other: &NodeState<T>) -> bool
+        ensures { IsTrue result ↔ (opens.AreSame self.now.opens other.now.opens) × (AreSamePorts self.now.ports.items other.now.ports.items) }
+    {
+        self.opens.same(&other.opens) && same_ports(&self.ports, &other.ports)
+    }
+}
+
+/// Whether there are as many ports, where as many commands came in and the same answers were given.
+fn same_ports(ports: &[Port], others: &[Port]) -> bool
+    ensures { IsTrue result ↔ AreSamePorts ports.now others.now }
+{
+    ports.len() == others.len() && agree_on_ports(ports, others)
+}
+
+/// Whether as many commands came in at each of as many ports, and the same answers were given.
+fn agree_on_ports(ports: &[Port], others: &[Port]) -> bool
+    requires { length ports.now ≡ length others.now }
+    ensures { IsTrue result ↔ (counts_in ports.now ≡ counts_in others.now) × (answers_in ports.now ≡ answers_in others.now) }
+{
+    for place in 0..ports.len() {
+        if !same_port(&ports[place], &others[place]) {
+            return false;
+        }
+    }
+    true
+}
+
+/// Whether as many commands came in at both, and the same answers were given.
+fn same_port(port: &Port, other: &Port) -> bool
+    ensures { IsTrue result ↔ (port.now.count ≡ other.now.count) × (port.now.answers.items ≡ other.now.answers.items) }
+{
+    equal_answers();
+    port.count == other.count && port.answers == other.answers
+}

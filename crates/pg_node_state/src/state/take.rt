@@ -1,0 +1,93 @@
+//! What a node makes of a packet.
+
+ghost use Rattle.std.specs.Prelude.{◌≡◌, ◌≢◌, ◌≤◌, ◌<◌, ◌+◌, ◌^◌, true, Err, IfOk, OnErr, length};
+ghost use Rattle.pg_message.specs.Members.{IsShort};
+ghost use Rattle.pg_message.specs.declared.packet.TheConstants.{MAX_STAMP};
+
+use crate::state::{Done, NodeFault, NodeState};
+use pg_group::GroupTable;
+use pg_message::{MAX_STAMP, Message, Packet, Request};
+use pg_step::Refusal;
+
+impl<T: GroupTable + Drop> NodeState<T> {
+    ghost use Rattle.pg_opens.specs.Places.{name_at};
+    ghost use Rattle.pg_step.specs.Step.{step_take};
+    ghost use Rattle.pg_node_state.specs.Issued.{ports_of};
+    ghost use Rattle.pg_node_state.specs.declared.state.fault.NodeFault.TheVariants.{OutOfMemory};
+    ghost use Rattle.pg_node_state.specs.States.{names_of, nodes_of, left_of, kept_by, state_of, answers_of, stamped_of, step_see_loss, takes_none, Comes};
+    ghost use Rattle.pg_node_state.specs.Sendable.{AreSendable};
+
+    /// Takes a packet of a peer. `peer`: its place among the peers. What is sent carries the clock that the event
+    /// sets: the greater of the node's and the packet's, and 1 more.
+    ///
+    /// Errors: `Refused` by `NodeLost` where the loss of the peer was seen, by `ClockFull` where the clock would pass
+    /// 1,073,741,824, and by `NotAMessage` for the groups of another node, or where the peer has announced its
+    /// groups; `OutOfMemory`, which never comes where a lock is freed, or of a reply that is not counted. They change
+    /// nothing.
+    ///
+    /// Cost: that of the table's call for what the packet says, and of what is sent.
+    pub fn take(&mut self, peer: usize, packet: &Packet) -> Result<Done, NodeFault>
+        requires place { peer + 1 < length (names_of self.old) }
+        requires few { IsShort (2 ^ 32) packet.now.message }
+        ensures event { Comes (names_of self.old)
+            (step_take (nodes_of self.old) (name_at (names_of self.old) (peer + 1)) (stamped_of packet.now) (state_of self.old))
+            result (state_of self.new) (answers_of self.old) (answers_of self.new) }
+        ensures light { takes_none (left_of self.old) (name_at (names_of self.old) (peer + 1)) (kept_by self.old) packet.now.message ≡ true
+            → result ≢ Err OutOfMemory }
+        ensures err { OnErr result (state_of self.new ≡ state_of self.old) }
+        ensures err_answers { OnErr result (answers_of self.new ≡ answers_of self.old) }
+        ensures names { names_of self.new ≡ names_of self.old }
+        ensures ports { ports_of self.new ≡ ports_of self.old }
+        ensures fits { IfOk result (λ done. AreSendable (names_of self.old) done.sends.items) }
+    {
+        if self.opens.is_lost(peer + 1) {
+            return Err(NodeFault::Refused(Refusal::NodeLost));
+        }
+        let latest = self.clock.max(packet.stamp);
+        if latest >= MAX_STAMP {
+            return Err(NodeFault::Refused(Refusal::ClockFull));
+        }
+        let clock = latest + 1;
+        match &packet.message {
+            Message::Call(reference, request) => match request {
+                Request::SetLock(name) => Ok(self.serve_lock(clock, peer, reference, name)?),
+                Request::Change(update) => Ok(self.serve_update(clock, peer, reference, update)?),
+            },
+            Message::Reply(reference, said) => self.take_reply(clock, peer, reference, *said),
+            Message::DelLock(name, reference) => Ok(self.free_lock(clock, reference, name)),
+            Message::Exchange(node, groups) => {
+                self.take_groups(clock, peer, node, groups.as_slice())
+            }
+            Message::Down(pid) => Ok(self.take_end(clock, pid)?),
+        }
+    }
+
+    /// Sees the loss of a peer, once all that came from it was taken: it is live no more, the locks of its references
+    /// are free, its processes have ended and are in no group, and it counts as merged. `peer`: its place among the
+    /// peers. `last`: its clock at last. Nothing is sent.
+    ///
+    /// Errors: `Refused` by `NodeLost` where the loss was seen before, and by `ClockFull` where the clock would pass
+    /// 1,073,741,824; `OutOfMemory`. They change nothing.
+    ///
+    /// Cost: that of the table's `drop_node` and of the names that have a holder.
+    pub fn see_loss(&mut self, peer: usize, last: u32) -> Result<Done, NodeFault>
+        requires place { peer + 1 < length (names_of self.old) }
+        ensures event { Comes (names_of self.old)
+            (step_see_loss (name_at (names_of self.old) (peer + 1)) last (state_of self.old))
+            result (state_of self.new) (answers_of self.old) (answers_of self.new) }
+        ensures err { OnErr result (state_of self.new ≡ state_of self.old) }
+        ensures err_answers { OnErr result (answers_of self.new ≡ answers_of self.old) }
+        ensures names { names_of self.new ≡ names_of self.old }
+        ensures ports { ports_of self.new ≡ ports_of self.old }
+        ensures fits { IfOk result (λ done. AreSendable (names_of self.old) done.sends.items) }
+    {
+        if self.opens.is_lost(peer + 1) {
+            return Err(NodeFault::Refused(Refusal::NodeLost));
+        }
+        let latest = self.clock.max(last);
+        if latest >= MAX_STAMP {
+            return Err(NodeFault::Refused(Refusal::ClockFull));
+        }
+        Ok(self.forget_peer(latest + 1, peer)?)
+    }
+}

@@ -1,0 +1,257 @@
+//! What follows once answers to a command of the node are in.
+
+ghost use Rattle.std.specs.Prelude.{◌≡◌, ◌≤◌, ◌<◌, ◌+◌, ◌&&◌, ◌^◌, ℕ, Bool, true, false, IfOk, OnErr, OnOk, length};
+ghost use Rattle.pg_group.specs.declared.update.Update.{Update};
+ghost use Rattle.pg_group.specs.Value.{name_of};
+ghost use Rattle.pg_message.specs.declared.packet.TheConstants.{MAX_STAMP};
+ghost use Rattle.pg_opens.specs.Outlooks.{turn_by};
+ghost use Rattle.pg_opens.specs.Readings.{is_locking};
+ghost use Rattle.pg_opens.specs.declared.outlook.Outlook.TheVariants as outlooks;
+ghost use Rattle.pg_step.specs.declared.command.OpId.{OpId};
+ghost use Rattle.pg_step.specs.Nodes.{Node, is_peer};
+ghost use Rattle.pg_step.specs.Peers.{would_grant};
+ghost use Rattle.pg_step.specs.State.{Status};
+ghost use Rattle.pg_step.specs.State.Use.{Locking, Updating};
+
+use crate::state::calls::{asked, begun, ended, freed, has_peer, update_under};
+use crate::state::own::{apply_own, ask_own, free_own};
+use crate::state::port::{keep_reserved, reserve_answer};
+use crate::state::{Done, NodeState};
+use pg_group::GroupTable;
+use pg_opens::{Asked, Outlook, steps_go_by_outlook};
+use pg_step::{OpId, Reply};
+use pg_term::equality;
+use std::alloc::AllocError;
+
+impl<T: GroupTable + Drop> NodeState<T> {
+    ghost use Rattle.pg_opens.specs.Readings.{gathering_of};
+    ghost use Rattle.pg_opens.specs.declared.command.Gathering.TheVariants as gatherings;
+    ghost use Rattle.pg_step.specs.Attempts.{ask, begin, finish, give_up, go_on};
+    ghost use Rattle.pg_step.specs.Step.{at_clock};
+    ghost use Rattle.pg_step.specs.Turns.{becomes};
+    ghost use Rattle.pg_node_state.specs.Issued.{ports_of};
+    ghost use Rattle.pg_node_state.specs.States.{names_of, left_of, kept_by, state_of, answers_of, Happens};
+    ghost use Rattle.pg_node_state.specs.Sendable.{AreSendable};
+
+    /// Gives an attempt up: frees the lock at each node that granted it. `number`: the one of its reference.
+    pub(crate) fn stop_asking(&mut self, clock: u32, number: u32) -> Result<Done, AllocError>
+        requires later { self.old.clock < clock }
+        requires within { clock ≤ MAX_STAMP }
+        requires locking { is_locking ((kept_by self.old).uses number) ≡ true }
+        ensures happens { (op : OpId) (update : Update) (first : Node) (st : Node → Status) → (kept_by self.old).uses number ≡ Locking op update first st
+            → IfOk result (λ done. Happens (names_of self.old) (at_clock clock
+            (give_up (left_of self.old) number op update st (kept_by self.old)))
+            done (state_of self.new) (answers_of self.old) (answers_of self.new)) }
+        ensures err { OnErr result (state_of self.new ≡ state_of self.old) }
+        ensures err_answers { OnErr result (answers_of self.new ≡ answers_of self.old) }
+        ensures names { names_of self.new ≡ names_of self.old }
+        ensures ports { ports_of self.new ≡ ports_of self.old }
+        ensures fits { IfOk result (λ done. AreSendable (names_of self.old) done.sends.items) }
+    {
+        let calls = freed(self.alloc, clock, &self.opens, number)?;
+        let granted = self.opens.has_granted(number, 0);
+        let name = update_under(&self.opens, number).name();
+        free_own(&mut self.locks, granted, name, &calls.lock);
+        self.opens.give_up(number);
+        self.clock = clock;
+        Ok(calls.done)
+    }
+
+    /// Asks for the lock those that were not asked, the own node too. `number`: the one of its reference.
+    pub(crate) fn ask_rest(&mut self, clock: u32, number: u32) -> Result<Done, AllocError>
+        requires later { self.old.clock < clock }
+        requires within { clock ≤ MAX_STAMP }
+        requires locking { is_locking ((kept_by self.old).uses number) ≡ true }
+        ensures happens { (op : OpId) (update : Update) (first : Node) (st : Node → Status) → (kept_by self.old).uses number ≡ Locking op update first st
+            → IfOk result (λ done. Happens (names_of self.old) (at_clock clock
+            (ask (left_of self.old) (λ q. true) number op update first st (kept_by self.old)))
+            done (state_of self.new) (answers_of self.old) (answers_of self.new)) }
+        ensures err { OnErr result (state_of self.new ≡ state_of self.old) }
+        ensures err_answers { OnErr result (answers_of self.new ≡ answers_of self.old) }
+        ensures names { names_of self.new ≡ names_of self.old }
+        ensures ports { ports_of self.new ≡ ports_of self.old }
+        ensures fits { IfOk result (λ done. AreSendable (names_of self.old) done.sends.items) }
+    {
+        let calls = asked(self.alloc, clock, &self.opens, number)?;
+        let granted = self.would_grant(number);
+        let asks = self.opens.is_asked_by(number, Asked::All, 0) & granted;
+        let name = update_under(&self.opens, number).name();
+        match ask_own(&mut self.locks, asks, name, &calls.lock) {
+            Ok(()) => {
+                self.opens.ask(number, Asked::All, granted);
+                self.clock = clock;
+                Ok(calls.done)
+            }
+            Err(fault) => {
+                drop(calls);
+                Err(fault)
+            }
+        }
+    }
+
+    /// Begins the update of a command that all have granted, once the rest was asked: it has a new reference, changes the own
+    /// table, and goes to every live peer. `number`: the one of the reference of its lock.
+    pub(crate) fn begin(&mut self, clock: u32, number: u32, op: OpId) -> Result<Done, AllocError>
+        requires later { self.old.clock < clock }
+        requires within { clock ≤ MAX_STAMP }
+        requires locking { gathering_of ((kept_by self.old).uses number) ≡ gatherings.Lock op }
+        ensures happens { (update : Update) (first : Node) (st : Node → Status) → (kept_by self.old).uses number ≡ Locking op update first st
+            → IfOk result (λ done. Happens (names_of self.old) (at_clock clock
+            (begin (left_of self.old) number op update (ask (left_of self.old) (λ q. true) number op update first st (kept_by self.old)).state))
+            done (state_of self.new) (answers_of self.old) (answers_of self.new)) }
+        ensures err { OnErr result (state_of self.new ≡ state_of self.old) }
+        ensures err_answers { OnErr result (answers_of self.new ≡ answers_of self.old) }
+        ensures names { names_of self.new ≡ names_of self.old }
+        ensures ports { ports_of self.new ≡ ports_of self.old }
+        ensures fits { IfOk result (λ done. AreSendable (names_of self.old) done.sends.items) }
+    {
+        let calls = begun(self.alloc, clock, &self.opens, number, op)?;
+        let granted = self.would_grant(number);
+        let asks = self.opens.is_asked_by(number, Asked::All, 0) & granted;
+        let update = update_under(&self.opens, number);
+        match apply_own(
+            &mut self.locks,
+            &mut self.table,
+            &self.ended,
+            asks,
+            update,
+            &calls.lock,
+        ) {
+            Ok(()) => {
+                self.opens.ask(number, Asked::All, granted);
+                self.opens.begin(number);
+                self.clock = clock;
+                Ok(calls.done)
+            }
+            Err(fault) => {
+                drop(calls);
+                Err(fault)
+            }
+        }
+    }
+
+    /// Ends a command whose update every node has applied: frees the lock everywhere, and answers ok. `number`: the one of
+    /// the reference of its update; `lock`: the one of its lock.
+    pub(crate) fn finish(
+        &mut self,
+        clock: u32,
+        number: u32,
+        op: OpId,
+        lock: u32,
+    ) -> Result<Done, AllocError>
+        requires later { self.old.clock < clock }
+        requires within { clock ≤ MAX_STAMP }
+        requires updating { gathering_of ((kept_by self.old).uses number) ≡ gatherings.Update op lock }
+        ensures happens { (update : Update) (replied : Node → Bool) → (kept_by self.old).uses number ≡ Updating op update lock replied
+            → IfOk result (λ done. Happens (names_of self.old) (at_clock clock
+            (finish (left_of self.old) number op update lock (kept_by self.old)))
+            done (state_of self.new) (answers_of self.old) (answers_of self.new)) }
+        ensures err { OnErr result (state_of self.new ≡ state_of self.old) }
+        ensures err_answers { OnErr result (answers_of self.new ≡ answers_of self.old) }
+        ensures names { names_of self.new ≡ names_of self.old }
+        ensures ports { ports_of self.new ≡ ports_of self.old }
+        ensures fits { IfOk result (λ done. AreSendable (names_of self.old) done.sends.items) }
+    {
+        reserve_answer(&mut self.ports, op.port)?;
+        let calls = ended(self.alloc, clock, &self.opens, number, lock)?;
+        keep_reserved(&mut self.ports, op, Reply::Ok);
+        let name = update_under(&self.opens, number).name();
+        self.locks.give_up(name, &calls.lock);
+        self.opens.finish(number);
+        self.clock = clock;
+        Ok(calls.done)
+    }
+
+    /// Begins the update of a command that all have granted, at a node of which no peer counts: the command ends at once.
+    fn begin_alone(&mut self, clock: u32, number: u32, op: OpId) -> Result<Done, AllocError>
+        requires later { self.old.clock < clock }
+        requires within { clock ≤ MAX_STAMP }
+        requires locking { gathering_of ((kept_by self.old).uses number) ≡ gatherings.Lock op }
+        requires alone { (q : Node) → is_peer (left_of self.old) q ≡ false }
+        ensures happens { (update : Update) (first : Node) (st : Node → Status) → (kept_by self.old).uses number ≡ Locking op update first st
+            → IfOk result (λ done. Happens (names_of self.old) (at_clock clock
+            (turn_by outlooks.Begin (left_of self.old) number op update first st (kept_by self.old)))
+            done (state_of self.new) (answers_of self.old) (answers_of self.new)) }
+        ensures err { OnErr result (state_of self.new ≡ state_of self.old) }
+        ensures err_answers { OnErr result (answers_of self.new ≡ answers_of self.old) }
+        ensures names { names_of self.new ≡ names_of self.old }
+        ensures ports { ports_of self.new ≡ ports_of self.old }
+        ensures fits { IfOk result (λ done. AreSendable (names_of self.old) done.sends.items) }
+    {
+        reserve_answer(&mut self.ports, op.port)?;
+        let calls = begun(self.alloc, clock, &self.opens, number, op)?;
+        let granted = self.would_grant(number);
+        let changing = self.opens.references() + 1;
+        let update = update_under(&self.opens, number);
+        match self.table.apply(update, &self.ended) {
+            Ok(()) => {
+                equality();
+                self.locks.give_up(update.name(), &calls.lock);
+                self.opens.ask(number, Asked::All, granted);
+                self.opens.begin(number);
+                self.opens.finish(changing);
+                keep_reserved(&mut self.ports, op, Reply::Ok);
+                self.clock = clock;
+                Ok(calls.done)
+            }
+            Err(fault) => {
+                drop(calls);
+                Err(fault)
+            }
+        }
+    }
+
+    /// What follows once the answers to a request for the lock are in. `number`: the one of its reference.
+    pub(crate) fn go_on(&mut self, clock: u32, number: u32, op: OpId) -> Result<Done, AllocError>
+        requires later { self.old.clock < clock }
+        requires within { clock ≤ MAX_STAMP }
+        requires locking { gathering_of ((kept_by self.old).uses number) ≡ gatherings.Lock op }
+        ensures happens { IfOk result (λ done. Happens (names_of self.old) (at_clock clock
+            (go_on (left_of self.old) number ((kept_by self.old).uses number) (kept_by self.old)))
+            done (state_of self.new) (answers_of self.old) (answers_of self.new)) }
+        ensures err { OnErr result (state_of self.new ≡ state_of self.old) }
+        ensures err_answers { OnErr result (answers_of self.new ≡ answers_of self.old) }
+        ensures names { names_of self.new ≡ names_of self.old }
+        ensures ports { ports_of self.new ≡ ports_of self.old }
+        ensures fits { IfOk result (λ done. AreSendable (names_of self.old) done.sends.items) }
+    {
+        steps_go_by_outlook();
+        let granted = self.would_grant(number);
+        match self.opens.outlook(number, granted) {
+            Outlook::Wait => Ok(self.wait(clock)),
+            Outlook::GiveUp => self.stop_asking(clock, number),
+            Outlook::AskThenGiveUp => self.stop_asking(clock, number),
+            Outlook::Ask => self.ask_rest(clock, number),
+            Outlook::Begin => {
+                if has_peer(&self.opens) {
+                    self.begin(clock, number, op)
+                } else {
+                    self.begin_alone(clock, number, op)
+                }
+            }
+        }
+    }
+
+    /// Nothing follows yet.
+    pub(crate) fn wait(&mut self, clock: u32) -> Done
+        requires later { self.old.clock < clock }
+        requires within { clock ≤ MAX_STAMP }
+        ensures happens { Happens (names_of self.old) (at_clock clock (becomes (kept_by self.old))) result (state_of self.new) (answers_of self.old) (answers_of self.new) }
+        ensures names { names_of self.new ≡ names_of self.old }
+        ensures ports { ports_of self.new ≡ ports_of self.old }
+        ensures fits { AreSendable (names_of self.old) result.sends.items }
+    {
+        self.clock = clock;
+        Done::nothing(self.alloc)
+    }
+
+    /// Whether the own node would grant the lock that is asked for under the reference of this number.
+    fn would_grant(&self, number: u32) -> bool
+        requires { is_locking ((kept_by self.now).uses number) ≡ true }
+        ensures { (op : OpId) (update : Update) (first : Node) (st : Node → Status) → (kept_by self.now).uses number ≡ Locking op update first st
+            → result ≡ would_grant (left_of self.now) (kept_by self.now) (name_of update) }
+    {
+        let name = update_under(&self.opens, number).name();
+        self.locks.grants(self.formation.formed(), name)
+    }
+}

@@ -1,0 +1,5 @@
+pub mod Ends
+pub mod Exploring
+pub mod Inputs
+pub mod Numbers
+pub mod Telling

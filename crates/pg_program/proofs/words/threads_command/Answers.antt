@@ -1,0 +1,21 @@
+use Rattle.std.proofs.Common.{◌≡◌, false, ◌||◌, rules, ap₂, ◌∙◌}
+use Rattle.std.proofs.lemmas.Result.{IfOk-weaker}
+use Rattle.clap.specs.Words.{app_of, with_rule}
+use Rattle.clap.specs.declared.builder.Command.TheViews.{out-Command}
+use Rattle.pg_program.proofs.words.threads_command.Goals as goal
+
+-- one rule behind the others
+pub returns-clause-app : goal.returns-clause-app
+returns-clause-app c =
+    let seed_is = c.in_ok-command-2.ensures.shape c.number_option.ensures.plain ∙ ap₂ with_rule c.in_ok-command.ensures.app c.number_option.ensures.rule in
+    let turns_is = c.in_ok-command-3.ensures.shape c.number_option-2.ensures.plain ∙ ap₂ with_rule seed_is c.number_option-2.ensures.rule in
+    let told_is : app_of c.after_help-command.result ≡ app_of c.in_ok-command-3.command = search rules in
+    IfOk-weaker c.arg-3.result _ _ (λ m h. h.shape c.flag.ensures.plain ∙ ap₂ with_rule (told_is ∙ turns_is) c.flag.ensures.rule) c.arg-3.ensures
+
+-- none is of all commands
+pub returns-clause-local : goal.returns-clause-local
+returns-clause-local c =
+    let seed_none = c.in_ok-command-2.ensures.globals ∙ ap₂ (λ a b. a || b) c.in_ok-command.ensures.local c.number_option.ensures.plain in
+    let turns_none = c.in_ok-command-3.ensures.globals ∙ ap₂ (λ a b. a || b) seed_none c.number_option-2.ensures.plain in
+    let told_none : (out-Command c.after_help-command.result).has_globals ≡ (out-Command c.in_ok-command-3.command).has_globals = search rules in
+    IfOk-weaker c.arg-3.result _ _ (λ m h. h.globals ∙ ap₂ (λ a b. a || b) (told_none ∙ turns_none) c.flag.ensures.plain) c.arg-3.ensures

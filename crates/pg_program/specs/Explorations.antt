@@ -1,0 +1,139 @@
+-- How an exploration ends.
+use Rattle.std.specs.Prelude.{◌≡◌, ◌≢◌, ◌⊎◌, ◌↔◌, ◌<◌, ◌≤◌, ℕ, zero, suc, List, [], length, nat_lt, is_some, Bool, true, false, IsTrue, Option, Some, None, Result, Ok, Err, string_bytes, if◌then◌else◌}
+use Rattle.std.specs.Io.KnownBytes.{Appends}
+use Rattle.std.specs.Str.{is_utf8}
+use Rattle.pg_config.specs.Faults.{world_number_of}
+use Rattle.pg_config.specs.declared.fault.WorldFault.TheVariants.{OutOfMemory}
+use Rattle.pg_explore.specs.declared.fault.ExploreFault.{ExploreFault}
+use Rattle.pg_explore.specs.declared.fault.ExploreFault.TheVariants as explore
+use Rattle.pg_explore.specs.declared.plan.Plan.{Plan}
+use Rattle.pg_explore.specs.Explorations.{AreApart, AreFollowed, AreReached}
+use Rattle.pg_script.specs.Scripts.{Contents}
+use Rattle.pg_survey.specs.declared.findings.Findings.{Findings}
+use Rattle.pg_survey.specs.Findings.{IsPage, IsWhereMarked, end_at, ends_in, marks_in, met_in}
+use Rattle.pg_survey.specs.Scenarios.{ArePlans, scenario_of}
+use Rattle.pg_program.specs.declared.fault.Fault.{Fault}
+use Rattle.pg_program.specs.declared.fault.Fault.TheVariants.{Run, Given, Line}
+use Rattle.pg_program.specs.declared.input.TheConstants.{MAX_SCRIPT_LEN}
+use Rattle.pg_program.specs.declared.words.Quest.{Quest}
+use Rattle.pg_program.specs.Inputs.{NotRead, Said, told_of}
+use Rattle.pg_program.specs.Scripts.{IsRefused, NotWritten}
+
+-- ---- what is explored
+
+-- what bytes say: they are no text, or a text that is a scenario or none
+abbrev pub bytes_planned : List ℕ → Said
+bytes_planned bytes = if is_utf8 bytes then told_of (scenario_of bytes) else Err (Given 40)
+
+-- what an input says: it is too long, or its bytes say it
+abbrev pub input_planned : List ℕ → Said
+input_planned input = if nat_lt MAX_SCRIPT_LEN (length input) then Err (Given 11) else bytes_planned input
+
+-- this is said of some input
+abbrev pub IsPlanned : (List ℕ → Type 0) → Said → Type 0
+IsPlanned is_input said = (input : List ℕ) × is_input input × (input_planned input ≡ said)
+
+-- ---- what is found
+
+-- Worlds are found of what an input says, within limits: each is reached, no two are alike, and each step from those that were explored is followed.
+pub record AreFound (contents : Contents) (quest : Quest) (found : Findings) : Type 0 where
+  pub plans : List Plan
+  pub planned : ArePlans contents.lines plans
+  pub size : length plans ≡ length contents.starts
+  pub reached : AreReached contents.starts plans quest.retries (met_in found)
+  pub distinct : AreApart (met_in found)
+  pub followed : AreFollowed plans quest.retries (met_in found) found.explored.lent
+  pub cut : found.explored.lent < length (met_in found) → quest.limit ≤ length (met_in found)
+
+-- ---- what is asked
+
+-- what is asked for is there: what was counted is; a run to an end where there are so many ends; a run in which nodes differ where some do
+abbrev pub IsThere : ℕ → Bool → Findings → Bool → Type 0
+IsThere zero false found there = there ≡ true
+IsThere zero true found there = IsWhereMarked (marks_in found) there
+IsThere (suc number) differing found there = there ≡ is_some (end_at (ends_in found) (suc number))
+
+-- a text of what was counted is its page
+abbrev pub IsText : ℕ → Bool → Findings → List ℕ → Type 0
+IsText zero false found text = IsPage found text
+IsText zero true found text = Unit {0}
+IsText (suc number) differing found text = Unit {0}
+
+-- the text that is asked for; None: it is not there
+abbrev pub IsAnswer : ℕ → Bool → Findings → Option (List ℕ) → Type 0
+IsAnswer show differing found None = IsThere show differing found false
+IsAnswer show differing found (Some text) = IsThere show differing found true × IsText show differing found text
+
+-- it was printed and flushed, and it is told whether all worlds were explored
+pub record WasShown (quest : Quest) (found : Findings) (flushed : Type 0) (before after : Option (List ℕ)) (whole : Bool) : Type 0 where
+  pub text : List ℕ
+  pub answer : IsAnswer quest.show quest.is_differing found (Some text)
+  pub appends : Appends before after text
+  pub end : flushed
+  pub all : IsTrue whole ↔ (length (met_in found) ≤ found.explored.lent)
+
+-- by 16, what is asked for is not there; by 11, there are too many worlds for a picture
+abbrev pub NotThere : Quest → Findings → ℕ → Type 0
+NotThere quest found number = ((number ≡ 16) × IsAnswer quest.show quest.is_differing found None) ⊎ ((number ≡ 11) × (60 < length (met_in found)))
+
+-- what becomes of what was found
+abbrev pub Shown : Quest → Findings → Type 0 → Type 0 → Type 0 → Option (List ℕ) → Option (List ℕ) → Result Bool Fault → Type 0
+Shown quest found unchanged unwritten flushed before after (Ok whole) = WasShown quest found flushed before after whole
+Shown quest found unchanged unwritten flushed before after (Err (Run number)) = NotWritten unwritten number
+Shown quest found unchanged unwritten flushed before after (Err (Given number)) = NotThere quest found number × unchanged
+Shown quest found unchanged unwritten flushed before after (Err (Line line number)) = ⊥
+
+-- worlds were found, and so it ended
+pub record WasExplored (contents : Contents) (quest : Quest) (unchanged unwritten flushed : Type 0) (before after : Option (List ℕ)) (end : Result Bool Fault) : Type 0 where
+  pub found : Findings
+  pub are : AreFound contents quest found
+  pub shown : Shown quest found unchanged unwritten flushed before after end
+
+-- the configuration was refused, and nothing was written
+abbrev pub WasRefused : Contents → Type 0 → Result Bool Fault → Type 0
+WasRefused contents unchanged (Err (Given number)) = IsRefused contents number × unchanged
+WasRefused contents unchanged end = ⊥
+
+-- ---- how it ends
+
+-- what an input says was explored, or its configuration was refused; or it says nothing, which is told, and nothing was written
+abbrev pub SaidEnd : Said → Quest → Type 0 → Type 0 → Type 0 → Option (List ℕ) → Option (List ℕ) → Result Bool Fault → Type 0
+SaidEnd (Ok contents) quest unchanged unwritten flushed before after end = WasExplored contents quest unchanged unwritten flushed before after end ⊎ WasRefused contents unchanged end
+SaidEnd (Err fault) quest unchanged unwritten flushed before after end = (end ≡ Err fault) × unchanged
+
+-- or there was no memory
+abbrev pub PlannedEnd : Said → Quest → Type 0 → Type 0 → Type 0 → Option (List ℕ) → Option (List ℕ) → Result Bool Fault → Type 0
+PlannedEnd said quest unchanged unwritten flushed before after end = (end ≡ Err (Run 10)) ⊎ SaidEnd said quest unchanged unwritten flushed before after end
+
+-- the input was not read, and nothing was written
+abbrev pub IsUnheard : Type 0 → Type 0 → Result Bool Fault → Type 0
+IsUnheard unread unchanged (Err (Run number)) = NotRead unread number × unchanged
+IsUnheard unread unchanged end = ⊥
+
+-- How `explore` ends: the input was not read; or it was read, and what it says came to this end.
+abbrev pub ExploreEnd : (List ℕ → Type 0) → Type 0 → Quest → Type 0 → Type 0 → Type 0 → Option (List ℕ) → Option (List ℕ) → Result Bool Fault → Type 0
+ExploreEnd is_input unread quest unchanged unwritten flushed before after end =
+    IsUnheard unread unchanged end ⊎ ((said : Said) × IsPlanned is_input said × PlannedEnd said quest unchanged unwritten flushed before after end)
+
+-- `explore` was asked for so, and ended so
+pub record WasAsked (IsExplore : Quest → Type 0) (Ends : Quest → Result Bool Fault → Type 0) (end : Result Bool Fault) : Type 0 where
+  pub quest : Quest
+  pub asked : IsExplore quest
+  pub ends : Ends quest end
+
+-- ---- faults
+
+-- a fault of an exploration is told so
+abbrev pub WhyNot : ExploreFault → Fault → Type 0
+WhyNot (explore.World fault) (Run number) = number ≡ 10
+WhyNot (explore.World fault) (Given number) = (fault ≢ OutOfMemory) × (number ≡ world_number_of fault)
+WhyNot (explore.World fault) (Line line number) = ⊥
+WhyNot explore.OutOfMemory (Run number) = number ≡ 10
+WhyNot explore.OutOfMemory (Given number) = ⊥
+WhyNot explore.OutOfMemory (Line line number) = ⊥
+
+-- a picture was not drawn: there was no memory, a write failed, or there are too many worlds
+abbrev pub NotPictured : Type 0 → ℕ → Fault → Type 0
+NotPictured unmade worlds (Run number) = NotWritten unmade number
+NotPictured unmade worlds (Given number) = (number ≡ 11) × (60 < worlds)
+NotPictured unmade worlds (Line line number) = ⊥

@@ -1,0 +1,10 @@
+pub mod Explorations
+pub mod Bytes
+pub mod CommandLine
+pub mod Faults
+pub mod Inputs
+pub mod Scripts
+pub mod Services
+pub mod Status
+pub mod Talks
+pub mod Told

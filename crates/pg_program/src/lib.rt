@@ -1,0 +1,23 @@
+//! What the program does for its words, over any source, sinks and system: the replica of one node over bytes, runs of scripts, all
+//! runs of one, a conversation with nodes as threads, and a service.
+//!
+//! `run_words(alloc, &words, &mut reader, &mut writer, &mut system, &mut faults)` gives the status. Begin with `run.rt`, and with
+//! `specs/CommandLine.antt` for the words.
+#![tactic(auto)]
+
+mod bytes;
+mod explore;
+mod fault;
+mod help;
+mod input;
+mod laws;
+mod run;
+mod script;
+mod service;
+mod system;
+mod threads;
+mod words;
+
+pub use input::MAX_SCRIPT_LEN;
+pub use run::{refuse, refuse_given, run_words};
+pub use system::System;

@@ -1,0 +1,3 @@
+pub mod Joining
+pub mod Looking
+pub mod Planning

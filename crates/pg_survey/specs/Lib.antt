@@ -1,0 +1,4 @@
+pub mod Differing
+pub mod Findings
+pub mod Scenarios
+pub mod Ways

@@ -1,0 +1,122 @@
+//! The state graph of a survey.
+
+ghost use Rattle.std.specs.Prelude.{◌≡◌, ◌++◌, IfOk, OnOk, length};
+ghost use Rattle.pg_survey.specs.Findings.{IsDrawn, met_in};
+
+use crate::findings::Findings;
+use pg_diagram::{Graph, Link, LinkKind, Spot};
+use pg_explore::{Met, Move};
+use pg_tally::Way;
+use std::alloc::{AllocError, Global};
+
+/// How many worlds are drawn at most.
+const MAX_WORLDS: usize = 60;
+
+impl Findings<'_, '_> {
+    /// The worlds and the steps between them, as a picture shows them; `None` where there are more than 60.
+    ///
+    /// Errors: `AllocError`.
+    pub fn graph(&self) -> Result<Option<Graph>, AllocError>
+        ensures { IfOk result (IsDrawn (length (met_in self.now))) }
+    {
+        let mets = self.explored.met();
+        if mets.len() > MAX_WORLDS {
+            return Ok(None);
+        }
+        let spots = self.spots(mets)?;
+        let links = self.links()?;
+        Ok(Some(Graph { spots, links }))
+    }
+
+    /// The worlds.
+    ///
+    /// Errors: `AllocError`.
+    fn spots(&self, mets: &[Met]) -> Result<Vec<Spot>, AllocError>
+        ensures { IfOk result (λ spots. length spots.items ≡ length mets.now) }
+    {
+        let mut spots = Vec::with_capacity(self.alloc, mets.len())?;
+        for place in 0..mets.len() {
+            let row = row_of(mets, spots.as_slice(), place);
+            spots.push(Spot {
+                row,
+                is_end: has_no_way(self.ways.ways.as_slice(), place),
+                is_marked: is_marked(self.tally.differing.as_slice(), place),
+            })?;
+        }
+        Ok(spots)
+    }
+
+    /// The steps between worlds.
+    ///
+    /// Errors: `AllocError`.
+    fn links(&self) -> Result<Vec<Link>, AllocError> {
+        let mut links = Vec::new(self.alloc);
+        for from in 0..self.ways.ways.len() {
+            if let Some(steps) = self.ways.steps.as_slice().get(from) {
+                add_links(
+                    &mut links,
+                    from,
+                    self.ways.ways[from].as_slice(),
+                    steps.as_slice(),
+                )?;
+            }
+        }
+        Ok(links)
+    }
+}
+
+/// Adds the ways from a world.
+///
+/// Errors: `AllocError`.
+fn add_links(
+    links: &mut Vec<Link>,
+    from: usize,
+    ways: &[Way],
+    steps: &[Move],
+) -> Result<(), AllocError> {
+    for (way, step) in ways.iter().zip(steps.iter()) {
+        links.push(Link {
+            from,
+            to: way.place,
+            kind: kind_of(step),
+        })?;
+    }
+    Ok(())
+}
+
+/// How many steps the run has by which the world of a place was met.
+fn row_of(mets: &[Met], spots: &[Spot], place: usize) -> usize {
+    match mets.get(place) {
+        Some(met) => match &met.before {
+            Some(before) => match spots.get(before.place) {
+                Some(spot) => spot.row.saturating_add(1),
+                None => 0,
+            },
+            None => 0,
+        },
+        None => 0,
+    }
+}
+
+fn has_no_way(ways: &[Vec<Way>], place: usize) -> bool {
+    match ways.get(place) {
+        Some(ways) => ways.is_empty(),
+        None => false,
+    }
+}
+
+fn is_marked(marks: &[bool], place: usize) -> bool {
+    match marks.get(place) {
+        Some(mark) => *mark,
+        None => false,
+    }
+}
+
+fn kind_of(step: &Move) -> LinkKind {
+    match step {
+        Move::Take { .. } => LinkKind::Take,
+        Move::Next { .. } => LinkKind::Command,
+        Move::Retry { .. } => LinkKind::Retry,
+        Move::Loss { .. } | Move::SeeLoss { .. } => LinkKind::Loss,
+    }
+}

@@ -1,0 +1,103 @@
+//! What a survey prints.
+
+ghost use Rattle.std.specs.Prelude.{◌≡◌, IfOk, List, None, get_or, string_bytes};
+ghost use Rattle.std.specs.Global.{Vec};
+ghost use Rattle.pg_tally.specs.declared.ways.Way.{Way};
+ghost use Rattle.pg_tally.specs.Takes.{AreTakes, widened_to};
+ghost use Rattle.pg_survey.specs.Findings.{AreAmong, joined, IsPage, IsReport, ends_in, ways_in};
+
+use crate::answers::add_answers;
+use crate::findings::Findings;
+use crate::histories::add_histories;
+use crate::tally::count_marks;
+use pg_tally::{Report, Section, Takes, takes_to};
+use std::alloc::AllocError;
+
+impl Findings<'_, '_> {
+    /// What was found, in lines of a number and what it counts.
+    ///
+    /// Errors: `AllocError`, also where a walk with takes leads back to where it began.
+    pub fn page(&self) -> Result<String, AllocError>
+        ensures { IfOk result (λ text. IsPage self.now (string_bytes text)) }
+    {
+        let report = self.report()?;
+        let page = report.page(self.alloc);
+        drop(report);
+        page
+    }
+
+    /// What was found.
+    ///
+    /// Errors: `AllocError`, also where a walk with takes leads back to where it began.
+    pub fn report(&self) -> Result<Report, AllocError>
+        ensures { IfOk result (IsReport self.now) }
+    {
+        let takes = self.takes()?;
+        let sections = self.sections()?;
+        Ok(Report {
+            worlds: self.explored.met().len(),
+            is_whole: self.is_whole(),
+            ends: self.tally.ends.len(),
+            takes,
+            held: self.tally.held,
+            differing: count_marks(self.tally.differing.as_slice()),
+            free: self.tally.free,
+            sections,
+        })
+    }
+
+    /// The fewest and the most takes to an end; `None` where there is none.
+    ///
+    /// Errors: `AllocError`, also where a walk with takes leads back to where it began.
+    fn takes(&self) -> Result<Option<Takes>, AllocError>
+        ensures { IfOk result (AreAmong (ways_in self.now) (ends_in self.now)) }
+    {
+        let takes = takes_to(self.alloc, self.ways.ways.as_slice())?;
+        Ok(takes_among(takes.as_slice(), self.tally.ends.as_slice()))
+    }
+
+    /// Of each group that commands change, the histories at ends; of each command, what it is answered there.
+    ///
+    /// Errors: `AllocError`.
+    fn sections(&self) -> Result<Vec<Section>, AllocError> {
+        let mut sections = Vec::new(self.alloc);
+        let mets = self.explored.met();
+        add_histories(&mut sections, self.alloc, self.scenario, mets, &self.tally)?;
+        add_answers(&mut sections, self.alloc, self.scenario, mets, &self.tally)?;
+        Ok(sections)
+    }
+}
+
+/// The fewest and the most takes to one of these places.
+fn takes_among(takes: &[Option<Takes>], places: &[usize]) -> Option<Takes>
+    ensures { (worlds : List (Vec Way)) → AreTakes worlds takes.now → AreAmong worlds places.now result }
+{
+    let mut among = None;
+    for place in places {
+        among = with_next(among, takes, *place);
+    }
+    among
+}
+
+/// Those of a place more, where some are known.
+fn with_next(among: Option<Takes>, takes: &[Option<Takes>], place: usize) -> Option<Takes>
+    ensures { result ≡ joined among (get_or takes.now place None) }
+{
+    match takes.get(place) {
+        Some(Some(next)) => Some(both(among, *next)),
+        _ => among,
+    }
+}
+
+/// The fewest and the most of both.
+fn both(one: Option<Takes>, other: Takes) -> Takes
+    ensures { result ≡ widened_to one other }
+{
+    match one {
+        Some(one) => Takes {
+            fewest: one.fewest.min(other.fewest),
+            most: one.most.max(other.most),
+        },
+        None => other,
+    }
+}

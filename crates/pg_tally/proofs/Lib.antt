@@ -1,0 +1,3 @@
+pub mod Counting
+pub mod Passing
+pub mod Walking
