@@ -25,6 +25,7 @@ use Rattle.pg_cluster.specs.Ended.{AreWired, AllArrived}
 use Rattle.pg_cluster.specs.Notices.{IsOfLost, NobodyLost}
 use Rattle.pg_cluster.specs.Schedule.{IsLosingSchedule, IsSchedule}
 use mathlib.Core.Logic.{∥∥₁_map}
+use Rattle.pg_cluster.specs.Survivors.{SurvivorsAgree}
 use Rattle.pg_cluster.specs.Threads.{NodeOf, RunOf, RanOf, Thread, AreMade, EndedWith, Joined, begun_by, lasts_ended, node_in, log_in, rows_begun, rows_ended, notices_ended}
 use Rattle.pg_cluster.specs.Together.{AreOneLosingRun, AreOneRun}
 use Rattle.pg_cluster.proofs.Closing.{crossed_after}
@@ -220,3 +221,44 @@ stopped_joins_losing law lost threads stopped (Ok closed) ended same = tt
 stopped_joins_losing law lost threads stopped (Err other) ended same = λ given made.
     subst (λ (s : Stopped). JoinsToOneLosingRun given lost (nodes_of s) (logs_of s)) (sym same)
     (λ schedule is. ∥∥₁_map ended (λ e. law given lost threads (nodes_of stopped) (logs_of stopped) schedule made e is))
+
+-- ---- survivors
+
+-- the laws that are cited
+abbrev pub SurvivorsOfOneRun : Type 0
+SurvivorsOfOneRun = (given : Config) (lost : List Bool) (nodes : List NodeOf) (logs : List (Vec (ℕ × NodeEvent) Global)) (schedule : List FrameStep)
+    → AreOneLosingRun given lost nodes schedule → length logs ≡ length nodes → IsLosingSchedule (map (λ v. v.items) logs) lost schedule → SurvivorsAgree nodes lost logs
+
+-- they agree, of what stopped, once it is finished
+pub joined_survivors : SurvivorsOfOneRun → (stopped : Stopped) (result : Result Closed Stopped) → IfOk result (λ closed. closed.nodes.items ≡ nodes_of stopped)
+    → IfOk result (λ closed. map (λ v. v.items) closed.logs.items ≡ logs_of stopped) → IfOk result (λ closed. closed.lost.items ≡ losses_of stopped)
+    → IfOk result (λ closed. IsLosingSchedule (map (λ v. v.items) closed.logs.items) (losses_of stopped) closed.schedule.items)
+    → IfOk result (λ closed. (given : Config) → JoinsToOneLosingRun given (losses_of stopped) (nodes_of stopped) (logs_of stopped)
+    → length (logs_of stopped) ≡ length (nodes_of stopped) → ∥ SurvivorsAgree closed.nodes.items closed.lost.items closed.logs.items ∥₁)
+joined_survivors law stopped (Ok closed) nodes logs lost is = λ given joins sizes.
+    let count : length closed.logs.items ≡ length closed.nodes.items =
+    sym (length-map closed.logs.items (λ v. v.items)) ∙ (ap length logs ∙ (sizes ∙ ap length (sym nodes))) in
+    let marks : IsLosingSchedule (map (λ v. v.items) closed.logs.items) closed.lost.items closed.schedule.items =
+    subst (λ ls. IsLosingSchedule (map (λ v. v.items) closed.logs.items) ls closed.schedule.items) (sym lost) is in
+    ∥∥₁_map (joins closed.schedule.items (subst (λ ls. IsLosingSchedule ls (losses_of stopped) closed.schedule.items) logs is)) (λ run.
+    law given closed.lost.items closed.nodes.items closed.logs.items closed.schedule.items
+    (subst (λ ns. AreOneLosingRun given closed.lost.items ns closed.schedule.items) (sym nodes) (subst (λ ls. AreOneLosingRun given ls (nodes_of stopped) closed.schedule.items) (sym lost) run)) count marks)
+joined_survivors law stopped (Err other) nodes logs lost is = tt
+
+-- and of a cluster that has ended
+pub closed_survivors : {K : Type 0} → SurvivorsOfOneRun
+    → ((given : Config) (lost : List Bool) (threads : List (Thread K)) (nodes : List NodeOf) (logs : List (List (ℕ × NodeEvent))) (schedule : List FrameStep)
+    → AreMade given (map begun_by threads) → EndedWith lost threads nodes logs → IsLosingSchedule logs lost schedule → AreOneLosingRun given lost nodes schedule)
+    → (lost : List Bool) (threads : List (Thread K)) (result : Result Closed Stopped)
+    → MatchResult result (λ closed. ∥ EndedWith lost threads closed.nodes.items (map (λ v. v.items) closed.logs.items) ∥₁) (λ other. ∥ EndedWith lost threads (nodes_of other) (logs_of other) ∥₁)
+    → IfOk result (λ closed. IsLosingSchedule (map (λ v. v.items) closed.logs.items) lost closed.schedule.items)
+    → MatchResult result (λ closed. closed.lost.items ≡ lost) (λ other. losses_of other ≡ lost)
+    → IfOk result (λ closed. (given : Config) → AreMade given (map begun_by threads) → ∥ SurvivorsAgree closed.nodes.items closed.lost.items closed.logs.items ∥₁)
+closed_survivors law runs lost threads (Ok closed) ended is same = λ given made.
+    ∥∥₁_map ended (λ e.
+    let count : length closed.logs.items ≡ length closed.nodes.items =
+    sym (length-map closed.logs.items (λ v. v.items)) ∙ (ap length e.logged ∙ (length-map e.rans (λ ran. log_in ran.run) ∙ (sym (length-map e.rans (λ ran. node_in ran.run)) ∙ ap length (sym e.ended)))) in
+    subst (λ ls. SurvivorsAgree closed.nodes.items ls closed.logs.items) (sym same)
+    (law given lost closed.nodes.items closed.logs.items closed.schedule.items
+    (runs given lost threads closed.nodes.items (map (λ v. v.items) closed.logs.items) closed.schedule.items made e is) count is))
+closed_survivors law runs lost threads (Err other) ended is same = tt

@@ -1,12 +1,15 @@
 -- Lemmas on joining the nodes, each two.
-use Rattle.std.proofs.Common.{◌≡◌, ◌≢◌, ◌<◌, ◌≤◌, ◌+◌, ◌-◌, ℕ, List, [], ◌∷◌, ◌++◌, length, get_or, set, refl, sym, ◌∙◌, ap, arith, inl, inr, length-append}
+use Rattle.std.proofs.Common.{◌≡◌, ◌≢◌, ◌<◌, ◌≤◌, ◌+◌, ◌-◌, ℕ, List, [], ◌∷◌, ◌++◌, length, get_or, set, refl, sym, ◌∙◌, ap, subst, arith, inl, inr, length-append}
+use Rattle.std.specs.List.{All}
 use Rattle.std.proofs.lemmas.Bool.Decides.{eqb_tells, leb_tells}
 use Rattle.std.proofs.lemmas.List.{append-nil, get_or-set_same, get_or-set_other, get_or_default}
 use Rattle.std.proofs.Math.ListN.{get_or-append, length-set}
 use Rattle.std.proofs.Math.Seq.{get_or-append_seam}
+use Rattle.pg_ring.specs.Ends.{bytes_room}
 use Rattle.pg_joining.specs.Apart.{End}
 use Rattle.pg_cluster.specs.Ended.{Row}
-use Rattle.pg_cluster.specs.Rows.{Wired, Joins, Joined, PairAt, SoFar}
+use Rattle.pg_cluster.specs.Rows.{HaveRoom, Wired, Joins, Joined, PairAt, SoFar}
+use Rattle.pg_cluster.proofs.Starts.{all_push}
 
 -- each row is as it was, or one longer
 grown : (xs ys : List Row) (i j : ℕ) → Joined xs ys i j → (k : ℕ) (d : Row) → (t : List End) × ((get_or ys k d).items ≡ (get_or xs k d).items ++ t)
@@ -119,3 +122,32 @@ joined_here xs i j v v' w w' x y ij jn vi vx wi wy js =
           let e : w ≡ get_or xs j d = wi ∙ get_or_default (set xs i v') j w d low2 ∙ get_or-set_other xs i j v' d ne2 in rw (get_or-set_same (set xs i v') j w' d low2, ← e) wy;
       other = λ k d a b. get_or-set_other (set xs i v') j k w' d b ∙ get_or-set_other xs i k v' d a;
     }
+
+-- ---- room
+
+-- a row that is one link longer keeps the room of its rings
+room_pushed : (room : ℕ) (xs : List Row) (i : ℕ) (v w : Row) (x : End) → i < length xs → v ≡ get_or xs i v → w.items ≡ v.items ++ x ∷ [] → bytes_room x.link ≡ room → HaveRoom room xs → HaveRoom room (set xs i w)
+room_pushed room xs i v w x low vi wx new have k d within = elim (eqb_tells k i) [
+  | inl t ↦
+      let here : get_or (set xs i w) k d ≡ w = ap (λ n. get_or (set xs i w) n d) t.1 ∙ get_or-set_same xs i w d low in
+      let before : All (λ (peer : End). bytes_room peer.link ≡ room) v.items = subst (λ (row : Row). All (λ (peer : End). bytes_room peer.link ≡ room) row.items) (sym vi) (have i v low) in
+      subst (λ (row : Row). All (λ (peer : End). bytes_room peer.link ≡ room) row.items) (sym here)
+      (subst (All (λ (peer : End). bytes_room peer.link ≡ room)) (sym wx) (all_push (λ (peer : End). bytes_room peer.link ≡ room) v.items x before new))
+  | inr f ↦
+      let less : k < length xs = let n = length-set xs i w in omega (arith, within, n) in
+      subst (λ (row : Row). All (λ (peer : End). bytes_room peer.link ≡ room) row.items) (sym (get_or-set_other xs i k w d f.1)) (have k d less)
+]
+
+pub room_joined : (room : ℕ) (xs : List Row) (i j : ℕ) (v v' w w' : Row) (x y : End)
+    → i < j → j < length xs
+    → v ≡ get_or xs i v → v'.items ≡ v.items ++ x ∷ []
+    → w ≡ get_or (set xs i v') j w → w'.items ≡ w.items ++ y ∷ []
+    → bytes_room x.link ≡ room → bytes_room y.link ≡ room
+    → HaveRoom room xs → HaveRoom room (set (set xs i v') j w')
+room_joined room xs i j v v' w w' x y ij jn vi vx wi wy rx ry have =
+    let low2 : j < length (set xs i v') = let l = length-set xs i v' in omega (arith, jn, l) in
+    room_pushed room (set xs i v') j w w' y low2 wi wy ry (room_pushed room xs i v v' x (omega (arith, ij, jn)) vi vx rx have)
+
+-- rows without links
+pub no_room : (room : ℕ) (xs : List Row) → ((r : ℕ) (d : Row) → r < length xs → length (get_or xs r d).items ≡ 0) → HaveRoom room xs
+no_room room xs none k d low i e within = absurd (let n = none k d low in omega (arith, n, within))

@@ -22,11 +22,13 @@ pub mod ReplayingLosses
 pub mod Rooms
 pub mod Scheduled
 pub mod Scheduling
+pub mod Seeded
 pub mod Settling
 pub mod SettlingPorts
 pub mod ShownOnce
 pub mod Starts
 pub mod Surviving
+pub mod SurvivorsAgreed
 pub mod Telling
 pub mod TellingAll
 pub mod TermsSent

@@ -1,5 +1,5 @@
 -- The rows of links, once all rings are made, and the nodes that have them.
-use Rattle.std.proofs.Common.{◌≡◌, ◌<◌, ◌≤◌, ◌+◌, true, ℕ, List, [], ◌∷◌, length, map, get_or, sym, ◌∙◌, ap, subst, arith, inl, inr}
+use Rattle.std.proofs.Common.{◌≡◌, ◌<◌, ◌≤◌, ◌+◌, true, ℕ, zero, suc, List, [], ◌∷◌, length, map, get_or, sym, ◌∙◌, ap, subst, arith, inl, inr}
 use Rattle.std.specs.Prelude.{slice_get, Some, IfErr, IfOk, Result, Ok, Err}
 use Rattle.std.specs.Option.{option_map}
 use Rattle.std.proofs.lemmas.Option.{slice_get-get_or, slice_get-map, slice_get_within}
@@ -9,6 +9,7 @@ use Rattle.std.specs.List.{All}
 use Rattle.std.proofs.lemmas.Bool.Decides.{leb_tells}
 use Rattle.std.proofs.lemmas.List.{get_or-map, length-map}
 use Rattle.pg_machine.specs.Places.{is_pair}
+use Rattle.pg_ring.specs.Ends.{bytes_room}
 use Rattle.pg_run.specs.Notices.{IsUntold}
 use Rattle.pg_run.specs.Ports.{IsUnused}
 use Rattle.pg_run.specs.Runs.{notices_of}
@@ -27,8 +28,8 @@ use Rattle.pg_cluster.specs.declared.runs.Made.{Made}
 use Rattle.pg_cluster.specs.Clients.{AllPairs, IsOpen}
 use Rattle.pg_cluster.specs.Ended.{Row, AreWired, row_at}
 use Rattle.pg_cluster.specs.Fault.{CantRun, IsShortage}
-use Rattle.pg_cluster.specs.Rows.{Wired, RowsWired}
-use Rattle.pg_cluster.specs.Threads.{AreMade, HasLinks, NodeOf, node_in, row_in, log_in, ports_of_runs}
+use Rattle.pg_cluster.specs.Rows.{HaveRoom, Wired, RowsWired}
+use Rattle.pg_cluster.specs.Threads.{AreMade, HasLinks, HaveRings, NodeOf, RunOf, node_in, row_in, log_in, ports_of_runs}
 use Rattle.pg_cluster.proofs.Paired.{pairs_right}
 
 -- the links of each
@@ -130,3 +131,21 @@ rows_fit given nodes rows begins wired = record {
         let long : length (get_or all i r).items + 1 ≡ length nodes = wired.between i r (omega arith) low low in
         let names = names_begun given nodes begins i (get_or nodes i node) (slice_get-get_or nodes i node low) in
         ap (λ w. length w + 1) here ∙ (long ∙ sym names)
+
+-- ---- the room of the rings
+
+-- what holds of the links of each row holds of those of each node that was made with them
+pub rings_of : {K : Type 0} (room : ℕ) (rows : List Row) (result : Result (Made K) StartFault) → HaveRoom room rows → IfOk result (λ made. map row_in made.runs.items ≡ lists rows)
+    → IfOk result (λ made. HaveRings room made.runs.items)
+rings_of {K} room rows (Ok made) have rowed = go made.runs.items rows rowed have
+  where
+    go : (runs : List (RunOf K)) (rows : List Row) → map row_in runs ≡ lists rows → HaveRoom room rows → HaveRings room runs
+    go [] rows same have i run low = absurd (omega (arith, low))
+    go (run ∷ runs) [] same have i d low = absurd (cc same)
+    go (run ∷ runs) (row ∷ rows) same have zero d low =
+        let first : row_in run ≡ row.items = cc same in
+        subst (All (λ (peer : End). bytes_room peer.link ≡ room)) (sym first) (have zero row (omega arith))
+    go (run ∷ runs) (row ∷ rows) same have (suc i) d low =
+        let others : map row_in runs ≡ lists rows = cc same in
+        go runs rows others (λ k e l. have (suc k) e (omega (arith, l))) i d (omega (arith, low))
+rings_of room rows (Err fault) have rowed = tt

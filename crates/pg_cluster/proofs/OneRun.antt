@@ -8,7 +8,7 @@ use Rattle.std.proofs.lemmas.List.{get_or-map, length-map, map-append, append-ni
 use Rattle.std.proofs.lemmas.Option.{slice_get-get_or, slice_get_within, get_or_from_slice_get}
 use Rattle.pg_machine.specs.Machine.{Machine, Event, World, is_there, start_of}
 use Rattle.pg_loss.specs.Reached.{LosingReaches}
-use Rattle.pg_loss.specs.Survived.{LossesSurvived}
+use Rattle.pg_left.specs.Survived.{LossesSurvived}
 use Rattle.pg_machine.specs.Losing.{LosingEvent, nobody_gone}
 use Rattle.pg_machine.specs.Places.{is_pair, set_at}
 use Rattle.pg_machine.specs.Runs.{Leads}
@@ -80,7 +80,7 @@ entry_seen : {E F : Type 0} (view : E → F) (log : List (ℕ × E)) (place : �
 entry_seen view log place = sym (append-nil (entry_at (seen_log view log) place)) ∙ (same_merge view (λ i. log) ((0, place) ∷ []) ∙ ap (map view) (append-nil (entry_at log place)))
 
 -- a place within 16 is the same as a machine word counts it
-peer_within : (i peer : ℕ) → place_of_peer i peer < 17 → node_of_peer i peer ≡ place_of_peer i peer
+pub peer_within : (i peer : ℕ) → place_of_peer i peer < 17 → node_of_peer i peer ≡ place_of_peer i peer
 peer_within i peer low = go (nat_lt peer i) low
   where
     go : (b : Bool) → cond {A = ℕ} b peer (peer + 1) < 17 → ◌≡◌ {A = ℕ} (cond b peer (min (peer + 1) (2 ^ 64 - 1))) (cond b peer (peer + 1))
@@ -423,6 +423,7 @@ module _ {K : Type 0} (given : Config) (lost : List Bool) (threads : List (Threa
       let in_turn = all_made config apart [] schedule (nobody_gone (start_of (losing_frame_machine config))) past.u refl marked keeps in record {
         config = config;
         orders = made.begins.1;
+        few = few;
         apart = made.begins.2.traffic.nodes.apart;
         u = past.u;
         reached = reached;

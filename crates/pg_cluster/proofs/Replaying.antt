@@ -77,7 +77,7 @@ passed_ten config w u (steps.Take i p) e number is happened passed = told_ten co
 passed_ten config w u (steps.Command i port c) e number is happened passed = told_ten config w u _ number (ap (happens (frame_machine config) w) (some_is is) ∙ happened) passed
 passed_ten config w u (steps.Retry i op) e number is happened passed = told_ten config w u _ number (ap (happens (frame_machine config) w) (some_is is) ∙ happened) passed
 passed_ten config w u (steps.SeeLoss i p) e number is happened passed = absurd cc
-passed_ten config w u (steps.Lose i keep) e number is happened passed = absurd passed
+passed_ten config w u (steps.Lose i keep) e number is happened passed = absurd cc
 
 -- ---- the whole run
 

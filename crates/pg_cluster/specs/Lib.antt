@@ -11,6 +11,7 @@ pub mod Room
 pub mod Rows
 pub mod Running
 pub mod Schedule
+pub mod Seeds
 pub mod Survivors
 pub mod Threads
 pub mod Together

@@ -1,6 +1,7 @@
 -- The links of each node to its peers, as the rings are made.
 use Rattle.std.specs.Prelude.{◌≡◌, ◌≢◌, ℕ, ◌<◌, ◌≤◌, ◌+◌, ◌-◌, List, [], ◌∷◌, ◌++◌, length, slice_index_or}
-use Rattle.pg_ring.specs.Ends.{AreEnds, bytes_sent, bytes_received}
+use Rattle.std.specs.List.{All}
+use Rattle.pg_ring.specs.Ends.{AreEnds, bytes_sent, bytes_received, bytes_room}
 use Rattle.pg_joining.specs.Apart.{End}
 use Rattle.pg_cluster.specs.Ended.{Row}
 
@@ -26,6 +27,10 @@ pub record Joined (xs ys : List Row) (i j : ℕ) : Type 0 where
   pub at_i : (d : Row) → (slice_index_or ys i d).items ≡ (slice_index_or xs i d).items ++ x ∷ []
   pub at_j : (d : Row) → (slice_index_or ys j d).items ≡ (slice_index_or xs j d).items ++ y ∷ []
   pub other : (k : ℕ) (d : Row) → k ≢ i → k ≢ j → slice_index_or ys k d ≡ slice_index_or xs k d
+
+-- each ring from a node of these rows has room for so many bytes
+abbrev pub HaveRoom : ℕ → List Row → Type 0
+HaveRoom room rows = All (λ row. All (λ peer. bytes_room peer.link ≡ room) row.items) rows
 
 -- the two rings between nodes a and b, where a is before b
 pub record PairAt (xs : List Row) (a b : ℕ) (d : Row) : Type 0 where

@@ -102,3 +102,12 @@ module _ {T : Type 0} {g : Ghosts T} where
   SurvivorsAgree nodes lost logs =
       is_loss_pending lost logs ≡ false → is_end_pending (survivors lost nodes) logs ≡ false
       → AreOneOf (is_compared (survivors lost nodes) lost logs) (survivors lost nodes)
+
+  -- ---- the same tables
+
+  abbrev pub HasSame : Node T g → Node T g → Type 0
+  HasSame x y = (state_in x).table ≡ (state_in y).table
+
+  -- each of these nodes has the same table as each
+  abbrev pub HaveSame : List (Node T g) → Type 0
+  HaveSame nodes = All (λ x. All (HasSame x) nodes) nodes

@@ -10,6 +10,7 @@ use Rattle.pg_node_state.specs.States.{names_of, state_of}
 use Rattle.pg_ring.specs.declared.ring_out.RingOut.{RingOut}
 use Rattle.pg_ring.specs.declared.ring_in.RingIn.{RingIn}
 use Rattle.pg_ring.specs.declared.slot_in.SlotIn.{SlotIn}
+use Rattle.pg_ring.specs.Ends.{bytes_room}
 use Rattle.pg_ring.specs.Slots.{taken}
 use Rattle.pg_run.specs.declared.log.NodeEvent.{NodeEvent}
 use Rattle.pg_run.specs.declared.notices.Notice.{Notice}
@@ -74,6 +75,10 @@ module _ {K : Type 0} where
     pub unused : All IsUnused (ports_of_runs runs)
     pub untold : All (λ run. IsUntold (notices_of run)) runs
     pub wired : AreWired (length runs) (map row_in runs)
+
+  -- each ring from a node to another has room for so many bytes
+  abbrev pub HaveRings : ℕ → List (RunOf K) → Type 0
+  HaveRings room runs = All (λ run. All (λ peer. bytes_room peer.link ≡ room) (row_in run)) runs
 
   -- ---- threads
 

@@ -1,5 +1,5 @@
 -- What a cluster that has ended did, as one run of its configuration.
-use Rattle.std.specs.Prelude.{◌≡◌, ℕ, ◌<◌, Bool, true, false, length, map, slice_get, List, [], ◌∷◌, None, Some}
+use Rattle.std.specs.Prelude.{◌≡◌, ℕ, ◌<◌, ◌≤◌, Bool, true, false, length, map, slice_get, List, [], ◌∷◌, None, Some}
 use Rattle.std.specs.List.{IsDistinct}
 use Rattle.pg_term.specs.Same.{same_atom}
 use Rattle.pg_machine.specs.Machine.{Event, start_of}
@@ -22,7 +22,7 @@ use Rattle.pg_frame_world.specs.Worlds.{TimedFrameWorld, ShowsNode, event_of}
 use Rattle.pg_machine.specs.Losing.{LosingEvent, Step, Lose, losing_happens, nobody_gone}
 use Rattle.pg_machine.specs.Machine.{Take, Do}
 use Rattle.pg_loss.specs.Reached.{LosingReaches}
-use Rattle.pg_loss.specs.Survived.{LossesSurvived}
+use Rattle.pg_left.specs.Survived.{LossesSurvived}
 use Rattle.pg_step.specs.LossLaws.{LosingFrameWorld}
 use Rattle.pg_step.specs.Step.{Issue, Retry}
 use Rattle.pg_joining.specs.ApartWithLosses.{nodes_in}
@@ -78,7 +78,8 @@ pub record AreOneLosingRun (given : Config) (lost : List Bool) (nodes : List Nod
   -- the configuration with the groups of each node in order
   pub config : Config
   pub orders : Orders given config
-  -- its nodes have different names
+  -- its nodes are few, and have different names
+  pub few : length config ≤ 16
   pub apart : IsDistinct same_atom (names_of config)
   pub u : LosingFrameWorld
   pub reached : LosingReaches config (map losing_event schedule) u

@@ -5,7 +5,7 @@ ghost use Rattle.pg_cluster.specs.Notices.{NobodyLost};
 ghost use Rattle.pg_cluster.specs.Room.{HasRoom};
 ghost use Rattle.pg_cluster.specs.Schedule.{IsSchedule, IsLosingSchedule};
 
-use crate::laws::nodes_of_one_run_agree;
+use crate::laws::{nodes_of_one_run_agree, survivors_of_one_run_agree};
 use crate::notices::{Teller, settle_notices};
 use crate::pairs::{move_ports, settle_all, settle_ports};
 use crate::promise::NodeRan;
@@ -49,6 +49,7 @@ pub struct Closed {
 impl Stopped {
     ghost use Rattle.pg_cluster.specs.Closed.{JoinsToOneLosingRun, JoinsToOneRun, nodes_of, logs_of, losses_of, clients_of};
     ghost use Rattle.pg_cluster.specs.Judges.{Agree};
+    ghost use Rattle.pg_cluster.specs.Survivors.{SurvivorsAgree};
     ghost use Rattle.pg_cluster.specs.Together.{AreOneLosingRun, AreOneRun};
     ghost use Rattle.pg_step.specs.Config.{Config as Configuration};
 
@@ -92,11 +93,14 @@ impl Stopped {
             → Agree closed.nodes.items closed.logs.items) }
         ensures losing_run { IfOk result (λ closed. (given : Configuration) → JoinsToOneLosingRun given (losses_of self) (nodes_of self) (logs_of self)
             → ∥ AreOneLosingRun given (losses_of self) closed.nodes.items closed.schedule.items ∥₁) }
+        ensures survivors { IfOk result (λ closed. (given : Configuration) → JoinsToOneLosingRun given (losses_of self) (nodes_of self) (logs_of self)
+            → length (logs_of self) ≡ length (nodes_of self) → ∥ SurvivorsAgree closed.nodes.items closed.lost.items closed.logs.items ∥₁) }
         ensures clients { IfOk result (λ closed. closed.clients.items ≡ clients_of self) }
         ensures lost { IfOk result (λ closed. closed.lost.items ≡ losses_of self) }
         ensures err { IfErr result (λ stopped. stopped ≡ self) }
     {
         nodes_of_one_run_agree();
+        survivors_of_one_run_agree();
         self.with_schedule()
     }
 

@@ -12,7 +12,10 @@ ghost use Rattle.pg_cluster.specs.Threads.{rows_begun, notices_begun};
 
 use crate::closed::{Closed, Room, Stopped, stopped_of};
 use crate::fault::StartFault;
-use crate::laws::{nodes_of_one_run_agree, threads_are_one_losing_run, threads_are_one_run};
+use crate::laws::{
+    nodes_of_one_run_agree, survivors_of_one_run_agree, threads_are_one_losing_run,
+    threads_are_one_run,
+};
 use crate::member::Member;
 use crate::notices::{Teller, tell_all};
 use crate::promise::NodeRan;
@@ -86,11 +89,13 @@ impl<K: Rng + Drop + Send + 'static> Cluster<K> {
     ghost use Rattle.pg_node_state.specs.declared.state.fault.NodeFault.TheVariants.{Refused};
     ghost use Rattle.pg_step.specs.declared.refusal.Refusal.TheVariants.{NoSuchPlace, NodeLost};
     ghost use Rattle.std.specs.List.{All};
-    ghost use Rattle.pg_cluster.specs.Threads.{AreMade, EndedWith, begun_by, limit_of};
+    ghost use Rattle.pg_cluster.specs.Threads.{AreMade, EndedWith, HaveRings, begun_by, limit_of};
+    ghost use Rattle.pg_run.specs.Runs.{generator_of};
     ghost use Rattle.pg_step.specs.Config.{Config as Configuration};
     ghost use Rattle.pg_cluster.specs.Judges.{Agree};
     ghost use Rattle.pg_frame_world.specs.Openings.{CanBegin};
     ghost use Rattle.pg_cluster.specs.Schedule.{IsSchedule, IsLosingSchedule};
+    ghost use Rattle.pg_cluster.specs.Survivors.{SurvivorsAgree};
     ghost use Rattle.pg_cluster.specs.Together.{AreOneRun, AreOneLosingRun};
 
     /// Starts a thread for each node of a configuration, with rings of so many bytes between them: the cluster, and a
@@ -111,6 +116,8 @@ impl<K: Rng + Drop + Send + 'static> Cluster<K> {
         requires generators { length generators.items ≡ length config.now.starts.items }
         ensures can { IfOk result (λ started. CanBegin config.now.ring config.now.starts.items) }
         ensures starts { IfOk result (λ started. AreMade config.now.starts.items (map begun_by (threads_of started.0))) }
+        ensures rings { IfOk result (λ started. HaveRings config.now.ring (map begun_by (threads_of started.0))) }
+        ensures generators { IfOk result (λ started. map generator_of (map begun_by (threads_of started.0)) ≡ generators.items) }
         ensures limit { IfOk result (λ started. All (λ thread. limit_of thread ≡ limit) (threads_of started.0)) }
         ensures clients { IfOk result (λ started. AreClients (threads_of started.0) started.1.items) }
         ensures silent { IfOk result (λ started. All IsSilent started.1.items) }
@@ -200,6 +207,8 @@ impl<K: Rng + Drop + Send + 'static> Cluster<K> {
         ensures events { IfOk result (λ closed. IsLosingSchedule (map (λ v. v.items) closed.logs.items) (lost_of self) closed.schedule.items) }
         ensures losing_run { IfOk result (λ closed. (given : Configuration) → AreMade given (map begun_by (threads_of self))
             → ∥ AreOneLosingRun given (lost_of self) closed.nodes.items closed.schedule.items ∥₁) }
+        ensures survivors { IfOk result (λ closed. (given : Configuration) → AreMade given (map begun_by (threads_of self))
+            → ∥ SurvivorsAgree closed.nodes.items closed.lost.items closed.logs.items ∥₁) }
         ensures heard { MatchResult result
             (λ closed. (given : Configuration) → AreMade given (map begun_by (threads_of self))
             → ∥ AllHeard (threads_of self) closed.nodes.items (map (λ v. v.items) closed.logs.items) clients.items ∥₁)
@@ -217,6 +226,7 @@ impl<K: Rng + Drop + Send + 'static> Cluster<K> {
         threads_are_one_run::<K>();
         threads_are_one_losing_run::<K>();
         nodes_of_one_run_agree();
+        survivors_of_one_run_agree();
         stopped.finish()
     }
 

@@ -264,7 +264,7 @@ fn is_seen_free(nodes: &[Node<IndexTable>], name: &Term) -> bool
 }
 
 /// Whether two nodes have the same of a group, or the second is not formed.
-fn has_as(
+pub(crate) fn has_as(
     alloc: Global,
     one: &Node<IndexTable>,
     other: &Node<IndexTable>,

@@ -1,4 +1,4 @@
-ghost use Rattle.std.specs.Prelude.{ℕ, Bool, List, length, map};
+ghost use Rattle.std.specs.Prelude.{◌≡◌, ℕ, Bool, List, length, map};
 ghost use Rattle.std.specs.declared.alloc.Global.{Global};
 ghost use Rattle.std.specs.declared.vec.Vec.{Vec};
 ghost use Rattle.pg_run.specs.declared.log.NodeEvent.{NodeEvent};
@@ -7,12 +7,16 @@ ghost use Rattle.pg_frame_world.specs.declared.step.FrameStep.{FrameStep};
 ghost use Rattle.pg_cluster.specs.Judges.{Agree, Replays, ReplaysPastLosses};
 ghost use Rattle.pg_cluster.specs.Notices.{NobodyLost};
 ghost use Rattle.pg_cluster.specs.Schedule.{IsSchedule, IsLosingSchedule};
+ghost use Rattle.pg_cluster.specs.Survivors.{SurvivorsAgree};
 ghost use Rattle.pg_cluster.specs.Threads.{NodeOf, Thread, AreMade, EndedWith, begun_by};
 ghost use Rattle.pg_cluster.specs.Together.{AreOneRun, AreOneLosingRun};
 
 use pg_history::{ended_processes_were_finished, no_loss_is_seen};
 use pg_joining::{nodes_ran_together, nodes_ran_together_past_losses};
-use pg_loss::each_world_past_losses;
+use pg_left::{
+    each_world_past_losses, ended_processes_were_finished_past_losses,
+    nodes_that_heard_the_lost_agree,
+};
 
 /// The nodes of a configuration that ran as threads, with rings between them, and of which none was lost, made one run: their schedule is events that happen one
 /// after another from the start, each node does there what its log has and comes to where it ended, and of the world to which
@@ -44,6 +48,16 @@ pub fn nodes_of_one_run_agree()
 {
     ended_processes_were_finished();
     no_loss_is_seen();
+}
+
+/// The survivors of one run agree, whoever was lost, where its schedule is that to which their logs join.
+pub fn survivors_of_one_run_agree()
+    ensures { (given : Config) (lost : List Bool) (nodes : List NodeOf) (logs : List (Vec (ℕ × NodeEvent) Global)) (schedule : List FrameStep)
+        → AreOneLosingRun given lost nodes schedule → length logs ≡ length nodes → IsLosingSchedule (map (λ v. v.items) logs) lost schedule
+        → SurvivorsAgree nodes lost logs }
+{
+    nodes_that_heard_the_lost_agree();
+    ended_processes_were_finished_past_losses();
 }
 
 /// The schedule of one run replays: made again step by step, it leads to the nodes of the run.

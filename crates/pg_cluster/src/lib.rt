@@ -15,6 +15,7 @@ mod pairs;
 mod promise;
 mod running;
 mod runs;
+mod same;
 mod schedule;
 mod survivors;
 mod threads;
@@ -24,8 +25,8 @@ pub use closed::{Closed, Stopped};
 pub use cluster::Cluster;
 pub use fault::StartFault;
 pub use laws::{
-    nodes_of_one_run_agree, one_losing_run_replays, one_run_replays, threads_are_one_losing_run,
-    threads_are_one_run,
+    nodes_of_one_run_agree, one_losing_run_replays, one_run_replays, survivors_of_one_run_agree,
+    threads_are_one_losing_run, threads_are_one_run,
 };
 pub use pg_run::{Client, Gate, LogEntry, NodeEvent};
 pub use running::{OpenGate, Running};

@@ -4,6 +4,7 @@ ghost use Rattle.std.specs.Prelude.{map, IfOk, length, ◌≡◌};
 ghost use Rattle.pg_cluster.specs.Clients.{AreClients};
 ghost use Rattle.pg_cluster.specs.Closed.{threads_of};
 ghost use Rattle.pg_frame_world.specs.Openings.{CanBegin};
+ghost use Rattle.pg_cluster.specs.Seeds.{AreSeeded};
 ghost use Rattle.pg_cluster.specs.Threads.{AreMade, begun_by};
 
 use crate::closed::{Closed, Stopped};
@@ -53,8 +54,10 @@ impl Running {
     ghost use Rattle.pg_cluster.specs.Judges.{Agree};
     ghost use Rattle.pg_cluster.specs.Notices.{NobodyLost};
     ghost use Rattle.pg_cluster.specs.Running.{clients_in, config_in, tellers_in, threads_in, losses_in, submitted_at, polled_at, OnlyClient};
-    ghost use Rattle.pg_cluster.specs.Threads.{limit_of, EndedWith};
+    ghost use Rattle.pg_cluster.specs.Threads.{limit_of, EndedWith, HaveRings};
+    ghost use Rattle.pg_run.specs.Runs.{generator_of};
     ghost use Rattle.pg_cluster.specs.Schedule.{IsSchedule, IsLosingSchedule};
+    ghost use Rattle.pg_cluster.specs.Survivors.{SurvivorsAgree};
     ghost use Rattle.pg_cluster.specs.Together.{AreOneLosingRun, AreOneRun};
 
     /// Starts a thread for each node of a configuration, and a client for each port. `seed`: of the pauses of the
@@ -71,6 +74,8 @@ impl Running {
         limit: u64,
     ) -> Result<Running, StartFault>
         ensures config { IfOk result (λ running. config_in running ≡ config) }
+        ensures rings { IfOk result (λ running. HaveRings config.ring (map begun_by (threads_in running))) }
+        ensures seeds { IfOk result (λ running. AreSeeded seed (map generator_of (map begun_by (threads_in running)))) }
         ensures limit { IfOk result (λ running. All (λ thread. limit_of thread ≡ limit) (threads_in running)) }
         ensures silent { IfOk result (λ running. All IsSilent (clients_in running)) }
         ensures lost { IfOk result (λ running. NobodyLost (losses_in running)) }
@@ -167,6 +172,7 @@ impl Running {
         ensures schedule { IfOk result.0 (λ closed. NobodyLost (losses_in self) → IsSchedule (map (λ v. v.items) closed.logs.items) (length closed.logs.items) closed.schedule.items) }
         ensures events { IfOk result.0 (λ closed. IsLosingSchedule (map (λ v. v.items) closed.logs.items) (losses_in self) closed.schedule.items) }
         ensures losing_run { IfOk result.0 (λ closed. ∥ AreOneLosingRun (config_in self).starts.items (losses_in self) closed.nodes.items closed.schedule.items ∥₁) }
+        ensures survivors { IfOk result.0 (λ closed. ∥ SurvivorsAgree closed.nodes.items closed.lost.items closed.logs.items ∥₁) }
         ensures joins { IfErr result.0 (λ stopped. NobodyLost (losses_in self)
             → ∥ JoinsToOneRun (config_in self).starts.items (nodes_of stopped) (logs_of stopped) ∥₁) }
         ensures joins_losing { IfErr result.0 (λ stopped. ∥ JoinsToOneLosingRun (config_in self).starts.items (losses_in self) (nodes_of stopped) (logs_of stopped) ∥₁) }
@@ -185,7 +191,8 @@ impl Running {
 
 /// A generator for each node.
 fn generators(alloc: Global, count: usize, seed: u64) -> Result<Vec<Pcg32>, AllocError>
-    ensures { IfOk result (λ all. length all.items ≡ count) }
+    ensures count { IfOk result (λ all. length all.items ≡ count) }
+    ensures seeds { IfOk result (λ all. AreSeeded seed all.items) }
 {
     let mut all = Vec::with_capacity(alloc, count)?;
     for place in 0..count {

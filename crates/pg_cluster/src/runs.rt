@@ -4,11 +4,11 @@ ghost use Rattle.std.specs.Prelude.{◌≡◌, IfOk, IfErr, [], length, map};
 ghost use Rattle.std.specs.List.{All as AllOf};
 ghost use Rattle.pg_cluster.specs.Clients.{AllPairs as Pairs, IsOpen as IsOpened, OpensMore};
 ghost use Rattle.pg_run.specs.Notices.{IsUntold as IsUntoldAt};
-ghost use Rattle.pg_run.specs.Runs.{notices_at as notices_of_run, notices_of as told_of_run};
+ghost use Rattle.pg_run.specs.Runs.{generator_of as generator_of_run, notices_at as notices_of_run, notices_of as told_of_run};
 ghost use Rattle.pg_cluster.specs.Notices.{IsFresh as IsFreshPair};
 ghost use Rattle.pg_cluster.specs.Fault.{CantRun, IsShortage as IsShort};
 ghost use Rattle.pg_frame_world.specs.Openings.{CanBegin};
-ghost use Rattle.pg_cluster.specs.Threads.{AreMade, HasLinks as HasLinksOf, node_in as node_of_run, row_in as row_of_run, log_in as log_of_run, ports_of_runs as ports_in_runs};
+ghost use Rattle.pg_cluster.specs.Threads.{AreMade, HaveRings, HasLinks as HasLinksOf, node_in as node_of_run, row_in as row_of_run, log_in as log_of_run, ports_of_runs as ports_in_runs};
 
 use crate::fault::StartFault;
 use crate::notices::Teller;
@@ -45,6 +45,8 @@ pub(crate) fn make<K: Rng + Drop>(
     requires generators { length generators.items ≡ length config.now.starts.items }
     ensures can { IfOk result (λ made. CanBegin config.now.ring config.now.starts.items) }
     ensures made { IfOk result (λ made. AreMade config.now.starts.items made.runs.items) }
+    ensures rings { IfOk result (λ made. HaveRings config.now.ring made.runs.items) }
+    ensures generators { IfOk result (λ made. map generator_of_run made.runs.items ≡ generators.items) }
     ensures clients { IfOk result (λ made. Pairs IsOpened made.clients.items (ports_in_runs made.runs.items)) }
     ensures notices { IfOk result (λ made. Pairs IsFreshPair made.tellers.items (map notices_of_run made.runs.items)) }
     ensures fault { IfErr result (CantRun config.now.ring config.now.starts.items) }
@@ -72,6 +74,7 @@ fn make_all<K: Rng + Drop>(
     requires generators { length generators.items ≡ length nodes.items }
     ensures nodes { IfOk result (λ made. map node_of_run made.runs.items ≡ nodes.items) }
     ensures rows { IfOk result (λ made. map row_of_run made.runs.items ≡ map (λ v. v.items) rows.items) }
+    ensures generators { IfOk result (λ made. map generator_of_run made.runs.items ≡ generators.items) }
     ensures unlogged { IfOk result (λ made. AllOf (λ run. log_of_run run ≡ []) made.runs.items) }
     ensures untold { IfOk result (λ made. AllOf (λ run. IsUntoldAt (told_of_run run)) made.runs.items) }
     ensures clients { IfOk result (λ made. Pairs IsOpened made.clients.items (ports_in_runs made.runs.items)) }
@@ -113,7 +116,7 @@ impl<K: Rng + Drop> Made<K> {
     ghost use Rattle.pg_cluster.specs.Fault.{IsShortage};
     ghost use Rattle.pg_ring.specs.Slots.{taken};
     ghost use Rattle.pg_run.specs.Notices.{IsUntold};
-    ghost use Rattle.pg_run.specs.Runs.{notices_at, notices_of};
+    ghost use Rattle.pg_run.specs.Runs.{generator_of, notices_at, notices_of};
     ghost use Rattle.pg_cluster.specs.Notices.{IsFresh};
     ghost use Rattle.pg_cluster.specs.Threads.{HasLinks, node_in, row_in, log_in, ports_of_runs};
 
@@ -130,6 +133,7 @@ impl<K: Rng + Drop> Made<K> {
         requires links { HasLinks row.items node }
         ensures nodes { OnOk result (map node_in self.new.runs.items ≡ map node_in self.old.runs.items ++ node ∷ []) }
         ensures rows { OnOk result (map row_in self.new.runs.items ≡ map row_in self.old.runs.items ++ row.items ∷ []) }
+        ensures generators { OnOk result (map generator_of self.new.runs.items ≡ map generator_of self.old.runs.items ++ generator ∷ []) }
         ensures unlogged { OnOk result (All (λ run. log_in run ≡ []) self.old.runs.items → All (λ run. log_in run ≡ []) self.new.runs.items) }
         ensures untold { OnOk result (All (λ run. IsUntold (notices_of run)) self.old.runs.items → All (λ run. IsUntold (notices_of run)) self.new.runs.items) }
         ensures clients { OnOk result (AllPairs IsOpen self.old.clients.items (ports_of_runs self.old.runs.items) → AllPairs IsOpen self.new.clients.items (ports_of_runs self.new.runs.items)) }

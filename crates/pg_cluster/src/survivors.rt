@@ -21,10 +21,10 @@ ghost use Rattle.pg_cluster.specs.Survivors.{
 };
 
 use crate::closed::Closed;
+use crate::judges::has_as;
 use pg_group::GroupTable;
 use pg_index::IndexTable;
 use pg_node::Node;
-use pg_query::same_group;
 use pg_run::{LogEntry, NodeEvent};
 use pg_step::Command;
 use pg_term::{Pid, Term};
@@ -55,7 +55,7 @@ impl Closed {
 }
 
 /// Whether the node at a place was lost.
-fn was_lost(lost: &[bool], place: usize) -> bool
+pub(crate) fn was_lost(lost: &[bool], place: usize) -> bool
     ensures { result ≡ is_lost_at lost.now place }
 {
     match lost.get(place) {
@@ -335,19 +335,4 @@ fn have_as(
         }
     }
     Ok(true)
-}
-
-/// Whether two nodes have the same of a group, or the second is not formed.
-fn has_as(
-    alloc: Global,
-    one: &Node<IndexTable>,
-    other: &Node<IndexTable>,
-    name: &Term,
-) -> Result<bool, AllocError>
-    ensures { IfOk result (λ yes. IsTrue yes ↔ HasAs one.now name.now other.now) }
-{
-    if !other.state().formed() {
-        return Ok(true);
-    }
-    same_group(alloc, one.state().table(), other.state().table(), name)
 }

@@ -21,7 +21,7 @@ impl Measured {
     // Makes a step; whether it was an event.
     fn step(&mut self, step: &Step) -> bool {
         self.steps = self.steps.saturating_add(1);
-        let is_event = self.world.step(step) == Ok(Stepped::Happened);
+        let is_event = matches!(self.world.step(step), Ok(Stepped::Happened(_)));
         if is_event {
             self.events = self.events.saturating_add(1);
         }

@@ -7,6 +7,7 @@ const TWO: Setting = Setting {
     names: &["a", "b"],
     ports: 1,
     ring: 65536,
+    seed: 0,
     limit: 100_000_000,
 };
 
@@ -38,6 +39,7 @@ const RING_OF_ONE: Setting = Setting {
     names: &["a", "b", "c"],
     ports: 1,
     ring: 1,
+    seed: 0,
     limit: 1_000_000_000,
 };
 

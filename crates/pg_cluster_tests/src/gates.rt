@@ -188,6 +188,7 @@ const ONE: Setting = Setting {
     names: &["a"],
     ports: 1,
     ring: 64,
+    seed: 0,
     limit: 1_000_000,
 };
 
@@ -195,6 +196,7 @@ const PAIR: Setting = Setting {
     names: &["a", "b"],
     ports: 0,
     ring: 64,
+    seed: 0,
     limit: 10,
 };
 
@@ -202,6 +204,7 @@ const THREE: Setting = Setting {
     names: &["a", "b", "c"],
     ports: 1,
     ring: 64,
+    seed: 0,
     limit: 1_000_000_000,
 };
 

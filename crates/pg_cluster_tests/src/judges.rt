@@ -5,6 +5,7 @@ use crate::verdicts::holds;
 use pg_cluster::Closed;
 use pg_world::Config;
 use std::alloc::Global;
+use std::mem;
 use std::sync::Wait;
 use std::thread::Threads;
 
@@ -12,6 +13,7 @@ const TWO: Setting = Setting {
     names: &["a", "b"],
     ports: 1,
     ring: 65536,
+    seed: 0,
     limit: 100_000_000,
 };
 
@@ -19,6 +21,7 @@ const THREE: Setting = Setting {
     names: &["a", "b", "c"],
     ports: 1,
     ring: 65536,
+    seed: 0,
     limit: 100_000_000,
 };
 
@@ -55,6 +58,18 @@ impl Judged {
             Some(node) => self.closed.nodes.push(node).is_ok(),
             None => false,
         }
+    }
+
+    // Has the node of another cluster at a place; whether both have one there.
+    fn swap_node(&mut self, other: &mut Judged, place: usize) -> bool {
+        let (Some(own), Some(node)) = (
+            self.closed.nodes.get_mut(place),
+            other.closed.nodes.get_mut(place),
+        ) else {
+            return false;
+        };
+        mem::swap(own, node);
+        true
     }
 }
 
@@ -146,4 +161,45 @@ fn a_node_of_another_cluster(rt: HostRuntime) {
         "those of two clusters do not",
     );
     holds(&rt, !after.replays, "nor are they where the schedule leads");
+}
+
+// Three nodes that all speak before the last is lost, and the two that are left after it.
+fn closed_survivors(rt: &(impl Threads + Wait), alloc: Global, line: &str) -> Option<Judged> {
+    match start(rt, alloc, THREE, Open) {
+        Ok(begun) => {
+            let mut started = begun;
+            started.asks(rt, alloc, 2, "create c h", "ok");
+            drop(started.lose(rt, 2));
+            started.asks(rt, alloc, 0, "create a k", "ok");
+            started.asks(rt, alloc, 1, line, "ok");
+            closed(rt, started)
+        }
+        Err(_) => None,
+    }
+}
+
+#[test]
+fn a_survivor_of_another_cluster(rt: HostRuntime) {
+    let Some(told) = closed_survivors(&rt, rt.alloc(), "create b g") else {
+        return holds(&rt, false, "it is closed");
+    };
+    let mut cluster = told;
+    let Some(beside) = closed_survivors(&rt, rt.alloc(), "create b x") else {
+        drop(cluster);
+        return holds(&rt, false, "the other is closed");
+    };
+    let mut other = beside;
+    let before = cluster.end(rt.alloc());
+    let is_other = cluster.swap_node(&mut other, 1);
+    let after = cluster.end(rt.alloc());
+    drop(cluster);
+    drop(other);
+    holds(&rt, before.survivors_agree, "the survivors agree");
+    holds(&rt, before.are_same, "they have the same");
+    holds(
+        &rt,
+        is_other && !after.survivors_agree,
+        "those of two clusters do not",
+    );
+    holds(&rt, !after.are_same, "nor have they the same");
 }

@@ -1,28 +1,58 @@
-//! Each growth of memory may be refused once: a cluster is started again, a turn goes on, and what stopped is finished again.
-//! Each test passes whichever growth is refused.
+//! Each growth of memory, or each start of a thread, may be refused once: a cluster is started again, a turn goes on, and what stopped
+//! is finished again. Each test passes whichever is refused of what it is about.
 
-use crate::rows::{Part, Row, check};
+use crate::rows::{Part, Row, check_again};
 use crate::setting::Setting;
+use pg_cluster::StartFault;
+use pg_world::WorldFault;
 
 const ONE: Setting = Setting {
     names: &["a"],
     ports: 1,
     ring: 64,
+    seed: 0,
     limit: 1_000_000_000,
+};
+
+const TWO: Setting = Setting {
+    names: &["a", "b"],
+    ..ONE
 };
 
 const CREATE: &[Part] = &[(1, &[Row::Asks(0, "create a g", "ok")])];
 
-#[test]
-fn one_node_is_whole(rt: HostRuntime) {
-    check(&rt, rt.alloc(), ONE, CREATE, 0);
+mod growths {
+    use super::{CREATE, ONE, StartFault, TWO, WorldFault, check_again};
+
+    // What the start of a thread takes itself is no growth that it tells of.
+    const REFUSED: &[StartFault] = &[
+        StartFault::World(WorldFault::OutOfMemory),
+        StartFault::NoThread,
+    ];
+
+    #[test]
+    fn one_node_is_whole(rt: HostRuntime) {
+        check_again(&rt, rt.alloc(), ONE, CREATE, REFUSED);
+    }
+
+    #[test]
+    fn two_nodes_are_whole(rt: HostRuntime) {
+        check_again(&rt, rt.alloc(), TWO, CREATE, REFUSED);
+    }
 }
 
-#[test]
-fn two_nodes_are_whole(rt: HostRuntime) {
-    let two = Setting {
-        names: &["a", "b"],
-        ..ONE
-    };
-    check(&rt, rt.alloc(), two, CREATE, 0);
+mod threads {
+    use super::{CREATE, ONE, StartFault, TWO, check_again};
+
+    const REFUSED: &[StartFault] = &[StartFault::NoThread];
+
+    #[test]
+    fn one_node_is_whole(rt: HostRuntime) {
+        check_again(&rt, rt.alloc(), ONE, CREATE, REFUSED);
+    }
+
+    #[test]
+    fn two_nodes_are_whole(rt: HostRuntime) {
+        check_again(&rt, rt.alloc(), TWO, CREATE, REFUSED);
+    }
 }

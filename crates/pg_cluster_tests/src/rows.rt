@@ -5,7 +5,6 @@ use crate::verdicts::{holds, holds_at};
 use pg_cluster::StartFault;
 use pg_node::NodeFault;
 use pg_step::Refusal;
-use pg_world::WorldFault;
 use std::alloc::Global;
 use std::process::Abort;
 use std::sync::Wait;
@@ -27,15 +26,15 @@ pub enum Row<'a> {
 /// How often some rows happen, one after another.
 pub type Part<'a> = (u32, &'a [Row<'a>]);
 
-// Where memory is refused no thread goes on, and a second start starts all.
+// Where the start is refused for one of these faults no thread goes on, and a second start starts all.
 fn start_again<R: Threads>(
     rt: &R,
     alloc: Global,
     setting: Setting<'_>,
+    refused: &[StartFault],
 ) -> Result<Started, StartFault> {
     match start(rt, alloc, setting, Open) {
-        Err(StartFault::World(WorldFault::OutOfMemory)) => start(rt, alloc, setting, Open),
-        Err(StartFault::NoThread) => start(rt, alloc, setting, Open),
+        Err(fault) if refused.contains(&fault) => start(rt, alloc, setting, Open),
         started => started,
     }
 }
@@ -73,7 +72,7 @@ fn play(
     }
 }
 
-// Whether so many nodes were closed, of which so many were lost, and the schedule leads to them; they agree where none was lost.
+// Whether so many nodes were closed, of which so many were lost, and the schedule leads to them; those that were not lost agree.
 fn is_end(end: Option<End>, nodes: usize, losses: usize) -> bool {
     match end {
         Some(end) => {
@@ -81,10 +80,33 @@ fn is_end(end: Option<End>, nodes: usize, losses: usize) -> bool {
                 && end.events > 0
                 && end.losses == losses
                 && end.replays
+                && end.survivors_agree
                 && (end.agrees || losses > 0)
         }
         None => false,
     }
+}
+
+// Each row of each part holds in a cluster that was started, and it ends as it should.
+fn play_all(
+    rt: &(impl Threads + Wait + Abort),
+    alloc: Global,
+    begun: Result<Started, StartFault>,
+    nodes: usize,
+    parts: &[Part<'_>],
+    losses: usize,
+) {
+    let Ok(begun) = begun else {
+        return holds(rt, false, "it starts");
+    };
+    let mut started = begun;
+    for (times, rows) in parts {
+        for _ in 0..*times {
+            play(rt, alloc, &mut started, rows);
+        }
+    }
+    let end = end_of(rt, alloc, started);
+    holds(rt, is_end(end, nodes, losses), "the end");
 }
 
 /// Each row of each part holds in a cluster, of which so many nodes are lost then, and its schedule leads to its nodes.
@@ -95,15 +117,18 @@ pub fn check(
     parts: &[Part<'_>],
     losses: usize,
 ) {
-    let Ok(begun) = start_again(rt, alloc, setting) else {
-        return holds(rt, false, "it starts");
-    };
-    let mut started = begun;
-    for (times, rows) in parts {
-        for _ in 0..*times {
-            play(rt, alloc, &mut started, rows);
-        }
-    }
-    let end = end_of(rt, alloc, started);
-    holds(rt, is_end(end, setting.names.len(), losses), "the end");
+    let begun = start(rt, alloc, setting, Open);
+    play_all(rt, alloc, begun, setting.names.len(), parts, losses);
+}
+
+/// The same without a loss, where a first start may be refused for one of these faults.
+pub fn check_again(
+    rt: &(impl Threads + Wait + Abort),
+    alloc: Global,
+    setting: Setting<'_>,
+    parts: &[Part<'_>],
+    refused: &[StartFault],
+) {
+    let begun = start_again(rt, alloc, setting, refused);
+    play_all(rt, alloc, begun, setting.names.len(), parts, 0);
 }

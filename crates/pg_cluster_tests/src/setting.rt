@@ -19,13 +19,14 @@ impl Gate for Open {
     fn pass(&self, _node: usize, _turn: u64) {}
 }
 
-/// What a cluster begins with: nodes of these names, of which each has so many ports, rings of so many bytes, and at most so many
-/// turns of each node.
+/// What a cluster begins with: nodes of these names, of which each has so many ports, rings of so many bytes, the seed of its pauses,
+/// and at most so many turns of each node.
 #[derive(Clone, Copy)]
 pub struct Setting<'a> {
     pub names: &'a [&'a str],
     pub ports: u16,
     pub ring: usize,
+    pub seed: u64,
     pub limit: u64,
 }
 
@@ -187,7 +188,7 @@ pub fn start<R: Threads, G: Gate + Drop + Send + Sync + 'static>(
     gate: G,
 ) -> Result<Started, StartFault> {
     match config(alloc, setting) {
-        Some(config) => match Running::start(rt, alloc, config, 0, gate, setting.limit) {
+        Some(config) => match Running::start(rt, alloc, config, setting.seed, gate, setting.limit) {
             Ok(running) => Ok(Started { running }),
             Err(fault) => Err(fault),
         },
@@ -202,9 +203,12 @@ pub struct End {
     pub nodes: usize,
     pub events: usize,
     pub losses: usize,
-    /// Whether the nodes agree, and the schedule leads to them.
+    /// Whether the nodes agree, those that were not lost do, and the schedule leads to them.
     pub agrees: bool,
+    pub survivors_agree: bool,
     pub replays: bool,
+    /// Whether those that were not lost have the same.
+    pub are_same: bool,
 }
 
 impl End {
@@ -233,6 +237,20 @@ fn agrees(alloc: Global, closed: &Closed) -> bool {
     }
 }
 
+fn survivors_agree(alloc: Global, closed: &Closed) -> bool {
+    match closed.survivors_agree(alloc) {
+        Ok(agree) => agree,
+        Err(AllocError) => closed.survivors_agree(alloc).unwrap_or(false),
+    }
+}
+
+fn are_same(alloc: Global, closed: &Closed) -> bool {
+    match closed.same_after_loss(alloc) {
+        Ok(same) => same,
+        Err(AllocError) => closed.same_after_loss(alloc).unwrap_or(false),
+    }
+}
+
 fn replays(alloc: Global, closed: &Closed, config: &Config) -> bool {
     match closed.replays(alloc, config) {
         Ok(replays) => replays,
@@ -247,7 +265,9 @@ pub fn end_of_closed(alloc: Global, closed: &Closed, config: &Config) -> End {
         events: closed.schedule.len(),
         losses: loss_count(closed.schedule.as_slice()),
         agrees: agrees(alloc, closed),
+        survivors_agree: survivors_agree(alloc, closed),
         replays: replays(alloc, closed, config),
+        are_same: are_same(alloc, closed),
     }
 }
 

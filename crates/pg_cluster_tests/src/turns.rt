@@ -20,6 +20,7 @@ const ALONE: Setting = Setting {
     names: &["a"],
     ports: 1,
     ring: 64,
+    seed: 0,
     limit: TURNS,
 };
 

@@ -8,7 +8,7 @@ use pg_node::NodeFault;
 use pg_script::read_script;
 use pg_step::{Command, OpId, Refusal, Reply};
 use pg_term::{Pid, Term};
-use pg_world::{Config, Entry, FrameStep, FrameWorld, Stepped};
+use pg_world::{Config, Effect, Entry, FrameStep, FrameWorld, Stepped};
 use std::alloc::{AllocError, Global};
 use std::process::Abort;
 
@@ -20,8 +20,10 @@ type Told = Result<Stepped, NodeFault>;
 /// What happens in a world, or is seen there. The group is the one named 7.
 #[derive(Clone, Copy)]
 enum Row<'a> {
-    /// A command comes in at the first node: a line of a script.
+    /// A command comes in at the first node, and is not refused: a line of a script.
     Given(&'a str),
+    /// A command comes in at a node.
+    At(usize, &'a str, Told),
     /// A node takes the next packet of a peer.
     Take(usize, usize, Told),
     /// The first command of a port of a node is tried again.
@@ -50,7 +52,40 @@ enum Row<'a> {
     Beside(&'a Row<'a>, bool),
 }
 
-const HAPPENED: Told = Ok(Stepped::Happened);
+// What an event sends, where it reports nothing.
+const QUIET: Told = Ok(Stepped::Happened(Effect {
+    sent: 0,
+    began: None,
+    odd: None,
+}));
+
+const SENDS_1: Told = Ok(Stepped::Happened(Effect {
+    sent: 1,
+    began: None,
+    odd: None,
+}));
+
+const SENDS_2: Told = Ok(Stepped::Happened(Effect {
+    sent: 2,
+    began: None,
+    odd: None,
+}));
+
+// The first command of a node.
+const FIRST: OpId = OpId { port: 0, number: 1 };
+
+// The last grant of its first command has come: it sends the update to two others, or to one.
+const BEGINS: Told = Ok(Stepped::Happened(Effect {
+    sent: 2,
+    began: Some(FIRST),
+    odd: None,
+}));
+
+const BEGINS_WITH_1: Told = Ok(Stepped::Happened(Effect {
+    sent: 1,
+    began: Some(FIRST),
+    odd: None,
+}));
 
 // All that each node tells as it starts has come to the others.
 const FORMED: Row<'static> = Row::Settle(5);
@@ -89,10 +124,11 @@ fn step(world: &mut World, step: FrameStep) -> Told {
     stepped
 }
 
-fn given(alloc: Global, world: &mut World, line: &str) -> bool {
+// A command comes in at the first port of a node.
+fn given(alloc: Global, world: &mut World, node: usize, line: &str) -> Told {
     match command_of(alloc, line) {
         Some(command) => {
-            let (node, port) = (0, 0);
+            let port = 0;
             step(
                 world,
                 FrameStep::Command {
@@ -100,9 +136,9 @@ fn given(alloc: Global, world: &mut World, line: &str) -> bool {
                     port,
                     command,
                 },
-            ) == HAPPENED
+            )
         }
-        None => false,
+        None => Err(NodeFault::OutOfMemory),
     }
 }
 
@@ -115,7 +151,7 @@ fn settle(world: &mut World) -> u32 {
         for (node, peer) in &WAYS {
             let (node, peer) = (*node, *peer);
             count = count.saturating_add(match step(world, FrameStep::Take { node, peer }) {
-                Ok(Stepped::Happened) => 1,
+                Ok(Stepped::Happened(_)) => 1,
                 Ok(_) => 0,
                 Err(_) => 1_000,
             });
@@ -201,7 +237,8 @@ fn has_answered(world: &World, number: u32) -> bool {
 // Whether a row holds.
 fn is_row(alloc: Global, world: &mut World, row: &Row<'_>) -> bool {
     match row {
-        Row::Given(line) => given(alloc, world, line),
+        Row::Given(line) => matches!(given(alloc, world, 0, line), Ok(Stepped::Happened(_))),
+        Row::At(node, line, told) => given(alloc, world, *node, line) == *told,
         Row::Take(node, peer, told) => {
             let (node, peer) = (*node, *peer);
             step(world, FrameStep::Take { node, peer }) == *told
@@ -267,7 +304,7 @@ fn twins_of(alloc: Global, config: &Config) -> Option<Twins> {
             let stepped = world.step(&step);
             drop(step);
             match world.copy(config) {
-                Ok(copy) if stepped == HAPPENED => Some(Twins { world, copy }),
+                Ok(copy) if stepped == QUIET => Some(Twins { world, copy }),
                 _ => None,
             }
         }
@@ -317,16 +354,16 @@ static APPLIED: &[Row<'static>] = &[
     Row::Given("create a 7"),
     Row::Free(3, false),
     Row::Free(2, true),
-    Row::Take(2, 0, HAPPENED),
+    Row::Take(2, 0, SENDS_1),
     Row::Free(2, false),
-    Row::Take(0, 2, HAPPENED),
-    Row::Take(1, 0, HAPPENED),
+    Row::Take(0, 2, SENDS_1),
+    Row::Take(1, 0, SENDS_1),
     Row::History(&[]),
-    Row::Take(0, 1, HAPPENED),
+    Row::Take(0, 1, BEGINS),
     Row::History(&[(0, 1)]),
     Row::Applied(0, 1),
     Row::Applied(1, 0),
-    Row::Take(1, 0, HAPPENED),
+    Row::Take(1, 0, SENDS_1),
     Row::Applied(1, 1),
     Row::Applied(2, 0),
     Row::Settle(5),
@@ -355,7 +392,7 @@ static REFUSALS: &[Row<'static>] = &[
     Row::Lose(2, Ok(Stepped::Gone)),
     Row::Lose(2, LOST),
     Row::Take(2, 0, LOST),
-    Row::See(0, 2, HAPPENED),
+    Row::See(0, 2, QUIET),
     Row::See(0, 2, LOST),
 ];
 
@@ -364,7 +401,7 @@ static LOSS: &[Row<'static>] = &[
     FORMED,
     Row::Given("make a"),
     Row::Given("end a <a.1.0>"),
-    Row::Take(1, 0, HAPPENED),
+    Row::Take(1, 0, QUIET),
     Row::Pending(&[1]),
     Row::Lose(2, Ok(Stepped::Gone)),
     Row::Pending(&[]),
@@ -384,10 +421,10 @@ static LISTED: &[Row<'static>] = &[
 static COPIES: &[Row<'static>] = &[
     FORMED,
     Row::Given("create a 7"),
-    Row::Take(2, 0, HAPPENED),
-    Row::Take(0, 2, HAPPENED),
-    Row::Take(1, 0, HAPPENED),
-    Row::Take(0, 1, HAPPENED),
+    Row::Take(2, 0, SENDS_1),
+    Row::Take(0, 2, SENDS_1),
+    Row::Take(1, 0, SENDS_1),
+    Row::Take(0, 1, BEGINS),
     Row::History(&[(0, 1)]),
     Row::Settle(6),
     Row::Given("make a"),
@@ -395,30 +432,67 @@ static COPIES: &[Row<'static>] = &[
     Row::Lose(2, Ok(Stepped::Gone)),
     Row::Take(2, 0, LOST),
     Row::Pending(&[1]),
-    Row::Take(1, 0, HAPPENED),
-    Row::See(0, 2, HAPPENED),
+    Row::Take(1, 0, QUIET),
+    Row::See(0, 2, QUIET),
     Row::Applied(1, 1),
 ];
 
 // A node takes what the others have sent in another order than its copy, by which its clock differs, and then what it sends has another
 // stamp; and what is not alike.
 static ALIKE: &[Row<'static>] = &[
-    Row::Take(0, 1, HAPPENED),
-    Row::Take(0, 2, HAPPENED),
+    Row::Take(0, 1, QUIET),
+    Row::Take(0, 2, QUIET),
     Row::Given("make a"),
     Row::Given("end a <a.1.0>"),
-    Row::Alone(&Row::Take(2, 0, HAPPENED), false),
-    Row::Alone(&Row::Take(2, 1, HAPPENED), false),
-    Row::Beside(&Row::Take(2, 1, HAPPENED), false),
-    Row::Beside(&Row::Take(2, 0, HAPPENED), true),
+    Row::Alone(&Row::Take(2, 0, QUIET), false),
+    Row::Alone(&Row::Take(2, 1, QUIET), false),
+    Row::Beside(&Row::Take(2, 1, QUIET), false),
+    Row::Beside(&Row::Take(2, 0, QUIET), true),
     Row::Settle(3),
     Row::Given("create a 7"),
-    Row::Take(2, 0, HAPPENED),
+    Row::Take(2, 0, SENDS_1),
     Row::Settle(9),
     Row::History(&[(0, 3)]),
     Row::Alone(&Row::Lose(1, Ok(Stepped::Gone)), false),
     Row::Beside(&Row::Lose(1, Ok(Stepped::Gone)), true),
 ];
+
+// The greatest node asks both others at once. Another asks the greatest alone, which denies it while it has the lock for itself: then the
+// command waits, and asks again where it is tried again.
+static ASKED: &[Row<'static>] = &[
+    FORMED,
+    Row::At(2, "create a 7", SENDS_2),
+    Row::At(0, "create a 7", SENDS_1),
+    Row::Take(2, 0, SENDS_1),
+    Row::Take(0, 2, SENDS_1),
+    Row::Take(0, 2, QUIET),
+    Row::Take(1, 2, SENDS_1),
+    Row::Take(2, 0, QUIET),
+    Row::Retry(0, 0, SENDS_1),
+    Row::History(&[]),
+    Row::Take(2, 1, BEGINS),
+    Row::History(&[(2, 1)]),
+    Row::At(1, "make b", QUIET),
+    Row::At(1, "end b <b.1.0>", SENDS_2),
+];
+
+// A node whose loss was seen is neither asked nor told.
+static ASKED_PAST_LOSS: &[Row<'static>] = &[
+    FORMED,
+    Row::Lose(2, Ok(Stepped::Gone)),
+    Row::See(0, 2, QUIET),
+    Row::At(0, "create a 7", SENDS_1),
+    Row::Take(1, 0, SENDS_1),
+    Row::Take(0, 1, BEGINS_WITH_1),
+    Row::At(0, "make a", QUIET),
+    Row::At(0, "end a <a.1.0>", SENDS_1),
+];
+
+#[test]
+fn events_are_reported(rt: HostRuntime) {
+    check(&rt, rt.alloc(), ASKED);
+    check(&rt, rt.alloc(), ASKED_PAST_LOSS);
+}
 
 #[test]
 fn copies_go_on(rt: HostRuntime) {

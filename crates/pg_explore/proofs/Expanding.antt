@@ -8,21 +8,22 @@ use Rattle.pg_explore.specs.declared.bins.Spot.{Spot}
 use Rattle.pg_explore.specs.declared.explored.Met.{Met}
 use Rattle.pg_explore.specs.declared.moves.Move.{Move}
 use Rattle.pg_explore.specs.declared.plan.Plan.{Plan}
-use Rattle.pg_explore.specs.Explorations.{AreFollowedAt, Grows, IsAlikeAt, IsFollowedAt, IsOpenAt, IsSound, sight_in}
-use Rattle.pg_explore.specs.Listings.{IsOpen}
+use Rattle.pg_explore.specs.declared.visitor.Led.{Led}
+use Rattle.pg_explore.specs.Explorations.{Grows, IsAlikeAt, IsSound}
 use Rattle.pg_explore.specs.Moments.{Sight}
-use Rattle.pg_explore.proofs.Sound.{followed_on, grows_on}
+use Rattle.pg_explore.specs.Ways.{IsAmong, LeadsToAt, StaysAt}
 
--- the first steps of a list, so many, are followed
-abbrev pub FollowedBelow : List Plan → List Met → ℕ → List Move → ℕ → Type 0
-FollowedBelow plans mets place moves count = (k : ℕ) (step : Move) → k < count → slice_get moves k ≡ Some step → IsFollowedAt plans mets place step
+-- of the first steps of a list, so many, those that happen, and where they lead
+pub record LedBelow (plans : List Plan) (mets : List Met) (place : ℕ) (moves : List Move) (count : ℕ) (led : List Led) : Type 0 where
+  pub lead : (way : Led) → Contains led way → Contains moves way.step × LeadsToAt plans mets place way.step way.place
+  pub all : (k : ℕ) (step : Move) → k < count → slice_get moves k ≡ Some step → StaysAt plans mets place step ⊎ IsAmong led step
 
-pub record SoFar (config : Config) (plans : List Plan) (most limit : ℕ) (place : ℕ) (moves : List Move) (count : ℕ) (old : List Met) (lent now_lent : ℕ) (bins : Bins) (mets : List Met) : Type 0 where
+pub record SoFar (config : Config) (plans : List Plan) (most limit : ℕ) (place : ℕ) (moves : List Move) (count : ℕ) (old : List Met) (lent now_lent : ℕ) (bins : Bins) (mets : List Met) (ways : List Led) : Type 0 where
   pub holds : IsSound config plans most bins mets
   pub grows : Grows old mets
   pub few : length mets ≤ max (length old) limit
   pub lent_same : now_lent ≡ lent
-  pub followed : FollowedBelow plans mets place moves count
+  pub led : LedBelow plans mets place moves count ways
 
 -- no spot among the first of a bin, so many, is that of a moment that is alike
 abbrev pub NoneBelow : List Met → Sight → ℕ → List Spot → ℕ → Type 0

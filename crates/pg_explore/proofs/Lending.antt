@@ -7,9 +7,11 @@ use Rattle.pg_explore.specs.declared.explored.Explored.{Explored}
 use Rattle.pg_explore.specs.declared.explored.Met.{Met}
 use Rattle.pg_explore.specs.declared.plan.Plan.{Plan}
 use Rattle.pg_explore.specs.Explorations.{AreFollowed, Grows, Holds, IsSound, Lends, met_of}
-use Rattle.pg_explore.specs.Lent.{AreLent, IsLent}
+use Rattle.pg_explore.specs.declared.visitor.Led.{Led}
+use Rattle.pg_explore.specs.Lent.{AreLent}
+use Rattle.pg_explore.specs.Ways.{AreLentWays, AreWays}
 
-pub record Lent (config : Config) (plans : List Plan) (most limit turns : ℕ) (before after : Option (List Met)) (explored : Explored) : Type 0 where
+pub record Lent (config : Config) (plans : List Plan) (most limit turns : ℕ) (before after : Option (List Met)) (was now : Option (List (List Led))) (explored : Explored) : Type 0 where
   pub holds : IsSound config plans most explored.bins explored.met.items
   pub some : 0 < length explored.met.items
   pub few : length explored.met.items ≤ max 1 limit
@@ -17,6 +19,7 @@ pub record Lent (config : Config) (plans : List Plan) (most limit turns : ℕ) (
   pub inside : explored.lent ≤ length explored.met.items
   pub followed : AreFollowed plans most explored.met.items explored.lent
   pub lent : AreLent before after (take explored.lent explored.met.items)
+  pub ways : AreLentWays was now (AreWays plans most explored.met.items explored.lent)
 
 pub none_lent : (before : Option (List Met)) (mets : List Met) → AreLent before before (take 0 mets)
 none_lent None mets = tt

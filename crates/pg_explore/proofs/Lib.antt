@@ -2,6 +2,7 @@ pub mod Alike
 pub mod Binned
 pub mod Counting
 pub mod Expanding
+pub mod Leading
 pub mod Getting
 pub mod Lending
 pub mod Lengthening

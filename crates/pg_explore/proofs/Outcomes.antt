@@ -14,7 +14,7 @@ pub came : (config : Config) (u : LosingFrameWorld) (telling : Telling) (stepped
     → LosingComesTo config u telling stepped Shown → IsOutcome stepped b → Came config u (Some telling) b Shown
 came config u telling (Ok Nothing) Shown b h o = subst (λ b. Came config u (Some telling) b Shown) (sym o) (inl h.0)
 came config u telling (Ok (Moved n)) Shown b h o = absurd h
-came config u telling (Ok Happened) Shown b h o = subst (λ b. Came config u (Some telling) b Shown) (sym o) (h.1, h.2)
+came config u telling (Ok (Happened effect)) Shown b (loss, busy, did, led) o = subst (λ b. Came config u (Some telling) b Shown) (sym o) (busy, led)
 came config u telling (Ok Gone) Shown b h o = subst (λ b. Came config u (Some telling) b Shown) (sym o) (h.1, h.2)
 came config u telling (Err faults.OutOfMemory) Shown b h o = absurd o
 came config u telling (Err (faults.Refused refusal)) Shown b h o = subst (λ b. Came config u (Some telling) b Shown) (sym o) (inr (refusal, h.0))

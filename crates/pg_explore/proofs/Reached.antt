@@ -15,13 +15,13 @@ use Rattle.pg_explore.specs.declared.moves.Move.{Move}
 use Rattle.pg_explore.specs.declared.plan.Plan.{Plan}
 use Rattle.pg_explore.specs.declared.strand.Strand.{Strand}
 use Rattle.pg_explore.specs.Bins.{spots_of}
-use Rattle.pg_explore.specs.Explorations.{AreFollowed, AreFollowedAt, AreKept, Grows, IsAlikeAt, IsFollowed, IsFollowedAt, IsOpenAt, sight_in}
+use Rattle.pg_explore.specs.Explorations.{AreFollowed, AreFollowedAt, AreKept, Grows, IsAlikeAt, IsFollowed, IsOpenAt, sight_in}
 use Rattle.pg_explore.specs.Lent.{AreLent, IsLent}
 use Rattle.pg_explore.specs.Listings.{IsOpen}
 use Rattle.pg_explore.specs.Moments.{IsOf, Sight}
 use Rattle.pg_explore.specs.Numbers.{number_in}
 use Rattle.pg_explore.proofs.Alike.{same_number}
-use Rattle.pg_explore.proofs.Expanding.{FollowedBelow, NoneBelow}
+use Rattle.pg_explore.proofs.Expanding.{NoneBelow}
 use Rattle.pg_explore.proofs.Optional.{inside_some, some_is}
 use Rattle.pg_explore.proofs.Sound.{followed_on}
 
@@ -43,7 +43,7 @@ none_found bins mets sight number spots kept e s below place h =
     let here : Contains spots (record { number = number; place = place }) = subst (λ xs. Contains xs (record { number = number; place = place })) (sym s) held in
     below here.0 (record { number = number; place = place }) here.1 (slice_get_read spots _ here.0 _ refl here.1 (sym here.2)) refl h
 
-low_or_same : (n i : ℕ) → n < i + 1 → (n < i) ⊎ (n ≡ i)
+pub low_or_same : (n i : ℕ) → n < i + 1 → (n < i) ⊎ (n ≡ i)
 low_or_same n i l = search arith
 
 pub none_more : (mets : List Met) (sight : Sight) (number : ℕ) (spots : List Spot) (i : ℕ) (spot : Spot) → slice_get spots i ≡ Some spot
@@ -63,28 +63,6 @@ there_still old new place grows inside = let at = inside_some old place inside i
 
 pub can_still : (plans : List Plan) (most : ℕ) (old new : List Met) (place : ℕ) (step : Move) → Grows old new → IsOpenAt plans most old place step → IsOpenAt plans most new place step
 can_still plans most old new place step grows h = (h.0, grows place h.0 h.1, h.2)
-
-pub followed_at_on : (plans : List Plan) (old new : List Met) (place : ℕ) (step : Move) → Grows old new → place < length old → IsFollowedAt plans old place step → IsFollowedAt plans new place step
-followed_at_on plans old new place step grows inside h = λ met at.
-    let was = inside_some old place inside in
-    let same : was.0 ≡ met = some_is was.0 met (sym (grows place was.0 was.1) ∙ at) in
-    subst (λ m. IsFollowed plans new (sight_in m) step) same (followed_on plans old new (sight_in was.0) step grows (h was.0 was.1))
-
-pub below_more : (plans : List Plan) (old new : List Met) (place : ℕ) (moves : List Move) (i : ℕ) (step : Move) → Grows old new → place < length old → slice_get moves i ≡ Some step
-    → IsFollowedAt plans new place step → FollowedBelow plans old place moves i → FollowedBelow plans new place moves (i + 1)
-below_more plans old new place moves i step grows inside at here h = λ k other l is. go k other is (low_or_same k i l)
-  where
-    go : (k : ℕ) (other : Move) → slice_get moves k ≡ Some other → (k < i) ⊎ (k ≡ i) → IsFollowedAt plans new place other
-    go k other is (inl l) = followed_at_on plans old new place other grows inside (h k other l is)
-    go k other is (inr e) = subst (λ s. IsFollowedAt plans new place s) (some_is step other (sym at ∙ ap (slice_get moves) (sym e) ∙ is)) here
-
-pub all_followed : (plans : List Plan) (most : ℕ) (old new : List Met) (place : ℕ) (moves : List Move) (count : ℕ) → Grows old new → place < length old → length moves ≤ count
-    → ((step : Move) → IsOpenAt plans most old place step → Contains moves step) → FollowedBelow plans new place moves count → AreFollowedAt plans most new place
-all_followed plans most old new place moves count grows inside past listed h = λ met step at can.
-    let was = inside_some old place inside in
-    let same : met ≡ was.0 = some_is met was.0 (sym at ∙ grows place was.0 was.1) in
-    let among = listed step (was.0, was.1, subst (λ m. IsOpen plans most (sight_in m) step) same can) in
-    h among.0 step (omega (arith, past, among.1)) (slice_get_read moves _ among.0 step refl among.1 (sym among.2)) met at
 
 -- ---- moments that were lent
 

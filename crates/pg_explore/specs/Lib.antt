@@ -7,3 +7,4 @@ pub mod Listings
 pub mod Moments
 pub mod Moves
 pub mod Numbers
+pub mod Ways

@@ -74,7 +74,7 @@ ComesFrom plans view lost progress step after = ComesOf plans (record { view = v
 
 -- whether it happened
 abbrev pub IsOutcome : Result Stepped NodeFault → Bool → Type 0
-IsOutcome (Ok Happened) b = b ≡ true
+IsOutcome (Ok (Happened effect)) b = b ≡ true
 IsOutcome (Ok Gone) b = b ≡ true
 IsOutcome (Ok stepped) b = b ≡ false
 IsOutcome (Err OutOfMemory) b = ⊥

@@ -4,13 +4,14 @@ ghost use Rattle.std.specs.Prelude.{◌≡◌, ◌<◌, ◌≤◌, ◌+◌, IfOk
 ghost use Rattle.pg_explore.specs.Explorations.{AreApart, AreFollowed, AreReached, Holds, met_of};
 ghost use Rattle.pg_explore.specs.Faults.{CantExplore};
 ghost use Rattle.pg_explore.specs.Lent.{AreLent};
+ghost use Rattle.pg_explore.specs.Ways.{AreLentWays, AreWays};
 
 use crate::explored::Explored;
 use crate::fault::ExploreFault;
 use crate::moves::Limits;
 use crate::plan::Plan;
 use crate::visitor::Visitor;
-use pg_world::Config;
+use pg_config::Config;
 use std::alloc::{AllocError, Global};
 
 /// Meets the moments of a configuration, of whose nodes this is planned, by their places: each order in which packets
@@ -40,6 +41,7 @@ pub fn explore<V: Visitor>(
     ensures followed { IfOk result (λ explored. AreFollowed plans.now limits.retries (met_of explored) explored.lent) }
     ensures cut { IfOk result (λ explored. explored.lent < length (met_of explored) → limits.worlds ≤ length (met_of explored)) }
     ensures lent { IfOk result (λ explored. AreLent (V.lent visitor.old) (V.lent visitor.new) (take explored.lent (met_of explored))) }
+    ensures ways { IfOk result (λ explored. AreLentWays (V.ways visitor.old) (V.ways visitor.new) (AreWays plans.now limits.retries (met_of explored) explored.lent)) }
     ensures fault { IfErr result (CantExplore config.now) }
 {
     match Explored::begin(alloc, config, plans, limits) {
@@ -76,6 +78,7 @@ fn lend_all<V: Visitor>(
     ensures followed { OnOk result (AreFollowed plans.now limits.retries (met_of explored.new) explored.new.lent) }
     ensures cut { OnOk result (explored.new.lent < length (met_of explored.new) → limits.worlds ≤ length (met_of explored.new)) }
     ensures lent { OnOk result (AreLent (V.lent visitor.old) (V.lent visitor.new) (take explored.new.lent (met_of explored.new))) }
+    ensures ways { OnOk result (AreLentWays (V.ways visitor.old) (V.ways visitor.new) (AreWays plans.now limits.retries (met_of explored.new) explored.new.lent)) }
 {
     for turn in 0..limits.worlds {
         if explored.is_whole() {

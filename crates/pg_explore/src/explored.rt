@@ -1,14 +1,16 @@
 //! The moments that an exploration has met.
 
-ghost use Rattle.std.specs.Prelude.{◌≡◌, ◌≢◌, ◌<◌, ◌≤◌, ◌↔◌, ◌∷◌, ◌++◌, [], false, IsTrue, None, Ok, IfOk, IfErr, OnOk, OnErr, OnSome, length, max, vec_len, vec_capacity};
+ghost use Rattle.std.specs.Prelude.{◌≡◌, ◌≢◌, ◌<◌, ◌≤◌, ◌↔◌, ◌∷◌, ◌++◌, [], false, IsTrue, None, Ok, IfOk, IfErr, OnOk, OnErr, length, max, vec_len, vec_capacity};
 ghost use Rattle.std.specs.List.{Contains};
+ghost use Rattle.std.specs.Option.{ForSome};
 ghost use Rattle.pg_explore.specs.declared.explored.Arrival.TheVariants.{Beyond};
 ghost use Rattle.pg_explore.specs.declared.moves.Move.{Move};
 ghost use Rattle.pg_explore.specs.Bins.{Keeps, spots_of};
-ghost use Rattle.pg_explore.specs.Explorations.{AreFollowed, AreFollowedAt, AreKept, AreSized, Grows, Holds, IsAlikeAt, IsFollowedAt, IsFound, IsKnown, IsOpenAt, LeadsFrom, Lends, met_of};
+ghost use Rattle.pg_explore.specs.Explorations.{AreFollowed, AreKept, AreSized, Grows, Holds, IsAlikeAt, IsFound, IsOpenAt, LeadsFrom, Lends, met_of};
 ghost use Rattle.pg_explore.specs.Faults.{CantExplore};
 ghost use Rattle.pg_explore.specs.Moments.{IsOf, sight_of};
 ghost use Rattle.pg_explore.specs.Numbers.{number_in};
+ghost use Rattle.pg_explore.specs.Ways.{AreLedAt, Arrives, IsArrived, LendsWays};
 
 use crate::bins::Bins;
 use crate::fault::ExploreFault;
@@ -18,7 +20,7 @@ use crate::moves::{Limits, Move};
 use crate::number::number_of;
 use crate::plan::Plan;
 use crate::visitor::{Led, Visitor};
-use pg_world::Config;
+use pg_config::Config;
 use std::alloc::{AllocError, Global};
 
 /// How a moment was met: by a step that was made at the moment of an earlier place.
@@ -134,6 +136,7 @@ impl Explored {
         ensures few { length (met_of self.new) ≤ max (length (met_of self.old)) limits.worlds }
         ensures followed { OnOk result (AreFollowed plans.now limits.retries (met_of self.new) self.new.lent) }
         ensures lends { IfOk result (Lends (V.lent visitor.old) (V.lent visitor.new) self.old.lent self.new.lent (met_of self.new)) }
+        ensures ways { IfOk result (LendsWays (V.ways visitor.old) (V.ways visitor.new) (AreLedAt plans.now limits.retries (met_of self.new) self.old.lent)) }
         ensures beyond { result ≡ Ok false → limits.worlds ≤ length (met_of self.new) }
     {
         let place = self.lent;
@@ -168,7 +171,7 @@ impl Explored {
         ensures grows { Grows (met_of self.old) (met_of self.new) }
         ensures few { length (met_of self.new) ≤ max (length (met_of self.old)) limits.worlds }
         ensures lent { self.new.lent ≡ self.old.lent }
-        ensures followed { IfOk result (λ led. OnSome led (AreFollowedAt plans.now limits.retries (met_of self.new) place)) }
+        ensures led { IfOk result (λ led. ForSome led (λ ways. AreLedAt plans.now limits.retries (met_of self.new) place ways.items)) }
         ensures beyond { result ≡ Ok None → limits.worlds ≤ length (met_of self.new) }
     {
         let moves = self.moves_at(plans, limits, place)?;
@@ -218,7 +221,7 @@ impl Explored {
         ensures grows { Grows (met_of self.old) (met_of self.new) }
         ensures few { length (met_of self.new) ≤ max (length (met_of self.old)) limits.worlds }
         ensures lent { self.new.lent ≡ self.old.lent }
-        ensures followed { IfOk result (λ arrival. arrival ≢ Beyond → IsFollowedAt plans.now (met_of self.new) place step.now) }
+        ensures arrives { IfOk result (Arrives plans.now (met_of self.new) place step.now) }
         ensures beyond { result ≡ Ok Beyond → limits.worlds ≤ length (met_of self.new) }
     {
         let met = &self.met[place];
@@ -250,7 +253,7 @@ impl Explored {
         ensures grows { Grows (met_of self.old) (met_of self.new) }
         ensures few { length (met_of self.new) ≤ max (length (met_of self.old)) limits.worlds }
         ensures lent { self.new.lent ≡ self.old.lent }
-        ensures known { IfOk result (λ arrival. arrival ≢ Beyond → IsKnown (met_of self.new) (sight_of moment)) }
+        ensures arrived { IfOk result (IsArrived (met_of self.new) (sight_of moment)) }
         ensures beyond { result ≡ Ok Beyond → limits.worlds ≤ length (met_of self.new) }
     {
         let number = number_of(&moment);
@@ -291,7 +294,7 @@ impl Explored {
         ensures grows { Grows (met_of self.old) (met_of self.new) }
         ensures few { length (met_of self.new) ≤ max (length (met_of self.old)) limits.worlds }
         ensures lent { self.new.lent ≡ self.old.lent }
-        ensures known { IfOk result (λ arrival. arrival ≢ Beyond → IsKnown (met_of self.new) (sight_of moment)) }
+        ensures arrived { IfOk result (IsArrived (met_of self.new) (sight_of moment)) }
         ensures beyond { result ≡ Ok Beyond → limits.worlds ≤ length (met_of self.new) }
     {
         let new = self.met.len();

@@ -1,7 +1,7 @@
 //! Why an exploration ends early.
 
+use pg_config::WorldFault;
 use pg_faults::OUT_OF_MEMORY;
-use pg_world::WorldFault;
 use std::alloc::{AllocError, AllocFailed};
 use thiserror::Error;
 

@@ -12,10 +12,10 @@ use crate::moves::Move;
 use crate::plan::{Plan, Planned};
 use crate::strand::Strand;
 use crate::strands::planned_next;
+use pg_frame_world::{FrameStep, FrameWorld, Stepped};
 use pg_index::IndexTable;
 use pg_node_state::NodeFault;
 use pg_step::OpId;
-use pg_world::{FrameStep, FrameWorld, Stepped};
 use std::alloc::{AllocError, Global};
 
 /// Makes a step of a world, where the plans have come so far; whether it happened.
@@ -127,7 +127,7 @@ fn has_happened(stepped: Result<Stepped, NodeFault>) -> Result<bool, AllocError>
     ensures { IfOk result (IsOutcome stepped) }
 {
     match stepped {
-        Ok(Stepped::Happened) | Ok(Stepped::Gone) => Ok(true),
+        Ok(Stepped::Happened(_)) | Ok(Stepped::Gone) => Ok(true),
         Ok(Stepped::Nothing) | Ok(Stepped::Moved(_)) => Ok(false),
         Err(NodeFault::OutOfMemory) => Err(AllocError),
         Err(_) => Ok(false),

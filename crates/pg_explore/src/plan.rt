@@ -1,6 +1,6 @@
 //! What comes in at a node.
 
-use pg_world::FrameStep;
+use pg_frame_world::FrameStep;
 
 /// What comes in at a node at its place among all that comes in there.
 #[derive(Debug, Drop)]

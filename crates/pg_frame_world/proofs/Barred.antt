@@ -24,16 +24,18 @@ use Rattle.pg_step.specs.declared.refusal.Refusal.TheVariants.{NoSuchPlace, Node
 use Rattle.pg_opens.specs.Places.{name_at as place_name}
 use Rattle.pg_node_state.specs.declared.state.fault.NodeFault.{NodeFault}
 use Rattle.pg_node_state.specs.declared.state.fault.NodeFault.TheVariants.{Refused, OutOfMemory, Message as BadMessage, TooLong, Damaged}
+use Rattle.pg_frame_world.specs.declared.effect.Effect.{Effect}
 use Rattle.pg_frame_world.specs.declared.step.FrameStep.{FrameStep}
 use Rattle.pg_frame_world.specs.declared.step.FrameStep.TheVariants as steps
 use Rattle.pg_frame_world.specs.declared.step.Stepped.{Stepped}
 use Rattle.pg_frame_world.specs.declared.step.Stepped.TheVariants.{Happened, Moved, Nothing, Gone}
+use Rattle.pg_frame_world.specs.Effects.{effect_in, losing_effect_in}
 use Rattle.pg_frame_world.specs.Losing.{notices, losing_of, SeenAreLost, ShowsLosing, seen_at, is_cut_off, is_barred, none_sent, first_refusal, take_refusal, own_refusal, keep_of, Telling, told_take, told_own, told_of, LosingLed, LosingComesTo}
 use Rattle.pg_account.specs.Losses.{is_lost}
 use Rattle.pg_starts.specs.Seen.{Seen}
 use Rattle.pg_frame_world.specs.Views.{View, peer_place}
 use Rattle.pg_frame_world.specs.Worlds.{TimedFrameWorld, ShowsNodes, ShowsNode, Shows, ComesTo, has_port, has_places, told, told_of_first}
-use Rattle.pg_frame_world.proofs.Lossy.{lifted, lost_kept}
+use Rattle.pg_frame_world.proofs.Lossy.{lifted, same_effect, lost_kept}
 use Rattle.pg_frame_world.proofs.Peering.{lt_false, peer_name, named, there_and_back}
 use Rattle.pg_frame_world.proofs.Turning.{pair_is}
 
@@ -229,9 +231,13 @@ module _ (config : Config) (old new : View) (lost lost2 : List ℕ) (w : TimedFr
           },
         )
 
+    did_so : (v : TimedFrameWorld) (effect : Effect) → happens (frame_machine config) w e ≡ Some v → effect_in (frame_machine config) w e ≡ Some effect
+        → losing_effect_in config (losing_of config w lost) tells.event ≡ Some effect
+    did_so v effect is did = ap (losing_effect_in config (losing_of config w lost)) event ∙ (same_effect config lost w v e (happened (frame_machine config) w v e is) stays ∙ did)
+
     pub comes : (result : Result Stepped NodeFault) → ComesTo config w e result (Shows config new) → (result ≡ Ok Nothing → new ≡ old) → OnErr result (new ≡ old)
         → LosingComesTo config (losing_of config w lost) tells result (ShowsLosing config new lost2)
-    comes (Ok Happened) (v, is, shown) nothing err = (loss, busy v is, led v is shown)
+    comes (Ok (Happened effect)) (did, (v, is, shown)) nothing err = (loss, busy v is, did_so v effect is did, led v is shown)
     comes (Ok Nothing) c nothing err = ((idle c).0, (idle c).1, still (nothing refl))
     comes (Ok (Moved count)) c nothing err = absurd c
     comes (Ok Gone) c nothing err = absurd c

@@ -13,7 +13,7 @@ use Rattle.pg_term.specs.Same.{same_atom}
 use Rattle.pg_machine.specs.Clocked.{Timed, plain}
 use Rattle.pg_machine.specs.Losing.{LosingEvent, Step, Lose, LosingLeads, losing_happens, nobody_gone, all_steps, stopped}
 use Rattle.pg_machine.specs.Machine.{start_of}
-use Rattle.pg_machine.specs.Places.{is_place, set_at}
+use Rattle.pg_machine.specs.Places.{is_pair, is_place, set_at}
 use Rattle.pg_machine.proofs.Options.{some_is}
 use Rattle.pg_machine.proofs.Places.{set_at_here}
 use Rattle.pg_step.specs.Config.{Config, names_of, nodes_at}
@@ -25,7 +25,7 @@ use Rattle.pg_step.specs.Step.{Action}
 use Rattle.pg_step.proofs.Unnoticed.{without_losses}
 use Rattle.pg_history.proofs.places.Clauses.{one_history}
 use Rattle.pg_loss.specs.Reached.{LosingReaches, steps_of}
-use Rattle.pg_loss.specs.Survived.{LossesSurvived}
+use Rattle.pg_left.specs.Survived.{LossesSurvived}
 use Rattle.pg_history.specs.History.{Entry, LockFree, NonePending, history, applied_count, is_formed}
 use Rattle.pg_history.specs.WithLosses.{NonePendingLeft}
 use Rattle.pg_loss.proofs.Lasts.{history_later, lost_for_good}
@@ -34,7 +34,7 @@ use Rattle.pg_node_state.specs.declared.state.fault.NodeFault.TheVariants.{Refus
 use Rattle.pg_frame_world.specs.declared.step.FrameStep.{FrameStep}
 use Rattle.pg_frame_world.specs.declared.step.Stepped.{Stepped}
 use Rattle.pg_frame_world.specs.declared.step.Stepped.TheVariants.{Happened, Moved, Nothing, Gone}
-use Rattle.pg_frame_world.specs.Losing.{Telling, LosingComesTo, ShowsLosing, losing_of, told_of}
+use Rattle.pg_frame_world.specs.Losing.{Telling, LosingComesTo, SeenAreLost, ShowsLosing, losing_of, seen_at, told_of}
 use Rattle.pg_frame_world.specs.LosingRuns.{LosingKind, LosingGoesTo, packets_past_losses}
 use Rattle.pg_account.specs.Losses.{is_lost}
 use Rattle.pg_frame_world.specs.Past.{HasHeadline, IsPast, HasPast, LedOn, GoesOn, FramesHavePast, FramesGoOn, FramesRunOn, HistoriesGrow, RunsOn}
@@ -43,7 +43,8 @@ use Rattle.pg_frame_world.specs.Starts.{Begins, Orders}
 use Rattle.pg_starts.specs.Seen.{Seen}
 use Rattle.pg_frame_world.specs.Views.{View}
 use Rattle.pg_account.specs.Histories.{Account}
-use Rattle.pg_frame_world.specs.Worlds.{TimedFrameWorld, ShowsNodes, ShowsUpdates}
+use Rattle.pg_frame_world.specs.Worlds.{TimedFrameWorld, Shows, ShowsNodes, ShowsUpdates}
+use Rattle.pg_frame_world.proofs.Barred.{pair_here, seen_is}
 use Rattle.pg_frame_world.proofs.LosingRunning.{start_shown, losing_leads}
 
 -- ---- events of which none is a loss
@@ -163,7 +164,7 @@ runs_on kind given Old New all numbers apart survive past came =
 -- worlds that a step leads to
 module _ (config : Config) (u : LosingFrameWorld) (told : Telling) (P Q : LosingFrameWorld → Type 0) (onward : (v : LosingFrameWorld) → Near config u v → P v → Q v) where
   pub comes_on : (result : Result Stepped NodeFault) → LosingComesTo config u told result P → LosingComesTo config u told result Q
-  comes_on (Ok Happened) (kind, busy, (v, happened, shown)) = (kind, busy, (v, happened, onward v (Next told.event happened) shown))
+  comes_on (Ok (Happened effect)) (kind, busy, did, (v, happened, shown)) = (kind, busy, did, (v, happened, onward v (Next told.event happened) shown))
   comes_on (Ok Gone) (kind, busy, (v, happened, shown)) = (kind, busy, (v, happened, onward v (Next told.event happened) shown))
   comes_on (Ok Nothing) (idle, unrefused, shown) = (idle, unrefused, onward u (Here refl) shown)
   comes_on (Ok (Moved count)) comes = absurd comes
@@ -175,7 +176,7 @@ module _ (config : Config) (u : LosingFrameWorld) (told : Telling) (P Q : Losing
 
 -- one of them
 pub some_comes : (config : Config) (u : LosingFrameWorld) (told : Telling) (Q : LosingFrameWorld → Type 0) (result : Result Stepped NodeFault) → LosingComesTo config u told result Q → (v : LosingFrameWorld) × Q v
-some_comes config u told Q (Ok Happened) comes = (comes.2.0, comes.2.2)
+some_comes config u told Q (Ok (Happened effect)) (kind, busy, did, (v, happened, shown)) = (v, shown)
 some_comes config u told Q (Ok Gone) comes = (comes.2.0, comes.2.2)
 some_comes config u told Q (Ok Nothing) comes = (u, comes.2)
 some_comes config u told Q (Ok (Moved count)) comes = absurd comes
@@ -318,3 +319,13 @@ agreed_all lists given view lost x name past empty none free =
     let shows = past.is.shows in
     agreed_there past.config view.traffic.nodes view.account lost shows.frames past.u shows.shows.traffic.nodes shows.shows.updates shows.is past.events past.is.history none
     ((lists past.config view.traffic.nodes lost shows.frames past.u past.events shows.shows.traffic.nodes shows.is past.is.reached).0 empty) x name free
+
+-- where no node is lost, whatever world is shown knows of no loss
+pub unseen_there : (given : Config) (view : View) (lost : List ℕ) → lost ≡ [] → FramesHavePast given view lost → (config : Config) (w : TimedFrameWorld) → Shows config view w → SeenAreLost config w []
+unseen_there given view lost none past config w shows i p pair has =
+    let old = past.is.shows in
+    let nodes = view.traffic.nodes in
+    let here : is_pair (length nodes) i p ≡ true = pair_here config nodes w lost shows.traffic.nodes i p ∙ pair in
+    let there : is_pair (length past.config) i p ≡ true = sym (pair_here past.config nodes old.frames lost old.shows.traffic.nodes i p) ∙ here in
+    let seen : seen_at nodes i p ≡ true = seen_is config nodes w lost shows.traffic.nodes i p pair ∙ has in
+    subst (λ (l : List ℕ). is_lost l p ≡ true) none (old.seen i p there (sym (seen_is past.config nodes old.frames lost old.shows.traffic.nodes i p there) ∙ seen))

@@ -2,6 +2,7 @@ pub mod Answering
 mod Applying
 pub mod Barred
 mod Copied
+pub mod Counted
 mod Dropped
 pub mod Fitted
 pub mod Leading

@@ -18,7 +18,7 @@ use Rattle.pg_step.specs.LossLaws.{LosingFrameWorld}
 use Rattle.pg_step.specs.Step.{Action}
 use Rattle.pg_step.specs.declared.refusal.Refusal.{Refusal}
 use Rattle.pg_loss.specs.Reached.{LosingReaches}
-use Rattle.pg_loss.specs.Survived.{LossesSurvived}
+use Rattle.pg_left.specs.Survived.{LossesSurvived}
 use Rattle.pg_node_state.specs.NodeFault.{node_number_of}
 use Rattle.pg_node_state.specs.declared.state.fault.NodeFault.{NodeFault}
 use Rattle.pg_node_state.specs.declared.state.fault.NodeFault.TheVariants.{Refused, OutOfMemory, Message as BadMessage, TooLong, Damaged}
@@ -159,7 +159,7 @@ module _ (config : Config) (u : LosingFrameWorld) (step : FrameStep) (Shown : Lo
 
   -- what a step came to, by its number
   pub made_so : (result : Result Stepped NodeFault) (stepped : Stepped) → result ≡ Ok stepped → LosingComesTo config u told result Shown → LosingStepsTo packets_past_losses config u step 0 Shown
-  made_so (Ok Happened) stepped r comes = inl (record { listed = refl; e = told.event; is = (refl, comes.1); left = comes.2.0; happened = comes.2.1; rest = comes.2.2 })
+  made_so (Ok (Happened effect)) stepped r (loss, busy, did, (v, happened, shown)) = inl (record { listed = refl; e = told.event; is = (refl, busy); left = v; happened = happened; rest = shown })
   made_so (Ok Gone) stepped r comes = inl (record { listed = refl; e = told.event; is = (refl, comes.1); left = comes.2.0; happened = comes.2.1; rest = comes.2.2 })
   made_so (Ok Nothing) stepped r comes = inr (inl (sym (idle told.refusal told.is_idle comes.1 comes.0)), comes.2)
     where

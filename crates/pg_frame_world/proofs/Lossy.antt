@@ -3,7 +3,7 @@ use Rattle.std.proofs.Common.{◌≡◌, ◌≢◌, ℕ, Bool, true, false, not,
 use Rattle.std.specs.Prelude.{option_map}
 use Rattle.std.proofs.Math.Path.{fun_ext}
 use Rattle.std.proofs.lemmas.Bool.{cases_eq}
-use Rattle.std.proofs.lemmas.List.{map-append, append-nil}
+use Rattle.std.proofs.lemmas.List.{map-append, append-nil, length-map}
 use Rattle.pg_message.specs.declared.message.Message.{Message}
 use Rattle.pg_machine.specs.Places.{is_pair}
 use Rattle.pg_machine.specs.Machine.{Event, Input, Turn, World, Take, Do, Taken, Own, node_of, first_from, input_of, without_input, perform, happens}
@@ -11,7 +11,7 @@ use Rattle.pg_machine.specs.Happened.{Happened, Changes, Takes}
 use Rattle.pg_machine.specs.Clocked.{Timed, Stamped, unstamped, next_clock, timed_turn, timed}
 use Rattle.pg_machine.specs.Losing.{Noticed, Step, losing_happens, mapped_turn}
 use Rattle.pg_machine.proofs.Options.{some_is}
-use Rattle.pg_machine.proofs.Steps.{changes, turn_changes, happens_so}
+use Rattle.pg_machine.proofs.Steps.{changes, turn_changes, turn_made, happens_so}
 use Rattle.pg_step.specs.Config.{Config, name_at}
 use Rattle.pg_step.specs.FrameMachine.{node_step, frame_machine, losing_frame_machine, last_notice, sent_packet}
 use Rattle.pg_step.specs.State.{State}
@@ -19,9 +19,11 @@ use Rattle.pg_step.specs.Step.{CLOCK_LIMIT, Action}
 use Rattle.pg_step.specs.Turns.{Report}
 use Rattle.pg_step.proofs.Unnoticed.{frames_embed}
 use Rattle.pg_history.proofs.steps.Lossless.{step_sees_none}
+use Rattle.pg_frame_world.specs.Effects.{sum_below, op_of, effect_of, effect_in}
 use Rattle.pg_frame_world.specs.Losing.{notices, losing_of}
 use Rattle.pg_account.specs.Losses.{is_lost}
 use Rattle.pg_frame_world.specs.Worlds.{TimedFrameWorld}
+use Rattle.pg_frame_world.proofs.Counted.{sum_same}
 
 -- ---- no event but seeing a loss changes who is lost to a node
 
@@ -151,17 +153,31 @@ module _ (config : Config) (lost : List ℕ) (w v : TimedFrameWorld) (e : Event 
       reported = (leaves.reported ∙ sym does.reported) j;
     }
 
+    lifts : Happened (losing_frame_machine config) before e after
+    lifts = record {
+      there = h.there;
+      input = into h.input;
+      given = given_of e h.given;
+      turn = turn;
+      made = made_into config (node_of e) (w.node (node_of e)) h.input ∙ ap (option_map (mapped_turn sent_packet)) h.made;
+      leaves = left_is;
+    }
+
+    -- it does the same there
+    pub same_effect : effect_in (losing_frame_machine config) before e ≡ effect_in (frame_machine config) w e
+    unfolding lifts
+    same_effect =
+        ap (option_map (effect_of (length config))) (turn_made (losing_frame_machine config) before after e lifts)
+        ∙ (ap Some (λ j. record { sent = as_many j; began = op_of h.turn.reported.began; odd = h.turn.reported.odd })
+        ∙ sym (ap (option_map (effect_of (length config))) (turn_made (frame_machine config) w v e h)))
+      where
+        as_many : sum_below (length config) (λ y. length (map sent_packet (h.turn.sends y))) ≡ sum_below (length config) (λ y. length (h.turn.sends y))
+        as_many = sum_same (length config) (λ y. length (map sent_packet (h.turn.sends y))) (λ y. length (h.turn.sends y)) (λ y l. length-map (h.turn.sends y) sent_packet)
+
     -- the event happens there, too
     pub lifted : losing_happens (losing_frame_machine config) last_notice (losing_of config w lost) (Step e) ≡ Some (losing_of config v lost)
     unfolding losing_happens
     lifted =
         ap (λ b. cond b None (option_map (λ (u : LossyWorld). record { world = u; gone = is_lost lost }) (happens (losing_frame_machine config) before e))) stays
         ∙ ap (option_map (λ (u : LossyWorld). record { world = u; gone = is_lost lost }))
-        (happens_so (losing_frame_machine config) before after e (record {
-          there = h.there;
-          input = into h.input;
-          given = given_of e h.given;
-          turn = turn;
-          made = made_into config (node_of e) (w.node (node_of e)) h.input ∙ ap (option_map (mapped_turn sent_packet)) h.made;
-          leaves = left_is;
-        }))
+        (happens_so (losing_frame_machine config) before after e lifts)

@@ -34,7 +34,7 @@ place_low i y l = ap (λ b. cond b y (y - 1)) (lt-ltb y i l)
 pub place_high : (i y : ℕ) → i ≤ y → peer_place i y ≡ y - 1
 place_high i y l = ap (λ b. cond b y (y - 1)) (lt_false y i l)
 
-low_or_high : (a b : ℕ) → (a < b) ⊎ (b ≤ a)
+pub low_or_high : (a b : ℕ) → (a < b) ⊎ (b ≤ a)
 low_or_high a b = go (nat_lt a b) refl
   where
     go : (t : Bool) → nat_lt a b ≡ t → (a < b) ⊎ (b ≤ a)

@@ -18,9 +18,11 @@ use Rattle.pg_node_state.specs.declared.state.done.Done.{Done}
 use Rattle.pg_node_state.specs.declared.state.fault.NodeFault.{NodeFault}
 use Rattle.pg_node_state.specs.States.{Comes}
 use Rattle.pg_node_state.specs.Sendable.{AreSendable}
+use Rattle.pg_frame_world.specs.declared.effect.Effect.{Effect}
 use Rattle.pg_frame_world.specs.declared.step.Stepped.TheVariants.{Happened, Nothing}
 use Rattle.pg_account.specs.Histories.{asked_by}
 use Rattle.pg_starts.specs.Seen.{Seen}
+use Rattle.pg_frame_world.specs.Effects.{effect_by}
 use Rattle.pg_frame_world.specs.Views.{Traffic, peer_place, on_the_way, first_of, packets_to}
 use Rattle.pg_frame_world.specs.Worlds.{ShowsTraffic, TimedFrameWorld, ComesTo}
 use Rattle.pg_frame_world.proofs.Peering.{peers_differ}
@@ -37,9 +39,9 @@ none_first [] e = refl
 none_first (x ∷ xs) e = absurd (cc)
 
 -- what came of an event says more of what it left
-comes_as : (config : Config) (w : TimedFrameWorld) (e : Event Action) (One Other : TimedFrameWorld → Type 0) → ((v : TimedFrameWorld) → One v → Other v)
-    → ComesTo config w e (Ok Happened) One → ComesTo config w e (Ok Happened) Other
-comes_as config w e One Other f comes = (comes.0, comes.1, f comes.0 comes.2)
+comes_as : (config : Config) (w : TimedFrameWorld) (e : Event Action) (effect : Effect) (One Other : TimedFrameWorld → Type 0) → ((v : TimedFrameWorld) → One v → Other v)
+    → ComesTo config w e (Ok (Happened effect)) One → ComesTo config w e (Ok (Happened effect)) Other
+comes_as config w e effect One Other f (did, (v, happened, one)) = (did, (v, happened, f v one))
 
 module _ (config : Config) (traffic traffic2 : Traffic) (w : TimedFrameWorld) (e : Event Action) (sends : List (ℕ × Packet)) (asked : Option Update) (began : Option (OpId × Update)) (shows : ShowsTraffic config traffic w)
     (sent : (k : ℕ) → way_at traffic2 (node_of e) k ≡ way_at traffic (node_of e) k ++ packets_to sends k)
@@ -65,9 +67,9 @@ module _ (config : Config) (traffic : Traffic) (w : TimedFrameWorld) (i : ℕ) (
       → AreSendable node.names done.sends.items → ((k : ℕ) → way_at traffic2 i k ≡ way_at traffic i k ++ packets_to done.sends.items k)
       → ((x : ℕ) → x ≢ i → (k : ℕ) → way_at traffic2 x k ≡ way_at traffic x k)
       → Comes node.names (step_act (whole_in node.names) node.ports action node.state) (Ok done) after.state node.answers after.answers
-      → ComesTo config w (Do i action) (Ok Happened) (λ v. ShowsTraffic config traffic2 v × Records w v i None done.began)
+      → ComesTo config w (Do i action) (Ok (Happened (effect_by done))) (λ v. ShowsTraffic config traffic2 v × Records w v i None done.began)
   own_happened traffic2 after done nodes names ports fits sent others comes =
-      comes_as config w (Do i action) _ _ (shown_so config traffic traffic2 w (Do i action) done.sends.items None done.began shows sent ways_so)
+      comes_as config w (Do i action) (effect_by done) _ _ (shown_so config traffic traffic2 w (Do i action) done.sends.items None done.began shows sent ways_so)
       (own_left config traffic.nodes w i action node shows.nodes here traffic2.nodes after done nodes names ports fits comes)
     where
       ways_so : (v : TimedFrameWorld) → Passes config (Do i action) done.sends.items w v → (x y : ℕ) → x ≢ i → is_pair (length config) x y ≡ true → v.wire x y ≡ on_the_way traffic2 x y
@@ -102,9 +104,9 @@ module _ (config : Config) (traffic : Traffic) (w : TimedFrameWorld) (i p : ℕ)
         → way_at traffic2 p (peer_place p i) ≡ drop 1 (way_at traffic p (peer_place p i))
         → ((a k : ℕ) → a ≢ i → ((a ≡ p) × (k ≡ peer_place p i) → ⊥) → way_at traffic2 a k ≡ way_at traffic a k)
         → Comes node.names (step_take (whole_in node.names) (place_name node.names (peer_place i p + 1)) x node.state) (Ok done) after.state node.answers after.answers
-        → ComesTo config w (Take i p) (Ok Happened) (λ v. ShowsTraffic config traffic2 v × Records w v i (asked_by x.packet) done.began)
+        → ComesTo config w (Take i p) (Ok (Happened (effect_by done))) (λ v. ShowsTraffic config traffic2 v × Records w v i (asked_by x.packet) done.began)
     take_happened traffic2 after done nodes names ports fits sent passed others comes =
-        comes_as config w (Take i p) _ _ (shown_so config traffic traffic2 w (Take i p) done.sends.items (asked_by x.packet) done.began shows sent ways_so)
+        comes_as config w (Take i p) (effect_by done) _ _ (shown_so config traffic traffic2 w (Take i p) done.sends.items (asked_by x.packet) done.began shows sent ways_so)
         (take_left config traffic.nodes w i p shows.nodes pair node here x (drop 1 (on_the_way traffic p i)) begins traffic2.nodes after done nodes names ports fits comes)
       where
         ways_so : (v : TimedFrameWorld) → Passes config (Take i p) done.sends.items w v → (a y : ℕ) → a ≢ i → is_pair (length config) a y ≡ true → v.wire a y ≡ on_the_way traffic2 a y

@@ -1,5 +1,5 @@
 -- What an event adds to the histories, and to what each node has applied.
-use Rattle.std.proofs.Common.{◌≡◌, ℕ, ◌+◌, Bool, true, false, cond, nat_eq, ◌&&◌, List, [], ◌∷◌, ◌++◌, Option, None, Ok, refl, ap, sym, ◌∙◌, inl, inr, arith}
+use Rattle.std.proofs.Common.{◌≡◌, ℕ, ◌+◌, Bool, true, false, cond, nat_eq, ◌&&◌, List, [], ◌∷◌, ◌++◌, Option, Some, None, Ok, refl, ap, sym, ◌∙◌, inl, inr, arith}
 use Rattle.std.proofs.lemmas.List.{append-nil}
 use Rattle.pg_term.specs.declared.term.Term.{Term}
 use Rattle.pg_group.specs.declared.update.Update.{Update}
@@ -10,6 +10,7 @@ use Rattle.pg_step.specs.Step.{Action}
 use Rattle.pg_step.specs.Turns.{Report}
 use Rattle.pg_history.specs.History.{Entry, entries, entry_of, history, of_group, applied_count}
 use Rattle.pg_history.proofs.steps.Grows.{entries_append, of_group_append}
+use Rattle.pg_frame_world.specs.declared.effect.Effect.{Effect}
 use Rattle.pg_frame_world.specs.declared.step.Stepped.TheVariants.{Happened}
 use Rattle.pg_account.specs.Histories.{begun_by, one_of}
 use Rattle.pg_frame_world.specs.Views.{View}
@@ -71,11 +72,11 @@ updates_after old new w v i asked began shows grew kept = record {
 }
 
 -- the whole is shown
-pub shows_all : (config : Config) (old new : View) (w : TimedFrameWorld) (e : Event Action) (i : ℕ) (asked : Option Update) (began : Option (OpId × Update)) → Shows config old w → Grew old.account new.account i asked began
-    → ComesTo config w e (Ok Happened) (λ v. ShowsTraffic config new.traffic v × Records w v i asked began) → ComesTo config w e (Ok Happened) (Shows config new)
-shows_all config old new w e i asked began shows grew comes =
-    let v = comes.0 in
-    (v, comes.1, record { traffic = comes.2.0; updates = updates_after old.account new.account w v i asked began shows.updates grew comes.2.1 })
+pub shows_all : (config : Config) (old new : View) (w : TimedFrameWorld) (e : Event Action) (i : ℕ) (asked : Option Update) (began : Option (OpId × Update)) (did effect : Effect) → effect ≡ did
+    → Shows config old w → Grew old.account new.account i asked began
+    → ComesTo config w e (Ok (Happened did)) (λ v. ShowsTraffic config new.traffic v × Records w v i asked began) → ComesTo config w e (Ok (Happened effect)) (Shows config new)
+shows_all config old new w e i asked began did effect same shows grew (made, (v, happened, both)) =
+    (made ∙ ap Some (sym same), (v, happened, record { traffic = both.0; updates = updates_after old.account new.account w v i asked began shows.updates grew both.1 }))
 
 -- ---- views
 

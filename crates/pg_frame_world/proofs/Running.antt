@@ -2,6 +2,7 @@
 use Rattle.std.proofs.Common.{◌≡◌, ℕ, ◌+◌, ◌<◌, List, [], ◌∷◌, ◌++◌, Ok, Err, Result, take, length, get_or, refl, sym, ap, ◌∙◌, inl, inr, subst}
 use Rattle.std.specs.Prelude.{slice_set, not, Bool, true, false, Some}
 use Rattle.std.specs.List.{IsDistinct, AllPass}
+use Rattle.std.specs.Option.{option_map_or}
 use Rattle.std.proofs.lemmas.List.{take_more, take_more_set}
 use Rattle.std.proofs.Math.Seq.{take-length}
 use Rattle.pg_machine.specs.Machine.{Event, Take, Do, happens, start_of}
@@ -23,10 +24,11 @@ use Rattle.pg_frame_world.specs.declared.step.FrameStep.TheVariants as frames
 use Rattle.pg_frame_world.specs.declared.step.Stepped.{Stepped}
 use Rattle.pg_frame_world.specs.declared.step.Stepped.TheVariants.{Happened, Moved, Nothing, Gone}
 use Rattle.pg_frame_world.specs.Worlds.{IsReached}
-use Rattle.pg_frame_world.specs.Losing.{lost_after}
+use Rattle.pg_frame_world.specs.Losing.{lost_after, losing_of, told_loss, told_of, LosingComesTo}
+use Rattle.pg_step.specs.LossLaws.{LosingFrameWorld}
 use Rattle.pg_frame_world.specs.Views.{View}
 use Rattle.pg_frame_world.specs.Worlds.{TimedFrameWorld, Shows, ComesTo, IsUnseen, StepComesTo, is_loss, event_of}
-use Rattle.pg_frame_world.specs.Runs.{Kind, over_packets, IsTold, IsPassed, SeesNone, number_told, StepsTo, RunsTo, GoesTo, Ran}
+use Rattle.pg_frame_world.specs.Runs.{Kind, over_packets, IsTold, IsPassed, IsUnlost, SeesNone, number_told, StepsTo, RunsTo, GoesTo, Ran}
 use Rattle.pg_frame_world.specs.Starts.{Orders}
 
 -- a step of some of which none is a loss is none
@@ -44,6 +46,20 @@ none_more (frames.Command i port c) result lost keeps = refl
 none_more (frames.Retry i op) result lost keeps = refl
 none_more (frames.SeeLoss i p) result lost keeps = refl
 none_more (frames.Lose i keep) result lost keeps = absurd (cc)
+
+-- who is lost is one at least
+pub one_at_least : (i : ℕ) (xs : List ℕ) → xs ++ i ∷ [] ≡ [] → ⊥
+one_at_least i [] e = absurd (cc)
+one_at_least i (x ∷ xs) e = absurd (cc)
+
+-- none was lost before a step behind which none is
+pub none_before : (step : FrameStep) (result : Result Stepped NodeFault) (lost : List ℕ) → lost_after step result lost ≡ [] → lost ≡ []
+none_before (frames.Take i p) result lost none = none
+none_before (frames.Command i port c) result lost none = none
+none_before (frames.Retry i op) result lost none = none
+none_before (frames.SeeLoss i p) result lost none = none
+none_before (frames.Lose i keep) (Ok stepped) lost none = absurd (one_at_least i lost none)
+none_before (frames.Lose i keep) (Err fault) lost none = none
 
 -- events that lead on from where others led
 leads_on : (config : Config) (es fs : List (Event Action)) (w u v : TimedFrameWorld) → Leads (frame_machine config) w es u → Leads (frame_machine config) u fs v → Leads (frame_machine config) w (es ++ fs) v
@@ -129,7 +145,7 @@ module _ (config : Config) (w : TimedFrameWorld) (old new : View) where
   module _ (step : FrameStep) (e : Event Action) (is : event_of step ≡ Some e) (passes : (number : ℕ) → IsTold config w e number → IsPassed config w step number) where
     event_so : (result : Result Stepped NodeFault) (stepped : Stepped) → result ≡ Ok stepped → Shows config old w
         → ComesTo config w e result (Shows config new) → (result ≡ Ok Nothing → new ≡ old) → StepsTo over_packets config w step 0 (Shows config new)
-    event_so (Ok Happened) stepped r shows (v, happened, shown) nothing = inl (record { listed = refl; e = e; is = is; left = v; happened = happened; rest = shown })
+    event_so (Ok (Happened effect)) stepped r shows (did, (v, happened, shown)) nothing = inl (record { listed = refl; e = e; is = is; left = v; happened = happened; rest = shown })
     event_so (Ok Nothing) stepped r shows comes nothing =
         inr (passes 0 (inl (sym (ap number_told comes))), subst (λ (view : View). Shows config view w) (sym (nothing refl)) shows)
     event_so (Ok (Moved count)) stepped r shows comes nothing = absurd comes
@@ -162,22 +178,36 @@ module _ (config : Config) (w : TimedFrameWorld) (old new : View) where
   unseen_number pair (Err TooLong) fault r unseen = absurd unseen
   unseen_number pair (Err Damaged) fault r unseen = absurd unseen
 
-  pub happened_so : (step : FrameStep) → is_loss step ≡ false → (result : Result Stepped NodeFault) (stepped : Stepped) → result ≡ Ok stepped → Shows config old w
-      → StepComesTo config w step result (Shows config new) → (result ≡ Ok Nothing → new ≡ old) → StepsTo over_packets config w step 0 (Shows config new)
-  happened_so (frames.Take i p) keeps = event_so (frames.Take i p) (Take i p) refl (λ number told. told)
-  happened_so (frames.Command i port c) keeps = event_so (frames.Command i port c) (Do i (Issue port c)) refl (λ number told. told)
-  happened_so (frames.Retry i op) keeps = event_so (frames.Retry i op) (Do i (Retry op)) refl (λ number told. told)
-  happened_so (frames.SeeLoss i p) keeps = λ result stepped r shows comes nothing. absurd (unseen_never (is_pair (length config) i p) result stepped r comes)
-  happened_so (frames.Lose i keep) keeps = absurd (cc)
+  -- a loss is refused as is told
+  unlost_so : (i : ℕ) (keep : List ℕ) (Shown : LosingFrameWorld → Type 0) (result : Result Stepped NodeFault) (fault : NodeFault) → result ≡ Err fault
+      → LosingComesTo config (losing_of config w []) (told_loss config (losing_of config w []) i keep) result Shown → IsUnlost config w i keep (node_number_of fault)
+  unlost_so i keep Shown (Ok stepped) fault r comes = absurd (cc)
+  unlost_so i keep Shown (Err OutOfMemory) fault r comes = let one : OutOfMemory ≡ fault = cc in inr (ap node_number_of (sym one))
+  unlost_so i keep Shown (Err (Refused refusal)) fault r (is, shown) =
+      let one : Refused refusal ≡ fault = cc in inl (ap node_number_of (sym one) ∙ sym (ap (λ o. option_map_or refusal_number_of o 10) is))
+  unlost_so i keep Shown (Err (BadMessage m)) fault r comes = absurd comes
+  unlost_so i keep Shown (Err TooLong) fault r comes = absurd comes
+  unlost_so i keep Shown (Err Damaged) fault r comes = absurd comes
 
-  pub refused_so : (step : FrameStep) → is_loss step ≡ false → (result : Result Stepped NodeFault) (fault : NodeFault) → result ≡ Err fault → Shows config old w
-      → StepComesTo config w step result (Shows config new) → new ≡ old → StepsTo over_packets config w step (node_number_of fault) (Shows config new)
-  refused_so (frames.Take i p) keeps = event_refused (frames.Take i p) (Take i p) refl (λ number told. told)
-  refused_so (frames.Command i port c) keeps = event_refused (frames.Command i port c) (Do i (Issue port c)) refl (λ number told. told)
-  refused_so (frames.Retry i op) keeps = event_refused (frames.Retry i op) (Do i (Retry op)) refl (λ number told. told)
-  refused_so (frames.SeeLoss i p) keeps = λ result fault r shows comes same.
+  pub happened_so : (step : FrameStep) (lost : List ℕ) (result : Result Stepped NodeFault) (stepped : Stepped) → result ≡ Ok stepped → lost_after step result lost ≡ [] → Shows config old w
+      → StepComesTo config w step result (Shows config new) → (result ≡ Ok Nothing → new ≡ old) → StepsTo over_packets config w step 0 (Shows config new)
+  happened_so (frames.Take i p) lost result stepped r none = event_so (frames.Take i p) (Take i p) refl (λ number told. told) result stepped r
+  happened_so (frames.Command i port c) lost result stepped r none = event_so (frames.Command i port c) (Do i (Issue port c)) refl (λ number told. told) result stepped r
+  happened_so (frames.Retry i op) lost result stepped r none = event_so (frames.Retry i op) (Do i (Retry op)) refl (λ number told. told) result stepped r
+  happened_so (frames.SeeLoss i p) lost result stepped r none = λ shows comes nothing. absurd (unseen_never (is_pair (length config) i p) result stepped r comes)
+  happened_so (frames.Lose i keep) lost (Ok other) stepped r none = absurd (one_at_least i lost none)
+  happened_so (frames.Lose i keep) lost (Err fault) stepped r none = absurd (cc)
+
+  pub refused_so : (step : FrameStep) (result : Result Stepped NodeFault) (fault : NodeFault) → result ≡ Err fault → Shows config old w
+      → StepComesTo config w step result (Shows config new) → new ≡ old → (Shown : LosingFrameWorld → Type 0) → LosingComesTo config (losing_of config w []) (told_of config (losing_of config w []) step) result Shown
+      → StepsTo over_packets config w step (node_number_of fault) (Shows config new)
+  refused_so (frames.Take i p) result fault r shows comes same Shown losing = event_refused (frames.Take i p) (Take i p) refl (λ number told. told) result fault r shows comes same
+  refused_so (frames.Command i port c) result fault r shows comes same Shown losing = event_refused (frames.Command i port c) (Do i (Issue port c)) refl (λ number told. told) result fault r shows comes same
+  refused_so (frames.Retry i op) result fault r shows comes same Shown losing = event_refused (frames.Retry i op) (Do i (Retry op)) refl (λ number told. told) result fault r shows comes same
+  refused_so (frames.SeeLoss i p) result fault r shows comes same Shown losing =
       inr (unseen_number (is_pair (length config) i p) result fault r comes, subst (λ (view : View). Shows config view w) (sym same) shows)
-  refused_so (frames.Lose i keep) keeps = absurd (cc)
+  refused_so (frames.Lose i keep) result fault r shows comes same Shown losing =
+      inr (unlost_so i keep.items Shown result fault r losing, subst (λ (view : View). Shows config view w) (sym same) shows)
 
 -- a run from the start of a configuration, where one history is known of each world
 pub ran_so : {S : Type 0} (kind : Kind S) (given : Config) (Before Shown : Config → TimedFrameWorld → Type 0) (steps : List S) (numbers : List ℕ)

@@ -23,8 +23,10 @@ use Rattle.pg_node_state.specs.declared.state.fault.NodeFault.{NodeFault}
 use Rattle.pg_node_state.specs.declared.state.fault.NodeFault.TheVariants.{Refused, OutOfMemory, Message as BadMessage, TooLong, Damaged}
 use Rattle.pg_node_state.specs.declared.state.NodeState.{NodeState}
 use Rattle.pg_node_state.specs.States.{names_of as names_of_state, Comes, Happens, step_see_loss}
+use Rattle.pg_frame_world.specs.declared.effect.Effect.{Effect}
 use Rattle.pg_frame_world.specs.declared.outgoing.Outgoing.{Outgoing}
 use Rattle.pg_frame_world.specs.declared.step.Stepped.TheVariants.{Happened}
+use Rattle.pg_frame_world.specs.Effects.{no_effect}
 use Rattle.pg_frame_world.specs.Losing.{SeenAreLost, notices, losing_of, is_cut_off, told_sight, ShowsLosing, LosingComesTo}
 use Rattle.pg_account.specs.Losses.{is_lost}
 use Rattle.pg_starts.specs.Seen.{Seen, seen_of}
@@ -32,7 +34,7 @@ use Rattle.pg_frame_world.specs.Views.{View, IsWhole, ways_of, traffic_in, peer_
 use Rattle.pg_frame_world.specs.Worlds.{TimedFrameWorld, ShowsNode, ShowsNodes}
 use Rattle.pg_frame_world.proofs.Barred.{cut_is, pair_here}
 use Rattle.pg_frame_world.proofs.Peering.{peer_name, named, there_and_back}
-use Rattle.pg_frame_world.proofs.Sighted.{sight, sight_clock, sighted, same_wire, seen_then, sight_happens, nodes_sighted, updates_sighted}
+use Rattle.pg_frame_world.proofs.Sighted.{sight, sight_clock, sighted, same_wire, seen_then, sight_effect, sight_happens, nodes_sighted, updates_sighted}
 use Rattle.pg_frame_world.proofs.Turning.{pair_is, pair_turned}
 use Rattle.pg_frame_world.proofs.Viewing.{whole_node}
 
@@ -141,15 +143,16 @@ module _ (config : Config) (nodes : List Seen) (w : TimedFrameWorld) (i p : ℕ)
       pub sight_seen : (done : Done) (s : Timed State) (before after : ℕ → List Answer)
           → (Happens node.names turn done s before after → Shown (losing_of config (sighted config w lost i p there) lost))
           → Comes node.names (step_see_loss (place_name node.names (peer_place i p + 1)) last node.state) (Ok done) s before after
-          → LosingComesTo config u (told_sight config u i p) (Ok Happened) Shown
+          → LosingComesTo config u (told_sight config u i p) (Ok (Happened no_effect)) Shown
       sight_seen done s before after then comes = go (nat_le (sight_clock w i p) CLOCK_LIMIT) refl (λ b e. subst (λ r. Comes node.names r (Ok done) s before after) (told b e) comes)
         where
           go : (b : Bool) → nat_le (sight_clock w i p) CLOCK_LIMIT ≡ b
               → ((c : Bool) → nat_le (sight_clock w i p) CLOCK_LIMIT ≡ c → Comes node.names (cond c (Ok turn) (Err ClockFull)) (Ok done) s before after)
-              → LosingComesTo config u (told_sight config u i p) (Ok Happened) Shown
+              → LosingComesTo config u (told_sight config u i p) (Ok (Happened no_effect)) Shown
           go true e h = (
             refl,
             refl,
+            sight_effect config w lost i p there shows.apart turned stays gone unseen none_coming e,
             (losing_of config (sighted config w lost i p there) lost, sight_happens config w lost i p there shows.apart turned stays gone unseen none_coming e, then (h true e)),
           )
           go false e h = let no = h false e in absurd (cc)
@@ -186,9 +189,11 @@ module _ (config : Config) (old new : View) (u : LosingFrameWorld) (i p : ℕ) (
     pub packets_sight_seen : (after : Seen) (done : Done) → new.traffic.nodes ≡ slice_set old.traffic.nodes i after → after.names ≡ node.names → after.ports ≡ node.ports
         → ((x y : ℕ) → on_the_way new.traffic x y ≡ on_the_way old.traffic x y) → new.account ≡ old.account
         → Comes node.names (step_see_loss (place_name node.names (peer_place i p + 1)) last node.state) (Ok done) after.state node.answers after.answers
-        → LosingComesTo config u (told_sight config u i p) (Ok Happened) (ShowsLosing config new lost2)
-    packets_sight_seen after done set names ports ways account comes = subst (λ (x : LosingFrameWorld). LosingComesTo config x (told_sight config x i p) (Ok Happened) (ShowsLosing config new lost2)) (sym shows.is)
-        (sight_seen config old.traffic.nodes w i p lost shows.shows.traffic.nodes shows.seen pair lives gone (way_is ∙ drained) node at last clock (ShowsLosing config new lost2) done after.state node.answers after.answers seen_so comes)
+        → (effect : Effect) → effect ≡ no_effect → LosingComesTo config u (told_sight config u i p) (Ok (Happened effect)) (ShowsLosing config new lost2)
+    packets_sight_seen after done set names ports ways account comes effect none =
+        subst (λ e. LosingComesTo config u (told_sight config u i p) (Ok (Happened e)) (ShowsLosing config new lost2)) (sym none)
+        (subst (λ (x : LosingFrameWorld). LosingComesTo config x (told_sight config x i p) (Ok (Happened no_effect)) (ShowsLosing config new lost2)) (sym shows.is)
+        (sight_seen config old.traffic.nodes w i p lost shows.shows.traffic.nodes shows.seen pair lives gone (way_is ∙ drained) node at last clock (ShowsLosing config new lost2) done after.state node.answers after.answers seen_so comes))
       where
         here : is_pair (length config) i p ≡ true
         here = there config old.traffic.nodes w i p lost shows.shows.traffic.nodes shows.seen pair lives

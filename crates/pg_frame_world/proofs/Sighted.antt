@@ -10,10 +10,10 @@ use Rattle.pg_group.specs.Functions.{upd}
 use Rattle.pg_message.specs.declared.message.Message.{Message}
 use Rattle.pg_machine.specs.Places.{is_place, is_pair}
 use Rattle.pg_machine.specs.Machine.{Event, Turn, World, Take, Do, Taken, Own, first_from, without_input, perform, happens}
-use Rattle.pg_machine.specs.Happened.{Changes}
+use Rattle.pg_machine.specs.Happened.{Changes, Happened}
 use Rattle.pg_machine.specs.Clocked.{Timed, Stamped, stamped, timed_turn, timed as timed_if}
 use Rattle.pg_machine.specs.Losing.{Noticed, Sent, Step, losing_happens, mapped_turn}
-use Rattle.pg_machine.proofs.Steps.{turn_changes, happens_so}
+use Rattle.pg_machine.proofs.Steps.{turn_changes, turn_made, happens_so}
 use Rattle.pg_step.specs.Config.{Config, names_of, name_at}
 use Rattle.pg_step.specs.FrameMachine.{losing_frame_machine, last_notice, sent_packet, place_turn}
 use Rattle.pg_step.specs.Losses.{see_loss}
@@ -25,11 +25,13 @@ use Rattle.pg_step.specs.Turns.{Report, NodeTurn}
 use Rattle.pg_opens.proofs.Named.{atom_self, names_differ}
 use Rattle.pg_node_state.specs.declared.state.done.Done.{Done}
 use Rattle.pg_node_state.specs.States.{Happens}
+use Rattle.pg_frame_world.specs.Effects.{sum_below, effect_of, losing_effect_in, no_effect}
 use Rattle.pg_frame_world.specs.Losing.{SeenAreLost, notices, losing_of}
 use Rattle.pg_account.specs.Losses.{is_lost}
 use Rattle.pg_starts.specs.Seen.{Seen}
 use Rattle.pg_account.specs.Histories.{Account}
 use Rattle.pg_frame_world.specs.Worlds.{TimedFrameWorld, ShowsNodes, ShowsUpdates}
+use Rattle.pg_frame_world.proofs.Counted.{sum_none}
 use Rattle.pg_frame_world.proofs.Lossy.{no_notice}
 use Rattle.pg_frame_world.proofs.Peering.{named}
 use Rattle.pg_frame_world.proofs.Recording.{Records, records_so, updates_after, grew_own, none_of}
@@ -220,12 +222,24 @@ module _ (config : Config) (w : TimedFrameWorld) (lost : List ℕ) (i p : ℕ) (
         reported = (leaves.reported ∙ sym does.reported) j;
       }
 
+      sees : Happened {C = Action} (losing_frame_machine config) before (Take i p) after
+      sees = record { there = pair; input = Taken p notice; given = given; turn = seeing; made = made; leaves = left_is }
+
+      -- nothing is sent or reported
+      pub sight_effect : losing_effect_in config (losing_of config w lost) (Step (Take i p)) ≡ Some no_effect
+      unfolding sees
+      sight_effect = ap (option_map (effect_of (length config))) (turn_made (losing_frame_machine config) before after (Take i p) sees)
+          ∙ ap Some (λ j. record { sent = none_counted j; began = None; odd = None })
+        where
+          none_counted : sum_below (length config) (λ y. length (seeing.sends y)) ≡ 0
+          none_counted = sum_none (length config) (λ y. length (seeing.sends y)) (λ y. ap length (none_sent_out y))
+
       pub sight_happens : losing_happens (losing_frame_machine config) last_notice (losing_of config w lost) (Step (Take i p)) ≡ Some (losing_of config sighted lost)
       unfolding losing_happens
       sight_happens =
           ap (λ b. cond b None (option_map (λ (u : LossyWorld). record { world = u; gone = is_lost lost }) (happens (losing_frame_machine config) before (Take i p)))) stays
           ∙ ap (option_map (λ (u : LossyWorld). record { world = u; gone = is_lost lost }))
-          (happens_so (losing_frame_machine config) before after (Take i p) (record { there = pair; input = Taken p notice; given = given; turn = seeing; made = made; leaves = left_is }))
+          (happens_so (losing_frame_machine config) before after (Take i p) sees)
 
   -- ---- what is shown
 

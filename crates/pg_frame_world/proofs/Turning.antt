@@ -1,18 +1,18 @@
 -- What a world shows of its nodes once one of them has made a turn, and what it leaves on the way.
 use Rattle.std.proofs.Common.{◌≡◌, ◌≢◌, ℕ, zero, suc, ◌+◌, ◌<◌, Bool, true, false, not, ◌&&◌, cond, nat_eq, nat_lt, get_or, length, List, [], ◌∷◌, ◌++◌, Option, Some, None, Result, Ok, Err, refl, sym, ap, ◌∙◌, inl, inr, ◌⊎◌, arith, subst}
-use Rattle.std.specs.Prelude.{slice_get, slice_set, max}
+use Rattle.std.specs.Prelude.{slice_get, slice_set, max, option_map}
 use Rattle.std.proofs.lemmas.Bool.{cases_eq, eq-eqb, ne_eqb, lt-ltb, ltb-true}
 use Rattle.std.proofs.lemmas.Option.{slice_get_within}
 use Rattle.std.proofs.lemmas.List.{length-set}
 use Rattle.pg_message.specs.declared.message.Message.{Message}
 use Rattle.pg_machine.specs.Places.{is_place, is_pair}
 use Rattle.pg_machine.specs.Machine.{Event, Turn, Take, Do, Taken, Own, node_of, first_from, input_of, without_input, perform}
-use Rattle.pg_machine.specs.Happened.{Changes, Takes}
+use Rattle.pg_machine.specs.Happened.{Changes, Takes, Happened as HasTurned}
 use Rattle.pg_group.specs.declared.update.Update.{Update}
 use Rattle.pg_message.specs.declared.packet.Packet.{Packet}
 use Rattle.pg_step.specs.declared.command.OpId.{OpId}
 use Rattle.pg_machine.specs.Clocked.{Timed, Stamped}
-use Rattle.pg_machine.proofs.Steps.{turn_changes, happens_so}
+use Rattle.pg_machine.proofs.Steps.{turn_changes, turn_made, happens_so}
 use Rattle.pg_step.specs.Config.{Config, names_of, name_at, nodes_at, ports_at}
 use Rattle.pg_step.specs.FrameMachine.{frame_machine}
 use Rattle.pg_step.specs.Nodes.{Node, all_of}
@@ -33,9 +33,11 @@ use Rattle.pg_frame_world.specs.declared.step.Stepped.TheVariants.{Happened as H
 use Rattle.pg_node_state.specs.States.{sends_in, Gave, Happens, Comes}
 use Rattle.pg_node_state.specs.Sendable.{AreSendable}
 use Rattle.pg_starts.specs.Seen.{Seen}
+use Rattle.pg_frame_world.specs.Effects.{sum_below, op_of, effect_of, effect_by}
 use Rattle.pg_frame_world.specs.Views.{Traffic, peer_place, packets_to}
 use Rattle.pg_frame_world.specs.Worlds.{AreAnswers, ShowsNodes, ShowsNode, TimedFrameWorld, told, told_of_first, ComesTo}
-use Rattle.pg_frame_world.proofs.Peering.{peer_name, named, there_and_back, sent_to, sent_home}
+use Rattle.pg_frame_world.proofs.Counted.{sum_same, count_to, count_all}
+use Rattle.pg_frame_world.proofs.Peering.{peer_name, named, known, there_and_back, sent_to, sent_home}
 use Rattle.pg_account.specs.Histories.{asked_by}
 use Rattle.pg_frame_world.proofs.Applying.{take_applies, act_applies}
 use Rattle.pg_frame_world.proofs.Recording.{Records, records_so}
@@ -69,6 +71,13 @@ pair_is size x y e = go (nat_lt x size) (nat_lt y size) (nat_eq x y) (ltb-true x
 
 pub is_pair_so : (size x y : ℕ) → x < size → y < size → y ≢ x → is_pair size x y ≡ true
 is_pair_so size x y a b n = (λ j. lt-ltb x size a j && (lt-ltb y size b j && not (ne_eqb x y (λ e. n (sym e)) j)))
+
+no_pair : (size x : ℕ) → is_pair size x x ≡ false
+no_pair size x = ap (λ b. nat_lt x size && (nat_lt x size && not b)) (eq-eqb x x refl) ∙ go (nat_lt x size)
+  where
+    go : (b : Bool) → (b && (b && false)) ≡ false
+    go true = refl
+    go false = refl
 
 pub pair_turned : (size x y : ℕ) → is_pair size x y ≡ true → is_pair size y x ≡ true
 pair_turned size x y e = let p = pair_is size x y e in is_pair_so size y x p.1 p.0 (λ d. p.2 (sym d))
@@ -170,6 +179,24 @@ module _ (config : Config) (nodes nodes2 : List Seen) (w : TimedFrameWorld) (e :
             ∙ sent_home config (node_of e) within shows.apart done.sends.items fits.each)
         go true h (inr n) = let both : true ≡ false = sym (is_pair_so (length config) (node_of e) y within (h refl) n) ∙ none in absurd (cc)
 
+    -- it did what is told in short
+    counted_at : (y : ℕ) → y < length config → length (turn.sends y) ≡ count_to (node_of e) done.sends.items y
+    counted_at y l = go (cases_eq y (node_of e))
+      where
+        nothing_here : turn.sends (node_of e) ≡ []
+        nothing_here = sends_nowhere (node_of e) (no_pair (length config) (node_of e))
+
+        go : (y ≡ node_of e) ⊎ (y ≢ node_of e) → length (turn.sends y) ≡ count_to (node_of e) done.sends.items y
+        go (inl d) = ap (λ k. length (turn.sends k)) d ∙ (ap length nothing_here ∙ sym (ap (λ b. cond b 0 (length (packets_to done.sends.items (peer_place (node_of e) y)))) (eq-eqb y (node_of e) d)))
+        go (inr n) = ap length (sends_there y l n) ∙ sym (ap (λ b. cond b 0 (length (packets_to done.sends.items (peer_place (node_of e) y)))) (ne_eqb y (node_of e) n))
+
+    counted : sum_below (length config) (λ y. length (turn.sends y)) ≡ length done.sends.items
+    counted = sum_same (length config) (λ y. length (turn.sends y)) (count_to (node_of e) done.sends.items) counted_at
+        ∙ count_all (node_of e) (length config) within (all_of (nodes_at config (node_of e))) (known config (node_of e) within) done.sends.items fits.each
+
+    pub did : effect_of (length config) turn ≡ effect_by done
+    did = λ j. record { sent = counted j; began = op_of (sym turned.happened.told.began j); odd = sym turned.happened.told.odd j }
+
     module _ (v : TimedFrameWorld) (changes : Changes e turn w v) where
       -- what is on the way from the node
       own_way : (y : ℕ) → is_pair (length config) (node_of e) y ≡ true → v.wire (node_of e) y ≡ w.wire (node_of e) y ++ packets_to done.sends.items (peer_place (node_of e) y)
@@ -225,7 +252,7 @@ module _ (config : Config) (nodes : List Seen) (w : TimedFrameWorld) (i : ℕ) (
   module _ (nodes2 : List Seen) (after : Seen) (done : Done) (set : nodes2 ≡ slice_set nodes i after) (names : after.names ≡ node.names) (ports : after.ports ≡ node.ports)
       (fits : AreSendable node.names done.sends.items) where
     own_so : (t : TimedTurn) → step_act (whole_in node.names) node.ports action node.state ≡ Ok t → Happens node.names t done after.state node.answers after.answers
-        → ComesTo config w (Do i action) (Ok HasHappened) (Left config nodes2 (Do i action) done.sends.items None done.began w)
+        → ComesTo config w (Do i action) (Ok (HasHappened (effect_by done))) (Left config nodes2 (Do i action) done.sends.items None done.began w)
     own_so t is happened =
         let turn = place_timed config t in
         let v = perform (without_input w (Do i action)) i turn in
@@ -233,23 +260,27 @@ module _ (config : Config) (nodes : List Seen) (w : TimedFrameWorld) (i : ℕ) (
         same_step config ((w.node i).clock + 1) (node_acts (nodes_at config i) (ports_at config i) action (w.node i).state) ∙ ap (timed_placed config) (sym own_told ∙ is) in
         let changes : Changes (Do i action) turn w v = turn_changes (length config) w (Do i action) (Own action) turn its_place refl in
         let turned : Turned nodes nodes2 i node after t done =
-        record { here = here; set = set; names = names; ports = ports; happened = happened } in (
-          v,
-          happens_so (frame_machine config) w v (Do i action) (record { there = its_place; input = Own action; given = refl; turn = turn; made = made; leaves = refl }),
-          record {
-            nodes = shown_after config nodes nodes2 w (Do i action) node after t done shows turned fits v changes (λ x y none never. never);
-            ways = ways_after config nodes nodes2 w (Do i action) node after t done shows turned fits v changes;
-            records = records_so w v i None t.reported done.began refl happened.told.began (act_applies (whole_in node.names) node.ports action node.state t is);
-          },
+        record { here = here; set = set; names = names; ports = ports; happened = happened } in
+        let so : HasTurned (frame_machine config) w (Do i action) v = record { there = its_place; input = Own action; given = refl; turn = turn; made = made; leaves = refl } in (
+          ap (option_map (effect_of (length config))) (turn_made (frame_machine config) w v (Do i action) so) ∙ ap Some (did config nodes nodes2 w (Do i action) node after t done shows turned fits),
+          (
+            v,
+            happens_so (frame_machine config) w v (Do i action) so,
+            record {
+              nodes = shown_after config nodes nodes2 w (Do i action) node after t done shows turned fits v changes (λ x y none never. never);
+              ways = ways_after config nodes nodes2 w (Do i action) node after t done shows turned fits v changes;
+              records = records_so w v i None t.reported done.began refl happened.told.began (act_applies (whole_in node.names) node.ports action node.state t is);
+            },
+          ),
         )
 
     -- it happened
     pub own_left : Comes node.names (step_act (whole_in node.names) node.ports action node.state) (Ok done) after.state node.answers after.answers
-        → ComesTo config w (Do i action) (Ok HasHappened) (Left config nodes2 (Do i action) done.sends.items None done.began w)
+        → ComesTo config w (Do i action) (Ok (HasHappened (effect_by done))) (Left config nodes2 (Do i action) done.sends.items None done.began w)
     own_left comes = go (step_act (whole_in node.names) node.ports action node.state) refl comes
       where
         go : (r : Result TimedTurn Refusal) → step_act (whole_in node.names) node.ports action node.state ≡ r
-            → Comes node.names r (Ok done) after.state node.answers after.answers → ComesTo config w (Do i action) (Ok HasHappened) (Left config nodes2 (Do i action) done.sends.items None done.began w)
+            → Comes node.names r (Ok done) after.state node.answers after.answers → ComesTo config w (Do i action) (Ok (HasHappened (effect_by done))) (Left config nodes2 (Do i action) done.sends.items None done.began w)
         go (Ok t) is h = own_so t is h
         go (Err refusal) is h = absurd (cc)
 
@@ -305,7 +336,7 @@ module _ (config : Config) (nodes : List Seen) (w : TimedFrameWorld) (i p : ℕ)
     module _ (nodes2 : List Seen) (after : Seen) (done : Done) (set : nodes2 ≡ slice_set nodes i after) (names : after.names ≡ node.names) (ports : after.ports ≡ node.ports)
         (fits : AreSendable node.names done.sends.items) where
       take_so : (t : TimedTurn) → step_take (whole_in node.names) (place_name node.names (peer_place i p + 1)) x node.state ≡ Ok t
-          → Happens node.names t done after.state node.answers after.answers → ComesTo config w (Take i p) (Ok HasHappened) (Left config nodes2 (Take i p) done.sends.items (asked_by x.packet) done.began w)
+          → Happens node.names t done after.state node.answers after.answers → ComesTo config w (Take i p) (Ok (HasHappened (effect_by done))) (Left config nodes2 (Take i p) done.sends.items (asked_by x.packet) done.began w)
       take_so t is happened =
           let turn = place_timed config t in
           let v = perform (without_input {C = Action} w (Take i p)) i turn in
@@ -314,14 +345,18 @@ module _ (config : Config) (nodes : List Seen) (w : TimedFrameWorld) (i p : ℕ)
           let given : input_of w (Take i p) ≡ Some (Taken p x) = ap (first_from p) begins in
           let changes : Changes (Take i p) turn w v = turn_changes (length config) w (Take i p) (Taken p x) turn pair_there given in
           let turned : Turned nodes nodes2 i node after t done =
-          record { here = here; set = set; names = names; ports = ports; happened = happened } in (
-            v,
-            happens_so (frame_machine config) w v (Take i p) (record { there = pair_there; input = Taken p x; given = given; turn = turn; made = made; leaves = refl }),
-            record {
-              nodes = shown_after config nodes nodes2 w (Take i p) node after t done shows turned fits v changes nowhere_taken;
-              ways = ways_after config nodes nodes2 w (Take i p) node after t done shows turned fits v changes;
-              records = records_so w v i (asked_by x.packet) t.reported done.began refl happened.told.began (take_applies (whole_in node.names) (place_name node.names (peer_place i p + 1)) x node.state t is);
-            },
+          record { here = here; set = set; names = names; ports = ports; happened = happened } in
+          let so : HasTurned (frame_machine config) w (Take i p) v = record { there = pair_there; input = Taken p x; given = given; turn = turn; made = made; leaves = refl } in (
+            ap (option_map (effect_of (length config))) (turn_made (frame_machine config) w v (Take i p) so) ∙ ap Some (did config nodes nodes2 w (Take i p) node after t done shows turned fits),
+            (
+              v,
+              happens_so (frame_machine config) w v (Take i p) so,
+              record {
+                nodes = shown_after config nodes nodes2 w (Take i p) node after t done shows turned fits v changes nowhere_taken;
+                ways = ways_after config nodes nodes2 w (Take i p) node after t done shows turned fits v changes;
+                records = records_so w v i (asked_by x.packet) t.reported done.began refl happened.told.began (take_applies (whole_in node.names) (place_name node.names (peer_place i p + 1)) x node.state t is);
+              },
+            ),
           )
         where
           nowhere_taken : (a y : ℕ) → is_pair (length config) a y ≡ false → (p ≡ a) × (i ≡ y) → ⊥
@@ -329,10 +364,10 @@ module _ (config : Config) (nodes : List Seen) (w : TimedFrameWorld) (i p : ℕ)
 
       -- it happened
       pub take_left : Comes node.names (step_take (whole_in node.names) (place_name node.names (peer_place i p + 1)) x node.state) (Ok done) after.state node.answers after.answers
-          → ComesTo config w (Take i p) (Ok HasHappened) (Left config nodes2 (Take i p) done.sends.items (asked_by x.packet) done.began w)
+          → ComesTo config w (Take i p) (Ok (HasHappened (effect_by done))) (Left config nodes2 (Take i p) done.sends.items (asked_by x.packet) done.began w)
       take_left comes = go (step_take (whole_in node.names) (place_name node.names (peer_place i p + 1)) x node.state) refl comes
         where
           go : (r : Result TimedTurn Refusal) → step_take (whole_in node.names) (place_name node.names (peer_place i p + 1)) x node.state ≡ r
-              → Comes node.names r (Ok done) after.state node.answers after.answers → ComesTo config w (Take i p) (Ok HasHappened) (Left config nodes2 (Take i p) done.sends.items (asked_by x.packet) done.began w)
+              → Comes node.names r (Ok done) after.state node.answers after.answers → ComesTo config w (Take i p) (Ok (HasHappened (effect_by done))) (Left config nodes2 (Take i p) done.sends.items (asked_by x.packet) done.began w)
           go (Ok t) is h = take_so t is h
           go (Err refusal) is h = absurd (cc)

@@ -1,4 +1,5 @@
 pub mod Alike
+pub mod Effects
 pub mod Fitting
 pub mod FrameWorlds
 pub mod Losing

@@ -28,6 +28,7 @@ use Rattle.pg_frame_world.specs.declared.step.Stepped.TheVariants.{Nothing, Happ
 use Rattle.pg_frame_world.specs.declared.world.FrameNodes.{FrameNodes}
 use Rattle.pg_account.specs.Losses.{is_lost, lost_in}
 use Rattle.pg_starts.specs.Seen.{Seen}
+use Rattle.pg_frame_world.specs.Effects.{losing_effect_in}
 use Rattle.pg_frame_world.specs.Views.{View, peer_place}
 use Rattle.pg_frame_world.specs.Worlds.{TimedFrameWorld, Shows}
 use Rattle.pg_loss.specs.Reached.{LosingReaches}
@@ -173,10 +174,10 @@ told_of config u (steps.Lose i keep) = told_loss config u i keep.items
 abbrev pub LosingLed : Config → LosingFrameWorld → LosingEvent Action → (LosingFrameWorld → Type 0) → Type 0
 LosingLed config u e Shown = (v : LosingFrameWorld) × (losing_happens (losing_frame_machine config) last_notice u e ≡ Some v) × Shown v
 
--- What came of a step in the world u: it happened, with a packet on the way if it takes one, and led to a world that is shown; nothing
--- was on the way; or memory ran out, or it was refused as is told, and the world u is shown.
+-- What came of a step in the world u: it happened, with a packet on the way if it takes one, did what is reported, and led to a world
+-- that is shown; nothing was on the way; or memory ran out, or it was refused as is told, and the world u is shown.
 abbrev pub LosingComesTo : Config → LosingFrameWorld → Telling → Result Stepped NodeFault → (LosingFrameWorld → Type 0) → Type 0
-LosingComesTo config u told (Ok Happened) Shown = (told.is_loss ≡ false) × (told.is_idle ≡ false) × LosingLed config u told.event Shown
+LosingComesTo config u told (Ok (Happened effect)) Shown = (told.is_loss ≡ false) × (told.is_idle ≡ false) × (losing_effect_in config u told.event ≡ Some effect) × LosingLed config u told.event Shown
 LosingComesTo config u told (Ok Gone) Shown = (told.is_loss ≡ true) × (told.is_idle ≡ false) × LosingLed config u told.event Shown
 LosingComesTo config u told (Ok Nothing) Shown = (told.is_idle ≡ true) × (told.refusal ≡ None) × Shown u
 LosingComesTo config u told (Ok stepped) Shown = ⊥

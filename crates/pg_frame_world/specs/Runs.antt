@@ -1,6 +1,7 @@
 -- What comes of steps that are made one after another.
 use Rattle.std.specs.Prelude.{◌≡◌, ◌⊎◌, ℕ, Bool, true, not, cond, length, List, [], ◌∷◌, Option, Some, None, Result, Ok, Err}
 use Rattle.std.specs.List.{AllPass}
+use Rattle.std.specs.Option.{option_map_or}
 use Rattle.pg_machine.specs.Places.{is_pair}
 use Rattle.pg_machine.specs.Machine.{Event, Take, Do, happens, start_of}
 use Rattle.pg_machine.specs.Clocked.{plain}
@@ -13,6 +14,7 @@ use Rattle.pg_step.specs.Step.{Action, Issue, Retry, TimedTurn}
 use Rattle.pg_history.specs.Headline.{OneHistory}
 use Rattle.pg_frame_world.specs.declared.step.FrameStep.{FrameStep}
 use Rattle.pg_frame_world.specs.declared.step.FrameStep.TheVariants as frames
+use Rattle.pg_frame_world.specs.Losing.{loss_refusal, losing_of}
 use Rattle.pg_frame_world.specs.Starts.{Orders}
 use Rattle.pg_frame_world.specs.Worlds.{TimedFrameWorld, event_of, is_loss, told}
 
@@ -38,13 +40,17 @@ IsTold config w e number = (number ≡ number_told (told config w e)) ⊎ (numbe
 abbrev pub SeesNone : Bool → ℕ → Type 0
 SeesNone pair number = (number ≡ refusal_number_of (cond pair NotLost NoSuchPlace)) ⊎ ((pair ≡ true) × (number ≡ 10))
 
--- steps by which a node is lost are passed over by none of these runs
+-- the loss of a node that was refused where none is lost, or for which memory ran out
+abbrev pub IsUnlost : Config → TimedFrameWorld → ℕ → List ℕ → ℕ → Type 0
+IsUnlost config w i keep number = (number ≡ option_map_or refusal_number_of (loss_refusal config (losing_of config w []) i keep) 10) ⊎ (number ≡ 10)
+
+-- a step that left a frame world as it was, where no node is lost
 abbrev pub IsPassed : Config → TimedFrameWorld → FrameStep → ℕ → Type 0
 IsPassed config w (frames.Take i p) number = IsTold config w (Take i p) number
 IsPassed config w (frames.Command i port command) number = IsTold config w (Do i (Issue port command)) number
 IsPassed config w (frames.Retry i op) number = IsTold config w (Do i (Retry op)) number
 IsPassed config w (frames.SeeLoss i p) number = SeesNone (is_pair (length config) i p) number
-IsPassed config w (frames.Lose i keep) number = ⊥
+IsPassed config w (frames.Lose i keep) number = IsUnlost config w i keep.items number
 
 abbrev pub over_packets : Kind FrameStep
 over_packets = record { event = event_of; Passed = IsPassed }

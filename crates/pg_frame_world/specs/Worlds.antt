@@ -29,6 +29,7 @@ use Rattle.pg_frame_world.specs.declared.step.Stepped.TheVariants.{Nothing, Happ
 use Rattle.pg_frame_world.specs.declared.world.FrameNodes.{FrameNodes}
 use Rattle.pg_account.specs.Histories.{account_of}
 use Rattle.pg_starts.specs.Seen.{Seen}
+use Rattle.pg_frame_world.specs.Effects.{effect_in}
 use Rattle.pg_frame_world.specs.Views.{Traffic, View, traffic_in, on_the_way}
 use Rattle.pg_account.specs.Histories.{Account}
 use Rattle.pg_history.specs.Reached.{Reaches}
@@ -114,10 +115,14 @@ abbrev pub told : Config → TimedFrameWorld → Event Action → Option (Result
 told config w (Take i p) = cond (is_pair (length config) i p) (told_of_first (nodes_at config i) (name_at config p) (w.node i) (w.wire p i)) (Some (Err NoSuchPlace))
 told config w (Do i action) = Some (cond (is_place (length config) i) (step_act (nodes_at config i) (ports_at config i) action (w.node i)) (Err NoSuchPlace))
 
--- What came of an event in the world w: it happened, and led to a world that is shown; nothing was on the way; memory ran
--- out; or it was refused as is told.
+-- it happened in the world w, and led to a world that is shown
+abbrev pub EventLed : Config → TimedFrameWorld → Event Action → (TimedFrameWorld → Type 0) → Type 0
+EventLed config w e Shown = (v : TimedFrameWorld) × (happens (frame_machine config) w e ≡ Some v) × Shown v
+
+-- What came of an event in the world w: it happened, did what is reported, and led to a world that is shown; nothing was on the way;
+-- memory ran out; or it was refused as is told.
 abbrev pub ComesTo : Config → TimedFrameWorld → Event Action → Result Stepped NodeFault → (TimedFrameWorld → Type 0) → Type 0
-ComesTo config w e (Ok Happened) Shown = (v : TimedFrameWorld) × (happens (frame_machine config) w e ≡ Some v) × Shown v
+ComesTo config w e (Ok (Happened effect)) Shown = (effect_in (frame_machine config) w e ≡ Some effect) × EventLed config w e Shown
 ComesTo config w e (Ok Nothing) Shown = told config w e ≡ None
 ComesTo config w e (Ok stepped) Shown = ⊥
 ComesTo config w e (Err OutOfMemory) Shown = Unit {0}

@@ -11,7 +11,7 @@ use pg_account::Entry;
 use pg_config::{Config, WorldFault};
 use pg_group::GroupTable;
 use pg_index::IndexTable;
-use pg_loss::each_world_past_losses;
+use pg_left::each_world_past_losses;
 use pg_message::Packet;
 use pg_node_state::{NodeFault, NodeState};
 use pg_term::{Pid, Term};

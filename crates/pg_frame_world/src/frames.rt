@@ -16,7 +16,7 @@ use pg_config::{Config, WorldFault};
 use pg_group::GroupTable;
 use pg_history::one_history;
 use pg_index::IndexTable;
-use pg_loss::each_world_past_losses;
+use pg_left::each_world_past_losses;
 use std::alloc::Global;
 
 impl<T: GroupTable + Drop> FrameWorld<T> {
@@ -41,7 +41,7 @@ impl<T: GroupTable + Drop> FrameWorld<T> {
         ensures runs_on { ∥ FramesRunOn (given_of self.old) (view_of self.old) (lost_of self.old) steps.now numbers.new.items (view_of self.new) (lost_of self.new) ∥₁ }
         ensures grows { HistoriesGrow (view_of self.old).account (view_of self.new).account }
         ensures given { given_of self.new ≡ given_of self.old }
-        ensures ran { LosesNone steps.now → (config : Configuration) (w : TimedFrameWorld) → lost_of self.old ≡ [] → Shows config (view_of self.old) w
+        ensures ran { lost_of self.new ≡ [] → (config : Configuration) (w : TimedFrameWorld) → Shows config (view_of self.old) w
             → GoesTo over_packets config w steps.now numbers.new.items (Shows config (view_of self.new)) }
         ensures lost { LosesNone steps.now → lost_of self.new ≡ lost_of self.old }
         ensures losing { (config : Configuration) (u : LosingFrameWorld) → ShowsLosing config (view_of self.old) (lost_of self.old) u
@@ -57,9 +57,10 @@ impl<T: GroupTable + Drop> FrameWorld<T> {
     /// Makes one step, and gives its number.
     fn step_number(&mut self, step: &FrameStep) -> u8
         ensures given { given_of self.new ≡ given_of self.old }
-        ensures steps { is_loss step.now ≡ false → (config : Configuration) (w : TimedFrameWorld) → lost_of self.old ≡ [] → Shows config (view_of self.old) w
+        ensures steps { lost_of self.new ≡ [] → (config : Configuration) (w : TimedFrameWorld) → Shows config (view_of self.old) w
             → StepsTo over_packets config w step.now result (Shows config (view_of self.new)) }
         ensures lost { is_loss step.now ≡ false → lost_of self.new ≡ lost_of self.old }
+        ensures unlost { lost_of self.new ≡ [] → lost_of self.old ≡ [] }
         ensures losing { (config : Configuration) (u : LosingFrameWorld) → ShowsLosing config (view_of self.old) (lost_of self.old) u
             → LosingStepsTo packets_past_losses config u step.now result (ShowsLosing config (view_of self.new) (lost_of self.new)) }
     {
@@ -74,9 +75,9 @@ impl<T: GroupTable + Drop> FrameWorld<T> {
 /// `FrameWorld::run` gives it. The places of the numbers are got first; a step that is refused did not happen, and
 /// the run goes on.
 ///
-/// The contract is the headline, for steps of which none is a loss: the steps that happened are the events of a run
-/// of the frame machine, and of what they reported, and of the states that the world shows, everything holds that
-/// `OneHistory` says.
+/// The contract is the headline, where no node is lost at the end, as where no step is a loss, or each loss was
+/// refused: the steps that happened are the events of a run of the frame machine, and of what they reported, and of the
+/// states that the world shows, everything holds that `OneHistory` says.
 ///
 /// Whoever is lost, the steps that happened are the events of a run of the machine with losses, and everything holds
 /// that `LossesSurvived` says of the world to which they lead.
@@ -90,7 +91,8 @@ pub fn run_frames(
     ensures good { IfOk result (λ ran. IsConfig config.now.starts.items × IsCapacity config.now.ring) }
     ensures fits { IfOk result (λ ran. AllFit config.now.starts.items) }
     ensures given { IfOk result (λ ran. given_by ran.0 ≡ config.now.starts.items) }
-    ensures ran { IfOk result (λ ran. NoneIsLost steps.now → Ran over_packets config.now.starts.items steps.now ran.1.items (λ given. shows_frames given (shown_by ran.0))) }
+    ensures ran { IfOk result (λ ran. lost_by ran.0 ≡ [] → Ran over_packets config.now.starts.items steps.now ran.1.items (λ given. shows_frames given (shown_by ran.0))) }
+    ensures lost { IfOk result (λ ran. NoneIsLost steps.now → lost_by ran.0 ≡ []) }
     ensures losing { IfOk result (λ ran. RanLosing over_packets_past config.now.starts.items steps.now ran.1.items (λ given. shows_losing given (shown_by ran.0) (lost_by ran.0))) }
     ensures fault { IfErr result (CantBegin config.now.ring config.now.starts.items) }
 {

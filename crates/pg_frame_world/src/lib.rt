@@ -4,6 +4,7 @@
 #![tactic(auto)]
 
 mod begun;
+mod effect;
 mod frame_world;
 mod frames;
 mod laws;
@@ -16,6 +17,7 @@ mod way;
 mod world;
 
 pub use begun::ready;
+pub use effect::Effect;
 pub use frame_world::FrameWorld;
 pub use frames::run_frames;
 pub use laws::{

@@ -1,3 +1,4 @@
+use crate::effect::Effect;
 use pg_step::{Command, OpId};
 
 /// A step of a world of packets. Nodes are named by their places.
@@ -39,8 +40,8 @@ pub enum Stepped {
     Nothing,
     /// So many bytes moved.
     Moved(usize),
-    /// The event happened.
-    Happened,
+    /// The event happened, and did this.
+    Happened(Effect),
     /// The node is lost.
     Gone,
 }

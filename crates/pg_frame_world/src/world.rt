@@ -10,6 +10,7 @@ mod copies;
 mod losing;
 mod pending;
 
+use crate::effect::Effect;
 use crate::outgoing::Outgoing;
 use crate::step::{FrameStep, Stepped};
 use pg_account::{Histories, Losses};
@@ -180,12 +181,13 @@ impl<T: GroupTable + Drop> FrameNodes<T> {
                 let state = &mut self.nodes[node];
                 match state.take(peer_place(node, peer), packet) {
                     Ok(done) => {
+                        let effect = Effect::of(&done);
                         self.histories.serve(node, packet);
                         let sender = &mut self.outgoing[peer];
                         sender.pass(peer_place(peer, node));
                         let outgoing = &mut self.outgoing[node];
                         self.histories.begin(node, outgoing.send_all(done));
-                        Ok(Stepped::Happened)
+                        Ok(Stepped::Happened(effect))
                     }
                     Err(fault) => Err(fault),
                 }
@@ -211,9 +213,10 @@ impl<T: GroupTable + Drop> FrameNodes<T> {
         let state = &mut self.nodes[node];
         match state.command(port, command) {
             Ok(done) => {
+                let effect = Effect::of(&done);
                 let outgoing = &mut self.outgoing[node];
                 self.histories.begin(node, outgoing.send_all(done));
-                Ok(Stepped::Happened)
+                Ok(Stepped::Happened(effect))
             }
             Err(fault) => Err(fault),
         }
@@ -237,9 +240,10 @@ impl<T: GroupTable + Drop> FrameNodes<T> {
         let state = &mut self.nodes[node];
         match state.retry(op) {
             Ok(done) => {
+                let effect = Effect::of(&done);
                 let outgoing = &mut self.outgoing[node];
                 self.histories.begin(node, outgoing.send_all(done));
-                Ok(Stepped::Happened)
+                Ok(Stepped::Happened(effect))
             }
             Err(fault) => Err(fault),
         }

@@ -10,15 +10,20 @@ use Rattle.pg_lock.specs.Locks.{is_holder}
 use Rattle.pg_message.specs.declared.message.Message.{Message}
 use Rattle.pg_step.specs.declared.command.Command.{Command}
 use Rattle.pg_step.specs.declared.command.OpId.{OpId}
-use Rattle.pg_machine.specs.Machine.{Event, Taken}
+use Rattle.pg_machine.specs.Clocked.{plain}
+use Rattle.pg_machine.specs.Machine.{Event, Taken, Do}
 use Rattle.pg_machine.specs.Places.{is_place, is_pair}
 use Rattle.pg_step.specs.Turns.{Report}
-use Rattle.pg_step.specs.Step.{Action}
+use Rattle.pg_step.specs.Step.{Action, Issue}
+use Rattle.pg_step.specs.State.{Response}
+use Rattle.pg_step.specs.State.Response.{Read}
+use Rattle.pg_step.specs.StepLaws.{is_query}
 use Rattle.pg_step.specs.Config.{Config, name_at}
 use Rattle.pg_step.specs.FrameMachine.{node_step, FrameWorld}
 use Rattle.pg_history.specs.History.{Entry, entries, history, updates_of, applied_by, applied_count, answered_count, times, replay, known, base, command_at, answers_by, has_answer, answers_to, IsAnsweredOk, ok_means_lock, is_formed, has_groups, LockFree, NonePending}
-use Rattle.pg_step.specs.Commands.{change_of}
+use Rattle.pg_step.specs.Commands.{change_of, has_large_name, next_op}
 use Rattle.pg_history.specs.Exclusive.{ExclusiveLocks}
+use Rattle.pg_history.specs.Reached.{Reaches, TimedFrameWorld}
 use Rattle.pg_history.specs.RealTime.{InRealTime}
 
 -- Each answered change stands, once, in one history.
@@ -89,15 +94,26 @@ pub record HarmsNobody (config : Config) (w : FrameWorld) : Type 0 where
   pub packets : (i p : ℕ) (x : Message) (rest : List Message) → is_pair (length config) i p ≡ true
       → w.wire p i ≡ x ∷ rest → node_step config i (w.node i) (Taken p x) ≢ None
 
+-- A later world's history of each group is that of the earlier one, and more.
+abbrev pub GoesOn : FrameWorld → FrameWorld → Type 0
+GoesOn w v = (name : Term) → (more : List Entry) × (history name v.reported ≡ history name w.reported ++ more)
+
+-- Of a world w to which events led, and of each world m that the first of them had led to.
+pub record GoesOnFromAll (config : Config) (events : List (Event Action)) (w : FrameWorld) : Type 0 where
+  -- the history of each group is that of m, and more
+  pub grown : (first last : List (Event Action)) (m : TimedFrameWorld) → events ≡ first ++ last → Reaches config first m → GoesOn (plain m) w
+  -- a query came in then whose name can be sent: its answer, the next of its port, is what it read in its node's table then, formed or not
+  pub read : (first last : List (Event Action)) (m : TimedFrameWorld) (i port : ℕ) (c : Command) → events ≡ first ++ Do i (Issue port c) ∷ last → Reaches config first m
+      → is_query c ≡ true → has_large_name c ≡ false
+      → (more : List (ℕ × Response)) × (answers_by i w.reported port ≡ answers_by i (plain m).reported port
+      ++ ((next_op port ((plain m).node i)).number, Read c ((plain m).node i).table) ∷ more)
+
 -- The headline, of a world and the events that led to it.
 pub record OneHistory (config : Config) (events : List (Event Action)) (w : FrameWorld) : Type 0 where
   pub answered : HoldsAnswered config events w
   pub applies : AppliesHistory config w
   pub tables : HasTables config w
+  pub from_all : GoesOnFromAll config events w
   pub real_time : InRealTime config events w
   pub exclusive : ExclusiveLocks config (is_place (length config)) w.node
   pub harmless : HarmsNobody config w
-
--- A later world's history of each group is that of the earlier one, and more.
-abbrev pub GoesOn : FrameWorld → FrameWorld → Type 0
-GoesOn w v = (name : Term) → (more : List Entry) × (history name v.reported ≡ history name w.reported ++ more)

@@ -40,6 +40,7 @@ ghost use Rattle.pg_history.specs.Sent.{ends_in, exchanges_in, is_reply};
 /// - each node has applied that history, or all but its last update, and all of it where one node sees the lock free;
 /// - a formed node's table is that of what it has applied, without the ends that it took, and formed nodes agree
 ///   where one sees the lock free and no end is pending;
+/// - each history only grew, and each query was answered by what its node's table had when it came in;
 /// - a change that was answered before another command came in is before it, and each node has applied it from then
 ///   on;
 /// - locks are exclusive: two updates of one group are never under way at once;

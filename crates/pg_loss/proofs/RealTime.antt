@@ -1,5 +1,6 @@
 -- Histories go by real time, whoever is lost.
 use Rattle.std.proofs.Common.{◌≡◌, List, [], ◌∷◌, ◌++◌, Some, None, sym, ◌∙◌, subst}
+use Rattle.pg_term.specs.declared.term.Term.{Term}
 use Rattle.pg_machine.specs.Losing.{LosingEvent, LosingLeads, nobody_gone}
 use Rattle.pg_machine.specs.Machine.{start_of}
 use Rattle.pg_machine.proofs.Options.{some_is}
@@ -8,12 +9,12 @@ use Rattle.pg_step.specs.Config.{Config}
 use Rattle.pg_step.specs.FrameMachine.{last_notice, losing_frame_machine}
 use Rattle.pg_step.specs.LossLaws.{LosingFrameWorld}
 use Rattle.pg_step.specs.Step.{Action}
-use Rattle.pg_history.specs.History.{Entry, command_at, entries}
+use Rattle.pg_history.specs.History.{Entry, command_at, entries, history}
 use Rattle.pg_history.specs.RealTime.{StandsBefore}
 use Rattle.pg_history.proofs.steps.RealTime.{stands_before}
 use Rattle.pg_loss.specs.Reached.{LosingReaches, steps_of}
 use Rattle.pg_loss.proofs.Answering.{entries_given}
-use Rattle.pg_loss.proofs.Lasts.{reported_on}
+use Rattle.pg_loss.proofs.Lasts.{history_later, reported_on}
 use Rattle.pg_loss.proofs.Standing.{answered_stand}
 
 module _ (config : Config) where
@@ -24,6 +25,12 @@ module _ (config : Config) where
   later : (first last : List (LosingEvent Action)) (w m v : LosingFrameWorld) → Goes w (first ++ last) v → Goes w first m → Goes m last v
   later [] last w m v l k = subst (λ u. Goes u last v) k l
   later (e ∷ first) last w m v l k = later first last k.0 m v (subst (λ u. Goes u (first ++ last) v) (some_is (sym l.1 ∙ k.1)) l.2) k.2
+
+  pub grown : (w m : LosingFrameWorld) (events first last : List (LosingEvent Action)) → LosingReaches config events w → events ≡ first ++ last → LosingReaches config first m
+      → (name : Term) → (more : List Entry) × (history name w.world.reported ≡ history name m.world.reported ++ more)
+  grown w m events first last reaches is reached name =
+      let start = nobody_gone (start_of (losing_frame_machine config)) in
+      history_later config m w last (later first last start m w (subst (λ es. LosingReaches config es w) is reaches) reached) name
 
   pub order : (w m : LosingFrameWorld) (events first last : List (LosingEvent Action)) → LosingReaches config events w → events ≡ first ++ last → LosingReaches config first m → StandsBefore (steps_of first) m.world.reported w.world.reported
   order w m events first last reaches is reached =

@@ -84,7 +84,7 @@ pub record HarmsNobodyLeft (config : Config) (w : LosingFrameWorld) : Type 0 whe
       → (losing_machine_of config).step i ((plain w.world).node i) (Taken p packet) ≢ None
 
 -- What a run has kept, of the world that it led to and its events.
-pub record LossesSurvived (config : Config) (events : List (LosingEvent Action)) (w : LosingFrameWorld) : Type 0 where
+pub record KeptPastLosses (config : Config) (events : List (LosingEvent Action)) (w : LosingFrameWorld) : Type 0 where
   -- the three promises, where every node was formed at the first loss
   pub survives : FormedAtLosses config events → SurvivesLosses config events w
   -- what each node that is not lost has applied of a group, whoever was formed when
@@ -95,6 +95,9 @@ pub record LossesSurvived (config : Config) (events : List (LosingEvent Action))
   pub unanswered : (name : Term) (before after : List Entry) (e : Entry) → history name w.world.reported ≡ before ++ e ∷ after
       → answered_count e.node e.op w.world.reported ≡ 0 → w.gone e.node ≡ false → StandsLast config w name before after e
   pub left : LeftAgree config events w
+  -- the history of each group is that of each world on the way, and more
+  pub grown : (first last : List (LosingEvent Action)) (m : LosingFrameWorld) (name : Term) → events ≡ first ++ last → LosingReaches config first m
+      → (more : List Entry) × (history name w.world.reported ≡ history name m.world.reported ++ more)
   -- what was reported until a time stands before what comes in later
   pub order : (first last : List (LosingEvent Action)) (m : LosingFrameWorld) → events ≡ first ++ last → LosingReaches config first m
       → StandsBefore (steps_of first) m.world.reported w.world.reported

@@ -39,12 +39,16 @@ pub fn answers_stay_past_losses()
         × (answers_by i v.world.reported port ≡ answers_by i w.world.reported port ++ more) }
 {}
 
-/// The history of each group only grows, whoever is lost.
+/// The history of each group only grows, whoever is lost. So it is, in each world, that of each world before it, and more.
 pub fn histories_grow_past_losses()
-    ensures { (config : Config) (w v : LosingFrameWorld) (events : List (LosingEvent Action)) (name : Term)
+    ensures later { (config : Config) (w v : LosingFrameWorld) (events : List (LosingEvent Action)) (name : Term)
         → LosingLeads (losing_frame_machine config) last_notice w events v
         → (more : List Entry)
         × (history name v.world.reported ≡ history name w.world.reported ++ more) }
+    ensures from_all { (config : Config) (w m : LosingFrameWorld) (events first last : List (LosingEvent Action)) (name : Term)
+        → LosingReaches config events w → events ≡ first ++ last → LosingReaches config first m
+        → (more : List Entry)
+        × (history name w.world.reported ≡ history name m.world.reported ++ more) }
 {}
 
 /// Whoever is lost, histories go by real time: a change that was answered under its lock before another command came

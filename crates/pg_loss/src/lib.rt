@@ -21,4 +21,4 @@ pub use survival::{
     nodes_left_agree, open_commands_wait_for_retries_past_losses, takes_end_past_losses,
     unanswered_changes_are_last,
 };
-pub use world::each_world_past_losses;
+pub use world::each_world_keeps_past_losses;

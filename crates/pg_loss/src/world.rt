@@ -6,12 +6,12 @@ ghost use Rattle.pg_step.specs.Config.{Config, names_of};
 ghost use Rattle.pg_step.specs.LossLaws.{LosingFrameWorld};
 ghost use Rattle.pg_step.specs.Step.{Action};
 ghost use Rattle.pg_loss.specs.Reached.{LosingReaches};
-ghost use Rattle.pg_loss.specs.Survived.{LossesSurvived};
+ghost use Rattle.pg_loss.specs.Survived.{KeptPastLosses};
 
 use crate::lasting::{
     changes_are_answered_past_losses, changes_stand_once_past_losses,
     commands_are_counted_past_losses, ended_are_in_no_group_past_losses,
-    histories_go_by_real_time_past_losses,
+    histories_go_by_real_time_past_losses, histories_grow_past_losses,
 };
 use crate::survival::{
     ended_processes_were_made_past_losses, ends_at_home_past_losses, histories_are_thinned,
@@ -20,14 +20,15 @@ use crate::survival::{
 };
 
 /// All that the laws say of one world, whoever is lost and whenever.
-pub fn each_world_past_losses()
+pub fn each_world_keeps_past_losses()
     ensures { (config : Config) (w : LosingFrameWorld) (events : List (LosingEvent Action))
         → IsDistinct same_atom (names_of config) → LosingReaches config events w
-        → LossesSurvived config events w }
+        → KeptPastLosses config events w }
 {
     losses_are_survived();
     histories_are_thinned();
     no_lock_of_the_lost();
+    histories_grow_past_losses();
     histories_go_by_real_time_past_losses();
     locks_are_exclusive_past_losses();
     no_reply_is_odd();

@@ -33,6 +33,10 @@ module _ {T L I K : Type 0} {g : Ghosts T} where
   abbrev pub notices_at : NodeRun T L I K g → SlotIn Notice
   notices_at run = inlet_of run.notices
 
+  -- the generator of its pauses
+  abbrev pub generator_of : NodeRun T L I K g → K
+  generator_of run = run.generator
+
   -- something moved or happened in the last turn
   abbrev pub busy_of : NodeRun T L I K g → Bool
   busy_of run = run.busy

@@ -60,7 +60,7 @@ impl<T: GroupTable + Drop, L: Link + Drop, I: Inlet + Drop, K: Rng + Drop> NodeR
     ghost use Rattle.std.specs.Prelude.{[], false};
     ghost use Rattle.pg_run.specs.Notices.{kept_of};
     ghost use Rattle.pg_run.specs.Tries.{RetriedBy, TurnDid};
-    ghost use Rattle.pg_run.specs.Runs.{linked_of, ports_at, stop_of, notices_at, notices_of, busy_of, Runs, TurnedTo};
+    ghost use Rattle.pg_run.specs.Runs.{linked_of, ports_at, stop_of, notices_at, notices_of, generator_of, busy_of, Runs, TurnedTo};
 
     /// A node that has made no turn.
     ///
@@ -79,6 +79,7 @@ impl<T: GroupTable + Drop, L: Link + Drop, I: Inlet + Drop, K: Rng + Drop> NodeR
         ensures stop { stop_of result ≡ stop }
         ensures notices { notices_at result ≡ notices }
         ensures kept { kept_of (notices_of result) ≡ [] }
+        ensures generator { generator_of result ≡ generator }
         ensures busy { busy_of result ≡ false }
     {
         NodeRun {

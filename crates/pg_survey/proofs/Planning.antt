@@ -1,18 +1,21 @@
 -- What lines plan of nodes.
-use Rattle.std.proofs.Common.{◌≡◌, ◌≢◌, ◌<◌, ◌≤◌, ℕ, ◌+◌, List, [], ◌∷◌, ◌++◌, Bool, true, false, Option, Some, None, length, get_or, take, refl, sym, ap, ◌∙◌, subst, arith, append_assoc, ◌⊎◌, inl, inr}
+use Rattle.std.proofs.Common.{◌≡◌, ◌≢◌, ◌<◌, ◌≤◌, ℕ, ◌+◌, List, [], ◌∷◌, ◌++◌, Bool, true, false, Option, Some, None, length, get_or, map, take, refl, sym, ap, ◌∙◌, subst, arith, append_assoc, ◌⊎◌, inl, inr}
 use Rattle.std.specs.Prelude.{slice_get, slice_set, nat_eq, if◌then◌else◌}
 use Rattle.std.proofs.Math.Nat.{eq-or-lt_of_le}
 use Rattle.std.proofs.lemmas.Bool.{cases_lt}
 use Rattle.std.proofs.lemmas.Bool.Decides.{nat_tests}
 use Rattle.pg_frame_world.proofs.Turning.{set_here, set_other}
 use Rattle.std.proofs.Math.ListN.{set}
-use Rattle.std.proofs.lemmas.List.{append-nil, get_or_append_left, get_or_at, length-set, length_push}
+use Rattle.std.proofs.lemmas.List.{append-nil, get_or_append_left, get_or_at, length-set, length_push, map_push}
+use Rattle.std.proofs.lemmas.List.FromFn.{map-range_with_len_more}
+use Rattle.std.specs.Global.{Vec}
+use Rattle.std.specs.List.{range_with_len}
 use Rattle.std.proofs.lemmas.Option.{slice_get_within, slice_get-get_or, get_or_from_slice_get}
 use Rattle.pg_explore.specs.declared.plan.Plan.{Plan}
 use Rattle.pg_explore.specs.declared.plan.Planned.{Planned}
 use Rattle.pg_script.specs.declared.script.ScriptLine.{ScriptLine}
 use Rattle.pg_script.specs.Scripts.{lines_in}
-use Rattle.pg_survey.specs.Scenarios.{AddPlans, ArePlans, is_other, other_in, planned_act, planned_at, planned_of}
+use Rattle.pg_survey.specs.Scenarios.{AddPlans, AreCommands, ArePlans, command_lines, is_other, other_in, planned_act, planned_at, planned_of}
 
 planned_more : (place : ℕ) (lines : List ScriptLine) (line : ScriptLine) → planned_at place (lines ++ line ∷ []) ≡ planned_at place lines ++ planned_act place line.act
 planned_more place [] line = append-nil (planned_act place line.act)
@@ -128,3 +131,13 @@ looked_found text number left behind line h first this =
 
 pub looked_over : (text : List ℕ) (number : ℕ) (left : List (List ℕ)) → Looked text number left → left ≡ [] → None ≡ other_in 1 (lines_in text)
 looked_over text number left h over = sym (ap (other_in (number + 1)) over) ∙ h.found
+
+-- ---- lines of commands
+
+-- those of one more node
+pub commands_more : (lines : List ScriptLine) (n : ℕ) (commands : List (Vec ℕ)) (row : Vec ℕ) → AreCommands lines n commands → row.items ≡ command_lines n lines
+    → AreCommands lines (n + 1) (commands ++ row ∷ [])
+commands_more lines n commands row h e =
+    let f : ℕ → List ℕ = λ (place : ℕ). command_lines place lines in
+    map_push (λ (places : Vec ℕ). places.items) commands row ∙ ap (λ (xs : List (List ℕ)). xs ++ row.items ∷ []) h ∙ ap (λ (x : List ℕ). map f (range_with_len 0 n) ++ x ∷ []) e
+    ∙ sym (map-range_with_len_more f 0 n n (omega arith))

@@ -1,5 +1,8 @@
 -- Scenarios: what is planned of nodes.
-use Rattle.std.specs.Prelude.{◌≡◌, ◌≢◌, ◌<◌, ℕ, ◌+◌, List, [], ◌∷◌, ◌++◌, length, Bool, true, false, not, nat_le, nat_eq, slice_get, Option, Some, None, Result, Ok, Err, if◌then◌else◌}
+use Rattle.std.specs.Prelude.{◌≡◌, ℕ, ◌+◌, ◌-◌, List, [], ◌∷◌, ◌++◌, length, map, cond, Bool, true, false, not, nat_le, nat_eq, slice_get, Option, Some, None, Result, Ok, Err, if◌then◌else◌}
+use Rattle.std.specs.Borrow.{Bor}
+use Rattle.std.specs.Global.{Vec}
+use Rattle.std.specs.List.{range_with_len}
 use Rattle.pg_lines.specs.declared.line.Line.{Line}
 use Rattle.pg_lines.specs.declared.line.Line.TheVariants.{Ring, Node, Has, Pair, At, Settle, History}
 use Rattle.pg_lines.specs.declared.line.NodeForm.{NodeForm}
@@ -106,12 +109,31 @@ pub record AddPlans (more : ℕ → List Planned) (old new : List Plan) : Type 0
   pub len : length new ≡ length old
   pub is : (place : ℕ) (before after : Plan) → slice_get old place ≡ Some before → slice_get new place ≡ Some after → after.steps.items ≡ before.steps.items ++ more place
 
+-- ---- which line is that of a command
+
+abbrev pub is_command_of : ℕ → Act → Bool
+is_command_of place (act.Step (steps.Event (events.Command i port command))) = nat_eq i place
+is_command_of place other = false
+
+-- the places of the lines of a node's commands, in their order
+abbrev pub command_lines : ℕ → List ScriptLine → List ℕ
+command_lines place [] = []
+command_lines place (line ∷ lines) = cond (is_command_of place line.act) ((line.number - 1) ∷ command_lines place lines) (command_lines place lines)
+
+-- those of each of so many nodes
+abbrev pub AreCommands : List ScriptLine → ℕ → List (Vec ℕ) → Type 0
+AreCommands lines count commands = map (λ (places : Vec ℕ). places.items) commands ≡ map (λ place. command_lines place lines) (range_with_len 0 count)
+
+abbrev pub texts_of : List (Bor (List ℕ)) → List (List ℕ)
+texts_of lines = map (λ (line : Bor (List ℕ)). line.now) lines
+
 -- a scenario is what a text says
 pub record IsScenarioOf (contents : Contents) (scenario : Scenario) : Type 0 where
   pub starts : scenario.config.starts.items ≡ contents.starts
   pub ring : scenario.config.ring ≡ contents.ring
   pub len : length scenario.plans.items ≡ length contents.starts
   pub plans : ArePlans contents.lines scenario.plans.items
+  pub commands : AreCommands contents.lines (length contents.starts) scenario.commands.items
 
 abbrev pub IsScenario : Result Contents ScriptFault → Scenario → Type 0
 IsScenario (Ok contents) scenario = IsScenarioOf contents scenario

@@ -1,11 +1,12 @@
 //! The state graph of a survey.
 
-ghost use Rattle.std.specs.Prelude.{◌≡◌, ◌++◌, IfOk, OnOk, length};
-ghost use Rattle.pg_survey.specs.Findings.{IsDrawn, met_in};
+ghost use Rattle.std.specs.Prelude.{◌≡◌, ◌++◌, IfOk, OnOk, length, map};
+ghost use Rattle.pg_survey.specs.Findings.{AreSpots, IsDrawn, is_end_at, kind_of, led_in, link_of, links_from, met_in};
 
 use crate::findings::Findings;
+use crate::tally::mark_at;
 use pg_diagram::{Graph, Link, LinkKind, Spot};
-use pg_explore::{Met, Move};
+use pg_explore::{Led, Met, Move};
 use pg_tally::Way;
 use std::alloc::{AllocError, Global};
 
@@ -17,7 +18,7 @@ impl Findings<'_, '_> {
     ///
     /// Errors: `AllocError`.
     pub fn graph(&self) -> Result<Option<Graph>, AllocError>
-        ensures { IfOk result (IsDrawn (length (met_in self.now))) }
+        ensures { IfOk result (IsDrawn self.now) }
     {
         let mets = self.explored.met();
         if mets.len() > MAX_WORLDS {
@@ -32,7 +33,7 @@ impl Findings<'_, '_> {
     ///
     /// Errors: `AllocError`.
     fn spots(&self, mets: &[Met]) -> Result<Vec<Spot>, AllocError>
-        ensures { IfOk result (λ spots. length spots.items ≡ length mets.now) }
+        ensures { IfOk result (λ spots. AreSpots self.now (length mets.now) spots.items) }
     {
         let mut spots = Vec::with_capacity(self.alloc, mets.len())?;
         for place in 0..mets.len() {
@@ -40,7 +41,7 @@ impl Findings<'_, '_> {
             spots.push(Spot {
                 row,
                 is_end: has_no_way(self.ways.ways.as_slice(), place),
-                is_marked: is_marked(self.tally.differing.as_slice(), place),
+                is_marked: mark_at(self.tally.differing.as_slice(), place),
             })?;
         }
         Ok(spots)
@@ -49,17 +50,13 @@ impl Findings<'_, '_> {
     /// The steps between worlds.
     ///
     /// Errors: `AllocError`.
-    fn links(&self) -> Result<Vec<Link>, AllocError> {
+    fn links(&self) -> Result<Vec<Link>, AllocError>
+        ensures { IfOk result (λ links. links.items ≡ links_from 0 (led_in self.now)) }
+    {
         let mut links = Vec::new(self.alloc);
-        for from in 0..self.ways.ways.len() {
-            if let Some(steps) = self.ways.steps.as_slice().get(from) {
-                add_links(
-                    &mut links,
-                    from,
-                    self.ways.ways[from].as_slice(),
-                    steps.as_slice(),
-                )?;
-            }
+        for from in 0..self.ways.led.len() {
+            let led = &self.ways.led[from];
+            add_links(&mut links, from, led.as_slice())?;
         }
         Ok(links)
     }
@@ -68,17 +65,14 @@ impl Findings<'_, '_> {
 /// Adds the ways from a world.
 ///
 /// Errors: `AllocError`.
-fn add_links(
-    links: &mut Vec<Link>,
-    from: usize,
-    ways: &[Way],
-    steps: &[Move],
-) -> Result<(), AllocError> {
-    for (way, step) in ways.iter().zip(steps.iter()) {
+fn add_links(links: &mut Vec<Link>, from: usize, led: &[Led]) -> Result<(), AllocError>
+    ensures { OnOk result (links.new.items ≡ links.old.items ++ map (link_of from) led.now) }
+{
+    for way in led {
         links.push(Link {
             from,
             to: way.place,
-            kind: kind_of(step),
+            kind: kind_of(&way.step),
         })?;
     }
     Ok(())
@@ -98,21 +92,18 @@ fn row_of(mets: &[Met], spots: &[Spot], place: usize) -> usize {
     }
 }
 
-fn has_no_way(ways: &[Vec<Way>], place: usize) -> bool {
+fn has_no_way(ways: &[Vec<Way>], place: usize) -> bool
+    ensures { result ≡ is_end_at ways.now place }
+{
     match ways.get(place) {
         Some(ways) => ways.is_empty(),
         None => false,
     }
 }
 
-fn is_marked(marks: &[bool], place: usize) -> bool {
-    match marks.get(place) {
-        Some(mark) => *mark,
-        None => false,
-    }
-}
-
-fn kind_of(step: &Move) -> LinkKind {
+fn kind_of(step: &Move) -> LinkKind
+    ensures { result ≡ kind_of step.now }
+{
     match step {
         Move::Take { .. } => LinkKind::Take,
         Move::Next { .. } => LinkKind::Command,

@@ -4,13 +4,15 @@ ghost use Rattle.std.specs.Prelude.{◌≡◌, ◌↔◌, ◌<◌, ◌≤◌, Is
 ghost use Rattle.std.specs.Option.{option_copied};
 ghost use Rattle.pg_explore.specs.Explorations.{AreApart, AreFollowed, AreReached};
 ghost use Rattle.pg_explore.specs.Faults.{CantExplore};
+ghost use Rattle.pg_explore.specs.Ways.{AreWays};
 ghost use Rattle.pg_explore.specs.declared.fault.ExploreFault.TheVariants.{OutOfMemory};
-ghost use Rattle.pg_survey.specs.Findings.{IsCounted, end_at, ends_in, met_in, moment_at};
+ghost use Rattle.pg_survey.specs.Findings.{IsCounted, end_at, ends_in, led_in, met_in, moment_at};
+ghost use Rattle.pg_survey.specs.Ways.{AreWaysOf, all_led};
 
 use crate::recorder::{Observer, Recorder, Ways};
 use crate::scenario::Scenario;
 use crate::tally::{Tally, tally_of};
-use pg_explore::{ExploreFault, Explored, Limits, Moment, explore};
+use pg_explore::{ExploreFault, Explored, Led, Limits, Moment, explore};
 use std::alloc::{AllocError, Global};
 
 /// What a survey found: the worlds that were met, the ways between them, and what was counted of them.
@@ -77,12 +79,14 @@ pub fn survey<'a, 'b, O: Observer>(
     ensures few { IfOk result (λ found. length (met_in found) ≤ max 1 limits.worlds) }
     ensures followed { IfOk result (λ found. AreFollowed scenario.now.plans.items limits.retries (met_in found) found.explored.lent) }
     ensures cut { IfOk result (λ found. found.explored.lent < length (met_in found) → limits.worlds ≤ length (met_in found)) }
+    ensures ways { IfOk result (λ found. AreWays scenario.now.plans.items limits.retries (met_in found) found.explored.lent (led_in found)) }
+    ensures scenario { IfOk result (λ found. found.scenario.now ≡ scenario.now) }
     ensures counted { IfOk result IsCounted }
     ensures fault { IfErr result (CantExplore scenario.now.config) }
 {
     let mut recorder = Recorder {
         alloc,
-        ways: Ways::new(alloc),
+        led: Vec::new(alloc),
         observer,
     };
     let explored = explore(
@@ -94,13 +98,13 @@ pub fn survey<'a, 'b, O: Observer>(
     );
     let Recorder {
         alloc: _,
-        ways,
+        led,
         observer: _,
     } = recorder;
     match explored {
-        Ok(explored) => counted(alloc, scenario, explored, ways),
+        Ok(explored) => counted(alloc, scenario, explored, led),
         Err(fault) => {
-            drop(ways);
+            drop(led);
             Err(fault)
         }
     }
@@ -113,9 +117,36 @@ fn counted<'a, 'b>(
     alloc: Global,
     scenario: &'a Scenario<'b>,
     explored: Explored,
-    ways: Ways,
+    led: Vec<Vec<Led>>,
 ) -> Result<Findings<'a, 'b>, ExploreFault>
     ensures explored { IfOk result (λ found. found.explored ≡ explored) }
+    ensures scenario { IfOk result (λ found. found.scenario.now ≡ scenario.now) }
+    ensures led { IfOk result (λ found. found.ways.led ≡ led) }
+    ensures counted { IfOk result IsCounted }
+    ensures fault { IfErr result (λ fault. fault ≡ OutOfMemory) }
+{
+    match Ways::of(alloc, led) {
+        Ok(ways) => found_of(alloc, scenario, explored, ways),
+        Err(AllocError) => {
+            drop(explored);
+            Err(ExploreFault::OutOfMemory)
+        }
+    }
+}
+
+/// What is found of the worlds that were met, and of the ways between them.
+///
+/// Errors: `OutOfMemory`.
+fn found_of<'a, 'b>(
+    alloc: Global,
+    scenario: &'a Scenario<'b>,
+    explored: Explored,
+    ways: Ways,
+) -> Result<Findings<'a, 'b>, ExploreFault>
+    requires { AreWaysOf (all_led ways.led.items) ways.ways.items }
+    ensures explored { IfOk result (λ found. found.explored ≡ explored) }
+    ensures scenario { IfOk result (λ found. found.scenario.now ≡ scenario.now) }
+    ensures led { IfOk result (λ found. found.ways.led ≡ ways.led) }
     ensures counted { IfOk result IsCounted }
     ensures fault { IfErr result (λ fault. fault ≡ OutOfMemory) }
 {

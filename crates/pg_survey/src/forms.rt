@@ -3,7 +3,7 @@
 ghost use Rattle.std.specs.Prelude.{◌≡◌, ◌∷◌, IfOk, Ok, option_map};
 ghost use Rattle.pg_lines.specs.Forms.{line_of};
 ghost use Rattle.pg_script.specs.Scripts.{is_skipped, lines_in, lines_of_rest};
-ghost use Rattle.pg_survey.specs.Scenarios.{is_other, is_other_form, is_planned, other_in};
+ghost use Rattle.pg_survey.specs.Scenarios.{is_other, is_other_form, is_planned, other_in, texts_of};
 
 use pg_lines::{Line, NodeForm, read_line};
 use pg_text::TextFault;
@@ -29,6 +29,22 @@ pub(crate) fn other_line(alloc: Global, text: &str) -> Result<Option<usize>, All
         }
     }
     Ok(None)
+}
+
+/// The lines of a text.
+///
+/// Errors: `AllocError`.
+pub(crate) fn lines_of(alloc: Global, text: &str) -> Result<Vec<&str>, AllocError>
+    ensures { IfOk result (λ lines. texts_of lines.items ≡ lines_in text.now) }
+{
+    let mut lines = Vec::new(alloc);
+    let mut rest = Some(text);
+    while let Some(left) = rest {
+        let (line, behind) = first_line(left);
+        rest = behind;
+        lines.push(line)?;
+    }
+    Ok(lines)
 }
 
 /// The first line of a text, and what follows the line feed behind it, where one stands there.

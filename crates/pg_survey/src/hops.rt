@@ -1,9 +1,11 @@
 //! Runs through the worlds that were met.
 
 ghost use Rattle.std.specs.Prelude.{◌≡◌, IfOk, is_some};
-ghost use Rattle.pg_survey.specs.Findings.{IsWhereMarked, marks_in};
+ghost use Rattle.pg_survey.specs.Findings.{IsWhereMarked, marks_in, met_in};
+ghost use Rattle.pg_survey.specs.Runs.{IsRunTo, met_by};
 
 use crate::findings::Findings;
+use crate::tally::met_at;
 use pg_explore::{Met, Move};
 use pg_tally::{Hop, longest_run};
 use std::alloc::{AllocError, Global};
@@ -18,8 +20,10 @@ pub(crate) struct Stride {
 impl Findings<'_, '_> {
     /// A run to a world, as it was met: the shortest.
     ///
-    /// Errors: `AllocError`.
-    pub(crate) fn run_to(&self, place: usize) -> Result<Vec<Stride>, AllocError> {
+    /// Errors: `AllocError`, also where it leads back to where it began.
+    pub(crate) fn run_to(&self, place: usize) -> Result<Vec<Stride>, AllocError>
+        ensures { IfOk result (λ strides. IsRunTo (met_in self.now) place strides.items) }
+    {
         run_back(self.alloc, self.explored.met(), place)
     }
 
@@ -59,9 +63,9 @@ impl Findings<'_, '_> {
     ///
     /// Errors: `AllocError`, also where there is none.
     fn step_of(&self, hop: Hop) -> Result<Move, AllocError> {
-        match self.ways.steps.as_slice().get(hop.place) {
-            Some(steps) => match steps.as_slice().get(hop.way) {
-                Some(step) => step.copy(self.alloc),
+        match self.ways.led.as_slice().get(hop.place) {
+            Some(led) => match led.as_slice().get(hop.way) {
+                Some(way) => way.step.copy(self.alloc),
                 None => Err(AllocError),
             },
             None => Err(AllocError),
@@ -71,8 +75,10 @@ impl Findings<'_, '_> {
 
 /// The run to the world of a place, as it was met.
 ///
-/// Errors: `AllocError`.
-fn run_back(alloc: Global, mets: &[Met], place: usize) -> Result<Vec<Stride>, AllocError> {
+/// Errors: `AllocError`, also where it leads back to where it began.
+fn run_back(alloc: Global, mets: &[Met], place: usize) -> Result<Vec<Stride>, AllocError>
+    ensures { IfOk result (λ strides. IsRunTo mets.now place strides.items) }
+{
     let mut strides = Vec::new(alloc);
     let mut reached = place;
     for _ in 0..mets.len() {
@@ -81,18 +87,22 @@ fn run_back(alloc: Global, mets: &[Met], place: usize) -> Result<Vec<Stride>, Al
                 reached = stride.place;
                 strides.push(stride)?;
             }
-            None => break,
+            None => {
+                strides.as_mut_slice().reverse();
+                return Ok(strides);
+            }
         }
     }
-    strides.as_mut_slice().reverse();
-    Ok(strides)
+    Err(AllocError)
 }
 
 /// The step by which the world of a place was met; `None` where it is the first.
 ///
 /// Errors: `AllocError`.
-fn stride_to(alloc: Global, mets: &[Met], place: usize) -> Result<Option<Stride>, AllocError> {
-    match mets.get(place) {
+fn stride_to(alloc: Global, mets: &[Met], place: usize) -> Result<Option<Stride>, AllocError>
+    ensures { IfOk result (λ stride. stride ≡ met_by mets.now place) }
+{
+    match met_at(mets, place) {
         Some(met) => match &met.before {
             Some(before) => {
                 let step = before.step.copy(alloc)?;

@@ -15,49 +15,76 @@ pub(crate) struct Pen {
 }
 
 impl Pen {
+    ghost use Rattle.std.specs.Prelude.{◌≡◌, false, true, [], IfOk, IfSome, encode_utf8_all, is_ok, nat_eq, length, string_bytes};
+    ghost use Rattle.pg_text.specs.Writing.{atom_text, term_text};
+    ghost use Rattle.pg_lines.specs.Printing.{reply_text};
+    ghost use Rattle.pg_survey.specs.Texts.{Writes, written};
+
     /// Nothing is written yet.
     ///
     /// Cost: no memory.
-    pub(crate) fn new(alloc: Global) -> Pen {
+    pub(crate) fn new(alloc: Global) -> Pen
+        ensures none { written result ≡ [] }
+        ensures enough { result.is_short ≡ false }
+    {
         Pen {
             out: String::new(alloc),
             is_short: false,
         }
     }
 
-    pub(crate) fn is_empty(&self) -> bool {
+    pub(crate) fn is_empty(&self) -> bool
+        ensures { result ≡ nat_eq (length (written self.now)) 0 }
+    {
         self.out.is_empty()
     }
 
     /// Appends a text.
-    pub(crate) fn add(&mut self, text: &str) {
+    pub(crate) fn add(&mut self, text: &str)
+        ensures { Writes text.now self.old self.new }
+    {
         let written = self.out.push_str(text);
         self.keep(written);
     }
 
     /// Appends what `write!` makes.
-    pub(crate) fn write_fmt<D: Display + Drop>(&mut self, value: D) {
+    pub(crate) fn write_fmt<D: Display + Drop>(&mut self, value: D)
+        ensures { IfSome (D.output value) (λ text. Writes text self.old self.new) }
+    {
         let written = self.out.write_fmt(value);
         self.keep(written);
     }
 
-    pub(crate) fn add_term(&mut self, term: &Term) {
+    /// Appends the text of a term.
+    pub(crate) fn add_term(&mut self, term: &Term)
+        ensures { Writes (encode_utf8_all (term_text term.now)) self.old self.new }
+    {
         let written = write_term(term, &mut self.out);
         self.keep(written);
     }
 
-    pub(crate) fn add_atom(&mut self, atom: &Atom) {
+    /// Appends the text of an atom.
+    pub(crate) fn add_atom(&mut self, atom: &Atom)
+        ensures { Writes (encode_utf8_all (atom_text atom.now)) self.old self.new }
+    {
         let written = write_atom(atom, &mut self.out);
         self.keep(written);
     }
 
-    pub(crate) fn add_reply(&mut self, reply: &Reply) {
+    /// Appends the text of a reply.
+    pub(crate) fn add_reply(&mut self, reply: &Reply)
+        ensures { Writes (encode_utf8_all (reply_text reply.now)) self.old self.new }
+    {
         let written = print_reply(&mut self.out, reply);
         self.keep(written);
     }
 
     /// Keeps that memory was short, where it was.
-    fn keep(&mut self, written: Result<(), AllocError>) {
+    fn keep(&mut self, written: Result<(), AllocError>)
+        ensures out { self.new.out ≡ self.old.out }
+        ensures kept { self.new.is_short ≡ false → self.old.is_short ≡ false }
+        ensures made { self.new.is_short ≡ false → is_ok written ≡ true }
+    {
         if written.is_err() {
             self.is_short = true;
         }
@@ -66,7 +93,10 @@ impl Pen {
     /// The text.
     ///
     /// Errors: where memory was short.
-    pub(crate) fn finish(self) -> Result<String, AllocError> {
+    pub(crate) fn finish(self) -> Result<String, AllocError>
+        ensures text { IfOk result (λ text. string_bytes text ≡ written self) }
+        ensures enough { IfOk result (λ text. self.is_short ≡ false) }
+    {
         let Pen { out, is_short } = self;
         if is_short { Err(AllocError) } else { Ok(out) }
     }

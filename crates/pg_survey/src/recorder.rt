@@ -1,8 +1,7 @@
 //! The ways between worlds, as they are lent.
 
-ghost use Rattle.std.specs.Prelude.{◌≡◌, [], IfOk, OnOk, map};
-ghost use Rattle.pg_explore.specs.Lent.{IsLent};
-ghost use Rattle.pg_survey.specs.Ways.{AddsWays, is_take, step_of, way_of};
+ghost use Rattle.std.specs.Prelude.{◌≡◌, IfOk, Some};
+ghost use Rattle.pg_survey.specs.Ways.{AreWaysOf, all_led};
 
 use pg_explore::{Led, Met, Move, Visitor};
 use pg_tally::Way;
@@ -14,42 +13,49 @@ pub trait Observer {
     fn look(&mut self, explored: u64);
 }
 
-/// The ways from each world that was lent, by its place, and their steps.
+/// The steps that happen at each world that was lent, by its place, and where they lead; and these as ways.
 #[derive(Drop)]
 pub(crate) struct Ways {
+    pub(crate) led: Vec<Vec<Led>>,
     pub(crate) ways: Vec<Vec<Way>>,
-    pub(crate) steps: Vec<Vec<Move>>,
 }
 
 impl Ways {
-    /// None yet.
-    ///
-    /// Cost: no memory.
-    pub(crate) fn new(alloc: Global) -> Ways
-        ensures ways { result.ways.items ≡ [] }
-        ensures steps { result.steps.items ≡ [] }
-    {
-        Ways {
-            ways: Vec::new(alloc),
-            steps: Vec::new(alloc),
-        }
-    }
-
-    /// Adds those from one more world.
+    /// Those of such steps.
     ///
     /// Errors: `AllocError`.
-    fn add(&mut self, alloc: Global, led: &[Led]) -> Result<(), AllocError>
-        ensures { OnOk result (AddsWays led.now self.old self.new) }
+    pub(crate) fn of(alloc: Global, led: Vec<Vec<Led>>) -> Result<Ways, AllocError>
+        ensures led { IfOk result (λ ways. ways.led ≡ led) }
+        ensures ways { IfOk result (λ ways. AreWaysOf (all_led led.items) ways.ways.items) }
     {
-        let ways = ways_of(alloc, led)?;
-        let steps = steps_of(alloc, led)?;
-        self.ways.push(ways)?;
-        self.steps.push(steps)?;
-        Ok(())
+        match all_ways(alloc, led.as_slice()) {
+            Ok(ways) => Ok(Ways { led, ways }),
+            Err(AllocError) => {
+                drop(led);
+                Err(AllocError)
+            }
+        }
     }
 }
 
-/// The ways by themselves.
+ghost use Rattle.std.specs.Prelude.{map};
+ghost use Rattle.pg_survey.specs.Ways.{is_take, way_of};
+
+/// The ways of some worlds.
+///
+/// Errors: `AllocError`.
+fn all_ways(alloc: Global, led: &[Vec<Led>]) -> Result<Vec<Vec<Way>>, AllocError>
+    ensures { IfOk result (λ ways. AreWaysOf (all_led led.now) ways.items) }
+{
+    let mut all = Vec::with_capacity(alloc, led.len())?;
+    for row in led {
+        let ways = ways_of(alloc, row.as_slice())?;
+        all.push(ways)?;
+    }
+    Ok(all)
+}
+
+/// The ways of a world.
 ///
 /// Errors: `AllocError`.
 fn ways_of(alloc: Global, led: &[Led]) -> Result<Vec<Way>, AllocError>
@@ -74,31 +80,38 @@ fn is_take(step: &Move) -> bool
     }
 }
 
-/// Their steps.
+/// The same steps, and where they lead.
 ///
 /// Errors: `AllocError`.
-fn steps_of(alloc: Global, led: &[Led]) -> Result<Vec<Move>, AllocError>
-    ensures { IfOk result (λ steps. steps.items ≡ map step_of led.now) }
+fn copies_of(alloc: Global, led: &[Led]) -> Result<Vec<Led>, AllocError>
+    ensures { IfOk result (λ copies. copies.items ≡ led.now) }
 {
-    let mut steps = Vec::with_capacity(alloc, led.len())?;
+    let mut copies = Vec::with_capacity(alloc, led.len())?;
     for way in led {
         let step = way.step.copy(alloc)?;
-        steps.push(step)?;
+        copies.push(Led {
+            step,
+            place: way.place,
+        })?;
     }
-    Ok(steps)
+    Ok(copies)
 }
 
-/// Keeps the ways from the worlds that it is lent, and shows an observer how many these are.
+/// Keeps the steps that happen at the worlds that it is lent, and shows an observer how many these are.
 #[derive(Drop)]
 pub(crate) struct Recorder<'a, O> {
     pub(crate) alloc: Global,
-    pub(crate) ways: Ways,
+    pub(crate) led: Vec<Vec<Led>>,
     pub(crate) observer: &'a mut O,
 }
 
 impl<O: Observer> Visitor for Recorder<'_, O> {
+    ghost ways = { λ recorder. Some (all_led recorder.led.items) };
+
     fn visit(&mut self, place: usize, _met: &Met, led: &[Led]) -> Result<(), AllocError> {
         self.observer.look(place as u64);
-        self.ways.add(self.alloc, led)
+        let led = copies_of(self.alloc, led)?;
+        self.led.push(led)?;
+        Ok(())
     }
 }

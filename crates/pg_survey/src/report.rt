@@ -4,12 +4,13 @@ ghost use Rattle.std.specs.Prelude.{◌≡◌, IfOk, List, None, get_or, string_
 ghost use Rattle.std.specs.Global.{Vec};
 ghost use Rattle.pg_tally.specs.declared.ways.Way.{Way};
 ghost use Rattle.pg_tally.specs.Takes.{AreTakes, widened_to};
-ghost use Rattle.pg_survey.specs.Findings.{AreAmong, joined, IsPage, IsReport, ends_in, ways_in};
+ghost use Rattle.pg_survey.specs.Findings.{AreAmong, joined, IsPage, IsReport, countings_in, ends_in, ways_in};
+ghost use Rattle.pg_survey.specs.Texts.{AreSections};
 
 use crate::answers::add_answers;
 use crate::findings::Findings;
 use crate::histories::add_histories;
-use crate::tally::count_marks;
+use crate::tally::{count_at, count_marks};
 use pg_tally::{Report, Section, Takes, takes_to};
 use std::alloc::AllocError;
 
@@ -39,9 +40,9 @@ impl Findings<'_, '_> {
             is_whole: self.is_whole(),
             ends: self.tally.ends.len(),
             takes,
-            held: self.tally.held,
+            held: count_at(self.tally.held.as_slice(), self.tally.ends.as_slice()),
             differing: count_marks(self.tally.differing.as_slice()),
-            free: self.tally.free,
+            free: count_marks(self.tally.free.as_slice()),
             sections,
         })
     }
@@ -59,11 +60,15 @@ impl Findings<'_, '_> {
     /// Of each group that commands change, the histories at ends; of each command, what it is answered there.
     ///
     /// Errors: `AllocError`.
-    fn sections(&self) -> Result<Vec<Section>, AllocError> {
+    fn sections(&self) -> Result<Vec<Section>, AllocError>
+        ensures { IfOk result (λ sections. AreSections (countings_in self.now) sections.items) }
+    {
         let mut sections = Vec::new(self.alloc);
         let mets = self.explored.met();
-        add_histories(&mut sections, self.alloc, self.scenario, mets, &self.tally)?;
-        add_answers(&mut sections, self.alloc, self.scenario, mets, &self.tally)?;
+        let ends = self.tally.ends.as_slice();
+        let groups = self.tally.groups.as_slice();
+        add_histories(&mut sections, self.alloc, self.scenario, mets, ends, groups)?;
+        add_answers(&mut sections, self.alloc, self.scenario, mets, ends)?;
         Ok(sections)
     }
 }

@@ -2,10 +2,10 @@
 
 ghost use Rattle.std.specs.Prelude.{◌≡◌, ◌≢◌, [], IfOk, IfErr, OnOk, Ok, Err, length};
 ghost use Rattle.pg_script.specs.declared.fault.LineFault.TheVariants.{OutOfMemory};
-ghost use Rattle.pg_script.specs.Scripts.{contents_of};
-ghost use Rattle.pg_survey.specs.Scenarios.{AddPlans, ArePlans, IsScenario, bad_line, first_fault, planned_act, planned_event, planned_of, planned_step, scenario_of, without_others};
+ghost use Rattle.pg_script.specs.Scripts.{contents_of, lines_in};
+ghost use Rattle.pg_survey.specs.Scenarios.{AddPlans, AreCommands, ArePlans, IsScenario, bad_line, command_lines, is_command_of, texts_of, first_fault, planned_act, planned_event, planned_of, planned_step, scenario_of, without_others};
 
-use crate::forms::other_line;
+use crate::forms::{lines_of, other_line};
 use pg_explore::{Plan, Planned};
 use pg_script::{Act, LineFault, Script, ScriptFault, ScriptLine, read_script};
 use pg_world::{Config, FrameStep, Step};
@@ -22,26 +22,49 @@ pub struct Scenario<'a> {
 }
 
 impl<'a> Scenario<'a> {
+    ghost use Rattle.std.specs.Prelude.{slice_get};
+    ghost use Rattle.pg_survey.specs.Texts.{command_at, command_line, line_at, places_of};
+
     /// The line of a command of a node, by its number from 1 on.
-    pub(crate) fn command(&self, node: usize, number: u32) -> &'a str {
-        let Some(commands) = self.commands.as_slice().get(node) else {
-            return "";
-        };
-        match commands.as_slice().get(number.saturating_sub(1) as usize) {
-            Some(place) => self.line(*place),
+    pub(crate) fn command(&self, node: usize, number: u32) -> &'a str
+        ensures { result.now ≡ command_line self.now node number }
+    {
+        self.command_at(node, number.saturating_sub(1) as usize)
+    }
+
+    /// The line of a command of a node, by its place among them.
+    pub(crate) fn command_at(&self, node: usize, place: usize) -> &'a str
+        ensures { result.now ≡ command_at self.now node place }
+    {
+        match self.place_of(node, place) {
+            Some(line) => self.line(line),
             None => "",
         }
     }
 
+    /// The place of its line.
+    fn place_of(&self, node: usize, place: usize) -> Option<usize>
+        ensures { result ≡ slice_get (places_of self.now node) place }
+    {
+        match self.commands.as_slice().get(node) {
+            Some(commands) => commands.as_slice().get(place).copied(),
+            None => None,
+        }
+    }
+
     /// How many commands a node has.
-    pub(crate) fn command_count(&self, node: usize) -> usize {
+    pub(crate) fn command_count(&self, node: usize) -> usize
+        ensures { result ≡ length (places_of self.now node) }
+    {
         match self.commands.as_slice().get(node) {
             Some(commands) => commands.len(),
             None => 0,
         }
     }
 
-    fn line(&self, place: usize) -> &'a str {
+    fn line(&self, place: usize) -> &'a str
+        ensures { result.now ≡ line_at self.now place }
+    {
         match self.lines.as_slice().get(place) {
             Some(line) => *line,
             None => "",
@@ -55,6 +78,7 @@ impl<'a> Scenario<'a> {
 /// each.
 pub fn read_scenario(alloc: Global, text: &str) -> Result<Scenario<'_>, ScriptFault>
     ensures ok { IfOk result (λ scenario. IsScenario (scenario_of text.now) scenario) }
+    ensures lines { IfOk result (λ scenario. texts_of scenario.lines.items ≡ lines_in text.now) }
     ensures err { IfErr result (λ fault. fault.fault ≢ OutOfMemory → scenario_of text.now ≡ Err fault) }
 {
     match other_line(alloc, text) {
@@ -76,6 +100,7 @@ fn scenario_without(
     other: Option<usize>,
 ) -> Result<Scenario<'_>, ScriptFault>
     ensures ok { IfOk result (λ scenario. IsScenario (without_others other (Ok (contents_of script))) scenario) }
+    ensures lines { IfOk result (λ scenario. texts_of scenario.lines.items ≡ lines_in text.now) }
     ensures err { IfErr result (λ fault. fault.fault ≢ OutOfMemory → without_others other (Ok (contents_of script)) ≡ Err fault) }
 {
     match other {
@@ -137,9 +162,11 @@ fn scenario_of<'a>(
     ensures config { IfOk result (λ scenario. scenario.config ≡ config) }
     ensures len { IfOk result (λ scenario. length scenario.plans.items ≡ length config.starts.items) }
     ensures plans { IfOk result (λ scenario. ArePlans lines.items scenario.plans.items) }
+    ensures lines { IfOk result (λ scenario. texts_of scenario.lines.items ≡ lines_in text.now) }
+    ensures commands { IfOk result (λ scenario. AreCommands lines.items (length config.starts.items) scenario.commands.items) }
 {
     let count = config.starts.len();
-    let texts = text.split('\n').collect(alloc)?;
+    let texts = lines_of(alloc, text)?;
     let commands = commands_of(alloc, count, lines.as_slice())?;
     match plans_of(alloc, count, lines) {
         Ok(plans) => Ok(Scenario {
@@ -162,7 +189,9 @@ fn commands_of(
     alloc: Global,
     count: usize,
     lines: &[ScriptLine],
-) -> Result<Vec<Vec<usize>>, AllocError> {
+) -> Result<Vec<Vec<usize>>, AllocError>
+    ensures { IfOk result (λ commands. AreCommands lines.now count commands.items) }
+{
     let mut commands = Vec::with_capacity(alloc, count)?;
     for place in 0..count {
         let lines = commands_at(alloc, place, lines)?;
@@ -174,11 +203,9 @@ fn commands_of(
 /// The places of the lines of a node's commands.
 ///
 /// Errors: `AllocError`.
-fn commands_at(
-    alloc: Global,
-    place: usize,
-    lines: &[ScriptLine],
-) -> Result<Vec<usize>, AllocError> {
+fn commands_at(alloc: Global, place: usize, lines: &[ScriptLine]) -> Result<Vec<usize>, AllocError>
+    ensures { IfOk result (λ commands. commands.items ≡ command_lines place lines.now) }
+{
     let mut commands = Vec::new(alloc);
     for line in lines {
         if is_command_of(place, &line.act) {
@@ -188,7 +215,9 @@ fn commands_at(
     Ok(commands)
 }
 
-fn is_command_of(place: usize, act: &Act) -> bool {
+fn is_command_of(place: usize, act: &Act) -> bool
+    ensures { result ≡ is_command_of place act.now }
+{
     match act {
         Act::Step(Step::Event(FrameStep::Command { node, .. })) => *node == place,
         _ => false,

@@ -1,13 +1,15 @@
 -- What a conversation of clients with a cluster came to.
-use Rattle.std.specs.Prelude.{◌≡◌, ℕ, Bool, ◌<◌, ◌+◌, ◌*◌, ◌-◌, ◌^◌, min, List, [], ◌∷◌, ◌++◌, get_or, length}
+use Rattle.std.specs.Prelude.{◌≡◌, ℕ, Bool, ◌<◌, ◌+◌, ◌*◌, ◌-◌, ◌^◌, min, List, [], ◌∷◌, ◌++◌, get_or, length, map}
 use Rattle.std.specs.List.{All, sum_by}
 use Rattle.pg_run.specs.Ports.{polled}
+use Rattle.pg_run.specs.Runs.{generator_of}
 use Rattle.pg_run.specs.declared.port.Client.{Client}
 use Rattle.pg_step.specs.Config.{Config}
 use Rattle.pg_step.specs.declared.start.Start.{Start}
 use Rattle.rand_pcg.specs.Lcg.{Lcg}
 use Rattle.pg_cluster.specs.Notices.{NobodyLost}
-use Rattle.pg_cluster.specs.Threads.{Thread, limit_of}
+use Rattle.pg_cluster.specs.Seeds.{AreSeeded}
+use Rattle.pg_cluster.specs.Threads.{HaveRings, Thread, begun_by, limit_of}
 use Rattle.pg_talk.specs.declared.conversation.Conversation.{Conversation}
 use Rattle.pg_talk.specs.declared.conversation.Outcome.{Outcome}
 use Rattle.pg_talk.specs.Asking.{AllSpoke}
@@ -63,6 +65,9 @@ pub record TookPlace (asked : Conversation) (outcome : Outcome) : Type 0 where
   pub judged : IsJudged given lost threads clients (record { agree = outcome.agree; replay = outcome.replay })
   pub nodes_told : outcome.nodes ≡ asked.nodes
   pub clients_told : outcome.clients ≡ all_clients asked
+  -- each ring between two nodes has room for 64 KB, and the pauses of each node are those of its own seed
+  pub rings : HaveRings 65536 (map begun_by threads)
+  pub seeds : AreSeeded asked.seed (map generator_of (map begun_by threads))
   -- each node made so many turns at most, and each client asked just what it was to ask
   pub limits : All (λ thread. limit_of thread ≡ asked.turns) threads
   pub spoke : AllSpoke asked.rounds clients

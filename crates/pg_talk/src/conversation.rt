@@ -146,7 +146,8 @@ fn yes_or_no(holds: bool) -> &'static str
 
 /// Starts a cluster and lets its clients speak. The first client of the first node creates a group. Once that is answered each client
 /// makes a process, and then joins the group and leaves it so many times, each command once the former is answered. The cluster is closed
-/// once all is answered, or after as many looks as there are turns. `onlooker` sees at each look how far they are. It may wait for threads.
+/// once all is answered, or after as many looks as there are turns. `asked`: the nodes, their clients, the seed of the pauses of the first
+/// node, which is one more for each further node, and the turns. `onlooker` sees at each look how far they are. It may wait for threads.
 ///
 /// Errors: those of `Cluster::start`, in their order, `BadConfig` among them for more than 16 nodes, or none. Also `World` of `OutOfMemory`,
 /// where memory runs out before the start, while the clients speak, or as the cluster is judged. No thread of it runs after an error.
@@ -177,7 +178,8 @@ pub fn run_threads<R: Threads, O: Onlooker>(
 
 /// The nodes `n1`, `n2` and so on, with as many ports as clients.
 fn config_of(alloc: Global, asked: Conversation) -> Result<Config, StartFault>
-    ensures { IfOk result (λ config. AreAsked asked config.starts.items) }
+    ensures asked { IfOk result (λ config. AreAsked asked config.starts.items) }
+    ensures ring { IfOk result (λ config. config.ring ≡ 65536) }
 {
     let mut starts = Vec::with_capacity(alloc, MAX_NODES)?;
     for place in 0..asked.nodes {

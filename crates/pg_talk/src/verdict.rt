@@ -1,9 +1,11 @@
 //! What a cluster is found to be once it has ended.
 
-ghost use Rattle.std.specs.Prelude.{◌↔◌, IfOk, IsTrue};
+ghost use Rattle.std.specs.Prelude.{◌≡◌, ◌↔◌, true, IfOk, IsTrue};
+ghost use Rattle.std.specs.List.{list_any};
 ghost use Rattle.pg_cluster.specs.Judges.{Agree};
 ghost use Rattle.pg_cluster.specs.Notices.{NobodyLost};
 ghost use Rattle.pg_cluster.specs.Running.{clients_in, config_in, losses_in, threads_in};
+ghost use Rattle.pg_cluster.specs.Survivors.{SurvivorsAgree};
 ghost use Rattle.pg_talk.specs.Verdicts.{IsJudged};
 
 use pg_cluster::{Closed, Running};
@@ -52,11 +54,20 @@ pub(crate) fn close_and_judge<R: Threads>(
 ///
 /// Error: `AllocError`.
 fn agreement(alloc: Global, closed: &Closed) -> Result<bool, AllocError>
-    ensures { IfOk result (λ yes. NobodyLost closed.now.lost.items → (IsTrue yes ↔ Agree closed.now.nodes.items closed.now.logs.items)) }
+    ensures nobody { IfOk result (λ yes. NobodyLost closed.now.lost.items → (IsTrue yes ↔ Agree closed.now.nodes.items closed.now.logs.items)) }
+    ensures some { IfOk result (λ yes. list_any (λ one. one) closed.now.lost.items ≡ true
+        → (IsTrue yes ↔ SurvivorsAgree closed.now.nodes.items closed.now.lost.items closed.now.logs.items)) }
 {
-    if closed.lost.iter().any(|lost| *lost) {
+    if is_any_lost(closed.lost.as_slice()) {
         closed.survivors_agree(alloc)
     } else {
         closed.agrees(alloc)
     }
+}
+
+/// Whether a node was lost.
+fn is_any_lost(lost: &[bool]) -> bool
+    ensures { result ≡ list_any (λ one. one) lost.now }
+{
+    lost.iter().any(|one| *one)
 }

@@ -249,7 +249,7 @@ impl Watch {
         match stepped {
             Stepped::Moved(count) if count > 0 || !is_quiet => self.see_move(step, count),
             Stepped::Nothing if !is_quiet => self.see_nothing(step),
-            Stepped::Happened => self.see_event(world, step),
+            Stepped::Happened(_) => self.see_event(world, step),
             Stepped::Gone => self.see_lost(step),
             _ => Ok(()),
         }

@@ -68,7 +68,7 @@ fn settle(world: &mut FrameWorld<IndexTable>) {
 fn is_made(world: &mut FrameWorld<IndexTable>, step: FrameStep) -> bool {
     let stepped = world.step(&step);
     drop(step);
-    stepped == Ok(Stepped::Happened)
+    matches!(stepped, Ok(Stepped::Happened(_)))
 }
 
 /// The updates of the group, in their order, each after a space.

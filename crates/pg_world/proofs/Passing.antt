@@ -31,7 +31,9 @@ use Rattle.pg_node.specs.Links.{Link, at_link}
 use Rattle.pg_node.specs.Nodes.{read_next, ComesInRoom}
 use Rattle.pg_node_state.specs.Sendable.{AreSendable}
 use Rattle.pg_node_state.specs.States.{stamped_of, Comes}
+use Rattle.pg_frame_world.specs.declared.effect.Effect.{Effect}
 use Rattle.pg_frame_world.specs.declared.step.Stepped.TheVariants.{Happened}
+use Rattle.pg_frame_world.specs.Effects.{effect_by}
 use Rattle.pg_world.specs.Crossings.{Crossing, link_at, bytes_at, packet_as, packets_between, CanCross, IsOnWay, IsWelcome, ShowsPast, ShowsBytesPast, EventComesTo}
 use Rattle.pg_account.specs.Losses.{is_lost}
 use Rattle.pg_account.specs.Histories.{asked_by}
@@ -136,18 +138,18 @@ module _ (config : Config) (lost : List ℕ) (crossing : Crossing) (w : TimedFra
 -- ---- what an event leaves
 
 -- what came of an event, from what it comes to with the world that it leaves
-happened_as : (config : Config) (w : TimedFrameWorld) (e : Event Action) (One Other : TimedFrameWorld → Type 0) → ((v : TimedFrameWorld) → One v → Other v)
-    → ComesTo config w e (Ok Happened) One → EventComesTo config w e (Ok Happened) Other
-happened_as config w e One Other f comes = (comes.0, comes.1, f comes.0 comes.2)
+happened_as : (config : Config) (w : TimedFrameWorld) (e : Event Action) (did effect : Effect) → effect ≡ did → (One Other : TimedFrameWorld → Type 0) → ((v : TimedFrameWorld) → One v → Other v)
+    → ComesTo config w e (Ok (Happened did)) One → EventComesTo config w e (Ok (Happened effect)) Other
+happened_as config w e did effect same One Other f (made, (v, happened, one)) = (made ∙ ap Some (sym same), (v, happened, f v one))
 
 module _ (config : Config) (lost : List ℕ) (crossing crossing2 : Crossing) (account account2 : Account) (w : TimedFrameWorld) (shows : ShowsBytesPast config lost crossing account w) (adds : Adds) where
   -- something of its own
   module _ (i : ℕ) (stays : is_lost lost i ≡ false) (action : Action) (node after : Seen) (done : Done) (here : slice_get crossing.nodes i ≡ Some node) (set : crossing2.nodes ≡ slice_set crossing.nodes i after)
       (names : after.names ≡ node.names) (ports : after.ports ≡ node.ports) (fits : AreSendable node.names done.sends.items) (small : AreSmallFrames done.sends.items)
-      (acts : Acts crossing crossing2 (Do i action) done.sends.items) (grew : Grew account account2 i None done.began) where
+      (acts : Acts crossing crossing2 (Do i action) done.sends.items) (grew : Grew account account2 i None done.began) (effect : Effect) (did : effect ≡ effect_by done) where
     pub own_shown : ComesInRoom node.names (step_act (whole_in node.names) node.ports action node.state) (Ok done) after.state node.answers after.answers
-        → EventComesTo config w (Do i action) (Ok Happened) (ShowsBytesPast config lost crossing2 account2)
-    own_shown comes = happened_as config w (Do i action) _ _ whole
+        → EventComesTo config w (Do i action) (Ok (Happened effect)) (ShowsBytesPast config lost crossing2 account2)
+    own_shown comes = happened_as config w (Do i action) (effect_by done) effect did _ _ whole
         (own_left config crossing.nodes w i action node shows.traffic.nodes here crossing2.nodes after done set names ports fits comes)
       where
         whole : (v : TimedFrameWorld) → Left config crossing2.nodes (Do i action) done.sends.items None done.began w v → ShowsBytesPast config lost crossing2 account2 v
@@ -161,10 +163,10 @@ module _ (config : Config) (lost : List ℕ) (crossing crossing2 : Crossing) (ac
   module _ (i p : ℕ) (stays : is_lost lost i ≡ false) (pair : is_pair (length crossing.nodes) i p ≡ true) (packet : Packet) (first : FirstRead lost w crossing i p packet) (node : Seen) (here : slice_get crossing.nodes i ≡ Some node) where
     module _ (after : Seen) (done : Done) (set : crossing2.nodes ≡ slice_set crossing.nodes i after)
         (names : after.names ≡ node.names) (ports : after.ports ≡ node.ports) (fits : AreSendable node.names done.sends.items) (small : AreSmallFrames done.sends.items)
-        (acts : Acts crossing crossing2 (Take i p) done.sends.items) (grew : Grew account account2 i (asked_by packet.message) done.began) where
+        (acts : Acts crossing crossing2 (Take i p) done.sends.items) (grew : Grew account account2 i (asked_by packet.message) done.began) (effect : Effect) (did : effect ≡ effect_by done) where
       pub taken_shown : ComesInRoom node.names (step_take (whole_in node.names) (place_name node.names (peer_place i p + 1)) (stamped_of packet) node.state) (Ok done) after.state node.answers after.answers
-          → EventComesTo config w (Take i p) (Ok Happened) (ShowsBytesPast config lost crossing2 account2)
-      taken_shown comes = happened_as config w (Take i p) _ _ whole
+          → EventComesTo config w (Take i p) (Ok (Happened effect)) (ShowsBytesPast config lost crossing2 account2)
+      taken_shown comes = happened_as config w (Take i p) (effect_by done) effect did _ _ whole
           (take_left config crossing.nodes w i p shows.traffic.nodes pair node here (stamped_of packet) first.rest first.begins crossing2.nodes after done set names ports fits comes)
         where
           takes : (x y : ℕ) → (p ≡ x) × (i ≡ y) → (one : Packet) (others : List Packet) → packets_between w x y ≡ one ∷ others → IsOnWay (is_lost lost y) (is_lost lost x) others (bytes_taken (bytes_at crossing x y))

@@ -72,6 +72,12 @@ abbrev pub IsHeld : Option Refusal → Result Stepped NodeFault → Type 0
 IsHeld None result = Unit {0}
 IsHeld (Some refusal) result = (result ≡ Err (Refused refusal)) ⊎ (result ≡ Err OutOfMemory)
 
+-- a fault is the refusal of what is barred so, or memory ran out
+abbrev pub IsFaultOf : Option Refusal → NodeFault → Type 0
+IsFaultOf bar OutOfMemory = Unit {0}
+IsFaultOf bar (Refused refusal) = bar ≡ Some refusal
+IsFaultOf bar fault = ⊥
+
 -- the lost nodes behind a step over bytes
 abbrev pub bytes_lost_after : Step → Result Stepped NodeFault → List ℕ → List ℕ
 bytes_lost_after (steps.Event step) result lost = lost_after step result lost

@@ -1,7 +1,7 @@
 -- Steps over bytes that are made one after another: their events, and when one that did nothing has a number.
 use Rattle.std.specs.Prelude.{◌≡◌, ◌⊎◌, ℕ, true, false, not, length, List, Option, Some, None, Err}
 use Rattle.std.specs.List.{AllPass}
-use Rattle.pg_machine.specs.Places.{is_pair}
+use Rattle.pg_machine.specs.Places.{is_place, is_pair}
 use Rattle.pg_machine.specs.Machine.{Event, Take, Do}
 use Rattle.pg_step.specs.declared.refusal.Refusal.{Refusal}
 use Rattle.pg_step.specs.declared.refusal.Refusal.TheVariants.{NoSuchPlace}
@@ -33,18 +33,22 @@ event_in (steps.Pull to from max) = None
 event_in (steps.Event step) = event_of step
 event_in (steps.Lose node) = None
 
+-- the loss of a node that was refused where none is lost: it is not there, or memory ran out
+abbrev pub IsNotLost : Config → ℕ → ℕ → Type 0
+IsNotLost config i number = ((is_place (length config) i ≡ false) × (number ≡ refusal_number_of NoSuchPlace)) ⊎ (number ≡ 10)
+
 abbrev pub IsEventLeft : Config → TimedFrameWorld → FrameStep → ℕ → Type 0
 IsEventLeft config w (frames.Take i p) number = IsLeft config w (Take i p) number
 IsEventLeft config w (frames.Command i port command) number = IsLeft config w (Do i (Issue port command)) number
 IsEventLeft config w (frames.Retry i op) number = IsLeft config w (Do i (Retry op)) number
 IsEventLeft config w (frames.SeeLoss i p) number = SeesNone (is_pair (length config) i p) number
-IsEventLeft config w (frames.Lose i keep) number = ⊥
+IsEventLeft config w (frames.Lose i keep) number = IsNotLost config i number
 
 abbrev pub IsStill : Config → TimedFrameWorld → Step → ℕ → Type 0
 IsStill config w (steps.Put from to max) number = IsMove config from to number
 IsStill config w (steps.Pull to from max) number = IsMove config from to number
 IsStill config w (steps.Event step) number = IsEventLeft config w step number
-IsStill config w (steps.Lose node) number = ⊥
+IsStill config w (steps.Lose node) number = IsNotLost config node number
 
 abbrev pub over_bytes : Kind Step
 over_bytes = record { event = event_in; Passed = IsStill }

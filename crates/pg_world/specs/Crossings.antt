@@ -8,8 +8,8 @@ use Rattle.pg_message.specs.declared.message.Message.{Message}
 use Rattle.pg_message.specs.declared.packet.Packet.{Packet}
 use Rattle.pg_message.specs.Reading.{packet_spelled}
 use Rattle.pg_message.specs.Writing.{is_exchange, term_of_packet}
-use Rattle.pg_machine.specs.Places.{is_pair}
-use Rattle.pg_machine.specs.Machine.{Event, Take, Do, happens}
+use Rattle.pg_machine.specs.Places.{is_place, is_pair}
+use Rattle.pg_machine.specs.Machine.{Event, Take, Do}
 use Rattle.pg_machine.specs.Clocked.{Stamped}
 use Rattle.pg_frame.specs.Pieces.{Bytes, ArePackets, AreCut}
 use Rattle.pg_step.specs.declared.refusal.Refusal.TheVariants.{NoSuchPlace, NotAMessage}
@@ -31,9 +31,10 @@ use Rattle.pg_frame_world.specs.declared.step.Stepped.TheVariants.{Nothing, Move
 use Rattle.pg_world.specs.declared.bytes.ByteNodes.{ByteNodes}
 use Rattle.pg_account.specs.Losses.{is_lost}
 use Rattle.pg_starts.specs.Seen.{Seen, seen_of}
+use Rattle.pg_frame_world.specs.Effects.{effect_in}
 use Rattle.pg_frame_world.specs.Views.{peer_place}
 use Rattle.pg_account.specs.Histories.{Account}
-use Rattle.pg_frame_world.specs.Worlds.{TimedFrameWorld, ShowsNodes, ShowsUpdates, IsUnseen, is_loss, told}
+use Rattle.pg_frame_world.specs.Worlds.{TimedFrameWorld, ShowsNodes, ShowsUpdates, EventLed, IsUnseen, is_loss, told}
 
 -- ---- a world as it is seen
 
@@ -136,10 +137,10 @@ abbrev pub is_take : Event Action → Bool
 is_take (Take i p) = true
 is_take (Do i action) = false
 
--- What came of an event in the world w: it happened, and led to a world that is shown; or no whole packet had come, memory ran
--- out, or it was refused as is told, and the world w is shown.
+-- What came of an event in the world w: it happened, did what is reported, and led to a world that is shown; or no whole packet had
+-- come, memory ran out, or it was refused as is told, and the world w is shown.
 abbrev pub EventComesTo : Config → TimedFrameWorld → Event Action → Result Stepped NodeFault → (TimedFrameWorld → Type 0) → Type 0
-EventComesTo config w e (Ok Happened) Shown = (v : TimedFrameWorld) × (happens (frame_machine config) w e ≡ Some v) × Shown v
+EventComesTo config w e (Ok (Happened effect)) Shown = (effect_in (frame_machine config) w e ≡ Some effect) × EventLed config w e Shown
 EventComesTo config w e (Ok Nothing) Shown = (is_take e ≡ true) × Shown w
 EventComesTo config w e (Ok stepped) Shown = ⊥
 EventComesTo config w e (Err OutOfMemory) Shown = Shown w
@@ -155,20 +156,27 @@ MoveComesTo config x y (Err OutOfMemory) Shown = (is_pair (length config) x y �
 MoveComesTo config x y (Err (Refused refusal)) Shown = (refusal ≡ NoSuchPlace) × (is_pair (length config) x y ≡ false) × Shown
 MoveComesTo config x y (Err fault) Shown = ⊥
 
+-- What came of the loss of a node where none is lost: it is lost; or memory ran out, or it is not there, and the world w is shown.
+abbrev pub LossLeaves : Config → ℕ → Result Stepped NodeFault → Type 0 → Type 0
+LossLeaves config i (Ok stepped) Shown = Unit {0}
+LossLeaves config i (Err OutOfMemory) Shown = Shown
+LossLeaves config i (Err (Refused refusal)) Shown = (refusal ≡ NoSuchPlace) × (is_place (length config) i ≡ false) × Shown
+LossLeaves config i (Err fault) Shown = ⊥
+
 -- What came of an event where no node is lost.
 abbrev pub FrameComesTo : Config → TimedFrameWorld → FrameStep → Result Stepped NodeFault → (TimedFrameWorld → Type 0) → Type 0
 FrameComesTo config w (frames.Take i p) result Shown = EventComesTo config w (Take i p) result Shown
 FrameComesTo config w (frames.Command i port command) result Shown = EventComesTo config w (Do i (Issue port command)) result Shown
 FrameComesTo config w (frames.Retry i op) result Shown = EventComesTo config w (Do i (Retry op)) result Shown
 FrameComesTo config w (frames.SeeLoss i p) result Shown = IsUnseen (is_pair (length config) i p) result × Shown w
-FrameComesTo config w (frames.Lose i keep) result Shown = Unit {0}
+FrameComesTo config w (frames.Lose i keep) result Shown = LossLeaves config i result (Shown w)
 
 -- What came of a step over bytes where no node is lost. What the loss of a node leaves is said where nodes may be lost.
 abbrev pub StepComesTo : Config → TimedFrameWorld → Step → Result Stepped NodeFault → (TimedFrameWorld → Type 0) → Type 0
 StepComesTo config w (steps.Put from to max) result Shown = MoveComesTo config from to result (Shown w)
 StepComesTo config w (steps.Pull to from max) result Shown = MoveComesTo config from to result (Shown w)
 StepComesTo config w (steps.Event step) result Shown = FrameComesTo config w step result Shown
-StepComesTo config w (steps.Lose node) result Shown = Unit {0}
+StepComesTo config w (steps.Lose node) result Shown = LossLeaves config node result (Shown w)
 
 -- a step by which a node is lost
 abbrev pub is_loss_in : Step → Bool

@@ -12,7 +12,7 @@ use pg_config::{Config, WorldFault};
 use pg_frame_world::{Stepped, pending_ends_are_listed};
 use pg_group::GroupTable;
 use pg_index::IndexTable;
-use pg_loss::each_world_past_losses;
+use pg_left::each_world_past_losses;
 use pg_node::{Node, NodeFault};
 use pg_term::{Pid, Term};
 use std::alloc::{AllocError, Global};
@@ -62,7 +62,7 @@ impl World<IndexTable> {
 }
 
 impl<T: GroupTable + Drop> World<T> {
-    ghost use Rattle.std.specs.Prelude.{◌≡◌, ◌<◌, ◌↔◌, ◌++◌, [], true, IsTrue, IfOk, ℕ, length, map, option_map, slice_get};
+    ghost use Rattle.std.specs.Prelude.{◌≡◌, ◌<◌, ◌+◌, ◌↔◌, ◌++◌, [], true, false, IsTrue, IfOk, IfSome, ℕ, length, map, option_map, slice_get};
     ghost use Rattle.std.specs.Option.{option_copied};
     ghost use Rattle.pg_term.specs.declared.term.Term.{Term};
     ghost use Rattle.pg_machine.specs.Clocked.{plain};
@@ -73,6 +73,8 @@ impl<T: GroupTable + Drop> World<T> {
     ghost use Rattle.pg_world.specs.BytesLosing.{ShowsLosingBytes, StepLeaves};
     ghost use Rattle.pg_frame_world.specs.Losing.{IsReachedLosing};
     ghost use Rattle.pg_world.specs.ByteWorlds.{account_of, crossing_of, given_of, lost_of, room_of};
+    ghost use Rattle.pg_node.specs.Nodes.{held_by, links_of};
+    ghost use Rattle.pg_node_state.specs.States.{names_of};
     ghost use Rattle.pg_world.specs.Changes.{StepChanges};
     ghost use Rattle.pg_world.specs.Crossings.{node_of, ShowsCrossing, ShowsBytes, StepComesTo};
     ghost use Rattle.pg_frame_world.specs.Worlds.{IsReached};
@@ -83,13 +85,15 @@ impl<T: GroupTable + Drop> World<T> {
     ghost use Rattle.pg_frame_world.specs.Pending.{AgreeOn, pending_of, sees_free};
     ghost use Rattle.pg_frame_world.specs.Worlds.{TimedFrameWorld};
 
-    /// The node at a place.
+    /// The node at a place, with its links, of which none is damaged.
     ///
     /// Cost: no memory.
     pub fn node(&self, place: usize) -> Option<&Node<T>>
-        ensures { option_map node_of (option_copied result) ≡ slice_get (crossing_of self.now).nodes place }
+        ensures node { option_map node_of (option_copied result) ≡ slice_get (crossing_of self.now).nodes place }
+        ensures links { option_map links_of (option_copied result) ≡ slice_get (crossing_of self.now).links place }
+        ensures sound { IfSome result (λ node. (peer : ℕ) → peer + 1 < length (names_of (held_by node.now)) → (links_of node.now peer).damaged ≡ false) }
     {
-        self.bytes.nodes.get(place)
+        self.bytes.node(place)
     }
 
     /// The updates of a group in the order in which they got their last grant, each with its node and its command: a

@@ -1,6 +1,6 @@
 //! Nodes whose packets cross as bytes, by rings between them, and what a step makes of them.
 
-ghost use Rattle.std.specs.Prelude.{◌≡◌, ◌+◌, ◌^◌, ℕ, List, true, false, [], Ok, Some, None, IfOk, length};
+ghost use Rattle.std.specs.Prelude.{◌≡◌, ◌+◌, ◌^◌, ℕ, List, true, false, [], Ok, Some, None, IfOk, length, option_map, slice_get};
 ghost use Rattle.std.specs.List.{All};
 ghost use Rattle.pg_node.specs.Nodes.{held_by};
 ghost use Rattle.pg_node_state.specs.States.{names_of};
@@ -20,7 +20,7 @@ use pg_frame::{
     front_is_first_of_cut, front_is_first_packet, loss_cuts_packets, moving_keeps_packets,
     sending_adds_packets,
 };
-use pg_frame_world::{FrameStep, Stepped, peer_place};
+use pg_frame_world::{Effect, FrameStep, Stepped, peer_place};
 use pg_group::GroupTable;
 use pg_history::nobody_is_harmed;
 use pg_loss::no_packet_is_refused;
@@ -47,6 +47,8 @@ pub(crate) struct ByteNodes<T: GroupTable> {
 }
 
 impl<T: GroupTable + Drop> ByteNodes<T> {
+    ghost use Rattle.std.specs.Option.{option_copied};
+    ghost use Rattle.pg_node.specs.Nodes.{links_of};
     ghost use Rattle.pg_ring.specs.Capacity.{IsCapacity};
     ghost use Rattle.pg_machine.specs.Places.{is_pair};
     ghost use Rattle.pg_machine.specs.Machine.{Take, Do};
@@ -65,7 +67,7 @@ impl<T: GroupTable + Drop> ByteNodes<T> {
     ghost use Rattle.pg_account.specs.Histories.{no_account};
     ghost use Rattle.pg_world.specs.Changes.{Moves, put_count, pull_count, MoveChanges, EventChanges, FrameChanges, StepChanges};
     ghost use Rattle.pg_frame.specs.Pieces.{put, pull};
-    ghost use Rattle.pg_world.specs.Crossings.{crossing_of, room_of, idle_crossing, link_at, bytes_at, IsWelcome, ShowsPast, ShowsBytes, ShowsBytesPast, EventComesTo, FrameComesTo, StepComesTo};
+    ghost use Rattle.pg_world.specs.Crossings.{crossing_of, node_of, room_of, idle_crossing, link_at, bytes_at, IsWelcome, ShowsPast, ShowsBytes, ShowsBytesPast, EventComesTo, FrameComesTo, StepComesTo};
     ghost use Rattle.pg_frame_world.specs.Worlds.{IsReached};
 
     /// A world of these nodes, with an empty ring from each to each other, which has room for `ring` bytes, and where
@@ -90,6 +92,16 @@ impl<T: GroupTable + Drop> ByteNodes<T> {
             histories: Histories::new(alloc),
             losses: Losses::new(alloc),
         })
+    }
+
+    /// The node at a place.
+    ///
+    /// Cost: no memory.
+    pub(crate) fn node(&self, place: usize) -> Option<&Node<T>>
+        ensures node { option_map node_of (option_copied result) ≡ slice_get (crossing_of self.now).nodes place }
+        ensures links { option_map links_of (option_copied result) ≡ slice_get (crossing_of self.now).links place }
+    {
+        self.nodes.get(place)
     }
 
     /// Makes one step. Whatever frame world the world shows, as events lead to it from the start of a configuration:
@@ -350,9 +362,10 @@ impl<T: GroupTable + Drop> ByteNodes<T> {
         let taker = &mut self.nodes[node];
         match taker.take_read(peer_place(node, peer), packet) {
             Ok(done) => {
+                let effect = Effect::of(&done);
                 self.histories.serve(node, packet);
                 self.histories.begin(node, done.began);
-                Ok(Stepped::Happened)
+                Ok(Stepped::Happened(effect))
             }
             Err(fault) => Err(fault),
         }
@@ -373,8 +386,9 @@ impl<T: GroupTable + Drop> ByteNodes<T> {
         let state = &mut self.nodes[node];
         match state.command(port, command) {
             Ok(done) => {
+                let effect = Effect::of(&done);
                 self.histories.begin(node, done.began);
-                Ok(Stepped::Happened)
+                Ok(Stepped::Happened(effect))
             }
             Err(fault) => Err(fault),
         }
@@ -395,8 +409,9 @@ impl<T: GroupTable + Drop> ByteNodes<T> {
         let state = &mut self.nodes[node];
         match state.retry(op) {
             Ok(done) => {
+                let effect = Effect::of(&done);
                 self.histories.begin(node, done.began);
-                Ok(Stepped::Happened)
+                Ok(Stepped::Happened(effect))
             }
             Err(fault) => Err(fault),
         }

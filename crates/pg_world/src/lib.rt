@@ -15,7 +15,7 @@ pub use bytes::{run, starting_nodes};
 pub use pg_account::Entry;
 pub use pg_config::{Config, MAX_NODES, MAX_PORTS, WorldFault, configs_are_decided};
 pub use pg_frame_world::{
-    FrameStep, FrameWorld, Stepped, long_groups_do_not_fit, orders_keep_tables,
+    Effect, FrameStep, FrameWorld, Stepped, long_groups_do_not_fit, orders_keep_tables,
     pending_ends_are_listed, refusals_are_exact, run_frames,
 };
 pub use step::Step;

@@ -4,10 +4,11 @@ use crate::schedules::{Schedule, are_same, are_same_worlds, schedule_of, state_o
 use crate::slow::{GROUPS, Scene, are_answered, first_pids, len_of};
 use crate::verdicts::holds;
 use pg_index::IndexTable;
+use pg_node::NodeFault;
 use pg_random::Random;
 use pg_step::{Command, OpId};
 use pg_term::{Pid, Term};
-use pg_world::{Config, FrameStep, Step, Stepped, World, run, run_frames};
+use pg_world::{Config, Effect, FrameStep, Step, Stepped, World, run, run_frames};
 use std::alloc::{AllocError, Global};
 use std::process::Abort;
 
@@ -165,8 +166,16 @@ fn put_steps(steps: &mut Vec<Step>, chance: &mut Chance, pids: &[Pid]) -> Result
     Ok(())
 }
 
-/// What a step of a world did: whether an event happened, and the number of its fault.
-type Noted = (bool, u8);
+/// What a step of a world did: its event, if it was one that happened, and the number of its fault.
+type Noted = (Option<Effect>, u8);
+
+fn noted(stepped: Result<Stepped, NodeFault>) -> Noted {
+    match stepped {
+        Ok(Stepped::Happened(effect)) => (Some(effect), 0),
+        Ok(_) => (None, 0),
+        Err(fault) => (None, fault.number()),
+    }
+}
 
 // Makes the steps one by one, and notes what each did; fewer where memory was refused.
 fn step_all(
@@ -178,11 +187,7 @@ fn step_all(
     notes: &mut Vec<Noted>,
 ) {
     for (place, step) in schedule.steps.as_slice().iter().enumerate() {
-        let noted = match world.step(step) {
-            Ok(stepped) => (stepped == Stepped::Happened, 0),
-            Err(fault) => (false, fault.number()),
-        };
-        if notes.push(noted).is_err() {
+        if notes.push(noted(world.step(step))).is_err() {
             return;
         }
         // Now and then the headline is read.
@@ -223,6 +228,19 @@ fn begun(world: &World<IndexTable>) -> usize {
     count
 }
 
+// How many events began an update, by what was noted; and whether one has told of an odd reply.
+fn noted_begun(notes: &[Noted]) -> (usize, bool) {
+    let mut count = 0usize;
+    let mut is_odd = false;
+    for noted in notes {
+        if let Some(effect) = noted.0 {
+            count = count.saturating_add(usize::from(effect.began.is_some()));
+            is_odd = is_odd || effect.odd.is_some();
+        }
+    }
+    (count, is_odd)
+}
+
 // Whether a run of all steps leads to the same nodes, and gives each step the number that was noted of it.
 fn is_run(alloc: Global, schedule: &Schedule, world: &World<IndexTable>, notes: &[Noted]) -> bool {
     match run(alloc, &schedule.config, schedule.steps.as_slice()) {
@@ -248,7 +266,7 @@ fn put_events(
     for (step, noted) in steps.into_iter().zip(notes) {
         match step {
             Step::Event(event) => {
-                if noted.0 {
+                if noted.0.is_some() {
                     events.push(event)?;
                 } else {
                     drop(event);
@@ -356,6 +374,8 @@ fn check(rt: &impl Abort, alloc: Global, nodes: usize, is_lossy: bool, seed: u64
     holds(rt, scene.all_saw(), "the losses, nodes:", nodes);
     let begun = begun(&world);
     holds(rt, begun > 9, "updates begun:", begun);
+    let is_noted = noted_begun(notes.as_slice()) == (begun, false);
+    holds(rt, is_noted, "as noted, updates begun:", begun);
     check_runs(rt, alloc, schedule, is_lossy, &world, notes.as_slice());
     drop(world);
     drop(notes);

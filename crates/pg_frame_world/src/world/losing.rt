@@ -2,6 +2,7 @@
 
 ghost use Rattle.std.specs.Prelude.{◌≡◌, ◌≢◌, ◌<◌, ◌+◌, ◌↔◌, [], true, false, IsTrue, Ok, Err, OnErr, get_or, length};
 
+use crate::effect::Effect;
 use crate::step::{FrameStep, Stepped};
 use crate::world::{FrameNodes, peer_place};
 use pg_group::GroupTable;
@@ -78,7 +79,7 @@ impl<T: GroupTable + Drop> FrameNodes<T> {
         match state.see_loss(peer_place(node, peer), last) {
             Ok(done) => {
                 let_go(done);
-                Ok(Stepped::Happened)
+                Ok(Stepped::Happened(Effect::nothing()))
             }
             Err(fault) => Err(fault),
         }

@@ -24,7 +24,7 @@ use Rattle.pg_step.specs.declared.refusal.Refusal.{Refusal}
 use Rattle.pg_step.specs.Config.{Config, names_of, name_at, nodes_at}
 use Rattle.pg_step.specs.FrameMachine.{placed, node_step, machine_of, frame_machine, FrameWorld}
 use Rattle.pg_history.specs.History.{Entry, entries, of_group, history, updates_of, applied_count, answered_count, replay, known, base, is_formed, has_groups, LockFree, NonePending, applied_by}
-use Rattle.pg_history.specs.Headline.{HoldsAnswered, AppliesHistory, HasTables, HarmsNobody, OneHistory}
+use Rattle.pg_history.specs.Headline.{HoldsAnswered, AppliesHistory, HasTables, GoesOnFromAll, HarmsNobody, OneHistory}
 use Rattle.pg_step.proofs.Once.{clash}
 use Rattle.pg_machine.proofs.Plain.{plain_from_start}
 use Rattle.pg_machine.proofs.Sequences.{leads_ran}
@@ -47,6 +47,8 @@ use Rattle.pg_history.proofs.places.Shown.{IsHere, by_name, Shows}
 use Rattle.pg_history.proofs.places.Bridged.{Bridged, bridged, nobody_seen, live_at, near_at, all_applied}
 use Rattle.pg_history.specs.Exclusive.{ExclusiveLocks}
 use Rattle.pg_history.specs.RealTime.{InRealTime}
+use Rattle.pg_history.proofs.steps.Grows.{history_append}
+use Rattle.pg_history.proofs.steps.Queries.{query_stays}
 use Rattle.pg_history.proofs.steps.RealTime.{none_before, reported_more, stands_before, stays_seen}
 use Rattle.pg_history.proofs.places.Exclusive.{are_exclusive}
 use Rattle.pg_history.proofs.places.Prefixes.{as_long, lengths, updates_shown, answers_shown, split_shown, node_here, as_many_updates}
@@ -270,10 +272,24 @@ module _ (config : Config) (apart : IsDistinct same_atom (names_of config)) (es 
         stays_seen first (plain m).reported more.0 v.reported more.1 x name before after e (λ later now answered. (applies config apart v bridge).everywhere x name before later e here now answered) was some;
   }
 
+  pub from_all : GoesOnFromAll config es v
+  from_all = record {
+    grown = λ first last m is reached name. let more = on_the_way first last m is reached in (history name more.0, ap (history name) more.1 ∙ history_append name (plain m).reported more.0);
+    read = λ first last m i port c is reached query small. query_stays config es first last w m i port c is l reached query small;
+  }
+
   -- ---- all of them
 
   pub one_history : OneHistory config es v
-  one_history = record { answered = changes_held; applies = applies config apart v bridge; tables = tables; real_time = in_real_time; exclusive = exclusive; harmless = harmless }
+  one_history = record {
+    answered = changes_held;
+    applies = applies config apart v bridge;
+    tables = tables;
+    from_all = from_all;
+    real_time = in_real_time;
+    exclusive = exclusive;
+    harmless = harmless;
+  }
 
 -- whatever events are tried, those that happen lead to such a world
 pub any_events : (config : Config) (es : List (Event Action)) → IsDistinct same_atom (names_of config)

@@ -1,6 +1,13 @@
 -- The past of a world of bytes, and what a step adds to it.
-use Rattle.std.proofs.Common.{◌≡◌, ◌<◌, ℕ, false, true, length, List, [], Option, Some, None, Result, Ok, Err, refl, sym, subst}
-use Rattle.std.specs.Prelude.{slice_get}
+use Rattle.std.proofs.Common.{◌≡◌, ◌<◌, ◌+◌, ℕ, false, true, get_or, length, List, [], Option, Some, None, Result, Ok, Err, refl, sym, ap, ◌∙◌, arith, subst}
+use Rattle.std.specs.Prelude.{slice_get, option_map, IfSome}
+use Rattle.std.specs.Option.{option_copied}
+use Rattle.std.specs.Borrow.{Bor}
+use Rattle.pg_group.specs.declared.table.GroupTable.{Ghosts}
+use Rattle.pg_node.specs.declared.node.Node.{Node}
+use Rattle.pg_node.specs.Nodes.{links_of}
+use Rattle.std.proofs.lemmas.Bool.{eq-eqb, eqb-true}
+use Rattle.std.proofs.lemmas.Option.{get_or_from_slice_get, slice_get_within}
 use Rattle.pg_term.specs.declared.term.Term.{Term}
 use Rattle.pg_machine.specs.Losing.{Lose, nobody_gone}
 use Rattle.pg_machine.specs.Machine.{start_of}
@@ -23,7 +30,13 @@ use Rattle.pg_world.specs.BytesLosing.{ShowsLosingBytes, MoveLeaves, WholeComesT
 use Rattle.pg_frame_world.specs.Losing.{IsReachedLosing}
 use Rattle.pg_world.specs.BytesLosingRuns.{bytes_past_losses}
 use Rattle.pg_world.specs.BytesStart.{BytesBegin}
-use Rattle.pg_world.specs.Crossings.{Crossing}
+use Rattle.pg_world.specs.Crossings.{Crossing, ShowsPast, node_of, no_links}
+use Rattle.pg_node.specs.Links.{Link}
+use Rattle.pg_machine.specs.Places.{is_pair}
+use Rattle.pg_frame_world.specs.Views.{peer_place, place_of_peer}
+use Rattle.pg_frame_world.proofs.Counted.{place_there}
+use Rattle.pg_frame_world.proofs.Peering.{known, own_place, same_place}
+use Rattle.pg_frame_world.proofs.Turning.{is_pair_so}
 use Rattle.pg_frame_world.specs.Losing.{Telling, told_take, told_own, told_sight}
 use Rattle.pg_frame_world.specs.LosingRuns.{LosingGoesTo}
 use Rattle.pg_frame_world.specs.Past.{HistoriesGrow}
@@ -48,7 +61,7 @@ module _ (config : Config) (u : LosingFrameWorld) (P Q : LosingFrameWorld → Ty
 
   loss_on : (i : ℕ) (result : Result Stepped NodeFault) → LossComesTo config u i result P → LossComesTo config u i result Q
   loss_on i (Ok Gone) (keep, (v, happened, shown)) = (keep, (v, happened, onward v (Next (Lose i keep) happened) shown))
-  loss_on i (Ok Happened) comes = absurd comes
+  loss_on i (Ok (Happened effect)) comes = absurd comes
   loss_on i (Ok Nothing) comes = absurd comes
   loss_on i (Ok (Moved count)) comes = absurd comes
   loss_on i (Err OutOfMemory) shown = onward u (Here refl) shown
@@ -74,7 +87,7 @@ module _ (config : Config) (u : LosingFrameWorld) (P Q : LosingFrameWorld → Ty
 module _ (config : Config) (u : LosingFrameWorld) (Q : LosingFrameWorld → Type 0) where
   some_moved : (refusal : Option Refusal) (result : Result Stepped NodeFault) → MoveLeaves refusal result (Q u) → Q u
   some_moved refusal (Ok (Moved count)) leaves = leaves.1
-  some_moved refusal (Ok Happened) leaves = absurd leaves
+  some_moved refusal (Ok (Happened effect)) leaves = absurd leaves
   some_moved refusal (Ok Nothing) leaves = absurd leaves
   some_moved refusal (Ok Gone) leaves = absurd leaves
   some_moved refusal (Err OutOfMemory) leaves = leaves.1
@@ -96,7 +109,7 @@ module _ (config : Config) (u : LosingFrameWorld) (Q : LosingFrameWorld → Type
 
   some_loss : (i : ℕ) (result : Result Stepped NodeFault) → LossComesTo config u i result Q → Some_world
   some_loss i (Ok Gone) comes = (comes.1.0, comes.1.2)
-  some_loss i (Ok Happened) comes = absurd comes
+  some_loss i (Ok (Happened effect)) comes = absurd comes
   some_loss i (Ok Nothing) comes = absurd comes
   some_loss i (Ok (Moved count)) comes = absurd comes
   some_loss i (Err OutOfMemory) shown = (u, shown)
@@ -196,3 +209,39 @@ bytes_agreed_all lists given crossing account lost x name past empty none free =
     let shows = past.is.shows in
     agreed_there past.config crossing.nodes account lost shows.frames past.u shows.shows.traffic.nodes shows.shows.updates shows.is past.events past.is.history none
     ((lists past.config crossing.nodes lost shows.frames past.u past.events shows.shows.traffic.nodes shows.is past.is.reached).0 empty) x name free
+
+-- no link of a node is damaged
+pub bytes_sound : (given : Config) (crossing : Crossing) (account : Account) (lost : List ℕ) (i : ℕ) (node : Seen) (links : ℕ → Link) → BytesHavePast given crossing account lost
+    → slice_get crossing.nodes i ≡ Some node → slice_get crossing.links i ≡ Some links → (k : ℕ) → k + 1 < length node.names → (links k).damaged ≡ false
+bytes_sound given crossing account lost i node links past at linked k few = sym (ap (λ (ls : ℕ → Link). (ls k).damaged) links_are) ∙ (ap (λ j. (get_or crossing.links i no_links j).damaged) (sym back) ∙ shows.sound i y pair)
+  where
+    config : Config
+    config = past.config
+
+    shows : ShowsPast config lost crossing past.is.shows.frames
+    shows = past.is.shows.shows.traffic
+
+    links_are : get_or crossing.links i no_links ≡ links
+    links_are = get_or_from_slice_get crossing.links i links no_links linked
+
+    within : i < length config
+    within = let l = slice_get_within crossing.nodes i node at in omega (arith, l, shows.nodes.size)
+
+    y : ℕ
+    y = place_of_peer i k
+
+    knows : length node.names ≡ length config
+    knows = ap length (shows.nodes.each i node at).names ∙ known config i within
+
+    pair : is_pair (length config) i y ≡ true
+    pair = is_pair_so (length config) i y within (place_there i (length config) within node.names knows k few) (own_place i k)
+
+    back : peer_place i y ≡ k
+    back = sym (eqb-true k (peer_place i y) (sym (same_place i y k (own_place i k)) ∙ eq-eqb y y refl))
+
+-- what is so of each node that is there with its links
+pub each_there : {T : Type 0} {g : Ghosts T} (r : Option (Bor (Node T g))) (crossing : Crossing) (i : ℕ) (P : Node T g → Type 0)
+    → option_map node_of (option_copied r) ≡ slice_get crossing.nodes i → option_map links_of (option_copied r) ≡ slice_get crossing.links i
+    → ((node : Node T g) → slice_get crossing.nodes i ≡ Some (node_of node) → slice_get crossing.links i ≡ Some (links_of node) → P node) → IfSome r (λ node. P node.now)
+each_there None crossing i P at linked each = tt
+each_there (Some node) crossing i P at linked each = each node.now (sym at) (sym linked)

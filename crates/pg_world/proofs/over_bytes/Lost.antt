@@ -30,6 +30,8 @@ use Rattle.pg_frame_world.specs.declared.step.Stepped.TheVariants.{Happened, Gon
 use Rattle.pg_world.specs.Bars.{has_bytes}
 use Rattle.pg_world.specs.BytesLosing.{ShowsLosingBytes, SightComesTo, LossComesTo}
 use Rattle.pg_world.specs.Crossings.{Crossing, link_at, bytes_at, packet_as, packets_between, written_of, CanCross, IsOnWay}
+use Rattle.pg_frame_world.specs.declared.effect.Effect.{Effect}
+use Rattle.pg_frame_world.specs.Effects.{no_effect}
 use Rattle.pg_frame_world.specs.Losing.{losing_of, is_cut_off, told_sight, LosingComesTo}
 use Rattle.pg_account.specs.Losses.{is_lost}
 use Rattle.pg_starts.specs.Seen.{Seen}
@@ -149,8 +151,10 @@ module _ (config : Config) (crossing crossing2 : Crossing) (account account2 : A
         → ((x y : ℕ) → is_pair (length config) x y ≡ true → is_lost lost y ≡ false → bytes_at crossing2 x y ≡ bytes_at crossing x y)
         → ((x y : ℕ) → (link_at crossing2 x y).damaged ≡ (link_at crossing x y).damaged)
         → Comes node.names (step_lose peer last link node.state) (Ok done) after.state node.answers after.answers
-        → SightComesTo config u (told_sight config u i p) (Ok Happened) (ShowsLosingBytes config crossing2 account2 lost2)
-    sight_made after done set names ports kept bytes damage comes = go (is_drained link) refl (λ b is. subst (λ r. Comes node.names r (Ok done) after.state node.answers after.answers) (step_is b is) comes)
+        → (effect : Effect) → effect ≡ no_effect → SightComesTo config u (told_sight config u i p) (Ok (Happened effect)) (ShowsLosingBytes config crossing2 account2 lost2)
+    sight_made after done set names ports kept bytes damage comes effect none =
+        subst (λ e. SightComesTo config u (told_sight config u i p) (Ok (Happened e)) (ShowsLosingBytes config crossing2 account2 lost2)) (sym none)
+        (go (is_drained link) refl (λ b is. subst (λ r. Comes node.names r (Ok done) after.state node.answers after.answers) (step_is b is) comes))
       where
         same_packets : (x y : ℕ) → packets_between v x y ≡ packets_between w x y
         same_packets x y = ap (map packet_as) (same_wire config w lost i p here x y)
@@ -181,8 +185,8 @@ module _ (config : Config) (crossing crossing2 : Crossing) (account account2 : A
 
         go : (b : Bool) → is_drained link ≡ b
             → ((c : Bool) → is_drained link ≡ c → Comes node.names (cond c (step_see_loss peer last node.state) (Err NotDrained)) (Ok done) after.state node.answers after.answers)
-            → SightComesTo config u (told_sight config u i p) (Ok Happened) (ShowsLosingBytes config crossing2 account2 lost2)
-        go true is h = subst (λ (x : LosingFrameWorld). LosingComesTo config x (told_sight config x i p) (Ok Happened) (ShowsLosingBytes config crossing2 account2 lost2)) (sym shows.is)
+            → SightComesTo config u (told_sight config u i p) (Ok (Happened no_effect)) (ShowsLosingBytes config crossing2 account2 lost2)
+        go true is h = subst (λ (x : LosingFrameWorld). LosingComesTo config x (told_sight config x i p) (Ok (Happened no_effect)) (ShowsLosingBytes config crossing2 account2 lost2)) (sym shows.is)
             (sight_seen config crossing.nodes w i p lost its shows.seen pair lives gone (none_coming is) node at last clock (ShowsLosingBytes config crossing2 account2 lost2) done after.state node.answers after.answers made (h true is))
         go false is h = let no = h false is in absurd (cc)
 

@@ -1,5 +1,6 @@
 -- What steps over bytes come to where nodes may be lost: bytes that move, and events that know of no loss.
 use Rattle.std.proofs.Common.{◌≡◌, ℕ, Bool, true, false, not, ◌||◌, cond, length, List, [], ◌∷◌, Option, Some, None, Result, Ok, Err, refl, sym, ap, ◌∙◌, subst}
+use Rattle.std.specs.Prelude.{IfErr, nat_lt}
 use Rattle.pg_machine.specs.Places.{is_place, is_pair}
 use Rattle.pg_machine.specs.Machine.{Event, Take, Do, node_of, happens}
 use Rattle.pg_machine.specs.Losing.{LosingEvent, Step, losing_happens}
@@ -15,19 +16,21 @@ use Rattle.pg_step.specs.Step.{Action}
 use Rattle.pg_step.specs.StepLaws.{port_of}
 use Rattle.pg_node_state.specs.declared.state.fault.NodeFault.{NodeFault}
 use Rattle.pg_node_state.specs.declared.state.fault.NodeFault.TheVariants.{Refused, OutOfMemory, Message as BadMessage, TooLong, Damaged}
+use Rattle.pg_frame_world.specs.declared.effect.Effect.{Effect}
 use Rattle.pg_frame_world.specs.declared.step.FrameStep.{FrameStep}
 use Rattle.pg_frame_world.specs.declared.step.FrameStep.TheVariants as frames
 use Rattle.pg_frame_world.specs.declared.step.Stepped.{Stepped}
 use Rattle.pg_frame_world.specs.declared.step.Stepped.TheVariants.{Happened, Moved, Nothing, Gone}
-use Rattle.pg_world.specs.Bars.{put_bar, pull_bar}
+use Rattle.pg_world.specs.Bars.{IsFaultOf, put_bar, pull_bar}
 use Rattle.pg_world.specs.BytesLosing.{ShowsLosingBytes, MoveLeaves, WholeComesTo, SightComesTo, EventLeaves, put_refusal, pull_refusal, gone_refusal}
-use Rattle.pg_world.specs.Crossings.{Crossing, ShowsBytesPast, EventComesTo, MoveComesTo, is_take}
+use Rattle.pg_world.specs.Crossings.{Crossing, ShowsBytesPast, EventComesTo, MoveComesTo, LossLeaves, is_take}
+use Rattle.pg_frame_world.specs.Effects.{effect_in, losing_effect_in}
 use Rattle.pg_frame_world.specs.Losing.{SeenAreLost, losing_of, is_cut_off, is_barred, Telling, told_take, told_own, told_of, LosingLed, LosingComesTo}
 use Rattle.pg_account.specs.Losses.{is_lost}
 use Rattle.pg_account.specs.Histories.{Account}
 use Rattle.pg_frame_world.specs.Worlds.{TimedFrameWorld, ShowsNodes, has_port, has_places, told}
 use Rattle.pg_frame_world.proofs.Barred.{cut_is, barred_told, unplaced_told, take_cut, either_stays, take_refused_so, take_busy_so, own_refused_so}
-use Rattle.pg_frame_world.proofs.Lossy.{lifted, lost_kept}
+use Rattle.pg_frame_world.proofs.Lossy.{lifted, same_effect, lost_kept}
 use Rattle.pg_frame_world.proofs.Turning.{pair_turned}
 
 -- ---- bytes that should move
@@ -35,7 +38,7 @@ use Rattle.pg_frame_world.proofs.Turning.{pair_turned}
 pub move_mapped : (one other : Option Refusal) (A B : Type 0) (result : Result Stepped NodeFault) → one ≡ other → (A → B) → MoveLeaves one result A → MoveLeaves other result B
 move_mapped one other A B (Ok (Moved count)) same f (is, shown) = (sym same ∙ is, f shown)
 move_mapped one other A B (Ok Nothing) same f comes = absurd comes
-move_mapped one other A B (Ok Happened) same f comes = absurd comes
+move_mapped one other A B (Ok (Happened effect)) same f comes = absurd comes
 move_mapped one other A B (Ok Gone) same f comes = absurd comes
 move_mapped one other A B (Err OutOfMemory) same f (is, shown) = (sym same ∙ is, f shown)
 move_mapped one other A B (Err (Refused refusal)) same f (is, shown) = (sym same ∙ is, f shown)
@@ -64,13 +67,24 @@ move_came config n x y Shown result size came = go result (move_mapped _ (cond (
     go : (r : Result Stepped NodeFault) → MoveLeaves (cond (is_pair (length config) x y) None (Some NoSuchPlace)) r Shown → MoveComesTo config x y r Shown
     go (Ok (Moved count)) (is, shown) = (none_pair (is_pair (length config) x y) is, shown)
     go (Ok Nothing) comes = absurd comes
-    go (Ok Happened) comes = absurd comes
+    go (Ok (Happened effect)) comes = absurd comes
     go (Ok Gone) comes = absurd comes
     go (Err OutOfMemory) (is, shown) = (none_pair (is_pair (length config) x y) is, shown)
     go (Err (Refused r)) (is, shown) = let both = some_pair (is_pair (length config) x y) r is in (both.0, both.1, shown)
     go (Err (BadMessage m)) comes = absurd comes
     go (Err TooLong) comes = absurd comes
     go (Err Damaged) comes = absurd comes
+
+-- the loss of a node where none is lost
+pub loss_came : (config : Config) (n i : ℕ) (Shown : Type 0) (result : Result Stepped NodeFault) → n ≡ length config
+    → IfErr result (IsFaultOf (first_that_holds ((not (nat_lt i n), NoSuchPlace) ∷ (false, NodeLost) ∷ []))) → Shown → LossLeaves config i result Shown
+loss_came config n i Shown (Ok stepped) size told shown = tt
+loss_came config n i Shown (Err OutOfMemory) size told shown = shown
+loss_came config n i Shown (Err (Refused r)) size told shown =
+    let both = some_pair (nat_lt i n) r (sym (bar_is (nat_lt i n)) ∙ told) in (both.0, ap (λ m. is_place m i) (sym size) ∙ both.1, shown)
+loss_came config n i Shown (Err (BadMessage m)) size told shown = absurd told
+loss_came config n i Shown (Err TooLong) size told shown = absurd told
+loss_came config n i Shown (Err Damaged) size told shown = absurd told
 
 -- ---- what bars a step is what is told
 
@@ -122,10 +136,14 @@ module _ (config : Config) (crossing2 : Crossing) (account2 : Account) (lost los
           },
         )
 
+    did_past : (v : TimedFrameWorld) (effect : Effect) → happens (frame_machine config) w e ≡ Some v → effect_in (frame_machine config) w e ≡ Some effect
+        → losing_effect_in config (losing_of config w lost) tells.event ≡ Some effect
+    did_past v effect is did = ap (losing_effect_in config (losing_of config w lost)) event ∙ (same_effect config lost w v e (happened (frame_machine config) w v e is) stays ∙ did)
+
     -- something of its own
     own_comes : (result : Result Stepped NodeFault) → is_take e ≡ false → EventComesTo config w e result (ShowsBytesPast config lost crossing2 account2)
         → LosingComesTo config (losing_of config w lost) tells result (ShowsLosingBytes config crossing2 account2 lost2)
-    own_comes (Ok Happened) own (v, is, shown) = (loss, busy v is, led_past v is shown)
+    own_comes (Ok (Happened effect)) own (did, (v, is, shown)) = (loss, busy v is, did_past v effect is did, led_past v is shown)
     own_comes (Ok Nothing) own (takes, shown) = let no : true ≡ false = sym takes ∙ own in absurd (cc)
     own_comes (Ok (Moved count)) own comes = absurd comes
     own_comes (Ok Gone) own comes = absurd comes
@@ -138,7 +156,7 @@ module _ (config : Config) (crossing2 : Crossing) (account2 : Account) (lost los
     -- a packet that is taken
     taken_comes : (result : Result Stepped NodeFault) → EventComesTo config w e result (ShowsBytesPast config lost crossing2 account2)
         → WholeComesTo config (losing_of config w lost) tells result (ShowsLosingBytes config crossing2 account2 lost2)
-    taken_comes (Ok Happened) (v, is, shown) = (loss, busy v is, led_past v is shown)
+    taken_comes (Ok (Happened effect)) (did, (v, is, shown)) = (loss, busy v is, did_past v effect is did, led_past v is shown)
     taken_comes (Ok Nothing) (takes, shown) = still_past shown
     taken_comes (Ok (Moved count)) comes = absurd comes
     taken_comes (Ok Gone) comes = absurd comes
@@ -196,7 +214,7 @@ sight_so config u tells NotLost Shown is shown = (is, shown)
 -- as over packets, whatever came of it
 pub sight_from : (config : Config) (u : LosingFrameWorld) (tells : Telling) (Shown : LosingFrameWorld → Type 0) (result : Result Stepped NodeFault) → LosingComesTo config u tells result Shown
     → SightComesTo config u tells result Shown
-sight_from config u tells Shown (Ok Happened) comes = comes
+sight_from config u tells Shown (Ok (Happened effect)) comes = comes
 sight_from config u tells Shown (Ok Gone) comes = comes
 sight_from config u tells Shown (Ok Nothing) comes = comes
 sight_from config u tells Shown (Ok (Moved count)) comes = comes

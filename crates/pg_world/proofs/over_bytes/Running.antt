@@ -25,7 +25,7 @@ use Rattle.pg_term.specs.Same.{same_atom}
 use Rattle.pg_machine.specs.Machine.{start_of}
 use Rattle.pg_step.specs.FrameMachine.{frame_machine, losing_frame_machine}
 use Rattle.pg_loss.specs.Reached.{LosingReaches}
-use Rattle.pg_loss.specs.Survived.{LossesSurvived}
+use Rattle.pg_left.specs.Survived.{LossesSurvived}
 use Rattle.pg_world.specs.BytesStart.{BytesBegin}
 use Rattle.pg_world.specs.Crossings.{Crossing}
 use Rattle.pg_account.specs.Histories.{Account}
@@ -45,7 +45,7 @@ module _ (config : Config) (u : LosingFrameWorld) (step : Step) (Shown : LosingF
   moved : (refusal : Option Refusal) → ((number : ℕ) → HasNumber refusal 0 number → IsBytesLeftOut config u step number) → (result : Result Stepped NodeFault) → MoveLeaves refusal result (Shown u) → Steps (numbered result)
   moved refusal passes (Ok (Moved count)) (is, shown) = inr (passes 0 (inl (sym (ap (λ o. option_map_or refusal_number_of o 0) is))), shown)
   moved refusal passes (Ok Nothing) comes = absurd comes
-  moved refusal passes (Ok Happened) comes = absurd comes
+  moved refusal passes (Ok (Happened effect)) comes = absurd comes
   moved refusal passes (Ok Gone) comes = absurd comes
   moved refusal passes (Err OutOfMemory) (is, shown) = inr (passes 10 (inr refl), shown)
   moved refusal passes (Err (Refused r)) (is, shown) = inr (passes (refusal_number_of r) (inl (sym (ap (λ o. option_map_or refusal_number_of o 0) is))), shown)
@@ -58,7 +58,7 @@ module _ (config : Config) (u : LosingFrameWorld) (step : Step) (Shown : LosingF
   -- as over packets
   module _ (tells : Telling) (is : (e : LosingEvent Action) → IsToldEvent tells e → IsBytesEvent config u step e) (passes : (number : ℕ) → IsLeftOut tells number → IsBytesLeftOut config u step number) where
     told_so : (result : Result Stepped NodeFault) → LosingComesTo config u tells result Shown → Steps (numbered result)
-    told_so (Ok Happened) (loss, busy, led) = inl (record { listed = refl; e = tells.event; is = is tells.event (refl, busy); left = led.0; happened = led.1; rest = led.2 })
+    told_so (Ok (Happened effect)) (loss, busy, did, led) = inl (record { listed = refl; e = tells.event; is = is tells.event (refl, busy); left = led.0; happened = led.1; rest = led.2 })
     told_so (Ok Gone) (loss, busy, led) = inl (record { listed = refl; e = tells.event; is = is tells.event (refl, busy); left = led.0; happened = led.1; rest = led.2 })
     told_so (Ok Nothing) (idle, none, shown) = inr (passes 0 (inl (sym (λ j. option_map_or refusal_number_of (none j) (cond (idle j) 0 10)))), shown)
     told_so (Ok (Moved count)) comes = absurd comes
@@ -71,7 +71,7 @@ module _ (config : Config) (u : LosingFrameWorld) (step : Step) (Shown : LosingF
     -- nothing where no whole frame had come
     whole_so : IsBytesLeftOut config u step 0 → (result : Result Stepped NodeFault) → WholeComesTo config u tells result Shown → Steps (numbered result)
     whole_so none (Ok Nothing) shown = inr (none, shown)
-    whole_so none (Ok Happened) comes = told_so (Ok Happened) comes
+    whole_so none (Ok (Happened effect)) comes = told_so (Ok (Happened effect)) comes
     whole_so none (Ok Gone) comes = told_so (Ok Gone) comes
     whole_so none (Ok (Moved count)) comes = told_so (Ok (Moved count)) comes
     whole_so none (Err OutOfMemory) comes = told_so (Err OutOfMemory) comes
@@ -91,7 +91,7 @@ module _ (config : Config) (u : LosingFrameWorld) (step : Step) (Shown : LosingF
     sight_left left NotLost comes = told_so (Err (Refused NotLost)) comes
 
     sight_so : IsBytesLeftOut config u step (refusal_number_of NotDrained) → (result : Result Stepped NodeFault) → SightComesTo config u tells result Shown → Steps (numbered result)
-    sight_so left (Ok Happened) comes = told_so (Ok Happened) comes
+    sight_so left (Ok (Happened effect)) comes = told_so (Ok (Happened effect)) comes
     sight_so left (Ok Gone) comes = told_so (Ok Gone) comes
     sight_so left (Ok Nothing) comes = told_so (Ok Nothing) comes
     sight_so left (Ok (Moved count)) comes = told_so (Ok (Moved count)) comes
@@ -105,7 +105,7 @@ module _ (config : Config) (u : LosingFrameWorld) (step : Step) (Shown : LosingF
   loss_so : (i : ℕ) → ((e : LosingEvent Action) → IsLossOf i e → IsBytesEvent config u step e) → ((number : ℕ) → HasNumber (gone_refusal config u i) 10 number → IsBytesLeftOut config u step number)
       → (result : Result Stepped NodeFault) → LossComesTo config u i result Shown → Steps (numbered result)
   loss_so i is passes (Ok Gone) (keep, led) = inl (record { listed = refl; e = Lose i keep; is = is (Lose i keep) (keep, refl); left = led.0; happened = led.1; rest = led.2 })
-  loss_so i is passes (Ok Happened) comes = absurd comes
+  loss_so i is passes (Ok (Happened effect)) comes = absurd comes
   loss_so i is passes (Ok Nothing) comes = absurd comes
   loss_so i is passes (Ok (Moved count)) comes = absurd comes
   loss_so i is passes (Err OutOfMemory) shown = inr (passes 10 (inr refl), shown)

@@ -1,7 +1,7 @@
 -- What comes of an event over bytes that names a place that is not there, or for which memory ran out.
-use Rattle.std.proofs.Common.{◌≡◌, true, false, Err, sym, ap, ◌∙◌}
+use Rattle.std.proofs.Common.{◌≡◌, true, false, Err, refl, sym, ap, ◌∙◌}
 use Rattle.std.specs.Prelude.{List}
-use Rattle.pg_machine.specs.Places.{is_pair}
+use Rattle.pg_machine.specs.Places.{is_place, is_pair}
 use Rattle.pg_step.specs.Config.{Config}
 use Rattle.pg_step.specs.Step.{Issue, Retry}
 use Rattle.pg_step.specs.declared.refusal.Refusal.TheVariants.{NoSuchPlace}
@@ -19,7 +19,7 @@ module _ (config : Config) (nodes : List Seen) (w : TimedFrameWorld) (shows : Sh
   unplaced_event (steps.Command i port c) Shown none shown = (acts_nowhere config nodes w shows i (Issue port c) none, shown)
   unplaced_event (steps.Retry i op) Shown none shown = (acts_nowhere config nodes w shows i (Retry op) none, shown)
   unplaced_event (steps.SeeLoss i p) Shown none shown = (unseen_nowhere config nodes w shows i p none, shown)
-  unplaced_event (steps.Lose i keep) Shown none shown = tt
+  unplaced_event (steps.Lose i keep) Shown none shown = (refl, ap (λ n. is_place n i) (sym shows.size) ∙ none, shown)
 
   -- memory ran out behind the places
   pub starved_event : (step : FrameStep) (Shown : TimedFrameWorld → Type 0) → has_places nodes step ≡ true → Shown w → FrameComesTo config w step (Err OutOfMemory) Shown
@@ -27,4 +27,4 @@ module _ (config : Config) (nodes : List Seen) (w : TimedFrameWorld) (shows : Sh
   starved_event (steps.Command i port c) Shown places shown = shown
   starved_event (steps.Retry i op) Shown places shown = shown
   starved_event (steps.SeeLoss i p) Shown places shown = (ap (λ n. is_pair n i p) (sym shows.size) ∙ places, shown)
-  starved_event (steps.Lose i keep) Shown places shown = tt
+  starved_event (steps.Lose i keep) Shown places shown = shown

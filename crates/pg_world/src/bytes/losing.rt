@@ -1,10 +1,10 @@
 //! Nodes of a world of bytes that are lost.
 
-ghost use Rattle.std.specs.Prelude.{◌≡◌, true, false, Err, length};
+ghost use Rattle.std.specs.Prelude.{◌≡◌, true, false, Err, IfErr, length};
 
 use crate::bytes::ByteNodes;
 use pg_frame::{front_is_first_of_cut, loss_cuts_packets};
-use pg_frame_world::{FrameStep, Stepped, peer_place};
+use pg_frame_world::{Effect, FrameStep, Stepped, peer_place};
 use pg_group::GroupTable;
 use pg_message::Packet;
 use pg_node::{Done, NodeFault};
@@ -16,7 +16,7 @@ impl<T: GroupTable + Drop> ByteNodes<T> {
     ghost use Rattle.pg_step.specs.Config.{Config};
     ghost use Rattle.pg_step.specs.LossLaws.{LosingFrameWorld};
     ghost use Rattle.pg_world.specs.BytesLosing.{ShowsLosingBytes, SightComesTo, LossComesTo};
-    ghost use Rattle.pg_world.specs.Bars.{IsHeld, TellsUndrained, has_bytes, sight_bar, loss_bar};
+    ghost use Rattle.pg_world.specs.Bars.{IsFaultOf, IsHeld, TellsUndrained, has_bytes, sight_bar, loss_bar};
     ghost use Rattle.pg_step.specs.declared.refusal.Refusal.TheVariants.{NotLost};
     ghost use Rattle.pg_node_state.specs.declared.state.fault.NodeFault.TheVariants.{Refused};
     ghost use Rattle.pg_world.specs.Changes.{SightChanges};
@@ -89,7 +89,7 @@ impl<T: GroupTable + Drop> ByteNodes<T> {
         match over.see_loss(peer_place(node, peer), last) {
             Ok(done) => {
                 let_go(done);
-                Ok(Stepped::Happened)
+                Ok(Stepped::Happened(Effect::nothing()))
             }
             Err(fault) => Err(fault),
         }
@@ -109,6 +109,7 @@ impl<T: GroupTable + Drop> ByteNodes<T> {
         ensures same { crossing_of self.new ≡ crossing_of self.old }
         ensures account { account_of self.new.histories ≡ account_of self.old.histories }
         ensures barred { IsHeld (loss_bar (crossing_of self.old) (lost_in self.old.losses) node) result }
+        ensures fault { IfErr result (IsFaultOf (loss_bar (crossing_of self.old) (lost_in self.old.losses) node)) }
         ensures lost { lost_in self.new.losses ≡ lost_with node result (lost_in self.old.losses) }
         ensures losing { (config : Config) (u : LosingFrameWorld) → ShowsLosingBytes config (crossing_of self.old) (account_of self.old.histories) (lost_in self.old.losses) u
             → LossComesTo config u node result (ShowsLosingBytes config (crossing_of self.new) (account_of self.new.histories) (lost_in self.new.losses)) }

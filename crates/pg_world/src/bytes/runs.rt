@@ -19,7 +19,7 @@ use pg_config::{Config, WorldFault};
 use pg_group::GroupTable;
 use pg_history::one_history;
 use pg_index::IndexTable;
-use pg_loss::each_world_past_losses;
+use pg_left::each_world_past_losses;
 use std::alloc::Global;
 
 impl<T: GroupTable + Drop> World<T> {
@@ -53,7 +53,7 @@ impl<T: GroupTable + Drop> World<T> {
         ensures grows { HistoriesGrow (account_of self.old) (account_of self.new) }
         ensures given { given_of self.new ≡ given_of self.old }
         ensures room { room_of self.new ≡ room_of self.old }
-        ensures ran { NobodyLost steps.now → (config : Configuration) (w : TimedFrameWorld) → lost_of self.old ≡ [] → IsReached config w
+        ensures ran { lost_of self.new ≡ [] → (config : Configuration) (w : TimedFrameWorld) → IsReached config w
             → ShowsBytes config (crossing_of self.old) (account_of self.old) w
             → GoesTo over_bytes config w steps.now numbers.new.items (ShowsBytes config (crossing_of self.new) (account_of self.new)) }
         ensures lost { NobodyLost steps.now → lost_of self.new ≡ lost_of self.old }
@@ -75,10 +75,11 @@ impl<T: GroupTable + Drop> World<T> {
     fn step_number(&mut self, step: &Step) -> u8
         ensures given { given_of self.new ≡ given_of self.old }
         ensures room { room_of self.new ≡ room_of self.old }
-        ensures steps { is_loss_in step.now ≡ false → (config : Configuration) (w : TimedFrameWorld) → lost_of self.old ≡ [] → IsReached config w
+        ensures steps { lost_of self.new ≡ [] → (config : Configuration) (w : TimedFrameWorld) → IsReached config w
             → ShowsBytes config (crossing_of self.old) (account_of self.old) w
             → StepsTo over_bytes config w step.now result (ShowsBytes config (crossing_of self.new) (account_of self.new)) }
         ensures lost { is_loss_in step.now ≡ false → lost_of self.new ≡ lost_of self.old }
+        ensures unlost { lost_of self.new ≡ [] → lost_of self.old ≡ [] }
         ensures losing { (config : Configuration) (u : LosingFrameWorld) → IsReachedLosing config u
             → ShowsLosingBytes config (crossing_of self.old) (account_of self.old) (lost_of self.old) u
             → LosingStepsTo bytes_past_losses config u step.now result (ShowsLosingBytes config (crossing_of self.new) (account_of self.new) (lost_of self.new)) }
@@ -97,9 +98,9 @@ impl<T: GroupTable + Drop> World<T> {
 /// as `World::run` gives it. The places of the numbers are got first; a step that is refused did not happen, and the
 /// run goes on.
 ///
-/// The contract is the headline, however the bytes were cut, for steps of which none is a loss: the steps that
-/// happened are the events of a run of the frame machine, and of what they reported, and of the states that the world
-/// shows, everything holds that `OneHistory` says.
+/// The contract is the headline, however the bytes were cut, where no node is lost at the end, as where no step is a
+/// loss, or each loss was refused: the steps that happened are the events of a run of the frame machine, and of what
+/// they reported, and of the states that the world shows, everything holds that `OneHistory` says.
 ///
 /// Whoever is lost, and wherever its bytes are cut then, the steps that happened are the events of a run of the
 /// machine with losses, and everything holds that `LossesSurvived` says of the world to which they lead.
@@ -117,8 +118,9 @@ pub fn run(
     ensures fits { IfOk result (λ ran. AllFit config.now.starts.items) }
     ensures given { IfOk result (λ ran. given_by ran.0 ≡ config.now.starts.items) }
     ensures room { IfOk result (λ ran. room_in ran.0 ≡ config.now.ring) }
-    ensures ran { IfOk result (λ ran. NoneIsLost steps.now → Ran over_bytes config.now.starts.items steps.now ran.1.items
+    ensures ran { IfOk result (λ ran. lost_by ran.0 ≡ [] → Ran over_bytes config.now.starts.items steps.now ran.1.items
         (λ given. shows_bytes given (shown_by ran.0) (kept_of ran.0))) }
+    ensures lost { IfOk result (λ ran. NoneIsLost steps.now → lost_by ran.0 ≡ []) }
     ensures losing { IfOk result (λ ran. RanLosing over_bytes_past config.now.starts.items steps.now ran.1.items
         (λ given. shows_losing given (shown_by ran.0) (kept_of ran.0) (lost_by ran.0))) }
     ensures crosses { IfOk result (λ ran. RanCrossing config.now.starts.items config.now.ring steps.now ran.1.items

@@ -1,6 +1,7 @@
 use Rattle.std.proofs.Common.{rules, arith, ◌≡◌, ◌+◌, ◌∷◌, ◌++◌, [], length, map, ap, sym, ◌∙◌, append_assoc, length-append}
 use Rattle.std.proofs.lemmas.List.{length-map}
 use Rattle.std.specs.Vec.Iter.{into_iter_items}
+use Rattle.pg_run.specs.Runs.{generator_of}
 use Rattle.pg_cluster.specs.Threads.{HasLinks, node_in, row_in}
 use Rattle.pg_cluster.proofs.Making.{lists}
 use Rattle.pg_cluster.proofs.Paired.{pairs_here}
@@ -71,6 +72,7 @@ loop-node-preserved g c =
       added.notices was.7,
       added.untold was.8,
       (let all = ap length drawn in let count = was.9 in omega (arith, more, all, count)),
+      ap (λ xs. xs ++ generators) added.generators ∙ (append_assoc (map generator_of runs) (c.in-Some-next-2.generator ∷ []) generators ∙ (ap (λ zs. map generator_of runs ++ zs) (sym drawn) ∙ was.10)),
     )
 
 pub returns-clause-rows : goal.returns-clause-rows
@@ -81,3 +83,12 @@ returns-clause-rows g c =
     let n = c.in-None.ensures.steps.0 in
     let count : length runs ≡ length c.args.nodes.items = omega arith in
     all_of_it (map row_in runs) _ (lists c.args.rows.items) was.3 (length-map runs row_in ∙ (count ∙ sym c.requires.rows.len))
+
+pub returns-clause-generators : goal.returns-clause-generators
+returns-clause-generators g c =
+    let was = c.loop-node.invariant in
+    let runs = c.loop-node.made.runs.items in
+    let left = was.5 in
+    let n = c.in-None.ensures.steps.0 in
+    let count : length runs ≡ length c.args.nodes.items = omega arith in
+    all_of_it (map generator_of runs) _ c.args.generators.items was.10 (length-map runs generator_of ∙ (count ∙ sym c.requires.generators))

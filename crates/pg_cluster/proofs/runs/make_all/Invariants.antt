@@ -3,7 +3,7 @@ use Rattle.std.specs.List.{All}
 use Rattle.std.specs.Vec.Iter.{into_iter_items, into_iter_len}
 use Rattle.pg_cluster.specs.Clients.{AllPairs, IsOpen}
 use Rattle.pg_run.specs.Notices.{IsUntold}
-use Rattle.pg_run.specs.Runs.{notices_at, notices_of}
+use Rattle.pg_run.specs.Runs.{generator_of, notices_at, notices_of}
 use Rattle.pg_cluster.specs.Notices.{IsFresh}
 use Rattle.pg_cluster.specs.Threads.{node_in, row_in, log_in, ports_of_runs}
 use Rattle.pg_cluster.proofs.runs.make_all.Given as goal
@@ -20,3 +20,4 @@ invariant-loop-node g l =
     × AllPairs IsFresh l.made.tellers.items (map notices_at l.made.runs.items)
     × All (λ run. IsUntold (notices_of run)) l.made.runs.items
     × (length l.made.runs.items + length (into_iter_items l.generators) ≡ length l.fn.generators.items)
+    × (map generator_of l.made.runs.items ++ into_iter_items l.generators ≡ l.fn.generators.items)

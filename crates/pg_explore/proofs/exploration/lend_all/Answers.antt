@@ -3,6 +3,8 @@ use Rattle.std.specs.Prelude.{Option, Some}
 use Rattle.pg_explore.specs.declared.explored.Met.{Met}
 use Rattle.pg_explore.specs.Explorations.{Lends, met_of}
 use Rattle.pg_explore.specs.Lent.{AreLent}
+use Rattle.pg_explore.specs.Ways.{AreLentWays, AreWays}
+use Rattle.pg_explore.proofs.Leading.{ways_more, ways_same}
 use Rattle.pg_explore.proofs.Reached.{lent_more, lent_same, there_still}
 use Rattle.pg_explore.proofs.exploration.lend_all.Goals as goal
 use Rattle.std.proofs.Common.{◌⊎◌, nat_lt}
@@ -33,12 +35,19 @@ returns-then-not-branch-clause-lent g c =
     let led = rw c.if-not-branch.true at c.in_ok-lend.ensures.lends in
     lent_same _ _ _ (met_of c.loop-turn.explored) (met_of c.lend.new.self) _ _ c.lend.ensures.grows c.loop-turn.invariant.inside led.0 led.1 c.loop-turn.invariant.lent
 
+pub returns-then-not-branch-clause-ways : goal.returns-then-not-branch-clause-ways
+returns-then-not-branch-clause-ways g c =
+    let led = rw c.if-not-branch.true at c.in_ok-lend.ensures.lends in
+    let same = rw c.if-not-branch.true at c.in_ok-lend.ensures.ways in
+    ways_same _ _ _ c.args.plans.now c.args.limits.retries (met_of c.loop-turn.explored) (met_of c.lend.new.self) _ _ c.lend.ensures.grows c.loop-turn.invariant.inside led.0 same c.loop-turn.invariant.ways
+
 pub loop-turn-preserved : goal.loop-turn-preserved
 loop-turn-preserved g c =
     let before = c.loop-turn.invariant in
     let old = met_of c.loop-turn.explored in
     let new = met_of c.lend.new.self in
     let led = rw c.if-not-branch.false at c.in_ok-lend.ensures.lends in
+    let ways = rw c.if-not-branch.false at c.in_ok-lend.ensures.ways in
     let more : c.loop-turn.explored.lent < length old = not_le (length old) c.loop-turn.explored.lent (λ le. clash (sym c.if-is_whole.false ∙ c.is_whole.ensures.1 le)) in
     let still = there_still old new c.loop-turn.explored.lent c.lend.ensures.grows more in
     let was = before.few in
@@ -52,4 +61,6 @@ loop-turn-preserved g c =
       inside = omega (arith, still, next);
       followed = c.in_ok-lend.ensures.followed;
       lent = subst (λ n. AreLent (g.V.Visitor.lent c.args.visitor.now) (g.V.Visitor.lent c.lend.new.visitor) (take n new)) (sym led.0) (lent_more _ _ _ old new c.loop-turn.explored.lent led.1.0 c.lend.ensures.grows before.inside led.1.1 before.lent led.1.2);
+      ways = subst (λ n. AreLentWays (g.V.Visitor.ways c.args.visitor.now) (g.V.Visitor.ways c.lend.new.visitor) (AreWays c.args.plans.now c.args.limits.retries new n)) (sym led.0)
+          (ways_more _ _ _ c.args.plans.now c.args.limits.retries old new c.loop-turn.explored.lent ways.0 c.lend.ensures.grows before.inside before.ways ways.1 ways.2);
     }

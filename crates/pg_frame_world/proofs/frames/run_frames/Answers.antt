@@ -1,4 +1,4 @@
-use Rattle.std.proofs.Common.{List, ℕ, sym, subst}
+use Rattle.std.proofs.Common.{◌∙◌, List, ℕ, sym, subst}
 use Rattle.pg_step.specs.Config.{Config}
 use Rattle.pg_step.specs.FrameMachine.{frame_machine}
 use Rattle.pg_machine.specs.Machine.{start_of}
@@ -12,8 +12,11 @@ use Rattle.pg_frame_world.proofs.frames.run_frames.Goals as goal
 
 pub returns-in-Ok-clause-ran : goal.returns-in-Ok-clause-ran
 returns-in-Ok-clause-ran c = λ none. ran_so over_packets c.args.config.now.starts.items (λ (config : Config). Shows config (view_of c.in-Ok.begun)) (λ (config : Config). Shows config (view_of c.run.new.self))
-    c.args.steps.now c.run.new.numbers.items c.in-Ok.ensures.begins (λ config shows. c.run.ensures.ran none config (start_of (frame_machine config)) c.in-Ok.ensures.lost shows)
+    c.args.steps.now c.run.new.numbers.items c.in-Ok.ensures.begins (λ config shows. c.run.ensures.ran none config (start_of (frame_machine config)) shows)
     (λ config w shows. shows.traffic.nodes.apart) c.one_history.ensures.each_world
+
+pub returns-in-Ok-clause-lost : goal.returns-in-Ok-clause-lost
+returns-in-Ok-clause-lost c = λ none. c.run.ensures.lost none ∙ c.in-Ok.ensures.lost
 
 pub returns-in-Ok-clause-losing : goal.returns-in-Ok-clause-losing
 returns-in-Ok-clause-losing c = ran_losing_so c.args.config.now.starts.items (view_of c.in-Ok.begun) (view_of c.run.new.self) (lost_of c.run.new.self)

@@ -1,9 +1,10 @@
-use Rattle.std.proofs.Common.{map}
+use Rattle.std.proofs.Common.{◌≡◌, true, map}
 use Rattle.pg_cluster.specs.Judges.{Agree}
 use Rattle.pg_frame_world.specs.Openings.{CanBegin}
-use Rattle.pg_cluster.specs.Running.{config_in}
-use Rattle.pg_cluster.specs.Together.{AreOneRun}
-use Rattle.pg_talk.proofs.Judging.{told_so, told_of_two}
+use Rattle.pg_cluster.specs.Running.{config_in, losses_in}
+use Rattle.pg_cluster.specs.Survivors.{SurvivorsAgree}
+use Rattle.pg_cluster.specs.Together.{AreOneLosingRun}
+use Rattle.pg_talk.proofs.Judging.{told_by_losses, told_of_two}
 use Rattle.pg_talk.proofs.verdict.close_and_judge.Goals as goal
 
 pub returns : goal.returns
@@ -16,17 +17,25 @@ returns g c =
     let agree = rw c.in-Ok.is at c.close-closed.ensures.agree in
     let heard = rw c.in-Ok.is at c.close-closed.ensures.heard in
     let lost = rw c.in-Ok.is at c.close-closed.ensures.lost in
-    let replay = rw c.close-closed.ensures.config at c.in_ok-replay.ensures.one_run in
-    let replays = rw c.close-closed.ensures.config at c.in_ok-replay.ensures.replays in record {
+    let survivors = rw c.in-Ok.is at c.close-closed.ensures.survivors in
+    let losing_run = rw c.in-Ok.is at c.close-closed.ensures.losing_run in
+    let told = c.in_ok-agree.ensures in
+    let replay = rw c.close-closed.ensures.config at c.in_ok-replay.ensures.losing_run in
+    let replays = rw c.close-closed.ensures.config at c.in_ok-replay.ensures.replays in
+    let losing = rw c.close-closed.ensures.config at c.in_ok-replay.ensures.losing in
+    let is : c.in_ok-replay.field-0 ≡ true =
+    told_of_two (CanBegin config.ring given) (AreOneLosingRun given (losses_in c.args.running) closed.nodes.items closed.schedule.items) c.in_ok-replay.field-0 c.close-closed.ensures.can losing_run
+    (λ can run. replay (losses_in c.args.running) can run) in record {
       nodes = closed.nodes.items;
       logs = logs;
       schedule = closed.schedule.items;
       made = c.close-closed.ensures.made;
       heard = heard;
       one_run = one_run;
-      agree = λ nobody. told_so (Agree closed.nodes.items closed.logs.items) c.in_ok-agree.field-0 (agree nobody) (λ agree. ((rw lost at c.in_ok-agree.ensures) nobody).1 agree);
-      replay = λ nobody.
-          told_of_two (CanBegin config.ring given) (AreOneRun given closed.nodes.items logs closed.schedule.items) c.in_ok-replay.field-0 c.close-closed.ensures.can
-          (one_run nobody) (λ can run. replay can run);
-      replays = replays;
+      losing_run = losing_run;
+      agree = told_by_losses (Agree closed.nodes.items closed.logs.items) (SurvivorsAgree closed.nodes.items closed.lost.items closed.logs.items) closed.lost.items c.in_ok-agree.field-0
+          (rw lost agree) survivors (λ nobody holds. (told.nobody nobody).1 holds) (λ some holds. (told.some some).1 holds);
+      replay = is;
+      replays = replays is;
+      replays_past_losses = losing is;
     }

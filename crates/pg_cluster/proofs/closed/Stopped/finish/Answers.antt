@@ -1,5 +1,5 @@
 use Rattle.pg_cluster.specs.Closed.{losses_of}
-use Rattle.pg_cluster.proofs.Finishing.{joined_agree, joined_losing_run, joined_run}
+use Rattle.pg_cluster.proofs.Finishing.{joined_agree, joined_losing_run, joined_run, joined_survivors}
 use Rattle.pg_cluster.proofs.Scheduling.{events_alone}
 use Rattle.pg_cluster.proofs.closed.Stopped.finish.Goals as goal
 
@@ -17,3 +17,7 @@ returns-clause-agree c =
 
 pub returns-clause-losing_run : goal.returns-clause-losing_run
 returns-clause-losing_run c = joined_losing_run c.args.self c.with_schedule.result c.with_schedule.ensures.nodes c.with_schedule.ensures.logs c.with_schedule.ensures.events
+
+pub returns-clause-survivors : goal.returns-clause-survivors
+returns-clause-survivors c =
+    joined_survivors c.survivors_of_one_run_agree.ensures c.args.self c.with_schedule.result c.with_schedule.ensures.nodes c.with_schedule.ensures.logs c.with_schedule.ensures.lost c.with_schedule.ensures.events

@@ -1,6 +1,6 @@
 use Rattle.pg_cluster.specs.Closed.{lost_of, threads_of}
 use Rattle.pg_cluster.proofs.Agreed.{closed_agree}
-use Rattle.pg_cluster.proofs.Finishing.{finished_ended, finished_run, finished_clients, finished_losing, finished_losing_run, finished_lost, finished_schedule, ended_merely, heard_merely, stopped_joins, stopped_joins_losing}
+use Rattle.pg_cluster.proofs.Finishing.{closed_survivors, finished_ended, finished_run, finished_clients, finished_losing, finished_losing_run, finished_lost, finished_schedule, ended_merely, heard_merely, stopped_joins, stopped_joins_losing}
 use Rattle.pg_cluster.proofs.cluster.Cluster.close.Goals as goal
 
 pub returns-clause-ended : goal.returns-clause-ended
@@ -53,3 +53,10 @@ returns-clause-joins g c =
 pub returns-clause-joins_losing : goal.returns-clause-joins_losing
 returns-clause-joins_losing g c =
     stopped_joins_losing c.threads_are_one_losing_run.ensures (lost_of c.args.self) (threads_of c.args.self) c.stop-stopped.result c.finish.result c.stop-stopped.ensures.ended c.finish.ensures.err
+
+pub returns-clause-survivors : goal.returns-clause-survivors
+returns-clause-survivors g c =
+    closed_survivors c.survivors_of_one_run_agree.ensures c.threads_are_one_losing_run.ensures (lost_of c.args.self) (threads_of c.args.self) c.finish.result
+    (ended_merely (lost_of c.args.self) (threads_of c.args.self) c.stop-stopped.result c.finish.result c.stop-stopped.ensures.ended c.finish.ensures.nodes c.finish.ensures.logs c.finish.ensures.err)
+    (finished_losing (lost_of c.args.self) c.stop-stopped.result c.finish.result c.stop-stopped.ensures.lost c.finish.ensures.events)
+    (finished_lost (lost_of c.args.self) c.stop-stopped.result c.finish.result c.stop-stopped.ensures.lost c.finish.ensures.lost c.finish.ensures.err)

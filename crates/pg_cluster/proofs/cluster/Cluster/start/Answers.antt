@@ -1,4 +1,4 @@
-use Rattle.std.proofs.Common.{arith, ◌≡◌, ◌≤◌, length, vec_len, sym, ◌∙◌, subst}
+use Rattle.std.proofs.Common.{arith, ◌≡◌, ◌≤◌, length, map, vec_len, sym, ap, ◌∙◌, subst}
 use Rattle.pg_ring.specs.Slots.{AreSlots}
 use Rattle.pg_cluster.specs.Members.{is_lost, lasts_in, losses_in, thread_of, threads_in}
 use Rattle.pg_cluster.specs.Notices.{IsFresh, IsRoomy, IsSilent as IsSilentTeller}
@@ -7,11 +7,11 @@ use Rattle.std.proofs.lemmas.List.{length-map}
 use Rattle.pg_run.specs.Ports.{ArePort, IsSilent}
 use Rattle.pg_cluster.specs.Clients.{IsOpen, ports_begun}
 use Rattle.pg_cluster.specs.Room.{HasRoom}
-use Rattle.pg_cluster.specs.Threads.{AreMade}
+use Rattle.pg_cluster.specs.Threads.{AreMade, HaveRings}
 use Rattle.pg_cluster.proofs.Paired.{pairs_left, pairs_so}
 use Rattle.pg_cluster.proofs.Rooms.{room_first}
 use Rattle.pg_cluster.proofs.Telling.{says_none}
-use Rattle.pg_run.specs.Runs.{notices_at}
+use Rattle.pg_run.specs.Runs.{generator_of, notices_at}
 use Rattle.pg_cluster.specs.Threads.{begun_by}
 use Rattle.pg_cluster.proofs.Starts.{started_runs, started_limits, started_wired, started_clients, started_notices}
 use Rattle.pg_cluster.proofs.cluster.Cluster.start.Goals as goal
@@ -72,3 +72,11 @@ returns-in-Ok-start_all-clause-silent g c =
     let clients = c.in_ok-made.made.clients.items in
     pairs_left IsOpen IsSilent (λ client port both. both.1.0) clients (ports_begun threads)
     (started_clients c.in_ok-made.made.runs.items c.args.limit threads clients c.in-Ok-start_all.ensures.started c.in_ok-made.ensures.clients)
+
+pub returns-in-Ok-start_all-clause-rings : goal.returns-in-Ok-start_all-clause-rings
+returns-in-Ok-start_all-clause-rings g c =
+    subst (HaveRings c.args.config.now.ring) (sym (started_runs c.in_ok-made.made.runs.items c.args.limit (threads_in c.in-Ok-start_all.members.items) c.in-Ok-start_all.ensures.started)) c.in_ok-made.ensures.rings
+
+pub returns-in-Ok-start_all-clause-generators : goal.returns-in-Ok-start_all-clause-generators
+returns-in-Ok-start_all-clause-generators g c =
+    ap (map generator_of) (started_runs c.in_ok-made.made.runs.items c.args.limit (threads_in c.in-Ok-start_all.members.items) c.in-Ok-start_all.ensures.started) ∙ c.in_ok-made.ensures.generators

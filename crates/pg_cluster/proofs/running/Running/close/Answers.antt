@@ -3,6 +3,7 @@ use Rattle.pg_cluster.specs.Clients.{AllHeard}
 use Rattle.pg_cluster.specs.Closed.{JoinsToOneLosingRun, JoinsToOneRun, logs_of, nodes_of, threads_of, lost_of}
 use Rattle.pg_cluster.specs.Judges.{Agree}
 use Rattle.pg_cluster.specs.Notices.{NobodyLost}
+use Rattle.pg_cluster.specs.Survivors.{SurvivorsAgree}
 use Rattle.pg_cluster.specs.Threads.{AreMade, begun_by}
 use Rattle.pg_cluster.specs.Together.{AreOneLosingRun, AreOneRun}
 use Rattle.pg_cluster.proofs.Handing.{of_its_own, fact_of_its_own, fact_once, stopped_of_its_own, stopped_once}
@@ -38,3 +39,8 @@ pub returns-clause-joins_losing : goal.returns-clause-joins_losing
 returns-clause-joins_losing g c =
     stopped_once (λ given. AreMade given (map begun_by (threads_of c.args.self.cluster))) c.args.self.config.starts.items c.args.self.made
     (λ given stopped. JoinsToOneLosingRun given (lost_of c.args.self.cluster) (nodes_of stopped) (logs_of stopped)) c.close-closed.result c.close-closed.ensures.joins_losing
+
+pub returns-clause-survivors : goal.returns-clause-survivors
+returns-clause-survivors g c =
+    fact_once (λ given. AreMade given (map begun_by (threads_of c.args.self.cluster))) c.args.self.config.starts.items c.args.self.made
+    (λ given closed. SurvivorsAgree closed.nodes.items closed.lost.items closed.logs.items) c.close-closed.result c.close-closed.ensures.survivors

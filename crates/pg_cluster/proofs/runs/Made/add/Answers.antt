@@ -4,7 +4,7 @@ use Rattle.std.proofs.lemmas.List.{map-append}
 use Rattle.pg_ring.specs.Slots.{taken}
 use Rattle.pg_run.specs.Follows.{node_of, peers_of, log_of}
 use Rattle.pg_run.specs.Notices.{IsUntold}
-use Rattle.pg_run.specs.Runs.{notices_of}
+use Rattle.pg_run.specs.Runs.{generator_of, notices_of}
 use Rattle.pg_cluster.specs.Threads.{node_in, row_in, log_in}
 use Rattle.pg_cluster.proofs.Opening.{opened_more, fresh_more}
 use Rattle.pg_cluster.proofs.Starts.{all_push}
@@ -49,3 +49,9 @@ returns-in-Ok-clause-untold g c = λ all.
     subst (All (λ run. IsUntold (notices_of run))) (sym items)
     (all_push (λ run. IsUntold (notices_of run)) c.args.self.now.runs.items c.new-run.result all
     (record { came = ap taken c.new-run.ensures.notices ∙ c.in-Ok.ensures.untaken; kept = c.new-run.ensures.kept }))
+
+pub returns-in-Ok-clause-generators : goal.returns-in-Ok-clause-generators
+returns-in-Ok-clause-generators g c =
+    let runs = c.args.self.now.runs.items in
+    let items = c.push_reserved.ensures.items ∙ ap (λ runs. runs ++ c.new-run.result ∷ []) c.open.ensures.runs in
+    ap (map generator_of) items ∙ (map-append generator_of runs (c.new-run.result ∷ []) ∙ ap (λ x. map generator_of runs ++ x ∷ []) c.new-run.ensures.generator)

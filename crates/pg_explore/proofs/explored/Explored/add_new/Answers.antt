@@ -1,7 +1,7 @@
 use Rattle.std.proofs.Common.{◌≡◌, ◌≢◌, ◌<◌, ◌≤◌, ℕ, ◌+◌, ◌-◌, Bool, true, false, List, [], ◌∷◌, ◌++◌, length, map, take, get_or, refl, sym, ap, ap₂, ◌∙◌, inl, inr, subst, arith}
 use Rattle.std.specs.Prelude.{Some}
 use Rattle.pg_explore.specs.declared.explored.Met.{Met}
-use Rattle.pg_explore.specs.Explorations.{AreKept, Grows, IsKnown, IsReached, IsSound, met_of}
+use Rattle.pg_explore.specs.Explorations.{AreKept, Grows, IsAlikeAt, IsReached, IsSound, met_of}
 use Rattle.pg_explore.specs.Moments.{sight_of}
 use Rattle.pg_explore.proofs.Alike.{alike_self}
 use Rattle.pg_explore.proofs.Getting.{get_last}
@@ -28,8 +28,10 @@ returns-in-Ok-add-clause-grows c =
     let met : Met = record { moment = c.args.moment; before = Some (record { place = c.args.place; step = c.in-Ok.step }) } in
     subst (λ mets. Grows (met_of c.args.self.now) mets) (sym c.in-Ok-add.ensures.ok) (grows_push (met_of c.args.self.now) met)
 
-pub returns-in-Ok-add-clause-known : goal.returns-in-Ok-add-clause-known
-returns-in-Ok-add-clause-known c = λ there.
+pub returns-in-Ok-add-clause-arrived : goal.returns-in-Ok-add-clause-arrived
+returns-in-Ok-add-clause-arrived c =
     let old = met_of c.args.self.now in
+    let sight = sight_of c.args.moment in
     let met : Met = record { moment = c.args.moment; before = Some (record { place = c.args.place; step = c.in-Ok.step }) } in
-    subst (λ mets. IsKnown mets (sight_of c.args.moment)) (sym c.in-Ok-add.ensures.ok) (length old, (met, get_last old met, alike_self (sight_of c.args.moment)))
+    subst (λ (mets : List Met). IsAlikeAt mets c.len-new.result sight) (sym c.in-Ok-add.ensures.ok)
+    (subst (λ (n : ℕ). IsAlikeAt (old ++ met ∷ []) n sight) (sym (c.len-new.ensures ∙ c.args.self.now.met.ok.0)) (met, get_last old met, alike_self sight))

@@ -3,18 +3,19 @@ use Rattle.std.proofs.lemmas.List.Elements.{Contains-get_or}
 use Rattle.std.proofs.lemmas.Option.{slice_get_read}
 use Rattle.std.specs.List.{Contains}
 use Rattle.pg_explore.specs.declared.moves.Move.{Move}
-use Rattle.pg_explore.specs.Explorations.{met_of}
-use Rattle.pg_explore.proofs.Reached.{all_followed, below_more, can_still, there_still}
+use Rattle.std.proofs.Common.{◌↔◌}
+use Rattle.std.specs.Global.{Vec}
+use Rattle.pg_explore.specs.declared.explored.Arrival.{Arrival}
+use Rattle.pg_explore.specs.declared.visitor.Led.{Led}
+use Rattle.pg_explore.specs.Explorations.{IsOpenAt, met_of}
+use Rattle.pg_explore.specs.Ways.{AreLedAt, Arrives}
+use Rattle.pg_explore.proofs.Expanding.{LedBelow}
+use Rattle.pg_explore.proofs.Leading.{below_leads, below_stays, led_all}
+use Rattle.pg_explore.proofs.Optional.{some_is}
+use Rattle.pg_explore.proofs.Reached.{can_still, there_still}
 use Rattle.pg_explore.proofs.Sound.{grows_on}
 use Rattle.pg_explore.proofs.explored.Explored.expand.Goals as goal
 use Rattle.pg_explore.proofs.explored.Explored.expand.Goals.{in-Nowhere, in-At+in_ok-add_led-in-At}
-use Rattle.pg_explore.specs.declared.explored.Arrival.TheVariants.{At, Beyond, Nowhere}
-
-nowhere : Nowhere ≡ Beyond → ⊥
-nowhere e = absurd (cc)
-
-somewhere : (place : ℕ) → At place ≡ Beyond → ⊥
-somewhere place e = absurd (cc)
 
 pub lead-requires-clause-can : goal.lead-requires-clause-can
 lead-requires-clause-can c =
@@ -45,23 +46,32 @@ loop-step-preserved c =
     let step = c.step-item.result in
     let was = before.few in
     let many = c.lead.ensures.few in
-    let other : c.in_ok-lead.field-0 ≢ Beyond =
-    elim c.match-branch-4.branch as (λ _. c.in_ok-lead.field-0 ≢ Beyond) [
-      | in-Nowhere w ↦ λ e. nowhere (sym w.in-Nowhere.is ∙ e)
-      | in-At+in_ok-add_led-in-At w ↦ λ e. somewhere w.in-At.reached (sym w.in-At.is ∙ e)
-    ] in
     let inside = there_still (met_of c.args.self.now) (met_of c.loop-step.self) c.args.place before.grows c.requires.place in
+    let at = slice_get_read moves _ i step refl c.loop-step-test.true c.step-item.is in
+    let listed : Contains moves step = (i, c.loop-step-test.true, sym c.step-item.is) in
     record {
       holds = c.lead.ensures.holds;
       grows = grows_on (met_of c.args.self.now) (met_of c.loop-step.self) (met_of c.lead.new.self) before.grows c.lead.ensures.grows;
       few = omega (arith, was, many);
       lent_same = c.lead.ensures.lent ∙ before.lent_same;
-      followed = below_more c.args.plans.now (met_of c.loop-step.self) (met_of c.lead.new.self) c.args.place moves i step c.lead.ensures.grows inside
-          (slice_get_read moves _ i step refl c.loop-step-test.true c.step-item.is) (c.in_ok-lead.ensures.followed other) before.followed;
+      led = elim c.match-branch-4.branch as (λ _. LedBelow c.args.plans.now (met_of c.lead.new.self) c.args.place moves (i + 1) c.match-branch-4.led.items) [
+        | in-Nowhere w ↦
+            let here = subst (λ (a : Arrival). Arrives c.args.plans.now (met_of c.lead.new.self) c.args.place step a) w.in-Nowhere.is c.in_ok-lead.ensures.arrives in
+            subst (λ (v : Vec Led). LedBelow c.args.plans.now (met_of c.lead.new.self) c.args.place moves (i + 1) v.items) (sym w.led-is)
+            (below_stays c.args.plans.now (met_of c.loop-step.self) (met_of c.lead.new.self) c.args.place moves i step c.loop-step.led.items c.lead.ensures.grows inside at here before.led)
+        | in-At+in_ok-add_led-in-At w ↦
+            let here = subst (λ (a : Arrival). Arrives c.args.plans.now (met_of c.lead.new.self) c.args.place step a) w.in-At.is c.in_ok-lead.ensures.arrives in
+            subst (λ (v : Vec Led). LedBelow c.args.plans.now (met_of c.lead.new.self) c.args.place moves (i + 1) v.items) (sym w.led-is)
+            (subst (λ (ways : List Led). LedBelow c.args.plans.now (met_of c.lead.new.self) c.args.place moves (i + 1) ways) (sym w.in_ok-add_led-in-At.ensures)
+            (below_leads c.args.plans.now (met_of c.loop-step.self) (met_of c.lead.new.self) c.args.place moves i step c.loop-step.led.items w.in-At.reached c.lead.ensures.grows inside at listed here before.led))
+      ];
     }
 
-pub returns-clause-followed : goal.returns-clause-followed
-returns-clause-followed c =
+pub returns-clause-led : goal.returns-clause-led
+returns-clause-led c = λ ways is.
     let moves = c.as_slice-step-items.result.now in
-    all_followed c.args.plans.now c.args.limits.retries (met_of c.args.self.now) (met_of c.loop-step.self) c.args.place moves c.loop-step.step-index c.loop-step.invariant.grows c.requires.place c.loop-step-test.false
-    (λ step can. subst (λ (xs : List Move). Contains xs step) (sym c.as_slice-step-items.ensures.value) ((c.in_ok-moves.ensures step).1 can)) c.loop-step.invariant.followed
+    let old = met_of c.args.self.now in
+    let new = met_of c.loop-step.self in
+    subst (λ (v : Vec Led). AreLedAt c.args.plans.now c.args.limits.retries new c.args.place v.items) (some_is c.loop-step.led ways is)
+    (led_all c.args.plans.now c.args.limits.retries old new c.args.place moves c.loop-step.step-index c.loop-step.led.items c.loop-step.invariant.grows c.requires.place c.loop-step-test.false
+    (subst (λ (xs : List Move). (step : Move) → Contains xs step ↔ IsOpenAt c.args.plans.now c.args.limits.retries old c.args.place step) (sym c.as_slice-step-items.ensures.value) c.in_ok-moves.ensures) c.loop-step.invariant.led)

@@ -27,16 +27,16 @@ loop-place-preserved g c =
           losing_steps_more packets_past_losses config steps numbers c.loop-place.place c.step_number-number.result c.index-steps-place.result u (ShowsLosing config (view_of c.loop-place.self) (lost_of c.loop-place.self))
           (ShowsLosing config (view_of c.step_number-number.new.self) (lost_of c.step_number-number.new.self)) within inside c.index-steps-place.is
           (c.loop-place.invariant.losing config u shows) (λ v events led shown. c.step_number-number.ensures.losing config v shown);
-      ran = λ none config w nobody shows.
+      ran = λ none config w shows.
           steps_more over_packets config steps numbers c.loop-place.place c.step_number-number.result c.index-steps-place.result w (Shows config (view_of c.loop-place.self)) (Shows config (view_of c.step_number-number.new.self)) within inside c.index-steps-place.is
-          (c.loop-place.invariant.ran none config w nobody shows)
-          (λ u events led shown. c.step_number-number.ensures.steps (passes_at is_loss steps c.loop-place.place c.index-steps-place.result within c.index-steps-place.is none) config u (c.loop-place.invariant.lost none ∙ nobody) shown);
+          (c.loop-place.invariant.ran (c.step_number-number.ensures.unlost none) config w shows)
+          (λ u events led shown. c.step_number-number.ensures.steps none config u shown);
     }
 
 pub returns-clause-ran : goal.returns-clause-ran
-returns-clause-ran g c = λ none config w nobody shows.
+returns-clause-ran g c = λ none config w shows.
     let last : c.loop-place.place ≡ length c.args.steps.now = omega (arith, c.loop-place.auto.place-end, c.loop-place-test.false) in
-    all_taken over_packets config w c.args.steps.now c.loop-place.numbers.items c.loop-place.place (Shows config (view_of c.loop-place.self)) last c.loop-place.invariant.len (c.loop-place.invariant.ran none config w nobody shows)
+    all_taken over_packets config w c.args.steps.now c.loop-place.numbers.items c.loop-place.place (Shows config (view_of c.loop-place.self)) last c.loop-place.invariant.len (c.loop-place.invariant.ran none config w shows)
 
 pub returns-clause-losing : goal.returns-clause-losing
 returns-clause-losing g c = λ config u shows.

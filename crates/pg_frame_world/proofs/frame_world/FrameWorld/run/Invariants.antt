@@ -13,7 +13,7 @@ invariant-loop-place g l = record {
   len : length l.numbers.items ≡ length l.steps;
   given : given_of l.self ≡ given_of l.fn.self;
   lost : LosesNone l.steps → lost_of l.self ≡ lost_of l.fn.self;
-  ran : LosesNone l.steps → (config : Config) (w : TimedFrameWorld) → lost_of l.fn.self ≡ [] → Shows config (view_of l.fn.self) w
+  ran : lost_of l.self ≡ [] → (config : Config) (w : TimedFrameWorld) → Shows config (view_of l.fn.self) w
       → GoesTo over_packets config w (take l.place l.steps) (take l.place l.numbers.items) (Shows config (view_of l.self));
   losing : (config : Config) (u : LosingFrameWorld) → ShowsLosing config (view_of l.fn.self) (lost_of l.fn.self) u
       → LosingGoesTo packets_past_losses config u (take l.place l.steps) (take l.place l.numbers.items) (ShowsLosing config (view_of l.self) (lost_of l.self));

@@ -8,6 +8,7 @@ use Rattle.pg_frame_world.specs.Views.{ways_of, packets_to, traffic_in, HaveRoom
 use Rattle.pg_frame_world.proofs.Ported.{port_there, port_place}
 use Rattle.pg_machine.specs.Machine.{Do}
 use Rattle.std.specs.Prelude.{None, refl}
+use Rattle.pg_frame_world.specs.Effects.{effect_by}
 use Rattle.pg_frame_world.specs.Worlds.{view_of}
 use Rattle.pg_frame_world.proofs.Recording.{shows_all, view_is, grew_own}
 use Rattle.pg_frame_world.proofs.Queued.{own_refused, own_happened}
@@ -141,7 +142,7 @@ returns-in-Ok-retry-clause-event g c =
     let sends = c.in-Ok-retry.done.sends.items in
     let whole1 = whole_as nodes outs outs1 room whole in
     λ config w shows.
-    shows_all config (view_of c.args.self.now) _ w (Do c.args.node (Retry c.args.op)) c.args.node None c.in-Ok-retry.done.began shows
+    shows_all config (view_of c.args.self.now) _ w (Do c.args.node (Retry c.args.op)) c.args.node None c.in-Ok-retry.done.began (effect_by c.in-Ok-retry.done) c.of-effect.result c.of-effect.ensures shows
     (grew_own (view_of c.args.self.now).account _ c.args.node c.in-Ok-retry.done.began c.send_all.result c.send_all.ensures.began c.begin.ensures.history c.begin.ensures.applied)
     (own_happened config (traffic_in nodes outs) w c.args.node (Retry c.args.op) (seen_of state) shows.traffic (seen_here nodes outs c.args.node whole within state here)
     (sent_view nodes outs1 c.args.node whole1 within state here after out c.send_all.new.self sends c.in-Ok-retry.ensures.names there c.send_all.ensures.len c.send_all.ensures.sent) (seen_of after) c.in-Ok-retry.done (sent_nodes nodes outs1 c.args.node whole1 within state here after out c.send_all.new.self sends c.in-Ok-retry.ensures.names there c.send_all.ensures.len c.send_all.ensures.sent) c.in-Ok-retry.ensures.names c.in-Ok-retry.ensures.ports c.in-Ok-retry.ensures.fits

@@ -62,6 +62,7 @@ returns-in-Ok-clause-losing g c = λ config u shows.
     packets_sight_seen config view _ u node peer lost lost shows c.requires.pair c.requires.lives gone drained (seen_of state) here c.clock-last.result clock refl
     (seen_of after) c.in-Ok.done (map-set seen_of nodes node after) c.in-Ok.ensures.names c.in-Ok.ensures.ports (λ x y. refl) refl
     (subst (λ k. Comes (names_of state) (step_see_loss (name_at (names_of state) (k + 1)) c.clock-last.result (state_of state)) (Ok c.in-Ok.done) (state_of after) (answers_of state) (answers_of after)) c.peer_place.ensures c.in-Ok.ensures.event)
+    c.nothing.result c.nothing.ensures
 
 pub returns-in-Err-clause-losing : goal.returns-in-Err-clause-losing
 returns-in-Err-clause-losing g c = λ config u shows.

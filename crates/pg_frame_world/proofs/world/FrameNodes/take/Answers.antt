@@ -9,6 +9,7 @@ use Rattle.pg_frame_world.specs.Views.{ways_of, packets_to, first_of, traffic_in
 use Rattle.pg_frame_world.proofs.Taking.{taker_there, row_there, apart, taker_place, sender_place, sender_way, passed_whole, passed_here, passed_else}
 use Rattle.pg_machine.specs.Machine.{Take}
 use Rattle.std.specs.Prelude.{refl}
+use Rattle.pg_frame_world.specs.Effects.{effect_by}
 use Rattle.pg_frame_world.specs.Worlds.{view_of}
 use Rattle.pg_account.specs.Histories.{asked_by}
 use Rattle.pg_frame_world.proofs.Recording.{shows_all, view_is, grew_taken}
@@ -280,7 +281,7 @@ returns-in-Ok-take-clause-event g c =
     let sends = c.in-Ok-take.done.sends.items in
     let apart = apart nodes outs whole node peer c.requires.pair in
     λ config w shows.
-    shows_all config (view_of c.args.self.now) _ w (Take node peer) node (asked_by c.in-Some.packet.now.message) c.in-Ok-take.done.began shows
+    shows_all config (view_of c.args.self.now) _ w (Take node peer) node (asked_by c.in-Some.packet.now.message) c.in-Ok-take.done.began (effect_by c.in-Ok-take.done) c.of-effect.result c.of-effect.ensures shows
     (grew_taken (view_of c.args.self.now).account _ node (asked_by c.in-Some.packet.now.message) c.in-Ok-take.done.began c.send_all.result _ _ _ _ c.send_all.ensures.began
     c.make_room-in-Some.ensures.history c.make_room-in-Some.ensures.applied c.serve.ensures.history c.serve.ensures.applied c.begin.ensures.history c.begin.ensures.applied)
     (take_happened config (traffic_in nodes outs) w node peer shows.traffic c.requires.pair (seen_of state) (seen_here nodes outs node whole within state here) (stamped_of c.in-Some.packet.now)

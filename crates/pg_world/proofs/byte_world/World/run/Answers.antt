@@ -41,18 +41,18 @@ loop-place-preserved g c =
           (subst (λ (room : ℕ). Crosses config room (crossing_of c.loop-place.self) v c.index-steps-place.result c.step_number-number.result Then) c.loop-place.invariant.room
           (c.step_number-number.ensures.crosses config v last.1 last.2)))
           steps numbers c.loop-place.place (crossing_of c.args.self.now) u within inside c.index-steps-place.is (c.loop-place.invariant.crosses config u reached shows);
-      ran = λ none config w nobody reached shows.
+      ran = λ none config w reached shows.
           steps_more over_bytes config steps numbers c.loop-place.place c.step_number-number.result c.index-steps-place.result w (ShowsBytes config (crossing_of c.loop-place.self) (account_of c.loop-place.self))
           (ShowsBytes config (crossing_of c.step_number-number.new.self) (account_of c.step_number-number.new.self)) within inside c.index-steps-place.is
-          (c.loop-place.invariant.ran none config w nobody reached shows)
-          (λ u events led shown. c.step_number-number.ensures.steps (passes_at is_loss_in steps c.loop-place.place c.index-steps-place.result within c.index-steps-place.is none) config u (c.loop-place.invariant.lost none ∙ nobody) (reached_on config w u events reached led) shown);
+          (c.loop-place.invariant.ran (c.step_number-number.ensures.unlost none) config w reached shows)
+          (λ u events led shown. c.step_number-number.ensures.steps none config u (reached_on config w u events reached led) shown);
     }
 
 pub returns-clause-ran : goal.returns-clause-ran
-returns-clause-ran g c = λ none config w nobody reached shows.
+returns-clause-ran g c = λ none config w reached shows.
     let last : c.loop-place.place ≡ length c.args.steps.now = omega (arith, c.loop-place.auto.place-end, c.loop-place-test.false) in
     all_taken over_bytes config w c.args.steps.now c.loop-place.numbers.items c.loop-place.place (ShowsBytes config (crossing_of c.loop-place.self) (account_of c.loop-place.self)) last c.loop-place.invariant.len
-    (c.loop-place.invariant.ran none config w nobody reached shows)
+    (c.loop-place.invariant.ran none config w reached shows)
 
 pub returns-clause-losing : goal.returns-clause-losing
 returns-clause-losing g c = λ config u reached shows.

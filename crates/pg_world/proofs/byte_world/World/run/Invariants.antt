@@ -20,7 +20,7 @@ invariant-loop-place g l = record {
   given : given_of l.self ≡ given_of l.fn.self;
   room : room_of l.self ≡ room_of l.fn.self;
   lost : NobodyLost l.steps → lost_of l.self ≡ lost_of l.fn.self;
-  ran : NobodyLost l.steps → (config : Config) (w : TimedFrameWorld) → lost_of l.fn.self ≡ [] → IsReached config w → ShowsBytes config (crossing_of l.fn.self) (account_of l.fn.self) w
+  ran : lost_of l.self ≡ [] → (config : Config) (w : TimedFrameWorld) → IsReached config w → ShowsBytes config (crossing_of l.fn.self) (account_of l.fn.self) w
       → GoesTo over_bytes config w (take l.place l.steps) (take l.place l.numbers.items) (ShowsBytes config (crossing_of l.self) (account_of l.self));
   losing : (config : Config) (u : LosingFrameWorld) → IsReachedLosing config u → ShowsLosingBytes config (crossing_of l.fn.self) (account_of l.fn.self) (lost_of l.fn.self) u
       → LosingGoesTo bytes_past_losses config u (take l.place l.steps) (take l.place l.numbers.items) (ShowsLosingBytes config (crossing_of l.self) (account_of l.self) (lost_of l.self));

@@ -1,4 +1,5 @@
-use Rattle.std.proofs.Common.{◌≡◌, ◌∙◌, Bool, [], true, false, refl, sym, ap, subst}
+use Rattle.std.proofs.Common.{◌≡◌, ◌∙◌, ℕ, List, Bool, [], length, true, false, refl, sym, ap, subst}
+use Rattle.std.specs.Prelude.{IfErr}
 use Rattle.pg_machine.specs.Places.{is_pair}
 use Rattle.pg_history.proofs.steps.Lossless.{nobody_timed}
 use Rattle.pg_loss.specs.Reached.{LosingReaches}
@@ -7,14 +8,15 @@ use Rattle.pg_step.specs.Nodes.{Node}
 use Rattle.pg_step.specs.Step.{Issue, Retry}
 use Rattle.pg_frame_world.specs.declared.step.FrameStep.{FrameStep}
 use Rattle.pg_world.specs.BytesLosing.{ShowsLosingBytes, EventLeaves}
-use Rattle.pg_world.specs.Crossings.{crossing_of, ShowsBytes, FrameComesTo}
+use Rattle.pg_world.specs.Bars.{IsFaultOf, loss_bar}
+use Rattle.pg_world.specs.Crossings.{Crossing, crossing_of, ShowsBytes, FrameComesTo}
 use Rattle.pg_account.specs.Histories.{account_of}
 use Rattle.pg_frame_world.specs.Losing.{losing_of, is_barred, is_cut_off}
 use Rattle.pg_account.specs.Losses.{lost_in, is_lost}
 use Rattle.pg_account.specs.Histories.{Account}
 use Rattle.pg_frame_world.specs.Worlds.{has_places}
 use Rattle.pg_frame_world.proofs.Barred.{either_stays, either_unseen, take_cut}
-use Rattle.pg_world.proofs.over_bytes.Past.{take_past, own_past, unplaced_past, barred_past, starved_past}
+use Rattle.pg_world.proofs.over_bytes.Past.{loss_came, take_past, own_past, unplaced_past, barred_past, starved_past}
 use Rattle.pg_world.proofs.Harmless.{welcome_there, welcome_left}
 use Rattle.pg_frame_world.proofs.Turning.{pair_there}
 use Rattle.pg_world.proofs.over_bytes.Unplaced.{unplaced_event}
@@ -68,6 +70,16 @@ returns-in-Take-clause-losing g c = λ config u reached shows.
     subst (λ (s : FrameStep). EventLeaves config u s c.take.result (ShowsLosingBytes config (crossing_of c.take.new.self) (account_of c.take.new.self.histories) (lost_in c.take.new.self.losses))) (sym c.in-Take.is)
     (take_past config crossing (crossing_of c.take.new.self) _ (account_of c.take.new.self.histories) u lost _ now c.take.ensures.lost c.take.result i p pair lives
     (c.take.ensures.event config lost w stays unseen welcome now.shows))
+
+pub returns-in-Lose-clause-came : goal.returns-in-Lose-clause-came
+returns-in-Lose-clause-came g c = λ config w nobody reached shows.
+    let crossing = crossing_of c.args.self.now in
+    let settled : account_of c.settle.new.self ≡ account_of c.args.self.now.histories = λ j. record { histories = c.settle.ensures.history j; applied = c.settle.ensures.applied j } in
+    let now = subst (λ (a : Account). ShowsBytes config crossing a w) (sym (c.lose.ensures.account ∙ settled)) shows in
+    let after = subst (λ (x : Crossing). ShowsBytes config x (account_of c.lose.new.self.histories) w) (sym c.lose.ensures.same) now in
+    let fault = subst (λ (l : List ℕ). IfErr c.lose.result (IsFaultOf (loss_bar crossing l c.in-Lose.node))) nobody c.lose.ensures.fault in
+    subst (λ (s : FrameStep). FrameComesTo config w s c.lose.result (ShowsBytes config (crossing_of c.lose.new.self) (account_of c.lose.new.self.histories))) (sym c.in-Lose.is)
+    (loss_came config (length crossing.nodes) c.in-Lose.node (ShowsBytes config (crossing_of c.lose.new.self) (account_of c.lose.new.self.histories) w) c.lose.result shows.traffic.nodes.size fault after)
 
 pub returns-in-Command-clause-came : goal.returns-in-Command-clause-came
 returns-in-Command-clause-came g c = λ config w nobody reached shows.

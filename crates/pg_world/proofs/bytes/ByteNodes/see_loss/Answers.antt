@@ -30,7 +30,7 @@ returns-in-Ok-clause-barred g c =
     let bar : sight_bar crossing lost c.args.node c.args.peer ≡ None = λ j. first_that_holds (
     (not (c.requires.pair j), NoSuchPlace) ∷ (c.requires.lives j, NodeLost) ∷ (not ((sym c.has.ensures ∙ c.if-not-has.false) j), NotLost)
     ∷ ((sym c.has_bytes.ensures ∙ c.if-has_bytes.false) j, NotDrained) ∷ []) in
-    subst (λ (b : Option Refusal). IsHeld b (Ok Happened)) (sym bar) tt
+    subst (λ (b : Option Refusal). IsHeld b (Ok (Happened c.nothing.result))) (sym bar) tt
 
 pub returns-in-Err-clause-changes : goal.returns-in-Err-clause-changes
 returns-in-Err-clause-changes g c =
@@ -83,6 +83,7 @@ returns-in-Ok-clause-losing g c = λ config u shows.
     (closed_bytes nodes rings i p over after l at links lost gone (pair_is _ i p c.requires.pair).2 (length config))
     (λ x y. part_kept nodes rings rings i (peer_place i p) over after closed l at links (λ (k : Link). k.damaged) (λ k. refl) x (peer_place x y))
     (step_there c.peer_place.result (peer_place i p) c.peer_place.ensures over after c.clock-last.result (Ok c.in-Ok.done) (links_here nodes rings i over l at) c.in-Ok.ensures.event)
+    c.nothing.result c.nothing.ensures
 
 pub returns-in-Err-clause-losing : goal.returns-in-Err-clause-losing
 returns-in-Err-clause-losing g c = λ config u shows.

@@ -1,16 +1,17 @@
-use Rattle.std.proofs.Common.{◌≡◌, ◌∙◌, List, ℕ, Bool, true, false, [], sym, ap, subst}
+use Rattle.std.proofs.Common.{◌≡◌, ◌∙◌, List, ℕ, Bool, length, true, false, [], sym, ap, subst}
+use Rattle.std.specs.Prelude.{IfErr}
 use Rattle.pg_history.proofs.steps.Lossless.{nobody_timed}
 use Rattle.pg_step.specs.Config.{name_at}
 use Rattle.pg_step.specs.Nodes.{Node}
 use Rattle.pg_world.specs.declared.step.Step.{Step}
 use Rattle.pg_world.specs.BytesLosing.{ShowsLosingBytes, StepLeaves}
-use Rattle.pg_world.specs.Crossings.{crossing_of, ShowsBytes, ShowsBytesPast, StepComesTo}
-use Rattle.pg_account.specs.Histories.{account_of}
+use Rattle.pg_world.specs.Crossings.{Crossing, crossing_of, ShowsBytes, ShowsBytesPast, StepComesTo}
+use Rattle.pg_account.specs.Histories.{Account, account_of}
 use Rattle.pg_frame_world.specs.Losing.{SeenAreLost}
 use Rattle.pg_account.specs.Losses.{lost_in}
-use Rattle.pg_world.specs.Bars.{put_bar, pull_bar}
+use Rattle.pg_world.specs.Bars.{IsFaultOf, loss_bar, put_bar, pull_bar}
 use Rattle.pg_world.specs.BytesLosing.{MoveLeaves}
-use Rattle.pg_world.proofs.over_bytes.Past.{move_came, put_in, pull_in}
+use Rattle.pg_world.proofs.over_bytes.Past.{loss_came, move_came, put_in, pull_in}
 use Rattle.pg_world.proofs.bytes.ByteNodes.step.Goals as goal
 
 pub returns-in-Put-clause-came : goal.returns-in-Put-clause-came
@@ -54,6 +55,15 @@ pub returns-in-Event-clause-losing : goal.returns-in-Event-clause-losing
 returns-in-Event-clause-losing g c = λ config u reached shows.
     subst (λ (s : Step). StepLeaves config u s c.event.result (ShowsLosingBytes config (crossing_of c.event.new.self) (account_of c.event.new.self.histories) (lost_in c.event.new.self.losses))) (sym c.in-Event.is)
     (c.event.ensures.losing config u reached shows)
+
+pub returns-in-Lose-clause-came : goal.returns-in-Lose-clause-came
+returns-in-Lose-clause-came g c = λ config w nobody reached shows.
+    let crossing = crossing_of c.args.self.now in
+    let now = subst (λ (a : Account). ShowsBytes config crossing a w) (sym c.lose.ensures.account) shows in
+    let after = subst (λ (x : Crossing). ShowsBytes config x (account_of c.lose.new.self.histories) w) (sym c.lose.ensures.same) now in
+    let fault = subst (λ (l : List ℕ). IfErr c.lose.result (IsFaultOf (loss_bar crossing l c.in-Lose.node))) nobody c.lose.ensures.fault in
+    subst (λ (s : Step). StepComesTo config w s c.lose.result (ShowsBytes config (crossing_of c.lose.new.self) (account_of c.lose.new.self.histories))) (sym c.in-Lose.is)
+    (loss_came config (length crossing.nodes) c.in-Lose.node (ShowsBytes config (crossing_of c.lose.new.self) (account_of c.lose.new.self.histories) w) c.lose.result shows.traffic.nodes.size fault after)
 
 pub returns-in-Lose-clause-losing : goal.returns-in-Lose-clause-losing
 returns-in-Lose-clause-losing g c = λ config u reached shows.

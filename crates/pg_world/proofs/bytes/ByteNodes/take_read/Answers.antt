@@ -52,7 +52,7 @@ returns-in-Ok-take_read g c = record {
       (take_acts nodes rings i node node2 done.sends.items l at p apart
       (subst (λ k. (j : ℕ) → links_of node2 j ≡ at_link k passed (sent_out done.sends.items (links_of node)) j) place c.in-Ok-take_read.ensures.sent))
       (grew_taken (account_of c.args.self.now.histories) _ i (asked_by packet.message) done.began done.began _ _ _ _ refl
-      c.make_room.ensures.history c.make_room.ensures.applied c.serve.ensures.history c.serve.ensures.applied c.begin.ensures.history c.begin.ensures.applied)
+      c.make_room.ensures.history c.make_room.ensures.applied c.serve.ensures.history c.serve.ensures.applied c.begin.ensures.history c.begin.ensures.applied) c.of-effect.result c.of-effect.ensures
       (subst (λ k. ComesInRoom (names_of (held_by node)) (step_take (nodes_of (held_by node)) (name_at (names_of (held_by node)) (k + 1)) (stamped_of packet) (state_of (held_by node))) (Ok done) (state_of (held_by node2)) (answers_of (held_by node)) (answers_of (held_by node2)))
       place c.in-Ok-take_read.ensures.event);
   changes = alone c.args.self.now.nodes.items c.args.self.now.rings.items c.args.node c.take_read.new.self;

@@ -1,4 +1,4 @@
-use Rattle.std.proofs.Common.{List, ℕ, [], refl, sym, subst}
+use Rattle.std.proofs.Common.{◌∙◌, List, ℕ, [], refl, sym, subst}
 use Rattle.pg_step.specs.Config.{Config}
 use Rattle.pg_step.specs.FrameMachine.{frame_machine}
 use Rattle.pg_machine.specs.Machine.{start_of}
@@ -14,8 +14,11 @@ use Rattle.pg_world.proofs.bytes.runs.run.Goals as goal
 pub returns-in-Ok-clause-ran : goal.returns-in-Ok-clause-ran
 returns-in-Ok-clause-ran c = λ none. ran_so over_bytes c.args.config.now.starts.items (λ (config : Config). ShowsBytes config (crossing_of c.in-Ok.begun) (account_of c.in-Ok.begun))
     (λ (config : Config). ShowsBytes config (crossing_of c.run.new.self) (account_of c.run.new.self))
-    c.args.steps.now c.run.new.numbers.items c.in-Ok.ensures.begins (λ config shows. c.run.ensures.ran none config (start_of (frame_machine config)) c.in-Ok.ensures.lost ([], refl) shows)
+    c.args.steps.now c.run.new.numbers.items c.in-Ok.ensures.begins (λ config shows. c.run.ensures.ran none config (start_of (frame_machine config)) ([], refl) shows)
     (λ config w shows. shows.traffic.nodes.apart) c.one_history.ensures.each_world
+
+pub returns-in-Ok-clause-lost : goal.returns-in-Ok-clause-lost
+returns-in-Ok-clause-lost c = λ none. c.run.ensures.lost none ∙ c.in-Ok.ensures.lost
 
 pub returns-in-Ok-clause-losing : goal.returns-in-Ok-clause-losing
 returns-in-Ok-clause-losing c = ran_bytes_so c.args.config.now.starts.items (crossing_of c.in-Ok.begun) (crossing_of c.run.new.self) (account_of c.in-Ok.begun) (account_of c.run.new.self)

@@ -1,0 +1,48 @@
+ghost use Rattle.std.specs.Prelude.{◌≡◌, ℕ, true, length, List};
+ghost use Rattle.std.specs.List.{IsDistinct};
+ghost use Rattle.pg_term.specs.declared.pid.Pid.{Pid};
+ghost use Rattle.pg_term.specs.declared.term.Term.{Term};
+ghost use Rattle.pg_term.specs.Same.{same_atom};
+ghost use Rattle.pg_machine.specs.Losing.{LosingEvent};
+ghost use Rattle.pg_machine.specs.Places.{is_place};
+ghost use Rattle.pg_step.specs.Config.{Config, name_at, names_of};
+ghost use Rattle.pg_step.specs.LossLaws.{LosingFrameWorld};
+ghost use Rattle.pg_step.specs.State.{formed};
+ghost use Rattle.pg_step.specs.Step.{Action};
+ghost use Rattle.pg_history.specs.Reached.{FinishedAt};
+ghost use Rattle.pg_loss.specs.Reached.{LosingReaches, steps_of};
+ghost use Rattle.pg_left.specs.Heard.{MadeOf};
+ghost use Rattle.pg_left.specs.Survived.{AgreeOnUnchanged};
+
+use pg_loss::each_world_keeps_past_losses;
+
+/// Two formed nodes that are left agree on a group, whoever was formed when others were lost: where each has seen the loss of
+/// every node that is lost and took its exchange before, no end is pending among those left, no lost node began an update of
+/// the group, and one node that is left sees its lock free.
+pub fn nodes_that_heard_the_lost_agree()
+    ensures { (config : Config) (w : LosingFrameWorld) (events : List (LosingEvent Action)) (i j x : ℕ) (name : Term)
+        → IsDistinct same_atom (names_of config) → LosingReaches config events w
+        → AgreeOnUnchanged config events w i j x name }
+{
+    each_world_keeps_past_losses();
+}
+
+/// What a table is made of, whoever is lost and whoever was formed when: a node's own groups, and those of each exchange that it
+/// took, after the updates that it has applied, without the ends that it took.
+///
+/// A loss takes along what was not taken before it was seen: the groups of an exchange that never came, and the updates of lost
+/// nodes that `histories_are_thinned` of pg_loss leaves out.
+pub fn tables_are_made_of_what_was_taken()
+    ensures { (config : Config) (w : LosingFrameWorld) (events : List (LosingEvent Action)) (i : ℕ)
+        → IsDistinct same_atom (names_of config) → LosingReaches config events w
+        → is_place (length config) i ≡ true → MadeOf config events w i }
+{
+    each_world_keeps_past_losses();
+}
+
+/// Whoever is lost, a process of a node which that node has as ended was told to end there.
+pub fn ended_processes_were_finished_past_losses()
+    ensures { (config : Config) (w : LosingFrameWorld) (events : List (LosingEvent Action)) (i : ℕ) (pid : Pid)
+        → IsDistinct same_atom (names_of config) → LosingReaches config events w
+        → pid.node ≡ name_at config i → (w.world.node i).state.ended pid ≡ true → FinishedAt (steps_of events) i pid }
+{}
