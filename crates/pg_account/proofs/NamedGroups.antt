@@ -1,5 +1,6 @@
 -- Worlds that have the same of each group that is named have the same of every group.
-use Rattle.std.proofs.Common.{◌≡◌, ℕ, suc, Bool, true, false, cond, nat_eq, ◌&&◌, ◌||◌, Option, Some, None, List, [], ◌∷◌, ◌++◌, refl, sym, ap, subst, ◌∙◌, arith}
+use Rattle.std.proofs.Common.{◌≡◌, ℕ, suc, Bool, true, false, cond, nat_eq, ◌&&◌, ◌||◌, Option}
+use Rattle.std.proofs.Common.{Some, None, List, [], ◌∷◌, ◌++◌, refl, sym, ap, subst, ◌∙◌, arith}
 use Rattle.std.specs.Prelude.{is_some, IsSome}
 use Rattle.std.specs.BTreeMap.{BTreeMap, get, keys}
 use Rattle.std.specs.List.{All, AllByRecursion, list_any}
@@ -16,7 +17,8 @@ use Rattle.pg_account.specs.declared.entry.Entry.{Entry}
 use Rattle.pg_account.specs.declared.histories.Histories.{Histories}
 use Rattle.pg_account.specs.declared.row.Row.{Row}
 use Rattle.pg_account.specs.Agreeing.{HaveSameUpdates, IsNamedLast, AgreeOnNamed}
-use Rattle.pg_account.specs.Histories.{account_of, as_entry, entries_of, count_at, history_in, applied_in, last_entries, last_count}
+use Rattle.pg_account.specs.Histories.{account_of, as_entry, entries_of, count_at}
+use Rattle.pg_account.specs.Histories.{history_in, applied_in, last_entries, last_count}
 
 -- the same the other way round
 pub turned : (count : ℕ) (one other : Histories) (name : Term) → HaveSameUpdates count (account_of one) (account_of other) name → HaveSameUpdates count (account_of other) (account_of one) name

@@ -31,7 +31,9 @@ pub struct Histories {
 impl Histories {
     ghost use Rattle.pg_history.specs.History.{of_group, entry_of};
     ghost use Rattle.pg_account.specs.Agreeing.{HaveSameUpdates, IsNamedLast, AgreeOnNamed};
-    ghost use Rattle.pg_account.specs.Histories.{account_of, history_in, applied_in, begun_by, one_of, last_entries, last_count, as_entry, entries_in, counts_in, IsSettled, LastHasRow, CanServe};
+    ghost use Rattle.pg_account.specs.Histories.{account_of, history_in, applied_in, begun_by, one_of};
+    ghost use Rattle.pg_account.specs.Histories.{last_entries, last_count, as_entry, entries_in};
+    ghost use Rattle.pg_account.specs.Histories.{counts_in, IsSettled, LastHasRow, CanServe};
 
     /// Nothing has begun.
     ///
@@ -47,9 +49,11 @@ impl Histories {
         }
     }
 
-    /// The same histories and counts. Its cost grows with the entries.
+    /// The same histories and counts.
     ///
     /// Errors: `AllocError`.
+    ///
+    /// Cost: that of the copies: O(n log n) in the groups that were named, and memory for each entry and each count.
     pub fn copy(&self) -> Result<Histories, AllocError>
         ensures history { IfOk result (λ copy. history_in copy ≡ history_in self.now) }
         ensures applied { IfOk result (λ copy. applied_in copy ≡ applied_in self.now) }
@@ -165,6 +169,9 @@ impl Histories {
     /// Puts the last entry in its row, as before an event.
     ///
     /// Errors: `AllocError`, which changes nothing.
+    ///
+    /// Cost: O(log n) in the groups that were named; memory for one more entry in the row of its group, for the
+    /// counts there, and for the row where there is none.
     pub fn settle(&mut self) -> Result<(), AllocError>
         ensures history { history_in self.new ≡ history_in self.old }
         ensures applied { applied_in self.new ≡ applied_in self.old }
@@ -178,6 +185,9 @@ impl Histories {
     /// Makes room for the update that a packet asks for, if it does, at the node that takes it.
     ///
     /// Errors: `AllocError`, which changes nothing.
+    ///
+    /// Cost: no memory where it asks for none; else O(log n) in the groups that were named, and the memory of one
+    /// more entry, as `settle` takes it.
     pub fn make_room(&mut self, node: usize, packet: &Packet) -> Result<(), AllocError>
         ensures history { history_in self.new ≡ history_in self.old }
         ensures applied { applied_in self.new ≡ applied_in self.old }
@@ -221,8 +231,9 @@ impl Histories {
         }
     }
 
-    /// The updates of a group in the order in which they began: those in its row, and one more that is not there yet. It takes
-    /// no memory: O(log n) in the groups that were named.
+    /// The updates of a group in the order in which they began: those in its row, and one more that is not there yet.
+    ///
+    /// Cost: no memory; O(log n) in the groups that were named.
     pub fn history(&self, name: &Term) -> (&[Entry], Option<&Entry>)
         ensures { map as_entry result.0.now ++ last_entries (option_copied result.1) ≡ history_in self.now name.now }
     {

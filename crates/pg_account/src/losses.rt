@@ -29,6 +29,8 @@ impl Losses {
     /// The same nodes are lost.
     ///
     /// Errors: `AllocError`.
+    ///
+    /// Cost: one allocation at most; O(n) in the nodes that are lost.
     pub fn copy(&self) -> Result<Losses, AllocError>
         ensures { IfOk result (λ copy. lost_in copy ≡ lost_in self.now) }
     {
@@ -70,6 +72,8 @@ impl Losses {
     /// A node is lost.
     ///
     /// Errors: `AllocError`, which changes nothing.
+    ///
+    /// Cost: memory for one more place, and at times O(n) in the nodes that are lost.
     pub fn add(&mut self, node: usize) -> Result<(), AllocError>
         ensures added { OnOk result (lost_in self.new ≡ lost_in self.old ++ node ∷ []) }
         ensures err { OnErr result (lost_in self.new ≡ lost_in self.old) }

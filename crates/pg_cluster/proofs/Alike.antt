@@ -1,5 +1,6 @@
 -- Losses that keep the same on each way lead to the same worlds.
-use Rattle.std.proofs.Common.{◌≡◌, ◌∙◌, ℕ, Bool, true, false, not, ◌&&◌, ◌||◌, cond, nat_le, take, length, List, [], ◌∷◌, ◌++◌, Some, None, refl, sym, ap, subst}
+use Rattle.std.proofs.Common.{◌≡◌, ◌∙◌, ℕ, Bool, true, false, not, ◌&&◌, ◌||◌, cond, nat_le, take}
+use Rattle.std.proofs.Common.{length, List, [], ◌∷◌, ◌++◌, Some, None, refl, sym, ap, subst}
 use Rattle.std.proofs.Math.Path.{fun_ext}
 use Rattle.pg_joining.specs.Losses.{IsMarked, Marked, MarkedLeads}
 use Rattle.pg_machine.specs.Losing.{LosingEvent, LosingWorld, Lose, Step, each_place, losing_happens, stopped}

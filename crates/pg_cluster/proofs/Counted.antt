@@ -1,5 +1,6 @@
 -- How many packets are taken by the first so many of some entries.
-use Rattle.std.proofs.Common.{◌≡◌, ◌≤◌, ◌<◌, ◌+◌, ◌∙◌, ℕ, Bool, true, false, cond, take, get_or, length, List, [], ◌∷◌, ap, arith, suc, zero}
+use Rattle.std.proofs.Common.{◌≡◌, ◌≤◌, ◌<◌, ◌+◌, ◌∙◌, ℕ, Bool, true, false, cond, take}
+use Rattle.std.proofs.Common.{get_or, length, List, [], ◌∷◌, ap, arith, suc, zero}
 use Rattle.pg_joining.specs.ApartWithLosses.{Logs, takes_in, takes_one}
 
 takes_more : (logs : Logs) (p q : ℕ) (later : List (ℕ × ℕ)) (n : ℕ) → n < length later

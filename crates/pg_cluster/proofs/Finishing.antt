@@ -1,5 +1,6 @@
 -- A cluster that is closed.
-use Rattle.std.proofs.Common.{◌≡◌, ◌<◌, ℕ, List, [], ◌∷◌, ◌++◌, length, map, get_or, refl, sym, ◌∙◌, ap, subst, arith, inl, inr, length-append}
+use Rattle.std.proofs.Common.{◌≡◌, ◌<◌, ℕ, List, [], ◌∷◌, ◌++◌, length, map, get_or}
+use Rattle.std.proofs.Common.{refl, sym, ◌∙◌, ap, subst, arith, inl, inr, length-append}
 use Rattle.std.specs.Prelude.{Bool, false, Result, Ok, Err, IfOk, IfErr, MatchResult}
 use Rattle.std.proofs.lemmas.Bool.Decides.{eqb_tells}
 use Rattle.std.specs.List.{All, AllByRecursion}
@@ -26,7 +27,8 @@ use Rattle.pg_cluster.specs.Notices.{IsOfLost, NobodyLost}
 use Rattle.pg_cluster.specs.Schedule.{IsLosingSchedule, IsSchedule}
 use mathlib.Core.Logic.{∥∥₁_map}
 use Rattle.pg_cluster.specs.Survivors.{SurvivorsAgree}
-use Rattle.pg_cluster.specs.Threads.{NodeOf, RunOf, RanOf, Thread, AreMade, EndedWith, Joined, begun_by, lasts_ended, node_in, log_in, rows_begun, rows_ended, notices_ended}
+use Rattle.pg_cluster.specs.Threads.{NodeOf, RunOf, RanOf, Thread, AreMade, EndedWith, Joined, begun_by}
+use Rattle.pg_cluster.specs.Threads.{lasts_ended, node_in, log_in, rows_begun, rows_ended, notices_ended}
 use Rattle.pg_cluster.specs.Together.{AreOneLosingRun, AreOneRun}
 use Rattle.pg_cluster.proofs.Closing.{crossed_after}
 use Rattle.pg_cluster.proofs.Hearing.{heard_all}

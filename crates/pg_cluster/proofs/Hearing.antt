@@ -1,5 +1,6 @@
 -- What the clients of nodes that ran said and heard.
-use Rattle.std.proofs.Common.{◌≡◌, ◌<◌, ℕ, suc, List, [], ◌∷◌, ◌++◌, length, map, take, drop, get_or, refl, sym, ◌∙◌, ap, subst, arith, append_assoc}
+use Rattle.std.proofs.Common.{◌≡◌, ◌<◌, ℕ, suc, List, [], ◌∷◌, ◌++◌, length, map, take}
+use Rattle.std.proofs.Common.{drop, get_or, refl, sym, ◌∙◌, ap, subst, arith, append_assoc}
 use Rattle.std.specs.List.{All}
 use Rattle.std.proofs.lemmas.List.{get_or_default, nil_from_length, take-append-drop}
 use Rattle.pg_node.specs.Nodes.{held_by}
@@ -14,11 +15,13 @@ use Rattle.pg_run.specs.Runs.{Runs, ports_at}
 use Rattle.pg_run.specs.Turns.{PortFollows, command_at, commands_at}
 use Rattle.pg_step.specs.declared.answer.Answer.{Answer}
 use Rattle.pg_step.specs.Step.{Issue, Retry}
-use Rattle.pg_cluster.specs.Clients.{AllPairs, AreClients, AllHeard, Heard, NodeHeard, command_in, commands_in, ports_begun, ports_ended}
+use Rattle.pg_cluster.specs.Clients.{AllPairs, AreClients, AllHeard, Heard, NodeHeard}
+use Rattle.pg_cluster.specs.Clients.{command_in, commands_in, ports_begun, ports_ended}
 use Rattle.pg_cluster.specs.ClientsLaws.{port_later, same_itself}
 use Rattle.pg_cluster.specs.Promises.{RanAs}
 use Rattle.pg_cluster.specs.Threads.{Thread, RunOf, RanOf, Joined, begun_by, limit_of, node_in, log_in}
-use Rattle.pg_cluster.proofs.Paired.{pairs_none, pairs_append, pairs_first, pairs_rest, pair_at, pairs_by, all_first, all_rest}
+use Rattle.pg_cluster.proofs.Paired.{pairs_none, pairs_append, pairs_first, pairs_rest}
+use Rattle.pg_cluster.proofs.Paired.{pair_at, pairs_by, all_first, all_rest}
 
 -- ---- commands, as a log has them
 

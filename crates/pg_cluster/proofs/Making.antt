@@ -1,5 +1,6 @@
 -- The rows of links, once all rings are made, and the nodes that have them.
-use Rattle.std.proofs.Common.{◌≡◌, ◌<◌, ◌≤◌, ◌+◌, true, ℕ, zero, suc, List, [], ◌∷◌, length, map, get_or, sym, ◌∙◌, ap, subst, arith, inl, inr}
+use Rattle.std.proofs.Common.{◌≡◌, ◌<◌, ◌≤◌, ◌+◌, true, ℕ, zero, suc, List, [], ◌∷◌}
+use Rattle.std.proofs.Common.{length, map, get_or, sym, ◌∙◌, ap, subst, arith, inl, inr}
 use Rattle.std.specs.Prelude.{slice_get, Some, IfErr, IfOk, Result, Ok, Err}
 use Rattle.std.specs.Option.{option_map}
 use Rattle.std.proofs.lemmas.Option.{slice_get-get_or, slice_get-map, slice_get_within}
@@ -29,7 +30,8 @@ use Rattle.pg_cluster.specs.Clients.{AllPairs, IsOpen}
 use Rattle.pg_cluster.specs.Ended.{Row, AreWired, row_at}
 use Rattle.pg_cluster.specs.Fault.{CantRun, IsShortage}
 use Rattle.pg_cluster.specs.Rows.{HaveRoom, Wired, RowsWired}
-use Rattle.pg_cluster.specs.Threads.{AreMade, HasLinks, HaveRings, NodeOf, RunOf, node_in, row_in, log_in, ports_of_runs}
+use Rattle.pg_cluster.specs.Threads.{AreMade, HasLinks, HaveRings, NodeOf, RunOf}
+use Rattle.pg_cluster.specs.Threads.{node_in, row_in, log_in, ports_of_runs}
 use Rattle.pg_cluster.proofs.Paired.{pairs_right}
 
 -- the links of each

@@ -22,7 +22,8 @@ use Rattle.pg_run.specs.contracts.port.Port as Port
 use Rattle.pg_run.specs.contracts.run.NodeRun as NodeRun
 use Rattle.pg_run.specs.contracts.running.Ran as Ran
 use Rattle.pg_cluster.proofs.TermsSent.{atom_send}
-use Rattle.pg_cluster.proofs.PartsSent.{opid_send, update_send, command_send, answer_send, lock_send, ended_send, formation_send, processes_send}
+use Rattle.pg_cluster.proofs.PartsSent.{opid_send, update_send, command_send, answer_send}
+use Rattle.pg_cluster.proofs.PartsSent.{lock_send, ended_send, formation_send, processes_send}
 
 -- ---- the node
 

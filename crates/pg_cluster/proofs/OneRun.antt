@@ -1,5 +1,7 @@
 -- A cluster that has ended, as one run of its configuration.
-use Rattle.std.proofs.Common.{◌≡◌, ◌≢◌, ◌⊎◌, ◌<◌, ◌≤◌, ◌+◌, ◌-◌, ◌^◌, ℕ, Bool, true, false, cond, nat_eq, nat_lt, min, List, [], ◌∷◌, ◌++◌, length, map, drop, get_or, Some, zero, suc, refl, sym, ◌∙◌, ap, subst, arith, inl, inr}
+use Rattle.std.proofs.Common.{◌≡◌, ◌≢◌, ◌⊎◌, ◌<◌, ◌≤◌, ◌+◌, ◌-◌, ◌^◌, ℕ, Bool, true, false, cond}
+use Rattle.std.proofs.Common.{nat_eq, nat_lt, min, List, [], ◌∷◌, ◌++◌, length, map, drop, get_or}
+use Rattle.std.proofs.Common.{Some, zero, suc, refl, sym, ◌∙◌, ap, subst, arith, inl, inr}
 use Rattle.std.specs.Prelude.{slice_get}
 use Rattle.std.specs.List.{All, AllByRecursion, IsDistinct}
 use Rattle.std.proofs.lemmas.Bool.{cases_eq, eq-eqb, ne_eqb}
@@ -15,7 +17,8 @@ use Rattle.pg_machine.specs.Runs.{Leads}
 use Rattle.pg_machine.proofs.Steps.{happened}
 use Rattle.pg_index.specs.declared.index_table.IndexTable.{IndexTable}
 use Rattle.pg_index.specs.contracts.index_table.IndexTableGroupTable.TheImpl.{ghosts}
-use Rattle.pg_joining.specs.Merge.{Merges, MergesRest, IsNext, rest_of, clocks_of, clocks_in, log_at, entry_at, merged, seen_log}
+use Rattle.pg_joining.specs.Merge.{Merges, MergesRest, IsNext, rest_of, clocks_of}
+use Rattle.pg_joining.specs.Merge.{clocks_in, log_at, entry_at, merged, seen_log}
 use Rattle.pg_joining.proofs.Seen.{same_merge}
 use Rattle.pg_node.specs.Nodes.{held_by, links_of}
 use Rattle.pg_node_state.specs.States.{state_of}
@@ -24,7 +27,8 @@ use Rattle.pg_run.specs.declared.log.NodeEvent.{NodeEvent}
 use Rattle.pg_run.specs.declared.log.NodeEvent.TheVariants as entries
 use Rattle.pg_ring.specs.Slots.{taken}
 use Rattle.pg_run.specs.declared.notices.Notice.{Notice}
-use Rattle.pg_run.specs.Acts.{Act, AllLead, Given, IsFromPeer, Took, Saw, Did, SawNone, Standing, entry_of, event_of as entry_event, loss_of, losses_of, seen_by, seen_in}
+use Rattle.pg_run.specs.Acts.{Act, AllLead, Given, IsFromPeer, Took, Saw, Did, SawNone, Standing}
+use Rattle.pg_run.specs.Acts.{entry_of, event_of as entry_event, loss_of, losses_of, seen_by, seen_in}
 use Rattle.pg_run.specs.Follows.{Follows, node_of as node_at, log_of}
 use Rattle.pg_run.specs.Notices.{IsUntold, NoticesGo, kept_of}
 use Rattle.pg_run.specs.Runs.{linked_of, notices_at, notices_of}
@@ -34,8 +38,10 @@ use Rattle.pg_step.specs.FrameMachine.{frame_machine, last_notice, losing_frame_
 use Rattle.pg_step.specs.LossLaws.{LosingFrameWorld}
 use Rattle.pg_step.specs.Step.{Action, Issue, Retry}
 use Rattle.pg_joining.proofs.Turns.{first_none, others_none, saw_none, SeesNone}
-use Rattle.pg_joining.specs.Apart.{End, HaveRun, Linked as LinkedBy, Crossed, RanApart, RanTogether, event_at, events_in, end_of}
-use Rattle.pg_joining.specs.ApartWithLosses.{MarkedReaches, RanLosing, RanPastLosses, SeesLost, clock_of, is_last_notice, losing_events, nodes_in}
+use Rattle.pg_joining.specs.Apart.{End, HaveRun, Linked as LinkedBy, Crossed}
+use Rattle.pg_joining.specs.Apart.{RanApart, RanTogether, event_at, events_in, end_of}
+use Rattle.pg_joining.specs.ApartWithLosses.{MarkedReaches, RanLosing, RanPastLosses, SeesLost}
+use Rattle.pg_joining.specs.ApartWithLosses.{clock_of, is_last_notice, losing_events, nodes_in}
 use Rattle.pg_frame_world.specs.declared.step.FrameStep.{FrameStep}
 use Rattle.pg_frame_world.specs.declared.step.FrameStep.TheVariants as steps
 use Rattle.pg_world.specs.Crossings.{node_of}
@@ -48,7 +54,8 @@ use Rattle.pg_term.specs.Same.{same_atom}
 use Rattle.pg_cluster.specs.Ended.{row_at}
 use Rattle.pg_cluster.specs.Notices.{IsOfLost, NobodyLost}
 use Rattle.pg_cluster.specs.Schedule.{IsLosingSchedule, IsSchedule, is_lost_in, node_of_peer, step_as, steps_of}
-use Rattle.pg_cluster.specs.Threads.{NodeOf, RunOf, RanOf, Thread, AreMade, EndedWith, begun_by, lasts_ended, node_in, row_in, log_in, rows_begun, rows_ended, notices_ended}
+use Rattle.pg_cluster.specs.Threads.{NodeOf, RunOf, RanOf, Thread, AreMade, EndedWith, begun_by, lasts_ended}
+use Rattle.pg_cluster.specs.Threads.{node_in, row_in, log_in, rows_begun, rows_ended, notices_ended}
 use Rattle.pg_cluster.specs.Together.{AreOneLosingRun, AreOneRun, losing_event}
 use Rattle.pg_cluster.proofs.Alike.{leads_alike}
 use Rattle.pg_cluster.proofs.Scheduled.{IsSmall, marked_event, steps_alike, steps_keep}

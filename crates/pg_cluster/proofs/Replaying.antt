@@ -1,5 +1,7 @@
 -- A schedule that leads from the start does so again, unless memory runs out.
-use Rattle.std.proofs.Common.{◌≡◌, ◌≢◌, ◌↔◌, ◌+◌, max, inl, inr, ℕ, nat_le, nat_eq, Bool, true, false, ◌&&◌, ◌||◌, cond, get_or, List, [], ◌∷◌, length, map, Some, None, Result, Ok, Err, refl, sym, ap, subst, ◌∙◌, arith}
+use Rattle.std.proofs.Common.{◌≡◌, ◌≢◌, ◌↔◌, ◌+◌, max, inl, inr, ℕ, nat_le, nat_eq, Bool, true}
+use Rattle.std.proofs.Common.{false, ◌&&◌, ◌||◌, cond, get_or, List, [], ◌∷◌, length, map}
+use Rattle.std.proofs.Common.{Some, None, Result, Ok, Err, refl, sym, ap, subst, ◌∙◌, arith}
 use Rattle.std.specs.Prelude.{IfOk, IsTrue, slice_get}
 use Rattle.std.proofs.lemmas.Option.{slice_get-get_or, slice_get_within}
 use Rattle.pg_group.specs.declared.table.GroupTable.{Ghosts}
@@ -16,7 +18,8 @@ use Rattle.pg_step.specs.declared.refusal.Refusal.TheVariants.{NoSuchPlace, Cloc
 use Rattle.pg_step.specs.Config.{Config, name_at, nodes_at, ports_at}
 use Rattle.pg_step.specs.FrameMachine.{frame_machine, place_turn, placed}
 use Rattle.pg_step.specs.State.{State}
-use Rattle.pg_step.specs.Step.{Action, CLOCK_LIMIT, TimedTurn, at_clock, node_takes, node_acts, step_act, timed as node_turn}
+use Rattle.pg_step.specs.Step.{Action, CLOCK_LIMIT, TimedTurn, at_clock}
+use Rattle.pg_step.specs.Step.{node_takes, node_acts, step_act, timed as node_turn}
 use Rattle.pg_step.specs.Turns.{NodeTurn, Report}
 use Rattle.pg_frame_world.specs.declared.step.FrameStep.{FrameStep}
 use Rattle.pg_frame_world.specs.declared.step.FrameStep.TheVariants as steps

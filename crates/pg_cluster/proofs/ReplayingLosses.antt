@@ -1,5 +1,6 @@
 -- A schedule with losses that leads from the start does so again, unless memory runs out.
-use Rattle.std.proofs.Common.{◌≡◌, ◌≢◌, ◌↔◌, ◌∙◌, inl, inr, ℕ, nat_eq, Bool, true, false, ◌&&◌, cond, List, [], ◌∷◌, map, Result, Ok, Err, refl, sym, ap, subst}
+use Rattle.std.proofs.Common.{◌≡◌, ◌≢◌, ◌↔◌, ◌∙◌, inl, inr, ℕ, nat_eq, Bool, true, false, ◌&&◌}
+use Rattle.std.proofs.Common.{cond, List, [], ◌∷◌, map, Result, Ok, Err, refl, sym, ap, subst}
 use Rattle.std.specs.Prelude.{IfOk, IsTrue}
 use Rattle.std.specs.Option.{option_map_or}
 use Rattle.pg_config.specs.declared.fault.WorldFault.{WorldFault}

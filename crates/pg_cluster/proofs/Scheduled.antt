@@ -1,5 +1,7 @@
 -- The steps of a schedule with losses are the events that the logs tell.
-use Rattle.std.proofs.Common.{◌≡◌, ◌≢◌, ◌<◌, ◌≤◌, ◌+◌, ◌-◌, ◌^◌, ◌∙◌, ℕ, Bool, true, false, ◌&&◌, cond, min, nat_eq, nat_lt, get_or, length, map, List, [], ◌∷◌, ◌++◌, refl, sym, ap, subst, inl, inr, ◌⊎◌, arith, suc, zero, length-append}
+use Rattle.std.proofs.Common.{◌≡◌, ◌≢◌, ◌<◌, ◌≤◌, ◌+◌, ◌-◌, ◌^◌, ◌∙◌, ℕ, Bool, true, false, ◌&&◌}
+use Rattle.std.proofs.Common.{cond, min, nat_eq, nat_lt, get_or, length, map, List, [], ◌∷◌, ◌++◌}
+use Rattle.std.proofs.Common.{refl, sym, ap, subst, inl, inr, ◌⊎◌, arith, suc, zero, length-append}
 use Rattle.std.specs.List.{AllByRecursion}
 use Rattle.std.proofs.Math.ListN.{get_or-append}
 use Rattle.std.proofs.Math.Seq.{get_or-append_seam}
@@ -13,13 +15,16 @@ use Rattle.pg_machine.specs.Places.{set_at}
 use Rattle.pg_run.specs.declared.log.NodeEvent.{NodeEvent}
 use Rattle.pg_run.specs.declared.log.NodeEvent.TheVariants as entries
 use Rattle.pg_step.specs.Step.{Action}
-use Rattle.pg_joining.specs.ApartWithLosses.{Logs, events_behind, loss_before, losses_first as events_first, losing_events, marked_at, takes_in, takes_of}
+use Rattle.pg_joining.specs.ApartWithLosses.{Logs, events_behind, loss_before, losses_first as events_first}
+use Rattle.pg_joining.specs.ApartWithLosses.{losing_events, marked_at, takes_in, takes_of}
 use Rattle.pg_frame_world.specs.declared.step.FrameStep.{FrameStep}
 use Rattle.pg_frame_world.specs.declared.step.FrameStep.TheVariants as steps
 use Rattle.pg_frame_world.specs.Losing.{keep_of}
 use Rattle.pg_frame_world.specs.Views.{peer_place, place_of_peer}
 use Rattle.pg_frame_world.proofs.Turning.{pair_is}
-use Rattle.pg_cluster.specs.Schedule.{SeenStep, Lost, Turned, is_alone, is_last_of, is_lost_in, keeps, loss_if, loss_seen, losing_steps, losses_first, node_of_peer, seen_step, step_as, steps_at, steps_behind}
+use Rattle.pg_cluster.specs.Schedule.{SeenStep, Lost, Turned, is_alone, is_last_of, is_lost_in}
+use Rattle.pg_cluster.specs.Schedule.{keeps, loss_if, loss_seen, losing_steps, losses_first}
+use Rattle.pg_cluster.specs.Schedule.{node_of_peer, seen_step, step_as, steps_at, steps_behind}
 use Rattle.pg_cluster.specs.Together.{losing_event}
 use Rattle.pg_cluster.proofs.Alike.{AreAlike, IsAlike, alike_append}
 

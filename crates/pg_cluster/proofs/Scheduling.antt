@@ -1,5 +1,6 @@
 -- A schedule in which nobody is lost.
-use Rattle.std.proofs.Common.{◌≡◌, ◌≤◌, ◌<◌, ◌⊎◌, ◌∙◌, ◌&&◌, ◌++◌, ◌+◌, ℕ, Bool, true, false, List, [], ◌∷◌, cond, get_or, length, map, nat_eq, append-nil, refl, sym, ap, subst, inl, inr, arith, suc, zero}
+use Rattle.std.proofs.Common.{◌≡◌, ◌≤◌, ◌<◌, ◌⊎◌, ◌∙◌, ◌&&◌, ◌++◌, ◌+◌, ℕ, Bool, true, false, List, [], ◌∷◌, cond}
+use Rattle.std.proofs.Common.{get_or, length, map, nat_eq, append-nil, refl, sym, ap, subst, inl, inr, arith, suc, zero}
 use Rattle.std.specs.Prelude.{Result, Ok, Err, IfOk}
 use Rattle.std.proofs.lemmas.Bool.{cases_lt}
 use Rattle.std.proofs.lemmas.List.{length-map, map-append}
@@ -10,7 +11,8 @@ use Rattle.pg_frame_world.specs.declared.step.FrameStep.TheVariants as steps
 use Rattle.pg_cluster.specs.declared.closed.Closed.{Closed}
 use Rattle.pg_cluster.specs.declared.closed.Stopped.{Stopped}
 use Rattle.pg_cluster.specs.Notices.{NobodyLost}
-use Rattle.pg_cluster.specs.Schedule.{IsLosingSchedule, IsSchedule, SeenStep, Turned, is_lost_in, losing_steps, loss_seen, losses_first, seen_step, step_as, steps_behind, steps_of}
+use Rattle.pg_cluster.specs.Schedule.{IsLosingSchedule, IsSchedule, SeenStep, Turned, is_lost_in, losing_steps}
+use Rattle.pg_cluster.specs.Schedule.{loss_seen, losses_first, seen_step, step_as, steps_behind, steps_of}
 
 turned_is : (a b : FrameStep) → Turned a ≡ Turned b → a ≡ b
 turned_is a b e = cc

@@ -15,7 +15,8 @@ use Rattle.pg_step.specs.declared.answer.Answer.{Answer}
 use Rattle.pg_step.specs.declared.answer.Reply.{Reply}
 use Rattle.pg_step.specs.declared.answer.Reply.TheVariants as reply
 use Rattle.pg_step.specs.declared.command.Command.{Command}
-use Rattle.pg_step.specs.declared.command.Command.TheVariants.{Create, Delete, Join, Leave, Make, Finish, Members, LocalMembers, WhichGroups, Closest}
+use Rattle.pg_step.specs.declared.command.Command.TheVariants.{Create, Delete, Join, Leave, Make, Finish}
+use Rattle.pg_step.specs.declared.command.Command.TheVariants.{Members, LocalMembers, WhichGroups, Closest}
 use Rattle.pg_step.specs.Commands.{ListsMembers, ListsGroups, PicksMember, Reads, Answers}
 use Rattle.pg_step.specs.Config.{Config, name_at}
 use Rattle.pg_step.specs.Nodes.{Node}

@@ -1,5 +1,6 @@
 -- Lemmas on a list of threads that grows as the list of their nodes shrinks.
-use Rattle.std.proofs.Common.{◌≡◌, ◌<◌, ◌+◌, ℕ, List, [], ◌∷◌, ◌++◌, length, map, drop, get_or, sym, ◌∙◌, ap, arith, inl, inr, length-append, length-drop, suc, add-one, add-zero, subst}
+use Rattle.std.proofs.Common.{◌≡◌, ◌<◌, ◌+◌, ℕ, List, [], ◌∷◌, ◌++◌, length, map, drop, get_or, sym, ◌∙◌, ap}
+use Rattle.std.proofs.Common.{arith, inl, inr, length-append, length-drop, suc, add-one, add-zero, subst}
 use Rattle.std.specs.List.{All}
 use Rattle.std.specs.Prelude.{true, false}
 use Rattle.std.proofs.lemmas.List.{get_or-drop, get_or-map, get_or_push, length-map, nil_from_length}
@@ -20,7 +21,8 @@ use Rattle.pg_cluster.specs.declared.member.Member.{Member}
 use Rattle.pg_cluster.specs.Members.{clock_of, is_lost, last_of, losses_in, thread_of, threads_in}
 use Rattle.pg_cluster.specs.Notices.{NobodyLost}
 use Rattle.pg_cluster.specs.Promises.{RanAs}
-use Rattle.pg_cluster.specs.Threads.{AreMade, RunOf, RanOf, Thread, StartedWith, Joined, begun_by, limit_of as turns_of, row_in, rows_begun, notices_begun, ports_of_runs}
+use Rattle.pg_cluster.specs.Threads.{AreMade, RunOf, RanOf, Thread, StartedWith, Joined, begun_by}
+use Rattle.pg_cluster.specs.Threads.{limit_of as turns_of, row_in, rows_begun, notices_begun, ports_of_runs}
 
 module _ {X : Type 0} where
   -- the first of what is left stands at the place where that begins

@@ -1,5 +1,6 @@
 -- Nodes that were not lost, looked at by their places.
-use Rattle.std.proofs.Common.{◌≡◌, ◌≢◌, ◌<◌, ◌+◌, ℕ, zero, suc, List, [], ◌∷◌, length, get_or, refl, sym, ap, ap₂, subst, ◌∙◌, arith, inl, inr}
+use Rattle.std.proofs.Common.{◌≡◌, ◌≢◌, ◌<◌, ◌+◌, ℕ, zero, suc, List, [], ◌∷◌, length}
+use Rattle.std.proofs.Common.{get_or, refl, sym, ap, ap₂, subst, ◌∙◌, arith, inl, inr}
 use Rattle.std.specs.Prelude.{Bool, true, false, ◌||◌, ◌&&◌, not, is_some, slice_index_or, Some, None}
 use Rattle.std.specs.List.{All, list_all, list_any}
 use Rattle.std.proofs.lemmas.Bool.{cases_eq}
@@ -12,7 +13,8 @@ use Rattle.pg_node.specs.declared.node.Node.{Node}
 use Rattle.pg_frame_world.specs.Views.{peer_place}
 use Rattle.pg_run.specs.declared.log.NodeEvent.{NodeEvent}
 use Rattle.pg_cluster.specs.Judges.{HasAs, formed_in, state_in}
-use Rattle.pg_cluster.specs.Survivors.{AgreesOf, AreOneOf, Log, any_before, has_event, is_compared, log_at, survivors, was_lost}
+use Rattle.pg_cluster.specs.Survivors.{AgreesOf, AreOneOf, Log, any_before, has_event}
+use Rattle.pg_cluster.specs.Survivors.{is_compared, log_at, survivors, was_lost}
 use Rattle.pg_cluster.proofs.Agreeing.{named_all, of_named}
 
 -- ---- places

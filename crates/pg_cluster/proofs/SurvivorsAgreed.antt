@@ -1,5 +1,7 @@
 -- The survivors of one run agree: what their logs tell of losses, packets and commands is in the run.
-use Rattle.std.proofs.Common.{◌≡◌, ◌≢◌, ◌⊎◌, inl, inr, ℕ, ◌+◌, ◌-◌, ◌<◌, ◌≤◌, ◌^◌, zero, suc, Bool, true, false, not, ◌&&◌, ◌||◌, cond, nat_eq, nat_lt, min, map, take, drop, length, get_or, List, [], ◌∷◌, ◌++◌, Option, Some, None, refl, sym, ap, subst, ◌∙◌, arith}
+use Rattle.std.proofs.Common.{◌≡◌, ◌≢◌, ◌⊎◌, inl, inr, ℕ, ◌+◌, ◌-◌, ◌<◌, ◌≤◌, ◌^◌, zero, suc, Bool, true, false}
+use Rattle.std.proofs.Common.{not, ◌&&◌, ◌||◌, cond, nat_eq, nat_lt, min, map, take, drop, length, get_or, List}
+use Rattle.std.proofs.Common.{[], ◌∷◌, ◌++◌, Option, Some, None, refl, sym, ap, subst, ◌∙◌, arith}
 use Rattle.std.specs.Prelude.{is_none, slice_get, slice_index_or}
 use Rattle.std.specs.declared.vec.Vec.{Vec}
 use Rattle.std.specs.declared.alloc.Global.{Global}
@@ -18,7 +20,8 @@ use Rattle.pg_group.specs.Value.{name_of}
 use Rattle.pg_message.specs.declared.message.Message.{Message}
 use Rattle.pg_machine.specs.Clocked.{Stamped, packets_of}
 use Rattle.pg_machine.specs.Happened.{Happened}
-use Rattle.pg_machine.specs.Losing.{Last, Lose, LosingEvent, LosingLeads, Noticed, Sent, Step, losing_happens, nobody_gone}
+use Rattle.pg_machine.specs.Losing.{Last, Lose, LosingEvent, LosingLeads, Noticed}
+use Rattle.pg_machine.specs.Losing.{Sent, Step, losing_happens, nobody_gone}
 use Rattle.pg_machine.specs.Machine.{Do, Event, Input, Own, Take, Taken, first_from, input_of, start_of}
 use Rattle.pg_machine.specs.Places.{is_pair, is_place}
 use Rattle.pg_machine.proofs.Options.{some_is}
@@ -63,9 +66,14 @@ use Rattle.pg_frame_world.specs.declared.step.FrameStep.TheVariants as steps
 use Rattle.pg_frame_world.specs.Losing.{none_sent, told_of}
 use Rattle.pg_frame_world.specs.Views.{peer_place, place_of_peer}
 use Rattle.pg_frame_world.proofs.Peering.{there_and_back}
-use Rattle.pg_cluster.specs.Judges.{HasAs, formed_in, is_end_pending, is_pending_end, is_seen_free, is_taken_by_some, state_in}
-use Rattle.pg_cluster.specs.Schedule.{IsLosingSchedule, SeenStep, Turned, Lost, is_alone, is_last_of, is_lost_in, loss_if, loss_seen, losing_steps, losses_first, node_of_peer, seen_step, step_as, steps_at, steps_behind}
-use Rattle.pg_cluster.specs.Survivors.{SurvivorsAgree, any_before, asks_of, has_event, is_change_of, is_compared, is_loss_of, is_loss_pending, is_missing, is_of_lost, is_take_of, log_at, survivors, was_lost}
+use Rattle.pg_cluster.specs.Judges.{HasAs, formed_in, is_end_pending, is_pending_end}
+use Rattle.pg_cluster.specs.Judges.{is_seen_free, is_taken_by_some, state_in}
+use Rattle.pg_cluster.specs.Schedule.{IsLosingSchedule, SeenStep, Turned, Lost, is_alone, is_last_of}
+use Rattle.pg_cluster.specs.Schedule.{is_lost_in, loss_if, loss_seen, losing_steps, losses_first}
+use Rattle.pg_cluster.specs.Schedule.{node_of_peer, seen_step, step_as, steps_at, steps_behind}
+use Rattle.pg_cluster.specs.Survivors.{SurvivorsAgree, any_before, asks_of, has_event, is_change_of}
+use Rattle.pg_cluster.specs.Survivors.{is_compared, is_loss_of, is_loss_pending, is_missing}
+use Rattle.pg_cluster.specs.Survivors.{is_of_lost, is_take_of, log_at, survivors, was_lost}
 use Rattle.pg_cluster.specs.Threads.{NodeOf}
 use Rattle.pg_cluster.specs.Together.{AreOneLosingRun, CanBeMade, MadeInTurn, losing_event}
 use Rattle.pg_cluster.proofs.OneRun.{peer_within}

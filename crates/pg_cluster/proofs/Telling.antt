@@ -1,5 +1,6 @@
 -- How the nodes of a cluster are told of losses.
-use Rattle.std.proofs.Common.{◌≡◌, ◌≢◌, ◌⊎◌, ◌<◌, ◌≤◌, ◌+◌, ℕ, cond, List, [], ◌∷◌, ◌++◌, length, get_or, set, refl, sym, ◌∙◌, ap, subst, arith, inl, inr}
+use Rattle.std.proofs.Common.{◌≡◌, ◌≢◌, ◌⊎◌, ◌<◌, ◌≤◌, ◌+◌, ℕ, cond, List, [], ◌∷◌, ◌++◌}
+use Rattle.std.proofs.Common.{length, get_or, set, refl, sym, ◌∙◌, ap, subst, arith, inl, inr}
 use Rattle.std.specs.Prelude.{Bool, true, false}
 use Rattle.std.specs.List.{All, AllByRecursion}
 use Rattle.std.proofs.lemmas.Bool.{cases_eq, cases_lt, eq-eqb, ne_eqb}
@@ -17,7 +18,8 @@ use Rattle.pg_run.proofs.Moving.{nil_first}
 use Rattle.pg_run.specs.Runs.{notices_at}
 use Rattle.pg_cluster.specs.Clients.{AllPairs}
 use Rattle.pg_cluster.specs.ClientsLaws.{each_set, slot_in_on, slot_out_on}
-use Rattle.pg_cluster.specs.Notices.{AllNotified, IsOfLost, NobodyLost, IsSilent, SaysLost, Told, SameTellers, notice_for}
+use Rattle.pg_cluster.specs.Notices.{AllNotified, IsOfLost, NobodyLost, IsSilent}
+use Rattle.pg_cluster.specs.Notices.{SaysLost, Told, SameTellers, notice_for}
 use Rattle.pg_cluster.specs.Threads.{Thread, RanOf, Joined, begun_by, notices_begun, notices_ended}
 use Rattle.pg_cluster.proofs.Hearing.{first_ran, others_ran}
 use Rattle.pg_cluster.proofs.Paired.{pairs_none, pairs_push, pairs_append, pairs_by}

@@ -1,12 +1,14 @@
 -- The steps of a run of the machine with losses can each be made where a last notice is taken just where a loss is seen.
-use Rattle.std.proofs.Common.{◌≡◌, ◌∙◌, ℕ, ◌+◌, ◌-◌, Bool, true, false, not, ◌&&◌, ◌||◌, cond, max, nat_eq, nat_lt, length, map, List, [], ◌∷◌, ◌++◌, Some, None, Result, Ok, Err, refl, sym, ap, subst}
+use Rattle.std.proofs.Common.{◌≡◌, ◌∙◌, ℕ, ◌+◌, ◌-◌, Bool, true, false, not, ◌&&◌, ◌||◌, cond, max, nat_eq, nat_lt}
+use Rattle.std.proofs.Common.{length, map, List, [], ◌∷◌, ◌++◌, Some, None, Result, Ok, Err, refl, sym, ap, subst}
 use Rattle.std.specs.Prelude.{is_some, option_map}
 use Rattle.std.specs.List.{AllByRecursion, IsDistinct}
 use Rattle.std.proofs.lemmas.Bool.{eq-eqb}
 use Rattle.pg_term.specs.Same.{same_atom}
 use Rattle.pg_message.specs.declared.message.Message.{Message}
 use Rattle.pg_machine.specs.Clocked.{Timed, Stamped}
-use Rattle.pg_machine.specs.Losing.{LosingEvent, LosingLeads, Noticed, Sent, Last, Step, Lose, can_keep, losing_happens, mapped_turn, nobody_gone}
+use Rattle.pg_machine.specs.Losing.{LosingEvent, LosingLeads, Noticed, Sent, Last, Step}
+use Rattle.pg_machine.specs.Losing.{Lose, can_keep, losing_happens, mapped_turn, nobody_gone}
 use Rattle.pg_machine.specs.Machine.{Event, Turn, Taken, Own, Take, Do, happens, node_of, start_of}
 use Rattle.pg_machine.specs.Places.{is_place}
 use Rattle.pg_machine.proofs.Options.{cond_is_some, map_is_some}
@@ -32,7 +34,8 @@ use Rattle.pg_joining.specs.ApartWithLosses.{is_last_notice}
 use Rattle.pg_joining.specs.Losses.{IsMarked, MarkedLeads, is_first_last}
 use Rattle.pg_frame_world.specs.declared.step.FrameStep.{FrameStep}
 use Rattle.pg_frame_world.specs.declared.step.FrameStep.TheVariants as steps
-use Rattle.pg_frame_world.specs.Losing.{first_refusal, keep_of, none_sent, packet_refusal, told_loss, told_of, told_own, told_sight, told_take}
+use Rattle.pg_frame_world.specs.Losing.{first_refusal, keep_of, none_sent, packet_refusal}
+use Rattle.pg_frame_world.specs.Losing.{told_loss, told_of, told_own, told_sight, told_take}
 use Rattle.pg_cluster.specs.Schedule.{seen_step}
 use Rattle.pg_cluster.specs.Together.{CanBeMade, MadeInTurn, losing_event}
 use Rattle.pg_cluster.proofs.Replaying.{turn_told}

@@ -1,5 +1,6 @@
 -- Which nodes of a cluster were lost, and what the others were told of it.
-use Rattle.std.specs.Prelude.{◌≡◌, ◌≢◌, ◌<◌, ◌≤◌, ℕ, nat_eq, Bool, true, false, cond, List, [], ◌∷◌, ◌++◌, ◌+◌, get_or, length}
+use Rattle.std.specs.Prelude.{◌≡◌, ◌≢◌, ◌<◌, ◌≤◌, ℕ, nat_eq, Bool, true, false}
+use Rattle.std.specs.Prelude.{cond, List, [], ◌∷◌, ◌++◌, ◌+◌, get_or, length}
 use Rattle.std.specs.List.{All, AllByRecursion}
 use Rattle.pg_ring.specs.declared.slot_in.SlotIn.{SlotIn}
 use Rattle.pg_ring.specs.declared.slot_out.SlotOut.{SlotOut}

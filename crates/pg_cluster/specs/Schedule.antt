@@ -1,5 +1,6 @@
 -- The schedule to which logs join.
-use Rattle.std.specs.Prelude.{◌≡◌, ℕ, zero, suc, ◌+◌, ◌-◌, ◌^◌, Bool, true, false, ◌&&◌, cond, nat_eq, nat_lt, not, min, get_or, length, map, List, [], ◌∷◌, ◌++◌}
+use Rattle.std.specs.Prelude.{◌≡◌, ℕ, zero, suc, ◌+◌, ◌-◌, ◌^◌, Bool, true, false, ◌&&◌, cond}
+use Rattle.std.specs.Prelude.{nat_eq, nat_lt, not, min, get_or, length, map, List, [], ◌∷◌, ◌++◌}
 use Rattle.std.specs.List.{filter, flat_map}
 use Rattle.pg_joining.specs.Merge.{Merges, clocks_in, log_at, entry_at}
 use Rattle.pg_run.specs.declared.log.NodeEvent.{NodeEvent}

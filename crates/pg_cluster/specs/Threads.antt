@@ -1,5 +1,6 @@
 -- The threads of a cluster, and what comes back from them.
-use Rattle.std.specs.Prelude.{◌≡◌, ℕ, ◌<◌, ◌≤◌, ◌+◌, Bool, false, List, [], Option, Some, None, get_or, length, map, slice_index_or}
+use Rattle.std.specs.Prelude.{◌≡◌, ℕ, ◌<◌, ◌≤◌, ◌+◌, Bool, false, List, [], Option}
+use Rattle.std.specs.Prelude.{Some, None, get_or, length, map, slice_index_or}
 use Rattle.std.specs.List.{All, AllByRecursion, flat_map}
 use Rattle.std.specs.declared.thread.PromisedHandle.{PromisedHandle}
 use Rattle.pg_index.specs.declared.index_table.IndexTable.{IndexTable}

@@ -47,7 +47,8 @@ pub struct Closed {
 }
 
 impl Stopped {
-    ghost use Rattle.pg_cluster.specs.Closed.{JoinsToOneLosingRun, JoinsToOneRun, nodes_of, logs_of, losses_of, clients_of};
+    ghost use Rattle.pg_cluster.specs.Closed.{JoinsToOneLosingRun, JoinsToOneRun};
+    ghost use Rattle.pg_cluster.specs.Closed.{nodes_of, logs_of, losses_of, clients_of};
     ghost use Rattle.pg_cluster.specs.Judges.{Agree};
     ghost use Rattle.pg_cluster.specs.Survivors.{SurvivorsAgree};
     ghost use Rattle.pg_cluster.specs.Together.{AreOneLosingRun, AreOneRun};
@@ -81,6 +82,9 @@ impl Stopped {
     /// comes after its last event.
     ///
     /// Errors: where there is no memory for the schedule, what stopped, unchanged.
+    ///
+    /// Cost: a look at each log for each entry; for each loss, a walk over the entries after it for each other node;
+    /// and memory for each step.
     pub fn finish(self) -> Result<Closed, Stopped>
         ensures nodes { IfOk result (λ closed. closed.nodes.items ≡ nodes_of self) }
         ensures logs { IfOk result (λ closed. map (λ v. v.items) closed.logs.items ≡ logs_of self) }
@@ -141,7 +145,8 @@ fn schedule_of(
 }
 
 ghost use Rattle.pg_ring.specs.Slots.{AreSlots};
-ghost use Rattle.pg_cluster.specs.Closed.{nodes_of as nodes_with, logs_of as logs_with, losses_of as losses_with, clients_of as clients_with};
+ghost use Rattle.pg_cluster.specs.Closed.{nodes_of as nodes_with, logs_of as logs_with};
+ghost use Rattle.pg_cluster.specs.Closed.{losses_of as losses_with, clients_of as clients_with};
 ghost use Rattle.pg_run.specs.Ports.{ArePort, Meets};
 ghost use Rattle.pg_cluster.specs.Clients.{AllPairs, ClientsRest, ports_ended};
 ghost use Rattle.pg_cluster.specs.Ended.{AreJoined, AllArrived};

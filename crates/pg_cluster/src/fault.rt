@@ -20,6 +20,8 @@ impl StartFault {
     ghost use Rattle.pg_cluster.specs.Fault.{start_number_of};
 
     /// The number of the fault in this project's one list of faults.
+    ///
+    /// Cost: no memory.
     pub fn number(self) -> u8
         ensures { result ≡ start_number_of self }
     {

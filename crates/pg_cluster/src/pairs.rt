@@ -3,7 +3,8 @@
 ghost use Rattle.std.specs.Prelude.{◌≡◌, ◌<◌, ◌≤◌, ◌+◌, ◌++◌, vec_len, vec_capacity, length, map};
 ghost use Rattle.pg_run.specs.Ports.{ArePort, Meets};
 ghost use Rattle.pg_cluster.specs.Clients.{AllPairs, ClientsRest};
-ghost use Rattle.pg_cluster.specs.Ended.{AreJoined, AllArrived, AreEndsAt, ArrivedAt, AreLast, ArrivedLast, SameRow, SameRows};
+ghost use Rattle.pg_cluster.specs.Ended.{AreJoined, AllArrived, AreEndsAt, ArrivedAt};
+ghost use Rattle.pg_cluster.specs.Ended.{AreLast, ArrivedLast, SameRow, SameRows};
 
 use crate::wires::Row;
 use pg_ring::together;

@@ -42,18 +42,21 @@ pub struct Running {
 }
 
 impl Running {
-    ghost use Rattle.std.specs.Prelude.{◌<◌, ◌++◌, ◌∷◌, [], ◌↔◌, ◌≤◌, ◌⊎◌, true, get_or, IfErr, IfSome, IfNone, OnOk, OnErr, Some, Err, MatchResult, slice_get, slice_set};
+    ghost use Rattle.std.specs.Prelude.{◌<◌, ◌++◌, ◌∷◌, [], ◌↔◌, ◌≤◌, ◌⊎◌, true, get_or, IfErr, IfSome};
+    ghost use Rattle.std.specs.Prelude.{IfNone, OnOk, OnErr, Some, Err, MatchResult, slice_get, slice_set};
     ghost use Rattle.std.specs.List.{All};
     ghost use Rattle.pg_node_state.specs.declared.state.fault.NodeFault.TheVariants.{Refused};
     ghost use Rattle.pg_run.specs.Ports.{IsSilent, polled_count};
     ghost use Rattle.pg_run.specs.declared.port.Client.{Client as ClientEnd};
     ghost use Rattle.pg_step.specs.declared.refusal.Refusal.TheVariants.{NoSuchPlace, NodeLost};
     ghost use Rattle.pg_cluster.specs.Clients.{AllHeard, ClientsRest};
-    ghost use Rattle.pg_cluster.specs.Closed.{AllTold, JoinsToOneLosingRun, JoinsToOneRun, NoticesCame, nodes_of, logs_of, losses_of, clients_of};
+    ghost use Rattle.pg_cluster.specs.Closed.{AllTold, JoinsToOneLosingRun, JoinsToOneRun};
+    ghost use Rattle.pg_cluster.specs.Closed.{NoticesCame, nodes_of, logs_of, losses_of, clients_of};
     ghost use Rattle.pg_cluster.specs.Fault.{CantRun};
     ghost use Rattle.pg_cluster.specs.Judges.{Agree};
     ghost use Rattle.pg_cluster.specs.Notices.{NobodyLost};
-    ghost use Rattle.pg_cluster.specs.Running.{clients_in, config_in, tellers_in, threads_in, losses_in, submitted_at, polled_at, OnlyClient};
+    ghost use Rattle.pg_cluster.specs.Running.{clients_in, config_in, tellers_in, threads_in};
+    ghost use Rattle.pg_cluster.specs.Running.{losses_in, submitted_at, polled_at, OnlyClient};
     ghost use Rattle.pg_cluster.specs.Threads.{limit_of, EndedWith, HaveRings};
     ghost use Rattle.pg_run.specs.Runs.{generator_of};
     ghost use Rattle.pg_cluster.specs.Schedule.{IsSchedule, IsLosingSchedule};
@@ -65,6 +68,8 @@ impl Running {
     /// each turn. `limit`: how many turns a node makes at most. It may wait for threads.
     ///
     /// Errors: those of `Cluster::start`.
+    ///
+    /// Cost: that of `Cluster::start`, and one allocation.
     pub fn start<G: Gate + Drop + Send + Sync + 'static, R: Threads>(
         rt: &R,
         alloc: Global,
@@ -117,7 +122,11 @@ impl Running {
         &self.config
     }
 
-    /// Submits a command at the client at a place, as `Client::submit` does, or hands it back.
+    /// Submits a command at the client at a place, as `Client::submit` does.
+    ///
+    /// Errors: the command, handed back as by `Client::submit`; then nothing was submitted.
+    ///
+    /// Cost: no memory; O(1).
     pub fn submit(&mut self, place: usize, command: Command) -> Result<(), Command>
         requires { place < length (clients_in self.old) }
         ensures only { OnlyClient place self.old self.new }
@@ -131,6 +140,8 @@ impl Running {
     }
 
     /// The next answer of the client at a place, if one is there, as `Client::poll` gives it.
+    ///
+    /// Cost: no memory; O(1).
     pub fn poll(&mut self, place: usize) -> Option<Answer>
         requires { place < length (clients_in self.old) }
         ensures only { OnlyClient place self.old self.new }
@@ -144,6 +155,8 @@ impl Running {
     /// A node is lost for good, as by `Cluster::lose`. It may wait for threads.
     ///
     /// Errors: those of `Cluster::lose`, which change nothing.
+    ///
+    /// Cost: that of `Cluster::lose`.
     pub fn lose<R: Threads>(&mut self, rt: &R, node: usize) -> Result<(), NodeFault>
         ensures place { (result ≡ Err (Refused NoSuchPlace)) ↔ (length (losses_in self.old) ≤ node) }
         ensures again { (result ≡ Err (Refused NodeLost)) ↔ (slice_get (losses_in self.old) node ≡ Some true) }
@@ -158,7 +171,12 @@ impl Running {
         self.cluster.lose(rt, node)
     }
 
-    /// Stops the threads and joins them, as `Cluster::close` does: what that gives, and the configuration. It may wait for threads.
+    /// Stops the threads and joins them, as `Cluster::close` does: what that gives, and the configuration. It may
+    /// wait for threads.
+    ///
+    /// Errors: that of `Cluster::close`, beside the configuration.
+    ///
+    /// Cost: that of `Cluster::close`.
     pub fn close<R: Threads>(self, rt: &R) -> (Result<Closed, Stopped>, Config)
         ensures config { result.1 ≡ config_in self }
         ensures can { ∥ CanBegin (config_in self).ring (config_in self).starts.items ∥₁ }

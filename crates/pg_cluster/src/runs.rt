@@ -4,11 +4,13 @@ ghost use Rattle.std.specs.Prelude.{◌≡◌, IfOk, IfErr, [], length, map};
 ghost use Rattle.std.specs.List.{All as AllOf};
 ghost use Rattle.pg_cluster.specs.Clients.{AllPairs as Pairs, IsOpen as IsOpened, OpensMore};
 ghost use Rattle.pg_run.specs.Notices.{IsUntold as IsUntoldAt};
-ghost use Rattle.pg_run.specs.Runs.{generator_of as generator_of_run, notices_at as notices_of_run, notices_of as told_of_run};
+ghost use Rattle.pg_run.specs.Runs.{generator_of as generator_of_run};
+ghost use Rattle.pg_run.specs.Runs.{notices_at as notices_of_run, notices_of as told_of_run};
 ghost use Rattle.pg_cluster.specs.Notices.{IsFresh as IsFreshPair};
 ghost use Rattle.pg_cluster.specs.Fault.{CantRun, IsShortage as IsShort};
 ghost use Rattle.pg_frame_world.specs.Openings.{CanBegin};
-ghost use Rattle.pg_cluster.specs.Threads.{AreMade, HaveRings, HasLinks as HasLinksOf, node_in as node_of_run, row_in as row_of_run, log_in as log_of_run, ports_of_runs as ports_in_runs};
+ghost use Rattle.pg_cluster.specs.Threads.{AreMade, HaveRings, HasLinks as HasLinksOf, node_in as node_of_run};
+ghost use Rattle.pg_cluster.specs.Threads.{row_in as row_of_run, log_in as log_of_run, ports_of_runs as ports_in_runs};
 
 use crate::fault::StartFault;
 use crate::notices::Teller;

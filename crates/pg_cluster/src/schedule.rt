@@ -4,7 +4,8 @@ ghost use Rattle.std.specs.Prelude.{◌≡◌, ◌++◌, ◌+◌, ◌∷◌, [],
 ghost use Rattle.pg_joining.specs.Merge.{log_at, entry_at};
 ghost use Rattle.pg_joining.specs.ApartWithLosses.{is_take, takes_in, takes_of, takes_one};
 ghost use Rattle.pg_frame_world.specs.Views.{place_of_peer};
-ghost use Rattle.pg_cluster.specs.Schedule.{is_alone, is_lost_in, keeps, loss_if, loss_seen, losing_steps, node_of_peer, seen_step, step_as, steps_at};
+ghost use Rattle.pg_cluster.specs.Schedule.{is_alone, is_lost_in, keeps, loss_if, loss_seen};
+ghost use Rattle.pg_cluster.specs.Schedule.{losing_steps, node_of_peer, seen_step, step_as, steps_at};
 
 use pg_run::{LogEntry, NodeEvent};
 use pg_step::Command;

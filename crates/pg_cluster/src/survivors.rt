@@ -3,7 +3,8 @@
 ghost use Rattle.std.specs.Prelude.{◌≡◌, ◌↔◌, true, IsTrue, IfOk};
 ghost use Rattle.std.specs.List.{All, list_all, list_any};
 ghost use Rattle.pg_frame_world.specs.Views.{peer_place};
-ghost use Rattle.pg_cluster.specs.Judges.{HasAs, formed_in, is_end_pending as is_some_pending, is_pending_end, is_seen_free as is_free, state_in};
+ghost use Rattle.pg_cluster.specs.Judges.{HasAs, formed_in, is_end_pending as is_some_pending};
+ghost use Rattle.pg_cluster.specs.Judges.{is_pending_end, is_seen_free as is_free, state_in};
 ghost use Rattle.pg_cluster.specs.Survivors.{
   AgreesOf,
   AreOneOf,

@@ -1,5 +1,6 @@
 -- What the tests of a configuration decide.
-use Rattle.std.proofs.Common.{◌≡◌, ℕ, Bool, true, false, not, ◌&&◌, ◌||◌, cond, nat_le, length, List, [], ◌∷◌, Some, None, refl, ◌∙◌}
+use Rattle.std.proofs.Common.{◌≡◌, ℕ, Bool, true, false, not, ◌&&◌, ◌||◌, cond}
+use Rattle.std.proofs.Common.{nat_le, length, List, [], ◌∷◌, Some, None, refl, ◌∙◌}
 use Rattle.std.specs.List.{list_any, list_all, AllByRecursion, IsDistinct}
 use Rattle.std.proofs.lemmas.Bool.{leb-true, le-leb}
 use Rattle.pg_term.specs.declared.term.Term.{Term}
@@ -14,7 +15,8 @@ use Rattle.pg_ring.specs.Capacity.{IsCapacity}
 use Rattle.pg_step.specs.declared.start.Start.{Start}
 use Rattle.pg_step.specs.Config.{Config, IsConfig, IsStart, names_of, was_made}
 use Rattle.pg_config.specs.declared.fault.WorldFault.TheVariants.{BadConfig, NameTooLarge, BadCapacity}
-use Rattle.pg_config.specs.Configs.{are_apart, are_made, is_start, is_config, are_names, have_names, is_capacity, refusal_of}
+use Rattle.pg_config.specs.Configs.{are_apart, are_made, is_start, is_config}
+use Rattle.pg_config.specs.Configs.{are_names, have_names, is_capacity, refusal_of}
 
 -- ---- tests
 

@@ -1,5 +1,6 @@
 -- What is asked of a configuration, as tests, and the fault of one by which no world can begin.
-use Rattle.std.specs.Prelude.{ℕ, Bool, true, not, cond, ◌&&◌, nat_le, length, [], ◌∷◌, Option, Some, None, Result, Ok, Err}
+use Rattle.std.specs.Prelude.{ℕ, Bool, true, not, cond, ◌&&◌, nat_le, length}
+use Rattle.std.specs.Prelude.{[], ◌∷◌, Option, Some, None, Result, Ok, Err}
 use Rattle.std.specs.List.{list_any, list_all}
 use Rattle.std.specs.Prelude.{◌≡◌}
 use Rattle.pg_term.specs.Same.{same_atom}

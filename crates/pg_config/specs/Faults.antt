@@ -2,7 +2,8 @@
 use Rattle.std.specs.Prelude.{ℕ}
 use Rattle.pg_faults.specs.declared.TheConstants.{BAD_CAPACITY, BAD_CONFIG, NAME_TOO_LARGE, OUT_OF_MEMORY, TOO_LONG}
 use Rattle.pg_config.specs.declared.fault.WorldFault.{WorldFault}
-use Rattle.pg_config.specs.declared.fault.WorldFault.TheVariants.{BadConfig, NameTooLarge, BadCapacity, TooLong, OutOfMemory}
+use Rattle.pg_config.specs.declared.fault.WorldFault.TheVariants.{BadConfig, NameTooLarge}
+use Rattle.pg_config.specs.declared.fault.WorldFault.TheVariants.{BadCapacity, TooLong, OutOfMemory}
 
 -- the number of a fault
 abbrev pub world_number_of : WorldFault → ℕ

@@ -5,7 +5,8 @@ ghost use Rattle.std.specs.List.{list_any, list_all};
 ghost use Rattle.pg_term.specs.Same.{same_atom};
 ghost use Rattle.pg_ends.specs.Numbers.{is_among as is_made_by};
 ghost use Rattle.pg_step.specs.Config.{was_made};
-ghost use Rattle.pg_config.specs.Configs.{are_apart, are_made, is_start, is_config, are_names, have_names, is_capacity, refusal_of, IsJudged};
+ghost use Rattle.pg_config.specs.Configs.{are_apart, are_made, is_start, is_config, are_names};
+ghost use Rattle.pg_config.specs.Configs.{have_names, is_capacity, refusal_of, IsJudged};
 
 use crate::fault::WorldFault;
 use pg_ends::MAX_PROCESSES;
@@ -32,10 +33,12 @@ pub struct Config {
 }
 
 impl Config {
-    /// Whether it is a configuration. It looks for each member at the nodes, at most 16, and walks over the name of
-    /// each group; where the groups of a node do not ascend in the order of terms, it takes memory for their names.
+    /// Whether it is a configuration.
     ///
     /// Errors, the first that holds: `BadConfig`, `NameTooLarge`, `BadCapacity`; `OutOfMemory` in the place of each.
+    ///
+    /// Cost: a look at the nodes, at most 16, for each member, and a walk over the name of each group; memory for the
+    /// names of a node's groups, where they do not ascend in the order of terms.
     pub fn check(&self, alloc: Global) -> Result<(), WorldFault>
         ensures { IsJudged (refusal_of self.now.ring self.now.starts.items) result }
     {

@@ -26,6 +26,8 @@ impl WorldFault {
     ghost use Rattle.pg_config.specs.Faults.{world_number_of};
 
     /// The number of the fault in this project's one list of faults.
+    ///
+    /// Cost: no memory.
     pub fn number(self) -> u8
         ensures { result ≡ world_number_of self }
     {

@@ -1,5 +1,6 @@
 -- Texts that are appended one after another.
-use Rattle.std.proofs.Common.{◌≡◌, ℕ, ◌<◌, List, [], ◌∷◌, ◌++◌, append_assoc, Result, sym, ap, ◌∙◌, ◌+◌, take, get_or, length, subst, arith}
+use Rattle.std.proofs.Common.{◌≡◌, ℕ, ◌<◌, List, [], ◌∷◌, ◌++◌, append_assoc, Result}
+use Rattle.std.proofs.Common.{sym, ap, ◌∙◌, ◌+◌, take, get_or, length, subst, arith}
 use Rattle.std.proofs.lemmas.Grind.{flat_map-append}
 use Rattle.std.specs.List.{flat_map}
 use Rattle.std.proofs.lemmas.Str.{encodes-append, encodes-chars}

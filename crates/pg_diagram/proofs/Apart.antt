@@ -1,5 +1,6 @@
 -- Two worlds of a picture are never at one point.
-use Rattle.std.proofs.Common.{◌≡◌, ◌≢◌, ℕ, zero, suc, ◌+◌, ◌-◌, ◌*◌, ◌/◌, ◌<◌, ◌≤◌, cond, true, nat_eq, List, [], ◌∷◌, take, length, get_or, Some, None, slice_get, ap, sym, ◌∙◌, refl, arith}
+use Rattle.std.proofs.Common.{◌≡◌, ◌≢◌, ℕ, zero, suc, ◌+◌, ◌-◌, ◌*◌, ◌/◌, ◌<◌, ◌≤◌, cond, true, nat_eq, List}
+use Rattle.std.proofs.Common.{[], ◌∷◌, take, length, get_or, Some, None, slice_get, ap, sym, ◌∙◌, refl, arith}
 use Rattle.std.proofs.lemmas.Bool.{eq-eqb}
 use Rattle.std.proofs.lemmas.Option.{get_or_from_slice_get, slice_get_within}
 use Rattle.pg_diagram.specs.declared.graph.Spot.{Spot}

@@ -1,5 +1,6 @@
 -- The arrows of a picture, one after another.
-use Rattle.std.proofs.Common.{◌≡◌, ℕ, ◌+◌, ◌<◌, List, [], ◌∷◌, ◌++◌, take, length, get_or, append_assoc, ap, sym, ◌∙◌, refl}
+use Rattle.std.proofs.Common.{◌≡◌, ℕ, ◌+◌, ◌<◌, List, [], ◌∷◌, ◌++◌, take}
+use Rattle.std.proofs.Common.{length, get_or, append_assoc, ap, sym, ◌∙◌, refl}
 use Rattle.std.proofs.lemmas.List.{append-nil, take_more}
 use Rattle.pg_diagram.specs.declared.arrows.Arrow.{Arrow}
 use Rattle.pg_diagram.specs.declared.data.Event.{Event}

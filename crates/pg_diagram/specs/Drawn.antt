@@ -1,5 +1,6 @@
 -- What a picture shows of packets.
-use Rattle.std.specs.Prelude.{◌≡◌, ℕ, ◌+◌, ◌-◌, ◌^◌, Bool, not, ◌&&◌, cond, nat_eq, nat_lt, min, length, List, [], ◌∷◌, ◌++◌, Option}
+use Rattle.std.specs.Prelude.{◌≡◌, ℕ, ◌+◌, ◌-◌, ◌^◌, Bool, not, ◌&&◌, cond, nat_eq}
+use Rattle.std.specs.Prelude.{nat_lt, min, length, List, [], ◌∷◌, ◌++◌, Option}
 use Rattle.std.specs.Io.KnownBytes.{Appends}
 use Rattle.pg_diagram.specs.declared.arrows.Arrow.{Arrow}
 use Rattle.pg_diagram.specs.declared.arrows.Ending.{Ending}

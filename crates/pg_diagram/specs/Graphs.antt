@@ -1,5 +1,6 @@
 -- What a picture of a graph shows: the worlds, and the steps between them.
-use Rattle.std.specs.Prelude.{ℕ, ◌+◌, ◌-◌, ◌*◌, ◌/◌, ◌^◌, cond, max, min, nat_eq, List, [], ◌∷◌, ◌++◌, take, decimal, codes, Option, Some, None, slice_get}
+use Rattle.std.specs.Prelude.{ℕ, ◌+◌, ◌-◌, ◌*◌, ◌/◌, ◌^◌, cond, max, min, nat_eq, List, []}
+use Rattle.std.specs.Prelude.{◌∷◌, ◌++◌, take, decimal, codes, Option, Some, None, slice_get}
 use Rattle.std.specs.List.{flat_map}
 use Rattle.pg_diagram.specs.declared.graph.Graph.{Graph}
 use Rattle.pg_diagram.specs.declared.graph.Link.{Link}

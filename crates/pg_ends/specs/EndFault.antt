@@ -2,7 +2,8 @@
 use Rattle.std.specs.Prelude.{ℕ}
 use Rattle.pg_faults.specs.declared.TheConstants.{ALREADY_ENDED, FOREIGN_PID, NOT_MADE, OUT_OF_MEMORY, PROCESS_LIMIT}
 use Rattle.pg_ends.specs.declared.fault.EndFault.{EndFault}
-use Rattle.pg_ends.specs.declared.fault.EndFault.TheVariants.{ForeignPid, NotMade, AlreadyEnded, ProcessLimit, OutOfMemory}
+use Rattle.pg_ends.specs.declared.fault.EndFault.TheVariants.{ForeignPid, NotMade, AlreadyEnded}
+use Rattle.pg_ends.specs.declared.fault.EndFault.TheVariants.{ProcessLimit, OutOfMemory}
 
 abbrev pub end_number_of : EndFault → ℕ
 end_number_of OutOfMemory = OUT_OF_MEMORY

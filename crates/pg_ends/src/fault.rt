@@ -23,6 +23,8 @@ impl EndFault {
     ghost use Rattle.pg_ends.specs.EndFault.{end_number_of};
 
     /// The number of the fault in this project's one list of faults.
+    ///
+    /// Cost: no memory.
     pub fn number(self) -> u8
         ensures { result ≡ end_number_of self }
     {

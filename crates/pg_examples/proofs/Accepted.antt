@@ -5,7 +5,8 @@ use Rattle.pg_term.specs.declared.term.Term.{Term}
 use Rattle.pg_term.specs.Same.{same_atom, same_term}
 use Rattle.pg_message.specs.Name.{is_name}
 use Rattle.pg_step.specs.Config.{IsConfig}
-use Rattle.pg_examples.specs.Examples.{a, b, c, one_node, two_nodes, two_and_member, two_tables, three_nodes, three_tables}
+use Rattle.pg_examples.specs.Examples.{a, b, c, one_node, two_nodes, two_and_member}
+use Rattle.pg_examples.specs.Examples.{two_tables, three_nodes, three_tables}
 
 two_apart : IsDistinct same_atom (a ∷ b ∷ [])
 unfolding IsDistinct

@@ -24,9 +24,12 @@ use Rattle.pg_step.specs.State.Status.{Yes}
 use Rattle.pg_step.specs.Step.{Issue}
 use Rattle.pg_step.specs.Turns.{becomes, and_then}
 use Rattle.pg_step.specs.Peers.{exchange, update_request}
-use Rattle.pg_examples.specs.Examples.{start, behind, AllHappen, a, b, c, op_at, stands, three_nodes, lock_ref, created_by_three}
+use Rattle.pg_examples.specs.Examples.{start, behind, AllHappen, a, b, c, op_at}
+use Rattle.pg_examples.specs.Examples.{stands, three_nodes, lock_ref, created_by_three}
 use Rattle.pg_examples.specs.Outcomes.{ChangeOfThree}
-use Rattle.pg_examples.proofs.Trace.{Move, AllMake, walked, walk, held_at, changed_at, all_of_group, answers_lock, asked, frees, freed, asks_peer, asks_rest, asks_rest_as, round_one, round_two, named_as, begins, finishes, opens}
+use Rattle.pg_examples.proofs.Trace.{Move, AllMake, walked, walk, held_at, changed_at, all_of_group}
+use Rattle.pg_examples.proofs.Trace.{answers_lock, asked, frees, freed, asks_peer, asks_rest, asks_rest_as}
+use Rattle.pg_examples.proofs.Trace.{round_one, round_two, named_as, begins, finishes, opens}
 
 module _ (g : Term) (named : is_name g ≡ true) (same : same_term g g ≡ true) where
   abbrev creates : Update

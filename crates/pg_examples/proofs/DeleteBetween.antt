@@ -24,7 +24,10 @@ use Rattle.pg_examples.specs.Examples.{start, behind, AllHappen, a, b, a1, op_at
 use Rattle.pg_step.specs.Attempts.{count_answer, give_up}
 use Rattle.pg_step.specs.Commands.{answer, look}
 use Rattle.pg_machine.proofs.Sequences.{run_there}
-use Rattle.pg_examples.proofs.Trace.{Move, AllMake, walked, walk, and_more, held_at, changed_at, look_delete, all_of_group, answers_lock, asked, frees, freed, asks_peer, attempt_as, asks_own, attempt_own, asks_rest, asks_rest_as, round_one, round_two, named_as, looked, begins, finishes, comes_in, opens}
+use Rattle.pg_examples.proofs.Trace.{Move, AllMake, walked, walk, and_more, held_at, changed_at, look_delete}
+use Rattle.pg_examples.proofs.Trace.{all_of_group, answers_lock, asked, frees, freed, asks_peer, attempt_as}
+use Rattle.pg_examples.proofs.Trace.{asks_own, attempt_own, asks_rest, asks_rest_as, round_one, round_two}
+use Rattle.pg_examples.proofs.Trace.{named_as, looked, begins, finishes, comes_in, opens}
 use Rattle.pg_examples.proofs.Listed.{read_none}
 use Rattle.pg_examples.specs.Outcomes.{DeleteBetween}
 

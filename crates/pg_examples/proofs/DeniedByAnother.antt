@@ -1,5 +1,6 @@
 -- A node is denied the lock that it has granted itself.
-use Rattle.std.proofs.Common.{◌≡◌, Bool, true, false, ◌++◌, Some, None, Ok, refl, ap, sym, subst, ℕ, List, [], ◌∷◌, take, drop}
+use Rattle.std.proofs.Common.{◌≡◌, Bool, true, false, ◌++◌, Some, None, Ok, refl}
+use Rattle.std.proofs.Common.{ap, sym, subst, ℕ, List, [], ◌∷◌, take, drop}
 use Rattle.pg_group.specs.Functions.{upd}
 use Rattle.pg_term.specs.declared.term.Term.{Term}
 use Rattle.pg_term.specs.Same.{same_term, same_atom}
@@ -20,9 +21,11 @@ use Rattle.pg_step.specs.Step.{Issue}
 use Rattle.pg_step.specs.Turns.{NodeTurn, and_then, becomes}
 use Rattle.pg_step.specs.Peers.{exchange}
 use Rattle.pg_step.specs.Attempts.{count_answer}
-use Rattle.pg_examples.specs.Examples.{start, behind, AllHappen, a, b, c, op_at, three_nodes, granted_at_home, denied_by_b}
+use Rattle.pg_examples.specs.Examples.{start, behind, AllHappen, a, b, c, op_at}
+use Rattle.pg_examples.specs.Examples.{three_nodes, granted_at_home, denied_by_b}
 use Rattle.pg_machine.proofs.Sequences.{run_there}
-use Rattle.pg_examples.proofs.Trace.{Move, AllMake, walked, walk, part, held_at, answers_lock, asked, give_up_as, frees, freed, asks_peer, asks_rest, round_one, round_two, named_as, opens}
+use Rattle.pg_examples.proofs.Trace.{Move, AllMake, walked, walk, part, held_at, answers_lock, asked, give_up_as}
+use Rattle.pg_examples.proofs.Trace.{frees, freed, asks_peer, asks_rest, round_one, round_two, named_as, opens}
 use Rattle.pg_examples.specs.Outcomes.{DeniedByAnother}
 
 module _ (g : Term) (named : is_name g ≡ true) (same : same_term g g ≡ true) where

@@ -20,9 +20,11 @@ use Rattle.pg_step.specs.Step.{Issue}
 use Rattle.pg_step.specs.Turns.{NodeTurn, and_then, becomes}
 use Rattle.pg_step.specs.Peers.{exchange}
 use Rattle.pg_step.specs.Attempts.{count_answer, give_up}
-use Rattle.pg_examples.specs.Examples.{start, behind, AllHappen, a, b, c, op_at, three_nodes, asked_unformed, given_back}
+use Rattle.pg_examples.specs.Examples.{start, behind, AllHappen, a, b, c, op_at}
+use Rattle.pg_examples.specs.Examples.{three_nodes, asked_unformed, given_back}
 use Rattle.pg_machine.proofs.Sequences.{run_there}
-use Rattle.pg_examples.proofs.Trace.{Move, AllMake, walked, walk, part, held_at, answers_lock, asked, frees, freed, asks_peer, asks_rest, round_one, round_two, named_as, opens}
+use Rattle.pg_examples.proofs.Trace.{Move, AllMake, walked, walk, part, held_at, answers_lock, asked, frees}
+use Rattle.pg_examples.proofs.Trace.{freed, asks_peer, asks_rest, round_one, round_two, named_as, opens}
 use Rattle.pg_examples.specs.Outcomes.{DeniedByItself}
 
 module _ (g : Term) (named : is_name g ≡ true) (same : same_term g g ≡ true) where

@@ -16,7 +16,8 @@ use Rattle.pg_step.specs.Turns.{becomes}
 use Rattle.pg_step.specs.Peers.{update_request}
 use Rattle.pg_examples.specs.Examples.{a, b, c, op_at, three_nodes, lock_ref}
 use Rattle.pg_examples.specs.LossExamples.{LosingFrameWorld, losing_start, Drained}
-use Rattle.pg_examples.proofs.Trace.{held_at, changed_at, answers_lock, asked, asks_rest, asks_rest_as, all_of_group, round_one, round_two, begins}
+use Rattle.pg_examples.proofs.Trace.{held_at, changed_at, answers_lock, asked, asks_rest}
+use Rattle.pg_examples.proofs.Trace.{asks_rest_as, all_of_group, round_one, round_two, begins}
 use Rattle.pg_examples.proofs.LossTrace.{Move, Makes, Sees, Loses, AllMade, walked, and_more, walk}
 use Rattle.pg_examples.proofs.ThreeMeet.{at_a, at_b, at_c, creates, beginning, begun, they_begin}
 

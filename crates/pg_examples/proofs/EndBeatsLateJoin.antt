@@ -1,5 +1,6 @@
 -- A process ends before the update of its join has come to its home.
-use Rattle.std.proofs.Common.{◌≡◌, true, false, [], ◌∷◌, ◌++◌, Some, None, Ok, refl, ap, sym, subst, ◌∙◌, ℕ, List, take, drop}
+use Rattle.std.proofs.Common.{◌≡◌, true, false, [], ◌∷◌, ◌++◌, Some, None, Ok}
+use Rattle.std.proofs.Common.{refl, ap, sym, subst, ◌∙◌, ℕ, List, take, drop}
 use Rattle.pg_group.specs.Functions.{upd}
 use Rattle.pg_group.specs.Value.{less}
 use Rattle.pg_group.specs.Table.{exchanged, applied}
@@ -20,10 +21,13 @@ use Rattle.pg_step.specs.State.Response.{Read}
 use Rattle.pg_step.specs.Step.{Issue}
 use Rattle.pg_step.specs.Turns.{NodeTurn}
 use Rattle.pg_step.specs.Peers.{update_request, exchange, process_end}
-use Rattle.pg_examples.specs.Examples.{start, behind, AllHappen, a, b, a1, op_at, two_and_member, ended_between, joined_late}
+use Rattle.pg_examples.specs.Examples.{start, behind, AllHappen, a, b, a1, op_at}
+use Rattle.pg_examples.specs.Examples.{two_and_member, ended_between, joined_late}
 use Rattle.pg_step.specs.Commands.{answer, end_process, look}
 use Rattle.pg_machine.proofs.Sequences.{run_there}
-use Rattle.pg_examples.proofs.Trace.{Move, AllMake, walked, walk, part, none_ended, held_at, changed_at, merged_at, answers_lock, asked, frees, freed, asks_own, attempt_own, asks_rest, asks_rest_as, round_one, round_two, named_as, looked, begins, finishes, comes_in, opens}
+use Rattle.pg_examples.proofs.Trace.{Move, AllMake, walked, walk, part, none_ended, held_at, changed_at, merged_at}
+use Rattle.pg_examples.proofs.Trace.{answers_lock, asked, frees, freed, asks_own, attempt_own, asks_rest, asks_rest_as}
+use Rattle.pg_examples.proofs.Trace.{round_one, round_two, named_as, looked, begins, finishes, comes_in, opens}
 use Rattle.pg_examples.proofs.Listed.{read_list, joined_listed, ended_listed, joined_ended_listed}
 use Rattle.pg_examples.specs.Outcomes.{EndBeatsLateJoin}
 

@@ -1,5 +1,6 @@
 -- Three nodes take each other's groups.
-use Rattle.std.proofs.Common.{◌≡◌, true, false, ◌&&◌, nat_eq, [], ◌∷◌, ◌++◌, Some, None, refl, ap, sym, subst, ◌∙◌, ℕ, List, take, drop}
+use Rattle.std.proofs.Common.{◌≡◌, true, false, ◌&&◌, nat_eq, [], ◌∷◌, ◌++◌, Some}
+use Rattle.std.proofs.Common.{None, refl, ap, sym, subst, ◌∙◌, ℕ, List, take, drop}
 use Rattle.pg_group.specs.Functions.{upd}
 use Rattle.pg_group.specs.Value.{count_in}
 use Rattle.pg_group.specs.Table.{exchanged}
@@ -21,7 +22,8 @@ use Rattle.pg_step.specs.Peers.{exchange}
 use Rattle.pg_examples.specs.Examples.{start, behind, AllHappen, a, b, c, a1, op_at, three_tables, met_one, met_both}
 use Rattle.std.specs.Prelude.{is_some}
 use Rattle.pg_machine.proofs.Sequences.{run_there}
-use Rattle.pg_examples.proofs.Trace.{Move, AllMake, walked, walk, part, none_ended, merged_at, look_delete, answers_lock, asked, asks_peer, asks_rest, round_one, named_as, looked, opens}
+use Rattle.pg_examples.proofs.Trace.{Move, AllMake, walked, walk, part, none_ended, merged_at, look_delete}
+use Rattle.pg_examples.proofs.Trace.{answers_lock, asked, asks_peer, asks_rest, round_one, named_as, looked, opens}
 use Rattle.pg_examples.specs.Outcomes.{FormationOfThree}
 
 module _ (g : Term) (named : is_name g ≡ true) (same : same_term g g ≡ true) where

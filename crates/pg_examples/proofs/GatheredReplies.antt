@@ -1,5 +1,6 @@
 -- One node gathers replies.
-use Rattle.std.proofs.Common.{◌≡◌, true, false, [], ◌∷◌, ◌++◌, Some, None, Ok, refl, ap, sym, subst, ℕ, List, take, drop}
+use Rattle.std.proofs.Common.{◌≡◌, true, false, [], ◌∷◌, ◌++◌, Some, None}
+use Rattle.std.proofs.Common.{Ok, refl, ap, sym, subst, ℕ, List, take, drop}
 use Rattle.pg_group.specs.Functions.{upd}
 use Rattle.pg_group.specs.Value.{nobody}
 use Rattle.pg_term.specs.declared.term.Term.{Term}
@@ -20,10 +21,12 @@ use Rattle.pg_step.specs.Step.{Issue}
 use Rattle.pg_step.specs.Turns.{NodeTurn, and_then, becomes}
 use Rattle.pg_step.specs.Peers.{exchange}
 use Rattle.pg_step.specs.declared.answer.Odd.TheVariants.{Stranger, Double}
-use Rattle.pg_examples.specs.Examples.{behind, AllHappen, a, b, c, op_at, stands, three_nodes, with_replies, asked_greatest, gathered, completed}
+use Rattle.pg_examples.specs.Examples.{behind, AllHappen, a, b, c, op_at, stands, three_nodes}
+use Rattle.pg_examples.specs.Examples.{with_replies, asked_greatest, gathered, completed}
 use Rattle.pg_step.specs.Attempts.{strange, count_ok}
 use Rattle.pg_machine.proofs.Sequences.{run_there}
-use Rattle.pg_examples.proofs.Trace.{Move, AllMake, walked, walk, part, held_at, changed_at, all_of_group, asks_peer, asks_rest, asks_rest_as, round_one, round_two, named_as, begins, finishes, opens}
+use Rattle.pg_examples.proofs.Trace.{Move, AllMake, walked, walk, part, held_at, changed_at, all_of_group, asks_peer}
+use Rattle.pg_examples.proofs.Trace.{asks_rest, asks_rest_as, round_one, round_two, named_as, begins, finishes, opens}
 use Rattle.pg_examples.specs.Outcomes.{GatheredReplies}
 
 module _ (g : Term) (named : is_name g ≡ true) (same : same_term g g ≡ true) where

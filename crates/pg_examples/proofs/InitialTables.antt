@@ -1,5 +1,6 @@
 -- Two nodes begin with different tables.
-use Rattle.std.proofs.Common.{◌≡◌, true, false, [], ◌∷◌, ◌++◌, Some, None, Ok, refl, ap, sym, subst, ◌∙◌, ℕ, List, take, drop}
+use Rattle.std.proofs.Common.{◌≡◌, true, false, [], ◌∷◌, ◌++◌, Some, None, Ok}
+use Rattle.std.proofs.Common.{refl, ap, sym, subst, ◌∙◌, ℕ, List, take, drop}
 use Rattle.pg_group.specs.Functions.{upd}
 use Rattle.pg_group.specs.Value.{nobody}
 use Rattle.pg_group.specs.Table.{exchanged}
@@ -20,11 +21,15 @@ use Rattle.pg_step.specs.State.Response.{Read}
 use Rattle.pg_step.specs.Step.{Issue, Retry}
 use Rattle.pg_step.specs.Turns.{NodeTurn}
 use Rattle.pg_step.specs.Peers.{update_request, exchange}
-use Rattle.pg_examples.specs.Examples.{start, behind, AllHappen, a, b, a1, b1, op_at, two_tables, tables_met, created_later}
+use Rattle.pg_examples.specs.Examples.{start, behind, AllHappen, a, b, a1, b1}
+use Rattle.pg_examples.specs.Examples.{op_at, two_tables, tables_met, created_later}
 use Rattle.pg_step.specs.Commands.{answer, look}
 use Rattle.std.specs.Prelude.{is_some}
 use Rattle.pg_machine.proofs.Sequences.{run_there}
-use Rattle.pg_examples.proofs.Trace.{Move, AllMake, walked, walk, part, none_ended, held_at, changed_at, unchanged_at, merged_at, not_merged_at, answers_lock, asked, frees, freed, asks_own, attempt_own, asks_nobody, asks_rest, asks_rest_as, round_one, round_two, named_as, looked, begins, finishes, comes_in, opens}
+use Rattle.pg_examples.proofs.Trace.{Move, AllMake, walked, walk, part, none_ended, held_at, changed_at}
+use Rattle.pg_examples.proofs.Trace.{unchanged_at, merged_at, not_merged_at, answers_lock, asked, frees, freed}
+use Rattle.pg_examples.proofs.Trace.{asks_own, attempt_own, asks_nobody, asks_rest, asks_rest_as, round_one}
+use Rattle.pg_examples.proofs.Trace.{round_two, named_as, looked, begins, finishes, comes_in, opens}
 use Rattle.pg_examples.proofs.Listed.{read_list, first_listed, met_listed, met_too_listed}
 use Rattle.pg_examples.specs.Outcomes.{InitialTables}
 

@@ -23,7 +23,10 @@ use Rattle.pg_step.specs.Peers.{update_request, exchange}
 use Rattle.pg_examples.specs.Examples.{start, behind, AllHappen, a, b, a1, op_at, two_nodes, joined_twice, left_once}
 use Rattle.pg_step.specs.Commands.{answer, make, look}
 use Rattle.pg_machine.proofs.Sequences.{run_there}
-use Rattle.pg_examples.proofs.Trace.{Move, AllMake, walked, walk, and_more, held_at, changed_at, answers_lock, asked, frees, freed, asks_peer, attempt_as, asks_own, attempt_own, asks_rest, asks_rest_as, round_one, round_two, named_as, looked, begins, finishes, comes_in, opens}
+use Rattle.pg_examples.proofs.Trace.{Move, AllMake, walked, walk, and_more, held_at, changed_at}
+use Rattle.pg_examples.proofs.Trace.{answers_lock, asked, frees, freed, asks_peer, attempt_as}
+use Rattle.pg_examples.proofs.Trace.{asks_own, attempt_own, asks_rest, asks_rest_as, round_one}
+use Rattle.pg_examples.proofs.Trace.{round_two, named_as, looked, begins, finishes, comes_in, opens}
 use Rattle.pg_examples.proofs.Listed.{read_list, twice_listed, once_listed}
 use Rattle.pg_examples.specs.Outcomes.{JoinTwiceLeaveOnce}
 

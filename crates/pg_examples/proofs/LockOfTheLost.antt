@@ -16,7 +16,8 @@ use Rattle.pg_step.specs.Step.{Issue}
 use Rattle.pg_step.specs.Peers.{update_request}
 use Rattle.pg_examples.specs.Examples.{a, b, c, op_at, three_nodes, lock_ref}
 use Rattle.pg_examples.specs.LossExamples.{LosingFrameWorld, losing_start, LockOfTheLost}
-use Rattle.pg_examples.proofs.Trace.{held_at, changed_at, answers_lock, asked, frees, freed, asks_peer, asks_rest, round_one, named_as, begins, finishes, opens}
+use Rattle.pg_examples.proofs.Trace.{held_at, changed_at, answers_lock, asked, frees, freed, asks_peer}
+use Rattle.pg_examples.proofs.Trace.{asks_rest, round_one, named_as, begins, finishes, opens}
 use Rattle.pg_examples.proofs.LossTrace.{Move, Makes, Sees, Loses, AllMade, walked, and_more, walk}
 use Rattle.pg_examples.proofs.ThreeMeet.{at_b, at_c, creates, beginning, begun, they_begin}
 

@@ -1,11 +1,14 @@
 -- Events of nodes that can be lost, one after another, each with what it makes.
-use Rattle.std.proofs.Common.{◌≡◌, ℕ, Bool, true, false, not, ◌&&◌, cond, List, [], ◌∷◌, ◌++◌, map, Option, Some, None, Result, Ok, Err, refl, ap, ◌∙◌}
+use Rattle.std.proofs.Common.{◌≡◌, ℕ, Bool, true, false, not, ◌&&◌, cond, List, [], ◌∷◌}
+use Rattle.std.proofs.Common.{◌++◌, map, Option, Some, None, Result, Ok, Err, refl, ap, ◌∙◌}
 use Rattle.std.specs.Cmp.{first_so, second_so}
 use Rattle.std.specs.Prelude.{option_map, option_and_then}
 use Rattle.pg_message.specs.declared.message.Message.{Message}
 use Rattle.pg_machine.specs.Places.{is_place, set_at}
-use Rattle.pg_machine.specs.Machine.{Event, Take, Do, node_of, is_there, first_from, without_input, turn_of, perform, happens}
-use Rattle.pg_machine.specs.Losing.{Noticed, Sent, Last, LosingEvent, Step, Lose, mapped_turn, can_keep, stopped, losing_happens}
+use Rattle.pg_machine.specs.Machine.{Event, Take, Do, node_of, is_there, first_from}
+use Rattle.pg_machine.specs.Machine.{without_input, turn_of, perform, happens}
+use Rattle.pg_machine.specs.Losing.{Noticed, Sent, Last, LosingEvent, Step, Lose}
+use Rattle.pg_machine.specs.Losing.{mapped_turn, can_keep, stopped, losing_happens}
 use Rattle.pg_step.specs.declared.refusal.Refusal.{Refusal}
 use Rattle.pg_step.specs.declared.refusal.Refusal.TheVariants.{NoSuchPlace}
 use Rattle.pg_step.specs.State.{State}

@@ -24,7 +24,8 @@ use Rattle.pg_step.specs.State.Response.{Read}
 use Rattle.pg_examples.specs.Examples.{a, b, op_at, a1, b1}
 use Rattle.pg_examples.specs.LossExamples.{LosingFrameWorld, losing_start, MembersOfTheLost, two_members}
 use Rattle.pg_examples.proofs.Listed.{both_listed, left_listed, read_list}
-use Rattle.pg_examples.proofs.Trace.{held_at, changed_at, ask_as, round_one, named_as, comes_in, opens, all, looked, none_ended, merged_at, finish_as, first, unasked}
+use Rattle.pg_examples.proofs.Trace.{held_at, changed_at, ask_as, round_one, named_as, comes_in, opens}
+use Rattle.pg_examples.proofs.Trace.{all, looked, none_ended, merged_at, finish_as, first, unasked}
 use Rattle.pg_examples.proofs.LossTrace.{Move, Makes, Sees, Loses, AllMade, walked, walk}
 
 module _ (g : Term) (named : is_name g ≡ true) (same : same_term g g ≡ true) where

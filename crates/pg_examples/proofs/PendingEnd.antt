@@ -1,5 +1,6 @@
 -- An end is pending until the other node has taken it.
-use Rattle.std.proofs.Common.{◌≡◌, true, false, ◌&&◌, nat_eq, [], ◌∷◌, ◌++◌, Some, None, Ok, refl, ap, sym, subst, ◌∙◌, ℕ, List, take, drop}
+use Rattle.std.proofs.Common.{◌≡◌, true, false, ◌&&◌, nat_eq, [], ◌∷◌, ◌++◌, Some}
+use Rattle.std.proofs.Common.{None, Ok, refl, ap, sym, subst, ◌∙◌, ℕ, List, take, drop}
 use Rattle.pg_group.specs.Functions.{upd}
 use Rattle.pg_group.specs.Value.{less, count_in}
 use Rattle.pg_group.specs.Table.{exchanged}
@@ -19,11 +20,14 @@ use Rattle.pg_step.specs.Nodes.{Nodes}
 use Rattle.pg_step.specs.Step.{Issue}
 use Rattle.pg_step.specs.Turns.{NodeTurn}
 use Rattle.pg_step.specs.Peers.{update_request, exchange, process_end}
-use Rattle.pg_examples.specs.Examples.{start, behind, AllHappen, a, b, a1, op_at, two_and_member, ended_at_home, joined_after}
+use Rattle.pg_examples.specs.Examples.{start, behind, AllHappen, a, b, a1, op_at}
+use Rattle.pg_examples.specs.Examples.{two_and_member, ended_at_home, joined_after}
 use Rattle.pg_step.specs.Commands.{end_process, look}
 use Rattle.std.specs.Prelude.{is_some}
 use Rattle.pg_machine.proofs.Sequences.{run_there}
-use Rattle.pg_examples.proofs.Trace.{Move, AllMake, walked, walk, part, none_ended, held_at, changed_at, merged_at, answers_lock, asked, frees, freed, asks_own, attempt_own, asks_rest, asks_rest_as, round_one, round_two, named_as, looked, begins, finishes, comes_in, opens}
+use Rattle.pg_examples.proofs.Trace.{Move, AllMake, walked, walk, part, none_ended, held_at, changed_at, merged_at}
+use Rattle.pg_examples.proofs.Trace.{answers_lock, asked, frees, freed, asks_own, attempt_own, asks_rest, asks_rest_as}
+use Rattle.pg_examples.proofs.Trace.{round_one, round_two, named_as, looked, begins, finishes, comes_in, opens}
 use Rattle.pg_examples.specs.Outcomes.{PendingEnd}
 
 module _ (g : Term) (named : is_name g ≡ true) (same : same_term g g ≡ true) where

@@ -17,7 +17,8 @@ use Rattle.pg_step.specs.Attempts.{count_answer, locks_in}
 use Rattle.pg_step.specs.Peers.{update_request}
 use Rattle.pg_examples.specs.Examples.{a, b, c, op_at, three_nodes, lock_ref}
 use Rattle.pg_examples.specs.LossExamples.{LosingFrameWorld, losing_start, ReadyByLoss}
-use Rattle.pg_examples.proofs.Trace.{held_at, changed_at, answers_lock, asked, ask_as, frees, freed, round_one, round_two, begins, finishes, all}
+use Rattle.pg_examples.proofs.Trace.{held_at, changed_at, answers_lock, asked, ask_as, frees}
+use Rattle.pg_examples.proofs.Trace.{freed, round_one, round_two, begins, finishes, all}
 use Rattle.pg_examples.proofs.LossTrace.{Move, Makes, Sees, Loses, AllMade, walked, and_more, walk}
 use Rattle.pg_examples.proofs.ThreeMeet.{at_a, at_b, creates, beginning, begun, they_begin}
 

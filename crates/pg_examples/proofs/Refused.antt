@@ -11,7 +11,8 @@ use Rattle.pg_step.specs.Commands.{command_by, count_command, next_op}
 use Rattle.pg_step.specs.State.{State, Response, left}
 use Rattle.pg_step.specs.Turns.{and_then}
 use Rattle.pg_examples.specs.Examples.{a1, b1, c1, busy_node, keeping_node}
-use Rattle.pg_examples.specs.RefusedCommands.{at_a, answer_in, answer_to, opened_in, LargeNames, ForeignMembers, RefusedEnds, ProcessesMade, LookedFor, OpenCommands}
+use Rattle.pg_examples.specs.RefusedCommands.{at_a, answer_in, answer_to, opened_in, LargeNames, ForeignMembers}
+use Rattle.pg_examples.specs.RefusedCommands.{RefusedEnds, ProcessesMade, LookedFor, OpenCommands}
 
 -- the answer to a command whose name is found to be too large or not, and which has this fault else
 abbrev named_as : Bool → Option CommandFault → State → Command → Option Response

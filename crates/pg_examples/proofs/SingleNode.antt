@@ -22,7 +22,8 @@ use Rattle.pg_step.specs.Step.{Issue}
 use Rattle.pg_step.specs.Turns.{NodeTurn, and_then}
 use Rattle.pg_examples.specs.Examples.{start, behind, AllHappen, op_at, stands, one_node, lock_ref, created_alone}
 use Rattle.pg_examples.specs.Outcomes.{SingleNode}
-use Rattle.pg_examples.proofs.Trace.{Move, AllMake, walked, walk, held_at, changed_at, all_of_group, ask_as, attempt_own, finish_as, first, all, unasked, round_one, named_as, opens}
+use Rattle.pg_examples.proofs.Trace.{Move, AllMake, walked, walk, held_at, changed_at, all_of_group, ask_as}
+use Rattle.pg_examples.proofs.Trace.{attempt_own, finish_as, first, all, unasked, round_one, named_as, opens}
 
 -- the node grants itself, has nobody else to ask, and begins and ends its update
 abbrev done_alone : Bool → Nodes → OpId → Update → State → NodeTurn

@@ -1,7 +1,8 @@
 -- Events one at a time, each with the turn that it makes. Where a turn looks at a lock, what it finds is given.
 use Rattle.std.specs.Cmp.{first_so, second_so}
 use Rattle.pg_machine.specs.Runs.{Leads}
-use Rattle.std.proofs.Common.{zero, suc, take, drop, map, ◌≡◌, ℕ, Bool, true, false, not, ◌&&◌, cond, List, [], ◌∷◌, ◌++◌, Option, Some, None, Result, Ok, Err, refl, ap, sym, subst, ◌∙◌, nat_eq}
+use Rattle.std.proofs.Common.{zero, suc, take, drop, map, ◌≡◌, ℕ, Bool, true, false, not, ◌&&◌, cond, List, []}
+use Rattle.std.proofs.Common.{◌∷◌, ◌++◌, Option, Some, None, Result, Ok, Err, refl, ap, sym, subst, ◌∙◌, nat_eq}
 use Rattle.std.specs.List.{AllByRecursion}
 use Rattle.std.specs.Prelude.{option_map, option_and_then, ◌-◌}
 use Rattle.pg_term.specs.declared.pid.Pid.{Pid}
@@ -25,7 +26,8 @@ use Rattle.pg_step.specs.declared.answer.Reply.{Reply as Answer}
 use Rattle.pg_step.specs.declared.answer.Reply.TheVariants as reply
 use Rattle.pg_step.specs.declared.refusal.Refusal.{Refusal}
 use Rattle.pg_step.specs.declared.refusal.Refusal.TheVariants.{NoSuchPlace}
-use Rattle.pg_machine.specs.Machine.{Event, Take, Do, node_of, is_there, first_from, without_input, turn_of, perform, happens}
+use Rattle.pg_machine.specs.Machine.{Event, Take, Do, node_of, is_there, first_from}
+use Rattle.pg_machine.specs.Machine.{without_input, turn_of, perform, happens}
 use Rattle.pg_step.specs.Nodes.{Node, Nodes, greatest, to_one, to_peers}
 use Rattle.pg_step.specs.State.{State, Status}
 use Rattle.pg_step.specs.State.Status.{Unasked, Yes}
@@ -34,7 +36,8 @@ use Rattle.pg_step.specs.State.Stage.{Closed, Waiting}
 use Rattle.pg_step.specs.State.Response.{Given}
 use Rattle.pg_step.specs.Turns.{NodeTurn, nothing, becomes, becomes_and_sends, and_then}
 use Rattle.pg_step.specs.Peers.{would_grant, verdict}
-use Rattle.pg_step.specs.Attempts.{own_reference, same_op, is_yes, asks, with_asked, new_attempt, count_answer, count_ok, give_up, begin, go_on, locks_in}
+use Rattle.pg_step.specs.Attempts.{own_reference, same_op, is_yes, asks, with_asked, new_attempt}
+use Rattle.pg_step.specs.Attempts.{count_answer, count_ok, give_up, begin, go_on, locks_in}
 use Rattle.pg_step.specs.Commands.{look, open_command, change_by, count_command, command_by}
 use Rattle.pg_step.specs.Step.{Action, taken, node_takes, node_acts}
 use Rattle.pg_step.specs.FrameMachine.{FrameWorld, placed, node_step, place_turn, machine_of}

@@ -25,7 +25,10 @@ use Rattle.pg_step.specs.Attempts.{count_answer, give_up}
 use Rattle.pg_step.specs.Commands.{answer}
 use Rattle.std.specs.Prelude.{is_some}
 use Rattle.pg_machine.proofs.Sequences.{run_there}
-use Rattle.pg_examples.proofs.Trace.{Move, AllMake, walked, walk, part, held_at, changed_at, unchanged_at, all_of_group, answers_lock, asked, frees, freed, asks_peer, attempt_as, asks_own, attempt_own, asks_rest, asks_rest_as, round_one, round_two, named_as, begins, finishes, comes_in, opens}
+use Rattle.pg_examples.proofs.Trace.{Move, AllMake, walked, walk, part, held_at, changed_at, unchanged_at}
+use Rattle.pg_examples.proofs.Trace.{all_of_group, answers_lock, asked, frees, freed, asks_peer}
+use Rattle.pg_examples.proofs.Trace.{attempt_as, asks_own, attempt_own, asks_rest, asks_rest_as}
+use Rattle.pg_examples.proofs.Trace.{round_one, round_two, named_as, begins, finishes, comes_in, opens}
 use Rattle.pg_examples.proofs.Listed.{read_names}
 use Rattle.pg_examples.specs.Outcomes.{TwoCreators}
 

@@ -1,5 +1,6 @@
 -- Worked examples of losses: lists of events, and what they lead to. Clocks are left out, but in the last.
-use Rattle.std.specs.Prelude.{◌≡◌, ℕ, Bool, true, false, not, ◌||◌, cond, nat_eq, length, List, [], ◌∷◌, ◌++◌, map, Option, Some, None, is_some}
+use Rattle.std.specs.Prelude.{◌≡◌, ℕ, Bool, true, false, not, ◌||◌, cond, nat_eq, length}
+use Rattle.std.specs.Prelude.{List, [], ◌∷◌, ◌++◌, map, Option, Some, None, is_some}
 use Rattle.pg_term.specs.declared.term.Term.{Term}
 use Rattle.pg_group.specs.Value.{count_in}
 use Rattle.pg_group.specs.declared.update.Update.TheVariants as update
@@ -17,11 +18,13 @@ use Rattle.pg_step.specs.Step.{Action}
 use Rattle.pg_step.specs.declared.refusal.Refusal.{Refusal}
 use Rattle.pg_step.specs.declared.refusal.Refusal.TheVariants.{NoSuchPlace, NodeLost, NotLost, NotDrained, ClockFull}
 use Rattle.pg_machine.specs.Losing.{Noticed, Sent, Last, LosingWorld, LosingEvent, Step, Lose, LosingLeads, nobody_gone}
-use Rattle.pg_step.specs.LossLaws.{LosingFrameWorld as TimedLosingFrames, see_refusal as timed_see_refusal, lose_refusal as timed_lose_refusal}
+use Rattle.pg_step.specs.LossLaws.{LosingFrameWorld as TimedLosingFrames}
+use Rattle.pg_step.specs.LossLaws.{see_refusal as timed_see_refusal, lose_refusal as timed_lose_refusal}
 use Rattle.pg_step.specs.Config.{Config, name_at}
 use Rattle.pg_step.specs.FrameMachine.{losing_machine_of, losing_frame_machine, last_notice}
 use Rattle.pg_history.specs.History.{history, answers_by}
-use Rattle.pg_examples.specs.Examples.{node, a, b, a1, b1, at, again, is_ok, reads, stands, two_meet, two_nodes, three_nodes, three_meet, lock_ref}
+use Rattle.pg_examples.specs.Examples.{node, a, b, a1, b1, at, again, is_ok, reads, stands}
+use Rattle.pg_examples.specs.Examples.{two_meet, two_nodes, three_nodes, three_meet, lock_ref}
 use Rattle.pg_step.specs.Faults.{first_that_holds}
 
 -- ---- words

@@ -17,7 +17,9 @@ use Rattle.pg_step.specs.Step.{taken}
 use Rattle.pg_step.specs.Config.{groups_at, nodes_at}
 use Rattle.pg_step.specs.FrameMachine.{FrameWorld}
 use Rattle.pg_history.specs.History.{history, is_formed}
-use Rattle.pg_examples.specs.Examples.{a, b, c, a1, b1, op_at, start, answers_of, table_of, has_group, has_counts, holder_at, is_ok, reads, stands, odd_of, yes, no, done, two_tables, three_nodes, three_tables, lock_ref, update_ref}
+use Rattle.pg_examples.specs.Examples.{a, b, c, a1, b1, op_at, start, answers_of, table_of, has_group}
+use Rattle.pg_examples.specs.Examples.{has_counts, holder_at, is_ok, reads, stands, odd_of, yes, no}
+use Rattle.pg_examples.specs.Examples.{done, two_tables, three_nodes, three_tables, lock_ref, update_ref}
 
 -- Two creators at once.
 pub record TwoCreators (g : Term) (w : FrameWorld) : Type 0 where

@@ -1,7 +1,8 @@
 ghost use Rattle.std.specs.Prelude.{◌≡◌, true, false};
 ghost use Rattle.pg_term.specs.declared.term.Term.{Term};
 ghost use Rattle.pg_message.specs.Name.{is_name};
-ghost use Rattle.pg_examples.specs.RefusedCommands.{LargeNames, ForeignMembers, RefusedEnds, ProcessesMade, LookedFor, OpenCommands};
+ghost use Rattle.pg_examples.specs.RefusedCommands.{LargeNames, ForeignMembers, RefusedEnds};
+ghost use Rattle.pg_examples.specs.RefusedCommands.{ProcessesMade, LookedFor, OpenCommands};
 
 /// Each command whose name is too large is refused so, whatever else is wrong with it.
 pub fn large_names()

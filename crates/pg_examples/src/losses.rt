@@ -3,7 +3,8 @@ ghost use Rattle.pg_term.specs.declared.term.Term.{Term};
 ghost use Rattle.pg_message.specs.Name.{is_name};
 ghost use Rattle.pg_step.specs.declared.refusal.Refusal.TheVariants.{NotLost};
 ghost use Rattle.pg_examples.specs.Examples.{two_nodes};
-ghost use Rattle.pg_examples.specs.LossExamples.{losing_start, see_refusal, ReadyByLoss, Drained, LockOfTheLost, MembersOfTheLost, LossWithClocks};
+ghost use Rattle.pg_examples.specs.LossExamples.{losing_start, see_refusal, ReadyByLoss, Drained};
+ghost use Rattle.pg_examples.specs.LossExamples.{LockOfTheLost, MembersOfTheLost, LossWithClocks};
 
 /// Nobody sees the loss of a node that is there.
 pub fn no_loss_to_see()

@@ -17,6 +17,8 @@ impl ExchangeFault {
     ghost use Rattle.pg_exchange.specs.ExchangeFault.{exchange_number_of};
 
     /// The number of the fault in this project's one list of faults.
+    ///
+    /// Cost: no memory.
     pub fn number(self) -> u8
         ensures { result ≡ exchange_number_of self }
     {

@@ -1,5 +1,6 @@
 -- What holds while the steps of a moment are followed.
-use Rattle.std.proofs.Common.{◌≡◌, ◌⊎◌, ◌<◌, ◌≤◌, ℕ, ◌+◌, max, List, ◌∷◌, ◌++◌, length, Some, inl, inr, subst, sym, arith}
+use Rattle.std.proofs.Common.{◌≡◌, ◌⊎◌, ◌<◌, ◌≤◌, ℕ, ◌+◌, max, List, ◌∷◌}
+use Rattle.std.proofs.Common.{◌++◌, length, Some, inl, inr, subst, sym, arith}
 use Rattle.std.specs.Prelude.{slice_get}
 use Rattle.std.specs.List.{Contains}
 use Rattle.pg_step.specs.Config.{Config}

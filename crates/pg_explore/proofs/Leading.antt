@@ -1,5 +1,6 @@
 -- Steps that happen, and where they lead.
-use Rattle.std.proofs.Common.{◌≡◌, ◌⊎◌, ◌↔◌, ◌<◌, ◌≤◌, ℕ, ◌+◌, List, [], ◌∷◌, ◌++◌, length, get_or, refl, sym, ap, ◌∙◌, inl, inr, subst, arith, append_assoc}
+use Rattle.std.proofs.Common.{◌≡◌, ◌⊎◌, ◌↔◌, ◌<◌, ◌≤◌, ℕ, ◌+◌, List, [], ◌∷◌, ◌++◌, length}
+use Rattle.std.proofs.Common.{get_or, refl, sym, ap, ◌∙◌, inl, inr, subst, arith, append_assoc}
 use Rattle.std.proofs.lemmas.List.{append-nil, get_or_append_left, get_or_at, length_push}
 use Rattle.std.proofs.lemmas.List.Elements.{Contains-append_left, Contains-push, Contains-push_cases}
 use Rattle.std.proofs.lemmas.Option.{slice_get_read}
@@ -16,7 +17,8 @@ use Rattle.pg_explore.specs.Explorations.{AreFollowedAt, Grows, IsFollowed, IsOp
 use Rattle.pg_explore.specs.Listings.{IsOpen}
 use Rattle.pg_explore.specs.Moments.{Sight}
 use Rattle.pg_explore.specs.Moves.{Leads, Stays}
-use Rattle.pg_explore.specs.Ways.{AreLed, AreLedAt, AreLentWays, AreWays, Arrives, IsAmong, IsArrived, IsLentWays, LeadsTo, LeadsToAt, StaysAt}
+use Rattle.pg_explore.specs.Ways.{AreLed, AreLedAt, AreLentWays, AreWays, Arrives, IsAmong}
+use Rattle.pg_explore.specs.Ways.{IsArrived, IsLentWays, LeadsTo, LeadsToAt, StaysAt}
 use Rattle.pg_explore.proofs.Expanding.{LedBelow}
 use Rattle.pg_explore.proofs.Optional.{inside_some, some_is}
 use Rattle.pg_explore.proofs.Reached.{low_or_same}

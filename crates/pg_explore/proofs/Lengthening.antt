@@ -1,7 +1,10 @@
 -- Lists of numbers that are at most those of another.
-use Rattle.std.proofs.Common.{◌≡◌, ◌⊎◌, ◌↔◌, ◌<◌, ◌≤◌, ℕ, zero, suc, ◌+◌, List, [], ◌∷◌, ◌++◌, length, map, take, get_or, refl, sym, ap, ◌∙◌, inl, inr, subst, arith, length-append}
-use Rattle.std.proofs.lemmas.List.{length-map, length-take-le, get_or_append_left, get_or_at, get_or-take, take_more, take_all, nil_from_length, length_push}
-use Rattle.std.proofs.lemmas.List.Elements.{Contains-append_left, Contains-append_right, Contains-push, Contains-push_cases, Contains-append_cases}
+use Rattle.std.proofs.Common.{◌≡◌, ◌⊎◌, ◌↔◌, ◌<◌, ◌≤◌, ℕ, zero, suc, ◌+◌, List, [], ◌∷◌, ◌++◌, length, map}
+use Rattle.std.proofs.Common.{take, get_or, refl, sym, ap, ◌∙◌, inl, inr, subst, arith, length-append}
+use Rattle.std.proofs.lemmas.List.{length-map, length-take-le, get_or_append_left, get_or_at}
+use Rattle.std.proofs.lemmas.List.{get_or-take, take_more, take_all, nil_from_length, length_push}
+use Rattle.std.proofs.lemmas.List.Elements.{Contains-append_left, Contains-append_right}
+use Rattle.std.proofs.lemmas.List.Elements.{Contains-push, Contains-push_cases, Contains-append_cases}
 use Rattle.std.specs.List.{Contains}
 use Rattle.pg_machine.specs.Clocked.{Stamped}
 use Rattle.pg_message.specs.declared.message.Message.{Message}

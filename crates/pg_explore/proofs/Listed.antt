@@ -1,11 +1,13 @@
 -- Listings of the steps that can be made.
-use Rattle.std.proofs.Common.{◌≡◌, ◌⊎◌, ◌<◌, ◌≤◌, ℕ, ◌+◌, List, [], ◌∷◌, ◌++◌, length, map, refl, sym, ap, ◌∙◌, inl, inr, subst, arith}
+use Rattle.std.proofs.Common.{◌≡◌, ◌⊎◌, ◌<◌, ◌≤◌, ℕ, ◌+◌, List, [], ◌∷◌, ◌++◌, length}
+use Rattle.std.proofs.Common.{map, refl, sym, ap, ◌∙◌, inl, inr, subst, arith}
 use Rattle.std.proofs.lemmas.List.Elements.{Contains-append_left, Contains-push, Contains-push_cases}
 use Rattle.std.specs.List.{Contains}
 use Rattle.pg_explore.specs.declared.moves.Move.{Move}
 use Rattle.pg_explore.specs.declared.moves.Move.TheVariants.{Take, Next, Loss, Retry, SeeLoss}
 use Rattle.pg_explore.specs.declared.plan.Plan.{Plan}
-use Rattle.pg_explore.specs.Listings.{Adds, AddsOpen, IsAt, IsListed, IsOfPeer, IsOfPeers, IsOfPeersBelow, IsOpen, IsPlannedOf, IsRetryOf, IsThere, node_of}
+use Rattle.pg_explore.specs.Listings.{Adds, AddsOpen, IsAt, IsListed, IsOfPeer, IsOfPeers}
+use Rattle.pg_explore.specs.Listings.{IsOfPeersBelow, IsOpen, IsPlannedOf, IsRetryOf, IsThere, node_of}
 use Rattle.pg_explore.specs.Moments.{Sight}
 
 -- ---- lists

@@ -1,5 +1,6 @@
 -- Steps of one kind that can be made.
-use Rattle.std.proofs.Common.{◌≡◌, ◌≢◌, ◌⊎◌, ◌↔◌, ◌||◌, ◌<◌, ◌≤◌, ℕ, zero, suc, ◌+◌, ◌-◌, Bool, true, false, List, [], ◌∷◌, ◌++◌, length, map, take, get_or, refl, sym, ap, ◌∙◌, inl, inr, subst, arith}
+use Rattle.std.proofs.Common.{◌≡◌, ◌≢◌, ◌⊎◌, ◌↔◌, ◌||◌, ◌<◌, ◌≤◌, ℕ, zero, suc, ◌+◌, ◌-◌, Bool, true, false, List}
+use Rattle.std.proofs.Common.{[], ◌∷◌, ◌++◌, length, map, take, get_or, refl, sym, ap, ◌∙◌, inl, inr, subst, arith}
 use Rattle.std.proofs.lemmas.List.{take_all, take_more}
 use Rattle.std.proofs.lemmas.List.Elements.{Contains-append_left, Contains-push, Contains-push_cases}
 use Rattle.std.proofs.lemmas.Option.{slice_get_read}
@@ -21,7 +22,8 @@ use Rattle.pg_explore.specs.declared.plan.Planned.{Planned}
 use Rattle.pg_explore.specs.declared.plan.Planned.TheVariants as planned
 use Rattle.pg_frame_world.specs.declared.step.FrameStep.{FrameStep}
 use Rattle.pg_explore.specs.Keeping.{AreUpTo}
-use Rattle.pg_explore.specs.Listings.{Adds, AddsOpen, IsLossOf, IsOfPeer, IsOfPeers, IsOfPeersBelow, IsOpen, IsPlannedOf, IsRetryOf, IsThere, MayRetry, waits_at}
+use Rattle.pg_explore.specs.Listings.{Adds, AddsOpen, IsLossOf, IsOfPeer, IsOfPeers, IsOfPeersBelow}
+use Rattle.pg_explore.specs.Listings.{IsOpen, IsPlannedOf, IsRetryOf, IsThere, MayRetry, waits_at}
 use Rattle.pg_explore.specs.Moments.{Progress, Sight}
 use Rattle.pg_explore.specs.Moves.{planned_next}
 use Rattle.pg_explore.proofs.Lengthening.{can_stay, stays_up_to}

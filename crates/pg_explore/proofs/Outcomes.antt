@@ -1,5 +1,6 @@
 -- What the step of a world came to.
-use Rattle.std.proofs.Common.{◌≡◌, ◌⊎◌, Bool, true, false, List, ℕ, Option, Some, None, Result, Ok, Err, inl, inr, subst, sym}
+use Rattle.std.proofs.Common.{◌≡◌, ◌⊎◌, Bool, true, false, List, ℕ, Option}
+use Rattle.std.proofs.Common.{Some, None, Result, Ok, Err, inl, inr, subst, sym}
 use Rattle.pg_step.specs.Config.{Config}
 use Rattle.pg_step.specs.LossLaws.{LosingFrameWorld}
 use Rattle.pg_node_state.specs.declared.state.fault.NodeFault.{NodeFault}

@@ -1,5 +1,6 @@
 -- What is found, followed and lent.
-use Rattle.std.proofs.Common.{◌≡◌, ◌⊎◌, ◌<◌, ◌≤◌, ℕ, zero, suc, ◌+◌, max, List, [], ◌∷◌, ◌++◌, length, take, map, refl, sym, ap, ◌∙◌, inl, inr, subst, arith, append_assoc}
+use Rattle.std.proofs.Common.{◌≡◌, ◌⊎◌, ◌<◌, ◌≤◌, ℕ, zero, suc, ◌+◌, max, List, [], ◌∷◌, ◌++◌, length}
+use Rattle.std.proofs.Common.{take, map, refl, sym, ap, ◌∙◌, inl, inr, subst, arith, append_assoc}
 use Rattle.std.proofs.lemmas.List.{length-map, take_more, take_all}
 use Rattle.std.proofs.lemmas.Option.{slice_get_read, slice_get_within, get_or_from_slice_get}
 use Rattle.std.specs.Prelude.{slice_get, Option, Some, None, Result, Ok, Err, IfOk, Bool, true, false}
@@ -15,7 +16,8 @@ use Rattle.pg_explore.specs.declared.moves.Move.{Move}
 use Rattle.pg_explore.specs.declared.plan.Plan.{Plan}
 use Rattle.pg_explore.specs.declared.strand.Strand.{Strand}
 use Rattle.pg_explore.specs.Bins.{spots_of}
-use Rattle.pg_explore.specs.Explorations.{AreFollowed, AreFollowedAt, AreKept, Grows, IsAlikeAt, IsFollowed, IsOpenAt, sight_in}
+use Rattle.pg_explore.specs.Explorations.{AreFollowed, AreFollowedAt, AreKept, Grows}
+use Rattle.pg_explore.specs.Explorations.{IsAlikeAt, IsFollowed, IsOpenAt, sight_in}
 use Rattle.pg_explore.specs.Lent.{AreLent, IsLent}
 use Rattle.pg_explore.specs.Listings.{IsOpen}
 use Rattle.pg_explore.specs.Moments.{IsOf, Sight}

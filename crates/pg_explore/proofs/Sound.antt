@@ -1,5 +1,6 @@
 -- What holds of the moments that were met, as one is added.
-use Rattle.std.proofs.Common.{◌≡◌, ◌⊎◌, ◌<◌, ◌≤◌, ℕ, ◌+◌, List, [], ◌∷◌, ◌++◌, length, Option, Some, None, refl, sym, ap, ◌∙◌, inl, inr, subst, arith}
+use Rattle.std.proofs.Common.{◌≡◌, ◌⊎◌, ◌<◌, ◌≤◌, ℕ, ◌+◌, List, [], ◌∷◌, ◌++◌, length}
+use Rattle.std.proofs.Common.{Option, Some, None, refl, sym, ap, ◌∙◌, inl, inr, subst, arith}
 use Rattle.std.specs.Prelude.{slice_get}
 use Rattle.std.specs.List.{Contains}
 use Rattle.pg_step.specs.Config.{Config}
@@ -9,7 +10,9 @@ use Rattle.pg_explore.specs.declared.explored.Met.{Met}
 use Rattle.pg_explore.specs.declared.moves.Move.{Move}
 use Rattle.pg_explore.specs.declared.plan.Plan.{Plan}
 use Rattle.pg_explore.specs.Bins.{Keeps, spots_of}
-use Rattle.pg_explore.specs.Explorations.{AreApart, AreFollowed, AreKept, AreOf, AreReached, Grows, IsAlikeAt, IsFollowed, IsFound, IsKnown, IsOpenAt, IsReached, IsSound, LeadsFrom, sight_in}
+use Rattle.pg_explore.specs.Explorations.{AreApart, AreFollowed, AreKept, AreOf, AreReached}
+use Rattle.pg_explore.specs.Explorations.{Grows, IsAlikeAt, IsFollowed, IsFound, IsKnown}
+use Rattle.pg_explore.specs.Explorations.{IsOpenAt, IsReached, IsSound, LeadsFrom, sight_in}
 use Rattle.pg_explore.specs.Listings.{IsOpen}
 use Rattle.pg_explore.specs.Moments.{AreAlike, IsFirst, IsOf, Sight}
 use Rattle.pg_explore.specs.Moves.{Leads}

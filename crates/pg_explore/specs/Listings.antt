@@ -1,5 +1,6 @@
 -- The steps that can be made at a moment within limits.
-use Rattle.std.specs.Prelude.{◌≡◌, ◌≢◌, ◌⊎◌, ◌↔◌, ◌<◌, ◌-◌, ℕ, Bool, true, false, length, get_or, slice_get, List, [], Option, Some}
+use Rattle.std.specs.Prelude.{◌≡◌, ◌≢◌, ◌⊎◌, ◌↔◌, ◌<◌, ◌-◌, ℕ, Bool, true, false}
+use Rattle.std.specs.Prelude.{length, get_or, slice_get, List, [], Option, Some}
 use Rattle.std.specs.List.{Contains}
 use Rattle.std.specs.Option.{option_map_or}
 use Rattle.pg_machine.specs.Clocked.{Stamped}

@@ -1,5 +1,6 @@
 -- The steps that happen at a moment, and where they lead.
-use Rattle.std.specs.Prelude.{◌≡◌, ◌⊎◌, ◌<◌, ℕ, length, get_or, slice_get, List, [], ◌∷◌, ◌++◌, Bool, true, false, Option, Some, None}
+use Rattle.std.specs.Prelude.{◌≡◌, ◌⊎◌, ◌<◌, ℕ, length, get_or, slice_get, List}
+use Rattle.std.specs.Prelude.{[], ◌∷◌, ◌++◌, Bool, true, false, Option, Some, None}
 use Rattle.std.specs.List.{Contains}
 use Rattle.pg_explore.specs.declared.explored.Arrival.{Arrival}
 use Rattle.pg_explore.specs.declared.explored.Arrival.TheVariants.{Nowhere, At, Beyond}

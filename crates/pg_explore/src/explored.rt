@@ -1,12 +1,14 @@
 //! The moments that an exploration has met.
 
-ghost use Rattle.std.specs.Prelude.{◌≡◌, ◌≢◌, ◌<◌, ◌≤◌, ◌↔◌, ◌∷◌, ◌++◌, [], false, IsTrue, None, Ok, IfOk, IfErr, OnOk, OnErr, length, max, vec_len, vec_capacity};
+ghost use Rattle.std.specs.Prelude.{◌≡◌, ◌≢◌, ◌<◌, ◌≤◌, ◌↔◌, ◌∷◌, ◌++◌, [], false, IsTrue, None, Ok};
+ghost use Rattle.std.specs.Prelude.{IfOk, IfErr, OnOk, OnErr, length, max, vec_len, vec_capacity};
 ghost use Rattle.std.specs.List.{Contains};
 ghost use Rattle.std.specs.Option.{ForSome};
 ghost use Rattle.pg_explore.specs.declared.explored.Arrival.TheVariants.{Beyond};
 ghost use Rattle.pg_explore.specs.declared.moves.Move.{Move};
 ghost use Rattle.pg_explore.specs.Bins.{Keeps, spots_of};
-ghost use Rattle.pg_explore.specs.Explorations.{AreFollowed, AreKept, AreSized, Grows, Holds, IsAlikeAt, IsFound, IsOpenAt, LeadsFrom, Lends, met_of};
+ghost use Rattle.pg_explore.specs.Explorations.{AreFollowed, AreKept, AreSized, Grows, Holds};
+ghost use Rattle.pg_explore.specs.Explorations.{IsAlikeAt, IsFound, IsOpenAt, LeadsFrom, Lends, met_of};
 ghost use Rattle.pg_explore.specs.Faults.{CantExplore};
 ghost use Rattle.pg_explore.specs.Moments.{IsOf, sight_of};
 ghost use Rattle.pg_explore.specs.Numbers.{number_in};

@@ -20,6 +20,8 @@ impl ExploreFault {
     ghost use Rattle.pg_explore.specs.Faults.{explore_number_of};
 
     /// The number of the fault in this project's one list of faults.
+    ///
+    /// Cost: no memory.
     pub fn number(self) -> u8
         ensures { result ≡ explore_number_of self }
     {

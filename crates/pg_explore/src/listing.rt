@@ -8,7 +8,8 @@ ghost use Rattle.pg_frame_world.specs.FrameWorlds.{lost_of, traffic_of};
 ghost use Rattle.pg_frame_world.specs.Losing.{seen_at};
 ghost use Rattle.pg_account.specs.Losses.{is_lost};
 ghost use Rattle.pg_frame_world.specs.Views.{on_the_way};
-ghost use Rattle.pg_explore.specs.Listings.{AddsOpen, IsAt, IsListed, IsOfPeer, IsOfPeers, IsPlannedOf, IsRetryOf, IsThere, MayRetry, waits_at};
+ghost use Rattle.pg_explore.specs.Listings.{AddsOpen, IsAt, IsListed, IsOfPeer, IsOfPeers};
+ghost use Rattle.pg_explore.specs.Listings.{IsPlannedOf, IsRetryOf, IsThere, MayRetry, waits_at};
 ghost use Rattle.pg_explore.specs.Moments.{IsSized, sight_of};
 
 use crate::losses::add_losses;

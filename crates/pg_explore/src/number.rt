@@ -7,7 +7,8 @@ ghost use Rattle.pg_frame_world.specs.Alike.{without_clock, without_stamps};
 ghost use Rattle.pg_starts.specs.Seen.{seen_of};
 ghost use Rattle.pg_frame_world.specs.FrameWorlds.{traffic_of};
 ghost use Rattle.pg_explore.specs.Moments.{IsSized, progress_of, sight_of};
-ghost use Rattle.pg_explore.specs.Numbers.{answer_count, kind_number, mixed, mixed_message, mixed_node, mixed_progress, mixed_row, mixed_way, number_in, unstamped_of};
+ghost use Rattle.pg_explore.specs.Numbers.{answer_count, kind_number, mixed, mixed_message, mixed_node};
+ghost use Rattle.pg_explore.specs.Numbers.{mixed_progress, mixed_row, mixed_way, number_in, unstamped_of};
 
 use crate::moment::Moment;
 use crate::strand::Strand;

@@ -2,7 +2,8 @@
 
 ghost use Rattle.std.specs.Prelude.{◌≡◌, ◌↔◌, IsTrue, IfOk, OnOk, length, map, replicate};
 ghost use Rattle.std.specs.Option.{option_copied};
-ghost use Rattle.pg_explore.specs.Moments.{change_at, no_progress, progress_after, progress_of, with_command, with_loss, with_retry};
+ghost use Rattle.pg_explore.specs.Moments.{change_at, no_progress, progress_after};
+ghost use Rattle.pg_explore.specs.Moments.{progress_of, with_command, with_loss, with_retry};
 ghost use Rattle.pg_explore.specs.Moves.{planned_next};
 
 use crate::moves::Move;

@@ -1,9 +1,12 @@
 -- The bodies of bytes and their rest, frame after frame.
-use Rattle.std.proofs.Common.{◌≡◌, ℕ, zero, suc, ◌≤◌, ◌+◌, length, List, [], ◌∷◌, ◌++◌, Some, Ok, refl, ap, sym, ◌∙◌, subst, inl, inr, ◌⊎◌, arith}
+use Rattle.std.proofs.Common.{◌≡◌, ℕ, zero, suc, ◌≤◌, ◌+◌, length, List, [], ◌∷◌, ◌++◌}
+use Rattle.std.proofs.Common.{Some, Ok, refl, ap, sym, ◌∙◌, subst, inl, inr, ◌⊎◌, arith}
 use Rattle.std.proofs.lemmas.List.{append_assoc, length-drop}
 use Rattle.std.specs.List.{AllByRecursion, flat_map}
-use Rattle.pg_frame.specs.Frames.{IsBody, IsOpen, IsOverlong, frame, front_of, behind, after_front, first_bodies, behind_first, bodies_of, rest_of}
-use Rattle.pg_frame.proofs.Fronts.{IsFront, whole, waiting, overlong, cases_of, front_is, front_of-open, front_of-overlong, front_of-append, behind-append, front_of-frame, behind-frame}
+use Rattle.pg_frame.specs.Frames.{IsBody, IsOpen, IsOverlong, frame, front_of, behind}
+use Rattle.pg_frame.specs.Frames.{after_front, first_bodies, behind_first, bodies_of, rest_of}
+use Rattle.pg_frame.proofs.Fronts.{IsFront, whole, waiting, overlong, cases_of, front_is, front_of-open}
+use Rattle.pg_frame.proofs.Fronts.{front_of-overlong, front_of-append, behind-append, front_of-frame, behind-frame}
 
 -- what has no whole frame at its front
 abbrev pub IsCut : List ℕ → Type 0

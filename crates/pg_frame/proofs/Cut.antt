@@ -1,5 +1,6 @@
 -- What is left on the way of a node that is lost.
-use Rattle.std.specs.Prelude.{◌≡◌, ◌≢◌, ◌≤◌, ◌⊎◌, ℕ, List, [], ◌∷◌, ◌++◌, length, take, drop, refl, Ok, Err, Some, None, Option, Result}
+use Rattle.std.specs.Prelude.{◌≡◌, ◌≢◌, ◌≤◌, ◌⊎◌, ℕ, List, [], ◌∷◌, ◌++◌, length}
+use Rattle.std.specs.Prelude.{take, drop, refl, Ok, Err, Some, None, Option, Result}
 use Rattle.std.proofs.Common.{sym, ap, ◌∙◌, arith, suc, inl, inr}
 use Rattle.std.proofs.lemmas.List.{append_assoc, append-nil, take-append-drop}
 use Rattle.pg_frame.specs.declared.fault.TooLong.{TooLong}

@@ -1,8 +1,10 @@
 -- What bytes begin with, and how it stays when more come.
-use Rattle.std.proofs.Common.{◌≡◌, ℕ, ◌<◌, ◌≤◌, ◌+◌, Bool, true, false, nat_lt, take, drop, length, List, ◌++◌, Some, None, Ok, Err, refl, ap, ◌∙◌, subst, inl, inr, arith}
+use Rattle.std.proofs.Common.{◌≡◌, ℕ, ◌<◌, ◌≤◌, ◌+◌, Bool, true, false, nat_lt, take, drop, length}
+use Rattle.std.proofs.Common.{List, ◌++◌, Some, None, Ok, Err, refl, ap, ◌∙◌, subst, inl, inr, arith}
 use Rattle.std.specs.Int.{w32, to_be_bytes, from_be_bytes}
 use Rattle.std.proofs.lemmas.Bool.{lt-ltb, le-ltb, ltb-true, ltb-false}
-use Rattle.std.proofs.lemmas.List.{append_assoc, length-append, length-drop, take-append-le, drop-append-le, take_at, drop_at, length-take-le}
+use Rattle.std.proofs.lemmas.List.{append_assoc, length-append, length-drop, take-append-le}
+use Rattle.std.proofs.lemmas.List.{drop-append-le, take_at, drop_at, length-take-le}
 use Rattle.std.proofs.lemmas.Nat.{from_be_bytes-to_be_bytes_4}
 use Rattle.pg_frame.specs.declared.TheConstants.{MAX_BODY}
 use Rattle.pg_frame.specs.Frames.{IsBody, IsOpen, IsOverlong, frame, size_at, too_long, front_of, behind}

@@ -1,13 +1,20 @@
 -- The laws of src/laws.rt.
-use Rattle.std.proofs.Common.{◌≡◌, ℕ, zero, suc, ◌<◌, ◌+◌, take, drop, length, get_or, List, [], ◌∷◌, ◌++◌, Some, None, Ok, Err, refl, ap, sym, ◌∙◌, subst, inl, inr, arith}
+use Rattle.std.proofs.Common.{◌≡◌, ℕ, zero, suc, ◌<◌, ◌+◌, take, drop, length, get_or, List, [], ◌∷◌}
+use Rattle.std.proofs.Common.{◌++◌, Some, None, Ok, Err, refl, ap, sym, ◌∙◌, subst, inl, inr, arith}
 use Rattle.std.proofs.lemmas.List.{append_assoc, append-nil, take-append-drop, length-take-le, drop-drop}
 use Rattle.std.proofs.lemmas.Nat.{be_bytes_4}
 use Rattle.std.specs.Int.{w32, to_be_bytes}
 use Rattle.std.specs.List.{AllByRecursion, flat_map}
-use Rattle.pg_frame.specs.Frames.{IsBytes, IsBody, IsOpen, IsOverlong, Frames, Leaves, frame, size_at, too_long, front_of, behind, after_front, bodies_of, rest_of}
-use Rattle.pg_frame.specs.Laws.{OneReading, RestBeginsNoFrame, PiecesContinue, OverlongStays, FrontIsFirst, FrontIsFrame, TakingLeavesOthers, WrittenIsRead, LoopKeeps}
-use Rattle.pg_frame.proofs.Fronts.{IsFront, whole, waiting, overlong, cases_of, front_is, open_is, overlong_is, front_of-open, front_of-overlong, front_of-append, behind-append, overlong-append, length-frame, front_of-frame, behind-frame}
-use Rattle.pg_frame.proofs.Bodies.{IsCut, bodies_of-cut, rest_of-cut, bodies_of-whole, rest_of-whole, after_front-whole, after_front-cut, by_frames, cut-rest_of, bodies_of-append, rest_of-append, bodies_of-frames, rest_of-frames}
+use Rattle.pg_frame.specs.Frames.{IsBytes, IsBody, IsOpen, IsOverlong, Frames, Leaves, frame, size_at}
+use Rattle.pg_frame.specs.Frames.{too_long, front_of, behind, after_front, bodies_of, rest_of}
+use Rattle.pg_frame.specs.Laws.{OneReading, RestBeginsNoFrame, PiecesContinue, OverlongStays}
+use Rattle.pg_frame.specs.Laws.{FrontIsFirst, FrontIsFrame, TakingLeavesOthers, WrittenIsRead, LoopKeeps}
+use Rattle.pg_frame.proofs.Fronts.{IsFront, whole, waiting, overlong, cases_of, front_is, open_is}
+use Rattle.pg_frame.proofs.Fronts.{overlong_is, front_of-open, front_of-overlong, front_of-append}
+use Rattle.pg_frame.proofs.Fronts.{behind-append, overlong-append, length-frame, front_of-frame, behind-frame}
+use Rattle.pg_frame.proofs.Bodies.{IsCut, bodies_of-cut, rest_of-cut, bodies_of-whole, rest_of-whole}
+use Rattle.pg_frame.proofs.Bodies.{after_front-whole, after_front-cut, by_frames, cut-rest_of}
+use Rattle.pg_frame.proofs.Bodies.{bodies_of-append, rest_of-append, bodies_of-frames, rest_of-frames}
 
 -- Lists of bytes
 

@@ -1,7 +1,8 @@
 -- What holds of all frames. A function of src/laws.rt is proved to meet each record.
 use Rattle.std.specs.Prelude.{ℕ, ◌+◌, ◌≡◌, ◌≢◌, ◌≤◌, ◌↔◌, ◌⊎◌, List, [], ◌∷◌, ◌++◌, length, drop, Some, None, Ok, Err}
 use Rattle.std.specs.List.{AllByRecursion, flat_map}
-use Rattle.pg_frame.specs.Frames.{IsBytes, IsBody, IsOpen, IsOverlong, Frames, Leaves, frame, too_long, front_of, behind, after_front, bodies_of, rest_of}
+use Rattle.pg_frame.specs.Frames.{IsBytes, IsBody, IsOpen, IsOverlong, Frames, Leaves, frame}
+use Rattle.pg_frame.specs.Frames.{too_long, front_of, behind, after_front, bodies_of, rest_of}
 
 -- Bytes have one reading, and `bodies_of` and `rest_of` compute it.
 pub record OneReading : Type 0 where

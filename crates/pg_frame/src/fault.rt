@@ -11,6 +11,8 @@ pub struct TooLong;
 
 impl TooLong {
     /// The number of the fault in this project's one list of faults.
+    ///
+    /// Cost: no memory.
     pub fn number(self) -> u8
         ensures { result ≡ 11 }
     {
@@ -33,6 +35,8 @@ impl FrameFault {
     ghost use Rattle.pg_frame.specs.Fault.{number_of};
 
     /// The number of the fault in this project's one list of faults.
+    ///
+    /// Cost: no memory.
     pub fn number(self) -> u8
         ensures { result ≡ number_of self }
     {

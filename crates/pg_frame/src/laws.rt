@@ -1,5 +1,6 @@
 //! Laws of frames: each function does nothing, and its contract is the law.
-ghost use Rattle.pg_frame.specs.Laws.{OneReading, RestBeginsNoFrame, PiecesContinue, OverlongStays, FrontIsFirst, FrontIsFrame, TakingLeavesOthers, WrittenIsRead, LoopKeeps};
+ghost use Rattle.pg_frame.specs.Laws.{OneReading, RestBeginsNoFrame, PiecesContinue, OverlongStays};
+ghost use Rattle.pg_frame.specs.Laws.{FrontIsFirst, FrontIsFrame, TakingLeavesOthers, WrittenIsRead, LoopKeeps};
 
 /// Each list of bytes is one list of frames and one rest.
 pub fn one_reading()

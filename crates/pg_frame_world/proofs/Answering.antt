@@ -1,5 +1,6 @@
 -- The answers of a port, where one more is given.
-use Rattle.std.proofs.Common.{◌≡◌, ℕ, Bool, true, false, cond, nat_eq, List, [], ◌∷◌, ◌++◌, Option, Some, None, refl, sym, ap, ◌∙◌, subst, append-nil, ◌≢◌}
+use Rattle.std.proofs.Common.{◌≡◌, ℕ, Bool, true, false, cond, nat_eq, List, [], ◌∷◌, ◌++◌}
+use Rattle.std.proofs.Common.{Option, Some, None, refl, sym, ap, ◌∙◌, subst, append-nil, ◌≢◌}
 use Rattle.std.proofs.lemmas.Bool.{eq-eqb, ne_eqb, eqb-true}
 use Rattle.pg_group.specs.Functions.{upd}
 use Rattle.pg_step.specs.Commands.{Answers}

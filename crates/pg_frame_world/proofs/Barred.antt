@@ -1,5 +1,7 @@
 -- Steps that are refused where nodes may be lost, and what comes of those that know of no loss.
-use Rattle.std.proofs.Common.{◌≡◌, ℕ, ◌+◌, ◌-◌, ◌<◌, ◌≤◌, Bool, true, false, not, ◌&&◌, ◌||◌, cond, nat_eq, nat_lt, map, length, get_or, List, [], ◌∷◌, ◌++◌, Some, None, Result, Ok, Err, refl, sym, ap, ◌∙◌, inl, inr, ◌⊎◌, arith, subst}
+use Rattle.std.proofs.Common.{◌≡◌, ℕ, ◌+◌, ◌-◌, ◌<◌, ◌≤◌, Bool, true, false, not, ◌&&◌, ◌||◌, cond}
+use Rattle.std.proofs.Common.{nat_eq, nat_lt, map, length, get_or, List, [], ◌∷◌, ◌++◌, Some, None}
+use Rattle.std.proofs.Common.{Result, Ok, Err, refl, sym, ap, ◌∙◌, inl, inr, ◌⊎◌, arith, subst}
 use Rattle.std.specs.Prelude.{slice_get, OnErr}
 use Rattle.std.specs.Option.{option_map_or}
 use Rattle.std.proofs.lemmas.Bool.{lt-ltb}
@@ -23,18 +25,22 @@ use Rattle.pg_step.specs.declared.refusal.Refusal.{Refusal}
 use Rattle.pg_step.specs.declared.refusal.Refusal.TheVariants.{NoSuchPlace, NodeLost, NotLost, NotDrained, ClockFull}
 use Rattle.pg_opens.specs.Places.{name_at as place_name}
 use Rattle.pg_node_state.specs.declared.state.fault.NodeFault.{NodeFault}
-use Rattle.pg_node_state.specs.declared.state.fault.NodeFault.TheVariants.{Refused, OutOfMemory, Message as BadMessage, TooLong, Damaged}
+use Rattle.pg_node_state.specs.declared.state.fault.NodeFault.TheVariants.{Refused, OutOfMemory}
+use Rattle.pg_node_state.specs.declared.state.fault.NodeFault.TheVariants.{Message as BadMessage, TooLong, Damaged}
 use Rattle.pg_frame_world.specs.declared.effect.Effect.{Effect}
 use Rattle.pg_frame_world.specs.declared.step.FrameStep.{FrameStep}
 use Rattle.pg_frame_world.specs.declared.step.FrameStep.TheVariants as steps
 use Rattle.pg_frame_world.specs.declared.step.Stepped.{Stepped}
 use Rattle.pg_frame_world.specs.declared.step.Stepped.TheVariants.{Happened, Moved, Nothing, Gone}
 use Rattle.pg_frame_world.specs.Effects.{effect_in, losing_effect_in}
-use Rattle.pg_frame_world.specs.Losing.{notices, losing_of, SeenAreLost, ShowsLosing, seen_at, is_cut_off, is_barred, none_sent, first_refusal, take_refusal, own_refusal, keep_of, Telling, told_take, told_own, told_of, LosingLed, LosingComesTo}
+use Rattle.pg_frame_world.specs.Losing.{notices, losing_of, SeenAreLost, ShowsLosing, seen_at, is_cut_off}
+use Rattle.pg_frame_world.specs.Losing.{is_barred, none_sent, first_refusal, take_refusal, own_refusal, keep_of}
+use Rattle.pg_frame_world.specs.Losing.{Telling, told_take, told_own, told_of, LosingLed, LosingComesTo}
 use Rattle.pg_account.specs.Losses.{is_lost}
 use Rattle.pg_starts.specs.Seen.{Seen}
 use Rattle.pg_frame_world.specs.Views.{View, peer_place}
-use Rattle.pg_frame_world.specs.Worlds.{TimedFrameWorld, ShowsNodes, ShowsNode, Shows, ComesTo, has_port, has_places, told, told_of_first}
+use Rattle.pg_frame_world.specs.Worlds.{TimedFrameWorld, ShowsNodes, ShowsNode, Shows}
+use Rattle.pg_frame_world.specs.Worlds.{ComesTo, has_port, has_places, told, told_of_first}
 use Rattle.pg_frame_world.proofs.Lossy.{lifted, same_effect, lost_kept}
 use Rattle.pg_frame_world.proofs.Peering.{lt_false, peer_name, named, there_and_back}
 use Rattle.pg_frame_world.proofs.Turning.{pair_is}

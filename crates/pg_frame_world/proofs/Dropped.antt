@@ -1,5 +1,6 @@
 -- What a world of packets shows once one of its nodes is lost.
-use Rattle.std.proofs.Common.{◌≡◌, ◌≢◌, ℕ, ◌+◌, ◌-◌, ◌<◌, false, true, map, take, length, get_or, List, [], ◌∷◌, ◌++◌, Some, Ok, refl, sym, ap, ◌∙◌, inl, inr, ◌⊎◌, arith, subst}
+use Rattle.std.proofs.Common.{◌≡◌, ◌≢◌, ℕ, ◌+◌, ◌-◌, ◌<◌, false, true, map, take, length, get_or, List}
+use Rattle.std.proofs.Common.{[], ◌∷◌, ◌++◌, Some, Ok, refl, sym, ap, ◌∙◌, inl, inr, ◌⊎◌, arith, subst}
 use Rattle.std.specs.Prelude.{slice_set}
 use Rattle.std.proofs.lemmas.Bool.{cases_eq}
 use Rattle.std.proofs.lemmas.List.{get_or-map, get_or-set_same, get_or-set_other, map-set, length-map, length-set}
@@ -19,7 +20,8 @@ use Rattle.pg_account.specs.Losses.{is_lost}
 use Rattle.pg_starts.specs.Seen.{seen_of}
 use Rattle.pg_frame_world.specs.Views.{View, CanStay, IsWhole, ways_of, traffic_in}
 use Rattle.pg_frame_world.specs.Worlds.{TimedFrameWorld}
-use Rattle.pg_frame_world.proofs.Stopped.{count_refused, lost_refused, many_refused, can_stay, packets_cut, shown_cut, loss_happens, seen_more}
+use Rattle.pg_frame_world.proofs.Stopped.{count_refused, lost_refused, many_refused, can_stay}
+use Rattle.pg_frame_world.proofs.Stopped.{packets_cut, shown_cut, loss_happens, seen_more}
 use Rattle.pg_frame_world.proofs.Turning.{way_at}
 
 -- ---- the ways from one node are short

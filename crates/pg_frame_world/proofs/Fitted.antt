@@ -1,5 +1,6 @@
 -- When a packet that can be said fits into a frame.
-use Rattle.std.proofs.Common.{◌≡◌, ◌≤◌, ℕ, Bool, true, false, cond, nat_lt, length, List, Some, Result, Ok, Err, refl, ap, ◌∙◌}
+use Rattle.std.proofs.Common.{◌≡◌, ◌≤◌, ℕ, Bool, true, false, cond, nat_lt}
+use Rattle.std.proofs.Common.{length, List, Some, Result, Ok, Err, refl, ap, ◌∙◌}
 use Rattle.std.specs.Prelude.{slice_get}
 use Rattle.std.proofs.lemmas.Bool.{le-leb, ltb-true}
 use Rattle.pg_group.specs.Table.{Table}
@@ -16,7 +17,8 @@ use Rattle.pg_step.specs.Nodes.{Node}
 use Rattle.pg_term_io.specs.declared.limits.TheConstants.{MAX_LEN}
 use Rattle.pg_term_io.specs.Writing.{written}
 use Rattle.pg_config.specs.declared.fault.WorldFault.{WorldFault}
-use Rattle.pg_config.specs.declared.fault.WorldFault.TheVariants.{BadConfig, NameTooLarge, BadCapacity, TooLong, OutOfMemory}
+use Rattle.pg_config.specs.declared.fault.WorldFault.TheVariants.{BadConfig, NameTooLarge}
+use Rattle.pg_config.specs.declared.fault.WorldFault.TheVariants.{BadCapacity, TooLong, OutOfMemory}
 use Rattle.pg_config.specs.Configs.{are_names}
 use Rattle.pg_frame_world.specs.Fitting.{IsOverlong}
 use Rattle.pg_frame_world.specs.Openings.{TellsNames, CantOpen, SomeCantOpen}

@@ -1,5 +1,6 @@
 -- The past of a world, and what a step adds to it.
-use Rattle.std.proofs.Common.{◌≡◌, ◌↔◌, ◌<◌, ℕ, Bool, true, false, cond, length, take, List, [], ◌∷◌, ◌++◌, Option, Some, None, Result, Ok, Err, refl, sym, ap, ◌∙◌, subst, arith}
+use Rattle.std.proofs.Common.{◌≡◌, ◌↔◌, ◌<◌, ℕ, Bool, true, false, cond, length, take, List, [], ◌∷◌}
+use Rattle.std.proofs.Common.{◌++◌, Option, Some, None, Result, Ok, Err, refl, sym, ap, ◌∙◌, subst, arith}
 use Rattle.std.specs.Prelude.{drop, is_none, slice_get}
 use Rattle.std.specs.List.{IsDistinct, list_all}
 use Rattle.std.specs.Option.{option_map_or}
@@ -11,7 +12,8 @@ use Rattle.pg_term.specs.declared.term.Term.{Term}
 use Rattle.pg_term.specs.RefParts.{RefParts}
 use Rattle.pg_term.specs.Same.{same_atom}
 use Rattle.pg_machine.specs.Clocked.{Timed, plain}
-use Rattle.pg_machine.specs.Losing.{LosingEvent, Step, Lose, LosingLeads, losing_happens, nobody_gone, all_steps, stopped}
+use Rattle.pg_machine.specs.Losing.{LosingEvent, Step, Lose, LosingLeads}
+use Rattle.pg_machine.specs.Losing.{losing_happens, nobody_gone, all_steps, stopped}
 use Rattle.pg_machine.specs.Machine.{start_of}
 use Rattle.pg_machine.specs.Places.{is_pair, is_place, set_at}
 use Rattle.pg_machine.proofs.Options.{some_is}
@@ -30,14 +32,16 @@ use Rattle.pg_history.specs.History.{Entry, LockFree, NonePending, history, appl
 use Rattle.pg_history.specs.WithLosses.{NonePendingLeft}
 use Rattle.pg_loss.proofs.Lasts.{history_later, lost_for_good}
 use Rattle.pg_node_state.specs.declared.state.fault.NodeFault.{NodeFault}
-use Rattle.pg_node_state.specs.declared.state.fault.NodeFault.TheVariants.{Refused, OutOfMemory, Message as BadMessage, TooLong, Damaged}
+use Rattle.pg_node_state.specs.declared.state.fault.NodeFault.TheVariants.{Refused, OutOfMemory}
+use Rattle.pg_node_state.specs.declared.state.fault.NodeFault.TheVariants.{Message as BadMessage, TooLong, Damaged}
 use Rattle.pg_frame_world.specs.declared.step.FrameStep.{FrameStep}
 use Rattle.pg_frame_world.specs.declared.step.Stepped.{Stepped}
 use Rattle.pg_frame_world.specs.declared.step.Stepped.TheVariants.{Happened, Moved, Nothing, Gone}
 use Rattle.pg_frame_world.specs.Losing.{Telling, LosingComesTo, SeenAreLost, ShowsLosing, losing_of, seen_at, told_of}
 use Rattle.pg_frame_world.specs.LosingRuns.{LosingKind, LosingGoesTo, packets_past_losses}
 use Rattle.pg_account.specs.Losses.{is_lost}
-use Rattle.pg_frame_world.specs.Past.{HasHeadline, IsPast, HasPast, LedOn, GoesOn, FramesHavePast, FramesGoOn, FramesRunOn, HistoriesGrow, RunsOn}
+use Rattle.pg_frame_world.specs.Past.{HasHeadline, IsPast, HasPast, LedOn, GoesOn, FramesHavePast}
+use Rattle.pg_frame_world.specs.Past.{FramesGoOn, FramesRunOn, HistoriesGrow, RunsOn}
 use Rattle.pg_frame_world.specs.Pending.{AgreeOn, has_formed, pending_of, sees_free}
 use Rattle.pg_frame_world.specs.Starts.{Begins, Orders}
 use Rattle.pg_starts.specs.Seen.{Seen}

@@ -1,5 +1,7 @@
 -- The list of the ends that are pending is exact.
-use Rattle.std.proofs.Common.{◌≡◌, ◌≢◌, ◌⊎◌, inl, inr, ℕ, zero, suc, ◌+◌, ◌<◌, ◌≤◌, Bool, true, false, not, ◌&&◌, ◌||◌, cond, length, get_or, map, take, List, [], ◌∷◌, ◌++◌, Some, refl, ap, sym, ◌∙◌, subst, arith}
+use Rattle.std.proofs.Common.{◌≡◌, ◌≢◌, ◌⊎◌, inl, inr, ℕ, zero, suc, ◌+◌, ◌<◌, ◌≤◌, Bool}
+use Rattle.std.proofs.Common.{true, false, not, ◌&&◌, ◌||◌, cond, length, get_or, map, take}
+use Rattle.std.proofs.Common.{List, [], ◌∷◌, ◌++◌, Some, refl, ap, sym, ◌∙◌, subst, arith}
 use Rattle.std.specs.Prelude.{slice_get}
 use Rattle.std.specs.Borrow.{Bor}
 use Rattle.std.specs.Cmp.{first_so, second_so}
@@ -30,7 +32,8 @@ use Rattle.pg_loss.specs.Reached.{LosingReaches}
 use Rattle.pg_node_state.specs.declared.state.NodeState.{NodeState}
 use Rattle.pg_frame_world.specs.Losing.{losing_of}
 use Rattle.pg_account.specs.Losses.{is_lost}
-use Rattle.pg_frame_world.specs.Pending.{IsPending, has_end, is_pending, is_untaken, left_from, lent_as, nodes_left, own_of, pending_among, pending_at, pending_of}
+use Rattle.pg_frame_world.specs.Pending.{IsPending, has_end, is_pending, is_untaken, left_from, lent_as}
+use Rattle.pg_frame_world.specs.Pending.{nodes_left, own_of, pending_among, pending_at, pending_of}
 use Rattle.pg_starts.specs.Seen.{Seen, seen_of}
 use Rattle.pg_frame_world.specs.Worlds.{ShowsNodes, TimedFrameWorld}
 use Rattle.pg_frame_world.proofs.LosingRunning.{start_is}

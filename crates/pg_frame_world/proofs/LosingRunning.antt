@@ -1,5 +1,6 @@
 -- Steps that are made one after another, where nodes may be lost.
-use Rattle.std.proofs.Common.{◌≡◌, ℕ, ◌+◌, ◌<◌, Bool, true, false, List, [], ◌∷◌, ◌++◌, map, Option, Some, None, Ok, Err, Result, take, length, get_or, refl, sym, ap, ◌∙◌, inl, inr, subst}
+use Rattle.std.proofs.Common.{◌≡◌, ℕ, ◌+◌, ◌<◌, Bool, true, false, List, [], ◌∷◌, ◌++◌, map, Option, Some}
+use Rattle.std.proofs.Common.{None, Ok, Err, Result, take, length, get_or, refl, sym, ap, ◌∙◌, inl, inr, subst}
 use Rattle.std.specs.Prelude.{slice_set, cond}
 use Rattle.std.specs.List.{IsDistinct}
 use Rattle.std.specs.Option.{option_map_or}
@@ -21,12 +22,14 @@ use Rattle.pg_loss.specs.Reached.{LosingReaches}
 use Rattle.pg_left.specs.Survived.{LossesSurvived}
 use Rattle.pg_node_state.specs.NodeFault.{node_number_of}
 use Rattle.pg_node_state.specs.declared.state.fault.NodeFault.{NodeFault}
-use Rattle.pg_node_state.specs.declared.state.fault.NodeFault.TheVariants.{Refused, OutOfMemory, Message as BadMessage, TooLong, Damaged}
+use Rattle.pg_node_state.specs.declared.state.fault.NodeFault.TheVariants.{Refused, OutOfMemory}
+use Rattle.pg_node_state.specs.declared.state.fault.NodeFault.TheVariants.{Message as BadMessage, TooLong, Damaged}
 use Rattle.pg_frame_world.specs.declared.step.FrameStep.{FrameStep}
 use Rattle.pg_frame_world.specs.declared.step.Stepped.{Stepped}
 use Rattle.pg_frame_world.specs.declared.step.Stepped.TheVariants.{Happened, Moved, Nothing, Gone}
 use Rattle.pg_frame_world.specs.Losing.{Telling, LosingComesTo, ShowsLosing, losing_of, notices, told_of}
-use Rattle.pg_frame_world.specs.LosingRuns.{LosingKind, packets_past_losses, LosingStepsTo, LosingRunsTo, LosingGoesTo, RanLosing}
+use Rattle.pg_frame_world.specs.LosingRuns.{LosingKind, packets_past_losses, LosingStepsTo}
+use Rattle.pg_frame_world.specs.LosingRuns.{LosingRunsTo, LosingGoesTo, RanLosing}
 use Rattle.pg_frame_world.specs.Losing.{IsReachedLosing}
 use Rattle.pg_frame_world.specs.Starts.{Begins, Orders}
 use Rattle.pg_frame_world.specs.Views.{View}

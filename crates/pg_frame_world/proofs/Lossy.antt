@@ -1,12 +1,14 @@
 -- An event of nodes that know of no loss is one of nodes that may be lost, where its own node is not.
-use Rattle.std.proofs.Common.{◌≡◌, ◌≢◌, ℕ, Bool, true, false, not, ◌&&◌, cond, nat_le, map, drop, length, List, [], ◌∷◌, ◌++◌, Option, Some, None, refl, sym, ap, ◌∙◌, inl, inr, ◌⊎◌, subst}
+use Rattle.std.proofs.Common.{◌≡◌, ◌≢◌, ℕ, Bool, true, false, not, ◌&&◌, cond, nat_le, map, drop, length, List}
+use Rattle.std.proofs.Common.{[], ◌∷◌, ◌++◌, Option, Some, None, refl, sym, ap, ◌∙◌, inl, inr, ◌⊎◌, subst}
 use Rattle.std.specs.Prelude.{option_map}
 use Rattle.std.proofs.Math.Path.{fun_ext}
 use Rattle.std.proofs.lemmas.Bool.{cases_eq}
 use Rattle.std.proofs.lemmas.List.{map-append, append-nil, length-map}
 use Rattle.pg_message.specs.declared.message.Message.{Message}
 use Rattle.pg_machine.specs.Places.{is_pair}
-use Rattle.pg_machine.specs.Machine.{Event, Input, Turn, World, Take, Do, Taken, Own, node_of, first_from, input_of, without_input, perform, happens}
+use Rattle.pg_machine.specs.Machine.{Event, Input, Turn, World, Take, Do, Taken, Own, node_of}
+use Rattle.pg_machine.specs.Machine.{first_from, input_of, without_input, perform, happens}
 use Rattle.pg_machine.specs.Happened.{Happened, Changes, Takes}
 use Rattle.pg_machine.specs.Clocked.{Timed, Stamped, unstamped, next_clock, timed_turn, timed}
 use Rattle.pg_machine.specs.Losing.{Noticed, Step, losing_happens, mapped_turn}

@@ -1,5 +1,7 @@
 -- What nodes tell as they begin: its names can be sent, and it fits, or a world can't begin.
-use Rattle.std.proofs.Common.{◌≡◌, ◌≤◌, ◌<◌, ◌-◌, ◌^◌, ℕ, zero, suc, Bool, true, false, cond, ◌||◌, ◌&&◌, nat_le, inl, inr, map, get_or, length, List, [], ◌∷◌, Option, Some, None, Result, Ok, Err, refl, sym, ap, ◌∙◌, subst, arith}
+use Rattle.std.proofs.Common.{◌≡◌, ◌≤◌, ◌<◌, ◌-◌, ◌^◌, ℕ, zero, suc, Bool, true, false, cond, ◌||◌}
+use Rattle.std.proofs.Common.{◌&&◌, nat_le, inl, inr, map, get_or, length, List, [], ◌∷◌, Option}
+use Rattle.std.proofs.Common.{Some, None, Result, Ok, Err, refl, sym, ap, ◌∙◌, subst, arith}
 use Rattle.std.specs.Prelude.{slice_get, option_map, IfOk, IfErr, OnOk, is_some}
 use Rattle.std.specs.List.{All, AllByRecursion, IsDistinct, list_any}
 use Rattle.std.proofs.lemmas.Bool.{leb-true}
@@ -20,9 +22,11 @@ use Rattle.pg_step.specs.Config.{Config, IsConfig, IsStart, names_of, groups_at,
 use Rattle.pg_node_state.specs.declared.state.NodeState.{NodeState}
 use Rattle.pg_node_state.specs.States.{kept_by}
 use Rattle.pg_config.specs.declared.fault.WorldFault.{WorldFault}
-use Rattle.pg_config.specs.declared.fault.WorldFault.TheVariants.{BadConfig, NameTooLarge, BadCapacity, TooLong, OutOfMemory}
+use Rattle.pg_config.specs.declared.fault.WorldFault.TheVariants.{BadConfig, NameTooLarge}
+use Rattle.pg_config.specs.declared.fault.WorldFault.TheVariants.{BadCapacity, TooLong, OutOfMemory}
 use Rattle.pg_config.specs.Configs.{is_config, is_capacity, are_names, have_names, refusal_of, IsJudged}
-use Rattle.pg_frame_world.specs.Openings.{AreReady, SomeIsTooLong, are_few, have_few, TellsNames, Fits, IsTooLong, AllFit, SomeCantOpen, CantBegin, CantStart}
+use Rattle.pg_frame_world.specs.Openings.{AreReady, SomeIsTooLong, are_few, have_few, TellsNames}
+use Rattle.pg_frame_world.specs.Openings.{Fits, IsTooLong, AllFit, SomeCantOpen, CantBegin, CantStart}
 use Rattle.pg_starts.specs.Firsts.{firsts, seen_first}
 use Rattle.pg_frame_world.specs.Starts.{AllOpen}
 use Rattle.pg_starts.specs.Seen.{Seen, seen_of}

@@ -1,5 +1,6 @@
 -- A configuration whose groups are put in order.
-use Rattle.std.proofs.Common.{◌≡◌, ◌≤◌, ◌^◌, ℕ, zero, suc, ◌+◌, Bool, true, false, cond, map, length, List, [], ◌∷◌, None, refl, sym, ap, ◌∙◌, arith, subst}
+use Rattle.std.proofs.Common.{◌≡◌, ◌≤◌, ◌^◌, ℕ, zero, suc, ◌+◌, Bool, true, false, cond, map}
+use Rattle.std.proofs.Common.{length, List, [], ◌∷◌, None, refl, sym, ap, ◌∙◌, arith, subst}
 use Rattle.std.specs.Prelude.{count_by, slice_get, unwrap_or}
 use Rattle.std.specs.List.{AllByRecursion, IsDistinct, remove}
 use Rattle.std.proofs.Math.Path.{fun_ext}

@@ -1,5 +1,6 @@
 -- The groups of a configuration have one order, in which each node tells them.
-use Rattle.std.proofs.Common.{◌≡◌, ◌↔◌, ◌<◌, inl, inr, ℕ, zero, suc, true, [], ◌∷◌, length, None, refl, sym, ◌∙◌, subst, arith}
+use Rattle.std.proofs.Common.{◌≡◌, ◌↔◌, ◌<◌, inl, inr, ℕ, zero, suc, true, []}
+use Rattle.std.proofs.Common.{◌∷◌, length, None, refl, sym, ◌∙◌, subst, arith}
 use Rattle.std.specs.Cmp.{first_so, second_so}
 use Rattle.std.specs.List.{AllByRecursion}
 use Rattle.pg_term.specs.declared.term.Term.{Term}
@@ -17,7 +18,8 @@ use Rattle.pg_step.specs.declared.start.Start.{Start}
 use Rattle.pg_step.specs.Config.{Config, IsConfig, first_table, groups_at}
 use Rattle.pg_step.specs.Nodes.{Node}
 use Rattle.pg_config.specs.declared.fault.WorldFault.{WorldFault}
-use Rattle.pg_config.specs.declared.fault.WorldFault.TheVariants.{BadConfig, NameTooLarge, BadCapacity, TooLong, OutOfMemory}
+use Rattle.pg_config.specs.declared.fault.WorldFault.TheVariants.{BadConfig, NameTooLarge}
+use Rattle.pg_config.specs.declared.fault.WorldFault.TheVariants.{BadCapacity, TooLong, OutOfMemory}
 use Rattle.pg_config.specs.Configs.{refusal_of}
 use Rattle.pg_frame_world.specs.Fitting.{FitsFrame, IsOverlong}
 use Rattle.pg_frame_world.specs.Openings.{Fits, IsTooLong, SomeIsTooLong, CanBegin, CantBegin, are_few, have_few}

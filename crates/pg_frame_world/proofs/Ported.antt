@@ -1,5 +1,6 @@
 -- A node that has a port is there.
-use Rattle.std.proofs.Common.{◌≡◌, ◌<◌, ◌∙◌, ℕ, Bool, true, false, length, map, nat_lt, List, Option, Some, None, refl, sym, ap, arith}
+use Rattle.std.proofs.Common.{◌≡◌, ◌<◌, ◌∙◌, ℕ, Bool, true, false, length, map}
+use Rattle.std.proofs.Common.{nat_lt, List, Option, Some, None, refl, sym, ap, arith}
 use Rattle.std.specs.Prelude.{slice_get}
 use Rattle.std.specs.Option.{option_map_or}
 use Rattle.std.proofs.lemmas.Bool.{ltb-true}

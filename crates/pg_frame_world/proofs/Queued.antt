@@ -1,5 +1,6 @@
 -- What a world of packets shows once a node has made a turn.
-use Rattle.std.proofs.Common.{◌≡◌, ◌≢◌, ℕ, ◌+◌, true, drop, length, List, [], ◌∷◌, ◌++◌, Option, Some, None, Ok, Err, refl, sym, ap, ◌∙◌, inl, inr, ◌⊎◌, subst}
+use Rattle.std.proofs.Common.{◌≡◌, ◌≢◌, ℕ, ◌+◌, true, drop, length, List, [], ◌∷◌, ◌++◌, Option}
+use Rattle.std.proofs.Common.{Some, None, Ok, Err, refl, sym, ap, ◌∙◌, inl, inr, ◌⊎◌, subst}
 use Rattle.std.specs.Prelude.{slice_get, slice_set}
 use Rattle.std.proofs.lemmas.Bool.{cases_eq}
 use Rattle.pg_group.specs.declared.update.Update.{Update}
@@ -27,7 +28,8 @@ use Rattle.pg_frame_world.specs.Views.{Traffic, peer_place, on_the_way, first_of
 use Rattle.pg_frame_world.specs.Worlds.{ShowsTraffic, TimedFrameWorld, ComesTo}
 use Rattle.pg_frame_world.proofs.Peering.{peers_differ}
 use Rattle.pg_frame_world.proofs.Recording.{Records}
-use Rattle.pg_frame_world.proofs.Turning.{way_at, Left, Passes, pair_is, pair_turned, pair_there, none_told, own_refused as refused_own, own_left, taken_refused, take_left}
+use Rattle.pg_frame_world.proofs.Turning.{way_at, Left, Passes, pair_is, pair_turned, pair_there, none_told}
+use Rattle.pg_frame_world.proofs.Turning.{own_refused as refused_own, own_left, taken_refused, take_left}
 
 -- a list begins with its first packet
 begins_with : (xs : List (Stamped Message)) (x : Stamped Message) → Some x ≡ first_of xs → xs ≡ x ∷ drop 1 xs

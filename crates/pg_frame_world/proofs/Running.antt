@@ -1,5 +1,6 @@
 -- Steps that are made one after another.
-use Rattle.std.proofs.Common.{◌≡◌, ℕ, ◌+◌, ◌<◌, List, [], ◌∷◌, ◌++◌, Ok, Err, Result, take, length, get_or, refl, sym, ap, ◌∙◌, inl, inr, subst}
+use Rattle.std.proofs.Common.{◌≡◌, ℕ, ◌+◌, ◌<◌, List, [], ◌∷◌, ◌++◌, Ok, Err, Result}
+use Rattle.std.proofs.Common.{take, length, get_or, refl, sym, ap, ◌∙◌, inl, inr, subst}
 use Rattle.std.specs.Prelude.{slice_set, not, Bool, true, false, Some}
 use Rattle.std.specs.List.{IsDistinct, AllPass}
 use Rattle.std.specs.Option.{option_map_or}
@@ -18,7 +19,8 @@ use Rattle.pg_history.specs.Headline.{OneHistory}
 use Rattle.pg_history.specs.Reached.{Reaches}
 use Rattle.pg_node_state.specs.NodeFault.{node_number_of}
 use Rattle.pg_node_state.specs.declared.state.fault.NodeFault.{NodeFault}
-use Rattle.pg_node_state.specs.declared.state.fault.NodeFault.TheVariants.{Refused, OutOfMemory, Message as BadMessage, TooLong, Damaged}
+use Rattle.pg_node_state.specs.declared.state.fault.NodeFault.TheVariants.{Refused, OutOfMemory}
+use Rattle.pg_node_state.specs.declared.state.fault.NodeFault.TheVariants.{Message as BadMessage, TooLong, Damaged}
 use Rattle.pg_frame_world.specs.declared.step.FrameStep.{FrameStep}
 use Rattle.pg_frame_world.specs.declared.step.FrameStep.TheVariants as frames
 use Rattle.pg_frame_world.specs.declared.step.Stepped.{Stepped}
@@ -28,7 +30,8 @@ use Rattle.pg_frame_world.specs.Losing.{lost_after, losing_of, told_loss, told_o
 use Rattle.pg_step.specs.LossLaws.{LosingFrameWorld}
 use Rattle.pg_frame_world.specs.Views.{View}
 use Rattle.pg_frame_world.specs.Worlds.{TimedFrameWorld, Shows, ComesTo, IsUnseen, StepComesTo, is_loss, event_of}
-use Rattle.pg_frame_world.specs.Runs.{Kind, over_packets, IsTold, IsPassed, IsUnlost, SeesNone, number_told, StepsTo, RunsTo, GoesTo, Ran}
+use Rattle.pg_frame_world.specs.Runs.{Kind, over_packets, IsTold, IsPassed, IsUnlost}
+use Rattle.pg_frame_world.specs.Runs.{SeesNone, number_told, StepsTo, RunsTo, GoesTo, Ran}
 use Rattle.pg_frame_world.specs.Starts.{Orders}
 
 -- a step of some of which none is a loss is none

@@ -1,5 +1,6 @@
 -- What a world of packets shows once a node would see the loss of a peer.
-use Rattle.std.proofs.Common.{◌≡◌, ℕ, ◌+◌, Bool, true, false, not, ◌&&◌, ◌||◌, cond, nat_le, map, length, List, [], ◌∷◌, ◌++◌, Option, Some, Ok, Err, refl, sym, ap, ◌∙◌, subst}
+use Rattle.std.proofs.Common.{◌≡◌, ℕ, ◌+◌, Bool, true, false, not, ◌&&◌, ◌||◌, cond, nat_le, map, length}
+use Rattle.std.proofs.Common.{List, [], ◌∷◌, ◌++◌, Option, Some, Ok, Err, refl, sym, ap, ◌∙◌, subst}
 use Rattle.std.specs.Prelude.{slice_get, slice_set}
 use Rattle.std.proofs.lemmas.List.{map-set}
 use Rattle.pg_group.specs.declared.table.GroupTable.{Ghosts}
@@ -20,21 +21,24 @@ use Rattle.pg_step.specs.StepLaws.{is_full}
 use Rattle.pg_opens.specs.Places.{name_at as place_name}
 use Rattle.pg_node_state.specs.declared.state.done.Done.{Done}
 use Rattle.pg_node_state.specs.declared.state.fault.NodeFault.{NodeFault}
-use Rattle.pg_node_state.specs.declared.state.fault.NodeFault.TheVariants.{Refused, OutOfMemory, Message as BadMessage, TooLong, Damaged}
+use Rattle.pg_node_state.specs.declared.state.fault.NodeFault.TheVariants.{Refused, OutOfMemory}
+use Rattle.pg_node_state.specs.declared.state.fault.NodeFault.TheVariants.{Message as BadMessage, TooLong, Damaged}
 use Rattle.pg_node_state.specs.declared.state.NodeState.{NodeState}
 use Rattle.pg_node_state.specs.States.{names_of as names_of_state, Comes, Happens, step_see_loss}
 use Rattle.pg_frame_world.specs.declared.effect.Effect.{Effect}
 use Rattle.pg_frame_world.specs.declared.outgoing.Outgoing.{Outgoing}
 use Rattle.pg_frame_world.specs.declared.step.Stepped.TheVariants.{Happened}
 use Rattle.pg_frame_world.specs.Effects.{no_effect}
-use Rattle.pg_frame_world.specs.Losing.{SeenAreLost, notices, losing_of, is_cut_off, told_sight, ShowsLosing, LosingComesTo}
+use Rattle.pg_frame_world.specs.Losing.{SeenAreLost, notices, losing_of, is_cut_off}
+use Rattle.pg_frame_world.specs.Losing.{told_sight, ShowsLosing, LosingComesTo}
 use Rattle.pg_account.specs.Losses.{is_lost}
 use Rattle.pg_starts.specs.Seen.{Seen, seen_of}
 use Rattle.pg_frame_world.specs.Views.{View, IsWhole, ways_of, traffic_in, peer_place, on_the_way}
 use Rattle.pg_frame_world.specs.Worlds.{TimedFrameWorld, ShowsNode, ShowsNodes}
 use Rattle.pg_frame_world.proofs.Barred.{cut_is, pair_here}
 use Rattle.pg_frame_world.proofs.Peering.{peer_name, named, there_and_back}
-use Rattle.pg_frame_world.proofs.Sighted.{sight, sight_clock, sighted, same_wire, seen_then, sight_effect, sight_happens, nodes_sighted, updates_sighted}
+use Rattle.pg_frame_world.proofs.Sighted.{sight, sight_clock, sighted, same_wire, seen_then}
+use Rattle.pg_frame_world.proofs.Sighted.{sight_effect, sight_happens, nodes_sighted, updates_sighted}
 use Rattle.pg_frame_world.proofs.Turning.{pair_is, pair_turned}
 use Rattle.pg_frame_world.proofs.Viewing.{whole_node}
 

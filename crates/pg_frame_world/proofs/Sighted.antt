@@ -1,5 +1,6 @@
 -- What is left where a node has seen the loss of a peer.
-use Rattle.std.proofs.Common.{◌≡◌, ◌≢◌, ℕ, ◌+◌, ◌<◌, Bool, true, false, not, ◌&&◌, cond, max, nat_le, map, drop, length, List, [], ◌∷◌, ◌++◌, Some, None, refl, sym, ap, ◌∙◌, inl, inr, ◌⊎◌, arith, subst}
+use Rattle.std.proofs.Common.{◌≡◌, ◌≢◌, ℕ, ◌+◌, ◌<◌, Bool, true, false, not, ◌&&◌, cond, max, nat_le, map, drop}
+use Rattle.std.proofs.Common.{length, List, [], ◌∷◌, ◌++◌, Some, None, refl, sym, ap, ◌∙◌, inl, inr, ◌⊎◌, arith, subst}
 use Rattle.std.specs.Prelude.{slice_get, slice_set, option_map}
 use Rattle.std.specs.List.{IsDistinct}
 use Rattle.std.proofs.Math.Path.{fun_ext}
@@ -9,7 +10,8 @@ use Rattle.pg_term.specs.Same.{same_atom}
 use Rattle.pg_group.specs.Functions.{upd}
 use Rattle.pg_message.specs.declared.message.Message.{Message}
 use Rattle.pg_machine.specs.Places.{is_place, is_pair}
-use Rattle.pg_machine.specs.Machine.{Event, Turn, World, Take, Do, Taken, Own, first_from, without_input, perform, happens}
+use Rattle.pg_machine.specs.Machine.{Event, Turn, World, Take, Do, Taken, Own}
+use Rattle.pg_machine.specs.Machine.{first_from, without_input, perform, happens}
 use Rattle.pg_machine.specs.Happened.{Changes, Happened}
 use Rattle.pg_machine.specs.Clocked.{Timed, Stamped, stamped, timed_turn, timed as timed_if}
 use Rattle.pg_machine.specs.Losing.{Noticed, Sent, Step, losing_happens, mapped_turn}

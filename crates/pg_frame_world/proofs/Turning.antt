@@ -1,12 +1,15 @@
 -- What a world shows of its nodes once one of them has made a turn, and what it leaves on the way.
-use Rattle.std.proofs.Common.{◌≡◌, ◌≢◌, ℕ, zero, suc, ◌+◌, ◌<◌, Bool, true, false, not, ◌&&◌, cond, nat_eq, nat_lt, get_or, length, List, [], ◌∷◌, ◌++◌, Option, Some, None, Result, Ok, Err, refl, sym, ap, ◌∙◌, inl, inr, ◌⊎◌, arith, subst}
+use Rattle.std.proofs.Common.{◌≡◌, ◌≢◌, ℕ, zero, suc, ◌+◌, ◌<◌, Bool, true, false, not, ◌&&◌, cond}
+use Rattle.std.proofs.Common.{nat_eq, nat_lt, get_or, length, List, [], ◌∷◌, ◌++◌, Option, Some}
+use Rattle.std.proofs.Common.{None, Result, Ok, Err, refl, sym, ap, ◌∙◌, inl, inr, ◌⊎◌, arith, subst}
 use Rattle.std.specs.Prelude.{slice_get, slice_set, max, option_map}
 use Rattle.std.proofs.lemmas.Bool.{cases_eq, eq-eqb, ne_eqb, lt-ltb, ltb-true}
 use Rattle.std.proofs.lemmas.Option.{slice_get_within}
 use Rattle.std.proofs.lemmas.List.{length-set}
 use Rattle.pg_message.specs.declared.message.Message.{Message}
 use Rattle.pg_machine.specs.Places.{is_place, is_pair}
-use Rattle.pg_machine.specs.Machine.{Event, Turn, Take, Do, Taken, Own, node_of, first_from, input_of, without_input, perform}
+use Rattle.pg_machine.specs.Machine.{Event, Turn, Take, Do, Taken, Own, node_of}
+use Rattle.pg_machine.specs.Machine.{first_from, input_of, without_input, perform}
 use Rattle.pg_machine.specs.Happened.{Changes, Takes, Happened as HasTurned}
 use Rattle.pg_group.specs.declared.update.Update.{Update}
 use Rattle.pg_message.specs.declared.packet.Packet.{Packet}
@@ -28,14 +31,16 @@ use Rattle.pg_history.specs.History.{answers_by}
 use Rattle.pg_opens.specs.Places.{whole_in, name_at as place_name}
 use Rattle.pg_node_state.specs.declared.state.done.Done.{Done}
 use Rattle.pg_node_state.specs.declared.state.fault.NodeFault.{NodeFault}
-use Rattle.pg_node_state.specs.declared.state.fault.NodeFault.TheVariants.{Refused, OutOfMemory, Message as BadMessage, TooLong, Damaged}
+use Rattle.pg_node_state.specs.declared.state.fault.NodeFault.TheVariants.{Refused, OutOfMemory}
+use Rattle.pg_node_state.specs.declared.state.fault.NodeFault.TheVariants.{Message as BadMessage, TooLong, Damaged}
 use Rattle.pg_frame_world.specs.declared.step.Stepped.TheVariants.{Happened as HasHappened}
 use Rattle.pg_node_state.specs.States.{sends_in, Gave, Happens, Comes}
 use Rattle.pg_node_state.specs.Sendable.{AreSendable}
 use Rattle.pg_starts.specs.Seen.{Seen}
 use Rattle.pg_frame_world.specs.Effects.{sum_below, op_of, effect_of, effect_by}
 use Rattle.pg_frame_world.specs.Views.{Traffic, peer_place, packets_to}
-use Rattle.pg_frame_world.specs.Worlds.{AreAnswers, ShowsNodes, ShowsNode, TimedFrameWorld, told, told_of_first, ComesTo}
+use Rattle.pg_frame_world.specs.Worlds.{AreAnswers, ShowsNodes, ShowsNode}
+use Rattle.pg_frame_world.specs.Worlds.{TimedFrameWorld, told, told_of_first, ComesTo}
 use Rattle.pg_frame_world.proofs.Counted.{sum_same, count_to, count_all}
 use Rattle.pg_frame_world.proofs.Peering.{peer_name, named, known, there_and_back, sent_to, sent_home}
 use Rattle.pg_account.specs.Histories.{asked_by}

@@ -1,5 +1,6 @@
 -- What is told of a step that names a place that is not there.
-use Rattle.std.proofs.Common.{◌≡◌, ℕ, ◌+◌, ◌<◌, ◌≤◌, true, false, cond, get_or, length, nat_lt, Some, None, Ok, Err, refl, sym, ap, ◌∙◌, inl, inr, ◌⊎◌, arith}
+use Rattle.std.proofs.Common.{◌≡◌, ℕ, ◌+◌, ◌<◌, ◌≤◌, true, false, cond, get_or, length, nat_lt}
+use Rattle.std.proofs.Common.{Some, None, Ok, Err, refl, sym, ap, ◌∙◌, inl, inr, ◌⊎◌, arith}
 use Rattle.std.specs.Prelude.{slice_get, List, []}
 use Rattle.std.specs.Option.{option_map_or}
 use Rattle.std.proofs.lemmas.Bool.{lt-ltb}
@@ -19,7 +20,8 @@ use Rattle.pg_node_state.specs.declared.state.fault.NodeFault.TheVariants.{Refus
 use Rattle.pg_frame_world.specs.declared.step.FrameStep.{FrameStep}
 use Rattle.pg_frame_world.specs.declared.step.FrameStep.TheVariants as steps
 use Rattle.pg_starts.specs.Seen.{Seen}
-use Rattle.pg_frame_world.specs.Worlds.{TimedFrameWorld, ShowsNodes, has_port, has_places, told, told_of_first, StepComesTo}
+use Rattle.pg_frame_world.specs.Worlds.{TimedFrameWorld, ShowsNodes, has_port}
+use Rattle.pg_frame_world.specs.Worlds.{has_places, told, told_of_first, StepComesTo}
 use Rattle.pg_frame_world.specs.Losing.{is_barred}
 use Rattle.pg_frame_world.proofs.Peering.{lt_false}
 

@@ -1,5 +1,6 @@
 -- Whether what nodes tell as they begin fits, and why a world can't begin.
-use Rattle.std.specs.Prelude.{◌≡◌, ◌≤◌, ◌<◌, ◌^◌, ◌⊎◌, Bool, true, false, nat_le, ℕ, length, slice_get, List, Some, None}
+use Rattle.std.specs.Prelude.{◌≡◌, ◌≤◌, ◌<◌, ◌^◌, ◌⊎◌, Bool, true, false}
+use Rattle.std.specs.Prelude.{nat_le, ℕ, length, slice_get, List, Some, None}
 use Rattle.std.specs.List.{IsDistinct, list_all}
 use Rattle.pg_term.specs.Same.{same_atom, same_term}
 use Rattle.pg_ends.specs.declared.processes.TheConstants.{MAX_PROCESSES}

@@ -1,5 +1,6 @@
 -- The ends that are pending: each is one that the home of its process has and another node has not. Of lost nodes nothing counts.
-use Rattle.std.specs.Prelude.{◌≡◌, ℕ, ◌+◌, Bool, true, false, not, ◌&&◌, cond, drop, is_none, length, map, slice_get, List, [], ◌∷◌, ◌++◌, Some}
+use Rattle.std.specs.Prelude.{◌≡◌, ℕ, ◌+◌, Bool, true, false, not, ◌&&◌, cond, drop}
+use Rattle.std.specs.Prelude.{is_none, length, map, slice_get, List, [], ◌∷◌, ◌++◌, Some}
 use Rattle.std.specs.Borrow.{Bor}
 use Rattle.std.specs.List.{filter, list_all, list_any}
 use Rattle.std.specs.Option.{option_map_or}

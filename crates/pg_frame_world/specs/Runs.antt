@@ -1,5 +1,6 @@
 -- What comes of steps that are made one after another.
-use Rattle.std.specs.Prelude.{◌≡◌, ◌⊎◌, ℕ, Bool, true, not, cond, length, List, [], ◌∷◌, Option, Some, None, Result, Ok, Err}
+use Rattle.std.specs.Prelude.{◌≡◌, ◌⊎◌, ℕ, Bool, true, not, cond, length, List}
+use Rattle.std.specs.Prelude.{[], ◌∷◌, Option, Some, None, Result, Ok, Err}
 use Rattle.std.specs.List.{AllPass}
 use Rattle.std.specs.Option.{option_map_or}
 use Rattle.pg_machine.specs.Places.{is_pair}

@@ -58,7 +58,8 @@ impl FrameNodes<IndexTable> {
     }
 }
 
-ghost use Rattle.pg_frame_world.specs.Openings.{AreReady as AreReadyNodes, CantBegin as CantBeginWith, are_few, have_few};
+ghost use Rattle.pg_frame_world.specs.Openings.{AreReady as AreReadyNodes};
+ghost use Rattle.pg_frame_world.specs.Openings.{CantBegin as CantBeginWith, are_few, have_few};
 
 /// Whether a world of a configuration can begin, but for the length of what its nodes announce.
 ///

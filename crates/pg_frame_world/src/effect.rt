@@ -31,6 +31,8 @@ impl Effect {
     }
 
     /// Nothing is sent or reported, as where a loss is seen.
+    ///
+    /// Cost: no memory.
     pub fn nothing() -> Effect
         ensures { result ≡ no_effect }
     {

@@ -63,7 +63,8 @@ impl FrameWorld<IndexTable> {
 }
 
 impl<T: GroupTable + Drop> FrameWorld<T> {
-    ghost use Rattle.std.specs.Prelude.{◌≡◌, ◌<◌, ◌↔◌, ◌++◌, [], true, IsTrue, Ok, IfOk, IfSome, OnErr, ℕ, length, map, option_map, slice_get};
+    ghost use Rattle.std.specs.Prelude.{◌≡◌, ◌<◌, ◌↔◌, ◌++◌, [], true, IsTrue, Ok, IfOk};
+    ghost use Rattle.std.specs.Prelude.{IfSome, OnErr, ℕ, length, map, option_map, slice_get};
     ghost use Rattle.std.specs.Option.{is_some, option_copied};
     ghost use Rattle.pg_machine.specs.Places.{is_pair};
     ghost use Rattle.pg_node_state.specs.States.{stamped_of};
@@ -133,8 +134,9 @@ impl<T: GroupTable + Drop> FrameWorld<T> {
         self.frames.histories.history(name)
     }
 
-    /// How many updates of a group a node has applied: those that it began, and those that it took of its peers. It takes no
-    /// memory: O(log n) in the groups that were named.
+    /// How many updates of a group a node has applied: those that it began, and those that it took of its peers.
+    ///
+    /// Cost: no memory; O(log n) in the groups that were named.
     pub fn applied(&self, node: usize, name: &Term) -> u128
         ensures { result ≡ (view_of self.now).account.applied node name.now }
     {
@@ -169,8 +171,10 @@ impl<T: GroupTable + Drop> FrameWorld<T> {
         state.holder(name).is_none()
     }
 
-    /// The packets on the way from one node to another, the first to be taken first; `None` unless both are there and differ. It
-    /// takes no memory.
+    /// The packets on the way from one node to another, the first to be taken first; `None` unless both are there and
+    /// differ.
+    ///
+    /// Cost: no memory.
     pub fn on_way(&self, from: usize, to: usize) -> Option<&VecDeque<Packet>>
         ensures there { is_some result ≡ is_pair (length (traffic_of self.now).nodes) to from }
         ensures packets { IfSome result (λ packets. map stamped_of packets.now.items ≡ on_the_way (traffic_of self.now) from to) }
@@ -223,6 +227,9 @@ impl<T: GroupTable + Drop> FrameWorld<T> {
     /// `NoSuchPlace`; `NodeLost`, also where it was seen before; `NotLost`; `NotDrained` where a packet of the peer
     /// is on the way; `ClockFull`. `Lose`: `NoSuchPlace`, also where `keep` has not one number for each peer;
     /// `NodeLost`; `NoSuchPlace` where more should stay than are on the way.
+    ///
+    /// Cost: that of the call of `NodeState`, O(log n) in the groups that were named, and memory for one more packet
+    /// to each peer and one more entry of a history. `Lose`: O(packets that go) in the place of the call.
     pub fn step(&mut self, step: &FrameStep) -> Result<Stepped, NodeFault>
         ensures goes_on { ∥ FramesGoOn (given_of self.old) (view_of self.old) (lost_of self.old) step.now result (view_of self.new) (lost_of self.new) ∥₁ }
         ensures grows { HistoriesGrow (view_of self.old).account (view_of self.new).account }

@@ -83,6 +83,8 @@ impl<T: GroupTable + Drop> FrameWorld<T> {
 /// that `LossesSurvived` says of the world to which they lead.
 ///
 /// Errors: those of `FrameWorld::new`.
+///
+/// Cost: that of `FrameWorld::new` and of the steps, and a byte for each step.
 pub fn run_frames(
     alloc: Global,
     config: &Config,

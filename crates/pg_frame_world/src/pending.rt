@@ -15,6 +15,8 @@ use std::alloc::{AllocError, Global};
 /// their numbers.
 ///
 /// Errors: `AllocError`.
+///
+/// Cost: a search at each of the nodes for each process that has ended at its home, and the memory of the list.
 pub fn pending_among<T: GroupTable + Drop>(
     alloc: Global,
     left: &[&NodeState<T>],

@@ -39,7 +39,8 @@ impl<T: GroupTable + Drop> FrameNodes<T> {
     ghost use Rattle.pg_step.specs.Config.{Config};
     ghost use Rattle.pg_step.specs.Step.{Issue, Retry};
     ghost use Rattle.pg_account.specs.Histories.{IsSettled};
-    ghost use Rattle.pg_frame_world.specs.Worlds.{traffic_of, view_of, has_port, has_places, TimedFrameWorld, Shows, ComesTo, StepComesTo};
+    ghost use Rattle.pg_frame_world.specs.Worlds.{traffic_of, view_of, has_port, has_places};
+    ghost use Rattle.pg_frame_world.specs.Worlds.{TimedFrameWorld, Shows, ComesTo, StepComesTo};
     ghost use Rattle.pg_step.specs.LossLaws.{LosingFrameWorld};
     ghost use Rattle.pg_frame_world.specs.Losing.{lost_of, lost_after, told_of, ShowsLosing, LosingComesTo};
 
@@ -253,6 +254,8 @@ impl<T: GroupTable + Drop> FrameNodes<T> {
 ghost use Rattle.pg_frame_world.specs.Views.{peer_place};
 
 /// The place of another node among the peers of a node, which are the others in their order.
+///
+/// Cost: no memory.
 pub fn peer_place(node: usize, other: usize) -> usize
     requires { node ≢ other }
     ensures { result ≡ peer_place node other }

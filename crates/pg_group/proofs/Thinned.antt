@@ -1,5 +1,6 @@
 -- Groups without ended pids stay so.
-use Rattle.std.proofs.Common.{◌≡◌, ℕ, ◌+◌, ◌-◌, max, Bool, true, false, cond, ◌||◌, Some, None, List, refl, sym, ap, ◌∙◌}
+use Rattle.std.proofs.Common.{◌≡◌, ℕ, ◌+◌, ◌-◌, max, Bool, true, false, cond}
+use Rattle.std.proofs.Common.{◌||◌, Some, None, List, refl, sym, ap, ◌∙◌}
 use Rattle.std.specs.Prelude.{count_by}
 use Rattle.std.proofs.Math.Path.{fun_ext}
 use Rattle.pg_term.specs.declared.pid.Pid.{Pid}

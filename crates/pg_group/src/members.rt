@@ -15,7 +15,8 @@ pub struct Members {
 }
 
 impl Members {
-    ghost use Rattle.std.specs.Prelude.{◌≡◌, ◌+◌, ◌<◌, ◌^◌, max, min, List, length, slice_get, Some, option_copied, OnOk, OnErr, IfOk};
+    ghost use Rattle.std.specs.Prelude.{◌≡◌, ◌+◌, ◌<◌, ◌^◌, max, min, List, length};
+    ghost use Rattle.std.specs.Prelude.{slice_get, Some, option_copied, OnOk, OnErr, IfOk};
     ghost use Rattle.pg_term.specs.Same.{same_pid};
     ghost use Rattle.pg_term.specs.declared.pid.Pid.{Pid};
     ghost use Rattle.pg_group.specs.Ended.{ended_of};

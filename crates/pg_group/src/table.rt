@@ -1,4 +1,5 @@
-ghost use Rattle.std.specs.Prelude.{◌≡◌, ◌↔◌, ◌⊎◌, IsTrue, None, IsSome, IfSome, IfOk, OnOk, OnErr, Option, List, length, min, slice_get, option_copied};
+ghost use Rattle.std.specs.Prelude.{◌≡◌, ◌↔◌, ◌⊎◌, IsTrue, None, IsSome, IfSome, IfOk, OnOk};
+ghost use Rattle.std.specs.Prelude.{OnErr, Option, List, length, min, slice_get, option_copied};
 ghost use Rattle.pg_term.specs.declared.pid.Pid.{Pid};
 ghost use Rattle.pg_term.specs.declared.term.Term.{Term};
 ghost use Rattle.pg_group.specs.Ended.{ended_of};
@@ -6,7 +7,8 @@ ghost use Rattle.pg_term.specs.Same.{same_term};
 ghost use Rattle.pg_group.specs.declared.update.Update.TheVariants.{Leave};
 ghost use Rattle.pg_group.specs.Functions.{upd};
 ghost use Rattle.pg_group.specs.Value.{apply, count_in};
-ghost use Rattle.pg_group.specs.Table.{Table, changed, HasRoom, Adds, Overfills, AreNames, merged, PartlyMerged, without, without_node};
+ghost use Rattle.pg_group.specs.Table.{Table, changed, HasRoom, Adds, Overfills, AreNames};
+ghost use Rattle.pg_group.specs.Table.{merged, PartlyMerged, without, without_node};
 ghost use Rattle.pg_group.specs.Scope.{in_scope};
 ghost use Rattle.pg_group.specs.Members.{IsMemberList};
 

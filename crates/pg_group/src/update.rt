@@ -20,6 +20,8 @@ impl Update {
     ghost use Rattle.pg_group.specs.Value.{name_of};
 
     /// The group that it changes.
+    ///
+    /// Cost: no memory.
     pub fn name(&self) -> &Term
         ensures { result.now ≡ name_of self.now }
     {

@@ -1,6 +1,7 @@
 -- What is true of each world that the nodes of a configuration come to, whatever is done there and in whatever order
 -- packets are taken: one history of each group.
-use Rattle.std.specs.Prelude.{◌≡◌, ◌≢◌, ◌⊎◌, ℕ, ◌+◌, ◌<◌, ◌≤◌, true, false, List, ◌∷◌, ◌++◌, [], length, take, Some, None}
+use Rattle.std.specs.Prelude.{◌≡◌, ◌≢◌, ◌⊎◌, ℕ, ◌+◌, ◌<◌, ◌≤◌, true, false}
+use Rattle.std.specs.Prelude.{List, ◌∷◌, ◌++◌, [], length, take, Some, None}
 use Rattle.std.specs.List.{AllByRecursion}
 use Rattle.pg_term.specs.declared.pid.Pid.{Pid}
 use Rattle.pg_term.specs.declared.term.Term.{Term}
@@ -20,7 +21,9 @@ use Rattle.pg_step.specs.State.Response.{Read}
 use Rattle.pg_step.specs.StepLaws.{is_query}
 use Rattle.pg_step.specs.Config.{Config, name_at}
 use Rattle.pg_step.specs.FrameMachine.{node_step, FrameWorld}
-use Rattle.pg_history.specs.History.{Entry, entries, history, updates_of, applied_by, applied_count, answered_count, times, replay, known, base, command_at, answers_by, has_answer, answers_to, IsAnsweredOk, ok_means_lock, is_formed, has_groups, LockFree, NonePending}
+use Rattle.pg_history.specs.History.{Entry, entries, history, updates_of, applied_by, applied_count, answered_count}
+use Rattle.pg_history.specs.History.{times, replay, known, base, command_at, answers_by, has_answer, answers_to}
+use Rattle.pg_history.specs.History.{IsAnsweredOk, ok_means_lock, is_formed, has_groups, LockFree, NonePending}
 use Rattle.pg_step.specs.Commands.{change_of, has_large_name, next_op}
 use Rattle.pg_history.specs.Exclusive.{ExclusiveLocks}
 use Rattle.pg_history.specs.Reached.{Reaches, TimedFrameWorld}

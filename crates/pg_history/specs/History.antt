@@ -1,5 +1,6 @@
 -- What is said of a world: the history of each group, what each node has applied of it, and what tables are.
-use Rattle.std.specs.Prelude.{◌≡◌, ℕ, ◌+◌, Bool, true, false, cond, nat_eq, ◌&&◌, ◌||◌, ◌-◌, slice_get, List, [], ◌∷◌, ◌++◌, length, map, Option, Some, None}
+use Rattle.std.specs.Prelude.{◌≡◌, ℕ, ◌+◌, Bool, true, false, cond, nat_eq, ◌&&◌, ◌||◌, ◌-◌}
+use Rattle.std.specs.Prelude.{slice_get, List, [], ◌∷◌, ◌++◌, length, map, Option, Some, None}
 use Rattle.pg_term.specs.declared.pid.Pid.{Pid}
 use Rattle.pg_term.specs.declared.term.Term.{Term}
 use Rattle.pg_term.specs.Same.{same_term, same_atom}

@@ -1,5 +1,6 @@
 -- Quiet worlds: no packet is on the way. Each node is formed there, no lock is held, and no command asks for anything.
-use Rattle.std.specs.Prelude.{◌≡◌, ℕ, zero, suc, ◌+◌, ◌-◌, ◌*◌, ◌<◌, ◌≤◌, Bool, true, false, nat_lt, List, [], ◌∷◌, Some, None, length}
+use Rattle.std.specs.Prelude.{◌≡◌, ℕ, zero, suc, ◌+◌, ◌-◌, ◌*◌, ◌<◌, ◌≤◌, Bool, true}
+use Rattle.std.specs.Prelude.{false, nat_lt, List, [], ◌∷◌, Some, None, length}
 use Rattle.pg_term.specs.declared.term.Term.{Term}
 use Rattle.pg_message.specs.declared.message.Message.{Message}
 use Rattle.pg_machine.specs.Clocked.{Stamped, plain}

@@ -1,4 +1,5 @@
-ghost use Rattle.std.specs.Prelude.{◌≡◌, ◌≢◌, ℕ, ◌+◌, ◌*◌, ◌≤◌, true, false, cond, take, length, List, [], ◌∷◌, Some, Err};
+ghost use Rattle.std.specs.Prelude.{◌≡◌, ◌≢◌, ℕ, ◌+◌, ◌*◌, ◌≤◌, true, false};
+ghost use Rattle.std.specs.Prelude.{cond, take, length, List, [], ◌∷◌, Some, Err};
 ghost use Rattle.std.specs.List.{AllByRecursion, IsDistinct};
 ghost use Rattle.pg_term.specs.declared.pid.Pid.{Pid};
 ghost use Rattle.pg_term.specs.Same.{same_atom};
@@ -24,7 +25,8 @@ ghost use Rattle.pg_step.specs.FrameMachine.{node_step, frame_machine, losing_fr
 ghost use Rattle.pg_history.specs.Counted.{is_open};
 ghost use Rattle.pg_history.specs.History.{LockFree, is_formed, history, updates_of, applied_count, applied_by};
 ghost use Rattle.pg_history.specs.Fresh.{MakesFresh};
-ghost use Rattle.pg_history.specs.Quiet.{AllFormed, HasRoom, IsQuiet, NoLockHeld, NoneOpen, NothingUnderWay, OnlyTakes, OnlyTakesAndRetries, RetryGoes, most_events, most_takes, peer_count};
+ghost use Rattle.pg_history.specs.Quiet.{AllFormed, HasRoom, IsQuiet, NoLockHeld, NoneOpen, NothingUnderWay, OnlyTakes};
+ghost use Rattle.pg_history.specs.Quiet.{OnlyTakesAndRetries, RetryGoes, most_events, most_takes, peer_count};
 ghost use Rattle.pg_history.specs.Headline.{OneHistory, HoldsAnswered, AppliesHistory, HasTables, HarmsNobody, GoesOn};
 ghost use Rattle.pg_history.specs.Exclusive.{ExclusiveLocks};
 ghost use Rattle.pg_history.specs.RealTime.{InRealTime};

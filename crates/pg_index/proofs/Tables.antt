@@ -1,6 +1,7 @@
 -- Tables whose groups have numbers.
 use Rattle.std.proofs.Math.Path.{fun_ext}
-use Rattle.std.proofs.Common.{◌≡◌, ℕ, ◌+◌, Bool, true, false, cond, Option, Some, None, List, refl, sym, ap, subst, ◌∙◌, nat_eq, nat_lt}
+use Rattle.std.proofs.Common.{◌≡◌, ℕ, ◌+◌, Bool, true, false, cond, Option, Some}
+use Rattle.std.proofs.Common.{None, List, refl, sym, ap, subst, ◌∙◌, nat_eq, nat_lt}
 use Rattle.std.specs.Prelude.{is_some, Result, Ok, Err, OnOk, OnErr}
 use Rattle.std.specs.Option.{option_map}
 use Rattle.pg_term.specs.declared.pid.Pid.{Pid}
@@ -19,7 +20,8 @@ use Rattle.pg_group.specs.Table as tables
 use Rattle.pg_group.proofs.Changes.{upd_from, upd_same, upd_at, upd_other, upd_twice}
 use Rattle.pg_members.specs.declared.row.Row.{Row}
 use Rattle.pg_members.specs.Rows.{counts_of}
-use Rattle.pg_index.specs.Groups.{Numbered, counts_at, counts_changed, counts_raised, without_pid, without_nodes, IsPartlyRaised}
+use Rattle.pg_index.specs.Groups.{Numbered, counts_at, counts_changed, counts_raised}
+use Rattle.pg_index.specs.Groups.{without_pid, without_nodes, IsPartlyRaised}
 use Rattle.pg_index.specs.Listings.{marked}
 use Rattle.pg_index.specs.Index.{contents_of, HasGroups, AreApart}
 use Rattle.pg_index.proofs.Numbers.{number_is, number_itself}

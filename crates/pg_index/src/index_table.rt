@@ -1,4 +1,5 @@
-ghost use Rattle.std.specs.Prelude.{◌≡◌, ◌+◌, ◌<◌, ◌^◌, ◌⊎◌, true, false, None, Some, OnOk, OnErr, IfOk, IsSome, option_copied};
+ghost use Rattle.std.specs.Prelude.{◌≡◌, ◌+◌, ◌<◌, ◌^◌, ◌⊎◌, true, false, None};
+ghost use Rattle.std.specs.Prelude.{Some, OnOk, OnErr, IfOk, IsSome, option_copied};
 ghost use Rattle.pg_term.specs.Same.{same_term, same_pid};
 ghost use Rattle.pg_group.specs.Ended.{ended_of};
 ghost use Rattle.pg_group.specs.Functions.{upd};

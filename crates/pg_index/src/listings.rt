@@ -5,7 +5,8 @@ ghost use Rattle.pg_term.specs.Same.{same_pid};
 ghost use Rattle.pg_group.specs.Scope.{at_node};
 ghost use Rattle.pg_members.specs.Rows.{counts_of};
 ghost use Rattle.pg_index.specs.Groups.{counts_in, is_used, without_pid, without_nodes};
-ghost use Rattle.pg_index.specs.Listings.{process_of, listing_of, listing_cmp, listed_in, marked, IsFirstListing, AreGroupsOf, AreListed};
+ghost use Rattle.pg_index.specs.Listings.{process_of, listing_of, listing_cmp, listed_in};
+ghost use Rattle.pg_index.specs.Listings.{marked, IsFirstListing, AreGroupsOf, AreListed};
 
 use crate::groups::{self, Groups};
 use crate::listing::{Listing, Process};

@@ -1,9 +1,11 @@
-ghost use Rattle.std.specs.Prelude.{◌≡◌, ◌+◌, ◌<◌, ◌^◌, ◌⊎◌, true, false, Some, max, OnOk, OnErr, IfOk, nat_eq, option_copied};
+ghost use Rattle.std.specs.Prelude.{◌≡◌, ◌+◌, ◌<◌, ◌^◌, ◌⊎◌, true, false, Some};
+ghost use Rattle.std.specs.Prelude.{max, OnOk, OnErr, IfOk, nat_eq, option_copied};
 ghost use Rattle.slab.specs.Slab.{get};
 ghost use Rattle.pg_group.specs.Ended.{ended_of};
 ghost use Rattle.pg_group.specs.Functions.{upd};
 ghost use Rattle.pg_group.specs.Value.{with_one_less, nobody};
-ghost use Rattle.pg_index.specs.Groups.{counts_in, is_used, counts_changed, counts_raised, without_pid, without_nodes, IsPartlyRaised};
+ghost use Rattle.pg_index.specs.Groups.{counts_in, is_used, counts_changed, counts_raised};
+ghost use Rattle.pg_index.specs.Groups.{without_pid, without_nodes, IsPartlyRaised};
 ghost use Rattle.pg_group.specs.Table.{LacksRoom};
 ghost use Rattle.pg_index.specs.Listings.{listed_in, AreListed};
 

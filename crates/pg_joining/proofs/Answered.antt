@@ -1,5 +1,6 @@
 -- The answers that a node gave by its acts are those that are reported of it.
-use Rattle.std.proofs.Common.{◌≡◌, ℕ, Bool, true, false, cond, nat_eq, map, List, [], ◌∷◌, ◌++◌, refl, sym, ap, subst, append_assoc, append-nil}
+use Rattle.std.proofs.Common.{◌≡◌, ℕ, Bool, true, false, cond, nat_eq, map, List, []}
+use Rattle.std.proofs.Common.{◌∷◌, ◌++◌, refl, sym, ap, subst, append_assoc, append-nil}
 use Rattle.pg_machine.specs.Runs.{reported_by}
 use Rattle.pg_history.specs.History.{all_reported, answer_at, answers_by}
 use Rattle.pg_joining.specs.Logs.{reports_of}

@@ -1,5 +1,6 @@
 -- What a node took of another are the first packets of those whose frames came.
-use Rattle.std.proofs.Common.{◌≡◌, ◌≢◌, ◌∙◌, ℕ, Bool, true, false, cond, nat_eq, map, List, [], ◌∷◌, ◌++◌, Some, None, Ok, Result, refl, sym, ap, subst, append_assoc, arith}
+use Rattle.std.proofs.Common.{◌≡◌, ◌≢◌, ◌∙◌, ℕ, Bool, true, false, cond, nat_eq, map, List, [], ◌∷◌}
+use Rattle.std.proofs.Common.{◌++◌, Some, None, Ok, Result, refl, sym, ap, subst, append_assoc, arith}
 use Rattle.std.specs.List.{flat_map}
 use Rattle.std.proofs.Math.ListN.{drop_of_length-le}
 use Rattle.pg_frame.specs.Frames.{frame, front_of, behind}

@@ -1,5 +1,6 @@
 -- What crossed between two nodes that ran apart: what the one took is the first of what the other had sent.
-use Rattle.std.proofs.Common.{◌≡◌, ◌<◌, ◌∙◌, ℕ, true, drop, length, map, List, [], ◌∷◌, ◌++◌, sym, ap, subst, append_assoc, arith}
+use Rattle.std.proofs.Common.{◌≡◌, ◌<◌, ◌∙◌, ℕ, true, drop, length, map, List}
+use Rattle.std.proofs.Common.{[], ◌∷◌, ◌++◌, sym, ap, subst, append_assoc, arith}
 use Rattle.std.proofs.Math.Seq.{drop-append_seam}
 use Rattle.pg_frame.specs.Laws.{PiecesContinue, WrittenIsRead}
 use Rattle.pg_group.specs.declared.table.GroupTable.{Ghosts}
@@ -17,7 +18,8 @@ use Rattle.pg_step.specs.Nodes.{all_of}
 use Rattle.pg_joining.specs.Apart.{End, Linked, HaveRun, Unseen}
 use Rattle.pg_joining.proofs.Begun.{apart, leads, opened, place_there}
 use Rattle.pg_joining.proofs.Came.{Leaves, all_acts, left_can_cross, packets_taken, taken_alike}
-use Rattle.pg_joining.proofs.Sent.{CanAllCross, cross_join, frames_are, frames_join, frames_on, packets_sent, sent_alike, sent_can_cross}
+use Rattle.pg_joining.proofs.Sent.{CanAllCross, cross_join, frames_are, frames_join}
+use Rattle.pg_joining.proofs.Sent.{frames_on, packets_sent, sent_alike, sent_can_cross}
 use Rattle.pg_joining.proofs.Turns.{act_at}
 use Rattle.pg_frame_world.specs.Views.{peer_place}
 use Rattle.pg_frame_world.proofs.Turning.{pair_is, pair_turned}

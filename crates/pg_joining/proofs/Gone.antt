@@ -1,5 +1,7 @@
 -- A node that has seen the loss of another takes nothing from it any more, and sends nothing to it.
-use Rattle.std.proofs.Common.{◌≡◌, ◌≢◌, ◌<◌, ◌+◌, ◌∙◌, ℕ, Bool, true, false, not, ◌||◌, cond, max, nat_eq, nat_le, length, map, List, [], ◌∷◌, ◌++◌, Ok, Err, Result, refl, sym, ap, subst, inl, inr, ◌⊎◌, arith, suc, zero}
+use Rattle.std.proofs.Common.{◌≡◌, ◌≢◌, ◌<◌, ◌+◌, ◌∙◌, ℕ, Bool, true, false, not, ◌||◌, cond}
+use Rattle.std.proofs.Common.{max, nat_eq, nat_le, length, map, List, [], ◌∷◌, ◌++◌, Ok, Err}
+use Rattle.std.proofs.Common.{Result, refl, sym, ap, subst, inl, inr, ◌⊎◌, arith, suc, zero}
 use Rattle.std.specs.List.{IsDistinct, filter, flat_map, list_any}
 use Rattle.std.proofs.lemmas.Bool.{cases_eq, eq-eqb, ne_eqb, eqb-true, lt-ltb}
 use Rattle.pg_term.specs.Same.{same_atom}
@@ -12,16 +14,19 @@ use Rattle.pg_joining.specs.Logs.{packet_from, taken_from}
 use Rattle.pg_opens.specs.Places.{name_at}
 use Rattle.pg_run.specs.declared.log.NodeEvent.{NodeEvent}
 use Rattle.pg_run.specs.declared.log.NodeEvent.TheVariants as entries
-use Rattle.pg_run.specs.Acts.{Act, Given, Took, Saw, Did, IsFromPeer, Standing, Leads, AllLead, entry_of, event_of, loss_of, losses_of, node_step}
+use Rattle.pg_run.specs.Acts.{Act, Given, Took, Saw, Did, IsFromPeer, Standing, Leads}
+use Rattle.pg_run.specs.Acts.{AllLead, entry_of, event_of, loss_of, losses_of, node_step}
 use Rattle.pg_step.specs.Config.{Config, name_at as config_name, names_of, nodes_at, ports_at}
 use Rattle.pg_step.specs.FrameMachine.{placed, place_turn, sent_packet}
 use Rattle.pg_step.specs.Losses.{see_loss}
 use Rattle.pg_step.specs.Nodes.{Node, Nodes, all_of, is_peer}
 use Rattle.pg_step.specs.State.{State, left}
-use Rattle.pg_step.specs.Step.{Issue, Retry, TimedTurn, CLOCK_LIMIT, acted, at_clock, node_acts, node_takes, taken, timed}
+use Rattle.pg_step.specs.Step.{Issue, Retry, TimedTurn, CLOCK_LIMIT, acted}
+use Rattle.pg_step.specs.Step.{at_clock, node_acts, node_takes, taken, timed}
 use Rattle.pg_step.specs.Turns.{NodeTurn}
 use Rattle.pg_step.specs.declared.refusal.Refusal.{Refusal}
-use Rattle.pg_step.specs.declared.refusal.Refusal.TheVariants.{NotAMessage, NoSuchPlace, NodeLost, NotLost, NotDrained, NotWaiting, ClockFull}
+use Rattle.pg_step.specs.declared.refusal.Refusal.TheVariants.{NotAMessage, NoSuchPlace, NodeLost}
+use Rattle.pg_step.specs.declared.refusal.Refusal.TheVariants.{NotLost, NotDrained, NotWaiting, ClockFull}
 use Rattle.pg_step.proofs.Once.{Once, OnceIfOk, acts_once, same_is, takes_once}
 use Rattle.pg_step.proofs.Peers.{alone}
 use Rattle.pg_history.proofs.steps.Lossless.{step_sees_none}

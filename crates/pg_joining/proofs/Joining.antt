@@ -1,5 +1,6 @@
 -- The merge of logs happens, one entry after another: it looks at what is still to come.
-use Rattle.std.proofs.Common.{◌≡◌, ◌≢◌, ℕ, ◌+◌, ◌<◌, ◌≤◌, cond, nat_eq, map, take, drop, List, [], ◌∷◌, ◌++◌, Some, refl, ap, sym, ◌∙◌, subst, inl, inr, ◌⊎◌, arith}
+use Rattle.std.proofs.Common.{◌≡◌, ◌≢◌, ℕ, ◌+◌, ◌<◌, ◌≤◌, cond, nat_eq, map, take, drop, List, []}
+use Rattle.std.proofs.Common.{◌∷◌, ◌++◌, Some, refl, ap, sym, ◌∙◌, subst, inl, inr, ◌⊎◌, arith}
 use Rattle.std.specs.List.{AllByRecursion}
 use Rattle.std.proofs.lemmas.Bool.{cases_eq, eq-eqb, ne_eqb}
 use Rattle.std.proofs.lemmas.List.{append-nil, append_assoc, append_cancel_left, drop-map}
@@ -11,7 +12,8 @@ use Rattle.pg_machine.specs.Timely.{KeepsTime}
 use Rattle.pg_machine.proofs.Places.{set_at_here, set_at_other}
 use Rattle.pg_machine.proofs.Sequences.{told_by_append}
 use Rattle.pg_machine.proofs.Steps.{pair_apart}
-use Rattle.pg_joining.specs.Logs.{Act, event_of, NodeLeads, sent_to, packet_from, taken_from, entry_of, reports_of, AreLogs}
+use Rattle.pg_joining.specs.Logs.{Act, event_of, NodeLeads, sent_to, packet_from}
+use Rattle.pg_joining.specs.Logs.{taken_from, entry_of, reports_of, AreLogs}
 use Rattle.pg_joining.specs.Merge.{ComesFirst, IsNext, rest_of, MergesRest, Merges, clocks_of, entry_at, merged}
 use Rattle.pg_joining.specs.Joined.{Joined, Passes}
 use Rattle.pg_joining.proofs.Acts.{pair_places, drop_next, map_nil, map_cons, From, later_than_first, stamped_later}

@@ -26,7 +26,8 @@ use Rattle.pg_joining.specs.Apart.{Linked, HaveRun, RanTogether, Unseen, event_a
 use Rattle.pg_joining.proofs.Answered.{answers_on, answers_reported, given_at}
 use Rattle.pg_joining.proofs.Begun.{leads, shown}
 use Rattle.pg_joining.proofs.Crossing.{first_taken, left_on, puts_all}
-use Rattle.pg_joining.proofs.Turns.{act_at, first_none, input_at, leads_alike, others_none, saw_none, PlacedAct, SeesNone}
+use Rattle.pg_joining.proofs.Turns.{act_at, first_none, input_at, leads_alike}
+use Rattle.pg_joining.proofs.Turns.{others_none, saw_none, PlacedAct, SeesNone}
 use Rattle.pg_world.specs.Crossings.{node_of as seen_node}
 use Rattle.pg_frame_world.specs.Views.{peer_place}
 use Rattle.pg_frame_world.specs.Worlds.{AreAnswers, ShowsNode}

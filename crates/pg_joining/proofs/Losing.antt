@@ -1,5 +1,7 @@
 -- The merge of logs happens where nodes are lost.
-use Rattle.std.proofs.Common.{◌≡◌, ◌≢◌, ℕ, ◌+◌, ◌-◌, ◌<◌, ◌≤◌, Bool, true, false, not, ◌&&◌, ◌||◌, cond, nat_eq, nat_le, nat_lt, map, take, drop, length, List, [], ◌∷◌, ◌++◌, Some, None, refl, ap, sym, ◌∙◌, subst, inl, inr, ◌⊎◌, arith, zero, suc}
+use Rattle.std.proofs.Common.{◌≡◌, ◌≢◌, ℕ, ◌+◌, ◌-◌, ◌<◌, ◌≤◌, Bool, true, false, not, ◌&&◌, ◌||◌, cond}
+use Rattle.std.proofs.Common.{nat_eq, nat_le, nat_lt, map, take, drop, length, List, [], ◌∷◌, ◌++◌}
+use Rattle.std.proofs.Common.{Some, None, refl, ap, sym, ◌∙◌, subst, inl, inr, ◌⊎◌, arith, zero, suc}
 use Rattle.std.specs.Prelude.{option_map}
 use Rattle.std.specs.List.{AllByRecursion}
 use Rattle.std.proofs.lemmas.Bool.{cases_eq, eq-eqb, ne_eqb, lt-ltb, le-leb}
@@ -15,7 +17,8 @@ use Rattle.pg_machine.proofs.Sequences.{told_by_append}
 use Rattle.pg_machine.proofs.Steps.{pair_apart}
 use Rattle.pg_joining.specs.Logs.{Act, event_of, NodeLeads, sent_to, packet_from, taken_from, reports_of}
 use Rattle.pg_joining.specs.Merge.{ComesFirst, IsNext, rest_of, MergesRest, Merges, clocks_of, entry_at, merged}
-use Rattle.pg_joining.specs.Losses.{Logged, Turned, Stopped, still_kept, events_told, turn_entry, losing_log, arriving, AreLosingLogs, IsMarked, LosingJoined, MarkedLeads, is_first_last, is_sight}
+use Rattle.pg_joining.specs.Losses.{Logged, Turned, Stopped, still_kept, events_told, turn_entry, losing_log, arriving}
+use Rattle.pg_joining.specs.Losses.{AreLosingLogs, IsMarked, LosingJoined, MarkedLeads, is_first_last, is_sight}
 use Rattle.pg_joining.proofs.Acts.{pair_places, drop_next, From, later_than_first, stamped_later}
 use Rattle.pg_joining.proofs.Moved.{Moved, own_moved, take_moved}
 

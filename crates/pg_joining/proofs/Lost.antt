@@ -1,5 +1,7 @@
 -- The logs of nodes of which some were lost join to one run of the machine with losses.
-use Rattle.std.proofs.Common.{◌≡◌, ◌≢◌, ◌<◌, ◌≤◌, ◌+◌, ◌∙◌, ℕ, Bool, true, false, cond, drop, get_or, take, length, map, List, [], ◌∷◌, ◌++◌, refl, sym, ap, subst, inl, inr, ◌⊎◌, arith, zero, suc, append-nil, length-append}
+use Rattle.std.proofs.Common.{◌≡◌, ◌≢◌, ◌<◌, ◌≤◌, ◌+◌, ◌∙◌, ℕ, Bool, true, false, cond, drop}
+use Rattle.std.proofs.Common.{get_or, take, length, map, List, [], ◌∷◌, ◌++◌, refl, sym, ap}
+use Rattle.std.proofs.Common.{subst, inl, inr, ◌⊎◌, arith, zero, suc, append-nil, length-append}
 use Rattle.std.specs.List.{AllByRecursion}
 use Rattle.std.proofs.lemmas.Grind.{flat_map-append}
 use Rattle.std.proofs.lemmas.List.{length-map, map-append}
@@ -7,7 +9,8 @@ use Rattle.pg_frame.specs.Laws.{PiecesContinue, WrittenIsRead}
 use Rattle.pg_group.specs.declared.table.GroupTable.{Ghosts}
 use Rattle.pg_history.specs.History.{all_reported, answers_by}
 use Rattle.pg_joining.specs.Logs.{NodeLeads, event_of as machine_event, reports_of, sent_to, taken_from}
-use Rattle.pg_joining.specs.Losses.{AreLosingLogs, Logged, LosingJoined, Marked, MarkedLeads, Stopped, Turned, arriving, is_sight, last_from, losing_log, turn_entry, with_loss, with_losses}
+use Rattle.pg_joining.specs.Losses.{AreLosingLogs, Logged, LosingJoined, Marked, MarkedLeads, Stopped, Turned}
+use Rattle.pg_joining.specs.Losses.{arriving, is_sight, last_from, losing_log, turn_entry, with_loss, with_losses}
 use Rattle.pg_joining.specs.Merge.{IsNext, Merges, MergesRest, clocks_of, merged, rest_of, seen_log}
 use Rattle.pg_joining.proofs.Behind.{merges_with_losses}
 use Rattle.pg_joining.proofs.Losing.{losing_joined}
@@ -35,7 +38,8 @@ use Rattle.pg_step.specs.Nodes.{all_of}
 use Rattle.pg_step.specs.State.{Response, State}
 use Rattle.pg_step.specs.Step.{Action, CLOCK_LIMIT, Issue, Retry}
 use Rattle.pg_joining.specs.Apart.{HaveRun, Linked}
-use Rattle.pg_joining.specs.ApartWithLosses.{MarkedReaches, RanPastLosses, SeesLost, bare, clock_of, is_last_notice, losing_events, nodes_in, takes_in, takes_of}
+use Rattle.pg_joining.specs.ApartWithLosses.{MarkedReaches, RanPastLosses, SeesLost, bare, clock_of}
+use Rattle.pg_joining.specs.ApartWithLosses.{is_last_notice, losing_events, nodes_in, takes_in, takes_of}
 use Rattle.pg_joining.proofs.Answered.{answers_on, answers_reported, given_at}
 use Rattle.pg_joining.proofs.Begun.{apart, leads, shown}
 use Rattle.pg_joining.proofs.Came.{packets_taken, taken_alike}

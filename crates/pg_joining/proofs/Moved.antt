@@ -1,7 +1,8 @@
 -- What one turn of a node changes in the world.
 use Rattle.std.proofs.Common.{◌≡◌, ◌≢◌, ℕ, true, cond, List, [], ◌∷◌, ◌++◌, Some, refl, ap, sym, ◌∙◌, inl, inr, ◌⊎◌}
 use Rattle.std.proofs.lemmas.Bool.{cases_eq, eq-eqb, ne_eqb}
-use Rattle.pg_machine.specs.Machine.{Input, Turn, Machine, World, Taken, Own, Take, Do, is_there, first_from, without_input, perform, happens}
+use Rattle.pg_machine.specs.Machine.{Input, Turn, Machine, World, Taken, Own, Take, Do}
+use Rattle.pg_machine.specs.Machine.{is_there, first_from, without_input, perform, happens}
 use Rattle.pg_machine.specs.Happened.{Happened, Changes}
 use Rattle.pg_machine.proofs.Steps.{happens_so, changes}
 use Rattle.pg_joining.specs.Logs.{event_of, packet_from}

@@ -1,6 +1,7 @@
 -- What has come of the frames of packets that can cross begins with that of the first of them, or with none that is whole. So a node
 -- tells of it no fault that damages the link, unless it refuses that packet as no message.
-use Rattle.std.proofs.Common.{◌≡◌, ◌∙◌, ℕ, Bool, true, false, cond, List, [], ◌∷◌, ◌++◌, Option, Some, None, Result, Ok, Err, refl, sym, ap, subst}
+use Rattle.std.proofs.Common.{◌≡◌, ◌∙◌, ℕ, Bool, true, false, cond, List, [], ◌∷◌, ◌++◌}
+use Rattle.std.proofs.Common.{Option, Some, None, Result, Ok, Err, refl, sym, ap, subst}
 use Rattle.pg_frame.specs.declared.fault.TooLong as frame
 use Rattle.pg_frame.specs.Frames.{front_of, too_long}
 use Rattle.pg_frame.specs.Laws.{PiecesContinue, WrittenIsRead}

@@ -1,5 +1,6 @@
 -- The acts of a node of a configuration, also those that saw a loss, are turns of the configuration's machine with losses.
-use Rattle.std.proofs.Common.{◌≡◌, ◌<◌, ◌+◌, ◌∙◌, ℕ, Bool, true, false, cond, max, nat_le, length, map, List, [], ◌∷◌, Option, Some, None, Ok, Err, refl, sym, ap, subst, arith}
+use Rattle.std.proofs.Common.{◌≡◌, ◌<◌, ◌+◌, ◌∙◌, ℕ, Bool, true, false, cond, max, nat_le, length, map}
+use Rattle.std.proofs.Common.{List, [], ◌∷◌, Option, Some, None, Ok, Err, refl, sym, ap, subst, arith}
 use Rattle.std.specs.Prelude.{option_map}
 use Rattle.std.proofs.Math.Path.{fun_ext}
 use Rattle.std.proofs.lemmas.List.{length-map}

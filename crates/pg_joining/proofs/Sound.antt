@@ -1,6 +1,7 @@
 -- No link is damaged: what a node told a fault of would begin with the frame of a packet that is next on its way in the run, and that
 -- packet was no message that the node refuses.
-use Rattle.std.proofs.Common.{◌≡◌, ◌≢◌, ◌<◌, ◌+◌, ◌∙◌, ℕ, Bool, true, false, length, map, List, ◌∷◌, ◌++◌, Err, refl, sym, ap, subst, inl, inr, ◌⊎◌, append_assoc}
+use Rattle.std.proofs.Common.{◌≡◌, ◌≢◌, ◌<◌, ◌+◌, ◌∙◌, ℕ, Bool, true, false, length, map, List}
+use Rattle.std.proofs.Common.{◌∷◌, ◌++◌, Err, refl, sym, ap, subst, inl, inr, ◌⊎◌, append_assoc}
 use Rattle.std.proofs.lemmas.List.{map-append}
 use Rattle.pg_frame.specs.Laws.{PiecesContinue, WrittenIsRead}
 use Rattle.pg_group.specs.declared.table.GroupTable.{Ghosts}

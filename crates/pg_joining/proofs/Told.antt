@@ -1,5 +1,7 @@
 -- The events that a merge with losses tells are those of the logs, with each loss in its place.
-use Rattle.std.proofs.Common.{◌≡◌, ◌≢◌, ◌<◌, ◌≤◌, ◌+◌, ◌-◌, ◌∙◌, ℕ, Bool, true, false, ◌&&◌, cond, nat_eq, drop, take, length, map, List, [], ◌∷◌, ◌++◌, refl, sym, ap, subst, inl, inr, ◌⊎◌, arith, suc, zero, append_assoc}
+use Rattle.std.proofs.Common.{◌≡◌, ◌≢◌, ◌<◌, ◌≤◌, ◌+◌, ◌-◌, ◌∙◌, ℕ, Bool, true, false, ◌&&◌}
+use Rattle.std.proofs.Common.{cond, nat_eq, drop, take, length, map, List, [], ◌∷◌, ◌++◌, refl}
+use Rattle.std.proofs.Common.{sym, ap, subst, inl, inr, ◌⊎◌, arith, suc, zero, append_assoc}
 use Rattle.std.specs.List.{flat_map}
 use Rattle.std.proofs.Math.Path.{fun_ext}
 use Rattle.std.proofs.lemmas.Bool.{cases_eq, eq-eqb, ne_eqb, eqb-true}
@@ -7,14 +9,16 @@ use Rattle.std.proofs.lemmas.Grind.{flat_map-append}
 use Rattle.std.proofs.lemmas.List.{drop-map, length-map}
 use Rattle.pg_machine.specs.Places.{set_at}
 use Rattle.pg_machine.proofs.Places.{set_at_here, set_at_other}
-use Rattle.pg_joining.specs.Losses.{Logged, Turned, Stopped, events_told, loss_alone, losses_alone, loss_behind, still_kept, with_losses}
+use Rattle.pg_joining.specs.Losses.{Logged, Turned, Stopped, events_told, loss_alone}
+use Rattle.pg_joining.specs.Losses.{losses_alone, loss_behind, still_kept, with_losses}
 use Rattle.pg_joining.specs.Merge.{IsNext, Merges, MergesRest, clocks_of, entry_at, merged, rest_of, seen_log}
 use Rattle.pg_joining.proofs.Acts.{drop_next, map_cons, map_nil}
 use Rattle.pg_run.specs.declared.log.NodeEvent.{NodeEvent}
 use Rattle.pg_run.specs.declared.log.NodeEvent.TheVariants as entries
 use Rattle.pg_step.specs.Step.{Action}
 use Rattle.pg_joining.specs.Apart.{event_at}
-use Rattle.pg_joining.specs.ApartWithLosses.{Logs, is_take, takes_of, takes_in, loss_before, losses_first, events_behind, losing_events, marked_at, sees_loss}
+use Rattle.pg_joining.specs.ApartWithLosses.{Logs, is_take, takes_of, takes_in, loss_before, losses_first}
+use Rattle.pg_joining.specs.ApartWithLosses.{events_behind, losing_events, marked_at, sees_loss}
 use Rattle.pg_frame_world.specs.Views.{place_of_peer}
 
 -- what an entry of a log without losses is in a log with them

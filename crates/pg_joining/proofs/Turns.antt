@@ -1,5 +1,6 @@
 -- The acts of a node of a configuration are turns of the configuration's machine.
-use Rattle.std.proofs.Common.{◌≡◌, ◌<◌, ◌+◌, ◌∙◌, ℕ, true, length, map, List, [], ◌∷◌, Some, Ok, refl, sym, ap, subst, arith}
+use Rattle.std.proofs.Common.{◌≡◌, ◌<◌, ◌+◌, ◌∙◌, ℕ, true, length, map, List}
+use Rattle.std.proofs.Common.{[], ◌∷◌, Some, Ok, refl, sym, ap, subst, arith}
 use Rattle.std.specs.Prelude.{cond, max}
 use Rattle.std.proofs.lemmas.Bool.{eq-eqb, lt-ltb}
 use Rattle.std.proofs.lemmas.List.{length-map}
@@ -8,7 +9,8 @@ use Rattle.pg_machine.specs.Machine.{Input, Taken, Own, is_there}
 use Rattle.pg_machine.specs.Clocked.{Timed, Stamped}
 use Rattle.pg_joining.specs.Logs.{Act as MachineAct, NodeLeads, event_of as machine_event}
 use Rattle.pg_opens.specs.Places.{name_at}
-use Rattle.pg_run.specs.Acts.{Act, Given, Took, Saw, Did, IsFromPeer, SawNone, Standing, AllLead, loss_of, losses_of, node_step}
+use Rattle.pg_run.specs.Acts.{Act, Given, Took, Saw, Did, IsFromPeer, SawNone}
+use Rattle.pg_run.specs.Acts.{Standing, AllLead, loss_of, losses_of, node_step}
 use Rattle.pg_run.proofs.Moving.{nil_first, nil_second}
 use Rattle.pg_step.specs.Config.{Config, name_at as config_name, nodes_at, ports_at}
 use Rattle.pg_step.specs.FrameMachine.{frame_machine}

@@ -1,5 +1,6 @@
 -- The logs of nodes of which some were lost, and one run out of them.
-use Rattle.std.specs.Prelude.{◌≡◌, ◌≢◌, ℕ, zero, suc, ◌+◌, ◌-◌, ◌<◌, ◌≤◌, Bool, true, false, ◌&&◌, cond, nat_eq, map, take, length, List, [], ◌∷◌, ◌++◌, Some}
+use Rattle.std.specs.Prelude.{◌≡◌, ◌≢◌, ℕ, zero, suc, ◌+◌, ◌-◌, ◌<◌, ◌≤◌, Bool, true, false}
+use Rattle.std.specs.Prelude.{◌&&◌, cond, nat_eq, map, take, length, List, [], ◌∷◌, ◌++◌, Some}
 use Rattle.std.specs.List.{flat_map}
 use Rattle.pg_machine.specs.Machine.{Input, Machine, World, Event, Taken, Own, Take, Do, start_of}
 use Rattle.pg_machine.specs.Clocked.{Timed, Stamped}

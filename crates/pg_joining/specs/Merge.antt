@@ -1,5 +1,6 @@
 -- The order in which the entries of several logs are merged: by clock, and at one clock by place of the log.
-use Rattle.std.specs.Prelude.{◌≡◌, ℕ, ◌+◌, ◌<◌, ◌≤◌, cond, nat_eq, drop, take, map, slice_index, slice_index_or, List, [], ◌∷◌}
+use Rattle.std.specs.Prelude.{◌≡◌, ℕ, ◌+◌, ◌<◌, ◌≤◌, cond, nat_eq, drop, take}
+use Rattle.std.specs.Prelude.{map, slice_index, slice_index_or, List, [], ◌∷◌}
 use Rattle.std.specs.List.{AllByRecursion, flat_map}
 use Rattle.pg_machine.specs.Places.{set_at}
 

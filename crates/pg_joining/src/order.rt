@@ -45,8 +45,12 @@ fn next_log<E>(logs: &[Vec<(u32, E)>], read: &[usize]) -> Option<usize>
     next
 }
 
-/// The order in which the entries of these logs are merged: by their clocks, and at one clock by the place of the log. Each is
-/// given as its log and its place there. The logs stay as they are. Takes a look at each log for each entry.
+/// The order in which the entries of these logs are merged: by their clocks, and at one clock by the place of the
+/// log. Each is given as its log and its place there. The logs stay as they are.
+///
+/// Errors: `AllocError`.
+///
+/// Cost: a look at each log for each entry; memory for each log and each entry.
 pub fn order_of_logs<E>(
     alloc: Global,
     logs: &[Vec<(u32, E)>],

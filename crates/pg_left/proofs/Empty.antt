@@ -1,5 +1,6 @@
 -- As long as a node that is not lost is not formed no update has begun, whoever is lost.
-use Rattle.std.proofs.Common.{◌≡◌, ◌≢◌, ◌⊎◌, inl, inr, ℕ, zero, suc, Bool, true, false, cond, List, [], ◌∷◌, ◌++◌, Option, Some, None, refl, ap, sym, ◌∙◌, subst, arith}
+use Rattle.std.proofs.Common.{◌≡◌, ◌≢◌, ◌⊎◌, inl, inr, ℕ, zero, suc, Bool, true, false, cond, List}
+use Rattle.std.proofs.Common.{[], ◌∷◌, ◌++◌, Option, Some, None, refl, ap, sym, ◌∙◌, subst, arith}
 use Rattle.std.specs.List.{IsDistinct}
 use Rattle.std.proofs.lemmas.Bool.{ne_eqb}
 use Rattle.pg_term.specs.declared.term.Term.{Term}
@@ -21,7 +22,8 @@ use Rattle.pg_step.specs.LossLaws.{LosingFrameWorld}
 use Rattle.pg_step.specs.State.{State, formed}
 use Rattle.pg_step.specs.Step.{Action}
 use Rattle.pg_step.specs.Turns.{Report}
-use Rattle.pg_history.specs.History.{Entry, answered_count, applied_by, entries, entry_of, history, of_group, update_by, update_of, updates_of}
+use Rattle.pg_history.specs.History.{Entry, answered_count, applied_by, entries, entry_of}
+use Rattle.pg_history.specs.History.{history, of_group, update_by, update_of, updates_of}
 use Rattle.pg_history.specs.WithLosses.{Marked, Thinned, all_of, left_of}
 use Rattle.pg_history.proofs.places.Shown.{IsHere}
 use Rattle.pg_history.proofs.references.Keys.{terms}

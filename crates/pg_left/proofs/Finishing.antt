@@ -1,5 +1,6 @@
 -- A process of a node which that node has as ended was told to end there, also where nodes are lost.
-use Rattle.std.proofs.Common.{◌≡◌, ◌⊎◌, inl, inr, ℕ, Bool, true, false, ◌&&◌, ◌||◌, cond, nat_eq, nat_le, nat_lt, length, List, [], ◌∷◌, ◌++◌, Option, Some, None, Ok, Err, refl, ap, sym, ◌∙◌, subst}
+use Rattle.std.proofs.Common.{◌≡◌, ◌⊎◌, inl, inr, ℕ, Bool, true, false, ◌&&◌, ◌||◌, cond, nat_eq, nat_le, nat_lt}
+use Rattle.std.proofs.Common.{length, List, [], ◌∷◌, ◌++◌, Option, Some, None, Ok, Err, refl, ap, sym, ◌∙◌, subst}
 use Rattle.std.specs.List.{IsDistinct}
 use Rattle.std.proofs.lemmas.Bool.{eq-eqb}
 use Rattle.std.proofs.lemmas.List.{append_assoc}
@@ -13,13 +14,15 @@ use Rattle.pg_message.specs.declared.message.Message.{Message}
 use Rattle.pg_message.specs.declared.message.Message.TheVariants.{Call, Reply, DelLock, Exchange, Down}
 use Rattle.pg_machine.specs.Happened.{Happened}
 use Rattle.pg_machine.specs.Losing.{Last, Lose, LosingEvent, Noticed, Sent, Step, nobody_gone}
-use Rattle.pg_machine.specs.Machine.{Input, Turn, Event, Taken, Own, Take, Do, World, first_from, input_of, node_of, start_of}
+use Rattle.pg_machine.specs.Machine.{Input, Turn, Event, Taken, Own, Take, Do}
+use Rattle.pg_machine.specs.Machine.{World, first_from, input_of, node_of, start_of}
 use Rattle.pg_machine.specs.Places.{is_place}
 use Rattle.pg_machine.proofs.Options.{some_is}
 use Rattle.pg_machine.proofs.Plain.{plain_start}
 use Rattle.pg_machine.proofs.Steps.{pair_apart}
 use Rattle.pg_step.specs.Attempts.{attempt, same_op, tried_again, waits}
-use Rattle.pg_step.specs.Commands.{OPEN_LIMIT, answer, carried_out, change, change_by, command as command_in, command_by, count_command, fault_of, look, next_op, open_command, refused, undertake}
+use Rattle.pg_step.specs.Commands.{OPEN_LIMIT, answer, carried_out, change, change_by, command as command_in}
+use Rattle.pg_step.specs.Commands.{command_by, count_command, fault_of, look, next_op, open_command, refused, undertake}
 use Rattle.pg_step.specs.Config.{Config, name_at, names_of, nodes_at, ports_at}
 use Rattle.pg_step.specs.FrameMachine.{losing_frame_machine, losing_machine_of, node_step, place_turn}
 use Rattle.pg_step.specs.LossLaws.{LosingFrameWorld}
@@ -39,7 +42,8 @@ use Rattle.pg_step.proofs.Once.{is_same, same_is}
 use Rattle.pg_history.specs.Reached.{FinishedAt}
 use Rattle.pg_history.proofs.ends.Apart.{pair_second, same_place}
 use Rattle.pg_history.proofs.steps.Made.{did_so, ended_by, took_so}
-use Rattle.pg_history.proofs.steps.Single.{Any, AnyUpdate, Makes as MakesTurn, OfSingle, attempt_so, ok_is, taken_so, tried_so}
+use Rattle.pg_history.proofs.steps.Single.{Any, AnyUpdate, Makes as MakesTurn, OfSingle}
+use Rattle.pg_history.proofs.steps.Single.{attempt_so, ok_is, taken_so, tried_so}
 use Rattle.pg_history.proofs.steps.Ways.{own_place, packet_there, pair_there, state_after}
 use Rattle.pg_loss.specs.Reached.{LosingReaches, steps_of}
 use Rattle.pg_loss.proofs.Homes.{AllOwn, Homed, passed_homed, start_homed}

@@ -1,5 +1,6 @@
 -- What the groups of a node are made of, where nodes are lost: what the exchanges that it took told, and the updates that it applied.
-use Rattle.std.proofs.Common.{◌≡◌, ◌≢◌, ◌⊎◌, inl, inr, ℕ, Bool, true, false, not, ◌||◌, cond, nat_eq, length, List, [], ◌∷◌, ◌++◌, Option, Some, None, refl, ap, sym, ◌∙◌, subst}
+use Rattle.std.proofs.Common.{◌≡◌, ◌≢◌, ◌⊎◌, inl, inr, ℕ, Bool, true, false, not, ◌||◌, cond, nat_eq}
+use Rattle.std.proofs.Common.{length, List, [], ◌∷◌, ◌++◌, Option, Some, None, refl, ap, sym, ◌∙◌, subst}
 use Rattle.std.specs.List.{IsDistinct}
 use Rattle.std.proofs.Math.Path.{fun_ext}
 use Rattle.std.proofs.lemmas.Bool.{cases_eq, eq-eqb, ne_eqb}
@@ -18,7 +19,8 @@ use Rattle.pg_message.specs.declared.message.Message.TheVariants.{Exchange}
 use Rattle.pg_machine.specs.Clocked.{Stamped, packets_of}
 use Rattle.pg_machine.specs.Happened.{Happened}
 use Rattle.pg_machine.specs.Losing.{Noticed, Sent, Last, LosingEvent, Lose, Step, nobody_gone}
-use Rattle.pg_machine.specs.Machine.{Do, Event, Input, Take, Taken, Turn, World, first_from, input_of, node_of, start_of}
+use Rattle.pg_machine.specs.Machine.{Do, Event, Input, Take, Taken, Turn, World}
+use Rattle.pg_machine.specs.Machine.{first_from, input_of, node_of, start_of}
 use Rattle.pg_machine.specs.Places.{is_pair}
 use Rattle.pg_machine.proofs.Options.{some_is}
 use Rattle.pg_machine.proofs.Steps.{changes, pair_apart}

@@ -1,5 +1,6 @@
 -- A node that is not formed holds no lock, and who begins an update is formed, also where nodes are lost.
-use Rattle.std.proofs.Common.{◌≡◌, ◌≢◌, ◌⊎◌, inl, inr, ℕ, Bool, true, false, not, ◌&&◌, cond, List, [], ◌∷◌, Some, None, refl, ap, sym, ◌∙◌, subst}
+use Rattle.std.proofs.Common.{◌≡◌, ◌≢◌, ◌⊎◌, inl, inr, ℕ, Bool, true, false, not, ◌&&◌}
+use Rattle.std.proofs.Common.{cond, List, [], ◌∷◌, Some, None, refl, ap, sym, ◌∙◌, subst}
 use Rattle.std.specs.List.{filter, list_all}
 use Rattle.pg_term.specs.declared.pid.Pid.{Pid}
 use Rattle.pg_term.specs.declared.term.Term.{Term}

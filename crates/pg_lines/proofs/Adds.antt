@@ -1,6 +1,7 @@
 -- Texts that are appended one after another.
 use Rattle.std.specs.List.{flat_map}
-use Rattle.std.proofs.Common.{zero, length, take, get_or, suc, subst, arith, ◌≡◌, ℕ, List, [], ◌∷◌, ◌++◌, append_assoc, append-nil, refl, ap, sym, ◌∙◌}
+use Rattle.std.proofs.Common.{zero, length, take, get_or, suc, subst, arith, ◌≡◌, ℕ, List}
+use Rattle.std.proofs.Common.{[], ◌∷◌, ◌++◌, append_assoc, append-nil, refl, ap, sym, ◌∙◌}
 use Rattle.std.specs.Prelude.{◌<◌, ◌^◌, decimal, Result, Ok, Err, is_ok, OnOk, if◌then◌else◌}
 use Rattle.std.proofs.lemmas.Str.{encodes-chars, encodes-IsAscii}
 use Rattle.std.proofs.lemmas.Fmt.{IsAscii-decimal}

@@ -1,5 +1,6 @@
 -- Lists whose first element is apart.
-use Rattle.std.proofs.Common.{◌≡◌, ℕ, ◌≤◌, List, [], ◌∷◌, ◌++◌, ◌-◌, take, drop, length, get_or, arith, ap, ap₂, sym, ◌∙◌, refl}
+use Rattle.std.proofs.Common.{◌≡◌, ℕ, ◌≤◌, List, [], ◌∷◌, ◌++◌, ◌-◌, take, drop}
+use Rattle.std.proofs.Common.{length, get_or, arith, ap, ap₂, sym, ◌∙◌, refl}
 use Rattle.std.proofs.lemmas.Grind.{common_steps}
 use Rattle.pg_term.specs.declared.pid.Pid.{Pid}
 use Rattle.pg_term.specs.declared.term.Term.{Term}

@@ -1,5 +1,6 @@
 -- Words of a line.
-use Rattle.std.proofs.Common.{◌≡◌, ℕ, suc, ◌+◌, ◌<◌, ◌≤◌, Bool, true, false, List, [], ◌∷◌, length, take, drop, get_or, if◌then◌else◌, arith, rules, refl, ap, sym, subst, add-one, ◌∙◌}
+use Rattle.std.proofs.Common.{◌≡◌, ℕ, suc, ◌+◌, ◌<◌, ◌≤◌, Bool, true, false, List, [], ◌∷◌, length, take}
+use Rattle.std.proofs.Common.{drop, get_or, if◌then◌else◌, arith, rules, refl, ap, sym, subst, add-one, ◌∙◌}
 use Rattle.std.proofs.lemmas.Bool.Decides.{nat_tests}
 use Rattle.std.specs.Prelude.{slice_range, ◌-◌, Option, Some, None, ◌==◌}
 use Rattle.pg_lines.specs.declared.words.Stand.{Stand}

@@ -4,7 +4,8 @@ use Rattle.std.specs.Str.{bytes_eq, chars}
 use Rattle.pg_term.specs.declared.pid.Pid.{Pid}
 use Rattle.pg_term.specs.declared.term.Term.{Term}
 use Rattle.pg_step.specs.declared.command.Command.{Command}
-use Rattle.pg_step.specs.declared.command.Command.TheVariants.{Create, Delete, Join, Leave, Make, Finish, Members, LocalMembers, WhichGroups, Closest}
+use Rattle.pg_step.specs.declared.command.Command.TheVariants.{Create, Delete, Join, Leave, Make, Finish}
+use Rattle.pg_step.specs.declared.command.Command.TheVariants.{Members, LocalMembers, WhichGroups, Closest}
 use Rattle.pg_text.specs.Reading.{atom_of, term_of, pid_of, number_of}
 use Rattle.pg_lines.specs.declared.forms.TheConstants.{MAX_MOVED, MAX_ROUNDS}
 use Rattle.pg_lines.specs.declared.keyword.Keyword.{Keyword}

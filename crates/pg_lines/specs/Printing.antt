@@ -5,7 +5,8 @@ use Rattle.pg_term.specs.declared.pid.Pid.{Pid}
 use Rattle.pg_term.specs.declared.term.Term.{Term}
 use Rattle.pg_step.specs.declared.answer.Answer.{Answer}
 use Rattle.pg_step.specs.declared.answer.Reply.{Reply}
-use Rattle.pg_step.specs.declared.answer.Reply.TheVariants.{Ok, Made, Pids, Closest, Groups, NoSuchGroup, NoProcess, Refused}
+use Rattle.pg_step.specs.declared.answer.Reply.TheVariants.{Ok, Made, Pids, Closest, Groups}
+use Rattle.pg_step.specs.declared.answer.Reply.TheVariants.{NoSuchGroup, NoProcess, Refused}
 use Rattle.pg_text.specs.Writing.{atom_text, pid_text, term_text}
 
 -- ---- answers

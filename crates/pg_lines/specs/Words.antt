@@ -1,5 +1,6 @@
 -- The words of a line, which single spaces part; a space within single quotes belongs to its word.
-use Rattle.std.specs.Prelude.{◌≡◌, ℕ, suc, List, [], ◌∷◌, Bool, true, false, ◌==◌, if◌then◌else◌, Option, Some, None, option_map}
+use Rattle.std.specs.Prelude.{◌≡◌, ℕ, suc, List, [], ◌∷◌, Bool, true, false, ◌==◌}
+use Rattle.std.specs.Prelude.{if◌then◌else◌, Option, Some, None, option_map}
 use Rattle.pg_lines.specs.declared.words.Stand.{Stand}
 use Rattle.pg_lines.specs.declared.words.Stand.TheVariants.{Bare, Quoted, Escaped}
 use Rattle.pg_lines.specs.declared.words.Words.{Words}

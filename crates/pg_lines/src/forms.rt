@@ -4,7 +4,9 @@ ghost use Rattle.std.specs.Prelude.{◌≡◌, ◌≢◌, [], Some, None, IfOk, 
 ghost use Rattle.pg_lines.specs.declared.keyword.NodeKeyword.TheVariants.{Join, Leave, Closest};
 ghost use Rattle.pg_text.specs.declared.fault.TextFault.TheVariants.{BadText};
 ghost use Rattle.pg_lines.specs.Words.{words_left};
-ghost use Rattle.pg_lines.specs.Forms.{atom_in, term_in, pid_in, pids_in, number_in, number_or, keyword_in, made_in, node_line, has_line, settle_line, pair_form, pair_line, node_form, at_line, line_in, line_of};
+ghost use Rattle.pg_lines.specs.Forms.{atom_in, term_in, pid_in, pids_in, number_in, number_or};
+ghost use Rattle.pg_lines.specs.Forms.{keyword_in, made_in, node_line, has_line, settle_line};
+ghost use Rattle.pg_lines.specs.Forms.{pair_form, pair_line, node_form, at_line, line_in, line_of};
 
 use crate::keyword::{Keyword, NodeKeyword, PairKeyword, keyword_of};
 use crate::line::{Line, NodeForm, PairForm};

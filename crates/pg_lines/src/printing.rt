@@ -4,7 +4,9 @@ ghost use Rattle.std.specs.Prelude.{◌≡◌, OnOk, map, string_bytes};
 ghost use Rattle.std.specs.List.{flat_map};
 ghost use Rattle.std.specs.Str.{chars};
 ghost use Rattle.pg_text.specs.Writing.{Adds, more_text, pid_text, term_text, terms_text};
-ghost use Rattle.pg_lines.specs.Printing.{answer_line, reply_text, error_text, pids_text, names_text, lock_line, outbox_line, refused_line, refused_text, listed_pids, listed_names, more_pids, more_names, state_text as lock_state};
+ghost use Rattle.pg_lines.specs.Printing.{answer_line, reply_text, error_text, pids_text, names_text};
+ghost use Rattle.pg_lines.specs.Printing.{lock_line, outbox_line, refused_line, refused_text, listed_pids};
+ghost use Rattle.pg_lines.specs.Printing.{listed_names, more_pids, more_names, state_text as lock_state};
 
 use crate::adding::{add_char, add_number, add_text};
 use pg_step::{Answer, Reply};

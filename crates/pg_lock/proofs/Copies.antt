@@ -1,5 +1,6 @@
 -- A map of holders that is copied name by name.
-use Rattle.std.proofs.Common.{◌≡◌, suc, Bool, true, false, cond, Option, Some, None, List, [], ◌∷◌, refl, sym, ap, subst, ◌∙◌, arith}
+use Rattle.std.proofs.Common.{◌≡◌, suc, Bool, true, false, cond, Option, Some, None}
+use Rattle.std.proofs.Common.{List, [], ◌∷◌, refl, sym, ap, subst, ◌∙◌, arith}
 use Rattle.std.specs.BTreeMap.{BTreeMap, get, is_at}
 use Rattle.std.specs.List.{All}
 use Rattle.std.specs.Map.{lookup}

@@ -1,5 +1,6 @@
 -- The locks after names changed their holders: those of a sorted list, and those beyond it.
-use Rattle.std.proofs.Common.{◌≡◌, ℕ, ◌<◌, ◌≤◌, Bool, true, false, not, ◌&&◌, cond, if◌then◌else◌, Option, Some, None, Result, Ok, Err, List, length, get_or, refl, sym, ap, subst, ◌∙◌}
+use Rattle.std.proofs.Common.{◌≡◌, ℕ, ◌<◌, ◌≤◌, Bool, true, false, not, ◌&&◌, cond, if◌then◌else◌, Option}
+use Rattle.std.proofs.Common.{Some, None, Result, Ok, Err, List, length, get_or, refl, sym, ap, subst, ◌∙◌}
 use Rattle.std.proofs.Math.Path.{fun_ext}
 use Rattle.std.specs.BTreeMap.{BTreeMap, get, is_at, IsOrdered, UpdatesBy}
 use Rattle.std.specs.List.{filter, insert, remove}
@@ -14,7 +15,8 @@ use Rattle.pg_term.specs.Same.{same_atom, same_term, term_cmp}
 use Rattle.pg_term.specs.contracts.term.TermOrd.TheImpl.Laws as term_laws
 use Rattle.pg_lock.specs.Holders.{AreSorted, AreApart, holder_among, holder_in, first_holder, IsPlace}
 use Rattle.pg_lock.specs.Locks.{held, freed_of, without_node}
-use Rattle.pg_lock.proofs.Sorted.{Holder, laws, named, found, absent, sorted_with, among_with, sorted_without, among_without, sorted_passing}
+use Rattle.pg_lock.proofs.Sorted.{Holder, laws, named, found, absent, sorted_with}
+use Rattle.pg_lock.proofs.Sorted.{among_with, sorted_without, among_without, sorted_passing}
 
 abbrev Beyond : Type 0
 Beyond = BTreeMap Term RefParts

@@ -1,4 +1,5 @@
-ghost use Rattle.std.specs.Prelude.{◌≡◌, ◌↔◌, ◌≤◌, IsTrue, false, Ok, Err, None, Some, IsSome, IfSome, IfOk, OnOk, OnErr, length};
+ghost use Rattle.std.specs.Prelude.{◌≡◌, ◌↔◌, ◌≤◌, IsTrue, false, Ok, Err, None};
+ghost use Rattle.std.specs.Prelude.{Some, IsSome, IfSome, IfOk, OnOk, OnErr, length};
 ghost use Rattle.std.specs.BTreeMap.{get, IsOrdered};
 ghost use Rattle.std.specs.List.{list_all};
 ghost use Rattle.std.specs.List.Sorted.{IsSearchInRange, IsStrictlySortedBy-prop};
@@ -27,7 +28,8 @@ pub struct LockTable {
 }
 
 impl LockTable {
-    ghost use Rattle.pg_lock.specs.Locks.{locks_of, held, grants, after_ask, given_up, is_free, is_holder, holds_so, without_node};
+    ghost use Rattle.pg_lock.specs.Locks.{locks_of, held, grants, after_ask, given_up};
+    ghost use Rattle.pg_lock.specs.Locks.{is_free, is_holder, holds_so, without_node};
 
     /// No name has a holder.
     ///

@@ -1,5 +1,6 @@
 -- What commands asked for, and how they were answered, where nodes are lost.
-use Rattle.std.proofs.Common.{◌≡◌, ◌⊎◌, inl, inr, ℕ, ◌<◌, true, length, List, [], ◌∷◌, ◌++◌, Some, refl, ap, sym, ◌∙◌, subst}
+use Rattle.std.proofs.Common.{◌≡◌, ◌⊎◌, inl, inr, ℕ, ◌<◌, true, length, List}
+use Rattle.std.proofs.Common.{[], ◌∷◌, ◌++◌, Some, refl, ap, sym, ◌∙◌, subst}
 use Rattle.std.specs.List.{AllByRecursion}
 use Rattle.std.proofs.lemmas.Bool.{cases_eq}
 use Rattle.std.proofs.lemmas.List.{append-nil, append_assoc}
@@ -23,7 +24,8 @@ use Rattle.pg_step.specs.State.{State, Status, Use}
 use Rattle.pg_step.specs.State.Use.{Fresh, Locking, Owning, Updating, Spent}
 use Rattle.pg_step.specs.Step.{CLOCK_LIMIT, Action}
 use Rattle.pg_step.specs.Turns.{Report}
-use Rattle.pg_history.specs.History.{Entry, IsAnsweredOk, answered_count, answers_by, command_at, entries, issued, ok_means_lock}
+use Rattle.pg_history.specs.History.{Entry, IsAnsweredOk, answered_count, answers_by}
+use Rattle.pg_history.specs.History.{command_at, entries, issued, ok_means_lock}
 use Rattle.pg_history.proofs.commands.Answered.{Silent}
 use Rattle.pg_history.proofs.commands.AnsweredRuns.{AllOk, NeedsNone, OkIn, elsewhere_ok, event_ok, own_ok, start_ok}
 use Rattle.pg_history.proofs.commands.Asked.{HasAsked}

@@ -1,6 +1,7 @@
 -- Each world of a run with losses shows a world by names of which all is held that the locks give. There nothing is cut from
 -- the ways: a node that is lost is one that does nothing more, until its loss is seen.
-use Rattle.std.proofs.Common.{◌≡◌, ◌≢◌, ◌⊎◌, inl, inr, ℕ, Bool, true, false, not, ◌&&◌, ◌||◌, cond, length, map, take, drop, List, [], ◌∷◌, ◌++◌, Some, None, Ok, refl, ap, sym, ◌∙◌, subst}
+use Rattle.std.proofs.Common.{◌≡◌, ◌≢◌, ◌⊎◌, inl, inr, ℕ, Bool, true, false, not, ◌&&◌, ◌||◌, cond, length}
+use Rattle.std.proofs.Common.{map, take, drop, List, [], ◌∷◌, ◌++◌, Some, None, Ok, refl, ap, sym, ◌∙◌, subst}
 use Rattle.std.specs.List.{IsDistinct, filter, list_any}
 use Rattle.std.proofs.Math.Path.{fun_ext}
 use Rattle.std.proofs.lemmas.Bool.{cases_eq, eqb-true}

@@ -1,5 +1,6 @@
 -- Each world of a run with losses shows a world by names of which all is held, and no reply of it was odd.
-use Rattle.std.proofs.Common.{◌≡◌, ◌≢◌, ◌⊎◌, inl, inr, ℕ, Bool, true, false, not, ◌&&◌, cond, nat_eq, length, take, List, [], ◌∷◌, ◌++◌, Some, None, refl, ap, sym, ◌∙◌, subst}
+use Rattle.std.proofs.Common.{◌≡◌, ◌≢◌, ◌⊎◌, inl, inr, ℕ, Bool, true, false, not, ◌&&◌, cond, nat_eq}
+use Rattle.std.proofs.Common.{length, take, List, [], ◌∷◌, ◌++◌, Some, None, refl, ap, sym, ◌∙◌, subst}
 use Rattle.std.specs.List.{AllByRecursion, IsDistinct}
 use Rattle.std.proofs.lemmas.Bool.{cases_eq, ne_eqb}
 use Rattle.pg_term.specs.Same.{same_atom}
@@ -26,7 +27,8 @@ use Rattle.pg_history.proofs.places.Shown.{IsHere, Shows}
 use Rattle.pg_history.proofs.steps.Lossless.{left_all}
 use Rattle.pg_history.proofs.steps.Ways.{all_both}
 use Rattle.pg_loss.specs.Reached.{LosingReaches}
-use Rattle.pg_loss.proofs.Bridge.{Has, Left, cut_left, did_even, did_has, did_turn, did, heard_turn, not_true, saw_has, took_even, took_has}
+use Rattle.pg_loss.proofs.Bridge.{Has, Left, cut_left, did_even, did_has, did_turn, did}
+use Rattle.pg_loss.proofs.Bridge.{heard_turn, not_true, saw_has, took_even, took_has}
 use Rattle.pg_loss.proofs.Lasts.{unheard_input}
 use Rattle.pg_loss.proofs.Lossy.{Lossy, bare, silent, Passed, Went, Died, kept_past, Makes, Steps, Sees, makes}
 

@@ -4,7 +4,8 @@ use Rattle.std.proofs.Common.{◌≡◌, ℕ, List, [], ◌∷◌, ◌++◌, Som
 use Rattle.pg_message.specs.declared.message.Message.{Message}
 use Rattle.pg_machine.specs.Happened.{Happened}
 use Rattle.pg_machine.specs.Losing.{Noticed, Sent, LosingEvent, mapped_turn, nobody_gone}
-use Rattle.pg_machine.specs.Machine.{Input, Turn, Event, Take, Do, Taken, Own, first_from, input_of, node_of, perform, start_of, without_input}
+use Rattle.pg_machine.specs.Machine.{Input, Turn, Event, Take, Do, Taken, Own, first_from}
+use Rattle.pg_machine.specs.Machine.{input_of, node_of, perform, start_of, without_input}
 use Rattle.pg_machine.specs.Places.{set_at}
 use Rattle.pg_machine.proofs.Options.{some_is}
 use Rattle.pg_machine.proofs.Plain.{plain_start}

@@ -1,6 +1,7 @@
 -- Where nothing is on the way to a node that is not lost, that node is formed: the exchange of each other is on the way until it
 -- is merged, or the other is lost.
-use Rattle.std.proofs.Common.{◌≡◌, ◌≢◌, ◌⊎◌, inl, inr, ℕ, Bool, true, false, cond, length, map, List, [], ◌∷◌, ◌++◌, refl, ap, sym, ◌∙◌, subst}
+use Rattle.std.proofs.Common.{◌≡◌, ◌≢◌, ◌⊎◌, inl, inr, ℕ, Bool, true, false, cond, length}
+use Rattle.std.proofs.Common.{map, List, [], ◌∷◌, ◌++◌, refl, ap, sym, ◌∙◌, subst}
 use Rattle.std.specs.List.{IsDistinct}
 use Rattle.pg_term.specs.Same.{same_atom}
 use Rattle.pg_group.specs.Functions.{upd}
@@ -41,7 +42,8 @@ use Rattle.pg_loss.proofs.Carried.{IsKept, carried_past}
 use Rattle.pg_loss.proofs.Lasts.{made_stays}
 use Rattle.pg_loss.proofs.Lossy.{Lossy, bare, Passed, Went, Died, kept_past, Makes, Steps, Sees, makes}
 use Rattle.pg_loss.proofs.Retries.{lost_waits}
-use Rattle.pg_loss.proofs.Unharmed.{Posts, elsewhere, noted_packet, passed_posts, same_input, start_posts, told, told_of}
+use Rattle.pg_loss.proofs.Unharmed.{Posts, elsewhere, noted_packet, passed_posts}
+use Rattle.pg_loss.proofs.Unharmed.{same_input, start_posts, told, told_of}
 
 -- where the exchange of a node that is not lost is not on the way it was merged
 abbrev Owed : Config → Lossy → Type 0

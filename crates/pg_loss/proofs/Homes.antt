@@ -1,5 +1,6 @@
 -- An end that a node has taken is at the home of its process, or the node has seen the loss of the home.
-use Rattle.std.proofs.Common.{◌≡◌, ◌⊎◌, inl, inr, ℕ, Bool, true, false, ◌||◌, cond, length, map, take, List, [], ◌∷◌, ◌++◌, refl, ap, sym, ◌∙◌, subst, zero, suc}
+use Rattle.std.proofs.Common.{◌≡◌, ◌⊎◌, inl, inr, ℕ, Bool, true, false, ◌||◌, cond, length, map}
+use Rattle.std.proofs.Common.{take, List, [], ◌∷◌, ◌++◌, refl, ap, sym, ◌∙◌, subst, zero, suc}
 use Rattle.std.specs.List.{AllByRecursion}
 use Rattle.pg_term.specs.declared.pid.Pid.{Pid}
 use Rattle.pg_term.specs.Same.{same_atom}
@@ -24,7 +25,8 @@ use Rattle.pg_history.specs.Sent.{end_of, ends_in}
 use Rattle.pg_history.proofs.ends.Apart.{pair_second}
 use Rattle.pg_history.proofs.references.Keys.{atoms, read_at}
 use Rattle.pg_history.proofs.steps.Made.{StepMakes, Talking, Merging, Ending, ended_by, sends_own_ends, step_makes}
-use Rattle.pg_history.proofs.steps.Ways.{WayAfter, Grown, Shorter, Unchanged, all_both, all_since, own_place, packet_there, pair_there, state_after, way_after}
+use Rattle.pg_history.proofs.steps.Ways.{WayAfter, Grown, Shorter, Unchanged, all_both, all_since}
+use Rattle.pg_history.proofs.steps.Ways.{own_place, packet_there, pair_there, state_after, way_after}
 use Rattle.pg_loss.specs.Agreeing.{EndedHome}
 use Rattle.pg_loss.specs.Reached.{LosingReaches}
 use Rattle.pg_loss.proofs.Lasts.{event_stays}

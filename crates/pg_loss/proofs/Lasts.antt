@@ -1,6 +1,7 @@
 -- What lasts though nodes are lost: what was reported, and with it answers and histories; formation, ends and seen losses;
 -- a lost node does nothing more, and nobody hears it who saw its loss.
-use Rattle.std.proofs.Common.{◌≡◌, ◌≢◌, ℕ, Bool, true, false, ◌||◌, cond, List, [], ◌∷◌, ◌++◌, Some, None, refl, ap, sym, ◌∙◌, subst}
+use Rattle.std.proofs.Common.{◌≡◌, ◌≢◌, ℕ, Bool, true, false, ◌||◌, cond, List, []}
+use Rattle.std.proofs.Common.{◌∷◌, ◌++◌, Some, None, refl, ap, sym, ◌∙◌, subst}
 use Rattle.std.specs.Prelude.{option_map, Err}
 use Rattle.std.proofs.lemmas.Bool.{ne_eqb}
 use Rattle.std.proofs.lemmas.List.{append-nil, append_assoc}
@@ -18,7 +19,8 @@ use Rattle.pg_machine.proofs.Places.{by_place}
 use Rattle.pg_machine.proofs.Sequences.{told_by_append}
 use Rattle.pg_machine.proofs.Steps.{changes}
 use Rattle.pg_step.specs.Config.{Config, name_at, nodes_at}
-use Rattle.pg_step.specs.FrameMachine.{losing_machine_of, losing_frame_machine, last_notice, node_step, place_turn, placed}
+use Rattle.pg_step.specs.FrameMachine.{losing_machine_of, losing_frame_machine}
+use Rattle.pg_step.specs.FrameMachine.{last_notice, node_step, place_turn, placed}
 use Rattle.pg_step.specs.Losses.{see_loss}
 use Rattle.pg_step.specs.LossLaws.{LosingFrameWorld}
 use Rattle.pg_step.specs.Nodes.{Node}

@@ -1,5 +1,6 @@
 -- A run in which nodes are lost, seen without its clocks: what each of its events is, and what its nodes make of it.
-use Rattle.std.proofs.Common.{◌≡◌, ℕ, Bool, true, false, not, ◌&&◌, cond, length, take, List, [], ◌∷◌, ◌++◌, Some, None, refl, ap, sym, ◌∙◌, subst}
+use Rattle.std.proofs.Common.{◌≡◌, ℕ, Bool, true, false, not, ◌&&◌, cond, length, take}
+use Rattle.std.proofs.Common.{List, [], ◌∷◌, ◌++◌, Some, None, refl, ap, sym, ◌∙◌, subst}
 use Rattle.std.specs.Prelude.{option_map}
 use Rattle.std.specs.Cmp.{first_so, second_so}
 use Rattle.std.proofs.Math.Path.{fun_ext}
@@ -8,14 +9,16 @@ use Rattle.pg_message.specs.declared.message.Message.{Message}
 use Rattle.pg_machine.specs.Machine.{Input, Turn, Event, Taken, Own, node_of, happens}
 use Rattle.pg_machine.specs.Clocked.{Stamped, TimedWorld, packets_of, plain}
 use Rattle.pg_machine.specs.Happened.{Happened}
-use Rattle.pg_machine.specs.Losing.{Noticed, Sent, Last, LosingWorld, LosingEvent, Step, Lose, LosingLeads, losing_happens, can_keep, stopped, mapped_turn}
+use Rattle.pg_machine.specs.Losing.{Noticed, Sent, Last, LosingWorld, LosingEvent, Step, Lose}
+use Rattle.pg_machine.specs.Losing.{LosingLeads, losing_happens, can_keep, stopped, mapped_turn}
 use Rattle.pg_machine.specs.Places.{is_place, is_pair, set_at}
 use Rattle.pg_machine.proofs.Options.{some_is, map_is_some, cond_is_some}
 use Rattle.pg_machine.proofs.Places.{set_at_map}
 use Rattle.pg_machine.proofs.Plain.{plain_event}
 use Rattle.pg_machine.proofs.Steps.{happened}
 use Rattle.pg_step.specs.Config.{Config, name_at}
-use Rattle.pg_step.specs.FrameMachine.{FrameWorld, losing_machine_of, losing_frame_machine, last_notice, node_step, place_turn}
+use Rattle.pg_step.specs.FrameMachine.{FrameWorld, losing_machine_of, losing_frame_machine}
+use Rattle.pg_step.specs.FrameMachine.{last_notice, node_step, place_turn}
 use Rattle.pg_step.specs.Losses.{see_loss}
 use Rattle.pg_step.specs.LossLaws.{LosingFrameWorld}
 use Rattle.pg_step.specs.State.{State}

@@ -1,5 +1,7 @@
 -- An end that the home of its process has is of a process that the home made: it ends by a command that is refused else.
-use Rattle.std.proofs.Common.{◌≡◌, ◌⊎◌, inl, inr, ℕ, ◌+◌, Bool, true, false, not, ◌&&◌, ◌||◌, cond, nat_eq, nat_le, nat_lt, length, List, [], ◌∷◌, Option, Some, None, Ok, Err, refl, ap, sym, ◌∙◌, subst, arith}
+use Rattle.std.proofs.Common.{◌≡◌, ◌⊎◌, inl, inr, ℕ, ◌+◌, Bool, true, false, not, ◌&&◌}
+use Rattle.std.proofs.Common.{◌||◌, cond, nat_eq, nat_le, nat_lt, length, List, [], ◌∷◌}
+use Rattle.std.proofs.Common.{Option, Some, None, Ok, Err, refl, ap, sym, ◌∙◌, subst, arith}
 use Rattle.std.specs.List.{IsDistinct}
 use Rattle.std.proofs.lemmas.Bool.{eq-eqb}
 use Rattle.std.proofs.lemmas.Bool.Decides.{nat_tests}
@@ -19,7 +21,9 @@ use Rattle.pg_machine.specs.Places.{is_place}
 use Rattle.pg_machine.proofs.Plain.{plain_start}
 use Rattle.pg_machine.proofs.Steps.{pair_apart}
 use Rattle.pg_step.specs.Attempts.{attempt, same_op, tried_again, waits}
-use Rattle.pg_step.specs.Commands.{OPEN_LIMIT, answer, carried_out, change, change_by, command as command_in, command_by, count_command, end_process, fault_of, look, next_op, open_command, refused, undertake}
+use Rattle.pg_step.specs.Commands.{OPEN_LIMIT, answer, carried_out, change, change_by}
+use Rattle.pg_step.specs.Commands.{command as command_in, command_by, count_command, end_process}
+use Rattle.pg_step.specs.Commands.{fault_of, look, next_op, open_command, refused, undertake}
 use Rattle.pg_step.specs.Config.{Config, name_at, names_of, nodes_at, ports_at}
 use Rattle.pg_step.specs.Faults.{first_that_holds}
 use Rattle.pg_step.specs.FrameMachine.{losing_frame_machine, losing_machine_of, node_step, place_turn}
@@ -34,12 +38,14 @@ use Rattle.pg_step.specs.declared.command.Command.{Command}
 use Rattle.pg_step.specs.declared.command.Command.TheVariants as command
 use Rattle.pg_step.specs.declared.command.OpId.{OpId}
 use Rattle.pg_step.specs.declared.command_fault.CommandFault.{CommandFault}
-use Rattle.pg_step.specs.declared.command_fault.CommandFault.TheVariants.{Busy, NameTooLarge, ForeignPid, NotFormed, NotMade, AlreadyEnded, ProcessLimit}
+use Rattle.pg_step.specs.declared.command_fault.CommandFault.TheVariants.{Busy, NameTooLarge, ForeignPid, NotFormed}
+use Rattle.pg_step.specs.declared.command_fault.CommandFault.TheVariants.{NotMade, AlreadyEnded, ProcessLimit}
 use Rattle.pg_step.specs.declared.refusal.Refusal.TheVariants.{NoSuchPlace, NotWaiting}
 use Rattle.pg_step.proofs.Once.{is_same, same_is}
 use Rattle.pg_history.proofs.ends.Apart.{pair_second, same_place}
 use Rattle.pg_history.proofs.steps.Made.{did_so, ended_by, took_so}
-use Rattle.pg_history.proofs.steps.Single.{Any, AnyUpdate, Makes as MakesTurn, OfSingle, attempt_so, ok_is, taken_so, tried_so}
+use Rattle.pg_history.proofs.steps.Single.{Any, AnyUpdate, Makes as MakesTurn, OfSingle}
+use Rattle.pg_history.proofs.steps.Single.{attempt_so, ok_is, taken_so, tried_so}
 use Rattle.pg_history.proofs.steps.Ways.{own_place, packet_there, pair_there, state_after}
 use Rattle.pg_loss.specs.Reached.{LosingReaches}
 use Rattle.pg_loss.proofs.Homes.{AllOwn, Homed, passed_homed, start_homed}

@@ -1,5 +1,6 @@
 -- A node sees the loss of another: all stays that is held of the locks.
-use Rattle.std.proofs.Common.{◌≡◌, ◌≢◌, ℕ, ◌+◌, ◌<◌, ◌≤◌, Bool, true, false, not, ◌&&◌, cond, Option, Some, None, refl, ap, sym, ◌∙◌, subst, inl, inr, ◌⊎◌, arith}
+use Rattle.std.proofs.Common.{◌≡◌, ◌≢◌, ℕ, ◌+◌, ◌<◌, ◌≤◌, Bool, true, false, not, ◌&&◌, cond}
+use Rattle.std.proofs.Common.{Option, Some, None, refl, ap, sym, ◌∙◌, subst, inl, inr, ◌⊎◌, arith}
 use Rattle.std.specs.List.{list_any}
 use Rattle.pg_term.specs.declared.term.Term.{Term}
 use Rattle.pg_term.specs.RefParts.{RefParts, ref_eq}
@@ -21,7 +22,8 @@ use Rattle.pg_history.proofs.references.Fitting.{is_changing}
 use Rattle.pg_history.proofs.references.Keys.{atoms, split, at_read, read_at, read_other}
 use Rattle.pg_history.proofs.references.References.{references}
 use Rattle.pg_history.specs.Exclusive.{IsUpdateOf}
-use Rattle.pg_history.proofs.locks.Kept.{Tale, Full, Due, Excused, IsOpOf, updating, IsUpdating, Inv, Latest, Lines, answers_of, live, near, opens, talk}
+use Rattle.pg_history.proofs.locks.Kept.{Tale, Full, Due, Excused, IsOpOf, updating, IsUpdating}
+use Rattle.pg_history.proofs.locks.Kept.{Inv, Latest, Lines, answers_of, live, near, opens, talk}
 use Rattle.pg_history.proofs.locks.Lines.{Line, Fits, FitsStatus, FitsReply}
 use Rattle.pg_history.proofs.locks.Named.{World, Entry}
 use Rattle.pg_history.proofs.locks.Seats.{Sits}

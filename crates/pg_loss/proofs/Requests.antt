@@ -1,6 +1,7 @@
 -- Whose requests for a lock a node sends, and who holds its locks behind a turn: a request is of the node itself, and a new
 -- holder is a reference of the node itself, or of the peer whose request was taken.
-use Rattle.std.proofs.Common.{◌≡◌, ◌⊎◌, inl, inr, ℕ, ◌+◌, Bool, true, false, ◌&&◌, cond, nat_le, nat_lt, [], ◌∷◌, Option, Some, None, Ok, Err, refl, ap, sym, ◌∙◌, subst}
+use Rattle.std.proofs.Common.{◌≡◌, ◌⊎◌, inl, inr, ℕ, ◌+◌, Bool, true, false, ◌&&◌, cond, nat_le}
+use Rattle.std.proofs.Common.{nat_lt, [], ◌∷◌, Option, Some, None, Ok, Err, refl, ap, sym, ◌∙◌, subst}
 use Rattle.std.specs.List.{AllByRecursion}
 use Rattle.pg_term.specs.declared.term.Term.{Term}
 use Rattle.pg_term.specs.RefParts.{RefParts}
@@ -24,8 +25,11 @@ use Rattle.pg_step.specs.declared.command.OpId.{OpId}
 use Rattle.pg_step.specs.declared.command_fault.CommandFault.{CommandFault}
 use Rattle.pg_step.specs.declared.command_fault.CommandFault.TheVariants.{Busy}
 use Rattle.pg_step.specs.declared.refusal.Refusal.TheVariants.{NoSuchPlace, NotAMessage, NotWaiting}
-use Rattle.pg_step.specs.Attempts.{all_granted, none_missing, none_denied, round_of, asks, own_reference, new_attempt, ask, give_up, begin, finish, count_answer, count_ok, replies_in, locks_in, go_on, attempt, waits, tried_again, counted, use_of, lock_status}
-use Rattle.pg_step.specs.Commands.{OPEN_LIMIT, fault_of, look, answer, open_command, change_by, change, carried_out, command_by, next_op, count_command, command as command_in, refused}
+use Rattle.pg_step.specs.Attempts.{all_granted, none_missing, none_denied, round_of, asks, own_reference}
+use Rattle.pg_step.specs.Attempts.{new_attempt, ask, give_up, begin, finish, count_answer, count_ok, replies_in}
+use Rattle.pg_step.specs.Attempts.{locks_in, go_on, attempt, waits, tried_again, counted, use_of, lock_status}
+use Rattle.pg_step.specs.Commands.{OPEN_LIMIT, fault_of, look, answer, open_command, change_by, change}
+use Rattle.pg_step.specs.Commands.{carried_out, command_by, next_op, count_command, command as command_in, refused}
 use Rattle.pg_step.specs.Nodes.{Node, Nodes, every, greatest, is_peer, to_peers, to_one}
 use Rattle.pg_step.specs.Peers.{is_bad_exchange, exchange, ended_in, would_grant}
 use Rattle.pg_step.specs.State.{State, Status, Use, Stage}

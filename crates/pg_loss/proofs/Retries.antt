@@ -1,5 +1,6 @@
 -- Where nothing is on the way to a node that is not lost, each of its open commands waits for its retry.
-use Rattle.std.proofs.Common.{◌≡◌, ◌≢◌, ℕ, Bool, true, false, not, cond, length, map, List, [], ◌∷◌, ◌++◌, refl, ap, sym, ◌∙◌, subst}
+use Rattle.std.proofs.Common.{◌≡◌, ◌≢◌, ℕ, Bool, true, false, not, cond, length}
+use Rattle.std.proofs.Common.{map, List, [], ◌∷◌, ◌++◌, refl, ap, sym, ◌∙◌, subst}
 use Rattle.std.specs.Cmp.{first_so, second_so}
 use Rattle.std.specs.List.{IsDistinct, filter, list_all}
 use Rattle.std.proofs.lemmas.Bool.{and_from}
@@ -29,7 +30,8 @@ use Rattle.pg_history.proofs.locks.Kept.{live_own, talk}
 use Rattle.pg_history.proofs.locks.Lines.{Fits, backs, outs}
 use Rattle.pg_history.proofs.locks.Named.{World}
 use Rattle.pg_history.proofs.places.Shown.{IsHere}
-use Rattle.pg_history.proofs.quiet.Linked.{HasReference, HasUpdate, IsLockingOf, IsUnder, IsUpdatingOf, Linked, first_linked, step_linked}
+use Rattle.pg_history.proofs.quiet.Linked.{HasReference, HasUpdate, IsLockingOf, IsUnder}
+use Rattle.pg_history.proofs.quiet.Linked.{IsUpdatingOf, Linked, first_linked, step_linked}
 use Rattle.pg_history.proofs.quiet.Rest.{each_other, has_replied, not_asked, pair_of, place_there}
 use Rattle.pg_history.proofs.references.References.{about}
 use Rattle.pg_history.proofs.steps.Ways.{state_after}

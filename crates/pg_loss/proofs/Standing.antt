@@ -15,7 +15,8 @@ use Rattle.pg_step.specs.Turns.{nothing}
 use Rattle.pg_history.specs.History.{answers_by, entries, times, answered_count, has_answer, answers_to}
 use Rattle.pg_history.specs.ReferencesFit.{Fits, ReferencesFit}
 use Rattle.pg_history.proofs.commands.Stand.{Stands, Kept, chance, under_way, one_at_most}
-use Rattle.pg_history.proofs.commands.StandRuns.{StandsIn, Standing, event_stands, other_answers, own_answers, stands_later, stands_same, start_stands}
+use Rattle.pg_history.proofs.commands.StandRuns.{StandsIn, Standing, event_stands, other_answers}
+use Rattle.pg_history.proofs.commands.StandRuns.{own_answers, stands_later, stands_same, start_stands}
 use Rattle.pg_history.proofs.commands.StandTurns.{leaves_all}
 use Rattle.pg_loss.specs.Reached.{LosingReaches}
 use Rattle.pg_loss.proofs.Carried.{IsKept, after_loss, carried_past}

@@ -1,5 +1,6 @@
 -- Takes alone come to an end, whoever was lost. A last notice counts 1, and where a loss is seen a peer counts no more.
-use Rattle.std.proofs.Common.{◌≡◌, ◌≢◌, ◌⊎◌, inl, inr, ℕ, ◌+◌, ◌*◌, ◌<◌, ◌≤◌, Bool, true, false, not, ◌&&◌, cond, length, map, List, [], ◌∷◌, ◌++◌, Some, refl, ap, sym, ◌∙◌, subst, arith}
+use Rattle.std.proofs.Common.{◌≡◌, ◌≢◌, ◌⊎◌, inl, inr, ℕ, ◌+◌, ◌*◌, ◌<◌, ◌≤◌, Bool, true, false, not, ◌&&◌}
+use Rattle.std.proofs.Common.{cond, length, map, List, [], ◌∷◌, ◌++◌, Some, refl, ap, sym, ◌∙◌, subst, arith}
 use Rattle.std.specs.List.{IsDistinct, list_any}
 use Rattle.std.proofs.lemmas.Bool.{cases_eq}
 use Rattle.std.proofs.lemmas.Bool.Decides.{Decides-ltb}
@@ -29,8 +30,10 @@ use Rattle.pg_history.proofs.places.Shown.{IsHere}
 use Rattle.pg_history.proofs.quiet.Bounds.{at_most_two, node_light, own_no_peer}
 use Rattle.pg_history.proofs.quiet.Ending.{to_one_place}
 use Rattle.pg_history.proofs.quiet.Rest.{IsAtRest}
-use Rattle.pg_history.proofs.quiet.Sums.{total, total_add, total_all, total_change, total_changes, total_le, total_same, total_scale}
-use Rattle.pg_history.proofs.quiet.Weights.{Made, node_weight, packet_lessens, packet_weight, peers_fewer, sent_weight, status_weight, use_weight, weigh}
+use Rattle.pg_history.proofs.quiet.Sums.{total, total_add, total_all, total_change}
+use Rattle.pg_history.proofs.quiet.Sums.{total_changes, total_le, total_same, total_scale}
+use Rattle.pg_history.proofs.quiet.Weights.{Made, node_weight, packet_lessens, packet_weight}
+use Rattle.pg_history.proofs.quiet.Weights.{peers_fewer, sent_weight, status_weight, use_weight, weigh}
 use Rattle.pg_history.proofs.references.Keys.{atoms, cases, upd_at, upd_other}
 use Rattle.pg_history.proofs.steps.Lossless.{step_sees_none}
 use Rattle.pg_history.proofs.steps.Made.{took_so}

@@ -1,6 +1,7 @@
 -- No packet on the way to a node that is not lost is refused there, but by a full clock, where it is from a node whose loss was
 -- not seen.
-use Rattle.std.proofs.Common.{◌≡◌, ◌≢◌, ◌⊎◌, inl, inr, ℕ, Bool, true, false, not, ◌||◌, cond, length, map, take, drop, List, [], ◌∷◌, ◌++◌, Option, Some, None, Result, Ok, Err, refl, ap, sym, ◌∙◌, subst}
+use Rattle.std.proofs.Common.{◌≡◌, ◌≢◌, ◌⊎◌, inl, inr, ℕ, Bool, true, false, not, ◌||◌, cond, length, map, take, drop}
+use Rattle.std.proofs.Common.{List, [], ◌∷◌, ◌++◌, Option, Some, None, Result, Ok, Err, refl, ap, sym, ◌∙◌, subst}
 use Rattle.std.specs.Prelude.{option_map}
 use Rattle.std.specs.List.{IsDistinct}
 use Rattle.std.proofs.lemmas.List.{take-append-drop}
@@ -32,8 +33,10 @@ use Rattle.pg_history.specs.Sent.{exchange_of, exchanges_in}
 use Rattle.pg_history.proofs.ends.Apart.{pair_first, pair_second, same_place}
 use Rattle.pg_history.proofs.locks.Moved.{replies_taken}
 use Rattle.pg_history.proofs.references.Keys.{atoms, read_at, read_other}
-use Rattle.pg_history.proofs.steps.Made.{StepMakes, Talking, Merging, Ending, TellsNothing, sends_no_exchange, step_makes}
-use Rattle.pg_history.proofs.steps.Ways.{WayAfter, Grown, Shorter, Unchanged, pair_there, state_after, told_append, told_nothing, way_after}
+use Rattle.pg_history.proofs.steps.Made.{StepMakes, Talking, Merging, Ending}
+use Rattle.pg_history.proofs.steps.Made.{TellsNothing, sends_no_exchange, step_makes}
+use Rattle.pg_history.proofs.steps.Ways.{WayAfter, Grown, Shorter, Unchanged, pair_there}
+use Rattle.pg_history.proofs.steps.Ways.{state_after, told_append, told_nothing, way_after}
 use Rattle.pg_loss.specs.Reached.{LosingReaches}
 use Rattle.pg_loss.proofs.Bridge.{Has, Left, live_at, near_at, next_left, not_true}
 use Rattle.pg_loss.proofs.Lasts.{made_stays}

@@ -1,5 +1,6 @@
 -- No lock is held for a node whose loss was seen.
-use Rattle.std.proofs.Common.{◌≡◌, ◌⊎◌, inl, inr, ℕ, Bool, true, false, not, ◌&&◌, cond, nat_eq, take, length, zero, suc, List, [], ◌∷◌, ◌++◌, Option, Some, None, refl, ap, sym, ◌∙◌, subst}
+use Rattle.std.proofs.Common.{◌≡◌, ◌⊎◌, inl, inr, ℕ, Bool, true, false, not, ◌&&◌, cond, nat_eq, take, length}
+use Rattle.std.proofs.Common.{zero, suc, List, [], ◌∷◌, ◌++◌, Option, Some, None, refl, ap, sym, ◌∙◌, subst}
 use Rattle.std.proofs.lemmas.Bool.{ne_eqb}
 use Rattle.std.specs.Prelude.{map}
 use Rattle.std.specs.List.{AllByRecursion, IsDistinct}
@@ -30,7 +31,8 @@ use Rattle.pg_history.specs.WithLosses.{NoLockOfLost}
 use Rattle.pg_history.proofs.places.Located.{same_names}
 use Rattle.pg_history.proofs.steps.Lossless.{step_sees_none}
 use Rattle.pg_history.proofs.steps.Made.{took_so, did_so}
-use Rattle.pg_history.proofs.steps.Ways.{WayAfter, Grown, Shorter, Unchanged, all_both, own_place, packet_there, pair_there, state_after, way_after}
+use Rattle.pg_history.proofs.steps.Ways.{WayAfter, Grown, Shorter, Unchanged, all_both, own_place}
+use Rattle.pg_history.proofs.steps.Ways.{packet_there, pair_there, state_after, way_after}
 use Rattle.pg_loss.specs.Reached.{LosingReaches}
 use Rattle.pg_loss.proofs.Lasts.{unheard_so}
 use Rattle.pg_loss.proofs.Lossy.{Lossy, bare, Passed, Went, Died, kept_past, Makes, Steps, Sees, makes, noted}

@@ -22,7 +22,8 @@ use Rattle.pg_step.specs.State.{formed}
 use Rattle.pg_step.specs.Step.{Action}
 use Rattle.pg_step.specs.Turns.{Report}
 use Rattle.pg_history.specs.Counted.{CountsCommands}
-use Rattle.pg_history.specs.History.{Entry, IsAnsweredOk, answered_count, answers_by, answers_to, applied_by, command_at, entries, has_answer, history, ok_means_lock, times}
+use Rattle.pg_history.specs.History.{Entry, IsAnsweredOk, answered_count, answers_by, answers_to, applied_by}
+use Rattle.pg_history.specs.History.{command_at, entries, has_answer, history, ok_means_lock, times}
 use Rattle.pg_history.specs.Exclusive.{ExclusiveLocks}
 use Rattle.pg_history.specs.RealTime.{StandsBefore}
 use Rattle.pg_history.specs.WithLosses.{FormedAtLosses, NoLockOfLost, NonePendingLeft, SurvivesLosses}

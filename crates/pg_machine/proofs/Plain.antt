@@ -1,13 +1,16 @@
 -- A machine with clocks, seen without them, is the machine that has none.
-use Rattle.std.proofs.Common.{◌≡◌, ℕ, Bool, true, false, cond, nat_le, drop, List, [], ◌∷◌, ◌++◌, Option, Some, None, refl, ap, sym, ◌∙◌, subst}
+use Rattle.std.proofs.Common.{◌≡◌, ℕ, Bool, true, false, cond, nat_le, drop, List, []}
+use Rattle.std.proofs.Common.{◌∷◌, ◌++◌, Option, Some, None, refl, ap, sym, ◌∙◌, subst}
 use Rattle.std.specs.Prelude.{option_map, option_and_then}
 use Rattle.std.specs.Option.{option_map_or}
 use Rattle.std.proofs.Math.Path.{fun_ext}
 use Rattle.std.proofs.lemmas.List.{map-append}
-use Rattle.pg_machine.specs.Machine.{Input, Turn, Machine, Event, Take, Do, node_of, is_there, start_of, first_from, input_of, without_input, perform, happens}
+use Rattle.pg_machine.specs.Machine.{Input, Turn, Machine, Event, Take, Do, node_of, is_there}
+use Rattle.pg_machine.specs.Machine.{start_of, first_from, input_of, without_input, perform, happens}
 use Rattle.pg_machine.specs.Places.{set_at, set_way}
 use Rattle.pg_machine.specs.Runs.{Leads}
-use Rattle.pg_machine.specs.Clocked.{Timed, Stamped, TimedWorld, unstamped, next_clock, stamped, packets_of, timed_turn, timed, clocked, plain, clock_allows}
+use Rattle.pg_machine.specs.Clocked.{Timed, Stamped, TimedWorld, unstamped, next_clock, stamped}
+use Rattle.pg_machine.specs.Clocked.{packets_of, timed_turn, timed, clocked, plain, clock_allows}
 use Rattle.pg_machine.proofs.Options.{cond_is_some, cond_none}
 use Rattle.pg_machine.proofs.Places.{set_at_map, set_way_map}
 

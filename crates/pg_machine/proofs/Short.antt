@@ -1,9 +1,11 @@
 -- What happens without clocks happens with them, as long as they have room for so many events.
-use Rattle.std.proofs.Common.{◌≡◌, ◌⊎◌, inl, inr, ℕ, ◌+◌, ◌≤◌, true, cond, nat_le, length, List, [], ◌∷◌, Option, Some, None, refl, ap, sym, ◌∙◌, subst, arith}
+use Rattle.std.proofs.Common.{◌≡◌, ◌⊎◌, inl, inr, ℕ, ◌+◌, ◌≤◌, true, cond, nat_le, length, List}
+use Rattle.std.proofs.Common.{[], ◌∷◌, Option, Some, None, refl, ap, sym, ◌∙◌, subst, arith}
 use Rattle.std.specs.List.{AllByRecursion}
 use Rattle.std.specs.Option.{option_map_or}
 use Rattle.std.proofs.lemmas.Bool.{le-leb, cases_eq}
-use Rattle.pg_machine.specs.Machine.{Input, Machine, Event, World, Taken, Own, Take, Do, node_of, start_of, first_from, input_of, happens}
+use Rattle.pg_machine.specs.Machine.{Input, Machine, Event, World, Taken, Own, Take, Do}
+use Rattle.pg_machine.specs.Machine.{node_of, start_of, first_from, input_of, happens}
 use Rattle.pg_machine.specs.Happened.{Happened}
 use Rattle.pg_machine.specs.Runs.{Leads}
 use Rattle.pg_machine.specs.Clocked.{Stamped, TimedWorld, next_clock, clocked, plain, clock_allows}

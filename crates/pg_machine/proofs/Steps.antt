@@ -1,8 +1,10 @@
 -- One event that happens, taken apart and put together.
-use Rattle.std.proofs.Common.{◌≡◌, ◌≢◌, ◌↔◌, ℕ, Bool, true, false, not, ◌&&◌, cond, nat_eq, nat_lt, drop, List, [], ◌∷◌, ◌++◌, Option, Some, None, refl, ap, sym, ◌∙◌, subst}
+use Rattle.std.proofs.Common.{◌≡◌, ◌≢◌, ◌↔◌, ℕ, Bool, true, false, not, ◌&&◌, cond, nat_eq, nat_lt}
+use Rattle.std.proofs.Common.{drop, List, [], ◌∷◌, ◌++◌, Option, Some, None, refl, ap, sym, ◌∙◌, subst}
 use Rattle.std.specs.Prelude.{option_map, option_and_then, is_some}
 use Rattle.std.proofs.lemmas.Bool.{eq-eqb}
-use Rattle.pg_machine.specs.Machine.{Input, Turn, Machine, Event, World, Taken, Own, Take, Do, node_of, is_there, first_from, input_of, without_input, turn_of, perform, happens}
+use Rattle.pg_machine.specs.Machine.{Input, Turn, Machine, Event, World, Taken, Own, Take, Do, node_of}
+use Rattle.pg_machine.specs.Machine.{is_there, first_from, input_of, without_input, turn_of, perform, happens}
 use Rattle.pg_machine.specs.Places.{is_pair, set_at, set_way}
 use Rattle.pg_machine.specs.Happened.{Happened, Took, Did, Changes}
 use Rattle.pg_machine.proofs.Options.{some_is, cond_is_some, map_is_some, then_is_some}

@@ -1,11 +1,13 @@
 -- Clocks rise and stay within their limit, and stamps do not pass them.
-use Rattle.std.proofs.Common.{◌≡◌, ℕ, ◌+◌, ◌<◌, ◌≤◌, Bool, true, false, cond, nat_le, max, List, [], ◌∷◌, ◌++◌, Option, Some, None, refl, ap, sym, ◌∙◌, subst, arith, inl, inr, ◌⊎◌}
+use Rattle.std.proofs.Common.{◌≡◌, ℕ, ◌+◌, ◌<◌, ◌≤◌, Bool, true, false, cond, nat_le, max, List, [], ◌∷◌}
+use Rattle.std.proofs.Common.{◌++◌, Option, Some, None, refl, ap, sym, ◌∙◌, subst, arith, inl, inr, ◌⊎◌}
 use Rattle.std.specs.List.{AllByRecursion}
 use Rattle.std.proofs.lemmas.Bool.{leb-true, cases_eq}
 use Rattle.pg_machine.specs.Machine.{Input, Turn, Machine, Event, Taken, Own, Take, Do, node_of, start_of, first_from}
 use Rattle.pg_machine.specs.Happened.{Happened, Takes, Changes}
 use Rattle.pg_machine.specs.Runs.{Leads}
-use Rattle.pg_machine.specs.Clocked.{Timed, Stamped, TimedWorld, unstamped, next_clock, stamped, timed_turn, timed, clocked}
+use Rattle.pg_machine.specs.Clocked.{Timed, Stamped, TimedWorld, unstamped}
+use Rattle.pg_machine.specs.Clocked.{next_clock, stamped, timed_turn, timed, clocked}
 use Rattle.pg_machine.specs.Timely.{KeepsTime, Ticks, IsTimely}
 use Rattle.pg_machine.proofs.Options.{some_is}
 use Rattle.pg_machine.proofs.Sequences.{kept}

@@ -1,7 +1,8 @@
 -- What an event that happens does, and what it leaves as it was.
 use Rattle.std.specs.Prelude.{◌≡◌, ◌≢◌, ℕ, true, List, [], ◌∷◌, ◌++◌, Some}
 use Rattle.pg_machine.specs.Places.{is_place, is_pair, set_way}
-use Rattle.pg_machine.specs.Machine.{Input, Turn, Machine, Event, World, Taken, Own, Take, Do, node_of, is_there, input_of, without_input, perform}
+use Rattle.pg_machine.specs.Machine.{Input, Turn, Machine, Event, World, Taken, Own, Take}
+use Rattle.pg_machine.specs.Machine.{Do, node_of, is_there, input_of, without_input, perform}
 
 -- An event happened in the world w and left the world v.
 pub record Happened {S P C O : Type 0} (m : Machine S P C O) (w : World S P O) (e : Event C) (v : World S P O) : Type 0 where

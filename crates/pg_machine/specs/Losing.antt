@@ -1,6 +1,7 @@
 -- Nodes that may be lost. A node that is lost stops for good. Of what is on the way from it to each other the first packets
 -- stay, and behind them goes a last notice: who takes it sees the loss, and so has taken all that came from the lost.
-use Rattle.std.specs.Prelude.{◌≡◌, ℕ, zero, suc, Bool, true, false, not, ◌&&◌, ◌||◌, cond, nat_le, map, take, length, List, [], ◌∷◌, ◌++◌, Option, Some, None, option_map}
+use Rattle.std.specs.Prelude.{◌≡◌, ℕ, zero, suc, Bool, true, false, not, ◌&&◌, ◌||◌, cond, nat_le}
+use Rattle.std.specs.Prelude.{map, take, length, List, [], ◌∷◌, ◌++◌, Option, Some, None, option_map}
 use Rattle.pg_machine.specs.Places.{is_place, is_pair, set_at}
 use Rattle.pg_machine.specs.Machine.{Machine, Turn, Input, Taken, Own, Event, World, node_of, happens}
 

@@ -1,5 +1,7 @@
-ghost use Rattle.std.specs.Prelude.{◌≡◌, ◌↔◌, ◌≤◌, ◌++◌, ℕ, List, [], Option, Some, None, cond, is_some, map, option_map, length};
-ghost use Rattle.pg_machine.specs.Machine.{Machine, Event, World, Take, Do, node_of, start_of, input_of, turn_of, happens};
+ghost use Rattle.std.specs.Prelude.{◌≡◌, ◌↔◌, ◌≤◌, ◌++◌, ℕ, List, [], Option, Some};
+ghost use Rattle.std.specs.Prelude.{None, cond, is_some, map, option_map, length};
+ghost use Rattle.pg_machine.specs.Machine.{Machine, Event, World, Take, Do, node_of};
+ghost use Rattle.pg_machine.specs.Machine.{start_of, input_of, turn_of, happens};
 ghost use Rattle.pg_machine.specs.Happened.{Happened, Took, Did, Changes};
 ghost use Rattle.pg_machine.specs.Runs.{Leads, run, ran, events_of, reported_by};
 ghost use Rattle.pg_machine.specs.Clocked.{Timed, Stamped, TimedWorld, clocked, plain, clock_allows};

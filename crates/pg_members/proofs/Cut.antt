@@ -1,5 +1,6 @@
 -- Rows where a search stopped.
-use Rattle.std.proofs.Common.{◌≡◌, ℕ, suc, zero, ◌+◌, ◌-◌, ◌<◌, ◌≤◌, Bool, true, false, ◌&&◌, cond, Some, List, [], ◌∷◌, ◌++◌, length, get_or, take, drop, set, refl, sym, ap, subst, ◌∙◌, arith, add-one}
+use Rattle.std.proofs.Common.{◌≡◌, ℕ, suc, zero, ◌+◌, ◌-◌, ◌<◌, ◌≤◌, Bool, true, false, ◌&&◌, cond, Some, List, []}
+use Rattle.std.proofs.Common.{◌∷◌, ◌++◌, length, get_or, take, drop, set, refl, sym, ap, subst, ◌∙◌, arith, add-one}
 use Rattle.std.specs.Prelude.{nat_le, slice_get}
 use Rattle.std.specs.List.{AllByRecursion, insert, remove}
 use Rattle.std.proofs.lemmas.List.{take-append-drop, set_split}
@@ -9,10 +10,12 @@ use Rattle.std.specs.declared.cmp.Ordering.TheVariants.{Less}
 use Rattle.pg_term.specs.declared.pid.Pid.{Pid}
 use Rattle.pg_term.specs.Same.{same_pid, pid_cmp}
 use Rattle.pg_members.specs.declared.row.Row.{Row}
-use Rattle.pg_members.specs.Rows.{counts_of, total_of, AreRows, all_before, IsCut, is_here, added, added_by, taken, taken_by}
+use Rattle.pg_members.specs.Rows.{counts_of, total_of, AreRows, all_before, IsCut}
+use Rattle.pg_members.specs.Rows.{is_here, added, added_by, taken, taken_by}
 use Rattle.pg_members.specs.Edges.{IsDownward}
 use Rattle.pg_members.proofs.Order.{equal_if, greater_if}
-use Rattle.pg_members.proofs.Flat.{below, rows_left, rows_right, total-append, counts-append, none_less, count_head, added_after, taken_after}
+use Rattle.pg_members.proofs.Flat.{below, rows_left, rows_right, total-append, counts-append}
+use Rattle.pg_members.proofs.Flat.{none_less, count_head, added_after, taken_after}
 
 pub all_at : (P : Row → Type 0) (rows : List Row) (i : ℕ) (d : Row) → AllByRecursion P rows → i < length rows → P (get_or rows i d)
 all_at P [] i d h k = absurd (omega arith)

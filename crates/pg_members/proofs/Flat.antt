@@ -1,5 +1,6 @@
 -- Rows in one list.
-use Rattle.std.proofs.Common.{◌≡◌, ℕ, ◌+◌, ◌-◌, ◌<◌, ◌≤◌, Bool, true, false, cond, min, List, [], ◌∷◌, ◌++◌, refl, ap, subst, ◌∙◌, arith}
+use Rattle.std.proofs.Common.{◌≡◌, ℕ, ◌+◌, ◌-◌, ◌<◌, ◌≤◌, Bool, true, false, cond}
+use Rattle.std.proofs.Common.{min, List, [], ◌∷◌, ◌++◌, refl, ap, subst, ◌∙◌, arith}
 use Rattle.std.specs.Prelude.{nat_le}
 use Rattle.std.proofs.lemmas.Bool.Decides.{nat_tests}
 use Rattle.std.specs.List.{AllByRecursion}
@@ -10,7 +11,8 @@ use Rattle.pg_term.specs.declared.pid.Pid.{Pid}
 use Rattle.pg_term.specs.Same.{same_pid, pid_cmp}
 use Rattle.pg_members.specs.declared.row.Row.{Row}
 use Rattle.pg_members.specs.Rows.{counts_of, total_of, AreRows, added, added_by, taken, taken_by}
-use Rattle.pg_members.proofs.Order.{less_if, less_trans, greater_if, turned, greater_turned, other_if_less, other_turned, same_is, same_if, symm}
+use Rattle.pg_members.proofs.Order.{less_if, less_trans, greater_if, turned, greater_turned}
+use Rattle.pg_members.proofs.Order.{other_if_less, other_turned, same_is, same_if, symm}
 
 -- whether a pid is less than an edge
 abbrev pub below : Pid → Pid → Bool

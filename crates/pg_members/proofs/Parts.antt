@@ -1,5 +1,7 @@
 -- Parts one after the other, as one list of rows.
-use Rattle.std.proofs.Common.{◌≡◌, ℕ, suc, zero, ◌+◌, ◌-◌, ◌<◌, ◌≤◌, Bool, true, false, ◌&&◌, cond, Some, List, [], ◌∷◌, ◌++◌, length, get_or, take, drop, set, refl, sym, ap, subst, ◌∙◌, arith, add-one, append_assoc, append-nil, length-append}
+use Rattle.std.proofs.Common.{◌≡◌, ℕ, suc, zero, ◌+◌, ◌-◌, ◌<◌, ◌≤◌, Bool, true, false, ◌&&◌, cond}
+use Rattle.std.proofs.Common.{Some, List, [], ◌∷◌, ◌++◌, length, get_or, take, drop, set, refl, sym}
+use Rattle.std.proofs.Common.{ap, subst, ◌∙◌, arith, add-one, append_assoc, append-nil, length-append}
 use Rattle.std.specs.Prelude.{slice_get, nat_le}
 use Rattle.std.proofs.lemmas.Bool.Decides.{nat_tests}
 use Rattle.std.specs.List.{AllByRecursion, flat_map, insert, remove}
@@ -17,7 +19,9 @@ use Rattle.pg_members.specs.Rows.{counts_of, total_of, spread, AreRows, all_befo
 use Rattle.pg_members.specs.Levels.{NoneEmpty, IsChoice, IsHome}
 use Rattle.pg_members.specs.Edges.{IsDownward}
 use Rattle.pg_members.proofs.Order.{less_if}
-use Rattle.pg_members.proofs.Flat.{below, all_append, all_left, all_right, all_map, total-append, counts-append, rows_left, rows_right, rows_across, later_greater, none_less, none_greater, added_after, added_before, taken_after, taken_before}
+use Rattle.pg_members.proofs.Flat.{below, all_append, all_left, all_right, all_map, total-append}
+use Rattle.pg_members.proofs.Flat.{counts-append, rows_left, rows_right, rows_across, later_greater, none_less}
+use Rattle.pg_members.proofs.Flat.{none_greater, added_after, added_before, taken_after, taken_before}
 use Rattle.pg_group.specs.Members.{put}
 use Rattle.pg_group.proofs.Put.{length-put, get-put_low, get-put_high}
 use Rattle.pg_members.proofs.Places.{spread-append}

@@ -1,4 +1,5 @@
-ghost use Rattle.std.specs.Prelude.{◌≡◌, ◌+◌, ◌<◌, ◌≤◌, ◌^◌, length, take, drop, slice_get, option_copied, Some, IsTrue};
+ghost use Rattle.std.specs.Prelude.{◌≡◌, ◌+◌, ◌<◌, ◌≤◌, ◌^◌, length, take, drop};
+ghost use Rattle.std.specs.Prelude.{slice_get, option_copied, Some, IsTrue};
 ghost use Rattle.std.specs.List.{AllByRecursion};
 ghost use Rattle.pg_members.specs.declared.row.Row.{Row};
 ghost use Rattle.pg_members.specs.Edges.{before, IsOnNode};
@@ -111,6 +112,8 @@ fn sum(rows: &[Row]) -> u64
 
 impl Block {
     /// Whether it has so many rows that it is to be split.
+    ///
+    /// Cost: no memory.
     pub fn is_full(&self) -> bool
         ensures { IsTrue result → 0 < length self.now }
     {
@@ -118,6 +121,8 @@ impl Block {
     }
 
     /// Gives back its memory, where it has no row.
+    ///
+    /// Cost: no memory.
     pub fn shrink(&mut self)
         ensures { self.new ≡ self.old }
     {
@@ -127,6 +132,8 @@ impl Block {
     }
 
     /// What it takes its memory from.
+    ///
+    /// Cost: no memory.
     pub fn allocator(&self) -> Global {
         self.alloc
     }

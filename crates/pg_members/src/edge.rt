@@ -29,6 +29,8 @@ impl Edge<'_> {
     }
 
     /// The same, for a pid that is of the node of the pid that the edge is at: no name is looked at.
+    ///
+    /// Cost: no memory.
     pub fn is_after_on_node(&self, pid: &Pid) -> bool
         requires { IsOnNode self.now pid.now }
         ensures { result ≡ before self.now pid.now }

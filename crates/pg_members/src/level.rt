@@ -1,4 +1,5 @@
-ghost use Rattle.std.specs.Prelude.{◌≡◌, ◌+◌, ◌-◌, ◌<◌, ◌≤◌, ◌^◌, length, take, drop, OnOk, OnErr, IfOk, IfSome, IfNone, [], ◌∷◌, ◌++◌, vec_len, vec_capacity};
+ghost use Rattle.std.specs.Prelude.{◌≡◌, ◌+◌, ◌-◌, ◌<◌, ◌≤◌, ◌^◌, length, take, drop, OnOk, OnErr};
+ghost use Rattle.std.specs.Prelude.{IfOk, IfSome, IfNone, [], ◌∷◌, ◌++◌, vec_len, vec_capacity};
 ghost use Rattle.std.specs.List.{filter, flat_map};
 ghost use Rattle.pg_group.specs.Scope.{in_scope, at_node};
 ghost use Rattle.pg_members.specs.Edges.{before};
@@ -205,6 +206,8 @@ fn drop_each<P: Part>(parts: &mut Vec<P>, node: &Atom)
 
 impl<P: Part> Level<P> {
     /// A level of the rows of one part, which is split if it has too many. There is room for the part.
+    ///
+    /// Cost: memory for one more part, and that of `Part::split`.
     pub fn of(alloc: Global, mut parts: Vec<P>, part: P) -> Level<P>
         requires none { parts.items ≡ [] }
         requires room { vec_len parts < vec_capacity parts }

@@ -1,4 +1,5 @@
-ghost use Rattle.std.specs.Prelude.{◌≡◌, ◌+◌, ◌-◌, ◌<◌, ◌≤◌, ◌^◌, List, Some, [], ◌∷◌, ◌++◌, ◌⊎◌, min, length, slice_get, option_copied, IsErr, OnOk, OnErr, IfOk, IfSome, IfNone};
+ghost use Rattle.std.specs.Prelude.{◌≡◌, ◌+◌, ◌-◌, ◌<◌, ◌≤◌, ◌^◌, List, Some, [], ◌∷◌, ◌++◌, ◌⊎◌, min, length};
+ghost use Rattle.std.specs.Prelude.{slice_get, option_copied, IsErr, OnOk, OnErr, IfOk, IfSome, IfNone};
 ghost use Rattle.pg_term.specs.declared.pid.Pid.{Pid};
 ghost use Rattle.pg_term.specs.Same.{same_pid};
 ghost use Rattle.pg_group.specs.Functions.{upd};

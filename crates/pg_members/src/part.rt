@@ -1,8 +1,10 @@
-ghost use Rattle.std.specs.Prelude.{◌≡◌, ◌↔◌, ◌+◌, ◌<◌, ◌≤◌, ◌^◌, ◌++◌, IsTrue, List, [], ◌∷◌, IfSome, IfNone, length, slice_get, option_copied, OnOk, OnErr, IfOk, MatchOption};
+ghost use Rattle.std.specs.Prelude.{◌≡◌, ◌↔◌, ◌+◌, ◌<◌, ◌≤◌, ◌^◌, ◌++◌, IsTrue, List, [], ◌∷◌, IfSome};
+ghost use Rattle.std.specs.Prelude.{IfNone, length, slice_get, option_copied, OnOk, OnErr, IfOk, MatchOption};
 ghost use Rattle.std.specs.List.{filter};
 ghost use Rattle.pg_members.specs.declared.row.Row.{Row};
 ghost use Rattle.pg_members.specs.Edges.{before};
-ghost use Rattle.pg_members.specs.Rows.{counts_of, total_of, spread, AreRows, is_off, all_before, added, taken, IsSplit};
+ghost use Rattle.pg_members.specs.Rows.{counts_of, total_of, spread, AreRows};
+ghost use Rattle.pg_members.specs.Rows.{is_off, all_before, added, taken, IsSplit};
 ghost use Rattle.pg_group.specs.Scope.{anywhere, in_scope};
 
 use crate::edge::Edge;

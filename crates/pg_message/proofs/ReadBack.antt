@@ -1,5 +1,6 @@
 -- A packet's term is read as the packet, where it may be sent.
-use Rattle.std.proofs.Common.{◌≡◌, ℕ, pos, Bool, true, false, cond, List, [], ◌∷◌, map, Option, Some, None, Ok, Err, refl, ap, ◌∙◌, rules, codes}
+use Rattle.std.proofs.Common.{◌≡◌, ℕ, pos, Bool, true, false, cond, List, [], ◌∷◌, map}
+use Rattle.std.proofs.Common.{Option, Some, None, Ok, Err, refl, ap, ◌∙◌, rules, codes}
 use Rattle.std.specs.Prelude.{nat_eq, nat_le, ◌&&◌}
 use Rattle.std.specs.Option.{option_map, option_and_then}
 use Rattle.std.specs.List.{list_all}
@@ -23,8 +24,12 @@ use Rattle.pg_message.specs.declared.packet.Packet.{Packet}
 use Rattle.pg_message.specs.declared.packet.TheConstants.{MAX_STAMP}
 use Rattle.pg_message.specs.Name.{is_name}
 use Rattle.pg_message.specs.Parts.{elements_of, items_of, is_word, atom_of, reference_of, pid_of}
-use Rattle.pg_message.specs.Reading.{Groups, request_on, request_in, membership_of, request_of, said_of, all_of, group_in, group_of, is_named_once, named_once, groups_of, freed, exchanged, cast_in, cast_of, referred, message_in, message_of, stamp_of, stamped, packet_in, packet_of}
-use Rattle.pg_message.specs.Writing.{pair, triple, request_term, said_term, group_term, message_term, term_of_packet, is_sayable, sendable}
+use Rattle.pg_message.specs.Reading.{Groups, request_on, request_in, membership_of, request_of}
+use Rattle.pg_message.specs.Reading.{said_of, all_of, group_in, group_of, is_named_once, named_once}
+use Rattle.pg_message.specs.Reading.{groups_of, freed, exchanged, cast_in, cast_of, referred}
+use Rattle.pg_message.specs.Reading.{message_in, message_of, stamp_of, stamped, packet_in, packet_of}
+use Rattle.pg_message.specs.Writing.{pair, triple, request_term, said_term, group_term}
+use Rattle.pg_message.specs.Writing.{message_term, term_of_packet, is_sayable, sendable}
 
 -- ---- parts
 

@@ -2,7 +2,8 @@
 -- clock of the sender. The messages say what OTP's pg2 says through gen_server and global: {call, Ref, Request} and
 -- {reply, Ref, Reply} are a call and its reply, {cast, Message} is a message without a reply; {down, Pid} stands for pg2's
 -- monitors. The tuples around them are this project's own.
-use Rattle.std.specs.Prelude.{◌≡◌, ℕ, pos, List, [], ◌∷◌, codes, Bool, true, not, ◌&&◌, nat_le, Option, Some, None, Result, Ok, Err, if◌then◌else◌}
+use Rattle.std.specs.Prelude.{◌≡◌, ℕ, pos, List, [], ◌∷◌, codes, Bool, true, not, ◌&&◌}
+use Rattle.std.specs.Prelude.{nat_le, Option, Some, None, Result, Ok, Err, if◌then◌else◌}
 use Rattle.std.specs.List.{list_any}
 use Rattle.std.specs.Option.{option_and_then, option_map}
 use Rattle.pg_term.specs.declared.fault.TermFault.{TermFault}

@@ -1,5 +1,6 @@
 -- The one written form of a packet, and when it may be sent.
-use Rattle.std.specs.Prelude.{ℕ, pos, List, [], ◌∷◌, ◌++◌, length, map, codes, Bool, true, false, ◌&&◌, nat_lt, nat_le, Result, Ok, Err, if◌then◌else◌}
+use Rattle.std.specs.Prelude.{ℕ, pos, List, [], ◌∷◌, ◌++◌, length, map, codes, Bool, true}
+use Rattle.std.specs.Prelude.{false, ◌&&◌, nat_lt, nat_le, Result, Ok, Err, if◌then◌else◌}
 use Rattle.std.specs.Int.{w32, to_be_bytes}
 use Rattle.std.specs.List.{list_all}
 use Rattle.pg_term.specs.declared.fault.TermFault.TheVariants as terms

@@ -27,6 +27,8 @@ impl MessageFault {
     ghost use Rattle.pg_message.specs.Fault.{message_number_of};
 
     /// The number of the fault in this project's one list of faults.
+    ///
+    /// Cost: no memory.
     pub fn number(self) -> u8
         ensures { result ≡ message_number_of self }
     {

@@ -29,6 +29,8 @@ pub fn check_name(name: &Term) -> Result<(), MessageFault>
 }
 
 /// Whether a term may name a group.
+///
+/// Cost: no memory; the same walk as `check_name`.
 pub fn is_name(term: &Term) -> bool
     ensures { result ≡ is_name term.now }
 {

@@ -1,10 +1,12 @@
 -- Sets of places as the bits of one word.
-use Rattle.std.proofs.Common.{◌≡◌, ℕ, ◌-◌, ◌*◌, ◌%◌, ◌^◌, ◌<◌, ◌≤◌, min, true, not, ◌&&◌, ◌||◌, nat_eq, bit_and, bit_or, w16, inl, inr, ap, ◌∙◌, arith}
+use Rattle.std.proofs.Common.{◌≡◌, ℕ, ◌-◌, ◌*◌, ◌%◌, ◌^◌, ◌<◌, ◌≤◌, min, true, not, ◌&&◌}
+use Rattle.std.proofs.Common.{◌||◌, nat_eq, bit_and, bit_or, w16, inl, inr, ap, ◌∙◌, arith}
 use Rattle.std.specs.Int.{bit_at}
 use Rattle.std.proofs.lemmas.Bool.{cases_lt}
 use Rattle.std.proofs.lemmas.Bool.Decides.{nat_tests}
 use Rattle.pg_multicall.specs.Places.{is_set}
-use Rattle.std.proofs.lemmas.Nat.Bits.{bit_at_set_same, bit_at_set_other, bit_at_clear_same, bit_at_clear_other, bit_at_and, bit_at_not, bit_at_above, bit_at-lt, same_from_bits, bit_at-zero}
+use Rattle.std.proofs.lemmas.Nat.Bits.{bit_at_set_same, bit_at_set_other, bit_at_clear_same, bit_at_clear_other}
+use Rattle.std.proofs.lemmas.Nat.Bits.{bit_at_and, bit_at_not, bit_at_above, bit_at-lt, same_from_bits, bit_at-zero}
 
 module _ (bits place : ℕ) (within : place < 16) where
   pub has_with : (other : ℕ) → is_set (bit_or bits (1 * 2 ^ place % 65536)) other ≡ (nat_eq place other || is_set bits other)

@@ -1,5 +1,6 @@
 -- The events of a node over bytes, from those of its parts.
-use Rattle.std.proofs.Common.{◌≡◌, ◌<◌, ℕ, Bool, true, false, not, ◌||◌, cond, nat_eq, List, length, get_or, Option, Some, None, Result, Ok, Err, refl, sym, ap, ◌∙◌}
+use Rattle.std.proofs.Common.{◌≡◌, ◌<◌, ℕ, Bool, true, false, not, ◌||◌, cond, nat_eq, List, length}
+use Rattle.std.proofs.Common.{get_or, Option, Some, None, Result, Ok, Err, refl, sym, ap, ◌∙◌}
 use Rattle.std.specs.Prelude.{slice_set}
 use Rattle.std.proofs.Math.Path.{fun_ext}
 use Rattle.std.proofs.lemmas.Bool.{eqb-true}
@@ -15,7 +16,8 @@ use Rattle.pg_step.specs.Step.{TimedTurn, step_take}
 use Rattle.pg_node.specs.declared.node.wire.Wire.{Wire}
 use Rattle.pg_node_state.specs.declared.state.done.Done.{Done}
 use Rattle.pg_node_state.specs.declared.state.fault.NodeFault.{NodeFault}
-use Rattle.pg_node_state.specs.declared.state.fault.NodeFault.TheVariants.{Refused, OutOfMemory, Message, TooLong, Damaged}
+use Rattle.pg_node_state.specs.declared.state.fault.NodeFault.TheVariants.{Refused, OutOfMemory}
+use Rattle.pg_node_state.specs.declared.state.fault.NodeFault.TheVariants.{Message, TooLong, Damaged}
 use Rattle.pg_node.specs.Bytes.{Tells, next_packet, damages, marked, passed}
 use Rattle.pg_node_state.specs.Frames.{frames_to}
 use Rattle.pg_node.specs.Links.{Link, link_of, links_in, at_link, with_more}

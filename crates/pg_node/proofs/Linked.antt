@@ -1,5 +1,7 @@
 -- The links where one of them changes, and where packets are sent one after the other.
-use Rattle.std.proofs.Common.{◌≡◌, ◌<◌, ◌≤◌, ◌+◌, ◌∙◌, ℕ, zero, suc, Bool, true, false, cond, nat_eq, List, [], ◌∷◌, ◌++◌, get_or, length, Result, Ok, Err, IfOk, OnErr, refl, sym, ap, arith, subst, append_assoc, append-nil, drop}
+use Rattle.std.proofs.Common.{◌≡◌, ◌<◌, ◌≤◌, ◌+◌, ◌∙◌, ℕ, zero, suc, Bool, true, false, cond}
+use Rattle.std.proofs.Common.{nat_eq, List, [], ◌∷◌, ◌++◌, get_or, length, Result, Ok, Err, IfOk}
+use Rattle.std.proofs.Common.{OnErr, refl, sym, ap, arith, subst, append_assoc, append-nil, drop}
 use Rattle.std.specs.Prelude.{slice_set, IfErr, OnOk}
 use Rattle.std.specs.List.{AllByRecursion}
 use Rattle.std.proofs.Math.Path.{fun_ext}
@@ -13,7 +15,8 @@ use Rattle.pg_step.specs.Nodes.{Node}
 use Rattle.pg_node.specs.declared.node.wire.Wire.{Wire}
 use Rattle.pg_node_state.specs.Frames.{frame_of, frames_to, IsSmallFrame, AreSmallFrames}
 use Rattle.pg_node_state.specs.Sendable.{FitLinks, IsSendable, Ascends}
-use Rattle.pg_node.specs.Links.{Link, link_of, idle_link, part_in, links_in, at_link, room_in, with_more, HasRoom, HaveRoom}
+use Rattle.pg_node.specs.Links.{Link, link_of, idle_link, part_in, links_in}
+use Rattle.pg_node.specs.Links.{at_link, room_in, with_more, HasRoom, HaveRoom}
 
 -- a part where the link at a place is another
 pub part_set : {A : Type 0} (part : Wire → A) (none : A) (wires : List Wire) (k : ℕ) (wire : Wire) → k < length wires → (place : ℕ) → part_in part none (slice_set wires k wire) place ≡ cond (nat_eq k place) (part wire) (part_in part none wires place)

@@ -1,5 +1,6 @@
 -- The links of a node to its peers, by the places of the peers, and the frames that go out there.
-use Rattle.std.specs.Prelude.{◌≡◌, ◌≤◌, ◌+◌, ◌<◌, ℕ, zero, suc, nat_eq, cond, Bool, false, List, [], ◌∷◌, ◌++◌, length, drop, Ok}
+use Rattle.std.specs.Prelude.{◌≡◌, ◌≤◌, ◌+◌, ◌<◌, ℕ, zero, suc, nat_eq, cond}
+use Rattle.std.specs.Prelude.{Bool, false, List, [], ◌∷◌, ◌++◌, length, drop, Ok}
 use Rattle.std.specs.List.{AllByRecursion}
 use Rattle.pg_message.specs.declared.packet.Packet.{Packet}
 use Rattle.pg_message.specs.Reading.{packet_spelled}

@@ -1,5 +1,6 @@
 -- Two names that differ, and a node that starts with them and no group.
-use Rattle.std.proofs.Common.{◌≡◌, ◌≤◌, arith, ℕ, true, false, List, [], ◌∷◌, rules, length, None, Result, Ok, Err, refl, sym, ap, subst, ◌∙◌}
+use Rattle.std.proofs.Common.{◌≡◌, ◌≤◌, arith, ℕ, true, false, List, [], ◌∷◌, rules}
+use Rattle.std.proofs.Common.{length, None, Result, Ok, Err, refl, sym, ap, subst, ◌∙◌}
 use Rattle.std.specs.Prelude.{IfOk, ◌==◌}
 use Rattle.std.specs.List.{IsDistinct}
 use Rattle.std.specs.Str.{chars, encode_utf8_all}

@@ -1,5 +1,6 @@
 -- What an attempt leads to at once.
-use Rattle.std.proofs.Common.{◌≡◌, ℕ, ◌+◌, Bool, true, false, not, ◌&&◌, ◌||◌, cond, nat_eq, List, [], ◌∷◌, ◌++◌, Option, Some, None, refl, ap, sym, ◌∙◌}
+use Rattle.std.proofs.Common.{◌≡◌, ℕ, ◌+◌, Bool, true, false, not, ◌&&◌, ◌||◌, cond, nat_eq}
+use Rattle.std.proofs.Common.{List, [], ◌∷◌, ◌++◌, Option, Some, None, refl, ap, sym, ◌∙◌}
 use Rattle.std.specs.List.{list_any, list_all}
 use Rattle.std.proofs.Math.Path.{fun_ext}
 use Rattle.std.proofs.lemmas.Bool.{eq-eqb}
@@ -24,7 +25,9 @@ use Rattle.pg_step.specs.State.Status.{Unasked, Asked, Yes, No}
 use Rattle.pg_step.specs.State.Use.{Locking, Owning, Updating}
 use Rattle.pg_step.specs.Turns.{NodeTurn, Report, nothing, becomes, and_then, first_of, both_reports}
 use Rattle.pg_step.specs.Peers.{would_grant}
-use Rattle.pg_step.specs.Attempts.{is_unasked, is_asked, is_yes, is_no, asks, none_missing, none_denied, all_granted, round_of, with_asked, own_verdict, own_reference, new_attempt, ask, begin, finish, give_up, locks_in, replies_in, go_on, attempt}
+use Rattle.pg_step.specs.Attempts.{is_unasked, is_asked, is_yes, is_no, asks, none_missing, none_denied}
+use Rattle.pg_step.specs.Attempts.{all_granted, round_of, with_asked, own_verdict, own_reference, new_attempt}
+use Rattle.pg_step.specs.Attempts.{ask, begin, finish, give_up, locks_in, replies_in, go_on, attempt}
 use Rattle.pg_opens.specs.declared.outlook.Outlook.{Outlook}
 use Rattle.pg_opens.specs.declared.outlook.Outlook.TheVariants.{Ask, Begin}
 use Rattle.pg_opens.specs.Outlooks.{outlook_by, turn_by}

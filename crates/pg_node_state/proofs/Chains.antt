@@ -1,5 +1,6 @@
 -- What follows once answers are in, where it takes more than one turn.
-use Rattle.std.proofs.Common.{◌≡◌, ℕ, ◌+◌, Bool, true, false, not, ◌&&◌, ◌||◌, cond, nat_eq, List, [], ◌∷◌, ◌++◌, refl, ap, sym, ◌∙◌}
+use Rattle.std.proofs.Common.{◌≡◌, ℕ, ◌+◌, Bool, true, false, not, ◌&&◌, ◌||◌, cond}
+use Rattle.std.proofs.Common.{nat_eq, List, [], ◌∷◌, ◌++◌, refl, ap, sym, ◌∙◌}
 use Rattle.std.specs.List.{list_any, list_all}
 use Rattle.std.proofs.Math.Path.{fun_ext}
 use Rattle.std.proofs.lemmas.Bool.{eq-eqb}
@@ -20,7 +21,9 @@ use Rattle.pg_step.specs.State.Status.{Unasked, Asked, Yes, No}
 use Rattle.pg_step.specs.State.Use.{Locking, Owning, Updating, Spent}
 use Rattle.pg_step.specs.Turns.{NodeTurn, nothing, becomes, and_then}
 use Rattle.pg_step.specs.Peers.{would_grant}
-use Rattle.pg_step.specs.Attempts.{is_unasked, is_asked, is_yes, is_no, asks, none_missing, none_denied, all_granted, round_of, with_asked, own_verdict, own_reference, ask, give_up, begin, replies_in, finish}
+use Rattle.pg_step.specs.Attempts.{is_unasked, is_asked, is_yes, is_no, asks, none_missing}
+use Rattle.pg_step.specs.Attempts.{none_denied, all_granted, round_of, with_asked, own_verdict}
+use Rattle.pg_step.specs.Attempts.{own_reference, ask, give_up, begin, replies_in, finish}
 use Rattle.pg_opens.specs.Outlooks.{outlook_of, outlook_by, turn_by}
 use Rattle.pg_opens.specs.declared.outlook.Outlook.TheVariants.{AskThenGiveUp, Begin}
 use Rattle.pg_opens.proofs.Named.{atom_is, atom_self, clash}

@@ -1,5 +1,6 @@
 -- What came of a packet, once its turn is known.
-use Rattle.std.proofs.Common.{◌≡◌, ◌↔◌, ◌⊎◌, inl, inr, ℕ, ◌+◌, ◌≤◌, Bool, true, false, cond, max, List, Option, None, Result, Ok, Err, refl, sym, ap, ◌∙◌, subst}
+use Rattle.std.proofs.Common.{◌≡◌, ◌↔◌, ◌⊎◌, inl, inr, ℕ, ◌+◌, ◌≤◌, Bool, true, false, cond, max}
+use Rattle.std.proofs.Common.{List, Option, None, Result, Ok, Err, refl, sym, ap, ◌∙◌, subst}
 use Rattle.std.specs.Prelude.{OnOk, OnErr, IfOk, IfErr}
 use Rattle.std.proofs.lemmas.Bool.{le-leb}
 use Rattle.pg_message.specs.declared.message.Message.{Message}

@@ -1,5 +1,6 @@
 -- The packets to the peers that are marked, and the marks of peers.
-use Rattle.std.proofs.Common.{◌≡◌, ◌⊎◌, inl, inr, ℕ, zero, suc, ◌+◌, ◌<◌, ◌≤◌, Bool, true, false, ◌&&◌, ◌||◌, cond, get_or, length, List, [], ◌∷◌, ◌++◌, refl, sym, ap, ◌∙◌, arith, append_assoc, not, subst}
+use Rattle.std.proofs.Common.{◌≡◌, ◌⊎◌, inl, inr, ℕ, zero, suc, ◌+◌, ◌<◌, ◌≤◌, Bool, true, false, ◌&&◌, ◌||◌, cond}
+use Rattle.std.proofs.Common.{get_or, length, List, [], ◌∷◌, ◌++◌, refl, sym, ap, ◌∙◌, arith, append_assoc, not, subst}
 use Rattle.std.specs.List.{IsDistinct, list_any}
 use Rattle.std.proofs.Math.Path.{fun_ext}
 use Rattle.std.proofs.Math.Nat.{eq-or-lt_of_le}
@@ -10,7 +11,8 @@ use Rattle.pg_message.specs.declared.packet.Packet.{Packet}
 use Rattle.pg_machine.specs.Clocked.{Stamped, stamped}
 use Rattle.pg_step.specs.Nodes.{Node, is_peer}
 use Rattle.pg_opens.specs.Places.{name_at, lost_in, left_in}
-use Rattle.pg_opens.proofs.Named.{atom_self, atom_other, names_differ, reads_at, reads_nobody, place_cases, any_filtered}
+use Rattle.pg_opens.proofs.Named.{atom_self, atom_other, names_differ, reads_at}
+use Rattle.pg_opens.proofs.Named.{reads_nobody, place_cases, any_filtered}
 use Rattle.pg_node_state.specs.Ports.{merged_in}
 use Rattle.pg_node_state.specs.States.{stamped_of, sends_in}
 

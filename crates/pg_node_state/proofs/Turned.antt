@@ -13,7 +13,8 @@ use Rattle.pg_step.specs.Nodes.{Node, Nodes, is_peer, every}
 use Rattle.pg_step.specs.State.{State, Status, Use}
 use Rattle.pg_step.specs.State.Status.{Unasked, Asked, Yes, No}
 use Rattle.pg_step.specs.State.Use.{Fresh, Locking, Owning, Updating, Spent}
-use Rattle.pg_step.specs.Attempts.{go_on, gathered, lock_entry, counted, count_answer, count_ok, lock_status, replies_in, finish}
+use Rattle.pg_step.specs.Attempts.{go_on, gathered, lock_entry, counted, count_answer}
+use Rattle.pg_step.specs.Attempts.{count_ok, lock_status, replies_in, finish}
 use Rattle.pg_step.specs.Turns.{becomes}
 use Rattle.pg_message.specs.declared.message.Said.{Said}
 use Rattle.pg_opens.specs.Outlooks.{outlook_of, turn_by}

@@ -7,7 +7,8 @@ use Rattle.pg_message.specs.declared.fault.MessageFault.TheVariants.{Term}
 use Rattle.pg_message.specs.Fault.{message_number_of}
 use Rattle.pg_step.specs.Faults.{refusal_number_of}
 use Rattle.pg_node_state.specs.declared.state.fault.NodeFault.{NodeFault}
-use Rattle.pg_node_state.specs.declared.state.fault.NodeFault.TheVariants.{Refused, OutOfMemory, Message, TooLong, Damaged}
+use Rattle.pg_node_state.specs.declared.state.fault.NodeFault.TheVariants.{Refused, OutOfMemory}
+use Rattle.pg_node_state.specs.declared.state.fault.NodeFault.TheVariants.{Message, TooLong, Damaged}
 
 -- the number of a fault
 abbrev pub node_number_of : NodeFault → ℕ

@@ -1,5 +1,6 @@
 -- The marks of the nodes, and what they say of those that count.
-use Rattle.std.proofs.Common.{◌≡◌, ℕ, ◌<◌, zero, suc, Bool, true, false, not, ◌&&◌, ◌||◌, ◌==◌, cond, nat_lt, get_or, drop, length, List, [], ◌∷◌, refl, ap, sym, ◌∙◌, subst, inl, inr, ◌⊎◌, arith}
+use Rattle.std.proofs.Common.{◌≡◌, ℕ, ◌<◌, zero, suc, Bool, true, false, not, ◌&&◌, ◌||◌, ◌==◌, cond, nat_lt}
+use Rattle.std.proofs.Common.{get_or, drop, length, List, [], ◌∷◌, refl, ap, sym, ◌∙◌, subst, inl, inr, ◌⊎◌, arith}
 use Rattle.std.specs.List.{AllByRecursion, IsDistinct, list_any, list_all, filter}
 use Rattle.std.proofs.Math.Path.{fun_ext}
 use Rattle.std.proofs.lemmas.Bool.{eq-eqb, ne_eqb, cases_eq}
@@ -15,8 +16,10 @@ use Rattle.pg_opens.specs.declared.mark.Asked.TheVariants.{Nobody, One, All}
 use Rattle.pg_opens.specs.Places.{name_at, all_below, lost_in, left_in, ArePlaces}
 use Rattle.pg_opens.specs.declared.mark.Wanted.{Wanted}
 use Rattle.pg_opens.specs.declared.mark.Wanted.TheVariants.{Granted}
-use Rattle.pg_opens.specs.Marks.{status_of, statuses, has_yes, replies, asked_mark, is_wanted, whom, has_place, mark_at, asked_in, passes, all_marks}
-use Rattle.pg_opens.proofs.Named.{clash, atom_self, atom_other, names_differ, reads_at, reads_nobody, by_places, all_below_same, all_names, all_filtered, any_filtered}
+use Rattle.pg_opens.specs.Marks.{status_of, statuses, has_yes, replies, asked_mark, is_wanted}
+use Rattle.pg_opens.specs.Marks.{whom, has_place, mark_at, asked_in, passes, all_marks}
+use Rattle.pg_opens.proofs.Named.{clash, atom_self, atom_other, names_differ, reads_at, reads_nobody}
+use Rattle.pg_opens.proofs.Named.{by_places, all_below_same, all_names, all_filtered, any_filtered}
 
 -- ---- tests of some of the nodes
 

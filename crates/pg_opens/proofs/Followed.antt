@@ -1,5 +1,7 @@
 -- Open commands go as the turns of a node do.
-use Rattle.std.proofs.Common.{◌≡◌, ℕ, ◌<◌, ◌+◌, ◌-◌, zero, suc, Bool, true, false, ◌&&◌, ◌||◌, ◌==◌, cond, nat_eq, nat_lt, nat_le, get_or, length, replicate, List, [], ◌∷◌, Some, None, refl, ap, sym, ◌∙◌, subst, arith}
+use Rattle.std.proofs.Common.{◌≡◌, ℕ, ◌<◌, ◌+◌, ◌-◌, zero, suc, Bool, true, false, ◌&&◌, ◌||◌}
+use Rattle.std.proofs.Common.{◌==◌, cond, nat_eq, nat_lt, nat_le, get_or, length, replicate}
+use Rattle.std.proofs.Common.{List, [], ◌∷◌, Some, None, refl, ap, sym, ◌∙◌, subst, arith}
 use Rattle.std.specs.Prelude.{slice_set}
 use Rattle.std.specs.List.{IsDistinct, list_any}
 use Rattle.std.proofs.Math.Path.{fun_ext}
@@ -17,7 +19,8 @@ use Rattle.pg_step.specs.State.Status.{Unasked}
 use Rattle.pg_step.specs.State.Use.{Fresh, Locking, Owning, Updating, Spent}
 use Rattle.pg_step.specs.State.Stage.{Closed, Waiting, Changing}
 use Rattle.pg_step.specs.Peers.{would_grant}
-use Rattle.pg_step.specs.Attempts.{same_op, new_attempt, ask, with_asked, count_answer, give_up, begin, finish, own_verdict}
+use Rattle.pg_step.specs.Attempts.{same_op, new_attempt, ask, with_asked}
+use Rattle.pg_step.specs.Attempts.{count_answer, give_up, begin, finish, own_verdict}
 use Rattle.pg_opens.specs.declared.mark.Mark.{Mark}
 use Rattle.pg_opens.specs.declared.mark.Mark.TheVariants as mark
 use Rattle.pg_opens.specs.declared.mark.Asked.{Asked as Whom}
@@ -26,15 +29,19 @@ use Rattle.pg_opens.specs.declared.command.Phase.TheVariants as phase
 use Rattle.pg_opens.specs.declared.command.OpenCommand.{OpenCommand}
 use Rattle.pg_opens.specs.Layers.{over, or_as, seek, others}
 use Rattle.pg_opens.specs.Places.{name_at, lost_in, left_in, ArePlaces}
-use Rattle.pg_opens.specs.Marks.{status_of, statuses, has_yes, replies, verdict_mark, whom, has_place, mark_at, first_mark}
-use Rattle.pg_opens.specs.Commands.{use_in, use_at, has_in, stage_in, stage_at, unused, uses_in, stages_in, AreKnown, Turns}
+use Rattle.pg_opens.specs.Marks.{status_of, statuses, has_yes, replies}
+use Rattle.pg_opens.specs.Marks.{verdict_mark, whom, has_place, mark_at, first_mark}
+use Rattle.pg_opens.specs.Commands.{use_in, use_at, has_in, stage_in, stage_at}
+use Rattle.pg_opens.specs.Commands.{unused, uses_in, stages_in, AreKnown, Turns}
 use Rattle.pg_opens.specs.declared.command.Standing.TheVariants as standing
 use Rattle.pg_opens.specs.Readings.{standing_of, is_locking}
 use Rattle.pg_opens.specs.Opens.{Says}
 use Rattle.pg_opens.specs.TakenBack.{command_taken_back}
 use Rattle.pg_opens.proofs.Layered.{set_length, others_length}
 use Rattle.pg_opens.proofs.Named.{clash, reads_set, reads_all, by_places, reads_at, reads_nobody, atom_other}
-use Rattle.pg_opens.proofs.Uses.{known_after, fits_started, fits_same, fits_given, fits_begun, was, stage_was, stage_new, stage_same, stage_ended, marked_lock, marked_update, started, begun, given, ended, use_taken_back}
+use Rattle.pg_opens.proofs.Uses.{known_after, fits_started, fits_same, fits_given, fits_begun}
+use Rattle.pg_opens.proofs.Uses.{was, stage_was, stage_new, stage_same, stage_ended, marked_lock}
+use Rattle.pg_opens.proofs.Uses.{marked_update, started, begun, given, ended, use_taken_back}
 use Rattle.pg_opens.proofs.Asking.{asked_statuses, own_at}
 use Rattle.pg_opens.proofs.Found.{Stands, StandsFor, waiting_phase, locking_phase}
 

@@ -1,5 +1,6 @@
 -- A loss is seen.
-use Rattle.std.proofs.Common.{◌≡◌, ◌≢◌, ℕ, ◌<◌, zero, suc, Bool, true, false, cond, nat_eq, length, List, [], ◌∷◌, Option, Some, None, refl, ap, sym, ◌∙◌, subst, arith, get_or-set_other, length-set}
+use Rattle.std.proofs.Common.{◌≡◌, ◌≢◌, ℕ, ◌<◌, zero, suc, Bool, true, false, cond, nat_eq, length, List, [], ◌∷◌}
+use Rattle.std.proofs.Common.{Option, Some, None, refl, ap, sym, ◌∙◌, subst, arith, get_or-set_other, length-set}
 use Rattle.std.specs.Prelude.{slice_get, slice_set}
 use Rattle.std.specs.List.{IsDistinct}
 use Rattle.std.proofs.Math.Path.{fun_ext}
@@ -22,7 +23,8 @@ use Rattle.pg_opens.specs.declared.command.OpenCommand.{OpenCommand}
 use Rattle.pg_opens.specs.Layers.{over, or_as, seek, answers}
 use Rattle.pg_opens.specs.Places.{name_at, lost_in, ArePlaces}
 use Rattle.pg_opens.specs.Marks.{status_of, statuses, has_yes, replies}
-use Rattle.pg_opens.specs.Commands.{use_in, use_at, stage_in, stage_at, is_made, unused, first_in, AreKnown, Turns, Forgets}
+use Rattle.pg_opens.specs.Commands.{use_in, use_at, stage_in, stage_at, is_made}
+use Rattle.pg_opens.specs.Commands.{unused, first_in, AreKnown, Turns, Forgets}
 use Rattle.pg_opens.specs.Opens.{Says}
 use Rattle.pg_opens.proofs.Layered.{Apart, apart_of, alone_of, one_item}
 use Rattle.pg_opens.proofs.Named.{clash, reads_set}

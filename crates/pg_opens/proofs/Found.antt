@@ -1,5 +1,6 @@
 -- What is read of a command that was found, or of none.
-use Rattle.std.proofs.Common.{◌≡◌, ℕ, ◌<◌, Bool, true, false, not, ◌&&◌, ◌||◌, ◌==◌, cond, nat_eq, get_or, length, List, [], ◌∷◌, Option, Some, None, IfSome, refl, ap, sym, ◌∙◌, subst}
+use Rattle.std.proofs.Common.{◌≡◌, ℕ, ◌<◌, Bool, true, false, not, ◌&&◌, ◌||◌, ◌==◌, cond, nat_eq, get_or}
+use Rattle.std.proofs.Common.{length, List, [], ◌∷◌, Option, Some, None, IfSome, refl, ap, sym, ◌∙◌, subst}
 use Rattle.std.specs.Prelude.{slice_get}
 use Rattle.std.specs.List.{IsDistinct, list_any}
 use Rattle.std.proofs.lemmas.Option.{slice_get_read}
@@ -17,7 +18,8 @@ use Rattle.pg_step.specs.Nodes.{Node, Nodes}
 use Rattle.pg_step.specs.State.{State, Use, Stage}
 use Rattle.pg_step.specs.State.Use.{Fresh, Locking, Owning, Updating, Spent}
 use Rattle.pg_step.specs.State.Stage.{Closed, Waiting, Asking, Changing}
-use Rattle.pg_step.specs.Attempts.{same_op, gathered, is_complete, waits, lock_entry, is_yes, round_of, none_denied, none_missing, all_granted, with_asked}
+use Rattle.pg_step.specs.Attempts.{same_op, gathered, is_complete, waits, lock_entry, is_yes}
+use Rattle.pg_step.specs.Attempts.{round_of, none_denied, none_missing, all_granted, with_asked}
 use Rattle.pg_opens.specs.declared.mark.Mark.{Mark}
 use Rattle.pg_opens.specs.declared.mark.Mark.TheVariants as mark
 use Rattle.pg_opens.specs.declared.mark.Asked.TheVariants.{Nobody, All}
@@ -29,9 +31,12 @@ use Rattle.pg_opens.specs.declared.command.Gathering.TheVariants.{Nothing}
 use Rattle.pg_opens.specs.Layers.{over, or_as, seek, answers, others}
 use Rattle.pg_opens.specs.Places.{name_at, left_in, ArePlaces}
 use Rattle.pg_opens.specs.Marks.{status_of, statuses, has_yes, replies, all_marks}
-use Rattle.pg_opens.specs.Commands.{use_in, use_at, has_in, stage_in, stage_at, is_made, unused, uses_in, stages_in, first_in, AreKnown}
+use Rattle.pg_opens.specs.Commands.{use_in, use_at, has_in, stage_in, stage_at, is_made}
+use Rattle.pg_opens.specs.Commands.{unused, uses_in, stages_in, first_in, AreKnown}
 use Rattle.pg_opens.specs.declared.command.Standing.TheVariants as standing
-use Rattle.pg_opens.specs.Readings.{is_closed, is_lock, is_update, is_updating, update_of, update_in, waiting_of, waiting_in, waits_by, gathering_of, gathering_in, standing_of, standing_in, lock_heard, heard_in, complete_in, is_locking}
+use Rattle.pg_opens.specs.Readings.{is_closed, is_lock, is_update, is_updating, update_of, update_in}
+use Rattle.pg_opens.specs.Readings.{waiting_of, waiting_in, waits_by, gathering_of, gathering_in}
+use Rattle.pg_opens.specs.Readings.{standing_of, standing_in, lock_heard, heard_in, complete_in, is_locking}
 use Rattle.pg_opens.specs.Outlooks.{outlook_of, outlook_by, outlook_in}
 use Rattle.pg_opens.proofs.Layered.{quiet_is, quiet_both}
 use Rattle.pg_opens.proofs.Named.{clash}

@@ -12,7 +12,8 @@ use Rattle.pg_step.specs.State.{State, Status, Use}
 use Rattle.pg_step.specs.State.Use.{Locking}
 use Rattle.pg_step.specs.Turns.{NodeTurn, nothing, becomes, and_then}
 use Rattle.pg_step.specs.Peers.{would_grant}
-use Rattle.pg_step.specs.Attempts.{none_missing, none_denied, all_granted, round_of, with_asked, ask, give_up, begin, replies_in, locks_in, go_on}
+use Rattle.pg_step.specs.Attempts.{none_missing, none_denied, all_granted, round_of, with_asked}
+use Rattle.pg_step.specs.Attempts.{ask, give_up, begin, replies_in, locks_in, go_on}
 use Rattle.pg_opens.specs.Outlooks.{outlook_of, outlook_by, turn_by}
 
 -- a function changed at a key, read there

@@ -1,5 +1,6 @@
 -- Where the node of a name stands.
-use Rattle.std.proofs.Common.{◌≡◌, ℕ, ◌<◌, zero, suc, Bool, true, false, ◌||◌, get_or, length, List, [], ◌∷◌, Option, Some, None, IfSome, IfNone, refl, ap, sym, ◌∙◌, arith}
+use Rattle.std.proofs.Common.{◌≡◌, ℕ, ◌<◌, zero, suc, Bool, true, false, ◌||◌, get_or, length, List}
+use Rattle.std.proofs.Common.{[], ◌∷◌, Option, Some, None, IfSome, IfNone, refl, ap, sym, ◌∙◌, arith}
 use Rattle.std.specs.Prelude.{slice_get}
 use Rattle.std.specs.List.{list_any}
 use Rattle.std.specs.Option.{is_some}

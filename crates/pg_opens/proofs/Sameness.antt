@@ -1,5 +1,6 @@
 -- Open commands that are seen as the same have twins, one for each.
-use Rattle.std.proofs.Common.{◌≡◌, ℕ, ◌<◌, Bool, true, false, ◌&&◌, cond, nat_eq, get_or, length, List, Some, None, refl, ap, sym, ◌∙◌, subst, inl, inr, ◌⊎◌}
+use Rattle.std.proofs.Common.{◌≡◌, ℕ, ◌<◌, Bool, true, false, ◌&&◌, cond, nat_eq, get_or, length}
+use Rattle.std.proofs.Common.{List, Some, None, refl, ap, sym, ◌∙◌, subst, inl, inr, ◌⊎◌}
 use Rattle.std.specs.Prelude.{slice_get}
 use Rattle.std.specs.Bool.{IsTrue}
 use Rattle.std.specs.Cmp.{first_so, second_so}
@@ -25,7 +26,8 @@ use Rattle.pg_opens.specs.Places.{name_at, lost_in, ArePlaces}
 use Rattle.pg_opens.specs.Marks.{statuses, has_yes, replies}
 use Rattle.pg_opens.specs.Commands.{use_at, stage_in, stage_at, unused, uses_in, stages_in, first_in, AreKnown}
 use Rattle.pg_opens.specs.Opens.{lost_of, AreSame}
-use Rattle.pg_opens.specs.Twins.{same_update, same_mark, same_test, same_marks, same_replies, is_alike, is_twin, have_twins, same_commands}
+use Rattle.pg_opens.specs.Twins.{same_update, same_mark, same_test, same_marks}
+use Rattle.pg_opens.specs.Twins.{same_replies, is_alike, is_twin, have_twins, same_commands}
 use Rattle.pg_opens.proofs.Layered.{quiet_is}
 use Rattle.pg_opens.proofs.Named.{clash, atom_same}
 use Rattle.pg_opens.proofs.Asking.{lost_at, same_at, status_at, reply_at}

@@ -1,5 +1,6 @@
 -- What becomes of the uses of references and of the stages of commands as one command changes.
-use Rattle.std.proofs.Common.{◌≡◌, ℕ, ◌<◌, ◌+◌, Bool, true, false, ◌&&◌, ◌||◌, cond, nat_eq, nat_lt, nat_le, length, List, Option, Some, None, refl, ap, sym, ◌∙◌, subst, inl, inr, ◌⊎◌, arith}
+use Rattle.std.proofs.Common.{◌≡◌, ℕ, ◌<◌, ◌+◌, Bool, true, false, ◌&&◌, ◌||◌, cond, nat_eq, nat_lt, nat_le}
+use Rattle.std.proofs.Common.{length, List, Option, Some, None, refl, ap, sym, ◌∙◌, subst, inl, inr, ◌⊎◌, arith}
 use Rattle.std.specs.Prelude.{slice_get, slice_set}
 use Rattle.std.proofs.Math.Path.{fun_ext}
 use Rattle.std.proofs.lemmas.Bool.Decides.{nat_tests}
@@ -19,8 +20,10 @@ use Rattle.pg_opens.specs.declared.command.OpenCommand.{OpenCommand}
 use Rattle.pg_opens.specs.Layers.{over, or_as, seek, answers, others}
 use Rattle.pg_opens.specs.Places.{name_at}
 use Rattle.pg_opens.specs.Marks.{statuses, replies}
-use Rattle.pg_opens.specs.Commands.{use_in, use_at, has_in, stage_in, stage_at, is_made, unused, uses_in, stages_in, first_in, AreKnown, Turns}
-use Rattle.pg_opens.proofs.Layered.{quiet_is, quiet_left, quiet_right, quiet_both, pull, pull_set, set_apart, alone, others_quiet, apart_of, alone_of, apart_others, set_each, others_each}
+use Rattle.pg_opens.specs.Commands.{use_in, use_at, has_in, stage_in, stage_at, is_made}
+use Rattle.pg_opens.specs.Commands.{unused, uses_in, stages_in, first_in, AreKnown, Turns}
+use Rattle.pg_opens.proofs.Layered.{quiet_is, quiet_left, quiet_right, quiet_both, pull, pull_set, set_apart}
+use Rattle.pg_opens.proofs.Layered.{alone, others_quiet, apart_of, alone_of, apart_others, set_each, others_each}
 use Rattle.pg_opens.proofs.Named.{clash, split}
 
 pub use_as : (names : List Node) (o o' : OpenCommand) (ph : Phase) (x : ℕ) → Turns o o' ph → use_at names o' x ≡ use_in names o.op o.update ph o'.marks.items x

@@ -1,5 +1,6 @@
 -- What a list of open commands says.
-use Rattle.std.specs.Prelude.{◌≡◌, ℕ, ◌<◌, Bool, false, ◌&&◌, ◌||◌, cond, nat_eq, nat_lt, nat_le, length, List, Option, Some, None, slice_get, slice_set}
+use Rattle.std.specs.Prelude.{◌≡◌, ℕ, ◌<◌, Bool, false, ◌&&◌, ◌||◌, cond, nat_eq, nat_lt}
+use Rattle.std.specs.Prelude.{nat_le, length, List, Option, Some, None, slice_get, slice_set}
 use Rattle.pg_group.specs.declared.update.Update.{Update}
 use Rattle.pg_group.specs.Value.{name_of}
 use Rattle.pg_step.specs.declared.command.OpId.{OpId}

@@ -9,7 +9,8 @@ use Rattle.pg_step.specs.State.{State, Status, Use}
 use Rattle.pg_step.specs.State.Use.{Locking}
 use Rattle.pg_step.specs.Turns.{NodeTurn, becomes, and_then}
 use Rattle.pg_step.specs.Peers.{would_grant}
-use Rattle.pg_step.specs.Attempts.{none_missing, none_denied, all_granted, round_of, with_asked, ask, give_up, begin, replies_in}
+use Rattle.pg_step.specs.Attempts.{none_missing, none_denied, all_granted, round_of}
+use Rattle.pg_step.specs.Attempts.{with_asked, ask, give_up, begin, replies_in}
 use Rattle.pg_opens.specs.declared.mark.Mark.{Mark}
 use Rattle.pg_opens.specs.declared.mark.Asked.TheVariants.{Nobody, All}
 use Rattle.pg_opens.specs.declared.mark.Wanted.TheVariants.{Answered, NotDenied, Granted}

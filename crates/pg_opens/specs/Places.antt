@@ -1,5 +1,6 @@
 -- What a list says of nodes that another list names, place by place.
-use Rattle.std.specs.Prelude.{◌≡◌, ℕ, ◌<◌, suc, zero, Bool, true, false, not, ◌&&◌, cond, length, get_or, drop, List, [], ◌∷◌}
+use Rattle.std.specs.Prelude.{◌≡◌, ℕ, ◌<◌, suc, zero, Bool, true, false, not}
+use Rattle.std.specs.Prelude.{◌&&◌, cond, length, get_or, drop, List, [], ◌∷◌}
 use Rattle.std.specs.List.{filter}
 use Rattle.pg_term.specs.Same.{same_atom}
 use Rattle.pg_step.specs.Nodes.{Node, Nodes}

@@ -60,6 +60,8 @@ impl Standing {
     ghost use Rattle.pg_opens.specs.Readings.{is_closed};
 
     /// Whether the command is not open.
+    ///
+    /// Cost: no memory.
     pub fn is_closed(self) -> bool
         ensures { result ≡ is_closed self }
     {
@@ -74,6 +76,8 @@ impl Gathering {
     ghost use Rattle.pg_opens.specs.Readings.{is_lock, is_update};
 
     /// Whether answers to a request for the lock are gathered.
+    ///
+    /// Cost: no memory.
     pub fn is_lock(self) -> bool
         ensures { result ≡ is_lock self }
     {
@@ -84,6 +88,8 @@ impl Gathering {
     }
 
     /// Whether replies to an update are gathered.
+    ///
+    /// Cost: no memory.
     pub fn is_update(self) -> bool
         ensures { result ≡ is_update self }
     {
@@ -117,7 +123,8 @@ impl OpenCommand {
     ghost use Rattle.pg_opens.specs.declared.command.Phase.TheVariants.{Waiting, Asking, Changing};
     ghost use Rattle.pg_opens.specs.Marks.{first_mark, mark_at, asked_in, has_yes};
     ghost use Rattle.pg_opens.specs.Commands.{Turns};
-    ghost use Rattle.pg_opens.specs.Readings.{gathering_in, standing_in, heard_in, complete_in, update_in, waiting_in, gathers_in};
+    ghost use Rattle.pg_opens.specs.Readings.{gathering_in, standing_in, heard_in};
+    ghost use Rattle.pg_opens.specs.Readings.{complete_in, update_in, waiting_in, gathers_in};
     ghost use Rattle.std.specs.Option.{option_copied};
     ghost use Rattle.pg_opens.specs.Outlooks.{outlook_in};
 

@@ -1,5 +1,6 @@
 ghost use Rattle.std.specs.Prelude.{◌≡◌, ℕ, ◌<◌, false, length, get_or};
-ghost use Rattle.pg_opens.specs.Marks.{status_of, has_yes, verdict_mark, asked_mark, first_mark, passes, is_wanted, mark_at, all_marks};
+ghost use Rattle.pg_opens.specs.Marks.{status_of, has_yes, verdict_mark, asked_mark};
+ghost use Rattle.pg_opens.specs.Marks.{first_mark, passes, is_wanted, mark_at, all_marks};
 ghost use Rattle.pg_opens.specs.Places.{all_below};
 ghost use Rattle.pg_opens.specs.declared.mark.Mark.TheVariants.{Unasked};
 ghost use Rattle.pg_step.specs.Attempts.{is_unasked};
@@ -42,6 +43,8 @@ pub enum Asked {
 
 impl Asked {
     /// Whether the node at a place is among them.
+    ///
+    /// Cost: no memory.
     pub fn is_wanted(self, place: usize) -> bool
         ensures { result ≡ is_wanted self place }
     {

@@ -1,4 +1,5 @@
-ghost use Rattle.std.specs.Prelude.{◌≡◌, ◌↔◌, IsTrue, ℕ, ◌<◌, ◌+◌, ◌^◌, true, false, not, ◌&&◌, length, IfOk, IfSome, OnOk, OnErr, vec_len};
+ghost use Rattle.std.specs.Prelude.{◌≡◌, ◌↔◌, IsTrue, ℕ, ◌<◌, ◌+◌, ◌^◌, true, false, not};
+ghost use Rattle.std.specs.Prelude.{◌&&◌, length, IfOk, IfSome, OnOk, OnErr, vec_len};
 ghost use Rattle.std.specs.List.{IsDistinct, IsDistinct-prop};
 ghost use Rattle.std.specs.Option.{option_copied};
 ghost use Rattle.pg_term.specs.Same.{same_atom};
@@ -49,13 +50,17 @@ impl Opens {
     ghost use Rattle.pg_step.specs.State.Use.{Locking, Updating};
     ghost use Rattle.pg_step.specs.State.Stage.{Closed, Waiting};
     ghost use Rattle.pg_step.specs.Peers.{would_grant};
-    ghost use Rattle.pg_step.specs.Attempts.{gathered, is_complete, is_yes, waits, asks, new_attempt, ask, own_verdict, count_answer, count_ok, give_up, begin, finish};
+    ghost use Rattle.pg_step.specs.Attempts.{gathered, is_complete, is_yes, waits, asks, new_attempt, ask};
+    ghost use Rattle.pg_step.specs.Attempts.{own_verdict, count_answer, count_ok, give_up, begin, finish};
     ghost use Rattle.pg_step.specs.Turns.{becomes};
     ghost use Rattle.pg_step.specs.Commands.{open_command};
     ghost use Rattle.pg_step.specs.Losses.{see_loss};
-    ghost use Rattle.pg_opens.specs.Opens.{names_of, whole_of, left_of, ops_of, AreListed, AreSame, lost_of, references_of, uses_of, opened_of, stages_of, Shows, Follows, has_room, places_of};
+    ghost use Rattle.pg_opens.specs.Opens.{names_of, whole_of, left_of, ops_of, AreListed};
+    ghost use Rattle.pg_opens.specs.Opens.{AreSame, lost_of, references_of, uses_of, opened_of};
+    ghost use Rattle.pg_opens.specs.Opens.{stages_of, Shows, Follows, has_room, places_of};
     ghost use Rattle.pg_opens.specs.Marks.{whom, has_place};
-    ghost use Rattle.pg_opens.specs.Readings.{gathering_of, standing_of, is_locking, is_updating, update_of, waiting_of, waits_by};
+    ghost use Rattle.pg_opens.specs.Readings.{gathering_of, standing_of, is_locking};
+    ghost use Rattle.pg_opens.specs.Readings.{is_updating, update_of, waiting_of, waits_by};
     ghost use Rattle.pg_opens.specs.Outlooks.{outlook_of};
     ghost use Rattle.pg_step.specs.State.Status.{Asked as AskedYet};
     ghost use Rattle.pg_opens.specs.TakenBack.{command_taken_back, ok_taken_back};
@@ -265,7 +270,9 @@ impl Opens {
         command.op
     }
 
-    /// The places of the open commands, by `op_at`, have each open command, once, and no other. It takes nothing.
+    /// The places of the open commands, by `op_at`, have each open command, once, and no other.
+    ///
+    /// Cost: no memory; nothing is done.
     pub fn has_each_once(&self)
         ensures { AreListed self.now (ops_of self.now) }
     {}

@@ -17,8 +17,10 @@ pub enum Outlook {
 }
 
 impl Outlook {
-    /// By whether all asked have answered, and none has denied; and whether, once the rest is asked, all have granted, and no
-    /// answer is missing.
+    /// By whether all asked have answered, and none has denied; and whether, once the rest is asked, all have
+    /// granted, and no answer is missing.
+    ///
+    /// Cost: no memory.
     pub fn of(answered: bool, none_denied: bool, granted: bool, none_missing: bool) -> Outlook
         ensures { result ≡ outlook_by answered none_denied granted none_missing }
     {

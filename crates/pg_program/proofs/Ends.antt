@@ -1,5 +1,6 @@
 -- How the program ends where it serves.
-use Rattle.std.proofs.Common.{arith, ◌≡◌, ◌⊎◌, Bool, ◌∷◌, ℕ, List, [], Option, Some, None, Result, Err, length, refl, sym, ap, ◌∙◌, inl, inr}
+use Rattle.std.proofs.Common.{arith, ◌≡◌, ◌⊎◌, Bool, ◌∷◌, ℕ, List, [], Option, Some}
+use Rattle.std.proofs.Common.{None, Result, Err, length, refl, sym, ap, ◌∙◌, inl, inr}
 use Rattle.std.specs.Prelude.{IfSome, IfErr, get_or}
 use Rattle.std.specs.Str.{chars}
 use Rattle.clap.specs.Words.{Kinds, IsAmong, Row, Text}
@@ -12,7 +13,8 @@ use Rattle.pg_replica.specs.declared.fault.ServeFault.TheVariants.{Message}
 use Rattle.pg_program.specs.declared.bytes.BytesFault.{BytesFault}
 use Rattle.pg_program.specs.declared.bytes.BytesFault.TheVariants.{Serve}
 use Rattle.pg_program.specs.Bytes.{BytesCause, ServesAs}
-use Rattle.pg_program.specs.CommandLine.{AsksBytes, IsExplore, IsExploreWord, IsOther, IsScript, IsScriptWord, IsServe, IsServeWord, IsThreads}
+use Rattle.pg_program.specs.CommandLine.{AsksBytes, IsExplore, IsExploreWord, IsOther, IsScript}
+use Rattle.pg_program.specs.CommandLine.{IsScriptWord, IsServe, IsServeWord, IsThreads}
 use Rattle.pg_program.specs.Explorations.{WasAsked}
 use Rattle.pg_program.specs.Scripts.{ScriptEnd}
 use Rattle.pg_program.specs.Status.{BytesEnd, Ends, end_of_bytes, end_status}

@@ -1,5 +1,6 @@
 -- How an exploration ends.
-use Rattle.std.proofs.Common.{◌≡◌, ◌≢◌, ◌<◌, ◌≤◌, ℕ, Bool, true, false, List, [], length, nat_lt, Option, Some, None, Result, Ok, Err, refl, sym, ap, ◌∙◌, subst, ◌⊎◌, inl, inr, ◌↔◌, arith}
+use Rattle.std.proofs.Common.{◌≡◌, ◌≢◌, ◌<◌, ◌≤◌, ℕ, Bool, true, false, List, [], length, nat_lt, Option, Some}
+use Rattle.std.proofs.Common.{None, Result, Ok, Err, refl, sym, ap, ◌∙◌, subst, ◌⊎◌, inl, inr, ◌↔◌, arith}
 use Rattle.std.specs.Prelude.{IsTrue, if◌then◌else◌}
 use Rattle.std.specs.Str.{is_utf8}
 use Rattle.std.proofs.lemmas.Bool.Decides.{nat_tests}
@@ -22,7 +23,8 @@ use Rattle.pg_program.specs.declared.fault.Fault.{Fault}
 use Rattle.pg_program.specs.declared.fault.Fault.TheVariants.{Run, Given, Line}
 use Rattle.pg_program.specs.declared.input.TheConstants.{MAX_SCRIPT_LEN}
 use Rattle.pg_program.specs.declared.words.Quest.{Quest}
-use Rattle.pg_program.specs.Explorations.{AreFound, ExploreEnd, IsAnswer, NotPictured, PlannedEnd, Shown, WasExplored, WhyNot, bytes_planned, input_planned}
+use Rattle.pg_program.specs.Explorations.{AreFound, ExploreEnd, IsAnswer, NotPictured, PlannedEnd}
+use Rattle.pg_program.specs.Explorations.{Shown, WasExplored, WhyNot, bytes_planned, input_planned}
 use Rattle.pg_program.specs.Inputs.{NoInput, Said, told_of}
 use Rattle.pg_program.specs.Scripts.{script_fault_of}
 use Rattle.pg_program.specs.Talks.{Printed}

@@ -1,5 +1,6 @@
 -- The words that the program knows, and what they ask for.
-use Rattle.std.specs.Prelude.{◌≡◌, ◌<◌, ◌⊎◌, ℕ, ◌-◌, ◌^◌, List, ◌∷◌, [], Bool, true, false, Option, Some, None, codes, unwrap_or, option_map}
+use Rattle.std.specs.Prelude.{◌≡◌, ◌<◌, ◌⊎◌, ℕ, ◌-◌, ◌^◌, List, ◌∷◌, [], Bool, true}
+use Rattle.std.specs.Prelude.{false, Option, Some, None, codes, unwrap_or, option_map}
 use Rattle.std.specs.Option.{option_map_or}
 use Rattle.std.specs.Str.{bytes_eq}
 use Rattle.std.specs.Str.Parse.{IsNumeral, digits_value, without_leading_plus}

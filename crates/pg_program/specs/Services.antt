@@ -1,5 +1,6 @@
 -- How a service over a cluster ends.
-use Rattle.std.specs.Prelude.{◌≡◌, ◌⊎◌, ◌&&◌, ℕ, List, ◌++◌, Bool, true, false, Option, Some, None, Result, Ok, Err, codes, if◌then◌else◌}
+use Rattle.std.specs.Prelude.{◌≡◌, ◌⊎◌, ◌&&◌, ℕ, List, ◌++◌, Bool, true, false, Option}
+use Rattle.std.specs.Prelude.{Some, None, Result, Ok, Err, codes, if◌then◌else◌}
 use Rattle.pg_script.specs.declared.fault.RunFault.{RunFault}
 use Rattle.pg_cluster.specs.declared.fault.StartFault.TheVariants as starts
 use Rattle.pg_config.specs.declared.fault.WorldFault.TheVariants.{OutOfMemory}

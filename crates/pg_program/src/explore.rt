@@ -7,7 +7,8 @@ ghost use Rattle.pg_replica.specs.Causes.{FailedAt};
 ghost use Rattle.pg_script.specs.Scripts.{Contents};
 ghost use Rattle.pg_survey.specs.Findings.{met_in};
 ghost use Rattle.pg_survey.specs.Scenarios.{IsScenarioOf};
-ghost use Rattle.pg_program.specs.Explorations.{ExploreEnd, IsAnswer, NotPictured, PlannedEnd, Shown, WhyNot, bytes_planned};
+ghost use Rattle.pg_program.specs.Explorations.{ExploreEnd, IsAnswer, NotPictured};
+ghost use Rattle.pg_program.specs.Explorations.{PlannedEnd, Shown, WhyNot, bytes_planned};
 ghost use Rattle.pg_program.specs.Inputs.{IsInput, IsUnread};
 
 use crate::fault::Fault;

@@ -7,7 +7,8 @@ ghost use Rattle.std.specs.declared.io.ErrorKind.TheVariants.{InvalidData};
 ghost use Rattle.clap.specs.Words.{fault_of, kind_of, subcommand_of};
 ghost use Rattle.pg_replica.specs.Causes.{AllAnswered, FailedAt, Unread};
 ghost use Rattle.pg_program.specs.Bytes.{BytesCause, pair_of_texts};
-ghost use Rattle.pg_program.specs.CommandLine.{command_line, AsksBytes, IsExplore, IsExploreWord, IsScriptWord, IsServeWord, IsThreads};
+ghost use Rattle.pg_program.specs.CommandLine.{command_line, AsksBytes, IsExplore, IsExploreWord};
+ghost use Rattle.pg_program.specs.CommandLine.{IsScriptWord, IsServeWord, IsThreads};
 ghost use Rattle.pg_program.specs.Explorations.{ExploreEnd, WasAsked};
 ghost use Rattle.pg_program.specs.Inputs.{IsInput, IsUnread};
 ghost use Rattle.pg_program.specs.Scripts.{ScriptEnd};
@@ -43,18 +44,23 @@ const NOT_GOOD: u8 = 1;
 
 const REFUSED_WORDS: u8 = 2;
 
-/// Does what the words of a command line ask for, without the name of the program, and gives the status that it ends with.
+/// Does what the words of a command line ask for, without the name of the program, and gives the status that it ends
+/// with.
 ///
-/// `bytes [--node NAME] [--peer NAME]` reads framed packets from `reader` and writes the framed replies to `writer`, as
-/// `pg_node::serve` does; names that are too long or equal are refused. `script` reads a script and runs it, as
-/// `pg_script::run_script` does; by `--trace` it tells what was seen, too, and by `--diagram` it makes a file in `system` once the run
-/// has ended. `threads` lets clients speak with a cluster of nodes in threads, as `pg_talk::run_threads` does, and prints how it went;
-/// status 1 where not all was well. `serve` takes requests for such a cluster from the system's input, and writes the replies to `writer`,
-/// as `pg_talk::serve_cluster` does; then two lines on `faults` tell what the cluster is found to be, and status 1 where not all is well.
-/// `explore` reads a script of commands, goes through all their runs as `pg_survey::survey` does, and prints what was counted, or by `--show` and
-/// `--differing` one run as a script; by `--graph` it makes a file; status 1 where the limit was reached. A fault stands in a line of `faults`: `refused N`, or `line L refused N` for a faulty line of a
-/// script. Status 0: done; 1: the run was refused; 2: what was given was refused. Refused words print the text of `clap` on
+/// `bytes [--node NAME] [--peer NAME]` reads framed packets from `reader` and writes the framed replies to `writer`,
+/// as `pg_node::serve` does; names that are too long or equal are refused. `script` reads a script and runs it, as
+/// `pg_script::run_script` does; by `--trace` it tells what was seen, too, and by `--diagram` it makes a file in
+/// `system` once the run has ended. `threads` lets clients speak with a cluster of nodes in threads, as
+/// `pg_talk::run_threads` does, and prints how it went; status 1 where not all was well. `serve` takes requests for
+/// such a cluster from the system's input, and writes the replies to `writer`, as `pg_talk::serve_cluster` does; then
+/// two lines on `faults` tell what the cluster is found to be, and status 1 where not all is well. `explore` reads a
+/// script of commands, goes through all their runs as `pg_survey::survey` does, and prints what was counted, or by
+/// `--show` and `--differing` one run as a script; by `--graph` it makes a file; status 1 where the limit was
+/// reached. A fault stands in a line of `faults`: `refused N`, or `line L refused N` for a faulty line of a script.
+/// Status 0: done; 1: the run was refused; 2: what was given was refused. Refused words print the text of `clap` on
 /// `faults`, status 2, and nothing is read or written.
+///
+/// Cost: that of the call that the words name; memory for the words, and for the whole of a script that is read.
 pub fn run_words<R: Source, W: Sink, D: System, F: Sink>(
     alloc: Global,
     words: &[String],
@@ -238,6 +244,8 @@ fn tell<F: Sink>(faults: &mut F, end: Result<(), Fault>) -> u8
 }
 
 /// Writes the line of a run that was refused by this number, and gives its status.
+///
+/// Cost: no memory; one line is written.
 pub fn refuse<F: Sink>(faults: &mut F, number: u8) -> u8
     ensures status { result ≡ 1 }
     ensures told { ToldEnd F.fails F.contents faults.old faults.new (Err (Run number)) }
@@ -263,8 +271,10 @@ fn refuse_words<F: Sink>(alloc: Global, faults: &mut F, error: &Error) -> u8
     }
 }
 
-/// Writes why the words of the program can't be had, and gives the status: one of them is no text, which is refused as words are;
-/// else there was no memory.
+/// Writes why the words of the program can't be had, and gives the status: one of them is no text, which is refused
+/// as words are; else there was no memory.
+///
+/// Cost: no memory; one short text is written.
 pub fn refuse_given<F: Sink>(faults: &mut F, error: &io::Error) -> u8
     ensures text { error_kind error.now ≡ InvalidData → result ≡ 2 }
     ensures memory { error_kind error.now ≢ InvalidData

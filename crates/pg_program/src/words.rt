@@ -1,9 +1,13 @@
 //! What the words of a command line ask for.
 
 ghost use Rattle.std.specs.Prelude.{◌≡◌, false, IfOk, IfErr, codes, map, option_map, string_bytes};
-ghost use Rattle.clap.specs.Words.{rule_of, subcommand_rows_of, app_of, new_app, kind_of, found_of, rows_of, first_of, one_of, fault_of, subcommand_of, FailsBy};
+ghost use Rattle.clap.specs.Words.{rule_of, subcommand_rows_of, app_of, new_app, kind_of, found_of};
+ghost use Rattle.clap.specs.Words.{rows_of, first_of, one_of, fault_of, subcommand_of, FailsBy};
 ghost use Rattle.clap.specs.declared.builder.Command.TheViews.{out-Command};
-ghost use Rattle.pg_program.specs.CommandLine.{name_rule, bytes_line, script_line, flag_rule, file_rule, number_rule, cluster_line, threads_line, names_rule, served_line, serve_line, explored_line, explore_line, top_line, command_line, given_name, is_flag, AsksAids, AsksOffer, AsksQuest, AsksTalk, GivesNumber, IsAsked};
+ghost use Rattle.pg_program.specs.CommandLine.{name_rule, bytes_line, script_line, flag_rule, file_rule, number_rule};
+ghost use Rattle.pg_program.specs.CommandLine.{cluster_line, threads_line, names_rule, served_line, serve_line};
+ghost use Rattle.pg_program.specs.CommandLine.{explored_line, explore_line, top_line, command_line, given_name};
+ghost use Rattle.pg_program.specs.CommandLine.{is_flag, AsksAids, AsksOffer, AsksQuest, AsksTalk, GivesNumber, IsAsked};
 
 use crate::help::{
     ABOUT, BYTES_ABOUT, CLIENTS_HELP, COMMANDS_HELP, DIAGRAM_HELP, DIFFERING_HELP, EXPLORE_ABOUT,

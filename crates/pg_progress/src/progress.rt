@@ -39,6 +39,8 @@ pub struct Progress<T, C> {
 
 impl<T: Write + IsTerminal, C: Clock> Progress<T, C> {
     /// No line stands yet. `word`: what the line says was done of so many.
+    ///
+    /// Cost: no memory; the terminal is asked once whether it is one.
     pub fn new(terminal: T, clock: C, word: &'static str) -> Progress<T, C>
         ensures { result.terminal ≡ terminal }
     {
@@ -58,6 +60,8 @@ impl<T: Write + IsTerminal, C: Clock> Progress<T, C> {
 
 impl<T: Write, C: Clock> Progress<T, C> {
     /// Wipes the line, if one stands; a write that fails changes nothing else.
+    ///
+    /// Cost: no memory; one write and one flush where a line stands.
     pub fn end(&mut self)
         ensures wiped { self.new.written ≡ None }
         ensures elsewhere { IsFalse self.old.is_terminal → self.new.terminal ≡ self.old.terminal }

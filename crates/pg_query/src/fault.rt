@@ -19,6 +19,8 @@ impl QueryFault {
     ghost use Rattle.pg_query.specs.QueryFault.{query_number_of};
 
     /// The number of the fault in this project's one list of faults.
+    ///
+    /// Cost: no memory.
     pub fn number(self) -> u8
         ensures { result ≡ query_number_of self }
     {

@@ -16,6 +16,8 @@ pub struct Random {
 
 impl Random {
     /// The source of a seed.
+    ///
+    /// Cost: no memory.
     pub fn new(seed: u64) -> Random {
         Random {
             words: Pcg32::new(seed, 1),
@@ -23,11 +25,15 @@ impl Random {
     }
 
     /// The next number, of 32 bits.
+    ///
+    /// Cost: no memory.
     pub fn word(&mut self) -> u32 {
         self.words.next_word()
     }
 
     /// A number below `limit`; 0 where that is 0.
+    ///
+    /// Cost: no memory.
     pub fn below(&mut self, limit: u32) -> u32
         ensures { 0 < limit → result < limit }
     {
@@ -35,6 +41,8 @@ impl Random {
     }
 
     /// One of these values; `None` where there is none.
+    ///
+    /// Cost: no memory.
     pub fn pick<'a, V>(&mut self, values: &'a [V]) -> Option<&'a V> {
         let count = u32::try_from(values.len()).unwrap_or(u32::MAX);
         values.get(self.below(count) as usize)

@@ -1,5 +1,6 @@
 -- A list of members in a packet that is read is no longer than the bytes that it is read from.
-use Rattle.std.proofs.Common.{◌≡◌, ℕ, ◌≤◌, Bool, true, false, cond, List, [], ◌∷◌, length, Option, Some, None, Result, Ok, Err, refl, ap, subst, arith}
+use Rattle.std.proofs.Common.{◌≡◌, ℕ, ◌≤◌, Bool, true, false, cond, List, [], ◌∷◌, length}
+use Rattle.std.proofs.Common.{Option, Some, None, Result, Ok, Err, refl, ap, subst, arith}
 use Rattle.std.specs.Prelude.{IfOk, codes}
 use Rattle.std.specs.Option.{option_map, option_and_then}
 use Rattle.std.proofs.lemmas.Option.{option_and_then_some, same_Some}
@@ -16,7 +17,9 @@ use Rattle.pg_message.specs.declared.packet.Packet.{Packet}
 use Rattle.pg_message.specs.Members.{HasFewMembers, IsShort}
 use Rattle.pg_message.specs.Name.{is_name}
 use Rattle.pg_message.specs.Parts.{tuple_in, elements_of, list_in, items_of, is_word, atom_of, reference_of, pid_of}
-use Rattle.pg_message.specs.Reading.{Groups, request_of, said_of, all_of, group_in, group_of, is_named_once, named_once, groups_of, freed, exchanged, cast_in, cast_of, referred, unreferred, message_in, message_of, stamp_of, stamped, packet_in, SpellsPacket}
+use Rattle.pg_message.specs.Reading.{Groups, request_of, said_of, all_of, group_in, group_of, is_named_once}
+use Rattle.pg_message.specs.Reading.{named_once, groups_of, freed, exchanged, cast_in, cast_of, referred}
+use Rattle.pg_message.specs.Reading.{unreferred, message_in, message_of, stamp_of, stamped, packet_in, SpellsPacket}
 
 -- ---- what an answer comes from
 

@@ -5,7 +5,8 @@ use Rattle.std.specs.List.{list_all}
 use Rattle.std.proofs.lemmas.List.{map-append, append-nil}
 use Rattle.std.proofs.lemmas.List.Folds.{list_all-append}
 use Rattle.pg_term.specs.declared.term.Term.{Term, List as Listed}
-use Rattle.pg_term_io.specs.Reading.{Read, ◌>>=◌, readers, item_behind, elements_behind, list_at, items_at, item_at, tail_at, with_front}
+use Rattle.pg_term_io.specs.Reading.{Read, ◌>>=◌, readers, item_behind, elements_behind}
+use Rattle.pg_term_io.specs.Reading.{list_at, items_at, item_at, tail_at, with_front}
 use Rattle.pg_term_io.proofs.Again.{word_again}
 use Rattle.pg_term_io.proofs.Loop.{goes_on, is_done}
 use Rattle.pg_reader.specs.Standing.{Stands, Counts}

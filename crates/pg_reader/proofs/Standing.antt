@@ -1,5 +1,6 @@
 -- What stands at the front of bytes, part by part, up to a whole packet.
-use Rattle.std.proofs.Common.{◌≡◌, ℕ, suc, ◌<◌, ◌≤◌, pos, ℤ, Bool, true, false, cond, eqb, ltb, List, [], ◌∷◌, ◌++◌, length, get_or, take, drop, Ok, Err, refl, sym, ap, subst, ◌∙◌, arith}
+use Rattle.std.proofs.Common.{◌≡◌, ℕ, suc, ◌<◌, ◌≤◌, pos, ℤ, Bool, true, false, cond, eqb, ltb, List, [], ◌∷◌}
+use Rattle.std.proofs.Common.{◌++◌, length, get_or, take, drop, Ok, Err, refl, sym, ap, subst, ◌∙◌, arith}
 use Rattle.std.specs.Prelude.{nat_le}
 use Rattle.std.specs.Int.{w32, from_be_bytes, cast_signed}
 use Rattle.std.specs.Str.{chars, IsUtf8}
@@ -9,7 +10,8 @@ use Rattle.pg_term.specs.declared.pid.Pid.{Pid}
 use Rattle.pg_term.specs.declared.term.Term.{Term, Tuple}
 use Rattle.pg_term.specs.declared.term.Term.TheVariants.{Int, Atom, Ref, Pid as Process}
 use Rattle.pg_term.specs.RefParts.{RefParts}
-use Rattle.pg_term_io.specs.Reading.{Read, ◌>>=◌, readers, item_behind, leaf_behind, items_at, item_at, as_term, pid_at, new_reference_at, term_of}
+use Rattle.pg_term_io.specs.Reading.{Read, ◌>>=◌, readers, item_behind, leaf_behind, items_at}
+use Rattle.pg_term_io.specs.Reading.{item_at, as_term, pid_at, new_reference_at, term_of}
 use Rattle.pg_term.specs.declared.fault.TermFault.TheVariants.{Truncated}
 use Rattle.pg_term_io.specs.Spelling.{IsAtom}
 use Rattle.pg_term_io.specs.Spelling as s

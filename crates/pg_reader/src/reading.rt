@@ -8,7 +8,9 @@ ghost use Rattle.pg_message.specs.Fault.{Gives};
 ghost use Rattle.pg_message.specs.Members.{IsShort};
 ghost use Rattle.pg_message.specs.Name.{is_name};
 ghost use Rattle.pg_message.specs.Parts.{pid_of};
-ghost use Rattle.pg_message.specs.Reading.{stamp_of, message_in, message_of, unreferred, referred, cast_in, cast_of, freed, exchanged, request_in, request_of, request_on, membership_of, said_of, stamped, packet_in, packet_of, packet_spelled, SpellsPacket};
+ghost use Rattle.pg_message.specs.Reading.{stamp_of, message_in, message_of, unreferred, referred, cast_in, cast_of};
+ghost use Rattle.pg_message.specs.Reading.{freed, exchanged, request_in, request_of, request_on, membership_of};
+ghost use Rattle.pg_message.specs.Reading.{said_of, stamped, packet_in, packet_of, packet_spelled, SpellsPacket};
 ghost use Rattle.pg_message.specs.declared.packet.Packet.{Packet};
 
 use crate::direct::{Detour, direct_packet};

@@ -18,6 +18,8 @@ impl RefFault {
     ghost use Rattle.pg_refs.specs.Fault.{number_of};
 
     /// The number of the fault in this project's one list of faults.
+    ///
+    /// Cost: no memory.
     pub fn number(self) -> u8
         ensures { result ≡ number_of self }
     {

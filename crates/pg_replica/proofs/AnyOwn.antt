@@ -1,5 +1,6 @@
 -- A node without commands shows its own name in nothing that it answers.
-use Rattle.std.proofs.Common.{◌≡◌, ◌+◌, ℕ, Bool, true, false, cond, max, nat_le, List, [], ◌∷◌, Option, Some, None, Result, Ok, Err, refl, sym, ap, subst, ◌∙◌}
+use Rattle.std.proofs.Common.{◌≡◌, ◌+◌, ℕ, Bool, true, false, cond, max, nat_le, List, [], ◌∷◌}
+use Rattle.std.proofs.Common.{Option, Some, None, Result, Ok, Err, refl, sym, ap, subst, ◌∙◌}
 use Rattle.std.specs.Prelude.{⊤, IfOk, IfErr, IfSome}
 use Rattle.std.specs.Io.KnownBytes.{Appends}
 use Rattle.pg_term.specs.RefParts.{RefParts, ref_eq}
@@ -14,7 +15,8 @@ use Rattle.pg_message.specs.declared.packet.Packet.{Packet}
 use Rattle.pg_message.specs.Reading.{packet_spelled}
 use Rattle.pg_step.specs.declared.answer.Odd.TheVariants.{Stranger}
 use Rattle.pg_step.specs.declared.refusal.Refusal.{Refusal}
-use Rattle.pg_step.specs.declared.refusal.Refusal.TheVariants.{ClockFull, NotAMessage, NoSuchPlace, NotWaiting, NodeLost, NotLost, NotDrained}
+use Rattle.pg_step.specs.declared.refusal.Refusal.TheVariants.{ClockFull, NotAMessage, NoSuchPlace}
+use Rattle.pg_step.specs.declared.refusal.Refusal.TheVariants.{NotWaiting, NodeLost, NotLost, NotDrained}
 use Rattle.pg_step.specs.Attempts.{own_reference, reply_taken, reply_under, strange}
 use Rattle.pg_step.specs.Nodes.{Node, Nodes}
 use Rattle.pg_step.specs.Peers.{is_bad_exchange, exchange}
@@ -25,7 +27,9 @@ use Rattle.pg_step.specs.Step.{TimedTurn, CLOCK_LIMIT, taken, at_clock, timed, s
 use Rattle.pg_step.specs.Turns.{NodeTurn}
 use Rattle.pg_replica.specs.declared.fault.ServeFault.{ServeFault}
 use Rattle.pg_replica.specs.Causes.{AllAnswered, Cause, InTurn, Unread}
-use Rattle.pg_replica.specs.Replica.{Pair, State, Answer, Run, start, nodes_of, turned, taken_packet, taken_in, answered, goes_on, preceded, run, served, rest_fault, first_fault, frames_of, WroteFor, Serves}
+use Rattle.pg_replica.specs.Replica.{Pair, State, Answer, Run, start, nodes_of, turned}
+use Rattle.pg_replica.specs.Replica.{taken_packet, taken_in, answered, goes_on, preceded, run}
+use Rattle.pg_replica.specs.Replica.{served, rest_fault, first_fault, frames_of, WroteFor, Serves}
 use Rattle.pg_node_state.specs.States.{stamped_of}
 use Rattle.pg_replica.proofs.Served.{cause_of}
 

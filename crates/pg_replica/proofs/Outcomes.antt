@@ -1,16 +1,21 @@
 -- What was written for a whole stream, at each end of the server.
-use Rattle.std.proofs.Common.{◌≡◌, ℕ, List, [], ◌++◌, length, take, false, Option, Some, None, Result, Ok, Err, ◌⊎◌, inl, inr, sym, ap, ◌∙◌, append_assoc, append-nil}
+use Rattle.std.proofs.Common.{◌≡◌, ℕ, List, [], ◌++◌, length, take, false, Option, Some, None}
+use Rattle.std.proofs.Common.{Result, Ok, Err, ◌⊎◌, inl, inr, sym, ap, ◌∙◌, append_assoc, append-nil}
 use Rattle.std.specs.Prelude.{◌==◌, if◌then◌else◌}
 use Rattle.std.specs.Io.KnownBytes.{Appends, Keeps}
 use Rattle.std.proofs.Math.Seq.{take-append_seam}
-use Rattle.pg_term.specs.declared.fault.TermFault.TheVariants.{Truncated, BadVersion, UnknownTag, TooDeep, IntegerTooLarge, BadAtom, ImproperList, BadReference, TrailingBytes, OutOfMemory, TooLong}
+use Rattle.pg_term.specs.declared.fault.TermFault.TheVariants.{Truncated, BadVersion, UnknownTag, TooDeep}
+use Rattle.pg_term.specs.declared.fault.TermFault.TheVariants.{IntegerTooLarge, BadAtom, ImproperList}
+use Rattle.pg_term.specs.declared.fault.TermFault.TheVariants.{BadReference, TrailingBytes, OutOfMemory, TooLong}
 use Rattle.pg_frame.specs.Frames.{front_of, behind, bodies_of, rest_of, too_long, Leaves}
 use Rattle.pg_frame.proofs.Readings.{loop_keeps, pieces_continue, front_is_first, front_is_frame}
 use Rattle.pg_replica.specs.declared.fault.ServeFault.{ServeFault}
 use Rattle.pg_message.specs.declared.fault.MessageFault.TheVariants.{Term, NotAMessage, StampTooLarge, NameTooLarge}
-use Rattle.pg_replica.specs.declared.fault.ServeFault.TheVariants.{Message, FrameTooLong, ClockFull, ReadFault, WriteFault}
+use Rattle.pg_replica.specs.declared.fault.ServeFault.TheVariants.{Message, FrameTooLong, ClockFull}
+use Rattle.pg_replica.specs.declared.fault.ServeFault.TheVariants.{ReadFault, WriteFault}
 use Rattle.pg_replica.specs.Progress.{Progress, Refused, StopsAt}
-use Rattle.pg_replica.specs.Replica.{Pair, State, Answer, Run, answered, start, run, goes_on, frames_of, served, rest_fault, first_fault, WroteFor}
+use Rattle.pg_replica.specs.Replica.{Pair, State, Answer, Run, answered, start, run, goes_on}
+use Rattle.pg_replica.specs.Replica.{frames_of, served, rest_fault, first_fault, WroteFor}
 use Rattle.pg_replica.proofs.Streams.{run_append, frames_append, appends_then, appends_kept}
 
 -- the whole input is what came in so far, and a rest

@@ -1,5 +1,6 @@
 -- What a server that read and answered so far has done, at each way on and at each end.
-use Rattle.std.proofs.Common.{◌≡◌, ℕ, Bool, true, false, List, [], ◌∷◌, ◌++◌, length, Option, Some, None, Result, Ok, Err, ◌⊎◌, inl, inr, refl, sym, ap, subst, ◌∙◌, append_assoc, append-nil, arith}
+use Rattle.std.proofs.Common.{◌≡◌, ℕ, Bool, true, false, List, [], ◌∷◌, ◌++◌, length, Option, Some, None, Result}
+use Rattle.std.proofs.Common.{Ok, Err, ◌⊎◌, inl, inr, refl, sym, ap, subst, ◌∙◌, append_assoc, append-nil, arith}
 use Rattle.std.specs.Prelude.{◌^◌, ◌+◌, ◌<◌, ⊤, IfSome, IfErr, OnOk, ◌==◌, if◌then◌else◌}
 use Rattle.std.specs.Io.KnownBytes.{Appends, Keeps, Consumes, IsAtEnd}
 use Rattle.std.proofs.lemmas.List.{nil_from_length}
@@ -10,7 +11,8 @@ use Rattle.pg_frame.proofs.Readings.{written_is_read}
 use Rattle.pg_term.specs.declared.fault.TermFault.TheVariants.{Truncated, OutOfMemory}
 use Rattle.pg_replica.specs.declared.fault.ServeFault.{ServeFault}
 use Rattle.pg_message.specs.declared.fault.MessageFault.TheVariants.{Term}
-use Rattle.pg_replica.specs.declared.fault.ServeFault.TheVariants.{Message, FrameTooLong, ClockFull, ReadFault, WriteFault}
+use Rattle.pg_replica.specs.declared.fault.ServeFault.TheVariants.{Message, FrameTooLong, ClockFull}
+use Rattle.pg_replica.specs.declared.fault.ServeFault.TheVariants.{ReadFault, WriteFault}
 use Rattle.pg_replica.specs.Causes.{Cause, AllAnswered, Gave, InTurn, Unread, IsFlushed, LeavesFlushed, joined}
 use Rattle.pg_message.specs.declared.fault.MessageFault.{MessageFault}
 use Rattle.pg_message.specs.declared.packet.Packet.{Packet}
@@ -21,7 +23,8 @@ use Rattle.pg_step.specs.declared.refusal.Refusal.TheVariants as refusals
 use Rattle.pg_replica.specs.Fault.{out_of_memory, Refuses}
 use Rattle.pg_node_state.specs.States.{stamped_of}
 use Rattle.pg_replica.specs.Progress.{CutShort, Progress, Reads, Serving, Stops, StopsAt}
-use Rattle.pg_replica.specs.Replica.{Pair, State, Run, nodes_of, answered, taken_in, turned, start, Serves, served, frames_of, WroteFor}
+use Rattle.pg_replica.specs.Replica.{Pair, State, Run, nodes_of, answered, taken_in}
+use Rattle.pg_replica.specs.Replica.{turned, start, Serves, served, frames_of, WroteFor}
 use Rattle.pg_replica.proofs.Streams.{appends_then, appends_kept, stay, onward, fed, kept, known_kept}
 use Rattle.pg_replica.proofs.Outcomes.{ended, over, cut, done}
 

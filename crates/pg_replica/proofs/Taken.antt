@@ -1,5 +1,6 @@
 -- What the one peer is sent, and what a packet leads to by what came of it.
-use Rattle.std.proofs.Common.{◌≡◌, ◌<◌, ◌+◌, ◌++◌, ℕ, zero, suc, true, cond, nat_eq, map, List, [], ◌∷◌, length, Result, Ok, Err, Some, refl, sym, ap, subst, ◌∙◌, append-nil, arith}
+use Rattle.std.proofs.Common.{◌≡◌, ◌<◌, ◌+◌, ◌++◌, ℕ, zero, suc, true, cond, nat_eq, map, List, [], ◌∷◌}
+use Rattle.std.proofs.Common.{length, Result, Ok, Err, Some, refl, sym, ap, subst, ◌∙◌, append-nil, arith}
 use Rattle.std.specs.Prelude.{slice_get}
 use Rattle.std.specs.List.{AllByRecursion}
 use Rattle.std.proofs.lemmas.Cmp.{nat_list_eq_equiv}
@@ -9,16 +10,19 @@ use Rattle.pg_message.specs.declared.packet.Packet.{Packet}
 use Rattle.pg_opens.specs.Places.{name_at, whole_in}
 use Rattle.pg_step.specs.declared.answer.Answer.{Answer as Given}
 use Rattle.pg_step.specs.declared.refusal.Refusal.{Refusal}
-use Rattle.pg_step.specs.declared.refusal.Refusal.TheVariants.{ClockFull, NotAMessage, NoSuchPlace, NotWaiting, NodeLost, NotLost, NotDrained}
+use Rattle.pg_step.specs.declared.refusal.Refusal.TheVariants.{ClockFull, NotAMessage, NoSuchPlace}
+use Rattle.pg_step.specs.declared.refusal.Refusal.TheVariants.{NotWaiting, NodeLost, NotLost, NotDrained}
 use Rattle.pg_step.specs.Nodes.{Node, Nodes}
 use Rattle.pg_step.specs.Step.{TimedTurn, step_take}
 use Rattle.pg_node_state.specs.declared.state.done.Done.{Done}
 use Rattle.pg_node_state.specs.declared.state.fault.NodeFault.{NodeFault}
-use Rattle.pg_node_state.specs.declared.state.fault.NodeFault.TheVariants.{Refused, OutOfMemory, Message, TooLong, Damaged}
+use Rattle.pg_node_state.specs.declared.state.fault.NodeFault.TheVariants.{Refused, OutOfMemory}
+use Rattle.pg_node_state.specs.declared.state.fault.NodeFault.TheVariants.{Message, TooLong, Damaged}
 use Rattle.pg_replica.specs.Fault.{refused_as, untaken_as, Refuses}
 use Rattle.pg_node_state.specs.Frames.{frame_of, frames_to}
 use Rattle.pg_node_state.specs.Sendable.{FitLinks, IsSendable, Ascends, AreSendable}
-use Rattle.pg_replica.specs.Replica.{State, Answers, nodes_of, frames_of, body_sent, bodies_to, pair_in, taken_packet, turned}
+use Rattle.pg_replica.specs.Replica.{State, Answers, nodes_of, frames_of, body_sent}
+use Rattle.pg_replica.specs.Replica.{bodies_to, pair_in, taken_packet, turned}
 use Rattle.pg_node_state.specs.States.{Comes, sends_in, stamped_of}
 
 self_same : (peer : Node) → same_atom peer peer ≡ true

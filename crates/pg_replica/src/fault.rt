@@ -30,6 +30,8 @@ impl ServeFault {
     ghost use Rattle.pg_replica.specs.Fault.{number_of};
 
     /// The number of the fault in this project's one list of faults.
+    ///
+    /// Cost: no memory.
     pub fn number(self) -> u8
         ensures { result ≡ number_of self }
     {

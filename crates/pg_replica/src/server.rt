@@ -1,4 +1,5 @@
-ghost use Rattle.std.specs.Prelude.{◌≡◌, ◌<◌, ◌∷◌, ◌++◌, ⊤, true, false, List, ℕ, length, [], Some, None, Ok, Err, IfSome, IfOk, IfErr, OnOk, OnErr, ◌⊎◌, ◌==◌, if◌then◌else◌};
+ghost use Rattle.std.specs.Prelude.{◌≡◌, ◌<◌, ◌∷◌, ◌++◌, ⊤, true, false, List, ℕ, length, [], Some, None};
+ghost use Rattle.std.specs.Prelude.{Ok, Err, IfSome, IfOk, IfErr, OnOk, OnErr, ◌⊎◌, ◌==◌, if◌then◌else◌};
 ghost use Rattle.std.specs.Io.KnownBytes.{Appends, Keeps, Consumes, IsAtEnd};
 ghost use Rattle.pg_frame.specs.Frames.{front_of};
 ghost use Rattle.pg_replica.specs.Causes.{AllAnswered, Cause, FailedAt, InTurn, LeavesFlushed, Unread};

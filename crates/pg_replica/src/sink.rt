@@ -1,6 +1,7 @@
 //! Where a server writes its output.
 
-ghost use Rattle.std.specs.Prelude.{◌≡◌, ◌<◌, ⊤, Option, Some, List, ℕ, length, IfOk, OnOk, OnErr, vec_len, vec_capacity};
+ghost use Rattle.std.specs.Prelude.{◌≡◌, ◌<◌, ⊤, Option, Some, List, ℕ, length};
+ghost use Rattle.std.specs.Prelude.{IfOk, OnOk, OnErr, vec_len, vec_capacity};
 ghost use Rattle.std.specs.Io.{WritesAtMost};
 ghost use Rattle.std.specs.Io.KnownBytes.{WriteAppends, Keeps};
 

@@ -1,5 +1,6 @@
 -- A node is looked for by its name, one place after another.
-use Rattle.std.proofs.Common.{◌≡◌, ◌<◌, ◌+◌, ℕ, List, drop, length, true, false, Option, Some, None, ap, refl, suc, arith}
+use Rattle.std.proofs.Common.{◌≡◌, ◌<◌, ◌+◌, ℕ, List, drop, length, true}
+use Rattle.std.proofs.Common.{false, Option, Some, None, ap, refl, suc, arith}
 use Rattle.std.specs.Prelude.{get_or}
 use Rattle.std.specs.Option.{option_map}
 use Rattle.std.proofs.lemmas.List.{drop_more, drop_all}

@@ -65,6 +65,8 @@ impl Layout {
     }
 
     /// The place of the node of this name.
+    ///
+    /// Cost: no memory; O(nodes).
     pub fn node_at(&self, name: &Atom) -> Option<usize>
         ensures { result ≡ place_of name.now self.now.nodes.items }
     {
@@ -77,6 +79,8 @@ impl Layout {
     }
 
     /// The place of the client at a port of a node, by its number from 1.
+    ///
+    /// Cost: no memory; O(nodes).
     pub fn client_at(&self, name: &Atom, port: u16) -> Option<usize>
         ensures { result ≡ client_at self.now.nodes.items name.now port }
     {

@@ -5,7 +5,9 @@ ghost use Rattle.std.specs.Option.{option_and_then, option_map};
 ghost use Rattle.std.specs.Str.{chars};
 ghost use Rattle.pg_message.specs.Parts.{atom_of, items_of, pid_of};
 ghost use Rattle.pg_message.specs.Reading.{all_of};
-ghost use Rattle.pg_requests.specs.Members.{AreNumbered, bare, group_in, group_of, groups_of, is_bare, node_name as name_by, node_in, node_of, pids_of, place_among, put_at, put_told, starting, starts_by, starts_said, told_all};
+ghost use Rattle.pg_requests.specs.Members.{AreNumbered, bare, group_in, group_of, groups_of, is_bare};
+ghost use Rattle.pg_requests.specs.Members.{node_name as name_by, node_in, node_of, pids_of, place_among};
+ghost use Rattle.pg_requests.specs.Members.{put_at, put_told, starting, starts_by, starts_said, told_all};
 ghost use Rattle.pg_text.specs.declared.fault.TextFault.TheVariants.{BadText};
 
 use crate::parts::{elements, items, name_of, number, pid, three, two};

@@ -4,7 +4,8 @@ ghost use Rattle.std.specs.Prelude.{◌≡◌, ◌<◌, ◌∷◌, [], pos, IfOk
 ghost use Rattle.std.specs.Str.{chars};
 ghost use Rattle.pg_term.specs.declared.term.Term.{List as Listed};
 ghost use Rattle.pg_term.specs.declared.term.Term.TheVariants.{Int, Atom as Word, Pid as Process};
-ghost use Rattle.pg_requests.specs.Replies.{bad_request_term, counted, error_term, lost_term, node_lost_term, numbered_term, pair, refused_term, reply_term};
+ghost use Rattle.pg_requests.specs.Replies.{bad_request_term, counted, error_term, lost_term};
+ghost use Rattle.pg_requests.specs.Replies.{node_lost_term, numbered_term, pair, refused_term, reply_term};
 
 use pg_step::Reply;
 use pg_term::{Atom, Fields, Items, Pid, Term};

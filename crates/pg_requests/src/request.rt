@@ -5,7 +5,8 @@ ghost use Rattle.std.specs.Option.{option_map, option_and_then};
 ghost use Rattle.pg_message.specs.Parts.{atom_of, pid_of};
 ghost use Rattle.pg_step.specs.declared.command.Command.TheVariants.{Join, Leave, Closest};
 ghost use Rattle.pg_requests.specs.Layouts.{client_at};
-ghost use Rattle.pg_requests.specs.Requests.{number_of, input_of, input_in, loss_in, request_in, command_of, command_in, lone_command, command_on, command_with};
+ghost use Rattle.pg_requests.specs.Requests.{number_of, input_of, input_in, loss_in, request_in, command_of};
+ghost use Rattle.pg_requests.specs.Requests.{command_in, lone_command, command_on, command_with};
 
 use crate::input::Input;
 use crate::layout::Layout;

@@ -1,6 +1,7 @@
 -- What a clause sees of the two ends of a ring of values.
 use Rattle.std.specs.Prelude.{ℕ, List}
-use Rattle.rtrb.specs.Ring.{sent, known_free, producer_capacity, received, known_items, IsPair, SameProducer, SameConsumer}
+use Rattle.rtrb.specs.Ring.{sent, known_free, producer_capacity, received}
+use Rattle.rtrb.specs.Ring.{known_items, IsPair, SameProducer, SameConsumer}
 use Rattle.pg_ring.specs.declared.slot_out.SlotOut.{SlotOut}
 use Rattle.pg_ring.specs.declared.slot_in.SlotIn.{SlotIn}
 

@@ -19,6 +19,8 @@ impl RingFault {
     ghost use Rattle.pg_ring.specs.Fault.{number_of};
 
     /// The number of the fault in this project's one list of faults.
+    ///
+    /// Cost: no memory.
     pub fn number(self) -> u8
         ensures { result ≡ number_of self }
     {

@@ -1,7 +1,8 @@
 ghost use Rattle.std.specs.Prelude.{◌≡◌, ◌==◌, ◌≢◌, ◌≤◌, ◌↔◌, [], length, take, drop, IfOk};
 ghost use Rattle.pg_ring.specs.Capacity.{IsCapacity, IsBadCapacity};
 ghost use Rattle.pg_ring.specs.MemRing.{Grows, Loses, HasRoomFor, HasUnread};
-ghost use Rattle.pg_ring.specs.MemRingLaws.{Grows-rests, Grows-composes, Grows-agrees, Loses-rests, Loses-composes, Loses-agrees};
+ghost use Rattle.pg_ring.specs.MemRingLaws.{Grows-rests, Grows-composes, Grows-agrees};
+ghost use Rattle.pg_ring.specs.MemRingLaws.{Loses-rests, Loses-composes, Loses-agrees};
 
 use crate::capacity::is_capacity;
 use crate::{Inlet, Link, RingFault};

@@ -2,7 +2,8 @@
 ghost use Rattle.std.specs.Prelude.{◌≡◌, ◌≢◌, ◌↔◌, ◌≤◌, ◌+◌, [], ◌++◌, length, IfOk};
 ghost use mathlib.Core.List.{IsPrefix};
 ghost use Rattle.pg_ring.specs.Capacity.{IsCapacity, IsBadCapacity};
-ghost use Rattle.pg_ring.specs.Ends.{AreEnds, Sends, Receives, IsSettled, bytes_sent, bytes_free, bytes_room, bytes_received, bytes_left};
+ghost use Rattle.pg_ring.specs.Ends.{AreEnds, Sends, Receives, IsSettled, bytes_sent};
+ghost use Rattle.pg_ring.specs.Ends.{bytes_free, bytes_room, bytes_received, bytes_left};
 
 use crate::capacity::is_capacity;
 use crate::{RingFault, RingIn, RingOut};

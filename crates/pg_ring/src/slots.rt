@@ -2,7 +2,8 @@
 ghost use Rattle.std.specs.Prelude.{◌≡◌, ◌≢◌, ◌↔◌, ◌≤◌, ◌+◌, [], ◌++◌, length, IfOk};
 ghost use mathlib.Core.List.{IsPrefix};
 ghost use Rattle.pg_ring.specs.Capacity.{IsCapacity, IsBadCapacity};
-ghost use Rattle.pg_ring.specs.Slots.{AreSlots, SameSlotOut, SameSlotIn, given, taken, slots_free, slots_room, slots_left};
+ghost use Rattle.pg_ring.specs.Slots.{AreSlots, SameSlotOut, SameSlotIn, given};
+ghost use Rattle.pg_ring.specs.Slots.{taken, slots_free, slots_room, slots_left};
 
 use crate::capacity::is_capacity;
 use crate::{RingFault, SlotIn, SlotOut};

@@ -1,5 +1,6 @@
 -- How a node goes on, phase by phase.
-use Rattle.std.proofs.Common.{◌≡◌, ◌<◌, ◌≤◌, ◌∙◌, ℕ, cond, get_or, length, List, [], ◌∷◌, ◌++◌, refl, ap, sym, subst, append_assoc, append-nil}
+use Rattle.std.proofs.Common.{◌≡◌, ◌<◌, ◌≤◌, ◌∙◌, ℕ, cond, get_or, length, List, []}
+use Rattle.std.proofs.Common.{◌∷◌, ◌++◌, refl, ap, sym, subst, append_assoc, append-nil}
 use Rattle.std.specs.Prelude.{slice_set, Bool, true, false, Option, Some, None, Result, Ok, Err, IfSome, IfNone}
 use Rattle.std.proofs.lemmas.Bool.{eq-eqb, ne_eqb}
 use Rattle.std.proofs.lemmas.Grind.{flat_map-append}
@@ -21,10 +22,12 @@ use Rattle.pg_run.specs.declared.port.Asked.{Asked}
 use Rattle.pg_run.specs.Ports.{asked, handed, handed_count, kept_by, SamePort, Hands}
 use Rattle.pg_run.specs.Notices.{NoticesGo, inlet_of, kept_in, kept_of}
 use Rattle.pg_run.specs.Runs.{Runs, linked_of, ports_at, notices_of}
-use Rattle.pg_run.specs.Turns.{GoesOnSeeing, GoesOn, SeesOnce, ServesSeeing, Serves, ServesPort, commands_at, command_at}
+use Rattle.pg_run.specs.Turns.{GoesOnSeeing, GoesOn, SeesOnce, ServesSeeing}
+use Rattle.pg_run.specs.Turns.{Serves, ServesPort, commands_at, command_at}
 use Rattle.pg_run.proofs.Following.{follows_itself, follows_on}
 use Rattle.pg_run.proofs.Moving.{nil_first, nil_second}
-use Rattle.pg_run.proofs.PortsGoing.{slot_in_on, Grows, answers_in, answers_grow, ports_wait, ports_follow_on, ports_set, port_gave_none, port_gave, port_kept, port_handed}
+use Rattle.pg_run.proofs.PortsGoing.{slot_in_on, Grows, answers_in, answers_grow, ports_wait, ports_follow_on}
+use Rattle.pg_run.proofs.PortsGoing.{ports_set, port_gave_none, port_gave, port_kept, port_handed}
 use Rattle.pg_step.specs.declared.command.OpId.{OpId}
 use Rattle.pg_step.specs.declared.command.Command.{Command}
 use Rattle.pg_step.specs.Step.{Issue, Retry}

@@ -1,6 +1,7 @@
 -- What the links of a node have moved where one peer's change, and one stretch after another.
 use Rattle.std.specs.Prelude.{true}
-use Rattle.std.proofs.Common.{◌≡◌, ◌≢◌, ◌<◌, ◌∙◌, ◌⊎◌, ℕ, cond, get_or, take, drop, length, List, [], ◌∷◌, ◌++◌, refl, sym, ap, subst, inl, inr, append_assoc, append-nil, zero, suc}
+use Rattle.std.proofs.Common.{◌≡◌, ◌≢◌, ◌<◌, ◌∙◌, ◌⊎◌, ℕ, cond, get_or, take, drop, length, List, [], ◌∷◌}
+use Rattle.std.proofs.Common.{◌++◌, refl, sym, ap, subst, inl, inr, append_assoc, append-nil, zero, suc}
 use Rattle.std.specs.Prelude.{slice_set}
 use Rattle.std.proofs.lemmas.Bool.{cases_eq, eq-eqb, ne_eqb}
 use Rattle.std.proofs.lemmas.List.{get_or-set_same, get_or-set_other, get_or_default, take-append-drop}

@@ -1,5 +1,6 @@
 -- What a put and a pull have moved.
-use Rattle.std.proofs.Common.{◌≡◌, ◌<◌, ◌≤◌, ◌+◌, ◌∙◌, ℕ, get_or, take, drop, length, List, [], ◌++◌, refl, sym, ap, subst, arith, length-append, length-drop, append-nil, inl}
+use Rattle.std.proofs.Common.{◌≡◌, ◌<◌, ◌≤◌, ◌+◌, ◌∙◌, ℕ, get_or, take, drop, length, List, [], ◌++◌}
+use Rattle.std.proofs.Common.{refl, sym, ap, subst, arith, length-append, length-drop, append-nil, inl}
 use Rattle.std.proofs.lemmas.Option.{slice_get-get_or}
 use Rattle.std.specs.Prelude.{slice_get, slice_set, IfSome, Result, Ok, Err, IfOk, OnErr}
 use Rattle.pg_node_state.specs.declared.state.fault.NodeFault.{NodeFault}

@@ -1,5 +1,6 @@
 -- How commands wait, as turns pass.
-use Rattle.std.proofs.Common.{◌≡◌, ◌≢◌, ◌<◌, ◌≤◌, ◌∙◌, ◌⊎◌, ℕ, cond, get_or, length, List, [], ◌∷◌, ◌++◌, refl, sym, ap, subst, inl, inr, arith}
+use Rattle.std.proofs.Common.{◌≡◌, ◌≢◌, ◌<◌, ◌≤◌, ◌∙◌, ◌⊎◌, ℕ, cond, get_or, length}
+use Rattle.std.proofs.Common.{List, [], ◌∷◌, ◌++◌, refl, sym, ap, subst, inl, inr, arith}
 use Rattle.std.specs.List.{filter}
 use Rattle.std.specs.Prelude.{zero, suc, Bool, true, false, not, slice_get, slice_set, Option, Some, None, IfSome}
 use Rattle.std.proofs.lemmas.Option.{slice_get_read, slice_get-get_or}

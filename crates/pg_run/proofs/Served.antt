@@ -1,19 +1,22 @@
 -- Ports that are served, one after another.
-use Rattle.std.proofs.Common.{◌≡◌, ◌≢◌, ◌<◌, ◌≤◌, ◌+◌, ◌∙◌, ◌^◌, ◌⊎◌, ℕ, cond, get_or, length, List, [], ◌∷◌, refl, sym, ap, subst, inl, inr, arith}
+use Rattle.std.proofs.Common.{◌≡◌, ◌≢◌, ◌<◌, ◌≤◌, ◌+◌, ◌∙◌, ◌^◌, ◌⊎◌, ℕ, cond, get_or}
+use Rattle.std.proofs.Common.{length, List, [], ◌∷◌, refl, sym, ap, subst, inl, inr, arith}
 use Rattle.std.specs.Prelude.{Bool, true, false, nat_lt, nat_le, slice_set, Ok, Err}
 use Rattle.std.proofs.lemmas.Bool.{cases_eq, lt-ltb}
 use Rattle.std.proofs.lemmas.List.{get_or-set_same, get_or-set_other, get_or_default}
 use Rattle.pg_group.specs.declared.table.GroupTable.{Ghosts}
 use Rattle.pg_node.specs.declared.node.Node.{Node}
 use Rattle.pg_node_state.specs.declared.state.fault.NodeFault.{NodeFault}
-use Rattle.pg_node_state.specs.declared.state.fault.NodeFault.TheVariants.{Refused, Message, TooLong, Damaged, OutOfMemory}
+use Rattle.pg_node_state.specs.declared.state.fault.NodeFault.TheVariants.{Refused, Message, TooLong}
+use Rattle.pg_node_state.specs.declared.state.fault.NodeFault.TheVariants.{Damaged, OutOfMemory}
 use Rattle.pg_node_state.specs.Issued.{ports_of}
 use Rattle.pg_node.specs.Nodes.{held_by}
 use Rattle.pg_run.specs.declared.port.Asked.{Asked}
 use Rattle.pg_run.specs.declared.port.Port.{Port}
 use Rattle.pg_run.specs.Events.{IsRefusedAs, told_of_action}
 use Rattle.pg_run.specs.Ports.{HandsAll, HandsNoMore, HasLookedIn, IsServed, KeepsSame, asked, kept_by, handed_count}
-use Rattle.pg_run.specs.Served.{AreHanded, AreServed, HandNone, IsHandedAt, IsServedAt, LeavesAnswerAt, StayBut, KeepTheSame}
+use Rattle.pg_run.specs.Served.{AreHanded, AreServed, HandNone, IsHandedAt}
+use Rattle.pg_run.specs.Served.{IsServedAt, LeavesAnswerAt, StayBut, KeepTheSame}
 use Rattle.pg_run.specs.Tries.{IsNoWant}
 use Rattle.pg_run.proofs.PortsGoing.{keeps_itself, keeps_on}
 use Rattle.pg_step.specs.declared.answer.Answer.{Answer}

@@ -1,6 +1,8 @@
 -- What a packet that is taken, and an action, make of a node with its links.
-use Rattle.std.proofs.Common.{◌≡◌, ◌≢◌, ◌<◌, ◌+◌, ◌∙◌, ◌⊎◌, ℕ, cond, take, length, List, [], ◌∷◌, ◌++◌, refl, sym, ap, subst, inl, inr, append-nil}
-use Rattle.std.specs.Prelude.{if◌then◌else◌, max, nat_eq, nat_le, Bool, true, false, Option, Some, None, Result, Ok, Err, IfErr}
+use Rattle.std.proofs.Common.{◌≡◌, ◌≢◌, ◌<◌, ◌+◌, ◌∙◌, ◌⊎◌, ℕ, cond, take, length, List}
+use Rattle.std.proofs.Common.{[], ◌∷◌, ◌++◌, refl, sym, ap, subst, inl, inr, append-nil}
+use Rattle.std.specs.Prelude.{if◌then◌else◌, max, nat_eq, nat_le, Bool, true}
+use Rattle.std.specs.Prelude.{false, Option, Some, None, Result, Ok, Err, IfErr}
 use Rattle.std.proofs.lemmas.Bool.{cases_eq, eq-eqb, ne_eqb}
 use Rattle.pg_frame.specs.declared.fault.TooLong as frame
 use Rattle.pg_frame.specs.Frames.{front_of, after_front}

@@ -12,7 +12,8 @@ use Rattle.pg_run.specs.Logs.{IsCommand, IsDueRetry, IsTake, LogsLoss, LogsOnly}
 use Rattle.pg_run.specs.Pauses.{Waits, is_due, wait_of}
 use Rattle.pg_run.specs.Ports.{was_handed}
 use Rattle.pg_run.specs.Runs.{TurnedTo}
-use Rattle.pg_run.specs.Tries.{ComesTo, HasDone, HasRetried, HasRetriedDue, HasWanted, RetriedBy, SawDrained, TurnDid, is_ready_at, waits_at}
+use Rattle.pg_run.specs.Tries.{ComesTo, HasDone, HasRetried, HasRetriedDue, HasWanted}
+use Rattle.pg_run.specs.Tries.{RetriedBy, SawDrained, TurnDid, is_ready_at, waits_at}
 use Rattle.pg_run.specs.declared.run.Turned.{Turned}
 use Rattle.pg_run.specs.declared.run.Turned.TheVariants.{Whole, Short}
 use Rattle.pg_run.proofs.Logging.{logs_still}

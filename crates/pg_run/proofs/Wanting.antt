@@ -1,5 +1,6 @@
 -- What was wanting in a turn, and what was looked at, phase by phase.
-use Rattle.std.proofs.Common.{◌≡◌, ◌⊎◌, ◌<◌, ◌≤◌, ◌+◌, ◌-◌, ◌^◌, ◌∙◌, ℕ, List, [], ◌∷◌, ◌++◌, length, min, refl, sym, ap, subst, arith, inl, inr}
+use Rattle.std.proofs.Common.{◌≡◌, ◌⊎◌, ◌<◌, ◌≤◌, ◌+◌, ◌-◌, ◌^◌, ◌∙◌, ℕ, List, [], ◌∷◌}
+use Rattle.std.proofs.Common.{◌++◌, length, min, refl, sym, ap, subst, arith, inl, inr}
 use Rattle.std.specs.Prelude.{Bool, true, false, cond, slice_get, IfSome, Result, Ok, Err, IfOk, IfErr, IsErrAnd}
 use Rattle.std.proofs.lemmas.Bool.Decides.{eqb_tells}
 use Rattle.pg_group.specs.declared.table.GroupTable.{Ghosts}
@@ -15,10 +16,13 @@ use Rattle.pg_run.specs.declared.notices.Notices.{Notices}
 use Rattle.pg_ring.specs.declared.slot_in.SlotIn.{SlotIn}
 use Rattle.pg_ring.specs.Slots.{slots_left, taken}
 use Rattle.pg_run.specs.Acts.{Saw, Did}
-use Rattle.pg_run.specs.Events.{Acted, ActsOnce, IsRefusedAs, IsTold, TookNext, told_of_action, told_of_loss, told_of_peer}
+use Rattle.pg_run.specs.Events.{Acted, ActsOnce, IsRefusedAs, IsTold, TookNext}
+use Rattle.pg_run.specs.Events.{told_of_action, told_of_loss, told_of_peer}
 use Rattle.pg_run.specs.Follows.{Follows, node_of, peers_of}
 use Rattle.pg_run.specs.Notices.{inlet_of, kept_of}
-use Rattle.pg_run.specs.Tries.{CameMore, ComesTo, HasLooked, HasPulled, HasPulledAll, HasPut, HasPutAll, IsNoWant, IsPutOff, IsWant, Pulling, Taking, Seeing, Commanding, Listing, Passing, Retrying, RefusedLoss, SawDrained, WasWanting}
+use Rattle.pg_run.specs.Tries.{CameMore, ComesTo, HasLooked, HasPulled, HasPulledAll, HasPut, HasPutAll}
+use Rattle.pg_run.specs.Tries.{IsNoWant, IsPutOff, IsWant, Pulling, Taking, Seeing, Commanding, Listing}
+use Rattle.pg_run.specs.Tries.{Passing, Retrying, RefusedLoss, SawDrained, WasWanting}
 use Rattle.pg_run.proofs.Following.{follows_itself, follows_on}
 use Rattle.pg_step.specs.declared.command.Command.{Command}
 use Rattle.pg_step.specs.declared.command.OpId.{OpId}

@@ -1,5 +1,6 @@
 -- What a clause sees of the pauses of commands that wait.
-use Rattle.std.specs.Prelude.{◌≡◌, ◌⊎◌, ℕ, ◌-◌, ◌≤◌, ◌||◌, Bool, true, false, cond, nat_le, List, [], ◌∷◌, Option, Some, None}
+use Rattle.std.specs.Prelude.{◌≡◌, ◌⊎◌, ℕ, ◌-◌, ◌≤◌, ◌||◌, Bool, true, false}
+use Rattle.std.specs.Prelude.{cond, nat_le, List, [], ◌∷◌, Option, Some, None}
 use Rattle.pg_run.specs.declared.pauses.Pause.{Pause}
 use Rattle.pg_run.specs.declared.pauses.Pauses.{Pauses}
 use Rattle.pg_run.specs.declared.pauses.Wait.{Wait}

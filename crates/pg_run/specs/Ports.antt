@@ -1,5 +1,6 @@
 -- What a clause sees of the two ends of a port.
-use Rattle.std.specs.Prelude.{◌≡◌, ◌⊎◌, ℕ, ◌<◌, ◌≤◌, ◌+◌, ◌-◌, ◌^◌, Bool, false, nat_eq, List, [], ◌∷◌, ◌++◌, Option, Some, None, length, min, take}
+use Rattle.std.specs.Prelude.{◌≡◌, ◌⊎◌, ℕ, ◌<◌, ◌≤◌, ◌+◌, ◌-◌, ◌^◌, Bool, false, nat_eq}
+use Rattle.std.specs.Prelude.{List, [], ◌∷◌, ◌++◌, Option, Some, None, length, min, take}
 use Rattle.std.specs.List.{list_any}
 use Rattle.pg_ring.specs.Slots.{given, taken, slots_free, slots_left, AreSlots, SameSlotOut, SameSlotIn}
 use Rattle.pg_run.specs.declared.pauses.Pauses.{Pauses}

@@ -1,5 +1,6 @@
 -- What a whole turn has tried, and what was wanting in a short one.
-use Rattle.std.specs.Prelude.{◌≡◌, ◌⊎◌, ◌<◌, ◌≤◌, ◌+◌, ◌-◌, ◌^◌, ℕ, Bool, true, false, List, [], ◌∷◌, get_or, length, min, slice_get, None, IfSome, Result, Ok, IfErr}
+use Rattle.std.specs.Prelude.{◌≡◌, ◌⊎◌, ◌<◌, ◌≤◌, ◌+◌, ◌-◌, ◌^◌, ℕ, Bool, true, false, List, []}
+use Rattle.std.specs.Prelude.{◌∷◌, get_or, length, min, slice_get, None, IfSome, Result, Ok, IfErr}
 use Rattle.pg_group.specs.declared.table.GroupTable.{Ghosts}
 use Rattle.pg_node_state.specs.declared.state.fault.NodeFault.{NodeFault}
 use Rattle.pg_node_state.specs.declared.state.fault.NodeFault.TheVariants.{Refused, OutOfMemory}
@@ -20,7 +21,8 @@ use Rattle.pg_run.specs.declared.run.NodeRun.{NodeRun}
 use Rattle.pg_run.specs.declared.run.Turned.{Turned}
 use Rattle.pg_run.specs.declared.run.Turned.TheVariants.{Whole, Short, Stopped}
 use Rattle.pg_run.specs.Acts.{Act, Did, Saw}
-use Rattle.pg_run.specs.Events.{ActsOnce, TookNext, Acted, IsTold, IsRefusedAs, told_of_action, told_of_loss, told_of_peer}
+use Rattle.pg_run.specs.Events.{ActsOnce, TookNext, Acted, IsTold, IsRefusedAs}
+use Rattle.pg_run.specs.Events.{told_of_action, told_of_loss, told_of_peer}
 use Rattle.pg_run.specs.Follows.{Follows, node_of, peers_of, log_of}
 use Rattle.pg_run.specs.Logs.{TurnLogs}
 use Rattle.pg_run.specs.Notices.{inlet_of, kept_of}

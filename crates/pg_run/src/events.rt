@@ -1,6 +1,7 @@
 //! The events of a node with its links, each of which is logged.
 
-ghost use Rattle.std.specs.Prelude.{◌≡◌, ◌<◌, ◌+◌, ◌^◌, ◌++◌, [], ◌∷◌, true, false, Ok, None, Some, IfOk, IfErr, IfSome, OnOk, length, vec_len, vec_capacity};
+ghost use Rattle.std.specs.Prelude.{◌≡◌, ◌<◌, ◌+◌, ◌^◌, ◌++◌, [], ◌∷◌, true, false, Ok, None, Some};
+ghost use Rattle.std.specs.Prelude.{IfOk, IfErr, IfSome, OnOk, length, vec_len, vec_capacity};
 
 use crate::linked::LinkedNode;
 use crate::log::NodeEvent;
@@ -18,7 +19,8 @@ impl<T: GroupTable + Drop, L: Link + Drop, I: Inlet + Drop> LinkedNode<T, L, I> 
     ghost use Rattle.pg_node_state.specs.States.{names_of, kept_by, state_of};
     ghost use Rattle.pg_opens.specs.Places.{name_at};
     ghost use Rattle.pg_run.specs.Acts.{Saw, Did};
-    ghost use Rattle.pg_run.specs.Events.{TookNext, Acted, IsTold, IsRefusedAs, told_of_peer, told_of_action, told_of_loss};
+    ghost use Rattle.pg_run.specs.Events.{TookNext, Acted, IsTold, IsRefusedAs};
+    ghost use Rattle.pg_run.specs.Events.{told_of_peer, told_of_action, told_of_loss};
     ghost use Rattle.pg_run.specs.Follows.{node_of, peers_of, log_of};
     ghost use Rattle.pg_step.specs.Step.{Issue, Retry};
 
@@ -27,6 +29,8 @@ impl<T: GroupTable + Drop, L: Link + Drop, I: Inlet + Drop> LinkedNode<T, L, I> 
     ///
     /// Errors, by which nothing happens and nothing is logged: those of `Node::take`, of which `TooLong`, `Message`
     /// and `NotAMessage` damage the link; `OutOfMemory` may come in the place of each.
+    ///
+    /// Cost: that of `Node::take`, and memory for one more entry of the log.
     pub fn take(&mut self, peer: usize) -> Result<bool, NodeFault>
         requires place { peer < length (peers_of self.old) }
         ensures took { TookNext L.accepts I.gives peer result self.old self.new }
@@ -89,6 +93,8 @@ impl<T: GroupTable + Drop, L: Link + Drop, I: Inlet + Drop> LinkedNode<T, L, I> 
     ///
     /// Errors, by which nothing happens, nothing is logged, and the command is handed back: those of `Node::command`;
     /// `OutOfMemory` may come in the place of each.
+    ///
+    /// Cost: that of `Node::command`, and memory for one more entry of the log.
     pub fn command(&mut self, port: u16, command: Command) -> Result<(), (NodeFault, Command)>
         requires place { port < ports_of (held_by (node_of self.old)) }
         ensures acted { Acted L.accepts I.gives (Did (Issue port command)) result self.old self.new }
@@ -112,6 +118,8 @@ impl<T: GroupTable + Drop, L: Link + Drop, I: Inlet + Drop> LinkedNode<T, L, I> 
     ///
     /// Errors, by which nothing happens and nothing is logged: those of `Node::retry`; `OutOfMemory` may come in
     /// the place of each.
+    ///
+    /// Cost: that of `Node::retry`, and memory for one more entry of the log.
     pub fn retry(&mut self, op: OpId) -> Result<(), NodeFault>
         requires place { op.port < ports_of (held_by (node_of self.old)) }
         ensures acted { Acted L.accepts I.gives (Did (Retry op)) result self.old self.new }
@@ -135,6 +143,8 @@ impl<T: GroupTable + Drop, L: Link + Drop, I: Inlet + Drop> LinkedNode<T, L, I> 
     ///
     /// Errors, by which nothing happens and nothing is logged: those of `Node::see_loss`; `OutOfMemory` may come
     /// in the place of each.
+    ///
+    /// Cost: that of `Node::see_loss`, and memory for one more entry of the log.
     pub fn see_loss(&mut self, peer: usize, last: u32) -> Result<(), NodeFault>
         requires place { peer < length (peers_of self.old) }
         ensures acted { Acted L.accepts I.gives (Saw peer last) result self.old self.new }

@@ -72,6 +72,8 @@ impl<T: GroupTable + Drop, L: Drop, I: Drop> LinkedNode<T, L, I> {
     }
 
     /// The node, its links and its log.
+    ///
+    /// Cost: no memory.
     pub fn into_parts(self) -> (Node<T>, Vec<Peer<L, I>>, Vec<LogEntry>)
         ensures node { result.0 ≡ node_of self }
         ensures peers { result.1.items ≡ peers_of self }

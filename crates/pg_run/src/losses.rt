@@ -66,7 +66,8 @@ impl<T: GroupTable + Drop, L: Link + Drop, I: Inlet + Drop> LinkedNode<T, L, I> 
     ghost use Rattle.pg_run.specs.Events.{ActsOnce};
     ghost use Rattle.pg_run.specs.Follows.{log_of, node_of, peers_of};
     ghost use Rattle.pg_run.specs.Logs.{LogsLoss, has_seen};
-    ghost use Rattle.pg_run.specs.Tries.{CameMore, IsNoWant, IsWant, RefusedLoss, SawDrained as SeesDrained, WasWanting as Wants};
+    ghost use Rattle.pg_run.specs.Tries.{CameMore, IsNoWant, IsWant, RefusedLoss};
+    ghost use Rattle.pg_run.specs.Tries.{SawDrained as SeesDrained, WasWanting as Wants};
     ghost use Rattle.pg_run.specs.Turns.{SeesOnce};
 
     /// The loss in a notice is seen where nothing more comes in of the peer and no whole frame of it is

@@ -1,6 +1,7 @@
 //! How bytes move between a node and its links. No event happens.
 
-ghost use Rattle.std.specs.Prelude.{◌≡◌, ◌<◌, ◌≤◌, ◌+◌, ◌-◌, ◌^◌, [], true, false, Err, length, min, slice_get, IfOk, IfErr, IfSome};
+ghost use Rattle.std.specs.Prelude.{◌≡◌, ◌<◌, ◌≤◌, ◌+◌, ◌-◌, ◌^◌, [], true, false};
+ghost use Rattle.std.specs.Prelude.{Err, length, min, slice_get, IfOk, IfErr, IfSome};
 
 use crate::linked::LinkedNode;
 use pg_group::GroupTable;
@@ -14,9 +15,9 @@ impl<T: GroupTable + Drop, L: Link + Drop, I: Inlet + Drop> LinkedNode<T, L, I> 
     ghost use Rattle.pg_run.specs.Follows.{Follows, node_of, peers_of};
 
     /// Moves what waits for a peer into the link to it, as much as that takes, and returns how many bytes. `peer`:
-    /// its place among the peers. O(bytes moved).
+    /// its place among the peers.
     ///
-    /// Cost: no memory.
+    /// Cost: no memory; O(bytes moved).
     pub fn put(&mut self, peer: usize) -> usize
         requires place { peer < length (peers_of self.old) }
         ensures follows { Follows L.accepts I.gives [] self.old self.new }
@@ -29,11 +30,12 @@ impl<T: GroupTable + Drop, L: Link + Drop, I: Inlet + Drop> LinkedNode<T, L, I> 
     }
 
     /// Adds what the inlet from a peer gives to what came in from it, and returns how many bytes: up to `max`, and up
-    /// to 65,536. `peer`: its place among the peers. O(bytes moved), and at times that of the bytes that were not
-    /// taken yet.
+    /// to 65,536. `peer`: its place among the peers.
     ///
     /// Errors, by which nothing moves, the first that holds: `Refused` by `NodeLost`, exactly where the loss of the
     /// peer was seen; `Damaged`, exactly where the link is damaged; else `OutOfMemory`.
+    ///
+    /// Cost: O(bytes moved), and at times that of the bytes that were not taken yet.
     pub fn pull(&mut self, peer: usize, max: usize) -> Result<usize, NodeFault>
         requires place { peer < length (peers_of self.old) }
         ensures follows { Follows L.accepts I.gives [] self.old self.new }

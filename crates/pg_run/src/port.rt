@@ -1,6 +1,7 @@
 //! A port, at which the commands of a client come in: the client's end, and the node's.
 
-ghost use Rattle.std.specs.Prelude.{◌≡◌, ◌<◌, ◌≤◌, ◌+◌, ◌-◌, ◌^◌, [], ◌∷◌, ◌++◌, true, false, min, length, None, Ok, IsTrue, IsFalse, IsOk, IsSome, IfOk, IfErr, IfSome, IfNone, OnOk, OnErr};
+ghost use Rattle.std.specs.Prelude.{◌≡◌, ◌<◌, ◌≤◌, ◌+◌, ◌-◌, ◌^◌, [], ◌∷◌, ◌++◌, true, false, min, length, None};
+ghost use Rattle.std.specs.Prelude.{Ok, IsTrue, IsFalse, IsOk, IsSome, IfOk, IfErr, IfSome, IfNone, OnOk, OnErr};
 ghost use mathlib.Core.List.{IsPrefix};
 ghost use Rattle.pg_ring.specs.Slots.{taken};
 
@@ -44,8 +45,11 @@ pub struct Port {
 impl Client {
     ghost use Rattle.pg_run.specs.Ports.{SameClient, submitted, polled, polled_count, places_free, answers_left};
 
-    /// Submits a command, with the count of the answers that were polled before it, or hands it back where no place is found to be
-    /// free; then nothing was submitted. It waits for nobody, and takes no memory. O(1).
+    /// Submits a command, with the count of the answers that were polled before it. It waits for nobody.
+    ///
+    /// Errors: the command, handed back where no place is found to be free; then nothing was submitted.
+    ///
+    /// Cost: no memory; O(1).
     pub fn submit(&mut self, command: Command) -> Result<(), Command>
         ensures same { SameClient self.old self.new }
         ensures polled { polled self.new ≡ polled self.old }
@@ -67,7 +71,9 @@ impl Client {
         }
     }
 
-    /// The next answer, or `None` where none is found to be there. It waits for nobody, and takes no memory. O(1).
+    /// The next answer, or `None` where none is found to be there. It waits for nobody.
+    ///
+    /// Cost: no memory; O(1).
     pub fn poll(&mut self) -> Option<Answer>
         ensures same { SameClient self.old self.new }
         ensures submitted { submitted self.new ≡ submitted self.old }
@@ -86,7 +92,9 @@ impl Client {
 }
 
 impl Port {
-    ghost use Rattle.pg_run.specs.Ports.{SamePort, ForgetsHanded, Hands, HandsNext, GivesNext, KeepsAll, KeepsSame, IsServed, asked, handed, kept_by, handed_count, HandsNoMore, HandsAll, HasLookedIn, answers_free, commands_left};
+    ghost use Rattle.pg_run.specs.Ports.{SamePort, ForgetsHanded, Hands, HandsNext, GivesNext, KeepsAll};
+    ghost use Rattle.pg_run.specs.Ports.{KeepsSame, IsServed, asked, handed, kept_by, handed_count};
+    ghost use Rattle.pg_run.specs.Ports.{HandsNoMore, HandsAll, HasLookedIn, answers_free, commands_left};
 
     /// The next command, if one is there whose client had polled no more answers than were handed over; else it is
     /// kept, if there is one.

@@ -10,6 +10,8 @@ use std::alloc::{AllocError, Global};
 /// The two ends of a new port.
 ///
 /// Errors: `AllocError`.
+///
+/// Cost: memory for 64 commands and 64 answers.
 pub fn port_pair(alloc: Global) -> Result<(Client, Port), AllocError>
     ensures { IfOk result (λ pair. ArePort pair.0 pair.1 × AreNew pair.0 pair.1) }
 {
@@ -33,8 +35,10 @@ pub fn port_pair(alloc: Global) -> Result<(Client, Port), AllocError>
     Ok((client, port))
 }
 
-/// Looks at both ends of a port at once: what came at the node is the first of what was submitted, and what was polled is the first
-/// of what was handed over. It moves nothing, and takes no memory. O(1).
+/// Looks at both ends of a port at once: what came at the node is the first of what was submitted, and what was
+/// polled is the first of what was handed over. It moves nothing.
+///
+/// Cost: no memory; O(1).
 pub fn ports_together(client: &mut Client, port: &mut Port)
     requires { ArePort client.old port.old }
     ensures client { ClientRests client.old client.new }

@@ -60,7 +60,8 @@ impl<T: GroupTable + Drop, L: Link + Drop, I: Inlet + Drop, K: Rng + Drop> NodeR
     ghost use Rattle.std.specs.Prelude.{[], false};
     ghost use Rattle.pg_run.specs.Notices.{kept_of};
     ghost use Rattle.pg_run.specs.Tries.{RetriedBy, TurnDid};
-    ghost use Rattle.pg_run.specs.Runs.{linked_of, ports_at, stop_of, notices_at, notices_of, generator_of, busy_of, Runs, TurnedTo};
+    ghost use Rattle.pg_run.specs.Runs.{linked_of, ports_at, stop_of, notices_at};
+    ghost use Rattle.pg_run.specs.Runs.{notices_of, generator_of, busy_of, Runs, TurnedTo};
 
     /// A node that has made no turn.
     ///
@@ -113,6 +114,8 @@ impl<T: GroupTable + Drop, L: Link + Drop, I: Inlet + Drop, K: Rng + Drop> NodeR
     }
 
     /// The node with its links and its log, its ports, and where the stop byte and the notices come.
+    ///
+    /// Cost: no memory.
     pub fn into_parts(self) -> (LinkedNode<T, L, I>, Vec<Port>, I, SlotIn<Notice>)
         ensures linked { result.0 ≡ linked_of self }
         ensures ports { result.1.items ≡ ports_at self }
@@ -122,10 +125,15 @@ impl<T: GroupTable + Drop, L: Link + Drop, I: Inlet + Drop, K: Rng + Drop> NodeR
         (self.linked, self.ports, self.stop, self.notices.inlet)
     }
 
-    /// One turn: a look for the stop byte; of each peer up to 4,096 bytes come in, and the next packet is taken; the loss of which
-    /// a notice has is seen, once all that came of the lost peer is taken; each port gives a command at most; each command that
-    /// waits is tried where its pause is over, or at once where all has come that it gathers; answers are handed over. What an event makes the node
-    /// send is put at once, and what a link did not take then after the retries.
+    /// One turn: a look for the stop byte; of each peer up to 4,096 bytes come in, and the next packet is taken; the
+    /// loss of which a notice has is seen, once all that came of the lost peer is taken; each port gives a command at
+    /// most; each command that waits is tried where its pause is over, or at once where all has come that it gathers;
+    /// answers are handed over. What an event makes the node send is put at once, and what a link did not take then
+    /// after the retries.
+    ///
+    /// Cost: that of the bytes that move, of the events, each with a look at each peer, and of copies of the answers
+    /// that are handed over; for the retries, that of `NodeState::waiting` and O(n) in the pauses for each command
+    /// that waits.
     pub fn turn(&mut self) -> Turned
         ensures runs { Runs L.accepts I.gives self.old self.new }
         ensures stop { TurnedTo I.gives (stop_of self.old) result (stop_of self.new) }

@@ -26,7 +26,10 @@ pub struct Ran<T: GroupTable, L: Drop, I: Drop, K: Drop> {
     pub short: u64,
 }
 
-/// Runs the node at a place until the stop byte comes, or for `limit` turns. A node that found nothing to do yields the processor.
+/// Runs the node at a place until the stop byte comes, or for `limit` turns. A node that found nothing to do yields
+/// the processor.
+///
+/// Cost: that of the turns.
 pub fn run_node<T: GroupTable + Drop, L: Link + Drop, I: Inlet + Drop, K: Rng + Drop, G: Gate>(
     place: usize,
     run: NodeRun<T, L, I, K>,

@@ -7,7 +7,8 @@ ghost use Rattle.pg_node_state.specs.States.{answers_of};
 ghost use Rattle.pg_run.specs.Follows.{log_of, node_of};
 ghost use Rattle.pg_run.specs.Logs.{IsCommand, LogsOnly};
 ghost use Rattle.pg_run.specs.Ports.{IsServed, handed_count};
-ghost use Rattle.pg_run.specs.Served.{AllForgetHanded, AreHanded, AreServed, HandNone, IsHandedAt, IsServedAt, LeavesAnswer, LeavesAnswerAt, StayBut, KeepTheSame};
+ghost use Rattle.pg_run.specs.Served.{AllForgetHanded, AreHanded, AreServed, HandNone, IsHandedAt};
+ghost use Rattle.pg_run.specs.Served.{IsServedAt, LeavesAnswer, LeavesAnswerAt, StayBut, KeepTheSame};
 ghost use Rattle.pg_run.specs.Tries.{WasWanting};
 ghost use Rattle.pg_run.specs.Turns.{Serves, ServesPort};
 

@@ -1,6 +1,7 @@
 -- The numbers of the faults, and where they come from.
 use Rattle.std.specs.Prelude.{ℕ}
-use Rattle.pg_faults.specs.declared.TheConstants.{BAD_CONFIG, BAD_LINE, LATE_DECLARATION, OUT_OF_MEMORY, UNKNOWN_NODE, WRITE_FAULT}
+use Rattle.pg_faults.specs.declared.TheConstants.{BAD_CONFIG, BAD_LINE, LATE_DECLARATION}
+use Rattle.pg_faults.specs.declared.TheConstants.{OUT_OF_MEMORY, UNKNOWN_NODE, WRITE_FAULT}
 use Rattle.pg_text.specs.declared.fault.TextFault.{TextFault}
 use Rattle.pg_text.specs.declared.fault.TextFault.TheVariants as text
 use Rattle.pg_config.specs.Faults.{world_number_of}

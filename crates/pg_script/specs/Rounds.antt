@@ -1,5 +1,6 @@
 -- Rounds of steps until nothing moves.
-use Rattle.std.specs.Prelude.{◌≡◌, ℕ, zero, suc, ◌<◌, ◌⊎◌, Bool, true, false, not, ◌||◌, nat_eq, List, Option, Some, None, Result, Ok, Err}
+use Rattle.std.specs.Prelude.{◌≡◌, ℕ, zero, suc, ◌<◌, ◌⊎◌, Bool, true, false, not}
+use Rattle.std.specs.Prelude.{◌||◌, nat_eq, List, Option, Some, None, Result, Ok, Err}
 use Rattle.pg_group.specs.declared.table.GroupTable.{Ghosts}
 use Rattle.pg_step.specs.Config.{Config}
 use Rattle.pg_step.specs.declared.refusal.Refusal.TheVariants.{NodeLost}

@@ -30,6 +30,8 @@ impl LineFault {
     ghost use Rattle.pg_script.specs.Faults.{line_number_of};
 
     /// The number of the fault in this project's one list of faults.
+    ///
+    /// Cost: no memory.
     pub fn number(self) -> u8
         ensures { result ≡ line_number_of self }
     {
@@ -105,6 +107,8 @@ impl RunFault {
     ghost use Rattle.pg_script.specs.Faults.{run_number_of};
 
     /// The number of the fault in this project's one list of faults.
+    ///
+    /// Cost: no memory.
     pub fn number(self) -> u8
         ensures { result ≡ run_number_of self }
     {

@@ -1,10 +1,14 @@
 //! From the text of a script to the script.
 
-ghost use Rattle.std.specs.Prelude.{◌≡◌, ◌≢◌, ◌<◌, ◌∷◌, ◌++◌, [], List, ℕ, length, is_some, option_map, unwrap_or, true, false, Some, None, Ok, Err, IfOk, IfErr, OnOk, OnErr};
+ghost use Rattle.std.specs.Prelude.{◌≡◌, ◌≢◌, ◌<◌, ◌∷◌, ◌++◌, [], List, ℕ, length, is_some, option_map};
+ghost use Rattle.std.specs.Prelude.{unwrap_or, true, false, Some, None, Ok, Err, IfOk, IfErr, OnOk, OnErr};
 ghost use Rattle.pg_lines.specs.declared.line.Line.TheVariants.{Pair, At};
-ghost use Rattle.pg_script.specs.declared.fault.LineFault.TheVariants.{BadLine, UnknownNode, LateDeclaration, OutOfMemory};
+ghost use Rattle.pg_script.specs.declared.fault.LineFault.TheVariants.{BadLine, UnknownNode};
+ghost use Rattle.pg_script.specs.declared.fault.LineFault.TheVariants.{LateDeclaration, OutOfMemory};
 ghost use Rattle.pg_script.specs.declared.reading.TheConstants.{DEFAULT_RING};
-ghost use Rattle.pg_script.specs.Scripts.{act_said, change_at, contents_of, draft_of, has_said, is_skipped, line_said, lines_in, lines_of_rest, node_said, pair_of, place_of, ring_said, script_of, text_said, with_group, IsPlaced};
+ghost use Rattle.pg_script.specs.Scripts.{act_said, change_at, contents_of, draft_of, has_said, is_skipped};
+ghost use Rattle.pg_script.specs.Scripts.{line_said, lines_in, lines_of_rest, node_said, pair_of, place_of};
+ghost use Rattle.pg_script.specs.Scripts.{ring_said, script_of, text_said, with_group, IsPlaced};
 
 use crate::act::{Act, node_act, pair_act};
 use crate::fault::{LineFault, ScriptFault};

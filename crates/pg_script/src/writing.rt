@@ -11,6 +11,8 @@ use pg_node::Sink;
 /// Writes all the bytes.
 ///
 /// Errors: `WriteFault`, where a write fails; what was written is a prefix of the bytes then.
+///
+/// Cost: no memory; as many writes as the writer takes the bytes in.
 pub fn put_whole<W: Sink>(writer: &mut W, bytes: &[u8]) -> Result<(), RunFault>
     ensures ok { OnOk result (Appends (W.contents writer.old) (W.contents writer.new) bytes.now) }
     ensures fault { IfErr result (λ fault. (fault ≡ WriteFault)

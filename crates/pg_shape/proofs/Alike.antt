@@ -1,5 +1,7 @@
 -- Pids that begin alike.
-use Rattle.std.proofs.Common.{◌≡◌, ℕ, zero, suc, ◌+◌, ◌≤◌, Bool, true, cond, List, [], ◌∷◌, ◌++◌, length, take, drop, Option, Some, Result, Ok, Err, refl, sym, ap, ◌∙◌, length-append, length-drop, length-take-le, take-append-drop, drop-drop, rules, arith}
+use Rattle.std.proofs.Common.{◌≡◌, ℕ, zero, suc, ◌+◌, ◌≤◌, Bool, true, cond, List, [], ◌∷◌, ◌++◌, length}
+use Rattle.std.proofs.Common.{take, drop, Option, Some, Result, Ok, Err, refl, sym, ap, ◌∙◌, length-append}
+use Rattle.std.proofs.Common.{length-drop, length-take-le, take-append-drop, drop-drop, rules, arith}
 use Rattle.std.specs.Prelude.{is_some}
 use Rattle.std.specs.Int.{w32, from_be_bytes}
 use Rattle.std.proofs.Math.Seq.{take-append_seam, drop-append_seam, take-append-add}
@@ -9,7 +11,8 @@ use Rattle.pg_term.specs.declared.fault.TermFault.TheVariants.{Truncated}
 use Rattle.pg_term.specs.declared.pid.Pid.{Pid}
 use Rattle.pg_term.specs.declared.term.Term.{Term, the_lemmas}
 use Rattle.pg_term.specs.declared.term.Term.TheVariants.{Pid as Process}
-use Rattle.pg_term_io.specs.Reading.{Read, ◌>>=◌, number_at, named_at, utf8_atom, atom_behind, atom_at, pid_at, as_term, readers, item_behind, leaf_behind, item_at}
+use Rattle.pg_term_io.specs.Reading.{Read, ◌>>=◌, number_at, named_at, utf8_atom, atom_behind, atom_at}
+use Rattle.pg_term_io.specs.Reading.{pid_at, as_term, readers, item_behind, leaf_behind, item_at}
 use Rattle.pg_message.specs.Parts.{pid_of}
 use Rattle.pg_shape.specs.Alike.{Heads}
 use Rattle.pg_shape.specs.Lists.{Leaves}

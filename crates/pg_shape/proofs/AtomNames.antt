@@ -1,5 +1,6 @@
 -- Each atom that is read may be a name.
-use Rattle.std.proofs.Common.{◌≡◌, ℕ, ℤ, pos, ◌+◌, ◌≤◌, Bool, true, false, cond, List, ◌∷◌, ◌++◌, length, Ok, Err, length-append, subst, ap, ◌∙◌, rules, arith}
+use Rattle.std.proofs.Common.{◌≡◌, ℕ, ℤ, pos, ◌+◌, ◌≤◌, Bool, true, false, cond, List, ◌∷◌, ◌++◌}
+use Rattle.std.proofs.Common.{length, Ok, Err, length-append, subst, ap, ◌∙◌, rules, arith}
 use Rattle.std.specs.Prelude.{nat_lt, nat_le, ◌&&◌}
 use Rattle.std.specs.Int.{w16, w32, cast_signed, to_be_bytes}
 use Rattle.std.specs.Str.{encode_utf8_all}

@@ -1,5 +1,6 @@
 -- What has not the shape of a packet, and so is none.
-use Rattle.std.proofs.Common.{◌≡◌, ◌≢◌, ◌-◌, take, drop, ℕ, zero, suc, ◌≤◌, Bool, true, false, cond, eqb, List, [], ◌∷◌, length, codes, Option, Some, None, Ok, Err, refl, sym, ap, subst, ◌∙◌, arith}
+use Rattle.std.proofs.Common.{◌≡◌, ◌≢◌, ◌-◌, take, drop, ℕ, zero, suc, ◌≤◌, Bool, true, false, cond, eqb, List, []}
+use Rattle.std.proofs.Common.{◌∷◌, length, codes, Option, Some, None, Ok, Err, refl, sym, ap, subst, ◌∙◌, arith}
 use Rattle.std.proofs.Math.Seq.{take-length}
 use Rattle.std.specs.Prelude.{◌&&◌, ◌||◌}
 use Rattle.std.specs.Option.{option_map, option_and_then}
@@ -11,8 +12,11 @@ use Rattle.pg_term.specs.Order.{kind_step, kind_of}
 use Rattle.pg_term_io.specs.Reading.{Read, ◌>>=◌, items_at, item_at, as_term, term_of}
 use Rattle.pg_term_io.specs.Scanning.{past}
 use Rattle.pg_message.specs.Name.{is_name}
-use Rattle.pg_message.specs.Parts.{tuple_in, elements_of, list_in, items_of, text_in, is_word, atom_in, atom_of, reference_in, reference_of, pid_in, pid_of}
-use Rattle.pg_message.specs.Reading.{request_on, membership_of, request_in, request_of, said_of, groups_of, freed, exchanged, cast_in, cast_of, referred, message_in, message_of, stamp_in, stamp_of, stamped, packet_in}
+use Rattle.pg_message.specs.Parts.{tuple_in, elements_of, list_in, items_of, text_in, is_word}
+use Rattle.pg_message.specs.Parts.{atom_in, atom_of, reference_in, reference_of, pid_in, pid_of}
+use Rattle.pg_message.specs.Reading.{request_on, membership_of, request_in, request_of, said_of}
+use Rattle.pg_message.specs.Reading.{groups_of, freed, exchanged, cast_in, cast_of, referred}
+use Rattle.pg_message.specs.Reading.{message_in, message_of, stamp_in, stamp_of, stamped, packet_in}
 use Rattle.pg_group.specs.declared.update.Update.TheVariants.{Create, Delete, Join, Leave}
 use Rattle.pg_message.specs.declared.message.Message.{Message}
 use Rattle.pg_message.specs.declared.message.Message.TheVariants.{Call, Reply, DelLock, Exchange, Down}

@@ -2,7 +2,8 @@
 //! once: each walk over a part gives what follows it. No member is built; a name is, to see whether it is one, but
 //! for an atom.
 
-ghost use Rattle.std.specs.Prelude.{◌≡◌, ◌≢◌, ◌<◌, ◌≤◌, ℕ, Bool, List, [], ◌∷◌, length, true, false, is_some, Ok, Some, None, IfOk, IfSome, MatchOption};
+ghost use Rattle.std.specs.Prelude.{◌≡◌, ◌≢◌, ◌<◌, ◌≤◌, ℕ, Bool, List, [], ◌∷◌, length, true};
+ghost use Rattle.std.specs.Prelude.{false, is_some, Ok, Some, None, IfOk, IfSome, MatchOption};
 ghost use Rattle.pg_term.specs.declared.term.Term.{Term};
 ghost use Rattle.pg_term.specs.Order.{kind_of};
 ghost use Rattle.pg_term_io.specs.Lists.{list_from};

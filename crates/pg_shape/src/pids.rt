@@ -1,6 +1,7 @@
 //! Lists of pids, walked over. After a pid those that begin as it are skipped by their length.
 
-ghost use Rattle.std.specs.Prelude.{◌≡◌, ◌≢◌, ◌∷◌, ◌<◌, ◌≤◌, ◌++◌, ℕ, List, Option, length, drop, true, false, is_some, Ok, None, IfSome, IfNone, MatchOption};
+ghost use Rattle.std.specs.Prelude.{◌≡◌, ◌≢◌, ◌∷◌, ◌<◌, ◌≤◌, ◌++◌, ℕ, List, Option, length, drop};
+ghost use Rattle.std.specs.Prelude.{true, false, is_some, Ok, None, IfSome, IfNone, MatchOption};
 ghost use Rattle.pg_term.specs.declared.pid.Pid.{Pid};
 ghost use Rattle.pg_term.specs.declared.term.Term.{Term};
 ghost use Rattle.pg_term.specs.Order.{kind_of};
@@ -19,6 +20,8 @@ const NUMBERS: usize = 12;
 
 /// The bytes before the numbers of a pid that is spelled as it is written, with a node of at most 255 bytes; `None` for
 /// another part. Pids that begin with the same bytes have the same node.
+///
+/// Cost: no memory; O(1).
 pub fn pid_head(bytes: &[u8]) -> Option<&[u8]>
     ensures some { IfSome result (λ head. Heads head.now bytes.now) }
     ensures none { (text numbers : List ℕ) → IfNone result

@@ -2,15 +2,18 @@
 //! refused before anything else of it is built. A part that holds others is a tuple, a list or a binary; all others
 //! are small.
 
-ghost use Rattle.std.specs.Prelude.{◌≡◌, ◌<◌, ◌≤◌, ℕ, List, [], ◌∷◌, length, true, false, ◌||◌, is_some, nat_eq, IfSome, IfNone, Ok, Err, Some, None};
+ghost use Rattle.std.specs.Prelude.{◌≡◌, ◌<◌, ◌≤◌, ℕ, List, [], ◌∷◌, length, true, false, ◌||◌};
+ghost use Rattle.std.specs.Prelude.{is_some, nat_eq, IfSome, IfNone, Ok, Err, Some, None};
 ghost use Rattle.pg_term.specs.declared.term.Term.{Term};
 ghost use Rattle.pg_term.specs.Order.{kind_of};
 ghost use Rattle.pg_term_io.specs.Reading.{item_at, term_of};
 ghost use Rattle.pg_term_io.specs.Scanning.{past};
 ghost use Rattle.pg_message.specs.Name.{is_name};
 ghost use Rattle.pg_message.specs.Parts.{elements_of};
-ghost use Rattle.pg_message.specs.Reading.{message_in, cast_in, cast_of, groups_of, request_in, request_of, message_of, packet_of};
-ghost use Rattle.pg_shape.specs.Shape.{is_small, listed_of, request_shape, cast_shape, message_shape, packet_shape, has_shape};
+ghost use Rattle.pg_message.specs.Reading.{message_in, cast_in, cast_of, groups_of};
+ghost use Rattle.pg_message.specs.Reading.{request_in, request_of, message_of, packet_of};
+ghost use Rattle.pg_shape.specs.Shape.{is_small, listed_of, request_shape, cast_shape};
+ghost use Rattle.pg_shape.specs.Shape.{message_shape, packet_shape, has_shape};
 
 use crate::groups::may_be_groups;
 use pg_message::{MAX_NAME_LEN, MessageFault};
@@ -21,6 +24,8 @@ use std::alloc::{AllocError, Global};
 const MAX_SPELLED_NAME: usize = 400 * (MAX_NAME_LEN - 1);
 
 /// Whether a part is an atom. Each atom may be a name.
+///
+/// Cost: no memory; O(1).
 pub fn is_atom(bytes: &[u8]) -> bool
     ensures { (room : ℕ) (t : Term) (rest : List ℕ) → item_at room bytes.now ≡ Ok (t, rest)
         → result ≡ nat_eq (kind_of t) 1 }

@@ -38,6 +38,8 @@ pub fn nodes_of(alloc: Global, starts: &[Start]) -> Result<Vec<NodeState<IndexTa
 /// The node at a place of a configuration as it starts.
 ///
 /// Errors: `AllocError`.
+///
+/// Cost: that of its groups, and of all names.
 pub fn node_at(
     alloc: Global,
     starts: &[Start],

@@ -1,5 +1,6 @@
 -- What seeing a loss leaves, and when a loss is seen or happens.
-use Rattle.std.proofs.Common.{◌≡◌, ℕ, ◌+◌, Bool, true, false, not, ◌&&◌, ◌||◌, cond, max, nat_le, length, List, [], ◌∷◌, Option, Some, None, refl, ap, sym, subst, ◌∙◌}
+use Rattle.std.proofs.Common.{◌≡◌, ℕ, ◌+◌, Bool, true, false, not, ◌&&◌, ◌||◌, cond, max, nat_le}
+use Rattle.std.proofs.Common.{length, List, [], ◌∷◌, Option, Some, None, refl, ap, sym, subst, ◌∙◌}
 use Rattle.std.specs.Prelude.{option_map, option_and_then, is_some, ◌↔◌}
 use Rattle.pg_term.specs.declared.pid.Pid.{Pid}
 use Rattle.pg_term.specs.declared.term.Term.{Term}
@@ -12,14 +13,16 @@ use Rattle.pg_message.specs.declared.message.Message.{Message}
 use Rattle.pg_machine.specs.Places.{is_place, is_pair, set_at}
 use Rattle.pg_machine.specs.Machine.{Turn, Input, Taken, Take, first_from, without_input, perform, happens}
 use Rattle.pg_machine.specs.Clocked.{Timed, Stamped, timed, timed_turn}
-use Rattle.pg_machine.specs.Losing.{Noticed, Sent, Last, LosingWorld, LosingEvent, Step, Lose, losing_happens, can_keep, stopped, mapped_turn, noticed_step}
+use Rattle.pg_machine.specs.Losing.{Noticed, Sent, Last, LosingWorld, LosingEvent, Step, Lose}
+use Rattle.pg_machine.specs.Losing.{losing_happens, can_keep, stopped, mapped_turn, noticed_step}
 use Rattle.pg_step.specs.Config.{Config, name_at}
 use Rattle.pg_step.specs.FrameMachine.{machine_of, see_step, losing_frame_machine, last_notice, place_turn}
 use Rattle.pg_step.specs.Losses.{forgets, see_loss}
 use Rattle.pg_step.specs.declared.refusal.Refusal.{Refusal}
 use Rattle.pg_step.specs.declared.refusal.Refusal.TheVariants.{NoSuchPlace, NodeLost, NotLost, NotDrained, ClockFull}
 use Rattle.pg_step.specs.Faults.{first_that_holds}
-use Rattle.pg_step.specs.LossLaws.{LosingFrameWorld, is_notice, is_drained, clock_after, see_refusal, lose_refusal, Forgotten, SeesLoss}
+use Rattle.pg_step.specs.LossLaws.{LosingFrameWorld, is_notice, is_drained, clock_after}
+use Rattle.pg_step.specs.LossLaws.{see_refusal, lose_refusal, Forgotten, SeesLoss}
 use Rattle.pg_step.specs.StepLaws.{is_full}
 use Rattle.pg_step.specs.Nodes.{Node}
 use Rattle.pg_step.specs.State.{State, Use}

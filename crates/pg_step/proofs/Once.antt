@@ -1,5 +1,7 @@
 -- A turn sends at most one message to each peer, and none to another name.
-use Rattle.std.proofs.Common.{◌≡◌, ◌⊎◌, inl, inr, ℕ, ◌+◌, ◌≤◌, Bool, true, false, not, ◌&&◌, ◌||◌, cond, nat_eq, length, List, [], ◌∷◌, ◌++◌, Option, Some, None, Result, Ok, Err, refl, ap, sym, subst, ◌∙◌, arith}
+use Rattle.std.proofs.Common.{◌≡◌, ◌⊎◌, inl, inr, ℕ, ◌+◌, ◌≤◌, Bool, true, false, not, ◌&&◌}
+use Rattle.std.proofs.Common.{◌||◌, cond, nat_eq, length, List, [], ◌∷◌, ◌++◌, Option, Some}
+use Rattle.std.proofs.Common.{None, Result, Ok, Err, refl, ap, sym, subst, ◌∙◌, arith}
 use Rattle.std.specs.List.{list_any, list_all}
 use Rattle.std.specs.Cmp.{first_so, second_so}
 use Rattle.std.specs.Cmp.Lexicographic.{bytes_decides}
@@ -35,11 +37,15 @@ use Rattle.pg_step.specs.declared.answer.Reply.{Reply as Answer}
 use Rattle.pg_step.specs.declared.answer.Reply.TheVariants as reply
 use Rattle.pg_step.specs.State.Response.{Given}
 use Rattle.pg_step.specs.State.Stage.{Closed, Waiting, Asking, Changing}
-use Rattle.pg_step.specs.Commands.{OPEN_LIMIT, fault_of, look, answer, undertake, open_command, change, change_by, carried_out, command_by, count_command, next_op, command as command_in, refused}
+use Rattle.pg_step.specs.Commands.{OPEN_LIMIT, fault_of, look, answer, undertake, open_command, change, change_by}
+use Rattle.pg_step.specs.Commands.{carried_out, command_by, count_command, next_op, command as command_in, refused}
 use Rattle.pg_step.specs.Step.{Action, Issue, Retry, taken, acted}
 use Rattle.pg_step.specs.declared.refusal.Refusal.{Refusal}
 use Rattle.pg_step.specs.declared.refusal.Refusal.TheVariants.{NotAMessage, NoSuchPlace, NotWaiting}
-use Rattle.pg_step.specs.Attempts.{round_of, use_of, count_answer, count_ok, reply_by, waits, tried_again, is_asked, is_yes, own_reference, all_granted, none_missing, none_denied, asks, own_verdict, with_asked, ask, give_up, begin, finish, replies_in, locks_in, go_on, new_attempt, attempt, gathered, is_kind, lock_status, counted, reply_under}
+use Rattle.pg_step.specs.Attempts.{round_of, use_of, count_answer, count_ok, reply_by, waits, tried_again, is_asked}
+use Rattle.pg_step.specs.Attempts.{is_yes, own_reference, all_granted, none_missing, none_denied, asks, own_verdict}
+use Rattle.pg_step.specs.Attempts.{with_asked, ask, give_up, begin, finish, replies_in, locks_in, go_on}
+use Rattle.pg_step.specs.Attempts.{new_attempt, attempt, gathered, is_kind, lock_status, counted, reply_under}
 use Rattle.pg_step.specs.declared.command_fault.CommandFault.TheVariants.{Busy}
 use Rattle.pg_step.specs.declared.command_fault.CommandFault.{CommandFault}
 

@@ -1,5 +1,6 @@
 -- What comes of a query, of a command that is refused, and of one that the look answers.
-use Rattle.std.proofs.Common.{◌≡◌, ◌⊎◌, inl, inr, ℕ, Bool, true, false, cond, nat_lt, length, List, [], ◌∷◌, ◌++◌, Some, None, Ok, Err, refl, ap, sym, ◌∙◌, subst}
+use Rattle.std.proofs.Common.{◌≡◌, ◌⊎◌, inl, inr, ℕ, Bool, true, false, cond, nat_lt, length}
+use Rattle.std.proofs.Common.{List, [], ◌∷◌, ◌++◌, Some, None, Ok, Err, refl, ap, sym, ◌∙◌, subst}
 use Rattle.std.proofs.lemmas.Bool.{cases_eq}
 use Rattle.std.proofs.lemmas.List.{append-nil}
 use Rattle.pg_term.specs.declared.pid.Pid.{Pid}
@@ -8,7 +9,8 @@ use Rattle.pg_group.specs.declared.update.Update.TheVariants as update
 use Rattle.pg_group.specs.Value.{Counts}
 use Rattle.pg_message.specs.declared.message.Message.{Message}
 use Rattle.pg_step.specs.declared.command.Command.{Command}
-use Rattle.pg_step.specs.declared.command.Command.TheVariants.{Create, Delete, Join, Leave, Make, Finish, Members, LocalMembers, WhichGroups, Closest}
+use Rattle.pg_step.specs.declared.command.Command.TheVariants.{Create, Delete, Join, Leave, Make, Finish}
+use Rattle.pg_step.specs.declared.command.Command.TheVariants.{Members, LocalMembers, WhichGroups, Closest}
 use Rattle.pg_step.specs.declared.answer.Reply.TheVariants.{Refused}
 use Rattle.pg_step.specs.declared.answer.Reply.TheVariants as reply
 use Rattle.pg_machine.specs.Machine.{Turn, Do, happens}
@@ -18,7 +20,9 @@ use Rattle.pg_step.specs.Nodes.{Nodes}
 use Rattle.pg_step.specs.State.{State, Response, left as left_nodes}
 use Rattle.pg_step.specs.State.Response.{Given, Read}
 use Rattle.pg_step.specs.Turns.{NodeTurn, Report, and_then}
-use Rattle.pg_step.specs.Commands.{has_large_name, has_foreign_pid, ends_unformed, ends_unmade, ends_again, passes_limit, fault_of, answer, look, change_by, next_op, count_command, command_by, command, refused}
+use Rattle.pg_step.specs.Commands.{has_large_name, has_foreign_pid, ends_unformed, ends_unmade}
+use Rattle.pg_step.specs.Commands.{ends_again, passes_limit, fault_of, answer, look, change_by}
+use Rattle.pg_step.specs.Commands.{next_op, count_command, command_by, command, refused}
 use Rattle.pg_step.specs.Step.{Issue}
 use Rattle.pg_step.specs.declared.refusal.Refusal.TheVariants.{NoSuchPlace}
 use Rattle.pg_step.specs.Config.{Config, nodes_at, ports_at}
@@ -26,7 +30,8 @@ use Rattle.pg_step.specs.FrameMachine.{place_turn, placed, node_step, machine_of
 use Rattle.pg_step.specs.StepLaws.{is_query, OnlyAnswers}
 use Rattle.pg_machine.proofs.Options.{some_is}
 use Rattle.pg_machine.proofs.Steps.{happened, changes}
-use Rattle.pg_step.specs.declared.command_fault.CommandFault.TheVariants.{NameTooLarge, ForeignPid, NotFormed, NotMade, AlreadyEnded, ProcessLimit}
+use Rattle.pg_step.specs.declared.command_fault.CommandFault.TheVariants.{NameTooLarge, ForeignPid, NotFormed}
+use Rattle.pg_step.specs.declared.command_fault.CommandFault.TheVariants.{NotMade, AlreadyEnded, ProcessLimit}
 use Rattle.pg_step.specs.declared.command_fault.CommandFault.{CommandFault}
 use Rattle.pg_step.specs.Faults.{first_that_holds}
 

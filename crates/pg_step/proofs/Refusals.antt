@@ -1,5 +1,6 @@
 -- What a step refuses.
-use Rattle.std.proofs.Common.{◌≡◌, ℕ, Bool, true, false, not, ◌&&◌, cond, max, nat_le, nat_lt, length, List, [], ◌∷◌, Some, None, Result, Ok, Err, refl, ap}
+use Rattle.std.proofs.Common.{◌≡◌, ℕ, Bool, true, false, not, ◌&&◌, cond, max, nat_le, nat_lt}
+use Rattle.std.proofs.Common.{length, List, [], ◌∷◌, Some, None, Result, Ok, Err, refl, ap}
 use Rattle.std.proofs.Math.Path.{fun_ext}
 use Rattle.std.specs.Prelude.{◌+◌}
 use Rattle.pg_message.specs.declared.message.Message.{Message}
@@ -18,12 +19,15 @@ use Rattle.pg_step.specs.Peers.{is_bad_exchange, exchange}
 use Rattle.pg_refs.specs.Numbered.{number_in}
 use Rattle.pg_step.specs.Commands.{command}
 use Rattle.pg_step.specs.Attempts.{reply_by, waits, tried_again, use_of, gathered, is_kind, reply_under, reply_by}
-use Rattle.pg_step.specs.Step.{CLOCK_LIMIT, Action, Issue, Retry, TimedTurn, at_clock, timed, taken, step_take, step_act}
+use Rattle.pg_step.specs.Step.{CLOCK_LIMIT, Action, Issue, Retry, TimedTurn}
+use Rattle.pg_step.specs.Step.{at_clock, timed, taken, step_take, step_act}
 use Rattle.pg_step.specs.Config.{Config, name_at}
 use Rattle.pg_step.specs.FrameMachine.{placed, place_turn}
 use Rattle.pg_step.specs.declared.refusal.Refusal.{Refusal}
-use Rattle.pg_step.specs.declared.refusal.Refusal.TheVariants.{NotAMessage, NoSuchPlace, NodeLost, NotLost, NotDrained, NotWaiting, ClockFull}
-use Rattle.pg_step.specs.StepLaws.{place_timed, timed_placed, refusal_of, port_of, retries_none, is_full, is_wrong_kind, is_no_message, is_stranger}
+use Rattle.pg_step.specs.declared.refusal.Refusal.TheVariants.{NotAMessage, NoSuchPlace, NodeLost}
+use Rattle.pg_step.specs.declared.refusal.Refusal.TheVariants.{NotLost, NotDrained, NotWaiting, ClockFull}
+use Rattle.pg_step.specs.StepLaws.{place_timed, timed_placed, refusal_of, port_of, retries_none}
+use Rattle.pg_step.specs.StepLaws.{is_full, is_wrong_kind, is_no_message, is_stranger}
 use Rattle.pg_step.specs.Faults.{first_that_holds}
 
 -- ---- the clocked machine

@@ -2,7 +2,8 @@
 -- and frees the lock (global:trans/2 of the global manual page, around gen_server:multi_call/2, as pg2 does).
 --
 -- The lock is asked for in two rounds. The greatest node is asked alone; where it grants, the rest are asked at once.
-use Rattle.std.specs.Prelude.{ℕ, ◌+◌, ◌-◌, Bool, true, false, not, ◌&&◌, cond, nat_eq, Option, Some, None, Result, Ok, Err}
+use Rattle.std.specs.Prelude.{ℕ, ◌+◌, ◌-◌, Bool, true, false, not, ◌&&◌, cond}
+use Rattle.std.specs.Prelude.{nat_eq, Option, Some, None, Result, Ok, Err}
 use Rattle.pg_term.specs.RefParts.{RefParts, ref_eq}
 use Rattle.pg_term.specs.Same.{same_atom}
 use Rattle.pg_refs.specs.Numbered.{numbered, number_in}

@@ -1,6 +1,7 @@
 -- What a node makes of a command (create/1, delete/1, join/2, leave/2, get_members/1, get_local_members/1,
 -- which_groups/0 and get_closest_pid/1 of the pg2 manual page, and the making and ending of processes).
-use Rattle.std.specs.Prelude.{◌≡◌, ℕ, ◌+◌, Bool, true, false, not, cond, nat_eq, nat_le, List, [], ◌∷◌, Option, Some, None}
+use Rattle.std.specs.Prelude.{◌≡◌, ℕ, ◌+◌, Bool, true, false, not, cond, nat_eq}
+use Rattle.std.specs.Prelude.{nat_le, List, [], ◌∷◌, Option, Some, None}
 use Rattle.std.specs.List.Sorted.{IsSorted}
 use Rattle.pg_term.specs.declared.pid.Pid.{Pid}
 use Rattle.pg_term.specs.declared.term.Term.{Term}
@@ -18,12 +19,14 @@ use Rattle.pg_ends.specs.Numbers.{pid_of, is_among}
 use Rattle.pg_message.specs.Name.{is_name}
 use Rattle.pg_message.specs.declared.message.Message.TheVariants.{Down}
 use Rattle.pg_step.specs.declared.command.Command.{Command}
-use Rattle.pg_step.specs.declared.command.Command.TheVariants.{Create, Delete, Join, Leave, Make, Finish, Members, LocalMembers, WhichGroups, Closest}
+use Rattle.pg_step.specs.declared.command.Command.TheVariants.{Create, Delete, Join, Leave, Make, Finish}
+use Rattle.pg_step.specs.declared.command.Command.TheVariants.{Members, LocalMembers, WhichGroups, Closest}
 use Rattle.pg_step.specs.declared.command.OpId.{OpId}
 use Rattle.pg_step.specs.declared.answer.Reply.{Reply}
 use Rattle.pg_step.specs.declared.answer.Reply.TheVariants as reply
 use Rattle.pg_step.specs.declared.command_fault.CommandFault.{CommandFault}
-use Rattle.pg_step.specs.declared.command_fault.CommandFault.TheVariants.{NameTooLarge, ForeignPid, NotFormed, NotMade, AlreadyEnded, ProcessLimit, Busy}
+use Rattle.pg_step.specs.declared.command_fault.CommandFault.TheVariants.{NameTooLarge, ForeignPid, NotFormed}
+use Rattle.pg_step.specs.declared.command_fault.CommandFault.TheVariants.{NotMade, AlreadyEnded, ProcessLimit, Busy}
 use Rattle.pg_step.specs.Faults.{command_number_of, first_that_holds}
 use Rattle.pg_step.specs.Nodes.{Node, Nodes, is_node, to_peers}
 use Rattle.pg_step.specs.State.{State, Response, formed}

@@ -14,7 +14,8 @@ use Rattle.pg_step.specs.Peers.{lock_request, update_request, lock_freed, is_bad
 use Rattle.pg_step.specs.Attempts.{reply_taken, retry}
 use Rattle.pg_step.specs.Commands.{command}
 use Rattle.pg_step.specs.declared.refusal.Refusal.{Refusal}
-use Rattle.pg_step.specs.declared.refusal.Refusal.TheVariants.{NotAMessage, NoSuchPlace, NodeLost, NotWaiting, ClockFull}
+use Rattle.pg_step.specs.declared.refusal.Refusal.TheVariants.{NotAMessage, NoSuchPlace}
+use Rattle.pg_step.specs.declared.refusal.Refusal.TheVariants.{NodeLost, NotWaiting, ClockFull}
 
 -- ---- without clock, where m are the nodes that count
 

@@ -27,6 +27,8 @@ impl CommandFault {
     ghost use Rattle.pg_step.specs.Faults.{command_number_of};
 
     /// Its number in the one list of faults, which `Reply::Refused` carries.
+    ///
+    /// Cost: no memory.
     pub fn number(self) -> u8
         ensures { result ≡ command_number_of self }
     {

@@ -27,6 +27,8 @@ impl Refusal {
     ghost use Rattle.pg_step.specs.Faults.{refusal_number_of};
 
     /// Its number in the one list of faults.
+    ///
+    /// Cost: no memory.
     pub fn number(self) -> u8
         ensures { result ≡ refusal_number_of self }
     {

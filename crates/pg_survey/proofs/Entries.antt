@@ -1,5 +1,6 @@
 -- The lines of commands, one after another.
-use Rattle.std.proofs.Common.{◌≡◌, ◌<◌, ℕ, ◌+◌, List, [], ◌∷◌, ◌++◌, false, fold, length, get_or, map, take, sym, ap, ◌∙◌}
+use Rattle.std.proofs.Common.{◌≡◌, ◌<◌, ℕ, ◌+◌, List, [], ◌∷◌, ◌++◌, false}
+use Rattle.std.proofs.Common.{fold, length, get_or, map, take, sym, ap, ◌∙◌}
 use Rattle.std.proofs.lemmas.List.{map_push, take_more}
 use Rattle.std.proofs.lemmas.List.Sums.{fold-append}
 use Rattle.pg_account.specs.declared.entry.Entry.{Entry}

@@ -1,9 +1,11 @@
 -- Steps that were lent, as ways, lines and spots, one after another.
-use Rattle.std.proofs.Common.{◌≡◌, ◌⊎◌, ◌<◌, ℕ, ◌+◌, List, [], ◌∷◌, ◌++◌, Some, length, get_or, drop, map, take, refl, sym, ap, ◌∙◌, subst, arith, append_assoc, inl, inr}
+use Rattle.std.proofs.Common.{◌≡◌, ◌⊎◌, ◌<◌, ℕ, ◌+◌, List, [], ◌∷◌, ◌++◌, Some, length, get_or, drop}
+use Rattle.std.proofs.Common.{map, take, refl, sym, ap, ◌∙◌, subst, arith, append_assoc, inl, inr}
 use Rattle.std.specs.Prelude.{slice_get}
 use Rattle.std.specs.Global.{Vec}
 use Rattle.std.proofs.lemmas.Bool.{cases_lt}
-use Rattle.std.proofs.lemmas.List.{drop_more, get_or-map, get_or_append_left, get_or_at, length-map, length_push, map_push, take_more}
+use Rattle.std.proofs.lemmas.List.{drop_more, get_or-map, get_or_append_left, get_or_at}
+use Rattle.std.proofs.lemmas.List.{length-map, length_push, map_push, take_more}
 use Rattle.std.proofs.lemmas.Option.{get_or_from_slice_get, slice_get-get_or, slice_get_within}
 use Rattle.pg_diagram.specs.declared.graph.Link.{Link}
 use Rattle.pg_diagram.specs.declared.graph.Spot.{Spot}

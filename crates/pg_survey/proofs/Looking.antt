@@ -1,5 +1,6 @@
 -- What is looked for among nodes and groups.
-use Rattle.std.proofs.Common.{◌≡◌, ◌≢◌, ◌<◌, ◌≤◌, ℕ, ◌+◌, Bool, true, false, not, List, [], ◌∷◌, ◌++◌, Option, Some, None, length, get_or, take, refl, sym, ap, ◌∙◌, subst, arith, ◌⊎◌, inl, inr}
+use Rattle.std.proofs.Common.{◌≡◌, ◌≢◌, ◌<◌, ◌≤◌, ℕ, ◌+◌, Bool, true, false, not, List, [], ◌∷◌, ◌++◌, Option}
+use Rattle.std.proofs.Common.{Some, None, length, get_or, take, refl, sym, ap, ◌∙◌, subst, arith, ◌⊎◌, inl, inr}
 use Rattle.std.specs.Prelude.{slice_get, is_some}
 use Rattle.std.specs.List.{Contains}
 use Rattle.std.specs.Option.{option_map_or}
@@ -9,7 +10,8 @@ use Rattle.std.proofs.lemmas.List.Elements.{Contains-push_cases}
 use Rattle.pg_term.specs.declared.term.Term.{Term}
 use Rattle.pg_account.specs.Losses.{is_lost}
 use Rattle.pg_starts.specs.Seen.{Seen}
-use Rattle.pg_survey.specs.Differing.{DifferOn, IsApartOrSame, IsLive, IsLiveAt, IsOtherOrSame, IsSameAt, IsSomeLive, LiveOf, SeesAt, Tells, is_formed, is_held_at}
+use Rattle.pg_survey.specs.Differing.{DifferOn, IsApartOrSame, IsLive, IsLiveAt, IsOtherOrSame, IsSameAt}
+use Rattle.pg_survey.specs.Differing.{IsSomeLive, LiveOf, SeesAt, Tells, is_formed, is_held_at}
 
 -- ---- places and names
 

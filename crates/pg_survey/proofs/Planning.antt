@@ -1,5 +1,6 @@
 -- What lines plan of nodes.
-use Rattle.std.proofs.Common.{◌≡◌, ◌≢◌, ◌<◌, ◌≤◌, ℕ, ◌+◌, List, [], ◌∷◌, ◌++◌, Bool, true, false, Option, Some, None, length, get_or, map, take, refl, sym, ap, ◌∙◌, subst, arith, append_assoc, ◌⊎◌, inl, inr}
+use Rattle.std.proofs.Common.{◌≡◌, ◌≢◌, ◌<◌, ◌≤◌, ℕ, ◌+◌, List, [], ◌∷◌, ◌++◌, Bool, true, false, Option, Some, None}
+use Rattle.std.proofs.Common.{length, get_or, map, take, refl, sym, ap, ◌∙◌, subst, arith, append_assoc, ◌⊎◌, inl, inr}
 use Rattle.std.specs.Prelude.{slice_get, slice_set, nat_eq, if◌then◌else◌}
 use Rattle.std.proofs.Math.Nat.{eq-or-lt_of_le}
 use Rattle.std.proofs.lemmas.Bool.{cases_lt}
@@ -15,7 +16,8 @@ use Rattle.pg_explore.specs.declared.plan.Plan.{Plan}
 use Rattle.pg_explore.specs.declared.plan.Planned.{Planned}
 use Rattle.pg_script.specs.declared.script.ScriptLine.{ScriptLine}
 use Rattle.pg_script.specs.Scripts.{lines_in}
-use Rattle.pg_survey.specs.Scenarios.{AddPlans, AreCommands, ArePlans, command_lines, is_other, other_in, planned_act, planned_at, planned_of}
+use Rattle.pg_survey.specs.Scenarios.{AddPlans, AreCommands, ArePlans, command_lines}
+use Rattle.pg_survey.specs.Scenarios.{is_other, other_in, planned_act, planned_at, planned_of}
 
 planned_more : (place : ℕ) (lines : List ScriptLine) (line : ScriptLine) → planned_at place (lines ++ line ∷ []) ≡ planned_at place lines ++ planned_act place line.act
 planned_more place [] line = append-nil (planned_act place line.act)

@@ -1,5 +1,6 @@
 -- Texts that are counted, and sections, one after another.
-use Rattle.std.proofs.Common.{◌≡◌, ◌≢◌, ℕ, ◌+◌, ◌<◌, Bool, true, false, List, [], ◌∷◌, ◌++◌, length, get_or, map, take, cond, refl, sym, ap, ◌∙◌, subst, arith, append_assoc, ◌⊎◌, inl, inr}
+use Rattle.std.proofs.Common.{◌≡◌, ◌≢◌, ℕ, ◌+◌, ◌<◌, Bool, true, false, List, [], ◌∷◌, ◌++◌, length, get_or}
+use Rattle.std.proofs.Common.{map, take, cond, refl, sym, ap, ◌∙◌, subst, arith, append_assoc, ◌⊎◌, inl, inr}
 use Rattle.std.specs.List.{count_by, flat_map, range_with_len}
 use Rattle.std.specs.Str.{bytes_eq}
 use Rattle.std.proofs.lemmas.List.{append-nil, map-id, map_push, take_more}
@@ -12,7 +13,8 @@ use Rattle.pg_tally.specs.Counts.{AreOnce, IsOneMore, times}
 use Rattle.pg_explore.specs.declared.explored.Met.{Met}
 use Rattle.pg_term.specs.declared.term.Term.{Term}
 use Rattle.pg_survey.specs.declared.scenario.Scenario.{Scenario}
-use Rattle.pg_survey.specs.Texts.{AddSections, AddTexts, AreCounted, AreSections, Counting, IsSection, answer_countings, countings_of, history_counting}
+use Rattle.pg_survey.specs.Texts.{AddSections, AddTexts, AreCounted, AreSections, Counting}
+use Rattle.pg_survey.specs.Texts.{IsSection, answer_countings, countings_of, history_counting}
 
 by_value : (b : Bool) → (b ≡ true) ⊎ (b ≡ false)
 by_value true = inl refl

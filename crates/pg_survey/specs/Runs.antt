@@ -1,5 +1,6 @@
 -- Runs through the worlds that were met.
-use Rattle.std.specs.Prelude.{◌≡◌, ℕ, List, [], ◌∷◌, slice_get, option_and_then, option_map, reverse, Option, Some, None}
+use Rattle.std.specs.Prelude.{◌≡◌, ℕ, List, [], ◌∷◌, slice_get, option_and_then}
+use Rattle.std.specs.Prelude.{option_map, reverse, Option, Some, None}
 use Rattle.pg_explore.specs.declared.explored.Before.{Before}
 use Rattle.pg_explore.specs.declared.explored.Met.{Met}
 use Rattle.pg_survey.specs.declared.hops.Stride.{Stride}

@@ -1,5 +1,6 @@
 -- The texts that are counted at ends.
-use Rattle.std.specs.Prelude.{◌≡◌, ℕ, ◌-◌, ◌++◌, List, [], ◌∷◌, false, cond, nat_eq, nat_lt, codes, encode_utf8_all, fold, length, map, slice_get, string_bytes, IsPermutation, Option, Some, None}
+use Rattle.std.specs.Prelude.{◌≡◌, ℕ, ◌-◌, ◌++◌, List, [], ◌∷◌, false, cond, nat_eq, nat_lt, codes, encode_utf8_all}
+use Rattle.std.specs.Prelude.{fold, length, map, slice_get, string_bytes, IsPermutation, Option, Some, None}
 use Rattle.std.specs.Global.{Vec}
 use Rattle.std.specs.List.{count_by, flat_map, range_with_len}
 use Rattle.std.specs.Option.{option_map_or}

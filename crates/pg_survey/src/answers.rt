@@ -4,7 +4,8 @@ ghost use Rattle.std.specs.Prelude.{◌≡◌, ◌++◌, List, ℕ, IfOk, OnOk, 
 ghost use Rattle.std.specs.List.{flat_map, range_with_len};
 ghost use Rattle.std.specs.Option.{option_copied};
 ghost use Rattle.pg_frame_world.specs.FrameWorlds.{traffic_of};
-ghost use Rattle.pg_survey.specs.Texts.{AddSections, AddTexts, IsSection, answer_counting, answer_countings, answer_text, answer_title, answer_to, answers_at, told_text, text_at};
+ghost use Rattle.pg_survey.specs.Texts.{AddSections, AddTexts, IsSection, answer_counting, answer_countings};
+ghost use Rattle.pg_survey.specs.Texts.{answer_text, answer_title, answer_to, answers_at, told_text, text_at};
 
 use crate::pen::Pen;
 use crate::scenario::Scenario;

@@ -4,7 +4,9 @@ ghost use Rattle.std.specs.Prelude.{◌≡◌, false, true, IfOk, option_map};
 ghost use Rattle.std.specs.Option.{option_copied};
 ghost use Rattle.pg_frame_world.specs.FrameWorlds.{lost_of, traffic_of};
 ghost use Rattle.pg_starts.specs.Seen.{seen_of};
-ghost use Rattle.pg_survey.specs.Differing.{Differ, DifferFree, DifferFreeOn, DifferOn, IsApartOrSame, IsLiveAt, IsOtherOrSame, IsSomeLive, LiveOf, Sees, SeesAt, SeesOne, Tells, is_held_at};
+ghost use Rattle.pg_survey.specs.Differing.{Differ, DifferFree, DifferFreeOn, DifferOn};
+ghost use Rattle.pg_survey.specs.Differing.{IsApartOrSame, IsLiveAt, IsOtherOrSame, IsSomeLive};
+ghost use Rattle.pg_survey.specs.Differing.{LiveOf, Sees, SeesAt, SeesOne, Tells, is_held_at};
 
 use pg_index::IndexTable;
 use pg_node::NodeState;

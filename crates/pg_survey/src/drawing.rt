@@ -17,6 +17,8 @@ impl Findings<'_, '_> {
     /// The worlds and the steps between them, as a picture shows them; `None` where there are more than 60.
     ///
     /// Errors: `AllocError`.
+    ///
+    /// Cost: no memory where there are more than 60; else memory for each world and each step between them.
     pub fn graph(&self) -> Result<Option<Graph>, AllocError>
         ensures { IfOk result (IsDrawn self.now) }
     {

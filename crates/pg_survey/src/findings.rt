@@ -27,6 +27,8 @@ pub struct Findings<'a, 'b> {
 
 impl Findings<'_, '_> {
     /// Whether all worlds were explored.
+    ///
+    /// Cost: no memory.
     pub fn is_whole(&self) -> bool
         ensures { IsTrue result ↔ (length (met_in self.now) ≤ self.now.explored.lent) }
     {
@@ -34,6 +36,8 @@ impl Findings<'_, '_> {
     }
 
     /// How many ends were met.
+    ///
+    /// Cost: no memory.
     pub fn end_count(&self) -> usize
         ensures { result ≡ length (ends_in self.now) }
     {
@@ -51,6 +55,8 @@ impl Findings<'_, '_> {
     }
 
     /// The moment of an end, from 1 on.
+    ///
+    /// Cost: no memory.
     pub fn end(&self, number: usize) -> Option<&Moment>
         ensures { option_copied result ≡ moment_at (met_in self.now) (end_at (ends_in self.now) number) }
     {
@@ -67,6 +73,9 @@ impl Findings<'_, '_> {
 /// Explores a scenario within limits.
 ///
 /// Errors: those of `explore`.
+///
+/// Cost: that of `explore`, and memory for each step that happens at a world. For each world that was met, its nodes
+/// are compared by `same_group` on each group, and its pending ends are listed.
 pub fn survey<'a, 'b, O: Observer>(
     alloc: Global,
     scenario: &'a Scenario<'b>,

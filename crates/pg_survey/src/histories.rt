@@ -4,7 +4,8 @@ ghost use Rattle.std.specs.Prelude.{◌≡◌, ◌++◌, [], List, ℕ, IfOk, On
 ghost use Rattle.std.specs.Option.{option_copied};
 ghost use Rattle.pg_account.specs.Histories.{as_entry, last_entries};
 ghost use Rattle.pg_frame_world.specs.FrameWorlds.{view_of};
-ghost use Rattle.pg_survey.specs.Texts.{AddSections, AddTexts, EndsAs, IsSection, history_counting, history_text, history_title, or_nothing, text_at, with_entry, written};
+ghost use Rattle.pg_survey.specs.Texts.{AddSections, AddTexts, EndsAs, IsSection, history_counting};
+ghost use Rattle.pg_survey.specs.Texts.{history_text, history_title, or_nothing, text_at, with_entry, written};
 
 use crate::pen::Pen;
 use crate::scenario::Scenario;

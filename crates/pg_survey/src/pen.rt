@@ -15,7 +15,8 @@ pub(crate) struct Pen {
 }
 
 impl Pen {
-    ghost use Rattle.std.specs.Prelude.{◌≡◌, false, true, [], IfOk, IfSome, encode_utf8_all, is_ok, nat_eq, length, string_bytes};
+    ghost use Rattle.std.specs.Prelude.{◌≡◌, false, true, [], IfOk, IfSome, encode_utf8_all};
+    ghost use Rattle.std.specs.Prelude.{is_ok, nat_eq, length, string_bytes};
     ghost use Rattle.pg_text.specs.Writing.{atom_text, term_text};
     ghost use Rattle.pg_lines.specs.Printing.{reply_text};
     ghost use Rattle.pg_survey.specs.Texts.{Writes, written};

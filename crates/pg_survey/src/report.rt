@@ -18,6 +18,8 @@ impl Findings<'_, '_> {
     /// What was found, in lines of a number and what it counts.
     ///
     /// Errors: `AllocError`, also where a walk with takes leads back to where it began.
+    ///
+    /// Cost: that of `report`, and of `Report::page`.
     pub fn page(&self) -> Result<String, AllocError>
         ensures { IfOk result (λ text. IsPage self.now (string_bytes text)) }
     {
@@ -30,6 +32,9 @@ impl Findings<'_, '_> {
     /// What was found.
     ///
     /// Errors: `AllocError`, also where a walk with takes leads back to where it began.
+    ///
+    /// Cost: that of `takes_to`. For each end, and each group and each command, a text is made and compared with the
+    /// different ones before it.
     pub fn report(&self) -> Result<Report, AllocError>
         ensures { IfOk result (IsReport self.now) }
     {

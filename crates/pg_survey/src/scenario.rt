@@ -3,7 +3,9 @@
 ghost use Rattle.std.specs.Prelude.{◌≡◌, ◌≢◌, [], IfOk, IfErr, OnOk, Ok, Err, length};
 ghost use Rattle.pg_script.specs.declared.fault.LineFault.TheVariants.{OutOfMemory};
 ghost use Rattle.pg_script.specs.Scripts.{contents_of, lines_in};
-ghost use Rattle.pg_survey.specs.Scenarios.{AddPlans, AreCommands, ArePlans, IsScenario, bad_line, command_lines, is_command_of, texts_of, first_fault, planned_act, planned_event, planned_of, planned_step, scenario_of, without_others};
+ghost use Rattle.pg_survey.specs.Scenarios.{AddPlans, AreCommands, ArePlans, IsScenario, bad_line, command_lines};
+ghost use Rattle.pg_survey.specs.Scenarios.{is_command_of, texts_of, first_fault, planned_act, planned_event};
+ghost use Rattle.pg_survey.specs.Scenarios.{planned_of, planned_step, scenario_of, without_others};
 
 use crate::forms::{lines_of, other_line};
 use pg_explore::{Plan, Planned};
@@ -76,6 +78,9 @@ impl<'a> Scenario<'a> {
 ///
 /// Errors: the first faulty line; a line of another form is `BadLine`. `OutOfMemory` may be told in the place of
 /// each.
+///
+/// Cost: each line is read twice at most, as `read_script` reads it; a walk over the lines for each node; memory for
+/// each line.
 pub fn read_scenario(alloc: Global, text: &str) -> Result<Scenario<'_>, ScriptFault>
     ensures ok { IfOk result (λ scenario. IsScenario (scenario_of text.now) scenario) }
     ensures lines { IfOk result (λ scenario. texts_of scenario.lines.items ≡ lines_in text.now) }

@@ -29,6 +29,9 @@ impl Findings<'_, '_> {
     /// The shortest run to an end, from 1 on, as a script; `None` where there are not so many ends.
     ///
     /// Errors: `AllocError`.
+    ///
+    /// Cost: memory for each step of the run and for the text; O(n^2) in the nodes; a walk over the packets on the
+    /// ways of a node for each step at most.
     pub fn script_to_end(&self, number: usize) -> Result<Option<String>, AllocError>
         ensures { IfOk result (λ script. is_some script ≡ is_some (end_at (ends_in self.now) number)) }
     {
@@ -45,6 +48,8 @@ impl Findings<'_, '_> {
     /// A run in which two formed nodes differ as long as in any, as a script; `None` where they never differ.
     ///
     /// Errors: `AllocError`, also where a run leads back to where it began.
+    ///
+    /// Cost: that of `longest_run`, and of a script, as of `script_to_end`.
     pub fn script_of_differing(&self) -> Result<Option<String>, AllocError>
         ensures { IfOk result (λ script. IsWhereMarked (marks_in self.now) (is_some script)) }
     {

@@ -1,10 +1,13 @@
 -- What a client of a conversation says, and its speaker.
-use Rattle.std.proofs.Common.{◌≡◌, ◌≢◌, ◌⊎◌, ◌≤◌, ◌<◌, ◌+◌, ◌-◌, ◌^◌, ◌++◌, ℕ, zero, suc, Bool, true, false, cond, min, List, [], ◌∷◌, Option, Some, None, length, get_or, map, set, take, inl, inr, refl, sym, ap, subst, ◌∙◌, arith}
+use Rattle.std.proofs.Common.{◌≡◌, ◌≢◌, ◌⊎◌, ◌≤◌, ◌<◌, ◌+◌, ◌-◌, ◌^◌, ◌++◌, ℕ, zero, suc, Bool}
+use Rattle.std.proofs.Common.{true, false, cond, min, List, [], ◌∷◌, Option, Some, None, length}
+use Rattle.std.proofs.Common.{get_or, map, set, take, inl, inr, refl, sym, ap, subst, ◌∙◌, arith}
 use Rattle.std.specs.Prelude.{slice_get}
 use Rattle.std.specs.List.{All}
 use Rattle.std.proofs.lemmas.Bool.{cases_eq}
 use Rattle.std.proofs.lemmas.Bool.Decides.{eqb_tells}
-use Rattle.std.proofs.lemmas.List.{length-set, length-map, length-append, map-append, append_assoc, get_or-set_same, get_or-set_other}
+use Rattle.std.proofs.lemmas.List.{length-set, length-map, length-append, map-append}
+use Rattle.std.proofs.lemmas.List.{append_assoc, get_or-set_same, get_or-set_other}
 use Rattle.pg_machine.proofs.Options.{some_is}
 use Rattle.std.proofs.Math.ListN.{get_or-append}
 use Rattle.std.proofs.Math.Seq.{get_or-append_seam, take-append_seam}
@@ -20,7 +23,9 @@ use Rattle.pg_cluster.specs.Clients.{AllPairs}
 use Rattle.pg_talk.specs.declared.speaker.Speaker.{Speaker}
 use Rattle.pg_talk.specs.declared.speaker.Stage.{Stage}
 use Rattle.pg_talk.specs.declared.speaker.Stage.TheVariants.{Waiting, Creating, Making, Joining, Leaving, Silent}
-use Rattle.pg_talk.specs.Asking.{AllKeep, AllSpoke, IsAt, Keeps, MayBe, Spoke, all_asked, commands_of, first_asked, group_name, is_first, left_to_say, made_in, made_of, make_place, next_said, pid_after, rounds_after, rounds_asked, stage_after}
+use Rattle.pg_talk.specs.Asking.{AllKeep, AllSpoke, IsAt, Keeps, MayBe, Spoke, all_asked, commands_of}
+use Rattle.pg_talk.specs.Asking.{first_asked, group_name, is_first, left_to_say, made_in, made_of}
+use Rattle.pg_talk.specs.Asking.{make_place, next_said, pid_after, rounds_after, rounds_asked, stage_after}
 use Rattle.pg_talk.specs.Conversations.{saturated}
 use Rattle.pg_talk.proofs.Conversing.{add_one_up_to}
 

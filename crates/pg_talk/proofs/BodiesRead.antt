@@ -1,11 +1,14 @@
 -- What is read of a source, one step after another.
-use Rattle.std.proofs.Common.{◌≡◌, ◌≢◌, ◌+◌, ◌-◌, ℕ, zero, suc, Bool, true, false, List, [], ◌∷◌, ◌++◌, length, take, Some, None, Ok, Err, Option, Result, inl, inr, refl, sym, ap, subst, ◌∙◌, arith, append_assoc, append-nil}
+use Rattle.std.proofs.Common.{◌≡◌, ◌≢◌, ◌+◌, ◌-◌, ℕ, zero, suc, Bool, true, false, List, []}
+use Rattle.std.proofs.Common.{◌∷◌, ◌++◌, length, take, Some, None, Ok, Err, Option, Result, inl}
+use Rattle.std.proofs.Common.{inr, refl, sym, ap, subst, ◌∙◌, arith, append_assoc, append-nil}
 use Rattle.std.specs.Prelude.{◌||◌, ⊤}
 use Rattle.std.specs.Io.KnownBytes.{Consumes, IsAtEnd}
 use Rattle.std.proofs.KnownBytes.{Consumes-nil, Consumes-trans}
 use lib.Seq.{take-append-add}
 use Rattle.pg_faults.specs.declared.TheConstants.{OUT_OF_MEMORY, READ_FAULT, TOO_LONG, TRUNCATED}
-use Rattle.pg_frame.proofs.Readings.{front_is_first, front_is_frame, pieces_continue, taking_leaves_others, written_is_read}
+use Rattle.pg_frame.proofs.Readings.{front_is_first, front_is_frame, pieces_continue}
+use Rattle.pg_frame.proofs.Readings.{taking_leaves_others, written_is_read}
 use Rattle.pg_frame.specs.declared.fault.TooLong.{TooLong}
 use Rattle.pg_frame.specs.Frames.{after_front, bodies_of, front_of, rest_of}
 use Rattle.pg_term.specs.Fault.{number_of}
@@ -17,7 +20,8 @@ use Rattle.pg_requests.specs.declared.input.Input.TheVariants as forms
 use Rattle.pg_requests.specs.declared.layout.NodePorts.{NodePorts}
 use Rattle.pg_requests.specs.Requests.{input_of}
 use Rattle.pg_talk.specs.ReadingThread.{asked_by, breaks, ReadsOn, TakesFront}
-use Rattle.pg_talk.specs.Readings.{AreAll, AreReadOn, asks, cut_by, ending_of, FailsAfter, input_then, inputs_in, inputs_of}
+use Rattle.pg_talk.specs.Readings.{AreAll, AreReadOn, asks, cut_by, ending_of}
+use Rattle.pg_talk.specs.Readings.{FailsAfter, input_then, inputs_in, inputs_of}
 
 -- ---- the inputs of bodies
 

@@ -1,5 +1,6 @@
 -- A conversation that took place, and the answers that its clients count.
-use Rattle.std.proofs.Common.{◌≡◌, ◌≢◌, ◌⊎◌, ◌<◌, ◌+◌, ◌-◌, ◌^◌, ℕ, min, true, List, [], ◌∷◌, ◌++◌, length, get_or, map, set, inl, inr, refl, sym, ap, subst, ◌∙◌, suc, arith, length-append}
+use Rattle.std.proofs.Common.{◌≡◌, ◌≢◌, ◌⊎◌, ◌<◌, ◌+◌, ◌-◌, ◌^◌, ℕ, min, true, List, [], ◌∷◌, ◌++◌, length}
+use Rattle.std.proofs.Common.{get_or, map, set, inl, inr, refl, sym, ap, subst, ◌∙◌, suc, arith, length-append}
 use Rattle.std.specs.List.{All, sum_by}
 use Rattle.std.specs.Prelude.{if◌then◌else◌, nat_lt, Bool, false, Ok, Err}
 use Rattle.std.proofs.Math.ListN.{get_or-append, get_or-map}

@@ -1,8 +1,10 @@
 -- What is done at one port.
-use Rattle.std.proofs.Common.{◌≡◌, ◌<◌, ◌+◌, ℕ, zero, suc, Bool, true, false, List, [], ◌∷◌, ◌++◌, length, get_or, map, Option, inl, inr, refl, sym, ap, subst, ◌∙◌, arith, append_assoc, length-append}
+use Rattle.std.proofs.Common.{◌≡◌, ◌<◌, ◌+◌, ℕ, zero, suc, Bool, true, false, List, [], ◌∷◌, ◌++◌, length, get_or}
+use Rattle.std.proofs.Common.{map, Option, inl, inr, refl, sym, ap, subst, ◌∙◌, arith, append_assoc, length-append}
 use Rattle.std.proofs.Math.ListN.{get_or-append}
 use Rattle.std.proofs.lemmas.Bool.Decides.{eqb_tells}
-use Rattle.std.proofs.lemmas.List.{append-nil, get_or_push, length-map, length-replicate, map-append, nil_from_length, replicate_more}
+use Rattle.std.proofs.lemmas.List.{append-nil, get_or_push, length-map, length-replicate}
+use Rattle.std.proofs.lemmas.List.{map-append, nil_from_length, replicate_more}
 use Rattle.std.specs.Prelude.{codes, pos, replicate}
 use Rattle.std.specs.Io.KnownBytes.{Appends}
 use Rattle.pg_run.specs.declared.port.Asked.{Asked}
@@ -10,7 +12,8 @@ use Rattle.pg_step.specs.declared.answer.Answer.{Answer}
 use Rattle.pg_step.specs.declared.command.Command.{Command}
 use Rattle.pg_term.specs.declared.term.Term.{Term, Tuple}
 use Rattle.pg_term.specs.declared.term.Term.TheVariants.{Int, Atom}
-use Rattle.pg_requests.specs.Replies.{bad_request_term, counted, error_term, node_lost_term, numbered_term, refused_term, reply_term}
+use Rattle.pg_requests.specs.Replies.{bad_request_term, counted, error_term, node_lost_term}
+use Rattle.pg_requests.specs.Replies.{numbered_term, refused_term, reply_term}
 use Rattle.std.specs.Str.{chars}
 use Rattle.pg_talk.specs.Conversations.{saturated}
 use Rattle.pg_talk.specs.Frames.{framed, IsUntellable, WritesReply}

@@ -1,5 +1,6 @@
 -- What a service makes of its input, one step after another.
-use Rattle.std.proofs.Common.{◌≡◌, ◌≢◌, ◌⊎◌, ◌<◌, ◌≤◌, ◌+◌, ℕ, zero, suc, Bool, true, false, cond, List, [], ◌∷◌, ◌++◌, length, get_or, map, Some, None, Option, set, inl, inr, refl, sym, ap, subst, ◌∙◌, arith}
+use Rattle.std.proofs.Common.{◌≡◌, ◌≢◌, ◌⊎◌, ◌<◌, ◌≤◌, ◌+◌, ℕ, zero, suc, Bool, true, false, cond, List, [], ◌∷◌, ◌++◌}
+use Rattle.std.proofs.Common.{length, get_or, map, Some, None, Option, set, inl, inr, refl, sym, ap, subst, ◌∙◌, arith}
 use Rattle.std.specs.Prelude.{if◌then◌else◌}
 use Rattle.std.specs.Io.KnownBytes.{Appends}
 use Rattle.std.specs.List.{All}
@@ -7,7 +8,8 @@ use Rattle.std.proofs.Math.ListN.{get_or-eq_default}
 use Rattle.std.proofs.Math.Seq.{map-set_same}
 use Rattle.std.proofs.lemmas.Bool.{cases_eq, le-ltb, lt-ltb}
 use Rattle.std.proofs.lemmas.Bool.Decides.{eqb_tells, leb_tells}
-use Rattle.std.proofs.lemmas.List.{append-nil, get_or-map, get_or-set_same, get_or-set_other, length-map, length-set, map-set, set-set}
+use Rattle.std.proofs.lemmas.List.{append-nil, get_or-map, get_or-set_same, get_or-set_other}
+use Rattle.std.proofs.lemmas.List.{length-map, length-set, map-set, set-set}
 use Rattle.std.proofs.lemmas.List.Concat.{flat_map-append}
 use Rattle.std.proofs.lemmas.List.Elements.{All-append, All-cons, All-nil}
 use Rattle.pg_replica.proofs.Streams.{appends_then}
@@ -29,9 +31,13 @@ use Rattle.pg_talk.specs.declared.service.serving.ServedNode.{ServedNode}
 use Rattle.pg_talk.specs.Conversations.{saturated}
 use Rattle.pg_talk.specs.Desks.{SameDesk, waiting_at}
 use Rattle.pg_talk.specs.Frames.{framed, WritesReply}
-use Rattle.pg_talk.specs.Servings.{AreKept, IsKept, IsKeptAt, Knows, Serves, ServesTold, View, asked_at, is_known_lost, known_lost, node_at, port_at, replied_at}
-use Rattle.pg_talk.specs.Written.{IsAddressed, IsReply, PortName, Told, Written, bytes_of, heard_at, is_lost_at, none_told, notices_in, ports_in, replies_to, request_to, requests_to, said_at, tell_bad, tell_lost, tell_next, tell_on, told_by}
-use Rattle.pg_talk.proofs.Posts.{bad_same, kept_answers, kept_hands, kept_later, kept_loses, kept_refuses, kept_waits, reply_written, true_is_not_false}
+use Rattle.pg_talk.specs.Servings.{AreKept, IsKept, IsKeptAt, Knows, Serves, ServesTold, View}
+use Rattle.pg_talk.specs.Servings.{asked_at, is_known_lost, known_lost, node_at, port_at, replied_at}
+use Rattle.pg_talk.specs.Written.{IsAddressed, IsReply, PortName, Told, Written, bytes_of, heard_at}
+use Rattle.pg_talk.specs.Written.{is_lost_at, none_told, notices_in, ports_in, replies_to, request_to}
+use Rattle.pg_talk.specs.Written.{requests_to, said_at, tell_bad, tell_lost, tell_next, tell_on, told_by}
+use Rattle.pg_talk.proofs.Posts.{bad_same, kept_answers, kept_hands, kept_later, kept_loses}
+use Rattle.pg_talk.proofs.Posts.{kept_refuses, kept_waits, reply_written, true_is_not_false}
 
 -- ---- clients
 

@@ -1,5 +1,6 @@
 -- The thread that reads, one step after another.
-use Rattle.std.proofs.Common.{◌≡◌, ◌≢◌, ◌⊎◌, ◌-◌, ℕ, true, false, List, [], ◌∷◌, ◌++◌, None, Ok, Option, inl, inr, refl, sym, ap, subst, ◌∙◌, append_assoc, append-nil}
+use Rattle.std.proofs.Common.{◌≡◌, ◌≢◌, ◌⊎◌, ◌-◌, ℕ, true, false, List, [], ◌∷◌, ◌++◌, None, Ok}
+use Rattle.std.proofs.Common.{Option, inl, inr, refl, sym, ap, subst, ◌∙◌, append_assoc, append-nil}
 use Rattle.std.specs.Io.KnownBytes.{Consumes}
 use Rattle.pg_cluster.specs.ClientsLaws.{slot_out_on}
 use Rattle.pg_frame.specs.Frames.{front_of}
@@ -7,7 +8,8 @@ use Rattle.pg_ring.specs.declared.slot_out.SlotOut.{SlotOut}
 use Rattle.pg_ring.specs.Slots.{SameSlotOut, given}
 use Rattle.pg_requests.specs.declared.input.Input.{Input}
 use Rattle.pg_requests.specs.declared.layout.NodePorts.{NodePorts}
-use Rattle.pg_talk.proofs.BodiesRead.{front_ends, front_goes, is_to_be_read, read_then, reads_itself, reads_piece, reads_then, to_be_read}
+use Rattle.pg_talk.proofs.BodiesRead.{front_ends, front_goes, is_to_be_read, read_then}
+use Rattle.pg_talk.proofs.BodiesRead.{reads_itself, reads_piece, reads_then, to_be_read}
 use Rattle.pg_talk.proofs.InputsGoOn.{goes_on}
 use Rattle.pg_talk.specs.declared.service.reading.Reading.{Reading}
 use Rattle.pg_talk.specs.declared.service.reader.Reader.{Reader}

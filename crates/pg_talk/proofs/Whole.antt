@@ -1,5 +1,6 @@
 -- A service at its start and at its end.
-use Rattle.std.proofs.Common.{◌≡◌, ◌<◌, ◌+◌, ℕ, Bool, true, false, not, List, [], ◌∷◌, ◌++◌, length, get_or, map, Some, None, Option, refl, sym, ap, subst, ◌∙◌, arith}
+use Rattle.std.proofs.Common.{◌≡◌, ◌<◌, ◌+◌, ℕ, Bool, true, false, not, List, [], ◌∷◌, ◌++◌, length}
+use Rattle.std.proofs.Common.{get_or, map, Some, None, Option, refl, sym, ap, subst, ◌∙◌, arith}
 use Rattle.std.specs.Prelude.{◌&&◌, ◌||◌, cond, nat_lt}
 use Rattle.std.specs.List.{All, list_all}
 use Rattle.std.proofs.Props.{props}
@@ -29,9 +30,12 @@ use Rattle.pg_talk.specs.declared.service.serving.ServedNode.{ServedNode}
 use Rattle.pg_talk.specs.Desks.{is_idle, is_none, waiting_at}
 use Rattle.pg_talk.specs.Readings.{AreRead}
 use Rattle.pg_talk.specs.Services.{WasServed}
-use Rattle.pg_talk.specs.Servings.{IsKept, IsKeptAt, IsNew, Serves, View, known_lost, names_of, port_at, ports_of, with_node}
+use Rattle.pg_talk.specs.Servings.{IsKept, IsKeptAt, IsNew, Serves, View, known_lost}
+use Rattle.pg_talk.specs.Servings.{names_of, port_at, ports_of, with_node}
 use Rattle.pg_talk.specs.Verdicts.{IsJudged}
-use Rattle.pg_talk.specs.Written.{AllServed, IsAddressed, IsServed, PortName, Told, Written, heard_at, is_lost_at, none_told, ports_in, replies_to, requests_to, said_at, tell_bad, tell_lost, tell_next, tell_on, told_by}
+use Rattle.pg_talk.specs.Written.{AllServed, IsAddressed, IsServed, PortName, Told, Written}
+use Rattle.pg_talk.specs.Written.{heard_at, is_lost_at, none_told, ports_in, replies_to, requests_to}
+use Rattle.pg_talk.specs.Written.{said_at, tell_bad, tell_lost, tell_next, tell_on, told_by}
 use Rattle.pg_talk.proofs.BodiesRead.{ends, has_end, read_whole}
 use Rattle.pg_talk.proofs.InputsGoOn.{goes_on}
 use Rattle.pg_talk.proofs.Posts.{kept_new, true_is_not_false}

@@ -1,5 +1,6 @@
 -- What each client of a conversation asks, in its order.
-use Rattle.std.specs.Prelude.{◌≡◌, ◌≤◌, ◌<◌, ◌+◌, ◌-◌, ◌++◌, ℕ, zero, suc, Bool, true, false, cond, List, [], ◌∷◌, Option, Some, None, codes, length, map, slice_get, take, get_or}
+use Rattle.std.specs.Prelude.{◌≡◌, ◌≤◌, ◌<◌, ◌+◌, ◌-◌, ◌++◌, ℕ, zero, suc, Bool, true, false, cond, List}
+use Rattle.std.specs.Prelude.{[], ◌∷◌, Option, Some, None, codes, length, map, slice_get, take, get_or}
 use Rattle.std.specs.Option.{option_map_or}
 use Rattle.pg_term.specs.declared.pid.Pid.{Pid}
 use Rattle.pg_term.specs.declared.term.Term.{Term}

@@ -1,5 +1,6 @@
 -- A service that runs, and what it made of its input so far.
-use Rattle.std.specs.Prelude.{◌≡◌, ◌<◌, ℕ, Bool, true, false, List, [], ◌∷◌, ◌+◌, ◌++◌, Option, Some, None, get_or, length, map, set}
+use Rattle.std.specs.Prelude.{◌≡◌, ◌<◌, ℕ, Bool, true, false, List, [], ◌∷◌, ◌+◌}
+use Rattle.std.specs.Prelude.{◌++◌, Option, Some, None, get_or, length, map, set}
 use Rattle.std.specs.Io.KnownBytes.{Appends}
 use Rattle.std.specs.List.{All, list_all}
 use Rattle.pg_cluster.specs.declared.running.Running.{Running}
@@ -18,7 +19,8 @@ use Rattle.pg_talk.specs.declared.service.serving.Serving.{Serving}
 use Rattle.pg_talk.specs.Conversations.{saturated}
 use Rattle.pg_talk.specs.Desks.{is_idle, waiting_at}
 use Rattle.pg_talk.specs.Frames.{framed, WritesReply}
-use Rattle.pg_talk.specs.Written.{IsAddressed, IsServed, PortName, Told, Written, bytes_of, heard_at, is_lost_at, notices_in, ports_in, replies_to, requests_to, said_at, told_by}
+use Rattle.pg_talk.specs.Written.{IsAddressed, IsServed, PortName, Told, Written, bytes_of, heard_at}
+use Rattle.pg_talk.specs.Written.{is_lost_at, notices_in, ports_in, replies_to, requests_to, said_at, told_by}
 
 -- ---- desks
 

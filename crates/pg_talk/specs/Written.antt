@@ -1,5 +1,6 @@
 -- What a service makes of its input: the replies at each port, and the notices.
-use Rattle.std.specs.Prelude.{◌≡◌, ◌⊎◌, ◌<◌, ◌≤◌, ◌+◌, ℕ, zero, suc, Bool, true, false, cond, nat_eq, nat_lt, List, [], ◌∷◌, ◌++◌, ⊤, Option, Some, None, if◌then◌else◌, get_or, length, map, replicate, set}
+use Rattle.std.specs.Prelude.{◌≡◌, ◌⊎◌, ◌<◌, ◌≤◌, ◌+◌, ℕ, zero, suc, Bool, true, false, cond, nat_eq, nat_lt, List, []}
+use Rattle.std.specs.Prelude.{◌∷◌, ◌++◌, ⊤, Option, Some, None, if◌then◌else◌, get_or, length, map, replicate, set}
 use Rattle.std.specs.Io.KnownBytes.{Appends}
 use Rattle.std.specs.List.{All, flat_map}
 use Rattle.pg_run.specs.declared.port.Asked.{Asked}
@@ -11,7 +12,8 @@ use Rattle.pg_step.specs.declared.command.Command.{Command}
 use Rattle.pg_term.specs.declared.term.Term.{Term}
 use Rattle.pg_requests.specs.declared.input.Input.{Input}
 use Rattle.pg_requests.specs.declared.input.Input.TheVariants as forms
-use Rattle.pg_requests.specs.Replies.{bad_request_term, lost_term, node_lost_term, numbered_term, refused_term, reply_term}
+use Rattle.pg_requests.specs.Replies.{bad_request_term, lost_term, node_lost_term}
+use Rattle.pg_requests.specs.Replies.{numbered_term, refused_term, reply_term}
 use Rattle.pg_talk.specs.Conversations.{saturated}
 use Rattle.pg_talk.specs.Frames.{framed, IsUntellable}
 

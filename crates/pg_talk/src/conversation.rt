@@ -8,7 +8,8 @@ ghost use Rattle.pg_run.specs.declared.port.Client.{Client};
 ghost use Rattle.pg_cluster.specs.Running.{clients_in, Goes};
 ghost use Rattle.pg_talk.specs.Asking.{AllKeep, AllSpoke, Keeps, is_first};
 ghost use Rattle.pg_talk.specs.Conversations.{AreAsked, IsBare, TookPlace, all_polled, saturated};
-ghost use Rattle.pg_talk.specs.Outcomes.{agree_line, answered_line, is_good, nodes_line, outcome_lines, replay_line, yes_or_no};
+ghost use Rattle.pg_talk.specs.Outcomes.{agree_line, answered_line, is_good, nodes_line};
+ghost use Rattle.pg_talk.specs.Outcomes.{outcome_lines, replay_line, yes_or_no};
 
 use crate::onlooker::Onlooker;
 use crate::speaker::Speaker;

@@ -1,17 +1,21 @@
 -- What is known of the longest runs, while ways are followed.
-use Rattle.std.proofs.Common.{◌≡◌, ◌≢◌, ◌<◌, ◌≤◌, ℕ, ◌+◌, Bool, true, false, List, [], ◌∷◌, ◌++◌, Option, Some, None, length, get_or, map, cond, reverse, refl, sym, ap, ◌∙◌, subst, arith, ◌⊎◌, inl, inr}
+use Rattle.std.proofs.Common.{◌≡◌, ◌≢◌, ◌<◌, ◌≤◌, ℕ, ◌+◌, Bool, true, false, List, [], ◌∷◌, ◌++◌, Option, Some, None}
+use Rattle.std.proofs.Common.{length, get_or, map, cond, reverse, refl, sym, ap, ◌∙◌, subst, arith, ◌⊎◌, inl, inr}
 use Rattle.std.specs.Prelude.{nat_le, nat_lt, ◌&&◌, slice_get}
 use Rattle.std.specs.Global.{Vec}
 use Rattle.std.proofs.Math.ListN.{get_or-map, set}
 use Rattle.std.proofs.lemmas.Bool.{cases_lt}
 use Rattle.std.proofs.lemmas.Bool.Decides.{nat_tests}
-use Rattle.std.proofs.lemmas.List.{get_or-set_same, get_or-set_other, get_or_past, length-reverse, length_push, reverse-append}
+use Rattle.std.proofs.lemmas.List.{get_or-set_same, get_or-set_other, get_or_past}
+use Rattle.std.proofs.lemmas.List.{length-reverse, length_push, reverse-append}
 use Rattle.std.proofs.lemmas.Option.{slice_get-get_or, slice_get_within}
 use Rattle.pg_tally.specs.declared.runs.Run.{Run}
 use Rattle.pg_tally.specs.declared.streaks.Hop.{Hop}
 use Rattle.pg_tally.specs.declared.streaks.Streak.{Streak}
 use Rattle.pg_tally.specs.declared.ways.Way.{Way}
-use Rattle.pg_tally.specs.Runs.{AreSettled, AreStreaks, IsBefore, IsGreatest, IsLongest, IsMarked, IsPassed, IsRun, IsRunTo, IsSettledAt, IsStreak, Leads, alone_of, followed, is_longer, len_at, no_streak, streak_of}
+use Rattle.pg_tally.specs.Runs.{AreSettled, AreStreaks, IsBefore, IsGreatest, IsLongest}
+use Rattle.pg_tally.specs.Runs.{IsMarked, IsPassed, IsRun, IsRunTo, IsSettledAt, IsStreak, Leads}
+use Rattle.pg_tally.specs.Runs.{alone_of, followed, is_longer, len_at, no_streak, streak_of}
 use Rattle.pg_tally.specs.Walks.{ways_at}
 use Rattle.pg_tally.proofs.Walking.{is_same, no_ways, set_cases}
 

@@ -1,5 +1,7 @@
 -- Walks, and what is known of the takes on them.
-use Rattle.std.proofs.Common.{◌≡◌, ◌≢◌, ◌<◌, ◌≤◌, ℕ, ◌+◌, Bool, true, false, List, [], ◌∷◌, ◌++◌, Option, Some, None, Result, Ok, length, get_or, take, drop, min, max, refl, sym, ap, ◌∙◌, subst, arith, ◌⊎◌, inl, inr}
+use Rattle.std.proofs.Common.{◌≡◌, ◌≢◌, ◌<◌, ◌≤◌, ℕ, ◌+◌, Bool, true, false, List, [], ◌∷◌}
+use Rattle.std.proofs.Common.{◌++◌, Option, Some, None, Result, Ok, length, get_or, take}
+use Rattle.std.proofs.Common.{drop, min, max, refl, sym, ap, ◌∙◌, subst, arith, ◌⊎◌, inl, inr}
 use Rattle.std.proofs.lemmas.Bool.Decides.{nat_tests}
 use Rattle.std.proofs.lemmas.Option.{slice_get_past, slice_get_read}
 use Rattle.std.specs.declared.alloc.AllocError.{AllocError}
@@ -15,7 +17,9 @@ use Rattle.std.proofs.Math.Nat.{eq-or-lt_of_le}
 use Rattle.std.proofs.lemmas.Bool.{cases_lt}
 use Rattle.pg_tally.specs.declared.takes.Takes.{Takes}
 use Rattle.pg_tally.specs.declared.ways.Way.{Way}
-use Rattle.pg_tally.specs.Takes.{AreClosed, AreKept, AreTakes, AreTakesTo, AreWalked, AreWider, HasFirst, IsClosedAt, IsClosedBy, IsStart, IsTaken, IsWalked, IsWider, IsWithin, followed, followed_from, takes_after, widened_to}
+use Rattle.pg_tally.specs.Takes.{AreClosed, AreKept, AreTakes, AreTakesTo, AreWalked, AreWider}
+use Rattle.pg_tally.specs.Takes.{HasFirst, IsClosedAt, IsClosedBy, IsStart, IsTaken, IsWalked}
+use Rattle.pg_tally.specs.Takes.{IsWider, IsWithin, followed, followed_from, takes_after, widened_to}
 use Rattle.pg_tally.specs.Walks.{IsWalk, takes_of, takes_on, ways_at}
 
 -- one way more

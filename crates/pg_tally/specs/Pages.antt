@@ -1,5 +1,6 @@
 -- The page that lists what was counted.
-use Rattle.std.specs.Prelude.{◌≡◌, ℕ, ◌-◌, List, [], ◌++◌, Bool, true, false, Option, Some, None, codes, decimal, length, max, replicate, string_bytes}
+use Rattle.std.specs.Prelude.{◌≡◌, ℕ, ◌-◌, List, [], ◌++◌, Bool, true, false, Option, Some}
+use Rattle.std.specs.Prelude.{None, codes, decimal, length, max, replicate, string_bytes}
 use Rattle.std.specs.List.{flat_map}
 use Rattle.pg_tally.specs.declared.counts.Counted.{Counted}
 use Rattle.pg_tally.specs.declared.report.Report.{Report}

@@ -1,5 +1,6 @@
 -- Runs through marked worlds.
-use Rattle.std.specs.Prelude.{◌≡◌, ◌≤◌, ℕ, ◌+◌, Bool, true, false, cond, nat_le, ◌&&◌, length, get_or, slice_get, List, [], ◌∷◌, Option, Some, None}
+use Rattle.std.specs.Prelude.{◌≡◌, ◌≤◌, ℕ, ◌+◌, Bool, true, false, cond, nat_le, ◌&&◌}
+use Rattle.std.specs.Prelude.{length, get_or, slice_get, List, [], ◌∷◌, Option, Some, None}
 use Rattle.std.proofs.Math.ListN.{set}
 use Rattle.std.specs.Global.{Vec}
 use Rattle.pg_tally.specs.declared.runs.Run.{Run}

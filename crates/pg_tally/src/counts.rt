@@ -54,6 +54,8 @@ impl Counts {
     /// A section with this title: the texts that occur most often come first.
     ///
     /// Errors: `AllocError`.
+    ///
+    /// Cost: that of a stable sort of the texts, with a buffer for it.
     pub fn section(self, title: String) -> Result<Section, AllocError>
         ensures title { IfOk result (λ section. section.title ≡ title) }
         ensures rows { IfOk result (λ section. IsPermutation self.rows.items section.rows.items) }

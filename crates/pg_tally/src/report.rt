@@ -38,6 +38,8 @@ impl Report {
     /// line.
     ///
     /// Errors: `AllocError`.
+    ///
+    /// Cost: memory for the text, and for the digits of each number.
     pub fn page(&self, alloc: Global) -> Result<String, AllocError>
         ensures { IfOk result (λ text. string_bytes text ≡ page_of self.now) }
     {

@@ -11,11 +11,13 @@ use denote.Enum.Compared.{Each, by}
 use denote.Enum.Declared.{Choice}
 use Rattle.pg_term.specs.Arity.{arity_cmp}
 use Rattle.pg_term.specs.RefParts.{RefParts, ref_cmp}
-use Rattle.pg_term.specs.Order.{kind_step, kind_of, numbers_order, references_order, pids_order, elements_order, tuples_order}
+use Rattle.pg_term.specs.Order.{kind_step, kind_of, numbers_order, references_order}
+use Rattle.pg_term.specs.Order.{pids_order, elements_order, tuples_order}
 use Rattle.pg_term.specs.Same.{term_cmp, pid_cmp, atom_cmp}
 use Rattle.pg_term.specs.declared.pid.Pid.{Pid}
 use Rattle.pg_term.specs.declared.term.Term.{Term, Tuple, List as Listed}
-use Rattle.pg_term.specs.declared.term.Term.TheVariants.{Int, Atom, Ref, Pid as Process, Binary, outs-Int, outs-Atom, outs-Ref, outs-Pid, outs-Tuple, outs-List, outs-Binary}
+use Rattle.pg_term.specs.declared.term.Term.TheVariants.{Int, Atom, Ref, Pid as Process, Binary, outs-Int, outs-Atom}
+use Rattle.pg_term.specs.declared.term.Term.TheVariants.{outs-Ref, outs-Pid, outs-Tuple, outs-List, outs-Binary}
 use Rattle.pg_term.specs.contracts.term.Term.{the_parts, as_values, the_make, the_eta, the_beta}
 use Rattle.pg_term.specs.contracts.term.TermOrd.TheImpl.Laws.{is, total-law}
 

@@ -1,5 +1,6 @@
 -- Two terms are equal exactly where they are one term.
-use Rattle.std.proofs.Common.{◌≡◌, ℕ, ℤ, Bool, true, false, ◌&&◌, inl, inr, List, [], ◌∷◌, map, refl, sym, ap, subst, ◌∙◌, nat_eq}
+use Rattle.std.proofs.Common.{◌≡◌, ℕ, ℤ, Bool, true, false, ◌&&◌, inl, inr, List}
+use Rattle.std.proofs.Common.{[], ◌∷◌, map, refl, sym, ap, subst, ◌∙◌, nat_eq}
 use Rattle.std.specs.Cmp.{first_so, second_so, signed_Decides}
 use Rattle.std.specs.Cmp.Lexicographic.{pointwise, bytes_decides}
 use Rattle.std.specs.Ordering.{int_eq}
@@ -11,7 +12,8 @@ use Rattle.pg_term.specs.RefParts.{RefParts, ref_eq}
 use Rattle.pg_term.specs.declared.pid.Pid.{Pid}
 use Rattle.pg_term.specs.declared.term.Term.{Term, Tuple, List as Listed, ind-Term, map-Term, roll-Term}
 use Rattle.pg_term.specs.declared.term.Term.TheOpen.{Term-F}
-use Rattle.pg_term.specs.declared.term.Term.TheVariants.{Int, Atom, Ref, Pid as Process, Binary, rolls-Int, rolls-Atom, rolls-Ref, rolls-Pid, rolls-Tuple, rolls-List, rolls-Binary}
+use Rattle.pg_term.specs.declared.term.Term.TheVariants.{Int, Atom, Ref, Pid as Process, Binary, rolls-Int, rolls-Atom}
+use Rattle.pg_term.specs.declared.term.Term.TheVariants.{rolls-Ref, rolls-Pid, rolls-Tuple, rolls-List, rolls-Binary}
 use Rattle.pg_term.specs.contracts.term.Term.{the_parts, as_values, the_make, the_eta, the_beta}
 use Rattle.pg_term.specs.contracts.term.TermPartialEq.TheImpl.{ghosts}
 use Rattle.pg_term.specs.contracts.term.TermPartialEq.TheImpl.Laws.{is}

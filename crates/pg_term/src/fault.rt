@@ -38,6 +38,8 @@ impl TermFault {
     ghost use Rattle.pg_term.specs.Fault.{number_of};
 
     /// The number of the fault in this project's one list of faults.
+    ///
+    /// Cost: no memory.
     pub fn number(self) -> u8
         ensures { result ≡ number_of self }
     {

@@ -48,6 +48,8 @@ impl<T> Fields<T> {
     }
 
     /// The elements in order.
+    ///
+    /// Cost: no memory.
     pub fn as_slice(&self) -> &[T]
         ensures { result.now ≡ self.now }
     {
@@ -55,6 +57,8 @@ impl<T> Fields<T> {
     }
 
     /// How many elements there are.
+    ///
+    /// Cost: no memory.
     pub fn len(&self) -> usize
         ensures { result ≡ length self.now }
     {

@@ -45,6 +45,8 @@ impl<T> Items<T> {
     }
 
     /// The elements in order.
+    ///
+    /// Cost: no memory.
     pub fn as_slice(&self) -> &[T]
         ensures { result.now ≡ self.now }
     {
@@ -52,6 +54,8 @@ impl<T> Items<T> {
     }
 
     /// How many elements there are.
+    ///
+    /// Cost: no memory.
     pub fn len(&self) -> usize
         ensures { result ≡ length self.now }
     {

@@ -5,7 +5,8 @@ ghost use Rattle.std.specs.declared.cmp.Ordering.TheVariants.{Less, Equal};
 ghost use Rattle.pg_term.specs.declared.pid.Pid.{Pid};
 ghost use Rattle.pg_term.specs.declared.term.Term.{Term, Tuple, List as Listed};
 ghost use Rattle.pg_term.specs.declared.term.Term.TheVariants.{Int, Atom as Name, Ref, Pid as Process, Binary};
-ghost use Rattle.pg_term.specs.Order.{kind_of, numbers_order, references_order, pids_order, tuples_order, elements_order};
+ghost use Rattle.pg_term.specs.Order.{kind_of, numbers_order, references_order};
+ghost use Rattle.pg_term.specs.Order.{pids_order, tuples_order, elements_order};
 ghost use Rattle.pg_term.specs.RefParts.{RefParts, ref_eq, ref_cmp};
 ghost use Rattle.pg_term.specs.Same.{same_term, term_cmp, same_pid, pid_cmp, same_atom, atom_cmp};
 

@@ -57,6 +57,8 @@ impl Reference {
     }
 
     /// The node that made it.
+    ///
+    /// Cost: no memory.
     pub fn node(&self) -> &Atom
         ensures { result.now ≡ self.now.node }
     {
@@ -64,6 +66,8 @@ impl Reference {
     }
 
     /// The creation of that node.
+    ///
+    /// Cost: no memory.
     pub fn creation(&self) -> u32
         ensures { result ≡ self.now.creation }
     {
@@ -71,6 +75,8 @@ impl Reference {
     }
 
     /// Its one to three words.
+    ///
+    /// Cost: no memory.
     pub fn words(&self) -> &[u32]
         ensures value { result.now ≡ self.now.words }
         ensures some { 1 ≤ length result.now }

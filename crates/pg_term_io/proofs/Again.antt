@@ -1,5 +1,7 @@
 -- What is spelled so is read so.
-use Rattle.std.proofs.Common.{◌≡◌, ℕ, zero, suc, ◌<◌, ◌≤◌, ◌^◌, false, cond, ltb, eqb, ◌||◌, ◌&&◌, ℤ, FitsSigned, List, [], ◌∷◌, ◌++◌, length, length-append, map, Ok, Err, refl, sym, ap, ◌∙◌, append_assoc, arith}
+use Rattle.std.proofs.Common.{◌≡◌, ℕ, zero, suc, ◌<◌, ◌≤◌, ◌^◌, false, cond, ltb, eqb, ◌||◌}
+use Rattle.std.proofs.Common.{◌&&◌, ℤ, FitsSigned, List, [], ◌∷◌, ◌++◌, length, length-append}
+use Rattle.std.proofs.Common.{map, Ok, Err, refl, sym, ap, ◌∙◌, append_assoc, arith}
 use Rattle.std.specs.Int.{Width, w8, w16, w32, w64, byte_len, to_be_bytes, from_be_bytes, cast_signed}
 use Rattle.std.specs.List.{flat_map, AllByRecursion}
 use Rattle.std.specs.Str.{chars, IsUtf8}
@@ -14,7 +16,10 @@ use Rattle.pg_term.specs.declared.term.Term.{Term, Tuple, List as Listed}
 use Rattle.pg_term.specs.declared.term.Term.TheVariants.{Int, Atom as Name, Ref, Pid as Process, Binary}
 use Rattle.pg_term.specs.RefParts.{RefParts}
 use Rattle.pg_term_io.specs.Numbers.{int_of, big_value}
-use Rattle.pg_term_io.specs.Reading.{Read, ◌>>=◌, byte_at, number_at, bytes_at, big_at, named_at, utf8_atom, latin_atom, atom_behind, atom_at, pid_at, old_reference_at, words_at, new_reference_at, binary_at, items_at, string_at, list_at, elements_behind, item_behind, leaf_behind, readers, item_at, tail_at, term_of}
+use Rattle.pg_term_io.specs.Reading.{Read, ◌>>=◌, byte_at, number_at, bytes_at, big_at, named_at, utf8_atom}
+use Rattle.pg_term_io.specs.Reading.{latin_atom, atom_behind, atom_at, pid_at, old_reference_at, words_at}
+use Rattle.pg_term_io.specs.Reading.{new_reference_at, binary_at, items_at, string_at, list_at, elements_behind}
+use Rattle.pg_term_io.specs.Reading.{item_behind, leaf_behind, readers, item_at, tail_at, term_of}
 use Rattle.pg_term_io.specs.Spelling.{IsAtom, IsPid, IsOldRef, IsRef, Item, Items, Elements, Tail, Spells}
 use Rattle.pg_term_io.specs.Spelling as s
 use Rattle.pg_term_io.proofs.Bigs.{fits-is_i64}

@@ -1,5 +1,6 @@
 -- What the reader of an atom answers.
-use Rattle.std.proofs.Common.{◌≡◌, ℕ, suc, ◌<◌, ◌≤◌, ◌^◌, Bool, true, false, cond, ltb, ◌⊎◌, inl, inr, List, [], ◌∷◌, ◌++◌, length, Option, Result, Ok, Err, refl, sym, ap, subst, ◌∙◌, arith}
+use Rattle.std.proofs.Common.{◌≡◌, ℕ, suc, ◌<◌, ◌≤◌, ◌^◌, Bool, true, false, cond, ltb, ◌⊎◌, inl, inr, List}
+use Rattle.std.proofs.Common.{[], ◌∷◌, ◌++◌, length, Option, Result, Ok, Err, refl, sym, ap, subst, ◌∙◌, arith}
 use Rattle.std.specs.Int.{w16, to_be_bytes}
 use Rattle.std.specs.List.{AllByRecursion}
 use Rattle.std.specs.Str.{chars, is_utf8, IsUtf8}
@@ -16,12 +17,14 @@ use Rattle.pg_term_io.specs.declared.tag.LeafTag.TheVariants.{Atom}
 use Rattle.pg_term_io.specs.declared.tag.Tag.{Tag}
 use Rattle.pg_term_io.specs.declared.tag.Tag.TheVariants.{Leaf}
 use Rattle.pg_term_io.specs.Tags.{tag_of, is_atom}
-use Rattle.pg_term_io.specs.Reading.{Read, ◌>>=◌, byte_at, number_at, bytes_at, named_at, utf8_atom, latin_atom, atom_behind, node_behind, atom_at}
+use Rattle.pg_term_io.specs.Reading.{Read, ◌>>=◌, byte_at, number_at, bytes_at, named_at}
+use Rattle.pg_term_io.specs.Reading.{utf8_atom, latin_atom, atom_behind, node_behind, atom_at}
 use Rattle.pg_term_io.specs.Spelling.{IsAtom}
 use Rattle.pg_term_io.specs.Spelling as s
 use Rattle.pg_term_io.specs.Faults.{BreaksAtom, BreaksNode, IsSmallAtomTag, IsLargeAtomTag}
 use Rattle.pg_term_io.specs.Faults as f
-use Rattle.pg_term_io.proofs.Outcomes.{EachByte, Right, Cut, IsByte, IsHalf, IsText, right_then, right_pure, byte_right, half_right, text_right}
+use Rattle.pg_term_io.proofs.Outcomes.{EachByte, Right, Cut, IsByte, IsHalf, IsText, right_then}
+use Rattle.pg_term_io.proofs.Outcomes.{right_pure, byte_right, half_right, text_right}
 use Rattle.pg_term_io.proofs.Tags.{byte_of, named, atom_or_not}
 
 -- the text of an atom, which `name` reads

@@ -1,5 +1,6 @@
 -- What the reader of a big integer answers.
-use Rattle.std.proofs.Common.{◌≡◌, ℕ, suc, ◌+◌, ◌<◌, ◌^◌, Bool, true, false, cond, ◌⊎◌, inl, inr, ℤ, pos, negsuc, FitsSigned, List, [], ◌∷◌, ◌++◌, length, Ok, Err, refl, sym, ap, subst, ◌∙◌, arith}
+use Rattle.std.proofs.Common.{◌≡◌, ℕ, suc, ◌+◌, ◌<◌, ◌^◌, Bool, true, false, cond, ◌⊎◌, inl, inr, ℤ, pos, negsuc}
+use Rattle.std.proofs.Common.{FitsSigned, List, [], ◌∷◌, ◌++◌, length, Ok, Err, refl, sym, ap, subst, ◌∙◌, arith}
 use Rattle.std.specs.Int.{w64}
 use Rattle.std.proofs.lemmas.Bool.{ltb-true, lt-ltb}
 use Rattle.std.proofs.lemmas.List.{append-nil}
@@ -12,7 +13,8 @@ use Rattle.pg_term_io.specs.Spelling.{Item}
 use Rattle.pg_term_io.specs.Spelling as s
 use Rattle.pg_term_io.specs.Faults.{BreaksItem}
 use Rattle.pg_term_io.specs.Faults as f
-use Rattle.pg_term_io.proofs.Outcomes.{EachByte, Right, Cut, cut_first, cut_behind, IsByte, IsText, right_then, right_pure, byte_right, text_right, length_byte}
+use Rattle.pg_term_io.proofs.Outcomes.{EachByte, Right, Cut, cut_first, cut_behind, IsByte, IsText}
+use Rattle.pg_term_io.proofs.Outcomes.{right_then, right_pure, byte_right, text_right, length_byte}
 use Rattle.pg_term_io.proofs.Atoms.{all_fit}
 
 pub is_i64-fits : (z : ℤ) → is_i64 z ≡ true → FitsSigned w64 z

@@ -1,5 +1,7 @@
 -- The fault that bytes have is the one that reading tells.
-use Rattle.std.proofs.Common.{◌≡◌, ℕ, zero, suc, ◌+◌, ◌<◌, ◌^◌, Bool, true, false, cond, ltb, eqb, ◌&&◌, ℤ, FitsSigned, List, [], ◌∷◌, ◌++◌, length, map, Option, Some, None, Result, Ok, Err, refl, sym, ap, ◌∙◌, arith}
+use Rattle.std.proofs.Common.{◌≡◌, ℕ, zero, suc, ◌+◌, ◌<◌, ◌^◌, Bool, true, false, cond, ltb}
+use Rattle.std.proofs.Common.{eqb, ◌&&◌, ℤ, FitsSigned, List, [], ◌∷◌, ◌++◌, length, map}
+use Rattle.std.proofs.Common.{Option, Some, None, Result, Ok, Err, refl, sym, ap, ◌∙◌, arith}
 use Rattle.std.specs.Int.{w8, w16, w32, w64, to_be_bytes, cast_signed}
 use Rattle.std.proofs.lemmas.Bool.{lt-ltb, ne_eqb}
 use Rattle.pg_term.specs.declared.fault.TermFault.{TermFault}
@@ -9,13 +11,16 @@ use Rattle.pg_term.specs.declared.term.Term.TheVariants.{Int, Ref, Pid as Proces
 use Rattle.pg_term_io.specs.Numbers.{int_of, big_value}
 use Rattle.pg_term_io.specs.declared.tag.Tag.{Tag}
 use Rattle.pg_term_io.specs.Tags.{tag_of, is_some_tag}
-use Rattle.pg_term_io.specs.Reading.{Read, ◌>>=◌, number_at, bytes_at, is_i64, i64_of, big_at, binary_at, items_at, as_term, string_at, list_at, elements_behind, item_behind, leaf_behind, readers, item_at, tail_at, term_of}
+use Rattle.pg_term_io.specs.Reading.{Read, ◌>>=◌, number_at, bytes_at, is_i64, i64_of, big_at}
+use Rattle.pg_term_io.specs.Reading.{binary_at, items_at, as_term, string_at, list_at, elements_behind}
+use Rattle.pg_term_io.specs.Reading.{item_behind, leaf_behind, readers, item_at, tail_at, term_of}
 use Rattle.pg_term_io.specs.Spelling.{Items}
 use Rattle.pg_term_io.specs.Faults.{BreaksItem, BreaksItems, BreaksElements, BreaksTail, Breaks}
 use Rattle.pg_term_io.specs.Faults as f
 use Rattle.pg_term_io.proofs.Again.{bytes_again, word_again, item_again, items_again}
 use Rattle.pg_term_io.proofs.Bigs.{is_i64-fits}
-use Rattle.pg_term_io.proofs.Cuts.{number_cut, bytes_cut, behind_half, half_missing, atom_fails, pid_fails, old_ref_fails, ref_fails}
+use Rattle.pg_term_io.proofs.Cuts.{number_cut, bytes_cut, behind_half, half_missing}
+use Rattle.pg_term_io.proofs.Cuts.{atom_fails, pid_fails, old_ref_fails, ref_fails}
 use Rattle.pg_term_io.proofs.Tags.{no_list}
 
 -- ---- integers

@@ -1,5 +1,7 @@
 -- What a reader answers where bytes are missing, and the faults of atoms, pids and references.
-use Rattle.std.proofs.Common.{◌≡◌, ℕ, zero, suc, ◌+◌, ◌*◌, ◌<◌, ◌≤◌, ◌^◌, Bool, true, false, cond, ltb, eqb, ◌||◌, ◌⊎◌, inl, inr, List, [], ◌∷◌, ◌++◌, length, length-drop, take, drop, Result, Ok, Err, refl, sym, ap, subst, ◌∙◌, arith}
+use Rattle.std.proofs.Common.{◌≡◌, ℕ, zero, suc, ◌+◌, ◌*◌, ◌<◌, ◌≤◌, ◌^◌, Bool, true, false, cond}
+use Rattle.std.proofs.Common.{ltb, eqb, ◌||◌, ◌⊎◌, inl, inr, List, [], ◌∷◌, ◌++◌, length, length-drop}
+use Rattle.std.proofs.Common.{take, drop, Result, Ok, Err, refl, sym, ap, subst, ◌∙◌, arith}
 use Rattle.std.specs.Int.{Width, w16, w32, byte_len, to_be_bytes, from_be_bytes}
 use Rattle.std.specs.Str.{chars, is_utf8, IsUtf8}
 use Rattle.std.proofs.lemmas.Bool.{lt-ltb, ltb-false, le-ltb, ne_eqb}
@@ -15,9 +17,12 @@ use Rattle.pg_term_io.specs.declared.tag.Encoding.TheVariants.{Utf8, Latin}
 use Rattle.pg_term_io.specs.declared.tag.LeafTag.TheVariants.{Atom}
 use Rattle.pg_term_io.specs.declared.tag.Tag.TheVariants.{Leaf}
 use Rattle.pg_term_io.specs.Tags.{tag_of}
-use Rattle.pg_term_io.specs.Reading.{Read, ◌>>=◌, byte_at, number_at, bytes_at, named_at, utf8_atom, latin_atom, atom_behind, atom_at, pid_at, old_reference_at, words_at, new_reference_at, items_at, as_term, item_behind, leaf_behind, readers, item_at}
+use Rattle.pg_term_io.specs.Reading.{Read, ◌>>=◌, byte_at, number_at, bytes_at, named_at, utf8_atom, latin_atom}
+use Rattle.pg_term_io.specs.Reading.{atom_behind, atom_at, pid_at, old_reference_at, words_at, new_reference_at}
+use Rattle.pg_term_io.specs.Reading.{items_at, as_term, item_behind, leaf_behind, readers, item_at}
 use Rattle.pg_term_io.specs.Spelling.{IsAtom}
-use Rattle.pg_term_io.specs.Faults.{BreaksAtom, BreaksNode, BreaksPid, BreaksOldRef, BreaksRef, IsSmallAtomTag, IsLargeAtomTag}
+use Rattle.pg_term_io.specs.Faults.{BreaksAtom, BreaksNode, BreaksPid, BreaksOldRef}
+use Rattle.pg_term_io.specs.Faults.{BreaksRef, IsSmallAtomTag, IsLargeAtomTag}
 use Rattle.pg_term_io.specs.Faults as f
 use Rattle.pg_term_io.proofs.Tags.{byte_of, no_atom}
 use Rattle.pg_term_io.proofs.Again.{bytes_again, half_again, atom_again}

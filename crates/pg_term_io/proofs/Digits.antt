@@ -1,5 +1,6 @@
 -- The number of some digits, from the most significant down.
-use Rattle.std.proofs.Common.{◌≡◌, ℕ, zero, suc, ◌+◌, ◌-◌, ◌*◌, ◌<◌, ◌≤◌, List, [], ◌∷◌, length, drop, get_or, refl, arith}
+use Rattle.std.proofs.Common.{◌≡◌, ℕ, zero, suc, ◌+◌, ◌-◌, ◌*◌, ◌<◌, ◌≤◌, List}
+use Rattle.std.proofs.Common.{[], ◌∷◌, length, drop, get_or, refl, arith}
 use Rattle.std.proofs.Math.Seq.{drop-length}
 use Rattle.pg_term_io.specs.Numbers.{little_endian}
 

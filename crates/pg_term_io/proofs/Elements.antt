@@ -1,5 +1,6 @@
 -- What the readers of tuples and lists answer, where those of one level below are right.
-use Rattle.std.proofs.Common.{◌≡◌, ℕ, zero, suc, ◌<◌, ◌^◌, Bool, true, false, cond, ltb, eqb, ◌&&◌, ◌⊎◌, inl, inr, List, [], ◌∷◌, ◌++◌, length, map, Ok, Err, refl, sym, ap, subst, ◌∙◌, arith}
+use Rattle.std.proofs.Common.{◌≡◌, ℕ, zero, suc, ◌<◌, ◌^◌, Bool, true, false, cond, ltb, eqb, ◌&&◌, ◌⊎◌, inl}
+use Rattle.std.proofs.Common.{inr, List, [], ◌∷◌, ◌++◌, length, map, Ok, Err, refl, sym, ap, subst, ◌∙◌, arith}
 use Rattle.std.specs.Int.{w16, w32, to_be_bytes}
 use Rattle.std.proofs.lemmas.Bool.{lt-ltb, eq-eqb, ltb-true, eqb-true}
 use Rattle.std.proofs.lemmas.List.{append-nil}
@@ -10,12 +11,14 @@ use Rattle.pg_term_io.specs.Numbers.{int_of}
 use Rattle.pg_term_io.specs.declared.tag.ListTag.{ListTag}
 use Rattle.pg_term_io.specs.declared.tag.ListTag.TheVariants.{Nil, String, List as Cons}
 use Rattle.pg_term_io.specs.declared.tag.Tag.TheVariants.{List as Listing}
-use Rattle.pg_term_io.specs.Reading.{Read, ◌>>=◌, byte_at, number_at, bytes_at, items_at, item_at, tail_at, readers, list_at, string_at, elements_behind}
+use Rattle.pg_term_io.specs.Reading.{Read, ◌>>=◌, byte_at, number_at, bytes_at, items_at, item_at}
+use Rattle.pg_term_io.specs.Reading.{tail_at, readers, list_at, string_at, elements_behind}
 use Rattle.pg_term_io.specs.Spelling.{Item, Items, Elements, Tail}
 use Rattle.pg_term_io.specs.Spelling as s
 use Rattle.pg_term_io.specs.Faults.{BreaksItem, BreaksItems, BreaksElements, BreaksTail}
 use Rattle.pg_term_io.specs.Faults as f
-use Rattle.pg_term_io.proofs.Outcomes.{EachByte, Right, Cut, IsByte, IsHalf, IsWord, IsText, right_if, right_then, right_map, byte_right, half_right, word_right, text_right}
+use Rattle.pg_term_io.proofs.Outcomes.{EachByte, Right, Cut, IsByte, IsHalf, IsWord, IsText, right_if}
+use Rattle.pg_term_io.proofs.Outcomes.{right_then, right_map, byte_right, half_right, word_right, text_right}
 use Rattle.pg_term_io.proofs.Atoms.{all_fit}
 use Rattle.pg_term_io.proofs.Bigs.{no_byte}
 use Rattle.pg_term_io.proofs.Tags.{byte_of}

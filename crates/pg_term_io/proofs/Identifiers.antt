@@ -1,5 +1,6 @@
 -- What the readers of pids and references answer.
-use Rattle.std.proofs.Common.{◌≡◌, ℕ, zero, suc, ◌+◌, ◌*◌, ◌<◌, ◌^◌, true, false, cond, ltb, eqb, ◌||◌, ◌⊎◌, inl, inr, List, [], ◌∷◌, ◌++◌, length, Ok, Err, refl, sym, ap, subst, ◌∙◌, arith}
+use Rattle.std.proofs.Common.{◌≡◌, ℕ, zero, suc, ◌+◌, ◌*◌, ◌<◌, ◌^◌, true, false, cond, ltb, eqb, ◌||◌, ◌⊎◌}
+use Rattle.std.proofs.Common.{inl, inr, List, [], ◌∷◌, ◌++◌, length, Ok, Err, refl, sym, ap, subst, ◌∙◌, arith}
 use Rattle.std.specs.Int.{Width, byte_len, w16, w32, to_be_bytes}
 use Rattle.std.specs.List.{flat_map, AllByRecursion}
 use Rattle.std.proofs.lemmas.Bool.{ltb-false, ltb-true, ne_eqb}
@@ -8,12 +9,15 @@ use Rattle.pg_term.specs.declared.fault.TermFault.{TermFault}
 use Rattle.pg_term.specs.declared.fault.TermFault.TheVariants.{Truncated, BadReference}
 use Rattle.pg_term.specs.declared.pid.Pid.{Pid}
 use Rattle.pg_term.specs.RefParts.{RefParts}
-use Rattle.pg_term_io.specs.Reading.{Read, ◌>>=◌, byte_at, number_at, items_at, atom_at, pid_at, old_reference_at, words_at, new_reference_at}
+use Rattle.pg_term_io.specs.Reading.{Read, ◌>>=◌, byte_at, number_at, items_at, atom_at}
+use Rattle.pg_term_io.specs.Reading.{pid_at, old_reference_at, words_at, new_reference_at}
 use Rattle.pg_term_io.specs.Spelling.{IsAtom, IsPid, IsOldRef, IsRef}
 use Rattle.pg_term_io.specs.Spelling as s
 use Rattle.pg_term_io.specs.Faults.{BreaksNode, BreaksPid, BreaksOldRef, BreaksRef}
 use Rattle.pg_term_io.specs.Faults as f
-use Rattle.pg_term_io.proofs.Outcomes.{EachByte, Right, Cut, cut_first, cut_behind, IsByte, IsHalf, IsWord, right_if, right_then, right_map, IsNumber, NumberRight, length_number, byte_right, half_right, word_right, length_word}
+use Rattle.pg_term_io.proofs.Outcomes.{EachByte, Right, Cut, cut_first, cut_behind, IsByte, IsHalf}
+use Rattle.pg_term_io.proofs.Outcomes.{IsWord, right_if, right_then, right_map, IsNumber, NumberRight}
+use Rattle.pg_term_io.proofs.Outcomes.{length_number, byte_right, half_right, word_right, length_word}
 use Rattle.pg_term_io.proofs.Atoms.{atom_right}
 
 -- a fault that is Truncated

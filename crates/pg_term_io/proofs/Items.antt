@@ -1,5 +1,6 @@
 -- What the readers of items, of tails and of all the bytes answer.
-use Rattle.std.proofs.Common.{◌≡◌, ℕ, zero, suc, Bool, true, false, cond, eqb, inl, inr, List, [], ◌∷◌, ◌++◌, length, Option, Some, None, Result, Ok, Err, refl, sym, ap, subst, ◌∙◌, arith}
+use Rattle.std.proofs.Common.{◌≡◌, ℕ, zero, suc, Bool, true, false, cond, eqb, inl, inr, List, [], ◌∷◌, ◌++◌}
+use Rattle.std.proofs.Common.{length, Option, Some, None, Result, Ok, Err, refl, sym, ap, subst, ◌∙◌, arith}
 use Rattle.std.specs.Int.{w8, w32, to_be_bytes, cast_signed}
 use Rattle.std.proofs.lemmas.Bool.{eqb-true, eqb-false, ne_eqb}
 use Rattle.std.proofs.lemmas.List.{append-nil}
@@ -18,16 +19,20 @@ use Rattle.pg_term_io.specs.declared.tag.ListTag.{ListTag}
 use Rattle.pg_term_io.specs.declared.tag.Tag.{Tag}
 use Rattle.pg_term_io.specs.declared.tag.Tag.TheVariants as tag
 use Rattle.pg_term_io.specs.Tags.{list_tag, tag_of, is_some_tag, is_list}
-use Rattle.pg_term_io.specs.Reading.{Read, ◌>>=◌, byte_at, number_at, big_at, atom_behind, items_at, elements_behind, tail_behind, pid_at, old_reference_at, new_reference_at, bytes_at, binary_at, as_term, item_behind, leaf_behind, item_at, readers, term_of}
+use Rattle.pg_term_io.specs.Reading.{Read, ◌>>=◌, byte_at, number_at, big_at, atom_behind, items_at, elements_behind}
+use Rattle.pg_term_io.specs.Reading.{tail_behind, pid_at, old_reference_at, new_reference_at, bytes_at, binary_at}
+use Rattle.pg_term_io.specs.Reading.{as_term, item_behind, leaf_behind, item_at, readers, term_of}
 use Rattle.pg_term_io.specs.Spelling.{IsPid, IsOldRef, IsRef, Item, Elements, Tail, Spells}
 use Rattle.pg_term_io.specs.Spelling as s
 use Rattle.pg_term_io.specs.Faults.{BreaksPid, BreaksOldRef, BreaksRef, BreaksItem, BreaksTail, Breaks}
 use Rattle.pg_term_io.specs.Faults as f
-use Rattle.pg_term_io.proofs.Outcomes.{EachByte, Right, Cut, IsByte, IsWord, IsText, right_map, right_then, byte_right, word_right, text_right, small_number_right, number_right}
+use Rattle.pg_term_io.proofs.Outcomes.{EachByte, Right, Cut, IsByte, IsWord, IsText, right_map, right_then}
+use Rattle.pg_term_io.proofs.Outcomes.{byte_right, word_right, text_right, small_number_right, number_right}
 use Rattle.pg_term_io.proofs.Atoms.{AtomBehind, NoAtom, atom_behind_right, all_fit}
 use Rattle.pg_term_io.proofs.Bigs.{BigBehind, NoBigBehind, big_right, no_byte}
 use Rattle.pg_term_io.proofs.Identifiers.{pid_right, old_reference_right, new_reference_right}
-use Rattle.pg_term_io.proofs.Elements.{ItemRight, TailRight, SmallTuple, NoSmallTuple, small_tuple_right, LargeTuple, NoLargeTuple, large_tuple_right, ListBehind, NoListBehind, elements_right}
+use Rattle.pg_term_io.proofs.Elements.{ItemRight, TailRight, SmallTuple, NoSmallTuple, small_tuple_right, LargeTuple}
+use Rattle.pg_term_io.proofs.Elements.{NoLargeTuple, large_tuple_right, ListBehind, NoListBehind, elements_right}
 use Rattle.pg_term_io.proofs.Tags.{byte_of, named, list_or_not}
 
 -- ---- behind a tag

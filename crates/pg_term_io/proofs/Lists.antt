@@ -1,5 +1,6 @@
 -- Lists from some place in them on.
-use Rattle.std.proofs.Common.{◌≡◌, ◌≢◌, ℕ, zero, suc, ◌≤◌, Bool, true, false, cond, ltb, eqb, ◌&&◌, List, [], ◌∷◌, ◌++◌, length, take, drop, map, Option, Some, None, Ok, Err, refl, sym, ap, subst, ◌∙◌, arith}
+use Rattle.std.proofs.Common.{◌≡◌, ◌≢◌, ℕ, zero, suc, ◌≤◌, Bool, true, false, cond, ltb, eqb, ◌&&◌, List, [], ◌∷◌, ◌++◌}
+use Rattle.std.proofs.Common.{length, take, drop, map, Option, Some, None, Ok, Err, refl, sym, ap, subst, ◌∙◌, arith}
 use Rattle.std.proofs.lemmas.Bool.{ltb-false}
 use Rattle.std.specs.Int.{w16, w32}
 use Rattle.pg_term.specs.declared.fault.TermFault.{TermFault}
@@ -8,7 +9,8 @@ use Rattle.pg_term.specs.declared.term.Term.{Term, Tuple, List as Listed}
 use Rattle.pg_term.specs.Order.{kind_of}
 use Rattle.pg_term_io.specs.Lists.{list_from, GoesOn, IsOver, IsText}
 use Rattle.pg_term_io.specs.Numbers.{int_of}
-use Rattle.pg_term_io.specs.Reading.{Read, ◌>>=◌, number_at, bytes_at, items_at, item_at, tail_at, readers, elements_behind, tail_behind, arity_at, item_behind, as_term, string_at, list_at}
+use Rattle.pg_term_io.specs.Reading.{Read, ◌>>=◌, number_at, bytes_at, items_at, item_at, tail_at, readers}
+use Rattle.pg_term_io.specs.Reading.{elements_behind, tail_behind, arity_at, item_behind, as_term, string_at, list_at}
 use Rattle.pg_term_io.specs.declared.tag.ListTag.{ListTag}
 use Rattle.pg_term_io.specs.declared.tag.Tag.{Tag}
 use Rattle.pg_term_io.specs.declared.tag.Tag.TheVariants as tags

@@ -1,5 +1,6 @@
 -- What comes next in a list, by what stands there.
-use Rattle.std.proofs.Common.{◌≡◌, ℕ, zero, suc, ◌-◌, ◌<◌, List, [], ◌∷◌, length, Option, Some, Ok, Err, refl, ap, ◌∙◌, arith}
+use Rattle.std.proofs.Common.{◌≡◌, ℕ, zero, suc, ◌-◌, ◌<◌, List, [], ◌∷◌, length}
+use Rattle.std.proofs.Common.{Option, Some, Ok, Err, refl, ap, ◌∙◌, arith}
 use Rattle.std.specs.Int.{w32}
 use Rattle.pg_term.specs.declared.fault.TermFault.{TermFault}
 use Rattle.pg_term_io.specs.declared.tag.ListTag.{ListTag}

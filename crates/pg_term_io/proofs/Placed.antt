@@ -1,5 +1,6 @@
 -- What is read behind a tag is of the tag's kind.
-use Rattle.std.proofs.Common.{◌≡◌, ◌≢◌, ℕ, ℤ, pos, zero, suc, ◌≤◌, List, [], ◌∷◌, length, get_or, Option, Some, None, Ok, Err, refl, sym, ap, ◌∙◌, arith, rules}
+use Rattle.std.proofs.Common.{◌≡◌, ◌≢◌, ℕ, ℤ, pos, zero, suc, ◌≤◌, List, [], ◌∷◌, length, get_or}
+use Rattle.std.proofs.Common.{Option, Some, None, Ok, Err, refl, sym, ap, ◌∙◌, arith, rules}
 use Rattle.std.specs.Int.{w32, cast_signed}
 use Rattle.std.specs.Option.{option_map}
 use Rattle.pg_term.specs.declared.fault.TermFault.{TermFault}
@@ -16,7 +17,9 @@ use Rattle.pg_term_io.specs.declared.tag.Tag.TheVariants as tag
 use Rattle.pg_term_io.specs.Kinds.{place_of, kind_in}
 use Rattle.pg_term_io.specs.Numbers.{int_of}
 use Rattle.pg_term_io.specs.Tags.{tag_of, tuple_size, kind_of_leaf, kind_of_tag}
-use Rattle.pg_term_io.specs.Reading.{Read, ◌>>=◌, byte_at, number_at, big_at, atom_behind, creation_width, arity_at, pid_at, old_reference_at, new_reference_at, binary_at, items_at, elements_behind, leaf_behind, item_behind, as_term, readers, item_at}
+use Rattle.pg_term_io.specs.Reading.{Read, ◌>>=◌, byte_at, number_at, big_at, atom_behind, creation_width}
+use Rattle.pg_term_io.specs.Reading.{arity_at, pid_at, old_reference_at, new_reference_at, binary_at, items_at}
+use Rattle.pg_term_io.specs.Reading.{elements_behind, leaf_behind, item_behind, as_term, readers, item_at}
 
 int_kind : (z : ℤ) → kind_of (Int z) ≡ 0
 int_kind z = search (rules, the_lemmas)

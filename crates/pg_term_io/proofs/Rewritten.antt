@@ -1,5 +1,6 @@
 -- A term that some bytes spell is spelled by what is written for it, too.
-use Rattle.std.proofs.Common.{◌≡◌, ℕ, pos, ◌*◌, ◌<◌, ◌≤◌, ◌^◌, true, List, [], ◌∷◌, ◌++◌, length, length-append, map, FitsSigned, Ok, refl, sym, ap, subst, arith}
+use Rattle.std.proofs.Common.{◌≡◌, ℕ, pos, ◌*◌, ◌<◌, ◌≤◌, ◌^◌, true, List, [], ◌∷◌, ◌++◌, length}
+use Rattle.std.proofs.Common.{length-append, map, FitsSigned, Ok, refl, sym, ap, subst, arith}
 use Rattle.std.specs.Int.{Width, byte_len, w8, w32, w64, cast_signed}
 use Rattle.std.specs.List.{AllByRecursion}
 use Rattle.std.specs.Str.{chars, IsUtf8, encode_utf8_all, all_scalars}
@@ -13,11 +14,13 @@ use Rattle.pg_term_io.specs.Numbers.{int_of}
 use Rattle.pg_term_io.specs.Reading.{term_of}
 use Rattle.pg_term_io.specs.Spelling.{IsAtom, IsPid, IsOldRef, IsRef, Item, Items, Elements, Tail, Spells}
 use Rattle.pg_term_io.specs.Spelling as s
-use Rattle.pg_term_io.specs.Writing.{text_bytes, atom_bytes, tuple_head, list_head, item_bytes, all_bytes, tuple_bytes, list_bytes, written, IsWritable, IsSpelled, AreSpelled}
+use Rattle.pg_term_io.specs.Writing.{text_bytes, atom_bytes, tuple_head, list_head, item_bytes, all_bytes}
+use Rattle.pg_term_io.specs.Writing.{tuple_bytes, list_bytes, written, IsWritable, IsSpelled, AreSpelled}
 use Rattle.pg_term_io.proofs.Again.{term_again}
 use Rattle.pg_term_io.proofs.Decoding.{one_term}
 use Rattle.pg_term_io.proofs.Latin.{latin_short}
-use Rattle.pg_term_io.proofs.Spelled.{text_spelled, number_spelled, name_spelled, pid_spelled, reference_spelled, binary_spelled, tuple_spelled, list_spelled, none_spelled, written_spelled}
+use Rattle.pg_term_io.proofs.Spelled.{text_spelled, number_spelled, name_spelled, pid_spelled, reference_spelled}
+use Rattle.pg_term_io.proofs.Spelled.{binary_spelled, tuple_spelled, list_spelled, none_spelled, written_spelled}
 use Rattle.pg_term_io.proofs.Written.{tuple_is, list_is, binary_is}
 
 -- ---- atoms

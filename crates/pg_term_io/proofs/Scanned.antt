@@ -1,5 +1,7 @@
 -- A walk over bytes ends where reading them ends, or at the same fault.
-use Rattle.std.proofs.Common.{◌≡◌, ℕ, zero, suc, Bool, true, false, cond, ltb, eqb, ◌||◌, ◌&&◌, List, [], ◌∷◌, ◌++◌, length, map, Option, Some, None, inl, inr, Result, Ok, Err, refl, sym, ap, subst, ◌∙◌, arith}
+use Rattle.std.proofs.Common.{◌≡◌, ℕ, zero, suc, Bool, true, false, cond, ltb, eqb, ◌||◌}
+use Rattle.std.proofs.Common.{◌&&◌, List, [], ◌∷◌, ◌++◌, length, map, Option, Some, None}
+use Rattle.std.proofs.Common.{inl, inr, Result, Ok, Err, refl, sym, ap, subst, ◌∙◌, arith}
 use Rattle.std.proofs.lemmas.Bool.{le-ltb}
 use Rattle.std.specs.Int.{Width, w8, w16, w32, cast_signed}
 use Rattle.pg_term.specs.declared.fault.TermFault.{TermFault}
@@ -18,8 +20,15 @@ use Rattle.pg_term_io.specs.declared.tag.ListTag.TheVariants as listed
 use Rattle.pg_term_io.specs.declared.tag.Tag.{Tag}
 use Rattle.pg_term_io.specs.declared.tag.Tag.TheVariants as tag
 use Rattle.pg_term_io.specs.Tags.{list_tag, tag_of}
-use Rattle.pg_term_io.specs.Reading.{Read, ◌>>=◌, byte_at, number_at, bytes_at, big_at, named_at, atom_in, text_length_at, atom_behind, node_behind, atom_at, creation_width, arity_at, tail_behind, pid_at, old_reference_at, words_at, new_reference_at, binary_at, items_at, string_at, list_at, elements_behind, item_behind, leaf_behind, Readers, readers, item_at, tail_at, term_of}
-use Rattle.pg_term_io.specs.Scanning.{past, Walk, Walks, over_atom, over_node_behind, over_node, over_creation, over_tail_behind, over_byte, over_word, over_pid, over_old_reference, over_all, over_words, over_reference, over_binary, over_leaf, over_string, over_list, over_elements, over_behind, walks, over_item, over_tail, over_term}
+use Rattle.pg_term_io.specs.Reading.{Read, ◌>>=◌, byte_at, number_at, bytes_at, big_at, named_at, atom_in}
+use Rattle.pg_term_io.specs.Reading.{text_length_at, atom_behind, node_behind, atom_at, creation_width}
+use Rattle.pg_term_io.specs.Reading.{arity_at, tail_behind, pid_at, old_reference_at, words_at}
+use Rattle.pg_term_io.specs.Reading.{new_reference_at, binary_at, items_at, string_at, list_at, elements_behind}
+use Rattle.pg_term_io.specs.Reading.{item_behind, leaf_behind, Readers, readers, item_at, tail_at, term_of}
+use Rattle.pg_term_io.specs.Scanning.{past, Walk, Walks, over_atom, over_node_behind, over_node, over_creation}
+use Rattle.pg_term_io.specs.Scanning.{over_tail_behind, over_byte, over_word, over_pid, over_old_reference}
+use Rattle.pg_term_io.specs.Scanning.{over_all, over_words, over_reference, over_binary, over_leaf, over_string}
+use Rattle.pg_term_io.specs.Scanning.{over_list, over_elements, over_behind, walks, over_item, over_tail, over_term}
 use Rattle.pg_term_io.proofs.Tags.{atom_or_not, list_or_not}
 
 -- ---- steps

@@ -1,5 +1,7 @@
 -- What is written for a term spells it.
-use Rattle.std.proofs.Common.{◌≡◌, ℕ, ℤ, pos, negsuc, zero, suc, ◌+◌, ◌<◌, ◌≤◌, ◌^◌, Bool, true, false, cond, ltb, max, List, [], ◌∷◌, ◌++◌, length, length-append, get_or, take, refl, sym, ap, subst, ◌∙◌, append_assoc, arith, FitsSigned, neg_ℤ, rules}
+use Rattle.std.proofs.Common.{◌≡◌, ℕ, ℤ, pos, negsuc, zero, suc, ◌+◌, ◌<◌, ◌≤◌, ◌^◌, Bool, true, false}
+use Rattle.std.proofs.Common.{cond, ltb, max, List, [], ◌∷◌, ◌++◌, length, length-append, get_or, take}
+use Rattle.std.proofs.Common.{refl, sym, ap, subst, ◌∙◌, append_assoc, arith, FitsSigned, neg_ℤ, rules}
 use Rattle.std.specs.Int.{w16, w32, w64, to_be_bytes, cast_unsigned}
 use Rattle.std.specs.List.{flat_map, AllByRecursion}
 use Rattle.std.specs.Str.{chars, IsUtf8, encode_utf8_all}
@@ -8,7 +10,8 @@ use Rattle.std.proofs.lemmas.Int.{to_z_pos, ints}
 use Rattle.std.proofs.Math.Facts.{to_z-neg}
 use Rattle.std.proofs.lemmas.List.{append-nil, take_more}
 use Rattle.pg_term.specs.declared.pid.Pid.{Pid}
-use Rattle.pg_term.specs.declared.term.Term.{Term, Tuple, List as Listed, fold-Term, map-Term, out-Term, fold_out-Term, the_lemmas}
+use Rattle.pg_term.specs.declared.term.Term.{Term, Tuple, List as Listed, fold-Term}
+use Rattle.pg_term.specs.declared.term.Term.{map-Term, out-Term, fold_out-Term, the_lemmas}
 use Rattle.pg_term.specs.declared.term.Term.TheOpen.{Term-F}
 use Rattle.pg_term.specs.declared.term.Term.TheVariants.{Int, Atom as Name, Ref, Pid as Process, Binary}
 use Rattle.pg_term.specs.RefParts.{RefParts}
@@ -16,7 +19,9 @@ use Rattle.pg_term.specs.Depth.{depth, greatest_depth, depth_step}
 use Rattle.pg_term_io.specs.Numbers.{big_value}
 use Rattle.pg_term_io.specs.Spelling.{IsAtom, IsPid, IsRef, Item, Items, Elements, Tail, Spells}
 use Rattle.pg_term_io.specs.Spelling as s
-use Rattle.pg_term_io.specs.Writing.{digits, big_bytes, int_bytes, text_bytes, atom_bytes, pid_bytes, reference_bytes, binary_bytes, tuple_head, item_bytes, all_bytes, tuple_bytes, list_bytes, written, IsSpelled, AreSpelled}
+use Rattle.pg_term_io.specs.Writing.{digits, big_bytes, int_bytes, text_bytes, atom_bytes, pid_bytes}
+use Rattle.pg_term_io.specs.Writing.{reference_bytes, binary_bytes, tuple_head, item_bytes, all_bytes}
+use Rattle.pg_term_io.specs.Writing.{tuple_bytes, list_bytes, written, IsSpelled, AreSpelled}
 use Rattle.pg_term_io.proofs.Deep.{greatest_push, depth_more}
 use Rattle.pg_term_io.proofs.WrittenDigits.{few_digits}
 use Rattle.pg_term_io.proofs.WrittenValue.{little_endian-digits, digits_below}

@@ -1,5 +1,6 @@
 -- However a term is spelled, it takes at most 400 times the bytes that it is written in.
-use Rattle.std.proofs.Common.{◌≡◌, ℕ, pos, ◌+◌, ◌*◌, ◌<◌, ◌≤◌, Bool, true, false, cond, List, [], ◌∷◌, ◌++◌, length, length-append, map, Ok, Err, ap, arith, rules}
+use Rattle.std.proofs.Common.{◌≡◌, ℕ, pos, ◌+◌, ◌*◌, ◌<◌, ◌≤◌, Bool, true, false, cond, List, []}
+use Rattle.std.proofs.Common.{◌∷◌, ◌++◌, length, length-append, map, Ok, Err, ap, arith, rules}
 use Rattle.std.specs.Prelude.{nat_lt}
 use Rattle.std.specs.Int.{Width, w8, w16, w32, to_be_bytes, cast_signed}
 use Rattle.std.specs.List.{flat_map}
@@ -15,7 +16,8 @@ use Rattle.pg_term_io.specs.Faults.{BreaksItem}
 use Rattle.pg_term_io.specs.Reading.{Read, item_at}
 use Rattle.pg_term_io.specs.Spelling.{IsAtom, IsPid, IsOldRef, IsRef, Item, Items, Elements, Tail}
 use Rattle.pg_term_io.specs.Spelling as s
-use Rattle.pg_term_io.specs.Writing.{text_bytes, atom_bytes, pid_bytes, reference_bytes, tuple_head, list_head, item_bytes, all_bytes}
+use Rattle.pg_term_io.specs.Writing.{text_bytes, atom_bytes, pid_bytes, reference_bytes}
+use Rattle.pg_term_io.specs.Writing.{tuple_head, list_head, item_bytes, all_bytes}
 use Rattle.pg_term_io.proofs.Items.{levels}
 use Rattle.pg_term_io.proofs.Weighed.{weight_some, item_light}
 use Rattle.pg_term_io.proofs.Outcomes.{EachByte, Took, Right}

@@ -1,14 +1,17 @@
 -- One level of reading.
-use Rattle.std.proofs.Common.{◌≡◌, ℕ, zero, suc, ◌-◌, ◌<◌, ◌≤◌, List, [], ◌∷◌, length, get_or, take, drop, Ok, Err, refl, arith}
+use Rattle.std.proofs.Common.{◌≡◌, ℕ, zero, suc, ◌-◌, ◌<◌, ◌≤◌, List, [], ◌∷◌}
+use Rattle.std.proofs.Common.{length, get_or, take, drop, Ok, Err, refl, arith}
 use Rattle.std.specs.Int.{w32}
 use Rattle.std.proofs.Math.Seq.{take-length}
 use Rattle.pg_term.specs.declared.fault.TermFault.TheVariants.{Truncated, TooDeep}
-use Rattle.pg_term_io.specs.declared.tag.TheConstants.{NEW_PID_EXT, SMALL_INTEGER_EXT, SMALL_TUPLE_EXT, SMALL_ATOM_UTF8_EXT}
+use Rattle.pg_term_io.specs.declared.tag.TheConstants.{NEW_PID_EXT, SMALL_INTEGER_EXT}
+use Rattle.pg_term_io.specs.declared.tag.TheConstants.{SMALL_TUPLE_EXT, SMALL_ATOM_UTF8_EXT}
 use Rattle.pg_term_io.specs.declared.tag.Size.TheVariants.{Small}
 use Rattle.pg_term_io.specs.declared.tag.Encoding.TheVariants.{Utf8}
 use Rattle.pg_term_io.specs.Tags.{tag_of, list_tag}
 use Rattle.pg_term_io.specs.Numbers.{int_of}
-use Rattle.pg_term_io.specs.Reading.{readers, item_at, tail_at, item_behind, tail_behind, leaf_behind, items_at, as_term, atom_behind, pid_at}
+use Rattle.pg_term_io.specs.Reading.{readers, item_at, tail_at, item_behind, tail_behind}
+use Rattle.pg_term_io.specs.Reading.{leaf_behind, items_at, as_term, atom_behind, pid_at}
 use Rattle.pg_term.specs.declared.term.Term.{Tuple}
 use Rattle.pg_term.specs.declared.term.Term.TheVariants.{Atom, Pid}
 

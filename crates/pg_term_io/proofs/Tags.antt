@@ -1,8 +1,13 @@
 -- The table of tags: the byte of each, and what stands behind the others where an atom or a list has to stand.
-use Rattle.std.proofs.Common.{◌≡◌, ℕ, Bool, true, false, cond, eqb, ◌⊎◌, inl, inr, List, [], ◌∷◌, Option, Some, None, Err, refl, ap, ◌∙◌}
+use Rattle.std.proofs.Common.{◌≡◌, ℕ, Bool, true, false, cond, eqb, ◌⊎◌, inl, inr}
+use Rattle.std.proofs.Common.{List, [], ◌∷◌, Option, Some, None, Err, refl, ap, ◌∙◌}
 use Rattle.std.proofs.lemmas.Bool.{eqb-true}
 use Rattle.pg_term.specs.declared.fault.TermFault.TheVariants.{BadAtom, ImproperList}
-use Rattle.pg_term_io.specs.declared.tag.TheConstants.{NEW_PID_EXT, NEWER_REFERENCE_EXT, SMALL_INTEGER_EXT, INTEGER_EXT, ATOM_EXT, REFERENCE_EXT, PID_EXT, SMALL_TUPLE_EXT, LARGE_TUPLE_EXT, NIL_EXT, STRING_EXT, LIST_EXT, BINARY_EXT, SMALL_BIG_EXT, NEW_REFERENCE_EXT, SMALL_ATOM_EXT, ATOM_UTF8_EXT, SMALL_ATOM_UTF8_EXT}
+use Rattle.pg_term_io.specs.declared.tag.TheConstants.{NEW_PID_EXT, NEWER_REFERENCE_EXT, SMALL_INTEGER_EXT}
+use Rattle.pg_term_io.specs.declared.tag.TheConstants.{INTEGER_EXT, ATOM_EXT, REFERENCE_EXT, PID_EXT}
+use Rattle.pg_term_io.specs.declared.tag.TheConstants.{SMALL_TUPLE_EXT, LARGE_TUPLE_EXT, NIL_EXT, STRING_EXT}
+use Rattle.pg_term_io.specs.declared.tag.TheConstants.{LIST_EXT, BINARY_EXT, SMALL_BIG_EXT, NEW_REFERENCE_EXT}
+use Rattle.pg_term_io.specs.declared.tag.TheConstants.{SMALL_ATOM_EXT, ATOM_UTF8_EXT, SMALL_ATOM_UTF8_EXT}
 use Rattle.pg_term_io.specs.declared.tag.Size.{Size}
 use Rattle.pg_term_io.specs.declared.tag.Size.TheVariants.{Small, Large}
 use Rattle.pg_term_io.specs.declared.tag.Encoding.{Encoding}

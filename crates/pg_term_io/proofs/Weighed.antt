@@ -1,5 +1,6 @@
 -- Each term takes at least one byte.
-use Rattle.std.proofs.Common.{◌≡◌, ℕ, ℤ, ◌+◌, ◌≤◌, List, [], ◌∷◌, ◌++◌, length, length-append, map, pos, refl, arith, rules}
+use Rattle.std.proofs.Common.{◌≡◌, ℕ, ℤ, ◌+◌, ◌≤◌, List, [], ◌∷◌, ◌++◌, length}
+use Rattle.std.proofs.Common.{length-append, map, pos, refl, arith, rules}
 use Rattle.std.specs.Int.{w16, w32, to_be_bytes, cast_signed}
 use Rattle.pg_term.specs.declared.pid.Pid.{Pid}
 use Rattle.pg_term.specs.declared.term.Term.{Term, Tuple, List as Listed, map-Term, out-Term, fold_out-Term, the_lemmas}

@@ -1,14 +1,18 @@
 -- The bytes of terms, level by level.
-use Rattle.std.proofs.Common.{◌≡◌, ℕ, ℤ, pos, negsuc, zero, suc, ◌+◌, ◌<◌, ◌≤◌, Bool, true, false, cond, List, [], ◌∷◌, ◌++◌, length, length-append, get_or, take, sym, ap, ◌∙◌, append_assoc, arith, rules}
+use Rattle.std.proofs.Common.{◌≡◌, ℕ, ℤ, pos, negsuc, zero, suc, ◌+◌, ◌<◌, ◌≤◌, Bool, true, false, cond, List, [], ◌∷◌}
+use Rattle.std.proofs.Common.{◌++◌, length, length-append, get_or, take, sym, ap, ◌∙◌, append_assoc, arith, rules}
 use Rattle.std.proofs.lemmas.List.{append-nil, take_more}
 use Rattle.std.specs.Prelude.{nat_lt}
 use Rattle.std.specs.Int.{w16, w32, to_be_bytes, cast_unsigned}
 use Rattle.std.specs.Str.{encode_utf8_all}
 use Rattle.std.proofs.Math.ListN.{length-map}
-use Rattle.pg_term.specs.declared.term.Term.{Term, Tuple, List as Listed, fold-Term, map-Term, out-Term, fold_out-Term, the_lemmas}
+use Rattle.pg_term.specs.declared.term.Term.{Term, Tuple, List as Listed, fold-Term}
+use Rattle.pg_term.specs.declared.term.Term.{map-Term, out-Term, fold_out-Term, the_lemmas}
 use Rattle.pg_term.specs.declared.term.Term.TheOpen.{Term-F}
 use Rattle.pg_term.specs.declared.term.Term.TheVariants.{Binary}
-use Rattle.pg_term_io.specs.Writing.{big_bytes, int_bytes, atom_bytes, pid_bytes, reference_bytes, binary_bytes, text_bytes, tuple_head, list_head, tuple_bytes, list_bytes, joined, item_step, item_bytes, all_bytes}
+use Rattle.pg_term_io.specs.Writing.{big_bytes, int_bytes, atom_bytes, pid_bytes, reference_bytes}
+use Rattle.pg_term_io.specs.Writing.{binary_bytes, text_bytes, tuple_head, list_head, tuple_bytes}
+use Rattle.pg_term_io.specs.Writing.{list_bytes, joined, item_step, item_bytes, all_bytes}
 
 pub tuple_is : (ts : List Term) → item_bytes (Tuple ts) ≡ tuple_bytes ts
 tuple_is ts = let n = length-map ts item_bytes in search (rules, the_lemmas)

@@ -1,5 +1,6 @@
 -- How many bytes a reference takes.
-use Rattle.std.proofs.Common.{◌≡◌, ◌<◌, ◌^◌, suc, get_or, subst, ℕ, ◌+◌, ◌*◌, List, [], ◌∷◌, ◌++◌, length, length-append, refl, arith}
+use Rattle.std.proofs.Common.{◌≡◌, ◌<◌, ◌^◌, suc, get_or, subst, ℕ, ◌+◌, ◌*◌, List}
+use Rattle.std.proofs.Common.{[], ◌∷◌, ◌++◌, length, length-append, refl, arith}
 use Rattle.std.specs.Int.{w16, w32, to_be_bytes}
 use Rattle.std.specs.List.{flat_map, AllByRecursion}
 use Rattle.pg_term.specs.RefParts.{RefParts}

@@ -1,13 +1,20 @@
 -- Which fault is told of bytes that spell no term. Items are read from left to right, an item before its parts, and the
 -- first fault is told: what stands before it is well spelled, whatever follows it. The forms are those of the External
 -- Term Format chapter of the Erlang documentation. `room` is how many more levels of terms may nest.
-use Rattle.std.specs.Prelude.{◌≡◌, ◌≢◌, ℕ, zero, suc, ◌+◌, ◌*◌, ◌<◌, ◌^◌, false, ◌⊎◌, List, [], ◌∷◌, ◌++◌, length, FitsSigned}
+use Rattle.std.specs.Prelude.{◌≡◌, ◌≢◌, ℕ, zero, suc, ◌+◌, ◌*◌, ◌<◌, ◌^◌, false}
+use Rattle.std.specs.Prelude.{◌⊎◌, List, [], ◌∷◌, ◌++◌, length, FitsSigned}
 use Rattle.std.specs.Int.{Width, byte_len, w8, w16, w32, w64, to_be_bytes}
 use Rattle.std.specs.Str.{chars, IsUtf8}
 use Rattle.pg_term.specs.declared.fault.TermFault.{TermFault}
-use Rattle.pg_term.specs.declared.fault.TermFault.TheVariants.{Truncated, BadVersion, UnknownTag, TooDeep, IntegerTooLarge, BadAtom, ImproperList, BadReference, TrailingBytes}
+use Rattle.pg_term.specs.declared.fault.TermFault.TheVariants.{Truncated, BadVersion, UnknownTag}
+use Rattle.pg_term.specs.declared.fault.TermFault.TheVariants.{TooDeep, IntegerTooLarge, BadAtom}
+use Rattle.pg_term.specs.declared.fault.TermFault.TheVariants.{ImproperList, BadReference, TrailingBytes}
 use Rattle.pg_term.specs.declared.term.Term.{Term}
-use Rattle.pg_term_io.specs.declared.tag.TheConstants.{ATOM_EXT, ATOM_UTF8_EXT, BINARY_EXT, INTEGER_EXT, LARGE_TUPLE_EXT, LIST_EXT, NEWER_REFERENCE_EXT, NEW_PID_EXT, NEW_REFERENCE_EXT, PID_EXT, REFERENCE_EXT, SMALL_ATOM_EXT, SMALL_ATOM_UTF8_EXT, SMALL_BIG_EXT, SMALL_INTEGER_EXT, SMALL_TUPLE_EXT, STRING_EXT}
+use Rattle.pg_term_io.specs.declared.tag.TheConstants.{ATOM_EXT, ATOM_UTF8_EXT, BINARY_EXT, INTEGER_EXT}
+use Rattle.pg_term_io.specs.declared.tag.TheConstants.{LARGE_TUPLE_EXT, LIST_EXT, NEWER_REFERENCE_EXT}
+use Rattle.pg_term_io.specs.declared.tag.TheConstants.{NEW_PID_EXT, NEW_REFERENCE_EXT, PID_EXT, REFERENCE_EXT}
+use Rattle.pg_term_io.specs.declared.tag.TheConstants.{SMALL_ATOM_EXT, SMALL_ATOM_UTF8_EXT, SMALL_BIG_EXT}
+use Rattle.pg_term_io.specs.declared.tag.TheConstants.{SMALL_INTEGER_EXT, SMALL_TUPLE_EXT, STRING_EXT}
 use Rattle.pg_term_io.specs.declared.limits.TheConstants.{MAX_DEPTH}
 use Rattle.pg_term_io.specs.Numbers.{big_value}
 use Rattle.pg_term_io.specs.Tags.{is_atom_tag, is_list_tag, is_tag}

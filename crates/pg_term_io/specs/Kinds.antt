@@ -2,7 +2,8 @@
 use Rattle.std.specs.Prelude.{ℕ, List, [], ◌∷◌, Option, None}
 use Rattle.std.specs.Option.{option_map}
 use Rattle.pg_term_io.specs.declared.kind.Kind.{Kind}
-use Rattle.pg_term_io.specs.declared.kind.Kind.TheVariants.{Integer, Atom, Reference, Pid, Tuple, List as Listed, Binary}
+use Rattle.pg_term_io.specs.declared.kind.Kind.TheVariants.{Integer, Atom, Reference, Pid}
+use Rattle.pg_term_io.specs.declared.kind.Kind.TheVariants.{Tuple, List as Listed, Binary}
 use Rattle.pg_term_io.specs.Tags.{tag_of, kind_of_tag}
 
 -- the place of a kind among the seven, as kind_of of pg_term counts them

@@ -1,9 +1,12 @@
 -- Reading a term from left to right, with the first fault that is met. A reader answers the value and the bytes after it.
-use Rattle.std.specs.Prelude.{ℕ, zero, suc, ◌^◌, ℤ, pos, negsuc, List, [], ◌∷◌, ◌++◌, length, take, drop, map, Bool, ◌||◌, ◌&&◌, Option, Some, None, Result, Ok, Err, nat_lt, ◌==◌, if◌then◌else◌}
+use Rattle.std.specs.Prelude.{ℕ, zero, suc, ◌^◌, ℤ, pos, negsuc, List, [], ◌∷◌, ◌++◌, length, take, drop, map}
+use Rattle.std.specs.Prelude.{Bool, ◌||◌, ◌&&◌, Option, Some, None, Result, Ok, Err, nat_lt, ◌==◌, if◌then◌else◌}
 use Rattle.std.specs.Int.{Width, w8, w16, w32, byte_len, from_be_bytes, cast_signed}
 use Rattle.std.specs.Str.{chars, is_utf8}
 use Rattle.pg_term.specs.declared.fault.TermFault.{TermFault}
-use Rattle.pg_term.specs.declared.fault.TermFault.TheVariants.{Truncated, BadVersion, UnknownTag, TooDeep, IntegerTooLarge, BadAtom, ImproperList, BadReference, TrailingBytes}
+use Rattle.pg_term.specs.declared.fault.TermFault.TheVariants.{Truncated, BadVersion, UnknownTag}
+use Rattle.pg_term.specs.declared.fault.TermFault.TheVariants.{TooDeep, IntegerTooLarge, BadAtom}
+use Rattle.pg_term.specs.declared.fault.TermFault.TheVariants.{ImproperList, BadReference, TrailingBytes}
 use Rattle.pg_term.specs.declared.pid.Pid.{Pid}
 use Rattle.pg_term.specs.declared.term.Term.{Term}
 use Rattle.pg_term.specs.declared.term.Term as term
@@ -18,7 +21,8 @@ use Rattle.pg_term_io.specs.declared.tag.Encoding.TheVariants.{Utf8, Latin}
 use Rattle.pg_term_io.specs.declared.tag.Creation.{Creation}
 use Rattle.pg_term_io.specs.declared.tag.Creation.TheVariants.{Byte, Word}
 use Rattle.pg_term_io.specs.declared.tag.LeafTag.{LeafTag}
-use Rattle.pg_term_io.specs.declared.tag.LeafTag.TheVariants.{SmallInteger, Integer, SmallBig, Atom, Pid as Process, OldReference, Reference, Binary}
+use Rattle.pg_term_io.specs.declared.tag.LeafTag.TheVariants.{SmallInteger, Integer, SmallBig, Atom}
+use Rattle.pg_term_io.specs.declared.tag.LeafTag.TheVariants.{Pid as Process, OldReference, Reference, Binary}
 use Rattle.pg_term_io.specs.declared.tag.ListTag.{ListTag}
 use Rattle.pg_term_io.specs.declared.tag.ListTag.TheVariants.{Nil, String, List as Cons}
 use Rattle.pg_term_io.specs.declared.tag.Tag.{Tag}

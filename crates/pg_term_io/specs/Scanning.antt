@@ -1,20 +1,24 @@
 -- Walking over a term without its value: the bytes after what is read, or the first fault.
-use Rattle.std.specs.Prelude.{◌≡◌, ℕ, zero, suc, List, [], ◌∷◌, length, ◌||◌, ◌&&◌, Option, Some, None, Result, Ok, Err, nat_lt, ◌==◌, if◌then◌else◌}
+use Rattle.std.specs.Prelude.{◌≡◌, ℕ, zero, suc, List, [], ◌∷◌, length, ◌||◌, ◌&&◌, Option}
+use Rattle.std.specs.Prelude.{Some, None, Result, Ok, Err, nat_lt, ◌==◌, if◌then◌else◌}
 use Rattle.std.specs.Int.{w16, w32}
 use Rattle.pg_term.specs.declared.fault.TermFault.{TermFault}
-use Rattle.pg_term.specs.declared.fault.TermFault.TheVariants.{Truncated, BadVersion, UnknownTag, TooDeep, BadAtom, ImproperList, BadReference, TrailingBytes}
+use Rattle.pg_term.specs.declared.fault.TermFault.TheVariants.{Truncated, BadVersion, UnknownTag, TooDeep}
+use Rattle.pg_term.specs.declared.fault.TermFault.TheVariants.{BadAtom, ImproperList, BadReference, TrailingBytes}
 use Rattle.pg_term_io.specs.declared.limits.TheConstants.{MAX_DEPTH}
 use Rattle.pg_term_io.specs.declared.tag.Size.{Size}
 use Rattle.pg_term_io.specs.declared.tag.Encoding.{Encoding}
 use Rattle.pg_term_io.specs.declared.tag.Creation.{Creation}
 use Rattle.pg_term_io.specs.declared.tag.Creation.TheVariants.{Byte, Word}
 use Rattle.pg_term_io.specs.declared.tag.LeafTag.{LeafTag}
-use Rattle.pg_term_io.specs.declared.tag.LeafTag.TheVariants.{SmallInteger, Integer, SmallBig, Atom, Pid, OldReference, Reference, Binary}
+use Rattle.pg_term_io.specs.declared.tag.LeafTag.TheVariants.{SmallInteger, Integer, SmallBig, Atom}
+use Rattle.pg_term_io.specs.declared.tag.LeafTag.TheVariants.{Pid, OldReference, Reference, Binary}
 use Rattle.pg_term_io.specs.declared.tag.ListTag.{ListTag}
 use Rattle.pg_term_io.specs.declared.tag.ListTag.TheVariants.{Nil, String, List as Cons}
 use Rattle.pg_term_io.specs.declared.tag.Tag.{Tag}
 use Rattle.pg_term_io.specs.declared.tag.Tag.TheVariants.{Tuple, List as Listing, Leaf}
-use Rattle.pg_term_io.specs.Reading.{Read, ◌>>=◌, byte_at, number_at, bytes_at, big_at, named_at, atom_in, text_length_at, arity_at}
+use Rattle.pg_term_io.specs.Reading.{Read, ◌>>=◌, byte_at, number_at, bytes_at, big_at}
+use Rattle.pg_term_io.specs.Reading.{named_at, atom_in, text_length_at, arity_at}
 use Rattle.pg_term_io.specs.Tags.{tag_of, list_tag}
 
 -- the bytes after what is read

@@ -8,7 +8,11 @@ use Rattle.pg_term.specs.declared.pid.Pid.{Pid}
 use Rattle.pg_term.specs.declared.term.Term.{Term, Tuple, List as Listed}
 use Rattle.pg_term.specs.declared.term.Term.TheVariants.{Int, Atom as Name, Ref, Pid as Process, Binary}
 use Rattle.pg_term.specs.RefParts.{RefParts}
-use Rattle.pg_term_io.specs.declared.tag.TheConstants.{ATOM_EXT, ATOM_UTF8_EXT, BINARY_EXT, INTEGER_EXT, LARGE_TUPLE_EXT, LIST_EXT, NEWER_REFERENCE_EXT, NEW_PID_EXT, NEW_REFERENCE_EXT, NIL_EXT, PID_EXT, REFERENCE_EXT, SMALL_ATOM_EXT, SMALL_ATOM_UTF8_EXT, SMALL_BIG_EXT, SMALL_INTEGER_EXT, SMALL_TUPLE_EXT, STRING_EXT}
+use Rattle.pg_term_io.specs.declared.tag.TheConstants.{ATOM_EXT, ATOM_UTF8_EXT, BINARY_EXT, INTEGER_EXT}
+use Rattle.pg_term_io.specs.declared.tag.TheConstants.{LARGE_TUPLE_EXT, LIST_EXT, NEWER_REFERENCE_EXT, NEW_PID_EXT}
+use Rattle.pg_term_io.specs.declared.tag.TheConstants.{NEW_REFERENCE_EXT, NIL_EXT, PID_EXT, REFERENCE_EXT}
+use Rattle.pg_term_io.specs.declared.tag.TheConstants.{SMALL_ATOM_EXT, SMALL_ATOM_UTF8_EXT, SMALL_BIG_EXT}
+use Rattle.pg_term_io.specs.declared.tag.TheConstants.{SMALL_INTEGER_EXT, SMALL_TUPLE_EXT, STRING_EXT}
 use Rattle.pg_term_io.specs.declared.limits.TheConstants.{MAX_DEPTH}
 use Rattle.pg_term_io.specs.Numbers.{int_of, big_value}
 

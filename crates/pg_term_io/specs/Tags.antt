@@ -3,13 +3,18 @@
 use Rattle.std.specs.Prelude.{ℕ, Bool, true, false, ◌==◌, if◌then◌else◌, List, [], ◌∷◌, Option, Some, None}
 use Rattle.pg_term_io.specs.declared.kind.Kind.{Kind}
 use Rattle.pg_term_io.specs.declared.kind.Kind.TheVariants as kind
-use Rattle.pg_term_io.specs.declared.tag.TheConstants.{NEW_PID_EXT, NEWER_REFERENCE_EXT, SMALL_INTEGER_EXT, INTEGER_EXT, ATOM_EXT, REFERENCE_EXT, PID_EXT, SMALL_TUPLE_EXT, LARGE_TUPLE_EXT, NIL_EXT, STRING_EXT, LIST_EXT, BINARY_EXT, SMALL_BIG_EXT, NEW_REFERENCE_EXT, SMALL_ATOM_EXT, ATOM_UTF8_EXT, SMALL_ATOM_UTF8_EXT}
+use Rattle.pg_term_io.specs.declared.tag.TheConstants.{NEW_PID_EXT, NEWER_REFERENCE_EXT, SMALL_INTEGER_EXT}
+use Rattle.pg_term_io.specs.declared.tag.TheConstants.{INTEGER_EXT, ATOM_EXT, REFERENCE_EXT, PID_EXT}
+use Rattle.pg_term_io.specs.declared.tag.TheConstants.{SMALL_TUPLE_EXT, LARGE_TUPLE_EXT, NIL_EXT, STRING_EXT}
+use Rattle.pg_term_io.specs.declared.tag.TheConstants.{LIST_EXT, BINARY_EXT, SMALL_BIG_EXT, NEW_REFERENCE_EXT}
+use Rattle.pg_term_io.specs.declared.tag.TheConstants.{SMALL_ATOM_EXT, ATOM_UTF8_EXT, SMALL_ATOM_UTF8_EXT}
 use Rattle.pg_term_io.specs.declared.tag.Size.{Size}
 use Rattle.pg_term_io.specs.declared.tag.Size.TheVariants.{Small, Large}
 use Rattle.pg_term_io.specs.declared.tag.Encoding.TheVariants.{Utf8, Latin}
 use Rattle.pg_term_io.specs.declared.tag.Creation.TheVariants.{Byte, Word}
 use Rattle.pg_term_io.specs.declared.tag.LeafTag.{LeafTag}
-use Rattle.pg_term_io.specs.declared.tag.LeafTag.TheVariants.{SmallInteger, Integer, SmallBig, Atom, Pid, OldReference, Reference, Binary}
+use Rattle.pg_term_io.specs.declared.tag.LeafTag.TheVariants.{SmallInteger, Integer, SmallBig, Atom}
+use Rattle.pg_term_io.specs.declared.tag.LeafTag.TheVariants.{Pid, OldReference, Reference, Binary}
 use Rattle.pg_term_io.specs.declared.tag.ListTag.{ListTag}
 use Rattle.pg_term_io.specs.declared.tag.ListTag.TheVariants.{Nil, String, List as Cons}
 use Rattle.pg_term_io.specs.declared.tag.Tag.{Tag}

@@ -1,5 +1,6 @@
 -- How a term is written: its one spelling, in the words of the External Term Format chapter of the Erlang documentation.
-use Rattle.std.specs.Prelude.{ℕ, suc, ℤ, pos, negsuc, ◌≤◌, ◌<◌, List, [], ◌∷◌, ◌++◌, length, map, reverse, nat_lt, ◌==◌, if◌then◌else◌}
+use Rattle.std.specs.Prelude.{ℕ, suc, ℤ, pos, negsuc, ◌≤◌, ◌<◌, List, [], ◌∷◌, ◌++◌}
+use Rattle.std.specs.Prelude.{length, map, reverse, nat_lt, ◌==◌, if◌then◌else◌}
 use Rattle.std.specs.Int.{w16, w32, to_be_bytes, cast_unsigned}
 use Rattle.std.specs.Int.Digits.{digits_of}
 use Rattle.std.specs.List.{flat_map}
@@ -9,7 +10,10 @@ use Rattle.pg_term.specs.declared.term.Term.{Term, fold-Term}
 use Rattle.pg_term.specs.declared.term.Term.TheOpen.{Term-F}
 use Rattle.pg_term.specs.RefParts.{RefParts}
 use Rattle.pg_term.specs.Depth.{depth, greatest_depth}
-use Rattle.pg_term_io.specs.declared.tag.TheConstants.{ATOM_UTF8_EXT, BINARY_EXT, INTEGER_EXT, LARGE_TUPLE_EXT, LIST_EXT, NEWER_REFERENCE_EXT, NEW_PID_EXT, NIL_EXT, SMALL_ATOM_UTF8_EXT, SMALL_BIG_EXT, SMALL_INTEGER_EXT, SMALL_TUPLE_EXT}
+use Rattle.pg_term_io.specs.declared.tag.TheConstants.{ATOM_UTF8_EXT, BINARY_EXT, INTEGER_EXT}
+use Rattle.pg_term_io.specs.declared.tag.TheConstants.{LARGE_TUPLE_EXT, LIST_EXT, NEWER_REFERENCE_EXT}
+use Rattle.pg_term_io.specs.declared.tag.TheConstants.{NEW_PID_EXT, NIL_EXT, SMALL_ATOM_UTF8_EXT}
+use Rattle.pg_term_io.specs.declared.tag.TheConstants.{SMALL_BIG_EXT, SMALL_INTEGER_EXT, SMALL_TUPLE_EXT}
 use Rattle.pg_term_io.specs.declared.limits.TheConstants.{MAX_DEPTH, MAX_LEN}
 use Rattle.pg_term_io.specs.Spelling.{Item, Items}
 

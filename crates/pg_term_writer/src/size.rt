@@ -1,6 +1,8 @@
 ghost use Rattle.std.specs.Prelude.{◌≡◌, ◌+◌, ◌<◌, ◌≤◌, ◌↔◌, ◌∷◌, ◌++◌, length, min, IfOk, IfErr, IsOk};
 ghost use Rattle.pg_term.specs.Depth.{depth, greatest_depth};
-ghost use Rattle.pg_term_io.specs.Writing.{digits, int_bytes, atom_bytes, pid_bytes, reference_bytes, binary_bytes, tuple_head, list_head, item_bytes, all_bytes, tuple_bytes, list_bytes, written, IsWritable, IsTooLong};
+ghost use Rattle.pg_term_io.specs.Writing.{digits, int_bytes, atom_bytes, pid_bytes, reference_bytes};
+ghost use Rattle.pg_term_io.specs.Writing.{binary_bytes, tuple_head, list_head, item_bytes, all_bytes};
+ghost use Rattle.pg_term_io.specs.Writing.{tuple_bytes, list_bytes, written, IsWritable, IsTooLong};
 
 use pg_term::{Atom, Pid, Reference, Term, TermFault};
 use pg_term_io::{MAX_DEPTH, MAX_LEN};
@@ -22,6 +24,8 @@ pub(crate) fn digit_count(number: u64) -> usize
 
 /// How many bytes an integer takes: SMALL_INTEGER_EXT, INTEGER_EXT or SMALL_BIG_EXT of the External
 /// Term Format.
+///
+/// Cost: no memory.
 #[tactic(auto, unfolding(pg_term_io::specs::Writing::big_bytes))]
 pub fn int_len(number: i64) -> usize
     ensures value { result ≡ length (int_bytes number) }
@@ -37,6 +41,8 @@ pub fn int_len(number: i64) -> usize
 }
 
 /// How many bytes an atom takes: SMALL_ATOM_UTF8_EXT or ATOM_UTF8_EXT.
+///
+/// Cost: no memory.
 #[tactic(auto, unfolding(pg_term_io::specs::Writing::atom_bytes))]
 pub fn atom_len(atom: &Atom) -> usize
     ensures value { result ≡ length (atom_bytes atom.now) }
@@ -47,6 +53,8 @@ pub fn atom_len(atom: &Atom) -> usize
 }
 
 /// How many bytes a pid takes: NEW_PID_EXT.
+///
+/// Cost: no memory.
 #[tactic(auto, unfolding(pg_term_io::specs::Writing::pid_bytes))]
 pub fn pid_len(pid: &Pid) -> usize
     ensures value { result ≡ length (pid_bytes pid.now) }
@@ -56,6 +64,8 @@ pub fn pid_len(pid: &Pid) -> usize
 }
 
 /// How many bytes a reference takes: NEWER_REFERENCE_EXT.
+///
+/// Cost: no memory.
 #[tactic(auto, using(pg_term_io::proofs::WrittenWords::reference_len))]
 pub fn reference_len(reference: &Reference) -> usize
     ensures value { result ≡ length (reference_bytes reference.now) }
@@ -72,6 +82,8 @@ fn binary_len(content: &[u8]) -> usize
 }
 
 /// How many bytes are before the elements of a tuple: SMALL_TUPLE_EXT or LARGE_TUPLE_EXT.
+///
+/// Cost: no memory.
 pub fn tuple_head_len(arity: usize) -> usize
     ensures { result ≡ length (tuple_head arity) }
 {
@@ -79,6 +91,8 @@ pub fn tuple_head_len(arity: usize) -> usize
 }
 
 /// How many bytes are before the elements of a list: LIST_EXT, or none for no elements.
+///
+/// Cost: no memory.
 pub fn list_head_len(count: usize) -> usize
     ensures { result ≡ length (list_head count) }
 {

@@ -1,6 +1,9 @@
-ghost use Rattle.std.specs.Prelude.{◌≡◌, ◌+◌, ◌<◌, ◌≤◌, ◌↔◌, ◌∷◌, ◌++◌, length, OnOk, OnErr, IfOk, IsOk, IsOkUnless, MatchResult};
+ghost use Rattle.std.specs.Prelude.{◌≡◌, ◌+◌, ◌<◌, ◌≤◌, ◌↔◌, ◌∷◌, ◌++◌, length, OnOk};
+ghost use Rattle.std.specs.Prelude.{OnErr, IfOk, IsOk, IsOkUnless, MatchResult};
 ghost use Rattle.pg_term.specs.Depth.{depth};
-ghost use Rattle.pg_term_io.specs.Writing.{big_bytes, int_bytes, atom_bytes, pid_bytes, reference_bytes, binary_bytes, tuple_head, list_head, item_bytes, all_bytes, tuple_bytes, list_bytes, written, IsWritable, IsTooLong, IsSpelled, AreSpelled};
+ghost use Rattle.pg_term_io.specs.Writing.{big_bytes, int_bytes, atom_bytes, pid_bytes, reference_bytes};
+ghost use Rattle.pg_term_io.specs.Writing.{binary_bytes, tuple_head, list_head, item_bytes, all_bytes, tuple_bytes};
+ghost use Rattle.pg_term_io.specs.Writing.{list_bytes, written, IsWritable, IsTooLong, IsSpelled, AreSpelled};
 ghost use Rattle.pg_term_io.specs.Spelling.{IsAtom, Spells};
 
 use crate::size::{digit_count, encode_len};
@@ -16,6 +19,8 @@ use std::alloc::Global;
 
 /// Writes an integer into room that was reserved: SMALL_INTEGER_EXT, INTEGER_EXT or SMALL_BIG_EXT
 /// of the External Term Format, the first that holds it.
+///
+/// Cost: no memory.
 #[tactic(auto, using(pg_term_io::proofs::Spelled::number_spelled))]
 pub fn put_int(out: &mut BytesMut, number: i64)
     requires { length (int_bytes number) ≤ out.old.spare }
@@ -50,6 +55,8 @@ fn put_big(out: &mut BytesMut, sign: u8, magnitude: u64)
 }
 
 /// Writes an atom into room that was reserved: SMALL_ATOM_UTF8_EXT or ATOM_UTF8_EXT.
+///
+/// Cost: no memory.
 #[tactic(auto, using(pg_term_io::proofs::Spelled::atom_spelled), unfolding(pg_term_io::specs::Writing::atom_bytes))]
 pub fn put_atom(out: &mut BytesMut, atom: &Atom)
     requires { length (atom_bytes atom.now) ≤ out.old.spare }
@@ -69,6 +76,8 @@ pub fn put_atom(out: &mut BytesMut, atom: &Atom)
 }
 
 /// Writes a pid into room that was reserved: NEW_PID_EXT.
+///
+/// Cost: no memory.
 #[tactic(auto, unfolding(pg_term_io::specs::Writing::pid_bytes))]
 pub fn put_pid(out: &mut BytesMut, pid: &Pid)
     requires { length (pid_bytes pid.now) ≤ out.old.spare }
@@ -84,6 +93,8 @@ pub fn put_pid(out: &mut BytesMut, pid: &Pid)
 }
 
 /// Writes a reference into room that was reserved: NEWER_REFERENCE_EXT.
+///
+/// Cost: no memory.
 #[tactic(auto, using(pg_term_io::proofs::WrittenWords::reference_len), unfolding(pg_term_io::specs::Writing::reference_bytes))]
 pub fn put_reference(out: &mut BytesMut, reference: &Reference)
     requires { length (reference_bytes reference.now) ≤ out.old.spare }
@@ -114,6 +125,8 @@ fn put_binary(out: &mut BytesMut, content: &[u8])
 }
 
 /// Writes what is before the elements of a tuple into room that was reserved: SMALL_TUPLE_EXT or LARGE_TUPLE_EXT.
+///
+/// Cost: no memory.
 pub fn put_tuple_head(out: &mut BytesMut, arity: u32)
     requires { length (tuple_head arity) ≤ out.old.spare }
     ensures items { out.new.items ≡ out.old.items ++ tuple_head arity }
@@ -129,6 +142,8 @@ pub fn put_tuple_head(out: &mut BytesMut, arity: u32)
 
 /// Writes what is before the elements of a list into room that was reserved: LIST_EXT, or nothing for no elements.
 /// After the elements belongs NIL_EXT.
+///
+/// Cost: no memory.
 pub fn put_list_head(out: &mut BytesMut, count: u32)
     requires { length (list_head count) ≤ out.old.spare }
     ensures items { out.new.items ≡ out.old.items ++ list_head count }

@@ -1,5 +1,6 @@
 -- Texts that are appended one after another.
-use Rattle.std.proofs.Common.{◌≡◌, ℕ, ◌^◌, ◌<◌, List, [], ◌∷◌, ◌++◌, append_assoc, Result, sym, ap, ◌∙◌, ◌+◌, take, get_or, length, subst, cond, false, map, length-take, ◌≤◌, ◌-◌, drop, arith}
+use Rattle.std.proofs.Common.{◌≡◌, ℕ, ◌^◌, ◌<◌, List, [], ◌∷◌, ◌++◌, append_assoc, Result, sym, ap, ◌∙◌, ◌+◌}
+use Rattle.std.proofs.Common.{take, get_or, length, subst, cond, false, map, length-take, ◌≤◌, ◌-◌, drop, arith}
 use Rattle.std.proofs.lemmas.Grind.{flat_map-append}
 use Rattle.std.specs.List.{flat_map}
 use Rattle.std.proofs.lemmas.Str.{encodes-append, encodes-IsAscii, encodes-chars}
@@ -11,7 +12,8 @@ use Rattle.std.specs.Prelude.{OnOk, decimal, Ok, Err, ℤ}
 use Rattle.std.specs.Fmt.{signed_decimal}
 use Rattle.std.specs.Str.{encode_utf8_all, chars, IsUtf8, IsAscii}
 use lib.Signed.{mag}
-use Rattle.pg_text.specs.Writing.{Adds, more_text, listed, is_bare, quoted_text, atom_text, comma_text, terms_text, term_text}
+use Rattle.pg_text.specs.Writing.{Adds, more_text, listed, is_bare, quoted_text}
+use Rattle.pg_text.specs.Writing.{atom_text, comma_text, terms_text, term_text}
 
 pub adds_nothing : (a : List ℕ) → Adds [] a a
 adds_nothing a = record { all = sym (append-nil a) }

@@ -1,5 +1,6 @@
 -- What is written of an atom is read as that atom.
-use Rattle.std.proofs.Common.{◌≡◌, ℕ, ◌+◌, ◌*◌, ◌/◌, ◌%◌, ◌<◌, ◌≤◌, Bool, true, false, not, ◌&&◌, ◌||◌, ◌==◌, cond, List, [], ◌∷◌, ◌++◌, length, take, drop, refl, ap, ◌∙◌, append_assoc, arith, Some, None}
+use Rattle.std.proofs.Common.{◌≡◌, ℕ, ◌+◌, ◌*◌, ◌/◌, ◌%◌, ◌<◌, ◌≤◌, Bool, true, false, not, ◌&&◌, ◌||◌, ◌==◌, cond}
+use Rattle.std.proofs.Common.{List, [], ◌∷◌, ◌++◌, length, take, drop, refl, ap, ◌∙◌, append_assoc, arith, Some, None}
 use Rattle.std.proofs.lemmas.Bool.Decides.{nat_tests}
 use Rattle.std.proofs.lemmas.List.Folds.{prefix_len-append}
 use Rattle.std.specs.Char.{is_ascii_digit, is_ascii_lowercase, digit_value, digit_char}
@@ -9,7 +10,8 @@ use lib.Utf8.{scalar, scalars}
 use borrow.Author.Tests.{eq-eqb, ne_eqb}
 use Rattle.pg_text.specs.declared.reading.quoted.Place.TheVariants.{Plain, Opening, Digits}
 use Rattle.pg_text.specs.declared.reading.quoted.Quoted.TheVariants.{Character, Within, Bad}
-use Rattle.pg_text.specs.Reading.{quoted_at, quoted_next, plain_step, digit_step, digits_step, escaped_step, is_hex, with_first, then_read, begins, short, atom_at, unless_bare, bare_at, begins_number}
+use Rattle.pg_text.specs.Reading.{quoted_at, quoted_next, plain_step, digit_step, digits_step, escaped_step, is_hex}
+use Rattle.pg_text.specs.Reading.{with_first, then_read, begins, short, atom_at, unless_bare, bare_at, begins_number}
 use Rattle.pg_text.specs.Again.{NoWord}
 use Rattle.pg_text.proofs.NumbersBack.{take_front, drop_front}
 use Rattle.pg_text.specs.Writing.{quoted_text, escape_text, hex_text, is_word, is_bare, begins_lower, atom_text}

@@ -1,10 +1,12 @@
 -- Elements that are read one after another.
-use Rattle.std.proofs.Common.{◌≡◌, ◌≢◌, ℕ, zero, suc, ◌<◌, ◌≤◌, true, false, cond, List, [], ◌∷◌, ◌++◌, length, drop, refl, sym, ap, ◌∙◌, append_assoc, length-drop, arith, Some, None, subst, Result, Ok, Err}
+use Rattle.std.proofs.Common.{◌≡◌, ◌≢◌, ℕ, zero, suc, ◌<◌, ◌≤◌, true, false, cond, List, [], ◌∷◌, ◌++◌, length, drop}
+use Rattle.std.proofs.Common.{refl, sym, ap, ◌∙◌, append_assoc, length-drop, arith, Some, None, subst, Result, Ok, Err}
 use Rattle.std.specs.Prelude.{IfErr}
 use Rattle.pg_text.specs.declared.fault.TextFault.{TextFault}
 use Rattle.pg_text.specs.declared.fault.TextFault.TheVariants.{BadText}
 use Rattle.std.proofs.lemmas.List.{append-nil}
-use Rattle.pg_text.specs.Reading.{Read, with_front, then_read, begins, ended, number_at, words_at, next_element, elements_from, elements_at, term_at, leaf_at, as_term}
+use Rattle.pg_text.specs.Reading.{Read, with_front, then_read, begins, ended, number_at, words_at}
+use Rattle.pg_text.specs.Reading.{next_element, elements_from, elements_at, term_at, leaf_at, as_term}
 use Rattle.pg_term.specs.declared.term.Term.{Tuple, List as Listed}
 
 module _ {A : Type 0} where

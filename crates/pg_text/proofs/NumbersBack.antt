@@ -1,5 +1,7 @@
 -- What is written of a number is read as that number.
-use Rattle.std.proofs.Common.{◌≡◌, ℕ, zero, suc, ◌+◌, ◌-◌, ◌^◌, ◌<◌, ◌≤◌, Bool, true, false, not, ◌&&◌, ◌||◌, ◌==◌, cond, List, [], ◌∷◌, ◌++◌, length, get_or, take, drop, refl, sym, ap, ◌∙◌, subst, arith, Some, None, ℤ, pos, negsuc}
+use Rattle.std.proofs.Common.{◌≡◌, ℕ, zero, suc, ◌+◌, ◌-◌, ◌^◌, ◌<◌, ◌≤◌, Bool, true, false, not}
+use Rattle.std.proofs.Common.{◌&&◌, ◌||◌, ◌==◌, cond, List, [], ◌∷◌, ◌++◌, length, get_or, take}
+use Rattle.std.proofs.Common.{drop, refl, sym, ap, ◌∙◌, subst, arith, Some, None, ℤ, pos, negsuc}
 use Rattle.std.proofs.lemmas.Bool.Decides.{nat_tests}
 use Rattle.std.proofs.lemmas.Fmt.{decimal_is_IsNumeral, first_decimal, decimal_digit, decimal_nonempty}
 use Rattle.std.proofs.lemmas.List.{take-append-le, take_all}
@@ -11,7 +13,8 @@ use Rattle.std.specs.Fmt.{signed_decimal}
 use Rattle.std.specs.List.{prefix_len}
 use Rattle.std.specs.Str.Parse.{AllDigits, digits_value}
 use borrow.Author.Tests.{eq-eqb, ne_eqb, le-leb}
-use Rattle.pg_text.specs.Reading.{numeral_at, numeral_of, is_plain, integer_at, begins, then_read, below_zero, begins_number}
+use Rattle.pg_text.specs.Reading.{numeral_at, numeral_of, is_plain, integer_at}
+use Rattle.pg_text.specs.Reading.{begins, then_read, below_zero, begins_number}
 use Rattle.pg_text.specs.Writing.{is_word}
 
 -- a list that no digit begins

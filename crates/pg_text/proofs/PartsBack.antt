@@ -1,5 +1,6 @@
 -- What is written of a pid, a reference or elements is read as them.
-use Rattle.std.proofs.Common.{◌≡◌, ℕ, zero, suc, ◌^◌, ◌<◌, ◌≤◌, Bool, true, false, ◌==◌, cond, List, [], ◌∷◌, ◌++◌, length, drop, refl, ap, ◌∙◌, append_assoc, length-append, arith, Some, None}
+use Rattle.std.proofs.Common.{◌≡◌, ℕ, zero, suc, ◌^◌, ◌<◌, ◌≤◌, Bool, true, false, ◌==◌, cond, List, [], ◌∷◌}
+use Rattle.std.proofs.Common.{◌++◌, length, drop, refl, ap, ◌∙◌, append_assoc, length-append, arith, Some, None}
 use Rattle.std.proofs.lemmas.Bool.Decides.{nat_tests}
 use Rattle.std.specs.Prelude.{decimal}
 use Rattle.std.specs.List.{flat_map, AllByRecursion}
@@ -11,7 +12,9 @@ use Rattle.pg_text.proofs.AtomsBack.{atom_back}
 use Rattle.pg_text.specs.Again.{NoWord}
 use Rattle.pg_text.proofs.Fronts.{elements_turn, elements_end}
 use Rattle.pg_text.proofs.NumbersBack.{NoDigit, numeral_back}
-use Rattle.pg_text.specs.Reading.{Read, then_read, with_front, begins, ended, number_at, atom_at, part_at, creation_at, told_creation, numbers_at, pid_at, words_at, some_words, reference_at, elements_from, elements_at}
+use Rattle.pg_text.specs.Reading.{Read, then_read, with_front, begins, ended, number_at, atom_at}
+use Rattle.pg_text.specs.Reading.{part_at, creation_at, told_creation, numbers_at, pid_at}
+use Rattle.pg_text.specs.Reading.{words_at, some_words, reference_at, elements_from, elements_at}
 use Rattle.pg_text.specs.Writing.{atom_text, part_text, creation_text, pid_text, reference_text, more_text, listed}
 
 pub part_back : (before n : ℕ) (rest : List ℕ) → n < 2 ^ 32 → NoDigit rest → part_at before (part_text before n ++ rest) ≡ Some (n, rest)

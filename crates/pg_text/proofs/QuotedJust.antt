@@ -1,5 +1,6 @@
 -- What is read within quotes is what spells it.
-use Rattle.std.proofs.Common.{◌≡◌, ℕ, suc, ◌+◌, ◌*◌, Bool, true, false, not, ◌&&◌, ◌||◌, ◌==◌, cond, List, [], ◌∷◌, ◌++◌, length, refl, sym, ap, ◌∙◌, subst, append_assoc, arith, Some}
+use Rattle.std.proofs.Common.{◌≡◌, ℕ, suc, ◌+◌, ◌*◌, Bool, true, false, not, ◌&&◌, ◌||◌, ◌==◌, cond, List}
+use Rattle.std.proofs.Common.{[], ◌∷◌, ◌++◌, length, refl, sym, ap, ◌∙◌, subst, append_assoc, arith, Some}
 use Rattle.std.proofs.lemmas.Bool.Decides.{nat_tests}
 use Rattle.std.proofs.lemmas.Int.Digits.{digits_value_push}
 use Rattle.std.proofs.lemmas.List.Folds.{list_all-append}
@@ -15,7 +16,8 @@ use Rattle.pg_text.specs.declared.reading.quoted.Hex.{Hex}
 use Rattle.pg_text.specs.declared.reading.quoted.Place.{Place}
 use Rattle.pg_text.specs.declared.reading.quoted.Place.TheVariants.{Plain, Escape, Opening, Digits}
 use Rattle.pg_text.specs.declared.reading.quoted.Quoted.TheVariants.{Close, Character, Within, Bad}
-use Rattle.pg_text.specs.Reading.{with_first, is_hex, is_plain, plain_step, escape_step, opening_step, digits_step, quoted_next, quoted_at}
+use Rattle.pg_text.specs.Reading.{with_first, is_hex, is_plain, plain_step, escape_step}
+use Rattle.pg_text.specs.Reading.{opening_step, digits_step, quoted_next, quoted_at}
 use Rattle.pg_text.specs.Spelling.{IsHexOf, IsQuoted}
 use Rattle.pg_text.specs.Spelling.IsQuoted.{none, shown, escaped}
 use Rattle.pg_text.specs.Writing.{quoted_text, escape_text}

@@ -1,5 +1,7 @@
 -- What is written of a term is read as that term: level by level.
-use Rattle.std.proofs.Common.{◌≡◌, ℕ, zero, suc, ◌+◌, ◌^◌, ◌<◌, ◌≤◌, true, false, cond, List, [], ◌∷◌, ◌++◌, ◌==◌, length, get_or, take, drop, map, refl, sym, ap, ◌∙◌, subst, rules, append_assoc, arith, Some, ℤ}
+use Rattle.std.proofs.Common.{◌≡◌, ℕ, zero, suc, ◌+◌, ◌^◌, ◌<◌, ◌≤◌, true, false, cond, List}
+use Rattle.std.proofs.Common.{[], ◌∷◌, ◌++◌, ◌==◌, length, get_or, take, drop, map, refl}
+use Rattle.std.proofs.Common.{sym, ap, ◌∙◌, subst, rules, append_assoc, arith, Some, ℤ}
 use Rattle.std.specs.Prelude.{decimal, FitsSigned}
 use Rattle.std.specs.Fmt.{signed_decimal}
 use Rattle.std.specs.Int.{w64}
@@ -15,11 +17,14 @@ use Rattle.pg_term.specs.declared.term.Term.TheVariants.{Int, Atom as Name, Ref,
 use Rattle.pg_term.specs.RefParts.{RefParts}
 use Rattle.pg_term.specs.Depth.{depth, greatest_depth}
 use Rattle.pg_text.specs.Again.{NoWord, ReadsAs, ReadsBack, ReadBack}
-use Rattle.pg_text.specs.Reading.{as_term, begins, begins_number, integer_at, atom_at, pid_at, reference_at, numeral_at, elements_at, ended, then_read, bytes_at, angled_at, leaf_at, term_at}
-use Rattle.pg_text.specs.Writing.{term_text, terms_text, atom_text, pid_text, reference_text, part_text, creation_text, binary_text, between_text, listed, more_text}
+use Rattle.pg_text.specs.Reading.{as_term, begins, begins_number, integer_at, atom_at, pid_at, reference_at}
+use Rattle.pg_text.specs.Reading.{numeral_at, elements_at, ended, then_read, bytes_at, angled_at, leaf_at, term_at}
+use Rattle.pg_text.specs.Writing.{term_text, terms_text, atom_text, pid_text, reference_text, part_text}
+use Rattle.pg_text.specs.Writing.{creation_text, binary_text, between_text, listed, more_text}
 use Rattle.pg_text.proofs.AtomsBack.{atom_back, atom_begins, atom_no_number, atom_some}
 use Rattle.pg_text.proofs.Fronts.{term_leaf}
-use Rattle.pg_text.proofs.NumbersBack.{numeral_back, decimal_begins, integer_back, integer_is_number, integer_begins, integer_some, no_digit}
+use Rattle.pg_text.proofs.NumbersBack.{numeral_back, decimal_begins, integer_back}
+use Rattle.pg_text.proofs.NumbersBack.{integer_is_number, integer_begins, integer_some, no_digit}
 use Rattle.pg_text.proofs.PartsBack.{regroup, regroup_three, pid_back, reference_back, IsBack, AreBack, elements_back}
 
 -- a term without terms in it

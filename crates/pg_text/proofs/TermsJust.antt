@@ -1,5 +1,6 @@
 -- What is read of atoms, pids, references and terms is what spells them.
-use Rattle.std.proofs.Common.{◌≡◌, ℕ, zero, suc, ◌+◌, ◌≤◌, Bool, true, false, ◌&&◌, ◌==◌, cond, List, [], ◌∷◌, ◌++◌, length, take, drop, refl, sym, ap, ◌∙◌, subst, append_assoc, arith, Some, None, Option}
+use Rattle.std.proofs.Common.{◌≡◌, ℕ, zero, suc, ◌+◌, ◌≤◌, Bool, true, false, ◌&&◌, ◌==◌, cond, List, [], ◌∷◌, ◌++◌}
+use Rattle.std.proofs.Common.{length, take, drop, refl, sym, ap, ◌∙◌, subst, append_assoc, arith, Some, None, Option}
 use Rattle.std.proofs.lemmas.Bool.Decides.{nat_tests}
 use Rattle.std.proofs.lemmas.List.{append-nil, take-append-drop}
 use Rattle.std.specs.Prelude.{decimal, nat_lt}
@@ -14,11 +15,15 @@ use Rattle.pg_text.proofs.JustThose.{read_inv, cond_inv, some_inv, begins_inv, b
 use Rattle.pg_text.proofs.PartsBack.{regroup, regroup_three, regroup_four}
 use Rattle.pg_text.proofs.QuotedJust.{within_quotes}
 use Rattle.pg_text.specs.declared.reading.quoted.Place.TheVariants.{Plain}
-use Rattle.pg_text.specs.Reading.{Read, then_read, with_front, begins, ended, number_at, numeral_at, integer_at, quoted_at, short, unless_bare, bare_at, atom_at, part_at, creation_at, told_creation, numbers_at, pid_at, words_at, some_words, reference_at, next_element, elements_from, elements_at, bytes_at, as_term, begins_number, angled_at, leaf_at, term_at, whole}
+use Rattle.pg_text.specs.Reading.{Read, then_read, with_front, begins, ended, number_at, numeral_at, integer_at}
+use Rattle.pg_text.specs.Reading.{quoted_at, short, unless_bare, bare_at, atom_at, part_at, creation_at, told_creation}
+use Rattle.pg_text.specs.Reading.{numbers_at, pid_at, words_at, some_words, reference_at, next_element, elements_from}
+use Rattle.pg_text.specs.Reading.{elements_at, bytes_at, as_term, begins_number, angled_at, leaf_at, term_at, whole}
 use Rattle.pg_text.specs.Spelling.{IsAtomText, IsText, AreTexts}
 use Rattle.pg_text.specs.Spelling.IsAtomText.{bare, quoted}
 use Rattle.pg_text.specs.Spelling as s
-use Rattle.pg_text.specs.Writing.{is_word, is_bare, begins_lower, part_text, creation_text, pid_with, reference_with, listed, more_text, binary_text, between_text}
+use Rattle.pg_text.specs.Writing.{is_word, is_bare, begins_lower, part_text, creation_text, pid_with}
+use Rattle.pg_text.specs.Writing.{reference_with, listed, more_text, binary_text, between_text}
 
 unless_inv : {A : Type 0} (b : Bool) (x : Option A) (y : A) → cond b None x ≡ Some y → (b ≡ false) × (x ≡ Some y)
 unless_inv true x y e = absurd (cc)

@@ -1,5 +1,7 @@
 -- Reading from left to right: what stands at the front of a text, a list of characters, and what follows it.
-use Rattle.std.specs.Prelude.{ℕ, zero, suc, ◌+◌, ◌-◌, ◌*◌, ℤ, pos, negsuc, List, [], ◌∷◌, ◌++◌, length, take, drop, Bool, true, false, not, ◌&&◌, ◌||◌, ◌==◌, nat_lt, nat_le, Option, Some, None, if◌then◌else◌}
+use Rattle.std.specs.Prelude.{ℕ, zero, suc, ◌+◌, ◌-◌, ◌*◌, ℤ, pos, negsuc, List, [], ◌∷◌}
+use Rattle.std.specs.Prelude.{◌++◌, length, take, drop, Bool, true, false, not, ◌&&◌, ◌||◌}
+use Rattle.std.specs.Prelude.{◌==◌, nat_lt, nat_le, Option, Some, None, if◌then◌else◌}
 use Rattle.std.specs.Char.{digit_value, is_ascii_digit, is_ascii_control}
 use Rattle.std.specs.List.{prefix_len}
 use lib.Utf8.{scalar}

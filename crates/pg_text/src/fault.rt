@@ -17,6 +17,8 @@ impl TextFault {
     ghost use Rattle.pg_text.specs.Faults.{text_number_of};
 
     /// The number of the fault in this project's one list of faults.
+    ///
+    /// Cost: no memory.
     pub fn number(self) -> u8
         ensures { result ≡ text_number_of self }
     {

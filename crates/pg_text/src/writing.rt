@@ -6,7 +6,11 @@ ghost use Rattle.std.specs.Fmt.{signed_decimal};
 ghost use Rattle.std.specs.List.{flat_map};
 ghost use Rattle.std.specs.Str.{chars};
 ghost use Rattle.pg_text.specs.Again.{ReadsBack, ReadBack};
-ghost use Rattle.pg_text.specs.Writing.{Adds, is_word as counts_as_word, is_bare as stands_bare, begins_lower, atom_text, pid_text, part_text, reference_text, binary_text, term_text, terms_text, change_text, membership_text, update_text, escape_text, quoted_text, hex_text, creation_text, between_text, more_text, listed, comma_text};
+ghost use Rattle.pg_text.specs.Writing.{Adds, is_word as counts_as_word, is_bare as stands_bare};
+ghost use Rattle.pg_text.specs.Writing.{begins_lower, atom_text, pid_text, part_text, reference_text};
+ghost use Rattle.pg_text.specs.Writing.{binary_text, term_text, terms_text, change_text, membership_text};
+ghost use Rattle.pg_text.specs.Writing.{update_text, escape_text, quoted_text, hex_text, creation_text};
+ghost use Rattle.pg_text.specs.Writing.{between_text, more_text, listed, comma_text};
 
 use crate::again::{atom_again, binary_again, integer_again, pid_again, reference_again};
 use itoa::Buffer;

@@ -7,7 +7,8 @@ use Rattle.pg_lines.specs.declared.rows.Widths.{Widths}
 use Rattle.pg_lines.specs.Rows.{row_line}
 use Rattle.pg_trace.specs.declared.letter.Letter.{Letter}
 use Rattle.pg_trace.specs.declared.seen.Seen.{Seen}
-use Rattle.pg_trace.specs.declared.seen.Seen.TheVariants.{Put, Pulled, NotThere, Taken, Came, Tried, Sent, Granted, Freed, Denied, Waits, Answered, LossSeen, Lost}
+use Rattle.pg_trace.specs.declared.seen.Seen.TheVariants.{Put, Pulled, NotThere, Taken, Came, Tried, Sent}
+use Rattle.pg_trace.specs.declared.seen.Seen.TheVariants.{Granted, Freed, Denied, Waits, Answered, LossSeen, Lost}
 use Rattle.pg_trace.specs.Traces.{Appends, IsLine, Names, PrintsSight}
 
 -- a row that was filled, and printed

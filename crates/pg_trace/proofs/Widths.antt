@@ -1,5 +1,6 @@
 -- The longest of some names.
-use Rattle.std.proofs.Common.{◌≡◌, ℕ, ◌+◌, ◌<◌, max, [], ◌∷◌, ◌++◌, take, length, get_or, String, Global, string_bytes, ap, sym, ◌∙◌, arith}
+use Rattle.std.proofs.Common.{◌≡◌, ℕ, ◌+◌, ◌<◌, max, [], ◌∷◌, ◌++◌, take, length}
+use Rattle.std.proofs.Common.{get_or, String, Global, string_bytes, ap, sym, ◌∙◌, arith}
 use Rattle.std.specs.Str.{chars}
 use Rattle.std.proofs.lemmas.List.{take_more}
 use Rattle.pg_trace.specs.Traces.{Names, widest}

@@ -1,5 +1,6 @@
 -- The lines of a trace: what each cell of a line has.
-use Rattle.std.specs.Prelude.{◌≡◌, ℕ, ◌+◌, ◌^◌, ◌-◌, min, max, List, [], ◌∷◌, ◌++◌, Option, Some, None, String, string_bytes, slice_get, codes, decimal, length}
+use Rattle.std.specs.Prelude.{◌≡◌, ℕ, ◌+◌, ◌^◌, ◌-◌, min, max, List, [], ◌∷◌, ◌++◌, Option, Some}
+use Rattle.std.specs.Prelude.{None, String, string_bytes, slice_get, codes, decimal, length}
 use Rattle.std.specs.declared.alloc.Global.{Global}
 use Rattle.std.specs.Str.{chars}
 use Rattle.pg_text.specs.Writing.{Adds}
@@ -8,7 +9,8 @@ use Rattle.pg_lines.specs.declared.rows.Widths.{Widths}
 use Rattle.pg_lines.specs.Rows.{row_line}
 use Rattle.pg_trace.specs.declared.letter.Letter.{Letter}
 use Rattle.pg_trace.specs.declared.seen.Seen.{Seen}
-use Rattle.pg_trace.specs.declared.seen.Seen.TheVariants.{Put, Pulled, NotThere, Taken, Came, Tried, Sent, Granted, Freed, Denied, Waits, Answered, LossSeen, Lost}
+use Rattle.pg_trace.specs.declared.seen.Seen.TheVariants.{Put, Pulled, NotThere, Taken, Came, Tried, Sent}
+use Rattle.pg_trace.specs.declared.seen.Seen.TheVariants.{Granted, Freed, Denied, Waits, Answered, LossSeen, Lost}
 
 abbrev pub Names : Type 0
 Names = List (String Global)

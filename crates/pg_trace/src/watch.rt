@@ -148,6 +148,8 @@ impl Watch {
     }
 
     /// What is seen from now on belongs to this line.
+    ///
+    /// Cost: no memory.
     pub fn begin(&mut self, line: usize)
         ensures line { self.new.line ≡ line }
         ensures sights { self.new.sights ≡ self.old.sights }

@@ -1,7 +1,8 @@
 //! A link of one's own: a queue of bytes in memory that counts what crossed it.
 
 ghost use Rattle.pg_ring.specs.MemRing.{Grows, HasRoomFor, HasUnread, Loses};
-ghost use Rattle.pg_ring.specs.MemRingLaws.{Grows-agrees, Grows-composes, Grows-rests, Loses-agrees, Loses-composes, Loses-rests};
+ghost use Rattle.pg_ring.specs.MemRingLaws.{Grows-agrees, Grows-composes, Grows-rests};
+ghost use Rattle.pg_ring.specs.MemRingLaws.{Loses-agrees, Loses-composes, Loses-rests};
 
 use pg_ring::{Inlet, Link, MemRing};
 use std::alloc::Global;

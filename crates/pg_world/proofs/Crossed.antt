@@ -1,5 +1,6 @@
 -- What a world of bytes shows once bytes have moved, or a node has made a turn.
-use Rattle.std.proofs.Common.{◌≡◌, ◌≢◌, ◌≤◌, ◌+◌, ℕ, Bool, true, false, cond, nat_eq, map, get_or, length, List, [], ◌∷◌, ◌++◌, refl, sym, ap, ◌∙◌, inl, inr, ◌⊎◌, arith, subst, length-append}
+use Rattle.std.proofs.Common.{◌≡◌, ◌≢◌, ◌≤◌, ◌+◌, ℕ, Bool, true, false, cond, nat_eq, map, get_or, length, List}
+use Rattle.std.proofs.Common.{[], ◌∷◌, ◌++◌, refl, sym, ap, ◌∙◌, inl, inr, ◌⊎◌, arith, subst, length-append}
 use Rattle.std.specs.Int.{w32, to_be_bytes}
 use Rattle.std.specs.List.{AllByRecursion}
 use Rattle.std.proofs.lemmas.Bool.{cases_eq}
@@ -19,7 +20,8 @@ use Rattle.pg_node_state.specs.States.{stamped_of}
 use Rattle.pg_starts.specs.Seen.{Seen}
 use Rattle.pg_frame_world.specs.Views.{peer_place, packets_to}
 use Rattle.pg_frame_world.specs.Worlds.{TimedFrameWorld, ShowsNodes}
-use Rattle.pg_world.specs.Crossings.{Crossing, link_at, bytes_at, packet_as, packets_between, written_of, CanCross, IsOnWay, ShowsPast}
+use Rattle.pg_world.specs.Crossings.{Crossing, link_at, bytes_at, packet_as, packets_between}
+use Rattle.pg_world.specs.Crossings.{written_of, CanCross, IsOnWay, ShowsPast}
 use Rattle.pg_world.specs.Changes.{Moves, links_at}
 use Rattle.pg_account.specs.Losses.{is_lost}
 use Rattle.pg_world.proofs.Past.{Adds, way_sent}

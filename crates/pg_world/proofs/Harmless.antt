@@ -1,5 +1,6 @@
 -- A packet on the way is never refused as no message.
-use Rattle.std.proofs.Common.{◌≡◌, ◌≢◌, ◌+◌, ℕ, Bool, true, false, cond, max, nat_le, map, List, ◌∷◌, ◌++◌, None, Result, Ok, Err, refl, ap}
+use Rattle.std.proofs.Common.{◌≡◌, ◌≢◌, ◌+◌, ℕ, Bool, true, false, cond, max, nat_le}
+use Rattle.std.proofs.Common.{map, List, ◌∷◌, ◌++◌, None, Result, Ok, Err, refl, ap}
 use Rattle.pg_message.specs.declared.message.Message.{Message}
 use Rattle.pg_machine.specs.Places.{is_pair}
 use Rattle.pg_machine.specs.Clocked.{Stamped, plain, packets_of}

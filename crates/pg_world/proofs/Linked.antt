@@ -1,10 +1,12 @@
 -- What a world of bytes is seen as where one of its nodes, or a ring from it, is another.
-use Rattle.std.proofs.Common.{◌≡◌, ◌≢◌, ◌<◌, ◌+◌, ◌-◌, ℕ, replicate, true, cond, nat_lt, map, get_or, take, drop, length, List, [], ◌∷◌, ◌++◌, Some, None, refl, sym, ap, ◌∙◌, inl, inr, ◌⊎◌, arith, subst}
+use Rattle.std.proofs.Common.{◌≡◌, ◌≢◌, ◌<◌, ◌+◌, ◌-◌, ℕ, replicate, true, cond, nat_lt, map, get_or, take, drop}
+use Rattle.std.proofs.Common.{length, List, [], ◌∷◌, ◌++◌, Some, None, refl, sym, ap, ◌∙◌, inl, inr, ◌⊎◌, arith, subst}
 use Rattle.std.specs.Prelude.{slice_get, slice_set, min, Err}
 use Rattle.std.specs.List.{All}
 use Rattle.std.proofs.lemmas.Bool.{cases_eq, eq-eqb, ne_eqb}
 use Rattle.std.proofs.lemmas.Option.{slice_get_read, slice_get_within}
-use Rattle.std.proofs.lemmas.List.{get_or-map, get_or-set_same, get_or-set_other, get_or-replicate, map-set, length-map, length-replicate}
+use Rattle.std.proofs.lemmas.List.{get_or-map, get_or-set_same, get_or-set_other}
+use Rattle.std.proofs.lemmas.List.{get_or-replicate, map-set, length-map, length-replicate}
 use Rattle.pg_frame.specs.Frames.{after_front}
 use Rattle.pg_group.specs.Functions.{upd}
 use Rattle.pg_group.specs.declared.table.GroupTable.{Ghosts}

@@ -1,5 +1,6 @@
 -- A packet that a node takes off the bytes that came.
-use Rattle.std.proofs.Common.{◌≡◌, ◌≢◌, ◌+◌, ℕ, Bool, true, false, ◌||◌, cond, nat_eq, map, length, List, [], ◌∷◌, Option, Some, None, Result, Ok, Err, refl, sym, ap, ◌∙◌, inl, inr, ◌⊎◌, subst}
+use Rattle.std.proofs.Common.{◌≡◌, ◌≢◌, ◌+◌, ℕ, Bool, true, false, ◌||◌, cond, nat_eq, map, length, List, []}
+use Rattle.std.proofs.Common.{◌∷◌, Option, Some, None, Result, Ok, Err, refl, sym, ap, ◌∙◌, inl, inr, ◌⊎◌, subst}
 use Rattle.std.specs.Prelude.{slice_get, slice_set}
 use Rattle.std.specs.List.{AllByRecursion}
 use Rattle.std.proofs.Math.Path.{fun_ext}
@@ -18,13 +19,15 @@ use Rattle.pg_frame.specs.Pieces.{taken as bytes_taken}
 use Rattle.pg_opens.specs.Places.{whole_in, name_at as place_name}
 use Rattle.pg_step.specs.declared.answer.Answer.{Answer}
 use Rattle.pg_step.specs.declared.refusal.Refusal.{Refusal}
-use Rattle.pg_step.specs.declared.refusal.Refusal.TheVariants.{NotAMessage, NoSuchPlace, NotWaiting, NodeLost, NotDrained, ClockFull, NotLost}
+use Rattle.pg_step.specs.declared.refusal.Refusal.TheVariants.{NotAMessage, NoSuchPlace, NotWaiting}
+use Rattle.pg_step.specs.declared.refusal.Refusal.TheVariants.{NodeLost, NotDrained, ClockFull, NotLost}
 use Rattle.pg_step.specs.Config.{Config}
 use Rattle.pg_step.specs.State.{State}
 use Rattle.pg_step.specs.Step.{Action, TimedTurn, step_take, step_act}
 use Rattle.pg_node_state.specs.declared.state.done.Done.{Done}
 use Rattle.pg_node_state.specs.declared.state.fault.NodeFault.{NodeFault}
-use Rattle.pg_node_state.specs.declared.state.fault.NodeFault.TheVariants.{Refused, OutOfMemory, Message as BadMessage, TooLong as FrameTooLong, Damaged}
+use Rattle.pg_node_state.specs.declared.state.fault.NodeFault.TheVariants.{Refused, OutOfMemory, Message as BadMessage}
+use Rattle.pg_node_state.specs.declared.state.fault.NodeFault.TheVariants.{TooLong as FrameTooLong, Damaged}
 use Rattle.pg_node.specs.Bytes.{Tells, damages, marked, packet_in, packet_at, next_packet}
 use Rattle.pg_node_state.specs.Frames.{AreSmallFrames}
 use Rattle.pg_node.specs.Links.{Link, at_link}
@@ -34,7 +37,8 @@ use Rattle.pg_node_state.specs.States.{stamped_of, Comes}
 use Rattle.pg_frame_world.specs.declared.effect.Effect.{Effect}
 use Rattle.pg_frame_world.specs.declared.step.Stepped.TheVariants.{Happened}
 use Rattle.pg_frame_world.specs.Effects.{effect_by}
-use Rattle.pg_world.specs.Crossings.{Crossing, link_at, bytes_at, packet_as, packets_between, CanCross, IsOnWay, IsWelcome, ShowsPast, ShowsBytesPast, EventComesTo}
+use Rattle.pg_world.specs.Crossings.{Crossing, link_at, bytes_at, packet_as, packets_between, CanCross}
+use Rattle.pg_world.specs.Crossings.{IsOnWay, IsWelcome, ShowsPast, ShowsBytesPast, EventComesTo}
 use Rattle.pg_account.specs.Losses.{is_lost}
 use Rattle.pg_account.specs.Histories.{asked_by}
 use Rattle.pg_starts.specs.Seen.{Seen}
@@ -44,7 +48,8 @@ use Rattle.pg_frame_world.specs.Worlds.{TimedFrameWorld, ComesTo}
 use Rattle.pg_world.proofs.Crossed.{Acts, all_short, event_shown}
 use Rattle.pg_world.proofs.Past.{Adds, ReadsFirst, ReadsLawful}
 use Rattle.pg_frame_world.proofs.Recording.{Grew, updates_after}
-use Rattle.pg_frame_world.proofs.Turning.{Left, pair_turned, pair_there, own_left, own_refused, taken_refused, taken_told, take_left}
+use Rattle.pg_frame_world.proofs.Turning.{Left, pair_turned, pair_there, own_left}
+use Rattle.pg_frame_world.proofs.Turning.{own_refused, taken_refused, taken_told, take_left}
 
 -- ---- links
 

@@ -1,5 +1,6 @@
 -- What bars a step over bytes where nodes may be lost: a place that is not there, and losses.
-use Rattle.std.specs.Prelude.{◌≡◌, ◌⊎◌, ℕ, Bool, true, false, not, ◌||◌, nat_lt, length, List, [], ◌∷◌, Option, Some, None, Result, Err}
+use Rattle.std.specs.Prelude.{◌≡◌, ◌⊎◌, ℕ, Bool, true, false, not, ◌||◌, nat_lt}
+use Rattle.std.specs.Prelude.{length, List, [], ◌∷◌, Option, Some, None, Result, Err}
 use Rattle.pg_machine.specs.Places.{is_pair}
 use Rattle.pg_step.specs.declared.refusal.Refusal.{Refusal}
 use Rattle.pg_step.specs.declared.refusal.Refusal.TheVariants.{NoSuchPlace, NodeLost, NotLost, NotDrained}

@@ -17,7 +17,8 @@ use Rattle.pg_world.specs.declared.step.Step.TheVariants as steps
 use Rattle.pg_frame_world.specs.declared.step.Stepped.{Stepped}
 use Rattle.pg_frame_world.specs.declared.step.Stepped.TheVariants.{Nothing, Moved, Gone}
 use Rattle.pg_world.specs.Crossings.{Crossing, ShowsBytesPast}
-use Rattle.pg_frame_world.specs.Losing.{SeenAreLost, Telling, losing_of, told_take, told_own, told_sight, LosingLed, LosingComesTo}
+use Rattle.pg_frame_world.specs.Losing.{SeenAreLost, Telling, losing_of, told_take}
+use Rattle.pg_frame_world.specs.Losing.{told_own, told_sight, LosingLed, LosingComesTo}
 use Rattle.pg_account.specs.Histories.{Account}
 use Rattle.pg_frame_world.specs.Worlds.{TimedFrameWorld}
 

@@ -1,5 +1,6 @@
 -- A world whose packets cross as bytes: how it is seen, and the frame world that it shows.
-use Rattle.std.specs.Prelude.{◌≡◌, ◌≢◌, ◌≤◌, ◌+◌, ◌-◌, ℕ, Bool, true, false, map, length, get_or, replicate, List, [], ◌∷◌, Some, Result, Ok, Err}
+use Rattle.std.specs.Prelude.{◌≡◌, ◌≢◌, ◌≤◌, ◌+◌, ◌-◌, ℕ, Bool, true, false, map, length}
+use Rattle.std.specs.Prelude.{get_or, replicate, List, [], ◌∷◌, Some, Result, Ok, Err}
 use Rattle.std.specs.List.{AllByRecursion}
 use Rattle.pg_term_io.specs.Writing.{written}
 use Rattle.pg_frame.specs.Frames.{IsBody}

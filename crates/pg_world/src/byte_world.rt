@@ -62,7 +62,8 @@ impl World<IndexTable> {
 }
 
 impl<T: GroupTable + Drop> World<T> {
-    ghost use Rattle.std.specs.Prelude.{◌≡◌, ◌<◌, ◌+◌, ◌↔◌, ◌++◌, [], true, false, IsTrue, IfOk, IfSome, ℕ, length, map, option_map, slice_get};
+    ghost use Rattle.std.specs.Prelude.{◌≡◌, ◌<◌, ◌+◌, ◌↔◌, ◌++◌, [], true, false, IsTrue};
+    ghost use Rattle.std.specs.Prelude.{IfOk, IfSome, ℕ, length, map, option_map, slice_get};
     ghost use Rattle.std.specs.Option.{option_copied};
     ghost use Rattle.pg_term.specs.declared.term.Term.{Term};
     ghost use Rattle.pg_machine.specs.Clocked.{plain};
@@ -106,8 +107,9 @@ impl<T: GroupTable + Drop> World<T> {
         self.bytes.histories.history(name)
     }
 
-    /// How many updates of a group a node has applied: those that it began, and those that it took of its peers. It takes no
-    /// memory: O(log n) in the groups that were named.
+    /// How many updates of a group a node has applied: those that it began, and those that it took of its peers.
+    ///
+    /// Cost: no memory; O(log n) in the groups that were named.
     pub fn applied(&self, node: usize, name: &Term) -> u128
         ensures { result ≡ (account_of self.now).applied node name.now }
     {
@@ -188,6 +190,9 @@ impl<T: GroupTable + Drop> World<T> {
     /// is refused by `NodeLost`, after `NoSuchPlace`, and so is a pull or a take of a peer whose loss was seen.
     /// `SeeLoss`: `NoSuchPlace`; `NodeLost`, also where it was seen before; `NotLost`; `NotDrained` where bytes of
     /// the peer are on the ring, or a whole frame of it has come; `ClockFull`. `Lose`: `NoSuchPlace`, `NodeLost`.
+    ///
+    /// Cost: that of the call of `Node`; for an event also O(log n) in the groups that were named, and memory for one
+    /// more entry of a history. A loss: O(n) in the nodes that are lost.
     pub fn step(&mut self, step: &Step) -> Result<Stepped, NodeFault>
         ensures goes_on { ∥ BytesGoOn (given_of self.old) (crossing_of self.old) (account_of self.old) (lost_of self.old) step.now result (crossing_of self.new) (account_of self.new) (lost_of self.new) ∥₁ }
         ensures grows { HistoriesGrow (account_of self.old) (account_of self.new) }

@@ -1,6 +1,7 @@
 //! Nodes whose packets cross as bytes, by rings between them, and what a step makes of them.
 
-ghost use Rattle.std.specs.Prelude.{◌≡◌, ◌+◌, ◌^◌, ℕ, List, true, false, [], Ok, Some, None, IfOk, length, option_map, slice_get};
+ghost use Rattle.std.specs.Prelude.{◌≡◌, ◌+◌, ◌^◌, ℕ, List, true, false, [], Ok};
+ghost use Rattle.std.specs.Prelude.{Some, None, IfOk, length, option_map, slice_get};
 ghost use Rattle.std.specs.List.{All};
 ghost use Rattle.pg_node.specs.Nodes.{held_by};
 ghost use Rattle.pg_node_state.specs.States.{names_of};
@@ -62,12 +63,16 @@ impl<T: GroupTable + Drop> ByteNodes<T> {
     ghost use Rattle.pg_frame_world.specs.Losing.{IsReachedLosing};
     ghost use Rattle.pg_account.specs.Losses.{lost_in, is_lost};
     ghost use Rattle.pg_frame_world.specs.Losing.{SeenAreLost, lost_after};
-    ghost use Rattle.pg_world.specs.Bars.{IsHeld, StepTellsUndrained, TellsUndrained, put_bar, pull_bar, event_bar, bar_of, bytes_lost_after};
+    ghost use Rattle.pg_world.specs.Bars.{IsHeld, StepTellsUndrained, TellsUndrained, put_bar};
+    ghost use Rattle.pg_world.specs.Bars.{pull_bar, event_bar, bar_of, bytes_lost_after};
     ghost use Rattle.pg_frame_world.specs.Worlds.{has_port, has_places, TimedFrameWorld};
     ghost use Rattle.pg_account.specs.Histories.{no_account};
-    ghost use Rattle.pg_world.specs.Changes.{Moves, put_count, pull_count, MoveChanges, EventChanges, FrameChanges, StepChanges};
+    ghost use Rattle.pg_world.specs.Changes.{Moves, put_count, pull_count, MoveChanges};
+    ghost use Rattle.pg_world.specs.Changes.{EventChanges, FrameChanges, StepChanges};
     ghost use Rattle.pg_frame.specs.Pieces.{put, pull};
-    ghost use Rattle.pg_world.specs.Crossings.{crossing_of, node_of, room_of, idle_crossing, link_at, bytes_at, IsWelcome, ShowsPast, ShowsBytes, ShowsBytesPast, EventComesTo, FrameComesTo, StepComesTo};
+    ghost use Rattle.pg_world.specs.Crossings.{crossing_of, node_of, room_of, idle_crossing, link_at};
+    ghost use Rattle.pg_world.specs.Crossings.{bytes_at, IsWelcome, ShowsPast, ShowsBytes};
+    ghost use Rattle.pg_world.specs.Crossings.{ShowsBytesPast, EventComesTo, FrameComesTo, StepComesTo};
     ghost use Rattle.pg_frame_world.specs.Worlds.{IsReached};
 
     /// A world of these nodes, with an empty ring from each to each other, which has room for `ring` bytes, and where

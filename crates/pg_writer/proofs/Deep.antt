@@ -1,5 +1,6 @@
 -- How deep a packet's term nests.
-use Rattle.std.proofs.Common.{◌≡◌, ℕ, ℤ, ◌+◌, ◌≤◌, max, Bool, true, false, List, [], ◌∷◌, map, codes, pos, arith, rules, refl}
+use Rattle.std.proofs.Common.{◌≡◌, ℕ, ℤ, ◌+◌, ◌≤◌, max, Bool, true, false, List}
+use Rattle.std.proofs.Common.{[], ◌∷◌, map, codes, pos, arith, rules, refl}
 use Rattle.std.specs.Prelude.{◌&&◌, nat_le, length}
 use Rattle.std.specs.List.{list_all}
 use Rattle.std.proofs.lemmas.Bool.{leb-true}

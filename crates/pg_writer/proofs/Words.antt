@@ -1,12 +1,14 @@
 -- Words as atoms, and tuples and lists of few elements.
-use Rattle.std.proofs.Common.{◌≡◌, ℕ, ℤ, ◌+◌, ◌≤◌, Bool, true, cond, List, [], ◌∷◌, ◌++◌, length, length-append, append_assoc, ap, ◌∙◌, arith, rules}
+use Rattle.std.proofs.Common.{◌≡◌, ℕ, ℤ, ◌+◌, ◌≤◌, Bool, true, cond, List, [], ◌∷◌, ◌++◌}
+use Rattle.std.proofs.Common.{length, length-append, append_assoc, ap, ◌∙◌, arith, rules}
 use Rattle.std.specs.Int.{w16, to_be_bytes}
 use Rattle.std.proofs.lemmas.Bool.{lt-ltb}
 use Rattle.pg_term.specs.declared.pid.Pid.{Pid}
 use Rattle.pg_term.specs.RefParts.{RefParts}
 use Rattle.pg_term.specs.declared.term.Term.{Term, Tuple, List as Listed, the_lemmas}
 use Rattle.pg_term.specs.declared.term.Term.TheVariants.{Int, Atom, Ref, Pid as Process}
-use Rattle.pg_term_io.specs.Writing.{list_head, item_bytes, int_bytes, atom_bytes, pid_bytes, reference_bytes, text_bytes}
+use Rattle.pg_term_io.specs.Writing.{list_head, item_bytes, int_bytes, atom_bytes}
+use Rattle.pg_term_io.specs.Writing.{pid_bytes, reference_bytes, text_bytes}
 use Rattle.std.proofs.lemmas.List.{append-nil}
 use Rattle.pg_term_io.proofs.Written.{list_is}
 use Rattle.pg_message.specs.Writing.{pair, triple, is_plain}

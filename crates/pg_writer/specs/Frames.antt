@@ -1,5 +1,6 @@
 -- What a writer of one packet does.
-use Rattle.std.specs.Prelude.{◌≡◌, ℕ, ◌+◌, ◌≤◌, List, ◌++◌, length, true, false, Result, Ok, Err, IsOk, OnOk, OnErr, MatchResult}
+use Rattle.std.specs.Prelude.{◌≡◌, ℕ, ◌+◌, ◌≤◌, List, ◌++◌, length, true, false}
+use Rattle.std.specs.Prelude.{Result, Ok, Err, IsOk, OnOk, OnErr, MatchResult}
 use Rattle.bytes.specs.Filled.{Filled}
 use Rattle.pg_term_io.specs.Writing.{written}
 use Rattle.pg_message.specs.declared.fault.MessageFault.{MessageFault}

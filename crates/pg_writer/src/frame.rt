@@ -1,6 +1,7 @@
 //! Packets to bodies and frames.
 
-ghost use Rattle.std.specs.Prelude.{◌≡◌, ◌+◌, ◌≤◌, ◌++◌, length, true, false, Ok, Err, IfOk, IsOk, OnOk, OnErr, MatchResult};
+ghost use Rattle.std.specs.Prelude.{◌≡◌, ◌+◌, ◌≤◌, ◌++◌, length, true, false, Ok};
+ghost use Rattle.std.specs.Prelude.{Err, IfOk, IsOk, OnOk, OnErr, MatchResult};
 ghost use Rattle.pg_term_io.specs.Writing.{written, IsSpelled};
 ghost use Rattle.pg_message.specs.Fault.{Gives};
 ghost use Rattle.pg_message.specs.declared.fault.MessageFault.{MessageFault};

@@ -5,7 +5,8 @@ ghost use Rattle.pg_term.specs.declared.term.Term.{List};
 ghost use Rattle.pg_term.specs.declared.term.Term.TheVariants as terms;
 ghost use Rattle.pg_term_io.specs.Writing.{item_bytes, all_bytes, written, IsSpelled};
 ghost use Rattle.pg_message.specs.declared.message.Message.TheVariants as messages;
-ghost use Rattle.pg_message.specs.Writing.{pair, triple, update_term, request_term, said_term, group_term, message_term, term_of_packet, is_plain};
+ghost use Rattle.pg_message.specs.Writing.{pair, triple, update_term, request_term, said_term};
+ghost use Rattle.pg_message.specs.Writing.{group_term, message_term, term_of_packet, is_plain};
 ghost use Rattle.pg_writer.specs.Puts.{Puts, PutsAll, PutsOpening};
 ghost use Rattle.pg_writer.specs.Told.{reference_lent, asked_for, message_told, packet_told};
 

@@ -1,6 +1,7 @@
 //! How many bytes packets take.
 
-ghost use Rattle.std.specs.Prelude.{◌≡◌, ◌+◌, ◌≤◌, ◌∷◌, [], ℕ, pos, codes, map, length, min, IfOk, IsOk, IfSome, IfNone, true, false};
+ghost use Rattle.std.specs.Prelude.{◌≡◌, ◌+◌, ◌≤◌, ◌∷◌, [], ℕ, pos, codes, map, length};
+ghost use Rattle.std.specs.Prelude.{min, IfOk, IsOk, IfSome, IfNone, true, false};
 ghost use Rattle.std.specs.List.{list_all};
 ghost use Rattle.pg_term.specs.declared.term.Term.{List};
 ghost use Rattle.pg_term.specs.declared.term.Term.TheVariants as terms;
@@ -8,7 +9,8 @@ ghost use Rattle.pg_term_io.specs.Writing.{item_bytes, all_bytes};
 ghost use Rattle.pg_group.specs.Value.{name_of};
 ghost use Rattle.pg_message.specs.declared.message.Message.TheVariants as messages;
 ghost use Rattle.pg_message.specs.Name.{is_name};
-ghost use Rattle.pg_message.specs.Writing.{pair, triple, update_term, said_term, group_term, message_term, is_plain, is_exchange, is_sayable, body_of, length_of};
+ghost use Rattle.pg_message.specs.Writing.{pair, triple, update_term, said_term, group_term, message_term};
+ghost use Rattle.pg_message.specs.Writing.{is_plain, is_exchange, is_sayable, body_of, length_of};
 ghost use Rattle.pg_writer.specs.Told.{reference_lent, asked_for, message_told, packet_told};
 
 use crate::told::{Asked, Mark, Told};

@@ -17,7 +17,8 @@ impl<T: GroupTable + Drop> FrameNodes<T> {
     ghost use Rattle.pg_step.specs.declared.refusal.Refusal.TheVariants.{NotLost};
     ghost use Rattle.pg_node_state.specs.declared.state.fault.NodeFault.TheVariants.{Refused};
     ghost use Rattle.pg_account.specs.Losses.{is_lost};
-    ghost use Rattle.pg_frame_world.specs.Losing.{lost_of, lost_with, seen_at, is_cut_off, is_barred, told_sight, told_loss, ShowsLosing, LosingComesTo};
+    ghost use Rattle.pg_frame_world.specs.Losing.{lost_of, lost_with, seen_at, is_cut_off, is_barred};
+    ghost use Rattle.pg_frame_world.specs.Losing.{told_sight, told_loss, ShowsLosing, LosingComesTo};
     ghost use Rattle.pg_frame_world.specs.Views.{CanStay, on_the_way};
     ghost use Rattle.pg_frame_world.specs.Worlds.{traffic_of, view_of, has_places};
 

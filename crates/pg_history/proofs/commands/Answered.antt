@@ -1,5 +1,6 @@
 -- What each step makes of the answers of its node: none is given, or one is, behind its lock or at once.
-use Rattle.std.proofs.Common.{◌≡◌, ℕ, Bool, true, false, cond, nat_le, nat_lt, Option, Some, None, Ok, Err, refl, ap, sym, ◌∙◌, subst}
+use Rattle.std.proofs.Common.{◌≡◌, ℕ, Bool, true, false, cond, nat_le, nat_lt}
+use Rattle.std.proofs.Common.{Option, Some, None, Ok, Err, refl, ap, sym, ◌∙◌, subst}
 use Rattle.pg_term.specs.declared.pid.Pid.{Pid}
 use Rattle.pg_term.specs.declared.term.Term.{Term}
 use Rattle.pg_group.specs.declared.update.Update.{Update}
@@ -21,7 +22,8 @@ use Rattle.pg_step.specs.State.Response.{Given}
 use Rattle.pg_step.specs.Turns.{NodeTurn, Report, becomes_and_sends, and_then, first_of}
 use Rattle.pg_step.specs.Peers.{ended_in}
 use Rattle.pg_step.specs.Attempts.{same_op, attempt, waits, tried_again}
-use Rattle.pg_step.specs.Commands.{OPEN_LIMIT, look, answer, open_command, undertake, change_by, change, carried_out, command_by, fault_of, next_op, count_command, command as command_in, refused}
+use Rattle.pg_step.specs.Commands.{OPEN_LIMIT, look, answer, open_command, undertake, change_by, change, carried_out}
+use Rattle.pg_step.specs.Commands.{command_by, fault_of, next_op, count_command, command as command_in, refused}
 use Rattle.pg_step.specs.Step.{Action, Issue, Retry, acted}
 use Rattle.pg_step.specs.declared.refusal.Refusal.TheVariants.{NoSuchPlace, NotWaiting}
 use Rattle.pg_step.specs.Config.{Config, name_at, nodes_at, ports_at}

@@ -1,5 +1,6 @@
 -- Each command that came in is answered or open, in each run.
-use Rattle.std.proofs.Common.{◌≡◌, ◌⊎◌, inl, inr, ℕ, zero, suc, ◌+◌, Bool, true, false, cond, nat_eq, nat_lt, length, List, [], ◌∷◌, ◌++◌, Option, Some, None, Ok, Err, refl, ap, sym, ◌∙◌, subst, arith}
+use Rattle.std.proofs.Common.{◌≡◌, ◌⊎◌, inl, inr, ℕ, zero, suc, ◌+◌, Bool, true, false, cond, nat_eq, nat_lt, length}
+use Rattle.std.proofs.Common.{List, [], ◌∷◌, ◌++◌, Option, Some, None, Ok, Err, refl, ap, sym, ◌∙◌, subst, arith}
 use Rattle.std.proofs.lemmas.Bool.{eq-eqb, ne_eqb, cases_eq}
 use Rattle.std.proofs.lemmas.Bool.Decides.{Decides-ltb}
 use Rattle.std.proofs.lemmas.List.{length-append}
@@ -28,7 +29,8 @@ use Rattle.pg_history.specs.Counted.{CountsCommands, open_at, open_in}
 use Rattle.pg_history.specs.History.{Answers, answers_by}
 use Rattle.pg_history.specs.Reached.{Reaches, TimedFrameWorld}
 use Rattle.pg_history.proofs.commands.Answered.{NoCommand}
-use Rattle.pg_history.proofs.commands.Counting.{Counts, Keeps, gave_at, counted_keeps_all, counts_singly, command_done, same_keeps}
+use Rattle.pg_history.proofs.commands.Counting.{Counts, Keeps, gave_at, counted_keeps_all}
+use Rattle.pg_history.proofs.commands.Counting.{counts_singly, command_done, same_keeps}
 use Rattle.pg_history.proofs.commands.Ports.{counts_by, step_counts}
 use Rattle.pg_history.proofs.commands.Stand.{and_gave}
 use Rattle.pg_history.proofs.commands.StandRuns.{own_answers, other_answers}

@@ -1,5 +1,6 @@
 -- Each command that came in is answered, or open.
-use Rattle.std.proofs.Common.{◌≡◌, ◌≢◌, ◌⊎◌, inl, inr, ℕ, zero, suc, ◌+◌, ◌-◌, ◌<◌, ◌≤◌, Bool, true, false, ◌&&◌, cond, nat_eq, nat_le, Option, Some, None, refl, ap, sym, ◌∙◌, subst, arith, add-one}
+use Rattle.std.proofs.Common.{◌≡◌, ◌≢◌, ◌⊎◌, inl, inr, ℕ, zero, suc, ◌+◌, ◌-◌, ◌<◌, ◌≤◌, Bool, true, false, ◌&&◌}
+use Rattle.std.proofs.Common.{cond, nat_eq, nat_le, Option, Some, None, refl, ap, sym, ◌∙◌, subst, arith, add-one}
 use Rattle.std.proofs.lemmas.Bool.{eq-eqb, ne_eqb, eqb-true, cases_eq}
 use Rattle.pg_group.specs.declared.update.Update.{Update}
 use Rattle.pg_group.specs.Functions.{upd}
@@ -13,8 +14,10 @@ use Rattle.pg_step.specs.declared.command_fault.CommandFault.{CommandFault}
 use Rattle.pg_step.specs.declared.command_fault.CommandFault.TheVariants.{Busy}
 use Rattle.pg_group.specs.declared.update.Update.TheVariants as update
 use Rattle.pg_group.specs.Value.{name_of}
-use Rattle.pg_step.specs.Attempts.{same_op, new_attempt, ask, give_up, begin, finish, count_answer, count_ok, strange, attempt}
-use Rattle.pg_step.specs.Commands.{OPEN_LIMIT, answer, change, change_by, command_by, count_command, end_process, look, make, open_command, refused, undertake}
+use Rattle.pg_step.specs.Attempts.{same_op, new_attempt, ask, give_up, begin}
+use Rattle.pg_step.specs.Attempts.{finish, count_answer, count_ok, strange, attempt}
+use Rattle.pg_step.specs.Commands.{OPEN_LIMIT, answer, change, change_by, command_by, count_command}
+use Rattle.pg_step.specs.Commands.{end_process, look, make, open_command, refused, undertake}
 use Rattle.pg_step.specs.Peers.{lock_request, update_request, lock_freed}
 use Rattle.pg_step.specs.State.Response.{Given, Read}
 use Rattle.pg_step.specs.Nodes.{Nodes}
@@ -24,8 +27,10 @@ use Rattle.pg_step.specs.Turns.{NodeTurn, Report, and_then, becomes, first_of}
 use Rattle.pg_history.specs.Counted.{is_open, how_many, open_number, open_at, open_in}
 use Rattle.pg_history.specs.ReferencesFit.{ReferencesFit}
 use Rattle.pg_history.proofs.commands.Stand.{open_is_in}
-use Rattle.pg_history.proofs.references.Fitting.{op_is, is_op, is_asking, is_changing, same_fitting, counted_keeps, opened_keeps}
-use Rattle.pg_history.proofs.references.FittingTurns.{attempted_keeps, relock, given_up_keeps, confirmed_keeps, finished_keeps, begun_keeps}
+use Rattle.pg_history.proofs.references.Fitting.{op_is, is_op, is_asking, is_changing}
+use Rattle.pg_history.proofs.references.Fitting.{same_fitting, counted_keeps, opened_keeps}
+use Rattle.pg_history.proofs.references.FittingTurns.{attempted_keeps, relock, given_up_keeps}
+use Rattle.pg_history.proofs.references.FittingTurns.{confirmed_keeps, finished_keeps, begun_keeps}
 use Rattle.pg_history.proofs.steps.Single.{AnyUpdate, OfSingle, attempt_so}
 use Rattle.pg_history.proofs.commands.Answered.{NoCommand}
 

@@ -1,5 +1,6 @@
 -- How often each command stands among the entries, and how often it was answered, in each run.
-use Rattle.std.proofs.Common.{◌≡◌, ◌≢◌, ℕ, ◌+◌, ◌<◌, ◌≤◌, Bool, true, false, ◌&&◌, cond, nat_eq, List, [], ◌∷◌, ◌++◌, Option, Some, None, refl, ap, sym, ◌∙◌, subst, arith}
+use Rattle.std.proofs.Common.{◌≡◌, ◌≢◌, ℕ, ◌+◌, ◌<◌, ◌≤◌, Bool, true, false, ◌&&◌, cond, nat_eq, List}
+use Rattle.std.proofs.Common.{[], ◌∷◌, ◌++◌, Option, Some, None, refl, ap, sym, ◌∙◌, subst, arith}
 use Rattle.std.proofs.lemmas.Bool.{eq-eqb, eqb-true, ne_eqb}
 use Rattle.std.proofs.lemmas.List.{append-nil}
 use Rattle.pg_group.specs.Functions.{upd}
@@ -19,7 +20,8 @@ use Rattle.pg_step.specs.Attempts.{same_op}
 use Rattle.pg_step.specs.Commands.{next_op, count_command}
 use Rattle.pg_step.specs.Config.{Config, name_at, nodes_at, ports_at}
 use Rattle.pg_step.specs.FrameMachine.{node_step, machine_of, FrameWorld}
-use Rattle.pg_history.specs.History.{Answers, answer_at, answer_by, answers_by, Entry, entry_of, entries, times, answered_count, has_answer, answers_to, is_op as tells_op}
+use Rattle.pg_history.specs.History.{Answers, answer_at, answer_by, answers_by, Entry, entry_of, entries}
+use Rattle.pg_history.specs.History.{times, answered_count, has_answer, answers_to, is_op as tells_op}
 use Rattle.pg_machine.proofs.Steps.{changes}
 use Rattle.pg_machine.proofs.Sequences.{kept}
 use Rattle.pg_machine.proofs.Plain.{plain_from_start}
@@ -30,7 +32,8 @@ use Rattle.pg_history.proofs.steps.Ways.{told_append, state_after}
 use Rattle.pg_history.proofs.steps.Grows.{entries_append}
 use Rattle.pg_history.proofs.references.FittingRuns.{new_op}
 use Rattle.pg_history.proofs.references.Fitting.{same_fitting}
-use Rattle.pg_history.proofs.commands.Stand.{Stands, Kept, with_answer, and_gave, begun_by, answered_by, chance, under_way, one_at_most}
+use Rattle.pg_history.proofs.commands.Stand.{Stands, Kept, with_answer, and_gave, begun_by}
+use Rattle.pg_history.proofs.commands.Stand.{answered_by, chance, under_way, one_at_most}
 use Rattle.pg_history.proofs.commands.StandTurns.{Unanswered, KeepsQuiet, KeepsAll, leaves_all, stands_singly}
 
 -- ---- a step

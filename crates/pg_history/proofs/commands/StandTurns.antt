@@ -1,5 +1,6 @@
 -- What each single turn makes of each command.
-use Rattle.std.proofs.Common.{◌≡◌, ℕ, ◌+◌, ◌≤◌, Bool, true, false, cond, nat_eq, Option, Some, None, refl, ap, sym, ◌∙◌, subst, arith}
+use Rattle.std.proofs.Common.{◌≡◌, ℕ, ◌+◌, ◌≤◌, Bool, true, false, cond, nat_eq}
+use Rattle.std.proofs.Common.{Option, Some, None, refl, ap, sym, ◌∙◌, subst, arith}
 use Rattle.std.proofs.lemmas.Bool.{eqb-true}
 use Rattle.pg_ends.specs.Numbers.{pid_of}
 use Rattle.pg_group.specs.declared.update.Update.{Update}
@@ -21,7 +22,9 @@ use Rattle.pg_history.proofs.steps.Single.{AnyUpdate, OfSingle}
 use Rattle.pg_history.proofs.references.Fitting.{Keeps, NewOp, op_is, is_op, fit_at}
 use Rattle.pg_history.proofs.references.FittingTurns.{waits_closed, asks_closed}
 use Rattle.pg_history.proofs.references.FittingRuns.{fitting_singly}
-use Rattle.pg_history.proofs.commands.Stand.{Stands, Kept, begun_by, answered_by, chance, under_way, may_begin, stands_still, stands_by, each_op, with_answer, and_gave, has_it, has_still, had, one_each, open_is_in}
+use Rattle.pg_history.proofs.commands.Stand.{Stands, Kept, begun_by, answered_by, chance, under_way}
+use Rattle.pg_history.proofs.commands.Stand.{may_begin, stands_still, stands_by, each_op, with_answer}
+use Rattle.pg_history.proofs.commands.Stand.{and_gave, has_it, has_still, had, one_each, open_is_in}
 
 module _ (x : Answers) where
   -- a new command has no answer

@@ -1,5 +1,6 @@
 -- Turns that count no command, and tell of no odd reply.
-use Rattle.std.proofs.Common.{◌≡◌, ℕ, Bool, true, false, cond, nat_le, Option, Some, None, Ok, Err, refl, ap, ◌∙◌, subst}
+use Rattle.std.proofs.Common.{◌≡◌, ℕ, Bool, true, false, cond, nat_le, Option}
+use Rattle.std.proofs.Common.{Some, None, Ok, Err, refl, ap, ◌∙◌, subst}
 use Rattle.pg_term.specs.Same.{same_atom}
 use Rattle.pg_group.specs.declared.update.Update.{Update}
 use Rattle.pg_group.specs.declared.update.Update.TheVariants as update
@@ -15,8 +16,10 @@ use Rattle.pg_step.specs.State.Status.{Unasked}
 use Rattle.pg_step.specs.State.Use.{Fresh, Locking, Owning, Updating, Spent}
 use Rattle.pg_step.specs.State.Stage.{Closed, Waiting, Asking, Changing}
 use Rattle.pg_step.specs.Turns.{NodeTurn, becomes, and_then, first_of}
-use Rattle.pg_step.specs.Attempts.{round_of, all_granted, none_missing, none_denied, new_attempt, ask, give_up, begin, finish, replies_in, locks_in, go_on, attempt, waits, tried_again, retry}
-use Rattle.pg_step.specs.Commands.{OPEN_LIMIT, look, answer, open_command, undertake, change_by, change, carried_out, command_by, refused}
+use Rattle.pg_step.specs.Attempts.{round_of, all_granted, none_missing, none_denied, new_attempt, ask, give_up}
+use Rattle.pg_step.specs.Attempts.{begin, finish, replies_in, locks_in, go_on, attempt, waits, tried_again, retry}
+use Rattle.pg_step.specs.Commands.{OPEN_LIMIT, look, answer, open_command, undertake}
+use Rattle.pg_step.specs.Commands.{change_by, change, carried_out, command_by, refused}
 use Rattle.pg_step.specs.declared.refusal.Refusal.TheVariants.{NotWaiting}
 use Rattle.pg_history.proofs.steps.Single.{Makes, ok_is}
 use Rattle.pg_step.specs.declared.command_fault.CommandFault.TheVariants.{Busy}

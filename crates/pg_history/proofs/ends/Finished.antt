@@ -1,5 +1,6 @@
 -- A process ends at its home by a command there, and else by what its home tells.
-use Rattle.std.proofs.Common.{◌≡◌, ◌⊎◌, inl, inr, ℕ, Bool, true, false, ◌&&◌, cond, nat_eq, nat_le, nat_lt, length, List, [], ◌∷◌, ◌++◌, Option, Some, None, Ok, Err, refl, ap, sym, ◌∙◌, subst}
+use Rattle.std.proofs.Common.{◌≡◌, ◌⊎◌, inl, inr, ℕ, Bool, true, false, ◌&&◌, cond, nat_eq, nat_le, nat_lt}
+use Rattle.std.proofs.Common.{length, List, [], ◌∷◌, ◌++◌, Option, Some, None, Ok, Err, refl, ap, sym, ◌∙◌, subst}
 use Rattle.std.specs.List.{AllByRecursion, IsDistinct}
 use Rattle.std.proofs.lemmas.Bool.{eq-eqb}
 use Rattle.std.proofs.lemmas.List.{append_assoc, append-nil}
@@ -20,7 +21,8 @@ use Rattle.pg_machine.proofs.Options.{some_is}
 use Rattle.pg_machine.proofs.Plain.{plain_from_start}
 use Rattle.pg_machine.proofs.Steps.{pair_apart, happened}
 use Rattle.pg_step.specs.Attempts.{attempt, same_op, tried_again, waits}
-use Rattle.pg_step.specs.Commands.{OPEN_LIMIT, answer, carried_out, change, change_by, command as command_in, command_by, count_command, fault_of, look, next_op, open_command, refused, undertake}
+use Rattle.pg_step.specs.Commands.{OPEN_LIMIT, answer, carried_out, change, change_by, command as command_in}
+use Rattle.pg_step.specs.Commands.{command_by, count_command, fault_of, look, next_op, open_command, refused, undertake}
 use Rattle.pg_step.specs.Config.{Config, name_at, names_of, nodes_at, ports_at}
 use Rattle.pg_step.specs.FrameMachine.{FrameWorld, machine_of, node_step, place_turn}
 use Rattle.pg_step.specs.Nodes.{Nodes}
@@ -41,7 +43,8 @@ use Rattle.pg_history.specs.Sent.{ends_in}
 use Rattle.pg_history.proofs.ends.Apart.{pair_second, same_place}
 use Rattle.pg_history.proofs.ends.Homes.{Homed, homed_event, homed_start}
 use Rattle.pg_history.proofs.steps.Made.{did_so, ended_by, took_so}
-use Rattle.pg_history.proofs.steps.Single.{Any, AnyUpdate, Makes as MakesTurn, OfSingle, attempt_so, ok_is, taken_so, tried_so}
+use Rattle.pg_history.proofs.steps.Single.{Any, AnyUpdate, Makes as MakesTurn, OfSingle}
+use Rattle.pg_history.proofs.steps.Single.{attempt_so, ok_is, taken_so, tried_so}
 use Rattle.pg_history.proofs.steps.Ways.{own_place, packet_there, pair_there, state_after}
 
 -- ---- one turn

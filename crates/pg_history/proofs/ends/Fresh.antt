@@ -1,5 +1,7 @@
 -- A node makes its processes by their numbers.
-use Rattle.std.proofs.Common.{◌≡◌, ◌⊎◌, inl, inr, ℕ, zero, suc, ◌+◌, ◌<◌, Bool, true, false, ◌&&◌, ◌||◌, cond, nat_eq, nat_le, nat_lt, length, List, [], ◌∷◌, ◌++◌, Option, Some, None, Ok, Err, refl, ap, sym, ◌∙◌, subst, arith, add-one}
+use Rattle.std.proofs.Common.{◌≡◌, ◌⊎◌, inl, inr, ℕ, zero, suc, ◌+◌, ◌<◌, Bool, true, false, ◌&&◌}
+use Rattle.std.proofs.Common.{◌||◌, cond, nat_eq, nat_le, nat_lt, length, List, [], ◌∷◌, ◌++◌}
+use Rattle.std.proofs.Common.{Option, Some, None, Ok, Err, refl, ap, sym, ◌∙◌, subst, arith, add-one}
 use Rattle.std.specs.List.{IsDistinct, list_any}
 use Rattle.std.proofs.lemmas.Bool.{eq-eqb, ne_eqb, cases_eq}
 use Rattle.std.proofs.Math.Nat.{mod-eq-sub-div-mul, div-mul-le_self}
@@ -23,7 +25,8 @@ use Rattle.pg_machine.proofs.Plain.{plain_from_start}
 use Rattle.pg_machine.proofs.Sequences.{kept}
 use Rattle.pg_machine.proofs.Steps.{changes}
 use Rattle.pg_step.specs.Attempts.{attempt, same_op, tried_again, waits}
-use Rattle.pg_step.specs.Commands.{OPEN_LIMIT, answer, carried_out, change, change_by, command as command_in, command_by, count_command, fault_of, look, next_op, open_command, refused, undertake}
+use Rattle.pg_step.specs.Commands.{OPEN_LIMIT, answer, carried_out, change, change_by, command as command_in}
+use Rattle.pg_step.specs.Commands.{command_by, count_command, fault_of, look, next_op, open_command, refused, undertake}
 use Rattle.pg_step.specs.Config.{Config, made_at, name_at, nodes_at, ports_at}
 use Rattle.pg_step.specs.FrameMachine.{machine_of, node_step, FrameWorld}
 use Rattle.pg_step.specs.Nodes.{Node, Nodes}
@@ -39,7 +42,8 @@ use Rattle.pg_step.specs.declared.refusal.Refusal.TheVariants.{NoSuchPlace, NotW
 use Rattle.pg_history.specs.Fresh.{given_by, made_by, made_in, numbered_after}
 use Rattle.pg_history.specs.Reached.{Reaches, TimedFrameWorld}
 use Rattle.pg_history.proofs.steps.Made.{did_so, took_so}
-use Rattle.pg_history.proofs.steps.Single.{AnyUpdate, Makes as MakesTurn, OfSingle, attempt_so, ok_is, taken_so, tried_so}
+use Rattle.pg_history.proofs.steps.Single.{AnyUpdate, Makes as MakesTurn, OfSingle}
+use Rattle.pg_history.proofs.steps.Single.{attempt_so, ok_is, taken_so, tried_so}
 use Rattle.pg_history.proofs.steps.Ways.{state_after, told_append}
 
 -- ---- one turn

@@ -1,5 +1,6 @@
 -- Each end is at its home: at any node, and on the way.
-use Rattle.std.proofs.Common.{◌≡◌, ◌⊎◌, inl, inr, ℕ, Bool, true, false, cond, length, List, [], ◌∷◌, refl, ap, sym, ◌∙◌, subst}
+use Rattle.std.proofs.Common.{◌≡◌, ◌⊎◌, inl, inr, ℕ, Bool, true, false, cond}
+use Rattle.std.proofs.Common.{length, List, [], ◌∷◌, refl, ap, sym, ◌∙◌, subst}
 use Rattle.std.specs.List.{AllByRecursion}
 use Rattle.pg_term.specs.declared.pid.Pid.{Pid}
 use Rattle.pg_message.specs.declared.message.Message.TheVariants.{Exchange, Down}
@@ -18,7 +19,8 @@ use Rattle.pg_machine.proofs.Sequences.{kept}
 use Rattle.pg_machine.proofs.Plain.{plain_from_start}
 use Rattle.pg_history.specs.Reached.{TimedFrameWorld, Reaches, HasEndedAt}
 use Rattle.pg_history.specs.Sent.{end_of, ends_in}
-use Rattle.pg_history.proofs.steps.Ways.{all_both, all_behind, all_since, told_append, WayAfter, Grown, Shorter, Unchanged, way_after, state_after, own_place, packet_there}
+use Rattle.pg_history.proofs.steps.Ways.{all_both, all_behind, all_since, told_append, WayAfter, Grown}
+use Rattle.pg_history.proofs.steps.Ways.{Shorter, Unchanged, way_after, state_after, own_place, packet_there}
 use Rattle.pg_history.proofs.steps.Made.{StepMakes, Talking, Merging, Ending, step_makes, still_ended, ended_by}
 
 pub record Homed (config : Config) (w : FrameWorld) : Type 0 where

@@ -1,5 +1,6 @@
 -- The exchange of each node is on the way to each other one until it is merged there, once.
-use Rattle.std.proofs.Common.{◌≡◌, ◌≢◌, ℕ, Bool, true, false, not, ◌||◌, cond, length, List, [], ◌∷◌, ◌++◌, None, Ok, Err, refl, ap, sym, ◌∙◌, subst}
+use Rattle.std.proofs.Common.{◌≡◌, ◌≢◌, ℕ, Bool, true, false, not, ◌||◌, cond, length, List}
+use Rattle.std.proofs.Common.{[], ◌∷◌, ◌++◌, None, Ok, Err, refl, ap, sym, ◌∙◌, subst}
 use Rattle.std.specs.List.{IsDistinct}
 use Rattle.pg_term.specs.Same.{same_atom}
 use Rattle.pg_group.specs.Functions.{upd}
@@ -27,7 +28,8 @@ use Rattle.pg_machine.proofs.Plain.{plain_from_start}
 use Rattle.pg_history.specs.Reached.{TimedFrameWorld, Reaches}
 use Rattle.pg_history.specs.Sent.{exchange_of, exchanges_in, is_reply}
 use Rattle.pg_history.proofs.ends.Apart.{same_place, pair_second, pair_swapped}
-use Rattle.pg_history.proofs.steps.Ways.{told_nothing, WayAfter, Grown, Shorter, Unchanged, way_after, state_after, pair_there}
+use Rattle.pg_history.proofs.steps.Ways.{told_nothing, WayAfter, Grown, Shorter}
+use Rattle.pg_history.proofs.steps.Ways.{Unchanged, way_after, state_after, pair_there}
 use Rattle.pg_history.proofs.steps.Lossless.{NobodyLost, takes_all}
 use Rattle.pg_history.proofs.steps.Made.{StepMakes, Talking, Merging, Ending, TellsNothing, step_makes}
 

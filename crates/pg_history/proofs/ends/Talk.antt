@@ -1,5 +1,6 @@
 -- What a node's step sends of exchanges and of ends, and what it makes of its ended processes and of the peers merged.
-use Rattle.std.proofs.Common.{◌≡◌, ◌⊎◌, inl, inr, Bool, true, false, cond, List, [], ◌∷◌, ◌++◌, refl, ap, sym, ◌∙◌, subst}
+use Rattle.std.proofs.Common.{◌≡◌, ◌⊎◌, inl, inr, Bool, true, false, cond}
+use Rattle.std.proofs.Common.{List, [], ◌∷◌, ◌++◌, refl, ap, sym, ◌∙◌, subst}
 use Rattle.std.specs.List.{AllByRecursion}
 use Rattle.pg_term.specs.declared.pid.Pid.{Pid}
 use Rattle.pg_message.specs.declared.message.Message.{Message}

@@ -1,5 +1,6 @@
 -- What each node has applied of the history of a name, in a world of which all is held.
-use Rattle.std.proofs.Common.{ℕ, Bool, refl, length-append, ◌+◌, ◌<◌, ◌≤◌, suc, length, arith, subst, ◌≡◌, true, false, List, [], ◌∷◌, ◌++◌, None, ap, sym, ◌∙◌, inl, inr, ◌⊎◌}
+use Rattle.std.proofs.Common.{ℕ, Bool, refl, length-append, ◌+◌, ◌<◌, ◌≤◌, suc, length, arith, subst}
+use Rattle.std.proofs.Common.{◌≡◌, true, false, List, [], ◌∷◌, ◌++◌, None, ap, sym, ◌∙◌, inl, inr, ◌⊎◌}
 use Rattle.std.proofs.lemmas.List.{same_from_push}
 use Rattle.pg_term.specs.declared.term.Term.{Term}
 use Rattle.pg_refs.specs.Numbered.{numbered}

@@ -1,5 +1,6 @@
 -- Nodes are asked for a lock.
-use Rattle.std.proofs.Common.{◌≡◌, ◌≢◌, ℕ, Bool, true, false, ◌&&◌, cond, List, [], ◌++◌, Option, Some, None, nat_eq, refl, ap, sym, ◌∙◌, subst, inl, inr, ◌⊎◌, append-nil, arith}
+use Rattle.std.proofs.Common.{◌≡◌, ◌≢◌, ℕ, Bool, true, false, ◌&&◌, cond, List, [], ◌++◌, Option, Some}
+use Rattle.std.proofs.Common.{None, nat_eq, refl, ap, sym, ◌∙◌, subst, inl, inr, ◌⊎◌, append-nil, arith}
 use Rattle.std.specs.Cmp.{second_so}
 use Rattle.pg_term.specs.declared.term.Term.{Term}
 use Rattle.pg_term.specs.RefParts.{RefParts, ref_eq}
@@ -22,17 +23,20 @@ use Rattle.pg_step.specs.Peers.{would_grant}
 use Rattle.pg_step.specs.Attempts.{ask, asks, with_asked, own_verdict, is_unasked}
 use Rattle.pg_history.proofs.references.FittingTurns.{relock}
 use Rattle.pg_history.proofs.references.Keys.{atoms, numbers, split, differ, same_is, upd_same, read_other}
-use Rattle.pg_history.proofs.references.References.{about, about_here, about_sent_other, lent_other, numbered_other, numbered_same}
+use Rattle.pg_history.proofs.references.References.{about, about_here, about_sent_other}
+use Rattle.pg_history.proofs.references.References.{lent_other, numbered_other, numbered_same}
 use Rattle.pg_history.proofs.locks.Lines.{Line, talk_same, Fits, FitsStatus}
 use Rattle.pg_history.proofs.locks.Lines.Line.{Quiet, Wanting, Having}
 use Rattle.pg_history.proofs.locks.Moves.{refit, asked, asked_self}
 use Rattle.pg_history.proofs.locks.Named.{World, perform}
 use Rattle.pg_history.specs.Exclusive.{IsUpdateOf}
 use Rattle.pg_history.proofs.locks.Kept.{says, IsUpdating, Inv, near}
-use Rattle.pg_history.proofs.locks.Framed.{Acts, ours_sent, spoken, acts_lines, acts_tidy, locks_here, locks_there, fitting_perform, once_same}
+use Rattle.pg_history.proofs.locks.Framed.{Acts, ours_sent, spoken, acts_lines, acts_tidy}
+use Rattle.pg_history.proofs.locks.Framed.{locks_here, locks_there, fitting_perform, once_same}
 use Rattle.pg_history.proofs.locks.Telling.{silent_remains, mute_tales, fewer_upd, more_upd, ops_upd, mute_sent}
 use Rattle.pg_history.proofs.locks.Latest.{latest_same, goes_upd}
-use Rattle.pg_history.proofs.locks.Seats.{Sits, seated, false_right, true_both, node_near, to_own, to_own_at, to_near, to_untold}
+use Rattle.pg_history.proofs.locks.Seats.{Sits, seated, false_right, true_both, node_near}
+use Rattle.pg_history.proofs.locks.Seats.{to_own, to_own_at, to_near, to_untold}
 
 pub free_none : (o : Option RefParts) → is_free o ≡ true → o ≡ None
 free_none None e = refl

@@ -1,5 +1,6 @@
 -- A command has every grant, and its update goes out.
-use Rattle.std.proofs.Common.{◌≡◌, ◌≢◌, ℕ, ◌+◌, Bool, true, false, ◌&&◌, cond, List, [], ◌∷◌, ◌++◌, nat_eq, refl, ap, sym, ◌∙◌, subst, inl, inr, ◌⊎◌, arith, append-nil}
+use Rattle.std.proofs.Common.{◌≡◌, ◌≢◌, ℕ, ◌+◌, Bool, true, false, ◌&&◌, cond, List, [], ◌∷◌, ◌++◌}
+use Rattle.std.proofs.Common.{nat_eq, refl, ap, sym, ◌∙◌, subst, inl, inr, ◌⊎◌, arith, append-nil}
 use Rattle.pg_term.specs.declared.term.Term.{Term}
 use Rattle.pg_term.specs.RefParts.{RefParts}
 use Rattle.pg_term.specs.Same.{same_atom, same_term}
@@ -19,16 +20,21 @@ use Rattle.pg_step.specs.State.Use.{Fresh, Locking, Owning, Updating}
 use Rattle.pg_step.specs.State.Stage.{Changing}
 use Rattle.pg_step.specs.Turns.{NodeTurn}
 use Rattle.pg_step.specs.Attempts.{same_op, begin}
-use Rattle.pg_history.proofs.references.Keys.{atoms, terms, numbers, split, differ, same_is, upd_same, read_at, read_other, at_read, from_read}
-use Rattle.pg_history.proofs.references.References.{about, about-append, about_here, about_sent_other, numbered_other, numbered_same}
+use Rattle.pg_history.proofs.references.Keys.{atoms, terms, numbers, split, differ, same_is}
+use Rattle.pg_history.proofs.references.Keys.{upd_same, read_at, read_other, at_read, from_read}
+use Rattle.pg_history.proofs.references.References.{about, about-append, about_here}
+use Rattle.pg_history.proofs.references.References.{about_sent_other, numbered_other, numbered_same}
 use Rattle.pg_history.proofs.locks.Lines.{Line, talk_same, shows, Fits, FitsStatus, FitsReply, sent_nil}
 use Rattle.pg_history.proofs.locks.Lines.Line.{Quiet, Having, Telling}
 use Rattle.pg_history.proofs.locks.Moves.{refit, reported}
 use Rattle.pg_history.proofs.locks.Named.{World, Entry, perform, on, of_name}
 use Rattle.pg_history.specs.Exclusive.{IsUpdateOf}
-use Rattle.pg_history.proofs.locks.Kept.{talk, near, live, live_own, near_live, IsOpOf, updating, IsUpdating, GoesOut, Latest, Inv, carried, Tale, opens, answers_of}
-use Rattle.pg_history.proofs.locks.Framed.{Acts, ours_sent, spoken, acts_lines, acts_tidy, acts_about, locks_here, locks_there, fitting_perform, once_same}
-use Rattle.pg_history.proofs.locks.Telling.{silent_remains, tell_same, tell_more, fewer_upd, more_upd, tale_same, use_read, on-append, of_name-append}
+use Rattle.pg_history.proofs.locks.Kept.{talk, near, live, live_own, near_live, IsOpOf, updating}
+use Rattle.pg_history.proofs.locks.Kept.{IsUpdating, GoesOut, Latest, Inv, carried, Tale, opens, answers_of}
+use Rattle.pg_history.proofs.locks.Framed.{Acts, ours_sent, spoken, acts_lines, acts_tidy, acts_about}
+use Rattle.pg_history.proofs.locks.Framed.{locks_here, locks_there, fitting_perform, once_same}
+use Rattle.pg_history.proofs.locks.Telling.{silent_remains, tell_same, tell_more, fewer_upd}
+use Rattle.pg_history.proofs.locks.Telling.{more_upd, tale_same, use_read, on-append, of_name-append}
 use Rattle.pg_history.proofs.locks.Latest.{GoesOn, parted, entry_name, updating_of, goes_upd, still_out, answered_same}
 use Rattle.pg_history.proofs.locks.Seats.{Sits, seated, to_own, to_own_at, to_near}
 use Rattle.pg_history.proofs.locks.Stages.{commands}

@@ -1,5 +1,6 @@
 -- Turns one after another.
-use Rattle.std.proofs.Common.{◌≡◌, ◌≢◌, ℕ, ◌+◌, Bool, true, false, not, cond, List, [], ◌++◌, Option, Some, None, nat_eq, refl, ap, sym, ◌∙◌, subst, inl, inr, ◌⊎◌, append-nil}
+use Rattle.std.proofs.Common.{◌≡◌, ◌≢◌, ℕ, ◌+◌, Bool, true, false, not, cond, List, [], ◌++◌, Option}
+use Rattle.std.proofs.Common.{Some, None, nat_eq, refl, ap, sym, ◌∙◌, subst, inl, inr, ◌⊎◌, append-nil}
 use Rattle.std.proofs.Math.Path.{fun_ext}
 use Rattle.std.proofs.lemmas.List.{append_assoc}
 use Rattle.pg_term.specs.Same.{same_atom}
@@ -14,7 +15,8 @@ use Rattle.pg_step.specs.State.Status.{Unasked, Asked, Yes, No}
 use Rattle.pg_step.specs.State.Use.{Fresh, Spent, Locking, Owning, Updating}
 use Rattle.pg_step.specs.State.Stage.{Waiting}
 use Rattle.pg_step.specs.Turns.{NodeTurn, Report, becomes, and_then, first_of}
-use Rattle.pg_step.specs.Attempts.{round_of, is_asked, is_yes, none_missing, none_denied, all_granted, begin, finish, give_up, ask, new_attempt, replies_in, locks_in, go_on, attempt}
+use Rattle.pg_step.specs.Attempts.{round_of, is_asked, is_yes, none_missing, none_denied, all_granted, begin}
+use Rattle.pg_step.specs.Attempts.{finish, give_up, ask, new_attempt, replies_in, locks_in, go_on, attempt}
 use Rattle.pg_history.proofs.references.Keys.{atoms, numbers, cases, upd_at, upd_other, upd_same}
 use Rattle.pg_history.proofs.locks.Named.{World, Entry, perform, listed, entry_of, answer_of}
 use Rattle.pg_history.proofs.locks.Kept.{Inv, live}

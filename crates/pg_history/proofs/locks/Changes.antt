@@ -1,5 +1,6 @@
 -- An update is taken and applied.
-use Rattle.std.proofs.Common.{◌≡◌, ◌≢◌, ℕ, Bool, true, false, cond, List, [], ◌∷◌, ◌++◌, refl, ap, sym, ◌∙◌, subst, inl, inr, ◌⊎◌, append-nil, arith}
+use Rattle.std.proofs.Common.{◌≡◌, ◌≢◌, ℕ, Bool, true, false, cond, List, [], ◌∷◌, ◌++◌}
+use Rattle.std.proofs.Common.{refl, ap, sym, ◌∙◌, subst, inl, inr, ◌⊎◌, append-nil, arith}
 use Rattle.pg_term.specs.declared.term.Term.{Term}
 use Rattle.pg_term.specs.Same.{same_atom, same_term}
 use Rattle.pg_refs.specs.Numbered.{numbered}
@@ -16,7 +17,8 @@ use Rattle.pg_step.specs.State.Use.{Fresh, Spent, Locking, Owning, Updating}
 use Rattle.pg_step.specs.Turns.{NodeTurn}
 use Rattle.pg_step.specs.Peers.{update_request}
 use Rattle.pg_history.proofs.references.Keys.{atoms, terms, split, differ, same_is, upd_same, read_other, at_read}
-use Rattle.pg_history.proofs.references.References.{about, about_sent_other, about_here, IsOther, cases_ref, numbered_other, numbered_same}
+use Rattle.pg_history.proofs.references.References.{about, about_sent_other, about_here, IsOther}
+use Rattle.pg_history.proofs.references.References.{cases_ref, numbered_other, numbered_same}
 use Rattle.pg_history.proofs.locks.Lines.{talk_same, Fits, FitsStatus, FitsReply, outs, Sent, sent_has}
 use Rattle.pg_history.proofs.locks.Lines.Line.{Telling}
 use Rattle.pg_history.proofs.locks.Moves.{applied, change_line}
@@ -24,10 +26,12 @@ use Rattle.pg_history.proofs.locks.Named.{World, perform, popped, on, of_name}
 use Rattle.pg_history.specs.Exclusive.{IsUpdateOf}
 use Rattle.pg_history.proofs.locks.Kept.{talk, near, live, IsOpOf, carried, Tale, Inv}
 use Rattle.pg_history.proofs.locks.Framed.{fitting_perform, read_same, once_same}
-use Rattle.pg_history.proofs.locks.Telling.{silent_remains, tell_more, tale_same, mute_sent, carried_mute, history_same, on-append}
+use Rattle.pg_history.proofs.locks.Telling.{silent_remains, tell_more, tale_same, mute_sent}
+use Rattle.pg_history.proofs.locks.Telling.{carried_mute, history_same, on-append}
 use Rattle.pg_history.proofs.locks.Latest.{latest_same}
 use Rattle.pg_history.proofs.references.Fitting.{same_fitting}
-use Rattle.pg_history.proofs.locks.Pops.{Responds, respond_lines, respond_tidy, refers_other, about_else, wire_here, wire_to, pop_apart}
+use Rattle.pg_history.proofs.locks.Pops.{Responds, respond_lines, respond_tidy, refers_other}
+use Rattle.pg_history.proofs.locks.Pops.{about_else, wire_here, wire_to, pop_apart}
 use Rattle.pg_history.proofs.locks.Takes.{to_it, not_to, ours_reply}
 use Rattle.pg_history.proofs.locks.Unique.{one_update}
 

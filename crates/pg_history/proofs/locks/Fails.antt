@@ -1,5 +1,6 @@
 -- An attempt is given up.
-use Rattle.std.proofs.Common.{◌≡◌, ◌≢◌, ℕ, Bool, true, false, ◌&&◌, List, [], ◌++◌, nat_eq, refl, ap, sym, ◌∙◌, subst, inl, inr, ◌⊎◌, append-nil, arith}
+use Rattle.std.proofs.Common.{◌≡◌, ◌≢◌, ℕ, Bool, true, false, ◌&&◌, List, [], ◌++◌, nat_eq}
+use Rattle.std.proofs.Common.{refl, ap, sym, ◌∙◌, subst, inl, inr, ◌⊎◌, append-nil, arith}
 use Rattle.std.specs.Cmp.{second_so}
 use Rattle.pg_term.specs.declared.term.Term.{Term}
 use Rattle.pg_term.specs.RefParts.{RefParts}
@@ -20,14 +21,16 @@ use Rattle.pg_step.specs.State.Stage.{Waiting}
 use Rattle.pg_step.specs.Turns.{NodeTurn}
 use Rattle.pg_step.specs.Attempts.{same_op, give_up, is_yes}
 use Rattle.pg_history.proofs.references.Keys.{atoms, terms, numbers, split, upd_same, read_other, at_read}
-use Rattle.pg_history.proofs.references.References.{about, about_here, about_sent_other, held_by_one, freed_other, numbered_other, numbered_same}
+use Rattle.pg_history.proofs.references.References.{about, about_here, about_sent_other, held_by_one}
+use Rattle.pg_history.proofs.references.References.{freed_other, numbered_other, numbered_same}
 use Rattle.pg_history.proofs.locks.Lines.{Line, talk_same, shows, Fits, FitsStatus, IsIdle}
 use Rattle.pg_history.proofs.locks.Lines.Line.{Having}
 use Rattle.pg_history.proofs.locks.Moves.{refit, freed, freed_own}
 use Rattle.pg_history.proofs.locks.Named.{World, perform}
 use Rattle.pg_history.specs.Exclusive.{IsUpdateOf}
 use Rattle.pg_history.proofs.locks.Kept.{says, IsUpdating, Inv, near, live, live_own, opens}
-use Rattle.pg_history.proofs.locks.Framed.{Acts, ours_sent, spoken, acts_lines, acts_tidy, locks_here, locks_there, fitting_perform, once_same}
+use Rattle.pg_history.proofs.locks.Framed.{Acts, ours_sent, spoken, acts_lines, acts_tidy}
+use Rattle.pg_history.proofs.locks.Framed.{locks_here, locks_there, fitting_perform, once_same}
 use Rattle.pg_history.proofs.locks.Telling.{silent_remains, mute_tales, fewer_upd, more_upd, ops_upd, mute_sent}
 use Rattle.pg_history.proofs.locks.Latest.{latest_same, goes_upd}
 use Rattle.pg_history.proofs.locks.Seats.{Sits, seated, true_both, to_own, to_own_at, to_near, to_untold}

@@ -1,5 +1,6 @@
 -- An update is applied everywhere, its lock is freed, and its command answered.
-use Rattle.std.proofs.Common.{◌≡◌, ◌≢◌, ℕ, ◌+◌, Bool, true, cond, ◌&&◌, List, [], ◌∷◌, ◌++◌, nat_eq, refl, ap, sym, ◌∙◌, subst, inl, inr, ◌⊎◌, append-nil, arith, ◌≤◌}
+use Rattle.std.proofs.Common.{◌≡◌, ◌≢◌, ℕ, ◌+◌, Bool, true, cond, ◌&&◌, List, [], ◌∷◌, ◌++◌, nat_eq}
+use Rattle.std.proofs.Common.{refl, ap, sym, ◌∙◌, subst, inl, inr, ◌⊎◌, append-nil, arith, ◌≤◌}
 use Rattle.pg_term.specs.declared.term.Term.{Term}
 use Rattle.pg_term.specs.RefParts.{RefParts}
 use Rattle.pg_term.specs.Same.{same_atom, same_term}
@@ -17,16 +18,21 @@ use Rattle.pg_step.specs.State.Use.{Spent, Owning, Updating}
 use Rattle.pg_step.specs.State.Stage.{Closed, Changing}
 use Rattle.pg_step.specs.Turns.{NodeTurn}
 use Rattle.pg_step.specs.Attempts.{same_op, finish}
-use Rattle.pg_history.proofs.references.Keys.{atoms, terms, numbers, split, upd_same, read_other, at_read, from_read, same_is}
-use Rattle.pg_history.proofs.references.References.{about, about_here, about_sent_other, held_by_one, numbered_other, numbered_same}
+use Rattle.pg_history.proofs.references.Keys.{atoms, terms, numbers, split, upd_same}
+use Rattle.pg_history.proofs.references.Keys.{read_other, at_read, from_read, same_is}
+use Rattle.pg_history.proofs.references.References.{about, about_here, about_sent_other}
+use Rattle.pg_history.proofs.references.References.{held_by_one, numbered_other, numbered_same}
 use Rattle.pg_history.proofs.locks.Lines.{Line, talk_same, shows, Fits, FitsReply, IsIdle, sent_nil}
 use Rattle.pg_history.proofs.locks.Lines.Line.{Quiet}
 use Rattle.pg_history.proofs.locks.Moves.{freed, freed_own}
 use Rattle.pg_history.proofs.locks.Named.{World, perform, on, of_name}
 use Rattle.pg_history.specs.Exclusive.{IsUpdateOf}
-use Rattle.pg_history.proofs.locks.Kept.{says, talk, near, live, live_own, near_live, IsOpOf, IsUpdating, GoesOut, Latest, Inv, carried, Tale, opens, answers_of}
-use Rattle.pg_history.proofs.locks.Framed.{Acts, ours_sent, spoken, acts_lines, acts_tidy, locks_here, locks_there, fitting_perform}
-use Rattle.pg_history.proofs.locks.Telling.{live_remains, full_same, fewer_upd, more_upd, mute_sent, tale_same, use_read, log_same, history_same, carried_mute, answers-append}
+use Rattle.pg_history.proofs.locks.Kept.{says, talk, near, live, live_own, near_live, IsOpOf, IsUpdating}
+use Rattle.pg_history.proofs.locks.Kept.{GoesOut, Latest, Inv, carried, Tale, opens, answers_of}
+use Rattle.pg_history.proofs.locks.Framed.{Acts, ours_sent, spoken, acts_lines, acts_tidy}
+use Rattle.pg_history.proofs.locks.Framed.{locks_here, locks_there, fitting_perform}
+use Rattle.pg_history.proofs.locks.Telling.{live_remains, full_same, fewer_upd, more_upd, mute_sent, tale_same}
+use Rattle.pg_history.proofs.locks.Telling.{use_read, log_same, history_same, carried_mute, answers-append}
 use Rattle.pg_history.proofs.locks.Seats.{Sits, seated, to_own, to_own_at, to_near, true_both}
 use Rattle.pg_history.proofs.locks.Stages.{commands}
 use Rattle.pg_history.proofs.references.Fitting.{is_changing, is_owning}

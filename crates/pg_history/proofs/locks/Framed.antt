@@ -1,5 +1,6 @@
 -- What a turn of one node leaves of the lines, of the ways, and of what nodes keep.
-use Rattle.std.proofs.Common.{◌≡◌, ℕ, ◌+◌, ◌≢◌, List, [], ◌∷◌, ◌++◌, None, refl, ap, sym, ◌∙◌, subst, inl, inr, ◌⊎◌, append-nil, ◌≤◌, arith}
+use Rattle.std.proofs.Common.{◌≡◌, ℕ, ◌+◌, ◌≢◌, List, [], ◌∷◌, ◌++◌, None, refl, ap}
+use Rattle.std.proofs.Common.{sym, ◌∙◌, subst, inl, inr, ◌⊎◌, append-nil, ◌≤◌, arith}
 use Rattle.pg_term.specs.declared.term.Term.{Term}
 use Rattle.pg_term.specs.Same.{same_atom}
 use Rattle.pg_refs.specs.Numbered.{numbered}
@@ -19,7 +20,8 @@ use Rattle.pg_history.proofs.locks.Lines.{talk_same, Fits}
 use Rattle.pg_history.proofs.locks.Moves.{refit}
 use Rattle.pg_history.proofs.locks.Named.{World, perform, answer_of}
 use Rattle.pg_history.specs.ReferencesFit.{ReferencesFit}
-use Rattle.pg_history.proofs.locks.Kept.{says, talk, Lines, Tidy, IsOurs, answers_of, Inv, Mine, Theirs, near, lines_perform, opens, Once}
+use Rattle.pg_history.proofs.locks.Kept.{says, talk, Lines, Tidy, IsOurs, answers_of, Inv}
+use Rattle.pg_history.proofs.locks.Kept.{Mine, Theirs, near, lines_perform, opens, Once}
 
 -- a turn that is about one reference of the node's own
 pub record Acts (w : World) (a : Node) (c : ℕ) (t : NodeTurn) : Type 0 where

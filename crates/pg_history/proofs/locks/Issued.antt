@@ -1,5 +1,6 @@
 -- What a node does of its own: a command comes in, or one that waits is tried again.
-use Rattle.std.proofs.Common.{◌≡◌, ℕ, ◌+◌, ◌≤◌, Bool, true, false, ◌&&◌, cond, List, [], ◌∷◌, ◌++◌, Option, Some, None, Ok, Err, nat_eq, refl, ap, ◌∙◌, subst, arith, inl, append-nil}
+use Rattle.std.proofs.Common.{◌≡◌, ℕ, ◌+◌, ◌≤◌, Bool, true, false, ◌&&◌, cond, List, [], ◌∷◌, ◌++◌, Option}
+use Rattle.std.proofs.Common.{Some, None, Ok, Err, nat_eq, refl, ap, ◌∙◌, subst, arith, inl, append-nil}
 use Rattle.std.specs.Prelude.{nat_le, nat_lt}
 use Rattle.std.specs.List.{AllByRecursion}
 use Rattle.pg_term.specs.declared.pid.Pid.{Pid}
@@ -9,7 +10,8 @@ use Rattle.pg_group.specs.declared.update.Update.TheVariants as update
 use Rattle.pg_group.specs.Value.{name_of}
 use Rattle.pg_message.specs.declared.message.Message.TheVariants.{Down}
 use Rattle.pg_step.specs.declared.command.Command.{Command}
-use Rattle.pg_step.specs.declared.command.Command.TheVariants.{Create, Delete, Join, Leave, Make, Finish, Members, LocalMembers, WhichGroups, Closest}
+use Rattle.pg_step.specs.declared.command.Command.TheVariants.{Create, Delete, Join, Leave, Make, Finish}
+use Rattle.pg_step.specs.declared.command.Command.TheVariants.{Members, LocalMembers, WhichGroups, Closest}
 use Rattle.pg_step.specs.declared.command.OpId.{OpId}
 use Rattle.pg_step.specs.declared.answer.Reply.{Reply}
 use Rattle.pg_step.specs.declared.answer.Reply.TheVariants.{Refused}
@@ -22,7 +24,9 @@ use Rattle.pg_step.specs.declared.refusal.Refusal.TheVariants.{NoSuchPlace, NotW
 use Rattle.pg_step.specs.State.Stage.{Closed, Waiting, Asking, Changing}
 use Rattle.pg_step.specs.Turns.{NodeTurn, and_then}
 use Rattle.pg_step.specs.Attempts.{same_op, attempt, retry, waits, tried_again}
-use Rattle.pg_step.specs.Commands.{OPEN_LIMIT, answer, look, open_command, undertake, change_by, change, make, end_process, carried_out, command_by, command, count_command, next_op, fault_of, refused}
+use Rattle.pg_step.specs.Commands.{OPEN_LIMIT, answer, look, open_command, undertake, change_by}
+use Rattle.pg_step.specs.Commands.{change, make, end_process, carried_out, command_by, command}
+use Rattle.pg_step.specs.Commands.{count_command, next_op, fault_of, refused}
 use Rattle.pg_step.specs.Step.{Action, acted, Issue, Retry}
 use Rattle.pg_history.proofs.references.Keys.{numbers, upd_same}
 use Rattle.pg_history.proofs.references.References.{about}

@@ -1,5 +1,6 @@
 -- A reply is taken and counted.
-use Rattle.std.proofs.Common.{◌≡◌, ◌≢◌, ℕ, Bool, true, List, [], ◌∷◌, ◌++◌, refl, ap, sym, ◌∙◌, subst, inl, inr, ◌⊎◌, nat_eq, append-nil, arith}
+use Rattle.std.proofs.Common.{◌≡◌, ◌≢◌, ℕ, Bool, true, List, [], ◌∷◌, ◌++◌, refl, ap}
+use Rattle.std.proofs.Common.{sym, ◌∙◌, subst, inl, inr, ◌⊎◌, nat_eq, append-nil, arith}
 use Rattle.pg_term.specs.declared.term.Term.{Term}
 use Rattle.pg_term.specs.RefParts.{RefParts}
 use Rattle.pg_term.specs.Same.{same_atom}
@@ -24,12 +25,14 @@ use Rattle.pg_history.proofs.locks.Lines.{Talk, talk_same, Fits, FitsStatus, Fit
 use Rattle.pg_history.proofs.locks.Moves.{refit, granted_back, denied_back, applied_back}
 use Rattle.pg_history.proofs.locks.Named.{World, perform, popped}
 use Rattle.pg_history.specs.Exclusive.{IsUpdateOf}
-use Rattle.pg_history.proofs.locks.Kept.{says, talk, near, near_swap, Lines, IsOpOf, updating, IsUpdating, carried, Inv, Mine, Theirs, lines_perform}
+use Rattle.pg_history.proofs.locks.Kept.{says, talk, near, near_swap, Lines, IsOpOf, updating}
+use Rattle.pg_history.proofs.locks.Kept.{IsUpdating, carried, Inv, Mine, Theirs, lines_perform}
 use Rattle.pg_history.proofs.locks.Framed.{read_same, fitting_perform, tidy_perform, once_same}
 use Rattle.pg_history.proofs.locks.Telling.{silent_remains, mute_told, fewer_upd, more_upd, ops_upd}
 use Rattle.pg_history.proofs.locks.Latest.{latest_same, goes_upd}
 use Rattle.pg_history.proofs.references.FittingTurns.{relock, confirmed_keeps}
-use Rattle.pg_history.proofs.locks.Pops.{refers_other, wire_here, wire_to, wire_from, about_else, pop_apart, pop_tidy, pop_told}
+use Rattle.pg_history.proofs.locks.Pops.{refers_other, wire_here, wire_to, wire_from}
+use Rattle.pg_history.proofs.locks.Pops.{about_else, pop_apart, pop_tidy, pop_told}
 
 -- a reply is taken: the use of one reference changes
 module _ (w : World) (a p : Node) (c : ℕ) (x : Message) (rest : List Message) (how : Use) (inv : Inv w) (meets : near w p a) (is : w.wire p a ≡ x ∷ rest) (of_a : refers (numbered a c) x ≡ true) where

@@ -16,7 +16,8 @@ use Rattle.pg_step.specs.State.{Status, Use}
 use Rattle.pg_step.specs.State.Status.{Unasked, Asked, Yes, No}
 use Rattle.pg_step.specs.State.Use.{Fresh, Spent, Locking, Owning, Updating}
 use Rattle.pg_history.proofs.references.References.{lent_self, freed_self}
-use Rattle.pg_history.proofs.locks.Lines.{Line, Talk, shows, Fits, FitsStatus, FitsReply, outs, backs, sent_all, sent_nil, sent_has}
+use Rattle.pg_history.proofs.locks.Lines.{Line, Talk, shows, Fits, FitsStatus, FitsReply}
+use Rattle.pg_history.proofs.locks.Lines.{outs, backs, sent_all, sent_nil, sent_has}
 use Rattle.pg_history.proofs.locks.Lines.Line.{Quiet, Closing, Wanting, Giving, Refusing, Having, Telling, Confirming}
 
 -- At the home

@@ -11,7 +11,8 @@ use Rattle.pg_step.specs.Commands.{count_command, next_op, fault_of, command}
 use Rattle.pg_step.specs.Step.{Action, Issue, Retry, acted}
 use Rattle.pg_step.specs.declared.refusal.Refusal.TheVariants.{NoSuchPlace}
 use Rattle.pg_history.proofs.steps.Single.{Makes, ok_is}
-use Rattle.pg_history.proofs.commands.Steady.{replies_in_steady, locks_in_steady, go_on_steady, attempt_steady, command_by_steady, retry_steady}
+use Rattle.pg_history.proofs.commands.Steady.{replies_in_steady, locks_in_steady, go_on_steady}
+use Rattle.pg_history.proofs.commands.Steady.{attempt_steady, command_by_steady, retry_steady}
 
 -- what the turn tells of no odd reply
 pub even_so : {u t : NodeTurn} → u.reported.odd ≡ None → Makes (Ok u) t → t.reported.odd ≡ None

@@ -1,5 +1,6 @@
 -- What a node makes of a packet.
-use Rattle.std.proofs.Common.{◌≡◌, ℕ, ◌+◌, ◌*◌, ◌/◌, ◌%◌, Bool, true, false, cond, List, ◌∷◌, Some, None, Ok, Err, refl, ap, sym, ◌∙◌, subst, arith, inl}
+use Rattle.std.proofs.Common.{◌≡◌, ℕ, ◌+◌, ◌*◌, ◌/◌, ◌%◌, Bool, true, false, cond, List, ◌∷◌}
+use Rattle.std.proofs.Common.{Some, None, Ok, Err, refl, ap, sym, ◌∙◌, subst, arith, inl}
 use Rattle.std.specs.List.{AllByRecursion}
 use Rattle.std.proofs.lemmas.Nat.{div-add-mod'}
 use Rattle.pg_term.specs.RefParts.{RefParts, ref_eq}
@@ -25,7 +26,8 @@ use Rattle.pg_step.specs.State.Status.{Yes, No}
 use Rattle.pg_step.specs.State.Use.{Fresh, Spent, Locking, Owning, Updating}
 use Rattle.pg_step.specs.Turns.{NodeTurn, and_then}
 use Rattle.pg_step.specs.Peers.{lock_request, update_request, lock_freed, is_bad_exchange, exchange, process_end}
-use Rattle.pg_step.specs.Attempts.{count_answer, count_ok, go_on, replies_in, reply_by, reply_taken, use_of, lock_entry, reply_under}
+use Rattle.pg_step.specs.Attempts.{count_answer, count_ok, go_on, replies_in, reply_by}
+use Rattle.pg_step.specs.Attempts.{reply_taken, use_of, lock_entry, reply_under}
 use Rattle.pg_step.specs.declared.refusal.Refusal.TheVariants.{NotAMessage}
 use Rattle.pg_step.specs.Step.{taken}
 use Rattle.pg_history.proofs.references.References.{about, about_here, numbered_same}

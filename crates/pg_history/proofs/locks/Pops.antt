@@ -1,5 +1,6 @@
 -- The first packet of a way is taken.
-use Rattle.std.proofs.Common.{◌≡◌, ◌≢◌, ℕ, Bool, true, false, cond, List, [], ◌∷◌, ◌++◌, refl, ap, sym, ◌∙◌, subst, inl, inr, ◌⊎◌, append-nil}
+use Rattle.std.proofs.Common.{◌≡◌, ◌≢◌, ℕ, Bool, true, false, cond, List, [], ◌∷◌, ◌++◌}
+use Rattle.std.proofs.Common.{refl, ap, sym, ◌∙◌, subst, inl, inr, ◌⊎◌, append-nil}
 use Rattle.std.specs.List.{AllByRecursion}
 use Rattle.pg_term.specs.declared.term.Term.{Term}
 use Rattle.pg_term.specs.RefParts.{RefParts, ref_eq}
@@ -13,10 +14,12 @@ use Rattle.pg_step.specs.Nodes.{Node}
 use Rattle.pg_step.specs.State.{State, Use}
 use Rattle.pg_step.specs.Turns.{NodeTurn}
 use Rattle.pg_history.proofs.references.Keys.{atoms, split, upd_same, read_other, at_read}
-use Rattle.pg_history.proofs.references.References.{references, refers, about, about_here, about_past, IsOther, cases_ref, numbered_other}
+use Rattle.pg_history.proofs.references.References.{references, refers, about, about_here}
+use Rattle.pg_history.proofs.references.References.{about_past, IsOther, cases_ref, numbered_other}
 use Rattle.pg_history.proofs.locks.Lines.{talk_same}
 use Rattle.pg_history.proofs.locks.Named.{World, perform, popped}
-use Rattle.pg_history.proofs.locks.Kept.{says, talk, near, Lines, Tidy, IsOurs, carried, Tale, live, Inv, Mine, Theirs, lines_perform}
+use Rattle.pg_history.proofs.locks.Kept.{says, talk, near, Lines, Tidy, IsOurs, carried}
+use Rattle.pg_history.proofs.locks.Kept.{Tale, live, Inv, Mine, Theirs, lines_perform}
 use Rattle.pg_history.proofs.locks.Framed.{tidy_perform, read_same}
 use Rattle.pg_history.proofs.locks.Telling.{tale_same, carried-append}
 

@@ -2,7 +2,8 @@
 use Rattle.pg_term.specs.Same.{same_atom}
 use Rattle.pg_term.specs.declared.pid.Pid.{Pid}
 use Rattle.pg_history.proofs.locks.Weights.{once_moved, none_only}
-use Rattle.std.proofs.Common.{◌≡◌, ℕ, ◌+◌, ◌≤◌, [], ◌++◌, Bool, Option, None, nat_eq, refl, ap, sym, ◌∙◌, subst, arith, append-nil, ◌&&◌}
+use Rattle.std.proofs.Common.{◌≡◌, ℕ, ◌+◌, ◌≤◌, [], ◌++◌, Bool, Option, None, nat_eq}
+use Rattle.std.proofs.Common.{refl, ap, sym, ◌∙◌, subst, arith, append-nil, ◌&&◌}
 use Rattle.std.specs.List.{AllByRecursion}
 use Rattle.pg_term.specs.RefParts.{RefParts}
 use Rattle.pg_refs.specs.Numbered.{numbered}

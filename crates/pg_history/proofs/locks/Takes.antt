@@ -1,5 +1,6 @@
 -- A request for a lock is taken and answered, and a lock is freed.
-use Rattle.std.proofs.Common.{◌≡◌, ◌≢◌, ℕ, Bool, true, false, cond, List, [], ◌∷◌, ◌++◌, None, refl, ap, sym, ◌∙◌, append-nil, arith}
+use Rattle.std.proofs.Common.{◌≡◌, ◌≢◌, ℕ, Bool, true, false, cond, List, [], ◌∷◌}
+use Rattle.std.proofs.Common.{◌++◌, None, refl, ap, sym, ◌∙◌, append-nil, arith}
 use Rattle.std.specs.List.{AllByRecursion}
 use Rattle.std.specs.Cmp.{second_so}
 use Rattle.pg_term.specs.declared.term.Term.{Term}
@@ -15,7 +16,8 @@ use Rattle.pg_step.specs.State.{State, Use, formed}
 use Rattle.pg_step.specs.Turns.{NodeTurn, becomes_and_sends}
 use Rattle.pg_step.specs.Peers.{lock_request, lock_freed, would_grant, verdict}
 use Rattle.pg_history.proofs.references.Keys.{atoms, terms, differ}
-use Rattle.pg_history.proofs.references.References.{refers, about, about_here, about_sent, about_sent_other, held_by_one, numbered_other, numbered_same}
+use Rattle.pg_history.proofs.references.References.{refers, about, about_here, about_sent, about_sent_other}
+use Rattle.pg_history.proofs.references.References.{held_by_one, numbered_other, numbered_same}
 use Rattle.pg_history.proofs.locks.Lines.{Talk, talk_same}
 use Rattle.pg_history.proofs.locks.Moves.{set_yes, set_no, del_holds, del_done}
 use Rattle.pg_history.proofs.locks.Named.{World, perform, popped}

@@ -1,5 +1,6 @@
 -- The counts of commands, where one changes its stage.
-use Rattle.std.proofs.Common.{◌≡◌, ◌≢◌, ℕ, ◌+◌, Bool, true, false, ◌&&◌, cond, refl, ap, sym, ◌∙◌, inl, inr, ◌⊎◌, arith, ◌≤◌, ◌<◌, subst}
+use Rattle.std.proofs.Common.{◌≡◌, ◌≢◌, ℕ, ◌+◌, Bool, true, false, ◌&&◌, cond, refl}
+use Rattle.std.proofs.Common.{ap, sym, ◌∙◌, inl, inr, ◌⊎◌, arith, ◌≤◌, ◌<◌, subst}
 use Rattle.pg_term.specs.Same.{same_atom}
 use Rattle.pg_group.specs.Functions.{upd}
 use Rattle.pg_step.specs.declared.command.OpId.{OpId}

@@ -1,5 +1,6 @@
 -- The clauses of the headline, of each world of a run.
-use Rattle.std.proofs.Common.{◌≡◌, ◌≢◌, Result, Ok, Err, ℕ, ◌+◌, ◌<◌, Bool, true, false, cond, length, map, List, [], ◌∷◌, ◌++◌, None, refl, ap, sym, ◌∙◌, subst, arith, inl, inr, ◌⊎◌}
+use Rattle.std.proofs.Common.{◌≡◌, ◌≢◌, Result, Ok, Err, ℕ, ◌+◌, ◌<◌, Bool, true, false, cond, length, map}
+use Rattle.std.proofs.Common.{List, [], ◌∷◌, ◌++◌, None, refl, ap, sym, ◌∙◌, subst, arith, inl, inr, ◌⊎◌}
 use Rattle.std.specs.Prelude.{take}
 use Rattle.std.specs.List.{IsDistinct}
 use Rattle.std.proofs.lemmas.List.{length-map}
@@ -23,7 +24,8 @@ use Rattle.pg_step.specs.Step.{CLOCK_LIMIT, Action, taken, node_takes}
 use Rattle.pg_step.specs.declared.refusal.Refusal.{Refusal}
 use Rattle.pg_step.specs.Config.{Config, names_of, name_at, nodes_at}
 use Rattle.pg_step.specs.FrameMachine.{placed, node_step, machine_of, frame_machine, FrameWorld}
-use Rattle.pg_history.specs.History.{Entry, entries, of_group, history, updates_of, applied_count, answered_count, replay, known, base, is_formed, has_groups, LockFree, NonePending, applied_by}
+use Rattle.pg_history.specs.History.{Entry, entries, of_group, history, updates_of, applied_count, answered_count}
+use Rattle.pg_history.specs.History.{replay, known, base, is_formed, has_groups, LockFree, NonePending, applied_by}
 use Rattle.pg_history.specs.Headline.{HoldsAnswered, AppliesHistory, HasTables, GoesOnFromAll, HarmsNobody, OneHistory}
 use Rattle.pg_step.proofs.Once.{clash}
 use Rattle.pg_machine.proofs.Plain.{plain_from_start}
@@ -51,7 +53,8 @@ use Rattle.pg_history.proofs.steps.Grows.{history_append}
 use Rattle.pg_history.proofs.steps.Queries.{query_stays}
 use Rattle.pg_history.proofs.steps.RealTime.{none_before, reported_more, stands_before, stays_seen}
 use Rattle.pg_history.proofs.places.Exclusive.{are_exclusive}
-use Rattle.pg_history.proofs.places.Prefixes.{as_long, lengths, updates_shown, answers_shown, split_shown, node_here, as_many_updates}
+use Rattle.pg_history.proofs.places.Prefixes.{as_long, lengths, updates_shown, answers_shown}
+use Rattle.pg_history.proofs.places.Prefixes.{split_shown, node_here, as_many_updates}
 
 module _ (config : Config) (apart : IsDistinct same_atom (names_of config)) where
   -- no node applies an update before it is formed

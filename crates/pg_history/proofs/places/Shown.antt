@@ -1,5 +1,6 @@
 -- A world that keeps its nodes by their places shows one that keeps them by their names, before and after each turn.
-use Rattle.std.proofs.Common.{◌≡◌, ℕ, Bool, true, false, cond, nat_eq, length, map, List, [], ◌∷◌, ◌++◌, Option, Some, None, refl, ap, sym, ◌∙◌}
+use Rattle.std.proofs.Common.{◌≡◌, ℕ, Bool, true, false, cond, nat_eq, length, map, List}
+use Rattle.std.proofs.Common.{[], ◌∷◌, ◌++◌, Option, Some, None, refl, ap, sym, ◌∙◌}
 use Rattle.std.specs.List.{IsDistinct}
 use Rattle.std.proofs.lemmas.Bool.{eqb-true}
 use Rattle.std.proofs.lemmas.List.{map-append, append-nil}
@@ -15,7 +16,8 @@ use Rattle.pg_step.specs.Nodes.{Node, Nodes}
 use Rattle.pg_step.specs.Turns.{NodeTurn, Report}
 use Rattle.pg_step.specs.Config.{Config, names_of, name_at, nodes_at}
 use Rattle.pg_step.specs.FrameMachine.{place_turn, FrameWorld}
-use Rattle.pg_history.specs.History.{Entry as Begun, entries, entry_of as begun_by, all_reported, update_of, update_by, applied_by}
+use Rattle.pg_history.specs.History.{Entry as Begun, entries, entry_of as begun_by}
+use Rattle.pg_history.specs.History.{all_reported, update_of, update_by, applied_by}
 use Rattle.pg_history.proofs.steps.Ways.{told_append}
 use Rattle.pg_history.proofs.steps.Grows.{entries_append}
 use Rattle.pg_history.proofs.locks.Telling.{on-append}

@@ -1,5 +1,6 @@
 -- A packet that is first on a way was none that its node would have refused as no message before.
-use Rattle.std.proofs.Common.{◌≡◌, ◌≢◌, ◌+◌, ℕ, Bool, true, false, not, ◌||◌, cond, max, nat_le, length, List, ◌∷◌, ◌++◌, None, Result, Ok, Err, refl, ap, sym, ◌∙◌}
+use Rattle.std.proofs.Common.{◌≡◌, ◌≢◌, ◌+◌, ℕ, Bool, true, false, not, ◌||◌, cond, max, nat_le}
+use Rattle.std.proofs.Common.{length, List, ◌∷◌, ◌++◌, None, Result, Ok, Err, refl, ap, sym, ◌∙◌}
 use Rattle.std.specs.List.{IsDistinct}
 use Rattle.pg_term.specs.RefParts.{RefParts, ref_eq}
 use Rattle.pg_term.specs.Same.{same_atom}
@@ -26,7 +27,8 @@ use Rattle.pg_step.specs.Step.{CLOCK_LIMIT, Action, TimedTurn, at_clock, timed, 
 use Rattle.pg_step.specs.Config.{Config, names_of, name_at, nodes_at}
 use Rattle.pg_step.specs.FrameMachine.{placed, frame_machine}
 use Rattle.pg_step.specs.declared.refusal.Refusal.{Refusal}
-use Rattle.pg_step.specs.declared.refusal.Refusal.TheVariants.{NotAMessage, NoSuchPlace, NotWaiting, NodeLost, ClockFull}
+use Rattle.pg_step.specs.declared.refusal.Refusal.TheVariants.{NotAMessage, NoSuchPlace}
+use Rattle.pg_step.specs.declared.refusal.Refusal.TheVariants.{NotWaiting, NodeLost, ClockFull}
 use Rattle.pg_history.specs.Reached.{TimedFrameWorld, Reaches}
 use Rattle.pg_history.specs.ReferencesFit.{Follows}
 use Rattle.pg_history.proofs.steps.Single.{Makes, ok_is}

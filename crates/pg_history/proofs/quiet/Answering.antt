@@ -1,5 +1,6 @@
 -- Every command that is open can be answered, by takes and retries alone.
-use Rattle.std.proofs.Common.{◌≡◌, ◌⊎◌, inl, inr, ℕ, ◌+◌, ◌*◌, ◌<◌, ◌≤◌, zero, suc, Bool, true, false, ◌||◌, nat_eq, length, List, [], ◌∷◌, ◌++◌, Some, refl, ap, sym, ◌∙◌, subst, append-nil, arith}
+use Rattle.std.proofs.Common.{◌≡◌, ◌⊎◌, inl, inr, ℕ, ◌+◌, ◌*◌, ◌<◌, ◌≤◌, zero, suc, Bool, true, false, ◌||◌, nat_eq}
+use Rattle.std.proofs.Common.{length, List, [], ◌∷◌, ◌++◌, Some, refl, ap, sym, ◌∙◌, subst, append-nil, arith}
 use Rattle.std.specs.List.{Contains, IsDistinct, list_any}
 use Rattle.std.proofs.Math.Nat.{mul-suc}
 use Rattle.std.proofs.lemmas.Bool.{cases_eq, cases_lt, eq-eqb}
@@ -26,7 +27,8 @@ use Rattle.pg_machine.proofs.Sequences.{whole}
 use Rattle.pg_machine.proofs.Steps.{happened}
 use Rattle.pg_history.specs.Counted.{is_open, open_at, open_in}
 use Rattle.pg_history.specs.History.{IsAnsweredOk, answers_by, has_answer}
-use Rattle.pg_history.specs.Quiet.{HasRoom, IsQuiet, NoneOpen, OnlyTakes, OnlyTakesAndRetries, RetryGoes, most_events, peer_count}
+use Rattle.pg_history.specs.Quiet.{HasRoom, IsQuiet, NoneOpen, OnlyTakes}
+use Rattle.pg_history.specs.Quiet.{OnlyTakesAndRetries, RetryGoes, most_events, peer_count}
 use Rattle.pg_history.specs.Reached.{TimedFrameWorld, Reaches}
 use Rattle.pg_history.proofs.commands.CountRuns.{AllCounts, all_counted}
 use Rattle.pg_history.proofs.commands.Counting.{Counts}

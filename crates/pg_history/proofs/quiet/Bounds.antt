@@ -1,5 +1,6 @@
 -- What is still to be taken is no more than twice what is on the way, and five packets for each peer of each open command.
-use Rattle.std.proofs.Common.{◌≡◌, ◌⊎◌, inl, inr, ℕ, ◌+◌, ◌*◌, ◌-◌, ◌<◌, ◌≤◌, zero, suc, Bool, true, false, not, cond, nat_eq, length, List, [], ◌∷◌, refl, ap, sym, ◌∙◌, subst, arith}
+use Rattle.std.proofs.Common.{◌≡◌, ◌⊎◌, inl, inr, ℕ, ◌+◌, ◌*◌, ◌-◌, ◌<◌, ◌≤◌, zero, suc, Bool, true, false}
+use Rattle.std.proofs.Common.{not, cond, nat_eq, length, List, [], ◌∷◌, refl, ap, sym, ◌∙◌, subst, arith}
 use Rattle.std.specs.List.{IsDistinct, list_any}
 use Rattle.std.proofs.Math.Nat.{mul-le-mul_left}
 use Rattle.std.proofs.lemmas.Bool.{cases_eq, cases_lt, eq-eqb}
@@ -27,7 +28,8 @@ use Rattle.pg_history.proofs.ends.Apart.{place_below}
 use Rattle.pg_history.proofs.locks.Seats.{false_right}
 use Rattle.pg_history.proofs.places.Located.{left_out}
 use Rattle.pg_history.proofs.places.Shown.{IsHere}
-use Rattle.pg_history.proofs.quiet.Sums.{but, but_other, total, total_all, total_but, total_le, total_one, total_same, total_scale, total_swap, total_term}
+use Rattle.pg_history.proofs.quiet.Sums.{but, but_other, total, total_all, total_but, total_le}
+use Rattle.pg_history.proofs.quiet.Sums.{total_one, total_same, total_scale, total_swap, total_term}
 use Rattle.pg_history.proofs.quiet.Weights.{node_weight, packet_weight, peers_at_most, status_weight, use_weight, weigh}
 use Rattle.pg_history.proofs.references.Fitting.{is_asking, is_changing}
 use Rattle.pg_history.proofs.references.Keys.{atoms}

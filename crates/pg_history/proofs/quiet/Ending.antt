@@ -1,5 +1,6 @@
 -- Takes alone come to an end, and where no clock is full they end where no packet is on the way.
-use Rattle.std.proofs.Common.{◌≡◌, ◌≢◌, ◌⊎◌, inl, inr, ℕ, ◌+◌, ◌<◌, ◌≤◌, zero, suc, Bool, true, false, cond, nat_eq, length, List, [], ◌∷◌, ◌++◌, Some, refl, ap, sym, ◌∙◌, subst, arith}
+use Rattle.std.proofs.Common.{◌≡◌, ◌≢◌, ◌⊎◌, inl, inr, ℕ, ◌+◌, ◌<◌, ◌≤◌, zero, suc, Bool, true, false, cond}
+use Rattle.std.proofs.Common.{nat_eq, length, List, [], ◌∷◌, ◌++◌, Some, refl, ap, sym, ◌∙◌, subst, arith}
 use Rattle.std.specs.List.{IsDistinct}
 use Rattle.std.proofs.lemmas.Bool.{cases_eq}
 use Rattle.std.proofs.lemmas.Bool.Decides.{Decides-ltb}
@@ -31,9 +32,11 @@ use Rattle.pg_history.proofs.places.Shown.{IsHere}
 use Rattle.pg_history.proofs.quiet.Rest.{IsAtRest}
 use Rattle.pg_history.proofs.quiet.Bounds.{few_takes}
 use Rattle.pg_history.proofs.quiet.Room.{room_left, takes_next}
-use Rattle.pg_history.proofs.quiet.Sums.{find_place, total, total_add, total_change, total_changes, total_one, total_same, total_term}
+use Rattle.pg_history.proofs.quiet.Sums.{find_place, total, total_add, total_change}
+use Rattle.pg_history.proofs.quiet.Sums.{total_changes, total_one, total_same, total_term}
 use Rattle.pg_history.proofs.quiet.Taken.{first, sent_is, state_is, turn}
-use Rattle.pg_history.proofs.quiet.Weights.{Lessens, Made, ToOne, node_weight, packet_lessens, packet_weight, sent_weight, weigh, weigh_append}
+use Rattle.pg_history.proofs.quiet.Weights.{Lessens, Made, ToOne, node_weight, packet_lessens}
+use Rattle.pg_history.proofs.quiet.Weights.{packet_weight, sent_weight, weigh, weigh_append}
 use Rattle.pg_history.proofs.references.FittingRuns.{fitting_timed}
 use Rattle.pg_history.proofs.steps.Lossless.{NobodyLost, event_nobody, nobody_timed}
 

@@ -1,5 +1,6 @@
 -- Behind each event no reference has all that it gathers: its command has gone on. And who holds a lock is one that asked for it.
-use Rattle.std.proofs.Common.{◌≡◌, ◌≢◌, ◌⊎◌, inl, inr, ℕ, ◌+◌, Bool, true, false, ◌&&◌, cond, nat_eq, nat_le, nat_lt, Option, Some, None, Ok, Err, refl, ap, sym, ◌∙◌, subst}
+use Rattle.std.proofs.Common.{◌≡◌, ◌≢◌, ◌⊎◌, inl, inr, ℕ, ◌+◌, Bool, true, false, ◌&&◌, cond, nat_eq}
+use Rattle.std.proofs.Common.{nat_le, nat_lt, Option, Some, None, Ok, Err, refl, ap, sym, ◌∙◌, subst}
 use Rattle.pg_term.specs.declared.term.Term.{Term}
 use Rattle.pg_term.specs.RefParts.{RefParts, ref_eq}
 use Rattle.pg_term.specs.Same.{same_atom, same_term}
@@ -30,8 +31,12 @@ use Rattle.pg_step.specs.State.Use.{Fresh, Locking, Owning, Updating, Spent}
 use Rattle.pg_step.specs.State.Stage.{Closed, Waiting, Asking, Changing}
 use Rattle.pg_step.specs.Turns.{NodeTurn, becomes, and_then}
 use Rattle.pg_step.specs.Peers.{would_grant, is_bad_exchange, exchange}
-use Rattle.pg_step.specs.Attempts.{own_reference, is_yes, asks, with_asked, round_of, all_granted, none_missing, none_denied, new_attempt, ask, give_up, begin, finish, count_answer, count_ok, replies_in, locks_in, go_on, attempt, is_complete, waits, tried_again, retry, use_of, gathered, lock_status, counted}
-use Rattle.pg_step.specs.Commands.{OPEN_LIMIT, fault_of, look, answer, open_command, undertake, change_by, change, carried_out, command_by, next_op, count_command, refused, command as command_in}
+use Rattle.pg_step.specs.Attempts.{own_reference, is_yes, asks, with_asked, round_of, all_granted}
+use Rattle.pg_step.specs.Attempts.{none_missing, none_denied, new_attempt, ask, give_up, begin, finish}
+use Rattle.pg_step.specs.Attempts.{count_answer, count_ok, replies_in, locks_in, go_on, attempt, is_complete}
+use Rattle.pg_step.specs.Attempts.{waits, tried_again, retry, use_of, gathered, lock_status, counted}
+use Rattle.pg_step.specs.Commands.{OPEN_LIMIT, fault_of, look, answer, open_command, undertake, change_by, change}
+use Rattle.pg_step.specs.Commands.{carried_out, command_by, next_op, count_command, refused, command as command_in}
 use Rattle.pg_step.specs.Step.{Action, Issue, Retry, taken, acted}
 use Rattle.pg_history.proofs.references.Keys.{numbers, cases, at_upd, upd_same, upd_other}
 use Rattle.pg_history.proofs.steps.Single.{Makes, ok_is, judged}

@@ -1,5 +1,6 @@
 -- How the node of the one change that is under way goes on with it, while no peer denies anything.
-use Rattle.std.proofs.Common.{◌≡◌, ◌≢◌, ◌⊎◌, inl, inr, ℕ, ◌+◌, Bool, true, false, not, ◌&&◌, ◌||◌, cond, nat_eq, [], ◌∷◌, Option, Some, None, refl, ap, sym, ◌∙◌, subst}
+use Rattle.std.proofs.Common.{◌≡◌, ◌≢◌, ◌⊎◌, inl, inr, ℕ, ◌+◌, Bool, true, false, not, ◌&&◌, ◌||◌}
+use Rattle.std.proofs.Common.{cond, nat_eq, [], ◌∷◌, Option, Some, None, refl, ap, sym, ◌∙◌, subst}
 use Rattle.pg_term.specs.RefParts.{RefParts}
 use Rattle.pg_term.specs.Same.{same_atom}
 use Rattle.pg_group.specs.declared.update.Update.{Update}
@@ -22,7 +23,9 @@ use Rattle.pg_step.specs.State.Stage.{Closed, Asking, Changing}
 use Rattle.pg_step.specs.State.Response.{Given as Gave}
 use Rattle.pg_step.specs.Turns.{NodeTurn, becomes, and_then, first_of}
 use Rattle.pg_step.specs.Peers.{would_grant}
-use Rattle.pg_step.specs.Attempts.{same_op, own_reference, is_unasked, is_asked, is_yes, is_no, asks, own_verdict, with_asked, round_of, all_granted, none_missing, none_denied, new_attempt, ask, give_up, begin, finish, count_answer, count_ok, replies_in, locks_in, go_on, attempt}
+use Rattle.pg_step.specs.Attempts.{same_op, own_reference, is_unasked, is_asked, is_yes, is_no, asks, own_verdict}
+use Rattle.pg_step.specs.Attempts.{with_asked, round_of, all_granted, none_missing, none_denied, new_attempt, ask}
+use Rattle.pg_step.specs.Attempts.{give_up, begin, finish, count_answer, count_ok, replies_in, locks_in, go_on, attempt}
 use Rattle.pg_step.proofs.Once.{clash}
 use Rattle.pg_history.proofs.locks.Stages.{commands}
 use Rattle.pg_history.proofs.quiet.Phases.{Phase, Moves, moves_none, moves_then}

@@ -1,5 +1,6 @@
 -- A retry in a quiet world, and what is taken behind it.
-use Rattle.std.proofs.Common.{◌≡◌, ◌≢◌, ◌⊎◌, inl, inr, ℕ, suc, ◌+◌, ◌*◌, ◌<◌, ◌≤◌, Bool, true, false, not, cond, nat_lt, length, List, [], ◌∷◌, ◌++◌, Option, Some, Ok, Err, refl, ap, sym, ◌∙◌, subst, arith}
+use Rattle.std.proofs.Common.{◌≡◌, ◌≢◌, ◌⊎◌, inl, inr, ℕ, suc, ◌+◌, ◌*◌, ◌<◌, ◌≤◌, Bool, true, false, not, cond, nat_lt}
+use Rattle.std.proofs.Common.{length, List, [], ◌∷◌, ◌++◌, Option, Some, Ok, Err, refl, ap, sym, ◌∙◌, subst, arith}
 use Rattle.std.specs.List.{IsDistinct}
 use Rattle.std.proofs.lemmas.Bool.{cases_eq, cases_lt, le-ltb, lt-ltb}
 use Rattle.std.proofs.lemmas.Bool.Decides.{Decides-ltb}
@@ -41,13 +42,15 @@ use Rattle.pg_history.proofs.ends.Apart.{pair_second, pair_swapped}
 use Rattle.pg_history.proofs.ends.Posts.{posted_timed}
 use Rattle.pg_history.proofs.places.Clauses.{harmless}
 use Rattle.pg_history.proofs.places.Shown.{IsHere}
-use Rattle.pg_history.proofs.quiet.Home.{AtEnd, AtLock, AtUpdate, IsFreed, OwnSees, Result, Sees, SeesOk, attempt_result}
+use Rattle.pg_history.proofs.quiet.Home.{AtEnd, AtLock, AtUpdate, IsFreed, OwnSees}
+use Rattle.pg_history.proofs.quiet.Home.{Result, Sees, SeesOk, attempt_result}
 use Rattle.pg_history.proofs.quiet.Phases.{Phase, backs, count, outs}
 use Rattle.pg_history.proofs.quiet.Phases.Phase.{Ahead, Wanted, Given, Owned, Told, Confirmed, Done, Freed, Over}
 use Rattle.pg_history.proofs.quiet.Rest.{all_formed, no_lock_held, nothing_under_way, pair_of}
 use Rattle.pg_history.proofs.quiet.Room.{does, room_run, takes_next}
 use Rattle.pg_history.proofs.quiet.Runs.{Rested, rested_timed}
-use Rattle.pg_history.proofs.quiet.Sums.{but, but_here, but_other, find_place, total, total_all, total_but, total_le, total_tight}
+use Rattle.pg_history.proofs.quiet.Sums.{but, but_here, but_other, find_place, total}
+use Rattle.pg_history.proofs.quiet.Sums.{total_all, total_but, total_le, total_tight}
 use Rattle.pg_history.proofs.quiet.Solo.{AtHome, Locks, Updates, Ends, Peer, Solo, home_turn, knows, takes, weight}
 use Rattle.pg_history.proofs.steps.Lasting.{all_stay, event_lasts}
 use Rattle.pg_history.proofs.steps.Lossless.{NobodyLost, did_all, event_nobody, left_all}

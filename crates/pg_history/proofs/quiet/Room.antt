@@ -1,12 +1,14 @@
 -- Clocks that are far enough from their limit let events happen, and each event takes one from what is left.
-use Rattle.std.proofs.Common.{◌≡◌, ◌≢◌, ◌⊎◌, inl, inr, ℕ, suc, ◌+◌, ◌≤◌, true, cond, length, max, nat_le, List, ◌∷◌, Option, Some, None, refl, ap, sym, ◌∙◌, subst, arith, []}
+use Rattle.std.proofs.Common.{◌≡◌, ◌≢◌, ◌⊎◌, inl, inr, ℕ, suc, ◌+◌, ◌≤◌, true, cond, length, max, nat_le}
+use Rattle.std.proofs.Common.{List, ◌∷◌, Option, Some, None, refl, ap, sym, ◌∙◌, subst, arith, []}
 use Rattle.std.specs.List.{AllByRecursion}
 use Rattle.std.specs.Option.{option_map_or}
 use Rattle.std.proofs.lemmas.Bool.{cases_eq, le-leb}
 use Rattle.pg_message.specs.declared.message.Message.{Message}
 use Rattle.pg_machine.specs.Clocked.{Stamped, next_clock, packets_of, plain, clock_allows}
 use Rattle.pg_machine.specs.Happened.{Happened}
-use Rattle.pg_machine.specs.Machine.{Event, Input, Turn, Taken, Own, Take, Do, node_of, first_from, happens, perform, without_input}
+use Rattle.pg_machine.specs.Machine.{Event, Input, Turn, Taken, Own, Take, Do, node_of}
+use Rattle.pg_machine.specs.Machine.{first_from, happens, perform, without_input}
 use Rattle.pg_machine.specs.Places.{is_pair}
 use Rattle.pg_machine.specs.Timely.{IsTimely}
 use Rattle.pg_step.specs.Step.{CLOCK_LIMIT, Action}

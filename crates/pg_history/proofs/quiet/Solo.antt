@@ -1,5 +1,6 @@
 -- A world in which one change is under way, and nothing else is on the way: each packet that is taken brings it one step on.
-use Rattle.std.proofs.Common.{◌≡◌, ◌≢◌, ◌⊎◌, inl, inr, ℕ, suc, ◌<◌, Bool, true, false, not, ◌&&◌, cond, nat_eq, length, List, [], ◌∷◌, ◌++◌, Some, None, Ok, refl, ap, sym, ◌∙◌, subst, append-nil}
+use Rattle.std.proofs.Common.{◌≡◌, ◌≢◌, ◌⊎◌, inl, inr, ℕ, suc, ◌<◌, Bool, true, false, not, ◌&&◌, cond, nat_eq}
+use Rattle.std.proofs.Common.{length, List, [], ◌∷◌, ◌++◌, Some, None, Ok, refl, ap, sym, ◌∙◌, subst, append-nil}
 use Rattle.std.specs.List.{Contains, IsDistinct, list_all}
 use Rattle.std.specs.Cmp.{second_so}
 use Rattle.std.proofs.lemmas.Bool.{and_from, cases_eq, eq-eqb, ne_eqb}
@@ -29,7 +30,8 @@ use Rattle.pg_step.specs.State.Use.{Locking, Updating}
 use Rattle.pg_step.specs.State.Response.{Given as Gave}
 use Rattle.pg_step.specs.Turns.{NodeTurn, Report, and_then}
 use Rattle.pg_step.specs.Peers.{would_grant, verdict, lock_request, update_request, lock_freed}
-use Rattle.pg_step.specs.Attempts.{count_answer, count_ok, go_on, replies_in, reply_by, reply_under, reply_taken, lock_entry}
+use Rattle.pg_step.specs.Attempts.{count_answer, count_ok, go_on, replies_in}
+use Rattle.pg_step.specs.Attempts.{reply_by, reply_under, reply_taken, lock_entry}
 use Rattle.pg_step.specs.Step.{Action, taken}
 use Rattle.pg_step.specs.Config.{Config, names_of, name_at, nodes_at}
 use Rattle.pg_step.specs.FrameMachine.{machine_of, FrameWorld}
@@ -40,7 +42,8 @@ use Rattle.pg_history.proofs.ends.Apart.{pair_second, pair_swapped, place_below,
 use Rattle.pg_history.proofs.locks.Packets.{number_is, use_is}
 use Rattle.pg_history.proofs.places.Located.{is_named, left_out, same_names}
 use Rattle.pg_history.proofs.places.Shown.{IsHere}
-use Rattle.pg_history.proofs.quiet.Home.{AtEnd, AtLock, AtUpdate, After, IsAtEnd, IsAtLock, IsAtUpdate, IsFreed, Knows, Result, Sees, SeesOk, confirmed_result, granted_result}
+use Rattle.pg_history.proofs.quiet.Home.{AtEnd, AtLock, AtUpdate, After, IsAtEnd, IsAtLock, IsAtUpdate, IsFreed}
+use Rattle.pg_history.proofs.quiet.Home.{Knows, Result, Sees, SeesOk, confirmed_result, granted_result}
 use Rattle.pg_history.proofs.quiet.Phases.{Phase, backs, count, needs_free, outs}
 use Rattle.pg_history.proofs.quiet.Phases.Phase.{Ahead, Wanted, Given, Owned, Told, Confirmed, Done, Freed, Over}
 use Rattle.pg_history.proofs.quiet.Rest.{each_peer, pair_of}

@@ -1,5 +1,6 @@
 -- Sums over places.
-use Rattle.std.proofs.Common.{◌≡◌, ◌≢◌, ◌⊎◌, inl, inr, ℕ, ◌+◌, ◌*◌, ◌<◌, ◌≤◌, zero, suc, nat_eq, cond, refl, ap, sym, ◌∙◌, subst, add-one, arith}
+use Rattle.std.proofs.Common.{◌≡◌, ◌≢◌, ◌⊎◌, inl, inr, ℕ, ◌+◌, ◌*◌, ◌<◌, ◌≤◌, zero, suc}
+use Rattle.std.proofs.Common.{nat_eq, cond, refl, ap, sym, ◌∙◌, subst, add-one, arith}
 use Rattle.std.proofs.Math.Nat.{mul-add, mul-suc, mul-zero}
 use Rattle.std.proofs.lemmas.Bool.{cases_eq, eq-eqb, ne_eqb}
 unfoldable pub use Rattle.pg_history.specs.Quiet.{total}

@@ -1,6 +1,7 @@
 -- How many packets are still taken, at most, where no command comes in and none is tried again: those on the way, with the replies
 -- to them, and those that references still lead to. No turn that follows a packet adds to that.
-use Rattle.std.proofs.Common.{◌≡◌, ◌⊎◌, inl, inr, ℕ, ◌+◌, ◌*◌, ◌<◌, ◌≤◌, Bool, true, false, ◌&&◌, ◌||◌, cond, nat_eq, List, [], ◌∷◌, ◌++◌, Ok, Err, refl, ap, sym, ◌∙◌, subst, arith}
+use Rattle.std.proofs.Common.{◌≡◌, ◌⊎◌, inl, inr, ℕ, ◌+◌, ◌*◌, ◌<◌, ◌≤◌, Bool, true, false, ◌&&◌, ◌||◌}
+use Rattle.std.proofs.Common.{cond, nat_eq, List, [], ◌∷◌, ◌++◌, Ok, Err, refl, ap, sym, ◌∙◌, subst, arith}
 use Rattle.std.proofs.lemmas.Bool.{cases_lt}
 use Rattle.pg_term.specs.RefParts.{RefParts, ref_eq}
 use Rattle.pg_term.specs.Same.{same_atom}
@@ -24,7 +25,10 @@ use Rattle.pg_step.specs.State.Status.{Unasked, Asked, Yes, No}
 use Rattle.pg_step.specs.State.Use.{Fresh, Locking, Owning, Updating, Spent}
 use Rattle.pg_step.specs.Turns.{NodeTurn, becomes, and_then}
 use Rattle.pg_step.specs.Peers.{would_grant, verdict, is_bad_exchange, exchange}
-use Rattle.pg_step.specs.Attempts.{own_reference, is_unasked, is_yes, asks, own_verdict, with_asked, round_of, all_granted, none_missing, none_denied, ask, give_up, begin, finish, count_answer, count_ok, replies_in, locks_in, go_on, use_of, gathered, lock_status, counted, strange}
+use Rattle.pg_step.specs.Attempts.{own_reference, is_unasked, is_yes, asks, own_verdict, with_asked}
+use Rattle.pg_step.specs.Attempts.{round_of, all_granted, none_missing, none_denied, ask, give_up}
+use Rattle.pg_step.specs.Attempts.{begin, finish, count_answer, count_ok, replies_in, locks_in}
+use Rattle.pg_step.specs.Attempts.{go_on, use_of, gathered, lock_status, counted, strange}
 use Rattle.pg_step.specs.Step.{taken}
 use Rattle.pg_history.proofs.quiet.Rest.{IsAtRest}
 use Rattle.pg_history.proofs.quiet.Sums.{total, total_add, total_all, total_change, total_le, total_more, total_same}

@@ -22,7 +22,8 @@ use Rattle.pg_history.proofs.steps.Single.{AnyUpdate, OfSingle, acted_so, taken_
 use Rattle.pg_history.proofs.steps.Made.{took_so, did_so}
 use Rattle.pg_history.proofs.steps.Ways.{state_after}
 use Rattle.pg_history.proofs.references.Fitting.{same_fitting, Keeps, NewOp, counted_keeps, opened_keeps}
-use Rattle.pg_history.proofs.references.FittingTurns.{attempted_keeps, relock, given_up_keeps, confirmed_keeps, finished_keeps, begun_keeps}
+use Rattle.pg_history.proofs.references.FittingTurns.{attempted_keeps, relock, given_up_keeps}
+use Rattle.pg_history.proofs.references.FittingTurns.{confirmed_keeps, finished_keeps, begun_keeps}
 
 pub fitting_singly : (m : Nodes) → OfSingle m NewOp AnyUpdate Keeps Keeps
 fitting_singly m = record {

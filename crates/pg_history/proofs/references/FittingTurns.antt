@@ -16,7 +16,8 @@ use Rattle.pg_step.specs.State.Use.{Fresh, Locking, Owning, Updating, Spent}
 use Rattle.pg_step.specs.State.Stage.{Closed, Waiting, Asking, Changing}
 use Rattle.pg_step.specs.Attempts.{same_op, new_attempt, give_up, begin, finish}
 use Rattle.pg_history.specs.ReferencesFit.{Fits, ReferencesFit}
-use Rattle.pg_history.proofs.references.Fitting.{op_is, is_op, here, elsewhere, fits_still, fits_later, fit_at, asking_is, changing_is, owning_is}
+use Rattle.pg_history.proofs.references.Fitting.{op_is, is_op, here, elsewhere, fits_still, fits_later}
+use Rattle.pg_history.proofs.references.Fitting.{fit_at, asking_is, changing_is, owning_is}
 
 -- uses and stages of different kinds
 other_use : {x : Use} {op : OpId} {u : Update} {lead : Node} {st : Node → Status} {name : Term} {n : ℕ} → x ≡ Locking op u lead st → x ≡ Owning name n → ⊥

@@ -1,5 +1,6 @@
 -- How many references a node makes: two at an event at most, so that the clock is full by the time they are made.
-use Rattle.std.proofs.Common.{◌≡◌, ℕ, ◌+◌, ◌*◌, ◌<◌, ◌≤◌, Bool, true, false, cond, nat_le, nat_lt, Option, Some, None, Ok, Err, refl, sym, subst, arith, List}
+use Rattle.std.proofs.Common.{◌≡◌, ℕ, ◌+◌, ◌*◌, ◌<◌, ◌≤◌, Bool, true, false, cond, nat_le}
+use Rattle.std.proofs.Common.{nat_lt, Option, Some, None, Ok, Err, refl, sym, subst, arith, List}
 use Rattle.pg_term.specs.Same.{same_atom}
 use Rattle.pg_refs.specs.Numbered.{number_in}
 use Rattle.pg_group.specs.declared.update.Update.{Update}
@@ -24,8 +25,11 @@ use Rattle.pg_step.specs.State.Use.{Fresh, Locking, Owning, Updating, Spent}
 use Rattle.pg_step.specs.State.Stage.{Closed, Waiting, Asking, Changing}
 use Rattle.pg_step.specs.Turns.{NodeTurn, Report, becomes, and_then}
 use Rattle.pg_step.specs.Peers.{is_bad_exchange, exchange}
-use Rattle.pg_step.specs.Attempts.{round_of, all_granted, none_missing, none_denied, new_attempt, ask, begin, give_up, finish, count_answer, count_ok, replies_in, locks_in, go_on, attempt, use_of, retry, waits, tried_again, lock_status, counted, reply_under}
-use Rattle.pg_step.specs.Commands.{OPEN_LIMIT, fault_of, look, answer, open_command, undertake, change_by, change, carried_out, command_by, next_op, count_command, command as command_in, refused}
+use Rattle.pg_step.specs.Attempts.{round_of, all_granted, none_missing, none_denied, new_attempt, ask, begin}
+use Rattle.pg_step.specs.Attempts.{give_up, finish, count_answer, count_ok, replies_in, locks_in, go_on, attempt}
+use Rattle.pg_step.specs.Attempts.{use_of, retry, waits, tried_again, lock_status, counted, reply_under}
+use Rattle.pg_step.specs.Commands.{OPEN_LIMIT, fault_of, look, answer, open_command, undertake, change_by, change}
+use Rattle.pg_step.specs.Commands.{carried_out, command_by, next_op, count_command, command as command_in, refused}
 use Rattle.pg_step.specs.Step.{CLOCK_LIMIT, Action, Issue, Retry, taken, acted}
 use Rattle.pg_step.specs.declared.refusal.Refusal.TheVariants.{NotAMessage, NoSuchPlace, NotWaiting}
 use Rattle.pg_step.specs.Config.{Config, name_at, nodes_at, ports_at}

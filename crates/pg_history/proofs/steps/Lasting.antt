@@ -22,7 +22,8 @@ use Rattle.pg_history.specs.History.{answer_by, answers_by, is_formed}
 use Rattle.pg_history.specs.Lasting.{Tabling, Applying, Ending, Merging}
 use Rattle.pg_history.specs.Reached.{TimedFrameWorld}
 use Rattle.pg_history.proofs.steps.Ways.{state_after, told_append}
-use Rattle.pg_history.proofs.tables.Applied.{Tables, Applying as Applies, EndingOne, StepTables, Tabling as Tabled, Merges, step_tables}
+use Rattle.pg_history.proofs.tables.Applied.{Tables, Applying as Applies, EndingOne, StepTables}
+use Rattle.pg_history.proofs.tables.Applied.{Tabling as Tabled, Merges, step_tables}
 
 -- ---- a step
 

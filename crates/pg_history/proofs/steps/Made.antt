@@ -1,5 +1,6 @@
 -- What the step of a node of a configuration makes: a turn that merges no peer, a peer's exchange, or a peer's end.
-use Rattle.std.proofs.Common.{◌∙◌, ap, length, ◌≡◌, ◌⊎◌, inl, inr, ℕ, Bool, true, false, ◌&&◌, cond, [], ◌∷◌, Some, Result, Ok, Err, refl, sym, subst}
+use Rattle.std.proofs.Common.{◌∙◌, ap, length, ◌≡◌, ◌⊎◌, inl, inr, ℕ, Bool, true, false}
+use Rattle.std.proofs.Common.{◌&&◌, cond, [], ◌∷◌, Some, Result, Ok, Err, refl, sym, subst}
 use Rattle.std.specs.List.{AllByRecursion}
 use Rattle.pg_term.specs.declared.pid.Pid.{Pid}
 use Rattle.pg_term.specs.Same.{same_atom, same_pid}

@@ -1,5 +1,6 @@
 -- What was reported before stands before what comes in later.
-use Rattle.std.proofs.Common.{◌≡◌, ℕ, ◌+◌, ◌<◌, ◌≤◌, Bool, true, false, ◌&&◌, cond, nat_eq, length, List, [], ◌∷◌, ◌++◌, Some, None, refl, ap, sym, ◌∙◌, subst, arith}
+use Rattle.std.proofs.Common.{◌≡◌, ℕ, ◌+◌, ◌<◌, ◌≤◌, Bool, true, false, ◌&&◌, cond, nat_eq, length}
+use Rattle.std.proofs.Common.{List, [], ◌∷◌, ◌++◌, Some, None, refl, ap, sym, ◌∙◌, subst, arith}
 use Rattle.std.proofs.lemmas.List.{append_assoc}
 use Rattle.pg_term.specs.declared.term.Term.{Term}
 use Rattle.pg_term.specs.Same.{same_term}
@@ -16,7 +17,8 @@ use Rattle.pg_step.specs.Config.{Config}
 use Rattle.pg_step.specs.FrameMachine.{frame_machine, machine_of}
 use Rattle.pg_step.specs.Step.{Action, CLOCK_LIMIT}
 use Rattle.pg_step.specs.Turns.{Report}
-use Rattle.pg_history.specs.History.{Entry, answered_count, applied_count, command_at, entries, history, is_op, is_update_of, of_group, times}
+use Rattle.pg_history.specs.History.{Entry, answered_count, applied_count, command_at}
+use Rattle.pg_history.specs.History.{entries, history, is_op, is_update_of, of_group, times}
 use Rattle.pg_history.specs.Reached.{Reaches, TimedFrameWorld}
 use Rattle.pg_history.specs.RealTime.{StandsBefore}
 use Rattle.pg_history.proofs.commands.AskedRuns.{entries_asked}

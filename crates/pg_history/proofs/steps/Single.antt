@@ -1,5 +1,6 @@
 -- What holds of the single turns, and of one turn after another, holds of all that a node does about locks and updates.
-use Rattle.std.proofs.Common.{◌≡◌, ◌⊎◌, inl, inr, ℕ, Bool, true, false, not, ◌&&◌, cond, nat_eq, nat_le, nat_lt, [], ◌∷◌, Option, Some, None, Result, Ok, Err, refl, ap, sym, ◌∙◌, subst}
+use Rattle.std.proofs.Common.{◌≡◌, ◌⊎◌, inl, inr, ℕ, Bool, true, false, not, ◌&&◌, cond, nat_eq, nat_le}
+use Rattle.std.proofs.Common.{nat_lt, [], ◌∷◌, Option, Some, None, Result, Ok, Err, refl, ap, sym, ◌∙◌, subst}
 use Rattle.std.proofs.lemmas.Bool.{eq-eqb}
 use Rattle.pg_term.specs.declared.term.Term.{Term}
 use Rattle.pg_term.specs.declared.pid.Pid.{Pid}
@@ -35,13 +36,20 @@ use Rattle.pg_step.specs.State.Use.{Fresh, Locking, Owning, Updating, Spent}
 use Rattle.pg_step.specs.State.Stage.{Closed, Waiting, Asking, Changing}
 use Rattle.pg_step.specs.State.Response.{Given}
 use Rattle.pg_step.specs.Turns.{NodeTurn, nothing, becomes, becomes_and_sends, and_then}
-use Rattle.pg_step.specs.Peers.{lock_request, update_request, lock_freed, is_bad_exchange, exchange, process_end, ended_in}
-use Rattle.pg_step.specs.Attempts.{round_of, same_op, own_reference, all_granted, none_missing, none_denied, new_attempt, ask, give_up, begin, finish, count_answer, count_ok, replies_in, locks_in, go_on, attempt, strange, use_of, reply_by, waits, tried_again, gathered, is_kind, lock_status, lock_entry, counted, reply_under}
-use Rattle.pg_step.specs.Commands.{OPEN_LIMIT, fault_of, look, answer, open_command, undertake, change_by, change, make, end_process, carried_out, command_by, next_op, count_command, command as command_in, refused, change_of}
+use Rattle.pg_step.specs.Peers.{lock_request, update_request, lock_freed}
+use Rattle.pg_step.specs.Peers.{is_bad_exchange, exchange, process_end, ended_in}
+use Rattle.pg_step.specs.Attempts.{round_of, same_op, own_reference, all_granted, none_missing, none_denied}
+use Rattle.pg_step.specs.Attempts.{new_attempt, ask, give_up, begin, finish, count_answer, count_ok, replies_in}
+use Rattle.pg_step.specs.Attempts.{locks_in, go_on, attempt, strange, use_of, reply_by, waits, tried_again}
+use Rattle.pg_step.specs.Attempts.{gathered, is_kind, lock_status, lock_entry, counted, reply_under}
+use Rattle.pg_step.specs.Commands.{OPEN_LIMIT, fault_of, look, answer, open_command, undertake}
+use Rattle.pg_step.specs.Commands.{change_by, change, make, end_process, carried_out, command_by}
+use Rattle.pg_step.specs.Commands.{next_op, count_command, command as command_in, refused, change_of}
 use Rattle.pg_step.specs.Step.{Action, Issue, Retry, taken, acted}
 use Rattle.pg_step.specs.declared.refusal.Refusal.{Refusal}
 use Rattle.pg_step.specs.declared.refusal.Refusal.TheVariants.{NotAMessage, NoSuchPlace, NotWaiting}
-use Rattle.pg_step.specs.declared.command_fault.CommandFault.TheVariants.{Busy, NameTooLarge, ForeignPid, NotFormed, NotMade, AlreadyEnded, ProcessLimit}
+use Rattle.pg_step.specs.declared.command_fault.CommandFault.TheVariants.{Busy, NameTooLarge, ForeignPid, NotFormed}
+use Rattle.pg_step.specs.declared.command_fault.CommandFault.TheVariants.{NotMade, AlreadyEnded, ProcessLimit}
 use Rattle.pg_step.specs.declared.command_fault.CommandFault.{CommandFault}
 use Rattle.pg_step.specs.Faults.{first_that_holds}
 

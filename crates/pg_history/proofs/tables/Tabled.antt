@@ -1,5 +1,6 @@
 -- Each group of a node is what the node knows of the start, after the updates that it applied, less the ends it took.
-use Rattle.std.proofs.Common.{◌≡◌, ℕ, Bool, true, false, ◌||◌, cond, length, List, [], ◌∷◌, ◌++◌, Option, Some, None, refl, ap, sym, ◌∙◌}
+use Rattle.std.proofs.Common.{◌≡◌, ℕ, Bool, true, false, ◌||◌, cond, length, List}
+use Rattle.std.proofs.Common.{[], ◌∷◌, ◌++◌, Option, Some, None, refl, ap, sym, ◌∙◌}
 use Rattle.std.specs.List.{IsDistinct}
 use Rattle.std.proofs.Math.Path.{fun_ext}
 use Rattle.std.proofs.lemmas.Bool.Decides.{Decides-ltb}
@@ -27,7 +28,8 @@ use Rattle.pg_machine.proofs.Steps.{pair_apart}
 use Rattle.pg_history.proofs.ends.Apart.{same_place, pair_first, pair_second}
 use Rattle.pg_history.proofs.tables.Applied.{Tables, Applying, EndingOne}
 use Rattle.pg_history.specs.Lasting.{with_applied}
-use Rattle.pg_history.proofs.tables.Values.{applied_less, less_one, less_nobody, replay_append, merged_told, and_one, known_more, or_false}
+use Rattle.pg_history.proofs.tables.Values.{applied_less, less_one, less_nobody, replay_append}
+use Rattle.pg_history.proofs.tables.Values.{merged_told, and_one, known_more, or_false}
 use Rattle.pg_group.proofs.Merges.{less_merge}
 
 -- whose groups a node has, by its state

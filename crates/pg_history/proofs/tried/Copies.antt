@@ -26,7 +26,8 @@ use Rattle.pg_step.specs.State.Use.{Locking, Owning, Updating}
 use Rattle.pg_step.specs.State.Stage.{Asking, Changing}
 use Rattle.pg_step.specs.Turns.{NodeTurn, nothing, becomes, becomes_and_sends, and_then}
 use Rattle.pg_step.specs.Peers.{verdict}
-use Rattle.pg_step.specs.Attempts.{same_op, own_reference, is_yes, none_denied, none_missing, round_of, ask, give_up, finish, replies_in, locks_in, begin}
+use Rattle.pg_step.specs.Attempts.{same_op, own_reference, is_yes, none_denied, none_missing}
+use Rattle.pg_step.specs.Attempts.{round_of, ask, give_up, finish, replies_in, locks_in, begin}
 
 -- ---- what a peer asks for
 

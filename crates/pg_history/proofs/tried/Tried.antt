@@ -1,5 +1,6 @@
 -- What the laws need of single turns, of the turns of Copies.antt.
-use Rattle.std.proofs.Common.{◌≡◌, ℕ, Bool, true, false, cond, length, List, [], ◌∷◌, Option, Some, None, refl, ap, ◌∙◌, inl, inr, arith}
+use Rattle.std.proofs.Common.{◌≡◌, ℕ, Bool, true, false, cond, length, List, [], ◌∷◌}
+use Rattle.std.proofs.Common.{Option, Some, None, refl, ap, ◌∙◌, inl, inr, arith}
 use Rattle.std.specs.Prelude.{max}
 use Rattle.std.specs.List.{IsDistinct}
 use Rattle.std.proofs.Math.Path.{fun_ext}
@@ -26,7 +27,8 @@ use Rattle.pg_step.specs.State.Status.{Yes}
 use Rattle.pg_step.specs.State.Use.{Locking, Updating}
 use Rattle.pg_step.specs.State.Stage.{Waiting}
 use Rattle.pg_step.specs.Turns.{NodeTurn, becomes, and_then}
-use Rattle.pg_step.specs.Attempts.{own_reference, is_yes, none_denied, none_missing, round_of, ask, begin, finish, give_up, replies_in, locks_in}
+use Rattle.pg_step.specs.Attempts.{own_reference, is_yes, none_denied, none_missing, round_of}
+use Rattle.pg_step.specs.Attempts.{ask, begin, finish, give_up, replies_in, locks_in}
 use Rattle.pg_step.specs.Config.{Config, names_of, name_at, groups_at}
 use Rattle.pg_history.specs.ReferencesFit.{ReferencesFit}
 use Rattle.pg_history.proofs.locks.Named.{World, perform, popped}
@@ -47,7 +49,11 @@ use Rattle.pg_history.proofs.references.Keys.{atoms, terms, upd_same}
 use Rattle.pg_history.proofs.references.References.{references}
 use Rattle.pg_history.proofs.quiet.Weights.{Made, Pays, gives_up_pay, round_goes_pay, stays}
 use Rattle.pg_history.proofs.quiet.Gathering.{Settled, Unsettled, asked_settled, given_up_settled, missing_settled}
-use Rattle.pg_history.proofs.tried.Copies.{copied_grants, copied_would_grant, copied_lock_request, copied_update_request, copied_greater, copied_merge, copied_all_merged, copied_exchange, copied_new_attempt, copied_begin, copied_all_replied, copied_replies_in, copied_all_granted, copied_locks_in, copied_lock_freed, copied_denied_round, copied_go_on}
+use Rattle.pg_history.proofs.tried.Copies.{copied_grants, copied_would_grant, copied_lock_request}
+use Rattle.pg_history.proofs.tried.Copies.{copied_update_request, copied_greater, copied_merge}
+use Rattle.pg_history.proofs.tried.Copies.{copied_all_merged, copied_exchange, copied_new_attempt, copied_begin}
+use Rattle.pg_history.proofs.tried.Copies.{copied_all_replied, copied_replies_in, copied_all_granted}
+use Rattle.pg_history.proofs.tried.Copies.{copied_locks_in, copied_lock_freed, copied_denied_round, copied_go_on}
 
 -- ---- a lock is asked for
 

@@ -10,7 +10,8 @@ use Rattle.pg_lock.specs.Locks.{without_node as locks_without}
 use Rattle.pg_message.specs.declared.message.Message.{Message}
 use Rattle.pg_machine.specs.Losing.{LosingWorld}
 use Rattle.pg_machine.specs.Machine.{Event, Machine, happens, node_of}
-use Rattle.pg_step.specs.Commands.{ends_again, ends_unformed, ends_unmade, has_foreign_pid, has_large_name, passes_limit}
+use Rattle.pg_step.specs.Commands.{ends_again, ends_unformed, ends_unmade}
+use Rattle.pg_step.specs.Commands.{has_foreign_pid, has_large_name, passes_limit}
 use Rattle.pg_step.specs.Faults.{first_that_holds}
 use Rattle.pg_step.specs.Losses.{forgets}
 use Rattle.pg_step.specs.Nodes.{Node, Nodes}
@@ -20,7 +21,8 @@ use Rattle.pg_step.specs.Step.{taken}
 use Rattle.pg_step.specs.Turns.{NodeTurn, becomes}
 use Rattle.pg_step.specs.declared.command.Command.{Command}
 use Rattle.pg_step.specs.declared.command_fault.CommandFault.{CommandFault}
-use Rattle.pg_step.specs.declared.command_fault.CommandFault.TheVariants.{NameTooLarge, ForeignPid, NotFormed, NotMade, AlreadyEnded, ProcessLimit}
+use Rattle.pg_step.specs.declared.command_fault.CommandFault.TheVariants.{NameTooLarge, ForeignPid, NotFormed}
+use Rattle.pg_step.specs.declared.command_fault.CommandFault.TheVariants.{NotMade, AlreadyEnded, ProcessLimit}
 use Rattle.pg_step.specs.declared.refusal.Refusal.{Refusal}
 use Rattle.pg_step.specs.declared.refusal.Refusal.TheVariants.{NodeLost}
 

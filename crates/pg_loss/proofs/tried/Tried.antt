@@ -1,5 +1,6 @@
 -- What the laws of losses need of the copied steps, proved of each as of the machine's own.
-use Rattle.std.proofs.Common.{◌≡◌, ◌≢◌, ◌⊎◌, inl, inr, ◌≤◌, Bool, true, false, not, ◌||◌, cond, Some, None, Ok, Err, refl, ap, sym, ◌∙◌, subst, arith}
+use Rattle.std.proofs.Common.{◌≡◌, ◌≢◌, ◌⊎◌, inl, inr, ◌≤◌, Bool, true, false, not, ◌||◌}
+use Rattle.std.proofs.Common.{cond, Some, None, Ok, Err, refl, ap, sym, ◌∙◌, subst, arith}
 use Rattle.std.specs.Prelude.{option_map}
 use Rattle.std.specs.List.{list_all}
 use Rattle.pg_term.specs.declared.pid.Pid.{Pid}
@@ -25,7 +26,8 @@ use Rattle.pg_loss.proofs.OwnEnds.{was_made}
 use Rattle.pg_loss.proofs.Retries.{every_left}
 use Rattle.pg_loss.proofs.Tabled.{HasEndedLost}
 use Rattle.pg_loss.proofs.Unheld.{Clear, freed_is}
-use Rattle.pg_loss.proofs.tried.Copies.{copied_fault_of, copied_forgotten, copied_goes, copied_left, copied_see_loss, copied_takes}
+use Rattle.pg_loss.proofs.tried.Copies.{copied_fault_of, copied_forgotten, copied_goes}
+use Rattle.pg_loss.proofs.tried.Copies.{copied_left, copied_see_loss, copied_takes}
 
 -- who sees a loss holds no lock for the lost
 pub loss_frees : (own peer : Node) (s : State) → same_atom peer own ≡ false → Clear own s → Clear own (copied_see_loss peer s).state

@@ -1,6 +1,7 @@
 //! The events of a node over bytes.
 
-ghost use Rattle.std.specs.Prelude.{◌≡◌, ◌<◌, ◌+◌, ◌^◌, ℕ, None, Some, Ok, Err, IfOk, IfErr, IfSome, OnOk, OnErr, length};
+ghost use Rattle.std.specs.Prelude.{◌≡◌, ◌<◌, ◌+◌, ◌^◌, ℕ, None, Some, Ok, Err};
+ghost use Rattle.std.specs.Prelude.{IfOk, IfErr, IfSome, OnOk, OnErr, length};
 ghost use Rattle.pg_message.specs.Members.{IsShort};
 
 use crate::node::Node;
@@ -15,7 +16,8 @@ impl<T: GroupTable + Drop> Node<T> {
     ghost use Rattle.pg_opens.specs.Places.{name_at};
     ghost use Rattle.pg_step.specs.Step.{Issue, Retry, step_act, step_take};
     ghost use Rattle.pg_node.specs.Bytes.{Tells, next_packet, marked, passed, closed};
-    ghost use Rattle.pg_node.specs.Nodes.{held_by, links_of, has_lost, read_next, step_link, taken_of, TakesNext, ComesInRoom, sent_out, step_lose};
+    ghost use Rattle.pg_node.specs.Nodes.{held_by, links_of, has_lost, read_next, step_link};
+    ghost use Rattle.pg_node.specs.Nodes.{taken_of, TakesNext, ComesInRoom, sent_out, step_lose};
     ghost use Rattle.pg_node_state.specs.Frames.{AreSmallFrames};
     ghost use Rattle.pg_node.specs.Links.{at_link};
     ghost use Rattle.pg_node_state.specs.Issued.{ports_of};

@@ -1,6 +1,7 @@
 //! What is read of a node over bytes, and how bytes move between its links and its peers.
 
-ghost use Rattle.std.specs.Prelude.{◌≡◌, ◌≤◌, ◌<◌, ◌+◌, ◌++◌, ℕ, List, true, false, length, take, min, Err, IfOk, IfErr, OnErr};
+ghost use Rattle.std.specs.Prelude.{◌≡◌, ◌≤◌, ◌<◌, ◌+◌, ◌++◌, ℕ, List, true, false};
+ghost use Rattle.std.specs.Prelude.{length, take, min, Err, IfOk, IfErr, OnErr};
 
 use crate::node::Node;
 use crate::node::wire::Wire;

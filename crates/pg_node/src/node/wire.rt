@@ -1,6 +1,7 @@
 //! The link of a node to one peer.
 
-ghost use Rattle.std.specs.Prelude.{◌≡◌, ◌≤◌, ◌+◌, ◌++◌, ◌^◌, [], true, false, length, take, min, Err, IfOk, IfErr, IfSome, OnOk, OnErr};
+ghost use Rattle.std.specs.Prelude.{◌≡◌, ◌≤◌, ◌+◌, ◌++◌, ◌^◌, [], true, false, length};
+ghost use Rattle.std.specs.Prelude.{take, min, Err, IfOk, IfErr, IfSome, OnOk, OnErr};
 ghost use Rattle.pg_message.specs.declared.packet.TheConstants.{MAX_STAMP};
 ghost use Rattle.pg_message.specs.Writing.{is_exchange, is_sayable};
 ghost use Rattle.pg_node_state.specs.Frames.{frame_of, IsSmallFrame};

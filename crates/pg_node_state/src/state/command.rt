@@ -18,7 +18,8 @@ impl<T: GroupTable + Drop> NodeState<T> {
     ghost use Rattle.pg_step.specs.Step.{Issue, step_act, at_clock};
     ghost use Rattle.pg_node_state.specs.Issued.{issued, ports_of};
     ghost use Rattle.pg_node_state.specs.Sendable.{AreSendable};
-    ghost use Rattle.pg_node_state.specs.States.{names_of, nodes_of, left_of, kept_by, state_of, answers_of, Happens, Comes};
+    ghost use Rattle.pg_node_state.specs.States.{names_of, nodes_of, left_of, kept_by};
+    ghost use Rattle.pg_node_state.specs.States.{state_of, answers_of, Happens, Comes};
 
     /// Takes a command that comes in at a port: it is the port's next, with the next number. `port`: its place among
     /// the ports. The event adds 1 to the clock, and what is sent carries it.

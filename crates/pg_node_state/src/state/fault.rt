@@ -30,6 +30,8 @@ impl NodeFault {
     ghost use Rattle.pg_node_state.specs.NodeFault.{node_number_of};
 
     /// The number of the fault in this project's one list of faults.
+    ///
+    /// Cost: no memory.
     pub fn number(self) -> u8
         ensures { result ≡ node_number_of self }
     {

@@ -237,6 +237,10 @@ impl<T: GroupTable + Drop> NodeState<T> {
 }
 
 /// A node at time 0, before it sends anything.
+///
+/// Errors: `AllocError`.
+///
+/// Cost: a copy of its name, and memory for each peer and each port.
 pub fn started<T: GroupTable + Drop>(
     alloc: Global,
     config: NodeConfig,

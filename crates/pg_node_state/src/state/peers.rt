@@ -17,7 +17,8 @@ use std::alloc::{AllocError, Global};
 
 impl<T: GroupTable + Drop> NodeState<T> {
     ghost use Rattle.pg_opens.specs.Places.{name_at};
-    ghost use Rattle.pg_step.specs.Peers.{lock_request, update_request, lock_freed, exchange, process_end, is_bad_exchange, verdict};
+    ghost use Rattle.pg_step.specs.Peers.{lock_request, update_request, lock_freed};
+    ghost use Rattle.pg_step.specs.Peers.{exchange, process_end, is_bad_exchange, verdict};
     ghost use Rattle.pg_step.specs.Losses.{see_loss};
     ghost use Rattle.pg_step.specs.Step.{at_clock};
     ghost use Rattle.pg_node_state.specs.Issued.{ports_of};

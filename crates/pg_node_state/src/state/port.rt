@@ -9,7 +9,8 @@ pub(crate) struct Port {
     pub(crate) answers: Vec<Answer>,
 }
 
-ghost use Rattle.std.specs.Prelude.{◌≡◌, ◌<◌, ◌+◌, ◌^◌, ◌++◌, ℕ, [], ◌∷◌, nat_eq, length, vec_len, vec_capacity, OnOk, OnErr};
+ghost use Rattle.std.specs.Prelude.{◌≡◌, ◌<◌, ◌+◌, ◌^◌, ◌++◌, ℕ, [], ◌∷◌, nat_eq};
+ghost use Rattle.std.specs.Prelude.{length, vec_len, vec_capacity, OnOk, OnErr};
 ghost use Rattle.pg_group.specs.Functions.{upd};
 ghost use Rattle.pg_node_state.specs.Issued.{counted_at, HasRoomAt};
 ghost use Rattle.pg_node_state.specs.Ports.{counts_in, answers_in};

@@ -24,7 +24,8 @@ impl<T: GroupTable + Drop> NodeState<T> {
     ghost use Rattle.pg_node_state.specs.declared.state.fault.NodeFault.TheVariants.{OutOfMemory};
     ghost use Rattle.pg_step.specs.Step.{at_clock};
     ghost use Rattle.pg_node_state.specs.Issued.{ports_of};
-    ghost use Rattle.pg_node_state.specs.States.{names_of, left_of, kept_by, state_of, answers_of, is_counted, Happens, ComesAt};
+    ghost use Rattle.pg_node_state.specs.States.{names_of, left_of, kept_by, state_of};
+    ghost use Rattle.pg_node_state.specs.States.{answers_of, is_counted, Happens, ComesAt};
     ghost use Rattle.pg_node_state.specs.Sendable.{AreSendable};
 
     /// Takes the reply of a peer, which is not lost.

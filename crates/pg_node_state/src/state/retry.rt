@@ -15,7 +15,8 @@ impl<T: GroupTable + Drop> NodeState<T> {
     ghost use Rattle.pg_step.specs.Step.{Retry, at_clock, step_act};
     ghost use Rattle.pg_node_state.specs.Issued.{ports_of};
     ghost use Rattle.pg_node_state.specs.Sendable.{AreSendable};
-    ghost use Rattle.pg_node_state.specs.States.{names_of, nodes_of, left_of, kept_by, state_of, answers_of, Happens, Comes};
+    ghost use Rattle.pg_node_state.specs.States.{names_of, nodes_of, left_of, kept_by};
+    ghost use Rattle.pg_node_state.specs.States.{state_of, answers_of, Happens, Comes};
     ghost use Rattle.pg_node_state.specs.Waiting.{is_ready};
 
     /// Tries a command again that waits: a new attempt begins, or, where all has come that it gathers, what follows

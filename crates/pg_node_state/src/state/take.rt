@@ -14,7 +14,8 @@ impl<T: GroupTable + Drop> NodeState<T> {
     ghost use Rattle.pg_step.specs.Step.{step_take};
     ghost use Rattle.pg_node_state.specs.Issued.{ports_of};
     ghost use Rattle.pg_node_state.specs.declared.state.fault.NodeFault.TheVariants.{OutOfMemory};
-    ghost use Rattle.pg_node_state.specs.States.{names_of, nodes_of, left_of, kept_by, state_of, answers_of, stamped_of, step_see_loss, takes_none, Comes};
+    ghost use Rattle.pg_node_state.specs.States.{names_of, nodes_of, left_of, kept_by, state_of};
+    ghost use Rattle.pg_node_state.specs.States.{answers_of, stamped_of, step_see_loss, takes_none, Comes};
     ghost use Rattle.pg_node_state.specs.Sendable.{AreSendable};
 
     /// Takes a packet of a peer. `peer`: its place among the peers. What is sent carries the clock that the event

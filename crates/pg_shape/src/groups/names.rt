@@ -1,6 +1,7 @@
 //! The names of the groups that an exchange announces: whether each is one, and whether one is there twice.
 
-ghost use Rattle.std.specs.Prelude.{◌≡◌, ◌<◌, ◌≤◌, ℕ, List, [], length, true, false, Ok, Some, None, IfOk, IfSome, MatchOption};
+ghost use Rattle.std.specs.Prelude.{◌≡◌, ◌<◌, ◌≤◌, ℕ, List, [], length, true, false};
+ghost use Rattle.std.specs.Prelude.{Ok, Some, None, IfOk, IfSome, MatchOption};
 ghost use Rattle.pg_term.specs.declared.term.Term.{Term};
 ghost use Rattle.pg_term_io.specs.Reading.{item_at};
 ghost use Rattle.pg_message.specs.Groups.{IsNamed};

@@ -21,7 +21,8 @@ pub(crate) struct Desk {
 }
 
 impl Desk {
-    ghost use Rattle.std.specs.Prelude.{◌≡◌, ◌+◌, ◌-◌, ◌^◌, ◌∷◌, ◌++◌, [], min, true, false, not, ◌&&◌, length, IfSome, IfNone, OnOk, OnErr};
+    ghost use Rattle.std.specs.Prelude.{◌≡◌, ◌+◌, ◌-◌, ◌^◌, ◌∷◌, ◌++◌, [], min, true, false};
+    ghost use Rattle.std.specs.Prelude.{not, ◌&&◌, length, IfSome, IfNone, OnOk, OnErr};
     ghost use Rattle.pg_talk.specs.Desks.{is_idle, waiting_at, SameDesk};
 
     /// One to which nothing came. It takes no memory.

@@ -55,7 +55,8 @@ pub(crate) fn read_all<S: Source + Drop>(reading: Reading<S>) -> Reading<S>
 }
 
 impl<S: Source + Drop> Reading<S> {
-    ghost use Rattle.std.specs.Prelude.{◌≡◌, ◌≢◌, ◌⊎◌, ◌<◌, ◌∷◌, ◌++◌, ◌-◌, [], false, None, Ok, IsTrue, IfSome, IfNone, length};
+    ghost use Rattle.std.specs.Prelude.{◌≡◌, ◌≢◌, ◌⊎◌, ◌<◌, ◌∷◌, ◌++◌, ◌-◌, [], false};
+    ghost use Rattle.std.specs.Prelude.{None, Ok, IsTrue, IfSome, IfNone, length};
     ghost use Rattle.std.specs.Io.KnownBytes.{IsAtEnd};
     ghost use Rattle.pg_frame.specs.Frames.{front_of};
     ghost use Rattle.pg_ring.specs.Slots.{SameSlotOut, given};

@@ -112,7 +112,9 @@ impl Serving {
     ghost use Rattle.pg_requests.specs.declared.input.Input.TheVariants.{Ask, Lose};
     ghost use Rattle.pg_cluster.specs.Running.{clients_in};
     ghost use Rattle.pg_ring.specs.Slots.{SameSlotIn, taken};
-    ghost use Rattle.pg_talk.specs.Servings.{Advances, Comes, Goes, IsOver, LosesNode, RepliesLost, RepliesNext, Rests, Takes, TellsBad, asked_at, desks_of, is_known_lost, kept_in, lost_at, nodes_of, running_of, view_of};
+    ghost use Rattle.pg_talk.specs.Servings.{Advances, Comes, Goes, IsOver, LosesNode, RepliesLost};
+    ghost use Rattle.pg_talk.specs.Servings.{RepliesNext, Rests, Takes, TellsBad, asked_at, desks_of};
+    ghost use Rattle.pg_talk.specs.Servings.{is_known_lost, kept_in, lost_at, nodes_of, running_of, view_of};
 
     /// One to which nothing came. It takes no memory.
     pub(crate) fn new(alloc: Global, running: Running, desks: Desks) -> Serving

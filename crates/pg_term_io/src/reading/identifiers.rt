@@ -3,7 +3,8 @@
 ghost use Rattle.std.specs.Prelude.{◌≡◌, ◌<◌};
 ghost use Rattle.std.specs.Int.{w32};
 ghost use Rattle.pg_term.specs.Fault.{Gives};
-ghost use Rattle.pg_term_io.specs.Reading.{pid_at, old_reference_at, words_at, new_reference_at, items_at, number_at, creation_width};
+ghost use Rattle.pg_term_io.specs.Reading.{pid_at, old_reference_at, words_at, new_reference_at};
+ghost use Rattle.pg_term_io.specs.Reading.{items_at, number_at, creation_width};
 
 use crate::reading::atoms::atom_at;
 use crate::reading::numbers::{creation_at, u8_at, u16_at, u32_at};

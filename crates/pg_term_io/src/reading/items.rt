@@ -6,7 +6,10 @@ ghost use Rattle.std.specs.Int.{w32, cast_signed};
 ghost use Rattle.pg_term.specs.declared.term.Term.TheVariants.{Int, Atom, Pid, Ref, Binary};
 ghost use Rattle.pg_term.specs.Fault.{Gives};
 ghost use Rattle.pg_term_io.specs.Numbers.{int_of};
-ghost use Rattle.pg_term_io.specs.Reading.{byte_at, number_at, big_at, atom_behind, pid_at, old_reference_at, new_reference_at, as_term, string_at, binary_at, with_front, items_at, item_at, tail_at, readers, list_at, elements_behind, item_behind, leaf_behind, creation_width};
+ghost use Rattle.pg_term_io.specs.Reading.{byte_at, number_at, big_at, atom_behind, pid_at, old_reference_at};
+ghost use Rattle.pg_term_io.specs.Reading.{new_reference_at, as_term, string_at, binary_at, with_front};
+ghost use Rattle.pg_term_io.specs.Reading.{items_at, item_at, tail_at, readers, list_at, elements_behind};
+ghost use Rattle.pg_term_io.specs.Reading.{item_behind, leaf_behind, creation_width};
 
 use crate::reading::atoms::atom_behind;
 use crate::reading::identifiers::{decode_pid, old_reference_at, pid_at, reference_at};

@@ -6,7 +6,8 @@ ghost use Rattle.std.specs.Int.{w8, w16, w32};
 ghost use Rattle.pg_term.specs.Fault.{Gives};
 ghost use Rattle.pg_term_io.specs.Numbers.{little_endian, big_value};
 ghost use Rattle.pg_term_io.specs.Scanning.{Tells};
-ghost use Rattle.pg_term_io.specs.Reading.{byte_at, number_at, bytes_at, big_at, i64_of, text_length_at, arity_at, creation_width};
+ghost use Rattle.pg_term_io.specs.Reading.{byte_at, number_at, bytes_at, big_at, i64_of};
+ghost use Rattle.pg_term_io.specs.Reading.{text_length_at, arity_at, creation_width};
 
 use crate::tag::{Creation, Size};
 use pg_term::TermFault;

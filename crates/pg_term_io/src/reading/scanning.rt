@@ -4,7 +4,10 @@ ghost use Rattle.std.specs.Prelude.{◌≡◌, Ok};
 ghost use Rattle.std.specs.Int.{w16, w32};
 ghost use Rattle.pg_term_io.specs.Reading.{byte_at, number_at, bytes_at, big_at, i64_of, utf8_atom, atom_in};
 ghost use Rattle.pg_term_io.specs.Numbers.{big_value};
-ghost use Rattle.pg_term_io.specs.Scanning.{past, Tells, Names, over_atom, over_node, over_creation, over_pid, over_old_reference, over_all, over_words, over_reference, over_binary, over_leaf, over_string, over_list, over_elements, over_behind, over_item, over_tail, over_term, walks};
+ghost use Rattle.pg_term_io.specs.Scanning.{past, Tells, Names, over_atom, over_node, over_creation, over_pid};
+ghost use Rattle.pg_term_io.specs.Scanning.{over_old_reference, over_all, over_words, over_reference};
+ghost use Rattle.pg_term_io.specs.Scanning.{over_binary, over_leaf, over_string, over_list, over_elements};
+ghost use Rattle.pg_term_io.specs.Scanning.{over_behind, over_item, over_tail, over_term, walks};
 
 use crate::limits::MAX_DEPTH;
 use crate::reading::numbers::{arity_at, some_bytes, text_len_at, u8_at, u16_at, u32_at, value_of};

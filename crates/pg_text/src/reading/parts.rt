@@ -1,7 +1,10 @@
 //! Pids, references and binaries, and what these and terms have in common.
 
 ghost use Rattle.std.specs.Prelude.{◌≡◌, ◌<◌, ◌≤◌, true, false, length, drop, Some, None, IfOk, IfErr, IfSome, vec_len};
-ghost use Rattle.pg_text.specs.Reading.{begins, numbers_at as numbers_read, part_at as part_read, creation_at as creation_read, pid_at as pid_read, words_at as words_read, reference_at as reference_read, some_words, elements_at as elements_read, bytes_at as bytes_read, numeral_at as numeral_read};
+ghost use Rattle.pg_text.specs.Reading.{begins, numbers_at as numbers_read, part_at as part_read};
+ghost use Rattle.pg_text.specs.Reading.{creation_at as creation_read, pid_at as pid_read, words_at as words_read};
+ghost use Rattle.pg_text.specs.Reading.{reference_at as reference_read, some_words, elements_at as elements_read};
+ghost use Rattle.pg_text.specs.Reading.{bytes_at as bytes_read, numeral_at as numeral_read};
 ghost use Rattle.pg_text.specs.declared.fault.TextFault.TheVariants.{BadText};
 
 use crate::fault::TextFault;

@@ -1,7 +1,8 @@
 //! The characters of an atom within quotes, one after another.
 
 ghost use Rattle.std.specs.Prelude.{◌≡◌};
-ghost use Rattle.pg_text.specs.Reading.{plain_step, escape_step, opening_step, is_hex, escaped_step, digit_step, digits_step, quoted_step};
+ghost use Rattle.pg_text.specs.Reading.{plain_step, escape_step, opening_step, is_hex};
+ghost use Rattle.pg_text.specs.Reading.{escaped_step, digit_step, digits_step, quoted_step};
 
 /// The digits of an escape that were read: their value, and whether there were any.
 #[derive(Clone, Copy)]

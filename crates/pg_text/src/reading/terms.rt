@@ -1,7 +1,8 @@
 //! Terms.
 
 ghost use Rattle.std.specs.Prelude.{◌≡◌, ◌<◌, length, drop, Some, None, IfOk, IfErr};
-ghost use Rattle.pg_text.specs.Reading.{leaf_at as leaf_read, angled_at as angled_read, term_at as term_read, elements_at as elements_read, begins_number as number_begins};
+ghost use Rattle.pg_text.specs.Reading.{leaf_at as leaf_read, angled_at as angled_read, term_at as term_read};
+ghost use Rattle.pg_text.specs.Reading.{elements_at as elements_read, begins_number as number_begins};
 ghost use Rattle.pg_text.specs.declared.fault.TextFault.TheVariants.{BadText};
 
 use crate::fault::TextFault;

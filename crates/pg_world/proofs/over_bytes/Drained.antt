@@ -1,5 +1,6 @@
 -- A loss is told as not drained only where bytes of the lost node are left.
-use Rattle.std.proofs.Common.{◌≡◌, ℕ, ◌+◌, Bool, true, false, not, ◌||◌, cond, max, List, Result, Ok, Err, refl, ap, ◌∙◌, subst}
+use Rattle.std.proofs.Common.{◌≡◌, ℕ, ◌+◌, Bool, true, false, not, ◌||◌, cond}
+use Rattle.std.proofs.Common.{max, List, Result, Ok, Err, refl, ap, ◌∙◌, subst}
 use Rattle.std.specs.Prelude.{nat_le}
 use Rattle.pg_machine.specs.Clocked.{Timed}
 use Rattle.pg_step.specs.declared.answer.Answer.{Answer}

@@ -1,5 +1,6 @@
 -- The past of a world of bytes, and what a step adds to it.
-use Rattle.std.proofs.Common.{◌≡◌, ◌<◌, ◌+◌, ℕ, false, true, get_or, length, List, [], Option, Some, None, Result, Ok, Err, refl, sym, ap, ◌∙◌, arith, subst}
+use Rattle.std.proofs.Common.{◌≡◌, ◌<◌, ◌+◌, ℕ, false, true, get_or, length, List, [], Option}
+use Rattle.std.proofs.Common.{Some, None, Result, Ok, Err, refl, sym, ap, ◌∙◌, arith, subst}
 use Rattle.std.specs.Prelude.{slice_get, option_map, IfSome}
 use Rattle.std.specs.Option.{option_copied}
 use Rattle.std.specs.Borrow.{Bor}
@@ -19,14 +20,16 @@ use Rattle.pg_step.specs.LossLaws.{LosingFrameWorld}
 use Rattle.pg_step.specs.Step.{Issue, Retry}
 use Rattle.pg_history.specs.History.{history}
 use Rattle.pg_node_state.specs.declared.state.fault.NodeFault.{NodeFault}
-use Rattle.pg_node_state.specs.declared.state.fault.NodeFault.TheVariants.{Refused, OutOfMemory, Message as BadMessage, TooLong, Damaged}
+use Rattle.pg_node_state.specs.declared.state.fault.NodeFault.TheVariants.{Refused, OutOfMemory}
+use Rattle.pg_node_state.specs.declared.state.fault.NodeFault.TheVariants.{Message as BadMessage, TooLong, Damaged}
 use Rattle.pg_frame_world.specs.declared.step.FrameStep.{FrameStep}
 use Rattle.pg_frame_world.specs.declared.step.FrameStep.TheVariants as frames
 use Rattle.pg_world.specs.declared.step.Step.{Step}
 use Rattle.pg_world.specs.declared.step.Step.TheVariants as steps
 use Rattle.pg_frame_world.specs.declared.step.Stepped.{Stepped}
 use Rattle.pg_frame_world.specs.declared.step.Stepped.TheVariants.{Happened, Moved, Nothing, Gone}
-use Rattle.pg_world.specs.BytesLosing.{ShowsLosingBytes, MoveLeaves, WholeComesTo, SightComesTo, LossComesTo, EventLeaves, StepLeaves, put_refusal, pull_refusal}
+use Rattle.pg_world.specs.BytesLosing.{ShowsLosingBytes, MoveLeaves, WholeComesTo, SightComesTo}
+use Rattle.pg_world.specs.BytesLosing.{LossComesTo, EventLeaves, StepLeaves, put_refusal, pull_refusal}
 use Rattle.pg_frame_world.specs.Losing.{IsReachedLosing}
 use Rattle.pg_world.specs.BytesLosingRuns.{bytes_past_losses}
 use Rattle.pg_world.specs.BytesStart.{BytesBegin}
@@ -44,7 +47,9 @@ use Rattle.pg_world.specs.BytesPast.{BytesHavePast, BytesGoOn, BytesRunOn}
 use Rattle.pg_frame_world.specs.Pending.{AgreeOn, pending_of, sees_free}
 use Rattle.pg_starts.specs.Seen.{Seen}
 use Rattle.pg_account.specs.Histories.{Account}
-use Rattle.pg_frame_world.proofs.Leading.{Near, Here, Next, Lists, Survive, AreApart, goes_on, past_after, past_of, runs_on, comes_on, some_comes, histories_grow, history_is, applied_there, agreed_there}
+use Rattle.pg_frame_world.proofs.Leading.{Near, Here, Next, Lists, Survive, AreApart, goes_on}
+use Rattle.pg_frame_world.proofs.Leading.{past_after, past_of, runs_on, comes_on, some_comes}
+use Rattle.pg_frame_world.proofs.Leading.{histories_grow, history_is, applied_there, agreed_there}
 use Rattle.pg_frame_world.proofs.LosingRunning.{losing_leads, start_is}
 use Rattle.pg_world.proofs.over_bytes.Past.{move_mapped}
 

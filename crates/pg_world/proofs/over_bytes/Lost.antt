@@ -1,5 +1,7 @@
 -- What a world of bytes shows once one of its nodes is lost, or a loss is seen.
-use Rattle.std.proofs.Common.{◌≡◌, ◌≢◌, ◌⊎◌, inl, inr, ℕ, zero, suc, ◌+◌, ◌<◌, ◌≤◌, Bool, true, false, not, ◌||◌, cond, map, take, length, List, [], ◌∷◌, ◌++◌, Option, Some, Result, Ok, Err, refl, sym, ap, ◌∙◌, arith, subst}
+use Rattle.std.proofs.Common.{◌≡◌, ◌≢◌, ◌⊎◌, inl, inr, ℕ, zero, suc, ◌+◌, ◌<◌, ◌≤◌, Bool, true}
+use Rattle.std.proofs.Common.{false, not, ◌||◌, cond, map, take, length, List, [], ◌∷◌, ◌++◌}
+use Rattle.std.proofs.Common.{Option, Some, Result, Ok, Err, refl, sym, ap, ◌∙◌, arith, subst}
 use Rattle.std.specs.Prelude.{slice_get, slice_set}
 use Rattle.std.specs.List.{AllByRecursion}
 use Rattle.std.proofs.lemmas.Bool.{cases_eq}
@@ -29,7 +31,8 @@ use Rattle.pg_node_state.specs.States.{Comes, Happens, step_see_loss}
 use Rattle.pg_frame_world.specs.declared.step.Stepped.TheVariants.{Happened, Gone}
 use Rattle.pg_world.specs.Bars.{has_bytes}
 use Rattle.pg_world.specs.BytesLosing.{ShowsLosingBytes, SightComesTo, LossComesTo}
-use Rattle.pg_world.specs.Crossings.{Crossing, link_at, bytes_at, packet_as, packets_between, written_of, CanCross, IsOnWay}
+use Rattle.pg_world.specs.Crossings.{Crossing, link_at, bytes_at, packet_as}
+use Rattle.pg_world.specs.Crossings.{packets_between, written_of, CanCross, IsOnWay}
 use Rattle.pg_frame_world.specs.declared.effect.Effect.{Effect}
 use Rattle.pg_frame_world.specs.Effects.{no_effect}
 use Rattle.pg_frame_world.specs.Losing.{losing_of, is_cut_off, told_sight, LosingComesTo}
@@ -42,8 +45,10 @@ use Rattle.pg_world.proofs.over_bytes.Past.{sight_from}
 use Rattle.pg_world.proofs.Crossed.{all_short}
 use Rattle.pg_frame_world.proofs.Peering.{named, peer_name, there_and_back}
 use Rattle.pg_frame_world.proofs.Seeing.{there, turned, stays, unseen, not_lost, sight_refused, sight_seen}
-use Rattle.pg_frame_world.proofs.Sighted.{sight, sight_clock, sighted, same_wire, seen_then, nodes_sighted, updates_sighted}
-use Rattle.pg_frame_world.proofs.Stopped.{cut_off, cut_here, cut_else, nodes_cut, updates_cut, can_so, loss_happens, seen_more, lost_it, lost_others}
+use Rattle.pg_frame_world.proofs.Sighted.{sight, sight_clock, sighted, same_wire}
+use Rattle.pg_frame_world.proofs.Sighted.{seen_then, nodes_sighted, updates_sighted}
+use Rattle.pg_frame_world.proofs.Stopped.{cut_off, cut_here, cut_else, nodes_cut, updates_cut}
+use Rattle.pg_frame_world.proofs.Stopped.{can_so, loss_happens, seen_more, lost_it, lost_others}
 use Rattle.pg_frame_world.proofs.Turning.{pair_is}
 
 -- ---- a loss is seen

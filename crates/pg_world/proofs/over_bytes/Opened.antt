@@ -1,5 +1,7 @@
 -- A world of bytes that begins.
-use Rattle.std.proofs.Common.{◌≡◌, ◌≤◌, ◌<◌, ◌+◌, ◌-◌, ℕ, zero, suc, Bool, true, false, cond, nat_lt, map, get_or, length, replicate, List, [], ◌∷◌, ◌++◌, Option, Some, Result, Ok, Err, refl, sym, ap, ◌∙◌, inl, inr, ◌⊎◌, arith, subst}
+use Rattle.std.proofs.Common.{◌≡◌, ◌≤◌, ◌<◌, ◌+◌, ◌-◌, ℕ, zero, suc, Bool, true, false, cond, nat_lt}
+use Rattle.std.proofs.Common.{map, get_or, length, replicate, List, [], ◌∷◌, ◌++◌, Option, Some}
+use Rattle.std.proofs.Common.{Result, Ok, Err, refl, sym, ap, ◌∙◌, inl, inr, ◌⊎◌, arith, subst}
 use Rattle.std.specs.Prelude.{slice_get, option_map, IfOk}
 use Rattle.std.specs.declared.alloc.Global.{Global}
 use Rattle.std.specs.declared.vec.Vec.{Vec}
@@ -35,10 +37,12 @@ use Rattle.pg_node.specs.Links.{Link}
 use Rattle.pg_node.specs.Nodes.{held_by, links_of}
 use Rattle.pg_node_state.specs.States.{names_of as known_names, stamped_of}
 use Rattle.pg_config.specs.declared.fault.WorldFault.{WorldFault}
-use Rattle.pg_config.specs.declared.fault.WorldFault.TheVariants.{BadConfig, NameTooLarge, BadCapacity, TooLong, OutOfMemory}
+use Rattle.pg_config.specs.declared.fault.WorldFault.TheVariants.{BadConfig, NameTooLarge}
+use Rattle.pg_config.specs.declared.fault.WorldFault.TheVariants.{BadCapacity, TooLong, OutOfMemory}
 use Rattle.pg_world.specs.BytesStart.{OpensLinks, OpensBytes, BytesBegin}
 use Rattle.pg_world.specs.Changes.{links_at}
-use Rattle.pg_world.specs.Crossings.{Crossing, node_of, idle_crossing, no_links, link_at, bytes_at, packet_as, packets_between, written_of, CanCross}
+use Rattle.pg_world.specs.Crossings.{Crossing, node_of, idle_crossing, no_links, link_at}
+use Rattle.pg_world.specs.Crossings.{bytes_at, packet_as, packets_between, written_of, CanCross}
 use Rattle.pg_frame_world.specs.Openings.{AreReady, TellsNames, AllFit, CantOpen, CantStart, opening_fault_of}
 use Rattle.pg_starts.specs.Firsts.{seen_first, firsts}
 use Rattle.pg_frame_world.specs.Starts.{AllOpen, Begins}

@@ -1,12 +1,14 @@
 -- What steps over bytes come to where nodes may be lost: bytes that move, and events that know of no loss.
-use Rattle.std.proofs.Common.{◌≡◌, ℕ, Bool, true, false, not, ◌||◌, cond, length, List, [], ◌∷◌, Option, Some, None, Result, Ok, Err, refl, sym, ap, ◌∙◌, subst}
+use Rattle.std.proofs.Common.{◌≡◌, ℕ, Bool, true, false, not, ◌||◌, cond, length, List, [], ◌∷◌}
+use Rattle.std.proofs.Common.{Option, Some, None, Result, Ok, Err, refl, sym, ap, ◌∙◌, subst}
 use Rattle.std.specs.Prelude.{IfErr, nat_lt}
 use Rattle.pg_machine.specs.Places.{is_place, is_pair}
 use Rattle.pg_machine.specs.Machine.{Event, Take, Do, node_of, happens}
 use Rattle.pg_machine.specs.Losing.{LosingEvent, Step, losing_happens}
 use Rattle.pg_machine.proofs.Steps.{happened}
 use Rattle.pg_step.specs.declared.refusal.Refusal.{Refusal}
-use Rattle.pg_step.specs.declared.refusal.Refusal.TheVariants.{NoSuchPlace, NodeLost, NotDrained, NotAMessage, NotWaiting, ClockFull, NotLost}
+use Rattle.pg_step.specs.declared.refusal.Refusal.TheVariants.{NoSuchPlace, NodeLost, NotDrained}
+use Rattle.pg_step.specs.declared.refusal.Refusal.TheVariants.{NotAMessage, NotWaiting, ClockFull, NotLost}
 use Rattle.pg_step.specs.Config.{Config, name_at}
 use Rattle.pg_step.specs.Faults.{first_that_holds}
 use Rattle.pg_step.specs.FrameMachine.{frame_machine, losing_frame_machine, last_notice}
@@ -15,21 +17,25 @@ use Rattle.pg_step.specs.Nodes.{Node}
 use Rattle.pg_step.specs.Step.{Action}
 use Rattle.pg_step.specs.StepLaws.{port_of}
 use Rattle.pg_node_state.specs.declared.state.fault.NodeFault.{NodeFault}
-use Rattle.pg_node_state.specs.declared.state.fault.NodeFault.TheVariants.{Refused, OutOfMemory, Message as BadMessage, TooLong, Damaged}
+use Rattle.pg_node_state.specs.declared.state.fault.NodeFault.TheVariants.{Refused, OutOfMemory}
+use Rattle.pg_node_state.specs.declared.state.fault.NodeFault.TheVariants.{Message as BadMessage, TooLong, Damaged}
 use Rattle.pg_frame_world.specs.declared.effect.Effect.{Effect}
 use Rattle.pg_frame_world.specs.declared.step.FrameStep.{FrameStep}
 use Rattle.pg_frame_world.specs.declared.step.FrameStep.TheVariants as frames
 use Rattle.pg_frame_world.specs.declared.step.Stepped.{Stepped}
 use Rattle.pg_frame_world.specs.declared.step.Stepped.TheVariants.{Happened, Moved, Nothing, Gone}
 use Rattle.pg_world.specs.Bars.{IsFaultOf, put_bar, pull_bar}
-use Rattle.pg_world.specs.BytesLosing.{ShowsLosingBytes, MoveLeaves, WholeComesTo, SightComesTo, EventLeaves, put_refusal, pull_refusal, gone_refusal}
+use Rattle.pg_world.specs.BytesLosing.{ShowsLosingBytes, MoveLeaves, WholeComesTo, SightComesTo}
+use Rattle.pg_world.specs.BytesLosing.{EventLeaves, put_refusal, pull_refusal, gone_refusal}
 use Rattle.pg_world.specs.Crossings.{Crossing, ShowsBytesPast, EventComesTo, MoveComesTo, LossLeaves, is_take}
 use Rattle.pg_frame_world.specs.Effects.{effect_in, losing_effect_in}
-use Rattle.pg_frame_world.specs.Losing.{SeenAreLost, losing_of, is_cut_off, is_barred, Telling, told_take, told_own, told_of, LosingLed, LosingComesTo}
+use Rattle.pg_frame_world.specs.Losing.{SeenAreLost, losing_of, is_cut_off, is_barred, Telling}
+use Rattle.pg_frame_world.specs.Losing.{told_take, told_own, told_of, LosingLed, LosingComesTo}
 use Rattle.pg_account.specs.Losses.{is_lost}
 use Rattle.pg_account.specs.Histories.{Account}
 use Rattle.pg_frame_world.specs.Worlds.{TimedFrameWorld, ShowsNodes, has_port, has_places, told}
-use Rattle.pg_frame_world.proofs.Barred.{cut_is, barred_told, unplaced_told, take_cut, either_stays, take_refused_so, take_busy_so, own_refused_so}
+use Rattle.pg_frame_world.proofs.Barred.{cut_is, barred_told, unplaced_told, take_cut, either_stays}
+use Rattle.pg_frame_world.proofs.Barred.{take_refused_so, take_busy_so, own_refused_so}
 use Rattle.pg_frame_world.proofs.Lossy.{lifted, same_effect, lost_kept}
 use Rattle.pg_frame_world.proofs.Turning.{pair_turned}
 

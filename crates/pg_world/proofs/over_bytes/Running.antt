@@ -1,22 +1,26 @@
 -- What steps over bytes come to where nodes may be lost, by their numbers.
-use Rattle.std.proofs.Common.{◌≡◌, inl, inr, ℕ, cond, Option, Result, Ok, Err, refl, sym, ap, subst, true, false, List, []}
+use Rattle.std.proofs.Common.{◌≡◌, inl, inr, ℕ, cond, Option, Result, Ok, Err}
+use Rattle.std.proofs.Common.{refl, sym, ap, subst, true, false, List, []}
 use Rattle.std.specs.Option.{option_map_or}
 use Rattle.pg_machine.specs.Losing.{LosingEvent, Lose, nobody_gone}
 use Rattle.pg_step.specs.declared.refusal.Refusal.{Refusal}
-use Rattle.pg_step.specs.declared.refusal.Refusal.TheVariants.{NoSuchPlace, NodeLost, NotDrained, NotAMessage, NotWaiting, ClockFull, NotLost}
+use Rattle.pg_step.specs.declared.refusal.Refusal.TheVariants.{NoSuchPlace, NodeLost, NotDrained}
+use Rattle.pg_step.specs.declared.refusal.Refusal.TheVariants.{NotAMessage, NotWaiting, ClockFull, NotLost}
 use Rattle.pg_step.specs.Config.{Config, names_of}
 use Rattle.pg_step.specs.Faults.{refusal_number_of}
 use Rattle.pg_step.specs.LossLaws.{LosingFrameWorld}
 use Rattle.pg_step.specs.Step.{Action}
 use Rattle.pg_node_state.specs.NodeFault.{node_number_of}
 use Rattle.pg_node_state.specs.declared.state.fault.NodeFault.{NodeFault}
-use Rattle.pg_node_state.specs.declared.state.fault.NodeFault.TheVariants.{Refused, OutOfMemory, Message as BadMessage, TooLong, Damaged}
+use Rattle.pg_node_state.specs.declared.state.fault.NodeFault.TheVariants.{Refused, OutOfMemory}
+use Rattle.pg_node_state.specs.declared.state.fault.NodeFault.TheVariants.{Message as BadMessage, TooLong, Damaged}
 use Rattle.pg_frame_world.specs.declared.step.FrameStep.TheVariants as frames
 use Rattle.pg_world.specs.declared.step.Step.{Step}
 use Rattle.pg_world.specs.declared.step.Step.TheVariants as steps
 use Rattle.pg_frame_world.specs.declared.step.Stepped.{Stepped}
 use Rattle.pg_frame_world.specs.declared.step.Stepped.TheVariants.{Happened, Moved, Nothing, Gone}
-use Rattle.pg_world.specs.BytesLosing.{MoveLeaves, WholeComesTo, SightComesTo, LossComesTo, StepLeaves, put_refusal, pull_refusal, gone_refusal, ShowsLosingBytes}
+use Rattle.pg_world.specs.BytesLosing.{MoveLeaves, WholeComesTo, SightComesTo, LossComesTo, StepLeaves}
+use Rattle.pg_world.specs.BytesLosing.{put_refusal, pull_refusal, gone_refusal, ShowsLosingBytes}
 use Rattle.pg_world.specs.BytesLosingRuns.{bytes_past_losses, IsBytesEvent, IsBytesLeftOut, HasNumber, IsLossOf}
 use Rattle.pg_frame_world.specs.Losing.{Telling, LosingComesTo, told_of, told_take, told_sight, IsReachedLosing}
 use Rattle.pg_frame_world.specs.LosingRuns.{LosingStepsTo, IsToldEvent, IsLeftOut, LosingGoesTo, RanLosing}

@@ -1,5 +1,6 @@
 -- A node over bytes that would see the loss of a peer: what it is given, and which bytes stay.
-use Rattle.std.proofs.Common.{◌≡◌, ◌≢◌, ℕ, ◌+◌, ◌<◌, true, false, get_or, length, List, Result, refl, sym, ap, ◌∙◌, subst}
+use Rattle.std.proofs.Common.{◌≡◌, ◌≢◌, ℕ, ◌+◌, ◌<◌, true, false, get_or}
+use Rattle.std.proofs.Common.{length, List, Result, refl, sym, ap, ◌∙◌, subst}
 use Rattle.std.specs.Prelude.{slice_set}
 use Rattle.pg_group.specs.declared.table.GroupTable.{Ghosts}
 use Rattle.pg_machine.specs.Places.{is_pair}

@@ -5,7 +5,8 @@ ghost use Rattle.pg_ring.specs.Capacity.{IsCapacity};
 ghost use Rattle.pg_step.specs.Config.{Config as Configuration, IsConfig};
 ghost use Rattle.pg_world.specs.BytesLosing.{ShowsLosingBytes as shows_losing};
 ghost use Rattle.pg_world.specs.BytesLosingRuns.{bytes_past_losses as over_bytes_past};
-ghost use Rattle.pg_world.specs.ByteWorlds.{account_of as kept_of, crossing_of as shown_by, given_of as given_by, lost_of as lost_by, room_of as room_in};
+ghost use Rattle.pg_world.specs.ByteWorlds.{account_of as kept_of, crossing_of as shown_by};
+ghost use Rattle.pg_world.specs.ByteWorlds.{given_of as given_by, lost_of as lost_by, room_of as room_in};
 ghost use Rattle.pg_world.specs.Crossings.{ShowsBytes as shows_bytes};
 ghost use Rattle.pg_world.specs.CrossingRuns.{AreLeft as AreLeftBy, RanCrossing};
 ghost use Rattle.pg_frame_world.specs.LosingRuns.{RanLosing};
@@ -109,6 +110,8 @@ impl<T: GroupTable + Drop> World<T> {
 /// changed.
 ///
 /// Errors: those of `World::new`.
+///
+/// Cost: that of `World::new` and of the steps, and a byte for each step.
 pub fn run(
     alloc: Global,
     config: &Config,

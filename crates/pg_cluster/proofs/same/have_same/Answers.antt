@@ -4,7 +4,8 @@ use Rattle.pg_cluster.specs.Survivors.{HasSame, survivors, was_lost}
 use Rattle.pg_cluster.specs.Threads.{NodeOf}
 use Rattle.pg_cluster.proofs.Surviving.{all_survivors, more_lost, more_nodes, survivors_all}
 use Rattle.pg_cluster.proofs.same.have_same.Goals as goal
-use Rattle.pg_cluster.proofs.same.have_same.Goals.{else-not-was_lost-via-then-not-was_lost+in_ok-has_same_as_all+else-not-branch, else-not-was_lost-via-else-not-was_lost}
+use Rattle.pg_cluster.proofs.same.have_same.Goals.{else-not-was_lost-via-then-not-was_lost+in_ok-has_same_as_all+else-not-branch}
+use Rattle.pg_cluster.proofs.same.have_same.Goals.{else-not-was_lost-via-else-not-was_lost}
 
 pub returns-then-not-branch : goal.returns-then-not-branch
 returns-then-not-branch c =

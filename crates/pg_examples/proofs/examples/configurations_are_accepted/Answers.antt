@@ -1,4 +1,5 @@
-use Rattle.pg_examples.proofs.Accepted.{one_accepted, two_accepted, three_accepted, member_accepted, two_tables_accepted, three_tables_accepted}
+use Rattle.pg_examples.proofs.Accepted.{one_accepted, two_accepted, three_accepted, member_accepted}
+use Rattle.pg_examples.proofs.Accepted.{two_tables_accepted, three_tables_accepted}
 use Rattle.pg_examples.proofs.examples.configurations_are_accepted.Goals as goal
 
 pub returns-clause-plain : goal.returns-clause-plain

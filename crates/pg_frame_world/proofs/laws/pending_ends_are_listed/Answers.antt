@@ -7,7 +7,8 @@ use Rattle.pg_history.specs.WithLosses.{NonePendingLeft}
 use Rattle.pg_loss.specs.Reached.{LosingReaches}
 use Rattle.pg_frame_world.specs.Losing.{losing_of}
 use Rattle.pg_frame_world.specs.Pending.{IsPending}
-use Rattle.pg_frame_world.proofs.Listed.{EndedWereMade, Numbered, empty_list, is_listed, listed_is, none_listed, none_of_plain, plain_none, reached_so}
+use Rattle.pg_frame_world.proofs.Listed.{EndedWereMade, Numbered, empty_list, is_listed, listed_is}
+use Rattle.pg_frame_world.proofs.Listed.{none_listed, none_of_plain, plain_none, reached_so}
 use Rattle.pg_frame_world.proofs.laws.pending_ends_are_listed.Goals as goal
 
 pub returns-clause-listed : goal.returns-clause-listed

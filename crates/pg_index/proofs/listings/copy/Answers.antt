@@ -3,7 +3,8 @@ use Rattle.std.specs.BTreeMap.{get}
 use Rattle.std.specs.Map.{lookup}
 use Rattle.pg_term.specs.Same.{atom_cmp}
 use Rattle.pg_index.proofs.Listed.{same_node}
-use Rattle.pg_index.proofs.Copies.{node_at, nodes_flip, entries_begun, entries_more, entries_all, keys_alike, put_alike, listed_alike}
+use Rattle.pg_index.proofs.Copies.{node_at, nodes_flip, entries_begun, entries_more}
+use Rattle.pg_index.proofs.Copies.{entries_all, keys_alike, put_alike, listed_alike}
 use Rattle.pg_index.proofs.listings.copy.Goals as goal
 
 pub loop-node-init : goal.loop-node-init

@@ -3,7 +3,8 @@ use Rattle.std.proofs.Common.{ℕ, List, ◌≡◌, ◌+◌, Option, Some, map, 
 use Rattle.pg_joining.specs.Merge.{clocks_in, rest_of, clocks_of}
 use Rattle.pg_joining.proofs.Reading.{FirstBefore, past_empty, past_if, past_else, log_there}
 use Rattle.pg_joining.proofs.order.next_log.Goals as goal
-use Rattle.pg_joining.proofs.order.next_log.Goals.{in-Some+then-is_none, in-Some+else-is_none+else-clock-least, in_default}
+use Rattle.pg_joining.proofs.order.next_log.Goals.{in-Some+then-is_none}
+use Rattle.pg_joining.proofs.order.next_log.Goals.{in-Some+else-is_none+else-clock-least, in_default}
 
 pub loop-i-preserved : goal.loop-i-preserved
 loop-i-preserved g c =

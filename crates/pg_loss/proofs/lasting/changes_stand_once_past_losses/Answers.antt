@@ -1,4 +1,5 @@
-use Rattle.pg_loss.proofs.Standing.{entries_once, answered_once as once, answered_stand, looked_do_not, one_answer as single}
+use Rattle.pg_loss.proofs.Standing.{entries_once, answered_once as once, answered_stand}
+use Rattle.pg_loss.proofs.Standing.{looked_do_not, one_answer as single}
 use Rattle.pg_loss.proofs.lasting.changes_stand_once_past_losses.Goals as goal
 
 pub returns-clause-at_most_once : goal.returns-clause-at_most_once

@@ -1,7 +1,11 @@
 use Rattle.std.proofs.Common.{map, refl, string_bytes}
 use Rattle.clap.specs.Words.{fault_of, kind_of, subcommand_of}
 use Rattle.pg_program.specs.CommandLine.{command_line}
-use Rattle.pg_program.proofs.Ends.{explore_no_bytes, explore_no_script, explore_no_script_word, explore_no_serve_word, explore_no_threads, explore_word, asked_so, not_other, not_read, not_spoken, only_memory, same_names, script_not_read, spoken, script_no_bytes, script_no_threads, serve_no_bytes, serve_no_script, serve_no_script_word, serve_no_threads, serve_word, not_served, threads_no_bytes, threads_no_script}
+use Rattle.pg_program.proofs.Ends.{explore_no_bytes, explore_no_script, explore_no_script_word, explore_no_serve_word}
+use Rattle.pg_program.proofs.Ends.{explore_no_threads, explore_word, asked_so, not_other, not_read, not_spoken}
+use Rattle.pg_program.proofs.Ends.{only_memory, same_names, script_not_read, spoken, script_no_bytes}
+use Rattle.pg_program.proofs.Ends.{script_no_threads, serve_no_bytes, serve_no_script, serve_no_script_word}
+use Rattle.pg_program.proofs.Ends.{serve_no_threads, serve_word, not_served, threads_no_bytes, threads_no_script}
 use Rattle.pg_program.proofs.Numbers.{same_talk}
 use Rattle.pg_program.proofs.run.run_words.Goals as goal
 

@@ -5,7 +5,8 @@ use Rattle.pg_run.specs.declared.run.Turned.{Turned}
 use Rattle.std.proofs.Common.{List, [], arith, inl, inr, length, length-append, refl, rules, ◌++◌, ◌+◌, ◌∷◌, ◌≡◌, ◌≤◌}
 use Rattle.pg_run.proofs.GoingOn.{goes_itself, serves_going, runs_on, notices_stay}
 use Rattle.pg_run.proofs.running.run_node.Goals as goal
-use Rattle.pg_run.proofs.running.run_node.Goals.{in-Whole, in-Short, else-loop-turn-test, then-loop-turn-test+in-Stopped}
+use Rattle.pg_run.proofs.running.run_node.Goals.{in-Whole, in-Short, else-loop-turn-test}
+use Rattle.pg_run.proofs.running.run_node.Goals.{then-loop-turn-test+in-Stopped}
 
 pub loop-turn-init : goal.loop-turn-init
 loop-turn-init g c =

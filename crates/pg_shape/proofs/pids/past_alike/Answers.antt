@@ -1,4 +1,5 @@
-use Rattle.std.proofs.Common.{◌≡◌, ℕ, suc, ◌-◌, List, ◌++◌, length, length-append, length-drop, sym, ap, subst, ◌∙◌, arith}
+use Rattle.std.proofs.Common.{◌≡◌, ℕ, suc, ◌-◌, List, ◌++◌, length, length-append}
+use Rattle.std.proofs.Common.{length-drop, sym, ap, subst, ◌∙◌, arith}
 use Rattle.pg_term_io.specs.Reading.{item_at}
 use Rattle.pg_message.specs.Parts.{pid_of}
 use Rattle.pg_shape.specs.Lists.{Leaves}

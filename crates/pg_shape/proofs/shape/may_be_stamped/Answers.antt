@@ -4,7 +4,8 @@ use Rattle.std.proofs.Common.{◌≡◌, ◌∙◌, true, ℕ, List, Ok, Err, sy
 use Rattle.pg_term_io.specs.Reading.{item_at}
 use Rattle.pg_message.specs.declared.fault.MessageFault.TheVariants as faults
 use Rattle.pg_message.specs.Reading.{packet_in}
-use Rattle.pg_shape.proofs.Shapes.{both_true, end_is, no_pair, no_other, packet_other, packet_no_stamp, packet_no_message}
+use Rattle.pg_shape.proofs.Shapes.{both_true, end_is, no_pair, no_other}
+use Rattle.pg_shape.proofs.Shapes.{packet_other, packet_no_stamp, packet_no_message}
 use Rattle.pg_shape.proofs.shape.may_be_stamped.Goals as goal
 
 pub returns-then-arity-ne2-clause-refused : goal.returns-then-arity-ne2-clause-refused

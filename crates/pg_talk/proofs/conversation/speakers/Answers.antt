@@ -1,4 +1,5 @@
-use Rattle.std.proofs.Common.{◌≡◌, ◌<◌, ◌+◌, ◌++◌, ◌∷◌, [], ℕ, List, length, get_or, sym, ap, subst, ◌∙◌, arith, length-append}
+use Rattle.std.proofs.Common.{◌≡◌, ◌<◌, ◌+◌, ◌++◌, ◌∷◌, [], ℕ, List, length}
+use Rattle.std.proofs.Common.{get_or, sym, ap, subst, ◌∙◌, arith, length-append}
 use Rattle.pg_run.specs.Ports.{IsSilent}
 use Rattle.pg_run.specs.declared.port.Client.{Client}
 use Rattle.pg_talk.specs.Asking.{Keeps, is_first}

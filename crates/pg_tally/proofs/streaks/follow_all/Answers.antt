@@ -1,7 +1,8 @@
 use Rattle.std.proofs.Common.{◌≡◌, ◌+◌, false, Ok, length, get_or, sym, ap, subst, ◌∙◌, Bool}
 use Rattle.pg_tally.specs.declared.ways.Way.{Way}
 use Rattle.pg_tally.specs.Walks.{ways_at}
-use Rattle.pg_tally.proofs.Passing.{IsTrying, leads_by, none_tried, past, settled_at, settled_past, tried_changed, tried_same}
+use Rattle.pg_tally.proofs.Passing.{IsTrying, leads_by, none_tried, past, settled_at}
+use Rattle.pg_tally.proofs.Passing.{settled_past, tried_changed, tried_same}
 use Rattle.pg_tally.proofs.Walking.{ok_same, ways_are}
 use Rattle.pg_tally.proofs.streaks.follow_all.Goals as goal
 use Rattle.pg_tally.proofs.streaks.follow_all.Goals.{then-branch, else-branch}

@@ -4,7 +4,8 @@ use Rattle.std.proofs.lemmas.List.Elements.{Contains-get_or}
 use Rattle.std.specs.List.{Contains}
 use Rattle.pg_tally.specs.declared.ways.Way.{Way}
 use Rattle.pg_tally.specs.Walks.{ways_at}
-use Rattle.pg_tally.proofs.Walking.{IsFollowing, followed_changed, followed_same, none_followed, ok_same, closed_at, ways_are}
+use Rattle.pg_tally.proofs.Walking.{IsFollowing, followed_changed, followed_same}
+use Rattle.pg_tally.proofs.Walking.{none_followed, ok_same, closed_at, ways_are}
 use Rattle.pg_tally.proofs.takes.follow_all.Goals as goal
 use Rattle.pg_tally.proofs.takes.follow_all.Goals.{then-branch, else-branch}
 

@@ -1,9 +1,11 @@
-use Rattle.std.proofs.Common.{◌≡◌, ◌≤◌, ◌+◌, List, ℕ, ◌++◌, ◌∷◌, [], length, take, length-append, sym, ap, subst, ◌∙◌, append_assoc, arith, rules}
+use Rattle.std.proofs.Common.{◌≡◌, ◌≤◌, ◌+◌, List, ℕ, ◌++◌, ◌∷◌, [], length, take}
+use Rattle.std.proofs.Common.{length-append, sym, ap, subst, ◌∙◌, append_assoc, arith, rules}
 use Rattle.std.proofs.lemmas.List.{append-nil, take_all}
 use Rattle.pg_term.specs.declared.term.Term.{Term, the_lemmas}
 use Rattle.pg_term_io.specs.Writing.{item_bytes, all_bytes, tuple_head, list_head, AreSpelled}
 use Rattle.pg_term_io.proofs.Written.{tuple_at, list_at, count_le, all_push, bytes_more, len_more, part_fits}
-use Rattle.pg_term_io.proofs.Spelled.{spelled_more, spelled_last, none_spelled, name_spelled, tuple_spelled, list_spelled}
+use Rattle.pg_term_io.proofs.Spelled.{spelled_more, spelled_last, none_spelled}
+use Rattle.pg_term_io.proofs.Spelled.{name_spelled, tuple_spelled, list_spelled}
 use Rattle.pg_term_writer.proofs.writing.+put.Goals as goal
 
 pub put_tuple-overflow_cast-terms : goal.put_tuple-overflow_cast-terms

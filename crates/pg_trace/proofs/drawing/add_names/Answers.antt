@@ -1,4 +1,5 @@
-use Rattle.std.proofs.Common.{ℕ, ◌++◌, [], ◌∷◌, List, String, Global, append_assoc, map, string_bytes, take, ap, sym, ◌∙◌}
+use Rattle.std.proofs.Common.{ℕ, ◌++◌, [], ◌∷◌, List, String, Global}
+use Rattle.std.proofs.Common.{append_assoc, map, string_bytes, take, ap, sym, ◌∙◌}
 use Rattle.std.proofs.lemmas.List.{append-nil, take_all}
 use Rattle.pg_trace.proofs.Listing.{map_more, map_pushed}
 use Rattle.pg_trace.proofs.drawing.add_names.Goals as goal

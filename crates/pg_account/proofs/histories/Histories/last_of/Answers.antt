@@ -5,7 +5,8 @@ use Rattle.pg_group.specs.Value.{name_of}
 use Rattle.pg_account.specs.declared.entry.Entry.{Entry}
 use Rattle.pg_history.specs.History.{of_group}
 use Rattle.pg_account.specs.Histories.{last_entries, as_entry}
-use Rattle.pg_account.proofs.histories.Histories.last_of.Goals.{in_default-via-in-Some+else-eq, in_default-via-in_default}
+use Rattle.pg_account.proofs.histories.Histories.last_of.Goals.{in_default-via-in-Some+else-eq}
+use Rattle.pg_account.proofs.histories.Histories.last_of.Goals.{in_default-via-in_default}
 use Rattle.pg_account.proofs.histories.Histories.last_of.Goals as goal
 
 pub returns-in-Some : goal.returns-in-Some

@@ -1,6 +1,8 @@
 use Rattle.pg_cluster.specs.Closed.{lost_of, threads_of}
 use Rattle.pg_cluster.proofs.Agreed.{closed_agree}
-use Rattle.pg_cluster.proofs.Finishing.{closed_survivors, finished_ended, finished_run, finished_clients, finished_losing, finished_losing_run, finished_lost, finished_schedule, ended_merely, heard_merely, stopped_joins, stopped_joins_losing}
+use Rattle.pg_cluster.proofs.Finishing.{closed_survivors, finished_ended, finished_run, finished_clients}
+use Rattle.pg_cluster.proofs.Finishing.{finished_losing, finished_losing_run, finished_lost, finished_schedule}
+use Rattle.pg_cluster.proofs.Finishing.{ended_merely, heard_merely, stopped_joins, stopped_joins_losing}
 use Rattle.pg_cluster.proofs.cluster.Cluster.close.Goals as goal
 
 pub returns-clause-ended : goal.returns-clause-ended

@@ -1,4 +1,5 @@
-use Rattle.std.proofs.Common.{false, rules, arith, ◌≡◌, ◌≢◌, ◌<◌, ◌∙◌, ℕ, List, get_or, set, length, vec_len, ap, sym, subst}
+use Rattle.std.proofs.Common.{false, rules, arith, ◌≡◌, ◌≢◌, ◌<◌, ◌∙◌, ℕ, List}
+use Rattle.std.proofs.Common.{get_or, set, length, vec_len, ap, sym, subst}
 use Rattle.std.proofs.lemmas.List.{get_or-map, get_or-set_other, get_or-set_same, length-map}
 use mathlib.Core.Logic.{∥∥₁_map}
 use Rattle.pg_ring.specs.Slots.{AreSlots}

@@ -1,4 +1,5 @@
-use Rattle.std.proofs.Common.{rules, arith, ◌≡◌, ◌<◌, ◌+◌, ℕ, ◌∷◌, [], false, get_or, length, vec_len, ap, sym, ◌∙◌, subst, length-append}
+use Rattle.std.proofs.Common.{rules, arith, ◌≡◌, ◌<◌, ◌+◌, ℕ, ◌∷◌, [], false, get_or}
+use Rattle.std.proofs.Common.{length, vec_len, ap, sym, ◌∙◌, subst, length-append}
 use Rattle.std.specs.List.{All, AllByRecursion}
 use Rattle.std.specs.Vec.Iter.{into_iter_items}
 use Rattle.std.proofs.Props.{props}
@@ -19,7 +20,8 @@ use Rattle.pg_cluster.proofs.Closing.{joined_after}
 use Rattle.pg_cluster.proofs.Finishing.{one_more_stands, stopped_ended, stopped_heard}
 use Rattle.pg_cluster.proofs.Hearing.{same_ports, clients_still}
 use Rattle.pg_cluster.proofs.Holding.{lasts_kept}
-use Rattle.pg_cluster.proofs.Starts.{ClocksKept, GiveBack, GivesBack, KeepsClock, all_moved, next_at, next_below, none_moved, pushed_moves, rest_after, runs_still, joined_members}
+use Rattle.pg_cluster.proofs.Starts.{ClocksKept, GiveBack, GivesBack, KeepsClock, all_moved, next_at, next_below}
+use Rattle.pg_cluster.proofs.Starts.{none_moved, pushed_moves, rest_after, runs_still, joined_members}
 use Rattle.pg_cluster.proofs.Telling.{came_lost, notices_still, nothing_came}
 use Rattle.pg_cluster.proofs.cluster.Cluster.stop.Goals as goal
 

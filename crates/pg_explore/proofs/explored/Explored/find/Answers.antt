@@ -1,11 +1,13 @@
-use Rattle.std.proofs.Common.{◌≡◌, ◌≢◌, ◌<◌, ◌≤◌, ℕ, ◌+◌, ◌-◌, Bool, true, false, List, [], ◌∷◌, ◌++◌, length, map, take, get_or, refl, sym, ap, ap₂, ◌∙◌, inl, inr, subst, arith}
+use Rattle.std.proofs.Common.{◌≡◌, ◌≢◌, ◌<◌, ◌≤◌, ℕ, ◌+◌, ◌-◌, Bool, true, false, List, [], ◌∷◌, ◌++◌}
+use Rattle.std.proofs.Common.{length, map, take, get_or, refl, sym, ap, ap₂, ◌∙◌, inl, inr, subst, arith}
 use Rattle.std.proofs.lemmas.Option.{slice_get-get_or}
 use Rattle.pg_explore.specs.declared.bins.Spot.{Spot}
 use Rattle.pg_explore.specs.Explorations.{IsAlikeAt, met_of}
 use Rattle.pg_explore.specs.Moments.{sight_of}
 use Rattle.pg_explore.proofs.Reached.{none_found, none_more}
 use Rattle.pg_explore.proofs.explored.Explored.find.Goals as goal
-use Rattle.pg_explore.proofs.explored.Explored.find.Goals.{else-spot-number-via-then-spot-number+in_ok-is_alike_at+else-branch, else-spot-number-via-else-spot-number}
+use Rattle.pg_explore.proofs.explored.Explored.find.Goals.{else-spot-number-via-then-spot-number+in_ok-is_alike_at+else-branch}
+use Rattle.pg_explore.proofs.explored.Explored.find.Goals.{else-spot-number-via-else-spot-number}
 
 clash : false ≡ true → ⊥
 clash e = absurd (cc)

@@ -4,7 +4,8 @@ use Rattle.pg_frame_world.specs.Losing.{lost_of}
 use Rattle.pg_starts.specs.Seen.{seen_of}
 use Rattle.pg_frame_world.specs.Views.{ways_of}
 use Rattle.pg_frame_world.specs.Worlds.{view_of}
-use Rattle.pg_frame_world.proofs.Dropped.{cut_there, cut_others, cut_whole, few_or_many, lost_before, too_many, lost_now}
+use Rattle.pg_frame_world.proofs.Dropped.{cut_there, cut_others, cut_whole}
+use Rattle.pg_frame_world.proofs.Dropped.{few_or_many, lost_before, too_many, lost_now}
 use Rattle.pg_frame_world.proofs.world.FrameNodes.lose.Goals as goal
 
 pub returns-then-keep-len-clause-losing : goal.returns-then-keep-len-clause-losing

@@ -12,7 +12,8 @@ use Rattle.pg_frame_world.specs.Effects.{effect_by}
 use Rattle.pg_frame_world.specs.Worlds.{view_of}
 use Rattle.pg_frame_world.proofs.Recording.{shows_all, view_is, grew_own}
 use Rattle.pg_frame_world.proofs.Queued.{own_refused, own_happened}
-use Rattle.pg_frame_world.proofs.Viewing.{is_set, seen_same, view_room, view_refused, seen_here, fit_ways, sent_nodes, sent_view, sent_whole, sent_there, sent_others, whole_as, way_as}
+use Rattle.pg_frame_world.proofs.Viewing.{is_set, seen_same, view_room, view_refused, seen_here, fit_ways, sent_nodes}
+use Rattle.pg_frame_world.proofs.Viewing.{sent_view, sent_whole, sent_there, sent_others, whole_as, way_as}
 use Rattle.pg_frame_world.proofs.world.FrameNodes.retry.Goals as goal
 
 pub invariant_of-self : goal.invariant_of-self

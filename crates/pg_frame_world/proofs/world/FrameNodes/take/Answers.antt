@@ -6,7 +6,8 @@ use Rattle.pg_step.specs.Step.{step_take}
 use Rattle.pg_node_state.specs.States.{names_of, nodes_of, state_of, answers_of, stamped_of, Comes}
 use Rattle.pg_starts.specs.Seen.{seen_of}
 use Rattle.pg_frame_world.specs.Views.{ways_of, packets_to, first_of, traffic_in, peer_place, HaveRoom, IsWhole}
-use Rattle.pg_frame_world.proofs.Taking.{taker_there, row_there, apart, taker_place, sender_place, sender_way, passed_whole, passed_here, passed_else}
+use Rattle.pg_frame_world.proofs.Taking.{taker_there, row_there, apart, taker_place, sender_place}
+use Rattle.pg_frame_world.proofs.Taking.{sender_way, passed_whole, passed_here, passed_else}
 use Rattle.pg_machine.specs.Machine.{Take}
 use Rattle.std.specs.Prelude.{refl}
 use Rattle.pg_frame_world.specs.Effects.{effect_by}
@@ -14,7 +15,8 @@ use Rattle.pg_frame_world.specs.Worlds.{view_of}
 use Rattle.pg_account.specs.Histories.{asked_by}
 use Rattle.pg_frame_world.proofs.Recording.{shows_all, view_is, grew_taken}
 use Rattle.pg_frame_world.proofs.Queued.{take_nothing, take_refused, take_happened}
-use Rattle.pg_frame_world.proofs.Viewing.{is_set, seen_same, view_room, view_refused, seen_here, fit_ways, sent_nodes, sent_view, sent_whole, sent_there, sent_others, whole_as, way_as}
+use Rattle.pg_frame_world.proofs.Viewing.{is_set, seen_same, view_room, view_refused, seen_here, fit_ways, sent_nodes}
+use Rattle.pg_frame_world.proofs.Viewing.{sent_view, sent_whole, sent_there, sent_others, whole_as, way_as}
 use Rattle.pg_frame_world.proofs.world.FrameNodes.take.Goals as goal
 
 pub invariant_of-self : goal.invariant_of-self

@@ -5,7 +5,8 @@ use Rattle.pg_group.specs.Functions.{upd}
 use Rattle.pg_group.specs.Value.{Counts, told, with_one_more, greater}
 use Rattle.pg_group.specs.Rows.{counts_of}
 use Rattle.pg_group.proofs.Maps.{on_err}
-use Rattle.pg_group.proofs.Merges.{told_more, told_kept, told_up_to, told_nothing, nothing_raised, counted_now, between_so_far, raised}
+use Rattle.pg_group.proofs.Merges.{told_more, told_kept, told_up_to, told_nothing}
+use Rattle.pg_group.proofs.Merges.{nothing_raised, counted_now, between_so_far, raised}
 use Rattle.pg_group.proofs.members.Members.raise_all.Goals.{then-not-has+in_ok-add_one+in_ok-raise, else-not-has}
 use Rattle.pg_group.proofs.members.Members.raise_all.Goals as goal
 

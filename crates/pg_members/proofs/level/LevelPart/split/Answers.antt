@@ -3,7 +3,8 @@ use Rattle.std.proofs.lemmas.List.{length-take}
 use Rattle.std.specs.List.{flat_map}
 use Rattle.pg_members.specs.Rows.{AreRows, total_of}
 use Rattle.pg_members.specs.Levels.{NoneEmpty}
-use Rattle.pg_members.proofs.Parts.{none_empty_take, none_empty_drop, halves, total_split, rows_front, rows_rest, some_rows}
+use Rattle.pg_members.proofs.Parts.{none_empty_take, none_empty_drop, halves}
+use Rattle.pg_members.proofs.Parts.{total_split, rows_front, rows_rest, some_rows}
 use Rattle.pg_members.proofs.level.LevelPart.split.Goals as goal
 
 pub sum-total-requires : goal.sum-total-requires

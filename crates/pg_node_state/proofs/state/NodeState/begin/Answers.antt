@@ -25,7 +25,8 @@ use Rattle.pg_step.specs.State.Stage.{Changing}
 use Rattle.pg_opens.specs.Readings.{is_locking}
 use Rattle.pg_opens.specs.Opens.{uses_of}
 use Rattle.pg_node_state.proofs.Counts.{few_changed}
-use Rattle.pg_node_state.proofs.Given.{given_use, of_any, given_stage, of_lock, of_none, of_update, locking_came, gathered_named}
+use Rattle.pg_node_state.proofs.Given.{given_use, of_any, given_stage, of_lock, of_none}
+use Rattle.pg_node_state.proofs.Given.{of_update, locking_came, gathered_named}
 use Rattle.pg_node_state.proofs.Steady.{left_stays}
 use Rattle.pg_node_state.proofs.state.NodeState.begin.Goals as goal
 

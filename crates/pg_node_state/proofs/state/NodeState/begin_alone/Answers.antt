@@ -1,4 +1,5 @@
-use Rattle.std.proofs.Common.{◌≡◌, ◌∙◌, ◌+◌, ◌^◌, ◌<◌, ◌≤◌, ◌&&◌, ℕ, Bool, length, ap, sym, refl, arith, true, subst, nat_eq}
+use Rattle.std.proofs.Common.{◌≡◌, ◌∙◌, ◌+◌, ◌^◌, ◌<◌, ◌≤◌, ◌&&◌, ℕ, Bool}
+use Rattle.std.proofs.Common.{length, ap, sym, refl, arith, true, subst, nat_eq}
 use Rattle.pg_group.specs.declared.update.Update.{Update as Change}
 use Rattle.pg_group.specs.Value.{name_of}
 use Rattle.pg_group.specs.Ended.{ended_of}
@@ -41,7 +42,8 @@ use Rattle.pg_step.specs.State.Stage.{Changing, Closed}
 use Rattle.pg_opens.specs.Readings.{is_locking, is_updating}
 use Rattle.pg_opens.specs.Opens.{uses_of}
 use Rattle.pg_node_state.proofs.Counts.{few_changed}
-use Rattle.pg_node_state.proofs.Given.{given_use, of_any, given_stage, of_lock, of_none, of_update, given_ports, locking_came, gathered_named}
+use Rattle.pg_node_state.proofs.Given.{given_use, of_any, given_stage, of_lock, of_none}
+use Rattle.pg_node_state.proofs.Given.{of_update, given_ports, locking_came, gathered_named}
 use Rattle.pg_node_state.proofs.Steady.{left_stays}
 use Rattle.pg_node_state.proofs.Alone.{to_none, begins_alone, sends_nothing, at_time}
 use Rattle.pg_node_state.proofs.state.NodeState.begin_alone.Goals as goal

@@ -1,4 +1,5 @@
-use Rattle.std.proofs.Common.{◌≡◌, ◌∙◌, ◌+◌, ◌-◌, ◌<◌, ◌≤◌, ◌^◌, ◌++◌, ◌∷◌, [], ℕ, true, false, length, nat_eq, ap, sym, refl, subst, arith}
+use Rattle.std.proofs.Common.{◌≡◌, ◌∙◌, ◌+◌, ◌-◌, ◌<◌, ◌≤◌, ◌^◌, ◌++◌, ◌∷◌, [], ℕ}
+use Rattle.std.proofs.Common.{true, false, length, nat_eq, ap, sym, refl, subst, arith}
 use Rattle.pg_machine.specs.Clocked.{stamped}
 use Rattle.pg_group.specs.declared.update.Update.{Update as Change}
 use Rattle.pg_group.specs.Ended.{ended_of}

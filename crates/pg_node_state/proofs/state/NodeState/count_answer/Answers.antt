@@ -21,7 +21,8 @@ use Rattle.pg_node_state.specs.States.{names_of, left_of, kept_by, state_of, ans
 use Rattle.pg_node_state.proofs.Given.{given_use, of_lock, locking_came}
 use Rattle.pg_node_state.proofs.Alone.{at_time}
 use Rattle.pg_node_state.proofs.Kept.{shows, assembled, assembled_state, happens_as}
-use Rattle.pg_node_state.proofs.Steady.{peers_stay, own_stays, merged_stay, lost_stay, made_stay, given_stay, left_stays}
+use Rattle.pg_node_state.proofs.Steady.{peers_stay, own_stays, merged_stay}
+use Rattle.pg_node_state.proofs.Steady.{lost_stay, made_stay, given_stay, left_stays}
 use Rattle.pg_node_state.proofs.Turned.{Locks as LockOf, locks_by, counted_answer, answer_back}
 use Rattle.pg_node_state.proofs.state.NodeState.count_answer.Goals as goal
 

@@ -22,7 +22,8 @@ use Rattle.pg_node_state.specs.States.{names_of, left_of, kept_by, state_of, ans
 use Rattle.pg_node_state.proofs.Given.{given_use, of_update, updating_came}
 use Rattle.pg_node_state.proofs.Alone.{at_time}
 use Rattle.pg_node_state.proofs.Kept.{shows, assembled, assembled_state, happens_as}
-use Rattle.pg_node_state.proofs.Steady.{peers_stay, own_stays, merged_stay, lost_stay, made_stay, given_stay, left_stays}
+use Rattle.pg_node_state.proofs.Steady.{peers_stay, own_stays, merged_stay}
+use Rattle.pg_node_state.proofs.Steady.{lost_stay, made_stay, given_stay, left_stays}
 use Rattle.pg_node_state.proofs.Turned.{Updates, updates_by, counted_ok, ok_back}
 use Rattle.pg_node_state.proofs.state.NodeState.count_ok.Goals as goal
 

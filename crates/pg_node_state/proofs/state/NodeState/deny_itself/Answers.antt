@@ -16,7 +16,8 @@ use Rattle.pg_node_state.proofs.Attempted.{statuses, attempt_denied, denied_turn
 use Rattle.pg_node_state.proofs.First.{WaitsWith, waits_with, first_state, first_given, asked_under}
 use Rattle.pg_node_state.proofs.Given.{given_use, given_stage, of_none, waiting_came}
 use Rattle.pg_node_state.proofs.Kept.{shows, assembled, happens_as}
-use Rattle.pg_node_state.proofs.Steady.{peers_stay, own_stays, merged_stay, lost_stay, made_stay, given_stay, left_stays}
+use Rattle.pg_node_state.proofs.Steady.{peers_stay, own_stays, merged_stay}
+use Rattle.pg_node_state.proofs.Steady.{lost_stay, made_stay, given_stay, left_stays}
 use Rattle.pg_node_state.proofs.Turned.{own_apart}
 use Rattle.pg_node_state.proofs.state.NodeState.deny_itself.Goals as goal
 

@@ -15,7 +15,8 @@ use Rattle.pg_step.specs.Attempts.{finish}
 use Rattle.pg_step.specs.declared.answer.Reply.TheVariants as reply
 use Rattle.pg_step.specs.State.Use.{Spent}
 use Rattle.pg_step.specs.State.Stage.{Closed}
-use Rattle.pg_node_state.proofs.Given.{given_use, of_any, given_stage, given_ports, of_none, updating_came, gathered_named}
+use Rattle.pg_node_state.proofs.Given.{given_use, of_any, given_stage, given_ports}
+use Rattle.pg_node_state.proofs.Given.{of_none, updating_came, gathered_named}
 use Rattle.pg_node_state.proofs.state.NodeState.finish.Goals as goal
 
 pub reserve_answer-requires : goal.reserve_answer-requires

@@ -6,7 +6,8 @@ use Rattle.pg_group.specs.Value.{count_in}
 use Rattle.pg_machine.specs.Clocked.{Timed}
 use Rattle.std.proofs.lemmas.Bool.{eq-eqb}
 use Rattle.pg_opens.specs.declared.opens.Opens.{Opens}
-use Rattle.pg_opens.specs.Opens.{Shows, names_of as opens_names, left_of as left_in, lost_of, references_of, uses_of, opened_of, stages_of}
+use Rattle.pg_opens.specs.Opens.{Shows, names_of as opens_names, left_of as left_in}
+use Rattle.pg_opens.specs.Opens.{lost_of, references_of, uses_of, opened_of, stages_of}
 use Rattle.pg_opens.specs.Readings.{standing_of}
 use Rattle.pg_opens.specs.TakenBack.{command_taken_back}
 use Rattle.pg_group.proofs.Changes.{upd_at}
@@ -27,7 +28,8 @@ use Rattle.pg_node_state.proofs.Coming.{on_err}
 use Rattle.pg_node_state.proofs.Given.{given_stage, given_ports}
 use Rattle.pg_node_state.proofs.Kept.{shows, assembled, assembled_state, happens_as}
 use Rattle.pg_node_state.proofs.Opened.{counted_state, opened_state, shows_counted, shows_undone}
-use Rattle.pg_node_state.proofs.Steady.{peers_stay, own_stays, merged_stay, lost_stay, made_stay, given_stay, left_stays}
+use Rattle.pg_node_state.proofs.Steady.{peers_stay, own_stays, merged_stay}
+use Rattle.pg_node_state.proofs.Steady.{lost_stay, made_stay, given_stay, left_stays}
 use Rattle.pg_node_state.proofs.Turned.{update_is}
 use Rattle.pg_node_state.proofs.state.NodeState.open.Goals as goal
 

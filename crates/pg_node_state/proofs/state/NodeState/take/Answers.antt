@@ -8,7 +8,8 @@ use Rattle.pg_step.specs.Nodes.{Node}
 use Rattle.pg_step.specs.Attempts.{reply_taken}
 use Rattle.pg_step.specs.Peers.{lock_request, update_request, lock_freed, process_end}
 use Rattle.pg_step.specs.Step.{CLOCK_LIMIT, taken}
-use Rattle.pg_node_state.specs.States.{names_of, nodes_of, left_of, kept_by, state_of, answers_of, stamped_of, takes_none}
+use Rattle.pg_node_state.specs.States.{names_of, nodes_of, left_of, kept_by}
+use Rattle.pg_node_state.specs.States.{state_of, answers_of, stamped_of, takes_none}
 use Rattle.pg_node_state.proofs.Coming.{on_err, comes, comes_at, groups_come}
 use Rattle.pg_node_state.proofs.state.NodeState.take.Goals as goal
 

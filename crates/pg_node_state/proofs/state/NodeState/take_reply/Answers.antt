@@ -1,4 +1,5 @@
-use Rattle.std.proofs.Common.{◌∙◌, ◌+◌, ◌^◌, ◌&&◌, ℕ, true, cond, nat_lt, Some, None, Result, Ok, Err, sym, ap, subst, arith}
+use Rattle.std.proofs.Common.{◌∙◌, ◌+◌, ◌^◌, ◌&&◌, ℕ, true, cond, nat_lt, Some}
+use Rattle.std.proofs.Common.{None, Result, Ok, Err, sym, ap, subst, arith}
 use Rattle.pg_term.specs.RefParts.{RefParts, ref_eq}
 use Rattle.pg_refs.specs.Numbered.{numbered, number_in}
 use Rattle.pg_multicall.specs.declared.gather.Taken.TheVariants as taken

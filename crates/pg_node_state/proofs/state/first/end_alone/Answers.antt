@@ -5,7 +5,8 @@ use Rattle.pg_opens.specs.Readings.{is_locking, is_updating}
 use Rattle.pg_step.specs.Turns.{NodeTurn}
 use Rattle.pg_node_state.proofs.Alone.{no_peers}
 use Rattle.pg_node_state.proofs.Attempted.{attempt_ends, lone_turn}
-use Rattle.pg_node_state.proofs.First.{WaitsWith, waits_with, granting, shows_granting, granted_there, use_asked, shows_rest, use_rest, use_begun, shows_ended}
+use Rattle.pg_node_state.proofs.First.{WaitsWith, waits_with, granting, shows_granting, granted_there}
+use Rattle.pg_node_state.proofs.First.{use_asked, shows_rest, use_rest, use_begun, shows_ended}
 use Rattle.pg_node_state.proofs.Turned.{own_apart}
 use Rattle.pg_node_state.proofs.state.first.end_alone.Goals as goal
 

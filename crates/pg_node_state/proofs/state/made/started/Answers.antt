@@ -1,4 +1,5 @@
-use Rattle.std.proofs.Common.{◌≡◌, ◌∷◌, ◌+◌, ◌*◌, ◌≤◌, ◌∙◌, ℕ, suc, Bool, List, length, sym, ap, arith, subst, true, false}
+use Rattle.std.proofs.Common.{◌≡◌, ◌∷◌, ◌+◌, ◌*◌, ◌≤◌, ◌∙◌, ℕ, suc, Bool, List}
+use Rattle.std.proofs.Common.{length, sym, ap, arith, subst, true, false}
 use Rattle.std.proofs.Common.{replicate}
 use Rattle.pg_opens.specs.Places.{name_at}
 use Rattle.pg_opens.specs.Opens as opens

@@ -7,7 +7,9 @@ use Rattle.pg_replica.specs.Progress.{Progress, Stops}
 use Rattle.pg_replica.specs.Replica.{Pair, State, pair_of, frames_of}
 use Rattle.pg_node_state.specs.States.{state_of}
 use Rattle.pg_replica.proofs.Streams.{appends_kept}
-use Rattle.pg_replica.proofs.Served.{at_start, goes_on, stopped, finished, unread_ends, unwritten_ends, gave_more, read_failed, reads_spent, cause_of, left_flushed, left_unread, where_ok, if_write, not_write, wrote_part, in_turn}
+use Rattle.pg_replica.proofs.Served.{at_start, goes_on, stopped, finished, unread_ends, unwritten_ends}
+use Rattle.pg_replica.proofs.Served.{gave_more, read_failed, reads_spent, cause_of, left_flushed}
+use Rattle.pg_replica.proofs.Served.{left_unread, where_ok, if_write, not_write, wrote_part, in_turn}
 use Rattle.pg_replica.proofs.server.Server.run.Goals as goal
 
 pub loop-init : goal.loop-init

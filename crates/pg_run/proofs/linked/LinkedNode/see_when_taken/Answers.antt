@@ -5,7 +5,8 @@ use Rattle.pg_node.specs.Nodes.{links_of}
 use Rattle.pg_run.proofs.GoingOn.{goes_by_none, sees_after}
 use Rattle.pg_run.proofs.Logging.{logs_none, loss_still}
 use Rattle.pg_run.proofs.Trying.{stays}
-use Rattle.pg_run.proofs.Wanting.{came_more, not_unseen, pulling_wants, refused_behind, refused_pull, saw_drained, wanting_between}
+use Rattle.pg_run.proofs.Wanting.{came_more, not_unseen, pulling_wants, refused_behind}
+use Rattle.pg_run.proofs.Wanting.{refused_pull, saw_drained, wanting_between}
 use Rattle.pg_run.proofs.Following.{follows_itself}
 use Rattle.pg_run.specs.Acts.{Saw}
 use Rattle.pg_run.specs.Events.{ActsOnce}

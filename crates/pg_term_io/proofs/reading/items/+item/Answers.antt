@@ -5,9 +5,14 @@ use Rattle.std.proofs.lemmas.Result.{err_from_is_err_and}
 use Rattle.pg_term_io.specs.Reading.{item_at, items_at, with_front, as_term, atom_behind, pid_at}
 use Rattle.pg_term.specs.Fault.{Fails}
 use Rattle.pg_term_io.proofs.Loop.{fails_as, goes_on, ends, is_done, list_count_fails, list_items_fail, list_goes_on}
-use Rattle.pg_term_io.proofs.Steps.{item_at-nothing, tail_at-nothing, item_at-deep, tail_at-deep, item_at-more, tail_at-more, item_at-small, item_at-tuple, item_at-name, item_at-pid}
+use Rattle.pg_term_io.proofs.Steps.{item_at-nothing, tail_at-nothing, item_at-deep, tail_at-deep, item_at-more}
+use Rattle.pg_term_io.proofs.Steps.{tail_at-more, item_at-small, item_at-tuple, item_at-name, item_at-pid}
 use Rattle.pg_term_io.proofs.reading.items.+item.Goals as goal
-use Rattle.pg_term_io.proofs.reading.items.+item.Goals.{items-in-len2-up+in_ok-push-in-len2-up, items-in-len2-up-2+in_ok-inner-in-len2-up-2+in_ok-push-in-len2-up-2, items-else-rest-lt1+in-len1-up+in_ok-atom-in-len1-up+in_ok-push-in-len1-up, items-else-rest-lt1+in-len1-up-2+in_ok-pid-in-len1-up-2+in_ok-push-in-len1-up-2, items-in_default+in_ok-term-in_default+in_ok-push-in_default}
+use Rattle.pg_term_io.proofs.reading.items.+item.Goals.{items-in-len2-up+in_ok-push-in-len2-up}
+use Rattle.pg_term_io.proofs.reading.items.+item.Goals.{items-in-len2-up-2+in_ok-inner-in-len2-up-2+in_ok-push-in-len2-up-2}
+use Rattle.pg_term_io.proofs.reading.items.+item.Goals.{items-else-rest-lt1+in-len1-up+in_ok-atom-in-len1-up+in_ok-push-in-len1-up}
+use Rattle.pg_term_io.proofs.reading.items.+item.Goals.{items-else-rest-lt1+in-len1-up-2+in_ok-pid-in-len1-up-2+in_ok-push-in-len1-up-2}
+use Rattle.pg_term_io.proofs.reading.items.+item.Goals.{items-in_default+in_ok-term-in_default+in_ok-push-in_default}
 use Rattle.pg_term.specs.declared.term.Term.{Tuple}
 use Rattle.pg_term_io.specs.declared.tag.Size.TheVariants.{Small}
 use Rattle.pg_term_io.specs.declared.tag.Encoding.TheVariants.{Utf8}

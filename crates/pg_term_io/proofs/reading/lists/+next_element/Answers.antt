@@ -1,7 +1,8 @@
 use Rattle.std.proofs.Common.{◌≡◌, ℕ, suc, ◌-◌, ◌∷◌, Some, None, Ok, length, refl, sym, ap, subst, ◌∙◌, arith}
 use Rattle.pg_term_io.specs.Reading.{tail_at}
 use Rattle.pg_term_io.specs.Lists.{list_from}
-use Rattle.pg_term_io.proofs.Lists.{goes_on, tail_after, no_tail, no_deeper_tail, tail_empty, tail_listed, tail_uncounted, no_list}
+use Rattle.pg_term_io.proofs.Lists.{goes_on, tail_after, no_tail, no_deeper_tail}
+use Rattle.pg_term_io.proofs.Lists.{tail_empty, tail_listed, tail_uncounted, no_list}
 use Rattle.pg_term_io.specs.declared.tag.ListTag.TheVariants.{Nil, String, List as Cons}
 use Rattle.pg_term_io.proofs.Nexts.{next_more, next_nothing, next_tail, next_too_deep, next_inside, next_uncounted}
 use Rattle.pg_term_io.proofs.Tags.{list_named}

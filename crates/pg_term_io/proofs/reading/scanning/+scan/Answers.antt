@@ -1,7 +1,8 @@
 use Rattle.std.proofs.Common.{refl}
 use Rattle.std.proofs.lemmas.Result.{err_from_is_err_and}
 use Rattle.pg_term_io.specs.Scanning.{over_all, over_item}
-use Rattle.pg_term_io.proofs.Walked.{item-nothing, tail-nothing, item-deep, tail-deep, item-more, tail-more, goes_on, stops, is_done}
+use Rattle.pg_term_io.proofs.Walked.{item-nothing, tail-nothing, item-deep, tail-deep}
+use Rattle.pg_term_io.proofs.Walked.{item-more, tail-more, goes_on, stops, is_done}
 use Rattle.pg_term_io.proofs.reading.scanning.+scan.Goals as goal
 
 pub item-returns-in-empty : goal.item-returns-in-empty

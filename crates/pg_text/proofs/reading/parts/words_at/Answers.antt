@@ -1,6 +1,7 @@
 use Rattle.std.proofs.Common.{◌≡◌, ◌-◌, ◌+◌, ◌≤◌, suc, sym, ap, ◌∙◌, subst, arith, None, Some, refl, length, vec_len}
 use Rattle.pg_text.specs.Reading.{words_at, number_at}
-use Rattle.pg_text.proofs.Fronts.{WordsGo, words_go_on, words_stay, words_go_bad, words_whole, words_none, words_same, not_read}
+use Rattle.pg_text.proofs.Fronts.{WordsGo, words_go_on, words_stay, words_go_bad}
+use Rattle.pg_text.proofs.Fronts.{words_whole, words_none, words_same, not_read}
 use Rattle.pg_text.proofs.reading.parts.words_at.Goals as goal
 use Rattle.pg_text.proofs.reading.parts.words_at.Goals.{in-Some+in_ok-word+in_ok-push, in_default}
 

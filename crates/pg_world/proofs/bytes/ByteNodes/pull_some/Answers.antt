@@ -9,7 +9,8 @@ use Rattle.pg_frame_world.specs.Views.{peer_place}
 use Rattle.pg_account.specs.Losses.{is_lost}
 use Rattle.pg_world.proofs.Crossed.{moved_shown, same_shown}
 use Rattle.pg_frame_world.proofs.Barred.{unseen_by}
-use Rattle.pg_world.proofs.Linked.{pull_many, pulled_as, second_there, row_there, ring_there, seen_there, links_here, pull_moves, ring_kept, pull_err}
+use Rattle.pg_world.proofs.Linked.{pull_many, pulled_as, second_there, row_there, ring_there}
+use Rattle.pg_world.proofs.Linked.{seen_there, links_here, pull_moves, ring_kept, pull_err}
 use Rattle.pg_world.proofs.Past.{way_pulled}
 use Rattle.pg_frame_world.proofs.Turning.{pair_turned}
 use Rattle.pg_world.proofs.bytes.ByteNodes.pull_some.Goals as goal

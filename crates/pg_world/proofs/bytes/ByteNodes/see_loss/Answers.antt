@@ -16,7 +16,8 @@ use Rattle.pg_node_state.specs.declared.state.fault.NodeFault.TheVariants.{Refus
 use Rattle.pg_world.proofs.over_bytes.Drained.{bytes_there, left_there, undrained_told}
 use Rattle.pg_world.proofs.over_bytes.Lost.{sight_not_lost, sight_made, sight_held}
 use Rattle.pg_world.proofs.over_bytes.Seen.{peer_clock, closed_bytes, step_there}
-use Rattle.pg_world.proofs.Linked.{alone, first_there, second_there, node_same, seen_kept, seen_there, nodes_set, links_here, part_kept}
+use Rattle.pg_world.proofs.Linked.{alone, first_there, second_there, node_same, seen_kept}
+use Rattle.pg_world.proofs.Linked.{seen_there, nodes_set, links_here, part_kept}
 use Rattle.pg_frame_world.proofs.Turning.{pair_is}
 use Rattle.pg_world.proofs.bytes.ByteNodes.see_loss.Goals as goal
 

@@ -10,7 +10,8 @@ use Rattle.pg_world.specs.Crossings.{Crossing, crossing_in, crossing_of, node_of
 use Rattle.pg_account.specs.Histories.{account_of, asked_by}
 use Rattle.pg_frame_world.specs.Views.{peer_place}
 use Rattle.pg_account.specs.Histories.{Account}
-use Rattle.pg_world.proofs.Linked.{alone, first_there, seen_there, links_here, nodes_set, seen_kept, take_acts, node_same, nodes_kept}
+use Rattle.pg_world.proofs.Linked.{alone, first_there, seen_there, links_here, nodes_set}
+use Rattle.pg_world.proofs.Linked.{seen_kept, take_acts, node_same, nodes_kept}
 use Rattle.pg_world.proofs.Passing.{first_read, taken_shown, take_err, unmarked}
 use Rattle.pg_world.proofs.Past.{reads_first}
 use Rattle.pg_frame_world.proofs.Recording.{grew_taken}
