@@ -14,6 +14,7 @@ use Rattle.pg_loss.specs.Agreeing.{SawAll}
 use Rattle.pg_loss.specs.Reached.{steps_of}
 use Rattle.pg_loss.specs.Survived.{KeptPastLosses}
 use Rattle.pg_left.specs.Heard.{HeardTheLost, MadeOf, NoneOfLost}
+use Rattle.pg_left.specs.Missed.{TakenAlong}
 
 -- Two formed nodes that are left, have seen each loss and took the exchange of each lost node, have the same of a group of which no lost node
 -- has an entry, where one node x that is left sees its lock free and no end is pending among those left.
@@ -31,6 +32,8 @@ pub record LossesSurvived (config : Config) (events : List (LosingEvent Action))
   pub kept : KeptPastLosses config events w
   -- what the table of each node is made of
   pub made : (i : ℕ) → is_place (length config) i ≡ true → MadeOf config events w i
+  -- what the losses that a live node saw took along of each group, and what its table is without it
+  pub along : (i : ℕ) (name : Term) → is_place (length config) i ≡ true → w.gone i ≡ false → TakenAlong config events w i name
   -- who agrees on a group that no lost node changed
   pub agree : (i j x : ℕ) (name : Term) → AgreeOnUnchanged config events w i j x name
   -- a process of a node which that node has as ended was told to end there

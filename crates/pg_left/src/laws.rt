@@ -1,4 +1,4 @@
-ghost use Rattle.std.specs.Prelude.{◌≡◌, ℕ, true, length, List};
+ghost use Rattle.std.specs.Prelude.{◌≡◌, ℕ, true, false, length, List};
 ghost use Rattle.std.specs.List.{IsDistinct};
 ghost use Rattle.pg_term.specs.declared.pid.Pid.{Pid};
 ghost use Rattle.pg_term.specs.declared.term.Term.{Term};
@@ -12,6 +12,7 @@ ghost use Rattle.pg_step.specs.Step.{Action};
 ghost use Rattle.pg_history.specs.Reached.{FinishedAt};
 ghost use Rattle.pg_loss.specs.Reached.{LosingReaches, steps_of};
 ghost use Rattle.pg_left.specs.Heard.{MadeOf};
+ghost use Rattle.pg_left.specs.Missed.{TakenAlong};
 ghost use Rattle.pg_left.specs.Survived.{AgreeOnUnchanged};
 
 use pg_loss::each_world_keeps_past_losses;
@@ -38,6 +39,19 @@ pub fn tables_are_made_of_what_was_taken()
         → is_place (length config) i ≡ true → MadeOf config events w i }
 {
     each_world_keeps_past_losses();
+}
+
+/// What a loss takes along, whoever is lost and whoever was formed when: those entries of nodes whose loss a live node has seen
+/// that it has not applied (`missed`).
+///
+/// It has applied the history of a group without these, or all of that but its last entry. None of them was answered. Of each
+/// lost node there is one at most. Its table is what the rest makes of the groups that it began with and was told.
+pub fn losses_take_along()
+    ensures { (config : Config) (w : LosingFrameWorld) (events : List (LosingEvent Action)) (i : ℕ) (name : Term)
+        → IsDistinct same_atom (names_of config) → LosingReaches config events w
+        → is_place (length config) i ≡ true → w.gone i ≡ false → TakenAlong config events w i name }
+{
+    tables_are_made_of_what_was_taken();
 }
 
 /// Whoever is lost, a process of a node which that node has as ended was told to end there.

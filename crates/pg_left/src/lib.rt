@@ -7,7 +7,7 @@ mod laws;
 mod world;
 
 pub use laws::{
-    ended_processes_were_finished_past_losses, nodes_that_heard_the_lost_agree,
+    ended_processes_were_finished_past_losses, losses_take_along, nodes_that_heard_the_lost_agree,
     tables_are_made_of_what_was_taken,
 };
 pub use world::each_world_past_losses;

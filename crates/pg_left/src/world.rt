@@ -9,7 +9,7 @@ ghost use Rattle.pg_loss.specs.Reached.{LosingReaches};
 ghost use Rattle.pg_left.specs.Survived.{LossesSurvived};
 
 use crate::laws::{
-    ended_processes_were_finished_past_losses, nodes_that_heard_the_lost_agree,
+    ended_processes_were_finished_past_losses, losses_take_along, nodes_that_heard_the_lost_agree,
     tables_are_made_of_what_was_taken,
 };
 use pg_loss::each_world_keeps_past_losses;
@@ -22,6 +22,7 @@ pub fn each_world_past_losses()
 {
     each_world_keeps_past_losses();
     tables_are_made_of_what_was_taken();
+    losses_take_along();
     nodes_that_heard_the_lost_agree();
     ended_processes_were_finished_past_losses();
 }
