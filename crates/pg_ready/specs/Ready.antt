@@ -1,0 +1,57 @@
+-- Whose locks are held where nothing is on the way to a node that is left.
+use Rattle.std.specs.Prelude.{◌≡◌, ◌⊎◌, ℕ, Bool, true, false, length, [], ◌∷◌, ◌++◌}
+use Rattle.pg_term.specs.RefParts.{RefParts}
+use Rattle.pg_term.specs.declared.term.Term.{Term}
+use Rattle.pg_group.specs.Value.{name_of}
+use Rattle.pg_group.specs.declared.update.Update.{Update}
+use Rattle.pg_machine.specs.Places.{is_place}
+use Rattle.pg_refs.specs.Numbered.{numbered}
+use Rattle.pg_step.specs.Attempts.{is_complete}
+use Rattle.pg_step.specs.Config.{Config, name_at, nodes_at}
+use Rattle.pg_step.specs.LossLaws.{LosingFrameWorld}
+use Rattle.pg_step.specs.Nodes.{Node, Nodes}
+use Rattle.pg_step.specs.State.{Stage, State, Status, left}
+use Rattle.pg_step.specs.State.Response.{Given}
+use Rattle.pg_step.specs.State.Stage.{Asking, Changing, Closed, Waiting}
+use Rattle.pg_step.specs.State.Use.{Locking, Updating}
+use Rattle.pg_step.specs.declared.answer.Reply.TheVariants as reply
+use Rattle.pg_step.specs.declared.command.OpId.{OpId}
+use Rattle.pg_history.specs.History.{answers_by, entries}
+
+-- All has come that the command gathers, as where the last that it waited for was lost: a retry goes on from there.
+abbrev pub is_ready : Nodes → Stage → State → Bool
+is_ready m (Asking c) s = is_complete m (s.uses c)
+is_ready m (Changing n) s = is_complete m (s.uses n)
+is_ready m stage s = false
+
+-- a command of node i is ready
+abbrev pub is_ready_at : Config → LosingFrameWorld → ℕ → OpId → Bool
+is_ready_at config w i op = is_ready (left (nodes_at config i) (w.world.node i).state) ((w.world.node i).state.stages op) (w.world.node i).state
+
+-- The holder of the lock of a group is a reference of a node that is not lost, and of a ready command of it.
+pub record OfReady (config : Config) (w : LosingFrameWorld) (name : Term) (holder : RefParts) : Type 0 where
+  pub node : ℕ
+  pub here : is_place (length config) node ≡ true
+  pub lives : w.gone node ≡ false
+  pub number : ℕ
+  pub is : holder ≡ numbered (name_at config node) number
+  pub op : OpId
+  pub ready : is_ready_at config w node op ≡ true
+  -- it asks for the lock of the group under that reference, or its update of the group goes out under it
+  pub update : Update
+  pub named : name_of update ≡ name
+  pub under : ((first : Node) × (status : Node → Status) × ((w.world.node node).state.uses number ≡ Locking op update first status))
+      ⊎ ((n : ℕ) × (replied : Node → Bool) × ((w.world.node node).state.uses n ≡ Updating op update number replied))
+
+-- What a retry of a ready command of node i comes to at once, from the world w to the world v.
+pub data GoesOn (config : Config) (w v : LosingFrameWorld) (i : ℕ) (op : OpId) : Type 0 where
+  -- each node that is left has its update: it is answered ok
+  IsAnswered : answers_by i v.world.reported op.port ≡ answers_by i w.world.reported op.port ++ (op.number, Given reply.Ok) ∷ []
+      → (v.world.node i).state.stages op ≡ Closed → GoesOn config w v i op
+  -- it has the last grant: its update enters the history, and goes out
+  HasBegun : (u : Update) (n : ℕ) → entries v.world.reported ≡ entries w.world.reported ++ record { node = i; op = op; update = u } ∷ []
+      → (v.world.node i).state.stages op ≡ Changing n → is_ready_at config v i op ≡ false → GoesOn config w v i op
+  -- it asks those for the lock that it has not asked, and waits for them
+  AsksOn : (c : ℕ) → (v.world.node i).state.stages op ≡ Asking c → is_ready_at config v i op ≡ false → GoesOn config w v i op
+  -- it was denied: it gives back the locks that it has, and waits for its next attempt
+  GaveUp : (u : Update) → (v.world.node i).state.stages op ≡ Waiting u → GoesOn config w v i op

@@ -1,0 +1,8 @@
+//! What becomes of commands that a loss has left ready.
+//!
+//! There is no code: begin with `specs/Ready.antt`, then `src/laws.rt`.
+#![tactic(auto)]
+
+mod laws;
+
+pub use laws::{a_retry_of_a_ready_command_goes_on, locks_left_are_of_ready_commands};
