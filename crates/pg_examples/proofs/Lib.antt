@@ -8,6 +8,7 @@ pub mod EndBeatsLateJoin
 pub mod FormationOfThree
 pub mod GatheredReplies
 pub mod GreatestFirst
+pub mod HeldUntilRetry
 pub mod InitialTables
 pub mod JoinTwice
 pub mod Listed
@@ -15,6 +16,7 @@ pub mod LockOfTheLost
 pub mod LossTimed
 pub mod LossTrace
 pub mod MembersOfLost
+pub mod OneAfterAnother
 pub mod PendingEnd
 pub mod QueriesShown
 pub mod ReadyByLoss

@@ -12,7 +12,9 @@ use Rattle.pg_step.specs.declared.command.Command.TheVariants as command
 use Rattle.pg_step.specs.Commands.{Reads}
 use Rattle.pg_machine.specs.Places.{is_pair, set_at}
 use Rattle.pg_machine.specs.Machine.{Event, Take, start_of}
-use Rattle.pg_step.specs.State.{State}
+use Rattle.pg_step.specs.State.{State, left}
+use Rattle.pg_step.specs.State.Stage.{Waiting}
+use Rattle.pg_step.specs.Attempts.{is_complete}
 use Rattle.pg_step.specs.Turns.{Report}
 use Rattle.pg_step.specs.Step.{Action}
 use Rattle.pg_step.specs.declared.refusal.Refusal.{Refusal}
@@ -20,10 +22,10 @@ use Rattle.pg_step.specs.declared.refusal.Refusal.TheVariants.{NoSuchPlace, Node
 use Rattle.pg_machine.specs.Losing.{Noticed, Sent, Last, LosingWorld, LosingEvent, Step, Lose, LosingLeads, nobody_gone}
 use Rattle.pg_step.specs.LossLaws.{LosingFrameWorld as TimedLosingFrames}
 use Rattle.pg_step.specs.LossLaws.{see_refusal as timed_see_refusal, lose_refusal as timed_lose_refusal}
-use Rattle.pg_step.specs.Config.{Config, name_at}
+use Rattle.pg_step.specs.Config.{Config, name_at, nodes_at}
 use Rattle.pg_step.specs.FrameMachine.{losing_machine_of, losing_frame_machine, last_notice}
 use Rattle.pg_history.specs.History.{history, answers_by}
-use Rattle.pg_examples.specs.Examples.{node, a, b, a1, b1, at, again, is_ok, reads, stands}
+use Rattle.pg_examples.specs.Examples.{node, a, b, a1, b1, at, again, is_ok, op_at, reads, stands}
 use Rattle.pg_examples.specs.Examples.{two_meet, two_nodes, three_nodes, three_meet, lock_ref}
 use Rattle.pg_step.specs.Faults.{first_that_holds}
 
@@ -77,6 +79,26 @@ pub record ReadyByLoss (g : Term) : Type 0 where
   pub third : Come three_nodes tried (sees 1 2 ∷ steps (Take 1 0 ∷ Take 0 1 ∷ Take 1 0 ∷ Take 0 1 ∷ Take 1 0 ∷ [])) done
   pub answers_a : answers_by 0 done.world.reported 0 ≡ is_ok 1 ∷ []
   pub group_b : is_some ((done.world.node 1).table g) ≡ true
+
+-- A command is ready, and holds the lock of its group: another is denied until it is tried again.
+pub record HeldUntilRetry (g : Term) : Type 0 where
+  pub seen : LosingFrameWorld
+  pub denied : LosingFrameWorld
+  pub done : LosingFrameWorld
+  -- c has granted a, and so has a itself; b is lost before it answers, and both see it
+  pub first : Come three_nodes (losing_start three_nodes)
+      (steps three_meet ++ steps (at 0 (command.Create g) ∷ Take 2 0 ∷ Take 0 2 ∷ []) ++ Lose 1 (λ y. 0) ∷ sees 0 1 ∷ sees 2 1 ∷ []) seen
+  pub ready : is_complete (left (nodes_at three_nodes 0) (seen.world.node 0)) ((seen.world.node 0).uses 1) ≡ true
+  pub held_c : (seen.world.node 2).locks g ≡ Some lock_ref
+  -- a create at c is denied, and waits
+  pub second : Come three_nodes seen (steps (at 2 (command.Create g) ∷ [])) denied
+  pub waits_c : (denied.world.node 2).stages (op_at 1) ≡ Waiting (update.Create g)
+  -- the retry begins the update of a, which ends and frees the lock
+  pub third : Come three_nodes denied (steps (again 0 1 ∷ Take 2 0 ∷ Take 0 2 ∷ Take 2 0 ∷ [])) done
+  pub answers_a : answers_by 0 done.world.reported 0 ≡ is_ok 1 ∷ []
+  pub free_a : (done.world.node 0).locks g ≡ None
+  pub free_c : (done.world.node 2).locks g ≡ None
+  pub history : history g done.world.reported ≡ stands 0 1 (update.Create g) ∷ []
 
 -- An update of a lost node comes to one of the others, and is taken there before the loss is seen.
 pub record Drained (g : Term) : Type 0 where

@@ -1,5 +1,5 @@
 -- What the worked examples come to.
-use Rattle.std.specs.Prelude.{◌≡◌, true, false, [], ◌∷◌, Some, None, Ok, Err}
+use Rattle.std.specs.Prelude.{◌≡◌, true, false, [], ◌∷◌, ◌++◌, Some, None, Ok, Err}
 use Rattle.pg_term.specs.declared.term.Term.{Term}
 use Rattle.pg_group.specs.declared.update.Update.TheVariants as update
 use Rattle.pg_refs.specs.Numbered.{numbered}
@@ -15,11 +15,31 @@ use Rattle.pg_step.specs.Attempts.{strange}
 use Rattle.pg_step.specs.Commands.{Reads}
 use Rattle.pg_step.specs.Step.{taken}
 use Rattle.pg_step.specs.Config.{groups_at, nodes_at}
-use Rattle.pg_step.specs.FrameMachine.{FrameWorld}
+use Rattle.pg_machine.specs.Machine.{Take}
+use Rattle.pg_machine.specs.Runs.{Leads}
+use Rattle.pg_step.specs.FrameMachine.{FrameWorld, machine_of}
 use Rattle.pg_history.specs.History.{history, is_formed}
 use Rattle.pg_examples.specs.Examples.{a, b, c, a1, b1, op_at, start, answers_of, table_of, has_group}
 use Rattle.pg_examples.specs.Examples.{has_counts, holder_at, is_ok, reads, stands, odd_of, yes, no}
+use Rattle.pg_examples.specs.Examples.{at, change_by_b, two_meet, two_nodes}
 use Rattle.pg_examples.specs.Examples.{done, two_tables, three_nodes, three_tables, lock_ref, update_ref}
+
+-- A client at b begins after a client at a was answered.
+pub record OneAfterAnother (g : Term) : Type 0 where
+  pub answered : FrameWorld
+  pub done : FrameWorld
+  -- the create of a is answered; b, which still holds the lock of a, has applied it
+  pub first : Leads (machine_of two_nodes) (start two_nodes)
+      (two_meet ++ at 0 (command.Create g) ∷ Take 1 0 ∷ Take 0 1 ∷ Take 1 0 ∷ Take 0 1 ∷ []) answered
+  pub answers_a : answers_of answered 0 ≡ is_ok 1 ∷ []
+  pub group_b : has_group answered 1 g ≡ true
+  -- a query comes in at b, and then a delete
+  pub second : Leads (machine_of two_nodes) answered (at 1 (command.Members g) ∷ Take 1 0 ∷ at 1 (command.Delete g) ∷ change_by_b) done
+  pub answers_b : answers_of done 1 ≡ reads 1 (command.Members g) (table_of answered 1) ∷ is_ok 2 ∷ []
+  pub none_a : table_of done 0 g ≡ None
+  pub none_b : table_of done 1 g ≡ None
+  -- which stands behind the create
+  pub history : history g done.reported ≡ stands 0 1 (update.Create g) ∷ stands 1 2 (update.Delete g) ∷ []
 
 -- Two creators at once.
 pub record TwoCreators (g : Term) (w : FrameWorld) : Type 0 where

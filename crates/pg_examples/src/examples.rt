@@ -11,6 +11,7 @@ ghost use Rattle.pg_examples.specs.Examples.{granted_at_home, denied_by_b, creat
 ghost use Rattle.pg_step.specs.Config.{IsConfig};
 ghost use Rattle.pg_examples.specs.Outcomes.{JoinTwiceLeaveOnce, DeleteBetween, TwoCreators, InitialTables};
 ghost use Rattle.pg_examples.specs.Outcomes.{EndBeatsLateJoin, GatheredReplies, FormationOfThree, PendingEnd};
+ghost use Rattle.pg_examples.specs.Outcomes.{OneAfterAnother};
 ghost use Rattle.pg_examples.specs.Outcomes.{GreatestFirst, DeniedByItself, DeniedByAnother, SingleNode, ChangeOfThree};
 ghost use Rattle.pg_examples.specs.QueriesRead.{QueriesRead};
 
@@ -160,4 +161,10 @@ pub fn configurations_are_accepted()
     ensures member { (g : Term) → is_name g ≡ true → IsConfig (two_and_member g) }
     ensures two { (g : Term) → is_name g ≡ true → IsConfig (two_tables g) }
     ensures three { (g : Term) → is_name g ≡ true → IsConfig (three_tables g) }
+{}
+
+/// A client at one node begins after a client at another was answered: its query reads what the other changed, though the lock
+/// is still held there, and its change stands behind the other in the history.
+pub fn one_after_another()
+    ensures { (g : Term) → is_name g ≡ true → OneAfterAnother g }
 {}

@@ -13,8 +13,10 @@ pub use commands::{
 pub use examples::{
     change_of_three, configurations_are_accepted, delete_between_look_and_lock, denied_by_another,
     denied_by_itself, end_beats_late_join, formation_of_three, gathered_replies, greatest_first,
-    initial_tables, join_twice_leave_once, pending_end, queries_read, single_node, two_creators,
+    initial_tables, join_twice_leave_once, one_after_another, pending_end, queries_read,
+    single_node, two_creators,
 };
 pub use losses::{
-    drained, lock_of_the_lost, loss_with_clocks, members_of_the_lost, no_loss_to_see, ready_by_loss,
+    drained, held_until_retry, lock_of_the_lost, loss_with_clocks, members_of_the_lost,
+    no_loss_to_see, ready_by_loss,
 };

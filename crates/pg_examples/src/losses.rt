@@ -3,7 +3,7 @@ ghost use Rattle.pg_term.specs.declared.term.Term.{Term};
 ghost use Rattle.pg_message.specs.Name.{is_name};
 ghost use Rattle.pg_step.specs.declared.refusal.Refusal.TheVariants.{NotLost};
 ghost use Rattle.pg_examples.specs.Examples.{two_nodes};
-ghost use Rattle.pg_examples.specs.LossExamples.{losing_start, see_refusal, ReadyByLoss, Drained};
+ghost use Rattle.pg_examples.specs.LossExamples.{losing_start, see_refusal, ReadyByLoss, HeldUntilRetry, Drained};
 ghost use Rattle.pg_examples.specs.LossExamples.{LockOfTheLost, MembersOfTheLost, LossWithClocks};
 
 /// Nobody sees the loss of a node that is there.
@@ -15,6 +15,12 @@ pub fn no_loss_to_see()
 /// asks the others under the same reference.
 pub fn ready_by_loss()
     ensures { (g : Term) → is_name g ≡ true → ReadyByLoss g }
+{}
+
+/// A node is lost that alone had not answered a request for a lock. The command is ready, and keeps the lock until its retry:
+/// another of its group is denied until then.
+pub fn held_until_retry()
+    ensures { (g : Term) → is_name g ≡ true → HeldUntilRetry g }
 {}
 
 /// A node is lost whose update is on the way to another. That one takes it before it sees the loss; who has no packet of it

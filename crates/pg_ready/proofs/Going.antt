@@ -1,7 +1,9 @@
 -- What a retry of a ready command comes to.
 use Rattle.std.proofs.Common.{◌≡◌, ℕ, ◌+◌, Bool, true, false, cond, nat_eq, nat_lt, List, [], ◌∷◌, ◌++◌}
 use Rattle.std.proofs.Common.{Some, Ok, Err, refl, ap, sym, ◌∙◌, subst, append-nil}
-use Rattle.std.proofs.lemmas.Bool.{eq-eqb}
+use Rattle.std.specs.Prelude.{option_map}
+use Rattle.std.proofs.Common.{◌≤◌, None}
+use Rattle.std.proofs.lemmas.Bool.{eq-eqb, le-leb, lt-ltb}
 use Rattle.pg_term.specs.Same.{same_atom}
 use Rattle.pg_group.specs.Functions.{upd}
 use Rattle.pg_group.specs.Value.{name_of}
@@ -9,17 +11,19 @@ use Rattle.pg_group.specs.declared.update.Update.{Update}
 use Rattle.pg_lock.specs.Attempts.{after_round, does_wait}
 use Rattle.pg_message.specs.declared.message.Message.{Message}
 use Rattle.pg_machine.specs.Happened.{Changes, Happened}
-use Rattle.pg_machine.specs.Losing.{Lose, LosingEvent, Noticed, Sent, Step, mapped_turn}
-use Rattle.pg_machine.specs.Machine.{Do, Event, Input, Own, Taken, Turn}
-use Rattle.pg_machine.proofs.Options.{some_is}
-use Rattle.pg_machine.proofs.Steps.{changes}
+use Rattle.pg_machine.specs.Losing.{Lose, LosingEvent, Noticed, Sent, Step, mapped_turn, losing_happens}
+use Rattle.pg_machine.specs.Machine.{Do, Event, Input, Own, Taken, Turn, happens, perform}
+use Rattle.pg_machine.specs.Clocked.{plain}
+use Rattle.pg_machine.proofs.Options.{some_is, map_is_some}
+use Rattle.pg_machine.proofs.Plain.{plain_happens}
+use Rattle.pg_machine.proofs.Steps.{changes, happens_so}
 use Rattle.pg_step.specs.declared.answer.Reply.TheVariants as reply
 use Rattle.pg_step.specs.declared.command.OpId.{OpId}
 use Rattle.pg_step.specs.declared.refusal.Refusal.TheVariants.{NoSuchPlace, NotWaiting}
 use Rattle.pg_step.specs.Attempts.{all_granted, ask, begin, finish, give_up, go_on, is_complete, locks_in, none_denied}
 use Rattle.pg_step.specs.Attempts.{none_missing, replies_in, round_of, same_op, tried_again, waits, with_asked}
 use Rattle.pg_step.specs.Config.{Config, nodes_at, ports_at}
-use Rattle.pg_step.specs.FrameMachine.{losing_machine_of, node_step, place_turn}
+use Rattle.pg_step.specs.FrameMachine.{losing_machine_of, node_step, place_turn, losing_frame_machine, placed}
 use Rattle.pg_step.specs.LossLaws.{LosingFrameWorld}
 use Rattle.pg_step.specs.Nodes.{Node, Nodes, every}
 use Rattle.pg_step.specs.Peers.{would_grant}
@@ -27,8 +31,11 @@ use Rattle.pg_step.specs.State.{Stage, State, Status, Use, left}
 use Rattle.pg_step.specs.State.Response.{Given}
 use Rattle.pg_step.specs.State.Stage.{Asking, Changing, Closed, Waiting}
 use Rattle.pg_step.specs.State.Use.{Fresh, Locking, Owning, Spent, Updating}
-use Rattle.pg_step.specs.Step.{Action, Retry, acted}
+use Rattle.pg_step.specs.Step.{Action, Retry, acted, CLOCK_LIMIT}
 use Rattle.pg_step.specs.Turns.{NodeTurn, Report, and_then, becomes}
+use Rattle.pg_history.specs.Counted.{is_open}
+use Rattle.pg_history.proofs.places.Shown.{IsHere}
+use Rattle.pg_loss.proofs.Counting.{all_count}
 use Rattle.pg_history.specs.History.{answer_at, answer_by, answers_by, entries, entry_of}
 use Rattle.pg_history.proofs.locks.Stages.{commands}
 use Rattle.pg_history.proofs.quiet.Linked.{HasReference, IsLockingOf, IsUpdatingOf, Linked}
@@ -215,3 +222,46 @@ module _ (config : Config) (es : List (LosingEvent Action)) (w v : LosingFrameWo
       go : Passed config (bare w) (bare v) (Step (Do i (Retry op))) → GoesOn config w v i op
       go (Went d is alive h same) = goes_by (subst (λ z. Happened (losing_machine_of config) (bare w).world z (bare v).world) (retry_is is) h)
       go (Died j keep is there alive cut gone) = absurd (no_loss is)
+
+-- ---- it can be tried again
+
+ready_waits : (m : Nodes) (stage : Stage) (s : State) → is_ready m stage s ≡ true → (waits m stage s ≡ true) × (is_open stage ≡ true)
+ready_waits m (Asking c) s ready = (ready, refl)
+ready_waits m (Changing n) s ready = (ready, refl)
+ready_waits m (Waiting u) s ready = absurd (cc ready)
+ready_waits m Closed s ready = absurd (cc ready)
+
+module _ (config : Config) (es : List (LosingEvent Action)) (w : LosingFrameWorld) (i : ℕ) (op : OpId) (l : LosingReaches config es w) (here : IsHere config i) (alive : w.gone i ≡ false)
+    (room : (w.world.node i).clock + 1 ≤ CLOCK_LIMIT) (ready : is_ready_at config w i op ≡ true) where
+  abbrev before : State
+  before = (w.world.node i).state
+
+  abbrev counting : Nodes
+  counting = left (nodes_at config i) (w.world.node i).state
+
+  can : (waits counting (before.stages op) before ≡ true) × (is_open (before.stages op) ≡ true)
+  can = ready_waits counting (before.stages op) before ready
+
+  port_there : nat_lt op.port (ports_at config i) ≡ true
+  port_there = lt-ltb op.port (ports_at config i) ((all_count config es w i l).counts.within op can.1).1
+
+  abbrev turn : Turn State (Noticed Message) Report
+  turn = mapped_turn Sent (place_turn config (tried_again (before.stages op) counting op before))
+
+  made_so : (losing_machine_of config).step i (w.world.node i).state (Own (Retry op)) ≡ Some turn
+  made_so = λ k. option_map (mapped_turn Sent) (placed config (cond (port_there k) (cond (can.0 k) (Ok (tried_again (before.stages op) counting op before)) (Err NotWaiting)) (Err NoSuchPlace)))
+
+  plain_so : happens (losing_machine_of config) (plain w.world) (Do i (Retry op)) ≡ Some (perform (plain w.world) i turn)
+  plain_so = happens_so (losing_machine_of config) (plain w.world) (perform (plain w.world) i turn) (Do i (Retry op))
+      (record { there = here; input = Own (Retry op); given = refl; turn = turn; made = made_so; leaves = refl })
+
+  pub can_retry : (v : LosingFrameWorld) × Leaves config w (Step (Do i (Retry op))) v
+  unfolding losing_happens
+  can_retry =
+      let all = map_is_some plain (happens (losing_frame_machine config) w.world (Do i (Retry op))) (perform (plain w.world) i turn)
+      (plain_happens (losing_machine_of config) CLOCK_LIMIT w.world (Do i (Retry op))
+      ∙ (ap (λ b. cond b (happens (losing_machine_of config) (plain w.world) (Do i (Retry op))) None) (le-leb ((w.world.node i).clock + 1) CLOCK_LIMIT room) ∙ plain_so)) in (
+        record { world = all.0; gone = w.gone },
+        ap (λ b. cond b None (option_map (λ u. record { world = u; gone = w.gone }) (happens (losing_frame_machine config) w.world (Do i (Retry op))))) alive
+            ∙ ap (option_map (λ u. record { world = u; gone = w.gone })) all.1,
+      )

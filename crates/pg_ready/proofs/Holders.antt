@@ -1,4 +1,4 @@
--- Who holds a lock is a reference of a node that is there, whoever is lost; and each lock that is owned is that of an update.
+-- Who holds a lock is a reference of a node that is there, whoever is lost; each lock that is owned is of an update.
 use Rattle.std.proofs.Common.{◌≡◌, ℕ, Bool, true, false, ◌&&◌, cond, nat_le, nat_lt}
 use Rattle.std.proofs.Common.{length, List, Option, Some, None, Ok, Err, refl, ap, sym, ◌∙◌, subst}
 use Rattle.std.specs.List.{AllByRecursion, IsDistinct}
@@ -27,7 +27,8 @@ use Rattle.pg_step.specs.declared.command_fault.CommandFault.{CommandFault}
 use Rattle.pg_step.specs.declared.command_fault.CommandFault.TheVariants.{Busy}
 use Rattle.pg_step.specs.declared.command.OpId.{OpId}
 use Rattle.pg_step.specs.declared.refusal.Refusal.TheVariants.{NotAMessage, NoSuchPlace, NotWaiting}
-use Rattle.pg_step.specs.Attempts.{all_granted, ask, asks, attempt, begin, count_answer, count_ok, counted, finish, give_up}
+use Rattle.pg_step.specs.Attempts.{all_granted, ask, asks, attempt, begin}
+use Rattle.pg_step.specs.Attempts.{count_answer, count_ok, counted, finish, give_up}
 use Rattle.pg_step.specs.Attempts.{go_on, is_yes, lock_status, locks_in, new_attempt, none_denied, none_missing}
 use Rattle.pg_step.specs.Attempts.{own_reference, replies_in, reply_under, round_of, tried_again, use_of, waits}
 use Rattle.pg_step.specs.Commands.{OPEN_LIMIT, answer, carried_out, change, change_by, command as command_in}
@@ -59,7 +60,8 @@ use Rattle.pg_loss.proofs.Bridge.{Left, next_left, not_true}
 use Rattle.pg_loss.proofs.Bridges.{Bridged, bridged}
 use Rattle.pg_loss.proofs.Carried.{IsKept, carried_past}
 use Rattle.pg_loss.proofs.Lasts.{unheard_input}
-use Rattle.pg_loss.proofs.Lossy.{Died, Lossy, Makes as LossyMakes, Passed, Sees, Steps, Went, bare, makes, noted, passed}
+use Rattle.pg_loss.proofs.Lossy.{Died, Lossy, Makes as LossyMakes, Passed, Sees}
+use Rattle.pg_loss.proofs.Lossy.{Steps, Went, bare, makes, noted, passed}
 use Rattle.pg_loss.proofs.Standing.{loss_fits}
 use Rattle.pg_loss.proofs.Unheld.{freed_is}
 use Rattle.pg_left.proofs.Passing.{kept_all}

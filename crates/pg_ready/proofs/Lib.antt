@@ -1,3 +1,4 @@
 pub mod Going
 pub mod Holders
 pub mod Ready
+pub mod Silence

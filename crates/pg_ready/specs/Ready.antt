@@ -4,7 +4,7 @@ use Rattle.pg_term.specs.RefParts.{RefParts}
 use Rattle.pg_term.specs.declared.term.Term.{Term}
 use Rattle.pg_group.specs.Value.{name_of}
 use Rattle.pg_group.specs.declared.update.Update.{Update}
-use Rattle.pg_machine.specs.Places.{is_place}
+use Rattle.pg_machine.specs.Places.{is_pair, is_place}
 use Rattle.pg_refs.specs.Numbered.{numbered}
 use Rattle.pg_step.specs.Attempts.{is_complete}
 use Rattle.pg_step.specs.Config.{Config, name_at, nodes_at}
@@ -17,6 +17,13 @@ use Rattle.pg_step.specs.State.Use.{Locking, Updating}
 use Rattle.pg_step.specs.declared.answer.Reply.TheVariants as reply
 use Rattle.pg_step.specs.declared.command.OpId.{OpId}
 use Rattle.pg_history.specs.History.{answers_by, entries}
+use Rattle.pg_loss.specs.Agreeing.{SawAll}
+
+-- Each node that is left has seen each loss, and nothing is on the way between two of them. What is on the way to a lost
+-- node stays.
+pub record IsQuietAmongLeft (config : Config) (w : LosingFrameWorld) : Type 0 where
+  pub seen : (i : ℕ) → is_place (length config) i ≡ true → w.gone i ≡ false → SawAll config w i
+  pub none : (x y : ℕ) → is_pair (length config) x y ≡ true → w.gone x ≡ false → w.gone y ≡ false → w.world.wire x y ≡ []
 
 -- All has come that the command gathers, as where the last that it waited for was lost: a retry goes on from there.
 abbrev pub is_ready : Nodes → Stage → State → Bool

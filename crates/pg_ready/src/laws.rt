@@ -1,4 +1,4 @@
-ghost use Rattle.std.specs.Prelude.{◌≡◌, ℕ, true, false, length, List, Some};
+ghost use Rattle.std.specs.Prelude.{◌≡◌, ◌↔◌, ◌≤◌, ◌+◌, ℕ, true, false, length, List, Some};
 ghost use Rattle.std.specs.List.{IsDistinct};
 ghost use Rattle.pg_term.specs.RefParts.{RefParts};
 ghost use Rattle.pg_term.specs.Same.{same_atom};
@@ -9,11 +9,19 @@ ghost use Rattle.pg_machine.specs.Places.{is_place};
 ghost use Rattle.pg_step.specs.Config.{Config, names_of};
 ghost use Rattle.pg_step.specs.FrameMachine.{last_notice, losing_frame_machine};
 ghost use Rattle.pg_step.specs.LossLaws.{LosingFrameWorld};
-ghost use Rattle.pg_step.specs.Step.{Action, Retry};
+ghost use Rattle.pg_step.specs.Step.{Action, CLOCK_LIMIT, Retry};
 ghost use Rattle.pg_step.specs.declared.command.OpId.{OpId};
 ghost use Rattle.pg_loss.specs.Quiet.{IsQuietLeft};
 ghost use Rattle.pg_loss.specs.Reached.{LosingReaches};
-ghost use Rattle.pg_ready.specs.Ready.{GoesOn, OfReady, is_ready_at};
+ghost use Rattle.pg_ready.specs.Ready.{GoesOn, IsQuietAmongLeft, OfReady, is_ready_at};
+
+/// Nothing is on the way to a node that is not lost exactly where each of them has seen each loss, and nothing is on the way
+/// between two of them.
+pub fn quiet_nodes_saw_the_losses()
+    ensures { (config : Config) (w : LosingFrameWorld) (events : List (LosingEvent Action))
+        → IsDistinct same_atom (names_of config) → LosingReaches config events w
+        → IsQuietLeft config w ↔ IsQuietAmongLeft config w }
+{}
 
 /// Where nothing is on the way to a node that is not lost, a lock that is held at such a node is that of a ready command of one:
 /// all has come that it gathers, as where the last that it waited for was lost, and its retry goes on from there.
@@ -25,10 +33,16 @@ pub fn locks_left_are_of_ready_commands()
         → (w.world.node i).state.locks name ≡ Some holder → OfReady config w name holder }
 {}
 
-/// A retry of a ready command makes it go on at once, whoever was lost: it is answered, its update goes out, it asks those for the
+/// A ready command of a node that is not lost can be tried again, where its clock is not at the limit, whoever was lost. Then it
+/// goes on at once: it is answered, its update goes out, it asks those for the
 /// lock that it has not asked, or, where it was denied, gives up and waits for its next attempt. Then it is not ready any more.
 pub fn a_retry_of_a_ready_command_goes_on()
-    ensures { (config : Config) (w v : LosingFrameWorld) (events : List (LosingEvent Action)) (i : ℕ) (op : OpId)
+    ensures happens { (config : Config) (w : LosingFrameWorld) (events : List (LosingEvent Action)) (i : ℕ) (op : OpId)
+        → LosingReaches config events w → is_ready_at config w i op ≡ true
+        → is_place (length config) i ≡ true → w.gone i ≡ false → (w.world.node i).clock + 1 ≤ CLOCK_LIMIT
+        → (v : LosingFrameWorld)
+        × (losing_happens (losing_frame_machine config) last_notice w (Step (Do i (Retry op))) ≡ Some v) }
+    ensures goes { (config : Config) (w v : LosingFrameWorld) (events : List (LosingEvent Action)) (i : ℕ) (op : OpId)
         → LosingReaches config events w → is_ready_at config w i op ≡ true
         → losing_happens (losing_frame_machine config) last_notice w (Step (Do i (Retry op))) ≡ Some v
         → GoesOn config w v i op }

@@ -5,4 +5,7 @@
 
 mod laws;
 
-pub use laws::{a_retry_of_a_ready_command_goes_on, locks_left_are_of_ready_commands};
+pub use laws::{
+    a_retry_of_a_ready_command_goes_on, locks_left_are_of_ready_commands,
+    quiet_nodes_saw_the_losses,
+};
