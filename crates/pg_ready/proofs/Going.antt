@@ -55,13 +55,13 @@ use Rattle.pg_left.proofs.Passing.{Leaves}
 -- ---- a turn
 
 -- what a command has come to by a turn that leaves this state, and reports this
-data WentOn (m : Nodes) (op : OpId) (t : State) (r : Report) : Type 0 where
+pub data WentOn (m : Nodes) (op : OpId) (t : State) (r : Report) : Type 0 where
   Answered : t.stages op ≡ Closed → r.gave ≡ Some (op, Given reply.Ok) → WentOn m op t r
   Began : (u : Update) (n : ℕ) → t.stages op ≡ Changing n → r.began ≡ Some (op, u) → is_complete m (t.uses n) ≡ false → WentOn m op t r
   Asks : (c : ℕ) → t.stages op ≡ Asking c → is_complete m (t.uses c) ≡ false → WentOn m op t r
   Denied : (u : Update) → t.stages op ≡ Waiting u → WentOn m op t r
 
-abbrev Turned : Nodes → OpId → NodeTurn → Type 0
+abbrev pub Turned : Nodes → OpId → NodeTurn → Type 0
 Turned m op t = WentOn m op t.state t.reported
 
 module _ (m : Nodes) (op : OpId) where
@@ -75,7 +75,7 @@ module _ (m : Nodes) (op : OpId) where
   gives_up c u st s = Denied u (staged s.stages (Waiting u))
 
   -- all replies are in
-  replies_go : (n : ℕ) (u : Update) (c : ℕ) (replied : Node → Bool) (s : State) → every m replied ≡ true → Turned m op (replies_in m n (Updating op u c replied) s)
+  pub replies_go : (n : ℕ) (u : Update) (c : ℕ) (replied : Node → Bool) (s : State) → every m replied ≡ true → Turned m op (replies_in m n (Updating op u c replied) s)
   replies_go n u c replied s all = subst (λ b. Turned m op (cond b (finish m n op u c s) (becomes s))) (sym all) (ends n u c s)
 
   -- an update begins, and ends at once where nobody else is left
@@ -110,7 +110,7 @@ module _ (m : Nodes) (op : OpId) where
       used : (ask m (λ _. true) c op u lead st s).state.uses c ≡ Locking op u lead (with_asked m (λ _. true) st (would_grant m s (name_of u)))
       used = upd_same nat_eq numbers s.uses c (Locking op u lead (with_asked m (λ _. true) st (would_grant m s (name_of u))))
 
-  goes : (c : ℕ) (u : Update) (lead : Node) (st : Node → Status) (s : State) → s.stages op ≡ Asking c → none_missing m st ≡ true → Turned m op (go_on m c (Locking op u lead st) s)
+  pub goes : (c : ℕ) (u : Update) (lead : Node) (st : Node → Status) (s : State) → s.stages op ≡ Asking c → none_missing m st ≡ true → Turned m op (go_on m c (Locking op u lead st) s)
   goes c u lead st s stage none =
       subst (λ b. Turned m op (cond b (cond (does_wait (after_round (round_of lead st) (none_denied m st))) (give_up m c op u st s) (and_then (ask m (λ _. true) c op u lead st s) (λ v. locks_in m c (v.uses c) v))) (becomes s)))
       (sym none) (go (does_wait (after_round (round_of lead st) (none_denied m st))))
@@ -149,13 +149,13 @@ module _ (m : Nodes) (op : OpId) where
 
 -- ---- an event
 
-retry_is : {i : ℕ} {op : OpId} {d : Event Action} → ◌≡◌ {A = LosingEvent Action} (Step (Do i (Retry op))) (Step d) → d ≡ Do i (Retry op)
+pub retry_is : {i : ℕ} {op : OpId} {d : Event Action} → ◌≡◌ {A = LosingEvent Action} (Step (Do i (Retry op))) (Step d) → d ≡ Do i (Retry op)
 retry_is e = cc
 
-no_loss : {d : Event Action} {j : ℕ} {keep : ℕ → ℕ} → ◌≡◌ {A = LosingEvent Action} (Step d) (Lose j keep) → ⊥
+pub no_loss : {d : Event Action} {j : ℕ} {keep : ℕ → ℕ} → ◌≡◌ {A = LosingEvent Action} (Step d) (Lose j keep) → ⊥
 no_loss e = absurd (cc)
 
-own_given : (given : Input Message Action) (action : Action) → Own action ≡ noted given → given ≡ Own action
+pub own_given : (given : Input Message Action) (action : Action) → Own action ≡ noted given → given ≡ Own action
 own_given (Taken p x) action e = absurd (cc e)
 own_given (Own other) action e = let same : action ≡ other = cc e in ap Own (sym same)
 

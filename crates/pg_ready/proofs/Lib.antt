@@ -1,4 +1,6 @@
+pub mod Fewer
 pub mod Going
 pub mod Holders
 pub mod Ready
+pub mod Retried
 pub mod Silence

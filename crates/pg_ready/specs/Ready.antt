@@ -1,12 +1,13 @@
 -- Whose locks are held where nothing is on the way to a node that is left.
-use Rattle.std.specs.Prelude.{◌≡◌, ◌⊎◌, ℕ, Bool, true, false, length, [], ◌∷◌, ◌++◌}
+use Rattle.std.specs.Prelude.{◌≡◌, ◌⊎◌, ℕ, Bool, true, false, ◌&&◌, ◌||◌, nat_eq, length, List, [], ◌∷◌, ◌++◌, None}
 use Rattle.pg_term.specs.RefParts.{RefParts}
 use Rattle.pg_term.specs.declared.term.Term.{Term}
 use Rattle.pg_group.specs.Value.{name_of}
 use Rattle.pg_group.specs.declared.update.Update.{Update}
+use Rattle.pg_machine.specs.Machine.{Event, Take, Do}
 use Rattle.pg_machine.specs.Places.{is_pair, is_place}
 use Rattle.pg_refs.specs.Numbered.{numbered}
-use Rattle.pg_step.specs.Attempts.{is_complete}
+use Rattle.pg_step.specs.Attempts.{is_complete, same_op}
 use Rattle.pg_step.specs.Config.{Config, name_at, nodes_at}
 use Rattle.pg_step.specs.LossLaws.{LosingFrameWorld}
 use Rattle.pg_step.specs.Nodes.{Node, Nodes}
@@ -14,6 +15,7 @@ use Rattle.pg_step.specs.State.{Stage, State, Status, left}
 use Rattle.pg_step.specs.State.Response.{Given}
 use Rattle.pg_step.specs.State.Stage.{Asking, Changing, Closed, Waiting}
 use Rattle.pg_step.specs.State.Use.{Locking, Updating}
+use Rattle.pg_step.specs.Step.{Action, Issue, Retry}
 use Rattle.pg_step.specs.declared.answer.Reply.TheVariants as reply
 use Rattle.pg_step.specs.declared.command.OpId.{OpId}
 use Rattle.pg_history.specs.History.{answers_by, entries}
@@ -34,6 +36,32 @@ is_ready m stage s = false
 -- a command of node i is ready
 abbrev pub is_ready_at : Config → LosingFrameWorld → ℕ → OpId → Bool
 is_ready_at config w i op = is_ready (left (nodes_at config i) (w.world.node i).state) ((w.world.node i).state.stages op) (w.world.node i).state
+
+-- no command of a node that is left is ready
+abbrev pub NoneReadyLeft : Config → LosingFrameWorld → Type 0
+NoneReadyLeft config w = (i : ℕ) (op : OpId)
+    → is_place (length config) i ≡ true → w.gone i ≡ false → is_ready_at config w i op ≡ false
+
+-- no node that is left holds the lock of any name, for whomever
+abbrev pub NoLockLeft : Config → LosingFrameWorld → Type 0
+NoLockLeft config w = (i : ℕ) (name : Term)
+    → is_place (length config) i ≡ true → w.gone i ≡ false → (w.world.node i).state.locks name ≡ None
+
+-- each node that is left has seen each loss
+abbrev pub LossesSeen : Config → LosingFrameWorld → Type 0
+LossesSeen config w = (i : ℕ) → is_place (length config) i ≡ true → w.gone i ≡ false → SawAll config w i
+
+-- one of these events tries the command of node i again
+abbrev pub is_retried : ℕ → OpId → List (Event Action) → Bool
+is_retried i op [] = false
+is_retried i op (Take j p ∷ events) = is_retried i op events
+is_retried i op (Do j (Issue port c) ∷ events) = is_retried i op events
+is_retried i op (Do j (Retry other) ∷ events) = (nat_eq j i && same_op other op) || is_retried i op events
+
+-- each ready command of a node that is left is tried again by one of these events
+abbrev pub EachIsRetried : Config → LosingFrameWorld → List (Event Action) → Type 0
+EachIsRetried config w events = (i : ℕ) (op : OpId) → is_place (length config) i ≡ true → w.gone i ≡ false
+    → is_ready_at config w i op ≡ true → is_retried i op events ≡ true
 
 -- The holder of the lock of a group is a reference of a node that is not lost, and of a ready command of it.
 pub record OfReady (config : Config) (w : LosingFrameWorld) (name : Term) (holder : RefParts) : Type 0 where

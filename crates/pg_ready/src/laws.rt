@@ -3,8 +3,8 @@ ghost use Rattle.std.specs.List.{IsDistinct};
 ghost use Rattle.pg_term.specs.RefParts.{RefParts};
 ghost use Rattle.pg_term.specs.Same.{same_atom};
 ghost use Rattle.pg_term.specs.declared.term.Term.{Term};
-ghost use Rattle.pg_machine.specs.Losing.{LosingEvent, Step, losing_happens};
-ghost use Rattle.pg_machine.specs.Machine.{Do};
+ghost use Rattle.pg_machine.specs.Losing.{LosingEvent, LosingLeads, Step, all_steps, losing_happens};
+ghost use Rattle.pg_machine.specs.Machine.{Do, Event};
 ghost use Rattle.pg_machine.specs.Places.{is_place};
 ghost use Rattle.pg_step.specs.Config.{Config, names_of};
 ghost use Rattle.pg_step.specs.FrameMachine.{last_notice, losing_frame_machine};
@@ -13,7 +13,8 @@ ghost use Rattle.pg_step.specs.Step.{Action, CLOCK_LIMIT, Retry};
 ghost use Rattle.pg_step.specs.declared.command.OpId.{OpId};
 ghost use Rattle.pg_loss.specs.Quiet.{IsQuietLeft};
 ghost use Rattle.pg_loss.specs.Reached.{LosingReaches};
-ghost use Rattle.pg_ready.specs.Ready.{GoesOn, IsQuietAmongLeft, OfReady, is_ready_at};
+ghost use Rattle.pg_ready.specs.Ready.{EachIsRetried, GoesOn, IsQuietAmongLeft, LossesSeen, NoLockLeft};
+ghost use Rattle.pg_ready.specs.Ready.{NoneReadyLeft, OfReady, is_ready_at, is_retried};
 
 /// Nothing is on the way to a node that is not lost exactly where each of them has seen each loss, and nothing is on the way
 /// between two of them.
@@ -46,4 +47,50 @@ pub fn a_retry_of_a_ready_command_goes_on()
         → LosingReaches config events w → is_ready_at config w i op ≡ true
         → losing_happens (losing_frame_machine config) last_notice w (Step (Do i (Retry op))) ≡ Some v
         → GoesOn config w v i op }
+{}
+
+/// Where nothing is on the way to a node that is not lost, and no command of such a node is ready, no such node holds
+/// a lock.
+pub fn no_lock_where_none_is_ready()
+    ensures { (config : Config) (w : LosingFrameWorld) (events : List (LosingEvent Action))
+        → IsDistinct same_atom (names_of config) → LosingReaches config events w → IsQuietLeft config w
+        → NoneReadyLeft config w → NoLockLeft config w }
+{}
+
+/// A command becomes ready only where its node sees a loss. Behind any other event a command that is ready was ready
+/// before it.
+pub fn only_a_seen_loss_makes_ready()
+    ensures { (config : Config) (w v : LosingFrameWorld) (events : List (LosingEvent Action))
+        (event : LosingEvent Action) (i : ℕ) (op : OpId)
+        → LosingReaches config events w
+        → losing_happens (losing_frame_machine config) last_notice w event ≡ Some v
+        → (v.world.node i).state.lost ≡ (w.world.node i).state.lost
+        → is_ready_at config v i op ≡ true → is_ready_at config w i op ≡ true }
+{}
+
+/// Where each node that is not lost has seen each loss, as where nothing is on the way to one, let packets be taken, and
+/// commands come in or be tried again, in whatever order, while nobody is lost. A command that is ready then was ready
+/// before, and was not tried again meanwhile.
+pub fn retries_leave_fewer_ready()
+    ensures { (config : Config) (w v : LosingFrameWorld) (events : List (LosingEvent Action))
+        (steps : List (Event Action)) (i : ℕ) (op : OpId)
+        → IsDistinct same_atom (names_of config) → LosingReaches config events w → LossesSeen config w
+        → LosingLeads (losing_frame_machine config) last_notice w (all_steps steps) v
+        → is_ready_at config v i op ≡ true
+        → (is_ready_at config w i op ≡ true) × (is_retried i op steps ≡ false) }
+{}
+
+/// Once each command that was ready there was tried again, in whatever order and whatever else came in, no command of a
+/// node that is not lost is ready. Where nothing is on the way to such a node then, none holds a lock.
+pub fn retries_free_the_locks()
+    ensures ready { (config : Config) (w v : LosingFrameWorld) (events : List (LosingEvent Action))
+        (steps : List (Event Action))
+        → IsDistinct same_atom (names_of config) → LosingReaches config events w → LossesSeen config w
+        → LosingLeads (losing_frame_machine config) last_notice w (all_steps steps) v
+        → EachIsRetried config w steps → NoneReadyLeft config v }
+    ensures locks { (config : Config) (w v : LosingFrameWorld) (events : List (LosingEvent Action))
+        (steps : List (Event Action))
+        → IsDistinct same_atom (names_of config) → LosingReaches config events w → LossesSeen config w
+        → LosingLeads (losing_frame_machine config) last_notice w (all_steps steps) v
+        → EachIsRetried config w steps → IsQuietLeft config v → NoLockLeft config v }
 {}
