@@ -6,6 +6,7 @@ pub mod Counted
 pub mod Finishing
 pub mod Handing
 pub mod Hearing
+pub mod Histories
 pub mod Holding
 pub mod JoiningRows
 pub mod Judging

@@ -70,7 +70,7 @@ shown_back config frames lost u i seen is shows =
 
 -- the schedule of one run leads to its nodes again, where no step is refused for memory
 module _ (given : Config) (lost : List Bool) (nodes : List NodeOf) (schedule : List FrameStep) (run : AreOneLosingRun given lost nodes schedule) where
-  losing_again : (view : View) (gone numbers : List ℕ) → RanLosing packets_past_losses given schedule numbers (λ config. ShowsLosing config view gone) → ran_out numbers ≡ false
+  pub losing_again : (view : View) (gone numbers : List ℕ) → RanLosing packets_past_losses given schedule numbers (λ config. ShowsLosing config view gone) → ran_out numbers ≡ false
       → (all_made numbers ≡ true) × AreShown view.traffic.nodes nodes
   losing_again view gone numbers ran none = by (ordered_once given ran.config run.config ran.orders run.orders) ran.events ran.runs ran.shows
     where

@@ -14,4 +14,5 @@ pub mod Schedule
 pub mod Seeds
 pub mod Survivors
 pub mod Threads
+pub mod Told
 pub mod Together

@@ -108,14 +108,14 @@ fn unbegun(fault: WorldFault) -> Result<bool, AllocError>
 }
 
 /// Whether a step was refused since memory ran out, by the numbers of all steps.
-fn ran_out(numbers: &[u8]) -> bool
+pub(crate) fn ran_out(numbers: &[u8]) -> bool
     ensures { result ≡ has_run_out numbers.now }
 {
     numbers.iter().any(|number| *number == 10)
 }
 
 /// Whether each step was made, or took nothing where nothing was on the way, by the numbers of all steps.
-fn all_made(numbers: &[u8]) -> bool
+pub(crate) fn all_made(numbers: &[u8]) -> bool
     ensures { result ≡ were_all_made numbers.now }
 {
     numbers.iter().all(|number| *number == 0)

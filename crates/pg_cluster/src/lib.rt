@@ -7,9 +7,11 @@
 mod closed;
 mod cluster;
 mod fault;
+mod history;
 mod judges;
 mod laws;
 mod member;
+mod nodes;
 mod notices;
 mod pairs;
 mod promise;

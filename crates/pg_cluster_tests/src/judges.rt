@@ -25,11 +25,11 @@ const THREE: Setting = Setting {
     limit: 100_000_000,
 };
 
-// A cluster that is closed, and what it began with.
+/// A cluster that is closed, and what it began with.
 #[derive(Drop)]
-struct Judged {
-    closed: Closed,
-    config: Config,
+pub struct Judged {
+    pub closed: Closed,
+    pub config: Config,
 }
 
 impl Judged {
@@ -163,8 +163,8 @@ fn a_node_of_another_cluster(rt: HostRuntime) {
     holds(&rt, !after.replays, "nor are they where the schedule leads");
 }
 
-// Three nodes that all speak before the last is lost, and the two that are left after it.
-fn closed_survivors(rt: &(impl Threads + Wait), alloc: Global, line: &str) -> Option<Judged> {
+/// Three nodes that all speak before the last is lost, and the two that are left after it.
+pub fn closed_survivors(rt: &(impl Threads + Wait), alloc: Global, line: &str) -> Option<Judged> {
     match start(rt, alloc, THREE, Open) {
         Ok(begun) => {
             let mut started = begun;

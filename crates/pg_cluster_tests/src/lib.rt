@@ -18,6 +18,8 @@ mod rows;
 #[cfg(test)]
 mod setting;
 #[cfg(test)]
+mod told;
+#[cfg(test)]
 mod turns;
 #[cfg(test)]
 mod verdicts;

@@ -1,0 +1,50 @@
+//! What a cluster that has ended tells of each of its nodes.
+
+ghost use Rattle.std.specs.Prelude.{◌≡◌, slice_get};
+ghost use Rattle.std.specs.Option.{option_and_then, option_copied};
+ghost use Rattle.pg_cluster.specs.Told.{answers_at as answers_given};
+
+use crate::closed::Closed;
+use crate::survivors::was_lost;
+use pg_index::IndexTable;
+use pg_node::Node;
+use pg_step::Answer;
+
+impl Closed {
+    ghost use Rattle.pg_cluster.specs.Survivors.{was_lost};
+    ghost use Rattle.pg_cluster.specs.Told.{answers_at};
+
+    /// Whether the node at a place was lost; no where no node is there.
+    ///
+    /// Cost: no memory.
+    pub fn is_lost(&self, node: usize) -> bool
+        ensures { result ≡ was_lost self.now.lost.items node }
+    {
+        was_lost(self.lost.as_slice(), node)
+    }
+
+    /// The answers that a node gave at a port, in their order, whether its client polled them or not. `node` and
+    /// `port`: their places. None where no such node or port is there.
+    ///
+    /// Cost: no memory.
+    pub fn answers(&self, node: usize, port: u16) -> Option<&[Answer]>
+        ensures { option_copied result ≡ option_and_then (answers_at port) (slice_get self.now.nodes.items node) }
+    {
+        match self.nodes.get(node) {
+            Some(node) => answers_at(node, port),
+            None => None,
+        }
+    }
+}
+
+/// The answers that a node gave at a port; none where it has no such port.
+fn answers_at(node: &Node<IndexTable>, port: u16) -> Option<&[Answer]>
+    ensures { option_copied result ≡ answers_given port node.now }
+{
+    let state = node.state();
+    if usize::from(port) < state.port_count() {
+        Some(state.answers(port))
+    } else {
+        None
+    }
+}
