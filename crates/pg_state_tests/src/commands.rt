@@ -46,11 +46,8 @@ fn run_both(rt: &impl Abort, alloc: Global, rows: &[Both]) {
         for sight in *sights {
             row_holds(rt, see(rt, alloc, opens, *sight), row);
         }
-        row_holds(
-            rt,
-            (one.same(&other), other.same(&one)) == (*same, *same),
-            row,
-        );
+        let are_same = (one.same(&other), other.same(&one)) == (*same, *same);
+        row_holds(rt, are_same, row);
     }
     drop(one);
     drop(other);

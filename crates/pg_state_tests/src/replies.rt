@@ -1,7 +1,9 @@
 //! The gathered replies of several nodes to one call.
 
 use crate::samples::row_holds;
-use pg_multicall::{Gather, MAX_PLACES, Places, Taken};
+use Step::*;
+use pg_multicall::Taken::{self, *};
+use pg_multicall::{Gather, MAX_PLACES, Places};
 use std::process::Abort;
 
 /// What becomes of a node: of the place 0, 1 or 15.
@@ -13,12 +15,6 @@ enum Step {
     Lost(usize),
 }
 
-const COUNTED: Taken = Taken::Counted;
-
-const DOUBLE: Taken = Taken::Double;
-
-const STRANGER: Taken = Taken::Stranger;
-
 /// Steps, each with whether all that were asked have replied then, and whether all have granted; and the replies of the places 0 and
 /// 15 that stand at last.
 type Script = (&'static [(Step, bool, bool)], [Option<Option<bool>>; 2]);
@@ -28,40 +24,40 @@ const SCRIPTS: &[Script] = &[
     // Both grant. A second reply of a node changes nothing.
     (
         &[
-            (Step::Replies(0, true, COUNTED), false, false),
-            (Step::Replies(0, false, DOUBLE), false, false),
-            (Step::Replies(15, true, COUNTED), true, true),
-            (Step::Replies(15, false, DOUBLE), true, true),
+            (Replies(0, true, Counted), false, false),
+            (Replies(0, false, Double), false, false),
+            (Replies(15, true, Counted), true, true),
+            (Replies(15, false, Double), true, true),
         ],
         [Some(Some(true)), Some(Some(true))],
     ),
     // One denies. The reply of a node that was not asked changes nothing, and neither does that of a place where no node is.
     (
         &[
-            (Step::Replies(1, true, STRANGER), false, false),
-            (Step::Replies(16, true, STRANGER), false, false),
-            (Step::Replies(15, false, COUNTED), false, false),
-            (Step::Replies(0, true, COUNTED), true, false),
+            (Replies(1, true, Stranger), false, false),
+            (Replies(16, true, Stranger), false, false),
+            (Replies(15, false, Counted), false, false),
+            (Replies(0, true, Counted), true, false),
         ],
         [Some(Some(true)), Some(Some(false))],
     ),
     // A node that is lost is waited for no longer, and its reply does not stand.
     (
         &[
-            (Step::Replies(15, false, COUNTED), false, false),
-            (Step::Lost(15), false, false),
-            (Step::Replies(15, true, STRANGER), false, false),
-            (Step::Lost(16), false, false),
-            (Step::Lost(0), true, true),
+            (Replies(15, false, Counted), false, false),
+            (Lost(15), false, false),
+            (Replies(15, true, Stranger), false, false),
+            (Lost(16), false, false),
+            (Lost(0), true, true),
         ],
         [None, None],
     ),
     // The one that has not replied is lost.
     (
         &[
-            (Step::Replies(0, true, COUNTED), false, false),
-            (Step::Lost(1), false, false),
-            (Step::Lost(15), true, true),
+            (Replies(0, true, Counted), false, false),
+            (Lost(1), false, false),
+            (Lost(15), true, true),
         ],
         [Some(Some(true)), None],
     ),

@@ -4,6 +4,9 @@ use pg_term::{Atom, Boxed, Fields, Pid, Reference, Term, TermFault};
 use pg_text::{TextFault, read_term};
 use std::alloc::Global;
 
+/// A term, or why there is none.
+pub type Made = Result<Term, TermFault>;
+
 #[derive(Clone, Copy)]
 pub enum Sample {
     /// The term of this text.
@@ -62,19 +65,12 @@ pub fn nested(alloc: Global, levels: usize, inner: Term) -> Result<Term, TermFau
 }
 
 fn deep(alloc: Global, levels: usize) -> Result<Term, TermFault> {
-    nested(
-        alloc,
-        levels,
-        Term::Tuple(Fields::from_vec(Vec::new(alloc))),
-    )
+    let innermost = Term::Tuple(Fields::from_vec(Vec::new(alloc)));
+    nested(alloc, levels, innermost)
 }
 
 /// A tuple of two.
-pub fn pair(
-    alloc: Global,
-    first: Term,
-    second: Result<Term, TermFault>,
-) -> Result<Term, TermFault> {
+pub fn pair(alloc: Global, first: Term, second: Made) -> Made {
     match second {
         Ok(second) => Ok(Term::Tuple(Fields::from_vec(vec![in alloc; first, second]?))),
         Err(fault) => {
@@ -89,10 +85,7 @@ fn reference_term(alloc: Global, words: &[u32]) -> Result<Term, TermFault> {
 }
 
 fn long_and_deep(alloc: Global) -> Result<Term, TermFault> {
-    match tuple(alloc, 1_525_201, i64::MAX) {
-        Ok(long) => pair(alloc, long, deep(alloc, 63)),
-        Err(fault) => Err(fault),
-    }
+    pair(alloc, tuple(alloc, 1_525_201, i64::MAX)?, deep(alloc, 63))
 }
 
 // A text that is none of a term is told as a tag that is none.

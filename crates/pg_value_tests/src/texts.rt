@@ -32,14 +32,7 @@ fn is_printed(alloc: Global, term: &Term, shown: &str) -> Result<bool, TextFault
 
 // Whether the term that a text spells is printed as this one.
 fn is_shown(alloc: Global, text: &str, shown: &str) -> Result<bool, TextFault> {
-    match read_term(alloc, text) {
-        Ok(term) => {
-            let is_printed = is_printed(alloc, &term, shown);
-            drop(term);
-            is_printed
-        }
-        Err(fault) => Err(fault),
-    }
+    with!(read_term(alloc, text), term => is_printed(alloc, &term, shown))
 }
 
 // The text is shown so, or has the fault. Where memory was refused it is read a second time.

@@ -14,7 +14,7 @@ use std::process::Abort;
 #[derive(Clone, Copy)]
 pub enum Step {
     /// Nothing.
-    Begins,
+    Stays,
     /// A command is opened, which creates a group.
     Opens(u32),
     /// An attempt begins, which asks a node first.
@@ -44,7 +44,7 @@ pub const fn op(number: u32) -> OpId {
 /// Makes a step.
 pub fn go(rt: &impl Abort, alloc: Global, opens: &mut Opens, step: Step) {
     match step {
-        Step::Begins => (),
+        Step::Stays => (),
         Step::Opens(number) => open(rt, alloc, opens, op(number)),
         Step::Starts(number, first) => start(rt, opens, op(number), first),
         Step::Asks(number, asked, granted) => ask(rt, opens, number, asked, granted),

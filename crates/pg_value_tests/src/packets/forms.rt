@@ -8,7 +8,7 @@ use pg_message::MessageFault::{self, *};
 use pg_reader::read_packet;
 use pg_term::TermFault;
 use pg_writer::write_packet;
-use std::alloc::{AllocError, Global};
+use std::alloc::Global;
 use std::test::*;
 
 /// A body that begins with a tuple of two, how it is changed behind it, and what it is read as.
@@ -39,26 +39,15 @@ const LARGE: &[u8] = b"\x83i\0\0\0\x02";
 
 /// How the packet that is read from a body is written.
 pub fn rewritten(alloc: Global, body: &[u8]) -> Result<Vec<u8>, MessageFault> {
-    match read_packet(alloc, body) {
-        Ok(packet) => {
-            let written = write_packet(alloc, &packet);
-            drop(packet);
-            written
-        }
-        Err(fault) => Err(fault),
-    }
+    with!(read_packet(alloc, body), packet => write_packet(alloc, &packet))
 }
 
 // Whether a body is read as the packet that is written so behind its outer tuple.
 fn is_read_as(alloc: Global, body: &[u8], others: Option<&[u8]>) -> Result<bool, MessageFault> {
-    match rewritten(alloc, body) {
-        Ok(written) => {
-            let is_same = written.as_slice().starts_with(SMALL) && written.get(3..) == others;
-            drop(written);
-            Ok(is_same)
-        }
-        Err(fault) => Err(fault),
-    }
+    with!(
+        rewritten(alloc, body),
+        written => Ok(written.as_slice().starts_with(SMALL) && written.get(3..) == others)
+    )
 }
 
 /// Whether the body has this fault.
@@ -76,18 +65,11 @@ fn is_read_with(
     edits: &[Edit],
     wanted: Wanted,
 ) -> Result<bool, MessageFault> {
-    match edited(alloc, head, 3, base, edits) {
-        Ok(body) => {
-            let told = match wanted {
-                Same => is_read_as(alloc, &body, base.get(3..)),
-                Itself => is_read_as(alloc, &body, body.get(head.len()..)),
-                Fault(fault) => has_fault(alloc, &body, fault),
-            };
-            drop(body);
-            told
-        }
-        Err(AllocError) => Err(OUT_OF_MEMORY),
-    }
+    with!(edited(alloc, head, 3, base, edits), body => match wanted {
+        Same => is_read_as(alloc, &body, base.get(3..)),
+        Itself => is_read_as(alloc, &body, body.get(head.len()..)),
+        Fault(fault) => has_fault(alloc, &body, fault),
+    })
 }
 
 /// Whether a body is read as wanted with either tag of its outer tuple.
@@ -138,14 +120,11 @@ fn each_part_in_other_forms(rt: HostRuntime) {
         Changed(JOIN, &[At(39, 2, b"d\0\x01")], Same),
         // The name as a string of bytes, and as a list in two parts.
         Changed(JOIN_OF_LIST, &[At(35, 10, b"k\0\x02\x01\x02")], Same),
-        Changed(
-            JOIN_OF_LIST,
-            &[At(35, 10, b"l\0\0\0\x01a\x01l\0\0\0\x01a\x02j")],
-            Same,
-        ),
+        Changed(JOIN_OF_LIST, &[At(35, 10, TWO_PARTS)], Same),
         // The pid in its old form.
         Changed(DOWN, &[At(13, 16, b"gw\x01a\0\0\0\x01\0\0\0\0\x01")], Same),
     ];
+    const TWO_PARTS: &[u8] = b"l\0\0\0\x01a\x01l\0\0\0\x01a\x02j";
     check(&rt, rt.alloc(), ROWS);
 }
 
@@ -154,7 +133,7 @@ fn stamp_edges(rt: HostRuntime) {
     const ROWS: &[Changed] = &[
         Changed(DOWN, &[At(3, 2, b"a\0")], Itself),
         Changed(DOWN, &[At(3, 2, b"b@\0\0\0")], Itself),
-        Changed(DOWN, &[At(3, 2, b"b@\0\0\x01")], LATE),
+        Changed(DOWN, &[At(3, 2, TOO_LARGE)], LATE),
         Changed(DOWN, &[At(3, 2, b"n\x05\0\0\0\0\0\x01")], LATE),
         Changed(DOWN, &[At(3, 2, b"b\xff\xff\xff\xff")], NO_PACKET),
         Changed(DOWN, &[At(3, 2, b"j")], NO_PACKET),
@@ -162,10 +141,11 @@ fn stamp_edges(rt: HostRuntime) {
         Changed(DOWN, &[At(3, 2, b"a\0"), At(8, 5, b"\x05downs")], NO_PACKET),
         Changed(
             DOWN,
-            &[At(3, 2, b"b@\0\0\x01"), At(8, 5, b"\x05downs")],
+            &[At(3, 2, TOO_LARGE), At(8, 5, b"\x05downs")],
             NO_PACKET,
         ),
     ];
+    const TOO_LARGE: &[u8] = b"b@\0\0\x01";
     check(&rt, rt.alloc(), ROWS);
     let are_right = NotAMessage.number() == 12 && StampTooLarge.number() == 13;
     holds(&rt, are_right, "the numbers of the faults");

@@ -32,27 +32,15 @@ fn each_part_of_an_exchange_in_other_forms(rt: HostRuntime) {
         Changed(EXCHANGE, &[At(106, 1, b"k\0\0")], Same),
         Changed(EXCHANGE, &[At(106, 1, b"l\0\0\0\0j")], Same),
         // The first counts so many elements, and a list of so many others is its tail.
-        Changed(
-            EXCHANGE,
-            &[At(28, 5, b"l\0\0\0\x01"), At(43, 0, b"l\0\0\0\x01")],
-            Same,
-        ),
-        Changed(
-            EXCHANGE,
-            &[At(33, 5, b"l\0\0\0\x01"), At(41, 0, b"l\0\0\0\x01")],
-            Same,
-        ),
-        Changed(
-            EXCHANGE,
-            &[At(51, 5, b"l\0\0\0\x01"), At(72, 0, b"l\0\0\0\x02")],
-            Same,
-        ),
-        Changed(
-            EXCHANGE,
-            &[At(51, 5, b"l\0\0\0\x03"), At(104, 0, b"l\0\0\0\0")],
-            Same,
-        ),
+        Changed(EXCHANGE, &[At(28, 5, ONE), At(43, 0, ONE)], Same),
+        Changed(EXCHANGE, &[At(33, 5, ONE), At(41, 0, ONE)], Same),
+        Changed(EXCHANGE, &[At(51, 5, ONE), At(72, 0, TWO)], Same),
+        Changed(EXCHANGE, &[At(51, 5, THREE), At(104, 0, NONE)], Same),
     ];
+    const NONE: &[u8] = b"l\0\0\0\0";
+    const ONE: &[u8] = b"l\0\0\0\x01";
+    const TWO: &[u8] = b"l\0\0\0\x02";
+    const THREE: &[u8] = b"l\0\0\0\x03";
     check(&rt, rt.alloc(), ROWS);
 }
 

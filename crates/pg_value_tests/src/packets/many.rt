@@ -5,7 +5,7 @@ use super::bodies::{APPLIED, CREATE, DEL_LOCK, EXCHANGE, JOIN};
 use super::drafts::{Draft, drafted};
 use super::forms::{Same, is_read_in_both_forms, rewritten};
 use super::lent::write_lent;
-use crate::rows::{Edit, OUT_OF_MEMORY, Row, check, edited};
+use crate::rows::{Edit, Row, check, edited};
 use bytes::BytesMut;
 use pg_message::MessageFault::{self, NotAMessage, StampTooLarge};
 use pg_message::Packet;
@@ -13,7 +13,7 @@ use pg_term::TermFault;
 use pg_term_io::decode;
 use pg_term_writer::encode;
 use pg_writer::{packet_len, write_packet, write_packet_into};
-use std::alloc::{AllocError, Global};
+use std::alloc::Global;
 use std::test::*;
 
 /// A packet, and why it is not written.
@@ -32,30 +32,16 @@ fn is_refused(alloc: Global, packet: &Packet, fault: MessageFault) -> bool {
 
 // Whether the packet is read from what is written of it, and from another form of that.
 fn is_read_again(alloc: Global, packet: &Packet) -> Result<bool, MessageFault> {
-    match write_packet(alloc, packet) {
-        Ok(body) => {
-            let is_read = is_read_in_both_forms(alloc, &body, &[], Same);
-            drop(body);
-            is_read
-        }
-        Err(fault) => Err(fault),
-    }
+    with!(write_packet(alloc, packet), body => is_read_in_both_forms(alloc, &body, &[], Same))
 }
 
 impl Row for Drafted {
     fn told(&self, alloc: Global) -> Result<bool, MessageFault> {
         let Drafted(draft, fault) = *self;
-        match drafted(alloc, draft) {
-            Ok(packet) => {
-                let told = match fault {
-                    Some(fault) => Ok(is_refused(alloc, &packet, fault)),
-                    None => is_read_again(alloc, &packet),
-                };
-                drop(packet);
-                told
-            }
-            Err(fault) => Err(MessageFault::Term(fault)),
-        }
+        with!(drafted(alloc, draft), packet => match fault {
+            Some(fault) => Ok(is_refused(alloc, &packet, fault)),
+            None => is_read_again(alloc, &packet),
+        })
     }
 }
 
@@ -64,11 +50,9 @@ fn packets_not_written(rt: HostRuntime) {
     const ROWS: &[Drafted] = &[
         Drafted(Draft::Late, Some(StampTooLarge)),
         Drafted(Draft::Twice, Some(NotAMessage)),
-        Drafted(
-            Draft::Long(16_600),
-            Some(MessageFault::Term(TermFault::TooLong)),
-        ),
+        Drafted(Draft::Long(16_600), Some(TOO_LONG)),
     ];
+    const TOO_LONG: MessageFault = MessageFault::Term(TermFault::TooLong);
     check(&rt, rt.alloc(), ROWS);
 }
 
@@ -96,14 +80,7 @@ const TAGS: &[&[u8]] = &[
 
 // How the term of a body is written.
 fn written_of_term(alloc: Global, body: &[u8]) -> Result<Vec<u8>, TermFault> {
-    match decode(alloc, body) {
-        Ok(term) => {
-            let written = encode(alloc, &term);
-            drop(term);
-            written
-        }
-        Err(fault) => Err(fault),
-    }
+    with!(decode(alloc, body), term => encode(alloc, &term))
 }
 
 // Whether a body that is refused for this fault has it as its term is: the term's own, or that of no message.
@@ -138,20 +115,14 @@ fn is_read_with(
     tag: &'static [u8],
 ) -> Result<bool, MessageFault> {
     let front = body.get(..at).unwrap_or(&[]);
-    match edited(
+    let changed = edited(
         alloc,
         front,
         at.saturating_add(1),
         body,
         &[Edit::Times(1, tag)],
-    ) {
-        Ok(changed) => {
-            let is_read = is_read_as_its_term(alloc, &changed);
-            drop(changed);
-            is_read
-        }
-        Err(AllocError) => Err(OUT_OF_MEMORY),
-    }
+    );
+    with!(changed, changed => is_read_as_its_term(alloc, &changed))
 }
 
 // Whether a body is read as its term is, cut at this place, and with each of the tags there.
@@ -179,12 +150,7 @@ impl Row for Altered {
 
 #[test]
 fn bodies_cut_and_changed(rt: HostRuntime) {
-    const ROWS: &[Altered] = &[
-        Altered(CREATE),
-        Altered(JOIN),
-        Altered(APPLIED),
-        Altered(DEL_LOCK),
-        Altered(EXCHANGE),
-    ];
-    check(&rt, rt.alloc(), ROWS);
+    for body in [CREATE, JOIN, APPLIED, DEL_LOCK, EXCHANGE] {
+        check(&rt, rt.alloc(), &[Altered(body)]);
+    }
 }

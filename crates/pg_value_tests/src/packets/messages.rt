@@ -43,12 +43,9 @@ const MESSAGES: &[Both] = &[
     Both(&[CREATE], "create"),
     Both(&[NOW, CALL, b"h\x02w\x06deletej"], "delete"),
     Both(&[NOW, CALL, b"h\x02w\x06deletew\x01g"], "delete"),
-    Both(&[LATEST, CALL, b"h\x02w\x08set_locka\x05"], "set_lock"),
+    Both(&[LATEST, CALL, SET_LOCK], "set_lock"),
     Both(&[NOW, CALL, b"h\x02w\x08set_lockw\x01g"], "set_lock"),
-    Both(
-        &[NOW, CALL_OF_THREE, b"h\x02w\x08set_locka\x05"],
-        "set_lock",
-    ),
+    Both(&[NOW, CALL_OF_THREE, SET_LOCK], "set_lock"),
     Both(&[NOW, CALL_OF_THREE, b"h\x02w\x06deletew\x01g"], "delete"),
     Both(&[JOIN], "join"),
     Both(&[NOW, CALL, b"h\x03w\x05leavew\x01g", PID], "leave"),
@@ -63,11 +60,15 @@ const MESSAGES: &[Both] = &[
     Both(&[EXCHANGE], "exchange"),
     Both(&[EMPTY], "exchange"),
     Both(
-        &[NOW, TELL, NONE_OF_G, TWO_OF_H, PID, PID_2, b"jjj"],
+        &[NOW, TELL, NONE_OF_G, TWO_OF_H, PID, PID_2, END],
         "exchange",
     ),
     Both(&[DOWN], "down"),
 ];
+
+const SET_LOCK: &[u8] = b"h\x02w\x08set_locka\x05";
+
+const END: &[u8] = b"jjj";
 
 const LATEST: &[u8] = b"\x83h\x02b@\0\0\0";
 
@@ -143,14 +144,9 @@ fn is_framed(alloc: Global, packet: &Packet, bytes: &[u8]) -> bool {
 // Whether the packet is written as the bytes, and in frames.
 fn is_written(alloc: Global, packet: &Packet, bytes: &[u8]) -> Result<bool, MessageFault> {
     let is_long = packet_len(packet) == Ok(bytes.len());
-    match write_packet(alloc, packet) {
-        Ok(body) => {
-            let is_same = body.as_slice() == bytes;
-            drop(body);
-            Ok(is_same && is_long && is_framed(alloc, packet, bytes))
-        }
-        Err(fault) => Err(fault),
-    }
+    with!(write_packet(alloc, packet), body => {
+        Ok(body.as_slice() == bytes && is_long && is_framed(alloc, packet, bytes))
+    })
 }
 
 // Whether a copy of the packet is of this kind, and both are written as the bytes.
@@ -173,14 +169,7 @@ fn is_both_ways(
 
 // Whether the bytes are read as a packet of this kind.
 fn is_read(alloc: Global, bytes: &[u8], kind: &str) -> Result<bool, MessageFault> {
-    match read_packet(alloc, bytes) {
-        Ok(packet) => {
-            let told = is_both_ways(alloc, &packet, bytes, kind);
-            drop(packet);
-            told
-        }
-        Err(fault) => Err(fault),
-    }
+    with!(read_packet(alloc, bytes), packet => is_both_ways(alloc, &packet, bytes, kind))
 }
 
 impl Row for Both {
@@ -199,19 +188,11 @@ fn each_message_both_ways(rt: HostRuntime) {
 }
 
 /// An end in another form than it is written in.
-#[derive(Clone, Copy)]
 struct OtherForm(&'static [u8]);
 
 impl Row for OtherForm {
     fn told(&self, alloc: Global) -> Result<bool, MessageFault> {
-        match read_packet(alloc, self.0) {
-            Ok(packet) => {
-                let told = kind_of(&packet) == "down";
-                drop(packet);
-                Ok(told)
-            }
-            Err(fault) => Err(fault),
-        }
+        with!(read_packet(alloc, self.0), packet => Ok(kind_of(&packet) == "down"))
     }
 }
 

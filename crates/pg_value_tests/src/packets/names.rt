@@ -12,7 +12,7 @@ use pg_term::{Term, TermFault};
 use pg_term_io::decode;
 use pg_term_writer::encode_len;
 use pg_writer::write_packet;
-use std::alloc::{AllocError, Global};
+use std::alloc::Global;
 use std::test::*;
 
 /// The bytes of a name in place of that of a create call, how many they are with the first of a term, why it is no name, and
@@ -64,30 +64,15 @@ const PID: Edit = Times(1, b"Xw\x01a\0\0\0\x01\0\0\0\0\0\0\0\x01");
 
 // The name alone.
 fn decoded(alloc: Global, edits: &[Edit]) -> Result<Term, TermFault> {
-    match edited(alloc, b"\x83", 0, b"", edits) {
-        Ok(bytes) => {
-            let name = decode(alloc, &bytes);
-            drop(bytes);
-            name
-        }
-        Err(AllocError) => Err(TermFault::OutOfMemory),
-    }
+    with!(edited(alloc, b"\x83", 0, b"", edits), bytes => decode(alloc, &bytes))
 }
 
 // Why a create call of this name is not written.
 fn fault_of(alloc: Global, name: Term) -> Result<Option<MessageFault>, MessageFault> {
-    match created(alloc, 0, name) {
-        Ok(packet) => {
-            let told = write_packet(alloc, &packet).err();
-            drop(packet);
-            if told == Some(OUT_OF_MEMORY) {
-                Err(OUT_OF_MEMORY)
-            } else {
-                Ok(told)
-            }
-        }
-        Err(fault) => Err(MessageFault::Term(fault)),
-    }
+    with!(created(alloc, 0, name), packet => match write_packet(alloc, &packet).err() {
+        Some(OUT_OF_MEMORY) => Err(OUT_OF_MEMORY),
+        told => Ok(told),
+    })
 }
 
 impl Row for Name {

@@ -5,7 +5,7 @@ use crate::rows::{OUT_OF_MEMORY, Row, check, edited};
 use pg_message::MessageFault;
 use pg_term::TermFault::{self, *};
 use pg_term_io::{check_term, decode};
-use std::alloc::{AllocError, Global};
+use std::alloc::Global;
 use std::test::*;
 
 /// Bytes with what stands behind them, and the fault that they have when they are read and when they are only looked at.
@@ -14,19 +14,10 @@ struct Spelled(&'static [u8], &'static [Edit], Option<TermFault>);
 
 impl Row for Spelled {
     fn told(&self, alloc: Global) -> Result<bool, MessageFault> {
-        match edited(alloc, self.0, 0, &[], self.1) {
-            Ok(bytes) => {
-                let read = decode(alloc, &bytes).err();
-                let looked_at = check_term(&bytes).err();
-                drop(bytes);
-                if read == Some(OutOfMemory) {
-                    Err(OUT_OF_MEMORY)
-                } else {
-                    Ok(read == self.2 && looked_at == self.2)
-                }
-            }
-            Err(AllocError) => Err(OUT_OF_MEMORY),
-        }
+        with!(edited(alloc, self.0, 0, &[], self.1), bytes => match decode(alloc, &bytes).err() {
+            Some(OutOfMemory) => Err(OUT_OF_MEMORY),
+            read => Ok(read == self.2 && check_term(&bytes).err() == self.2),
+        })
     }
 }
 
@@ -51,11 +42,7 @@ const FAULTS: &[Spelled] = &[
     Spelled(b"\x83a\x01\0", &[], Some(TrailingBytes)),
     Spelled(b"\x83m\0\0\0\0\x01", &[], Some(TrailingBytes)),
     Spelled(b"\x83n\x08\0\0\0\0\0\0\0\0\x80", &[], Some(IntegerTooLarge)),
-    Spelled(
-        b"\x83n\x09\x01\0\0\0\0\0\0\0\0\x01",
-        &[],
-        Some(IntegerTooLarge),
-    ),
+    Spelled(LARGE, &[], Some(IntegerTooLarge)),
     Spelled(b"\x83l\0\0\0\x01a\x01a\x02", &[], Some(ImproperList)),
     Spelled(b"\x83l\0\0\0\0a\x01", &[], Some(ImproperList)),
     Spelled(b"\x83r\0\x04", &[], Some(BadReference)),
@@ -70,6 +57,8 @@ const FAULTS: &[Spelled] = &[
     // Each kind of term that takes memory, in one.
     Spelled(EACH_KIND, &[], None),
 ];
+
+const LARGE: &[u8] = b"\x83n\x09\x01\0\0\0\0\0\0\0\0\x01";
 
 const EACH_KIND: &[u8] = b"\x83h\x07m\0\0\0\x02\x01\x02w\x01ak\0\x02\x01\x02\
     gd\0\x01b\0\0\0\x01\0\0\0\x02\x03l\0\0\0\x01s\x01cj\

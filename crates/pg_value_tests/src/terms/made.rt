@@ -21,14 +21,7 @@ pub struct Made(
 // Whether the bytes are read as the term.
 fn spell(alloc: Global, bytes: &[u8], term: &Term) -> Result<bool, TermFault> {
     check_term(bytes)?;
-    match decode(alloc, bytes) {
-        Ok(read) => {
-            let is_same = read == *term;
-            drop(read);
-            Ok(is_same)
-        }
-        Err(fault) => Err(fault),
-    }
+    with!(decode(alloc, bytes), read => Ok(read == *term))
 }
 
 // Whether so many bytes are written, which begin with these, and are read as the term.
@@ -58,14 +51,8 @@ fn is_as_made(alloc: Global, term: &Term, row: Made) -> Result<bool, TermFault> 
 
 impl Row for Made {
     fn told(&self, alloc: Global) -> Result<bool, MessageFault> {
-        match made(alloc, self.0) {
-            Ok(term) => {
-                let told = is_as_made(alloc, &term, *self);
-                drop(term);
-                Ok(told?)
-            }
-            Err(fault) => Err(MessageFault::Term(fault)),
-        }
+        let told = with!(made(alloc, self.0), term => is_as_made(alloc, &term, *self));
+        Ok(told?)
     }
 }
 
@@ -114,14 +101,7 @@ fn is_refused(alloc: Global, term: &Term, fault: TermFault) -> Result<bool, Term
 
 impl Row for Refused {
     fn told(&self, alloc: Global) -> Result<bool, MessageFault> {
-        let told = match made(alloc, self.0) {
-            Ok(term) => {
-                let told = is_refused(alloc, &term, self.1);
-                drop(term);
-                told
-            }
-            Err(fault) => Err(fault),
-        };
+        let told = with!(made(alloc, self.0), term => is_refused(alloc, &term, self.1));
         Ok(told == Err(self.1) || told?)
     }
 }

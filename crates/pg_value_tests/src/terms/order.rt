@@ -1,10 +1,10 @@
 //! Terms as values: their order, and their copies.
 
-use crate::rows::{OUT_OF_MEMORY, Row, check};
+use crate::rows::{Row, check};
 use crate::samples::{Sample, made};
 use pg_message::MessageFault;
 use pg_term::Term;
-use std::alloc::{AllocError, Global};
+use std::alloc::Global;
 use std::test::*;
 
 /// The text of a tuple of terms in rising order, and its depth.
@@ -35,26 +35,14 @@ fn is_rising(alloc: Global, term: &Term, depth: u64) -> Result<bool, MessageFaul
     let Term::Tuple(terms) = term else {
         return Ok(false);
     };
-    match term.copy(alloc) {
-        Ok(copy) => {
-            let is_same = copy.is(term) && copy.depth() == depth;
-            drop(copy);
-            Ok(is_same && are_rising(terms.as_slice()))
-        }
-        Err(AllocError) => Err(OUT_OF_MEMORY),
-    }
+    with!(term.copy(alloc), copy => {
+        Ok(copy.is(term) && copy.depth() == depth && are_rising(terms.as_slice()))
+    })
 }
 
 impl Row for Rising {
     fn told(&self, alloc: Global) -> Result<bool, MessageFault> {
-        match made(alloc, Sample::Text(self.0)) {
-            Ok(term) => {
-                let told = is_rising(alloc, &term, self.1);
-                drop(term);
-                told
-            }
-            Err(fault) => Err(MessageFault::Term(fault)),
-        }
+        with!(made(alloc, Sample::Text(self.0)), term => is_rising(alloc, &term, self.1))
     }
 }
 
