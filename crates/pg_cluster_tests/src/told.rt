@@ -55,6 +55,10 @@ fn of_nodes_and_groups(rt: HostRuntime) {
         holds(&rt, count(closed.answers(node, 0)) == Some(1), "it answers");
         holds(&rt, closed.answers(node, 1).is_none(), "it has one port");
     }
-    holds(&rt, closed.answers(3, 0).is_none(), "no other node is there");
+    holds(
+        &rt,
+        closed.answers(3, 0).is_none(),
+        "no other node is there",
+    );
     drop(cluster);
 }
