@@ -1,5 +1,6 @@
 -- Whose locks are held where nothing is on the way to a node that is left.
-use Rattle.std.specs.Prelude.{◌≡◌, ◌⊎◌, ℕ, ◌+◌, ◌≤◌, Bool, true, false, ◌&&◌, ◌||◌, nat_eq, length, List, [], ◌∷◌, ◌++◌, None}
+use Rattle.std.specs.Prelude.{◌≡◌, ◌⊎◌, ℕ, ◌+◌, ◌≤◌, Bool, true, false, ◌&&◌, ◌||◌, nat_eq}
+use Rattle.std.specs.Prelude.{length, List, [], ◌∷◌, ◌++◌, None}
 use Rattle.pg_term.specs.RefParts.{RefParts}
 use Rattle.pg_term.specs.declared.term.Term.{Term}
 use Rattle.pg_group.specs.Value.{name_of}
@@ -65,7 +66,8 @@ EachIsRetried config w events = (i : ℕ) (op : OpId) → is_place (length confi
 
 -- no clock is nearer to its limit than so many events, of a lost node neither, since what it sent may be on the way
 abbrev pub HasRoomLeft : Config → LosingFrameWorld → ℕ → Type 0
-HasRoomLeft config w events = (i : ℕ) → is_place (length config) i ≡ true → (w.world.node i).clock + events ≤ CLOCK_LIMIT
+HasRoomLeft config w events = (i : ℕ)
+    → is_place (length config) i ≡ true → (w.world.node i).clock + events ≤ CLOCK_LIMIT
 
 -- The holder of the lock of a group is a reference of a node that is not lost, and of a ready command of it.
 pub record OfReady (config : Config) (w : LosingFrameWorld) (name : Term) (holder : RefParts) : Type 0 where
