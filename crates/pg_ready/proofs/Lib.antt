@@ -4,4 +4,5 @@ pub mod Holders
 pub mod Ready
 pub mod Resting
 pub mod Retried
+pub mod Rounds
 pub mod Silence

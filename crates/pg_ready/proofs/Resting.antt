@@ -48,7 +48,7 @@ Notice = Stamped (Noticed Message)
 -- ---- an event
 
 -- what a step of a node and a loss lead to
-went : (config : Config) (w v : LosingFrameWorld) (d : Event Action) → Leaves config w (Step d) v
+pub went : (config : Config) (w v : LosingFrameWorld) (d : Event Action) → Leaves config w (Step d) v
     → (happens (losing_frame_machine config) w.world d ≡ Some v.world) × (v.gone ≡ w.gone)
 unfolding losing_happens
 went config w v d h = go (w.gone (node_of d)) h
@@ -134,7 +134,7 @@ run_on_time : (config : Config) (es : List (LosingEvent Action)) (w v : LosingFr
 run_on_time config [] w v l old = subst OnTime l old
 run_on_time config (e ∷ es) w v l old = run_on_time config es l.0 v l.2 (event_on_time config w l.0 e l.1 old)
 
-on_time : (config : Config) (es : List (LosingEvent Action)) (w : LosingFrameWorld) → LosingReaches config es w
+pub on_time : (config : Config) (es : List (LosingEvent Action)) (w : LosingFrameWorld) → LosingReaches config es w
     → OnTime w
 on_time config es w l =
     run_on_time config es (nobody_gone (start_of (losing_frame_machine config))) w l
@@ -159,7 +159,7 @@ module _ (config : Config) (w v : LosingFrameWorld) (d : Event Action)
       let peer : (w.world.node p).clock + suc k ≤ CLOCK_LIMIT = room p there in
       omega (arith, stamp, own, peer)
 
-  room_left : HasRoomLeft config v k
+  pub room_left : HasRoomLeft config v k
   room_left i here = go (cases_eq i (node_of d))
     where
       go : (i ≡ node_of d) ⊎ (i ≡ node_of d → ⊥) → (v.world.node i).clock + k ≤ CLOCK_LIMIT
@@ -300,7 +300,7 @@ module _ (config : Config) (apart : IsDistinct same_atom (names_of config)) wher
   one_take (Take j q ∷ ts) i p only = one_take ts i p only
   one_take (Do j action ∷ ts) i p only = absurd only
 
-  more_steps : (ts : List (Event Action)) (w u v : LosingFrameWorld) (d : Event Action)
+  pub more_steps : (ts : List (Event Action)) (w u v : LosingFrameWorld) (d : Event Action)
       → Leads config w (all_steps ts) u → Leaves config u (Step d) v → Leads config w (all_steps (ts ++ d ∷ [])) v
   more_steps [] w u v d l h = (v, subst (λ z. Leaves config z (Step d) v) (sym l) h, refl)
   more_steps (t ∷ ts) w u v d l h = (l.0, l.1, more_steps ts l.0 u v d l.2 h)

@@ -128,7 +128,7 @@ module _ (config : Config) (es : List (LosingEvent Action)) (w v : LosingFrameWo
 
 -- ---- a run in which nobody is lost
 
-same_gone : (config : Config) (w v : LosingFrameWorld) (d : Event Action) → Passed config (bare w) (bare v) (Step d)
+pub same_gone : (config : Config) (w v : LosingFrameWorld) (d : Event Action) → Passed config (bare w) (bare v) (Step d)
     → v.gone ≡ w.gone
 same_gone config w v d (Went f is alive h same) = same
 same_gone config w v d (Died j keep is there alive cut gone) = absurd (no_loss is)
@@ -170,14 +170,14 @@ module _ (config : Config) (apart : IsDistinct same_atom (names_of config)) wher
     lost_as_before : (i : ℕ) → (v.world.node i).state.lost ≡ (w.world.node i).state.lost
     lost_as_before = same_lost (passed config w v (Step d) happens)
 
-    seen_later : LossesSeen config v
+    pub seen_later : LossesSeen config v
     seen_later i here lives p there gone =
         let gone_as = same_gone config w v d (passed config w v (Step d) happens) in
         ap (λ (f : Node → Bool). f (name_at config p)) (lost_as_before i)
         ∙ seen i here (ap (λ (f : ℕ → Bool). f i) (sym gone_as) ∙ lives) p there
         (ap (λ (f : ℕ → Bool). f p) (sym gone_as) ∙ gone)
 
-    was_ready : (i : ℕ) (op : OpId) → is_ready_at config v i op ≡ true → is_ready_at config w i op ≡ true
+    pub was_ready : (i : ℕ) (op : OpId) → is_ready_at config v i op ≡ true → is_ready_at config w i op ≡ true
     was_ready i op = event_makes_none config es w v l (Step d) happens i op (lost_as_before i)
 
   module _ (i : ℕ) (op : OpId) where
@@ -211,7 +211,7 @@ module _ (config : Config) (apart : IsDistinct same_atom (names_of config)) wher
         (was_ready es w more.0 l seen d more.1 i op later.0, not_by d steps es w more.0 l more.1 later.0 later.1)
 
   -- nobody is lost
-  gone_later : (steps : List (Event Action)) (w v : LosingFrameWorld) → Leads config w (all_steps steps) v
+  pub gone_later : (steps : List (Event Action)) (w v : LosingFrameWorld) → Leads config w (all_steps steps) v
       → v.gone ≡ w.gone
   gone_later [] w v more = ap (λ (u : LosingFrameWorld). u.gone) (sym more)
   gone_later (d ∷ steps) w v more = gone_later steps more.0 v more.2

@@ -59,6 +59,13 @@ is_retried i op (Take j p ∷ events) = is_retried i op events
 is_retried i op (Do j (Issue port c) ∷ events) = is_retried i op events
 is_retried i op (Do j (Retry other) ∷ events) = (nat_eq j i && same_op other op) || is_retried i op events
 
+-- each of these events tries a command again
+abbrev pub OnlyRetries : List (Event Action) → Type 0
+OnlyRetries [] = Unit {0}
+OnlyRetries (Take j p ∷ events) = ⊥
+OnlyRetries (Do j (Issue port c) ∷ events) = ⊥
+OnlyRetries (Do j (Retry op) ∷ events) = OnlyRetries events
+
 -- each ready command of a node that is left is tried again by one of these events
 abbrev pub EachIsRetried : Config → LosingFrameWorld → List (Event Action) → Type 0
 EachIsRetried config w events = (i : ℕ) (op : OpId) → is_place (length config) i ≡ true → w.gone i ≡ false

@@ -14,10 +14,10 @@ ghost use Rattle.pg_step.specs.LossLaws.{LosingFrameWorld};
 ghost use Rattle.pg_step.specs.Step.{Action, CLOCK_LIMIT, Retry};
 ghost use Rattle.pg_step.specs.declared.command.OpId.{OpId};
 ghost use Rattle.pg_history.specs.Quiet.{OnlyTakes};
-ghost use Rattle.pg_loss.specs.Quiet.{IsQuietLeft, most_takes_left};
+ghost use Rattle.pg_loss.specs.Quiet.{IsQuietLeft, left_open, most_takes_left};
 ghost use Rattle.pg_loss.specs.Reached.{LosingReaches};
 ghost use Rattle.pg_ready.specs.Ready.{EachIsRetried, GoesOn, HasRoomLeft, IsQuietAmongLeft, LossesSeen, NoLockLeft};
-ghost use Rattle.pg_ready.specs.Ready.{NoneReadyLeft, OfReady, is_ready_at, is_retried};
+ghost use Rattle.pg_ready.specs.Ready.{NoneReadyLeft, OfReady, OnlyRetries, is_ready_at, is_retried};
 
 /// Nothing is on the way to a node that is not lost exactly where each of them has seen each loss, and nothing is on the way
 /// between two of them.
@@ -96,6 +96,17 @@ pub fn retries_free_the_locks()
         → IsDistinct same_atom (names_of config) → LosingReaches config events w → LossesSeen config w
         → LosingLeads (losing_frame_machine config) last_notice w (all_steps steps) v
         → EachIsRetried config w steps → IsQuietLeft config v → NoLockLeft config v }
+{}
+
+/// Where each node that is not lost has seen each loss, each ready command can be tried again, one behind another, if no
+/// clock is nearer to its limit than commands are open. Then none is ready.
+pub fn all_ready_commands_can_be_retried()
+    ensures { (config : Config) (w : LosingFrameWorld) (events : List (LosingEvent Action)) (room : ℕ)
+        → IsDistinct same_atom (names_of config) → LosingReaches config events w → LossesSeen config w
+        → HasRoomLeft config w (left_open config w + room)
+        → (retries : List (Event Action)) × (v : LosingFrameWorld) × OnlyRetries retries
+        × LosingLeads (losing_frame_machine config) last_notice w (all_steps retries) v
+        × NoneReadyLeft config v × HasRoomLeft config v room }
 {}
 
 /// A world comes to rest, whoever was lost. While a packet or a last notice is on the way to a node that is not lost,
