@@ -225,7 +225,7 @@ module _ (config : Config) (es : List (LosingEvent Action)) (w v : LosingFrameWo
 
 -- ---- it can be tried again
 
-ready_waits : (m : Nodes) (stage : Stage) (s : State) → is_ready m stage s ≡ true → (waits m stage s ≡ true) × (is_open stage ≡ true)
+pub ready_waits : (m : Nodes) (stage : Stage) (s : State) → is_ready m stage s ≡ true → (waits m stage s ≡ true) × (is_open stage ≡ true)
 ready_waits m (Asking c) s ready = (ready, refl)
 ready_waits m (Changing n) s ready = (ready, refl)
 ready_waits m (Waiting u) s ready = absurd (cc ready)

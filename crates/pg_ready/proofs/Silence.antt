@@ -108,7 +108,7 @@ module _ (config : Config) (apart : IsDistinct same_atom (names_of config)) wher
       ap (λ (u : World State (Noticed Message) Report). u.wire x y) cut
       ∙ (ap (λ (f : ℕ → List (Noticed Message)). f y) (set_at_other {A = ℕ → List (Noticed Message)} w.world.wire j _ x not_j) ∙ old x y hx hy other before)
 
-  all_silent : (es : List (LosingEvent Action)) (w : LosingFrameWorld) → LosingReaches config es w
+  pub all_silent : (es : List (LosingEvent Action)) (w : LosingFrameWorld) → LosingReaches config es w
       → (x y : ℕ) → IsHere config x → IsHere config y → x ≢ y → (w.world.node y).state.lost (name_at config x) ≡ true → (bare w).world.wire x y ≡ []
   all_silent es w l = kept_all config (λ done u. (x y : ℕ) → IsHere config x → IsHere config y → x ≢ y → (u.world.node y).state.lost (name_at config x) ≡ true → (bare u).world.wire x y ≡ [])
       (λ done u v e r h old. passed_silent (bare u) (bare v) e (bridged config apart done u r) (bridged config apart (done ++ e ∷ []) v (leads_more config done _ u v e r h)) (passed config u v e h) old)

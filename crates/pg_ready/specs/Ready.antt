@@ -1,5 +1,6 @@
 -- Whose locks are held where nothing is on the way to a node that is left.
-use Rattle.std.specs.Prelude.{◌≡◌, ◌⊎◌, ℕ, Bool, true, false, ◌&&◌, ◌||◌, nat_eq, length, List, [], ◌∷◌, ◌++◌, None}
+use Rattle.std.specs.Prelude.{◌≡◌, ◌⊎◌, ℕ, ◌+◌, ◌≤◌, Bool, true, false, ◌&&◌, ◌||◌, nat_eq}
+use Rattle.std.specs.Prelude.{length, List, [], ◌∷◌, ◌++◌, None}
 use Rattle.pg_term.specs.RefParts.{RefParts}
 use Rattle.pg_term.specs.declared.term.Term.{Term}
 use Rattle.pg_group.specs.Value.{name_of}
@@ -15,7 +16,7 @@ use Rattle.pg_step.specs.State.{Stage, State, Status, left}
 use Rattle.pg_step.specs.State.Response.{Given}
 use Rattle.pg_step.specs.State.Stage.{Asking, Changing, Closed, Waiting}
 use Rattle.pg_step.specs.State.Use.{Locking, Updating}
-use Rattle.pg_step.specs.Step.{Action, Issue, Retry}
+use Rattle.pg_step.specs.Step.{Action, CLOCK_LIMIT, Issue, Retry}
 use Rattle.pg_step.specs.declared.answer.Reply.TheVariants as reply
 use Rattle.pg_step.specs.declared.command.OpId.{OpId}
 use Rattle.pg_history.specs.History.{answers_by, entries}
@@ -58,10 +59,22 @@ is_retried i op (Take j p ∷ events) = is_retried i op events
 is_retried i op (Do j (Issue port c) ∷ events) = is_retried i op events
 is_retried i op (Do j (Retry other) ∷ events) = (nat_eq j i && same_op other op) || is_retried i op events
 
+-- each of these events tries a command again
+abbrev pub OnlyRetries : List (Event Action) → Type 0
+OnlyRetries [] = Unit {0}
+OnlyRetries (Take j p ∷ events) = ⊥
+OnlyRetries (Do j (Issue port c) ∷ events) = ⊥
+OnlyRetries (Do j (Retry op) ∷ events) = OnlyRetries events
+
 -- each ready command of a node that is left is tried again by one of these events
 abbrev pub EachIsRetried : Config → LosingFrameWorld → List (Event Action) → Type 0
 EachIsRetried config w events = (i : ℕ) (op : OpId) → is_place (length config) i ≡ true → w.gone i ≡ false
     → is_ready_at config w i op ≡ true → is_retried i op events ≡ true
+
+-- no clock is nearer to its limit than so many events, of a lost node neither, since what it sent may be on the way
+abbrev pub HasRoomLeft : Config → LosingFrameWorld → ℕ → Type 0
+HasRoomLeft config w events = (i : ℕ)
+    → is_place (length config) i ≡ true → (w.world.node i).clock + events ≤ CLOCK_LIMIT
 
 -- The holder of the lock of a group is a reference of a node that is not lost, and of a ready command of it.
 pub record OfReady (config : Config) (w : LosingFrameWorld) (name : Term) (holder : RefParts) : Type 0 where

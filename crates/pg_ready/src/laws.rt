@@ -1,20 +1,23 @@
-ghost use Rattle.std.specs.Prelude.{◌≡◌, ◌↔◌, ◌≤◌, ◌+◌, ℕ, true, false, length, List, Some};
+ghost use Rattle.std.specs.Prelude.{◌≡◌, ◌↔◌, ◌≤◌, ◌+◌, ◌∷◌, ℕ, true, false, length, List, Some};
 ghost use Rattle.std.specs.List.{IsDistinct};
 ghost use Rattle.pg_term.specs.RefParts.{RefParts};
 ghost use Rattle.pg_term.specs.Same.{same_atom};
 ghost use Rattle.pg_term.specs.declared.term.Term.{Term};
-ghost use Rattle.pg_machine.specs.Losing.{LosingEvent, LosingLeads, Step, all_steps, losing_happens};
-ghost use Rattle.pg_machine.specs.Machine.{Do, Event};
-ghost use Rattle.pg_machine.specs.Places.{is_place};
+ghost use Rattle.pg_message.specs.declared.message.Message.{Message};
+ghost use Rattle.pg_machine.specs.Clocked.{Stamped};
+ghost use Rattle.pg_machine.specs.Losing.{LosingEvent, LosingLeads, Noticed, Step, all_steps, losing_happens};
+ghost use Rattle.pg_machine.specs.Machine.{Do, Event, Take};
+ghost use Rattle.pg_machine.specs.Places.{is_pair, is_place};
 ghost use Rattle.pg_step.specs.Config.{Config, names_of};
 ghost use Rattle.pg_step.specs.FrameMachine.{last_notice, losing_frame_machine};
 ghost use Rattle.pg_step.specs.LossLaws.{LosingFrameWorld};
 ghost use Rattle.pg_step.specs.Step.{Action, CLOCK_LIMIT, Retry};
 ghost use Rattle.pg_step.specs.declared.command.OpId.{OpId};
-ghost use Rattle.pg_loss.specs.Quiet.{IsQuietLeft};
+ghost use Rattle.pg_history.specs.Quiet.{OnlyTakes};
+ghost use Rattle.pg_loss.specs.Quiet.{IsQuietLeft, left_open, most_takes_left};
 ghost use Rattle.pg_loss.specs.Reached.{LosingReaches};
-ghost use Rattle.pg_ready.specs.Ready.{EachIsRetried, GoesOn, IsQuietAmongLeft, LossesSeen, NoLockLeft};
-ghost use Rattle.pg_ready.specs.Ready.{NoneReadyLeft, OfReady, is_ready_at, is_retried};
+ghost use Rattle.pg_ready.specs.Ready.{EachIsRetried, GoesOn, HasRoomLeft, IsQuietAmongLeft, LossesSeen, NoLockLeft};
+ghost use Rattle.pg_ready.specs.Ready.{NoneReadyLeft, OfReady, OnlyRetries, is_ready_at, is_retried};
 
 /// Nothing is on the way to a node that is not lost exactly where each of them has seen each loss, and nothing is on the way
 /// between two of them.
@@ -68,9 +71,9 @@ pub fn only_a_seen_loss_makes_ready()
         → is_ready_at config v i op ≡ true → is_ready_at config w i op ≡ true }
 {}
 
-/// Where each node that is not lost has seen each loss, as where nothing is on the way to one, let packets be taken, and
-/// commands come in or be tried again, in whatever order, while nobody is lost. A command that is ready then was ready
-/// before, and was not tried again meanwhile.
+/// Where each node that is not lost has seen each loss, as where nothing is on the way to one, let packets be taken
+/// and commands come in or be tried again, in whatever order, while nobody is lost. A command that is ready then was
+/// ready before, and was not tried again meanwhile.
 pub fn retries_leave_fewer_ready()
     ensures { (config : Config) (w v : LosingFrameWorld) (events : List (LosingEvent Action))
         (steps : List (Event Action)) (i : ℕ) (op : OpId)
@@ -93,4 +96,32 @@ pub fn retries_free_the_locks()
         → IsDistinct same_atom (names_of config) → LosingReaches config events w → LossesSeen config w
         → LosingLeads (losing_frame_machine config) last_notice w (all_steps steps) v
         → EachIsRetried config w steps → IsQuietLeft config v → NoLockLeft config v }
+{}
+
+/// Where each node that is not lost has seen each loss, each ready command can be tried again, one behind another, if no
+/// clock is nearer to its limit than commands are open. Then none is ready.
+pub fn all_ready_commands_can_be_retried()
+    ensures { (config : Config) (w : LosingFrameWorld) (events : List (LosingEvent Action)) (room : ℕ)
+        → IsDistinct same_atom (names_of config) → LosingReaches config events w → LossesSeen config w
+        → HasRoomLeft config w (left_open config w + room)
+        → (retries : List (Event Action)) × (v : LosingFrameWorld) × OnlyRetries retries
+        × LosingLeads (losing_frame_machine config) last_notice w (all_steps retries) v
+        × NoneReadyLeft config v × HasRoomLeft config v room }
+{}
+
+/// A world comes to rest, whoever was lost. While a packet or a last notice is on the way to a node that is not lost,
+/// each that is next there can be taken, where no clock is full. So where no clock comes near its limit takes lead to a
+/// world in which nothing is on the way to such a node.
+pub fn a_world_comes_to_rest_past_losses()
+    ensures goes_on { (config : Config) (w : LosingFrameWorld) (events : List (LosingEvent Action)) (x y : ℕ)
+        (packet : Stamped (Noticed Message)) (rest : List (Stamped (Noticed Message)))
+        → IsDistinct same_atom (names_of config) → LosingReaches config events w → HasRoomLeft config w 1
+        → is_pair (length config) x y ≡ true → w.gone y ≡ false → w.world.wire x y ≡ packet ∷ rest
+        → (v : LosingFrameWorld)
+        × (losing_happens (losing_frame_machine config) last_notice w (Step (Take y x)) ≡ Some v) }
+    ensures rests { (config : Config) (w : LosingFrameWorld) (events : List (LosingEvent Action))
+        → IsDistinct same_atom (names_of config) → LosingReaches config events w
+        → HasRoomLeft config w (most_takes_left config w + 1)
+        → (takes : List (Event Action)) × (v : LosingFrameWorld) × OnlyTakes takes
+        × LosingLeads (losing_frame_machine config) last_notice w (all_steps takes) v × IsQuietLeft config v }
 {}
