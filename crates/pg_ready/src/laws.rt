@@ -60,7 +60,7 @@ pub fn no_lock_where_none_is_ready()
         → NoneReadyLeft config w → NoLockLeft config w }
 {}
 
-/// A command becomes ready only where its node sees a loss. Behind any other event a command that is ready was ready
+/// A command becomes ready only where its node sees a loss. After any other event a command that is ready was ready
 /// before it.
 pub fn only_a_seen_loss_makes_ready()
     ensures { (config : Config) (w v : LosingFrameWorld) (events : List (LosingEvent Action))
@@ -98,7 +98,7 @@ pub fn retries_free_the_locks()
         → EachIsRetried config w steps → IsQuietLeft config v → NoLockLeft config v }
 {}
 
-/// Where each node that is not lost has seen each loss, each ready command can be tried again, one behind another, if no
+/// Where each node that is not lost has seen each loss, each ready command can be tried again, one after another, if no
 /// clock is nearer to its limit than commands are open. Then none is ready.
 pub fn all_ready_commands_can_be_retried()
     ensures { (config : Config) (w : LosingFrameWorld) (events : List (LosingEvent Action)) (room : ℕ)
