@@ -38,7 +38,7 @@ pub record OneAfterAnother (g : Term) : Type 0 where
   pub answers_b : answers_of done 1 ≡ reads 1 (command.Members g) (table_of answered 1) ∷ is_ok 2 ∷ []
   pub none_a : table_of done 0 g ≡ None
   pub none_b : table_of done 1 g ≡ None
-  -- which stands behind the create
+  -- which comes after the create
   pub history : history g done.reported ≡ stands 0 1 (update.Create g) ∷ stands 1 2 (update.Delete g) ∷ []
 
 -- Two creators at once.

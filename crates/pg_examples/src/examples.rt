@@ -164,7 +164,7 @@ pub fn configurations_are_accepted()
 {}
 
 /// A client at one node begins after a client at another was answered: its query reads what the other changed, though the lock
-/// is still held there, and its change stands behind the other in the history.
+/// is still held there, and its change comes after the other in the history.
 pub fn one_after_another()
     ensures { (g : Term) → is_name g ≡ true → OneAfterAnother g }
 {}
