@@ -13,8 +13,9 @@ use Rattle.pg_term.specs.contracts.term.TermOrd.TheImpl.Laws as term_order
 use Rattle.pg_term.specs.contracts.term.TermEq.TheImpl.Laws as term_equality
 use Rattle.pg_term.proofs.Same.{same_term as term_is}
 use Rattle.pg_history.specs.History.{Entry}
+use Rattle.pg_history.specs.WithLosses.{Marked}
 use Rattle.pg_account.specs.declared.row.Row.{Row}
-use Rattle.pg_account.specs.Histories.{entries_of, entries_in, count_at, counts_in}
+use Rattle.pg_account.specs.Histories.{entries_of, entries_in, count_at, counts_in, marks_in, marks_of}
 
 -- ---- numbers
 
@@ -31,10 +32,10 @@ Rows = BTreeMap Term Row
 
 -- what is told of a row
 abbrev Told : Type 0
-Told = List Entry × (ℕ → ℕ)
+Told = List Entry × ((ℕ → ℕ) × (ℕ → Marked))
 
 abbrev told_of : Row → Told
-told_of row = (entries_of row, count_at row.tally)
+told_of row = (entries_of row, (count_at row.tally, marks_of row))
 
 -- rows that were copied in part: what was copied, and the rows that are left
 pub record RowsCopied (whole done : Rows) (left : List (Term × Row)) : Type 0 where
@@ -54,9 +55,9 @@ names_decide x y e = term_is x y (term_order.matches_eq-law x y ∙ e)
 names_flip : (x y : Term) → is_eq (term_cmp x y) ≡ is_eq (term_cmp y x)
 names_flip x y = sym (term_order.matches_eq-law x y) ∙ (term_equality.laws-law.symm x y ∙ term_order.matches_eq-law y x)
 
-pub rows_more : (whole old new : Rows) (name key : Term) (row copy : Row) (before left : List (Term × Row)) → before ≡ (name, row) ∷ left → key ≡ name → entries_of copy ≡ entries_of row → count_at copy.tally ≡ count_at row.tally
+pub rows_more : (whole old new : Rows) (name key : Term) (row copy : Row) (before left : List (Term × Row)) → before ≡ (name, row) ∷ left → key ≡ name → entries_of copy ≡ entries_of row → count_at copy.tally ≡ count_at row.tally → marks_of copy ≡ marks_of row
     → RowsCopied whole old before → UpdatesBy term_cmp (term_cmp key) old new (Some copy) → RowsCopied whole new left
-rows_more whole old new name key row copy before left is same entries counts copied h = record {
+rows_more whole old new name key row copy before left is same entries counts marks copied h = record {
   overlaid = λ q. ap (λ (o : Option Told). option_or o (option_map told_of (lookup (is_at (term_cmp q)) left))) (after q) ∙ go q (is_at (term_cmp name) q) refl;
   found = λ i d below. here.found (suc i) d (omega arith);
 }
@@ -68,7 +69,7 @@ rows_more whole old new name key row copy before left is same entries counts cop
     first = here.found 0 (name, row) (omega arith)
 
     told : told_of copy ≡ told_of row
-    told = λ i. (entries i, counts i)
+    told = λ i. (entries i, (counts i, marks i))
 
     mapped : (b : Bool) (o : Option Row) → option_map told_of (cond b (Some copy) o) ≡ cond b (Some (told_of row)) (option_map told_of o)
     mapped true o = ap Some told
@@ -100,5 +101,9 @@ entries_copied whole done left is copied = fun_ext (λ q. through (List Entry) (
     ∙ (ap (λ (o : Option Told). option_map_or (λ (t : Told). t.0) o []) (all_told whole done left is copied q) ∙ sym (through (List Entry) (λ t. t.0) [] (get term_cmp whole q))))
 
 pub counts_copied : (whole done : Rows) (left : List (Term × Row)) → left ≡ [] → RowsCopied whole done left → counts_in done ≡ counts_in whole
-counts_copied whole done left is copied = fun_ext (λ i. fun_ext (λ q. through ℕ (λ t. t.1 i) 0 (get term_cmp done q)
-    ∙ (ap (λ (o : Option Told). option_map_or (λ (t : Told). t.1 i) o 0) (all_told whole done left is copied q) ∙ sym (through ℕ (λ t. t.1 i) 0 (get term_cmp whole q)))))
+counts_copied whole done left is copied = fun_ext (λ i. fun_ext (λ q. through ℕ (λ t. t.1.0 i) 0 (get term_cmp done q)
+    ∙ (ap (λ (o : Option Told). option_map_or (λ (t : Told). t.1.0 i) o 0) (all_told whole done left is copied q) ∙ sym (through ℕ (λ t. t.1.0 i) 0 (get term_cmp whole q)))))
+
+pub marks_copied : (whole done : Rows) (left : List (Term × Row)) → left ≡ [] → RowsCopied whole done left → marks_in done ≡ marks_in whole
+marks_copied whole done left is copied = fun_ext (λ i. fun_ext (λ q. through Marked (λ t. t.1.1 i) [] (get term_cmp done q)
+    ∙ (ap (λ (o : Option Told). option_map_or (λ (t : Told). t.1.1 i) o []) (all_told whole done left is copied q) ∙ sym (through Marked (λ t. t.1.1 i) [] (get term_cmp whole q)))))

@@ -1,3 +1,4 @@
+mod Accounts
 pub mod Compared
 mod CopiedRows
 mod LastEntries

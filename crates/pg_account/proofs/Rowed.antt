@@ -11,9 +11,9 @@ use Rattle.pg_term.specs.contracts.term.TermEq.TheImpl.Laws.{laws-law as terms}
 use Rattle.pg_term.specs.contracts.term.TermOrd.TheImpl.Laws as term_laws
 use Rattle.pg_term.proofs.Same.{same_term as term_is}
 use Rattle.pg_group.specs.Functions.{upd}
-use Rattle.pg_history.specs.History.{Entry}
+use Rattle.pg_left.specs.Missed.{last_applied, marked_after}
 use Rattle.pg_account.specs.declared.row.Row.{Row}
-use Rattle.pg_account.specs.Histories.{count_at, entries_of, entries_in, counts_in}
+use Rattle.pg_account.specs.Histories.{count_at, counts_in, marks_in, marks_of}
 
 abbrev Rows : Type 0
 Rows = BTreeMap Term Row
@@ -66,12 +66,26 @@ module _ (m n : Rows) (name : Term) (old : Option Row) (new : Row) (had : get te
         go true e = same ∙ here q (e refl)
         go false e = refl
 
-  pub more_entries : (xs : List Entry) → entries_of new ≡ option_map_or entries_of old [] ++ xs → (q : Term) → entries_in n q ≡ entries_in m q ++ cond (same_term q name) xs []
-  more_entries xs more q = read entries_of [] q ∙ go (same_term q name) (term_is q name)
+  pub more_listed : {A : Type 0} (f : Row → List A) (xs : List A) → f new ≡ option_map_or f old [] ++ xs → (q : Term) → option_map_or f (get term_cmp n q) [] ≡ option_map_or f (get term_cmp m q) [] ++ cond (same_term q name) xs []
+  more_listed f xs more q = read f [] q ∙ go (same_term q name) (term_is q name)
     where
-      go : (b : Bool) → (b ≡ true → q ≡ name) → cond b (entries_of new) (entries_in m q) ≡ entries_in m q ++ cond b xs []
-      go true e = more ∙ ap (λ ys. ys ++ xs) (here entries_of [] q (e refl))
-      go false e = sym (append-nil (entries_in m q))
+      go : (b : Bool) → (b ≡ true → q ≡ name) → cond b (f new) (before f [] q) ≡ before f [] q ++ cond b xs []
+      go true e = more ∙ ap (λ ys. ys ++ xs) (here f [] q (e refl))
+      go false e = sym (append-nil (before f [] q))
+
+  -- a node took the last of its entries
+  pub marks_taken : (old_row : Row) (node i : ℕ) → old ≡ Some old_row → marks_of new i ≡ cond (nat_eq node i) (last_applied (marks_of old_row i)) (marks_of old_row i)
+      → (q : Term) → marks_in n i q ≡ marked_after [] (nat_eq node i && same_term q name) (marks_in m i q)
+  marks_taken old_row node i is now q = read (λ row. marks_of row i) [] q ∙ go (nat_eq node i) (same_term q name) now (term_is q name)
+    where
+      before_is : q ≡ name → marks_of old_row i ≡ marks_in m i q
+      before_is e = ap (λ o. option_map_or (λ (row : Row). marks_of row i) o []) (sym is) ∙ here (λ row. marks_of row i) [] q e
+
+      go : (c b : Bool) → marks_of new i ≡ cond c (last_applied (marks_of old_row i)) (marks_of old_row i) → (b ≡ true → q ≡ name) → cond b (marks_of new i) (marks_in m i q) ≡ marked_after [] (c && b) (marks_in m i q)
+      go true true taken d = taken ∙ ap last_applied (before_is (d refl))
+      go false true taken d = taken ∙ before_is (d refl)
+      go true false taken d = refl
+      go false false taken d = refl
 
   pub more_counts : (old_row : Row) (node : ℕ) → old ≡ Some old_row → count_at new.tally ≡ upd nat_eq (count_at old_row.tally) node (count_at old_row.tally node + 1)
       → (i : ℕ) (q : Term) → counts_in n i q ≡ counts_in m i q + cond (nat_eq node i && same_term q name) 1 0

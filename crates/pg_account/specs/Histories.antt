@@ -1,5 +1,5 @@
 -- What a world keeps of what began and of what was applied, by group.
-use Rattle.std.specs.Prelude.{◌≡◌, ℕ, ◌+◌, ◌<◌, ◌^◌, ◌&&◌, cond, nat_eq, map, length}
+use Rattle.std.specs.Prelude.{◌≡◌, ℕ, ◌+◌, ◌<◌, ◌^◌, Bool, true, false, ◌&&◌, ◌||◌, cond, nat_eq, map, length}
 use Rattle.std.specs.Prelude.{get_or, List, [], ◌∷◌, ◌++◌, Option, Some, None}
 use Rattle.std.specs.Option.{option_map_or}
 use Rattle.std.specs.BTreeMap.{BTreeMap, get}
@@ -14,6 +14,7 @@ use Rattle.pg_message.specs.declared.message.Request.TheVariants.{Change}
 use Rattle.pg_step.specs.declared.command.OpId.{OpId}
 use Rattle.pg_history.specs.History as history
 use Rattle.pg_history.specs.History.{of_group, is_update_of}
+use Rattle.pg_history.specs.WithLosses.{Marked}
 use Rattle.pg_account.specs.declared.entry.Entry.{Entry}
 use Rattle.pg_account.specs.declared.histories.Histories.{Histories}
 use Rattle.pg_account.specs.declared.row.Row.{Row}
@@ -34,8 +35,24 @@ CanCount tally node = (node < length tally.counts.items) × (count_at tally node
 abbrev pub as_entry : Entry → history.Entry
 as_entry entry = record { node = entry.node; op = entry.op; update = entry.update }
 
+-- node i has applied the update: it is its own, or it took it
+abbrev pub is_applied_by : Entry → ℕ → Bool
+is_applied_by entry i = nat_eq entry.node i || get_or entry.takers i false
+
+-- a place is one of those that are marked
+abbrev pub is_among : List Bool → ℕ → Bool
+is_among marks place = get_or marks place false
+
+-- an entry, with the mark of node i
+abbrev pub as_marked : ℕ → Entry → history.Entry × Bool
+as_marked i entry = (as_entry entry, is_applied_by entry i)
+
 abbrev pub entries_of : Row → List history.Entry
 entries_of row = map as_entry row.entries.items
+
+-- the entries, each with the mark of a node
+abbrev pub marks_of : Row → ℕ → Marked
+marks_of row i = map (as_marked i) row.entries.items
 
 -- one more entry of a node needs no memory
 abbrev pub HasRoom : Row → ℕ → Type 0
@@ -48,6 +65,9 @@ entries_in rows name = option_map_or entries_of (get term_cmp rows name) []
 
 abbrev pub counts_in : BTreeMap Term Row → ℕ → Term → ℕ
 counts_in rows node name = option_map_or (λ row. count_at row.tally node) (get term_cmp rows name) 0
+
+abbrev pub marks_in : BTreeMap Term Row → ℕ → Term → Marked
+marks_in rows node name = option_map_or (λ row. marks_of row node) (get term_cmp rows name) []
 
 -- one more entry of a group and a node needs no memory
 abbrev pub HasRow : BTreeMap Term Row → Term → ℕ → Type 0
@@ -66,6 +86,10 @@ abbrev pub last_count : Option Entry → ℕ → Term → ℕ
 last_count None i name = 0
 last_count (Some entry) i name = one_of entry.node i name (Some entry.update)
 
+abbrev pub last_marks : Option Entry → ℕ → Term → Marked
+last_marks None i name = []
+last_marks (Some entry) i name = cond (is_update_of name (Some entry.update)) (as_marked i entry ∷ []) []
+
 -- the history of each group
 abbrev pub history_in : Histories → Term → List history.Entry
 history_in histories name = entries_in histories.rows name ++ of_group name (last_entries histories.last)
@@ -74,18 +98,30 @@ history_in histories name = entries_in histories.rows name ++ of_group name (las
 abbrev pub applied_in : Histories → ℕ → Term → ℕ
 applied_in histories i name = counts_in histories.rows i name + last_count histories.last i name
 
--- the history of each group, and how many of its updates each node has applied
+-- the history of each group, each update with a mark that says whether a node has applied it
+abbrev pub marked_in : Histories → ℕ → Term → Marked
+marked_in histories i name = marks_in histories.rows i name ++ last_marks histories.last i name
+
+-- what a world has kept beside its nodes
 pub record Account : Type 0 where
+  -- the history of each group, how many of its updates each node has applied, and which
   pub histories : Term → List history.Entry
   pub applied : ℕ → Term → ℕ
+  pub marked : ℕ → Term → Marked
+  -- every node was formed when the first was lost, or none is lost
+  pub formed : Bool
 
--- nothing has begun
+-- nothing has begun, and nobody was lost
 abbrev pub no_account : Account
-no_account = record { histories = λ name. []; applied = λ i name. 0 }
+no_account = record { histories = λ name. []; applied = λ i name. 0; marked = λ i name. []; formed = true }
 
 -- what is kept
 abbrev pub account_of : Histories → Account
-account_of histories = record { histories = history_in histories; applied = applied_in histories }
+account_of histories = record { histories = history_in histories; applied = applied_in histories; marked = marked_in histories; formed = histories.formed }
+
+-- the same, with whether every node was formed when the first was lost
+abbrev pub account_formed : Bool → Account → Account
+account_formed formed account = record { histories = account.histories; applied = account.applied; marked = account.marked; formed = formed }
 
 -- each entry is in its row
 abbrev pub IsSettled : Histories → Type 0

@@ -1,8 +1,10 @@
-ghost use Rattle.std.specs.Prelude.{◌≡◌, ◌↔◌, ◌++◌, ◌∷◌, [], IsTrue, IfOk, map};
+ghost use Rattle.std.specs.Prelude.{◌≡◌, ◌<◌, ◌↔◌, ◌||◌, ◌++◌, ◌∷◌, [], ℕ, false, IsTrue};
+ghost use Rattle.std.specs.Prelude.{IfOk, OnOk, get_or, map, nat_eq};
 ghost use Rattle.std.specs.Option.{option_copied};
 ghost use Rattle.pg_opens.specs.Twins.{same_update};
 ghost use Rattle.pg_step.specs.Attempts.{same_op};
-ghost use Rattle.pg_account.specs.Histories.{as_entry, last_entries};
+ghost use Rattle.pg_left.specs.Missed.{missed_of};
+ghost use Rattle.pg_account.specs.Histories.{as_entry, as_marked, is_among, is_applied_by, last_entries};
 ghost use Rattle.pg_account.specs.Agreeing.{same_entry};
 
 use pg_group::Update;
@@ -18,13 +20,33 @@ pub struct Entry {
     pub op: OpId,
     /// The update.
     pub update: Update,
+    // Which of the first 16 nodes have taken it, by their places.
+    takers: [bool; 16],
 }
 
 impl Entry {
-    /// The same entry. Its cost grows with the name.
+    /// An update that no other node has taken.
+    ///
+    /// Cost: no memory.
+    pub(crate) fn new(node: usize, op: OpId, update: Update) -> Entry
+        ensures entry { as_entry result ≡ record { node = node; op = op; update = update } }
+        ensures update { result.update ≡ update }
+        ensures own { (i : ℕ) → is_applied_by result i ≡ nat_eq node i }
+    {
+        Entry {
+            node,
+            op,
+            update,
+            takers: [false; 16],
+        }
+    }
+
+    /// The same entry.
     ///
     /// Errors: `AllocError`.
-    pub(crate) fn copy(&self, alloc: Global) -> Result<Entry, AllocError>
+    ///
+    /// Cost: memory for the name, and a walk over it.
+    pub fn copy(&self, alloc: Global) -> Result<Entry, AllocError>
         ensures { IfOk result (λ copy. copy ≡ self.now) }
     {
         let update = self.update.copy(alloc)?;
@@ -32,7 +54,36 @@ impl Entry {
             node: self.node,
             op: self.op,
             update,
+            takers: self.takers,
         })
+    }
+
+    /// Whether a node has applied it: its own, and each that took it.
+    ///
+    /// Cost: no memory.
+    pub fn is_applied_by(&self, node: usize) -> bool
+        ensures { result ≡ is_applied_by self.now node }
+    {
+        self.node == node || self.has_taken(node)
+    }
+
+    /// Whether a node is one of those that took it.
+    fn has_taken(&self, node: usize) -> bool
+        ensures { result ≡ get_or self.now.takers node false }
+    {
+        node < 16 && self.takers[node]
+    }
+
+    /// A node takes it. Of nodes behind the first 16 nothing is kept.
+    ///
+    /// Cost: no memory.
+    pub(crate) fn take(&mut self, node: usize)
+        ensures same { as_entry self.new ≡ as_entry self.old }
+        ensures taken { (i : ℕ) → i < 16 → is_applied_by self.new i ≡ (nat_eq node i || is_applied_by self.old i) }
+    {
+        if node < 16 {
+            self.takers[node] = true;
+        }
     }
 
     /// Whether both are one.
@@ -65,6 +116,54 @@ pub(crate) fn copy_entries(alloc: Global, entries: &[Entry]) -> Result<Vec<Entry
         copies.push(entry.copy(alloc)?)?;
     }
     Ok(copies)
+}
+
+/// Adds copies of those entries that a node has not applied, of the nodes whose loss it has seen, by their places.
+///
+/// Errors: `AllocError`.
+pub(crate) fn add_each_missed(
+    alloc: Global,
+    entries: &[Entry],
+    node: usize,
+    seen: &[bool],
+    missed: &mut Vec<Entry>,
+) -> Result<(), AllocError>
+    ensures { OnOk result (map as_entry missed.new.items
+        ≡ map as_entry missed.old.items ++ missed_of (is_among seen.now) (map (as_marked node) entries.now)) }
+{
+    for entry in entries {
+        add_missed(alloc, entry, node, seen, missed)?;
+    }
+    Ok(())
+}
+
+/// Adds a copy of an entry, where a node has not applied it, and has seen the loss of its node.
+///
+/// Errors: `AllocError`.
+pub(crate) fn add_missed(
+    alloc: Global,
+    entry: &Entry,
+    node: usize,
+    seen: &[bool],
+    missed: &mut Vec<Entry>,
+) -> Result<(), AllocError>
+    ensures { OnOk result (map as_entry missed.new.items
+        ≡ map as_entry missed.old.items ++ missed_of (is_among seen.now) (as_marked node entry.now ∷ [])) }
+{
+    if !entry.is_applied_by(node) && is_among(seen, entry.node) {
+        missed.push(entry.copy(alloc)?)?;
+    }
+    Ok(())
+}
+
+/// Whether a place is one of those that are marked.
+fn is_among(marks: &[bool], place: usize) -> bool
+    ensures { result ≡ is_among marks.now place }
+{
+    match marks.get(place) {
+        Some(mark) => *mark,
+        None => false,
+    }
 }
 
 /// Whether these are the same entries in the same order.

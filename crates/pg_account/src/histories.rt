@@ -1,13 +1,14 @@
 //! What began and what was applied in a world, by group.
 
-ghost use Rattle.std.specs.Prelude.{◌≡◌, ◌↔◌, ℕ, ◌<◌, ◌+◌, ◌++◌, ◌∷◌, [], map, IsTrue, IsSome, IfOk, OnOk};
+ghost use Rattle.std.specs.Prelude.{◌≡◌, ◌↔◌, ℕ, ◌<◌, ◌+◌, ◌&&◌, ◌++◌, ◌∷◌, [], map, nat_eq, IsTrue, IsSome};
+ghost use Rattle.std.specs.Prelude.{IfOk, OnOk, option_map};
 ghost use Rattle.std.specs.BTreeMap.{get};
-ghost use Rattle.std.specs.Option.{option_copied};
+ghost use Rattle.std.specs.Option.{option_copied, option_to_list};
 ghost use Rattle.pg_term.specs.declared.term.Term.{Term};
 ghost use Rattle.pg_term.specs.Same.{term_cmp};
 ghost use Rattle.pg_account.specs.Histories.{asked_by};
 
-use crate::entry::{Entry, same_with_last};
+use crate::entry::{Entry, add_each_missed, add_missed, same_with_last};
 use crate::rows::{self, Rows};
 use pg_group::Update;
 use pg_message::{Message, Packet, Request};
@@ -25,26 +26,30 @@ pub struct Histories {
     rows: Rows,
     // The entry that is not in its row yet.
     last: Option<Entry>,
+    // Whether every node was formed when the first was lost; true where none is.
+    formed: bool,
     alloc: Global,
 }
 
 impl Histories {
-    ghost use Rattle.pg_history.specs.History.{of_group, entry_of};
+    ghost use Rattle.pg_history.specs.History.{of_group, entry_of, is_update_of};
+    ghost use Rattle.pg_left.specs.Missed.{marked_after, missed_of};
     ghost use Rattle.pg_account.specs.Agreeing.{HaveSameUpdates, IsNamedLast, AgreeOnNamed};
-    ghost use Rattle.pg_account.specs.Histories.{account_of, history_in, applied_in, begun_by, one_of};
+    ghost use Rattle.pg_account.specs.Histories.{account_of, history_in, applied_in, marked_in, no_account, begun_by, one_of};
     ghost use Rattle.pg_account.specs.Histories.{last_entries, last_count, as_entry, entries_in};
+    ghost use Rattle.pg_account.specs.Histories.{account_formed, as_marked, is_among, last_marks};
     ghost use Rattle.pg_account.specs.Histories.{counts_in, IsSettled, LastHasRow, CanServe};
 
     /// Nothing has begun.
     ///
     /// Cost: no memory.
     pub fn new(alloc: Global) -> Histories
-        ensures history { history_in result ≡ (λ name. []) }
-        ensures applied { applied_in result ≡ (λ i name. 0) }
+        ensures { account_of result ≡ no_account }
     {
         Histories {
             rows: BTreeMap::new(alloc),
             last: None,
+            formed: true,
             alloc,
         }
     }
@@ -55,14 +60,14 @@ impl Histories {
     ///
     /// Cost: that of the copies: O(n log n) in the groups that were named, and memory for each entry and each count.
     pub fn copy(&self) -> Result<Histories, AllocError>
-        ensures history { IfOk result (λ copy. history_in copy ≡ history_in self.now) }
-        ensures applied { IfOk result (λ copy. applied_in copy ≡ applied_in self.now) }
+        ensures { IfOk result (λ copy. account_of copy ≡ account_of self.now) }
     {
         let last = copy_last(self.alloc, &self.last)?;
         let rows = rows::copy(&self.rows, self.alloc)?;
         Ok(Histories {
             rows,
             last,
+            formed: self.formed,
             alloc: self.alloc,
         })
     }
@@ -139,8 +144,7 @@ impl Histories {
     /// Errors: `AllocError`, which changes nothing.
     fn make_room_for_last(&mut self) -> Result<(), AllocError>
         ensures last { self.new.last ≡ self.old.last }
-        ensures entries { entries_in self.new.rows ≡ entries_in self.old.rows }
-        ensures counts { counts_in self.new.rows ≡ counts_in self.old.rows }
+        ensures account { account_of self.new ≡ account_of self.old }
         ensures room { OnOk result (LastHasRow self.new.rows self.new.last) }
     {
         match &self.last {
@@ -156,8 +160,7 @@ impl Histories {
     /// Cost: no memory.
     fn put_last(&mut self)
         requires { LastHasRow self.old.rows self.old.last }
-        ensures history { history_in self.new ≡ history_in self.old }
-        ensures applied { applied_in self.new ≡ applied_in self.old }
+        ensures account { account_of self.new ≡ account_of self.old }
         ensures settled { IsSettled self.new }
     {
         match self.last.take() {
@@ -173,8 +176,7 @@ impl Histories {
     /// Cost: O(log n) in the groups that were named; memory for one more entry in the row of its group, for the
     /// counts there, and for the row where there is none.
     pub fn settle(&mut self) -> Result<(), AllocError>
-        ensures history { history_in self.new ≡ history_in self.old }
-        ensures applied { applied_in self.new ≡ applied_in self.old }
+        ensures account { account_of self.new ≡ account_of self.old }
         ensures settled { OnOk result (IsSettled self.new) }
     {
         self.make_room_for_last()?;
@@ -189,8 +191,7 @@ impl Histories {
     /// Cost: no memory where it asks for none; else O(log n) in the groups that were named, and the memory of one
     /// more entry, as `settle` takes it.
     pub fn make_room(&mut self, node: usize, packet: &Packet) -> Result<(), AllocError>
-        ensures history { history_in self.new ≡ history_in self.old }
-        ensures applied { applied_in self.new ≡ applied_in self.old }
+        ensures account { account_of self.new ≡ account_of self.old }
         ensures last { self.new.last ≡ self.old.last }
         ensures room { OnOk result (CanServe self.new.rows node (asked_by packet.now.message)) }
     {
@@ -200,14 +201,19 @@ impl Histories {
         }
     }
 
-    /// The update that a packet asks for, if it does, was applied by the node that has taken it.
+    /// The update that a packet asks for, if it does, was applied by the node that has taken it: it is the last one of its group. Which
+    /// nodes have taken it is kept of the first 16 nodes.
     ///
     /// Cost: no memory.
     pub fn serve(&mut self, node: usize, packet: &Packet)
-        requires { CanServe self.old.rows node (asked_by packet.now.message) }
+        requires settled { IsSettled self.old }
+        requires room { CanServe self.old.rows node (asked_by packet.now.message) }
         ensures history { history_in self.new ≡ history_in self.old }
         ensures applied { (i : ℕ) (name : Term) → applied_in self.new i name
             ≡ applied_in self.old i name + one_of node i name (asked_by packet.now.message) }
+        ensures marked { (i : ℕ) (name : Term) → i < 16 → marked_in self.new i name
+            ≡ marked_after [] (nat_eq node i && is_update_of name (asked_by packet.now.message)) (marked_in self.old i name) }
+        ensures formed { self.new.formed ≡ self.old.formed }
         ensures last { self.new.last ≡ self.old.last }
     {
         match asked_update(packet) {
@@ -225,10 +231,31 @@ impl Histories {
             ≡ history_in self.old name ++ of_group name (entry_of node began) }
         ensures applied { (i : ℕ) (name : Term) → applied_in self.new i name
             ≡ applied_in self.old i name + one_of node i name (begun_by began) }
+        ensures marked { (i : ℕ) (name : Term) → marked_in self.new i name
+            ≡ marked_after (of_group name (entry_of node began)) (nat_eq node i && is_update_of name (begun_by began)) (marked_in self.old i name) }
+        ensures formed { self.new.formed ≡ self.old.formed }
     {
         if let Some((op, update)) = began {
-            drop(self.last.replace(Entry { node, op, update }));
+            drop(self.last.replace(Entry::new(node, op, update)));
         }
+    }
+
+    /// A node is lost: whether every node was formed when the first was.
+    ///
+    /// Cost: no memory.
+    pub fn lose(&mut self, formed: bool)
+        ensures { account_of self.new ≡ account_formed formed (account_of self.old) }
+    {
+        self.formed = formed;
+    }
+
+    /// Whether every node was formed when the first was lost, or none is lost.
+    ///
+    /// Cost: no memory.
+    pub fn formed_at_first_loss(&self) -> bool
+        ensures { result ≡ (account_of self.now).formed }
+    {
+        self.formed
     }
 
     /// The updates of a group in the order in which they began: those in its row, and one more that is not there yet.
@@ -238,6 +265,29 @@ impl Histories {
         ensures { map as_entry result.0.now ++ last_entries (option_copied result.1) ≡ history_in self.now name.now }
     {
         (rows::entries(&self.rows, name), self.last_of(name))
+    }
+
+    /// The updates of a group that a node has not applied, of the nodes whose loss it has seen, in their order. `seen` says it of
+    /// each node by its place. It is exact for the first 16 nodes.
+    ///
+    /// Errors: `AllocError`.
+    ///
+    /// Cost: O(log n) in the groups that were named, a walk over the entries of the group, and a copy of each that is missed.
+    pub fn missed(&self, node: usize, name: &Term, seen: &[bool]) -> Result<Vec<Entry>, AllocError>
+        ensures { IfOk result (λ missed. map as_entry missed.items ≡ missed_of (is_among seen.now) (marked_in self.now node name.now)) }
+    {
+        let mut missed = Vec::new(self.alloc);
+        add_each_missed(
+            self.alloc,
+            rows::entries(&self.rows, name),
+            node,
+            seen,
+            &mut missed,
+        )?;
+        if let Some(entry) = self.last_of(name) {
+            add_missed(self.alloc, entry, node, seen, &mut missed)?;
+        }
+        Ok(missed)
     }
 
     /// How many updates of a group a node has applied.
@@ -261,7 +311,8 @@ impl Histories {
 
     /// The entry that is not in its row yet, where it is one of this group.
     fn last_of(&self, name: &Term) -> Option<&Entry>
-        ensures { last_entries (option_copied result) ≡ of_group name.now (last_entries self.now.last) }
+        ensures history { last_entries (option_copied result) ≡ of_group name.now (last_entries self.now.last) }
+        ensures marks { (i : ℕ) → option_to_list (option_map (as_marked i) (option_copied result)) ≡ last_marks self.now.last i name.now }
     {
         match &self.last {
             Some(entry) if name == entry.update.name() => Some(entry),

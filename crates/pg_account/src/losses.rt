@@ -60,6 +60,15 @@ impl Losses {
         true
     }
 
+    /// Whether no node is lost.
+    ///
+    /// Cost: no memory.
+    pub fn is_empty(&self) -> bool
+        ensures { IsTrue result ↔ (lost_in self.now ≡ []) }
+    {
+        self.places.is_empty()
+    }
+
     /// Whether a node is lost.
     ///
     /// Cost: no memory; O(n) in the nodes that are lost.

@@ -1,6 +1,6 @@
 //! What began of one group, and what was applied of it.
 
-ghost use Rattle.std.specs.Prelude.{◌≡◌, ℕ, ◌+◌, ◌++◌, ◌∷◌, [], nat_eq, IfOk, OnOk};
+ghost use Rattle.std.specs.Prelude.{◌≡◌, ℕ, ◌+◌, ◌<◌, ◌++◌, ◌∷◌, [], cond, nat_eq, IfOk, OnOk};
 
 use crate::entry::{Entry, copy_entries};
 use crate::tally::Tally;
@@ -15,7 +15,8 @@ pub(crate) struct Row {
 
 impl Row {
     ghost use Rattle.pg_group.specs.Functions.{upd};
-    ghost use Rattle.pg_account.specs.Histories.{count_at, as_entry, entries_of, HasRoom};
+    ghost use Rattle.pg_left.specs.Missed.{last_applied};
+    ghost use Rattle.pg_account.specs.Histories.{count_at, as_entry, as_marked, entries_of, marks_of, HasRoom};
 
     /// Nothing has begun.
     ///
@@ -23,6 +24,7 @@ impl Row {
     pub(crate) fn new(alloc: Global) -> Row
         ensures entries { entries_of result ≡ [] }
         ensures counts { count_at result.tally ≡ (λ node. 0) }
+        ensures marks { marks_of result ≡ (λ node. []) }
     {
         Row {
             entries: Vec::new(alloc),
@@ -36,6 +38,7 @@ impl Row {
     pub(crate) fn copy(&self, alloc: Global) -> Result<Row, AllocError>
         ensures entries { IfOk result (λ copy. entries_of copy ≡ entries_of self.now) }
         ensures counts { IfOk result (λ copy. count_at copy.tally ≡ count_at self.now.tally) }
+        ensures marks { IfOk result (λ copy. marks_of copy ≡ marks_of self.now) }
     {
         let entries = copy_entries(alloc, &self.entries)?;
         let tally = self.tally.copy()?;
@@ -48,13 +51,14 @@ impl Row {
     pub(crate) fn make_room(&mut self, node: usize) -> Result<(), AllocError>
         ensures entries { entries_of self.new ≡ entries_of self.old }
         ensures counts { count_at self.new.tally ≡ count_at self.old.tally }
+        ensures marks { marks_of self.new ≡ marks_of self.old }
         ensures room { OnOk result (HasRoom self.new node) }
     {
         self.entries.reserve(1)?;
         self.tally.make_room(node)
     }
 
-    /// A node applies an update of a peer, where there is room.
+    /// A node applies the last update, where there is room.
     ///
     /// Cost: no memory.
     pub(crate) fn serve(&mut self, node: usize)
@@ -62,8 +66,12 @@ impl Row {
         ensures entries { entries_of self.new ≡ entries_of self.old }
         ensures counts { count_at self.new.tally
             ≡ upd nat_eq (count_at self.old.tally) node (count_at self.old.tally node + 1) }
+        ensures marks { (i : ℕ) → i < 16 → marks_of self.new i ≡ cond (nat_eq node i) (last_applied (marks_of self.old i)) (marks_of self.old i) }
     {
         self.tally.add(node);
+        if let Some(last) = self.entries.last_mut() {
+            last.take(node);
+        }
     }
 
     /// An update begins, and its node applies it, where there is room.
@@ -74,6 +82,7 @@ impl Row {
         ensures entries { entries_of self.new ≡ entries_of self.old ++ as_entry entry ∷ [] }
         ensures counts { count_at self.new.tally
             ≡ upd nat_eq (count_at self.old.tally) entry.node (count_at self.old.tally entry.node + 1) }
+        ensures marks { (i : ℕ) → marks_of self.new i ≡ marks_of self.old i ++ as_marked i entry ∷ [] }
     {
         self.tally.add(entry.node);
         self.entries.push_reserved(entry);

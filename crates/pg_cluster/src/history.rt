@@ -144,12 +144,6 @@ fn add_each(alloc: Global, entries: &[Entry], copies: &mut Vec<Entry>) -> Result
 fn add(alloc: Global, entry: &Entry, copies: &mut Vec<Entry>) -> Result<(), AllocError>
     ensures { OnOk result (copies.new.items ≡ copies.old.items ++ entry.now ∷ []) }
 {
-    copies.reserve(1)?;
-    let update = entry.update.copy(alloc)?;
-    copies.push_reserved(Entry {
-        node: entry.node,
-        op: entry.op,
-        update,
-    });
+    copies.push(entry.copy(alloc)?)?;
     Ok(())
 }

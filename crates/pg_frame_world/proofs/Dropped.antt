@@ -1,5 +1,5 @@
 -- What a world of packets shows once one of its nodes is lost.
-use Rattle.std.proofs.Common.{◌≡◌, ◌≢◌, ℕ, ◌+◌, ◌-◌, ◌<◌, false, true, map, take, length, get_or, List}
+use Rattle.std.proofs.Common.{◌≡◌, ◌≢◌, ℕ, ◌+◌, ◌-◌, ◌<◌, Bool, false, true, map, take, length, get_or, List}
 use Rattle.std.proofs.Common.{[], ◌∷◌, ◌++◌, Some, Ok, refl, sym, ap, ◌∙◌, inl, inr, ◌⊎◌, arith, subst}
 use Rattle.std.specs.Prelude.{slice_set}
 use Rattle.std.proofs.lemmas.Bool.{cases_eq}
@@ -16,6 +16,7 @@ use Rattle.pg_frame_world.specs.declared.outgoing.Outgoing.{Outgoing}
 use Rattle.pg_frame_world.specs.declared.step.Stepped.TheVariants.{Gone}
 use Rattle.pg_machine.specs.Places.{is_pair}
 use Rattle.pg_frame_world.specs.Losing.{keep_of, losing_of, loss_refusal, told_loss, ShowsLosing, LosingComesTo}
+use Rattle.pg_account.specs.Histories.{account_formed}
 use Rattle.pg_account.specs.Losses.{is_lost}
 use Rattle.pg_starts.specs.Seen.{seen_of}
 use Rattle.pg_frame_world.specs.Views.{View, CanStay, IsWhole, ways_of, traffic_in}
@@ -81,10 +82,10 @@ module _ (config : Config) (old new : View) (u : LosingFrameWorld) (i : ℕ) (ke
   pub too_many : length keep ≡ length old.traffic.nodes - 1 → is_lost lost i ≡ false → (CanStay keep (get_or old.traffic.ways i []) → ⊥) → loss_refusal config u i keep ≡ Some NoSuchPlace
   too_many len stays none = told_here NoSuchPlace (many_refused config old shows.frames lost i keep shows.shows below stays count_here (omega (arith, len, count)) none)
 
-  pub lost_now : is_lost lost i ≡ false → CanStay keep (get_or old.traffic.ways i []) → lost2 ≡ lost ++ i ∷ [] → new.traffic.nodes ≡ old.traffic.nodes → new.account ≡ old.account
+  pub lost_now : is_lost lost i ≡ false → CanStay keep (get_or old.traffic.ways i []) → lost2 ≡ lost ++ i ∷ [] → new.traffic.nodes ≡ old.traffic.nodes → (formed : Bool) → new.account ≡ account_formed formed old.account
       → ((k : ℕ) → way_at new.traffic i k ≡ take (get_or keep k 0) (way_at old.traffic i k)) → ((x k : ℕ) → x ≢ i → way_at new.traffic x k ≡ way_at old.traffic x k)
       → LosingComesTo config u (told_loss config u i keep) (Ok Gone) (ShowsLosing config new lost2)
-  lost_now stays can more nodes account here others =
+  lost_now stays can more nodes formed account here others =
       subst (λ (x : LosingFrameWorld). LosingComesTo config x (told_loss config x i keep) (Ok Gone) (ShowsLosing config new lost2)) (sym shows.is) (
         refl,
         refl,
@@ -93,7 +94,7 @@ module _ (config : Config) (old new : View) (u : LosingFrameWorld) (i : ℕ) (ke
           loss_happens config shows.frames lost i (keep_of i keep) nowhere below stays shows.seen (can_stay config old shows.frames lost i keep shows.shows below stays count_here can),
           record {
             frames = cut;
-            shows = shown_cut config old shows.frames lost i keep shows.shows new nodes account here others;
+            shows = shown_cut config old shows.frames lost i keep shows.shows new formed nodes account here others;
             seen = λ x p pair has. ap (λ (l : List ℕ). is_lost l p) more
                 ∙ seen_more config shows.frames lost i (keep_of i keep) nowhere below stays shows.seen (can_stay config old shows.frames lost i keep shows.shows below stays count_here can) x p pair has;
             is = ap (losing_of config cut) (sym more);

@@ -1,5 +1,5 @@
 -- The past of a world, and what a step adds to it.
-use Rattle.std.proofs.Common.{◌≡◌, ◌↔◌, ◌<◌, ℕ, Bool, true, false, cond, length, take, List, [], ◌∷◌}
+use Rattle.std.proofs.Common.{◌≡◌, ◌↔◌, ◌<◌, ◌≤◌, ℕ, Bool, true, false, cond, length, take, List, [], ◌∷◌}
 use Rattle.std.proofs.Common.{◌++◌, Option, Some, None, Result, Ok, Err, refl, sym, ap, ◌∙◌, subst, arith}
 use Rattle.std.specs.Prelude.{drop, is_none, slice_get}
 use Rattle.std.specs.List.{IsDistinct, list_all}
@@ -13,11 +13,9 @@ use Rattle.pg_term.specs.RefParts.{RefParts}
 use Rattle.pg_term.specs.Same.{same_atom}
 use Rattle.pg_machine.specs.Clocked.{Timed, plain}
 use Rattle.pg_machine.specs.Losing.{LosingEvent, Step, Lose, LosingLeads}
-use Rattle.pg_machine.specs.Losing.{losing_happens, nobody_gone, all_steps, stopped}
+use Rattle.pg_machine.specs.Losing.{losing_happens, nobody_gone, all_steps}
 use Rattle.pg_machine.specs.Machine.{start_of}
-use Rattle.pg_machine.specs.Places.{is_pair, is_place, set_at}
-use Rattle.pg_machine.proofs.Options.{some_is}
-use Rattle.pg_machine.proofs.Places.{set_at_here}
+use Rattle.pg_machine.specs.Places.{is_pair, is_place}
 use Rattle.pg_step.specs.Config.{Config, names_of, nodes_at}
 use Rattle.pg_step.specs.FrameMachine.{losing_frame_machine, last_notice}
 use Rattle.pg_step.specs.LossLaws.{LosingFrameWorld}
@@ -27,9 +25,10 @@ use Rattle.pg_step.specs.Step.{Action}
 use Rattle.pg_step.proofs.Unnoticed.{without_losses}
 use Rattle.pg_history.proofs.places.Clauses.{one_history}
 use Rattle.pg_loss.specs.Reached.{LosingReaches, steps_of}
-use Rattle.pg_left.specs.Survived.{LossesSurvived}
+use Rattle.pg_ready.specs.Survived.{LossesSurvived}
 use Rattle.pg_history.specs.History.{Entry, LockFree, NonePending, history, applied_count, is_formed}
 use Rattle.pg_history.specs.WithLosses.{NonePendingLeft}
+use Rattle.pg_history.proofs.steps.Lossless.{NoneLost, nobody_timed}
 use Rattle.pg_loss.proofs.Lasts.{history_later, lost_for_good}
 use Rattle.pg_node_state.specs.declared.state.fault.NodeFault.{NodeFault}
 use Rattle.pg_node_state.specs.declared.state.fault.NodeFault.TheVariants.{Refused, OutOfMemory}
@@ -37,31 +36,26 @@ use Rattle.pg_node_state.specs.declared.state.fault.NodeFault.TheVariants.{Messa
 use Rattle.pg_frame_world.specs.declared.step.FrameStep.{FrameStep}
 use Rattle.pg_frame_world.specs.declared.step.Stepped.{Stepped}
 use Rattle.pg_frame_world.specs.declared.step.Stepped.TheVariants.{Happened, Moved, Nothing, Gone}
-use Rattle.pg_frame_world.specs.Losing.{Telling, LosingComesTo, SeenAreLost, ShowsLosing, losing_of, seen_at, told_of}
+use Rattle.pg_frame_world.specs.Losing.{Telling, LosingComesTo, SeenAreLost, ShowsLosing, formed_after, losing_of, seen_at, told_of}
 use Rattle.pg_frame_world.specs.LosingRuns.{LosingKind, LosingGoesTo, packets_past_losses}
 use Rattle.pg_account.specs.Losses.{is_lost}
 use Rattle.pg_frame_world.specs.Past.{HasHeadline, IsPast, HasPast, LedOn, GoesOn, FramesHavePast}
-use Rattle.pg_frame_world.specs.Past.{FramesGoOn, FramesRunOn, HistoriesGrow, RunsOn}
+use Rattle.pg_frame_world.specs.Past.{FormedFirst, FramesGoOn, FramesRunOn, HistoriesGrow, MissedIn, RunsOn, missed_in}
 use Rattle.pg_frame_world.specs.Pending.{AgreeOn, has_formed, pending_of, sees_free}
 use Rattle.pg_frame_world.specs.Starts.{Begins, Orders}
 use Rattle.pg_starts.specs.Seen.{Seen}
 use Rattle.pg_frame_world.specs.Views.{View}
 use Rattle.pg_account.specs.Histories.{Account}
 use Rattle.pg_frame_world.specs.Worlds.{TimedFrameWorld, Shows, ShowsNodes, ShowsUpdates}
+use Rattle.pg_frame_world.proofs.AtLosses.{ToldBehind, lost_here, none_told, told_more, told_same}
+use Rattle.pg_frame_world.proofs.FormedSeen.{ToldOf, told_frames}
 use Rattle.pg_frame_world.proofs.Barred.{pair_here, seen_is}
+use Rattle.pg_frame_world.proofs.Ordered.{ordered_length}
+use Rattle.pg_left.specs.Missed.{missed}
+use Rattle.pg_frame_world.proofs.MissedSeen.{missed_is}
 use Rattle.pg_frame_world.proofs.LosingRunning.{start_shown, losing_leads}
 
 -- ---- events of which none is a loss
-
--- who is lost is gone
-gone_here : (b : Bool) (left v : LosingFrameWorld) (i : ℕ) → left.gone i ≡ true → cond b (Some left) None ≡ Some v → v.gone i ≡ true
-gone_here true left v i gone e = sym (ap (λ (x : LosingFrameWorld). x.gone i) (some_is e)) ∙ gone
-gone_here false left v i gone e = absurd (cc)
-
-lost_here : (config : Config) (u v : LosingFrameWorld) (i : ℕ) (keep : ℕ → ℕ) → losing_happens (losing_frame_machine config) last_notice u (Lose i keep) ≡ Some v → v.gone i ≡ true
-unfolding losing_happens
-lost_here config u v i keep happened =
-    gone_here _ (record { world = stopped (length config) last_notice u.world i keep; gone = set_at u.gone i true }) v i (set_at_here u.gone i true i refl) happened
 
 -- where nobody is gone, all events are steps
 pub none_lost : (config : Config) (events : List (LosingEvent Action)) (u v : LosingFrameWorld) → LosingLeads (losing_frame_machine config) last_notice u events v → ((i : ℕ) → v.gone i ≡ false)
@@ -79,6 +73,13 @@ headline config events u apart reached none =
     let run = without_losses config (steps_of events) u (subst (λ (es : List (LosingEvent Action)). LosingReaches config es u) steps reached) in
     record { w = run.0; is = run.2; history = one_history config apart (steps_of events) run.0 run.1 }
 
+-- where nobody is gone no node has seen a loss
+pub none_seen : (config : Config) (events : List (LosingEvent Action)) (u : LosingFrameWorld) → LosingReaches config events u → ((x : ℕ) → u.gone x ≡ false) → (k : ℕ) → NoneLost (u.world.node k).state
+none_seen config events u reached none k =
+    let steps = none_lost config events (nobody_gone (start_of (losing_frame_machine config))) u reached none in
+    let run = without_losses config (steps_of events) u (subst (λ (es : List (LosingEvent Action)). LosingReaches config es u) steps reached) in
+    ap (λ (x : LosingFrameWorld). (x.world.node k).state.lost) run.2 ∙ nobody_timed config (steps_of events) run.0 run.1 k
+
 -- ---- what leads on
 
 pub leads_on : (config : Config) (es fs : List (LosingEvent Action)) (w u v : LosingFrameWorld) → LosingLeads (losing_frame_machine config) last_notice w es u → LosingLeads (losing_frame_machine config) last_notice u fs v
@@ -92,10 +93,14 @@ Survive = (config : Config) (u : LosingFrameWorld) (events : List (LosingEvent A
 abbrev pub AreApart : (Config → LosingFrameWorld → Type 0) → Type 0
 AreApart Shown = (config : Config) (u : LosingFrameWorld) → Shown config u → IsDistinct same_atom (names_of config)
 
--- the world v is the world u, or one event leads there
-pub data Near (config : Config) (u v : LosingFrameWorld) : Type 0 where
-  Here : u ≡ v → Near config u v
-  Next : (e : LosingEvent Action) → losing_happens (losing_frame_machine config) last_notice u e ≡ Some v → Near config u v
+-- The world v is the world u, and S is told, or one event leads there, of which T is told.
+pub data Near (config : Config) (T : LosingEvent Action → Type 0) (S : Type 0) (u v : LosingFrameWorld) : Type 0 where
+  Here : u ≡ v → S → Near config T S u v
+  Next : (e : LosingEvent Action) → losing_happens (losing_frame_machine config) last_notice u e ≡ Some v → T e → Near config T S u v
+
+-- where it is told whether every node was formed when the first was lost, before it and behind it
+abbrev pub NearBy : Config → Bool → Bool → LosingFrameWorld → LosingFrameWorld → Type 0
+NearBy config was now u v = Near config (λ e. ToldBehind config u e was now) (now ≡ was) u v
 
 module _ (given : Config) (New : Config → LosingFrameWorld → Type 0) (apart : AreApart New) (survive : Survive) where
   pub past_of : (config : Config) (events : List (LosingEvent Action)) (u : LosingFrameWorld) → Orders given config → LosingReaches config events u → New config u → IsPast given New config events u
@@ -107,48 +112,87 @@ module _ (given : Config) (New : Config → LosingFrameWorld → Type 0) (apart 
     history = headline config events u (apart config u shows) reached;
   }
 
+  past_here : (config : Config) (events : List (LosingEvent Action)) (u v : LosingFrameWorld) → Orders given config → LosingReaches config events u → u ≡ v → New config v → IsPast given New config (events ++ []) v
+  past_here config events u v orders reached same shows =
+      past_of config (events ++ []) v orders (leads_on config events [] (nobody_gone (start_of (losing_frame_machine config))) u v reached same) shows
+
+  past_next : (config : Config) (events : List (LosingEvent Action)) (u v : LosingFrameWorld) (e : LosingEvent Action) → Orders given config → LosingReaches config events u
+      → losing_happens (losing_frame_machine config) last_notice u e ≡ Some v → New config v → IsPast given New config (events ++ e ∷ []) v
+  past_next config events u v e orders reached happened shows =
+      past_of config (events ++ e ∷ []) v orders (leads_on config events (e ∷ []) (nobody_gone (start_of (losing_frame_machine config))) u v reached (v, happened, refl)) shows
+
   -- what is near
-  pub led_near : (config : Config) (events : List (LosingEvent Action)) (u v : LosingFrameWorld) → Orders given config → LosingReaches config events u → Near config u v → New config v
+  pub led_near : (was now : Bool) (config : Config) (events : List (LosingEvent Action)) (u v : LosingFrameWorld) → Orders given config → LosingReaches config events u → NearBy config was now u v → New config v
       → LedOn given New config events u v
-  led_near config events u v orders reached (Here same) shows = record {
+  led_near was now config events u v orders reached (Here same told) shows = record {
     more = [];
     once = omega arith;
     led = same;
-    past = past_of config (events ++ []) v orders (leads_on config events [] (nobody_gone (start_of (losing_frame_machine config))) u v reached same) shows;
+    past = past_here config events u v orders reached same shows;
   }
-  led_near config events u v orders reached (Next e happened) shows = record {
+  led_near was now config events u v orders reached (Next e happened told) shows = record {
     more = e ∷ [];
     once = omega arith;
     led = (v, happened, refl);
-    past = past_of config (events ++ e ∷ []) v orders (leads_on config events (e ∷ []) (nobody_gone (start_of (losing_frame_machine config))) u v reached (v, happened, refl)) shows;
+    past = past_next config events u v e orders reached happened shows;
   }
 
-  module _ (Old : Config → LosingFrameWorld → Type 0) (Comes : Config → LosingFrameWorld → (LosingFrameWorld → Type 0) → Type 0)
+  module _ (was now : Bool) (Old : Config → LosingFrameWorld → Type 0) (Comes : Config → LosingFrameWorld → (LosingFrameWorld → Type 0) → Type 0)
       -- what comes of a step leads to near worlds
-      (mapped : (config : Config) (u : LosingFrameWorld) (P Q : LosingFrameWorld → Type 0) → ((v : LosingFrameWorld) → Near config u v → P v → Q v) → Comes config u P → Comes config u Q) where
-    pub goes_on : HasPast given Old → ((config : Config) (u : LosingFrameWorld) (events : List (LosingEvent Action)) → LosingReaches config events u → Old config u → Comes config u (New config))
+      (mapped : (config : Config) (u : LosingFrameWorld) → Old config u → (((x : ℕ) → u.gone x ≡ false) → (k : ℕ) → NoneLost (u.world.node k).state)
+      → (P Q : LosingFrameWorld → Type 0) → ((v : LosingFrameWorld) → NearBy config was now u v → P v → Q v) → Comes config u P → Comes config u Q) where
+    pub goes_on : HasPast given was Old → ((config : Config) (u : LosingFrameWorld) (events : List (LosingEvent Action)) → LosingReaches config events u → Old config u → Comes config u (New config))
         → GoesOn given Old New Comes
     goes_on past came = record {
       config = past.config;
       events = past.events;
       u = past.u;
       past = past.is;
-      comes = mapped past.config past.u (New past.config) (LedOn given New past.config past.events past.u)
-          (λ v near shows. led_near past.config past.events past.u v past.is.orders past.is.reached near shows)
+      comes = mapped past.config past.u past.is.shows (none_seen past.config past.events past.u past.is.reached) (New past.config) (LedOn given New past.config past.events past.u)
+          (λ v near shows. led_near was now past.config past.events past.u v past.is.orders past.is.reached near shows)
           (came past.config past.u past.events past.is.reached past.is.shows);
     }
 
     -- what it leaves has a past
-    pub past_after : ((config : Config) (u : LosingFrameWorld) (Q : LosingFrameWorld → Type 0) → Comes config u Q → (v : LosingFrameWorld) × Q v) → GoesOn given Old New Comes → HasPast given New
-    past_after some goes =
-        let led = some goes.config goes.u (LedOn given New goes.config goes.events goes.u) goes.comes in
-        record { config = goes.config; events = goes.events ++ led.1.more; u = led.0; is = led.1.past }
+    pub past_after : ((config : Config) (u : LosingFrameWorld) (Q : LosingFrameWorld → Type 0) → Comes config u Q → (v : LosingFrameWorld) × Q v) → HasPast given was Old
+        → ((config : Config) (u : LosingFrameWorld) (events : List (LosingEvent Action)) → LosingReaches config events u → Old config u → Comes config u (New config)) → HasPast given now New
+    past_after some past came =
+        let Q = λ (v : LosingFrameWorld). NearBy config was now u v × New config v in
+        let led = some config u Q (mapped config u past.is.shows (none_seen config events u past.is.reached) (New config) Q (λ v near shows. (near, shows)) (came config u events past.is.reached past.is.shows)) in
+        go led.0 led.1.0 led.1.1
+      where
+        config : Config
+        config = past.config
+
+        events : List (LosingEvent Action)
+        events = past.events
+
+        u : LosingFrameWorld
+        u = past.u
+
+        go : (v : LosingFrameWorld) → NearBy config was now u v → New config v → HasPast given now New
+        go v (Here same told) shows = record {
+          config = config;
+          events = events ++ [];
+          u = v;
+          is = past_here config events u v past.is.orders past.is.reached same shows;
+          at_losses = told_same config events was now told past.at_losses;
+          few = past.few;
+        }
+        go v (Next e happened told) shows = record {
+          config = config;
+          events = events ++ e ∷ [];
+          u = v;
+          is = past_next config events u v e past.is.orders past.is.reached happened shows;
+          at_losses = told_more config events u past.is.reached e was now told past.at_losses;
+          few = past.few;
+        }
 
 -- steps, one after another
-pub runs_on : {S : Type 0} (kind : LosingKind S) (given : Config) (Old New : Config → LosingFrameWorld → Type 0) (all : List S) (numbers : List ℕ) → AreApart New → Survive → HasPast given Old
+pub runs_on : {S : Type 0} (kind : LosingKind S) (given : Config) (Old New : Config → LosingFrameWorld → Type 0) (all : List S) (numbers : List ℕ) → AreApart New → Survive → (was : Bool) → HasPast given was Old
     → ((config : Config) (u : LosingFrameWorld) (events : List (LosingEvent Action)) → LosingReaches config events u → Old config u → LosingGoesTo kind config u all numbers (New config))
     → RunsOn kind given Old New all numbers
-runs_on kind given Old New all numbers apart survive past came =
+runs_on kind given Old New all numbers apart survive was past came =
     let start = nobody_gone (start_of (losing_frame_machine past.config)) in
     let goes = came past.config past.u past.events past.is.reached past.is.shows in
     let led = losing_leads kind past.config all numbers past.u goes.left goes.events goes.runs in
@@ -166,17 +210,17 @@ runs_on kind given Old New all numbers apart survive past came =
 -- ---- over packets
 
 -- worlds that a step leads to
-module _ (config : Config) (u : LosingFrameWorld) (told : Telling) (P Q : LosingFrameWorld → Type 0) (onward : (v : LosingFrameWorld) → Near config u v → P v → Q v) where
-  pub comes_on : (result : Result Stepped NodeFault) → LosingComesTo config u told result P → LosingComesTo config u told result Q
-  comes_on (Ok (Happened effect)) (kind, busy, did, (v, happened, shown)) = (kind, busy, did, (v, happened, onward v (Next told.event happened) shown))
-  comes_on (Ok Gone) (kind, busy, (v, happened, shown)) = (kind, busy, (v, happened, onward v (Next told.event happened) shown))
-  comes_on (Ok Nothing) (idle, unrefused, shown) = (idle, unrefused, onward u (Here refl) shown)
-  comes_on (Ok (Moved count)) comes = absurd comes
-  comes_on (Err OutOfMemory) shown = onward u (Here refl) shown
-  comes_on (Err (Refused refusal)) (is, shown) = (is, onward u (Here refl) shown)
-  comes_on (Err (BadMessage m)) comes = absurd comes
-  comes_on (Err TooLong) comes = absurd comes
-  comes_on (Err Damaged) comes = absurd comes
+module _ (config : Config) (u : LosingFrameWorld) (T : LosingEvent Action → Type 0) (S : Type 0) (told : Telling) (P Q : LosingFrameWorld → Type 0) (onward : (v : LosingFrameWorld) → Near config T S u v → P v → Q v) where
+  pub comes_on : (result : Result Stepped NodeFault) → ToldOf T S told.event result → LosingComesTo config u told result P → LosingComesTo config u told result Q
+  comes_on (Ok (Happened effect)) so (kind, busy, did, (v, happened, shown)) = (kind, busy, did, (v, happened, onward v (Next told.event happened so) shown))
+  comes_on (Ok Gone) so (kind, busy, (v, happened, shown)) = (kind, busy, (v, happened, onward v (Next told.event happened so) shown))
+  comes_on (Ok Nothing) so (idle, unrefused, shown) = (idle, unrefused, onward u (Here refl so) shown)
+  comes_on (Ok (Moved count)) so comes = absurd comes
+  comes_on (Err OutOfMemory) so shown = onward u (Here refl so) shown
+  comes_on (Err (Refused refusal)) so (is, shown) = (is, onward u (Here refl so) shown)
+  comes_on (Err (BadMessage m)) so comes = absurd comes
+  comes_on (Err TooLong) so comes = absurd comes
+  comes_on (Err Damaged) so comes = absurd comes
 
 -- one of them
 pub some_comes : (config : Config) (u : LosingFrameWorld) (told : Telling) (Q : LosingFrameWorld → Type 0) (result : Result Stepped NodeFault) → LosingComesTo config u told result Q → (v : LosingFrameWorld) × Q v
@@ -191,7 +235,8 @@ some_comes config u told Q (Err TooLong) comes = absurd comes
 some_comes config u told Q (Err Damaged) comes = absurd comes
 
 module _ (given : Config) (survive : Survive) (old : View) (lost : List ℕ) (step : FrameStep) (result : Result Stepped NodeFault) (new : View) (now : List ℕ)
-    (came : (config : Config) (u : LosingFrameWorld) → ShowsLosing config old lost u → LosingComesTo config u (told_of config u step) result (ShowsLosing config new now)) where
+    (came : (config : Config) (u : LosingFrameWorld) → ShowsLosing config old lost u → LosingComesTo config u (told_of config u step) result (ShowsLosing config new now))
+    (told : new.account.formed ≡ formed_after step result old.traffic.nodes lost old.account.formed) where
   abbrev After : Config → LosingFrameWorld → Type 0
   After config u = ShowsLosing config new now u
 
@@ -201,26 +246,31 @@ module _ (given : Config) (survive : Survive) (old : View) (lost : List ℕ) (st
   abbrev Comes : Config → LosingFrameWorld → (LosingFrameWorld → Type 0) → Type 0
   Comes config u Shown = LosingComesTo config u (told_of config u step) result Shown
 
+  abbrev Before : Config → LosingFrameWorld → Type 0
+  Before config u = ShowsLosing config old lost u
+
+  onward_from : (config : Config) (u : LosingFrameWorld) → Before config u → (((x : ℕ) → u.gone x ≡ false) → (k : ℕ) → NoneLost (u.world.node k).state)
+      → (P Q : LosingFrameWorld → Type 0) → ((v : LosingFrameWorld) → NearBy config old.account.formed new.account.formed u v → P v → Q v) → Comes config u P → Comes config u Q
+  onward_from config u shows seen P Q onward comes = comes_on config u (λ e. ToldBehind config u e old.account.formed new.account.formed) (new.account.formed ≡ old.account.formed) (told_of config u step) P Q onward result
+      (told_frames config old.traffic.nodes lost shows.frames u shows.shows.traffic.nodes shows.is seen P old.account.formed new.account.formed step result told comes) comes
+
   pub frames_go_on : FramesHavePast given old lost → FramesGoOn given old lost step result new now
-  frames_go_on past =
-      goes_on given After apart survive (λ config u. ShowsLosing config old lost u) Comes (λ config u P Q onward comes. comes_on config u (told_of config u step) P Q onward result comes) past
-      (λ config u events reached shows. came config u shows)
+  frames_go_on past = goes_on given After apart survive old.account.formed new.account.formed Before Comes onward_from past (λ config u events reached shows. came config u shows)
 
   pub frames_past : FramesHavePast given old lost → FramesHavePast given new now
-  frames_past past =
-      past_after given After apart survive (λ config u. ShowsLosing config old lost u) Comes (λ config u P Q onward comes. comes_on config u (told_of config u step) P Q onward result comes)
-      (λ config u Q comes. some_comes config u (told_of config u step) Q result comes) (frames_go_on past)
+  frames_past past = past_after given After apart survive old.account.formed new.account.formed Before Comes onward_from
+      (λ config u Q comes. some_comes config u (told_of config u step) Q result comes) past (λ config u events reached shows. came config u shows)
 
 pub frames_run_on : (given : Config) → Survive → (old : View) (lost : List ℕ) (all : List FrameStep) (numbers : List ℕ) (new : View) (now : List ℕ)
     → ((config : Config) (u : LosingFrameWorld) → ShowsLosing config old lost u → LosingGoesTo packets_past_losses config u all numbers (ShowsLosing config new now))
     → FramesHavePast given old lost → FramesRunOn given old lost all numbers new now
 frames_run_on given survive old lost all numbers new now came past =
-    runs_on packets_past_losses given (λ config u. ShowsLosing config old lost u) (λ config u. ShowsLosing config new now u) all numbers (λ config u shows. shows.shows.traffic.nodes.apart) survive past
+    runs_on packets_past_losses given (λ config u. ShowsLosing config old lost u) (λ config u. ShowsLosing config new now u) all numbers (λ config u shows. shows.shows.traffic.nodes.apart) survive old.account.formed past
     (λ config u events reached shows. came config u shows)
 
 -- the start of a configuration
-pub frames_begin : (survive : Survive) (given : Config) (view : View) (lost : List ℕ) → lost ≡ [] → Begins given view → FramesHavePast given view lost
-frames_begin survive given view lost none begins =
+pub frames_begin : (survive : Survive) (given : Config) (view : View) (lost : List ℕ) → lost ≡ [] → view.account.formed ≡ true → length given ≤ 16 → Begins given view → FramesHavePast given view lost
+frames_begin survive given view lost none formed few begins =
     let config = begins.0 in
     let start = nobody_gone (start_of (losing_frame_machine config)) in
     record {
@@ -229,6 +279,8 @@ frames_begin survive given view lost none begins =
       u = start;
       is = past_of given (λ c u. ShowsLosing c view lost u) (λ c u shows. shows.shows.traffic.nodes.apart) survive config [] start begins.1 refl
           (subst (λ (l : List ℕ). ShowsLosing config view l start) (sym none) (start_shown config view begins.2));
+      at_losses = (λ _. none_told config, λ _. formed);
+      few = let same = ordered_length given config begins.1 in omega (arith, few, same);
     }
 
 -- ---- what is known of a world with a past
@@ -323,6 +375,26 @@ agreed_all lists given view lost x name past empty none free =
     let shows = past.is.shows in
     agreed_there past.config view.traffic.nodes view.account lost shows.frames past.u shows.shows.traffic.nodes shows.shows.updates shows.is past.events past.is.history none
     ((lists past.config view.traffic.nodes lost shows.frames past.u past.events shows.shows.traffic.nodes shows.is past.is.reached).0 empty) x name free
+
+-- what a node that is not lost has missed
+pub missed_there : (given config : Config) (events : List (LosingEvent Action)) (u : LosingFrameWorld) (nodes : List Seen) (account : Account) (lost : List ℕ) (frames : TimedFrameWorld) → length config ≤ 16
+    → LosingReaches config events u → LossesSurvived config events u → ShowsNodes config nodes frames → ShowsUpdates account frames → u ≡ losing_of config frames lost
+    → (i : ℕ) (name : Term) → i < length nodes → is_lost lost i ≡ false → missed_in nodes account i name ≡ missed config u i name
+missed_there given config events u nodes account lost frames few reached survived shows updates is i name within lives =
+    let there = lt-ltb i (length config) (subst (λ n. i < n) shows.size within) in
+    let stays = ap (λ (v : LosingFrameWorld). v.gone i) is ∙ lives in
+    missed_is config shows.apart few nodes account lost frames u shows updates is events reached i name within lives (survived.along i name there stays).whole
+
+pub frames_missed : (given : Config) (view : View) (lost : List ℕ) (i : ℕ) (name : Term) → i < length view.traffic.nodes → is_lost lost i ≡ false
+    → (entries : List Entry) → entries ≡ missed_in view.traffic.nodes view.account i name → FramesHavePast given view lost → MissedIn given view lost i name entries
+frames_missed given view lost i name within lives entries told past = record {
+  past = past;
+  is = let shows = past.is.shows in told ∙ missed_there given past.config past.events past.u view.traffic.nodes view.account lost shows.frames past.few past.is.reached past.is.survived
+      shows.shows.traffic.nodes shows.shows.updates shows.is i name within lives;
+}
+
+pub frames_formed : (given : Config) (view : View) (lost : List ℕ) (formed : Bool) → formed ≡ view.account.formed → FramesHavePast given view lost → FormedFirst given view lost formed
+frames_formed given view lost formed told past = record { past = past; is = (λ e. past.at_losses.0 (sym told ∙ e), λ all. told ∙ past.at_losses.1 all) }
 
 -- where no node is lost, whatever world is shown knows of no loss
 pub unseen_there : (given : Config) (view : View) (lost : List ℕ) → lost ≡ [] → FramesHavePast given view lost → (config : Config) (w : TimedFrameWorld) → Shows config view w → SeenAreLost config w []

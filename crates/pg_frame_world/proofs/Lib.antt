@@ -1,16 +1,19 @@
 pub mod Answering
 mod Applying
+pub mod AtLosses
 pub mod Barred
 mod Copied
 pub mod Counted
 mod Dropped
 pub mod Fitted
+pub mod FormedSeen
 pub mod Leading
 pub mod Listed
 mod LongGroups
 pub mod LosingRunning
 pub mod Lossy
 mod Messages
+pub mod MissedSeen
 mod NodesAlike
 pub mod OneList
 pub mod Opened
@@ -22,6 +25,7 @@ mod Queued
 pub mod Recording
 pub mod Running
 pub mod Seeing
+pub mod SeenLosses
 mod Sending
 pub mod Sets
 mod Shortened

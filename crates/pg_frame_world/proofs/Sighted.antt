@@ -1,5 +1,5 @@
 -- What is left where a node has seen the loss of a peer.
-use Rattle.std.proofs.Common.{◌≡◌, ◌≢◌, ℕ, ◌+◌, ◌<◌, Bool, true, false, not, ◌&&◌, cond, max, nat_le, map, drop}
+use Rattle.std.proofs.Common.{◌≡◌, ◌≢◌, ℕ, ◌+◌, ◌<◌, Bool, true, false, not, ◌&&◌, cond, max, nat_eq, nat_le, map, drop}
 use Rattle.std.proofs.Common.{length, List, [], ◌∷◌, ◌++◌, Some, None, refl, sym, ap, ◌∙◌, inl, inr, ◌⊎◌, arith, subst}
 use Rattle.std.specs.Prelude.{slice_get, slice_set, option_map}
 use Rattle.std.specs.List.{IsDistinct}
@@ -36,7 +36,7 @@ use Rattle.pg_frame_world.specs.Worlds.{TimedFrameWorld, ShowsNodes, ShowsUpdate
 use Rattle.pg_frame_world.proofs.Counted.{sum_none}
 use Rattle.pg_frame_world.proofs.Lossy.{no_notice}
 use Rattle.pg_frame_world.proofs.Peering.{named}
-use Rattle.pg_frame_world.proofs.Recording.{Records, records_so, updates_after, grew_own, none_of}
+use Rattle.pg_frame_world.proofs.Recording.{Records, records_so, updates_after, grew_own, none_marked, none_of}
 use Rattle.pg_frame_world.proofs.Turning.{Turned, pair_is, nodes_now}
 
 -- the turn of a node that sees a loss
@@ -261,5 +261,6 @@ module _ (config : Config) (w : TimedFrameWorld) (lost : List ℕ) (i p : ℕ) (
     updates_sighted = updates_after old new w sighted i None None updates
         (grew_own old new i None None refl
         (λ name. ap (λ (a : Account). a.histories name) account ∙ sym (append-nil (old.histories name)))
-        (λ j name. let none = none_of i j name in let same : new.applied j name ≡ old.applied j name = ap (λ (a : Account). a.applied j name) account in omega (arith, none, same)))
+        (λ j name. let none = none_of i j name in let same : new.applied j name ≡ old.applied j name = ap (λ (a : Account). a.applied j name) account in omega (arith, none, same))
+        (λ j name. ap (λ (a : Account). a.marked j name) account ∙ sym (none_marked (nat_eq i j) [] (old.marked j name))))
         records

@@ -167,7 +167,7 @@ module _ (given : Config) (nodes : List Seen) (rows : List (List (List (Stamped 
         };
         ways = ways;
       };
-      updates = record { history = λ name. refl; applied = λ i name. refl };
+      updates = record { history = λ name. refl; applied = λ i name. refl; marked = λ i name few. refl };
     },
   )
     where

@@ -23,7 +23,7 @@ use Rattle.pg_frame_world.specs.Losing.{SeenAreLost, losing_of, keep_of, loss_re
 use Rattle.pg_account.specs.Losses.{is_lost}
 use Rattle.pg_starts.specs.Seen.{Seen}
 use Rattle.pg_frame_world.specs.Views.{View, CanStay, peer_place, place_of_peer, on_the_way}
-use Rattle.pg_account.specs.Histories.{Account}
+use Rattle.pg_account.specs.Histories.{Account, account_formed}
 use Rattle.pg_frame_world.specs.Worlds.{TimedFrameWorld, Shows, ShowsNodes, ShowsUpdates}
 use Rattle.pg_frame_world.proofs.Lossy.{no_notice}
 use Rattle.pg_frame_world.proofs.Peering.{peer_low, peer_high, place_low, place_high, own_place, place_within}
@@ -211,7 +211,7 @@ module _ (config : Config) (w : TimedFrameWorld) (lost : List ℕ) (i : ℕ) (ke
       nowhere x y none (inr n) = cut_else x y n ∙ shows.nowhere x y none
 
   pub updates_cut : (account : Account) → ShowsUpdates account w → ShowsUpdates account cut_off
-  updates_cut account shows = record { history = shows.history; applied = shows.applied }
+  updates_cut account shows = record { history = shows.history; applied = shows.applied; marked = shows.marked }
 
   -- ---- the event of the machine with losses
 
@@ -302,6 +302,10 @@ module _ (config : Config) (w : TimedFrameWorld) (lost : List ℕ) (i : ℕ) (ke
       pub seen_more : SeenAreLost config cut_off more
       seen_more x p pair has = lost_still lost i p (seen x p pair has)
 
+-- whether all were formed says nothing of updates
+pub updates_formed : (formed : Bool) (account : Account) (w : TimedFrameWorld) → ShowsUpdates account w → ShowsUpdates (account_formed formed account) w
+updates_formed formed account w shows = record { history = shows.history; applied = shows.applied; marked = shows.marked }
+
 -- ---- over packets
 
 module _ (config : Config) (old : View) (w : TimedFrameWorld) (lost : List ℕ) (i : ℕ) (keep : List ℕ) (shows : Shows config old w) where
@@ -311,14 +315,14 @@ module _ (config : Config) (old : View) (w : TimedFrameWorld) (lost : List ℕ) 
   abbrev pub packets_cut : TimedFrameWorld
   packets_cut = cut_off config w lost i (keep_of i keep) nowhere_from
 
-  pub shown_cut : (new : View) → new.traffic.nodes ≡ old.traffic.nodes → new.account ≡ old.account
+  pub shown_cut : (new : View) (formed : Bool) → new.traffic.nodes ≡ old.traffic.nodes → new.account ≡ account_formed formed old.account
       → ((k : ℕ) → way_at new.traffic i k ≡ take (get_or keep k 0) (way_at old.traffic i k)) → ((x k : ℕ) → x ≢ i → way_at new.traffic x k ≡ way_at old.traffic x k) → Shows config new packets_cut
-  shown_cut new nodes account here others = record {
+  shown_cut new formed nodes account here others = record {
     traffic = record {
       nodes = subst (λ ns. ShowsNodes config ns packets_cut) (sym nodes) (nodes_cut config w lost i (keep_of i keep) nowhere_from old.traffic.nodes shows.traffic.nodes);
       ways = λ x y pair. way x y pair (cases_eq x i);
     };
-    updates = subst (λ (a : Account). ShowsUpdates a packets_cut) (sym account) (updates_cut config w lost i (keep_of i keep) nowhere_from old.account shows.updates);
+    updates = subst (λ (a : Account). ShowsUpdates a packets_cut) (sym account) (updates_formed formed old.account packets_cut (updates_cut config w lost i (keep_of i keep) nowhere_from old.account shows.updates));
   }
     where
       way : (x y : ℕ) → is_pair (length config) x y ≡ true → (x ≡ i) ⊎ (x ≢ i) → packets_cut.wire x y ≡ on_the_way new.traffic x y

@@ -77,7 +77,7 @@ pair_is size x y e = go (nat_lt x size) (nat_lt y size) (nat_eq x y) (ltb-true x
 pub is_pair_so : (size x y : ℕ) → x < size → y < size → y ≢ x → is_pair size x y ≡ true
 is_pair_so size x y a b n = (λ j. lt-ltb x size a j && (lt-ltb y size b j && not (ne_eqb x y (λ e. n (sym e)) j)))
 
-no_pair : (size x : ℕ) → is_pair size x x ≡ false
+pub no_pair : (size x : ℕ) → is_pair size x x ≡ false
 no_pair size x = ap (λ b. nat_lt x size && (nat_lt x size && not b)) (eq-eqb x x refl) ∙ go (nat_lt x size)
   where
     go : (b : Bool) → (b && (b && false)) ≡ false

@@ -1,6 +1,7 @@
 -- Worlds of packets whose nodes may be lost: the world with losses that they show, and what a step makes of it.
 use Rattle.std.specs.Prelude.{◌≡◌, ℕ, ◌+◌, ◌-◌, Bool, true, false, not, ◌&&◌, ◌||◌, cond, nat_eq, nat_lt, map}
 use Rattle.std.specs.Prelude.{length, get_or, slice_get, List, [], ◌∷◌, ◌++◌, Option, Some, None, Result, Ok, Err}
+use Rattle.std.specs.List.{list_all}
 use Rattle.std.specs.Option.{option_map_or}
 use Rattle.pg_group.specs.declared.table.GroupTable.{Ghosts}
 use Rattle.pg_message.specs.declared.message.Message.{Message}
@@ -15,11 +16,11 @@ use Rattle.pg_step.specs.Faults.{first_that_holds}
 use Rattle.pg_step.specs.FrameMachine.{losing_frame_machine, last_notice, sent_packet}
 use Rattle.pg_step.specs.LossLaws.{LosingFrameWorld, is_notice, see_refusal}
 use Rattle.pg_step.specs.Nodes.{Node, Nodes}
-use Rattle.pg_step.specs.State.{State}
+use Rattle.pg_step.specs.State.{State, formed, left}
 use Rattle.pg_step.specs.Step.{Action, Issue, Retry, step_take, step_act}
 use Rattle.pg_step.specs.StepLaws.{refusal_of, port_of}
 use Rattle.pg_history.specs.WithLosses.{has_seen}
-use Rattle.pg_opens.specs.Places.{name_at as place_name}
+use Rattle.pg_opens.specs.Places.{name_at as place_name, whole_in}
 use Rattle.pg_node_state.specs.declared.state.fault.NodeFault.{NodeFault}
 use Rattle.pg_node_state.specs.declared.state.fault.NodeFault.TheVariants.{Refused, OutOfMemory}
 use Rattle.pg_frame_world.specs.declared.step.FrameStep.{FrameStep}
@@ -27,6 +28,7 @@ use Rattle.pg_frame_world.specs.declared.step.FrameStep.TheVariants as steps
 use Rattle.pg_frame_world.specs.declared.step.Stepped.{Stepped}
 use Rattle.pg_frame_world.specs.declared.step.Stepped.TheVariants.{Nothing, Happened, Gone}
 use Rattle.pg_frame_world.specs.declared.world.FrameNodes.{FrameNodes}
+use Rattle.pg_account.specs.Histories.{Account, account_formed}
 use Rattle.pg_account.specs.Losses.{is_lost, lost_in}
 use Rattle.pg_starts.specs.Seen.{Seen}
 use Rattle.pg_frame_world.specs.Effects.{losing_effect_in}
@@ -94,6 +96,30 @@ lost_with node (Err fault) lost = lost
 abbrev pub lost_after : FrameStep → Result Stepped NodeFault → List ℕ → List ℕ
 lost_after (steps.Lose i keep) result lost = lost_with i result lost
 lost_after step result lost = lost
+
+-- a node is formed: of those that count each has told its groups
+abbrev pub is_formed : Seen → Bool
+is_formed node = formed (left (whole_in node.names) node.state.state) node.state.state
+
+-- whether every node was formed when the first was lost, where one is lost more
+abbrev pub formed_at : List Seen → List ℕ → Bool → Bool
+formed_at nodes [] formed = list_all is_formed nodes
+formed_at nodes (node ∷ lost) formed = formed
+
+-- the same where a node may be one more
+abbrev pub formed_with : Result Stepped NodeFault → List Seen → List ℕ → Bool → Bool
+formed_with (Ok stepped) nodes lost formed = formed_at nodes lost formed
+formed_with (Err fault) nodes lost formed = formed
+
+-- what is kept behind a loss, where a node may be one more
+abbrev pub account_with : Result Stepped NodeFault → List Seen → List ℕ → Account → Account
+account_with (Ok stepped) nodes lost account = account_formed (formed_at nodes lost account.formed) account
+account_with (Err fault) nodes lost account = account
+
+-- whether every node was formed when the first was lost, behind a step
+abbrev pub formed_after : FrameStep → Result Stepped NodeFault → List Seen → List ℕ → Bool → Bool
+formed_after (steps.Lose i keep) result nodes lost formed = formed_with result nodes lost formed
+formed_after step result nodes lost formed = formed
 
 -- ---- steps
 

@@ -1,5 +1,5 @@
 -- What is behind a world: the events that led to it from the start of its configuration, and what holds of them.
-use Rattle.std.specs.Prelude.{◌≡◌, ◌≤◌, ℕ, false, length, take, List, ◌++◌, Result}
+use Rattle.std.specs.Prelude.{◌≡◌, ◌↔◌, ◌≤◌, ◌&&◌, ℕ, Bool, true, false, length, take, List, ◌++◌, Result}
 use Rattle.pg_term.specs.declared.term.Term.{Term}
 use Rattle.pg_machine.specs.Clocked.{plain}
 use Rattle.pg_machine.specs.Losing.{LosingEvent, LosingLeads, nobody_gone, mapped}
@@ -7,16 +7,21 @@ use Rattle.pg_step.specs.Config.{Config}
 use Rattle.pg_step.specs.FrameMachine.{losing_frame_machine, last_notice, sent_packet}
 use Rattle.pg_step.specs.LossLaws.{LosingFrameWorld}
 use Rattle.pg_step.specs.Step.{Action}
+use Rattle.pg_machine.specs.Places.{is_pair}
 use Rattle.pg_history.specs.Headline.{OneHistory}
+use Rattle.pg_history.specs.History.{Entry}
+use Rattle.pg_history.specs.WithLosses.{FormedAtLosses}
 use Rattle.pg_loss.specs.Reached.{LosingReaches, steps_of}
-use Rattle.pg_left.specs.Survived.{LossesSurvived}
+use Rattle.pg_left.specs.Missed.{missed, missed_of}
+use Rattle.pg_ready.specs.Survived.{LossesSurvived}
 use Rattle.pg_node_state.specs.declared.state.fault.NodeFault.{NodeFault}
 use Rattle.pg_frame_world.specs.declared.step.FrameStep.{FrameStep}
 use Rattle.pg_frame_world.specs.declared.step.Stepped.{Stepped}
-use Rattle.pg_frame_world.specs.Losing.{ShowsLosing, LosingComesTo, told_of}
+use Rattle.pg_frame_world.specs.Losing.{ShowsLosing, LosingComesTo, seen_at, told_of}
 use Rattle.pg_frame_world.specs.LosingRuns.{LosingKind, LosingRunsTo, packets_past_losses}
 use Rattle.pg_frame_world.specs.Starts.{Orders}
 use Rattle.pg_frame_world.specs.Views.{View}
+use Rattle.pg_starts.specs.Seen.{Seen}
 use Rattle.pg_account.specs.Histories.{Account}
 use Rattle.pg_frame_world.specs.Worlds.{TimedFrameWorld}
 
@@ -39,12 +44,38 @@ pub record IsPast (given : Config) (Shown : Config → LosingFrameWorld → Type
   pub survived : LossesSurvived config events u
   pub history : ((i : ℕ) → u.gone i ≡ false) → HasHeadline config events u
 
--- some events did
-pub record HasPast (given : Config) (Shown : Config → LosingFrameWorld → Type 0) : Type 0 where
+-- Some events did, and every node was formed when the first was lost, or not, as is told.
+pub record HasPast (given : Config) (formed : Bool) (Shown : Config → LosingFrameWorld → Type 0) : Type 0 where
   pub config : Config
   pub events : List (LosingEvent Action)
   pub u : LosingFrameWorld
   pub is : IsPast given Shown config events u
+  pub at_losses : (formed ≡ true) ↔ FormedAtLosses config events
+  pub few : length config ≤ 16
+
+-- nodes and what is on the way between them, of which these are lost, have a past
+abbrev pub FramesHavePast : Config → View → List ℕ → Type 0
+FramesHavePast given view lost = HasPast given view.account.formed (λ config u. ShowsLosing config view lost u)
+
+-- ---- what losses take along
+
+-- Whether every node was formed when the first was lost, as is told, in the run that led to a world.
+pub record FormedFirst (given : Config) (view : View) (lost : List ℕ) (formed : Bool) : Type 0 where
+  pub past : FramesHavePast given view lost
+  pub is : (formed ≡ true) ↔ FormedAtLosses past.config past.events
+
+-- node i is there, and has seen the loss of node p
+abbrev pub has_seen_in : List Seen → ℕ → ℕ → Bool
+has_seen_in nodes i p = is_pair (length nodes) i p && seen_at nodes i p
+
+-- Of the history of a group the entries of nodes whose loss node i has seen that it has not applied, as a world keeps them.
+abbrev pub missed_in : List Seen → Account → ℕ → Term → List Entry
+missed_in nodes account i name = missed_of (has_seen_in nodes i) (account.marked i name)
+
+-- These are the entries that node i has missed in the run that led to a world, of which the losses that survived say the rest.
+pub record MissedIn (given : Config) (view : View) (lost : List ℕ) (i : ℕ) (name : Term) (entries : List Entry) : Type 0 where
+  pub past : FramesHavePast given view lost
+  pub is : entries ≡ missed past.config past.u i name
 
 -- ---- what a step adds
 
@@ -82,10 +113,6 @@ abbrev pub HistoriesGrow : Account → Account → Type 0
 HistoriesGrow old new = (name : Term) → take (length (old.histories name)) (new.histories name) ≡ old.histories name
 
 -- ---- over packets
-
--- nodes and what is on the way between them, of which these are lost, have a past
-abbrev pub FramesHavePast : Config → View → List ℕ → Type 0
-FramesHavePast given view lost = HasPast given (λ config u. ShowsLosing config view lost u)
 
 -- what a step made of them
 abbrev pub FramesGoOn : Config → View → List ℕ → FrameStep → Result Stepped NodeFault → View → List ℕ → Type 0

@@ -1,5 +1,5 @@
 -- The frame world that a world of nodes shows, and what a step makes of it.
-use Rattle.std.specs.Prelude.{◌≡◌, ℕ, Bool, true, false, cond, nat_lt, length, slice_get}
+use Rattle.std.specs.Prelude.{◌≡◌, ◌<◌, ℕ, Bool, true, false, cond, nat_lt, length, slice_get}
 use Rattle.std.specs.Prelude.{List, [], ◌∷◌, Option, Some, None, Result, Ok, Err}
 use Rattle.std.specs.List.{IsDistinct}
 use Rattle.std.specs.Option.{option_map_or}
@@ -34,6 +34,7 @@ use Rattle.pg_frame_world.specs.Effects.{effect_in}
 use Rattle.pg_frame_world.specs.Views.{Traffic, View, traffic_in, on_the_way}
 use Rattle.pg_account.specs.Histories.{Account}
 use Rattle.pg_history.specs.Reached.{Reaches}
+use Rattle.pg_left.specs.Missed.{marks}
 
 -- a world as it is seen
 abbrev pub traffic_of : {T : Type 0} {g : Ghosts T} → FrameNodes T g → Traffic
@@ -74,10 +75,11 @@ pub record ShowsTraffic (config : Config) (traffic : Traffic) (w : TimedFrameWor
   pub nodes : ShowsNodes config traffic.nodes w
   pub ways : (x y : ℕ) → is_pair (length config) x y ≡ true → w.wire x y ≡ on_the_way traffic x y
 
--- What is kept of the updates is what a frame world tells: the history of each group, and how many each node has applied.
+-- What is kept of the updates is what a frame world tells: the history of each group, how many each node has applied, and which.
 pub record ShowsUpdates (account : Account) (w : TimedFrameWorld) : Type 0 where
   pub history : (name : Term) → account.histories name ≡ history name w.reported
   pub applied : (i : ℕ) (name : Term) → account.applied i name ≡ applied_count i name w.reported
+  pub marked : (i : ℕ) (name : Term) → i < 16 → account.marked i name ≡ marks i name w.reported
 
 -- a world shows a frame world of a configuration: its nodes, what is on the way, and its updates
 pub record Shows (config : Config) (view : View) (w : TimedFrameWorld) : Type 0 where

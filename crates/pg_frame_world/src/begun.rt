@@ -34,6 +34,7 @@ impl FrameNodes<IndexTable> {
         ensures few { IfOk result (λ world. have_few config.now.starts.items ≡ true) }
         ensures begins { IfOk result (λ world. Begins config.now.starts.items (view_of world)) }
         ensures lost { IfOk result (λ world. lost_of world ≡ []) }
+        ensures formed { IfOk result (λ world. (view_of world).account.formed ≡ true) }
         ensures fault { IfErr result (CantBegin config.now.ring config.now.starts.items) }
     {
         match ready(alloc, config) {
@@ -47,6 +48,7 @@ impl FrameNodes<IndexTable> {
         requires ready { AreReady starts.now }
         ensures begins { IfOk result (λ world. Begins starts.now (view_of world)) }
         ensures lost { IfOk result (λ world. lost_of world ≡ []) }
+        ensures formed { IfOk result (λ world. (view_of world).account.formed ≡ true) }
         ensures fits { IfOk result (λ world. AllFit starts.now) }
         ensures fault { IfErr result (CantStart starts.now) }
     {

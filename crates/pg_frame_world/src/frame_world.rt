@@ -11,9 +11,9 @@ use pg_account::Entry;
 use pg_config::{Config, WorldFault};
 use pg_group::GroupTable;
 use pg_index::IndexTable;
-use pg_left::each_world_past_losses;
 use pg_message::Packet;
 use pg_node_state::{NodeFault, NodeState};
+use pg_ready::each_world_past_losses;
 use pg_term::{Pid, Term};
 use std::alloc::{AllocError, Global};
 use std::collections::VecDeque;
@@ -63,7 +63,7 @@ impl FrameWorld<IndexTable> {
 }
 
 impl<T: GroupTable + Drop> FrameWorld<T> {
-    ghost use Rattle.std.specs.Prelude.{◌≡◌, ◌<◌, ◌↔◌, ◌++◌, [], true, IsTrue, Ok, IfOk};
+    ghost use Rattle.std.specs.Prelude.{◌≡◌, ◌<◌, ◌↔◌, ◌++◌, [], true, false, IsTrue, Ok, IfOk};
     ghost use Rattle.std.specs.Prelude.{IfSome, OnErr, ℕ, length, map, option_map, slice_get};
     ghost use Rattle.std.specs.Option.{is_some, option_copied};
     ghost use Rattle.pg_machine.specs.Places.{is_pair};
@@ -78,7 +78,7 @@ impl<T: GroupTable + Drop> FrameWorld<T> {
     ghost use Rattle.pg_account.specs.Histories.{as_entry, last_entries};
     ghost use Rattle.pg_frame_world.specs.Losing.{lost_after, told_of, ShowsLosing, LosingComesTo};
     ghost use Rattle.pg_account.specs.Losses.{is_lost};
-    ghost use Rattle.pg_frame_world.specs.Past.{FramesGoOn, HistoriesGrow};
+    ghost use Rattle.pg_frame_world.specs.Past.{FormedFirst, FramesGoOn, HistoriesGrow, MissedIn, missed_in};
     ghost use Rattle.pg_frame_world.specs.Pending.{AgreeOn, pending_of, sees_free};
     ghost use Rattle.pg_starts.specs.Seen.{seen_of};
     ghost use Rattle.pg_frame_world.specs.Views.{on_the_way};
@@ -189,6 +189,33 @@ impl<T: GroupTable + Drop> FrameWorld<T> {
         ensures { result ≡ is_lost (lost_of self.now) node }
     {
         self.frames.losses.has(node)
+    }
+
+    /// What the losses that a node has seen took along of a group: the updates by nodes whose loss it has seen that it had not applied
+    /// when it saw it, each with its node and its command, in the order of the history. Of each lost node it is one at most, and
+    /// none was answered. The rest of the history, up to what the node has applied, makes its table, of its own groups and those
+    /// of the exchanges that it took, less the ended (`TakenAlong`).
+    ///
+    /// Errors: `AllocError`.
+    ///
+    /// Cost: O(log n) in the groups that were named, a walk over the history of the group, and a copy of each update that is missed.
+    pub fn missed(&self, node: usize, name: &Term) -> Result<Vec<Entry>, AllocError>
+        ensures list { IfOk result (λ missed. map as_entry missed.items ≡ missed_in (traffic_of self.now).nodes (view_of self.now).account node name.now) }
+        ensures along { node < length (traffic_of self.now).nodes → is_lost (lost_of self.now) node ≡ false
+            → IfOk result (λ missed. ∥ MissedIn (given_of self.now) (view_of self.now) (lost_of self.now) node name.now (map as_entry missed.items) ∥₁) }
+    {
+        self.frames.missed(node, name)
+    }
+
+    /// Whether every node was formed when the first was lost; also where none is lost. There survivors agree on a group of which
+    /// they have applied the same updates, once no end is pending among them and each has seen each loss.
+    ///
+    /// Cost: no memory.
+    pub fn formed_at_first_loss(&self) -> bool
+        ensures told { result ≡ (view_of self.now).account.formed }
+        ensures run { ∥ FormedFirst (given_of self.now) (view_of self.now) (lost_of self.now) result ∥₁ }
+    {
+        self.frames.histories.formed_at_first_loss()
     }
 
     /// The ends that are pending: each is that of a process whose home has it, and which some node has not. Of nodes

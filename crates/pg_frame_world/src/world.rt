@@ -42,7 +42,7 @@ impl<T: GroupTable + Drop> FrameNodes<T> {
     ghost use Rattle.pg_frame_world.specs.Worlds.{traffic_of, view_of, has_port, has_places};
     ghost use Rattle.pg_frame_world.specs.Worlds.{TimedFrameWorld, Shows, ComesTo, StepComesTo};
     ghost use Rattle.pg_step.specs.LossLaws.{LosingFrameWorld};
-    ghost use Rattle.pg_frame_world.specs.Losing.{lost_of, lost_after, told_of, ShowsLosing, LosingComesTo};
+    ghost use Rattle.pg_frame_world.specs.Losing.{lost_of, lost_after, formed_after, told_of, ShowsLosing, LosingComesTo};
 
     /// These nodes, and what is on the way from each of them, where nothing has begun.
     ///
@@ -83,6 +83,8 @@ impl<T: GroupTable + Drop> FrameNodes<T> {
         ensures losing { (config : Config) (u : LosingFrameWorld) → ShowsLosing config (view_of self.old) (lost_of self.old) u
             → LosingComesTo config u (told_of config u step.now) result (ShowsLosing config (view_of self.new) (lost_of self.new)) }
         ensures lost { lost_of self.new ≡ lost_after step.now result (lost_of self.old) }
+        ensures formed { (view_of self.new).account.formed
+            ≡ formed_after step.now result (traffic_of self.old).nodes (lost_of self.old) (view_of self.old).account.formed }
         ensures nothing { result ≡ Ok Stepped.Nothing → view_of self.new ≡ view_of self.old }
         ensures err { OnErr result (view_of self.new ≡ view_of self.old) }
     {
@@ -165,6 +167,7 @@ impl<T: GroupTable + Drop> FrameNodes<T> {
         ensures nothing { result ≡ Ok Stepped.Nothing → view_of self.new ≡ view_of self.old }
         ensures err { OnErr result (view_of self.new ≡ view_of self.old) }
         ensures lost { lost_of self.new ≡ lost_of self.old }
+        ensures formed { (view_of self.new).account.formed ≡ (view_of self.old).account.formed }
     {
         let outgoing = &mut self.outgoing[node];
         match outgoing.make_room() {
@@ -205,6 +208,7 @@ impl<T: GroupTable + Drop> FrameNodes<T> {
         ensures happens { result ≢ Ok Stepped.Nothing }
         ensures err { OnErr result (view_of self.new ≡ view_of self.old) }
         ensures lost { lost_of self.new ≡ lost_of self.old }
+        ensures formed { (view_of self.new).account.formed ≡ (view_of self.old).account.formed }
     {
         let outgoing = &mut self.outgoing[node];
         match outgoing.make_room() {
@@ -232,6 +236,7 @@ impl<T: GroupTable + Drop> FrameNodes<T> {
         ensures happens { result ≢ Ok Stepped.Nothing }
         ensures err { OnErr result (view_of self.new ≡ view_of self.old) }
         ensures lost { lost_of self.new ≡ lost_of self.old }
+        ensures formed { (view_of self.new).account.formed ≡ (view_of self.old).account.formed }
     {
         let outgoing = &mut self.outgoing[node];
         match outgoing.make_room() {

@@ -11,9 +11,9 @@ ghost use Rattle.pg_step.specs.State.{formed};
 ghost use Rattle.pg_step.specs.Step.{Action};
 ghost use Rattle.pg_history.specs.Reached.{FinishedAt};
 ghost use Rattle.pg_loss.specs.Reached.{LosingReaches, steps_of};
+ghost use Rattle.pg_left.specs.Agreed.{AgreeOnUnchanged};
 ghost use Rattle.pg_left.specs.Heard.{MadeOf};
 ghost use Rattle.pg_left.specs.Missed.{TakenAlong};
-ghost use Rattle.pg_left.specs.Survived.{AgreeOnUnchanged};
 
 use pg_loss::each_world_keeps_past_losses;
 

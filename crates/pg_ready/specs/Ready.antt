@@ -1,15 +1,19 @@
 -- Whose locks are held where nothing is on the way to a node that is left.
-use Rattle.std.specs.Prelude.{◌≡◌, ◌⊎◌, ℕ, ◌+◌, ◌≤◌, Bool, true, false, ◌&&◌, ◌||◌, nat_eq}
-use Rattle.std.specs.Prelude.{length, List, [], ◌∷◌, ◌++◌, None}
+use Rattle.std.specs.Prelude.{◌≡◌, ◌↔◌, ◌⊎◌, ℕ, ◌+◌, ◌≤◌, Bool, true, false, ◌&&◌, ◌||◌, nat_eq}
+use Rattle.std.specs.Prelude.{length, List, [], ◌∷◌, ◌++◌, Some, None}
 use Rattle.pg_term.specs.RefParts.{RefParts}
 use Rattle.pg_term.specs.declared.term.Term.{Term}
 use Rattle.pg_group.specs.Value.{name_of}
 use Rattle.pg_group.specs.declared.update.Update.{Update}
+use Rattle.pg_message.specs.declared.message.Message.{Message}
+use Rattle.pg_machine.specs.Clocked.{Stamped}
+use Rattle.pg_machine.specs.Losing.{LosingLeads, Noticed, Step, all_steps, losing_happens}
 use Rattle.pg_machine.specs.Machine.{Event, Take, Do}
 use Rattle.pg_machine.specs.Places.{is_pair, is_place}
 use Rattle.pg_refs.specs.Numbered.{numbered}
 use Rattle.pg_step.specs.Attempts.{is_complete, same_op}
 use Rattle.pg_step.specs.Config.{Config, name_at, nodes_at}
+use Rattle.pg_step.specs.FrameMachine.{last_notice, losing_frame_machine}
 use Rattle.pg_step.specs.LossLaws.{LosingFrameWorld}
 use Rattle.pg_step.specs.Nodes.{Node, Nodes}
 use Rattle.pg_step.specs.State.{Stage, State, Status, left}
@@ -20,7 +24,9 @@ use Rattle.pg_step.specs.Step.{Action, CLOCK_LIMIT, Issue, Retry}
 use Rattle.pg_step.specs.declared.answer.Reply.TheVariants as reply
 use Rattle.pg_step.specs.declared.command.OpId.{OpId}
 use Rattle.pg_history.specs.History.{answers_by, entries}
+use Rattle.pg_history.specs.Quiet.{OnlyTakes}
 use Rattle.pg_loss.specs.Agreeing.{SawAll}
+use Rattle.pg_loss.specs.Quiet.{IsQuietLeft, left_open, most_takes_left}
 
 -- Each node that is left has seen each loss, and nothing is on the way between two of them. What is on the way to a lost
 -- node stays.
@@ -103,3 +109,33 @@ pub data GoesOn (config : Config) (w v : LosingFrameWorld) (i : ℕ) (op : OpId)
   AsksOn : (c : ℕ) → (v.world.node i).state.stages op ≡ Asking c → is_ready_at config v i op ≡ false → GoesOn config w v i op
   -- it was denied: it gives back the locks that it has, and waits for its next attempt
   GaveUp : (u : Update) → (v.world.node i).state.stages op ≡ Waiting u → GoesOn config w v i op
+
+-- What becomes of commands that a loss has left ready, where a world is reached.
+pub record ReadyGoOn (config : Config) (w : LosingFrameWorld) : Type 0 where
+  -- nothing is on the way to a node that is left exactly where each has seen each loss, and nothing is on the way between two of them
+  pub silence : IsQuietLeft config w ↔ IsQuietAmongLeft config w
+  -- there a lock that is held at such a node is that of a ready command, and where none is ready none is held
+  pub holders : (i : ℕ) (name : Term) (holder : RefParts) → IsQuietLeft config w → is_place (length config) i ≡ true → w.gone i ≡ false
+      → (w.world.node i).state.locks name ≡ Some holder → OfReady config w name holder
+  pub free : IsQuietLeft config w → NoneReadyLeft config w → NoLockLeft config w
+  -- a ready command can be tried again, where the clock of its node is not full, and goes on
+  pub tried : (i : ℕ) (op : OpId) → is_ready_at config w i op ≡ true → is_place (length config) i ≡ true → w.gone i ≡ false → (w.world.node i).clock + 1 ≤ CLOCK_LIMIT
+      → (v : LosingFrameWorld) × (losing_happens (losing_frame_machine config) last_notice w (Step (Do i (Retry op))) ≡ Some v)
+  pub goes : (v : LosingFrameWorld) (i : ℕ) (op : OpId) → is_ready_at config w i op ≡ true
+      → losing_happens (losing_frame_machine config) last_notice w (Step (Do i (Retry op))) ≡ Some v → GoesOn config w v i op
+  -- once each was tried again, in whatever order and whatever else came in, none is ready; and where nothing is on the way then, no lock is held
+  pub retried : (v : LosingFrameWorld) (steps : List (Event Action)) → LossesSeen config w → LosingLeads (losing_frame_machine config) last_notice w (all_steps steps) v
+      → EachIsRetried config w steps → NoneReadyLeft config v
+  pub freed : (v : LosingFrameWorld) (steps : List (Event Action)) → LossesSeen config w → LosingLeads (losing_frame_machine config) last_notice w (all_steps steps) v
+      → EachIsRetried config w steps → IsQuietLeft config v → NoLockLeft config v
+  -- with room in the clocks all can be tried again
+  pub all : (room : ℕ) → LossesSeen config w → HasRoomLeft config w (left_open config w + room)
+      → (retries : List (Event Action)) × (v : LosingFrameWorld) × OnlyRetries retries
+      × LosingLeads (losing_frame_machine config) last_notice w (all_steps retries) v × NoneReadyLeft config v × HasRoomLeft config v room
+  -- and each packet that is next on its way to a node that is left can be taken, until nothing is
+  pub taken : (x y : ℕ) (packet : Stamped (Noticed Message)) (rest : List (Stamped (Noticed Message))) → HasRoomLeft config w 1
+      → is_pair (length config) x y ≡ true → w.gone y ≡ false → w.world.wire x y ≡ packet ∷ rest
+      → (v : LosingFrameWorld) × (losing_happens (losing_frame_machine config) last_notice w (Step (Take y x)) ≡ Some v)
+  pub rests : HasRoomLeft config w (most_takes_left config w + 1)
+      → (takes : List (Event Action)) × (v : LosingFrameWorld) × OnlyTakes takes
+      × LosingLeads (losing_frame_machine config) last_notice w (all_steps takes) v × IsQuietLeft config v

@@ -1,9 +1,10 @@
-//! What becomes of commands that a loss has left ready.
+//! What becomes of commands that a loss has left ready, and all that holds of one world, whoever is lost.
 //!
-//! There is no code: begin with `specs/Ready.antt`, then `src/laws.rt`.
+//! There is no code: `each_world_past_losses()` is the law of all of it. Begin with `specs/Survived.antt`, then `src/laws.rt`.
 #![tactic(auto)]
 
 mod laws;
+mod world;
 
 pub use laws::{
     a_retry_of_a_ready_command_goes_on, a_world_comes_to_rest_past_losses,
@@ -11,3 +12,4 @@ pub use laws::{
     no_lock_where_none_is_ready, only_a_seen_loss_makes_ready, quiet_nodes_saw_the_losses,
     retries_free_the_locks, retries_leave_fewer_ready,
 };
+pub use world::each_world_past_losses;

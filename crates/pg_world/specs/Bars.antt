@@ -14,8 +14,9 @@ use Rattle.pg_world.specs.declared.step.Step.{Step}
 use Rattle.pg_world.specs.declared.step.Step.TheVariants as steps
 use Rattle.pg_frame_world.specs.declared.step.Stepped.{Stepped}
 use Rattle.pg_world.specs.Crossings.{Crossing, bytes_at, link_at}
-use Rattle.pg_frame_world.specs.Losing.{is_cut_off, is_barred, lost_with, lost_after}
+use Rattle.pg_frame_world.specs.Losing.{formed_after, formed_with, is_cut_off, is_barred, lost_with, lost_after}
 use Rattle.pg_account.specs.Losses.{is_lost}
+use Rattle.pg_starts.specs.Seen.{Seen}
 use Rattle.pg_frame_world.specs.Worlds.{has_places}
 
 -- a ring has bytes that were not pulled
@@ -84,3 +85,9 @@ abbrev pub bytes_lost_after : Step → Result Stepped NodeFault → List ℕ →
 bytes_lost_after (steps.Event step) result lost = lost_after step result lost
 bytes_lost_after (steps.Lose i) result lost = lost_with i result lost
 bytes_lost_after step result lost = lost
+
+-- whether every node was formed when the first was lost, behind a step over bytes
+abbrev pub bytes_formed_after : Step → Result Stepped NodeFault → List Seen → List ℕ → Bool → Bool
+bytes_formed_after (steps.Event step) result nodes lost formed = formed_after step result nodes lost formed
+bytes_formed_after (steps.Lose i) result nodes lost formed = formed_with result nodes lost formed
+bytes_formed_after step result nodes lost formed = formed

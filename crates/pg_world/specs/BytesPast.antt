@@ -1,6 +1,10 @@
 -- What is behind a world of bytes: the events that led to it from the start of its configuration, and what holds of them.
-use Rattle.std.specs.Prelude.{ℕ, List, Result}
+use Rattle.std.specs.Prelude.{◌≡◌, ◌↔◌, ℕ, Bool, true, List, Result}
+use Rattle.pg_term.specs.declared.term.Term.{Term}
 use Rattle.pg_step.specs.Config.{Config}
+use Rattle.pg_history.specs.History.{Entry}
+use Rattle.pg_history.specs.WithLosses.{FormedAtLosses}
+use Rattle.pg_left.specs.Missed.{missed}
 use Rattle.pg_node_state.specs.declared.state.fault.NodeFault.{NodeFault}
 use Rattle.pg_world.specs.declared.step.Step.{Step}
 use Rattle.pg_frame_world.specs.declared.step.Stepped.{Stepped}
@@ -13,7 +17,17 @@ use Rattle.pg_frame_world.specs.Past.{HasPast, GoesOn, RunsOn}
 
 -- nodes and the bytes on the way between them, of which these are lost, and what is kept of the updates, have a past
 abbrev pub BytesHavePast : Config → Crossing → Account → List ℕ → Type 0
-BytesHavePast given crossing account lost = HasPast given (λ config u. ShowsLosingBytes config crossing account lost u)
+BytesHavePast given crossing account lost = HasPast given account.formed (λ config u. ShowsLosingBytes config crossing account lost u)
+
+-- Whether every node was formed when the first was lost, as is told, in the run that led to a world.
+pub record BytesFormedFirst (given : Config) (crossing : Crossing) (account : Account) (lost : List ℕ) (formed : Bool) : Type 0 where
+  pub past : BytesHavePast given crossing account lost
+  pub is : (formed ≡ true) ↔ FormedAtLosses past.config past.events
+
+-- These are the entries that node i has missed in the run that led to a world, of which the losses that survived say the rest.
+pub record BytesMissed (given : Config) (crossing : Crossing) (account : Account) (lost : List ℕ) (i : ℕ) (name : Term) (entries : List Entry) : Type 0 where
+  pub past : BytesHavePast given crossing account lost
+  pub is : entries ≡ missed past.config past.u i name
 
 -- what a step made of them
 abbrev pub BytesGoOn : Config → Crossing → Account → List ℕ → Step → Result Stepped NodeFault → Crossing → Account → List ℕ → Type 0

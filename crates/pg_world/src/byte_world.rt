@@ -12,8 +12,8 @@ use pg_config::{Config, WorldFault};
 use pg_frame_world::{Stepped, pending_ends_are_listed};
 use pg_group::GroupTable;
 use pg_index::IndexTable;
-use pg_left::each_world_past_losses;
 use pg_node::{Node, NodeFault};
+use pg_ready::each_world_past_losses;
 use pg_term::{Pid, Term};
 use std::alloc::{AllocError, Global};
 use std::snapshot::Snapshot;
@@ -82,7 +82,8 @@ impl<T: GroupTable + Drop> World<T> {
     ghost use Rattle.pg_account.specs.Histories.{as_entry, last_entries};
     ghost use Rattle.pg_account.specs.Losses.{is_lost};
     ghost use Rattle.pg_frame_world.specs.Past.{HistoriesGrow};
-    ghost use Rattle.pg_world.specs.BytesPast.{BytesGoOn};
+    ghost use Rattle.pg_frame_world.specs.Past.{missed_in};
+    ghost use Rattle.pg_world.specs.BytesPast.{BytesFormedFirst, BytesGoOn, BytesMissed};
     ghost use Rattle.pg_frame_world.specs.Pending.{AgreeOn, pending_of, sees_free};
     ghost use Rattle.pg_frame_world.specs.Worlds.{TimedFrameWorld};
 
@@ -151,6 +152,33 @@ impl<T: GroupTable + Drop> World<T> {
         ensures { result ≡ is_lost (lost_of self.now) node }
     {
         self.bytes.losses.has(node)
+    }
+
+    /// What the losses that a node has seen took along of a group: the updates by nodes whose loss it has seen that it had not applied
+    /// when it saw it, each with its node and its command, in the order of the history. Of each lost node it is one at most, and
+    /// none was answered. The rest of the history, up to what the node has applied, makes its table, of its own groups and those
+    /// of the exchanges that it took, less the ended (`TakenAlong`).
+    ///
+    /// Errors: `AllocError`.
+    ///
+    /// Cost: O(log n) in the groups that were named, a walk over the history of the group, and a copy of each update that is missed.
+    pub fn missed(&self, node: usize, name: &Term) -> Result<Vec<Entry>, AllocError>
+        ensures list { IfOk result (λ missed. map as_entry missed.items ≡ missed_in (crossing_of self.now).nodes (account_of self.now) node name.now) }
+        ensures along { node < length (crossing_of self.now).nodes → is_lost (lost_of self.now) node ≡ false
+            → IfOk result (λ missed. ∥ BytesMissed (given_of self.now) (crossing_of self.now) (account_of self.now) (lost_of self.now) node name.now (map as_entry missed.items) ∥₁) }
+    {
+        self.bytes.missed(node, name)
+    }
+
+    /// Whether every node was formed when the first was lost; also where none is lost. There survivors agree on a group of which
+    /// they have applied the same updates, once no end is pending among them and each has seen each loss.
+    ///
+    /// Cost: no memory.
+    pub fn formed_at_first_loss(&self) -> bool
+        ensures told { result ≡ (account_of self.now).formed }
+        ensures run { ∥ BytesFormedFirst (given_of self.now) (crossing_of self.now) (account_of self.now) (lost_of self.now) result ∥₁ }
+    {
+        self.bytes.histories.formed_at_first_loss()
     }
 
     /// The ends that are pending: each is that of a process whose home has it, and which some node has not. Of nodes

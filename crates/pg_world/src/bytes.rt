@@ -62,9 +62,9 @@ impl<T: GroupTable + Drop> ByteNodes<T> {
     ghost use Rattle.pg_world.specs.BytesLosing.{ShowsLosingBytes, MoveLeaves, EventLeaves, StepLeaves};
     ghost use Rattle.pg_frame_world.specs.Losing.{IsReachedLosing};
     ghost use Rattle.pg_account.specs.Losses.{lost_in, is_lost};
-    ghost use Rattle.pg_frame_world.specs.Losing.{SeenAreLost, lost_after};
+    ghost use Rattle.pg_frame_world.specs.Losing.{SeenAreLost, formed_after, lost_after};
     ghost use Rattle.pg_world.specs.Bars.{IsHeld, StepTellsUndrained, TellsUndrained, put_bar};
-    ghost use Rattle.pg_world.specs.Bars.{pull_bar, event_bar, bar_of, bytes_lost_after};
+    ghost use Rattle.pg_world.specs.Bars.{pull_bar, event_bar, bar_of, bytes_formed_after, bytes_lost_after};
     ghost use Rattle.pg_frame_world.specs.Worlds.{has_port, has_places, TimedFrameWorld};
     ghost use Rattle.pg_account.specs.Histories.{no_account};
     ghost use Rattle.pg_world.specs.Changes.{Moves, put_count, pull_count, MoveChanges};
@@ -134,6 +134,8 @@ impl<T: GroupTable + Drop> ByteNodes<T> {
         ensures barred { IsHeld (bar_of (crossing_of self.old) (lost_in self.old.losses) step.now) result }
         ensures undrained { StepTellsUndrained (crossing_of self.old) step.now result }
         ensures lost { lost_in self.new.losses ≡ bytes_lost_after step.now result (lost_in self.old.losses) }
+        ensures formed { self.new.histories.formed
+            ≡ bytes_formed_after step.now result (crossing_of self.old).nodes (lost_in self.old.losses) self.old.histories.formed }
         ensures room { room_of self.new ≡ room_of self.old }
     {
         match step {
@@ -150,6 +152,7 @@ impl<T: GroupTable + Drop> ByteNodes<T> {
             → ShowsBytesPast config (lost_in self.old.losses) (crossing_of self.old) (account_of self.old.histories) w
             → MoveLeaves (put_bar (crossing_of self.old) (lost_in self.old.losses) from to) result (ShowsBytesPast config (lost_in self.old.losses) (crossing_of self.new) (account_of self.new.histories) w) }
         ensures barred { IsHeld (put_bar (crossing_of self.old) (lost_in self.old.losses) from to) result }
+        ensures formed { self.new.histories.formed ≡ self.old.histories.formed }
         ensures lost { lost_in self.new.losses ≡ lost_in self.old.losses }
         ensures changes { MoveChanges (crossing_of self.old) (crossing_of self.new) from to (put_count (room_of self.old) max (bytes_at (crossing_of self.old) from to)) put result }
         ensures room { room_of self.new ≡ room_of self.old }
@@ -188,6 +191,7 @@ impl<T: GroupTable + Drop> ByteNodes<T> {
             → ShowsBytesPast config (lost_in self.old.losses) (crossing_of self.old) (account_of self.old.histories) w
             → MoveLeaves (pull_bar (crossing_of self.old) (lost_in self.old.losses) to from) result (ShowsBytesPast config (lost_in self.old.losses) (crossing_of self.new) (account_of self.new.histories) w) }
         ensures barred { IsHeld (pull_bar (crossing_of self.old) (lost_in self.old.losses) to from) result }
+        ensures formed { self.new.histories.formed ≡ self.old.histories.formed }
         ensures lost { lost_in self.new.losses ≡ lost_in self.old.losses }
         ensures changes { MoveChanges (crossing_of self.old) (crossing_of self.new) from to (pull_count max (bytes_at (crossing_of self.old) from to)) pull result }
         ensures room { room_of self.new ≡ room_of self.old }
@@ -207,6 +211,7 @@ impl<T: GroupTable + Drop> ByteNodes<T> {
         ensures came { (config : Config) (lost : List ℕ) (w : TimedFrameWorld) → (w.node to).state.lost (name_at config from) ≡ false
             → ShowsBytesPast config lost (crossing_of self.old) (account_of self.old.histories) w
             → MoveLeaves None result (ShowsBytesPast config lost (crossing_of self.new) (account_of self.new.histories) w) }
+        ensures formed { self.new.histories.formed ≡ self.old.histories.formed }
         ensures lost { lost_in self.new.losses ≡ lost_in self.old.losses }
         ensures changes { MoveChanges (crossing_of self.old) (crossing_of self.new) from to (pull_count max (bytes_at (crossing_of self.old) from to)) pull result }
         ensures room { room_of self.new ≡ room_of self.old }
@@ -234,6 +239,8 @@ impl<T: GroupTable + Drop> ByteNodes<T> {
         ensures barred { IsHeld (event_bar (crossing_of self.old) (lost_in self.old.losses) event.now) result }
         ensures undrained { TellsUndrained (crossing_of self.old) event.now result }
         ensures lost { lost_in self.new.losses ≡ lost_after event.now result (lost_in self.old.losses) }
+        ensures formed { self.new.histories.formed
+            ≡ formed_after event.now result (crossing_of self.old).nodes (lost_in self.old.losses) self.old.histories.formed }
         ensures room { room_of self.new ≡ room_of self.old }
     {
         nobody_is_harmed();
@@ -304,6 +311,7 @@ impl<T: GroupTable + Drop> ByteNodes<T> {
             → ShowsBytesPast config lost (crossing_of self.old) (account_of self.old.histories) w
             → EventComesTo config w (Take node peer) result (ShowsBytesPast config lost (crossing_of self.new) (account_of self.new.histories)) }
         ensures changes { EventChanges (crossing_of self.old) (crossing_of self.new) (Take node peer) result }
+        ensures formed { self.new.histories.formed ≡ self.old.histories.formed }
         ensures lost { lost_in self.new.losses ≡ lost_in self.old.losses }
         ensures room { room_of self.new ≡ room_of self.old }
     {
@@ -335,6 +343,7 @@ impl<T: GroupTable + Drop> ByteNodes<T> {
             → ShowsBytesPast config lost (crossing_of self.old) (account_of self.old.histories) w
             → EventComesTo config w (Take node peer) result (ShowsBytesPast config lost (crossing_of self.new) (account_of self.new.histories)) }
         ensures changes { EventChanges (crossing_of self.old) (crossing_of self.new) (Take node peer) result }
+        ensures formed { self.new.histories.formed ≡ self.old.histories.formed }
         ensures lost { lost_in self.new.losses ≡ lost_in self.old.losses }
         ensures room { room_of self.new ≡ room_of self.old }
     {
@@ -354,6 +363,7 @@ impl<T: GroupTable + Drop> ByteNodes<T> {
             → ShowsBytesPast config lost (crossing_of self.old) (account_of self.old.histories) w
             → EventComesTo config w (Take node peer) result (ShowsBytesPast config lost (crossing_of self.new) (account_of self.new.histories)) }
         ensures changes { EventChanges (crossing_of self.old) (crossing_of self.new) (Take node peer) result }
+        ensures formed { self.new.histories.formed ≡ self.old.histories.formed }
         ensures lost { lost_in self.new.losses ≡ lost_in self.old.losses }
         ensures room { room_of self.new ≡ room_of self.old }
     {
@@ -384,6 +394,7 @@ impl<T: GroupTable + Drop> ByteNodes<T> {
             → ShowsBytesPast config lost (crossing_of self.old) (account_of self.old.histories) w
             → EventComesTo config w (Do node (Issue port command.now)) result (ShowsBytesPast config lost (crossing_of self.new) (account_of self.new.histories)) }
         ensures changes { EventChanges (crossing_of self.old) (crossing_of self.new) (Do node (Issue port command.now)) result }
+        ensures formed { self.new.histories.formed ≡ self.old.histories.formed }
         ensures lost { lost_in self.new.losses ≡ lost_in self.old.losses }
         ensures room { room_of self.new ≡ room_of self.old }
     {
@@ -407,6 +418,7 @@ impl<T: GroupTable + Drop> ByteNodes<T> {
             → ShowsBytesPast config lost (crossing_of self.old) (account_of self.old.histories) w
             → EventComesTo config w (Do node (Retry op)) result (ShowsBytesPast config lost (crossing_of self.new) (account_of self.new.histories)) }
         ensures changes { EventChanges (crossing_of self.old) (crossing_of self.new) (Do node (Retry op)) result }
+        ensures formed { self.new.histories.formed ≡ self.old.histories.formed }
         ensures lost { lost_in self.new.losses ≡ lost_in self.old.losses }
         ensures room { room_of self.new ≡ room_of self.old }
     {

@@ -1,13 +1,17 @@
 //! Nodes of a world of packets that are lost.
 
-ghost use Rattle.std.specs.Prelude.{◌≡◌, ◌≢◌, ◌<◌, ◌+◌, ◌↔◌, [], true, false, IsTrue, Ok, Err, OnErr, get_or, length};
+ghost use Rattle.std.specs.Prelude.{◌≡◌, ◌≢◌, ◌<◌, ◌+◌, ◌↔◌, [], true, false, IsTrue, Ok, Err, IfOk, OnErr};
+ghost use Rattle.std.specs.Prelude.{get_or, length, map};
+ghost use Rattle.std.specs.List.{list_all};
 
 use crate::effect::Effect;
 use crate::step::{FrameStep, Stepped};
 use crate::world::{FrameNodes, peer_place};
+use pg_account::Entry;
 use pg_group::GroupTable;
 use pg_node_state::{Done, NodeFault};
 use pg_step::Refusal;
+use pg_term::Term;
 use std::alloc::AllocError;
 
 impl<T: GroupTable + Drop> FrameNodes<T> {
@@ -17,7 +21,10 @@ impl<T: GroupTable + Drop> FrameNodes<T> {
     ghost use Rattle.pg_step.specs.declared.refusal.Refusal.TheVariants.{NotLost};
     ghost use Rattle.pg_node_state.specs.declared.state.fault.NodeFault.TheVariants.{Refused};
     ghost use Rattle.pg_account.specs.Losses.{is_lost};
-    ghost use Rattle.pg_frame_world.specs.Losing.{lost_of, lost_with, seen_at, is_cut_off, is_barred};
+    ghost use Rattle.pg_frame_world.specs.Losing.{lost_of, lost_with, seen_at, is_cut_off, is_barred, is_formed};
+    ghost use Rattle.pg_account.specs.Histories.{as_entry, is_among};
+    ghost use Rattle.pg_frame_world.specs.Losing.{formed_at, formed_with};
+    ghost use Rattle.pg_frame_world.specs.Past.{has_seen_in, missed_in};
     ghost use Rattle.pg_frame_world.specs.Losing.{told_sight, told_loss, ShowsLosing, LosingComesTo};
     ghost use Rattle.pg_frame_world.specs.Views.{CanStay, on_the_way};
     ghost use Rattle.pg_frame_world.specs.Worlds.{traffic_of, view_of, has_places};
@@ -57,6 +64,29 @@ impl<T: GroupTable + Drop> FrameNodes<T> {
         state.is_lost(peer_place(node, peer))
     }
 
+    /// The updates of a group that a node has not applied, of the nodes whose loss it has seen.
+    ///
+    /// Errors: `AllocError`.
+    pub(crate) fn missed(&self, node: usize, name: &Term) -> Result<Vec<Entry>, AllocError>
+        ensures { IfOk result (λ missed. map as_entry missed.items ≡ missed_in (traffic_of self.now).nodes (view_of self.now).account node name.now) }
+    {
+        let seen = self.seen_by(node)?;
+        self.histories.missed(node, name, seen.as_slice())
+    }
+
+    /// Of each node, by its place, whether a node is there that has seen its loss.
+    ///
+    /// Errors: `AllocError`.
+    fn seen_by(&self, node: usize) -> Result<Vec<bool>, AllocError>
+        ensures { IfOk result (λ seen. is_among seen.items ≡ has_seen_in (traffic_of self.now).nodes node) }
+    {
+        let mut seen = Vec::with_capacity(*self.nodes.allocator(), self.nodes.len())?;
+        for peer in 0..self.nodes.len() {
+            seen.push(self.has_pair(node, peer) && self.has_seen(node, peer))?;
+        }
+        Ok(seen)
+    }
+
     /// A node sees the loss of a peer that is not known to it yet.
     pub(crate) fn see_loss(&mut self, node: usize, peer: usize) -> Result<Stepped, NodeFault>
         requires pair { is_pair (length (traffic_of self.old).nodes) node peer ≡ true }
@@ -67,6 +97,7 @@ impl<T: GroupTable + Drop> FrameNodes<T> {
         ensures happens { result ≢ Ok Stepped.Nothing }
         ensures err { OnErr result (view_of self.new ≡ view_of self.old) }
         ensures lost { lost_of self.new ≡ lost_of self.old }
+        ensures formed { (view_of self.new).account.formed ≡ (view_of self.old).account.formed }
     {
         if !self.losses.has(peer) {
             return Err(NodeFault::Refused(Refusal::NotLost));
@@ -108,6 +139,29 @@ impl<T: GroupTable + Drop> FrameNodes<T> {
         outgoing.can_keep(keep)
     }
 
+    /// Whether every node is formed when the first is lost, where one is lost now.
+    fn formed_at_loss(&self) -> bool
+        ensures { result ≡ formed_at (traffic_of self.now).nodes (lost_of self.now) (view_of self.now).account.formed }
+    {
+        if self.losses.is_empty() {
+            self.are_formed()
+        } else {
+            self.histories.formed_at_first_loss()
+        }
+    }
+
+    /// Whether each node is formed.
+    fn are_formed(&self) -> bool
+        ensures { result ≡ list_all is_formed (traffic_of self.now).nodes }
+    {
+        for node in &self.nodes {
+            if !node.formed() {
+                return false;
+            }
+        }
+        true
+    }
+
     /// A node is lost, and of what is on the way from it the first packets stay.
     pub(crate) fn lose(&mut self, node: usize, keep: &[usize]) -> Result<Stepped, NodeFault>
         requires place { node < length (traffic_of self.old).nodes }
@@ -116,6 +170,8 @@ impl<T: GroupTable + Drop> FrameNodes<T> {
         ensures happens { result ≢ Ok Stepped.Nothing }
         ensures err { OnErr result (view_of self.new ≡ view_of self.old) }
         ensures lost { lost_of self.new ≡ lost_with node result (lost_of self.old) }
+        ensures formed { (view_of self.new).account.formed
+            ≡ formed_with result (traffic_of self.old).nodes (lost_of self.old) (view_of self.old).account.formed }
     {
         if keep.len() != self.nodes.len() - 1 {
             return Err(NodeFault::Refused(Refusal::NoSuchPlace));
@@ -126,10 +182,12 @@ impl<T: GroupTable + Drop> FrameNodes<T> {
         if !self.can_keep(node, keep) {
             return Err(NodeFault::Refused(Refusal::NoSuchPlace));
         }
+        let formed = self.formed_at_loss();
         match self.losses.add(node) {
             Ok(()) => {}
             Err(AllocError) => return Err(NodeFault::OutOfMemory),
         }
+        self.histories.lose(formed);
         let outgoing = &mut self.outgoing[node];
         outgoing.cut(keep);
         Ok(Stepped::Gone)

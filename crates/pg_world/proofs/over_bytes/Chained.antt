@@ -21,11 +21,11 @@ use Rattle.pg_world.specs.CrossingRuns.{AreLeft, Crosses, CrossesAll, IsShown, R
 use Rattle.pg_account.specs.Histories.{Account}
 use Rattle.pg_frame_world.proofs.Leading.{Near, Here, Next}
 use Rattle.pg_frame_world.proofs.LosingRunning.{losing_reached_on, start_is}
-use Rattle.pg_world.proofs.over_bytes.Leading.{leaves_on}
+use Rattle.pg_world.proofs.over_bytes.Leading.{Any, any_told, leaves_on}
 
-reached_near : (config : Config) (u v : LosingFrameWorld) → IsReachedLosing config u → Near config u v → IsReachedLosing config v
-reached_near config u v reached (Here same) = losing_reached_on config u v [] reached same
-reached_near config u v reached (Next e happened) = losing_reached_on config u v (e ∷ []) reached (v, happened, refl)
+reached_near : (config : Config) (u v : LosingFrameWorld) → IsReachedLosing config u → Near config Any (Unit {0}) u v → IsReachedLosing config v
+reached_near config u v reached (Here same any) = losing_reached_on config u v [] reached same
+reached_near config u v reached (Next e happened any) = losing_reached_on config u v (e ∷ []) reached (v, happened, refl)
 
 -- one step
 pub crosses_so : (config : Config) (room : ℕ) (old new : Crossing) (account : Account) (lost : List ℕ) (u : LosingFrameWorld) (step : Step) (result : Result Stepped NodeFault) (number : ℕ) → IsReachedLosing config u
@@ -36,11 +36,11 @@ crosses_so config room old new account lost u step result number reached listed 
   listed = listed;
   new = new;
   changes = changes;
-  leaves = leaves_on config u (ShowsLosingBytes config new account lost) (λ v. IsShown config new v × AreLeft config new account lost new v)
+  leaves = leaves_on config u Any (Unit {0}) (ShowsLosingBytes config new account lost) (λ v. IsShown config new v × AreLeft config new account lost new v)
       (λ v near shows. (
         record { account = account; lost = lost; reached = reached_near config u v reached near; shows = shows },
         (refl, reached_near config u v reached near, shows),
-      )) step result leaves;
+      )) step result (any_told step result) leaves;
 }
 
 -- one more step
@@ -54,9 +54,9 @@ module _ (config : Config) (room : ℕ) (step : Step) (number : ℕ) (Last Then 
     listed = crosses.listed;
     new = crosses.new;
     changes = crosses.changes;
-    leaves = leaves_on config u (λ v. IsShown config crosses.new v × CrossesAll config room crosses.new v ss ns Last)
+    leaves = leaves_on config u Any (Unit {0}) (λ v. IsShown config crosses.new v × CrossesAll config room crosses.new v ss ns Last)
         (λ v. IsShown config crosses.new v × CrossesAll config room crosses.new v (ss ++ step ∷ []) (ns ++ number ∷ []) Then)
-        (λ v near both. (both.0, chain_more ss ns crosses.new v both.1)) s crosses.result crosses.leaves;
+        (λ v near both. (both.0, chain_more ss ns crosses.new v both.1)) s crosses.result (any_told s crosses.result) crosses.leaves;
   }
 
   -- the steps so far, and one more, whose number was put in its place

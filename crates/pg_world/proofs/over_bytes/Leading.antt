@@ -1,5 +1,5 @@
 -- The past of a world of bytes, and what a step adds to it.
-use Rattle.std.proofs.Common.{◌≡◌, ◌<◌, ◌+◌, ℕ, false, true, get_or, length, List, [], Option}
+use Rattle.std.proofs.Common.{◌≡◌, ◌<◌, ◌≤◌, ◌+◌, ℕ, Bool, false, true, get_or, length, List, [], Option}
 use Rattle.std.proofs.Common.{Some, None, Result, Ok, Err, refl, sym, ap, ◌∙◌, arith, subst}
 use Rattle.std.specs.Prelude.{slice_get, option_map, IfSome}
 use Rattle.std.specs.Option.{option_copied}
@@ -10,15 +10,17 @@ use Rattle.pg_node.specs.Nodes.{links_of}
 use Rattle.std.proofs.lemmas.Bool.{eq-eqb, eqb-true}
 use Rattle.std.proofs.lemmas.Option.{get_or_from_slice_get, slice_get_within}
 use Rattle.pg_term.specs.declared.term.Term.{Term}
-use Rattle.pg_machine.specs.Losing.{Lose, nobody_gone}
-use Rattle.pg_machine.specs.Machine.{start_of}
+use Rattle.pg_machine.specs.Losing.{Lose, LosingEvent, nobody_gone}
+use Rattle.pg_machine.specs.Losing.{Step as Happens}
+use Rattle.pg_machine.specs.Machine.{Do, Event, Take, start_of}
 use Rattle.pg_step.specs.declared.refusal.Refusal.{Refusal}
 use Rattle.pg_step.specs.declared.refusal.Refusal.TheVariants.{NotDrained}
 use Rattle.pg_step.specs.Config.{Config}
 use Rattle.pg_step.specs.FrameMachine.{frame_machine, losing_frame_machine}
 use Rattle.pg_step.specs.LossLaws.{LosingFrameWorld}
-use Rattle.pg_step.specs.Step.{Issue, Retry}
-use Rattle.pg_history.specs.History.{history}
+use Rattle.pg_step.specs.Step.{Action, Issue, Retry}
+use Rattle.pg_history.specs.History.{Entry, history}
+use Rattle.pg_history.proofs.steps.Lossless.{NoneLost}
 use Rattle.pg_node_state.specs.declared.state.fault.NodeFault.{NodeFault}
 use Rattle.pg_node_state.specs.declared.state.fault.NodeFault.TheVariants.{Refused, OutOfMemory}
 use Rattle.pg_node_state.specs.declared.state.fault.NodeFault.TheVariants.{Message as BadMessage, TooLong, Damaged}
@@ -40,53 +42,120 @@ use Rattle.pg_frame_world.specs.Views.{peer_place, place_of_peer}
 use Rattle.pg_frame_world.proofs.Counted.{place_there}
 use Rattle.pg_frame_world.proofs.Peering.{known, own_place, same_place}
 use Rattle.pg_frame_world.proofs.Turning.{is_pair_so}
-use Rattle.pg_frame_world.specs.Losing.{Telling, told_take, told_own, told_sight}
+use Rattle.pg_frame_world.specs.Losing.{Telling, formed_after, formed_with, losing_of, told_take, told_own, told_sight}
 use Rattle.pg_frame_world.specs.LosingRuns.{LosingGoesTo}
-use Rattle.pg_frame_world.specs.Past.{HistoriesGrow}
-use Rattle.pg_world.specs.BytesPast.{BytesHavePast, BytesGoOn, BytesRunOn}
+use Rattle.pg_frame_world.specs.Past.{HistoriesGrow, missed_in}
+use Rattle.pg_world.specs.Bars.{bytes_formed_after}
+use Rattle.pg_world.specs.BytesPast.{BytesFormedFirst, BytesHavePast, BytesGoOn, BytesMissed, BytesRunOn}
 use Rattle.pg_frame_world.specs.Pending.{AgreeOn, pending_of, sees_free}
 use Rattle.pg_starts.specs.Seen.{Seen}
 use Rattle.pg_account.specs.Histories.{Account}
-use Rattle.pg_frame_world.proofs.Leading.{Near, Here, Next, Lists, Survive, AreApart, goes_on}
+use Rattle.pg_account.specs.Losses.{is_lost}
+use Rattle.pg_frame_world.specs.Worlds.{TimedFrameWorld, ShowsNodes}
+use Rattle.pg_frame_world.proofs.AtLosses.{ToldBehind, none_told}
+use Rattle.pg_frame_world.proofs.FormedSeen.{ToldOf, loss_told, told_both}
+use Rattle.pg_frame_world.proofs.Leading.{Near, NearBy, Here, Next, Lists, Survive, AreApart, goes_on}
 use Rattle.pg_frame_world.proofs.Leading.{past_after, past_of, runs_on, comes_on, some_comes}
-use Rattle.pg_frame_world.proofs.Leading.{histories_grow, history_is, applied_there, agreed_there}
+use Rattle.pg_frame_world.proofs.Leading.{histories_grow, history_is, applied_there, agreed_there, missed_there}
+use Rattle.pg_frame_world.proofs.Ordered.{ordered_length}
 use Rattle.pg_frame_world.proofs.LosingRunning.{losing_leads, start_is}
 use Rattle.pg_world.proofs.over_bytes.Past.{move_mapped}
 
 -- ---- the worlds to which a step leads
 
-module _ (config : Config) (u : LosingFrameWorld) (P Q : LosingFrameWorld → Type 0) (onward : (v : LosingFrameWorld) → Near config u v → P v → Q v) where
-  whole_on : (told : Telling) (result : Result Stepped NodeFault) → WholeComesTo config u told result P → WholeComesTo config u told result Q
-  whole_on told (Ok Nothing) shown = onward u (Here refl) shown
-  whole_on told result comes = comes_on config u told P Q onward result comes
+-- what is told behind what came of a step: T of an event that happened, and S where none did
+abbrev LossTold : (LosingEvent Action → Type 0) → Type 0 → ℕ → Result Stepped NodeFault → Type 0
+LossTold T S i (Ok stepped) = (keep : ℕ → ℕ) → T (Lose i keep)
+LossTold T S i (Err fault) = S
 
-  sight_on : (told : Telling) (result : Result Stepped NodeFault) → SightComesTo config u told result P → SightComesTo config u told result Q
-  sight_on told (Err (Refused NotDrained)) shown = onward u (Here refl) shown
-  sight_on told result comes = comes_on config u told P Q onward result comes
+abbrev EventTold : (LosingEvent Action → Type 0) → Type 0 → FrameStep → Result Stepped NodeFault → Type 0
+EventTold T S (frames.Lose i keep) result = LossTold T S i result
+EventTold T S step result = ((e : Event Action) → T (Happens e)) × S
 
-  loss_on : (i : ℕ) (result : Result Stepped NodeFault) → LossComesTo config u i result P → LossComesTo config u i result Q
-  loss_on i (Ok Gone) (keep, (v, happened, shown)) = (keep, (v, happened, onward v (Next (Lose i keep) happened) shown))
-  loss_on i (Ok (Happened effect)) comes = absurd comes
-  loss_on i (Ok Nothing) comes = absurd comes
-  loss_on i (Ok (Moved count)) comes = absurd comes
-  loss_on i (Err OutOfMemory) shown = onward u (Here refl) shown
-  loss_on i (Err (Refused refusal)) (is, shown) = (is, onward u (Here refl) shown)
-  loss_on i (Err (BadMessage m)) comes = absurd comes
-  loss_on i (Err TooLong) comes = absurd comes
-  loss_on i (Err Damaged) comes = absurd comes
+abbrev pub StepTold : (LosingEvent Action → Type 0) → Type 0 → Step → Result Stepped NodeFault → Type 0
+StepTold T S (steps.Event step) result = EventTold T S step result
+StepTold T S (steps.Lose i) result = LossTold T S i result
+StepTold T S step result = S
 
-  event_on : (step : FrameStep) (result : Result Stepped NodeFault) → EventLeaves config u step result P → EventLeaves config u step result Q
-  event_on (frames.Take i p) result comes = whole_on (told_take config u i p) result comes
-  event_on (frames.Command i port command) result comes = comes_on config u (told_own config u i (Issue port command)) P Q onward result comes
-  event_on (frames.Retry i op) result comes = comes_on config u (told_own config u i (Retry op)) P Q onward result comes
-  event_on (frames.SeeLoss i p) result comes = sight_on (told_sight config u i p) result comes
-  event_on (frames.Lose i keep) result comes = loss_on i result comes
+module _ (config : Config) (u : LosingFrameWorld) (T : LosingEvent Action → Type 0) (S : Type 0) (P Q : LosingFrameWorld → Type 0) (onward : (v : LosingFrameWorld) → Near config T S u v → P v → Q v) where
+  whole_on : (told : Telling) (result : Result Stepped NodeFault) → ToldOf T S told.event result → WholeComesTo config u told result P → WholeComesTo config u told result Q
+  whole_on told (Ok Nothing) so shown = onward u (Here refl so) shown
+  whole_on told result so comes = comes_on config u T S told P Q onward result so comes
 
-  pub leaves_on : (step : Step) (result : Result Stepped NodeFault) → StepLeaves config u step result P → StepLeaves config u step result Q
-  leaves_on (steps.Put x y max) result leaves = move_mapped (put_refusal config u x y) (put_refusal config u x y) (P u) (Q u) result refl (onward u (Here refl)) leaves
-  leaves_on (steps.Pull y x max) result leaves = move_mapped (pull_refusal config u y x) (pull_refusal config u y x) (P u) (Q u) result refl (onward u (Here refl)) leaves
-  leaves_on (steps.Event step) result leaves = event_on step result leaves
-  leaves_on (steps.Lose i) result leaves = loss_on i result leaves
+  sight_on : (told : Telling) (result : Result Stepped NodeFault) → ToldOf T S told.event result → SightComesTo config u told result P → SightComesTo config u told result Q
+  sight_on told (Err (Refused NotDrained)) so shown = onward u (Here refl so) shown
+  sight_on told result so comes = comes_on config u T S told P Q onward result so comes
+
+  loss_on : (i : ℕ) (result : Result Stepped NodeFault) → LossTold T S i result → LossComesTo config u i result P → LossComesTo config u i result Q
+  loss_on i (Ok Gone) so (keep, (v, happened, shown)) = (keep, (v, happened, onward v (Next (Lose i keep) happened (so keep)) shown))
+  loss_on i (Ok (Happened effect)) so comes = absurd comes
+  loss_on i (Ok Nothing) so comes = absurd comes
+  loss_on i (Ok (Moved count)) so comes = absurd comes
+  loss_on i (Err OutOfMemory) so shown = onward u (Here refl so) shown
+  loss_on i (Err (Refused refusal)) so (is, shown) = (is, onward u (Here refl so) shown)
+  loss_on i (Err (BadMessage m)) so comes = absurd comes
+  loss_on i (Err TooLong) so comes = absurd comes
+  loss_on i (Err Damaged) so comes = absurd comes
+
+  event_on : (step : FrameStep) (result : Result Stepped NodeFault) → EventTold T S step result → EventLeaves config u step result P → EventLeaves config u step result Q
+  event_on (frames.Take i p) result so comes = whole_on (told_take config u i p) result (told_both T S (Happens (Take i p)) result (so.0 (Take i p)) so.1) comes
+  event_on (frames.Command i port command) result so comes = comes_on config u T S (told_own config u i (Issue port command)) P Q onward result (told_both T S (Happens (Do i (Issue port command))) result (so.0 (Do i (Issue port command))) so.1) comes
+  event_on (frames.Retry i op) result so comes = comes_on config u T S (told_own config u i (Retry op)) P Q onward result (told_both T S (Happens (Do i (Retry op))) result (so.0 (Do i (Retry op))) so.1) comes
+  event_on (frames.SeeLoss i p) result so comes = sight_on (told_sight config u i p) result (told_both T S (Happens (Take i p)) result (so.0 (Take i p)) so.1) comes
+  event_on (frames.Lose i keep) result so comes = loss_on i result so comes
+
+  pub leaves_on : (step : Step) (result : Result Stepped NodeFault) → StepTold T S step result → StepLeaves config u step result P → StepLeaves config u step result Q
+  leaves_on (steps.Put x y max) result so leaves = move_mapped (put_refusal config u x y) (put_refusal config u x y) (P u) (Q u) result refl (onward u (Here refl so)) leaves
+  leaves_on (steps.Pull y x max) result so leaves = move_mapped (pull_refusal config u y x) (pull_refusal config u y x) (P u) (Q u) result refl (onward u (Here refl so)) leaves
+  leaves_on (steps.Event step) result so leaves = event_on step result so leaves
+  leaves_on (steps.Lose i) result so leaves = loss_on i result so leaves
+
+-- what is told behind a step, by the nodes that are seen
+module _ (config : Config) (nodes : List Seen) (lost : List ℕ) (w : TimedFrameWorld) (u : LosingFrameWorld) (shows : ShowsNodes config nodes w) (is : u ≡ losing_of config w lost)
+    (seen : ((x : ℕ) → u.gone x ≡ false) → (k : ℕ) → NoneLost (u.world.node k).state) (was now : Bool) where
+  abbrev T : LosingEvent Action → Type 0
+  T e = ToldBehind config u e was now
+
+  abbrev S : Type 0
+  S = now ≡ was
+
+  told_loss : (i : ℕ) (result : Result Stepped NodeFault) → now ≡ formed_with result nodes lost was → LossTold T S i result
+  told_loss i (Ok stepped) so = λ keep. loss_told config nodes lost w u shows is seen i keep was now so
+  told_loss i (Err fault) so = so
+
+  told_event : (step : FrameStep) (result : Result Stepped NodeFault) → now ≡ formed_after step result nodes lost was → EventTold T S step result
+  told_event (frames.Take i p) result so = ((λ e. so), so)
+  told_event (frames.Command i port command) result so = ((λ e. so), so)
+  told_event (frames.Retry i op) result so = ((λ e. so), so)
+  told_event (frames.SeeLoss i p) result so = ((λ e. so), so)
+  told_event (frames.Lose i keep) result so = told_loss i result so
+
+  pub told_bytes : (step : Step) (result : Result Stepped NodeFault) → now ≡ bytes_formed_after step result nodes lost was → StepTold T S step result
+  told_bytes (steps.Put x y max) result so = so
+  told_bytes (steps.Pull y x max) result so = so
+  told_bytes (steps.Event step) result so = told_event step result so
+  told_bytes (steps.Lose i) result so = told_loss i result so
+
+-- where nothing is asked
+abbrev pub Any : LosingEvent Action → Type 0
+Any e = Unit {0}
+
+any_loss : (i : ℕ) (result : Result Stepped NodeFault) → LossTold Any (Unit {0}) i result
+any_loss i (Ok stepped) = λ keep. tt
+any_loss i (Err fault) = tt
+
+any_event : (step : FrameStep) (result : Result Stepped NodeFault) → EventTold Any (Unit {0}) step result
+any_event (frames.Take i p) result = ((λ e. tt), tt)
+any_event (frames.Command i port command) result = ((λ e. tt), tt)
+any_event (frames.Retry i op) result = ((λ e. tt), tt)
+any_event (frames.SeeLoss i p) result = ((λ e. tt), tt)
+any_event (frames.Lose i keep) result = any_loss i result
+
+pub any_told : (step : Step) (result : Result Stepped NodeFault) → StepTold Any (Unit {0}) step result
+any_told (steps.Put x y max) result = tt
+any_told (steps.Pull y x max) result = tt
+any_told (steps.Event step) result = any_event step result
+any_told (steps.Lose i) result = any_loss i result
 
 -- one of them
 module _ (config : Config) (u : LosingFrameWorld) (Q : LosingFrameWorld → Type 0) where
@@ -139,7 +208,8 @@ module _ (config : Config) (u : LosingFrameWorld) (Q : LosingFrameWorld → Type
 -- ---- a step
 
 module _ (given : Config) (survive : Survive) (old : Crossing) (account : Account) (lost : List ℕ) (step : Step) (result : Result Stepped NodeFault) (new : Crossing) (later : Account) (now : List ℕ)
-    (came : (config : Config) (u : LosingFrameWorld) → IsReachedLosing config u → ShowsLosingBytes config old account lost u → StepLeaves config u step result (ShowsLosingBytes config new later now)) where
+    (came : (config : Config) (u : LosingFrameWorld) → IsReachedLosing config u → ShowsLosingBytes config old account lost u → StepLeaves config u step result (ShowsLosingBytes config new later now))
+    (told : later.formed ≡ bytes_formed_after step result old.nodes lost account.formed) where
   abbrev Before : Config → LosingFrameWorld → Type 0
   Before config u = ShowsLosingBytes config old account lost u
 
@@ -152,13 +222,17 @@ module _ (given : Config) (survive : Survive) (old : Crossing) (account : Accoun
   apart : AreApart After
   apart config u shows = shows.shows.traffic.nodes.apart
 
+  onward_from : (config : Config) (u : LosingFrameWorld) → Before config u → (((x : ℕ) → u.gone x ≡ false) → (k : ℕ) → NoneLost (u.world.node k).state)
+      → (P Q : LosingFrameWorld → Type 0) → ((v : LosingFrameWorld) → NearBy config account.formed later.formed u v → P v → Q v) → Comes config u P → Comes config u Q
+  onward_from config u shows seen P Q onward leaves = leaves_on config u (λ e. ToldBehind config u e account.formed later.formed) (later.formed ≡ account.formed) P Q onward step result
+      (told_bytes config old.nodes lost shows.frames u shows.shows.traffic.nodes shows.is seen account.formed later.formed step result told) leaves
+
   pub bytes_go_on : BytesHavePast given old account lost → BytesGoOn given old account lost step result new later now
-  bytes_go_on past =
-      goes_on given After apart survive Before Comes (λ config u P Q onward leaves. leaves_on config u P Q onward step result leaves) past (λ config u events reached shows. came config u (events, reached) shows)
+  bytes_go_on past = goes_on given After apart survive account.formed later.formed Before Comes onward_from past (λ config u events reached shows. came config u (events, reached) shows)
 
   pub bytes_past : BytesHavePast given old account lost → BytesHavePast given new later now
-  bytes_past past =
-      past_after given After apart survive Before Comes (λ config u P Q onward leaves. leaves_on config u P Q onward step result leaves) (λ config u Q leaves. some_leaves config u Q step result leaves) (bytes_go_on past)
+  bytes_past past = past_after given After apart survive account.formed later.formed Before Comes onward_from
+      (λ config u Q leaves. some_leaves config u Q step result leaves) past (λ config u events reached shows. came config u (events, reached) shows)
 
 -- ---- steps, one after another, and the start
 
@@ -166,11 +240,11 @@ pub bytes_run_on : (given : Config) → Survive → (old : Crossing) (account : 
     → ((config : Config) (u : LosingFrameWorld) → IsReachedLosing config u → ShowsLosingBytes config old account lost u → LosingGoesTo bytes_past_losses config u all numbers (ShowsLosingBytes config new later now))
     → BytesHavePast given old account lost → BytesRunOn given old account lost all numbers new later now
 bytes_run_on given survive old account lost all numbers new later now came past =
-    runs_on bytes_past_losses given (λ config u. ShowsLosingBytes config old account lost u) (λ config u. ShowsLosingBytes config new later now u) all numbers (λ config u shows. shows.shows.traffic.nodes.apart) survive past
+    runs_on bytes_past_losses given (λ config u. ShowsLosingBytes config old account lost u) (λ config u. ShowsLosingBytes config new later now u) all numbers (λ config u shows. shows.shows.traffic.nodes.apart) survive account.formed past
     (λ config u events reached shows. came config u (events, reached) shows)
 
-pub bytes_begin : (survive : Survive) (given : Config) (crossing : Crossing) (account : Account) (lost : List ℕ) → lost ≡ [] → BytesBegin given crossing account → BytesHavePast given crossing account lost
-bytes_begin survive given crossing account lost none begins =
+pub bytes_begin : (survive : Survive) (given : Config) (crossing : Crossing) (account : Account) (lost : List ℕ) → lost ≡ [] → account.formed ≡ true → length given ≤ 16 → BytesBegin given crossing account → BytesHavePast given crossing account lost
+bytes_begin survive given crossing account lost none formed few begins =
     let config = begins.0 in
     let start = nobody_gone (start_of (losing_frame_machine config)) in
     record {
@@ -185,6 +259,8 @@ bytes_begin survive given crossing account lost none begins =
             seen = λ i p pair saw. let no : false ≡ true = saw in absurd (cc);
             is = start_is config;
           }));
+      at_losses = (λ _. none_told config, λ _. formed);
+      few = let same = ordered_length given config begins.1 in omega (arith, few, same);
     }
 
 -- ---- what is known of a world with a past
@@ -214,6 +290,17 @@ bytes_agreed_all lists given crossing account lost x name past empty none free =
     let shows = past.is.shows in
     agreed_there past.config crossing.nodes account lost shows.frames past.u shows.shows.traffic.nodes shows.shows.updates shows.is past.events past.is.history none
     ((lists past.config crossing.nodes lost shows.frames past.u past.events shows.shows.traffic.nodes shows.is past.is.reached).0 empty) x name free
+
+pub bytes_missed : (given : Config) (crossing : Crossing) (account : Account) (lost : List ℕ) (i : ℕ) (name : Term) → i < length crossing.nodes → is_lost lost i ≡ false
+    → (entries : List Entry) → entries ≡ missed_in crossing.nodes account i name → BytesHavePast given crossing account lost → BytesMissed given crossing account lost i name entries
+bytes_missed given crossing account lost i name within lives entries told past = record {
+  past = past;
+  is = let shows = past.is.shows in told ∙ missed_there given past.config past.events past.u crossing.nodes account lost shows.frames past.few past.is.reached past.is.survived
+      shows.shows.traffic.nodes shows.shows.updates shows.is i name within lives;
+}
+
+pub bytes_formed : (given : Config) (crossing : Crossing) (account : Account) (lost : List ℕ) (formed : Bool) → formed ≡ account.formed → BytesHavePast given crossing account lost → BytesFormedFirst given crossing account lost formed
+bytes_formed given crossing account lost formed told past = record { past = past; is = (λ e. past.at_losses.0 (sym told ∙ e), λ all. told ∙ past.at_losses.1 all) }
 
 -- no link of a node is damaged
 pub bytes_sound : (given : Config) (crossing : Crossing) (account : Account) (lost : List ℕ) (i : ℕ) (node : Seen) (links : ℕ → Link) → BytesHavePast given crossing account lost

@@ -26,17 +26,19 @@ use Rattle.pg_frame_world.specs.declared.step.Stepped.{Stepped}
 use Rattle.pg_frame_world.specs.declared.step.Stepped.TheVariants.{Happened, Moved, Nothing, Gone}
 use Rattle.pg_world.specs.Bars.{IsFaultOf, put_bar, pull_bar}
 use Rattle.pg_world.specs.BytesLosing.{ShowsLosingBytes, MoveLeaves, WholeComesTo, SightComesTo}
-use Rattle.pg_world.specs.BytesLosing.{EventLeaves, put_refusal, pull_refusal, gone_refusal}
-use Rattle.pg_world.specs.Crossings.{Crossing, ShowsBytesPast, EventComesTo, MoveComesTo, LossLeaves, is_take}
+use Rattle.pg_world.specs.BytesLosing.{EventLeaves, LossComesTo, put_refusal, pull_refusal, gone_refusal}
+use Rattle.pg_world.specs.Crossings.{Crossing, ShowsBytes, ShowsBytesPast, EventComesTo, MoveComesTo, LossLeaves, is_take}
 use Rattle.pg_frame_world.specs.Effects.{effect_in, losing_effect_in}
-use Rattle.pg_frame_world.specs.Losing.{SeenAreLost, losing_of, is_cut_off, is_barred, Telling}
+use Rattle.pg_frame_world.specs.Losing.{SeenAreLost, account_with, formed_at, losing_of, is_cut_off, is_barred, Telling}
 use Rattle.pg_frame_world.specs.Losing.{told_take, told_own, told_of, LosingLed, LosingComesTo}
 use Rattle.pg_account.specs.Losses.{is_lost}
-use Rattle.pg_account.specs.Histories.{Account}
-use Rattle.pg_frame_world.specs.Worlds.{TimedFrameWorld, ShowsNodes, has_port, has_places, told}
+use Rattle.pg_account.specs.Histories.{Account, account_formed}
+use Rattle.pg_starts.specs.Seen.{Seen}
+use Rattle.pg_frame_world.specs.Worlds.{TimedFrameWorld, ShowsNodes, ShowsUpdates, has_port, has_places, told}
 use Rattle.pg_frame_world.proofs.Barred.{cut_is, barred_told, unplaced_told, take_cut, either_stays}
 use Rattle.pg_frame_world.proofs.Barred.{take_refused_so, take_busy_so, own_refused_so}
 use Rattle.pg_frame_world.proofs.Lossy.{lifted, same_effect, lost_kept}
+use Rattle.pg_frame_world.proofs.Stopped.{updates_formed}
 use Rattle.pg_frame_world.proofs.Turning.{pair_turned}
 
 -- ---- bytes that should move
@@ -80,6 +82,28 @@ move_came config n x y Shown result size came = go result (move_mapped _ (cond (
     go (Err (BadMessage m)) comes = absurd comes
     go (Err TooLong) comes = absurd comes
     go (Err Damaged) comes = absurd comes
+
+-- whether all were formed says nothing of what is on the way, or of updates
+pub bytes_with : (config : Config) (crossing : Crossing) (account : Account) (w : TimedFrameWorld) (result : Result Stepped NodeFault) (nodes : List Seen) (lost : List ℕ)
+    → ShowsBytes config crossing account w → ShowsBytes config crossing (account_with result nodes lost account) w
+bytes_with config crossing account w (Ok stepped) nodes lost shows = record { traffic = shows.traffic; updates = updates_formed (formed_at nodes lost account.formed) account w shows.updates }
+bytes_with config crossing account w (Err fault) nodes lost shows = shows
+
+pub lost_with : (config : Config) (crossing : Crossing) (account account2 : Account) (u : LosingFrameWorld) (i : ℕ) (lost : List ℕ) (formed : Bool) → account2 ≡ account_formed formed account
+    → LossComesTo config u i (Ok Gone) (ShowsLosingBytes config crossing account lost) → LossComesTo config u i (Ok Gone) (ShowsLosingBytes config crossing account2 lost)
+lost_with config crossing account account2 u i lost formed same (keep, (v, happened, shows)) = (
+  keep,
+  (
+    v,
+    happened,
+    record {
+      frames = shows.frames;
+      shows = record { traffic = shows.shows.traffic; updates = subst (λ (a : Account). ShowsUpdates a shows.frames) (sym same) (updates_formed formed account shows.frames shows.shows.updates) };
+      seen = shows.seen;
+      is = shows.is;
+    },
+  ),
+)
 
 -- the loss of a node where none is lost
 pub loss_came : (config : Config) (n i : ℕ) (Shown : Type 0) (result : Result Stepped NodeFault) → n ≡ length config

@@ -40,6 +40,7 @@ impl ByteNodes<IndexTable> {
         ensures opens { IfOk result (λ world. OpensBytes config.now.starts.items (crossing_of world)) }
         ensures room { IfOk result (λ world. room_of world ≡ config.now.ring) }
         ensures lost { IfOk result (λ world. lost_in world.losses ≡ []) }
+        ensures formed { IfOk result (λ world. world.histories.formed ≡ true) }
         ensures fault { IfErr result (CantBegin config.now.ring config.now.starts.items) }
     {
         match ready(alloc, config) {
@@ -61,6 +62,7 @@ impl ByteNodes<IndexTable> {
         ensures opens { IfOk result (λ world. OpensBytes starts.now (crossing_of world)) }
         ensures room { IfOk result (λ world. room_of world ≡ ring) }
         ensures lost { IfOk result (λ world. lost_in world.losses ≡ []) }
+        ensures formed { IfOk result (λ world. world.histories.formed ≡ true) }
         ensures fault { IfErr result (CantStart starts.now) }
     {
         match opened_nodes(alloc, starts) {

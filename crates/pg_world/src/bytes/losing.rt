@@ -1,14 +1,17 @@
 //! Nodes of a world of bytes that are lost.
 
-ghost use Rattle.std.specs.Prelude.{◌≡◌, true, false, Err, IfErr, length};
+ghost use Rattle.std.specs.Prelude.{◌≡◌, true, false, Err, IfErr, IfOk, length, map};
+ghost use Rattle.std.specs.List.{list_all};
 
 use crate::bytes::ByteNodes;
+use pg_account::Entry;
 use pg_frame::{front_is_first_of_cut, loss_cuts_packets};
 use pg_frame_world::{Effect, FrameStep, Stepped, peer_place};
 use pg_group::GroupTable;
 use pg_message::Packet;
 use pg_node::{Done, NodeFault};
 use pg_step::Refusal;
+use pg_term::Term;
 use std::alloc::AllocError;
 
 impl<T: GroupTable + Drop> ByteNodes<T> {
@@ -25,6 +28,9 @@ impl<T: GroupTable + Drop> ByteNodes<T> {
     ghost use Rattle.pg_account.specs.Histories.{account_of};
     ghost use Rattle.pg_account.specs.Losses.{lost_in, is_lost};
     ghost use Rattle.pg_frame_world.specs.Losing.{told_sight, lost_with, seen_at, is_cut_off, is_barred};
+    ghost use Rattle.pg_account.specs.Histories.{as_entry, is_among};
+    ghost use Rattle.pg_frame_world.specs.Losing.{account_with, formed_at, is_formed};
+    ghost use Rattle.pg_frame_world.specs.Past.{has_seen_in, missed_in};
     ghost use Rattle.pg_frame_world.specs.Worlds.{has_places};
 
     /// Whether an event is one of a node that is lost, or one with a peer whose loss the node has seen.
@@ -60,6 +66,29 @@ impl<T: GroupTable + Drop> ByteNodes<T> {
     {
         let over = &self.nodes[node];
         over.state().is_lost(peer_place(node, peer))
+    }
+
+    /// The updates of a group that a node has not applied, of the nodes whose loss it has seen.
+    ///
+    /// Errors: `AllocError`.
+    pub(crate) fn missed(&self, node: usize, name: &Term) -> Result<Vec<Entry>, AllocError>
+        ensures { IfOk result (λ missed. map as_entry missed.items ≡ missed_in (crossing_of self.now).nodes (account_of self.now.histories) node name.now) }
+    {
+        let seen = self.seen_by(node)?;
+        self.histories.missed(node, name, seen.as_slice())
+    }
+
+    /// Of each node, by its place, whether a node is there that has seen its loss.
+    ///
+    /// Errors: `AllocError`.
+    fn seen_by(&self, node: usize) -> Result<Vec<bool>, AllocError>
+        ensures { IfOk result (λ seen. is_among seen.items ≡ has_seen_in (crossing_of self.now).nodes node) }
+    {
+        let mut seen = Vec::with_capacity(*self.nodes.allocator(), self.nodes.len())?;
+        for peer in 0..self.nodes.len() {
+            seen.push(self.has_pair(node, peer) && self.has_seen(node, peer))?;
+        }
+        Ok(seen)
     }
 
     /// A node sees the loss of a peer that is not known to it yet.
@@ -104,10 +133,33 @@ impl<T: GroupTable + Drop> ByteNodes<T> {
         !row.rings[peer_place(peer, node)].is_empty()
     }
 
+    /// Whether every node is formed when the first is lost, where one is lost now.
+    fn formed_at_loss(&self) -> bool
+        ensures { result ≡ formed_at (crossing_of self.now).nodes (lost_in self.now.losses) (account_of self.now.histories).formed }
+    {
+        if self.losses.is_empty() {
+            self.are_formed()
+        } else {
+            self.histories.formed_at_first_loss()
+        }
+    }
+
+    /// Whether each node is formed.
+    fn are_formed(&self) -> bool
+        ensures { result ≡ list_all is_formed (crossing_of self.now).nodes }
+    {
+        for over in &self.nodes {
+            if !over.state().formed() {
+                return false;
+            }
+        }
+        true
+    }
+
     /// A node is lost.
     pub(crate) fn lose(&mut self, node: usize) -> Result<Stepped, NodeFault>
         ensures same { crossing_of self.new ≡ crossing_of self.old }
-        ensures account { account_of self.new.histories ≡ account_of self.old.histories }
+        ensures account { account_of self.new.histories ≡ account_with result (crossing_of self.old).nodes (lost_in self.old.losses) (account_of self.old.histories) }
         ensures barred { IsHeld (loss_bar (crossing_of self.old) (lost_in self.old.losses) node) result }
         ensures fault { IfErr result (IsFaultOf (loss_bar (crossing_of self.old) (lost_in self.old.losses) node)) }
         ensures lost { lost_in self.new.losses ≡ lost_with node result (lost_in self.old.losses) }
@@ -122,8 +174,12 @@ impl<T: GroupTable + Drop> ByteNodes<T> {
         if self.losses.has(node) {
             return Err(NodeFault::Refused(Refusal::NodeLost));
         }
+        let formed = self.formed_at_loss();
         match self.losses.add(node) {
-            Ok(()) => Ok(Stepped::Gone),
+            Ok(()) => {
+                self.histories.lose(formed);
+                Ok(Stepped::Gone)
+            }
             Err(AllocError) => Err(NodeFault::OutOfMemory),
         }
     }

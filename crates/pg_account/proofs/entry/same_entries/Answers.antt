@@ -20,7 +20,7 @@ loop-place-preserved c =
     let within : place < length entries = c.loop-place-test.true in
     let count = c.if-entries-others.false in
     same_more as_entry (map as_entry) (λ xs. length-map xs as_entry) (get_or-map as_entry) entries others place c.index-entries-place.result c.index-others-place.result within (omega (arith, within, count))
-    c.index-entries-place.is c.index-others-place.is (entry_is _ _ (sym c.same.ensures ∙ c.if-not-same.false)) c.loop-place.invariant
+    c.index-entries-place.is c.index-others-place.is (entry_is c.index-entries-place.result c.index-others-place.result (sym c.same.ensures ∙ c.if-not-same.false)) c.loop-place.invariant
 
 pub returns-then-not-same : goal.returns-then-not-same
 returns-then-not-same c =
@@ -30,7 +30,7 @@ returns-then-not-same c =
     let within : place < length entries = c.loop-place-test.true in
     let count = c.if-entries-others.false in (
       λ e. absurd (clash (sym e)),
-      λ h. absurd (clash (sym (entry_so _ _ (same_at as_entry (map as_entry) (λ xs. length-map xs as_entry) (get_or-map as_entry) entries others place c.index-entries-place.result c.index-others-place.result within (omega (arith, within, count))
+      λ h. absurd (clash (sym (entry_so c.index-entries-place.result c.index-others-place.result (same_at as_entry (map as_entry) (λ xs. length-map xs as_entry) (get_or-map as_entry) entries others place c.index-entries-place.result c.index-others-place.result within (omega (arith, within, count))
           c.index-entries-place.is c.index-others-place.is h)) ∙ (sym c.same.ensures ∙ c.if-not-same.true))),
     )
 

@@ -14,12 +14,12 @@ returns-in-None-None c =
 pub returns-then-same : goal.returns-then-same
 returns-then-same c =
     with_both _ (map as_entry c.args.entries.now) (map as_entry c.args.others.now) (option_copied c.args.last) (option_copied c.args.other_last) c.in-Some-Some.last.now c.in-Some-Some.other.now
-    (ap option_copied c.in-Some-Some.is-0) (ap option_copied c.in-Some-Some.is-1) (entry_is _ _ (sym c.same.ensures ∙ c.if-same.true)) c.same_entries-then-same.ensures
+    (ap option_copied c.in-Some-Some.is-0) (ap option_copied c.in-Some-Some.is-1) (entry_is c.in-Some-Some.last.now c.in-Some-Some.other.now (sym c.same.ensures ∙ c.if-same.true)) c.same_entries-then-same.ensures
 
 pub returns-else-same : goal.returns-else-same
 returns-else-same c =
     with_others _ (map as_entry c.args.entries.now) (map as_entry c.args.others.now) (option_copied c.args.last) (option_copied c.args.other_last) c.in-Some-Some.last.now c.in-Some-Some.other.now
-    (ap option_copied c.in-Some-Some.is-0) (ap option_copied c.in-Some-Some.is-1) (λ t. clash (sym t ∙ c.if-same.false)) (λ e. clash (sym (entry_so _ _ e) ∙ (sym c.same.ensures ∙ c.if-same.false)))
+    (ap option_copied c.in-Some-Some.is-0) (ap option_copied c.in-Some-Some.is-1) (λ t. clash (sym t ∙ c.if-same.false)) (λ e. clash (sym (entry_so c.in-Some-Some.last.now c.in-Some-Some.other.now e) ∙ (sym c.same.ensures ∙ c.if-same.false)))
 
 pub returns-in-Some-None : goal.returns-in-Some-None
 returns-in-Some-None c =

@@ -1,10 +1,6 @@
-use Rattle.std.proofs.Common.{◌+◌, ◌++◌}
-use Rattle.pg_history.specs.History.{of_group}
-use Rattle.pg_account.specs.Histories.{last_entries, last_count}
+use Rattle.std.proofs.Common.{refl}
+use Rattle.pg_account.proofs.Accounts.{same_account}
 use Rattle.pg_account.proofs.histories.Histories.copy.Goals as goal
 
-pub returns-clause-history : goal.returns-clause-history
-returns-clause-history c = λ j name. c.in_ok-rows.ensures.entries j name ++ of_group name (last_entries (c.in_ok-last.ensures j))
-
-pub returns-clause-applied : goal.returns-clause-applied
-returns-clause-applied c = λ j i name. c.in_ok-rows.ensures.counts j i name + last_count (c.in_ok-last.ensures j) i name
+pub returns : goal.returns
+returns c = same_account (record { rows = c.in_ok-rows.rows; last = c.in_ok-last.last; formed = c.args.self.now.formed; alloc = c.args.self.now.alloc }) c.args.self.now c.in_ok-rows.ensures.entries c.in_ok-rows.ensures.counts c.in_ok-rows.ensures.marks c.in_ok-last.ensures refl

@@ -1,5 +1,6 @@
-use Rattle.std.proofs.Common.{sym, subst}
+use Rattle.std.proofs.Common.{ap, sym, subst}
 use Rattle.pg_frame_world.specs.Starts.{Begins}
+use Rattle.pg_frame_world.specs.Views.{View}
 use Rattle.pg_frame_world.proofs.Opened.{all_name_slice, slice_fits, cant_start_slice}
 use Rattle.pg_frame_world.proofs.Starting.{all_few_slice, world_whole, world_begins}
 use Rattle.pg_frame_world.proofs.begun.FrameNodes+IndexTable.begun.Goals as goal
@@ -25,6 +26,9 @@ of_parts-requires c = world_whole c.args.starts.now c.in_ok-nodes.nodes.items c.
 pub returns-in-Ok-clause-begins : goal.returns-in-Ok-clause-begins
 returns-in-Ok-clause-begins c = subst (Begins c.args.starts.now) (sym c.of_parts.ensures.view)
     (world_begins c.args.starts.now c.in_ok-nodes.nodes.items c.as_slice.result.now c.in-Ok.outgoing.items c.as_slice.ensures.value c.in_ok-nodes.ensures c.in-Ok.ensures.open c.requires.ready.apart)
+
+pub returns-in-Ok-clause-formed : goal.returns-in-Ok-clause-formed
+returns-in-Ok-clause-formed c = ap (λ (view : View). view.account.formed) c.of_parts.ensures.view
 
 pub returns-in-Ok-clause-fits : goal.returns-in-Ok-clause-fits
 returns-in-Ok-clause-fits c = slice_fits c.args.starts.now c.in_ok-nodes.nodes.items c.as_slice.result.now _ c.as_slice.ensures.value c.in_ok-nodes.ensures c.in-Ok.ensures.open

@@ -11,13 +11,13 @@ pub invariant_of-self : goal.invariant_of-self
 invariant_of-self g c =
     let world = c.args.self.now in
     let new = c.step.new.self in
-    record { past = ∥∥₁_map world.past (frames_past (given_of world) c.each_world_past_losses.ensures (view_of world) (lost_of world) c.args.step.now c.step.result (nodes.view_of new) (losing.lost_of new) c.step.ensures.losing) }
+    record { past = ∥∥₁_map world.past (frames_past (given_of world) c.each_world_past_losses.ensures (view_of world) (lost_of world) c.args.step.now c.step.result (nodes.view_of new) (losing.lost_of new) c.step.ensures.losing c.step.ensures.formed) }
 
 pub returns-clause-goes_on : goal.returns-clause-goes_on
 returns-clause-goes_on g c =
     let world = c.args.self.now in
     let new = c.step.new.self in
-    ∥∥₁_map world.past (frames_go_on (given_of world) c.each_world_past_losses.ensures (view_of world) (lost_of world) c.args.step.now c.step.result (nodes.view_of new) (losing.lost_of new) c.step.ensures.losing)
+    ∥∥₁_map world.past (frames_go_on (given_of world) c.each_world_past_losses.ensures (view_of world) (lost_of world) c.args.step.now c.step.result (nodes.view_of new) (losing.lost_of new) c.step.ensures.losing c.step.ensures.formed)
 
 pub returns-clause-grows : goal.returns-clause-grows
 returns-clause-grows g c =
@@ -25,4 +25,4 @@ returns-clause-grows g c =
     let new = c.step.new.self in
     ∥∥₁_elim world.past (hlevel (update_set, props))
     (λ past. step_grows (given_of world) (view_of world) (nodes.view_of new) (lost_of world) (losing.lost_of new) c.args.step.now c.step.result
-    (frames_go_on (given_of world) c.each_world_past_losses.ensures (view_of world) (lost_of world) c.args.step.now c.step.result (nodes.view_of new) (losing.lost_of new) c.step.ensures.losing past))
+    (frames_go_on (given_of world) c.each_world_past_losses.ensures (view_of world) (lost_of world) c.args.step.now c.step.result (nodes.view_of new) (losing.lost_of new) c.step.ensures.losing c.step.ensures.formed past))

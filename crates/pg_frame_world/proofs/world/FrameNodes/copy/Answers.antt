@@ -18,5 +18,5 @@ returns-clause-view g c =
     let ways = c.in_ok-outgoing.ensures ∙ ap (λ (outgoing : List Outgoing). map ways_of outgoing) c.deref.ensures.value in
     λ i. record {
       traffic = record { nodes = nodes i; ways = ways i };
-      account = record { histories = c.in_ok-histories.ensures.history i; applied = c.in_ok-histories.ensures.applied i };
+      account = c.in_ok-histories.ensures i;
     }

@@ -36,7 +36,7 @@ returns-in-Err-clause-err g c =
     let inside : c.args.node < length outs = omega (arith, within, whole.rows, length-map outs ways_of, length-map nodes seen_of) in
     let outs1 = slice_set outs c.args.node c.make_room.new.self in
     let room = view_room nodes outs c.args.node c.index_mut-outgoing.result.now c.make_room.new.self inside c.index_mut-outgoing.ensures.value c.make_room.ensures.same in
-    view_is _ _ room refl refl
+    view_is _ _ room refl
 
 pub index_mut-state-requires : goal.index_mut-state-requires
 index_mut-state-requires g c =
@@ -144,7 +144,7 @@ returns-in-Ok-retry-clause-event g c =
     let whole1 = whole_as nodes outs outs1 room whole in
     λ config w shows.
     shows_all config (view_of c.args.self.now) _ w (Do c.args.node (Retry c.args.op)) c.args.node None c.in-Ok-retry.done.began (effect_by c.in-Ok-retry.done) c.of-effect.result c.of-effect.ensures shows
-    (grew_own (view_of c.args.self.now).account _ c.args.node c.in-Ok-retry.done.began c.send_all.result c.send_all.ensures.began c.begin.ensures.history c.begin.ensures.applied)
+    (grew_own (view_of c.args.self.now).account _ c.args.node c.in-Ok-retry.done.began c.send_all.result c.send_all.ensures.began c.begin.ensures.history c.begin.ensures.applied c.begin.ensures.marked)
     (own_happened config (traffic_in nodes outs) w c.args.node (Retry c.args.op) (seen_of state) shows.traffic (seen_here nodes outs c.args.node whole within state here)
     (sent_view nodes outs1 c.args.node whole1 within state here after out c.send_all.new.self sends c.in-Ok-retry.ensures.names there c.send_all.ensures.len c.send_all.ensures.sent) (seen_of after) c.in-Ok-retry.done (sent_nodes nodes outs1 c.args.node whole1 within state here after out c.send_all.new.self sends c.in-Ok-retry.ensures.names there c.send_all.ensures.len c.send_all.ensures.sent) c.in-Ok-retry.ensures.names c.in-Ok-retry.ensures.ports c.in-Ok-retry.ensures.fits
     (λ k. sent_there nodes outs1 c.args.node whole1 within state here after out c.send_all.new.self sends c.in-Ok-retry.ensures.names there c.send_all.ensures.len c.send_all.ensures.sent k ∙ ap (λ xs. xs ++ packets_to sends k) (way_as nodes outs outs1 room c.args.node k))
@@ -176,4 +176,4 @@ returns-in-Err-retry-clause-err g c =
     let after = c.retry.new.self in
     let seen = seen_same nodes outs state after c.in-Err-retry.ensures.names c.in-Err-retry.ensures.ports c.in-Err-retry.ensures.err c.in-Err-retry.ensures.err_answers in
     let same = view_refused nodes outs c.args.node c.index_mut-outgoing.result.now c.make_room.new.self state after inside c.index_mut-outgoing.ensures.value c.make_room.ensures.same within here seen in
-    view_is _ _ same refl refl
+    view_is _ _ same refl

@@ -85,7 +85,7 @@ returns-in-Err-clause-losing g c = λ config u shows.
     let seen = seen_same nodes outs state after c.in-Err.ensures.names c.in-Err.ensures.ports c.in-Err.ensures.err c.in-Err.ensures.err_answers in
     let same : traffic_in (slice_set nodes node after) outs ≡ traffic_in nodes outs = λ j. record { nodes = map_same seen_of nodes node state after within c.index_mut-state.ensures.value seen j; ways = map ways_of outs } in
     packets_sight_refused config view _ u node peer lost lost shows c.requires.pair c.requires.lives gone drained (seen_of state) here c.clock-last.result clock refl
-    c.in-Err.fault (state_of after) (answers_of state) (answers_of after) (view_is _ _ same refl refl)
+    c.in-Err.fault (state_of after) (answers_of state) (answers_of after) (view_is _ _ same refl)
     (subst (λ k. Comes (names_of state) (step_see_loss (name_at (names_of state) (k + 1)) c.clock-last.result (state_of state)) (Err c.in-Err.fault) (state_of after) (answers_of state) (answers_of after)) c.peer_place.ensures c.in-Err.ensures.event)
 
 pub returns-in-Err-clause-err : goal.returns-in-Err-clause-err
@@ -101,4 +101,4 @@ returns-in-Err-clause-err g c =
     let after = c.see_loss.new.self in
     let seen = seen_same nodes outs state after c.in-Err.ensures.names c.in-Err.ensures.ports c.in-Err.ensures.err c.in-Err.ensures.err_answers in
     let same : traffic_in (slice_set nodes node after) outs ≡ traffic_in nodes outs = λ j. record { nodes = map_same seen_of nodes node state after within c.index_mut-state.ensures.value seen j; ways = map ways_of outs } in
-    view_is _ _ same refl refl
+    view_is _ _ same refl

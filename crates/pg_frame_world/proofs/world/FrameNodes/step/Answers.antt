@@ -25,7 +25,7 @@ returns-then-is_barred-clause-losing g c = λ config u shows.
 
 pub returns-in-Take-clause-event : goal.returns-in-Take-clause-event
 returns-in-Take-clause-event g c = λ config w nobody shows.
-    let settled = view_is _ _ refl c.settle.ensures.history c.settle.ensures.applied in
+    let settled = view_is _ _ refl c.settle.ensures.account in
     subst (λ (s : FrameStep). StepComesTo config w s c.take.result (Shows config (view_of c.take.new.self))) (sym c.in-Take.is)
     (c.take.ensures.event config w (subst (λ (v : View). Shows config v w) (sym settled) shows))
 
@@ -35,7 +35,7 @@ returns-in-Take-clause-losing g c = λ config u shows.
     let lives = sym c.is_barred.ensures ∙ c.if-is_barred.false in
     let nodes = (traffic_of c.args.self.now).nodes in
     let lost = lost_of c.args.self.now in
-    let settled = view_is _ _ refl c.settle.ensures.history c.settle.ensures.applied in
+    let settled = view_is _ _ refl c.settle.ensures.account in
     let now = subst (λ (v : View). ShowsLosing config v lost u) (sym settled) shows in
     subst (λ (s : FrameStep). LosingComesTo config u (told_of config u s) c.take.result (ShowsLosing config (view_of c.take.new.self) (lost_of c.take.new.self))) (sym c.in-Take.is)
     (take_in config _ (view_of c.take.new.self) u lost (lost_of c.take.new.self) now c.take.ensures.lost c.take.result c.take.ensures.nothing c.take.ensures.err _ _
@@ -47,7 +47,7 @@ returns-in-Command-clause-losing g c = λ config u shows.
     let lives = sym c.is_barred.ensures ∙ c.if-is_barred.false in
     let nodes = (traffic_of c.args.self.now).nodes in
     let lost = lost_of c.args.self.now in
-    let settled = view_is _ _ refl c.settle.ensures.history c.settle.ensures.applied in
+    let settled = view_is _ _ refl c.settle.ensures.account in
     let now = subst (λ (v : View). ShowsLosing config v lost u) (sym settled) shows in
     subst (λ (s : FrameStep). LosingComesTo config u (told_of config u s) c.command.result (ShowsLosing config (view_of c.command.new.self) (lost_of c.command.new.self))) (sym c.in-Command.is)
     (own_in config _ (view_of c.command.new.self) u lost (lost_of c.command.new.self) now c.command.ensures.lost c.command.result (λ e. absurd (c.command.ensures.happens e)) c.command.ensures.err c.in-Command.node (Issue c.in-Command.port c.in-Command.command)
@@ -59,7 +59,7 @@ returns-in-Retry-clause-losing g c = λ config u shows.
     let lives = sym c.is_barred.ensures ∙ c.if-is_barred.false in
     let nodes = (traffic_of c.args.self.now).nodes in
     let lost = lost_of c.args.self.now in
-    let settled = view_is _ _ refl c.settle.ensures.history c.settle.ensures.applied in
+    let settled = view_is _ _ refl c.settle.ensures.account in
     let now = subst (λ (v : View). ShowsLosing config v lost u) (sym settled) shows in
     subst (λ (s : FrameStep). LosingComesTo config u (told_of config u s) c.retry.result (ShowsLosing config (view_of c.retry.new.self) (lost_of c.retry.new.self))) (sym c.in-Retry.is)
     (own_in config _ (view_of c.retry.new.self) u lost (lost_of c.retry.new.self) now c.retry.ensures.lost c.retry.result (λ e. absurd (c.retry.ensures.happens e)) c.retry.ensures.err c.in-Retry.node (Retry c.in-Retry.op)
@@ -67,13 +67,13 @@ returns-in-Retry-clause-losing g c = λ config u shows.
 
 pub returns-in-SeeLoss-clause-losing : goal.returns-in-SeeLoss-clause-losing
 returns-in-SeeLoss-clause-losing g c = λ config u shows.
-    let settled = view_is _ _ refl c.settle.ensures.history c.settle.ensures.applied in
+    let settled = view_is _ _ refl c.settle.ensures.account in
     subst (λ (s : FrameStep). LosingComesTo config u (told_of config u s) c.see_loss.result (ShowsLosing config (view_of c.see_loss.new.self) (lost_of c.see_loss.new.self))) (sym c.in-SeeLoss.is)
     (c.see_loss.ensures.losing config u (subst (λ (v : View). ShowsLosing config v (lost_of c.args.self.now) u) (sym settled) shows))
 
 pub returns-in-Lose-clause-losing : goal.returns-in-Lose-clause-losing
 returns-in-Lose-clause-losing g c = λ config u shows.
-    let settled = view_is _ _ refl c.settle.ensures.history c.settle.ensures.applied in
+    let settled = view_is _ _ refl c.settle.ensures.account in
     subst (λ (s : FrameStep). LosingComesTo config u (told_of config u s) c.lose.result (ShowsLosing config (view_of c.lose.new.self) (lost_of c.lose.new.self))) (sym c.in-Lose.is)
     (subst (λ (keep : List ℕ). LosingComesTo config u (told_loss config u c.in-Lose.node keep) c.lose.result (ShowsLosing config (view_of c.lose.new.self) (lost_of c.lose.new.self))) c.as_slice.ensures.value
     (c.lose.ensures.losing config u (subst (λ (v : View). ShowsLosing config v (lost_of c.args.self.now) u) (sym settled) shows)))

@@ -12,7 +12,7 @@ use Rattle.pg_machine.specs.Machine.{Take}
 use Rattle.std.specs.Prelude.{refl}
 use Rattle.pg_frame_world.specs.Effects.{effect_by}
 use Rattle.pg_frame_world.specs.Worlds.{view_of}
-use Rattle.pg_account.specs.Histories.{asked_by}
+use Rattle.pg_account.specs.Histories.{account_of, asked_by}
 use Rattle.pg_frame_world.proofs.Recording.{shows_all, view_is, grew_taken}
 use Rattle.pg_frame_world.proofs.Queued.{take_nothing, take_refused, take_happened}
 use Rattle.pg_frame_world.proofs.Viewing.{is_set, seen_same, view_room, view_refused, seen_here, fit_ways, sent_nodes}
@@ -45,7 +45,7 @@ returns-in-Err-clause-err g c =
     let outs1 = slice_set outs node c.make_room.new.self in
     let room = view_room nodes outs node c.index_mut-outgoing.result.now c.make_room.new.self inside c.index_mut-outgoing.ensures.value c.make_room.ensures.same in
     let whole1 = whole_as nodes outs outs1 room whole in
-    view_is _ _ room refl refl
+    view_is _ _ room refl
 
 pub returns-in-Err-make_room-clause-err : goal.returns-in-Err-make_room-clause-err
 returns-in-Err-make_room-clause-err g c =
@@ -59,7 +59,7 @@ returns-in-Err-make_room-clause-err g c =
     let outs1 = slice_set outs node c.make_room.new.self in
     let room = view_room nodes outs node c.index_mut-outgoing.result.now c.make_room.new.self inside c.index_mut-outgoing.ensures.value c.make_room.ensures.same in
     let whole1 = whole_as nodes outs outs1 room whole in
-    view_is _ _ room c.make_room-in-Some.ensures.history c.make_room-in-Some.ensures.applied
+    view_is _ _ room c.make_room-in-Some.ensures.account
 
 pub invariant_of-self-in-Err-make_room : goal.invariant_of-self-in-Err-make_room
 invariant_of-self-in-Err-make_room g c =
@@ -252,7 +252,7 @@ returns-in-None-clause-nothing g c =
     let outs1 = slice_set outs node c.make_room.new.self in
     let room = view_room nodes outs node c.index_mut-outgoing.result.now c.make_room.new.self inside c.index_mut-outgoing.ensures.value c.make_room.ensures.same in
     let whole1 = whole_as nodes outs outs1 room whole in
-    λ _. view_is _ _ room refl refl
+    λ _. view_is _ _ room refl
 
 pub returns-in-Ok-take-clause-event : goal.returns-in-Ok-take-clause-event
 returns-in-Ok-take-clause-event g c =
@@ -284,8 +284,8 @@ returns-in-Ok-take-clause-event g c =
     let apart = apart nodes outs whole node peer c.requires.pair in
     λ config w shows.
     shows_all config (view_of c.args.self.now) _ w (Take node peer) node (asked_by c.in-Some.packet.now.message) c.in-Ok-take.done.began (effect_by c.in-Ok-take.done) c.of-effect.result c.of-effect.ensures shows
-    (grew_taken (view_of c.args.self.now).account _ node (asked_by c.in-Some.packet.now.message) c.in-Ok-take.done.began c.send_all.result _ _ _ _ c.send_all.ensures.began
-    c.make_room-in-Some.ensures.history c.make_room-in-Some.ensures.applied c.serve.ensures.history c.serve.ensures.applied c.begin.ensures.history c.begin.ensures.applied)
+    (grew_taken (view_of c.args.self.now).account _ node (asked_by c.in-Some.packet.now.message) c.in-Ok-take.done.began c.send_all.result (account_of c.make_room-in-Some.new.self) (account_of c.serve.new.self) c.send_all.ensures.began
+    c.make_room-in-Some.ensures.account c.serve.ensures.history c.serve.ensures.applied c.serve.ensures.marked c.begin.ensures.history c.begin.ensures.applied c.begin.ensures.marked)
     (take_happened config (traffic_in nodes outs) w node peer shows.traffic c.requires.pair (seen_of state) (seen_here nodes outs node whole within state here) (stamped_of c.in-Some.packet.now)
     (c.in-Some.ensures.first ∙ (ap (λ k. first_of (get_or (ways_of sender) k [])) c.peer_place.ensures ∙ ap first_of way))
     (sent_view nodes outs2 node whole2 within state here after out c.send_all.new.self sends c.in-Ok-take.ensures.names outthere c.send_all.ensures.len c.send_all.ensures.sent) (seen_of after) c.in-Ok-take.done (sent_nodes nodes outs2 node whole2 within state here after out c.send_all.new.self sends c.in-Ok-take.ensures.names outthere c.send_all.ensures.len c.send_all.ensures.sent) c.in-Ok-take.ensures.names c.in-Ok-take.ensures.ports c.in-Ok-take.ensures.fits
@@ -336,4 +336,4 @@ returns-in-Err-take-clause-err g c =
     let after = c.take.new.self in
     let seen = seen_same nodes outs state after c.in-Err-take.ensures.names c.in-Err-take.ensures.ports c.in-Err-take.ensures.err c.in-Err-take.ensures.err_answers in
     let same = view_refused nodes outs node c.index_mut-outgoing.result.now c.make_room.new.self state after inside c.index_mut-outgoing.ensures.value c.make_room.ensures.same within here seen in
-    view_is _ _ same c.make_room-in-Some.ensures.history c.make_room-in-Some.ensures.applied
+    view_is _ _ same c.make_room-in-Some.ensures.account

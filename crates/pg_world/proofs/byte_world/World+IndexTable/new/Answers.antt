@@ -1,4 +1,4 @@
-use Rattle.std.proofs.Common.{ap, sym, subst}
+use Rattle.std.proofs.Common.{◌≤◌, length, ap, sym, subst}
 use Rattle.pg_step.specs.Config.{Config}
 use Rattle.pg_config.specs.declared.config.Config.{Config as Given}
 use Rattle.pg_world.specs.BytesStart.{BytesBegin}
@@ -12,6 +12,7 @@ pub invariant_of-result : goal.invariant_of-result
 invariant_of-result c =
     let bytes = c.in-Ok.bytes in
     record {
-      past = ∣ bytes_begin c.each_world_past_losses.ensures c.of-given.result.value.starts.items (crossing_of bytes) (account_of bytes.histories) (lost_in bytes.losses) c.in-Ok.ensures.lost
+      past = ∣ bytes_begin c.each_world_past_losses.ensures c.of-given.result.value.starts.items (crossing_of bytes) (account_of bytes.histories) (lost_in bytes.losses) c.in-Ok.ensures.lost c.in-Ok.ensures.formed
+          (subst (λ (given : Config). length given ≤ 16) (sym (ap (λ (config : Given). config.starts.items) c.of-given.ensures)) c.in-Ok.ensures.good.0.few)
           (subst (λ (given : Config). BytesBegin given (crossing_of bytes) (account_of bytes.histories)) (sym (ap (λ (config : Given). config.starts.items) c.of-given.ensures)) c.in-Ok.ensures.begins) ∣₁;
     }

@@ -15,7 +15,7 @@ invariant_of-self g c =
     record {
       past = ∥∥₁_map world.past
           (bytes_past (given_of world) c.each_world_past_losses.ensures (crossing_of world) (account_of world) (lost_of world) c.args.step.now c.step.result
-          (nodes.crossing_of new) (kept.account_of new.histories) (lost_in new.losses) c.step.ensures.losing);
+          (nodes.crossing_of new) (kept.account_of new.histories) (lost_in new.losses) c.step.ensures.losing c.step.ensures.formed);
     }
 
 pub returns-clause-goes_on : goal.returns-clause-goes_on
@@ -24,7 +24,7 @@ returns-clause-goes_on g c =
     let new = c.step.new.self in
     ∥∥₁_map world.past
     (bytes_go_on (given_of world) c.each_world_past_losses.ensures (crossing_of world) (account_of world) (lost_of world) c.args.step.now c.step.result
-    (nodes.crossing_of new) (kept.account_of new.histories) (lost_in new.losses) c.step.ensures.losing)
+    (nodes.crossing_of new) (kept.account_of new.histories) (lost_in new.losses) c.step.ensures.losing c.step.ensures.formed)
 
 pub returns-clause-grows : goal.returns-clause-grows
 returns-clause-grows g c =
@@ -33,4 +33,4 @@ returns-clause-grows g c =
     ∥∥₁_elim world.past (hlevel (update_set, props))
     (λ past. bytes_step_grows (given_of world) (crossing_of world) (nodes.crossing_of new) (account_of world) (kept.account_of new.histories) (lost_of world) (lost_in new.losses) c.args.step.now c.step.result
     (bytes_go_on (given_of world) c.each_world_past_losses.ensures (crossing_of world) (account_of world) (lost_of world) c.args.step.now c.step.result
-    (nodes.crossing_of new) (kept.account_of new.histories) (lost_in new.losses) c.step.ensures.losing past))
+    (nodes.crossing_of new) (kept.account_of new.histories) (lost_in new.losses) c.step.ensures.losing c.step.ensures.formed past))

@@ -16,7 +16,7 @@ use Rattle.pg_account.specs.Losses.{lost_in, is_lost}
 use Rattle.pg_account.specs.Histories.{Account}
 use Rattle.pg_frame_world.specs.Worlds.{has_places}
 use Rattle.pg_frame_world.proofs.Barred.{either_stays, either_unseen, take_cut}
-use Rattle.pg_world.proofs.over_bytes.Past.{loss_came, take_past, own_past, unplaced_past, barred_past, starved_past}
+use Rattle.pg_world.proofs.over_bytes.Past.{bytes_with, loss_came, take_past, own_past, unplaced_past, barred_past, starved_past}
 use Rattle.pg_world.proofs.Harmless.{welcome_there, welcome_left}
 use Rattle.pg_frame_world.proofs.Turning.{pair_there}
 use Rattle.pg_world.proofs.over_bytes.Unplaced.{unplaced_event}
@@ -41,7 +41,7 @@ returns-in-Take-clause-came g c = λ config w nobody reached shows.
     let nodes = (crossing_of c.args.self.now).nodes in
     let places = sym c.has_places.ensures ∙ c.if-not-has_places.false in
     let pair : is_pair _ c.in-Take.node c.in-Take.peer ≡ true = subst (λ (s : FrameStep). has_places nodes s ≡ true) c.in-Take.is places in
-    let settled : account_of c.settle.new.self ≡ account_of c.args.self.now.histories = λ j. record { histories = c.settle.ensures.history j; applied = c.settle.ensures.applied j } in
+    let settled : account_of c.settle.new.self ≡ account_of c.args.self.now.histories = c.settle.ensures.account in
     let now = subst (λ (a : Account). ShowsBytes config (crossing_of c.args.self.now) a w) (sym settled) shows in
     let harmless = c.nobody_is_harmed.ensures config w reached.0 shows.traffic.nodes.apart reached.1 in
     subst (λ (s : FrameStep). FrameComesTo config w s c.take.result (ShowsBytes config (crossing_of c.take.new.self) (account_of c.take.new.self.histories))) (sym c.in-Take.is)
@@ -58,7 +58,7 @@ returns-in-Take-clause-losing g c = λ config u reached shows.
     let bars = sym c.is_barred.ensures ∙ c.if-is_barred.false in
     let pair : is_pair _ i p ≡ true = subst (λ (s : FrameStep). has_places nodes s ≡ true) c.in-Take.is places in
     let lives : is_cut_off nodes lost i p ≡ false = subst (λ (s : FrameStep). is_barred nodes lost s ≡ false) c.in-Take.is bars in
-    let settled : account_of c.settle.new.self ≡ account_of c.args.self.now.histories = λ j. record { histories = c.settle.ensures.history j; applied = c.settle.ensures.applied j } in
+    let settled : account_of c.settle.new.self ≡ account_of c.args.self.now.histories = c.settle.ensures.account in
     let now = subst (λ (a : Account). ShowsLosingBytes config crossing a lost u) (sym settled) shows in
     let w = now.frames in
     let its = now.shows.traffic.nodes in
@@ -74,8 +74,9 @@ returns-in-Take-clause-losing g c = λ config u reached shows.
 pub returns-in-Lose-clause-came : goal.returns-in-Lose-clause-came
 returns-in-Lose-clause-came g c = λ config w nobody reached shows.
     let crossing = crossing_of c.args.self.now in
-    let settled : account_of c.settle.new.self ≡ account_of c.args.self.now.histories = λ j. record { histories = c.settle.ensures.history j; applied = c.settle.ensures.applied j } in
-    let now = subst (λ (a : Account). ShowsBytes config crossing a w) (sym (c.lose.ensures.account ∙ settled)) shows in
+    let settled : account_of c.settle.new.self ≡ account_of c.args.self.now.histories = c.settle.ensures.account in
+    let before = subst (λ (a : Account). ShowsBytes config crossing a w) (sym settled) shows in
+    let now = subst (λ (a : Account). ShowsBytes config crossing a w) (sym c.lose.ensures.account) (bytes_with config crossing _ w c.lose.result crossing.nodes (lost_in c.args.self.now.losses) before) in
     let after = subst (λ (x : Crossing). ShowsBytes config x (account_of c.lose.new.self.histories) w) (sym c.lose.ensures.same) now in
     let fault = subst (λ (l : List ℕ). IfErr c.lose.result (IsFaultOf (loss_bar crossing l c.in-Lose.node))) nobody c.lose.ensures.fault in
     subst (λ (s : FrameStep). FrameComesTo config w s c.lose.result (ShowsBytes config (crossing_of c.lose.new.self) (account_of c.lose.new.self.histories))) (sym c.in-Lose.is)
@@ -83,7 +84,7 @@ returns-in-Lose-clause-came g c = λ config w nobody reached shows.
 
 pub returns-in-Command-clause-came : goal.returns-in-Command-clause-came
 returns-in-Command-clause-came g c = λ config w nobody reached shows.
-    let settled : account_of c.settle.new.self ≡ account_of c.args.self.now.histories = λ j. record { histories = c.settle.ensures.history j; applied = c.settle.ensures.applied j } in
+    let settled : account_of c.settle.new.self ≡ account_of c.args.self.now.histories = c.settle.ensures.account in
     let now = subst (λ (a : Account). ShowsBytes config (crossing_of c.args.self.now) a w) (sym settled) shows in
     subst (λ (s : FrameStep). FrameComesTo config w s c.command.result (ShowsBytes config (crossing_of c.command.new.self) (account_of c.command.new.self.histories))) (sym c.in-Command.is)
     (c.command.ensures.event config [] w refl now)
@@ -95,7 +96,7 @@ returns-in-Command-clause-losing g c = λ config u reached shows.
     let lost = lost_in c.args.self.now.losses in
     let places = subst (λ (s : FrameStep). has_places nodes s ≡ true) c.in-Command.is (sym c.has_places.ensures ∙ c.if-not-has_places.false) in
     let stays : is_lost lost c.in-Command.node ≡ false = subst (λ (s : FrameStep). is_barred nodes lost s ≡ false) c.in-Command.is (sym c.is_barred.ensures ∙ c.if-is_barred.false) in
-    let settled : account_of c.settle.new.self ≡ account_of c.args.self.now.histories = λ j. record { histories = c.settle.ensures.history j; applied = c.settle.ensures.applied j } in
+    let settled : account_of c.settle.new.self ≡ account_of c.args.self.now.histories = c.settle.ensures.account in
     let now = subst (λ (a : Account). ShowsLosingBytes config crossing a lost u) (sym settled) shows in
     subst (λ (s : FrameStep). EventLeaves config u s c.command.result (ShowsLosingBytes config (crossing_of c.command.new.self) (account_of c.command.new.self.histories) (lost_in c.command.new.self.losses))) (sym c.in-Command.is)
     (own_past config crossing (crossing_of c.command.new.self) _ (account_of c.command.new.self.histories) u lost _ now c.command.ensures.lost c.command.result c.in-Command.node (Issue c.in-Command.port c.in-Command.command) places stays
@@ -103,7 +104,7 @@ returns-in-Command-clause-losing g c = λ config u reached shows.
 
 pub returns-in-Retry-clause-came : goal.returns-in-Retry-clause-came
 returns-in-Retry-clause-came g c = λ config w nobody reached shows.
-    let settled : account_of c.settle.new.self ≡ account_of c.args.self.now.histories = λ j. record { histories = c.settle.ensures.history j; applied = c.settle.ensures.applied j } in
+    let settled : account_of c.settle.new.self ≡ account_of c.args.self.now.histories = c.settle.ensures.account in
     let now = subst (λ (a : Account). ShowsBytes config (crossing_of c.args.self.now) a w) (sym settled) shows in
     subst (λ (s : FrameStep). FrameComesTo config w s c.retry.result (ShowsBytes config (crossing_of c.retry.new.self) (account_of c.retry.new.self.histories))) (sym c.in-Retry.is)
     (c.retry.ensures.event config [] w refl now)
@@ -115,7 +116,7 @@ returns-in-Retry-clause-losing g c = λ config u reached shows.
     let lost = lost_in c.args.self.now.losses in
     let places = subst (λ (s : FrameStep). has_places nodes s ≡ true) c.in-Retry.is (sym c.has_places.ensures ∙ c.if-not-has_places.false) in
     let stays : is_lost lost c.in-Retry.node ≡ false = subst (λ (s : FrameStep). is_barred nodes lost s ≡ false) c.in-Retry.is (sym c.is_barred.ensures ∙ c.if-is_barred.false) in
-    let settled : account_of c.settle.new.self ≡ account_of c.args.self.now.histories = λ j. record { histories = c.settle.ensures.history j; applied = c.settle.ensures.applied j } in
+    let settled : account_of c.settle.new.self ≡ account_of c.args.self.now.histories = c.settle.ensures.account in
     let now = subst (λ (a : Account). ShowsLosingBytes config crossing a lost u) (sym settled) shows in
     subst (λ (s : FrameStep). EventLeaves config u s c.retry.result (ShowsLosingBytes config (crossing_of c.retry.new.self) (account_of c.retry.new.self.histories) (lost_in c.retry.new.self.losses))) (sym c.in-Retry.is)
     (own_past config crossing (crossing_of c.retry.new.self) _ (account_of c.retry.new.self.histories) u lost _ now c.retry.ensures.lost c.retry.result c.in-Retry.node (Retry c.in-Retry.op) places stays
@@ -123,17 +124,17 @@ returns-in-Retry-clause-losing g c = λ config u reached shows.
 
 pub returns-in-SeeLoss-clause-losing : goal.returns-in-SeeLoss-clause-losing
 returns-in-SeeLoss-clause-losing g c = λ config u reached shows.
-    let settled : account_of c.settle.new.self ≡ account_of c.args.self.now.histories = λ j. record { histories = c.settle.ensures.history j; applied = c.settle.ensures.applied j } in
+    let settled : account_of c.settle.new.self ≡ account_of c.args.self.now.histories = c.settle.ensures.account in
     subst (λ (s : FrameStep). EventLeaves config u s c.see_loss.result (ShowsLosingBytes config (crossing_of c.see_loss.new.self) (account_of c.see_loss.new.self.histories) (lost_in c.see_loss.new.self.losses))) (sym c.in-SeeLoss.is)
     (c.see_loss.ensures.losing config u (subst (λ (a : Account). ShowsLosingBytes config (crossing_of c.args.self.now) a (lost_in c.args.self.now.losses) u) (sym settled) shows))
 
 pub returns-in-Lose-clause-losing : goal.returns-in-Lose-clause-losing
 returns-in-Lose-clause-losing g c = λ config u reached shows.
-    let settled : account_of c.settle.new.self ≡ account_of c.args.self.now.histories = λ j. record { histories = c.settle.ensures.history j; applied = c.settle.ensures.applied j } in
+    let settled : account_of c.settle.new.self ≡ account_of c.args.self.now.histories = c.settle.ensures.account in
     subst (λ (s : FrameStep). EventLeaves config u s c.lose.result (ShowsLosingBytes config (crossing_of c.lose.new.self) (account_of c.lose.new.self.histories) (lost_in c.lose.new.self.losses))) (sym c.in-Lose.is)
     (c.lose.ensures.losing config u (subst (λ (a : Account). ShowsLosingBytes config (crossing_of c.args.self.now) a (lost_in c.args.self.now.losses) u) (sym settled) shows))
 
 pub returns-in-Err-clause-losing : goal.returns-in-Err-clause-losing
 returns-in-Err-clause-losing g c = λ config u reached shows.
-    let settled : account_of c.settle.new.self ≡ account_of c.args.self.now.histories = λ j. record { histories = c.in-Err.ensures.history j; applied = c.in-Err.ensures.applied j } in
+    let settled : account_of c.settle.new.self ≡ account_of c.args.self.now.histories = c.in-Err.ensures.account in
     starved_past config u c.args.event.now _ (subst (λ (a : Account). ShowsLosingBytes config (crossing_of c.args.self.now) a (lost_in c.args.self.now.losses) u) (sym settled) shows)

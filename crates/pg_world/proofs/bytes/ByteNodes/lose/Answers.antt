@@ -1,11 +1,11 @@
-use Rattle.std.proofs.Common.{◌<◌, ◌≤◌, ◌∙◌, length, sym, arith}
+use Rattle.std.proofs.Common.{◌<◌, ◌≤◌, ◌∙◌, length, ap, sym, arith}
 use Rattle.std.proofs.lemmas.Bool.{lt-ltb}
 use Rattle.std.proofs.lemmas.List.{length-map}
 use Rattle.pg_world.specs.Crossings.{crossing_of, node_of, written_of}
-use Rattle.pg_account.specs.Histories.{account_of}
+use Rattle.pg_account.specs.Histories.{account_formed, account_of}
 use Rattle.pg_account.specs.Losses.{lost_in}
 use Rattle.pg_world.proofs.over_bytes.Lost.{lost_bytes}
-use Rattle.pg_world.proofs.over_bytes.Past.{gone_unplaced, gone_before}
+use Rattle.pg_world.proofs.over_bytes.Past.{gone_unplaced, gone_before, lost_with}
 use Rattle.pg_frame_world.proofs.Peering.{lt_false}
 use Rattle.pg_world.proofs.bytes.ByteNodes.lose.Goals as goal
 
@@ -25,5 +25,9 @@ pub returns-in-Ok-clause-losing : goal.returns-in-Ok-clause-losing
 returns-in-Ok-clause-losing g c = λ config u shows.
     let many = length-map c.args.self.now.nodes.items node_of in
     let within : c.args.node < length (crossing_of c.args.self.now).nodes = omega (arith, many, c.if-node-len.false, c.len.ensures, c.args.self.now.nodes.ok) in
-    lost_bytes config (crossing_of c.args.self.now) (account_of c.args.self.now.histories) u c.args.node (lost_in c.args.self.now.losses) (lost_in c.add.new.self) shows
-    (λ packets bytes. c.loss_cuts_packets.ensures.cut written_of packets bytes) within (sym c.has.ensures ∙ c.if-has.false) c.in-Ok.ensures.added
+    lost_with config (crossing_of c.args.self.now) (account_of c.args.self.now.histories) _ u c.args.node (lost_in c.add.new.self) c.formed_at_loss-formed.result c.lose.ensures
+    (lost_bytes config (crossing_of c.args.self.now) (account_of c.args.self.now.histories) u c.args.node (lost_in c.args.self.now.losses) (lost_in c.add.new.self) shows
+    (λ packets bytes. c.loss_cuts_packets.ensures.cut written_of packets bytes) within (sym c.has.ensures ∙ c.if-has.false) c.in-Ok.ensures.added)
+
+pub returns-in-Ok-clause-account : goal.returns-in-Ok-clause-account
+returns-in-Ok-clause-account g c = c.lose.ensures ∙ ap (λ b. account_formed b (account_of c.args.self.now.histories)) c.formed_at_loss-formed.ensures

@@ -39,6 +39,7 @@ returns-in-Ok g c = record {
           updates = shows.updates;
         },
       );
+  formed = refl;
   lost = refl;
   room = refl;
   changes =
@@ -88,6 +89,7 @@ returns-in-Err g c = record {
             (row_there nodes rings x y c.requires.pair c.args.self.now.rows) c.index_mut-row.ensures.value c.in-Err.ensures.state c.in-Err.ensures.err lk there c.in-Err.ensures.err_inlet is) shows.traffic;
         updates = shows.updates;
       });
+  formed = refl;
   lost = refl;
   room = refl;
   changes =

@@ -22,8 +22,9 @@ returns-in-Ok g c = record {
       own_shown config lost (crossing_of c.args.self.now) _ (account_of c.args.self.now.histories) _ w shows (λ packets others bytes are. c.sending_adds_packets.ensures written_of packets others bytes are)
       i stays (Retry c.args.op) (node_of node) (node_of node2) c.in-Ok.done (seen_there nodes rings i node l at) (nodes_set nodes rings i node2) c.in-Ok.ensures.names c.in-Ok.ensures.ports c.in-Ok.ensures.fits c.in-Ok.ensures.small
       (own_acts nodes rings i node node2 c.in-Ok.done.sends.items l at (Retry c.args.op) c.in-Ok.ensures.sent)
-      (grew_own (account_of c.args.self.now.histories) _ i c.in-Ok.done.began c.in-Ok.done.began refl c.begin.ensures.history c.begin.ensures.applied) c.of-effect.result c.of-effect.ensures c.in-Ok.ensures.event;
+      (grew_own (account_of c.args.self.now.histories) _ i c.in-Ok.done.began c.in-Ok.done.began refl c.begin.ensures.history c.begin.ensures.applied c.begin.ensures.marked) c.of-effect.result c.of-effect.ensures c.in-Ok.ensures.event;
   changes = alone c.args.self.now.nodes.items c.args.self.now.rings.items c.args.node c.retry.new.self;
+  formed = c.begin.ensures.formed;
   lost = refl;
   room = refl;
 }
@@ -50,6 +51,7 @@ returns-in-Err g c = record {
       let l = port_place nodes i c.args.op.port c.requires.port in
       let seen = seen_kept node node2 c.in-Err.ensures.names c.in-Err.ensures.ports c.in-Err.ensures.err c.in-Err.ensures.err_answers in
       (nodes_kept nodes i node node2 l c.index_mut-state.ensures.value seen, alone nodes c.args.self.now.rings.items i node2);
+  formed = refl;
   lost = refl;
   room = refl;
 }

@@ -11,7 +11,7 @@ use Rattle.pg_frame_world.specs.Losing.{SeenAreLost}
 use Rattle.pg_account.specs.Losses.{lost_in}
 use Rattle.pg_world.specs.Bars.{IsFaultOf, loss_bar, put_bar, pull_bar}
 use Rattle.pg_world.specs.BytesLosing.{MoveLeaves}
-use Rattle.pg_world.proofs.over_bytes.Past.{loss_came, move_came, put_in, pull_in}
+use Rattle.pg_world.proofs.over_bytes.Past.{bytes_with, loss_came, move_came, put_in, pull_in}
 use Rattle.pg_world.proofs.bytes.ByteNodes.step.Goals as goal
 
 pub returns-in-Put-clause-came : goal.returns-in-Put-clause-came
@@ -59,7 +59,7 @@ returns-in-Event-clause-losing g c = λ config u reached shows.
 pub returns-in-Lose-clause-came : goal.returns-in-Lose-clause-came
 returns-in-Lose-clause-came g c = λ config w nobody reached shows.
     let crossing = crossing_of c.args.self.now in
-    let now = subst (λ (a : Account). ShowsBytes config crossing a w) (sym c.lose.ensures.account) shows in
+    let now = subst (λ (a : Account). ShowsBytes config crossing a w) (sym c.lose.ensures.account) (bytes_with config crossing _ w c.lose.result crossing.nodes (lost_in c.args.self.now.losses) shows) in
     let after = subst (λ (x : Crossing). ShowsBytes config x (account_of c.lose.new.self.histories) w) (sym c.lose.ensures.same) now in
     let fault = subst (λ (l : List ℕ). IfErr c.lose.result (IsFaultOf (loss_bar crossing l c.in-Lose.node))) nobody c.lose.ensures.fault in
     subst (λ (s : Step). StepComesTo config w s c.lose.result (ShowsBytes config (crossing_of c.lose.new.self) (account_of c.lose.new.self.histories))) (sym c.in-Lose.is)

@@ -46,6 +46,7 @@ returns-in-Ok g c = record {
       let l = first_there nodes rings i c.args.peer c.requires.pair c.args.self.now.rows in
       let same = node_same nodes rings i node c.next.new.self l c.index_mut-taker.ensures.value (ap seen_of c.in-Ok.ensures.state) c.in-Ok.ensures.same in
       subst (λ (crossing : Crossing). EventChanges crossing (crossing_of c.take_next-taken.new.self) (Take i c.args.peer) c.take_next-taken.result) same c.take_next-taken.ensures.changes;
+  formed = c.take_next-taken.ensures.formed;
   lost = c.take_next-taken.ensures.lost;
   room = c.take_next-taken.ensures.room;
 }
@@ -83,6 +84,7 @@ returns-in-Err g c = record {
       let node2 = c.next.new.self in
       let l = first_there nodes rings i c.args.peer c.requires.pair c.args.self.now.rows in
       (nodes_kept nodes i node node2 l c.index_mut-taker.ensures.value (ap seen_of c.in-Err.ensures.state), alone nodes rings i node2);
+  formed = refl;
   lost = refl;
   room = refl;
 }

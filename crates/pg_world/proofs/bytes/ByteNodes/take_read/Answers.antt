@@ -52,11 +52,12 @@ returns-in-Ok-take_read g c = record {
       c.in-Ok-take_read.ensures.names c.in-Ok-take_read.ensures.ports c.in-Ok-take_read.ensures.fits c.in-Ok-take_read.ensures.small
       (take_acts nodes rings i node node2 done.sends.items l at p apart
       (subst (λ k. (j : ℕ) → links_of node2 j ≡ at_link k passed (sent_out done.sends.items (links_of node)) j) place c.in-Ok-take_read.ensures.sent))
-      (grew_taken (account_of c.args.self.now.histories) _ i (asked_by packet.message) done.began done.began _ _ _ _ refl
-      c.make_room.ensures.history c.make_room.ensures.applied c.serve.ensures.history c.serve.ensures.applied c.begin.ensures.history c.begin.ensures.applied) c.of-effect.result c.of-effect.ensures
+      (grew_taken (account_of c.args.self.now.histories) _ i (asked_by packet.message) done.began done.began (account_of c.make_room.new.self) (account_of c.serve.new.self) refl
+      c.make_room.ensures.account c.serve.ensures.history c.serve.ensures.applied c.serve.ensures.marked c.begin.ensures.history c.begin.ensures.applied c.begin.ensures.marked) c.of-effect.result c.of-effect.ensures
       (subst (λ k. ComesInRoom (names_of (held_by node)) (step_take (nodes_of (held_by node)) (name_at (names_of (held_by node)) (k + 1)) (stamped_of packet) (state_of (held_by node))) (Ok done) (state_of (held_by node2)) (answers_of (held_by node)) (answers_of (held_by node2)))
       place c.in-Ok-take_read.ensures.event);
   changes = alone c.args.self.now.nodes.items c.args.self.now.rings.items c.args.node c.take_read.new.self;
+  formed = c.begin.ensures.formed ∙ (c.serve.ensures.formed ∙ ap (λ (a : Account). a.formed) c.make_room.ensures.account);
   lost = refl;
   room = refl;
 }
@@ -79,7 +80,7 @@ returns-in-Err-take_read g c = record {
       let first = first_read config lost crossing w i p shows.traffic c.requires.pair stays
       (reads_first (λ packets bytes body. c.front_is_first_packet.ensures.first written_of packets bytes body) (λ packets bytes body. c.front_is_first_of_cut.ensures.first written_of packets bytes body)) packet c.requires.front in
       let seen = seen_kept node node2 c.in-Err-take_read.ensures.names c.in-Err-take_read.ensures.ports c.in-Err-take_read.ensures.err c.in-Err-take_read.ensures.err_answers in
-      let account : account_of c.make_room.new.self ≡ account_of c.args.self.now.histories = λ j. record { histories = c.make_room.ensures.history j; applied = c.make_room.ensures.applied j } in
+      let account : account_of c.make_room.new.self ≡ account_of c.args.self.now.histories = c.make_room.ensures.account in
       take_err config lost crossing w shows.traffic _ i p c.requires.pair packet first welcome (node_of node) (seen_there nodes rings i node l at) (state_of (held_by node2)) (answers_of (held_by node2)) fault
       (subst (λ k. ComesInRoom (names_of (held_by node)) (step_take (nodes_of (held_by node)) (name_at (names_of (held_by node)) (k + 1)) (stamped_of packet) (state_of (held_by node))) (Err fault) (state_of (held_by node2)) (answers_of (held_by node)) (answers_of (held_by node2)))
       place c.in-Err-take_read.ensures.event)
@@ -95,6 +96,7 @@ returns-in-Err-take_read g c = record {
       let l = first_there nodes rings i c.args.peer c.requires.pair c.args.self.now.rows in
       let seen = seen_kept node node2 c.in-Err-take_read.ensures.names c.in-Err-take_read.ensures.ports c.in-Err-take_read.ensures.err c.in-Err-take_read.ensures.err_answers in
       (nodes_kept nodes i node node2 l c.index_mut-taker.ensures.value seen, alone nodes rings i node2);
+  formed = ap (λ (a : Account). a.formed) c.make_room.ensures.account;
   lost = refl;
   room = refl;
 }

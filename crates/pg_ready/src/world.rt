@@ -6,9 +6,14 @@ ghost use Rattle.pg_step.specs.Config.{Config, names_of};
 ghost use Rattle.pg_step.specs.LossLaws.{LosingFrameWorld};
 ghost use Rattle.pg_step.specs.Step.{Action};
 ghost use Rattle.pg_loss.specs.Reached.{LosingReaches};
-ghost use Rattle.pg_left.specs.Survived.{LossesSurvived};
+ghost use Rattle.pg_ready.specs.Survived.{LossesSurvived};
 
 use crate::laws::{
+    a_retry_of_a_ready_command_goes_on, a_world_comes_to_rest_past_losses,
+    all_ready_commands_can_be_retried, locks_left_are_of_ready_commands,
+    no_lock_where_none_is_ready, quiet_nodes_saw_the_losses, retries_free_the_locks,
+};
+use pg_left::{
     ended_processes_were_finished_past_losses, losses_take_along, nodes_that_heard_the_lost_agree,
     tables_are_made_of_what_was_taken,
 };
@@ -25,4 +30,11 @@ pub fn each_world_past_losses()
     losses_take_along();
     nodes_that_heard_the_lost_agree();
     ended_processes_were_finished_past_losses();
+    quiet_nodes_saw_the_losses();
+    locks_left_are_of_ready_commands();
+    no_lock_where_none_is_ready();
+    a_retry_of_a_ready_command_goes_on();
+    retries_free_the_locks();
+    all_ready_commands_can_be_retried();
+    a_world_comes_to_rest_past_losses();
 }

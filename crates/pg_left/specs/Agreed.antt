@@ -1,20 +1,15 @@
--- What is true of each world that nodes come to which can be lost, whoever is lost and whenever: all that the laws say of one world.
+-- On which groups the nodes that are left agree, whoever was formed when.
 use Rattle.std.specs.Prelude.{◌≡◌, ℕ, true, false, length, List, None}
-use Rattle.pg_term.specs.declared.pid.Pid.{Pid}
 use Rattle.pg_term.specs.declared.term.Term.{Term}
 use Rattle.pg_machine.specs.Losing.{LosingEvent}
 use Rattle.pg_machine.specs.Places.{is_place}
-use Rattle.pg_step.specs.Config.{Config, name_at, nodes_at}
+use Rattle.pg_step.specs.Config.{Config, nodes_at}
 use Rattle.pg_step.specs.LossLaws.{LosingFrameWorld}
 use Rattle.pg_step.specs.State.{formed}
 use Rattle.pg_step.specs.Step.{Action}
-use Rattle.pg_history.specs.Reached.{FinishedAt}
 use Rattle.pg_history.specs.WithLosses.{NonePendingLeft}
 use Rattle.pg_loss.specs.Agreeing.{SawAll}
-use Rattle.pg_loss.specs.Reached.{steps_of}
-use Rattle.pg_loss.specs.Survived.{KeptPastLosses}
-use Rattle.pg_left.specs.Heard.{HeardTheLost, MadeOf, NoneOfLost}
-use Rattle.pg_left.specs.Missed.{TakenAlong}
+use Rattle.pg_left.specs.Heard.{HeardTheLost, NoneOfLost}
 
 -- Two formed nodes that are left, have seen each loss and took the exchange of each lost node, have the same of a group of which no lost node
 -- has an entry, where one node x that is left sees its lock free and no end is pending among those left.
@@ -26,15 +21,3 @@ AgreeOnUnchanged config events w i j x name = NonePendingLeft config w
     → SawAll config w i → SawAll config w j → HeardTheLost config events w i → HeardTheLost config events w j
     → (w.world.node x).state.locks name ≡ None → NoneOfLost w name
     → (w.world.node i).state.table name ≡ (w.world.node j).state.table name
-
-pub record LossesSurvived (config : Config) (events : List (LosingEvent Action)) (w : LosingFrameWorld) : Type 0 where
-  -- what live nodes have applied, who holds locks, what was answered
-  pub kept : KeptPastLosses config events w
-  -- what the table of each node is made of
-  pub made : (i : ℕ) → is_place (length config) i ≡ true → MadeOf config events w i
-  -- what the losses that a live node saw took along of each group, and what its table is without it
-  pub along : (i : ℕ) (name : Term) → is_place (length config) i ≡ true → w.gone i ≡ false → TakenAlong config events w i name
-  -- who agrees on a group that no lost node changed
-  pub agree : (i j x : ℕ) (name : Term) → AgreeOnUnchanged config events w i j x name
-  -- a process of a node which that node has as ended was told to end there
-  pub finished : (i : ℕ) (pid : Pid) → pid.node ≡ name_at config i → (w.world.node i).state.ended pid ≡ true → FinishedAt (steps_of events) i pid
