@@ -43,6 +43,10 @@ enum Row<'a> {
     History(&'a [(usize, u32)]),
     /// So many of these a node has applied.
     Applied(usize, u128),
+    /// The updates of the group that a node missed, each by its node and the number of its command there.
+    Missed(usize, &'a [(usize, u32)]),
+    /// Whether every node was formed when the first was lost.
+    FormedFirst(bool),
     /// The first node has answered `ok` at last, to the command of this number.
     Answered(u32),
     /// The ends that are pending are those of these processes of the first node.
@@ -218,6 +222,10 @@ fn is_told(world: &World, name: &Term, row: &Row<'_>) -> bool {
         Row::Free(node, is_free) => world.lock_free(*node, name) == *is_free,
         Row::History(wanted) => are_entries(world.history(name), wanted),
         Row::Applied(node, count) => world.applied(*node, name) == *count,
+        Row::Missed(node, wanted) => {
+            with!(world.missed(*node, name), missed => are_entries((missed.as_slice(), None), wanted), else false)
+        }
+        Row::FormedFirst(is_formed) => world.formed_at_first_loss() == *is_formed,
         _ => false,
     }
 }
@@ -367,6 +375,23 @@ static LOSS: &[Turn<'static>] = &[
     &[Lose(2, GONE), Pending(&[])],
 ];
 
+// One node has an update of a node that is lost then, and the other missed it once it has seen the loss.
+static TAKEN_ALONG: &[Turn<'static>] = &[
+    &[FORMED, Given("create a 7"), Take(2, 0, SENDS_1)],
+    &[Take(0, 2, SENDS_1), Take(1, 0, SENDS_1)],
+    &[Take(0, 1, BEGINS), Take(2, 0, SENDS_1), Missed(1, &[])],
+    &[FormedFirst(true), Lose(0, GONE), FormedFirst(true)],
+    &[Missed(1, &[]), See(1, 0, QUIET), Missed(1, &[(0, 1)])],
+    &[See(2, 0, QUIET), Missed(2, &[]), Missed(3, &[])],
+];
+
+// A node is lost before the others are formed, which is told so for good.
+static LOST_EARLY: &[Turn<'static>] = &[
+    &[FormedFirst(true), Lose(2, GONE), FormedFirst(false)],
+    &[Settle(2), See(0, 2, QUIET), See(1, 2, QUIET)],
+    &[Lose(1, GONE), FormedFirst(false)],
+];
+
 // The list has the pid of the process, until both others were told.
 static LISTED: &[Turn<'static>] = &[
     &[FORMED, Given("make a"), Given("end a <a.1.0>")],
@@ -440,6 +465,12 @@ fn create_reaches_all(rt: HostRuntime) {
 #[test]
 fn steps_are_refused(rt: HostRuntime) {
     check(&rt, rt.alloc(), REFUSALS);
+}
+
+#[test]
+fn losses_take_along(rt: HostRuntime) {
+    check(&rt, rt.alloc(), TAKEN_ALONG);
+    check(&rt, rt.alloc(), LOST_EARLY);
 }
 
 #[test]
