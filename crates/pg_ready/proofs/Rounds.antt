@@ -22,7 +22,7 @@ use Rattle.pg_loss.specs.Quiet.{left_open}
 use Rattle.pg_loss.specs.Reached.{LosingReaches}
 use Rattle.pg_loss.proofs.Bridge.{not_true}
 use Rattle.pg_loss.proofs.Counting.{all_count}
-use Rattle.pg_left.proofs.Passing.{Leads, leads_more}
+use Rattle.pg_left.proofs.Passing.{Leads, Leaves, leads_more}
 use Rattle.pg_ready.specs.Ready.{HasRoomLeft, LossesSeen, NoneReadyLeft, OnlyRetries, is_ready_at}
 use Rattle.pg_ready.proofs.Going.{can_retry, ready_waits}
 use Rattle.pg_ready.proofs.Resting.{more_steps, on_time, room_left, went}
@@ -274,16 +274,22 @@ module _ (config : Config) (apart : IsDistinct same_atom (names_of config)) (es 
 
   -- ---- all of them
 
-  pub record RetriedAll (room : ℕ) : Type 0 where
+  pub record RetriedAll (room : ℕ) (Q : LosingFrameWorld → Type 0) : Type 0 where
     pub retries : List (Event Action)
     pub world : LosingFrameWorld
+    pub kept : Q world
     pub only : OnlyRetries retries
     pub leads : Leads config w (all_steps retries) world
     pub none : NoneReadyLeft config world
     pub left : HasRoomLeft config world room
 
-  module _ (room : ℕ) where
+  -- and what each retry of a ready command keeps is kept
+  module _ (room : ℕ) (Q : LosingFrameWorld → Type 0)
+      (keeps : (done : List (LosingEvent Action)) (u v : LosingFrameWorld) (i : ℕ) (op : OpId)
+      → LosingReaches config done u → IsHere config i → u.gone i ≡ false → is_ready_at config u i op ≡ true
+      → Leaves config u (Step (Do i (Retry op))) v → Q u → Q v) where
     record Sofar (ts : List (Event Action)) (done : List (LosingEvent Action)) (u : LosingFrameWorld) : Type 0 where
+      kept : Q u
       only : OnlyRetries ts
       leads : Leads config w (all_steps ts) u
       reached : LosingReaches config done u
@@ -300,10 +306,11 @@ module _ (config : Config) (apart : IsDistinct same_atom (names_of config)) (es 
     retried_within : (k : ℕ) (ts : List (Event Action)) (done : List (LosingEvent Action)) (u : LosingFrameWorld)
         → (so : Sofar ts done u) → ready_many u ≤ k → HasRoomLeft config u (k + room)
         → Found u ⊎ ((i : ℕ) (op : OpId) → IsHere config i → w.gone i ≡ false → is_ready_at config u i op ≡ false)
-        → RetriedAll room
+        → RetriedAll room Q
     retried_within k ts done u so few free (inr none) = record {
       retries = ts;
       world = u;
+      kept = so.kept;
       only = so.only;
       leads = so.leads;
       none = λ i op here lives. none i op here (ap (λ (f : ℕ → Bool). f i) (sym (gone_as ts done u so)) ∙ lives);
@@ -323,6 +330,7 @@ module _ (config : Config) (apart : IsDistinct same_atom (names_of config)) (es 
         let less : ready_many v < ready_many u =
         fewer_many u v found before (retried_unready config done u v so.reached found.node found.op one_on.1) in
         let later : Sofar (ts ++ d ∷ []) (done ++ Step d ∷ []) v = record {
+          kept = keeps done u v found.node found.op so.reached found.here lives found.ready one_on.1 so.kept;
           only = one_retry ts found.node found.op so.only;
           leads = more_steps config apart ts w u v d so.leads one_on.1;
           reached = leads_more config done (nobody_gone (start_of (losing_frame_machine config))) u v
@@ -336,7 +344,7 @@ module _ (config : Config) (apart : IsDistinct same_atom (names_of config)) (es 
         (λ i here. let all : (u.world.node i).clock + (suc k + room) ≤ CLOCK_LIMIT = free i here in omega (arith, all)))
         (next_ready v (since_w (ts ++ d ∷ []) (done ++ Step d ∷ []) v later))
 
-    pub retried_all : HasRoomLeft config w (left_open config w + room) → RetriedAll room
-    retried_all free =
-        let now : Sofar [] es w = record { only = tt; leads = refl; reached = l; seen_there = seen } in
+    pub retried_all : HasRoomLeft config w (left_open config w + room) → Q w → RetriedAll room Q
+    retried_all free first =
+        let now : Sofar [] es w = record { kept = first; only = tt; leads = refl; reached = l; seen_there = seen } in
         retried_within (left_open config w) [] es w now few_ready free (next_ready w (since_w [] es w now))
