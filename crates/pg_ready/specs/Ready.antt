@@ -71,6 +71,10 @@ abbrev pub EachIsRetried : Config → LosingFrameWorld → List (Event Action) �
 EachIsRetried config w events = (i : ℕ) (op : OpId) → is_place (length config) i ≡ true → w.gone i ≡ false
     → is_ready_at config w i op ≡ true → is_retried i op events ≡ true
 
+-- and each that one of them tries again is ready
+abbrev pub OnlyReady : Config → LosingFrameWorld → List (Event Action) → Type 0
+OnlyReady config w events = (i : ℕ) (op : OpId) → is_retried i op events ≡ true → is_ready_at config w i op ≡ true
+
 -- no clock is nearer to its limit than so many events, of a lost node neither, since what it sent may be on the way
 abbrev pub HasRoomLeft : Config → LosingFrameWorld → ℕ → Type 0
 HasRoomLeft config w events = (i : ℕ)

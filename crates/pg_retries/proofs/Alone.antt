@@ -1,6 +1,6 @@
 -- A world in which one change is under way, and nothing else is on the way to a node that is left: each packet that is taken brings
 -- the change one step on.
-use Rattle.std.proofs.Common.{◌≡◌, ◌≢◌, ◌⊎◌, inl, inr, ℕ, suc, ◌+◌, ◌<◌, Bool, true, false, not, cond, nat_eq, length}
+use Rattle.std.proofs.Common.{◌≡◌, ◌≢◌, ◌⊎◌, inl, inr, ℕ, suc, ◌<◌, Bool, true, false, not, cond, nat_eq, length}
 use Rattle.std.proofs.Common.{map, List, [], ◌∷◌, ◌++◌, Some, None, Ok, refl, ap, sym, ◌∙◌, subst, append-nil}
 use Rattle.std.specs.List.{Contains, IsDistinct, filter}
 use Rattle.std.proofs.lemmas.List.Elements.{Contains-push}
@@ -19,7 +19,7 @@ use Rattle.pg_message.specs.declared.message.Said.TheVariants.{Applied, Granted}
 use Rattle.pg_multicall.specs.Gathered.{what_of}
 use Rattle.pg_machine.specs.Happened.{Changes, Happened}
 use Rattle.pg_machine.specs.Losing.{Noticed, Sent}
-use Rattle.pg_machine.specs.Machine.{Do, Take}
+use Rattle.pg_machine.specs.Machine.{Take}
 use Rattle.pg_machine.specs.Places.{is_pair}
 use Rattle.pg_machine.proofs.Steps.{changes, pair_apart}
 use Rattle.pg_step.specs.declared.command.OpId.{OpId}
@@ -28,7 +28,7 @@ use Rattle.pg_step.specs.Attempts.{reply_by, reply_taken, reply_under}
 use Rattle.pg_step.specs.Config.{Config, name_at, names_of, nodes_at}
 use Rattle.pg_step.specs.FrameMachine.{losing_machine_of}
 use Rattle.pg_step.specs.Nodes.{Node, Nodes}
-use Rattle.pg_step.specs.State.{State, Status, formed, left}
+use Rattle.pg_step.specs.State.{State, formed, left}
 use Rattle.pg_step.specs.State.Response.{Given as Given_}
 use Rattle.pg_step.specs.State.Status.{Asked, Yes}
 use Rattle.pg_step.specs.declared.answer.Reply.TheVariants as reply
@@ -37,7 +37,7 @@ use Rattle.pg_step.specs.Step.{Action, taken}
 use Rattle.pg_step.specs.Turns.{NodeTurn, Report, and_then}
 use Rattle.pg_step.proofs.Once.{clash}
 use Rattle.pg_history.specs.History.{IsAnsweredOk, answer_at, answer_by, answers_by}
-use Rattle.pg_history.proofs.ends.Apart.{pair_first, pair_second, pair_swapped, same_place}
+use Rattle.pg_history.proofs.ends.Apart.{pair_second, pair_swapped, same_place}
 use Rattle.pg_history.proofs.locks.Packets.{number_is, use_is}
 use Rattle.pg_history.proofs.places.Shown.{IsHere}
 use Rattle.pg_history.proofs.quiet.Home.{After, AtEnd, AtLock, AtUpdate, IsAtEnd, IsAtLock, IsAtUpdate, IsFreed}

@@ -1,6 +1,6 @@
 -- A retry where nothing is on the way to a node that is left, and what is taken behind it.
 use Rattle.std.proofs.Common.{◌≡◌, ◌≢◌, ◌⊎◌, inl, inr, ℕ, suc, ◌+◌, ◌-◌, ◌*◌, ◌<◌, ◌≤◌, Bool, true, false, not}
-use Rattle.std.proofs.Common.{cond, nat_lt, length, map, List, [], ◌∷◌, ◌++◌, Option, None, Ok, Err}
+use Rattle.std.proofs.Common.{cond, nat_lt, length, map, List, [], ◌∷◌, Option, None, Ok, Err}
 use Rattle.std.proofs.Common.{refl, ap, sym, ◌∙◌, subst, arith}
 use Rattle.std.specs.List.{IsDistinct, filter}
 use Rattle.std.proofs.lemmas.Bool.{cases_eq, cases_lt, le-ltb, lt-ltb}
@@ -24,7 +24,7 @@ use Rattle.pg_step.specs.FrameMachine.{losing_machine_of}
 use Rattle.pg_step.specs.LossLaws.{LosingFrameWorld}
 use Rattle.pg_step.specs.Nodes.{Node, Nodes}
 use Rattle.pg_step.specs.State.{Stage, State, Status, Use, formed, left}
-use Rattle.pg_step.specs.State.Stage.{Asking, Changing, Closed, Waiting}
+use Rattle.pg_step.specs.State.Stage.{Asking, Changing, Waiting}
 use Rattle.pg_step.specs.State.Status.{Asked, No, Unasked, Yes}
 use Rattle.pg_step.specs.State.Use.{Locking, Updating}
 use Rattle.pg_step.specs.Step.{Action, Retry, acted}
@@ -43,9 +43,9 @@ use Rattle.pg_history.proofs.steps.Single.{Makes, ok_is}
 use Rattle.pg_loss.proofs.Lossy.{Died, Passed, Went, bare, passed}
 use Rattle.pg_left.proofs.Passing.{Leads}
 use Rattle.pg_ready.specs.Ready.{is_ready}
-use Rattle.pg_ready.proofs.Going.{no_loss, retry_is}
+use Rattle.pg_ready.proofs.Going.{no_loss}
 use Rattle.pg_retries.proofs.Alone.{Alone, AtHome, Ends, End, Fewer, GoesOut, IsPeer_, Lock, Locks, Result_, Updates}
-use Rattle.pg_retries.proofs.Alone.{all, formed_left, home_turn, own, takes, weight, weight_is}
+use Rattle.pg_retries.proofs.Alone.{all, formed_left, home_turn, takes, weight, weight_is}
 use Rattle.pg_retries.proofs.Hearing.{Bare, full_later, own_known, own_reported, own_sent, own_state, own_turn}
 use Rattle.pg_retries.proofs.Peers.{IsNone, IsPeer, Placed, knows, of_peer, of_peers, placed, sum_of}
 

@@ -1,5 +1,5 @@
 -- Takes and retries open no command, whoever was lost, and a command that is answered meanwhile is open no more.
-use Rattle.std.proofs.Common.{◌≡◌, ◌⊎◌, inl, inr, ℕ, zero, suc, ◌+◌, ◌<◌, ◌≤◌, Bool, true, false, ◌||◌, nat_eq, length}
+use Rattle.std.proofs.Common.{◌≡◌, ℕ, zero, suc, ◌+◌, ◌<◌, ◌≤◌, Bool, true, false, ◌||◌, nat_eq, length}
 use Rattle.std.proofs.Common.{List, [], ◌∷◌, ◌++◌, Some, refl, ap, sym, ◌∙◌, subst, append-nil, arith}
 use Rattle.std.specs.List.{Contains, list_any}
 use Rattle.std.proofs.lemmas.Bool.{eq-eqb}
@@ -7,7 +7,7 @@ use Rattle.std.proofs.lemmas.Bool.Decides.{Decides-ltb}
 use Rattle.std.proofs.lemmas.List.{length-append}
 use Rattle.pg_message.specs.declared.message.Message.{Message}
 use Rattle.pg_machine.specs.Happened.{Happened}
-use Rattle.pg_machine.specs.Losing.{LosingEvent, Noticed, Step, all_steps, mapped_turn, nobody_gone}
+use Rattle.pg_machine.specs.Losing.{LosingEvent, Noticed, Step, all_steps, nobody_gone}
 use Rattle.pg_machine.specs.Machine.{Do, Event, Input, Own, Take, Taken, Turn, first_from, node_of, start_of}
 use Rattle.pg_machine.proofs.Options.{some_is}
 use Rattle.pg_step.specs.Config.{Config, ports_at}

@@ -3,24 +3,22 @@ use Rattle.std.proofs.Common.{◌≡◌, ◌⊎◌, inl, inr, ℕ, zero, suc, �
 use Rattle.std.proofs.Common.{List, [], ◌∷◌, ◌++◌, refl, ap, sym, ◌∙◌, subst, arith}
 use Rattle.std.specs.List.{IsDistinct}
 use Rattle.std.proofs.Math.Nat.{add-mul, mul-le-mul_right, mul-suc}
-use Rattle.std.proofs.lemmas.List.{length-append, map-append}
+use Rattle.std.proofs.lemmas.List.{length-append}
 use Rattle.pg_term.specs.Same.{same_atom}
-use Rattle.pg_machine.specs.Losing.{LosingEvent, Step, all_steps, nobody_gone}
+use Rattle.pg_machine.specs.Losing.{LosingEvent, all_steps, nobody_gone}
 use Rattle.pg_machine.specs.Machine.{Do, Event, Take, start_of}
 use Rattle.pg_step.specs.Config.{Config, names_of}
 use Rattle.pg_step.specs.FrameMachine.{losing_frame_machine}
 use Rattle.pg_step.specs.LossLaws.{LosingFrameWorld}
-use Rattle.pg_step.specs.Step.{Action, CLOCK_LIMIT, Issue, Retry}
+use Rattle.pg_step.specs.Step.{Action, CLOCK_LIMIT, Retry}
 use Rattle.pg_step.specs.declared.command.OpId.{OpId}
 use Rattle.pg_history.specs.Quiet.{OnlyTakes, OnlyTakesAndRetries, peer_count, total}
-use Rattle.pg_history.proofs.places.Shown.{IsHere}
 use Rattle.pg_history.proofs.quiet.Answering.{both_too, takes_too}
 use Rattle.pg_history.proofs.quiet.Sums.{total_all, total_le}
 use Rattle.pg_loss.specs.Quiet.{IsQuietLeft, left_open}
 use Rattle.pg_loss.specs.Reached.{LosingReaches}
-use Rattle.pg_left.proofs.Passing.{Leads, Leaves}
-use Rattle.pg_ready.specs.Ready.{HasRoomLeft, NoneReadyLeft, OnlyRetries}
-use Rattle.pg_ready.proofs.Retried.{gone_later}
+use Rattle.pg_left.proofs.Passing.{Leads}
+use Rattle.pg_ready.specs.Ready.{HasRoomLeft, NoneReadyLeft}
 use Rattle.pg_retries.specs.Retried.{FreesLocks, NoneOpenLeft, RetryGoesPastLosses, left_count, left_peer_count}
 use Rattle.pg_retries.specs.Retried.{most_events_left, most_events_to_free}
 use Rattle.pg_retries.proofs.Counted.{less_open}

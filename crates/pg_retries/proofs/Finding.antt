@@ -7,7 +7,6 @@ use Rattle.pg_machine.specs.Losing.{LosingEvent}
 use Rattle.pg_machine.specs.Places.{is_place}
 use Rattle.pg_step.specs.Config.{Config, ports_at}
 use Rattle.pg_step.specs.LossLaws.{LosingFrameWorld}
-use Rattle.pg_step.specs.State.{State}
 use Rattle.pg_step.specs.Step.{Action}
 use Rattle.pg_step.specs.declared.command.OpId.{OpId}
 use Rattle.pg_history.specs.Counted.{is_open}

@@ -1,6 +1,6 @@
 -- Takes, retries of ready commands and takes free every lock of the nodes that are left.
-use Rattle.std.proofs.Common.{◌≡◌, ◌⊎◌, inl, inr, ℕ, zero, suc, ◌+◌, ◌*◌, ◌<◌, ◌≤◌, true, false, length}
-use Rattle.std.proofs.Common.{List, [], ◌∷◌, ◌++◌, refl, ap, sym, ◌∙◌, subst, arith}
+use Rattle.std.proofs.Common.{◌≡◌, ◌⊎◌, inl, inr, ℕ, zero, suc, ◌+◌, ◌*◌, ◌≤◌, true, false, length}
+use Rattle.std.proofs.Common.{List, [], ◌∷◌, ◌++◌, refl, ap, ◌∙◌, arith}
 use Rattle.std.specs.List.{IsDistinct}
 use Rattle.std.proofs.Math.Nat.{add-mul, mul-le-mul_left}
 use Rattle.pg_term.specs.Same.{same_atom}
@@ -19,7 +19,7 @@ use Rattle.pg_loss.specs.Quiet.{IsQuietLeft, left_open, most_takes_left}
 use Rattle.pg_loss.specs.Reached.{LosingReaches}
 use Rattle.pg_loss.proofs.Takes.{takes_end}
 use Rattle.pg_left.proofs.Passing.{Leads, Leaves, leads_more}
-use Rattle.pg_ready.specs.Ready.{HasRoomLeft, LossesSeen, NoLockLeft, NoneReadyLeft, OnlyRetries, is_ready_at}
+use Rattle.pg_ready.specs.Ready.{HasRoomLeft, LossesSeen, NoneReadyLeft, OnlyRetries, is_ready_at}
 use Rattle.pg_ready.proofs.Resting.{Next, Rests, comes_to_rest, next_is_taken, next_or_quiet, on_time, room_left, went}
 use Rattle.pg_ready.proofs.Retried.{no_lock, seen_later}
 use Rattle.pg_ready.proofs.Rounds.{RetriedAll, retried_all}

@@ -1,5 +1,5 @@
 -- A packet that is taken where nodes were lost, and what a node does of its own: what was first on its way, and what is made of it.
-use Rattle.std.proofs.Common.{◌≡◌, ◌≢◌, ℕ, true, cond, map, List, [], ◌∷◌, ◌++◌, Some, Ok, refl, ap, sym, ◌∙◌, subst}
+use Rattle.std.proofs.Common.{◌≡◌, ℕ, true, cond, map, List, [], ◌∷◌, ◌++◌, Some, Ok, refl, ap, sym, ◌∙◌}
 use Rattle.pg_message.specs.declared.message.Message.{Message}
 use Rattle.pg_machine.specs.Happened.{Changes, Happened}
 use Rattle.pg_machine.specs.Losing.{Noticed, Sent, mapped_turn}
@@ -8,7 +8,6 @@ use Rattle.pg_machine.proofs.Options.{map_is_some, some_is}
 use Rattle.pg_machine.proofs.Steps.{changes}
 use Rattle.pg_step.specs.Config.{Config, name_at, nodes_at, ports_at}
 use Rattle.pg_step.specs.FrameMachine.{losing_machine_of, node_step, place_turn}
-use Rattle.pg_step.specs.Nodes.{Node}
 use Rattle.pg_step.specs.State.{State, formed, left}
 use Rattle.pg_step.specs.Step.{Action, acted, taken}
 use Rattle.pg_step.specs.Turns.{NodeTurn, Report}

@@ -1,15 +1,15 @@
 -- The peers of a node that are left, by their places, and sums over them.
-use Rattle.std.proofs.Common.{◌≡◌, ◌≢◌, ◌⊎◌, inl, inr, ℕ, ◌+◌, ◌*◌, ◌<◌, Bool, true, false, not, ◌&&◌}
+use Rattle.std.proofs.Common.{◌≡◌, ◌⊎◌, inl, inr, ℕ, ◌+◌, ◌*◌, ◌<◌, Bool, true, false, not, ◌&&◌}
 use Rattle.std.proofs.Common.{cond, length, List, [], ◌∷◌, refl, ap, sym, ◌∙◌, subst, arith}
 use Rattle.std.specs.Cmp.{first_so, second_so}
-use Rattle.std.specs.List.{IsDistinct, filter, list_all, list_any}
+use Rattle.std.specs.List.{IsDistinct, filter, list_all}
 use Rattle.std.proofs.lemmas.Bool.{and_from, cases_eq}
 use Rattle.std.proofs.lemmas.Bool.Decides.{Decides-ltb}
 use Rattle.pg_term.specs.Same.{same_atom}
 use Rattle.pg_machine.specs.Places.{is_pair}
 use Rattle.pg_machine.proofs.Steps.{pair_apart}
 use Rattle.pg_step.specs.Config.{Config, name_at, names_of, nodes_at}
-use Rattle.pg_step.specs.Nodes.{Node, Nodes, every, is_peer}
+use Rattle.pg_step.specs.Nodes.{Node, Nodes, is_peer}
 use Rattle.pg_history.proofs.ends.Apart.{pair_second, place_below}
 use Rattle.pg_history.proofs.places.Shown.{IsHere}
 use Rattle.pg_history.proofs.quiet.Home.{Knows}

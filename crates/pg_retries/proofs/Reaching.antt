@@ -1,10 +1,9 @@
 -- A retry in a world that was reached, whoever was lost, with the clocks of its nodes.
-use Rattle.std.proofs.Common.{◌≡◌, ◌≢◌, ◌⊎◌, inl, inr, ℕ, zero, suc, ◌+◌, ◌*◌, ◌<◌, ◌≤◌, Bool, true, false, not, cond}
+use Rattle.std.proofs.Common.{◌≡◌, ◌⊎◌, inl, inr, ℕ, suc, ◌+◌, ◌*◌, ◌<◌, ◌≤◌, Bool, true, false, cond}
 use Rattle.std.proofs.Common.{nat_lt, length, List, [], ◌∷◌, ◌++◌, Some, None, Ok, Err, refl, ap, sym, ◌∙◌, subst, arith}
 use Rattle.std.specs.Prelude.{option_map}
 use Rattle.std.specs.List.{IsDistinct}
 use Rattle.std.proofs.lemmas.Bool.{cases_lt, le-leb, le-ltb, lt-ltb}
-use Rattle.std.proofs.lemmas.List.{append_assoc}
 use Rattle.pg_term.specs.Same.{same_atom}
 use Rattle.pg_group.specs.declared.update.Update.{Update}
 use Rattle.pg_group.specs.Value.{name_of}
@@ -50,7 +49,6 @@ use Rattle.pg_ready.proofs.Silence.{among_left}
 use Rattle.pg_retries.specs.Retried.{IsFreeLeft, RetryGoesPastLosses, left_peer_count}
 use Rattle.pg_retries.proofs.Alone.{Alone, weight}
 use Rattle.pg_retries.proofs.Answered.{IsStill, begun, begun_many, ends_answered, opens, some_packet, still_again, taken_all}
-use Rattle.pg_retries.proofs.Hearing.{Bare}
 use Rattle.pg_history.proofs.quiet.Phases.Phase.{Ahead}
 
 -- ---- runs

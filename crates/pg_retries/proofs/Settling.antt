@@ -1,9 +1,9 @@
 -- Where each loss was seen, how many packets are still taken before a command comes in or one is tried again, and that a retry of
 -- a ready command adds no more to them than one for each peer, where it is answered.
-use Rattle.std.proofs.Common.{◌≡◌, ◌≢◌, ◌⊎◌, inl, inr, ℕ, zero, suc, ◌+◌, ◌-◌, ◌*◌, ◌<◌, ◌≤◌, Bool, true, false, not}
-use Rattle.std.proofs.Common.{◌&&◌, cond, nat_eq, nat_lt, length, map, List, [], ◌∷◌, ◌++◌, Some, Ok, Err}
+use Rattle.std.proofs.Common.{◌≡◌, ◌≢◌, ◌⊎◌, inl, inr, ℕ, suc, ◌+◌, ◌-◌, ◌*◌, ◌<◌, ◌≤◌, Bool, true, false, not}
+use Rattle.std.proofs.Common.{◌&&◌, cond, nat_eq, nat_lt, length, map, List, [], ◌∷◌, ◌++◌, Ok, Err}
 use Rattle.std.proofs.Common.{refl, ap, sym, ◌∙◌, subst, arith}
-use Rattle.std.specs.List.{IsDistinct, list_any}
+use Rattle.std.specs.List.{IsDistinct}
 use Rattle.std.proofs.Math.Nat.{mul-le-mul_left, mul-suc}
 use Rattle.std.proofs.lemmas.Bool.{cases_eq, eq-eqb, ne_eqb}
 use Rattle.std.proofs.lemmas.Bool.Decides.{Decides-ltb}
@@ -14,33 +14,33 @@ use Rattle.pg_group.specs.Value.{name_of}
 use Rattle.pg_lock.specs.Attempts.{after_round, does_wait}
 use Rattle.pg_message.specs.declared.message.Message.{Message}
 use Rattle.pg_message.specs.declared.message.Message.TheVariants.{DelLock}
-use Rattle.pg_machine.specs.Clocked.{packets_of, plain}
+use Rattle.pg_machine.specs.Clocked.{packets_of}
 use Rattle.pg_machine.specs.Happened.{Changes, Happened, Takes}
-use Rattle.pg_machine.specs.Losing.{Last, LosingEvent, Noticed, Sent, Step, all_steps, mapped_turn}
+use Rattle.pg_machine.specs.Losing.{Last, LosingEvent, Noticed, Sent, Step, mapped_turn}
 use Rattle.pg_machine.specs.Machine.{Do, Event, Take, Turn, node_of}
 use Rattle.pg_machine.specs.Places.{is_pair, is_place}
 use Rattle.pg_machine.proofs.Steps.{changes, pair_apart}
 use Rattle.pg_step.specs.declared.command.OpId.{OpId}
 use Rattle.pg_step.specs.declared.refusal.Refusal.TheVariants.{NoSuchPlace, NotWaiting}
-use Rattle.pg_step.specs.Attempts.{ask, finish, give_up, go_on, is_complete, locks_in, none_denied, none_missing, own_reference}
+use Rattle.pg_step.specs.Attempts.{ask, finish, give_up, go_on, is_complete, locks_in, none_denied, own_reference}
 use Rattle.pg_step.specs.Attempts.{replies_in, round_of, tried_again, waits}
 use Rattle.pg_step.specs.Config.{Config, name_at, names_of, nodes_at, ports_at}
 use Rattle.pg_step.specs.FrameMachine.{losing_machine_of, place_turn}
 use Rattle.pg_step.specs.LossLaws.{LosingFrameWorld}
-use Rattle.pg_step.specs.Nodes.{Node, Nodes, every, is_peer, to_peers}
-use Rattle.pg_step.specs.State.{Stage, State, Status, Use, left}
+use Rattle.pg_step.specs.Nodes.{Node, Nodes, is_peer, to_peers}
+use Rattle.pg_step.specs.State.{Stage, State, Use, left}
 use Rattle.pg_step.specs.State.Stage.{Asking, Changing, Closed, Waiting}
 use Rattle.pg_step.specs.State.Use.{Fresh, Locking, Owning, Spent, Updating}
 use Rattle.pg_step.specs.Step.{Action, Retry, acted}
 use Rattle.pg_step.specs.Turns.{NodeTurn, Report, and_then, becomes}
-use Rattle.pg_history.specs.Quiet.{OnlyTakes, peer_count}
+use Rattle.pg_history.specs.Quiet.{peer_count}
 use Rattle.pg_history.proofs.ends.Apart.{pair_first, pair_second}
 use Rattle.pg_history.proofs.places.Shown.{IsHere}
 use Rattle.pg_history.proofs.quiet.Bounds.{node_light, own_no_peer, some_open}
 use Rattle.pg_history.proofs.quiet.Ending.{to_one_place}
 use Rattle.pg_history.proofs.quiet.Linked.{HasReference, IsLockingOf, IsUpdatingOf, Linked}
 use Rattle.pg_history.proofs.quiet.Rest.{IsAtRest, pair_of}
-use Rattle.pg_history.proofs.quiet.Sums.{but, but_here, but_other, total, total_add, total_all, total_but, total_change}
+use Rattle.pg_history.proofs.quiet.Sums.{but, but_other, total, total_add, total_all, total_but, total_change}
 use Rattle.pg_history.proofs.quiet.Sums.{total_changes, total_le, total_lower, total_same, total_scale}
 use Rattle.pg_history.proofs.quiet.Weights.{Lessens, Made, Pays, gives_up_pay, node_weight, packet_lessens, packet_weight}
 use Rattle.pg_history.proofs.quiet.Weights.{round_goes_pay, sent_weight, use_weight, weigh}
@@ -52,14 +52,14 @@ use Rattle.pg_loss.proofs.Bridge.{Left, any_filter, left_same, not_true}
 use Rattle.pg_loss.proofs.Bridges.{Bridged, bridged}
 use Rattle.pg_loss.proofs.Counting.{all_count}
 use Rattle.pg_loss.proofs.Lossy.{Died, Lossy, Passed, Went, bare, passed}
-use Rattle.pg_left.proofs.Passing.{Leads, Leaves}
+use Rattle.pg_left.proofs.Passing.{Leaves}
 use Rattle.pg_ready.specs.Ready.{LossesSeen, is_ready, is_ready_at}
 use Rattle.pg_ready.proofs.Going.{no_loss, ready_waits, retry_is}
 use Rattle.pg_ready.proofs.Holders.{all_linked}
 use Rattle.pg_ready.proofs.Silence.{all_silent}
 use Rattle.pg_retries.proofs.Answered.{take_is}
 use Rattle.pg_retries.proofs.Counted.{fewer_open, fewer_opened}
-use Rattle.pg_retries.proofs.Hearing.{first, known_is, own_is, own_known, own_sent, own_state, own_turn, sent_is, state_is, turn, turn_is}
+use Rattle.pg_retries.proofs.Hearing.{first, known_is, own_is, own_known, own_state, own_turn, turn, turn_is}
 
 -- ---- what is on the way
 
