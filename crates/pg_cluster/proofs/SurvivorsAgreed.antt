@@ -48,7 +48,7 @@ use Rattle.pg_history.proofs.references.Keys.{atoms, read_at}
 use Rattle.pg_history.proofs.steps.Ways.{all_both}
 use Rattle.pg_loss.specs.Agreeing.{SawAll}
 use Rattle.pg_loss.specs.Reached.{LosingReaches, steps_of}
-use Rattle.pg_ready.specs.Survived.{LossesSurvived}
+use Rattle.pg_retries.specs.Survived.{LossesSurvived}
 use Rattle.pg_loss.proofs.Bridge.{not_true}
 use Rattle.pg_loss.proofs.Lasts.{seen_later}
 use Rattle.pg_loss.proofs.Lossy.{bare, Passed, Went, Died, passed, Makes, Steps, Sees, makes, noted}

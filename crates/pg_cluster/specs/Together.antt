@@ -22,7 +22,7 @@ use Rattle.pg_frame_world.specs.Worlds.{TimedFrameWorld, ShowsNode, event_of}
 use Rattle.pg_machine.specs.Losing.{LosingEvent, Step, Lose, losing_happens, nobody_gone}
 use Rattle.pg_machine.specs.Machine.{Take, Do}
 use Rattle.pg_loss.specs.Reached.{LosingReaches}
-use Rattle.pg_ready.specs.Survived.{LossesSurvived}
+use Rattle.pg_retries.specs.Survived.{LossesSurvived}
 use Rattle.pg_step.specs.LossLaws.{LosingFrameWorld}
 use Rattle.pg_step.specs.Step.{Issue, Retry}
 use Rattle.pg_joining.specs.ApartWithLosses.{nodes_in}

@@ -14,7 +14,7 @@ ghost use Rattle.pg_cluster.specs.Together.{AreOneRun, AreOneLosingRun};
 use pg_history::{ended_processes_were_finished, no_loss_is_seen};
 use pg_joining::{nodes_ran_together, nodes_ran_together_past_losses};
 use pg_left::{ended_processes_were_finished_past_losses, nodes_that_heard_the_lost_agree};
-use pg_ready::each_world_past_losses;
+use pg_retries::each_world_past_losses;
 
 /// The nodes of a configuration that ran as threads, with rings between them, and of which none was lost, made one run: their schedule is events that happen one
 /// after another from the start, each node does there what its log has and comes to where it ended, and of the world to which

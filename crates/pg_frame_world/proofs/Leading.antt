@@ -25,7 +25,7 @@ use Rattle.pg_step.specs.Step.{Action}
 use Rattle.pg_step.proofs.Unnoticed.{without_losses}
 use Rattle.pg_history.proofs.places.Clauses.{one_history}
 use Rattle.pg_loss.specs.Reached.{LosingReaches, steps_of}
-use Rattle.pg_ready.specs.Survived.{LossesSurvived}
+use Rattle.pg_retries.specs.Survived.{LossesSurvived}
 use Rattle.pg_history.specs.History.{Entry, LockFree, NonePending, history, applied_count, is_formed}
 use Rattle.pg_history.specs.WithLosses.{NonePendingLeft}
 use Rattle.pg_history.proofs.steps.Lossless.{NoneLost, nobody_timed}

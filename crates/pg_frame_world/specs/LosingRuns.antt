@@ -8,7 +8,7 @@ use Rattle.pg_step.specs.Faults.{refusal_number_of}
 use Rattle.pg_step.specs.FrameMachine.{losing_frame_machine, last_notice}
 use Rattle.pg_step.specs.LossLaws.{LosingFrameWorld}
 use Rattle.pg_step.specs.Step.{Action}
-use Rattle.pg_ready.specs.Survived.{LossesSurvived}
+use Rattle.pg_retries.specs.Survived.{LossesSurvived}
 use Rattle.pg_frame_world.specs.declared.step.FrameStep.{FrameStep}
 use Rattle.pg_frame_world.specs.Losing.{Telling, told_of}
 use Rattle.pg_frame_world.specs.Runs.{Led}

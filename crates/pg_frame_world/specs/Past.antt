@@ -13,7 +13,7 @@ use Rattle.pg_history.specs.History.{Entry}
 use Rattle.pg_history.specs.WithLosses.{FormedAtLosses}
 use Rattle.pg_loss.specs.Reached.{LosingReaches, steps_of}
 use Rattle.pg_left.specs.Missed.{missed, missed_of}
-use Rattle.pg_ready.specs.Survived.{LossesSurvived}
+use Rattle.pg_retries.specs.Survived.{LossesSurvived}
 use Rattle.pg_node_state.specs.declared.state.fault.NodeFault.{NodeFault}
 use Rattle.pg_frame_world.specs.declared.step.FrameStep.{FrameStep}
 use Rattle.pg_frame_world.specs.declared.step.Stepped.{Stepped}

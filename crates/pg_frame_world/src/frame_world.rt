@@ -13,7 +13,7 @@ use pg_group::GroupTable;
 use pg_index::IndexTable;
 use pg_message::Packet;
 use pg_node_state::{NodeFault, NodeState};
-use pg_ready::each_world_past_losses;
+use pg_retries::each_world_past_losses;
 use pg_term::{Pid, Term};
 use std::alloc::{AllocError, Global};
 use std::collections::VecDeque;

@@ -16,7 +16,7 @@ use pg_config::{Config, WorldFault};
 use pg_group::GroupTable;
 use pg_history::one_history;
 use pg_index::IndexTable;
-use pg_ready::each_world_past_losses;
+use pg_retries::each_world_past_losses;
 use std::alloc::Global;
 
 impl<T: GroupTable + Drop> FrameWorld<T> {

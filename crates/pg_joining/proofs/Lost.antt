@@ -16,7 +16,7 @@ use Rattle.pg_joining.proofs.Behind.{merges_with_losses}
 use Rattle.pg_joining.proofs.Losing.{losing_joined}
 use Rattle.pg_joining.proofs.Seen.{same_clocks}
 use Rattle.pg_loss.specs.Reached.{LosingReaches}
-use Rattle.pg_ready.specs.Survived.{LossesSurvived}
+use Rattle.pg_retries.specs.Survived.{LossesSurvived}
 use Rattle.pg_machine.specs.Clocked.{Timed, Stamped}
 use Rattle.pg_machine.specs.Losing.{LosingLeads, LosingWorld, Noticed, nobody_gone}
 use Rattle.pg_machine.specs.Machine.{Machine, start_of}

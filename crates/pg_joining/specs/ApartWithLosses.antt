@@ -6,7 +6,7 @@ use Rattle.pg_group.specs.declared.table.GroupTable.{Ghosts}
 use Rattle.pg_joining.specs.Losses.{Marked, MarkedLeads}
 use Rattle.pg_joining.specs.Merge.{entry_at}
 use Rattle.pg_loss.specs.Reached.{LosingReaches}
-use Rattle.pg_ready.specs.Survived.{LossesSurvived}
+use Rattle.pg_retries.specs.Survived.{LossesSurvived}
 use Rattle.pg_machine.specs.Clocked.{Stamped}
 use Rattle.pg_machine.specs.Losing.{LosingEvent, Noticed, Step, Lose, nobody_gone}
 use Rattle.pg_machine.specs.Machine.{start_of}

@@ -11,7 +11,7 @@ ghost use Rattle.pg_joining.specs.ApartWithLosses.{RanLosing, RanPastLosses, los
 use crate::history::joined_history;
 use pg_frame::{pieces_continue, written_is_read};
 use pg_history::first_packets_were_welcome;
-use pg_ready::each_world_past_losses;
+use pg_retries::each_world_past_losses;
 use pg_step::losing_nodes_keep_time;
 
 /// Nodes of a configuration that ran apart, with rings between them, made one run together: their logs, merged by clock and then by

@@ -508,6 +508,32 @@ module _ (m : Nodes) where
       go true true e = subst (λ (z : NodeTurn). is_ready m (z.state.stages op) z.state ≡ false) (ok_is e)
           (tried_unready op (s.stages op) s refl (linked.links.asked op))
 
+  -- and the others as they were
+  tried_others : (op other : OpId) → op ≢ other → (s : State) → Linked s
+      → is_ready m ((tried_again (s.stages op) m op s).state.stages other) (tried_again (s.stages op) m op s).state
+      ≡ is_ready m (s.stages other) s
+  tried_others op other differ s linked =
+      let t : State = (tried_again (s.stages op) m op s).state in
+      let at : Place other s =
+      place_of other s (s.stages other) refl (linked.links.asked other) (linked_fit s linked) in
+      let by = tried_aside op other differ (s.stages op) s (linked.links.asked op) linked at in
+      ap (λ z. is_ready m z t) by.0 ∙ still_ready at.number (s.stages other) s t at.at by.1
+
+  retried_others : (whole : Nodes) (ports : ℕ) (op other : OpId) → op ≢ other → (s : State) (t : NodeTurn) → Linked s
+      → Makes (acted whole m ports (Retry op) s) t
+      → is_ready m (t.state.stages other) t.state ≡ is_ready m (s.stages other) s
+  retried_others whole ports op other differ s t linked is =
+      go (nat_lt op.port ports) (waits m (s.stages op) s) is
+    where
+      go : (b d : Bool)
+          → Makes (cond b (cond d (Ok (tried_again (s.stages op) m op s)) (Err NotWaiting)) (Err NoSuchPlace)) t
+          → is_ready m (t.state.stages other) t.state ≡ is_ready m (s.stages other) s
+      go false d e = absurd (cc)
+      go true false e = absurd (cc)
+      go true true e =
+          subst (λ (z : NodeTurn). is_ready m (z.state.stages other) z.state ≡ is_ready m (s.stages other) s) (ok_is e)
+          (tried_others op other differ s linked)
+
 -- ---- a step
 
 module _ (config : Config) (i : ℕ) (s : State) (linked : Linked s) where
@@ -541,3 +567,17 @@ module _ (config : Config) (i : ℕ) (s : State) (linked : Linked s) where
       (subst (λ (z : Turn State Message Report). is_ready (left (nodes_at config i) s)
       (z.state.stages op) z.state ≡ false) (sym t.2)
       (retried_unready (left (nodes_at config i) s) (nodes_at config i) (ports_at config i) op s t.0 linked t.1))
+
+  -- and each other command ready as it was
+  pub step_others : (op other : OpId) → op ≢ other → (turn : Turn State Message Report)
+      → node_step config i s (Own (Retry op)) ≡ Some turn
+      → is_ready (left (nodes_at config i) turn.state) (turn.state.stages other) turn.state
+      ≡ is_ready (left (nodes_at config i) s) (s.stages other) s
+  step_others op other differ turn is =
+      let t = did_so config i s (Retry op) turn is in
+      subst (λ m. is_ready m (turn.state.stages other) turn.state
+      ≡ is_ready (left (nodes_at config i) s) (s.stages other) s)
+      (left_same (nodes_at config i) s turn.state (step_sees_none config i s (Own (Retry op)) turn is))
+      (subst (λ (z : Turn State Message Report). is_ready (left (nodes_at config i) s) (z.state.stages other) z.state
+      ≡ is_ready (left (nodes_at config i) s) (s.stages other) s) (sym t.2)
+      (retried_others (left (nodes_at config i) s) (nodes_at config i) (ports_at config i) op other differ s t.0 linked t.1))

@@ -6,3 +6,4 @@ pub mod Resting
 pub mod Retried
 pub mod Rounds
 pub mod Silence
+pub mod tried

@@ -249,14 +249,14 @@ module _ (config : Config) (apart : IsDistinct same_atom (names_of config)) wher
   below : (k : ℕ) → IsHere config k → k < n
   below k here = (Decides-ltb k n).0 here
 
-  record Next (w : LosingFrameWorld) : Type 0 where
-    from : ℕ
-    to : ℕ
-    packet : Notice
-    rest : List Notice
-    pair : is_pair n from to ≡ true
-    lives : w.gone to ≡ false
-    is : w.world.wire from to ≡ packet ∷ rest
+  pub record Next (w : LosingFrameWorld) : Type 0 where
+    pub from : ℕ
+    pub to : ℕ
+    pub packet : Notice
+    pub rest : List Notice
+    pub pair : is_pair n from to ≡ true
+    pub lives : w.gone to ≡ false
+    pub is : w.world.wire from to ≡ packet ∷ rest
 
   abbrev IsEmpty : LosingFrameWorld → ℕ → ℕ → Type 0
   IsEmpty w a b = is_pair n a b ≡ true → w.gone b ≡ false → w.world.wire a b ≡ []
@@ -279,7 +279,7 @@ module _ (config : Config) (apart : IsDistinct same_atom (names_of config)) wher
       go (inl found) = inl found.1
       go (inr none) = inr none
 
-  next_or_quiet : (w : LosingFrameWorld) → Next w ⊎ IsQuietLeft config w
+  pub next_or_quiet : (w : LosingFrameWorld) → Next w ⊎ IsQuietLeft config w
   next_or_quiet w = go (find_place n (λ a. Next w) (λ a. (b : ℕ) → b < n → IsEmpty w a b) (at_node w))
     where
       go : ((a : ℕ) × Next w) ⊎ ((a : ℕ) → a < n → (b : ℕ) → b < n → IsEmpty w a b) → Next w ⊎ IsQuietLeft config w

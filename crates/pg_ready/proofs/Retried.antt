@@ -1,5 +1,5 @@
 -- What is ready after a run in which nobody is lost: no more than before, and nothing that was tried again.
-use Rattle.std.proofs.Common.{◌≡◌, ℕ, Bool, true, false, ◌&&◌, ◌||◌, nat_eq, length}
+use Rattle.std.proofs.Common.{◌≡◌, ◌≢◌, ℕ, Bool, true, false, ◌&&◌, ◌||◌, nat_eq, length}
 use Rattle.std.proofs.Common.{List, [], ◌∷◌, ◌++◌, Option, Some, None, refl, ap, sym, ◌∙◌, subst}
 use Rattle.std.specs.Cmp.{first_so, second_so}
 use Rattle.std.specs.List.{IsDistinct}
@@ -34,7 +34,7 @@ use Rattle.pg_loss.proofs.Lossy.{Died, Makes, Passed, Sees, Steps, Went, bare, m
 use Rattle.pg_left.proofs.Passing.{Leads, Leaves, leads_more}
 use Rattle.pg_ready.specs.Ready.{EachIsRetried, LossesSeen, NoLockLeft, NoneReadyLeft, OfReady, is_ready}
 use Rattle.pg_ready.specs.Ready.{is_ready_at, is_retried}
-use Rattle.pg_ready.proofs.Fewer.{step_makes_none, step_unready}
+use Rattle.pg_ready.proofs.Fewer.{step_makes_none, step_others, step_unready}
 use Rattle.pg_ready.proofs.Going.{no_loss, own_given, retry_is}
 use Rattle.pg_ready.proofs.Holders.{all_linked}
 use Rattle.pg_ready.proofs.Ready.{of_ready}
@@ -125,6 +125,38 @@ module _ (config : Config) (es : List (LosingEvent Action)) (w v : LosingFrameWo
         go (Went d is alive h same) =
             by (subst (λ z. Happened (losing_machine_of config) (bare w).world z (bare v).world) (retry_is is) h)
         go (Died j keep is there alive cut gone) = absurd (no_loss is)
+
+    -- and each other as it was
+    pub retried_others : Leaves config w (Step (Do i (Retry op))) v → (j : ℕ) (other : OpId) → (j ≡ i → op ≢ other)
+        → is_ready_at config v j other ≡ is_ready_at config w j other
+    retried_others happens j other differ = go (passed config w v (Step (Do i (Retry op))) happens)
+      where
+        turned : (op ≢ other) → (input : Input (Noticed Message) Action) (turn : Turn State (Noticed Message) Report)
+            → Own (Retry op) ≡ input → Makes config i (w.world.node i).state input turn
+            → is_ready (left (nodes_at config i) turn.state) (turn.state.stages other) turn.state
+            ≡ is_ready_at config w i other
+        turned apart input turn own (Steps given t is made same) =
+            subst (λ (z : Turn State (Noticed Message) Report). is_ready (left (nodes_at config i) z.state)
+            (z.state.stages other) z.state ≡ is_ready_at config w i other) (sym same)
+            (step_others config i (w.world.node i).state (all_linked config es w l i) op other apart t
+            (subst (λ z. node_step config i (w.world.node i).state z ≡ Some t)
+            (own_given given (Retry op) (own ∙ is)) made))
+        turned apart input turn own (Sees p is not_yet same) = absurd (cc (own ∙ is))
+
+        by : Happened (losing_machine_of config) (bare w).world (Do i (Retry op)) (bare v).world
+            → is_ready_at config v j other ≡ is_ready_at config w j other
+        by h = state_after (losing_machine_of config) (bare w).world (bare v).world (Do i (Retry op)) h
+            (λ (s : State). is_ready (left (nodes_at config j) s) (s.stages other) s
+            ≡ is_ready_at config w j other) j
+            (λ own. subst (λ k. is_ready (left (nodes_at config k) h.turn.state) (h.turn.state.stages other) h.turn.state
+            ≡ is_ready_at config w k other) (sym own) (turned (differ own) h.input h.turn (some_is h.given)
+            (makes config i (w.world.node i).state h.input h.turn h.made))) (λ _. refl)
+
+        go : Passed config (bare w) (bare v) (Step (Do i (Retry op)))
+            → is_ready_at config v j other ≡ is_ready_at config w j other
+        go (Went d is alive h same) =
+            by (subst (λ z. Happened (losing_machine_of config) (bare w).world z (bare v).world) (retry_is is) h)
+        go (Died k keep is there alive cut gone) = absurd (no_loss is)
 
 -- ---- a run in which nobody is lost
 

@@ -1,14 +1,16 @@
 -- All ready commands can be tried again, one behind another: each retry leaves one less, and each of them is open.
-use Rattle.std.proofs.Common.{◌≡◌, ◌⊎◌, inl, inr, ℕ, zero, suc, ◌+◌, ◌<◌, ◌≤◌, Bool, true, false, not, ◌&&◌, cond}
+use Rattle.std.proofs.Common.{◌≡◌, ◌⊎◌, inl, inr, ℕ, zero, suc, ◌+◌, ◌<◌, ◌≤◌, Bool, true, false, not, ◌&&◌, ◌||◌, cond, nat_eq}
 use Rattle.std.proofs.Common.{length, List, [], ◌∷◌, ◌++◌, refl, ap, sym, ◌∙◌, arith}
 use Rattle.std.specs.List.{IsDistinct}
-use Rattle.std.proofs.lemmas.Bool.{cases_lt}
+use Rattle.std.specs.Cmp.{first_so, second_so}
+use Rattle.std.proofs.lemmas.Bool.{and_from, cases_lt}
 use Rattle.std.proofs.lemmas.Bool.Decides.{Decides-ltb}
 use Rattle.pg_term.specs.Same.{same_atom}
 use Rattle.pg_machine.specs.Losing.{LosingEvent, Step, all_steps, nobody_gone}
 use Rattle.pg_machine.specs.Machine.{Do, Event, Take, start_of}
 use Rattle.pg_machine.specs.Places.{is_place}
 use Rattle.pg_machine.proofs.Steps.{happened}
+use Rattle.pg_step.specs.Attempts.{same_op}
 use Rattle.pg_step.specs.Config.{Config, names_of, nodes_at, ports_at}
 use Rattle.pg_step.specs.FrameMachine.{losing_frame_machine}
 use Rattle.pg_step.specs.LossLaws.{LosingFrameWorld}
@@ -16,17 +18,20 @@ use Rattle.pg_step.specs.State.{State, left}
 use Rattle.pg_step.specs.Step.{Action, CLOCK_LIMIT, Issue, Retry}
 use Rattle.pg_step.specs.declared.command.OpId.{OpId}
 use Rattle.pg_history.specs.Counted.{how_many, is_open, open_at, open_in, open_number}
+use Rattle.pg_history.proofs.locks.Stages.{commands}
 use Rattle.pg_history.proofs.places.Shown.{IsHere}
 use Rattle.pg_history.proofs.quiet.Sums.{find_place, total, total_le, total_lower, total_term}
+use Rattle.pg_history.proofs.references.Keys.{numbers}
 use Rattle.pg_loss.specs.Quiet.{left_open}
 use Rattle.pg_loss.specs.Reached.{LosingReaches}
 use Rattle.pg_loss.proofs.Bridge.{not_true}
 use Rattle.pg_loss.proofs.Counting.{all_count}
-use Rattle.pg_left.proofs.Passing.{Leads, leads_more}
-use Rattle.pg_ready.specs.Ready.{HasRoomLeft, LossesSeen, NoneReadyLeft, OnlyRetries, is_ready_at}
+use Rattle.pg_left.proofs.Passing.{Leads, Leaves, leads_more}
+use Rattle.pg_ready.specs.Ready.{EachIsRetried, HasRoomLeft, LossesSeen, NoneReadyLeft, OnlyReady, OnlyRetries}
+use Rattle.pg_ready.specs.Ready.{is_ready_at, is_retried}
 use Rattle.pg_ready.proofs.Going.{can_retry, ready_waits}
 use Rattle.pg_ready.proofs.Resting.{more_steps, on_time, room_left, went}
-use Rattle.pg_ready.proofs.Retried.{fewer_ready, gone_later, retried_unready, seen_later, was_ready}
+use Rattle.pg_ready.proofs.Retried.{fewer_ready, gone_later, retried_others, retried_unready, seen_later, was_ready}
 
 -- ---- counting
 
@@ -57,6 +62,29 @@ one_retry [] i op only = tt
 one_retry (Take j p ∷ ts) i op only = absurd only
 one_retry (Do j (Issue port c) ∷ ts) i op only = absurd only
 one_retry (Do j (Retry other) ∷ ts) i op only = one_retry ts i op only
+
+or_assoc : (a b c : Bool) → ((a || b) || c) ≡ (a || (b || c))
+or_assoc true b c = refl
+or_assoc false b c = refl
+
+or_false : (a : Bool) → (a || false) ≡ a
+or_false true = refl
+or_false false = refl
+
+-- one retry more
+retried_more : (ts : List (Event Action)) (i j : ℕ) (op other : OpId)
+    → is_retried i op (ts ++ Do j (Retry other) ∷ []) ≡ (is_retried i op ts || (nat_eq j i && same_op other op))
+retried_more [] i j op other = or_false (nat_eq j i && same_op other op)
+retried_more (Take k p ∷ ts) i j op other = retried_more ts i j op other
+retried_more (Do k (Issue port c) ∷ ts) i j op other = retried_more ts i j op other
+retried_more (Do k (Retry o) ∷ ts) i j op other =
+    ap (λ b. (nat_eq k i && same_op o op) || b) (retried_more ts i j op other)
+    ∙ sym (or_assoc (nat_eq k i && same_op o op) (is_retried i op ts) (nat_eq j i && same_op other op))
+
+neither : (a b : Bool) → (a || b) ≡ false → (a ≡ false) × (b ≡ false)
+neither false false e = (refl, refl)
+neither false true e = absurd (cc e)
+neither true b e = absurd (cc e)
 
 module _ (config : Config) (apart : IsDistinct same_atom (names_of config)) (es : List (LosingEvent Action))
     (w : LosingFrameWorld) (l : LosingReaches config es w) (seen : LossesSeen config w) where
@@ -274,20 +302,49 @@ module _ (config : Config) (apart : IsDistinct same_atom (names_of config)) (es 
 
   -- ---- all of them
 
-  pub record RetriedAll (room : ℕ) : Type 0 where
+  pub record RetriedAll (room : ℕ) (Q : LosingFrameWorld → Type 0) : Type 0 where
     pub retries : List (Event Action)
     pub world : LosingFrameWorld
+    pub kept : Q world
     pub only : OnlyRetries retries
     pub leads : Leads config w (all_steps retries) world
+    -- those that were ready, and no others
+    pub each : EachIsRetried config w retries
+    pub were : OnlyReady config w retries
     pub none : NoneReadyLeft config world
     pub left : HasRoomLeft config world room
 
-  module _ (room : ℕ) where
+  -- and what each retry of a ready command keeps is kept
+  module _ (room : ℕ) (Q : LosingFrameWorld → Type 0)
+      (keeps : (done : List (LosingEvent Action)) (u v : LosingFrameWorld) (i : ℕ) (op : OpId)
+      → LosingReaches config done u → IsHere config i → u.gone i ≡ false → is_ready_at config u i op ≡ true
+      → Leaves config u (Step (Do i (Retry op))) v → Q u → Q v) where
     record Sofar (ts : List (Event Action)) (done : List (LosingEvent Action)) (u : LosingFrameWorld) : Type 0 where
+      kept : Q u
+      still : (i : ℕ) (op : OpId) → is_ready_at config w i op ≡ true → is_retried i op ts ≡ false
+          → is_ready_at config u i op ≡ true
+      were : OnlyReady config w ts
       only : OnlyRetries ts
       leads : Leads config w (all_steps ts) u
       reached : LosingReaches config done u
       seen_there : LossesSeen config u
+
+    tried_if : (b : Bool) → (b ≡ false → b ≡ true) → b ≡ true
+    tried_if true never = refl
+    tried_if false never = never refl
+
+    -- one that is tried now, or was before
+    was_one : (i : ℕ) (op : OpId) (u : LosingFrameWorld) (b c : Bool) → c ≡ b
+        → (c ≡ true → is_ready_at config w i op ≡ true) → (found : Found u)
+        → (b || (nat_eq found.node i && same_op found.op op)) ≡ true → is_ready_at config w i op ≡ true
+    was_one i op u true c is old found tried = old is
+    was_one i op u false c is old found tried =
+        let place : found.node ≡ i =
+        numbers.is found.node i (first_so (nat_eq found.node i) (same_op found.op op) tried) in
+        let same : found.op ≡ op =
+        commands.is found.op op (second_so (nat_eq found.node i) (same_op found.op op) tried) in
+        ap (λ k. is_ready_at config w k op) (sym place)
+        ∙ (ap (λ o. is_ready_at config w found.node o) (sym same) ∙ found.was)
 
     since_w : (ts : List (Event Action)) (done : List (LosingEvent Action)) (u : LosingFrameWorld) → Sofar ts done u
         → (i : ℕ) (op : OpId) → is_ready_at config u i op ≡ true → is_ready_at config w i op ≡ true
@@ -300,12 +357,16 @@ module _ (config : Config) (apart : IsDistinct same_atom (names_of config)) (es 
     retried_within : (k : ℕ) (ts : List (Event Action)) (done : List (LosingEvent Action)) (u : LosingFrameWorld)
         → (so : Sofar ts done u) → ready_many u ≤ k → HasRoomLeft config u (k + room)
         → Found u ⊎ ((i : ℕ) (op : OpId) → IsHere config i → w.gone i ≡ false → is_ready_at config u i op ≡ false)
-        → RetriedAll room
+        → RetriedAll room Q
     retried_within k ts done u so few free (inr none) = record {
       retries = ts;
       world = u;
+      kept = so.kept;
       only = so.only;
       leads = so.leads;
+      each = λ i op here lives ready. tried_if (is_retried i op ts) (λ untried.
+          absurd (cc (sym (so.still i op ready untried) ∙ none i op here lives)));
+      were = so.were;
       none = λ i op here lives. none i op here (ap (λ (f : ℕ → Bool). f i) (sym (gone_as ts done u so)) ∙ lives);
       left = λ i here. let all : (u.world.node i).clock + (k + room) ≤ CLOCK_LIMIT = free i here in omega (arith, all);
     }
@@ -323,6 +384,17 @@ module _ (config : Config) (apart : IsDistinct same_atom (names_of config)) (es 
         let less : ready_many v < ready_many u =
         fewer_many u v found before (retried_unready config done u v so.reached found.node found.op one_on.1) in
         let later : Sofar (ts ++ d ∷ []) (done ++ Step d ∷ []) v = record {
+          kept = keeps done u v found.node found.op so.reached found.here lives found.ready one_on.1 so.kept;
+          still = λ i op ready untried.
+              let both = neither (is_retried i op ts) (nat_eq found.node i && same_op found.op op)
+              (sym (retried_more ts i found.node op found.op) ∙ untried) in
+              retried_others config done u v so.reached found.node found.op one_on.1 i op
+              (λ place same. absurd (cc (sym both.1 ∙ and_from (nat_eq found.node i) (same_op found.op op)
+              (ap (nat_eq found.node) place ∙ numbers.refl found.node)
+              (ap (same_op found.op) (sym same) ∙ commands.refl found.op))))
+              ∙ so.still i op ready both.0;
+          were = λ i op tried. was_one i op u (is_retried i op ts) (is_retried i op ts) refl (so.were i op) found
+              (sym (retried_more ts i found.node op found.op) ∙ tried);
           only = one_retry ts found.node found.op so.only;
           leads = more_steps config apart ts w u v d so.leads one_on.1;
           reached = leads_more config done (nobody_gone (start_of (losing_frame_machine config))) u v
@@ -336,7 +408,7 @@ module _ (config : Config) (apart : IsDistinct same_atom (names_of config)) (es 
         (λ i here. let all : (u.world.node i).clock + (suc k + room) ≤ CLOCK_LIMIT = free i here in omega (arith, all)))
         (next_ready v (since_w (ts ++ d ∷ []) (done ++ Step d ∷ []) v later))
 
-    pub retried_all : HasRoomLeft config w (left_open config w + room) → RetriedAll room
-    retried_all free =
-        let now : Sofar [] es w = record { only = tt; leads = refl; reached = l; seen_there = seen } in
+    pub retried_all : HasRoomLeft config w (left_open config w + room) → Q w → RetriedAll room Q
+    retried_all free first =
+        let now : Sofar [] es w = record { kept = first; still = λ i op ready _. ready; were = λ i op tried. absurd (cc tried); only = tt; leads = refl; reached = l; seen_there = seen } in
         retried_within (left_open config w) [] es w now few_ready free (next_ready w (since_w [] es w now))

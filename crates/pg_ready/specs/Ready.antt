@@ -1,5 +1,5 @@
 -- Whose locks are held where nothing is on the way to a node that is left.
-use Rattle.std.specs.Prelude.{◌≡◌, ◌↔◌, ◌⊎◌, ℕ, ◌+◌, ◌≤◌, Bool, true, false, ◌&&◌, ◌||◌, nat_eq}
+use Rattle.std.specs.Prelude.{◌≡◌, ◌≢◌, ◌↔◌, ◌⊎◌, ℕ, ◌+◌, ◌≤◌, Bool, true, false, ◌&&◌, ◌||◌, nat_eq}
 use Rattle.std.specs.Prelude.{length, List, [], ◌∷◌, ◌++◌, Some, None}
 use Rattle.pg_term.specs.RefParts.{RefParts}
 use Rattle.pg_term.specs.declared.term.Term.{Term}
@@ -77,6 +77,10 @@ abbrev pub EachIsRetried : Config → LosingFrameWorld → List (Event Action) �
 EachIsRetried config w events = (i : ℕ) (op : OpId) → is_place (length config) i ≡ true → w.gone i ≡ false
     → is_ready_at config w i op ≡ true → is_retried i op events ≡ true
 
+-- and each that one of them tries again is ready
+abbrev pub OnlyReady : Config → LosingFrameWorld → List (Event Action) → Type 0
+OnlyReady config w events = (i : ℕ) (op : OpId) → is_retried i op events ≡ true → is_ready_at config w i op ≡ true
+
 -- no clock is nearer to its limit than so many events, of a lost node neither, since what it sent may be on the way
 abbrev pub HasRoomLeft : Config → LosingFrameWorld → ℕ → Type 0
 HasRoomLeft config w events = (i : ℕ)
@@ -128,10 +132,14 @@ pub record ReadyGoOn (config : Config) (w : LosingFrameWorld) : Type 0 where
       → EachIsRetried config w steps → NoneReadyLeft config v
   pub freed : (v : LosingFrameWorld) (steps : List (Event Action)) → LossesSeen config w → LosingLeads (losing_frame_machine config) last_notice w (all_steps steps) v
       → EachIsRetried config w steps → IsQuietLeft config v → NoLockLeft config v
-  -- with room in the clocks all can be tried again
+  -- no other is ready by it, and none less
+  pub others : (v : LosingFrameWorld) (i j : ℕ) (op other : OpId) → losing_happens (losing_frame_machine config) last_notice w (Step (Do i (Retry op))) ≡ Some v
+      → (j ≡ i → op ≢ other) → is_ready_at config v j other ≡ is_ready_at config w j other
+  -- with room in the clocks all can be tried again, and no other is
   pub all : (room : ℕ) → LossesSeen config w → HasRoomLeft config w (left_open config w + room)
       → (retries : List (Event Action)) × (v : LosingFrameWorld) × OnlyRetries retries
-      × LosingLeads (losing_frame_machine config) last_notice w (all_steps retries) v × NoneReadyLeft config v × HasRoomLeft config v room
+      × LosingLeads (losing_frame_machine config) last_notice w (all_steps retries) v × EachIsRetried config w retries × OnlyReady config w retries
+      × NoneReadyLeft config v × HasRoomLeft config v room
   -- and each packet that is next on its way to a node that is left can be taken, until nothing is
   pub taken : (x y : ℕ) (packet : Stamped (Noticed Message)) (rest : List (Stamped (Noticed Message))) → HasRoomLeft config w 1
       → is_pair (length config) x y ≡ true → w.gone y ≡ false → w.world.wire x y ≡ packet ∷ rest

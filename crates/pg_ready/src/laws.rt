@@ -1,4 +1,4 @@
-ghost use Rattle.std.specs.Prelude.{◌≡◌, ◌↔◌, ◌≤◌, ◌+◌, ◌∷◌, ℕ, true, false, length, List, Some};
+ghost use Rattle.std.specs.Prelude.{◌≡◌, ◌≢◌, ◌↔◌, ◌≤◌, ◌+◌, ◌∷◌, ℕ, true, false, length, List, Some};
 ghost use Rattle.std.specs.List.{IsDistinct};
 ghost use Rattle.pg_term.specs.RefParts.{RefParts};
 ghost use Rattle.pg_term.specs.Same.{same_atom};
@@ -17,7 +17,7 @@ ghost use Rattle.pg_history.specs.Quiet.{OnlyTakes};
 ghost use Rattle.pg_loss.specs.Quiet.{IsQuietLeft, left_open, most_takes_left};
 ghost use Rattle.pg_loss.specs.Reached.{LosingReaches};
 ghost use Rattle.pg_ready.specs.Ready.{EachIsRetried, GoesOn, HasRoomLeft, IsQuietAmongLeft, LossesSeen, NoLockLeft};
-ghost use Rattle.pg_ready.specs.Ready.{NoneReadyLeft, OfReady, OnlyRetries, is_ready_at, is_retried};
+ghost use Rattle.pg_ready.specs.Ready.{NoneReadyLeft, OfReady, OnlyReady, OnlyRetries, is_ready_at, is_retried};
 
 /// Nothing is on the way to a node that is not lost exactly where each of them has seen each loss, and nothing is on the way
 /// between two of them.
@@ -98,14 +98,23 @@ pub fn retries_free_the_locks()
         → EachIsRetried config w steps → IsQuietLeft config v → NoLockLeft config v }
 {}
 
+/// A retry makes no other command ready, and leaves none that is ready not so.
+pub fn a_retry_leaves_the_others()
+    ensures { (config : Config) (w v : LosingFrameWorld) (events : List (LosingEvent Action)) (i j : ℕ) (op other : OpId)
+        → LosingReaches config events w
+        → losing_happens (losing_frame_machine config) last_notice w (Step (Do i (Retry op))) ≡ Some v
+        → (j ≡ i → op ≢ other) → is_ready_at config v j other ≡ is_ready_at config w j other }
+{}
+
 /// Where each node that is not lost has seen each loss, each ready command can be tried again, one after another, if no
-/// clock is nearer to its limit than commands are open. Then none is ready.
+/// clock is nearer to its limit than commands are open, and no other is. Then none is ready.
 pub fn all_ready_commands_can_be_retried()
     ensures { (config : Config) (w : LosingFrameWorld) (events : List (LosingEvent Action)) (room : ℕ)
         → IsDistinct same_atom (names_of config) → LosingReaches config events w → LossesSeen config w
         → HasRoomLeft config w (left_open config w + room)
         → (retries : List (Event Action)) × (v : LosingFrameWorld) × OnlyRetries retries
         × LosingLeads (losing_frame_machine config) last_notice w (all_steps retries) v
+        × EachIsRetried config w retries × OnlyReady config w retries
         × NoneReadyLeft config v × HasRoomLeft config v room }
 {}
 

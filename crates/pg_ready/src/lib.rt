@@ -1,15 +1,13 @@
-//! What becomes of commands that a loss has left ready, and all that holds of one world, whoever is lost.
+//! What becomes of commands that a loss has left ready.
 //!
-//! There is no code: `each_world_past_losses()` is the law of all of it. Begin with `specs/Survived.antt`, then `src/laws.rt`.
+//! There is no code: begin with `specs/Ready.antt`, then `src/laws.rt`.
 #![tactic(auto)]
 
 mod laws;
-mod world;
 
 pub use laws::{
-    a_retry_of_a_ready_command_goes_on, a_world_comes_to_rest_past_losses,
-    all_ready_commands_can_be_retried, locks_left_are_of_ready_commands,
-    no_lock_where_none_is_ready, only_a_seen_loss_makes_ready, quiet_nodes_saw_the_losses,
-    retries_free_the_locks, retries_leave_fewer_ready,
+    a_retry_leaves_the_others, a_retry_of_a_ready_command_goes_on,
+    a_world_comes_to_rest_past_losses, all_ready_commands_can_be_retried,
+    locks_left_are_of_ready_commands, no_lock_where_none_is_ready, only_a_seen_loss_makes_ready,
+    quiet_nodes_saw_the_losses, retries_free_the_locks, retries_leave_fewer_ready,
 };
-pub use world::each_world_past_losses;

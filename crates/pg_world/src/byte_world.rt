@@ -13,7 +13,7 @@ use pg_frame_world::{Stepped, pending_ends_are_listed};
 use pg_group::GroupTable;
 use pg_index::IndexTable;
 use pg_node::{Node, NodeFault};
-use pg_ready::each_world_past_losses;
+use pg_retries::each_world_past_losses;
 use pg_term::{Pid, Term};
 use std::alloc::{AllocError, Global};
 use std::snapshot::Snapshot;

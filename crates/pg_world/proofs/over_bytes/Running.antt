@@ -29,7 +29,7 @@ use Rattle.pg_term.specs.Same.{same_atom}
 use Rattle.pg_machine.specs.Machine.{start_of}
 use Rattle.pg_step.specs.FrameMachine.{frame_machine, losing_frame_machine}
 use Rattle.pg_loss.specs.Reached.{LosingReaches}
-use Rattle.pg_ready.specs.Survived.{LossesSurvived}
+use Rattle.pg_retries.specs.Survived.{LossesSurvived}
 use Rattle.pg_world.specs.BytesStart.{BytesBegin}
 use Rattle.pg_world.specs.Crossings.{Crossing}
 use Rattle.pg_account.specs.Histories.{Account}

@@ -14,6 +14,7 @@ use Rattle.pg_left.specs.Agreed.{AgreeOnUnchanged}
 use Rattle.pg_left.specs.Heard.{MadeOf}
 use Rattle.pg_left.specs.Missed.{TakenAlong}
 use Rattle.pg_ready.specs.Ready.{ReadyGoOn}
+use Rattle.pg_retries.specs.Retried.{RetriesGoOn}
 
 pub record LossesSurvived (config : Config) (events : List (LosingEvent Action)) (w : LosingFrameWorld) : Type 0 where
   -- what live nodes have applied, who holds locks, what was answered
@@ -26,5 +27,7 @@ pub record LossesSurvived (config : Config) (events : List (LosingEvent Action))
   pub agree : (i j x : ℕ) (name : Term) → AgreeOnUnchanged config events w i j x name
   -- what becomes of commands that a loss has left ready
   pub ready : ReadyGoOn config w
+  -- what becomes of retries
+  pub retries : RetriesGoOn config w
   -- a process of a node which that node has as ended was told to end there
   pub finished : (i : ℕ) (pid : Pid) → pid.node ≡ name_at config i → (w.world.node i).state.ended pid ≡ true → FinishedAt (steps_of events) i pid

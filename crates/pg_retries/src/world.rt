@@ -6,18 +6,23 @@ ghost use Rattle.pg_step.specs.Config.{Config, names_of};
 ghost use Rattle.pg_step.specs.LossLaws.{LosingFrameWorld};
 ghost use Rattle.pg_step.specs.Step.{Action};
 ghost use Rattle.pg_loss.specs.Reached.{LosingReaches};
-ghost use Rattle.pg_ready.specs.Survived.{LossesSurvived};
+ghost use Rattle.pg_retries.specs.Survived.{LossesSurvived};
 
 use crate::laws::{
-    a_retry_of_a_ready_command_goes_on, a_world_comes_to_rest_past_losses,
-    all_ready_commands_can_be_retried, locks_left_are_of_ready_commands,
-    no_lock_where_none_is_ready, quiet_nodes_saw_the_losses, retries_free_the_locks,
+    a_retry_is_answered_past_losses, every_command_can_be_answered_past_losses,
+    every_lock_can_be_freed_past_losses, retries_are_answered_where_none_is_ready,
 };
 use pg_left::{
     ended_processes_were_finished_past_losses, losses_take_along, nodes_that_heard_the_lost_agree,
     tables_are_made_of_what_was_taken,
 };
 use pg_loss::each_world_keeps_past_losses;
+use pg_ready::{
+    a_retry_leaves_the_others, a_retry_of_a_ready_command_goes_on,
+    a_world_comes_to_rest_past_losses, all_ready_commands_can_be_retried,
+    locks_left_are_of_ready_commands, no_lock_where_none_is_ready, quiet_nodes_saw_the_losses,
+    retries_free_the_locks,
+};
 
 /// All that the laws say of one world, whoever is lost and whenever.
 pub fn each_world_past_losses()
@@ -36,5 +41,10 @@ pub fn each_world_past_losses()
     a_retry_of_a_ready_command_goes_on();
     retries_free_the_locks();
     all_ready_commands_can_be_retried();
+    a_retry_leaves_the_others();
     a_world_comes_to_rest_past_losses();
+    a_retry_is_answered_past_losses();
+    retries_are_answered_where_none_is_ready();
+    every_lock_can_be_freed_past_losses();
+    every_command_can_be_answered_past_losses();
 }

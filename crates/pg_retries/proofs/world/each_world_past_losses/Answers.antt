@@ -1,4 +1,4 @@
-use Rattle.pg_ready.proofs.world.each_world_past_losses.Goals as goal
+use Rattle.pg_retries.proofs.world.each_world_past_losses.Goals as goal
 
 pub returns : goal.returns
 returns c = λ config w events apart l. record {
@@ -14,9 +14,19 @@ returns c = λ config w events apart l. record {
     goes = λ v i op ready happens. c.a_retry_of_a_ready_command_goes_on.ensures.goes config w v events i op l ready happens;
     retried = λ v steps seen more each. c.retries_free_the_locks.ensures.ready config w v events steps apart l seen more each;
     freed = λ v steps seen more each quiet. c.retries_free_the_locks.ensures.locks config w v events steps apart l seen more each quiet;
+    others = λ v i j op other happens apart. c.a_retry_leaves_the_others.ensures config w v events i j op other l happens apart;
     all = λ room seen free. c.all_ready_commands_can_be_retried.ensures config w events room apart l seen free;
     taken = λ x y packet rest room pair lives is. c.a_world_comes_to_rest_past_losses.ensures.goes_on config w events x y packet rest apart l room pair lives is;
     rests = λ room. c.a_world_comes_to_rest_past_losses.ensures.rests config w events apart l room;
+  };
+  retries = record {
+    begins = λ i op quiet here lives opened room. c.a_retry_is_answered_past_losses.ensures.begins config w events i op apart l quiet here lives opened room;
+    goes = λ v takes i op update quiet here lives waits free room only led. c.a_retry_is_answered_past_losses.ensures.goes config w v events takes i op update apart l quiet here lives waits free room only led;
+    answered = λ v takes i op quiet none here lives opened room only led. c.retries_are_answered_where_none_is_ready.ensures.goes config w v events takes i op apart l quiet none here lives opened room only led;
+    unready = λ v takes i op quiet none led. c.retries_are_answered_where_none_is_ready.ensures.unready config w v events takes i op apart l quiet none led;
+    unlocked = λ v takes i op quiet none here lives opened room only led all. c.retries_are_answered_where_none_is_ready.ensures.locks config w v events takes i op apart l quiet none here lives opened room only led all;
+    frees = λ room. c.every_lock_can_be_freed_past_losses.ensures config w events apart l room;
+    answers = λ room. c.every_command_can_be_answered_past_losses.ensures config w events apart l room;
   };
   finished = λ i pid own ended. c.ended_processes_were_finished_past_losses.ensures config w events i pid apart l own ended;
 }

@@ -1,0 +1,91 @@
+ghost use Rattle.std.specs.Prelude.{◌≡◌, ◌≤◌, ◌+◌, ◌*◌, ◌∷◌, ℕ, true, false, length, List, Some};
+ghost use Rattle.std.specs.List.{IsDistinct};
+ghost use Rattle.pg_term.specs.Same.{same_atom};
+ghost use Rattle.pg_group.specs.Value.{name_of};
+ghost use Rattle.pg_group.specs.declared.update.Update.{Update};
+ghost use Rattle.pg_machine.specs.Losing.{LosingEvent, LosingLeads, Step, all_steps, losing_happens};
+ghost use Rattle.pg_machine.specs.Machine.{Do, Event};
+ghost use Rattle.pg_machine.specs.Places.{is_place};
+ghost use Rattle.pg_step.specs.Config.{Config, names_of};
+ghost use Rattle.pg_step.specs.FrameMachine.{last_notice, losing_frame_machine};
+ghost use Rattle.pg_step.specs.LossLaws.{LosingFrameWorld};
+ghost use Rattle.pg_step.specs.State.Stage.{Waiting};
+ghost use Rattle.pg_step.specs.Step.{Action, CLOCK_LIMIT, Retry};
+ghost use Rattle.pg_step.specs.declared.command.OpId.{OpId};
+ghost use Rattle.pg_history.specs.Counted.{is_open};
+ghost use Rattle.pg_history.specs.Quiet.{OnlyTakes, OnlyTakesAndRetries};
+ghost use Rattle.pg_loss.specs.Quiet.{IsQuietLeft};
+ghost use Rattle.pg_loss.specs.Reached.{LosingReaches};
+ghost use Rattle.pg_ready.specs.Ready.{HasRoomLeft, NoLockLeft, NoneReadyLeft};
+ghost use Rattle.pg_retries.specs.Retried.{FreesLocks, IsFreeLeft, NoneOpenLeft, RetryGoesPastLosses};
+ghost use Rattle.pg_retries.specs.Retried.{left_peer_count, most_events_left, most_events_to_free};
+
+/// A retry is answered, whoever was lost. Where nothing is on the way to a node that is left, each open command of such a node can
+/// be tried again. Let it wait for its next attempt, and no node that is left hold the lock of its group. From then on, in
+/// whatever order packets are taken, it is answered ok when four for each peer that is left are taken, and after one more
+/// for each of them nothing is on the way again.
+///
+/// It is about takes alone: where other commands come in meanwhile or a node is lost, this one may wait again.
+pub fn a_retry_is_answered_past_losses()
+    ensures begins { (config : Config) (w : LosingFrameWorld) (events : List (LosingEvent Action)) (i : ℕ) (op : OpId)
+        → IsDistinct same_atom (names_of config) → LosingReaches config events w → IsQuietLeft config w
+        → is_place (length config) i ≡ true → w.gone i ≡ false
+        → is_open ((w.world.node i).state.stages op) ≡ true → (w.world.node i).clock + 1 ≤ CLOCK_LIMIT
+        → (v : LosingFrameWorld)
+        × (losing_happens (losing_frame_machine config) last_notice w (Step (Do i (Retry op))) ≡ Some v) }
+    ensures goes { (config : Config) (w v : LosingFrameWorld) (events : List (LosingEvent Action))
+        (takes : List (Event Action)) (i : ℕ) (op : OpId) (update : Update)
+        → IsDistinct same_atom (names_of config) → LosingReaches config events w → IsQuietLeft config w
+        → is_place (length config) i ≡ true → w.gone i ≡ false
+        → (w.world.node i).state.stages op ≡ Waiting update → IsFreeLeft config w (name_of update)
+        → HasRoomLeft config w (1 + 5 * left_peer_count config w) → OnlyTakes takes
+        → LosingLeads (losing_frame_machine config) last_notice w (all_steps (Do i (Retry op) ∷ takes)) v
+        → RetryGoesPastLosses config w i op (length takes) v }
+{}
+
+/// Where nothing is on the way to a node that is left, and no command of one is ready, the retry of each open command is answered
+/// so; no command is ready meanwhile, and once all is taken no node that is left holds a lock.
+pub fn retries_are_answered_where_none_is_ready()
+    ensures goes { (config : Config) (w v : LosingFrameWorld) (events : List (LosingEvent Action))
+        (takes : List (Event Action)) (i : ℕ) (op : OpId)
+        → IsDistinct same_atom (names_of config) → LosingReaches config events w → IsQuietLeft config w
+        → NoneReadyLeft config w → is_place (length config) i ≡ true → w.gone i ≡ false
+        → is_open ((w.world.node i).state.stages op) ≡ true
+        → HasRoomLeft config w (1 + 5 * left_peer_count config w) → OnlyTakes takes
+        → LosingLeads (losing_frame_machine config) last_notice w (all_steps (Do i (Retry op) ∷ takes)) v
+        → RetryGoesPastLosses config w i op (length takes) v }
+    ensures unready { (config : Config) (w v : LosingFrameWorld) (events : List (LosingEvent Action))
+        (takes : List (Event Action)) (i : ℕ) (op : OpId)
+        → IsDistinct same_atom (names_of config) → LosingReaches config events w → IsQuietLeft config w
+        → NoneReadyLeft config w
+        → LosingLeads (losing_frame_machine config) last_notice w (all_steps (Do i (Retry op) ∷ takes)) v
+        → NoneReadyLeft config v }
+    ensures locks { (config : Config) (w v : LosingFrameWorld) (events : List (LosingEvent Action))
+        (takes : List (Event Action)) (i : ℕ) (op : OpId)
+        → IsDistinct same_atom (names_of config) → LosingReaches config events w → IsQuietLeft config w
+        → NoneReadyLeft config w → is_place (length config) i ≡ true → w.gone i ≡ false
+        → is_open ((w.world.node i).state.stages op) ≡ true
+        → HasRoomLeft config w (1 + 5 * left_peer_count config w) → OnlyTakes takes
+        → LosingLeads (losing_frame_machine config) last_notice w (all_steps (Do i (Retry op) ∷ takes)) v
+        → length takes ≡ 5 * left_peer_count config w → NoLockLeft config v }
+{}
+
+/// From each world, whoever was lost, takes lead to where nothing is on the way to a node that is left; then retries to where no
+/// command of one is ready; then takes to where nothing is on the way again, and none holds a lock, where no clock comes
+/// near its limit.
+pub fn every_lock_can_be_freed_past_losses()
+    ensures { (config : Config) (w : LosingFrameWorld) (events : List (LosingEvent Action))
+        → IsDistinct same_atom (names_of config) → LosingReaches config events w
+        → HasRoomLeft config w (most_events_to_free config w + 1) → FreesLocks config w }
+{}
+
+/// Nothing is stuck, whoever was lost. From each world takes and retries alone lead to one in which each command is answered that
+/// came in at a node that is left, and nothing is on the way to such a node, where no clock comes near its limit.
+pub fn every_command_can_be_answered_past_losses()
+    ensures { (config : Config) (w : LosingFrameWorld) (events : List (LosingEvent Action))
+        → IsDistinct same_atom (names_of config) → LosingReaches config events w
+        → HasRoomLeft config w (most_events_left config w + 1)
+        → (more : List (Event Action)) × (v : LosingFrameWorld) × OnlyTakesAndRetries more
+        × LosingLeads (losing_frame_machine config) last_notice w (all_steps more) v
+        × NoneOpenLeft config v × IsQuietLeft config v }
+{}

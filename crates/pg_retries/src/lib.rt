@@ -1,0 +1,13 @@
+//! What becomes of retries where nodes were lost, and all that holds of one world, whoever is lost.
+//!
+//! There is no code: `each_world_past_losses()` is the law of all of it. Begin with `specs/Survived.antt`, then `src/laws.rt`.
+#![tactic(auto)]
+
+mod laws;
+mod world;
+
+pub use laws::{
+    a_retry_is_answered_past_losses, every_command_can_be_answered_past_losses,
+    every_lock_can_be_freed_past_losses, retries_are_answered_where_none_is_ready,
+};
+pub use world::each_world_past_losses;
