@@ -82,7 +82,7 @@ fn made_again(alloc: Global, kind: Kind) -> Option<State> {
     made(alloc, kind).or_else(|| made(alloc, kind))
 }
 
-fn twins(one: State, other: State) -> Twins {
+fn paired(one: State, other: State) -> Twins {
     let did = NOTHING;
     Twins { one, other, did }
 }
@@ -90,7 +90,7 @@ fn twins(one: State, other: State) -> Twins {
 fn new_twins(alloc: Global, kind: Kind) -> Option<Twins> {
     let one = made_again(alloc, kind)?;
     match made_again(alloc, kind) {
-        Some(other) => Some(twins(one, other)),
+        Some(other) => Some(paired(one, other)),
         None => {
             drop(one);
             None

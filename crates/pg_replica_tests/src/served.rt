@@ -69,7 +69,12 @@ pub struct Pieces<'a> {
 }
 
 /// A reader of this text in pieces.
-pub fn pieces(text: &[u8], first: usize, next: usize, reads_left: usize) -> AnyReader<Pieces<'_>> {
+pub fn cut_text(
+    text: &[u8],
+    first: usize,
+    next: usize,
+    reads_left: usize,
+) -> AnyReader<Pieces<'_>> {
     let reader = Pieces {
         text,
         first,

@@ -1,7 +1,7 @@
 //! An input that is cut anywhere, or comes in any two pieces, or a byte a read, and where a read, a write or a flush fails.
 
 use crate::frames::{CREATE, CREATED};
-use crate::served::{Sheet, holds_at, joined, pieces, served};
+use crate::served::{Sheet, cut_text, holds_at, joined, served};
 use pg_node::Source;
 use std::alloc::{AllocError, Global};
 use std::process::Abort;
@@ -132,7 +132,7 @@ fn is_read_in(
     next: usize,
     reads_left: usize,
 ) -> bool {
-    let mut reader = pieces(input, first, next, reads_left);
+    let mut reader = cut_text(input, first, next, reads_left);
     let later = reads_left.saturating_sub(1).saturating_mul(next);
     let read = first.saturating_add(later);
     let answered = answered_len(turns, if reads_left == 0 { 0 } else { read });
@@ -189,7 +189,7 @@ fn is_held(alloc: Global, turns: Turns<'_>, input: &[u8], calls: usize) -> bool 
 // Whether the replies to all that came before the last read were flushed by then, where the input comes 7 bytes a read and the writer is
 // called so often.
 fn is_out_before(alloc: Global, turns: Turns<'_>, input: &[u8], calls: usize) -> bool {
-    let mut reader = pieces(input, 7, 7, usize::MAX);
+    let mut reader = cut_text(input, 7, 7, usize::MAX);
     let mut writer = Sheet::writer(alloc, calls);
     let got = served(alloc, "b", "a", &mut reader, &mut writer);
     let read = input.len().saturating_sub(reader.reader.text.len());
