@@ -5,12 +5,12 @@ use crate::nodes::Sight::*;
 use crate::nodes::Who::{A, B};
 use crate::rows::Deed::*;
 use crate::rows::Row::*;
-use crate::rows::{Table, Turn, check};
+use crate::rows::{Turn, check};
 use crate::told::Event::*;
 use pg_step::Refusal;
 
 // A node that has no peer carries its commands out at once.
-const LONE: &[Turn<'static>] = &[
+static LONE: &[Turn<'static>] = &[
     &[Seen(Formed(true))],
     &[Told(Command("create a 7")), Did(Sends(0))],
     &[Did(Began(true)), Answered("a 1 ok"), Seen(Group(true))],
@@ -32,7 +32,7 @@ const LONE: &[Turn<'static>] = &[
 ];
 
 // Nodes that were told the same are the same, until one answers another thing.
-const ALONE: &[Turn<'static>] = &[
+static ALONE: &[Turn<'static>] = &[
     &[Alone(true, Command("create a 7"), false, false)],
     &[Alone(false, Command("create a 7"), true, true)],
     &[Alone(true, Command("members a 7"), false, false)],
@@ -40,14 +40,14 @@ const ALONE: &[Turn<'static>] = &[
 ];
 
 // A reply that nobody waits for sets the clock, and changes nothing else.
-const ALIKE: &[Turn<'static>] = &[
+static ALIKE: &[Turn<'static>] = &[
     &[Told(Command("create a 7"))],
     &[Alone(true, Take(0, "{9,{reply,#<a/1.77.0.0>,ok}}"), false, true)],
     &[Alone(false, Take(0, "{9,{reply,#<a/1.77.0.0>,ok}}"), true, true)],
 ];
 
 // What the greatest denies waits for a retry, which asks it again under another reference.
-const DENIED: &[Turn<'static>] = &[
+static DENIED: &[Turn<'static>] = &[
     // Nothing waits.
     &[Refused(Retry(1), Refusal::NotWaiting)],
     &[Told(Command("delete a 7"))],
@@ -59,7 +59,7 @@ const DENIED: &[Turn<'static>] = &[
     &[Seen(Waiting(0))],
 ];
 
-const LIMIT: &[Turn<'static>] = &[
+static LIMIT: &[Turn<'static>] = &[
     &[Asked("make a", "a 1 <a.32767.8191>")],
     &[Asked("make a", "a 2 refused 28")],
     // Nothing was made: the next is refused too, and the last one can still end.
@@ -68,7 +68,7 @@ const LIMIT: &[Turn<'static>] = &[
 ];
 
 // A process of `a` is in the group at `b`, which lists it until it is told that it has ended. A late join is answered, and adds nothing.
-const IS_LISTED: &[Turn<'static>] = &[
+static IS_LISTED: &[Turn<'static>] = &[
     &[Told(Take(0, "{1,{call,#<a/1.1.0.0>,{create,7}}}"))],
     &[Did(Sends(1))],
     &[Told(Take(0, "{2,{call,#<a/1.2.0.0>,{join,7,<a.1.0>}}}"))],
@@ -96,7 +96,7 @@ const CREATE_1022: &str =
     "create a {'😀😀😀😀😀😀😀😀😀😀😀😀😀😀😀😀😀😀😀😀😀😀😀😀😀😀😀😀😀😀😀😀😀😀😀😀😀😀😀😀😀😀😀😀😀😀😀😀😀😀😀😀😀😀😀😀😀😀😀😀😀😀😀😀😀😀😀😀😀😀😀😀😀😀😀😀😀😀😀😀😀😀😀😀😀😀😀😀😀😀😀😀😀😀😀😀😀😀😀😀😀😀😀😀😀😀😀😀😀😀😀😀😀😀😀😀😀😀😀😀😀😀😀😀😀😀😀😀😀😀😀😀😀😀😀😀😀😀😀😀😀😀😀😀😀😀😀😀😀😀😀😀😀😀😀😀😀😀😀😀😀😀😀😀😀😀😀😀😀😀😀😀😀😀😀😀😀😀😀😀😀😀😀😀😀😀😀😀😀😀😀😀😀😀😀😀😀😀😀😀😀😀😀😀😀😀😀😀😀😀😀😀😀😀😀😀😀😀😀😀😀😀😀😀😀😀😀😀😀😀😀😀😀😀😀😀😀😀😀😀😀😀😀😀😀😀😀😀😀😀😀😀😀',300}";
 
 // At a node that is not formed.
-const COMMANDS: &[Turn<'static>] = &[
+static COMMANDS: &[Turn<'static>] = &[
     &[Asked(CREATE_1030, "a 1 refused 23")],
     &[Asked(MEMBERS_1030, "a 2 refused 23")],
     &[Asked("join a 7 <d.1.0>", "a 3 refused 24")],
@@ -106,14 +106,14 @@ const COMMANDS: &[Turn<'static>] = &[
 
 // The greatest node is lost, whose answer alone was missing: the command waits, and its retry goes on from what was gathered, so that the
 // own node is asked and the other peer.
-const READY: &[Turn<'static>] = &[
+static READY: &[Turn<'static>] = &[
     &[Told(Command("delete a 7")), Seen(Waiting(0))],
     &[Told(Loss(1, 4)), Seen(Waits(1, true))],
     &[Told(Retry(1)), Seen(Open(1))],
 ];
 
 // The 257th command that is open at once is refused, and one that is answered at once is not.
-const BUSY: &[Turn<'static>] = &[
+static BUSY: &[Turn<'static>] = &[
     &[Creates(256), Seen(Open(256))],
     &[Asked("create a 7000", "a 257 refused 22")],
     &[Seen(Open(256))],
@@ -122,7 +122,7 @@ const BUSY: &[Turn<'static>] = &[
 ];
 
 // A refused change raises the clock by 1, is answered, and does nothing else.
-const CHANGES: &[Turn<'static>] = &[
+static CHANGES: &[Turn<'static>] = &[
     &[Seen(Clock(2))],
     &[Asked("join a 7 <x.1.0>", "a 1 refused 24"), Did(Sends(0))],
     &[Did(Began(false)), Did(Odd(None)), Seen(Clock(3))],
@@ -136,22 +136,70 @@ const CHANGES: &[Turn<'static>] = &[
     &[Seen(Open(1))],
 ];
 
-const TABLES: &[Table<'static>] = &[
-    ("a lone node answers at once, turn", Kind::Lone, LONE),
-    ("nodes are the same, turn", Kind::Lone, ALONE),
-    ("the same but for clocks, turn", Kind::Formed(A), ALIKE),
-    ("a denied lock asked again, turn", Kind::Formed(A), DENIED),
-    ("the process limit, turn", Kind::Last, LIMIT),
-    ("a pending end, turn", Kind::Formed(B), IS_LISTED),
-    ("refused commands, turn", Kind::New(A), COMMANDS),
-    ("a lost answer makes ready, turn", Kind::Formed(A), READY),
-    ("a busy node, turn", Kind::Formed(A), BUSY),
-    ("refused changes, turn", Kind::Formed(A), CHANGES),
-];
-
 #[test]
 fn changes(rt: HostRuntime) {
-    for table in TABLES {
-        check(&rt, rt.alloc(), table);
-    }
+    check(
+        &rt,
+        rt.alloc(),
+        "a lone node answers at once, turn",
+        Kind::Lone,
+        LONE,
+    );
+    check(
+        &rt,
+        rt.alloc(),
+        "nodes are the same, turn",
+        Kind::Lone,
+        ALONE,
+    );
+    check(
+        &rt,
+        rt.alloc(),
+        "the same but for clocks, turn",
+        Kind::Formed(A),
+        ALIKE,
+    );
+    check(
+        &rt,
+        rt.alloc(),
+        "a denied lock asked again, turn",
+        Kind::Formed(A),
+        DENIED,
+    );
+    check(
+        &rt,
+        rt.alloc(),
+        "the process limit, turn",
+        Kind::Last,
+        LIMIT,
+    );
+    check(
+        &rt,
+        rt.alloc(),
+        "a pending end, turn",
+        Kind::Formed(B),
+        IS_LISTED,
+    );
+    check(
+        &rt,
+        rt.alloc(),
+        "refused commands, turn",
+        Kind::New(A),
+        COMMANDS,
+    );
+    check(
+        &rt,
+        rt.alloc(),
+        "a lost answer makes ready, turn",
+        Kind::Formed(A),
+        READY,
+    );
+    check(&rt, rt.alloc(), "a busy node, turn", Kind::Formed(A), BUSY);
+    check(
+        &rt,
+        rt.alloc(),
+        "refused changes, turn",
+        Kind::Formed(A),
+        CHANGES,
+    );
 }

@@ -6,13 +6,13 @@ use crate::nodes::Sight::*;
 use crate::nodes::Who::{A, C};
 use crate::rows::Deed::*;
 use crate::rows::Row::*;
-use crate::rows::{Table, Turn, check};
+use crate::rows::{Turn, check};
 use crate::told::Event::*;
 use pg_message::Said;
 use pg_step::Odd::{Double, Stranger};
 use pg_step::Refusal;
 
-const GATHERED: &[Turn<'static>] = &[
+static GATHERED: &[Turn<'static>] = &[
     // The greatest node is asked alone.
     &[Told(Command("create a 7")), Did(SendsTo(1))],
     &[Did(AsksLock(true))],
@@ -47,11 +47,10 @@ const GATHERED: &[Turn<'static>] = &[
 
 #[test]
 fn gathered_replies(rt: HostRuntime) {
-    let gathered = ("gathered, turn", Kind::Formed(A), GATHERED);
-    check(&rt, rt.alloc(), &gathered);
+    check(&rt, rt.alloc(), "gathered, turn", Kind::Formed(A), GATHERED);
 }
 
-const GREATEST: &[Turn<'static>] = &[
+static GREATEST: &[Turn<'static>] = &[
     // The greatest node asks itself first, and all others where it grants.
     &[Told(Command("create c 7")), Did(Sends(2))],
     &[Seen(Locked(true))],
@@ -65,7 +64,7 @@ const GREATEST: &[Turn<'static>] = &[
     &[Told(Retry(2)), Did(Sends(2))],
 ];
 
-const DENIED: &[Turn<'static>] = &[
+static DENIED: &[Turn<'static>] = &[
     &[Told(Command("create c 7")), Did(Sends(2))],
     // One grants the lock, the other denies it: who granted is told.
     &[Told(Take(0, "{3,{reply,#<c/1.1.0.0>,true}}"))],
@@ -77,13 +76,12 @@ const DENIED: &[Turn<'static>] = &[
 
 #[test]
 fn greatest_asks_itself_first(rt: HostRuntime) {
-    for (of, turns) in [("greatest, turn", GREATEST), ("denied, turn", DENIED)] {
-        check(&rt, rt.alloc(), &(of, Kind::Formed(C), turns));
-    }
+    check(&rt, rt.alloc(), "greatest, turn", Kind::Formed(C), GREATEST);
+    check(&rt, rt.alloc(), "denied, turn", Kind::Formed(C), DENIED);
 }
 
 // At a formed node: a process was not made, and then it has ended, of which both peers are told.
-const ENDS: &[Turn<'static>] = &[
+static ENDS: &[Turn<'static>] = &[
     &[Asked("end a <a.1.0>", "a 1 refused 26")],
     &[Asked("make a", "a 2 <a.1.0>"), Did(Sends(0))],
     &[Asked("end a <a.1.0>", "a 3 ok"), Did(Sends(2))],
@@ -92,7 +90,7 @@ const ENDS: &[Turn<'static>] = &[
 ];
 
 // A peer that is lost.
-const LOSS: &[Turn<'static>] = &[
+static LOSS: &[Turn<'static>] = &[
     // The greatest makes the group, which a process of it joins.
     &[Told(Take(1, "{1,{call,#<c/1.1.0.0>,{create,7}}}"))],
     &[Told(Take(1, "{2,{call,#<c/1.2.0.0>,{join,7,<c.1.0>}}}"))],
@@ -105,7 +103,7 @@ const LOSS: &[Turn<'static>] = &[
     &[Told(Retry(1)), Did(SendsTo(0))],
 ];
 
-const QUERIES: &[Turn<'static>] = &[
+static QUERIES: &[Turn<'static>] = &[
     &[Told(Command("members a 7")), Did(Sends(0))],
     &[Told(Command("local a 7")), Did(Sends(0))],
     &[Told(Command("closest a 7 5")), Did(Sends(0))],
@@ -113,7 +111,7 @@ const QUERIES: &[Turn<'static>] = &[
 ];
 
 // No lock is granted before both peers have told their groups. One that is granted and freed is granted again.
-const FORMATION: &[Turn<'static>] = &[
+static FORMATION: &[Turn<'static>] = &[
     &[Told(Take(0, "{1,{call,#<b/1.1.0.0>,{set_lock,7}}}"))],
     &[Did(Replies(Said::Denied))],
     &[Told(Take(0, "{0,{cast,{exchange,b,[]}}}"))],
@@ -130,7 +128,7 @@ const FORMATION: &[Turn<'static>] = &[
 ];
 
 // The group is made, a process joins it twice, and ends; a late join of it adds nothing.
-const UPDATES: &[Turn<'static>] = &[
+static UPDATES: &[Turn<'static>] = &[
     &[Told(Take(0, "{3,{call,#<b/1.3.0.0>,{create,7}}}"))],
     &[Did(Replies(Said::Applied))],
     &[Told(Take(0, "{2,{call,#<b/1.2.0.0>,{join,7,<b.1.0>}}}"))],
@@ -142,17 +140,11 @@ const UPDATES: &[Turn<'static>] = &[
     &[Seen(Counted("<b.1.0>", 0))],
 ];
 
-const OTHERS: &[Table<'static>] = &[
-    ("ends, turn", Kind::Formed(A), ENDS),
-    ("loss, turn", Kind::Formed(A), LOSS),
-    ("queries, turn", Kind::Formed(A), QUERIES),
-    ("formation, turn", Kind::New(A), FORMATION),
-    ("updates, turn", Kind::Formed(A), UPDATES),
-];
-
 #[test]
 fn others_are_whole(rt: HostRuntime) {
-    for table in OTHERS {
-        check(&rt, rt.alloc(), table);
-    }
+    check(&rt, rt.alloc(), "ends, turn", Kind::Formed(A), ENDS);
+    check(&rt, rt.alloc(), "loss, turn", Kind::Formed(A), LOSS);
+    check(&rt, rt.alloc(), "queries, turn", Kind::Formed(A), QUERIES);
+    check(&rt, rt.alloc(), "formation, turn", Kind::New(A), FORMATION);
+    check(&rt, rt.alloc(), "updates, turn", Kind::Formed(A), UPDATES);
 }

@@ -57,9 +57,6 @@ pub enum Deed {
     Odd(Option<Odd>),
 }
 
-/// What a table is of, and the two nodes at which its rows hold, one after another.
-pub type Table<'a> = (&'a str, Kind, &'a [Turn<'a>]);
-
 // Two nodes, the same but while an event is under way; after each event the other is a copy of the first.
 #[derive(Drop)]
 struct Twins {
@@ -231,8 +228,8 @@ impl Twins {
 }
 
 /// Each row of a table holds.
-pub fn check(rt: &impl Abort, alloc: Global, (of, kind, turns): &Table<'_>) {
-    match new_twins(alloc, *kind) {
+pub fn check(rt: &impl Abort, alloc: Global, of: &str, kind: Kind, turns: &[Turn<'_>]) {
+    match new_twins(alloc, kind) {
         Some(mut twins) => {
             for (place, turn) in turns.iter().enumerate() {
                 for row in *turn {
