@@ -205,13 +205,8 @@ fn do_move(alloc: Global, config: &Config, lines: &[ScriptLine]) -> bool {
 // A ring with room for three bytes takes three of five, then none, and then as many as were pulled.
 #[test]
 fn a_ring_of_three(rt: HostRuntime) {
-    let do_move = match read_script(rt.alloc(), MOVES) {
-        Ok(script) => {
-            let do_move = do_move(rt.alloc(), &script.config, script.lines.as_slice());
-            drop(script);
-            do_move
-        }
-        Err(_) => false,
-    };
+    let script = read_script(rt.alloc(), MOVES);
+    let do_move =
+        with!(script, script => do_move(rt.alloc(), &script.config, &script.lines), else false);
     holds(&rt, do_move, "bytes on a ring of", 3);
 }

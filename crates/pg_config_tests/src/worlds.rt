@@ -1,6 +1,7 @@
 //! Three nodes and the packets between them: what one does reaches the others, and what a world tells of it.
 
 use crate::verdicts::holds;
+use Row::*;
 use pg_group::GroupTable;
 use pg_index::IndexTable;
 use pg_lines::{Line, NodeForm, read_line};
@@ -9,7 +10,7 @@ use pg_script::read_script;
 use pg_step::{Command, OpId, Refusal, Reply};
 use pg_term::{Pid, Term};
 use pg_world::{Config, Effect, Entry, FrameStep, FrameWorld, Stepped};
-use std::alloc::{AllocError, Global};
+use std::alloc::Global;
 use std::process::Abort;
 
 type World = FrameWorld<IndexTable>;
@@ -52,6 +53,9 @@ enum Row<'a> {
     Beside(&'a Row<'a>, bool),
 }
 
+/// Rows, one after another: events, and what is seen then.
+type Turn<'a> = &'a [Row<'a>];
+
 // What an event sends, where it reports nothing.
 const QUIET: Told = Ok(Stepped::Happened(Effect {
     sent: 0,
@@ -88,7 +92,7 @@ const BEGINS_WITH_1: Told = Ok(Stepped::Happened(Effect {
 }));
 
 // All that each node tells as it starts has come to the others.
-const FORMED: Row<'static> = Row::Settle(5);
+const FORMED: Row<'static> = Settle(5);
 
 const NO_PLACE: Told = Err(NodeFault::Refused(Refusal::NoSuchPlace));
 
@@ -97,6 +101,8 @@ const NOT_WAITING: Told = Err(NodeFault::Refused(Refusal::NotWaiting));
 const NOT_LOST: Told = Err(NodeFault::Refused(Refusal::NotLost));
 
 const LOST: Told = Err(NodeFault::Refused(Refusal::NodeLost));
+
+const GONE: Told = Ok(Stepped::Gone);
 
 fn command_of(alloc: Global, line: &str) -> Option<Command> {
     match read_line(alloc, line) {
@@ -177,14 +183,7 @@ fn are_numbered(pids: &[Pid], numbers: &[u32]) -> bool {
 }
 
 fn are_pending(world: &World, numbers: &[u32]) -> bool {
-    match world.pending_ends() {
-        Ok(pids) => {
-            let are_pending = are_numbered(pids.as_slice(), numbers);
-            drop(pids);
-            are_pending
-        }
-        Err(AllocError) => false,
-    }
+    with!(world.pending_ends(), pids => are_numbered(pids.as_slice(), numbers), else false)
 }
 
 fn is_entry(entry: Option<&Entry>, (node, number): (usize, u32)) -> bool {
@@ -314,178 +313,110 @@ fn twins_of(alloc: Global, config: &Config) -> Option<Twins> {
 
 // Three nodes, the last of which has taken what the first told as it started, and their copy.
 fn three(alloc: Global) -> Option<Twins> {
-    match read_script(alloc, "ring 1\nnode a\nnode b\nnode c") {
-        Ok(script) => {
-            let twins = twins_of(alloc, &script.config);
-            drop(script);
-            twins
-        }
-        Err(_) => None,
-    }
+    let script = read_script(alloc, "ring 1\nnode a\nnode b\nnode c");
+    with!(script, script => twins_of(alloc, &script.config), else None)
 }
 
 // Each row of the table holds in a new world of three nodes and in its copy, one after another.
-fn check(rt: &impl Abort, alloc: Global, rows: &[Row<'_>]) {
+fn check(rt: &impl Abort, alloc: Global, turns: &[Turn<'_>]) {
     let mut twins = three(alloc).expect(rt, "a world");
-    for (place, row) in rows.iter().enumerate() {
-        holds(rt, twins.holds(alloc, row), "row", place);
+    for (place, turn) in turns.iter().enumerate() {
+        for row in *turn {
+            holds(rt, twins.holds(alloc, row), "turn", place);
+        }
     }
     drop(twins);
 }
 
 // A create at one node: it asks c, then b, for the lock, tells both the update, and frees the lock there.
-static CREATE: &[Row<'static>] = &[
-    FORMED,
-    Row::Given("create a 7"),
-    Row::Group(0, false),
-    Row::History(&[]),
-    Row::Settle(10),
-    Row::Group(0, true),
-    Row::Group(1, true),
-    Row::Group(2, true),
-    Row::History(&[(0, 1)]),
-    Row::Answered(1),
-    Row::Settle(0),
+static CREATE: &[Turn<'static>] = &[
+    &[FORMED, Given("create a 7"), Group(0, false), History(&[])],
+    &[Settle(10), Group(0, true), Group(1, true), Group(2, true)],
+    &[History(&[(0, 1)]), Answered(1)],
+    &[Settle(0)],
 ];
 
 // Its history has the update once the last grant has come, and each node applies it as it takes it.
-static APPLIED: &[Row<'static>] = &[
-    FORMED,
-    Row::Given("create a 7"),
-    Row::Free(3, false),
-    Row::Free(2, true),
-    Row::Take(2, 0, SENDS_1),
-    Row::Free(2, false),
-    Row::Take(0, 2, SENDS_1),
-    Row::Take(1, 0, SENDS_1),
-    Row::History(&[]),
-    Row::Take(0, 1, BEGINS),
-    Row::History(&[(0, 1)]),
-    Row::Applied(0, 1),
-    Row::Applied(1, 0),
-    Row::Take(1, 0, SENDS_1),
-    Row::Applied(1, 1),
-    Row::Applied(2, 0),
-    Row::Settle(5),
-    Row::Applied(2, 1),
-    Row::Free(0, true),
-    Row::Free(2, true),
-    Row::Given("delete a 7"),
-    Row::Settle(10),
-    Row::History(&[(0, 1), (0, 2)]),
-    Row::Applied(2, 2),
-    Row::Applied(3, 0),
+static APPLIED: &[Turn<'static>] = &[
+    &[FORMED, Given("create a 7"), Free(3, false), Free(2, true)],
+    &[Take(2, 0, SENDS_1), Free(2, false)],
+    &[Take(0, 2, SENDS_1), Take(1, 0, SENDS_1), History(&[])],
+    &[Take(0, 1, BEGINS), History(&[(0, 1)]), Applied(0, 1)],
+    &[Applied(1, 0)],
+    &[Take(1, 0, SENDS_1), Applied(1, 1), Applied(2, 0)],
+    &[Settle(5), Applied(2, 1), Free(0, true), Free(2, true)],
+    &[Given("delete a 7"), Settle(10)],
+    &[History(&[(0, 1), (0, 2)]), Applied(2, 2), Applied(3, 0)],
 ];
 
 // Steps of places that are not there, and a retry of what does not wait; what a lost node would do, and a second loss.
-static REFUSALS: &[Row<'static>] = &[
-    FORMED,
-    Row::Take(3, 0, NO_PLACE),
-    Row::Take(0, 3, NO_PLACE),
-    Row::Take(1, 1, NO_PLACE),
-    Row::Retry(3, 0, NO_PLACE),
-    Row::Retry(0, 1, NO_PLACE),
-    Row::Retry(0, 0, NOT_WAITING),
-    Row::Take(1, 0, Ok(Stepped::Nothing)),
-    Row::See(0, 2, NOT_LOST),
-    Row::Lose(3, NO_PLACE),
-    Row::Lose(2, Ok(Stepped::Gone)),
-    Row::Lose(2, LOST),
-    Row::Take(2, 0, LOST),
-    Row::See(0, 2, QUIET),
-    Row::See(0, 2, LOST),
+static REFUSALS: &[Turn<'static>] = &[
+    &[FORMED, Take(3, 0, NO_PLACE), Take(0, 3, NO_PLACE)],
+    &[Take(1, 1, NO_PLACE), Retry(3, 0, NO_PLACE)],
+    &[Retry(0, 1, NO_PLACE), Retry(0, 0, NOT_WAITING)],
+    &[Take(1, 0, Ok(Stepped::Nothing)), See(0, 2, NOT_LOST)],
+    &[Lose(3, NO_PLACE), Lose(2, GONE)],
+    &[Lose(2, LOST), Take(2, 0, LOST), See(0, 2, QUIET)],
+    &[See(0, 2, LOST)],
 ];
 
 // An end is pending until each node was told, or is lost that was not.
-static LOSS: &[Row<'static>] = &[
-    FORMED,
-    Row::Given("make a"),
-    Row::Given("end a <a.1.0>"),
-    Row::Take(1, 0, QUIET),
-    Row::Pending(&[1]),
-    Row::Lose(2, Ok(Stepped::Gone)),
-    Row::Pending(&[]),
+static LOSS: &[Turn<'static>] = &[
+    &[FORMED, Given("make a"), Given("end a <a.1.0>")],
+    &[Take(1, 0, QUIET), Pending(&[1])],
+    &[Lose(2, GONE), Pending(&[])],
 ];
 
 // The list has the pid of the process, until both others were told.
-static LISTED: &[Row<'static>] = &[
-    FORMED,
-    Row::Given("make a"),
-    Row::Given("end a <a.1.0>"),
-    Row::Pending(&[1]),
-    Row::Settle(2),
-    Row::Pending(&[]),
+static LISTED: &[Turn<'static>] = &[
+    &[FORMED, Given("make a"), Given("end a <a.1.0>")],
+    &[Pending(&[1])],
+    &[Settle(2), Pending(&[])],
 ];
 
 // A create, an end and a loss, in a world and its copy.
-static COPIES: &[Row<'static>] = &[
-    FORMED,
-    Row::Given("create a 7"),
-    Row::Take(2, 0, SENDS_1),
-    Row::Take(0, 2, SENDS_1),
-    Row::Take(1, 0, SENDS_1),
-    Row::Take(0, 1, BEGINS),
-    Row::History(&[(0, 1)]),
-    Row::Settle(6),
-    Row::Given("make a"),
-    Row::Given("end a <a.1.0>"),
-    Row::Lose(2, Ok(Stepped::Gone)),
-    Row::Take(2, 0, LOST),
-    Row::Pending(&[1]),
-    Row::Take(1, 0, QUIET),
-    Row::See(0, 2, QUIET),
-    Row::Applied(1, 1),
+static COPIES: &[Turn<'static>] = &[
+    &[FORMED, Given("create a 7"), Take(2, 0, SENDS_1)],
+    &[Take(0, 2, SENDS_1), Take(1, 0, SENDS_1)],
+    &[Take(0, 1, BEGINS), History(&[(0, 1)])],
+    &[Settle(6), Given("make a"), Given("end a <a.1.0>")],
+    &[Lose(2, GONE), Take(2, 0, LOST)],
+    &[Pending(&[1])],
+    &[Take(1, 0, QUIET), See(0, 2, QUIET), Applied(1, 1)],
 ];
 
 // A node takes what the others have sent in another order than its copy, by which its clock differs, and then what it sends has another
 // stamp; and what is not alike.
-static ALIKE: &[Row<'static>] = &[
-    Row::Take(0, 1, QUIET),
-    Row::Take(0, 2, QUIET),
-    Row::Given("make a"),
-    Row::Given("end a <a.1.0>"),
-    Row::Alone(&Row::Take(2, 0, QUIET), false),
-    Row::Alone(&Row::Take(2, 1, QUIET), false),
-    Row::Beside(&Row::Take(2, 1, QUIET), false),
-    Row::Beside(&Row::Take(2, 0, QUIET), true),
-    Row::Settle(3),
-    Row::Given("create a 7"),
-    Row::Take(2, 0, SENDS_1),
-    Row::Settle(9),
-    Row::History(&[(0, 3)]),
-    Row::Alone(&Row::Lose(1, Ok(Stepped::Gone)), false),
-    Row::Beside(&Row::Lose(1, Ok(Stepped::Gone)), true),
+static ALIKE: &[Turn<'static>] = &[
+    &[Take(0, 1, QUIET), Take(0, 2, QUIET), Given("make a")],
+    &[Given("end a <a.1.0>"), Alone(&Take(2, 0, QUIET), false)],
+    &[Alone(&Take(2, 1, QUIET), false)],
+    &[Beside(&Take(2, 1, QUIET), false)],
+    &[Beside(&Take(2, 0, QUIET), true), Settle(3)],
+    &[Given("create a 7"), Take(2, 0, SENDS_1), Settle(9)],
+    &[History(&[(0, 3)])],
+    &[Alone(&Lose(1, GONE), false)],
+    &[Beside(&Lose(1, GONE), true)],
 ];
 
 // The greatest node asks both others at once. Another asks the greatest alone, which denies it while it has the lock for itself: then the
 // command waits, and asks again where it is tried again.
-static ASKED: &[Row<'static>] = &[
-    FORMED,
-    Row::At(2, "create a 7", SENDS_2),
-    Row::At(0, "create a 7", SENDS_1),
-    Row::Take(2, 0, SENDS_1),
-    Row::Take(0, 2, SENDS_1),
-    Row::Take(0, 2, QUIET),
-    Row::Take(1, 2, SENDS_1),
-    Row::Take(2, 0, QUIET),
-    Row::Retry(0, 0, SENDS_1),
-    Row::History(&[]),
-    Row::Take(2, 1, BEGINS),
-    Row::History(&[(2, 1)]),
-    Row::At(1, "make b", QUIET),
-    Row::At(1, "end b <b.1.0>", SENDS_2),
+static ASKED: &[Turn<'static>] = &[
+    &[FORMED, At(2, "create a 7", SENDS_2)],
+    &[At(0, "create a 7", SENDS_1), Take(2, 0, SENDS_1)],
+    &[Take(0, 2, SENDS_1), Take(0, 2, QUIET)],
+    &[Take(1, 2, SENDS_1), Take(2, 0, QUIET)],
+    &[Retry(0, 0, SENDS_1), History(&[])],
+    &[Take(2, 1, BEGINS), History(&[(2, 1)])],
+    &[At(1, "make b", QUIET), At(1, "end b <b.1.0>", SENDS_2)],
 ];
 
 // A node whose loss was seen is neither asked nor told.
-static ASKED_PAST_LOSS: &[Row<'static>] = &[
-    FORMED,
-    Row::Lose(2, Ok(Stepped::Gone)),
-    Row::See(0, 2, QUIET),
-    Row::At(0, "create a 7", SENDS_1),
-    Row::Take(1, 0, SENDS_1),
-    Row::Take(0, 1, BEGINS_WITH_1),
-    Row::At(0, "make a", QUIET),
-    Row::At(0, "end a <a.1.0>", SENDS_1),
+static ASKED_PAST_LOSS: &[Turn<'static>] = &[
+    &[FORMED, Lose(2, GONE), See(0, 2, QUIET)],
+    &[At(0, "create a 7", SENDS_1), Take(1, 0, SENDS_1)],
+    &[Take(0, 1, BEGINS_WITH_1), At(0, "make a", QUIET)],
+    &[At(0, "end a <a.1.0>", SENDS_1)],
 ];
 
 #[test]

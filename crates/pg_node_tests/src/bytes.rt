@@ -1,9 +1,11 @@
 //! Nodes over bytes: what moves between two of them, and what damages a link.
 
 use crate::links::{Pair, link_to, lose, read, take, two_alone, two_of_three};
-use crate::nodes::{Sight, sees};
+use crate::nodes::Sight::{self, Clock, Formed, Group, Locked, Lost, Open};
+use crate::nodes::sees;
 use crate::texts::{body_of, command_of, has_answered};
 use crate::verdicts::holds;
+use Part::*;
 use std::alloc::Global;
 use std::process::Abort;
 
@@ -42,6 +44,9 @@ enum Part<'a> {
     Seen(bool, Sight<'a>),
 }
 
+/// A row, and others of what it leaves.
+type Turn<'a> = &'a [Part<'a>];
+
 /// Bytes that are looked at, and the number of their fault.
 type Case<'a> = (u8, &'a [u8]);
 
@@ -60,14 +65,7 @@ fn feed_packet(alloc: Global, pair: &mut Pair, peer: usize, text: &str) -> Optio
 }
 
 fn gives(alloc: Global, pair: &mut Pair, line: &str) -> bool {
-    match command_of(alloc, line) {
-        Some(command) => {
-            let is_given = pair.is_given(&command);
-            drop(command);
-            is_given
-        }
-        None => false,
-    }
+    with!(command_of(alloc, line), Some command => pair.is_given(&command), else false)
 }
 
 fn moves_often(pair: &mut Pair, ways: &[bool], max: usize, times: u32) -> bool {
@@ -103,10 +101,12 @@ fn is_part(alloc: Global, pair: &mut Pair, part: &Part<'_>, case: Case<'_>) -> b
 }
 
 // Each row of a table holds, one after another.
-fn play(rt: &impl Abort, alloc: Global, pair: Pair, parts: &[Part<'_>], case: Case<'_>) {
+fn play(rt: &impl Abort, alloc: Global, pair: Pair, turns: &[Turn<'_>], case: Case<'_>) {
     let mut pair = pair;
-    for (place, part) in parts.iter().enumerate() {
-        holds(rt, is_part(alloc, &mut pair, part, case), "row", place);
+    for (place, turn) in turns.iter().enumerate() {
+        for part in *turn {
+            holds(rt, is_part(alloc, &mut pair, part, case), "turn", place);
+        }
     }
     drop(pair);
 }
@@ -115,88 +115,58 @@ static NO_CASE: Case<'static> = (0, &[]);
 
 // Both are formed once all has come that they tell each other, and not before; and both agree on a group once one of them was told to
 // create it, and neither has its lock then. Nothing of them waits.
-static AGREE: &[Part<'static>] = &[
-    Part::Seen(true, Sight::Formed(false)),
-    Part::Seen(false, Sight::Formed(false)),
-    Part::Settle(60),
-    Part::Seen(true, Sight::Formed(true)),
-    Part::Seen(false, Sight::Formed(true)),
-    Part::Seen(true, Sight::Group(false)),
-    Part::Seen(false, Sight::Group(false)),
-    Part::Create,
-    Part::Settle(60),
-    Part::Answered("a 1 ok"),
-    Part::Seen(true, Sight::Group(true)),
-    Part::Seen(false, Sight::Group(true)),
-    Part::Seen(true, Sight::Locked(false)),
-    Part::Seen(false, Sight::Locked(false)),
-    Part::Waits(true, 0),
-    Part::Waits(false, 0),
-    Part::Puts(120),
+static AGREE: &[Turn<'static>] = &[
+    &[Seen(true, Formed(false)), Seen(false, Formed(false))],
+    &[Settle(60), Seen(true, Formed(true))],
+    &[Seen(false, Formed(true)), Seen(true, Group(false))],
+    &[Seen(false, Group(false))],
+    &[Create],
+    &[Settle(60), Answered("a 1 ok"), Seen(true, Group(true))],
+    &[Seen(false, Group(true)), Seen(true, Locked(false))],
+    &[Seen(false, Locked(false)), Waits(true, 0)],
+    &[Waits(false, 0), Puts(120)],
 ];
 
 #[test]
 fn two_nodes_agree(rt: HostRuntime) {
     // By each number but 0 one put moves nothing: what it does not take goes out later, and nothing is lost.
     for skipped in 0..=120u32 {
-        play(
-            &rt,
-            rt.alloc(),
-            two_alone(&rt, rt.alloc(), skipped),
-            AGREE,
-            NO_CASE,
-        );
+        let pair = two_alone(&rt, rt.alloc(), skipped);
+        play(&rt, rt.alloc(), pair, AGREE, NO_CASE);
     }
 }
 
 // What a link does not take stays in the outbox, and goes out later.
-static FULL: &[Part<'static>] = &[
-    Part::Waits(true, 33),
-    Part::Moves(true, 64, 1),
-    Part::Waits(true, 33),
-    Part::Puts(1),
-    Part::Settle(200),
-    Part::Waits(true, 0),
-    Part::Seen(false, Sight::Formed(true)),
+static FULL: &[Turn<'static>] = &[
+    &[Waits(true, 33)],
+    &[Moves(true, 64, 1), Waits(true, 33), Puts(1)],
+    &[Settle(200), Waits(true, 0), Seen(false, Formed(true))],
 ];
 
 #[test]
 fn full_link_takes_nothing(rt: HostRuntime) {
-    play(
-        &rt,
-        rt.alloc(),
-        two_alone(&rt, rt.alloc(), 1),
-        FULL,
-        NO_CASE,
-    );
+    let pair = two_alone(&rt, rt.alloc(), 1);
+    play(&rt, rt.alloc(), pair, FULL, NO_CASE);
 }
 
 // A fault of what comes in is told once, and damages the link for good; the other way goes on.
-static ONE_WAY: &[Part<'static>] = &[
-    Part::Fed(None),
-    Part::Told,
-    Part::Take(0, Some(14)),
-    Part::Fed(Some(14)),
-    Part::Moves(true, 7, 20),
-    Part::Seen(false, Sight::Formed(true)),
-    Part::Seen(true, Sight::Formed(false)),
+static ONE_WAY: &[Turn<'static>] = &[
+    &[Fed(None), Told],
+    &[Take(0, Some(14))],
+    &[Fed(Some(14))],
+    &[Moves(true, 7, 20), Seen(false, Formed(true))],
+    &[Seen(true, Formed(false))],
 ];
 
 // A fault of what comes from one peer damages its link alone: what goes out to it goes out, and the other peer hears and is heard.
-static ONE_LINK: &[Part<'static>] = &[
-    Part::Fed(None),
-    Part::Damaged(0, false),
-    Part::Told,
-    Part::Damaged(0, true),
-    Part::Take(0, Some(14)),
-    Part::Fed(Some(14)),
-    Part::Take(0, Some(14)),
-    Part::GoesOut,
-    Part::Moves(false, 64, 1),
-    Part::Moves(true, 64, 1),
-    Part::Damaged(1, false),
-    Part::Seen(true, Sight::Clock(1)),
-    Part::Seen(false, Sight::Clock(1)),
+static ONE_LINK: &[Turn<'static>] = &[
+    &[Fed(None), Damaged(0, false), Told, Damaged(0, true)],
+    &[Take(0, Some(14))],
+    &[Fed(Some(14))],
+    &[Take(0, Some(14)), GoesOut],
+    &[Moves(false, 64, 1)],
+    &[Moves(true, 64, 1), Damaged(1, false)],
+    &[Seen(true, Clock(1)), Seen(false, Clock(1))],
 ];
 
 /// Frames, and the number of the first fault of each.
@@ -226,10 +196,7 @@ static FAULTS: &[Case<'static>] = &[
     // {1073741825, {down, <b.1.0>}}
     (
         13,
-        &[
-            0, 0, 0, 32, 131, 104, 2, 98, 64, 0, 0, 1, 104, 2, 119, 4, 100, 111, 119, 110, 88, 119,
-            1, 98, 0, 0, 0, 1, 0, 0, 0, 0, 0, 0, 0, 1,
-        ],
+        b"\0\0\0\x20\x83h\x02b@\0\0\x01h\x02w\x04downXw\x01b\0\0\0\x01\0\0\0\0\0\0\0\x01",
     ),
 ];
 
@@ -242,70 +209,48 @@ const DEEP: &[u8] = b"\0\0\0\x83\x83\
 #[test]
 fn each_fault_damages_its_link(rt: HostRuntime) {
     for case in FAULTS {
-        play(
-            &rt,
-            rt.alloc(),
-            two_alone(&rt, rt.alloc(), 0),
-            ONE_WAY,
-            *case,
-        );
-        play(
-            &rt,
-            rt.alloc(),
-            two_of_three(&rt, rt.alloc()),
-            ONE_LINK,
-            *case,
-        );
+        let pair = two_alone(&rt, rt.alloc(), 0);
+        play(&rt, rt.alloc(), pair, ONE_WAY, *case);
+        let pair = two_of_three(&rt, rt.alloc());
+        play(&rt, rt.alloc(), pair, ONE_LINK, *case);
     }
 }
 
 const EXCHANGE: &str = "{0,{cast,{exchange,b,[]}}}";
 
 // `b` tells twice that it has no group: that is taken once, and then refused.
-static TOLD_TWICE: &[Part<'static>] = &[
-    Part::Heard(0, EXCHANGE, None),
-    Part::Take(0, None),
-    Part::Heard(0, EXCHANGE, None),
-    Part::Damaged(0, false),
-    Part::Take(0, Some(12)),
-    Part::Damaged(0, true),
-    Part::Take(0, Some(14)),
-    Part::Heard(0, EXCHANGE, Some(14)),
-    Part::Take(0, Some(14)),
-    Part::Seen(true, Sight::Clock(1)),
-    Part::Moves(false, 64, 1),
-    Part::Seen(true, Sight::Formed(true)),
+static TOLD_TWICE: &[Turn<'static>] = &[
+    &[Heard(0, EXCHANGE, None)],
+    &[Take(0, None)],
+    &[Heard(0, EXCHANGE, None), Damaged(0, false)],
+    &[Take(0, Some(12)), Damaged(0, true)],
+    &[Take(0, Some(14))],
+    &[Heard(0, EXCHANGE, Some(14))],
+    &[Take(0, Some(14)), Seen(true, Clock(1))],
+    &[Moves(false, 64, 1), Seen(true, Formed(true))],
 ];
 
 const APPLIED: &str = "{0,{reply,#<a/1.1.0.0>,ok}}";
 
 // The greatest, `c`, is played here as well. It grants the lock, and then `b` is asked, which answers by `ok`: that answers an update
 // alone. The lock stays asked for.
-static WRONG_KIND: &[Part<'static>] = &[
-    Part::Create,
-    Part::Heard(1, "{0,{reply,#<a/1.1.0.0>,true}}", None),
-    Part::Take(1, None),
-    Part::Heard(0, APPLIED, None),
-    Part::Damaged(0, false),
-    Part::Take(0, Some(12)),
-    Part::Damaged(0, true),
-    Part::Take(0, Some(14)),
-    Part::Heard(0, APPLIED, Some(14)),
-    Part::Take(0, Some(14)),
-    Part::Seen(true, Sight::Open(1)),
-    Part::Moves(false, 64, 1),
+static WRONG_KIND: &[Turn<'static>] = &[
+    &[Create],
+    &[Heard(1, "{0,{reply,#<a/1.1.0.0>,true}}", None)],
+    &[Take(1, None)],
+    &[Heard(0, APPLIED, None), Damaged(0, false)],
+    &[Take(0, Some(12)), Damaged(0, true)],
+    &[Take(0, Some(14))],
+    &[Heard(0, APPLIED, Some(14))],
+    &[Take(0, Some(14)), Seen(true, Open(1))],
+    &[Moves(false, 64, 1)],
 ];
 
 #[test]
 fn unwelcome_packets_damage_their_link(rt: HostRuntime) {
     for parts in [TOLD_TWICE, WRONG_KIND] {
-        play(
-            &rt,
-            rt.alloc(),
-            two_of_three(&rt, rt.alloc()),
-            parts,
-            NO_CASE,
-        );
+        let pair = two_of_three(&rt, rt.alloc());
+        play(&rt, rt.alloc(), pair, parts, NO_CASE);
     }
 }
 
@@ -313,48 +258,35 @@ const NODE_LOST: Option<u8> = Some(19);
 
 // Of a peer whose loss was seen nothing comes in, is read or is taken, and that changes nothing; the other peer is heard. The loss is not
 // seen while a whole frame is left.
-static LOST: &[Part<'static>] = &[
-    Part::Heard(0, EXCHANGE, None),
-    Part::Read(0, None),
-    Part::Lose(0, 4, Some(29)),
-    Part::Take(0, None),
-    Part::Waits(true, 33),
-    Part::Lose(0, 4, None),
-    Part::Waits(true, 0),
-    Part::Seen(true, Sight::Clock(5)),
-    Part::Take(0, NODE_LOST),
-    Part::Read(0, NODE_LOST),
-    Part::Fed(NODE_LOST),
-    Part::Lose(0, 9, NODE_LOST),
-    Part::Damaged(0, false),
-    Part::Seen(true, Sight::Lost(0)),
-    Part::Seen(true, Sight::Clock(5)),
-    Part::Moves(false, 64, 1),
-    Part::Seen(true, Sight::Formed(true)),
+static LOST: &[Turn<'static>] = &[
+    &[Heard(0, EXCHANGE, None)],
+    &[Read(0, None)],
+    &[Lose(0, 4, Some(29))],
+    &[Take(0, None), Waits(true, 33)],
+    &[Lose(0, 4, None), Waits(true, 0), Seen(true, Clock(5))],
+    &[Take(0, NODE_LOST)],
+    &[Read(0, NODE_LOST)],
+    &[Fed(NODE_LOST)],
+    &[Lose(0, 9, NODE_LOST), Damaged(0, false)],
+    &[Seen(true, Lost(0)), Seen(true, Clock(5))],
+    &[Moves(false, 64, 1), Seen(true, Formed(true))],
 ];
 
 // The loss is told before the damage of the link.
-static LOST_DAMAGED: &[Part<'static>] = &[
-    Part::Fed(None),
-    Part::Told,
-    Part::Read(0, Some(14)),
-    Part::Lose(0, 4, None),
-    Part::Take(0, NODE_LOST),
-    Part::Read(0, NODE_LOST),
-    Part::Fed(NODE_LOST),
-    Part::Lose(0, 4, NODE_LOST),
-    Part::Damaged(0, true),
+static LOST_DAMAGED: &[Turn<'static>] = &[
+    &[Fed(None), Told],
+    &[Read(0, Some(14))],
+    &[Lose(0, 4, None)],
+    &[Take(0, NODE_LOST)],
+    &[Read(0, NODE_LOST)],
+    &[Fed(NODE_LOST)],
+    &[Lose(0, 4, NODE_LOST), Damaged(0, true)],
 ];
 
 #[test]
 fn nothing_comes_of_the_lost(rt: HostRuntime) {
     for parts in [LOST, LOST_DAMAGED] {
-        play(
-            &rt,
-            rt.alloc(),
-            two_of_three(&rt, rt.alloc()),
-            parts,
-            (1, &[0, 0, 0, 2, 131, 97]),
-        );
+        let pair = two_of_three(&rt, rt.alloc());
+        play(&rt, rt.alloc(), pair, parts, (1, &[0, 0, 0, 2, 131, 97]));
     }
 }

@@ -1,6 +1,21 @@
 //! What is only run of a node: its commands, what its peers make of them, and nodes over bytes.
 #![tactic(auto)]
 
+/// What is told of the value of a call, which is let go then, or else another thing.
+#[cfg(test)]
+macro_rules! with {
+    ($call:expr, $has:ident $value:ident => $told:expr, else $other:expr) => {
+        match $call {
+            $has($value) => {
+                let told = $told;
+                drop($value);
+                told
+            }
+            _ => $other,
+        }
+    };
+}
+
 #[cfg(test)]
 mod bytes;
 #[cfg(test)]

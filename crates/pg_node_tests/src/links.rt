@@ -69,15 +69,23 @@ pub struct Pair {
 // The number of a place that is not there.
 const NO_PLACE: Option<u8> = Some(16);
 
+// The number of the fault of a call, if there is one.
+fn number_of<V: Drop>(done: Result<V, NodeFault>) -> Option<u8> {
+    match done {
+        Ok(value) => {
+            drop(value);
+            None
+        }
+        Err(fault) => Some(fault.number()),
+    }
+}
+
 // So many bytes at most of a ring come from a peer: the number of the fault, if there is one.
 fn pull(node: &mut Linked, peer: usize, ring: &mut MemRing, max: usize) -> Option<u8> {
     if peer >= node.state().peer_count() {
         return NO_PLACE;
     }
-    match node.pull(peer, ring, max) {
-        Ok(_) => None,
-        Err(fault) => Some(fault.number()),
-    }
+    number_of(node.pull(peer, ring, max))
 }
 
 /// Takes the next packet of a peer, if it is whole: the number of the fault, if there is one.
@@ -85,13 +93,7 @@ pub fn take(node: &mut Linked, peer: usize) -> Option<u8> {
     if peer >= node.state().peer_count() {
         return NO_PLACE;
     }
-    match node.take(peer) {
-        Ok(done) => {
-            drop(done);
-            None
-        }
-        Err(fault) => Some(fault.number()),
-    }
+    number_of(node.take(peer))
 }
 
 /// Reads the next packet of a peer, if it is whole: the number of the fault, if there is one.
@@ -99,13 +101,7 @@ pub fn read(node: &mut Linked, peer: usize) -> Option<u8> {
     if peer >= node.state().peer_count() {
         return NO_PLACE;
     }
-    match node.next(peer) {
-        Ok(packet) => {
-            drop(packet);
-            None
-        }
-        Err(fault) => Some(fault.number()),
-    }
+    number_of(node.next(peer))
 }
 
 /// Sees the loss of a peer, whose clock was this at last: the number of the fault, if there is one.
@@ -113,13 +109,7 @@ pub fn lose(node: &mut Linked, peer: usize, last: u32) -> Option<u8> {
     if peer >= node.state().peer_count() {
         return NO_PLACE;
     }
-    match node.see_loss(peer, last) {
-        Ok(done) => {
-            drop(done);
-            None
-        }
-        Err(fault) => Some(fault.number()),
-    }
+    number_of(node.see_loss(peer, last))
 }
 
 /// How many bytes go out to a peer and were not put, and whether the link to it is damaged.

@@ -186,39 +186,21 @@ fn has_group(node: &State) -> (bool, bool) {
 }
 
 fn waiting(node: &State) -> Option<usize> {
-    match node.waiting() {
-        Ok(ops) => {
-            let len = ops.len();
-            drop(ops);
-            Some(len)
-        }
-        Err(AllocError) => None,
-    }
+    with!(node.waiting(), Ok ops => Some(ops.len()), else None)
 }
 
 // Whether the command of this number waits, and no other.
 fn is_the_one(node: &State, number: u32) -> Option<bool> {
-    match node.waiting() {
-        Ok(ops) => {
-            let is_the_one = ops.as_slice() == [OpId { port: 0, number }].as_slice();
-            drop(ops);
-            Some(is_the_one)
-        }
-        Err(AllocError) => None,
-    }
+    let op = OpId { port: 0, number };
+    with!(node.waiting(), Ok ops => Some(ops.as_slice() == [op].as_slice()), else None)
 }
 
 fn counted(alloc: Global, node: &State, process: &str) -> Option<u64> {
-    match read_pid(alloc, process) {
-        Ok(pid) => {
-            let name = Term::Int(7);
-            let counted = node.table().count(&name, &pid);
-            drop(name);
-            drop(pid);
-            Some(counted)
-        }
-        Err(_) => None,
-    }
+    let name = Term::Int(7);
+    let counted =
+        with!(read_pid(alloc, process), Ok pid => Some(node.table().count(&name, &pid)), else None);
+    drop(name);
+    counted
 }
 
 // Whether this is seen at a node; none where memory was refused.

@@ -35,6 +35,9 @@ pub enum Row<'a> {
     Seen(Sight<'a>),
 }
 
+/// A row, and others of what it did and left.
+pub type Turn<'a> = &'a [Row<'a>];
+
 /// What an event did.
 #[derive(Clone, Copy)]
 pub enum Deed {
@@ -54,13 +57,8 @@ pub enum Deed {
     Odd(Option<Odd>),
 }
 
-/// A table of rows, and the two nodes at which they hold, one after another.
-pub struct Table<'a> {
-    /// What it is of.
-    pub of: &'a str,
-    pub kind: Kind,
-    pub rows: &'a [Row<'a>],
-}
+/// What a table is of, and the two nodes at which its rows hold, one after another.
+pub type Table<'a> = (&'a str, Kind, &'a [Turn<'a>]);
 
 // Two nodes, the same but while an event is under way; after each event the other is a copy of the first.
 #[derive(Drop)]
@@ -81,20 +79,18 @@ fn create_line(alloc: Global, number: u32) -> Option<String> {
 
 // A node, made a second time where memory was refused.
 fn made_again(alloc: Global, kind: Kind) -> Option<State> {
-    match made(alloc, kind) {
-        Some(node) => Some(node),
-        None => made(alloc, kind),
-    }
+    made(alloc, kind).or_else(|| made(alloc, kind))
+}
+
+fn twins(one: State, other: State) -> Twins {
+    let did = NOTHING;
+    Twins { one, other, did }
 }
 
 fn new_twins(alloc: Global, kind: Kind) -> Option<Twins> {
     let one = made_again(alloc, kind)?;
     match made_again(alloc, kind) {
-        Some(other) => Some(Twins {
-            one,
-            other,
-            did: NOTHING,
-        }),
+        Some(other) => Some(twins(one, other)),
         None => {
             drop(one);
             None
@@ -190,21 +186,12 @@ impl Twins {
             && self.are_same()
     }
 
-    // Whether both are the same, and but for their clocks, once one of them alone was told an event.
-    fn tell_alone(
-        &mut self,
-        alloc: Global,
-        is_first: bool,
-        event: Event<'_>,
-    ) -> Option<(bool, bool)> {
-        let told = if is_first {
-            self.tell_one(alloc, event)
+    // Whether the event happens at one of them alone.
+    fn tells_alone(&mut self, alloc: Global, is_first: bool, event: Event<'_>) -> bool {
+        if is_first {
+            self.tell_one(alloc, event).is_ok()
         } else {
-            self.tell_other(alloc, event)
-        };
-        match told {
-            Ok(_) => Some((self.are_same(), self.are_alike())),
-            Err(_) => None,
+            self.tell_other(alloc, event).is_ok()
         }
     }
 
@@ -232,7 +219,9 @@ impl Twins {
             }
             Row::Refused(event, refusal) => self.refuse(alloc, *event, *refusal),
             Row::Alone(is_first, event, same, alike) => {
-                self.tell_alone(alloc, *is_first, *event) == Some((*same, *alike))
+                self.tells_alone(alloc, *is_first, *event)
+                    && self.are_same() == *same
+                    && self.are_alike() == *alike
             }
             Row::Did(deed) => self.has_done(*deed),
             Row::Answered(line) => has_answered(alloc, &self.one, line),
@@ -242,14 +231,16 @@ impl Twins {
 }
 
 /// Each row of a table holds.
-pub fn check(rt: &impl Abort, alloc: Global, table: &Table<'_>) {
-    match new_twins(alloc, table.kind) {
+pub fn check(rt: &impl Abort, alloc: Global, (of, kind, turns): &Table<'_>) {
+    match new_twins(alloc, *kind) {
         Some(mut twins) => {
-            for (place, row) in table.rows.iter().enumerate() {
-                holds(rt, twins.holds(alloc, row), table.of, place);
+            for (place, turn) in turns.iter().enumerate() {
+                for row in *turn {
+                    holds(rt, twins.holds(alloc, row), of, place);
+                }
             }
             drop(twins);
         }
-        None => holds(rt, false, table.of, table.rows.len()),
+        None => holds(rt, false, of, turns.len()),
     }
 }

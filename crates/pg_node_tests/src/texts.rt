@@ -32,26 +32,12 @@ pub fn command_of(alloc: Global, line: &str) -> Option<Command> {
 
 /// The body of the packet `{Stamp, Message}` of this text.
 pub fn body_of(alloc: Global, text: &str) -> Option<Vec<u8>> {
-    match read_term(alloc, text) {
-        Ok(term) => {
-            let body = encode(alloc, &term);
-            drop(term);
-            body.ok()
-        }
-        Err(_) => None,
-    }
+    with!(read_term(alloc, text), Ok term => encode(alloc, &term).ok(), else None)
 }
 
 /// The packet of a text.
 pub fn packet_of(alloc: Global, text: &str) -> Option<Packet> {
-    match body_of(alloc, text) {
-        Some(body) => {
-            let packet = read_packet(alloc, body.as_slice());
-            drop(body);
-            packet.ok()
-        }
-        None => None,
-    }
+    with!(body_of(alloc, text), Some body => read_packet(alloc, body.as_slice()).ok(), else None)
 }
 
 /// The last answer of a node at its port, as a line; an empty text where there is none.

@@ -49,27 +49,19 @@ pub const NOTHING: Did = Did {
     odd: None,
 };
 
+const NO_MEMORY: Result<Did, NodeFault> = Err(NodeFault::OutOfMemory);
+
 const NO_PLACE: NodeFault = NodeFault::Refused(Refusal::NoSuchPlace);
 
 /// What this event does at the node.
 pub fn happens(alloc: Global, node: &mut State, event: Event<'_>) -> Result<Did, NodeFault> {
     match event {
-        Event::Command(line) => match command_of(alloc, line) {
-            Some(command) => {
-                let done = given(node, &command);
-                drop(command);
-                told(done)
-            }
-            None => Err(NodeFault::OutOfMemory),
-        },
-        Event::Take(peer, text) => match packet_of(alloc, text) {
-            Some(packet) => {
-                let done = taken(node, peer, &packet);
-                drop(packet);
-                told(done)
-            }
-            None => Err(NodeFault::OutOfMemory),
-        },
+        Event::Command(line) => {
+            with!(command_of(alloc, line), Some command => told(given(node, &command)), else NO_MEMORY)
+        }
+        Event::Take(peer, text) => {
+            with!(packet_of(alloc, text), Some packet => told(taken(node, peer, &packet)), else NO_MEMORY)
+        }
         Event::Retry(number) => told(retried(node, number)),
         Event::Loss(peer, last) => told(lost(node, peer, last)),
     }
@@ -109,26 +101,17 @@ fn taken(node: &mut State, peer: usize, packet: &Packet) -> Result<Done, NodeFau
         Message::Reply(_, _) => node.take(peer, packet),
         Message::DelLock(_, _) => node.take(peer, packet),
         Message::Down(_) => node.take(peer, packet),
-        Message::Exchange(_, groups) => {
-            if groups.as_slice().is_empty() {
-                node.take(peer, packet)
-            } else {
-                Err(NO_PLACE)
-            }
-        }
+        Message::Exchange(_, groups) if groups.as_slice().is_empty() => node.take(peer, packet),
+        Message::Exchange(_, _) => Err(NO_PLACE),
     }
 }
 
 /// What an event did, which was not refused.
 pub fn told(done: Result<Done, NodeFault>) -> Result<Did, NodeFault> {
-    match done {
-        Ok(done) => {
-            let did = seen(&done);
-            drop(done);
-            Ok(did)
-        }
-        Err(fault) => Err(fault),
-    }
+    let done = done?;
+    let did = seen(&done);
+    drop(done);
+    Ok(did)
 }
 
 fn seen(done: &Done) -> Did {

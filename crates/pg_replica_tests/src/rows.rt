@@ -5,7 +5,6 @@ use crate::frames::{
     LAST_STAMP, SET_LOCK, WIDE_CALL, WIDE_REPLY,
 };
 use crate::served::{Sheet, joined, served};
-use pg_node::AnyWriter;
 use std::alloc::{AllocError, Global};
 use std::process::Abort;
 use std::test::*;
@@ -25,45 +24,30 @@ const ROWS: &[Row] = &[
     ("stamp_edges, full", PAIR, &[FULL_STAMP], &[], 30),
     ("stamp_too_large", PAIR, &[LARGE_STAMP], &[], 13),
     ("broken_bodies, empty", PAIR, &[&[0, 0, 0, 0]], &[], 1),
-    (
-        "broken_bodies, 5",
-        PAIR,
-        &[&[0, 0, 0, 3, 131, 97, 5]],
-        &[],
-        12,
-    ),
-    (
-        "broken_bodies, after a call",
-        PAIR,
-        &[CREATE, &[0, 0, 0, 1, 130]],
-        CREATED,
-        2,
-    ),
-    (
-        "exchange_then_lock",
-        PAIR,
-        &[EXCHANGE, SET_LOCK],
-        GRANTED,
-        0,
-    ),
+    ("broken_bodies, 5", PAIR, &[FIVE], &[], 12),
+    ("broken_bodies, a call", PAIR, &[CREATE, OTHER], CREATED, 2),
+    ("exchange, lock", PAIR, &[EXCHANGE, SET_LOCK], GRANTED, 0),
     ("the lock alone", PAIR, &[SET_LOCK], DENIED, 0),
     ("a second exchange", PAIR, &[EXCHANGE, EXCHANGE], &[], 12),
     ("names alike", ("a", "a"), &[EXCHANGE, SET_LOCK], GRANTED, 0),
     ("no names", ("", ""), &[CREATE], CREATED, 0),
 ];
 
+// A body that is the number 5, and one that begins with another version.
+const FIVE: &[u8] = &[0, 0, 0, 3, 131, 97, 5];
+
+const OTHER: &[u8] = &[0, 0, 0, 1, 130];
+
 fn is_answered(
     alloc: Global,
-    (own, peer): (&str, &str),
+    names: (&str, &str),
     input: &[u8],
     output: &[u8],
     number: u8,
 ) -> bool {
     let mut reader = input;
-    let mut writer = AnyWriter {
-        writer: Sheet::new(alloc, usize::MAX),
-    };
-    let got = served(alloc, own, peer, &mut reader, &mut writer);
+    let mut writer = Sheet::writer(alloc, usize::MAX);
+    let got = served(alloc, names.0, names.1, &mut reader, &mut writer);
     let is_written = writer.writer.held.as_slice() == output;
     drop(writer);
     is_written && got == number

@@ -1,6 +1,6 @@
 //! Runs of the replica, and the readers and writers that they go over.
 
-use pg_node::{Sink, Source, serve};
+use pg_node::{AnyReader, AnyWriter, Sink, Source, serve};
 use pg_term::Atom;
 use std::alloc::{AllocError, Global};
 use std::io;
@@ -68,6 +68,17 @@ pub struct Pieces<'a> {
     pub reads_left: usize,
 }
 
+/// A reader of this text in pieces.
+pub fn pieces(text: &[u8], first: usize, next: usize, reads_left: usize) -> AnyReader<Pieces<'_>> {
+    let reader = Pieces {
+        text,
+        first,
+        next,
+        reads_left,
+    };
+    AnyReader { reader }
+}
+
 impl<'a> Read for Pieces<'a> {
     fn read(&mut self, buf: &mut [u8]) -> io::Result<usize> {
         if self.reads_left == 0 {
@@ -92,13 +103,14 @@ pub struct Sheet {
 }
 
 impl Sheet {
-    /// Nothing is written yet.
-    pub fn new(alloc: Global, calls_left: usize) -> Sheet {
-        Sheet {
+    /// A sheet on which nothing is written yet.
+    pub fn writer(alloc: Global, calls_left: usize) -> AnyWriter<Sheet> {
+        let writer = Sheet {
             held: Vec::new(alloc),
             flushed: 0,
             calls_left,
-        }
+        };
+        AnyWriter { writer }
     }
 }
 

@@ -1,8 +1,8 @@
 //! An input that is cut anywhere, or comes in any two pieces, or a byte a read, and where a read, a write or a flush fails.
 
 use crate::frames::{CREATE, CREATED};
-use crate::served::{Pieces, Sheet, holds_at, joined, served};
-use pg_node::{AnyReader, AnyWriter, Source};
+use crate::served::{Sheet, holds_at, joined, pieces, served};
+use pg_node::Source;
 use std::alloc::{AllocError, Global};
 use std::process::Abort;
 use std::test::*;
@@ -97,36 +97,30 @@ fn are_first(turns: Turns<'_>, bytes: &[u8], len: usize) -> bool {
 
 // How a run goes: how often the writer may be called, how many bytes are answered, the fault, and whether all was flushed.
 #[derive(Clone, Copy)]
-struct Run {
-    calls: usize,
-    answered: usize,
-    number: u8,
-    is_flushed: bool,
-}
+struct Run(usize, usize, u8, bool);
 
 // Whether a run over this reader goes so.
 fn goes<R: Source>(alloc: Global, turns: Turns<'_>, reader: &mut R, run: Run) -> bool {
-    let mut writer = AnyWriter {
-        writer: Sheet::new(alloc, run.calls),
-    };
+    let Run(calls, answered, number, must_flush) = run;
+    let mut writer = Sheet::writer(alloc, calls);
     let got = served(alloc, "b", "a", reader, &mut writer);
     let held = writer.writer.held.as_slice();
-    let is_answered = are_first(turns, held, run.answered);
+    let is_answered = are_first(turns, held, answered);
     let is_flushed = writer.writer.flushed == held.len();
     drop(writer);
-    is_answered && (is_flushed || !run.is_flushed) && got == run.number
+    is_answered && (is_flushed || !must_flush) && got == number
 }
 
 // Whether the first so many bytes are served and answered.
 fn is_prefix_served(alloc: Global, turns: Turns<'_>, input: &[u8], len: usize) -> bool {
     let (mut reader, _) = input.split_at(len.min(input.len()));
-    let run = Run {
-        calls: usize::MAX,
-        answered: answered_len(turns, len),
-        number: fault_after(turns, len),
-        is_flushed: false,
-    };
-    goes(alloc, turns, &mut reader, run)
+    let (answered, number) = (answered_len(turns, len), fault_after(turns, len));
+    goes(
+        alloc,
+        turns,
+        &mut reader,
+        Run(usize::MAX, answered, number, false),
+    )
 }
 
 // Whether what was read is answered, and that is flushed, where the input comes in a piece of `first` bytes and then of `next`, in so many reads.
@@ -138,34 +132,24 @@ fn is_read_in(
     next: usize,
     reads_left: usize,
 ) -> bool {
-    let mut reader = AnyReader {
-        reader: Pieces {
-            text: input,
-            first,
-            next,
-            reads_left,
-        },
-    };
+    let mut reader = pieces(input, first, next, reads_left);
     let later = reads_left.saturating_sub(1).saturating_mul(next);
-    let read = if reads_left == 0 {
-        0
-    } else {
-        first.saturating_add(later)
-    };
+    let read = first.saturating_add(later);
+    let answered = answered_len(turns, if reads_left == 0 { 0 } else { read });
     // The last read finds the end.
-    let needed = input
-        .len()
-        .saturating_sub(first)
-        .div_ceil(next.max(1))
-        .saturating_add(2);
-    let is_whole = reads_left >= needed;
-    let run = Run {
-        calls: usize::MAX,
-        answered: answered_len(turns, read),
-        number: if is_whole { DONE } else { READ_FAULT },
-        is_flushed: true,
+    let rest = input.len().saturating_sub(first);
+    let needed = rest.div_ceil(next.max(1)).saturating_add(2);
+    let number = if reads_left >= needed {
+        DONE
+    } else {
+        READ_FAULT
     };
-    goes(alloc, turns, &mut reader, run)
+    goes(
+        alloc,
+        turns,
+        &mut reader,
+        Run(usize::MAX, answered, number, true),
+    )
 }
 
 // How many bytes are held after so many calls of the writer: writes of 5 bytes, and a flush after the last.
@@ -192,33 +176,21 @@ fn calls_of(turns: Turns<'_>) -> usize {
 // Whether as much of the replies was written as the writer took.
 fn is_held(alloc: Global, turns: Turns<'_>, input: &[u8], calls: usize) -> bool {
     let mut reader = input;
-    let run = Run {
-        calls,
-        answered: held_after(turns, calls),
-        number: if calls >= calls_of(turns) {
-            DONE
-        } else {
-            WRITE_FAULT
-        },
-        is_flushed: false,
-    };
-    goes(alloc, turns, &mut reader, run)
+    let is_whole = calls >= calls_of(turns);
+    let number = if is_whole { DONE } else { WRITE_FAULT };
+    goes(
+        alloc,
+        turns,
+        &mut reader,
+        Run(calls, held_after(turns, calls), number, false),
+    )
 }
 
 // Whether the replies to all that came before the last read were flushed by then, where the input comes 7 bytes a read and the writer is
 // called so often.
 fn is_out_before(alloc: Global, turns: Turns<'_>, input: &[u8], calls: usize) -> bool {
-    let mut reader = AnyReader {
-        reader: Pieces {
-            text: input,
-            first: 7,
-            next: 7,
-            reads_left: usize::MAX,
-        },
-    };
-    let mut writer = AnyWriter {
-        writer: Sheet::new(alloc, calls),
-    };
+    let mut reader = pieces(input, 7, 7, usize::MAX);
+    let mut writer = Sheet::writer(alloc, calls);
     let got = served(alloc, "b", "a", &mut reader, &mut writer);
     let read = input.len().saturating_sub(reader.reader.text.len());
     let is_out = writer.writer.flushed >= answered_len(turns, read.saturating_sub(7));
@@ -310,11 +282,7 @@ const ROWS: &[Row] = &[
     // What was written is a prefix of the replies, wherever a write or the flush fails.
     ("each write fails, of", UNFORMED, Part::Writes),
     // Wherever a write or a flush fails, no more was read before the replies to what came before were written and flushed.
-    (
-        "replies are out before the next read, of",
-        UNFORMED,
-        Part::Turns,
-    ),
+    ("replies are out before a read, of", UNFORMED, Part::Turns),
     ("served into memory", FORMED, Part::Memory),
 ];
 

@@ -51,12 +51,7 @@ fn stands_at<T: GroupTable>(
     from: u64,
     to: u64,
 ) -> bool {
-    for place in from..to {
-        if table.pid_at(name, scope, place) != Some(pid) {
-            return false;
-        }
-    }
-    true
+    (from..to).all(|place| table.pid_at(name, scope, place) == Some(pid))
 }
 
 /// Whether the list of a group, and its sizes, are so.

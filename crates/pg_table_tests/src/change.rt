@@ -145,10 +145,5 @@ pub fn has_groups<T: GroupTable>(rt: &impl Abort, table: &T, count: usize) -> bo
 }
 
 fn has_all<T: GroupTable>(table: &T, names: &[Term]) -> bool {
-    for name in names {
-        if !table.has(name) {
-            return false;
-        }
-    }
-    true
+    names.iter().all(|name| table.has(name))
 }

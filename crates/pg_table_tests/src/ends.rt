@@ -21,11 +21,8 @@ fn process_limit(rt: HostRuntime) {
     drop(numbered);
     let mut limited = processes(&rt, rt.alloc(), MAX_PROCESSES - 1);
     drop(made(&rt, &mut limited, 8191, 32_767));
-    holds(
-        &rt,
-        limited.make().err() == Some(EndFault::ProcessLimit),
-        "limit",
-    );
+    let fault = limited.make().err();
+    holds(&rt, fault == Some(EndFault::ProcessLimit), "limit");
     drop(limited);
     holds(&rt, EndFault::ProcessLimit.number() == 28, "number");
 }
@@ -66,11 +63,8 @@ pub fn all_end<T: GroupTable>(
     let mut processes = processes(rt, alloc, before);
     let mut pids = Vec::new(alloc);
     for id in before..last {
-        push(
-            rt,
-            &mut pids,
-            made(rt, &mut processes, 0, id.saturating_add(1)),
-        );
+        let pid = made(rt, &mut processes, 0, id.saturating_add(1));
+        push(rt, &mut pids, pid);
     }
     let mut ended = Ended::new(alloc);
     let name = Term::Int(1);
@@ -86,11 +80,8 @@ pub fn all_end<T: GroupTable>(
     drop(pids);
     for (row, number) in [([("a", 0), ("a", next)], 26), ([("b", 1), ("b", next)], 24)] {
         let others = Cast::new(rt, alloc, &row);
-        row_holds(
-            rt,
-            are_refused(&processes, &ended, &others.pids, number),
-            &number,
-        );
+        let are_refused = are_refused(&processes, &ended, &others.pids, number);
+        row_holds(rt, are_refused, &number);
         drop(others);
     }
     drop(processes);
@@ -99,13 +90,10 @@ pub fn all_end<T: GroupTable>(
 
 /// Whether no pid can end, each for the fault of this number.
 fn are_refused(processes: &Processes, ended: &Ended, pids: &[Pid], number: u8) -> bool {
-    for pid in pids {
-        match processes.finish(pid, ended) {
-            Err(fault) if fault.number() == number => (),
-            _ => return false,
-        }
-    }
-    true
+    pids.iter().all(|pid| match processes.finish(pid, ended) {
+        Ok(_) => false,
+        Err(fault) => fault.number() == number,
+    })
 }
 
 /// A refused end changes nothing.

@@ -1,6 +1,7 @@
 //! Worked examples, each of which is run on both kinds of tables. Each test passes wherever an allocation is refused.
 
-use crate::change::{Act, perform_all};
+use crate::change::Act::{self, *};
+use crate::change::perform_all;
 use crate::queries::{FILLED, PIDS, READINGS, Reading, are_read};
 use crate::samples::{Cast, holds};
 use crate::trial::{Trial, on_both};
@@ -18,26 +19,21 @@ type Example = (
 /// A pid that joined twice and left once is a member once.
 const JOIN_TWICE_LEAVE_ONCE: Example = (
     &[],
-    &[
-        (7, Act::Create),
-        (7, Act::Join(0)),
-        (7, Act::Join(0)),
-        (7, Act::Leave(0)),
-    ],
+    &[(7, Create), (7, Join(0)), (7, Join(0)), (7, Leave(0))],
     &[(7, "a", (0, 1), (0, 1), &[(0, Some(1)), (5, Some(1))])],
 );
 
 /// Two nodes tell of one group at first: of each pid the greater count stays.
 const INITIAL_TABLES: Example = (
     &[],
-    &[(7, Act::Merge(&[0, 1, 2])), (7, Act::Merge(&[1, 3]))],
+    &[(7, Merge(&[0, 1, 2])), (7, Merge(&[1, 3]))],
     &[(7, "b", (0, 4), (3, 4), &[(0, Some(9))])],
 );
 
 /// A process ends while its join is on the way: the join adds nothing.
 const END_BEATS_LATE_JOIN: Example = (
     &[0],
-    &[(7, Act::Create), (7, Act::Join(0)), (7, Act::Join(3))],
+    &[(7, Create), (7, Join(0)), (7, Join(3))],
     &[(7, "a", (3, 4), (0, 0), &[(0, Some(9)), (4, Some(9))])],
 );
 
@@ -48,13 +44,13 @@ const CLOSEST_MEMBER: Example = (&[], FILLED, READINGS);
 const DROP_FROM_MANY_GROUPS: Example = (
     &[],
     &[
-        (3, Act::Create),
-        (3, Act::Join(0)),
-        (7, Act::Create),
-        (7, Act::Join(0)),
-        (7, Act::Join(0)),
-        (7, Act::Join(3)),
-        (3, Act::Drop(0)),
+        (3, Create),
+        (3, Join(0)),
+        (7, Create),
+        (7, Join(0)),
+        (7, Join(0)),
+        (7, Join(3)),
+        (3, Drop(0)),
     ],
     &[
         (3, "a", (0, 0), (0, 0), &[(0, None)]),

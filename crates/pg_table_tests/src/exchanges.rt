@@ -17,8 +17,12 @@ pub struct Forming {
     pub groups: (u32, u32),
     pub times: u32,
     /// Whether a peer announces its groups, or is lost; which, and whether the node has formed then.
-    pub turns: &'static [(bool, usize, bool)],
+    pub turns: &'static [Turn],
 }
+
+type Turn = (bool, usize, bool);
+
+type Taken = Result<(), ExchangeFault>;
 
 /// A peer that is lost tells nothing more, and is not waited for.
 const LOST: Forming = Forming {
@@ -50,6 +54,7 @@ fn formation_of_two(rt: HostRuntime) {
 /// A node that forms, and what each of its peers tells.
 #[derive(Drop)]
 pub struct Node {
+    alloc: Global,
     pub formation: Formation,
     ended: Ended,
     told: Vec<(Term, Items<Pid>)>,
@@ -60,6 +65,7 @@ impl Node {
     pub fn new(rt: &impl Abort, alloc: Global, peers: usize) -> Node {
         let first = Formation::new(alloc, peers);
         Node {
+            alloc,
             formation: either(rt, first, Formation::new(alloc, peers)),
             ended: Ended::new(alloc),
             told: Vec::new(alloc),
@@ -67,10 +73,10 @@ impl Node {
     }
 
     /// The peers tell one group more, which has the pid of its number so often.
-    fn tell(&mut self, rt: &impl Abort, alloc: Global, number: u32, times: u32) {
-        let mut pids = Vec::new(alloc);
+    fn tell(&mut self, rt: &impl Abort, number: u32, times: u32) {
+        let mut pids = Vec::new(self.alloc);
         for _ in 0..times {
-            push(rt, &mut pids, pid(rt, alloc, "a", number));
+            push(rt, &mut pids, pid(rt, self.alloc, "a", number));
         }
         either(rt, self.told.reserve(1), self.told.reserve(1));
         let group = (Term::Int(i64::from(number)), Items::from_vec(pids));
@@ -78,12 +84,7 @@ impl Node {
     }
 
     /// A peer announces its groups.
-    fn take<T: GroupTable + Drop>(
-        &mut self,
-        rt: &impl Abort,
-        table: &mut T,
-        peer: usize,
-    ) -> Result<(), ExchangeFault> {
+    fn take<T: GroupTable + Drop>(&mut self, rt: &impl Abort, table: &mut T, peer: usize) -> Taken {
         holds(rt, peer < self.formation.peers(), "peer");
         self.formation.take(peer, &self.told, table, &self.ended)
     }
@@ -95,8 +96,9 @@ impl Node {
     }
 
     /// Whether the table says what is told.
-    fn is_told<T: GroupTable>(&self, rt: &impl Abort, alloc: Global, table: &T) -> bool {
-        let all = either(rt, snapshot(alloc, table), snapshot(alloc, table));
+    fn is_told<T: GroupTable>(&self, rt: &impl Abort, table: &T) -> bool {
+        let first = snapshot(self.alloc, table);
+        let all = either(rt, first, snapshot(self.alloc, table));
         let is_told = all.as_slice() == self.told.as_slice();
         drop(all);
         is_told
@@ -105,35 +107,24 @@ impl Node {
 
 /// The node forms when the last of its peers is merged, and says no more than they told. A peer that is merged can't announce
 /// its groups.
-pub fn forms<T: GroupTable + Drop>(
-    rt: &impl Abort,
-    alloc: Global,
-    table: &mut T,
-    forming: &Forming,
-) {
-    let mut node = Node::new(rt, alloc, forming.peers);
-    for number in forming.groups.0..forming.groups.1 {
-        node.tell(rt, alloc, number, forming.times);
+pub fn forms<T: GroupTable + Drop>(rt: &impl Abort, alloc: Global, table: &mut T, row: &Forming) {
+    let mut node = Node::new(rt, alloc, row.peers);
+    for number in row.groups.0..row.groups.1 {
+        node.tell(rt, number, row.times);
     }
-    holds(rt, node.formation.peers() == forming.peers, "peers");
+    holds(rt, node.formation.peers() == row.peers, "peers");
     holds(rt, !node.formation.formed(), "not formed");
-    for turn in forming.turns {
-        take_turn(rt, alloc, table, &mut node, turn);
+    for turn in row.turns {
+        take_turn(rt, table, &mut node, turn);
     }
-    row_holds(rt, node.is_told(rt, alloc, table), forming);
+    row_holds(rt, node.is_told(rt, table), row);
     drop(node);
 }
 
-fn take_turn<T: GroupTable + Drop>(
-    rt: &impl Abort,
-    alloc: Global,
-    table: &mut T,
-    node: &mut Node,
-    turn: &(bool, usize, bool),
-) {
+fn take_turn<T: GroupTable + Drop>(rt: &impl Abort, table: &mut T, node: &mut Node, turn: &Turn) {
     let (announces, peer, has_formed) = *turn;
     if announces {
-        announce(rt, alloc, table, node, peer);
+        announce(rt, table, node, peer);
     } else {
         node.forget(rt, peer);
     }
@@ -143,16 +134,10 @@ fn take_turn<T: GroupTable + Drop>(
 }
 
 /// A refused exchange changes nothing.
-fn announce<T: GroupTable + Drop>(
-    rt: &impl Abort,
-    alloc: Global,
-    table: &mut T,
-    node: &mut Node,
-    peer: usize,
-) {
-    let was_told = node.is_told(rt, alloc, table);
+fn announce<T: GroupTable + Drop>(rt: &impl Abort, table: &mut T, node: &mut Node, peer: usize) {
+    let was_told = node.is_told(rt, table);
     if node.take(rt, table, peer).is_err() {
-        holds(rt, node.is_told(rt, alloc, table) == was_told, "as before");
+        holds(rt, node.is_told(rt, table) == was_told, "as before");
         holds(rt, !node.formation.formed(), "not formed");
         node.take(rt, table, peer).expect(rt, "again");
     }

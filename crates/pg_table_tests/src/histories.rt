@@ -75,16 +75,10 @@ fn walk<T: GroupTable + Drop>(
     left: u32,
 ) {
     let pids = (cast.pid(rt, 0), cast.pid(rt, 1));
-    holds(
-        rt,
-        group_is(cast.alloc, table, pids, 1, reading.first),
-        "first",
-    );
-    holds(
-        rt,
-        group_is(cast.alloc, table, pids, 2, reading.second),
-        "second",
-    );
+    let first = group_is(cast.alloc, table, pids, 1, reading.first);
+    holds(rt, first, "first");
+    let second = group_is(cast.alloc, table, pids, 2, reading.second);
+    holds(rt, second, "second");
     holds(rt, has_groups(rt, table, reading.group_count()), "groups");
     if left == 0 {
         return;
@@ -92,14 +86,8 @@ fn walk<T: GroupTable + Drop>(
     for (group, act) in steps {
         let mut next = table.copy().expect(rt, "copy");
         perform(rt, &mut next, cast, *group, *act);
-        walk(
-            rt,
-            steps,
-            &next,
-            cast,
-            &reading.after(*group, *act),
-            left - 1,
-        );
+        let after = reading.after(*group, *act);
+        walk(rt, steps, &next, cast, &after, left - 1);
         drop(next);
     }
 }

@@ -51,10 +51,6 @@ fn empty(rt: &impl Abort, members: &mut Members, cast: &Cast) {
 
 /// Whether each of the pids is so often a member, and nobody else is one.
 fn are_counted(members: &Members, cast: &Cast, often: u64) -> bool {
-    for pid in &cast.pids {
-        if members.count(pid) != often {
-            return false;
-        }
-    }
-    members.size(Scope::All) == (cast.pids.len() as u64).wrapping_mul(often)
+    cast.pids.iter().all(|pid| members.count(pid) == often)
+        && members.size(Scope::All) == (cast.pids.len() as u64).wrapping_mul(often)
 }

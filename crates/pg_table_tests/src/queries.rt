@@ -1,38 +1,29 @@
 //! Lists of groups and members, and the closest member. Each test passes wherever an allocation is refused.
 
-use crate::change::{Act, perform_all};
+use crate::change::Act::{self, *};
+use crate::change::perform_all;
 use crate::samples::{Cast, atom, either, holds, row_holds};
 use crate::trial::{Trial, on_both};
 use pg_group::{GroupTable, RowTable};
 use pg_index::IndexTable;
 use pg_query::{QueryFault, closest, local_members, members, same_groups, which_groups};
 use pg_term::{Atom, Items, Pid, Term};
-use std::alloc::{AllocError, Global};
+use std::alloc::Global;
 use std::process::Abort;
 
 /// The members of the group 7, in their order.
 pub const PIDS: &[(&str, u32)] = &[("a", 1), ("a", 2), ("a", 2), ("b", 9)];
 
 /// The group 7 has two members on node a, one of them twice, and one on node b; the group 3 has none.
-pub const FILLED: &[(i64, Act<'static>)] = &[(7, Act::Merge(&[3, 1, 0, 1])), (3, Act::Merge(&[]))];
+pub const FILLED: &[(i64, Act<'static>)] = &[(7, Merge(&[3, 1, 0, 1])), (3, Merge(&[]))];
 
 /// What is made of a second table, and whether it says the same then.
 const OTHERS: &[(&[(i64, Act<'static>)], bool)] = &[
     (FILLED, true),
+    (&[(7, Merge(&[3, 1, 0, 0])), (3, Merge(&[]))], false),
+    (&[(8, Merge(&[3, 1, 0, 1])), (3, Merge(&[]))], false),
     (
-        &[(7, Act::Merge(&[3, 1, 0, 0])), (3, Act::Merge(&[]))],
-        false,
-    ),
-    (
-        &[(8, Act::Merge(&[3, 1, 0, 1])), (3, Act::Merge(&[]))],
-        false,
-    ),
-    (
-        &[
-            (7, Act::Merge(&[3, 1, 0, 1])),
-            (3, Act::Merge(&[])),
-            (3, Act::Delete),
-        ],
+        &[(7, Merge(&[3, 1, 0, 1])), (3, Merge(&[])), (3, Delete)],
         false,
     ),
 ];
@@ -65,21 +56,28 @@ fn compares_with<S: GroupTable, T: GroupTable>(
     (changes, is_same): &(&[(i64, Act<'_>)], bool),
 ) {
     perform_all(rt, other, cast, changes);
-    let (one, two) = same_both_ways(cast.alloc, table, other);
-    let (again, two_again) = same_both_ways(cast.alloc, table, other);
-    holds(rt, either(rt, one, again) == *is_same, "same");
-    holds(rt, either(rt, two, two_again) == *is_same, "same");
+    holds(
+        rt,
+        are_same(rt, cast.alloc, table, other) == *is_same,
+        "same",
+    );
+    holds(
+        rt,
+        are_same(rt, cast.alloc, other, table) == *is_same,
+        "same",
+    );
 }
 
-/// Whether two tables say the same, the one compared with the other, and the other with the one.
-fn same_both_ways<S: GroupTable, T: GroupTable>(
+fn are_same<S: GroupTable, T: GroupTable>(
+    rt: &impl Abort,
     alloc: Global,
     one: &S,
-    other: &T,
-) -> (Result<bool, AllocError>, Result<bool, AllocError>) {
-    (
-        same_groups(alloc, one, other),
-        same_groups(alloc, other, one),
+    two: &T,
+) -> bool {
+    either(
+        rt,
+        same_groups(alloc, one, two),
+        same_groups(alloc, one, two),
     )
 }
 
@@ -93,14 +91,10 @@ pub type Reading = (
     &'static [(u32, Option<u32>)],
 );
 
+const LOCAL: &[(u32, Option<u32>)] = &[(0, Some(1)), (2, Some(2)), (3, Some(1))];
+
 pub const READINGS: &[Reading] = &[
-    (
-        7,
-        "a",
-        (0, 4),
-        (0, 3),
-        &[(0, Some(1)), (2, Some(2)), (3, Some(1))],
-    ),
+    (7, "a", (0, 4), (0, 3), LOCAL),
     (7, "b", (0, 4), (3, 4), &[(5, Some(9))]),
     (7, "c", (0, 4), (0, 0), &[(3, Some(9)), (4, Some(1))]),
     (3, "a", (0, 0), (0, 0), &[(0, None)]),
@@ -147,17 +141,10 @@ fn are_picked<T: GroupTable>(
     name: &Term,
     words: &[(u32, Option<u32>)],
 ) -> bool {
-    for (word, id) in words {
-        let picked = match closest(table, own, name, *word) {
-            Ok(pid) => Some(pid.id),
-            Err(QueryFault::NoMember) => None,
-            Err(_) => return false,
-        };
-        if picked != *id {
-            return false;
-        }
-    }
-    true
+    words.iter().all(|(word, id)| match closest(table, own, name, *word) {
+        Ok(pid) => *id == Some(pid.id),
+        Err(fault) => *id == None && fault == QueryFault::NoMember,
+    })
 }
 
 /// The members of a group that is there.
@@ -185,10 +172,7 @@ pub fn names_in_order<T: GroupTable>(rt: &impl Abort, alloc: Global, table: &mut
     drop(absent);
     holds(rt, fault == Some(QueryFault::NoSuchGroup), "absent");
     let names = either(rt, which_groups(table), which_groups(table));
-    holds(
-        rt,
-        names.as_slice() == [Term::Int(3), Term::Int(7)].as_slice(),
-        "names",
-    );
+    let are_both = names.as_slice() == [Term::Int(3), Term::Int(7)].as_slice();
+    holds(rt, are_both, "names");
     drop(names);
 }

@@ -6,7 +6,7 @@ use pg_group::{GroupTable, RowTable, Scope};
 use pg_index::IndexTable;
 use pg_query::{local_members, members};
 use pg_random::Random;
-use pg_term::{Pid, Term};
+use pg_term::Term;
 use std::alloc::Global;
 use std::process::Abort;
 
@@ -31,41 +31,94 @@ fn crowd(rt: &impl Abort, alloc: Global) -> Cast {
     cast
 }
 
+/// Two tables that get the same changes, and the pids which those are of.
+#[derive(Drop)]
+struct Both {
+    rows: RowTable,
+    index: IndexTable,
+    cast: Cast,
+}
+
 /// Groups of some hundred members, which are several blocks of rows: 100,000 changes, compared after each thousand.
 #[test]
 fn index_agrees_with_rows_in_random_changes(rt: HostRuntime) {
-    let mut rows = RowTable::new(rt.alloc());
-    let mut index = IndexTable::new(rt.alloc());
-    let cast = crowd(&rt, rt.alloc());
+    let mut both = Both {
+        rows: RowTable::new(rt.alloc()),
+        index: IndexTable::new(rt.alloc()),
+        cast: crowd(&rt, rt.alloc()),
+    };
     let mut random = Random::new(1);
     for _ in 0..100 {
-        change_both(&rt, &mut rows, &mut index, &cast, &mut random);
+        both.change(&rt, &mut random);
         for group in 0..i64::from(GROUPS) {
-            holds(&rt, groups_alike(&rt, &rows, &index, &cast, group), "alike");
+            holds(&rt, both.are_alike(&rt, group), "alike");
         }
-        holds(&rt, have_as_many(&rt, &rows, &index), "as many");
+        holds(&rt, both.have_as_many(&rt), "as many");
     }
-    drop(rows);
-    drop(index);
-    drop(cast);
+    drop(both);
     drop(random);
 }
 
-/// Makes a thousand changes of both tables.
-fn change_both<S: GroupTable, T: GroupTable>(
-    rt: &impl Abort,
-    one: &mut S,
-    other: &mut T,
-    cast: &Cast,
-    random: &mut Random,
-) {
-    for _ in 0..1_000 {
-        let [p, q, r, s] = [place(random), place(random), place(random), place(random)];
-        let told = [p, q, r, s, p, q];
-        let group = i64::from(random.below(GROUPS));
-        let act = drawn(random, p, &told);
-        perform(rt, one, cast, group, act);
-        perform(rt, other, cast, group, act);
+impl Both {
+    /// Makes a thousand changes of both tables.
+    fn change(&mut self, rt: &impl Abort, random: &mut Random) {
+        for _ in 0..1_000 {
+            let [p, q, r, s] = [place(random), place(random), place(random), place(random)];
+            let told = [p, q, r, s, p, q];
+            let group = i64::from(random.below(GROUPS));
+            let act = drawn(random, p, &told);
+            perform(rt, &mut self.rows, &self.cast, group, act);
+            perform(rt, &mut self.index, &self.cast, group, act);
+        }
+    }
+
+    /// Whether both tables answer alike, in all that can be asked of a group.
+    fn are_alike(&self, rt: &impl Abort, group: i64) -> bool {
+        let name = Term::Int(group);
+        let has = self.index.has(&name);
+        let are_alike = self.rows.has(&name) == has
+            && self.count_alike(&name)
+            && (!has || self.list_alike(rt, &name));
+        drop(name);
+        are_alike
+    }
+
+    fn count_alike(&self, name: &Term) -> bool {
+        let mut pids = self.cast.pids.iter();
+        pids.all(|pid| self.rows.count(name, pid) == self.index.count(name, pid))
+    }
+
+    /// Whether both list the same members of a group, in all and on each node, and tell the same size.
+    fn list_alike(&self, rt: &impl Abort, name: &Term) -> bool {
+        let first = members(self.cast.alloc, &self.rows, name).expect(rt, "members");
+        let second = members(self.cast.alloc, &self.index, name).expect(rt, "members");
+        let alike = first == second;
+        drop(first);
+        drop(second);
+        alike
+            && self.rows.size(name, Scope::All) == self.index.size(name, Scope::All)
+            && self.local_alike(rt, name, 0)
+            && self.local_alike(rt, name, PIDS_OF_NODE as usize)
+            && self.local_alike(rt, name, 2 * PIDS_OF_NODE as usize)
+    }
+
+    /// Whether both list the same members on the node of the pid at a place.
+    fn local_alike(&self, rt: &impl Abort, name: &Term, place: usize) -> bool {
+        let node = &self.cast.pid(rt, place).node;
+        let first = local_members(self.cast.alloc, &self.rows, node, name).expect(rt, "members");
+        let second = local_members(self.cast.alloc, &self.index, node, name).expect(rt, "members");
+        let alike = first == second;
+        drop(first);
+        drop(second);
+        alike
+    }
+
+    /// Whether both tables name as many groups.
+    fn have_as_many(&self, rt: &impl Abort) -> bool {
+        let names = self.rows.groups().expect(rt, "groups");
+        let have_as_many = has_groups(rt, &self.index, names.len());
+        drop(names);
+        have_as_many
     }
 }
 
@@ -84,79 +137,4 @@ fn drawn<'a>(random: &mut Random, pid: usize, told: &'a [usize]) -> Act<'a> {
         60..350 => Act::Leave(pid),
         _ => Act::Join(pid),
     }
-}
-
-/// Whether two tables answer alike, in all that can be asked of a group.
-fn groups_alike<S: GroupTable, T: GroupTable>(
-    rt: &impl Abort,
-    one: &S,
-    other: &T,
-    cast: &Cast,
-    group: i64,
-) -> bool {
-    let name = Term::Int(group);
-    let alike = one.has(&name) == other.has(&name)
-        && counts_alike(one, other, &cast.pids, &name)
-        && (!one.has(&name) || lists_alike(rt, one, other, cast, &name));
-    drop(name);
-    alike
-}
-
-fn counts_alike<S: GroupTable, T: GroupTable>(
-    one: &S,
-    other: &T,
-    pids: &[Pid],
-    name: &Term,
-) -> bool {
-    for pid in pids {
-        if one.count(name, pid) != other.count(name, pid) {
-            return false;
-        }
-    }
-    true
-}
-
-/// Whether both list the same members of a group, in all and on each node, and tell the same size.
-fn lists_alike<S: GroupTable, T: GroupTable>(
-    rt: &impl Abort,
-    one: &S,
-    other: &T,
-    cast: &Cast,
-    name: &Term,
-) -> bool {
-    let first = members(cast.alloc, one, name).expect(rt, "members");
-    let second = members(cast.alloc, other, name).expect(rt, "members");
-    let alike = first == second && one.size(name, Scope::All) == other.size(name, Scope::All);
-    drop(first);
-    drop(second);
-    alike
-        && local_alike(rt, one, other, cast, name, 0)
-        && local_alike(rt, one, other, cast, name, PIDS_OF_NODE as usize)
-        && local_alike(rt, one, other, cast, name, 2 * PIDS_OF_NODE as usize)
-}
-
-/// Whether both list the same members on the node of the pid at a place.
-fn local_alike<S: GroupTable, T: GroupTable>(
-    rt: &impl Abort,
-    one: &S,
-    other: &T,
-    cast: &Cast,
-    name: &Term,
-    place: usize,
-) -> bool {
-    let node = &cast.pid(rt, place).node;
-    let first = local_members(cast.alloc, one, node, name).expect(rt, "members");
-    let second = local_members(cast.alloc, other, node, name).expect(rt, "members");
-    let alike = first == second;
-    drop(first);
-    drop(second);
-    alike
-}
-
-/// Whether two tables name as many groups.
-fn have_as_many<S: GroupTable, T: GroupTable>(rt: &impl Abort, one: &S, other: &T) -> bool {
-    let names = one.groups().expect(rt, "groups");
-    let have_as_many = has_groups(rt, other, names.len());
-    drop(names);
-    have_as_many
 }

@@ -10,287 +10,83 @@ pub struct Example<'a> {
 
 // A process of `a` joins twice at `b`, and leaves once.
 pub static JOIN_TWICE_LEAVE_ONCE: Example<'static> = Example {
-    script: "node a
-node b
-settle
-create a 1
-settle
-make a
-join b 1 <a.1.0>
-settle
-join b 1 <a.1.0>
-settle
-members a 1
-members b 1
-leave b 1 <a.1.0>
-settle
-members a 1
-members b 1
-",
-    answers: "a 1 ok
-a 2 <a.1.0>
-a 3 [<a.1.0>,<a.1.0>]
-a 4 [<a.1.0>]
-b 1 ok
-b 2 ok
-b 3 [<a.1.0>,<a.1.0>]
-b 4 ok
-b 5 [<a.1.0>]
-",
+    script: "node a\nnode b\nsettle\ncreate a 1\nsettle\nmake a\njoin b 1 <a.1.0>\nsettle\n\
+        join b 1 <a.1.0>\nsettle\nmembers a 1\nmembers b 1\nleave b 1 <a.1.0>\nsettle\nmembers a 1\n\
+        members b 1\n",
+    answers: "a 1 ok\na 2 <a.1.0>\na 3 [<a.1.0>,<a.1.0>]\na 4 [<a.1.0>]\nb 1 ok\nb 2 ok\n\
+        b 3 [<a.1.0>,<a.1.0>]\nb 4 ok\nb 5 [<a.1.0>]\n",
 };
 
 // A delete at `b` comes between the look and the lock of a join at `a`, which is answered and adds nothing.
 pub static DELETE_BETWEEN_LOOK_AND_LOCK: Example<'static> = Example {
-    script: "node a made 1
-node b
-settle
-create a 1
-settle
-join a 1 <a.1.0>
-delete b 1
-settle
-retry a 2
-settle
-members a 1
-members b 1
-",
-    answers: "a 1 ok
-a 2 ok
-a 3 {error,{no_such_group,1}}
-b 1 ok
-b 2 {error,{no_such_group,1}}
-",
+    script: "node a made 1\nnode b\nsettle\ncreate a 1\nsettle\njoin a 1 <a.1.0>\ndelete b 1\nsettle\n\
+        retry a 2\nsettle\nmembers a 1\nmembers b 1\n",
+    answers: "a 1 ok\na 2 ok\na 3 {error,{no_such_group,1}}\nb 1 ok\nb 2 {error,{no_such_group,1}}\n",
 };
 
 // Both nodes make the group; the greatest comes first.
 pub static TWO_CREATORS: Example<'static> = Example {
-    script: "node a
-node b
-settle
-create a 1
-create b 1
-settle
-retry a 1
-settle
-groups a
-",
-    answers: "a 1 ok
-a 2 [1]
-b 1 ok
-",
+    script: "node a\nnode b\nsettle\ncreate a 1\ncreate b 1\nsettle\nretry a 1\nsettle\ngroups a\n",
+    answers: "a 1 ok\na 2 [1]\nb 1 ok\n",
 };
 
 // Both nodes start with a group of one name; while nothing was told, each has its own.
 pub static INITIAL_TABLES: Example<'static> = Example {
-    script: "node a made 1
-node b made 1
-has a 1 <a.1.0> <a.1.0>
-has b 1 <a.1.0> <b.1.0>
-members a 1
-create b 2
-settle
-members a 1
-members b 1
-retry b 1
-settle
-",
-    answers: "a 1 [<a.1.0>,<a.1.0>]
-a 2 [<a.1.0>,<a.1.0>,<b.1.0>]
-b 2 [<a.1.0>,<a.1.0>,<b.1.0>]
-b 1 ok
-",
+    script: "node a made 1\nnode b made 1\nhas a 1 <a.1.0> <a.1.0>\nhas b 1 <a.1.0> <b.1.0>\nmembers a 1\n\
+        create b 2\nsettle\nmembers a 1\nmembers b 1\nretry b 1\nsettle\n",
+    answers: "a 1 [<a.1.0>,<a.1.0>]\na 2 [<a.1.0>,<a.1.0>,<b.1.0>]\nb 2 [<a.1.0>,<a.1.0>,<b.1.0>]\nb 1 ok\n",
 };
 
 // A process ends while a join of it is on the way: it is no member when all is done.
 pub static END_BEATS_LATE_JOIN: Example<'static> = Example {
-    script: "node a made 1
-node b
-has a 1 <a.1.0>
-settle
-join b 1 <a.1.0>
-put b a
-pull a b
-take a b
-put a b
-pull b a
-take b a
-end a <a.1.0>
-members b 1
-members a 1
-settle
-members a 1
-members b 1
-",
-    answers: "a 1 ok
-a 2 []
-a 3 []
-b 2 [<a.1.0>,<a.1.0>]
-b 1 ok
-b 3 []
-",
+    script: "node a made 1\nnode b\nhas a 1 <a.1.0>\nsettle\njoin b 1 <a.1.0>\nput b a\npull a b\ntake a b\n\
+        put a b\npull b a\ntake b a\nend a <a.1.0>\nmembers b 1\nmembers a 1\nsettle\nmembers a 1\n\
+        members b 1\n",
+    answers: "a 1 ok\na 2 []\na 3 []\nb 2 [<a.1.0>,<a.1.0>]\nb 1 ok\nb 3 []\n",
 };
 
 // A member of the own node is picked where there is one, else one of all.
 pub static CLOSEST_MEMBER: Example<'static> = Example {
-    script: "node a
-node b made 2
-has b 1 <b.1.0> <b.1.0> <b.2.0>
-has b 3
-settle
-closest a 1 4
-closest a 1 5
-closest a 3 0
-closest a 4 0
-closest b 1 4294967295
-",
-    answers: "a 1 <b.1.0>
-a 2 <b.2.0>
-a 3 {error,{no_process,3}}
-a 4 {error,{no_such_group,4}}
-b 1 <b.1.0>
-",
+    script: "node a\nnode b made 2\nhas b 1 <b.1.0> <b.1.0> <b.2.0>\nhas b 3\nsettle\nclosest a 1 4\n\
+        closest a 1 5\nclosest a 3 0\nclosest a 4 0\nclosest b 1 4294967295\n",
+    answers: "a 1 <b.1.0>\na 2 <b.2.0>\na 3 {error,{no_process,3}}\na 4 {error,{no_such_group,4}}\n\
+        b 1 <b.1.0>\n",
 };
 
 // Of three nodes, `a` and `b` have the group. The exchange of `b` comes to `a`, and then `c` asks nobody yet.
 pub static FORMATION: Example<'static> = Example {
-    script: "node a made 1
-node b
-node c
-has a 1 <a.1.0> <a.1.0>
-has b 1 <a.1.0>
-put b a
-pull a b
-take a b
-members a 1
-put a b
-pull b a
-take b a
-put c b
-pull b c
-take b c
-create b 2
-put b c
-pull c b
-take c b
-put b c
-pull c b
-take c b
-put c b
-pull b c
-take b c
-put c a
-pull a c
-take a c
-settle
-members c 1
-retry b 1
-settle
-",
-    answers: "a 1 [<a.1.0>,<a.1.0>]
-b 1 ok
-c 1 [<a.1.0>,<a.1.0>]
-",
+    script: "node a made 1\nnode b\nnode c\nhas a 1 <a.1.0> <a.1.0>\nhas b 1 <a.1.0>\nput b a\npull a b\n\
+        take a b\nmembers a 1\nput a b\npull b a\ntake b a\nput c b\npull b c\ntake b c\ncreate b 2\n\
+        put b c\npull c b\ntake c b\nput b c\npull c b\ntake c b\nput c b\npull b c\ntake b c\nput c a\n\
+        pull a c\ntake a c\nsettle\nmembers c 1\nretry b 1\nsettle\n",
+    answers: "a 1 [<a.1.0>,<a.1.0>]\nb 1 ok\nc 1 [<a.1.0>,<a.1.0>]\n",
 };
 
 // Where the loss is seen the processes of the lost node leave each group, and join none later.
 pub static LOSS_DROPS_MEMBERS: Example<'static> = Example {
-    script: "node a made 1
-node b made 1
-has a 1 <a.1.0>
-has b 1 <b.1.0>
-settle
-lose a
-members b 1
-seeloss b a
-members b 1
-join b 1 <a.1.0>
-members b 1
-",
-    answers: "b 1 [<a.1.0>,<b.1.0>]
-b 2 [<b.1.0>]
-b 3 ok
-b 4 [<b.1.0>]
-",
+    script: "node a made 1\nnode b made 1\nhas a 1 <a.1.0>\nhas b 1 <b.1.0>\nsettle\nlose a\nmembers b 1\n\
+        seeloss b a\nmembers b 1\njoin b 1 <a.1.0>\nmembers b 1\n",
+    answers: "b 1 [<a.1.0>,<b.1.0>]\nb 2 [<b.1.0>]\nb 3 ok\nb 4 [<b.1.0>]\n",
 };
 
 // The lock of a lost node is free where its loss is seen; it is seen once.
 pub static LOSS_FREES_LOCK: Example<'static> = Example {
-    script: "node a
-node b
-node c
-settle
-create a 1
-put a c
-pull c a
-take c a
-lose a
-seeloss c a
-seeloss b a
-create b 1
-settle
-groups b
-groups c
-seeloss c a
-",
-    answers: "b 1 ok
-b 2 [1]
-c 1 [1]
-",
+    script: "node a\nnode b\nnode c\nsettle\ncreate a 1\nput a c\npull c a\ntake c a\nlose a\nseeloss c a\n\
+        seeloss b a\ncreate b 1\nsettle\ngroups b\ngroups c\nseeloss c a\n",
+    answers: "b 1 ok\nb 2 [1]\nc 1 [1]\n",
 };
 
 // The greatest node is lost while it is asked: the command waits, and its retry asks the next.
 pub static NEW_GREATEST: Example<'static> = Example {
-    script: "node a
-node b
-node c
-settle
-create a 1
-lose c
-seeloss a c
-retry a 1
-seeloss b c
-settle
-groups b
-",
-    answers: "a 1 ok
-b 1 [1]
-",
+    script: "node a\nnode b\nnode c\nsettle\ncreate a 1\nlose c\nseeloss a c\nretry a 1\nseeloss b c\n\
+        settle\ngroups b\n",
+    answers: "a 1 ok\nb 1 [1]\n",
 };
 
 // The update of a lost node has come to `b`, and not to `c`, which leaves it out for good.
 pub static LOSS_LEAVES_OUT: Example<'static> = Example {
-    script: "node a
-node b
-node c
-settle
-create a 1
-put a c
-pull c a
-take c a
-put c a
-pull a c
-take a c
-put a b
-pull b a
-take b a
-put b a
-pull a b
-take a b
-put a b
-lose a
-pull b a
-take b a
-seeloss b a
-seeloss c a
-groups b
-groups c
-create c 1
-settle
-groups c
-",
-    answers: "b 1 [1]
-c 1 []
-c 2 ok
-c 3 [1]
-",
+    script: "node a\nnode b\nnode c\nsettle\ncreate a 1\nput a c\npull c a\ntake c a\nput c a\npull a c\n\
+        take a c\nput a b\npull b a\ntake b a\nput b a\npull a b\ntake a b\nput a b\nlose a\npull b a\n\
+        take b a\nseeloss b a\nseeloss c a\ngroups b\ngroups c\ncreate c 1\nsettle\ngroups c\n",
+    answers: "b 1 [1]\nc 1 []\nc 2 ok\nc 3 [1]\n",
 };

@@ -6,17 +6,16 @@ use crate::examples::{
     INITIAL_TABLES, JOIN_TWICE_LEAVE_ONCE, LOSS_DROPS_MEMBERS, LOSS_FREES_LOCK, LOSS_LEAVES_OUT,
     NEW_GREATEST, TWO_CREATORS,
 };
-use crate::schedules::{are_same_worlds, schedule_of, state_of};
+use crate::schedules::{World, are_same_worlds, schedule_of, state_of};
 use crate::verdicts::holds;
-use pg_index::IndexTable;
 use pg_lines::print_answer;
 use pg_node::NodeFault;
-use pg_world::{Config, Step, World};
+use pg_world::{Config, Step};
 use std::alloc::{AllocError, Global};
 use std::process::Abort;
 
 // The world of a configuration, made a second time where memory was refused.
-fn new_world(rt: &impl Abort, alloc: Global, config: &Config) -> World<IndexTable> {
+fn new_world(rt: &impl Abort, alloc: Global, config: &Config) -> World {
     match World::new(alloc, config) {
         Ok(world) => world,
         Err(_) => World::new(alloc, config).ok().expect(rt, "memory"),
@@ -25,12 +24,7 @@ fn new_world(rt: &impl Abort, alloc: Global, config: &Config) -> World<IndexTabl
 
 // Whether a step does the same in two worlds, where it is made again if memory was refused: all of so many nodes were as in the other,
 // then.
-fn does_same(
-    one: &mut World<IndexTable>,
-    other: &mut World<IndexTable>,
-    nodes: usize,
-    step: &Step,
-) -> bool {
+fn does_same(one: &mut World, other: &mut World, nodes: usize, step: &Step) -> bool {
     let first = match one.step(step) {
         Err(NodeFault::OutOfMemory) if are_same_worlds(one, other, nodes) => one.step(step),
         stepped => stepped,
@@ -42,11 +36,7 @@ fn does_same(
     first == second
 }
 
-fn print_answers(
-    out: &mut String,
-    world: &World<IndexTable>,
-    nodes: usize,
-) -> Result<(), AllocError> {
+fn print_answers(out: &mut String, world: &World, nodes: usize) -> Result<(), AllocError> {
     for place in 0..nodes {
         if let Some(node) = state_of(world, place) {
             if node.port_count() == 1 {
@@ -60,7 +50,7 @@ fn print_answers(
 }
 
 // Whether these are the answers of the nodes. It is asked a second time where memory was refused.
-fn are_answers(alloc: Global, world: &World<IndexTable>, nodes: usize, answers: &str) -> bool {
+fn are_answers(alloc: Global, world: &World, nodes: usize, answers: &str) -> bool {
     let mut text = String::new(alloc);
     let mut told = print_answers(&mut text, world, nodes);
     if told.is_err() {
@@ -84,18 +74,10 @@ fn check(rt: &impl Abort, alloc: Global, example: &Example<'_>) {
         let is_same = does_same(&mut one, &mut other, nodes, step);
         holds(rt, is_same, "the same by step", number);
     }
-    holds(
-        rt,
-        are_same_worlds(&one, &other, nodes),
-        "same nodes:",
-        nodes,
-    );
-    holds(
-        rt,
-        are_answers(alloc, &one, nodes, example.answers),
-        "answers of nodes:",
-        nodes,
-    );
+    let are_same = are_same_worlds(&one, &other, nodes);
+    holds(rt, are_same, "same nodes:", nodes);
+    let are_answers = are_answers(alloc, &one, nodes, example.answers);
+    holds(rt, are_answers, "answers of nodes:", nodes);
     drop(one);
     drop(other);
     drop(schedule);

@@ -1,14 +1,13 @@
 //! Random schedules of worlds over bytes, cut at random. Whatever moved when, packets that cross whole lead to the same nodes.
 
-use crate::schedules::{Schedule, are_same, are_same_worlds, schedule_of, state_of};
+use crate::schedules::{Schedule, World, are_same, are_same_worlds, schedule_of, state_of};
 use crate::slow::{GROUPS, Scene, are_answered, first_pids, len_of};
 use crate::verdicts::holds;
-use pg_index::IndexTable;
 use pg_node::NodeFault;
 use pg_random::Random;
 use pg_step::{Command, OpId};
 use pg_term::{Pid, Term};
-use pg_world::{Config, Effect, FrameStep, Step, Stepped, World, run, run_frames};
+use pg_world::{Config, Effect, FrameStep, Step, Stepped, run, run_frames};
 use std::alloc::{AllocError, Global};
 use std::process::Abort;
 
@@ -183,7 +182,7 @@ fn step_all(
     alloc: Global,
     schedule: &Schedule,
     pids: &[Pid],
-    world: &mut World<IndexTable>,
+    world: &mut World,
     notes: &mut Vec<Noted>,
 ) {
     for (place, step) in schedule.steps.as_slice().iter().enumerate() {
@@ -201,7 +200,7 @@ fn looked_at<'a>(
     alloc: Global,
     schedule: &'a Schedule,
     pids: &'a [Pid],
-    world: &'a World<IndexTable>,
+    world: &'a World,
 ) -> Scene<'a> {
     Scene {
         alloc,
@@ -218,7 +217,7 @@ fn check_headline(rt: &impl Abort, scene: Scene<'_>, step: usize) {
 }
 
 // How many updates of the groups were begun.
-fn begun(world: &World<IndexTable>) -> usize {
+fn begun(world: &World) -> usize {
     let mut count = 0usize;
     for group in GROUPS {
         let name = Term::Int(group);
@@ -242,7 +241,7 @@ fn noted_begun(notes: &[Noted]) -> (usize, bool) {
 }
 
 // Whether a run of all steps leads to the same nodes, and gives each step the number that was noted of it.
-fn is_run(alloc: Global, schedule: &Schedule, world: &World<IndexTable>, notes: &[Noted]) -> bool {
+fn is_run(alloc: Global, schedule: &Schedule, world: &World, notes: &[Noted]) -> bool {
     match run(alloc, &schedule.config, schedule.steps.as_slice()) {
         Ok((other, numbers)) => {
             let mut is_run = are_same_worlds(world, &other, schedule.config.starts.len());
@@ -282,7 +281,7 @@ fn put_events(
 fn is_run_over_packets(
     alloc: Global,
     config: &Config,
-    world: &World<IndexTable>,
+    world: &World,
     events: &[FrameStep],
 ) -> bool {
     match run_frames(alloc, config, events) {
@@ -334,7 +333,7 @@ fn check_runs(
     alloc: Global,
     schedule: Schedule,
     is_lossy: bool,
-    world: &World<IndexTable>,
+    world: &World,
     notes: &[Noted],
 ) {
     let is_run = is_run(alloc, &schedule, world, notes);
@@ -353,21 +352,12 @@ fn check_runs(
 // So many nodes make steps by chance.
 fn check(rt: &impl Abort, alloc: Global, nodes: usize, is_lossy: bool, seed: u64) {
     let (schedule, pids) = drawn(alloc, nodes, is_lossy, seed).expect(rt, "memory");
-    let mut world = World::new(alloc, &schedule.config)
-        .ok()
-        .expect(rt, "memory");
+    let mut world = World::new(alloc, &schedule.config).expect(rt, "memory");
     let mut notes = Vec::new(alloc);
-    step_all(
-        rt,
-        alloc,
-        &schedule,
-        pids.as_slice(),
-        &mut world,
-        &mut notes,
-    );
+    step_all(rt, alloc, &schedule, &pids, &mut world, &mut notes);
     holds(rt, notes.len() == STEPS, "steps:", notes.len());
     // What was answered stands in the histories.
-    let scene = looked_at(alloc, &schedule, pids.as_slice(), &world);
+    let scene = looked_at(alloc, &schedule, &pids, &world);
     check_headline(rt, scene, STEPS);
     let are_answered = are_answered(scene, schedule.steps.as_slice());
     holds(rt, are_answered, "answers of nodes:", nodes);

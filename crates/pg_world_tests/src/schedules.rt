@@ -3,8 +3,13 @@
 use pg_index::IndexTable;
 use pg_node::NodeState;
 use pg_script::{Act, Script, ScriptLine, read_script};
-use pg_world::{Config, FrameStep, Step, World};
+use pg_world::{Config, FrameStep, Step};
 use std::alloc::{AllocError, Global};
+
+/// A world over bytes, and a node of one.
+pub type World = pg_world::World<IndexTable>;
+
+pub type State = NodeState<IndexTable>;
 
 /// A schedule.
 #[derive(Drop)]
@@ -75,7 +80,7 @@ pub fn schedule_of(alloc: Global, script: &str, rounds: usize) -> Option<Schedul
 }
 
 /// The node at a place.
-pub fn state_of(world: &World<IndexTable>, place: usize) -> Option<&NodeState<IndexTable>> {
+pub fn state_of(world: &World, place: usize) -> Option<&State> {
     match world.node(place) {
         Some(node) => Some(node.state()),
         None => None,
@@ -83,10 +88,7 @@ pub fn state_of(world: &World<IndexTable>, place: usize) -> Option<&NodeState<In
 }
 
 /// Whether both nodes are there, and are the same. It is asked a second time where memory was refused.
-pub fn are_same(
-    one: Option<&NodeState<IndexTable>>,
-    other: Option<&NodeState<IndexTable>>,
-) -> bool {
+pub fn are_same(one: Option<&State>, other: Option<&State>) -> bool {
     match (one, other) {
         (Some(one), Some(other)) => match one.same(other) {
             Ok(same) => same,
@@ -97,11 +99,6 @@ pub fn are_same(
 }
 
 /// Whether so many nodes of two worlds are the same.
-pub fn are_same_worlds(one: &World<IndexTable>, other: &World<IndexTable>, nodes: usize) -> bool {
-    for place in 0..nodes {
-        if !are_same(state_of(one, place), state_of(other, place)) {
-            return false;
-        }
-    }
-    true
+pub fn are_same_worlds(one: &World, other: &World, nodes: usize) -> bool {
+    (0..nodes).all(|place| are_same(state_of(one, place), state_of(other, place)))
 }

@@ -4,20 +4,15 @@ mod answered;
 mod held;
 mod kept;
 
-use crate::schedules::state_of;
+use crate::schedules::{State, World, state_of};
 pub use answered::are_answered;
 use held::{Held, count_in};
 use kept::{LeftOut, lost_to};
 use pg_group::{GroupTable, Scope};
-use pg_index::IndexTable;
-use pg_node::NodeState;
 use pg_step::Start;
 use pg_term::{Pid, Term};
-use pg_world::{Entry, World};
+use pg_world::Entry;
 use std::alloc::{AllocError, Global};
-
-/// A node of a world.
-type State = NodeState<IndexTable>;
 
 /// The history of a group: a slice, and one more behind it, where the last event began it.
 pub type History<'a> = (&'a [Entry], Option<&'a Entry>);
@@ -74,7 +69,7 @@ pub fn first_pids(alloc: Global, starts: &[Start], count: u32) -> Option<Vec<Pid
 #[derive(Clone, Copy)]
 pub struct Scene<'a> {
     pub alloc: Global,
-    pub world: &'a World<IndexTable>,
+    pub world: &'a World,
     /// How its nodes began.
     pub starts: &'a [Start],
     /// The processes that the test speaks of.
@@ -128,13 +123,10 @@ impl<'a> Scene<'a> {
         pids: &[Pid],
     ) -> bool {
         let is_there = node.table().has(name);
-        for pid in pids {
+        pids.iter().all(|pid| {
             let held = self.wanted(node, name, wanted, pid);
-            if held.is_there != is_there || held.count != count_in(list, pid) {
-                return false;
-            }
-        }
-        true
+            held.is_there == is_there && held.count == count_in(list, pid)
+        })
     }
 
     // Whether a node holds of a group what it should.
@@ -173,12 +165,7 @@ impl<'a> Scene<'a> {
 
     // Whether one node sees the lock of a group free.
     fn is_free(&self, name: &Term) -> bool {
-        for place in 0..self.starts.len() {
-            if self.world.lock_free(place, name) {
-                return true;
-            }
-        }
-        false
+        (0..self.starts.len()).any(|place| self.world.lock_free(place, name))
     }
 
     // Whether no process has ended at its home, and not everywhere. Lost nodes do not count.
@@ -254,13 +241,10 @@ impl<'a> Scene<'a> {
 
     /// Whether each node that is left has seen each loss.
     pub fn all_saw(&self) -> bool {
-        for place in 0..self.starts.len() {
-            match self.left_at(place) {
-                Some(node) if lost_to(place, node) != self.lost() => return false,
-                _ => {}
-            }
-        }
-        true
+        (0..self.starts.len()).all(|place| match self.left_at(place) {
+            Some(node) => lost_to(place, node) == self.lost(),
+            None => true,
+        })
     }
 
     /// What does not hold of the headline, of some group at some node, or of what survives where nodes are lost.

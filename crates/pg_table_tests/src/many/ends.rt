@@ -52,10 +52,5 @@ fn end_each(rt: &impl Abort, cast: &Cast, others: &[Pid], by_loss: bool) {
 
 /// Whether all of the pids have ended, or none.
 fn all_are(ended: &Ended, pids: &[Pid], have_ended: bool) -> bool {
-    for pid in pids {
-        if ended.has(pid) != have_ended {
-            return false;
-        }
-    }
-    true
+    pids.iter().all(|pid| ended.has(pid) == have_ended)
 }

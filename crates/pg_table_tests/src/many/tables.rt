@@ -1,4 +1,5 @@
-use crate::change::{Act, has_groups, merge_told, perform};
+use crate::change::Act::{self, Create, Delete, DropNode, Join, Leave, Merge};
+use crate::change::{has_groups, merge_told, perform};
 use crate::samples::{Cast, holds};
 use crate::trial::{Trial, on_both};
 use pg_group::{GroupTable, Scope};
@@ -12,20 +13,16 @@ const PIDS: &[(&str, u32)] = &[("a", 1), ("a", 2), ("b", 1)];
 /// How many of the groups get changes, and which; how often each of the pids is in each group then.
 type Phase = (u16, &'static [Act<'static>], [u64; 3]);
 
-const FILLED: &[Phase] = &[(1001, &[Act::Create, Act::Merge(&[0, 1, 1, 2])], [1, 2, 1])];
+const FILLED: &[Phase] = &[(1001, &[Create, Merge(&[0, 1, 1, 2])], [1, 2, 1])];
 
 const EMPTIED: &[Phase] = &[
-    (1001, &[Act::Leave(1)], [1, 1, 1]),
+    (1001, &[Leave(1)], [1, 1, 1]),
     (1, &[Act::Drop(1)], [1, 0, 1]),
-    (1, &[Act::DropNode(0)], [0, 0, 1]),
+    (1, &[DropNode(0)], [0, 0, 1]),
 ];
 
 const JOINED_AND_DROPPED: &[Phase] = &[
-    (
-        300,
-        &[Act::Merge(&[]), Act::Join(0), Act::Join(0)],
-        [2, 0, 0],
-    ),
+    (300, &[Merge(&[]), Join(0), Join(0)], [2, 0, 0]),
     (1, &[Act::Drop(0)], [0, 0, 0]),
 ];
 
@@ -59,7 +56,7 @@ pub fn keeps_groups<T: GroupTable + Drop>(rt: &impl Abort, alloc: Global, table:
     run(rt, table, &cast, 1001, EMPTIED);
     are_kept(rt, &copy, &cast, 1001, &[1, 2, 1]);
     drop(copy);
-    act_on_each(rt, table, &cast, 1001, &[Act::Delete]);
+    act_on_each(rt, table, &cast, 1001, &[Delete]);
     holds(rt, has_groups(rt, table, 0), "none");
     drop(cast);
 }
@@ -120,7 +117,7 @@ pub fn keeps_members<T: GroupTable + Drop>(rt: &impl Abort, alloc: Global, table
     let name = Term::Int(1);
     merge_told(rt, table, &name, &cast.pids, &cast.ended);
     for place in 0..1001 {
-        perform(rt, table, &cast, 1, Act::Join(place));
+        perform(rt, table, &cast, 1, Join(place));
     }
     let copy = table.copy().expect(rt, "copy");
     holds(rt, each_is_twice(&copy, &name, &cast.pids), "each twice");
@@ -130,15 +127,7 @@ pub fn keeps_members<T: GroupTable + Drop>(rt: &impl Abort, alloc: Global, table
 }
 
 fn each_is_twice<T: GroupTable>(table: &T, name: &Term, pids: &[Pid]) -> bool {
-    for pid in pids {
-        if table.count(name, pid) != 2 {
-            return false;
-        }
-    }
-    for place in 0..2002 {
-        if table.pid_at(name, Scope::All, place) != pids.get((place / 2) as usize) {
-            return false;
-        }
-    }
-    table.pid_at(name, Scope::All, 2002).is_none()
+    pids.iter().all(|pid| table.count(name, pid) == 2)
+        && (0..2002).all(|at| table.pid_at(name, Scope::All, at) == pids.get((at / 2) as usize))
+        && table.pid_at(name, Scope::All, 2002).is_none()
 }

@@ -11,20 +11,20 @@ use pg_world::{FrameStep, Step};
 fn command_of(steps: &[Step], place: usize, number: u32) -> Option<&Command> {
     let mut count = 0u32;
     for step in steps {
-        if let Step::Event(
-            FrameStep::Command {
-                node,
-                port: _,
-                command,
-            },
-        ) = step
-        {
-            if *node == place {
+        match step {
+            Step::Event(
+                FrameStep::Command {
+                    node,
+                    port: _,
+                    command,
+                },
+            ) if *node == place => {
                 count = count.saturating_add(1);
                 if count == number {
                     return Some(command);
                 }
             }
+            _ => {}
         }
     }
     None
@@ -47,10 +47,11 @@ fn is_update(command: &Command, update: &Update) -> bool {
 fn times(history: History<'_>, node: usize, number: u32) -> usize {
     let mut times = 0usize;
     for place in 0..len_of(history) {
-        if let Some(entry) = entry_at(history, place) {
-            if entry.node == node && entry.op.number == number {
+        match entry_at(history, place) {
+            Some(entry) if entry.node == node && entry.op.number == number => {
                 times = times.saturating_add(1);
             }
+            _ => {}
         }
     }
     times
@@ -84,18 +85,10 @@ fn stands(scene: Scene<'_>, command: &Command, node: usize, number: u32) -> bool
 
 // Whether each answer of a node is to a command, and stands in the history if it is ok.
 fn are_answers_right(scene: Scene<'_>, steps: &[Step], place: usize, answers: &[Answer]) -> bool {
-    for answer in answers {
-        let is_right = match command_of(steps, place, answer.number) {
-            Some(command) => {
-                answer.reply != Reply::Ok || stands(scene, command, place, answer.number)
-            }
-            None => false,
-        };
-        if !is_right {
-            return false;
-        }
-    }
-    true
+    answers.iter().all(|answer| match command_of(steps, place, answer.number) {
+        Some(command) => answer.reply != Reply::Ok || stands(scene, command, place, answer.number),
+        None => false,
+    })
 }
 
 /// Whether the history of each group holds what these steps asked for, each once, and what is answered ok.

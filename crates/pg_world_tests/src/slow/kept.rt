@@ -1,7 +1,7 @@
 //! Which updates of a history a node has applied.
 
-use super::{Held, History, Scene, State, entry_at, len_of};
-use crate::schedules::state_of;
+use super::{Held, History, Scene, entry_at, len_of};
+use crate::schedules::{State, state_of};
 use pg_term::{Pid, Reference};
 use pg_world::Entry;
 
@@ -54,26 +54,19 @@ impl Scene<'_> {
         let Some(holder) = holder else {
             return false;
         };
-        for (place, start) in self.starts.iter().enumerate() {
-            if bit_of(place) & lost > 0 && start.name == *holder.node() {
-                return true;
-            }
-        }
-        false
+        let mut starts = self.starts.iter().enumerate();
+        starts.any(|(place, start)| bit_of(place) & lost > 0 && start.name == *holder.node())
     }
 
     // Whether the command of an entry was answered.
     fn is_answered(&self, entry: &Entry) -> bool {
-        if let Some(node) = state_of(self.world, entry.node) {
-            if node.port_count() == 1 {
-                for answer in node.answers(0) {
-                    if answer.number == entry.op.number {
-                        return true;
-                    }
-                }
+        let number = entry.op.number;
+        match state_of(self.world, entry.node) {
+            Some(node) if node.port_count() == 1 => {
+                node.answers(0).iter().any(|answer| answer.number == number)
             }
+            _ => false,
         }
-        false
     }
 
     // The bit of the node of an entry, if its update is left out.
